@@ -1,0 +1,80 @@
+-- Demand 3: the claim, whole.
+-- Assumes nothing.
+use Prim.Native.Nat.{ℕ, suc, _+_, _-_, _*_, _≤_, _<_}
+use mathlib.Core.Path.{_≡_}
+use mathlib.Core.Bool.{Bool, true, not, _&&_, _||_}
+use mathlib.Core.List.{List, [], _∷_, _++_}
+use lib.ListN.{length, getD}
+use lib.Dec.{eqb}
+use Rattle.station.specs.Search.{every}
+use Rattle.station.specs.Groups.{dimension, width, member}
+use Rattle.station.specs.Table.{nextDistance, finished, testsMade, suspects, live}
+use Rattle.station.specs.Rules.{notLive, tableNumber}
+use Rattle.plant.specs.Entry.{State}
+use Rattle.detection.specs.Sums.{sum, bit}
+use Rattle.detection.specs.Runs.{Call, Taken, ranAll, takenAll, crashes, isLate}
+use Rattle.detection.specs.Rounds.{all, Rounds, cut, testsIn, testsOfAll, turnsIn, lastFinishes}
+
+-- "A table stands at the start of a round when every line has these three": next distance 1, finished 0, tests 0
+abbrev pub lineAtStart : ℕ → List ℕ → ℕ → Bool
+lineAtStart n t i = eqb (nextDistance n t i) 1 && eqb (finished n t i) 0 && eqb (testsMade n t i) 0
+
+unfoldable pub atStart : ℕ → List ℕ → Bool
+atStart n t = every (lineAtStart n t) n
+
+-- how many stations are live
+unfoldable pub liveCount : ℕ → List ℕ → ℕ
+liveCount n t = sum (λ i. bit (live n t i)) n
+
+-- no live station suspects a live one
+abbrev pub trusts : ℕ → List ℕ → ℕ → ℕ → Bool
+trusts n t i j = notLive n t i || notLive n t j || eqb (suspects n t i j) 0
+
+unfoldable pub noneSuspected : ℕ → List ℕ → Bool
+noneSuspected n t = every (λ i. every (trusts n t i) n) n
+
+-- the pairs of a station, live or not, and a level from 1 to d whose group has no live board
+unfoldable pub deadGroup : ℕ → List ℕ → ℕ → ℕ → Bool
+deadGroup n t j s = every (λ k. notLive n t (member j s k)) (width s)
+
+unfoldable pub deadPairs : ℕ → List ℕ → ℕ
+deadPairs n t = sum (λ j. sum (λ h. bit (deadGroup n t j (suc h))) (dimension n)) n
+
+-- the rounds of the list of runs
+abbrev pub roundsOf : State → List Call → Rounds
+roundsOf s calls = cut [] (takenAll s calls)
+
+-- all rounds, the one that is still open last
+abbrev pub allRounds : Rounds → List (List Taken)
+allRounds r = r .closed ++ (r .unclosed ∷ [])
+
+-- what the claim supposes: the table that refusals 1 to 4 let through, at the start of a round, two live boards at least, no live one
+-- suspecting a live one; any tally, any list of runs, without crashes and late replies of live boards
+pub record Premises (n : ℕ) (s : State) (calls : List Call) : Type 0 where
+  pub accepted : tableNumber n (s .table) ≡ 0
+  pub start : atStart n (s .table) ≡ true
+  pub twoLive : 2 ≤ liveCount n (s .table)
+  pub trusted : noneSuspected n (s .table) ≡ true
+  pub noCrash : all (λ x. not (crashes x)) (takenAll s calls) ≡ true
+  pub noLate : all (λ x. not (isLate x)) (takenAll s calls) ≡ true
+
+-- what the claim says
+pub record Conclusion (n : ℕ) (s : State) (calls : List Call) : Type 0 where
+  -- the live boards are the same as at first
+  pub sameLive : (i : ℕ) → i < n → live n (ranAll s calls .table) i ≡ live n (s .table) i
+  -- in every round, the open one included, a live board has at most N turns, and an Nth turn finished its pass
+  pub turns : (k i : ℕ) → k ≤ length (roundsOf s calls .closed) → i < n → live n (s .table) i ≡ true
+    → (turnsIn i (getD (allRounds (roundsOf s calls)) k []) ≤ n) × (turnsIn i (getD (allRounds (roundsOf s calls)) k []) ≡ n → lastFinishes i (getD (allRounds (roundsOf s calls)) k []) ≡ true)
+  -- once d·d rounds have closed, each live board suspects exactly the boards that are not live
+  pub known : dimension n * dimension n ≤ length (roundsOf s calls .closed)
+    → (i j : ℕ) → i < n → j < n → live n (s .table) i ≡ true → suspects n (ranAll s calls .table) i j ≡ bit (notLive n (s .table) j)
+  -- each closed round from the (d·d + 1)th on has exactly N·d tests less the pairs whose group has no live board
+  pub tests : (k : ℕ) → dimension n * dimension n ≤ k → k < length (roundsOf s calls .closed)
+    → testsIn (getD (roundsOf s calls .closed) k []) ≡ n * dimension n - deadPairs n (s .table)
+  -- the tally: the closed rounds are added to its rounds, and the tests of all rounds, the open one included, to its tests
+  pub roundsTally : ranAll s calls .rounds ≡ s .rounds + length (roundsOf s calls .closed)
+  pub testsTally : ranAll s calls .tests ≡ s .tests + testsOfAll (allRounds (roundsOf s calls))
+
+-- demand 3, for all sizes, tables, tallies and lists of runs
+abbrev pub Demand3 : Type 0
+Demand3 = (n : ℕ) (s : State) (calls : List Call) → Premises n s calls → Conclusion n s calls

@@ -1,0 +1,71 @@
+-- The rounds of a list of taken entries, cut by what the entries did.
+-- Assumes nothing.
+use Prim.Native.Nat.{ℕ, zero, suc, _+_}
+use mathlib.Core.Bool.{Bool, true, false, cond, not, _&&_, _||_}
+use mathlib.Core.List.{List, [], _∷_, _++_}
+use lib.Dec.{eqb}
+use Rattle.station.specs.Search.{every}
+use Rattle.station.specs.Rules.{notLive, someLive}
+use Rattle.detection.specs.Sums.{bit}
+use Rattle.detection.specs.Runs.{Taken, tableAfter, isTurnOf, makesOne, finishes}
+
+-- whether some entry of the list passes q, whether all do, and how many do
+unfoldable pub some : (Taken → Bool) → List Taken → Bool
+some q [] = false
+some q (x ∷ xs) = q x || some q xs
+
+unfoldable pub all : (Taken → Bool) → List Taken → Bool
+all q [] = true
+all q (x ∷ xs) = q x && all q xs
+
+unfoldable pub count : (Taken → Bool) → List Taken → ℕ
+count q [] = 0
+count q (x ∷ xs) = bit (q x) + count q xs
+
+-- whether station i finished its pass with the entry
+abbrev pub finishesOf : ℕ → Taken → Bool
+finishesOf i x = eqb (x .entry .station) i && finishes x
+
+-- "each live one has finished its pass in that round": station i is not live after x, or finished its pass in the round
+abbrev pub passedOrNot : List Taken → Taken → ℕ → Bool
+passedOrNot round x i = notLive (x .size) (tableAfter x) i || some (finishesOf i) round
+
+-- "It closes with the taken entry after which a station is live and each live one has finished its pass in that round": x is the last
+-- entry of the round so far
+unfoldable pub closes : List Taken → Taken → Bool
+closes round x = someLive (x .size) (tableAfter x) && every (passedOrNot round x) (x .size)
+
+pub record Rounds : Type 0 where
+  pub closed : List (List Taken)
+  pub unclosed : List Taken
+
+-- a closed round before the others
+abbrev pub roundBefore : List Taken → Rounds → Rounds
+roundBefore round r = record { closed = round ∷ r .closed; unclosed = r .unclosed }
+
+-- "A round begins with the table first handed in, and anew after each closing." `round` holds the entries of the round so far
+unfoldable pub cut : List Taken → List Taken → Rounds
+cut round [] = record { closed = []; unclosed = round }
+cut round (x ∷ xs) =
+    let here = round ++ (x ∷ []) in
+    let closing = roundBefore here (cut [] xs) in
+    let going = cut here xs in
+    cond (closes here x) closing going
+
+-- "A round's tests are the turns in it that make a test."
+abbrev pub testsIn : List Taken → ℕ
+testsIn round = count makesOne round
+
+-- the tests of a list of rounds
+unfoldable pub testsOfAll : List (List Taken) → ℕ
+testsOfAll [] = 0
+testsOfAll (round ∷ rounds) = testsIn round + testsOfAll rounds
+
+-- the turns of station i in the round
+abbrev pub turnsIn : ℕ → List Taken → ℕ
+turnsIn i round = count (isTurnOf i) round
+
+-- whether the last turn of station i in the list finishes its pass
+unfoldable pub lastFinishes : ℕ → List Taken → Bool
+lastFinishes i [] = false
+lastFinishes i (x ∷ xs) = cond (some (isTurnOf i) xs) (lastFinishes i xs) (isTurnOf i x && finishes x)

@@ -1,0 +1,155 @@
+-- A table that obeys the rules obeys them after every taken entry, and after every run; a taken entry's facts and tallies.
+-- Assumes nothing.
+use mathlib.Core.Path.{_≡_, refl, sym, _∙_}
+use mathlib.Core.Bool.{Bool, true, false, cond, not, _&&_, _||_, and-false, or-false}
+use mathlib.Core.List.{List, [], _∷_}
+use Prim.Native.Nat.{ℕ, suc, _+_, _≤_, _<_}
+use native.Mathlib.Omega.{arith}
+use borrow.Author.Tests.{leb-true, leb-false, eqb-true, eqb-false, eq-eqb, ne-eqb, not-false}
+use lib.Dec.{eqb}
+use lib.ListN.{length}
+use Rattle.station.specs.Search.{every}
+use Rattle.station.specs.Table.{tableLength, finished, live}
+use Rattle.station.specs.Rules.{lineRules, notLive, someLive, finishedIfLive, liveFinished}
+use Rattle.station.proofs.SearchLaws.{every-at, every-all}
+use Rattle.station.proofs.Refusals.{Accepted, size-bounds, else-zero, refuse-zero}
+use Rattle.station.proofs.CellLaws.{Line, both, line-holds, accepted-line}
+use Rattle.plant.specs.Turn.{turn, crash, roundOver, resetLines, afterRound}
+use Rattle.plant.specs.Entry.{Entry, State, tallyTop, isCrash, isTest, entryNumber, acted, after, sheetLine}
+use Rattle.plant.specs.Run.{Outcome, entries, writeLine, goOn, startNumber, run}
+use Rattle.plant.proofs.StepLines.{Lines, leave-lines, turn-lines, reset-lines}
+use Rattle.plant.proofs.StepCells.{reset-cells}
+
+-- what the refusals 7 to 11 leave of an entry
+pub record Takes (n : ℕ) (s : State) (e : Entry) : Type 0 where
+  pub roundsFit : s .rounds ≡ tallyTop → ⊥
+  pub testsFit : s .tests ≡ tallyTop → ⊥
+  pub kindLow : 1 ≤ e .kind
+  pub kindHigh : e .kind ≤ 3
+  pub below : e .station < n
+  pub isLive : live n (s .table) (e .station) ≡ true
+  pub unfinished : (e .kind ≡ 3 → ⊥) → finished n (s .table) (e .station) ≡ 1 → ⊥
+
+neither : (a b : Bool) → (a || b) ≡ false → (a ≡ false) × (b ≡ false)
+neither true b e = (e, cc)
+neither false b e = (refl, e)
+
+pub entry-facts : (n : ℕ) (s : State) (e : Entry) → entryNumber n s e ≡ 0 → Takes n s e
+unfolding entryNumber
+entry-facts n s e z =
+    let a = else-zero _ _ z in
+    let b = else-zero _ _ (a .1) in
+    let c = else-zero _ _ (b .1) in
+    let d = else-zero _ _ (c .1) in
+    let tally = neither _ _ (refuse-zero 6 _ (a .0)) in
+    let kind = both _ _ (not-false _ (refuse-zero 7 _ (b .0))) in
+    let last : (not (isCrash e) && eqb (finished n (s .table) (e .station)) 1) ≡ false = refuse-zero 10 _ (d .1) in
+    record {
+      roundsFit = eqb-false _ _ (tally .0);
+      testsFit = eqb-false _ _ (tally .1);
+      kindLow = leb-true _ _ (kind .0);
+      kindHigh = leb-true _ _ (kind .1);
+      below = leb-false _ _ (refuse-zero 8 _ (c .0));
+      isLive = not-false _ (refuse-zero 9 _ (d .0));
+      unfinished = λ k f.
+          let z : true ≡ false = rw (ne-eqb (e .kind) 3 k, eq-eqb (finished n (s .table) (e .station)) 1 f) at last in
+          let z : _≡_ {A = ℕ} 0 1 = cc in
+          omega arith;
+    }
+
+pub acted-lines : (n : ℕ) (s : State) (e : Entry) → Accepted n (s .table) → entryNumber n s e ≡ 0
+    → (length (acted n (s .table) e) ≡ tableLength n) × ((i : ℕ) → i < n → Line n (acted n (s .table) e) i)
+unfolding acted crash
+acted-lines n s e a z = pick (isCrash e) refl
+  where
+    lines : Lines n (s .table)
+    lines = (a .long, accepted-line n (s .table) a)
+
+    f : Takes n s e
+    f = entry-facts n s e z
+
+    pick : (b : Bool) → isCrash e ≡ b → Lines n (cond b (crash n (s .table) (e .station)) (turn n (s .table) (e .kind) (e .station)))
+    pick true c = leave-lines n (s .table) (e .station) lines (f .below) 1 (omega arith)
+    pick false c = turn-lines n (s .table) (e .kind) (e .station) (a .size) lines (f .below) (f .unfinished (eqb-false (e .kind) 3 c))
+
+-- where no line is finished, no live one is
+pub unfinished-open : (n : ℕ) (t : List ℕ) → ((i : ℕ) → i < n → finished n t i ≡ 0) → (someLive n t && liveFinished n t) ≡ false
+unfolding someLive liveFinished
+unfinished-open n t zeros = pick (every (finishedIfLive n t) n) refl
+  where
+    pick : (b : Bool) → every (finishedIfLive n t) n ≡ b → (not (every (notLive n t) n) && b) ≡ false
+    pick true e =
+        let none : every (notLive n t) n ≡ true = every-all (notLive n t) n (λ i h.
+        let p : (notLive n t i || eqb (finished n t i) 1) ≡ true = every-at (finishedIfLive n t) n i e h in
+        sym (or-false (notLive n t i)) ∙ (rw (zeros i h) at p)) in
+        rw none
+    pick false e = and-false (not (every (notLive n t) n))
+
+pub accepted-kept : (n : ℕ) (s : State) (e : Entry) → Accepted n (s .table) → entryNumber n s e ≡ 0 → Accepted n (after n s e .table)
+unfolding after afterRound roundOver
+accepted-kept n s e a z = pick (roundOver n t) refl
+  where
+    t : List ℕ
+    t = acted n (s .table) e
+
+    lines : Lines n t
+    lines = acted-lines n s e a z
+
+    make : (u : List ℕ) → Lines n u → (someLive n u && liveFinished n u) ≡ false → Accepted n u
+    make u l open-still = record { size = a .size; long = l .0; lines = every-all (lineRules n u) n (λ i h. line-holds n u i (l .1 i h)); unclosed = open-still }
+
+    pick : (b : Bool) → roundOver n t ≡ b → Accepted n (cond b (resetLines n t) t)
+    pick true c =
+        make (resetLines n t) (reset-lines n t (omega (arith, size-bounds n (a .size))) lines) (unfinished-open n (resetLines n t) (λ i h. reset-cells n t (lines .0) i h .unfinished))
+    pick false c = make t lines c
+
+grown : (b : Bool) (x : ℕ) → (cond b (x + 1) x ≤ x + 1) × (x ≤ cond b (x + 1) x)
+grown true x = omega arith
+grown false x = omega arith
+
+pub rounds-grow : (n : ℕ) (s : State) (e : Entry) → (after n s e .rounds ≤ s .rounds + 1) × (s .rounds ≤ after n s e .rounds)
+unfolding after
+rounds-grow n s e = grown (roundOver n (acted n (s .table) e)) (s .rounds)
+
+pub tests-grow : (n : ℕ) (s : State) (e : Entry) → (after n s e .tests ≤ s .tests + 1) × (s .tests ≤ after n s e .tests)
+unfolding after
+tests-grow n s e = grown (isTest n (s .table) e) (s .tests)
+
+pub empty-run : (n : ℕ) (s : State) (sheet : List ℕ)
+    → (run n s [] sheet .state ≡ s) × (run n s [] sheet .sheet ≡ sheet) × (run n s [] sheet .taken ≡ 0)
+unfolding run goOn entries
+empty-run n s sheet = pick (eqb (startNumber n (s .table) 0 (length sheet)) 0)
+  where
+    refused : Outcome
+    refused = record { number = startNumber n (s .table) 0 (length sheet); taken = 0; state = s; sheet = sheet }
+
+    pick : (b : Bool) → (cond b (goOn n 0 s sheet []) refused .state ≡ s) × (cond b (goOn n 0 s sheet []) refused .sheet ≡ sheet) × (cond b (goOn n 0 s sheet []) refused .taken ≡ 0)
+    pick true = (refl, refl, refl)
+    pick false = (refl, refl, refl)
+
+-- the rest of a run
+pub accepted-on : (n k : ℕ) (s : State) (sheet : List ℕ) (es : List Entry) → Accepted n (s .table) → Accepted n (goOn n k s sheet es .state .table)
+unfolding goOn
+accepted-on n k s sheet [] a = a
+accepted-on n k s sheet (e ∷ es) a =
+    pick (eqb (entryNumber n s e) 0) refl (λ z. accepted-on n (suc k) (after n s e) (writeLine sheet k (sheetLine n s e)) es (accepted-kept n s e a z))
+  where
+    rest : Outcome
+    rest = goOn n (suc k) (after n s e) (writeLine sheet k (sheetLine n s e)) es
+
+    pick : (b : Bool) → eqb (entryNumber n s e) 0 ≡ b → (entryNumber n s e ≡ 0 → Accepted n (rest .state .table))
+        → Accepted n (cond b rest (record { number = entryNumber n s e; taken = k; state = s; sheet = sheet }) .state .table)
+    pick true c next = next (eqb-true (entryNumber n s e) 0 c)
+    pick false c next = a
+
+pub accepted-run : (n : ℕ) (s : State) (schedule sheet : List ℕ) → Accepted n (s .table) → Accepted n (run n s schedule sheet .state .table)
+unfolding run
+accepted-run n s schedule sheet a = pick (eqb (startNumber n (s .table) (length schedule) (length sheet)) 0)
+  where
+    rest : Outcome
+    rest = goOn n 0 s sheet (entries schedule)
+
+    pick : (b : Bool)
+        → Accepted n (cond b rest (record { number = startNumber n (s .table) (length schedule) (length sheet); taken = 0; state = s; sheet = sheet }) .state .table)
+    pick true = accepted-on n 0 s sheet (entries schedule) a
+    pick false = a

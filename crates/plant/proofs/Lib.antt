@@ -1,0 +1,5 @@
+-- The laws that the proofs of `plant` share, and that the crates above cite.
+pub mod NextTest
+pub mod StepCells
+pub mod StepLines
+pub mod Kept

@@ -1,0 +1,127 @@
+-- Document 01, steps 2 to 8 of "What an entry does", as functions of the table. Station i is the entry's, kind its kind, j the tested station.
+-- Assumes nothing.
+use Prim.Native.Nat.{ℕ, suc, _+_, _-_}
+use mathlib.Core.Bool.{Bool, cond, not, _&&_, _||_}
+use mathlib.Core.List.{List}
+use lib.Dec.{ltb, eqb}
+use Rattle.station.specs.Search.{least, every}
+use Rattle.station.specs.Groups.{stationAt}
+use Rattle.station.specs.Table.{setCell, statusColumn, nextColumn, finishedColumn, testsColumn, nextDistance, testsMade, suspects, live, row, setRow}
+use Rattle.station.specs.Rules.{someLive, liveFinished}
+use Rattle.station.specs.Tests.{due}
+use Rattle.station.specs.Rows.{union, mark}
+use Rattle.plant.specs.Steps.{steps}
+
+-- the kinds of an entry: 1 turn, 2 turn whose reply comes late, 3 crash
+abbrev pub kindTurn : ℕ
+kindTurn = 1
+
+abbrev pub kindLate : ℕ
+kindLate = 2
+
+abbrev pub kindCrash : ℕ
+kindCrash = 3
+
+-- the outcomes on the sheet: 0 pass finished, 1 exchanged, 2 told, 3 no reply, 4 crash
+abbrev pub passFinished : ℕ
+passFinished = 0
+
+abbrev pub exchanged : ℕ
+exchanged = 1
+
+abbrev pub told : ℕ
+told = 2
+
+abbrev pub noReply : ℕ
+noReply = 3
+
+abbrev pub crashed : ℕ
+crashed = 4
+
+-- what the sheet has for the tested station where there is none
+abbrev pub noStation : ℕ
+noStation = 255
+
+-- the station's status becomes s
+abbrev pub leave : ℕ → List ℕ → ℕ → ℕ → List ℕ
+leave n t i s = setCell n t i statusColumn s
+
+-- Step 2: "A turn takes the least due distance not below i's next distance." N where there is none
+unfoldable pub nextTest : ℕ → List ℕ → ℕ → ℕ
+nextTest n t i = least (due (row n t i) i) (n - nextDistance n t i) (nextDistance n t i)
+
+unfoldable pub makesTest : ℕ → List ℕ → ℕ → Bool
+makesTest n t i = ltb (nextTest n t i) n
+
+-- "If there is none, next distance becomes N and the pass is finished; no test is made."
+unfoldable pub finishPass : ℕ → List ℕ → ℕ → List ℕ
+finishPass n t i = setCell n (setCell n t i nextColumn n) i finishedColumn 1
+
+-- Step 3: "Next distance becomes m + 1; i's tests and the tally of tests grow by one."
+unfoldable pub countTest : ℕ → List ℕ → ℕ → ℕ → List ℕ
+countTest n t i m = setCell n (setCell n t i nextColumn (m + 1)) i testsColumn (testsMade n t i + 1)
+
+-- Step 4, "Reply (j live, kind 1)"
+unfoldable pub replies : ℕ → List ℕ → ℕ → ℕ → Bool
+replies n t kind j = live n t j && eqb kind kindTurn
+
+-- "If j suspects i"
+unfoldable pub isTold : ℕ → List ℕ → ℕ → ℕ → Bool
+isTold n t i j = eqb (suspects n t j i) 1
+
+-- "both rows become the union of the two, except that a station never writes the byte about itself"
+unfoldable pub exchangeRows : ℕ → List ℕ → ℕ → ℕ → List ℕ
+exchangeRows n t i j = setRow n (setRow n t i (union (row n t i) (row n t j) i)) j (union (row n t j) (row n t i) j)
+
+-- Step 5, "No reply: i suspects j."
+unfoldable pub suspect : ℕ → List ℕ → ℕ → ℕ → List ℕ
+suspect n t i j = setRow n t i (mark (row n t i) j)
+
+-- steps 4 and 5: the table after the test of j
+unfoldable pub afterTest : ℕ → List ℕ → ℕ → ℕ → ℕ → List ℕ
+afterTest n t kind i j = cond (replies n t kind j) (cond (isTold n t i j) (leave n t i 2) (exchangeRows n t i j)) (suspect n t i j)
+
+unfoldable pub testOutcome : ℕ → List ℕ → ℕ → ℕ → ℕ → ℕ
+testOutcome n t kind i j = cond (replies n t kind j) (cond (isTold n t i j) told exchanged) noReply
+
+-- Step 6: "i, if still live, leaves with status 3 if it suspects all others"
+unfoldable pub selfOrSuspected : ℕ → List ℕ → ℕ → ℕ → Bool
+selfOrSuspected n t i k = eqb k i || eqb (suspects n t i k) 1
+
+unfoldable pub isAlone : ℕ → List ℕ → ℕ → Bool
+isAlone n t i = live n t i && every (selfOrSuspected n t i) n
+
+unfoldable pub afterAlone : ℕ → List ℕ → ℕ → List ℕ
+afterAlone n t i = cond (isAlone n t i) (leave n t i 3) t
+
+-- steps 3 to 6: a turn that tests the station at distance m
+unfoldable pub testing : ℕ → List ℕ → ℕ → ℕ → ℕ → List ℕ
+testing n t kind i m = afterAlone n (afterTest n (countTest n t i m) kind i (stationAt i m)) i
+
+-- Steps 2 to 6: a turn of station i
+unfoldable pub turn : ℕ → List ℕ → ℕ → ℕ → List ℕ
+turn n t kind i = cond (makesTest n t i) (testing n t kind i (nextTest n t i)) (finishPass n t i)
+
+unfoldable pub turnTested : ℕ → List ℕ → ℕ → ℕ
+turnTested n t i = cond (makesTest n t i) (stationAt i (nextTest n t i)) noStation
+
+unfoldable pub turnOutcome : ℕ → List ℕ → ℕ → ℕ → ℕ
+turnOutcome n t kind i = cond (makesTest n t i) (testOutcome n (countTest n t i (nextTest n t i)) kind i (stationAt i (nextTest n t i))) passFinished
+
+-- Step 7: "Status becomes 1, nothing else on the line."
+unfoldable pub crash : ℕ → List ℕ → ℕ → List ℕ
+crash n t i = leave n t i 1
+
+-- Step 8: "if a station is live and all live ones are finished, the round closes"
+unfoldable pub roundOver : ℕ → List ℕ → Bool
+roundOver n t = someLive n t && liveFinished n t
+
+-- "Every line, live or not, gets next distance 1, finished 0, tests 0"
+unfoldable pub resetLine : ℕ → ℕ → List ℕ → List ℕ
+resetLine n i t = setCell n (setCell n (setCell n t i nextColumn 1) i finishedColumn 0) i testsColumn 0
+
+unfoldable pub resetLines : ℕ → List ℕ → List ℕ
+resetLines n t = steps (resetLine n) n t
+
+unfoldable pub afterRound : ℕ → List ℕ → List ℕ
+afterRound n t = cond (roundOver n t) (resetLines n t) t

@@ -1,0 +1,214 @@
+-- Laws of the cells and rows of a lent table, of specs/Table, of what is done to a row, of specs/Rows, and the line rules of specs/Rules as facts.
+-- Assumes nothing.
+use mathlib.Core.Path.{_≡_, refl, sym, ap, _∙_}
+use mathlib.Core.Bool.{Bool, true, false, _&&_, _||_}
+use mathlib.Core.List.{List, _++_}
+use mathlib.Core.Logic.{_≢_}
+use Prim.Native.Nat.{ℕ, _+_, _-_, _/_, _%_, max, _≤_, _<_}
+use native.Mathlib.Decide.{decLt}
+use native.Mathlib.Nat.{suc-mul, mul-le-mul-right}
+use native.Mathlib.Omega.{arith}
+use borrow.Author.Tests.{leb-true, eqb-true, eqb-false, le-leb, eq-eqb, ne-eqb}
+use lib.Arith.{digits-div, digits-mod}
+use lib.Dec.{eqb}
+use lib.ListN.{length, getD, take, drop, length-append, length-take, length-drop, length-set, List·getD-append}
+use lib.Seq.{length-take-le, getD-append-add, getD-take, getD-drop, getD-set-same, getD-set-other, ext-getD}
+use Rattle.station.specs.Table.{head, stride, tableLength, lineStart, cell, setCell, status, nextDistance, finished, testsMade, suspects, rowStart, row, setRow}
+use Rattle.station.specs.Rules.{suspicionRule, rowRule, lineRules}
+use Rattle.station.specs.Rows.{unionByte, union, mark}
+use Rattle.station.proofs.SearchLaws.{every-at, every-all, listOf-length, listOf-at}
+use Rattle.station.proofs.Refusals.{Accepted}
+
+-- two places are one only where line and column are
+place-same : (n i c i′ c′ : ℕ) → c < stride n → c′ < stride n → lineStart n i + c ≡ lineStart n i′ + c′ → (i ≡ i′) × (c ≡ c′)
+unfolding lineStart
+place-same n i c i′ c′ h h′ e =
+    (sym (digits-div i h) ∙ ap (λ (x : ℕ). x / stride n) e ∙ digits-div i′ h′, sym (digits-mod i h) ∙ ap (λ (x : ℕ). x % stride n) e ∙ digits-mod i′ h′)
+
+pub line-inside : (n i : ℕ) → i < n → lineStart n i + stride n ≤ tableLength n
+unfolding lineStart tableLength
+line-inside n i h = omega (arith, suc-mul i (stride n), mul-le-mul-right (stride n) h)
+
+-- a row lies inside the table
+pub row-inside : (n : ℕ) (t : List ℕ) (i : ℕ) → length t ≡ tableLength n → i < n → rowStart n i + n ≤ length t
+row-inside n t i e h = omega (arith, line-inside n i h)
+
+-- the row as the code takes it
+pub row-part : (n : ℕ) (t : List ℕ) (i a : ℕ) → a ≡ rowStart n i → take (a + n - a) (drop a t) ≡ row n t i
+unfolding row
+row-part n t i a e = let w : a + n - a ≡ n = omega arith in rw (w, e)
+
+pub cell-same : (n : ℕ) (t : List ℕ) (i c v : ℕ) → length t ≡ tableLength n → i < n → c < stride n → cell n (setCell n t i c v) i c ≡ v
+unfolding cell setCell
+cell-same n t i c v long h hc = getD-set-same t (lineStart n i + c) v 0 (omega (arith, line-inside n i h))
+
+pub cell-other : (n : ℕ) (t : List ℕ) (i c v i′ c′ : ℕ) → c < stride n → c′ < stride n → (i ≡ i′ → c ≡ c′ → ⊥)
+    → cell n (setCell n t i c v) i′ c′ ≡ cell n t i′ c′
+unfolding cell setCell
+cell-other n t i c v i′ c′ h h′ apart =
+    getD-set-other t (lineStart n i + c) (lineStart n i′ + c′) v 0 (λ e. let s = place-same n i c i′ c′ h h′ (sym e) in apart (s .0) (s .1))
+
+pub setCell-length : (n : ℕ) (t : List ℕ) (i c v : ℕ) → length (setCell n t i c v) ≡ length t
+unfolding setCell
+setCell-length n t i c v = length-set t (lineStart n i + c) v
+
+pub row-length : (n : ℕ) (t : List ℕ) (i : ℕ) → length t ≡ tableLength n → i < n → length (row n t i) ≡ n
+unfolding row
+row-length n t i long h = simp (length-take, length-drop) (omega (arith, line-inside n i h))
+
+pub row-at : (n : ℕ) (t : List ℕ) (i k : ℕ) → k < n → getD (row n t i) k 0 ≡ suspects n t i k
+unfolding row cell
+row-at n t i k h = rw (getD-take, getD-drop) (ap (λ (p : ℕ). getD t p 0) (omega arith))
+
+pub row-same : (n : ℕ) (t t′ : List ℕ) (i : ℕ) → length t ≡ tableLength n → length t′ ≡ tableLength n → i < n
+    → ((k : ℕ) → k < n → suspects n t i k ≡ suspects n t′ i k) → row n t i ≡ row n t′ i
+row-same n t t′ i long long′ h same =
+    let e = row-length n t i long h in
+    ext-getD 0 (row n t i) (row n t′ i) (e ∙ sym (row-length n t′ i long′ h))
+    (λ k l. let hk : k < n = omega arith in row-at n t i k hk ∙ (same k hk ∙ sym (row-at n t′ i k hk)))
+
+-- a list with r in place of its bytes from a on, as many as r has: read before, in and after r
+module _ (t r : List ℕ) (a m : ℕ) (fits : a + m ≤ length t) (long : length r ≡ m) where
+  at-front : length (take a t) ≡ a
+  at-front = length-take-le a t (omega arith)
+
+  spliced-before : (p : ℕ) → p < a → getD (take a t ++ (r ++ drop m (drop a t))) p 0 ≡ getD t p 0
+  spliced-before p h = List·getD-append (take a t) (r ++ drop m (drop a t)) 0 p (omega (arith, at-front)) ∙ getD-take a t p 0 h
+
+  spliced-in : (k : ℕ) → k < m → getD (take a t ++ (r ++ drop m (drop a t))) (a + k) 0 ≡ getD r k 0
+  spliced-in k h =
+      cc (at-front, getD-append-add (take a t) (r ++ drop m (drop a t)) k 0, List·getD-append r (drop m (drop a t)) 0 k (omega arith))
+
+  spliced-after : (k : ℕ) → getD (take a t ++ (r ++ drop m (drop a t))) (a + (m + k)) 0 ≡ getD t (a + (m + k)) 0
+  spliced-after k =
+      cc (
+        at-front,
+        getD-append-add (take a t) (r ++ drop m (drop a t)) (m + k) 0,
+        getD-append-add r (drop m (drop a t)) k 0,
+        getD-drop m (drop a t) k 0,
+        getD-drop a t (m + k) 0,
+      )
+
+pub setRow-length : (n : ℕ) (t : List ℕ) (i : ℕ) (r : List ℕ) → length t ≡ tableLength n → i < n → length r ≡ n
+    → length (setRow n t i r) ≡ length t
+unfolding setRow
+setRow-length n t i r long h hr = simp (length-append, length-take, length-drop) (omega (arith, line-inside n i h))
+
+pub setRow-in : (n : ℕ) (t : List ℕ) (i : ℕ) (r : List ℕ) (k : ℕ) → length t ≡ tableLength n → i < n → length r ≡ n → k < n
+    → suspects n (setRow n t i r) i k ≡ getD r k 0
+unfolding setRow cell
+setRow-in n t i r k long h hr hk =
+    ap (λ (p : ℕ). getD (setRow n t i r) p 0) (omega arith) ∙ spliced-in t r (rowStart n i) n (omega (arith, line-inside n i h)) hr k hk
+
+pub setRow-out : (n : ℕ) (t : List ℕ) (i : ℕ) (r : List ℕ) (i′ c : ℕ) → length t ≡ tableLength n → i < n → length r ≡ n → c < stride n
+    → (i ≡ i′ → c < head) → cell n (setRow n t i r) i′ c ≡ cell n t i′ c
+unfolding setRow cell
+setRow-out n t i r i′ c long h hr hc out = pick (decLt p a) (decLt p (a + n))
+  where
+    p : ℕ
+    p = lineStart n i′ + c
+
+    a : ℕ
+    a = rowStart n i
+
+    fits : a + n ≤ length t
+    fits = omega (arith, line-inside n i h)
+
+    pick : Dec (p < a) → Dec (p < a + n) → getD (setRow n t i r) p 0 ≡ getD t p 0
+    pick (yes l) d = spliced-before t r a n fits hr p l
+    pick (no m) (yes l) =
+        let s = place-same n i (p - lineStart n i) i′ c (omega arith) hc (omega arith) in
+        absurd (omega (arith, out (s .0)))
+    pick (no m) (no m′) =
+        let e : p ≡ a + (n + (p - (a + n))) = omega arith in
+        rw e (spliced-after t r a n fits hr (p - (a + n)))
+
+pub union-length : (r o : List ℕ) (own : ℕ) → length (union r o own) ≡ length r
+unfolding union
+union-length r o own = listOf-length (unionByte r o own) (length r)
+
+pub union-at : (r o : List ℕ) (own k : ℕ) → k < length r → getD (union r o own) k 0 ≡ unionByte r o own k
+unfolding union
+union-at r o own k h = listOf-at (unionByte r o own) (length r) k h
+
+-- the byte about the row's own station stays, the others are the greater of the two
+pub union-own : (r o : List ℕ) (own : ℕ) → unionByte r o own own ≡ getD r own 0
+unfolding unionByte
+union-own r o own = rw (eq-eqb own own refl)
+
+pub union-others : (r o : List ℕ) (own k : ℕ) → k ≢ own → unionByte r o own k ≡ max (getD r k 0) (getD o k 0)
+unfolding unionByte
+union-others r o own k apart = rw (ne-eqb k own apart)
+
+pub mark-length : (r : List ℕ) (j : ℕ) → length (mark r j) ≡ length r
+unfolding mark
+mark-length r j = length-set r j 1
+
+pub mark-same : (r : List ℕ) (j : ℕ) → j < length r → getD (mark r j) j 0 ≡ 1
+unfolding mark
+mark-same r j h = getD-set-same r j 1 0 h
+
+pub mark-other : (r : List ℕ) (j k : ℕ) → k ≢ j → getD (mark r j) k 0 ≡ getD r k 0
+unfolding mark
+mark-other r j k apart = getD-set-other r j k 1 0 apart
+
+-- the line rules of line i
+pub record Line (n : ℕ) (t : List ℕ) (i : ℕ) : Type 0 where
+  pub statusRange : status n t i ≤ 3
+  pub nextLow : 1 ≤ nextDistance n t i
+  pub nextHigh : nextDistance n t i ≤ n
+  pub finishedRange : finished n t i ≤ 1
+  pub testsBound : testsMade n t i ≤ nextDistance n t i - 1
+  pub finishedNext : finished n t i ≡ 1 → nextDistance n t i ≡ n
+  pub own : suspects n t i i ≡ 0
+  pub range : (k : ℕ) → k < n → suspects n t i k ≤ 1
+
+pub both : (a b : Bool) → (a && b) ≡ true → (a ≡ true) × (b ≡ true)
+both true b e = (refl, e)
+both false b e = (e, cc)
+
+one-of : (a b : Bool) → (a || b) ≡ true → a ≡ false → b ≡ true
+one-of true b e f = cc
+one-of false b e f = e
+
+or-right : (a b : Bool) → (a ≡ false → b ≡ true) → (a || b) ≡ true
+or-right true b h = refl
+or-right false b h = h refl
+
+pub line-facts : (n : ℕ) (t : List ℕ) (i : ℕ) → lineRules n t i ≡ true → Line n t i
+unfolding lineRules rowRule
+line-facts n t i e =
+    let a = both _ _ e in
+    let b = both _ _ (a .0) in
+    let c = both _ _ (b .0) in
+    let d = both _ _ (c .0) in
+    let f = both _ _ (d .0) in
+    let g = both _ _ (f .0) in
+    let x = both _ _ (g .1) in
+    record {
+      statusRange = leb-true _ _ (g .0);
+      nextLow = leb-true _ _ (x .0);
+      nextHigh = leb-true _ _ (x .1);
+      finishedRange = leb-true _ _ (f .1);
+      testsBound = leb-true _ _ (d .1);
+      finishedNext = λ p. eqb-true _ _ (one-of _ _ (c .1) (ne-eqb (finished n t i) 0 (omega arith)));
+      own = eqb-true _ _ (b .1);
+      range = λ k h. leb-true _ _ (every-at (suspicionRule n t i) n k (a .1) h);
+    }
+
+pub line-holds : (n : ℕ) (t : List ℕ) (i : ℕ) → Line n t i → lineRules n t i ≡ true
+unfolding lineRules rowRule
+line-holds n t i l =
+    rw (
+      le-leb (status n t i) 3 (l .statusRange),
+      le-leb 1 (nextDistance n t i) (l .nextLow),
+      le-leb (nextDistance n t i) n (l .nextHigh),
+      le-leb (finished n t i) 1 (l .finishedRange),
+      le-leb (testsMade n t i) (nextDistance n t i - 1) (l .testsBound),
+      or-right (eqb (finished n t i) 0) (eqb (nextDistance n t i) n)
+          (λ f. eq-eqb (nextDistance n t i) n (l .finishedNext (omega (arith, l .finishedRange, eqb-false (finished n t i) 0 f)))),
+      eq-eqb (suspects n t i i) 0 (l .own),
+    ) (every-all (suspicionRule n t i) n (λ k h. le-leb (suspects n t i k) 1 (l .range k h)))
+
+pub accepted-line : (n : ℕ) (t : List ℕ) → Accepted n t → (i : ℕ) → i < n → Line n t i
+accepted-line n t a i h = line-facts n t i (every-at (lineRules n t) n i (a .lines) h)

@@ -1,0 +1,13 @@
+-- The laws that the proofs of `station` share, and that the crates above cite.
+pub mod TableRule
+pub mod Xor
+pub mod SearchLaws
+pub mod Levels
+pub mod GroupLaws
+pub mod Lists
+pub mod Loops
+pub mod Refusals
+pub mod Sizes
+pub mod CellLaws
+pub mod DueLaws
+pub mod SelectLaws

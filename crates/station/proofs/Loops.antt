@@ -1,0 +1,64 @@
+-- The definitions of specs/Search in the shapes in which a loop that counts up asks for them: where it begins, after a turn, where it is left.
+-- `r` is the answer of the call that makes the turn's test, and the loop is left where it is false.
+-- Assumes nothing.
+use mathlib.Core.Path.{_≡_, refl, sym, ap, subst, _∙_}
+use mathlib.Core.Bool.{Bool, true, false, not}
+use mathlib.Core.List.{List, [], _∷_, _++_, append-nil, append-assoc}
+use Prim.Native.Nat.{ℕ, suc, _+_, _≤_, _<_}
+use native.Mathlib.Nat.{le-antisymm}
+use native.Mathlib.Numerals.{add-one}
+use native.Mathlib.Omega.{arith}
+use borrow.Author.Tests.{not-true, not-false}
+use lib.ListN.{length, getD, set, drop, drop-of-length-le}
+use lib.Seq.{set-at, getD-at, drop-cons}
+use Rattle.station.specs.Search.{every, listOf}
+use Rattle.station.proofs.SearchLaws.{every-not, listOf-length}
+
+pub every-start : (q : ℕ → Bool) → every q 0 ≡ true
+unfolding every
+every-start q = refl
+
+pub every-next : (q : ℕ → Bool) (k : ℕ) (r : Bool) → every q k ≡ true → r ≡ q k → not r ≡ false → every q (k + 1) ≡ true
+unfolding every
+every-next q k r e s t = let p : q k ≡ true = sym s ∙ not-false r t in rw (add-one, e, p)
+
+pub every-stop : (q : ℕ → Bool) (n k : ℕ) (r : Bool) → k < n → r ≡ q k → not r ≡ true → false ≡ every q n
+every-stop q n k r h s f = sym (every-not q n k h (sym s ∙ not-true r f))
+
+pub every-done : (q : ℕ → Bool) (n k : ℕ) → every q k ≡ true → k ≤ n → n ≤ k → true ≡ every q n
+every-done q n k e a b = subst (λ (x : ℕ). true ≡ every q x) (le-antisymm a b) (sym e)
+
+-- the same of a loop that looks for one that fails the test
+pub some-stop : (q : ℕ → Bool) (n k : ℕ) (r : Bool) → k < n → r ≡ q k → not r ≡ true → true ≡ not (every q n)
+some-stop q n k r h s f = ap not (every-stop q n k r h s f)
+
+pub some-none : (q : ℕ → Bool) (n k : ℕ) → every q k ≡ true → k ≤ n → n ≤ k → false ≡ not (every q n)
+some-none q n k e a b = ap not (every-done q n k e a b)
+
+-- a list that a loop fills from its front: the first k bytes are written, the rest are as they were
+unfoldable pub filled : (ℕ → ℕ) → ℕ → List ℕ → List ℕ
+filled f k l = listOf f k ++ drop k l
+
+pub filled-start : (f : ℕ → ℕ) (l : List ℕ) → l ≡ filled f 0 l
+unfolding filled listOf
+filled-start f l = refl
+
+-- what is not yet written
+pub filled-ahead : (f : ℕ → ℕ) (k : ℕ) (l t : List ℕ) → t ≡ filled f k l → k < length l → getD t k 0 ≡ getD l k 0
+unfolding filled
+filled-ahead f k l t e h = rw (e, drop-cons l k 0) (getD-at (listOf f k) (getD l k 0) (drop (suc k) l) 0 k (listOf-length f k))
+
+pub filled-next : (f : ℕ → ℕ) (k : ℕ) (l t : List ℕ) (v : ℕ) → t ≡ filled f k l → k < length t → length t ≡ length l → v ≡ f k → set t k v ≡ filled f (k + 1) l
+unfolding filled listOf
+filled-next f k l t v e h s w =
+    let h : k < length l = omega arith in
+    rw (e, add-one, drop-cons l k 0, w) (set-at (listOf f k) (getD l k 0) (drop (suc k) l) (f k) k (listOf-length f k) ∙ sym (append-assoc (listOf f k) (f k ∷ []) (drop (suc k) l)))
+
+pub filled-done : (f : ℕ → ℕ) (k n : ℕ) (l t : List ℕ) → t ≡ filled f k l → length t ≡ length l → length l ≡ n → k ≤ length l → length t ≤ k → t ≡ listOf f n
+unfolding filled
+filled-done f k n l t e s w a b =
+    let d : drop k l ≡ [] = drop-of-length-le l {i = k} (omega arith) in
+    let x : k ≡ n = omega arith in
+    rw (e, d, append-nil) (ap (listOf f) x)
+
+pub ruleset loops = (every-start, every-next, every-stop, every-done, some-stop, some-none, filled-start, filled-next, filled-done)

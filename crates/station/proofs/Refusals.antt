@@ -1,0 +1,127 @@
+-- Laws of the refusal numbers: what a number of 0 says, and which number stands where a test fails.
+-- Assumes nothing.
+use mathlib.Core.Path.{_≡_, refl, _∙_}
+use mathlib.Core.Bool.{Bool, true, false, not, _&&_, _||_}
+use mathlib.Core.List.{List}
+use Prim.Native.Nat.{ℕ, zero, suc, _-_, _≤_, _<_}
+use native.Mathlib.Omega.{arith}
+use borrow.Author.Tests.{eqb-true, eqb-false, eq-eqb, ne-eqb, le-ltb, ltb-false, not-false, lt-leb, leb-false}
+use lib.ListN.{length}
+use lib.Dec.{eqb}
+use Rattle.station.specs.Search.{every}
+use Rattle.station.specs.Groups.{isSize, dimension, width}
+use Rattle.station.specs.Table.{tableLength, live}
+use Rattle.station.specs.Rules.{refuse, _else_, lineRules, someLive, liveFinished, shapeNumber, tableNumber}
+use Rattle.station.specs.Calls.{unless, rowNumber, groupNumber, assignmentNumber}
+use Rattle.station.proofs.Levels.{level-le}
+
+-- a refusal that is not 0 hides the later ones
+pub else-first : (r a b : ℕ) → r ≡ a → (r ≡ 0 → ⊥) → r ≡ (a else b)
+else-first r zero b e h = absurd (h e)
+else-first r (suc a) b e h = e
+
+pub else-zero : (a b : ℕ) → (a else b) ≡ 0 → (a ≡ 0) × (b ≡ 0)
+else-zero zero b e = (refl, e)
+else-zero (suc a) b e = absurd (omega arith)
+
+pub refuse-zero : (k : ℕ) (b : Bool) → refuse (suc k) b ≡ 0 → b ≡ false
+refuse-zero k true e = absurd (omega arith)
+refuse-zero k false e = refl
+
+-- a call is refused where its number is not 0
+pub unless-refused {ℓ} : {A : Type ℓ} (r a : ℕ) (x y : A) → r ≡ a → (r ≡ 0 → ⊥) → x ≡ unless a x y
+unless-refused r a x y e h = let f = ne-eqb a 0 (λ z. h (e ∙ z)) in rw f
+
+pub unless-accepted {ℓ} : {A : Type ℓ} (a : ℕ) (x y : A) → a ≡ 0 → y ≡ unless a x y
+unless-accepted a x y e = rw e
+
+-- a size is at least 2 and at most 64
+pub size-bounds : (n : ℕ) → isSize n ≡ true → (2 ≤ n) × (n ≤ 64)
+unfolding isSize
+size-bounds n e = go (eqb n 2) refl (eqb n 4) refl (eqb n 8) refl (eqb n 16) refl (eqb n 32) refl (eqb n 64) refl e
+  where
+    go : (a : Bool) → eqb n 2 ≡ a → (b : Bool) → eqb n 4 ≡ b → (c : Bool) → eqb n 8 ≡ c → (d : Bool) → eqb n 16 ≡ d → (x : Bool) → eqb n 32 ≡ x → (y : Bool) → eqb n 64 ≡ y
+        → ((((((a || b) || c) || d) || x) || y) ≡ true) → (2 ≤ n) × (n ≤ 64)
+    go true p b q c r d s x t y u h = omega (arith, eqb-true n 2 p)
+    go false p true q c r d s x t y u h = omega (arith, eqb-true n 4 q)
+    go false p false q true r d s x t y u h = omega (arith, eqb-true n 8 r)
+    go false p false q false r true s x t y u h = omega (arith, eqb-true n 16 s)
+    go false p false q false r false s true t y u h = omega (arith, eqb-true n 32 t)
+    go false p false q false r false s false t true u h = omega (arith, eqb-true n 64 u)
+    go false p false q false r false s false t false u h = let z : _≡_ {A = ℕ} 0 1 = cc in omega arith
+
+pub size-dimension : (n : ℕ) → isSize n ≡ true → dimension n ≤ 6
+unfolding dimension
+size-dimension n e = level-le (n - 1) 6 (omega (arith, size-bounds n e))
+
+or-false : (a b : Bool) → (a || b) ≡ false → (a ≡ false) × (b ≡ false)
+or-false true b e = (e, cc)
+or-false false b e = (refl, e)
+
+-- what a group list that is not refused has
+pub group-zero : (n i s len : ℕ) → groupNumber n i s len ≡ 0 → (isSize n ≡ true) × (i < n) × (0 < s) × (s ≤ dimension n) × (len ≡ width s)
+unfolding groupNumber
+group-zero n i s len e =
+    let p = else-zero _ _ e in
+    let q = else-zero _ _ (p .1) in
+    let r = else-zero _ _ (q .1) in
+    let l = or-false _ _ (refuse-zero 11 _ (r .0)) in
+    let z : ¬ (s ≡ 0) = eqb-false s 0 (l .0) in (
+      not-false _ (refuse-zero 0 _ (p .0)),
+      leb-false n i (refuse-zero 8 _ (q .0)),
+      omega arith,
+      ltb-false (dimension n) s (l .1),
+      eqb-true len (width s) (not-false _ (refuse-zero 12 _ (r .1))),
+    )
+
+-- a group list that only its length can still refuse, after the tests that the code makes
+module _ (n i s len d w : ℕ) (b : Bool) (e : b ≡ isSize n) (f : not b ≡ false) (l : i < n) (z : s ≡ 0 → ⊥) (g : d ≡ dimension n) (h : s ≤ d) (v : w ≡ width s) where
+  group-last : groupNumber n i s len ≡ refuse 13 (not (eqb len w))
+  unfolding groupNumber
+  group-last = simp (← e, f, lt-leb n i l, ne-eqb s 0 z, ← g, le-ltb d s h, ← v)
+
+  pub group-long : (len ≡ w → ⊥) → 13 ≡ groupNumber n i s len
+  group-long q = rw (group-last, ne-eqb len w q)
+
+  pub group-fits : len ≡ w → 0 ≡ groupNumber n i s len
+  group-fits q = rw (group-last, eq-eqb len w q)
+
+-- a table that refusals 1 to 4 let through
+pub record Accepted (n : ℕ) (t : List ℕ) : Type 0 where
+  pub size : isSize n ≡ true
+  pub long : length t ≡ tableLength n
+  pub lines : every (lineRules n t) n ≡ true
+  pub unclosed : (someLive n t && liveFinished n t) ≡ false
+
+pub shape-zero : (n len : ℕ) → shapeNumber n len ≡ 0 → (isSize n ≡ true) × (len ≡ tableLength n)
+unfolding shapeNumber
+shape-zero n len e =
+    let p = else-zero _ _ e in
+    (not-false _ (refuse-zero 0 _ (p .0)), eqb-true len (tableLength n) (not-false _ (refuse-zero 1 _ (p .1))))
+
+pub accepted : (n : ℕ) (t : List ℕ) → tableNumber n t ≡ 0 → Accepted n t
+unfolding tableNumber
+accepted n t e =
+    let p = else-zero _ _ e in
+    let s = shape-zero n (length t) (p .0) in
+    let q = else-zero _ _ (p .1) in
+    record {
+      size = s .0;
+      long = s .1;
+      lines = not-false _ (refuse-zero 2 _ (q .0));
+      unclosed = refuse-zero 3 _ (q .1);
+    }
+
+pub row-zero : (n : ℕ) (t : List ℕ) (i : ℕ) → rowNumber n t i ≡ 0 → Accepted n t × (i < n)
+unfolding rowNumber
+row-zero n t i e =
+    let p = else-zero _ _ e in
+    (accepted n t (p .0), leb-false n i (refuse-zero 8 _ (p .1)))
+
+pub assignment-zero : (n : ℕ) (t : List ℕ) (i len : ℕ) → assignmentNumber n t i len ≡ 0 → Accepted n t × (i < n) × (live n t i ≡ true) × (len ≡ n - 1)
+unfolding assignmentNumber
+assignment-zero n t i len e =
+    let p = else-zero _ _ e in
+    let r = row-zero n t i (p .0) in
+    let q = else-zero _ _ (p .1) in
+    (r .0, r .1, not-false _ (refuse-zero 9 _ (q .0)), eqb-true len (n - 1) (not-false _ (refuse-zero 12 _ (q .1))))

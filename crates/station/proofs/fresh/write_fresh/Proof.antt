@@ -1,0 +1,56 @@
+-- `fresh::write_fresh` meets its contract: the bytes passed so far are those of a fresh table.
+-- Assumes nothing.
+use mathlib.Core.Path.{_≡_}
+use Prim.Native.Nat.{_-_, _≤_}
+use lib.ListN.{length}
+use borrow.Author.Needs.{needs}
+use Rattle.station.proofs.Loops.{loops, filled}
+use Rattle.station.specs.Calls.{freshByte, freshTable}
+use Rattle.station.proofs.fresh.write_fresh.Statement.{statement}
+use Rattle.station.proofs.fresh.write_fresh.Tie as tie
+
+abbrev Inv-loop : tie.InvT-loop
+Inv-loop n table₀ p₀ table p = (p ≤ length table₀) × (length table ≡ length table₀) × (table ≡ filled (freshByte n) p table₀)
+
+abbrev μ-loop : tie.MeasureT-loop
+μ-loop n table₀ p₀ table p = length table₀ - p
+
+loop-holds : tie.Need-loop-holds Inv-loop μ-loop
+loop-holds c = search (needs, loops)
+
+fresh-byte-requires : tie.Need-fresh-byte-requires Inv-loop μ-loop
+fresh-byte-requires c κs = search (needs, loops)
+
+slice-write-table : tie.Need-slice-write-table Inv-loop μ-loop
+slice-write-table c = search (needs, loops)
+
+add-p : tie.Need-add-p Inv-loop μ-loop
+add-p c = search (needs, loops)
+
+loop-less : tie.Need-loop-less Inv-loop μ-loop
+loop-less c = search (needs, loops)
+
+loop-again : tie.Need-loop-again Inv-loop μ-loop
+loop-again c = search (needs, loops)
+
+same-length : tie.Need-same-length Inv-loop μ-loop
+same-length c = search (needs, loops)
+
+returns : tie.Need-returns Inv-loop μ-loop
+unfolding freshTable
+returns c = search (needs, loops)
+
+pub write-fresh-spec : {M : Type 1} → statement M
+write-fresh-spec =
+    tie.close
+    (tie.spec
+    Inv-loop
+    μ-loop
+    loop-holds
+    fresh-byte-requires
+    slice-write-table
+    add-p
+    loop-less
+    loop-again
+    same-length
+    returns)

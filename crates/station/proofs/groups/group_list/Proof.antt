@@ -1,0 +1,34 @@
+-- `groups::group_list` meets its contract: a group list that is not refused has the length of the group.
+-- Assumes nothing.
+use mathlib.Core.Path.{_∙_, sym}
+use native.Mathlib.Omega.{arith}
+use borrow.Author.Needs.{needs}
+use Rattle.station.specs.Calls.{groupAfter}
+use Rattle.station.proofs.Refusals.{unless-refused, unless-accepted, group-zero, size-dimension}
+use Rattle.station.proofs.groups.group_list.Statement.{statement}
+use Rattle.station.proofs.groups.group_list.Tie as tie
+
+group-number-requires : tie.Need-group-number-requires
+group-number-requires c κs = search needs
+
+write-group-requires : tie.Need-write-group-requires
+write-group-requires c κs =
+    let z = group-zero _ _ _ _ (sym (c .before .before .group-number .ensures) ∙ c .before .if1 .taken) in
+    ((z .2, omega (arith, size-dimension _ (z .0))), z .4)
+
+same-length : tie.Need-same-length
+same-length c = search needs
+
+returns : tie.Need-returns
+unfolding groupAfter
+returns c =
+    let e = c .before .before .before .before .before .group-number .ensures in
+    (e, c .before .before .write-group .ensures ∙ unless-accepted _ _ _ (sym e ∙ c .before .before .before .before .if1 .taken))
+
+returns-2 : tie.Need-returns-2
+unfolding groupAfter
+returns-2 c = (c .before .group-number .ensures, unless-refused _ _ _ _ (c .before .group-number .ensures) (c .if1 .left))
+
+pub group-list-spec : {M : Type 1} → statement M
+group-list-spec =
+    tie.close (tie.spec group-number-requires write-group-requires same-length returns returns-2)

@@ -1,0 +1,76 @@
+-- `groups::group_number` meets its contract.
+-- Assumes nothing.
+use mathlib.Core.Path.{_∙_, sym}
+use native.Mathlib.Omega.{arith}
+use borrow.Author.Needs.{needs}
+use borrow.Author.Tests.{eq-eqb, ne-eqb, lt-ltb, le-leb, lt-leb, not-false}
+use Rattle.station.specs.Calls.{groupNumber}
+use Rattle.station.proofs.Refusals.{size-bounds, size-dimension, group-long, group-fits}
+use Rattle.station.proofs.groups.group_number.Statement.{statement}
+use Rattle.station.proofs.groups.group_number.Tie as tie
+
+is-size-requires : tie.Need-is-size-requires
+is-size-requires c κs = search needs
+
+returns : tie.Need-returns
+unfolding groupNumber
+returns c = simp (← c .before .is-size .ensures, c .if1 .taken)
+
+cast-if2 : tie.Need-cast-if2
+cast-if2 c = search needs
+
+returns-2 : tie.Need-returns-2
+unfolding groupNumber
+returns-2 c = simp (← c .before .before .is-size .ensures, c .before .if1 .left, le-leb _ _ (c .if2 .taken))
+
+returns-3 : tie.Need-returns-3
+unfolding groupNumber
+returns-3 c = simp (← c .before .before .before .before .is-size .ensures, c .before .before .before .if1 .left, lt-leb _ _ (c .before .before .if2 .left), eq-eqb _ _ (c .if3 .taken))
+
+cast-dimension-of : tie.Need-cast-dimension-of
+cast-dimension-of c = omega (arith, size-bounds _ (sym (c .before .before .before .before .is-size .ensures) ∙ not-false _ (c .before .before .before .if1 .left)))
+
+dimension-of-requires : tie.Need-dimension-of-requires
+dimension-of-requires c κs = search needs
+
+returns-4 : tie.Need-returns-4
+unfolding groupNumber
+returns-4 c =
+    simp (
+      ← c .before .before .before .before .before .before .before .before .is-size .ensures,
+      c .before .before .before .before .before .before .before .if1 .left,
+      lt-leb _ _ (c .before .before .before .before .before .before .if2 .left),
+      ne-eqb _ _ (c .before .before .before .before .if3 .left),
+      ← c .before .before .before .dimension-of .ensures,
+      lt-ltb _ _ (c .if4 .taken),
+    )
+
+width-of-requires : tie.Need-width-of-requires
+width-of-requires c κs =
+    omega (arith, size-dimension _ (sym (c .before .before .before .before .before .before .before .before .is-size .ensures) ∙ not-false _ (c .before .before .before .before .before .before .before .if1 .left)))
+
+cast-if5 : tie.Need-cast-if5
+cast-if5 c = search needs
+
+returns-5 : tie.Need-returns-5
+returns-5 c = search (needs, group-long)
+
+returns-6 : tie.Need-returns-6
+returns-6 c = search (needs, group-fits)
+
+pub group-number-spec : {M : Type 1} → statement M
+group-number-spec =
+    tie.close
+    (tie.spec
+    is-size-requires
+    returns
+    cast-if2
+    returns-2
+    returns-3
+    cast-dimension-of
+    dimension-of-requires
+    returns-4
+    width-of-requires
+    cast-if5
+    returns-5
+    returns-6)

@@ -1,0 +1,32 @@
+-- `groups::width_of` meets its contract: a shift of 1 by at most 7 is a power of two and loses nothing.
+-- Assumes nothing.
+use mathlib.Core.Path.{_≡_}
+use Prim.Native.Nat.{ℕ, zero, suc, _-_, _*_, _^_, _%_, _≤_, _<_}
+use native.Mathlib.Nat.{mod-eq-of-lt, one-mul}
+use native.Mathlib.Omega.{arith}
+use lib.Pow.{pow-mono}
+use borrow.Author.Needs.{needs}
+use Rattle.station.specs.Groups.{width}
+use Rattle.station.proofs.groups.width_of.Statement.{statement}
+use Rattle.station.proofs.groups.width_of.Tie as tie
+
+shifted : (s : ℕ) → 0 < s → s ≤ 8 → (1 * 2 ^ (s - 1) % 256 ≡ width s) × (1 * 2 ^ (s - 1) % 256 ≤ 128)
+unfolding width
+shifted zero p h = absurd (omega arith)
+shifted (suc k) p h =
+    let e : suc k - 1 ≡ k = omega arith in
+    let b : 2 ^ k ≤ 2 ^ 7 = pow-mono {i = k} {j = 7} (omega arith) in
+    let m : 1 * 2 ^ (suc k - 1) % 256 ≡ 2 ^ k = rw (e, one-mul) (mod-eq-of-lt (omega arith)) in
+    (m, omega arith)
+
+sub-h : tie.Need-sub-h
+sub-h c = search needs
+
+shl-result : tie.Need-shl-result
+shl-result c = search needs
+
+returns : tie.Need-returns
+returns c = shifted (c .before .args .s .0) (c .before .pre .0) (c .before .pre .1)
+
+pub width-of-spec : {M : Type 1} → statement M
+width-of-spec = tie.close (tie.spec sub-h shl-result returns)

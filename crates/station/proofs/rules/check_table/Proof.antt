@@ -1,0 +1,54 @@
+-- `rules::check_table` meets its contract: a refusal of the shape hides the later ones.
+-- Assumes nothing.
+use mathlib.Core.Path.{_∙_, sym}
+use native.Mathlib.Omega.{arith}
+use borrow.Author.Needs.{needs}
+use Rattle.station.specs.Rules.{tableNumber}
+use Rattle.station.proofs.Refusals.{else-first, shape-zero, size-bounds}
+use Rattle.station.proofs.rules.check_table.Statement.{statement}
+use Rattle.station.proofs.rules.check_table.Tie as tie
+
+check-shape-requires : tie.Need-check-shape-requires
+check-shape-requires c κs = search needs
+
+returns : tie.Need-returns
+unfolding tableNumber
+returns c = else-first _ _ _ (c .before .check-shape .ensures) (c .if1 .taken)
+
+cast-size : tie.Need-cast-size
+cast-size c = omega (arith, size-bounds _ (shape-zero _ _ (sym (c .before .check-shape .ensures) ∙ c .if1 .left) .0))
+
+all-lines-requires : tie.Need-all-lines-requires
+all-lines-requires c κs = search needs
+
+returns-2 : tie.Need-returns-2
+unfolding tableNumber
+returns-2 c = simp (← c .before .before .before .check-shape .ensures, c .before .before .if1 .left, ← c .before .all-lines .ensures, c .if2 .taken)
+
+some-live-requires : tie.Need-some-live-requires
+some-live-requires c κs = search needs
+
+live-finished-requires : tie.Need-live-finished-requires
+live-finished-requires c κs = search needs
+
+returns-3 : tie.Need-returns-3
+unfolding tableNumber
+returns-3 c = simp (← c .before .before .before .before .before .before .check-shape .ensures, c .before .before .before .before .before .if1 .left, ← c .before .before .before .before .all-lines .ensures, c .before .before .before .if2 .left, ← c .before .before .some-live .ensures, ← c .before .live-finished .ensures, c .if3 .taken)
+
+returns-4 : tie.Need-returns-4
+unfolding tableNumber
+returns-4 c = simp (← c .before .before .before .before .before .before .check-shape .ensures, c .before .before .before .before .before .if1 .left, ← c .before .before .before .before .all-lines .ensures, c .before .before .before .if2 .left, ← c .before .before .some-live .ensures, ← c .before .live-finished .ensures, c .if3 .left)
+
+pub check-table-spec : {M : Type 1} → statement M
+check-table-spec =
+    tie.close
+    (tie.spec
+    check-shape-requires
+    returns
+    cast-size
+    all-lines-requires
+    returns-2
+    some-live-requires
+    live-finished-requires
+    returns-3
+    returns-4)

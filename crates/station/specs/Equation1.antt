@@ -1,0 +1,10 @@
+-- Paper 001, equation 1: the right side.
+-- Assumes nothing.
+use Prim.Native.Nat.{ℕ, zero, suc}
+use mathlib.Core.List.{List, [], _++_}
+use Rattle.station.specs.Groups.{group}
+
+-- the groups of station j at levels 1 to h, one behind the other (the right side of equation 1 of paper 001)
+unfoldable pub groupsTo : ℕ → ℕ → List ℕ
+groupsTo j zero = []
+groupsTo j (suc h) = groupsTo j h ++ group j (suc h)

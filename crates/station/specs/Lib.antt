@@ -1,0 +1,9 @@
+-- What the contracts of `station` cite, in the order of document 01.
+pub mod Search
+pub mod Groups
+pub mod Equation1
+pub mod Table
+pub mod Rules
+pub mod Tests
+pub mod Rows
+pub mod Calls

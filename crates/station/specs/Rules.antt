@@ -1,0 +1,69 @@
+-- Document 01, the line rules of "The lent table", and refusals 1 to 4 of the refusal list.
+-- Assumes nothing.
+use Prim.Native.Nat.{ℕ, zero, suc, _-_}
+use mathlib.Core.Bool.{Bool, cond, not, _&&_, _||_}
+use mathlib.Core.List.{List}
+use lib.ListN.{length}
+use lib.Dec.{leb, eqb}
+use Rattle.station.specs.Search.{every}
+use Rattle.station.specs.Groups.{isSize}
+use Rattle.station.specs.Table.{tableLength, status, nextDistance, finished, testsMade, suspects, live}
+
+-- "each byte in its range": the bytes of the head
+abbrev pub headRule : ℕ → List ℕ → ℕ → Bool
+headRule n t i = leb (status n t i) 3 && (leb 1 (nextDistance n t i) && leb (nextDistance n t i) n) && leb (finished n t i) 1
+
+-- "byte 3 at most byte 1 less 1"
+abbrev pub testsRule : ℕ → List ℕ → ℕ → Bool
+testsRule n t i = leb (testsMade n t i) (nextDistance n t i - 1)
+
+-- "a finished line has next distance N"
+abbrev pub finishedRule : ℕ → List ℕ → ℕ → Bool
+finishedRule n t i = eqb (finished n t i) 0 || eqb (nextDistance n t i) n
+
+-- "a station's byte about itself is 0"
+abbrev pub ownRule : ℕ → List ℕ → ℕ → Bool
+ownRule n t i = eqb (suspects n t i i) 0
+
+-- "each byte in its range": byte k of the row
+abbrev pub suspicionRule : ℕ → List ℕ → ℕ → ℕ → Bool
+suspicionRule n t i k = leb (suspects n t i k) 1
+
+unfoldable pub rowRule : ℕ → List ℕ → ℕ → Bool
+rowRule n t i = every (suspicionRule n t i) n
+
+-- all line rules, of line i
+unfoldable pub lineRules : ℕ → List ℕ → ℕ → Bool
+lineRules n t i = headRule n t i && testsRule n t i && finishedRule n t i && ownRule n t i && rowRule n t i
+
+-- "Some station is live"
+abbrev pub notLive : ℕ → List ℕ → ℕ → Bool
+notLive n t i = not (live n t i)
+
+unfoldable pub someLive : ℕ → List ℕ → Bool
+someLive n t = not (every (notLive n t) n)
+
+-- "every live one is finished"
+abbrev pub finishedIfLive : ℕ → List ℕ → ℕ → Bool
+finishedIfLive n t i = notLive n t i || eqb (finished n t i) 1
+
+unfoldable pub liveFinished : ℕ → List ℕ → Bool
+liveFinished n t = every (finishedIfLive n t) n
+
+-- refusal k where its sentence holds, else 0
+abbrev pub refuse : ℕ → Bool → ℕ
+refuse k b = cond b k 0
+
+-- "no earlier one that applies": the first of two refusals that is not 0
+infixr 20 _else_
+abbrev pub _else_ : ℕ → ℕ → ℕ
+zero else b = b
+(suc a) else b = suc a
+
+-- refusals 1 and 2: "The size N is none of 2, 4, 8, 16, 32, 64." "The table's length is not N times (N + 4)."
+unfoldable pub shapeNumber : ℕ → ℕ → ℕ
+shapeNumber n len = refuse 1 (not (isSize n)) else refuse 2 (not (eqb len (tableLength n)))
+
+-- refusals 1 to 4: then "A line breaks a line rule." "Some station is live and every live one is finished."
+unfoldable pub tableNumber : ℕ → List ℕ → ℕ
+tableNumber n t = shapeNumber n (length t) else refuse 3 (not (every (lineRules n t) n)) else refuse 4 (someLive n t && liveFinished n t)

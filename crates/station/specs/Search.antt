@@ -1,0 +1,25 @@
+-- Searches and lists over numbers, by which the other definitions are stated.
+-- Assumes nothing.
+use Prim.Native.Nat.{ℕ, zero, suc}
+use mathlib.Core.Bool.{Bool, true, cond, _&&_}
+use mathlib.Core.List.{List, [], _∷_, _++_}
+
+-- the least of k, k + 1, .., k + n − 1 that passes q; k + n where none does
+unfoldable pub least : (ℕ → Bool) → ℕ → ℕ → ℕ
+least q zero k = k
+least q (suc n) k = cond (q k) k (least q n (suc k))
+
+-- whether every number below n passes q
+unfoldable pub every : (ℕ → Bool) → ℕ → Bool
+every q zero = true
+every q (suc n) = every q n && q n
+
+-- the numbers below n that pass q, ascending
+unfoldable pub select : (ℕ → Bool) → ℕ → List ℕ
+select q zero = []
+select q (suc n) = select q n ++ cond (q n) (n ∷ []) []
+
+-- the list f 0, f 1, .., f (n − 1)
+unfoldable pub listOf : (ℕ → ℕ) → ℕ → List ℕ
+listOf f zero = []
+listOf f (suc n) = listOf f n ++ (f n ∷ [])

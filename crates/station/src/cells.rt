@@ -1,0 +1,59 @@
+// The bytes of the lent table, by line and column (document 01, "The lent table"). Every offset is computed here.
+ghost use mathlib.Core.Path.{_≡_};
+ghost use Prim.Native.Nat.{_<_};
+ghost use Rattle.station.specs.Table.{tableLength, lineStart, cell, setCell, rowStart};
+use crate::Station;
+
+// The columns of a line's head.
+pub const STATUS: u16 = 0;
+
+pub const NEXT: u16 = 1;
+
+pub const FINISHED: u16 = 2;
+
+pub const TESTS: u16 = 3;
+
+// How many bytes of a line stand before its row.
+pub const HEAD: u16 = 4;
+
+// The length of a table of n stations.
+pub fn table_length(n: u8) -> usize
+    ensures { λ r. ⌜ r ≡ tableLength n ⌝ }
+{
+    line_start(n, Station(n))
+}
+
+// Where line i begins.
+pub fn line_start(n: u8, i: Station) -> usize
+    ensures { λ r. ⌜ r ≡ lineStart n (i .0) ⌝ }
+    ensures { λ r. ⌜ r < 66048 ⌝ }
+{
+    let line = i.0;
+    line as usize * (n as usize + HEAD as usize)
+}
+
+// Where the row of line i begins.
+pub fn row_start(n: u8, i: Station) -> usize
+    ensures { λ r. ⌜ r ≡ rowStart n (i .0) ⌝ }
+    ensures { λ r. ⌜ r < 66052 ⌝ }
+{
+    line_start(n, i) + HEAD as usize
+}
+
+// Byte c of line i; 0 past the table's end.
+pub fn get_cell(n: u8, table: &[u8], i: Station, c: u16) -> u8
+    ensures { λ r. ⌜ r ≡ cell n (now (table .entry)) (i .0) c ⌝ }
+{
+    let at = line_start(n, i) + c as usize;
+    if at < table.len() { table[at] } else { 0 }
+}
+
+// Writes byte c of line i; past the table's end nothing.
+pub fn set_cell(n: u8, table: &mut [u8], i: Station, c: u16, v: u8)
+    ensures { λ _. ⌜ now (table .exit) ≡ setCell n (now (table .entry)) (i .0) c v ⌝ }
+{
+    let at = line_start(n, i) + c as usize;
+    if at < table.len() {
+        table[at] = v;
+    }
+}

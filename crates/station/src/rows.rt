@@ -1,0 +1,80 @@
+// Rows: handed back as a part of the lent table, joined and marked (document 01, steps 4 and 5).
+ghost use mathlib.Core.Path.{_≡_};
+ghost use Prim.Native.Nat.{max};
+ghost use mathlib.Core.Bool.{cond};
+ghost use lib.ListN.{getD};
+ghost use Rattle.station.specs.Rows.{union, mark};
+ghost use Rattle.station.specs.Calls.{rowNumber, rowPart};
+use crate::Station;
+use crate::cells;
+use crate::rules;
+
+// The row of station i, as that very part of the table; refused: the empty part.
+pub fn row(n: usize, table: &[u8], i: Station) -> &[u8]
+    ensures { λ r. ⌜ now r ≡ rowPart n (now (table .entry)) (i .0) ⌝ }
+{
+    let number = row_number(n, table, i);
+    if number != 0 {
+        return &table[0..0];
+    }
+    let a = cells::row_start(n as u8, i);
+    let e = a + n;
+    &table[a..e]
+}
+
+// Refusals 1 to 4, 9, or 0, of the row on the same inputs.
+pub fn row_number(n: usize, table: &[u8], i: Station) -> u8
+    ensures { λ r. ⌜ r ≡ rowNumber n (now (table .entry)) (i .0) ⌝ }
+{
+    let number = rules::check_table(n, table);
+    if number != 0 {
+        return number;
+    }
+    let station = i.0;
+    if n <= station as usize {
+        return 9;
+    }
+    0
+}
+
+// Joins another row into the row of station own: the union, but for own's byte about itself.
+pub fn join_row(row: &mut [u8], other: &[u8], own: Station)
+    ensures { λ _. ⌜ now (row .exit) ≡ union (now (row .entry)) (now (other .entry)) (own .0) ⌝ }
+{
+    let of = own.0 as usize;
+    let mut k: usize = 0;
+    while k < row.len() {
+        row[k] = joined(row[k], byte_at(other, k), k == of);
+        k += 1;
+    }
+}
+
+// One byte of the union.
+fn joined(a: u8, b: u8, own: bool) -> u8
+    ensures { λ r. ⌜ r ≡ cond own a (max a b) ⌝ }
+{
+    if own {
+        return a;
+    }
+    if a < b {
+        return b;
+    }
+    a
+}
+
+// The byte at k; 0 past the end.
+fn byte_at(row: &[u8], k: usize) -> u8
+    ensures { λ r. ⌜ r ≡ getD (now (row .entry)) k 0 ⌝ }
+{
+    if k < row.len() { row[k] } else { 0 }
+}
+
+// Marks station j as suspected in the row; past the row's end nothing.
+pub fn mark_row(row: &mut [u8], j: Station)
+    ensures { λ _. ⌜ now (row .exit) ≡ mark (now (row .entry)) (j .0) ⌝ }
+{
+    let k = j.0 as usize;
+    if k < row.len() {
+        row[k] = 1;
+    }
+}
