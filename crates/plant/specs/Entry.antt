@@ -20,6 +20,13 @@ pub record State : Type 0 where
   pub rounds : ℕ
   pub tests : ℕ
 
+-- a state and an entry by their parts, as the contracts name them
+abbrev pub stateOf : List ℕ → ℕ → ℕ → State
+stateOf t r u = record { table = t; rounds = r; tests = u }
+
+abbrev pub entryOf : ℕ → ℕ → Entry
+entryOf k i = record { kind = k; station = i }
+
 -- the greatest value of a tally, 32 bits
 abbrev pub tallyTop : ℕ
 tallyTop = 4294967295
