@@ -13,7 +13,7 @@ use lib.Pow.{pow-mono}
 use Rattle.station.specs.Search.{every}
 use Rattle.station.specs.Table.{tableLength, head, stride, status, nextDistance, finished, testsMade, suspects, live}
 use Rattle.station.specs.Rules.{notLive, someLive, finishedIfLive, liveFinished}
-use Rattle.station.proofs.SearchLaws.{every-at}
+use Rattle.station.proofs.SearchLaws.{both, every-at}
 use Rattle.station.proofs.CellLaws.{Line}
 use Rattle.plant.specs.Turn.{roundOver, resetLines, afterRound}
 use Rattle.plant.specs.Entry.{Entry, State, acted, after}
@@ -54,8 +54,10 @@ closes-is n d L t₀ here s e inv =
   where
     x : Taken
     x = record { size = n; before = s; entry = e }
+
     t′ : List ℕ
     t′ = acted n (s .table) e
+
     alike : (k : ℕ) → live n (tableAfter x) k ≡ live n t′ k
     alike k = ap (λ (v : ℕ). eqb v 0) (round-status n t′ k)
 
@@ -64,15 +66,11 @@ pub record RoundStep (n d : ℕ) (L : ℕ → Bool) (t₀ t : List ℕ) : Type 0
   pub grows : (i j : ℕ) → i < n → j < n → suspects n t₀ i j ≡ 1 → suspects n t i j ≡ 1
   pub tested : (i m h : ℕ) → i < n → L i ≡ true → h < d → 2 ^ h ≤ m → m < 2 ^ suc h → Ahead n t₀ i m h → Handed n L t₀ t i m
 
-and-parts : (a b : Bool) → (a && b) ≡ true → (a ≡ true) × (b ≡ true)
-and-parts true b e = (refl, e)
-and-parts false b e = (e, cc)
-
 -- where the round is over every live station has finished, so its next distance is N
 module _ (n d : ℕ) (L : ℕ → Bool) (t₀ t : List ℕ) (here : List Taken) (pow : n ≡ 2 ^ d) (inv : Inside n d L t₀ here t) (over : roundOver n t ≡ true) where
   pub all-finished : (i : ℕ) → i < n → L i ≡ true → finished n t i ≡ 1
   unfolding roundOver liveFinished
-  all-finished i h l = eqb-true (finished n t i) 1 (drop-first (live n t i) (inv .plain .lives i h ∙ l) (every-at (finishedIfLive n t) n i (and-parts (someLive n t) (every (finishedIfLive n t) n) over .1) h))
+  all-finished i h l = eqb-true (finished n t i) 1 (drop-first (live n t i) (inv .plain .lives i h ∙ l) (every-at (finishedIfLive n t) n i (both (someLive n t) (every (finishedIfLive n t) n) over .1) h))
     where
       drop-first : (a : Bool) → a ≡ true → {b : Bool} → (not a || b) ≡ true → b ≡ true
       drop-first true e f = f
@@ -85,10 +83,10 @@ module _ (n d : ℕ) (L : ℕ → Bool) (t₀ t : List ℕ) (here : List Taken) 
   round-step = record {
     grows = λ i j h g s. reset-row n t i j g ∙ inv .grown i j h g s;
     tested = λ i m h g l a lo hi ahead.
-      let m<n : m < n = omega (arith, pow-mono {i = suc h} {j = d} a) in
-      let w = inv .met i m h g l a lo hi (omega (arith, at-end i g l)) ahead in
-      let x<n : bitXor i m < n = omega (arith, xor-lt d i m (omega arith) (omega arith)) in
-      (λ e. reset-row n t i (bitXor i m) x<n ∙ w .0 e, λ e j c s. reset-row n t (bitXor i m) j c ∙ w .1 e j c s)
+        let m<n : m < n = omega (arith, pow-mono {i = suc h} {j = d} a) in
+        let w = inv .met i m h g l a lo hi (omega (arith, at-end i g l)) ahead in
+        let x<n : bitXor i m < n = omega (arith, xor-lt d i m (omega arith) (omega arith)) in
+        (λ e. reset-row n t i (bitXor i m) x<n ∙ w .0 e, λ e j c s. reset-row n t (bitXor i m) j c ∙ w .1 e j c s);
   }
 
 -- the table after a round has closed is the plain start of the next
@@ -100,5 +98,5 @@ restart n d L t p lines = start n d L (resetLines n t) plain (λ i h. let r = re
       long = reset-length n t ∙ p .long;
       lines = lines;
       lives = λ i h. ap (λ (v : ℕ). eqb v 0) (reset-status n t i) ∙ p .lives i h;
-      trusted = λ i j h g a b. reset-row n t i j g ∙ p .trusted i j h g a b
+      trusted = λ i j h g a b. reset-row n t i j g ∙ p .trusted i j h g a b;
     }

@@ -7,13 +7,13 @@ use mathlib.Core.Option.{Option, none, some}
 use Prim.Native.Nat.{ℕ, suc, _+_, _*_, _-_, _<_, _^_}
 use native.Mathlib.Nat.{zero-add}
 use native.Mathlib.Omega.{arith}
-use lib.Bits.{bitXor, xor-self, xor-zero-r}
+use lib.Bits.{bitXor}
 use lib.Dec.{ltb, eqb}
 use borrow.Author.Tests.{ltb-true, ltb-false, eq-eqb, ne-eqb}
 use Rattle.station.specs.Search.{least, every}
 use Rattle.station.specs.Groups.{level, width, member, stationAt}
 use Rattle.station.specs.Tests.{firstPlace, first, isStation}
-use Rattle.station.proofs.Xor.{xor-assoc, xor-cancel}
+use Rattle.station.proofs.Xor.{xor-cancel, xor-undo}
 use Rattle.station.proofs.SearchLaws.{least-passes, least-before, every-all, every-not}
 use Rattle.station.proofs.Levels.{level-in}
 use Rattle.detection.specs.Sums.{sum, bit, isSome}
@@ -65,15 +65,12 @@ pub tests-are-pairs : (q : ℕ → Bool) (d : ℕ)
     ≡ sum (λ j. sum (λ h. bit (isSome (first q j (suc h)))) d) (2 ^ d)
 tests-are-pairs q d =
     sum-swap (λ i m. test i (stationAt i m) m) (2 ^ d) (2 ^ d)
-    ∙ (sum-by (2 ^ d) (λ m l. sum-by (2 ^ d) (λ i li. rw (back i m)) ∙ sum-xor (λ j. test (stationAt j m) j m) d m l)
+    ∙ (sum-by (2 ^ d) (λ m l. sum-by (2 ^ d) (λ i li. rw (xor-undo i m)) ∙ sum-xor (λ j. test (stationAt j m) j m) d m l)
     ∙ (sum-swap (λ m j. test (stationAt j m) j m) (2 ^ d) (2 ^ d) ∙ sum-by (2 ^ d) (λ j l. first-by-level q j d)))
   where
     -- whether i is the first station that passes in the group of j at the level of m
     test : ℕ → ℕ → ℕ → ℕ
     test i j m = bit (isStation i (first q j (level m)))
-
-    back : (i m : ℕ) → bitXor (bitXor i m) m ≡ i
-    back i m = cc (xor-assoc i m m, xor-self m, xor-zero-r i)
 
 -- the same count as all pairs less those whose group has no station that passes q
 pub tests-are-rest : (q : ℕ → Bool) (d : ℕ)

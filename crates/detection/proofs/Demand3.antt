@@ -14,7 +14,7 @@ use Rattle.station.specs.Search.{every}
 use Rattle.station.specs.Groups.{stationAt, dimension, width, member}
 use Rattle.station.specs.Table.{nextDistance, finished, testsMade, suspects, live}
 use Rattle.station.specs.Rules.{notLive, tableNumber}
-use Rattle.station.proofs.SearchLaws.{every-at}
+use Rattle.station.proofs.SearchLaws.{both, every-at}
 use Rattle.station.proofs.Refusals.{Accepted, accepted}
 use Rattle.station.proofs.CellLaws.{Line, accepted-line}
 use Rattle.station.proofs.Sizes.{size-pow}
@@ -68,7 +68,7 @@ module _ (n d : ℕ) (L : ℕ → Bool) (s₀ : State) (pow : n ≡ 2 ^ d) (comp
   sound = record {
     accepted = p .accepted;
     trusted = λ a b h g l m. p .inside .plain .trusted a b h g (sym (p .inside .plain .lives a h) ∙ l) (sym (p .inside .plain .lives b g) ∙ m);
-    other = λ a h l. let c = company a h (sym (p .inside .plain .lives a h) ∙ l) in (c .0, c .1, c .2, p .inside .plain .lives (c .0) (c .1) ∙ c .3)
+    other = λ a h l. let c = company a h (sym (p .inside .plain .lives a h) ∙ l) in (c .0, c .1, c .2, p .inside .plain .lives (c .0) (c .1) ∙ c .3);
   }
 
   kinds : (e .kind ≡ 1) ⊎ (e .kind ≡ 2)
@@ -76,6 +76,7 @@ module _ (n d : ℕ) (L : ℕ → Bool) (s₀ : State) (pow : n ≡ 2 ^ d) (comp
     where
       not3 : e .kind ≡ 3 → ⊥
       not3 = eqb-false (e .kind) 3 noCrash
+
       pick : (1 ≡ e .kind) ⊎ (1 < e .kind) → (e .kind ≡ 1) ⊎ (e .kind ≡ 2)
       pick (inl q) = inl (sym q)
       pick (inr l) = inr (pick2 (eq-or-lt-of-le l))
@@ -94,6 +95,7 @@ module _ (n d : ℕ) (L : ℕ → Bool) (s₀ : State) (pow : n ≡ 2 ^ d) (comp
       and-false : (a b : Bool) → (a && false && b) ≡ false
       and-false true b = refl
       and-false false b = refl
+
       go : (b : Bool) → makesTest n t i ≡ b → (eqb (e .kind) 2 && makesTest n t i && live n t (stationAt i (nextTest n t i))) ≡ false
       go true q = rw q (rw (noCrash, q) at inTime)
       go false q = rw q (and-false (eqb (e .kind) 2) (live n t (stationAt i (nextTest n t i))))
@@ -123,6 +125,7 @@ module _ (n d : ℕ) (L : ℕ → Bool) (s₀ : State) (pow : n ≡ 2 ^ d) (comp
           let fin : finishes x ≡ not b = rw noCrash (ap not q) in
           move n d L (p .start (length closed)) t t′ cur x i b pow (p .plains (length closed) (omega arith)) (p .inside) turned did (acted-lines n s e (p .accepted) takes .1)
           (facts .below) isLive unfinished turnOf made (λ k. ap (λ (c : Bool). eqb i k && c) fin) fin
+
       go : Turned n t (turn n t (e .kind) i) i
           × (((makesTest n t i ≡ false) × Finished n t (turn n t (e .kind) i) i) ⊎ ((makesTest n t i ≡ true) × Tested n t (turn n t (e .kind) i) i (nextTest n t i)))
           → Inside n d L (p .start (length closed)) here t′
@@ -167,10 +170,6 @@ module _ (n d : ℕ) (L : ℕ → Bool) (s₀ : State) (pow : n ≡ 2 ^ d) (comp
       (λ far. round-count n d L (p .start Q) t′ here pow (p .plains Q (omega arith)) (exact-at n d L (p .start) Q pow (p .history) Q far (omega arith)) moved (at-end n d L (p .start Q) t′ here pow moved over))
       (rw over) testsTally
 
-and-parts : (a b : Bool) → (a && b) ≡ true → (a ≡ true) × (b ≡ true)
-and-parts true b e = (refl, e)
-and-parts false b e = (e, cc)
-
 -- a chain of taken entries without crashes and late replies, cut into rounds
 pub rounds-of : (n d : ℕ) (L : ℕ → Bool) (s₀ : State) → n ≡ 2 ^ d → Company n L → (xs : List Taken) (closed : List (List Taken)) (cur : List Taken) (s s′ : State)
     → Progress n d L s₀ closed cur s → Chain n s xs s′ → all (λ x. not (crashes x)) xs ≡ true → all (λ x. not (isLate x)) xs ≡ true
@@ -183,25 +182,35 @@ rounds-of n d L s₀ pow company (y ∷ xs) closed cur s s′ p chain a b =
   where
     e : Entry
     e = y .entry
+
     x : Taken
     x = record { size = n; before = s; entry = e }
+
     y≡x : y ≡ x
     y≡x = λ k. record { size = chain .0 k; before = chain .1 k; entry = e }
+
     crashParts : (not (crashes y) ≡ true) × (all (λ x. not (crashes x)) xs ≡ true)
-    crashParts = and-parts (not (crashes y)) (all (λ x. not (crashes x)) xs) a
+    crashParts = both (not (crashes y)) (all (λ x. not (crashes x)) xs) a
+
     lateParts : (not (isLate y) ≡ true) × (all (λ x. not (isLate x)) xs ≡ true)
-    lateParts = and-parts (not (isLate y)) (all (λ x. not (isLate x)) xs) b
+    lateParts = both (not (isLate y)) (all (λ x. not (isLate x)) xs) b
+
     noCrash : isCrash e ≡ false
     noCrash = not-true (isCrash e) (crashParts .0)
+
     inTime : isLate x ≡ false
     inTime = subst (λ (z : Taken). isLate z ≡ false) y≡x (not-true (isLate y) (lateParts .0))
+
     Rest : Type 0
     Rest = (done : List (List Taken)) (now : List Taken) (z : State) → Progress n d L s₀ done now z → Chain n z xs s′ → all (λ x. not (crashes x)) xs ≡ true
         → all (λ x. not (isLate x)) xs ≡ true → Progress n d L s₀ (done ++ cut now xs .closed) (cut now xs .unclosed) s′
+
     closesAt : (c : Bool) → closes (cur ++ (y ∷ [])) y ≡ c → closes (cur ++ (x ∷ [])) x ≡ c
     closesAt c q = subst (λ (z : Taken). closes (cur ++ (z ∷ [])) z ≡ c) y≡x q
+
     back : (P : List Taken → Type 0) → P (cur ++ (x ∷ [])) → P (cur ++ (y ∷ []))
     back P = subst (λ (z : Taken). P (cur ++ (z ∷ []))) (sym y≡x)
+
     at : (c : Bool) → closes (cur ++ (y ∷ [])) y ≡ c → Rest → Progress n d L s₀ (closed ++ cut cur (y ∷ xs) .closed) (cut cur (y ∷ xs) .unclosed) s′
     at true q rest =
         let next = closing n d L s₀ pow company closed cur s e p (chain .2) noCrash inTime (closesAt true q) in
@@ -234,6 +243,7 @@ company-of n t two i h l = go (every alone n) refl
   where
     alone : ℕ → Bool
     alone k = eqb k i || notLive n t k
+
     go : (b : Bool) → every alone n ≡ b → (j : ℕ) × (j < n) × (i ≡ j → ⊥) × (live n t j ≡ true)
     go true q =
         let only = sum-single (λ k. bit (live n t k)) n i h (λ k g other. ap bit (dead k g other)) in
@@ -255,23 +265,30 @@ demand-3 n s calls given = record {
   known = λ far i j h g l. known i j h g l (exact-at n d L (p .start) (length closed) pow (p .history) (length closed) far (omega arith)) (L j) refl;
   tests = counted;
   roundsTally = p .roundsTally;
-  testsTally = p .testsTally ∙ ap (λ (v : ℕ). s .tests + v) (sym (tests-snoc closed unclosed))
+  testsTally = p .testsTally ∙ ap (λ (v : ℕ). s .tests + v) (sym (tests-snoc closed unclosed));
 }
   where
     t : List ℕ
     t = s .table
+
     d : ℕ
     d = dimension n
+
     L : ℕ → Bool
     L = live n t
+
     ok : Accepted n t
     ok = accepted n t (given .accepted)
+
     pow : n ≡ 2 ^ d
     pow = size-pow n (ok .size)
+
     closed : List (List Taken)
     closed = cut [] (takenAll s calls) .closed
+
     unclosed : List Taken
     unclosed = cut [] (takenAll s calls) .unclosed
+
     trusted : (i j : ℕ) → i < n → j < n → L i ≡ true → L j ≡ true → suspects n t i j ≡ 0
     trusted i j h g a b = eqb-true (suspects n t i j) 0 (both-live (L i) a (L j) b (every-at (trusts n t i) n j (every-at (λ k. every (trusts n t k) n) n i (given .trusted) h) g))
       where
@@ -279,14 +296,17 @@ demand-3 n s calls given = record {
         both-live true p true q f = f
         both-live true p false q f = cc
         both-live false p b q f = cc
+
     fresh : (i : ℕ) → i < n → (nextDistance n t i ≡ 1) × (finished n t i ≡ 0) × (testsMade n t i ≡ 0)
     fresh i h =
         let all = every-at (lineAtStart n t) n i (given .start) h in
-        let two = and-parts (eqb (nextDistance n t i) 1 && eqb (finished n t i) 0) (eqb (testsMade n t i) 0) all in
-        let one = and-parts (eqb (nextDistance n t i) 1) (eqb (finished n t i) 0) (two .0) in
+        let two = both (eqb (nextDistance n t i) 1 && eqb (finished n t i) 0) (eqb (testsMade n t i) 0) all in
+        let one = both (eqb (nextDistance n t i) 1) (eqb (finished n t i) 0) (two .0) in
         (eqb-true (nextDistance n t i) 1 (one .0), eqb-true (finished n t i) 0 (one .1), eqb-true (testsMade n t i) 0 (two .1))
+
     plain : Plain n L t
     plain = record { long = ok .long; lines = accepted-line n t ok; lives = λ i h. refl; trusted = trusted }
+
     first : Progress n d L s [] [] s
     first = record {
       accepted = ok;
@@ -297,17 +317,21 @@ demand-3 n s calls given = record {
       turns = λ k i h. absurd (omega arith);
       counted = λ k far h. absurd (omega arith);
       roundsTally = omega arith;
-      testsTally = omega arith
+      testsTally = omega arith;
     }
+
     p : Progress n d L s closed unclosed (ranAll s calls)
     p = rounds-of n d L s pow (company-of n t (given .twoLive)) (takenAll s calls) [] [] s (ranAll s calls) first (chain-all n s calls (accepted-kept n) ok) (given .noCrash) (given .noLate)
+
     turns : (k i : ℕ) → i < n → (k ≡ length closed) ⊎ (k < length closed) → TurnsOk n i (getD (closed ++ (unclosed ∷ [])) k [])
     turns k i h (inl e) =
         subst (TurnsOk n i) (sym (ap (λ (j : ℕ). getD (closed ++ (unclosed ∷ [])) j []) e ∙ getD-snoc-last closed unclosed))
         (turns-ok n d L (p .start (length closed)) (ranAll s calls .table) unclosed (p .inside) i h)
     turns k i h (inr l) = subst (TurnsOk n i) (sym (getD-snoc-before closed unclosed k l)) (p .turns k i l h)
+
     known : (i j : ℕ) → i < n → j < n → L i ≡ true → Exact n L (p .start (length closed)) → (b : Bool) → L j ≡ b → suspects n (ranAll s calls .table) i j ≡ bit (notLive n t j)
     known i j h g l exact true e = p .inside .plain .trusted i j h g l e ∙ ap (λ (c : Bool). bit (not c)) (sym e)
     known i j h g l exact false e = p .inside .grown i j h g (exact i j h g l e) ∙ ap (λ (c : Bool). bit (not c)) (sym e)
+
     counted : (k : ℕ) → d * d ≤ k → k < length closed → testsIn (getD closed k []) ≡ n * d - deadPairs n t
     counted k far h = p .counted k far h

@@ -7,13 +7,13 @@ use Prim.Native.Nat.{ℕ, suc, _+_, _-_, _^_, _≤_, _<_}
 use native.Mathlib.Omega.{arith}
 use lib.ListN.{length, getD}
 use lib.Dec.{eqb}
-use lib.Bits.{bitXor, xor-lt, xor-self, xor-zero-r}
+use lib.Bits.{bitXor, xor-lt}
 use lib.Pow.{pow-mono}
 use borrow.Author.Tests.{lt-ltb, eq-eqb, ne-eqb}
 use Rattle.station.specs.Search.{least}
 use Rattle.station.specs.Groups.{width, member}
 use Rattle.station.specs.Tests.{unsuspected, firstPlace, first, due}
-use Rattle.station.proofs.Xor.{xor-assoc}
+use Rattle.station.proofs.Xor.{xor-undo}
 use Rattle.station.proofs.SearchLaws.{least-is}
 use Rattle.station.proofs.Levels.{level-is}
 use Rattle.station.proofs.Lists.{getD-within}
@@ -22,9 +22,6 @@ use Rattle.station.proofs.Lists.{getD-within}
 pub unsuspected-at : (r : List ℕ) (x : ℕ) → x < length r → unsuspected r x ≡ eqb (getD r x 0) 0
 unfolding unsuspected
 unsuspected-at r x h = rw (getD-within r x 1 0 h)
-
-xor-undo : (i m : ℕ) → bitXor (bitXor i m) m ≡ i
-xor-undo i m = cc (xor-assoc i m m, xor-self m, xor-zero-r i)
 
 -- where all that stand ahead of i in the group of the station at distance m are suspected by i, and i does not suspect itself, m is due for i
 pub due-holds : (d : ℕ) (r : List ℕ) (i m h : ℕ) → length r ≡ 2 ^ d → i < 2 ^ d → getD r i 0 ≡ 0 → h < d → 2 ^ h ≤ m → m < 2 ^ suc h

@@ -14,10 +14,9 @@ use lib.ListN.{length, getD}
 use lib.Bits.{bitXor, xor-lt}
 use lib.Dec.{eqb}
 use lib.Pow.{pow-pos, pow-mono}
-use Rattle.station.specs.Search.{least}
-use Rattle.station.specs.Groups.{level, width}
 use Rattle.station.specs.Table.{tableLength, status, nextDistance, finished, testsMade, suspects, live, row}
-use Rattle.station.specs.Tests.{due, first, firstPlace}
+use Rattle.station.specs.Tests.{due}
+use Rattle.station.proofs.DueLaws.{due-zero}
 use Rattle.station.proofs.CellLaws.{Line, row-length, row-at, row-same}
 use Rattle.detection.specs.Sums.{sum, bit}
 use Rattle.detection.specs.Runs.{Taken, isTurnOf, makesOne, finishes}
@@ -63,11 +62,6 @@ pub record Inside (n d : ℕ) (L : ℕ → Bool) (t₀ : List ℕ) (cur : List T
   pub exactCount : Exact n L t₀ → (i : ℕ) → i < n → L i ≡ true → testsMade n t i ≡ sum (λ m. bit (due (row n t₀ i) i m)) (nextDistance n t i)
   pub deadCount : (i : ℕ) → i < n → L i ≡ false → testsMade n t i ≡ 0
 
--- distance 0 is never due
-pub due-zero : (r : List ℕ) (i : ℕ) → due r i 0 ≡ false
-unfolding due first firstPlace level width least
-due-zero r i = refl
-
 -- a sum whose terms from a on are 0
 sum-stays : (f : ℕ → ℕ) (a b : ℕ) → a ≤ b → ((y : ℕ) → a ≤ y → y < b → f y ≡ 0) → sum f b ≡ sum f a
 unfolding sum
@@ -88,6 +82,7 @@ sum-grows f g (suc n) i v h same more =
     upTo : (m : ℕ) → m ≤ i → m ≤ suc n → sum g m ≡ sum f m
     upTo zero a b = refl
     upTo (suc m) a b = omega (arith, upTo m (omega arith) (omega arith), same m (omega arith) (λ e. omega arith))
+
     pick : (i ≡ n) ⊎ (i < n) → (i < n → sum g n ≡ sum f n + v) → sum g n + g n ≡ sum f n + f n + v
     pick (inl e) rest =
         let more′ : g n ≡ f n + v = subst (λ (k : ℕ). g k ≡ f k + v) e more in
@@ -107,7 +102,7 @@ start n d L t p fresh = record {
   lastEnds = λ i a e. absurd (omega (arith, fresh i a .1));
   testCount = sym (sum-zero n (λ i a. fresh i a .2));
   exactCount = λ x i a l. fresh i a .2 ∙ sym (ap (sum (λ m. bit (due (row n t i) i m))) (fresh i a .0) ∙ one i);
-  deadCount = λ i a l. fresh i a .2
+  deadCount = λ i a l. fresh i a .2;
 }
   where
     one : (i : ℕ) → sum (λ m. bit (due (row n t i) i m)) 1 ≡ 0
@@ -128,8 +123,8 @@ did-finish n t t′ i high f = record {
   finish = f .finish;
   passed = λ m lo hi e. let no : due (row n t i) i m ≡ false = f .passed m lo (omega (arith, f .next)) in let z : _≡_ {A = ℕ} 0 1 = cc in absurd (omega arith);
   dues =
-    let stay = sum-stays (λ m. bit (due (row n t i) i m)) (nextDistance n t i) n high (λ y a b. ap bit (f .passed y a b)) in
-    rw (f .next) (omega (arith, stay))
+      let stay = sum-stays (λ m. bit (due (row n t i) i m)) (nextDistance n t i) n high (λ y a b. ap bit (f .passed y a b)) in
+      rw (f .next) (omega (arith, stay));
 }
 
 pub did-test : (n : ℕ) (t t′ : List ℕ) (i m : ℕ) → finished n t i ≡ 0 → Tested n t t′ i m → Did n t t′ i true
@@ -140,12 +135,13 @@ did-test n t t′ i m unfinished f = record {
   finish = f .finish ∙ unfinished;
   passed = λ y lo hi e. at y lo e (eq-or-lt-of-le (le-of-suc-le-suc (subst (λ (k : ℕ). y < k) next hi)));
   dues =
-    let stay = sum-stays (λ y. bit (due (row n t i) i y)) (nextDistance n t i) m (f .low) (λ y a b. ap bit (f .passed y a b)) in
-    rw next (omega (arith, stay, ap bit (f .isDue)))
+      let stay = sum-stays (λ y. bit (due (row n t i) i y)) (nextDistance n t i) m (f .low) (λ y a b. ap bit (f .passed y a b)) in
+      rw next (omega (arith, stay, ap bit (f .isDue)));
 }
   where
     next : nextDistance n t′ i ≡ suc m
     next = omega (arith, f .next)
+
     at : (y : ℕ) → nextDistance n t i ≤ y → due (row n t i) i y ≡ true → (y ≡ m) ⊎ (y < m) → Handed n (live n t) t t′ i y
     at y lo e (inl q) = subst (λ (k : ℕ). Handed n (live n t) t t′ i k) (sym q) (f .dead, f .handed)
     at y lo e (inr l) = let no : due (row n t i) i y ≡ false = f .passed y lo l in let z : _≡_ {A = ℕ} 0 1 = cc in absurd (omega arith)
@@ -163,7 +159,7 @@ module _ (n d : ℕ) (L : ℕ → Bool) (t₀ t t′ : List ℕ) (cur : List Tak
     long = turned .long ∙ p .long;
     lines = lines′;
     lives = λ k h. ap (λ (v : ℕ). eqb v 0) (turned .statuses k h) ∙ p .lives k h;
-    trusted = λ k j h g a c. turned .trusted k j h g (p .lives k h ∙ a) (p .lives j g ∙ c)
+    trusted = λ k j h g a c. turned .trusted k j h g (p .lives k h ∙ a) (p .lives j g ∙ c);
   }
 
   inN : (a c : ℕ) → a < n → c < n → bitXor a c < n
@@ -190,8 +186,10 @@ module _ (n d : ℕ) (L : ℕ → Bool) (t₀ t t′ : List ℕ) (cur : List Tak
     where
       m<n : m < n
       m<n = small m h a hi
+
       old : m < nextDistance n t k → Handed n L t₀ t′ k m
       old q = still k m g m<n (inv .met k m h g l a lo hi q ahead)
+
       new : k ≡ i → nextDistance n t i ≤ m → Handed n L t₀ t′ k m
       new e q =
           let ahead′ : Ahead n t₀ i m h = subst (λ (z : ℕ). Ahead n t₀ z m h) e ahead in
@@ -199,6 +197,7 @@ module _ (n d : ℕ) (L : ℕ → Bool) (t₀ t t′ : List ℕ) (cur : List Tak
           let j<n : bitXor i m < n = inN i m below m<n in
           subst (λ (z : ℕ). Handed n L t₀ t′ z m) (sym e)
           (λ f. w .0 (p .lives (bitXor i m) j<n ∙ f), λ f j c s. w .1 (p .lives (bitXor i m) j<n ∙ f) j c (inv .grown i j below c s))
+
       pick : Dec (k ≡ i) → Handed n L t₀ t′ k m
       pick (yes e) = cases (decLt m (nextDistance n t k))
         where
@@ -238,6 +237,7 @@ module _ (n d : ℕ) (L : ℕ → Bool) (t₀ t t′ : List ℕ) (cur : List Tak
           total : (c : Bool) → bit c + bit (not c) ≡ 1
           total true = refl
           total false = refl
+
       others : (k : ℕ) → k < n → (k ≡ i → ⊥) → turnsIn k here ≡ testsMade n t′ k + finished n t′ k
       others k h e =
           let none : bit (isTurnOf k x) ≡ 0 = ap bit (turnOf k ∙ apart k e) in
@@ -254,6 +254,7 @@ module _ (n d : ℕ) (L : ℕ → Bool) (t₀ t t′ : List ℕ) (cur : List Tak
           bits : (c : Bool) → not c ≡ eqb (bit (not c)) 1
           bits true = refl
           bits false = refl
+
       others : (k : ℕ) → k < n → (k ≡ i → ⊥) → some (finishesOf k) here ≡ eqb (finished n t′ k) 1
       others k h e =
           some-snoc (finishesOf k) cur x ∙ ap (λ (c : Bool). some (finishesOf k) cur || c) (ends k ∙ ap (λ (c : Bool). c && not b) (apart k e))
@@ -269,8 +270,10 @@ module _ (n d : ℕ) (L : ℕ → Bool) (t₀ t t′ : List ℕ) (cur : List Tak
       one : (c : Bool) → bit c ≡ 1 → c ≡ true
       one true e = refl
       one false e = absurd (omega arith)
+
       own : finished n t′ i ≡ 1 → lastFinishes i here ≡ true
       own e = last-snoc-turn i cur x (turnOf i ∙ mine) ∙ fin ∙ one (not b) (sym (did .finish) ∙ e)
+
       others : (k : ℕ) → k < n → (k ≡ i → ⊥) → finished n t′ k ≡ 1 → lastFinishes k here ≡ true
       others k h e f = last-snoc-other k cur x (turnOf k ∙ apart k e) ∙ inv .lastEnds k h (sym (turned .finisheds k h e) ∙ f)
 
@@ -294,6 +297,7 @@ module _ (n d : ℕ) (L : ℕ → Bool) (t₀ t t′ : List ℕ) (cur : List Tak
       own l =
           let grown = subst (λ (r : List ℕ). sum (λ m. bit (due r i m)) (nextDistance n t′ i) ≡ sum (λ m. bit (due r i m)) (nextDistance n t i) + bit b) (rowKept exact) (did .dues) in
           omega (arith, grown, did .tests, inv .exactCount exact i below l)
+
       others : (k : ℕ) → k < n → (k ≡ i → ⊥) → L k ≡ true → testsMade n t′ k ≡ sum (λ m. bit (due (row n t₀ k) k m)) (nextDistance n t′ k)
       others k h e l = turned .tests k h e ∙ inv .exactCount exact k h l ∙ ap (sum (λ m. bit (due (row n t₀ k) k m))) (sym (turned .nexts k h e))
 
@@ -312,5 +316,5 @@ module _ (n d : ℕ) (L : ℕ → Bool) (t₀ t t′ : List ℕ) (cur : List Tak
     lastEnds = lastEnds′;
     testCount = testCount′;
     exactCount = exactCount′;
-    deadCount = deadCount′
+    deadCount = deadCount′;
   }

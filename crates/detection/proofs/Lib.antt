@@ -12,3 +12,4 @@ pub mod Closing
 pub mod RoundCount
 pub mod Progress
 pub mod Demand3
+pub mod Witness

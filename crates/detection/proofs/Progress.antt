@@ -57,13 +57,14 @@ exact-at n d L start Q pow history q far near i j h g l e = detected d L rows Q 
   where
     rows : ℕ → ℕ → ℕ → Type 0
     rows q i j = (j < n) × (suspects n (start q) i j ≡ 1)
+
     rounds : Rounds d L rows Q
     rounds = record {
       grows = λ q i j a b l r. (r .0, history q a .grows i j (omega arith) (r .0) (r .1));
       tested = λ q i m h a b l c lo hi ahead.
-        let w = history q a .tested i m h (omega arith) l c lo hi (λ k v. ahead k v .1) in
-        let x<n : bitXor i m < n = omega (arith, xor-lt d i m b (omega (arith, pow-mono {i = suc h} {j = d} c))) in
-        (λ e. (x<n, w .0 e), λ e j r. (r .0, w .1 e j (r .0) (r .1)))
+          let w = history q a .tested i m h (omega arith) l c lo hi (λ k v. ahead k v .1) in
+          let x<n : bitXor i m < n = omega (arith, xor-lt d i m b (omega (arith, pow-mono {i = suc h} {j = d} c))) in
+          (λ e. (x<n, w .0 e), λ e j r. (r .0, w .1 e j (r .0) (r .1)));
     }
 
 -- the first Q + 1 tables and one more behind them
@@ -91,7 +92,7 @@ go-on n d L s₀ closed cur here s s′ p acc inv r e = record {
   turns = p .turns;
   counted = p .counted;
   roundsTally = r ∙ p .roundsTally;
-  testsTally = omega (arith, p .testsTally)
+  testsTally = omega (arith, p .testsTally);
 }
 
 -- an entry that closes the round, with t the start of the next
@@ -111,22 +112,28 @@ close-round n d L s₀ closed cur here s s′ p acc step fresh ok counted r e = 
   turns = λ k i h g. turns k i g (eq-or-lt-of-le (le-of-suc-le-suc (subst (λ (j : ℕ). k < j) long h)));
   counted = λ k far h. count′ k far (eq-or-lt-of-le (le-of-suc-le-suc (subst (λ (j : ℕ). k < j) long h)));
   roundsTally = omega (arith, p .roundsTally, long);
-  testsTally = omega (arith, p .testsTally, tests-snoc closed here)
+  testsTally = omega (arith, p .testsTally, tests-snoc closed here);
 }
   where
     Q : ℕ
     Q = length closed
+
     start′ : ℕ → List ℕ
     start′ = extend (p .start) Q (s′ .table)
+
     long : length (closed ++ (here ∷ [])) ≡ suc Q
     long = length-snoc closed here
+
     new : start′ (suc Q) ≡ s′ .table
     new = extend-new (p .start) Q (s′ .table)
+
     old : (q : ℕ) → q ≤ Q → start′ q ≡ p .start q
     old = extend-old (p .start) Q (s′ .table)
+
     plain : (q : ℕ) → (q ≡ suc Q) ⊎ (q < suc Q) → Plain n L (start′ q)
     plain q (inl a) = subst (λ (k : ℕ). Plain n L (start′ k)) (sym a) (subst (Plain n L) (sym new) (fresh .plain))
     plain q (inr l) = subst (Plain n L) (sym (old q (le-of-suc-le-suc l))) (p .plains q (le-of-suc-le-suc l))
+
     history : (q : ℕ) → (q ≡ Q) ⊎ (q < Q) → RoundStep n d L (start′ q) (start′ (suc q))
     history q (inl a) =
         subst (λ (k : ℕ). RoundStep n d L (start′ k) (start′ (suc k))) (sym a)
@@ -134,9 +141,11 @@ close-round n d L s₀ closed cur here s s′ p acc step fresh ok counted r e = 
     history q (inr l) =
         subst (λ (t : List ℕ). RoundStep n d L t (start′ (suc q))) (sym (old q (omega arith)))
         (subst (λ (t : List ℕ). RoundStep n d L (p .start q) t) (sym (old (suc q) l)) (p .history q l))
+
     turns : (k i : ℕ) → i < n → (k ≡ Q) ⊎ (k < Q) → TurnsOk n i (getD (closed ++ (here ∷ [])) k [])
     turns k i g (inl a) = subst (TurnsOk n i) (sym (ap (λ (j : ℕ). getD (closed ++ (here ∷ [])) j []) a ∙ getD-snoc-last closed here)) (ok i g)
     turns k i g (inr l) = subst (TurnsOk n i) (sym (getD-snoc-before closed here k l)) (p .turns k i l g)
+
     count′ : (k : ℕ) → d * d ≤ k → (k ≡ Q) ⊎ (k < Q) → testsIn (getD (closed ++ (here ∷ [])) k []) ≡ n * d - emptyPairs n d L
     count′ k far (inl a) = ap testsIn (ap (λ (j : ℕ). getD (closed ++ (here ∷ [])) j []) a ∙ getD-snoc-last closed here) ∙ counted (subst (λ (j : ℕ). d * d ≤ j) a far)
     count′ k far (inr l) = ap testsIn (getD-snoc-before closed here k l) ∙ p .counted k far l

@@ -53,7 +53,7 @@ exact-due n d L t pow p exact i m hi hm l = ap (isStation i) (first-same (unsusp
         let s : ℕ = level m in
         let x : ℕ = member j s k in
         let inside : x < n =
-            omega (arith, members-below d j s x (xor-lt d i m (omega arith) (omega arith)) (level-le m d (omega arith)) (place-mem (member j s) (width s) x k h refl)) in
+        omega (arith, members-below d j s x (xor-lt d i m (omega arith) (omega arith)) (level-le m d (omega arith)) (place-mem (member j s) (width s) x k h refl)) in
         unsuspected-at (row n t i) x (omega (arith, row-length n t i (p .long) hi)) ∙ ap (λ (v : ℕ). eqb v 0) (row-at n t i x inside) ∙ byte x inside (L x) refl
 
 -- a station that is not live is the first live station of no group

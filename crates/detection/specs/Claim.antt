@@ -64,13 +64,13 @@ pub record Conclusion (n : ℕ) (s : State) (calls : List Call) : Type 0 where
   pub sameLive : (i : ℕ) → i < n → live n (ranAll s calls .table) i ≡ live n (s .table) i
   -- in every round, the open one included, a live board has at most N turns, and an Nth turn finished its pass
   pub turns : (k i : ℕ) → k ≤ length (roundsOf s calls .closed) → i < n → live n (s .table) i ≡ true
-    → (turnsIn i (getD (allRounds (roundsOf s calls)) k []) ≤ n) × (turnsIn i (getD (allRounds (roundsOf s calls)) k []) ≡ n → lastFinishes i (getD (allRounds (roundsOf s calls)) k []) ≡ true)
+      → (turnsIn i (getD (allRounds (roundsOf s calls)) k []) ≤ n) × (turnsIn i (getD (allRounds (roundsOf s calls)) k []) ≡ n → lastFinishes i (getD (allRounds (roundsOf s calls)) k []) ≡ true)
   -- once d·d rounds have closed, each live board suspects exactly the boards that are not live
   pub known : dimension n * dimension n ≤ length (roundsOf s calls .closed)
-    → (i j : ℕ) → i < n → j < n → live n (s .table) i ≡ true → suspects n (ranAll s calls .table) i j ≡ bit (notLive n (s .table) j)
+      → (i j : ℕ) → i < n → j < n → live n (s .table) i ≡ true → suspects n (ranAll s calls .table) i j ≡ bit (notLive n (s .table) j)
   -- each closed round from the (d·d + 1)th on has exactly N·d tests less the pairs whose group has no live board
   pub tests : (k : ℕ) → dimension n * dimension n ≤ k → k < length (roundsOf s calls .closed)
-    → testsIn (getD (roundsOf s calls .closed) k []) ≡ n * dimension n - deadPairs n (s .table)
+      → testsIn (getD (roundsOf s calls .closed) k []) ≡ n * dimension n - deadPairs n (s .table)
   -- the tally: the closed rounds are added to its rounds, and the tests of all rounds, the open one included, to its tests
   pub roundsTally : ranAll s calls .rounds ≡ s .rounds + length (roundsOf s calls .closed)
   pub testsTally : ranAll s calls .tests ≡ s .tests + testsOfAll (allRounds (roundsOf s calls))

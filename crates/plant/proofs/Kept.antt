@@ -11,9 +11,9 @@ use lib.ListN.{length}
 use Rattle.station.specs.Search.{every}
 use Rattle.station.specs.Table.{tableLength, finished, live}
 use Rattle.station.specs.Rules.{lineRules, notLive, someLive, finishedIfLive, liveFinished}
-use Rattle.station.proofs.SearchLaws.{every-at, every-all}
+use Rattle.station.proofs.SearchLaws.{both, every-at, every-all}
 use Rattle.station.proofs.Refusals.{Accepted, size-bounds, else-zero, refuse-zero}
-use Rattle.station.proofs.CellLaws.{Line, both, line-holds, accepted-line}
+use Rattle.station.proofs.CellLaws.{Line, line-holds, accepted-line}
 use Rattle.plant.specs.Turn.{turn, crash, roundOver, resetLines, afterRound}
 use Rattle.plant.specs.Entry.{Entry, State, tallyTop, isCrash, isTest, entryNumber, acted, after, sheetLine}
 use Rattle.plant.specs.Run.{Outcome, entries, writeLine, goOn, startNumber, run}

@@ -57,7 +57,7 @@ unfoldable pub after : ℕ → State → Entry → State
 after n s e = record {
   table = afterRound n (acted n (s .table) e);
   rounds = cond (roundOver n (acted n (s .table) e)) (s .rounds + 1) (s .rounds);
-  tests = cond (isTest n (s .table) e) (s .tests + 1) (s .tests)
+  tests = cond (isTest n (s .table) e) (s .tests + 1) (s .tests);
 }
 
 -- the tested station or 255, and the outcome

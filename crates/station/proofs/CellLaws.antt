@@ -16,7 +16,7 @@ use lib.Seq.{length-take-le, getD-append-add, getD-take, getD-drop, getD-set-sam
 use Rattle.station.specs.Table.{head, stride, tableLength, lineStart, cell, setCell, status, nextDistance, finished, testsMade, suspects, rowStart, row, setRow}
 use Rattle.station.specs.Rules.{suspicionRule, rowRule, lineRules}
 use Rattle.station.specs.Rows.{unionByte, union, mark}
-use Rattle.station.proofs.SearchLaws.{every-at, every-all, listOf-length, listOf-at}
+use Rattle.station.proofs.SearchLaws.{both, every-at, every-all, listOf-length, listOf-at}
 use Rattle.station.proofs.Refusals.{Accepted}
 
 -- two places are one only where line and column are
@@ -162,10 +162,6 @@ pub record Line (n : ℕ) (t : List ℕ) (i : ℕ) : Type 0 where
   pub finishedNext : finished n t i ≡ 1 → nextDistance n t i ≡ n
   pub own : suspects n t i i ≡ 0
   pub range : (k : ℕ) → k < n → suspects n t i k ≤ 1
-
-pub both : (a b : Bool) → (a && b) ≡ true → (a ≡ true) × (b ≡ true)
-both true b e = (refl, e)
-both false b e = (e, cc)
 
 one-of : (a b : Bool) → (a || b) ≡ true → a ≡ false → b ≡ true
 one-of true b e f = cc

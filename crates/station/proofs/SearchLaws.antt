@@ -60,18 +60,19 @@ least-is q (suc n) k x lo hi p none =
     pick (inl e) rest = let t : q k ≡ true = cc in rw t e
     pick (inr l) rest = rw (none k (omega arith) l) (rest l)
 
-and-parts : (a b : Bool) → (a && b) ≡ true → (a ≡ true) × (b ≡ true)
-and-parts true b e = (refl, e)
-and-parts false b e = (e, cc)
+-- both parts of a conjunction
+pub both : (a b : Bool) → (a && b) ≡ true → (a ≡ true) × (b ≡ true)
+both true b e = (refl, e)
+both false b e = (e, cc)
 
 pub every-at : (q : ℕ → Bool) (n k : ℕ) → every q n ≡ true → k < n → q k ≡ true
 unfolding every
 every-at q zero k e h = absurd (omega arith)
-every-at q (suc n) k e h = pick (and-parts (every q n) (q n) e) (every-at q n k) (eq-or-lt-of-le (le-of-suc-le-suc h))
+every-at q (suc n) k e h = pick (both (every q n) (q n) e) (every-at q n k) (eq-or-lt-of-le (le-of-suc-le-suc h))
   where
     pick : (every q n ≡ true) × (q n ≡ true) → (every q n ≡ true → k < n → q k ≡ true) → (k ≡ n) ⊎ (k < n) → q k ≡ true
-    pick both rest (inl p) = cc
-    pick both rest (inr l) = rest (both .0) l
+    pick parts rest (inl p) = cc
+    pick parts rest (inr l) = rest (parts .0) l
 
 pub every-all : (q : ℕ → Bool) (n : ℕ) → ((k : ℕ) → k < n → q k ≡ true) → every q n ≡ true
 unfolding every

@@ -58,3 +58,6 @@ xor-of-near h a b e =
     let z : bitXor a b / 2 ^ h ≡ 0 = cc (xor-shr a b h, xor-self (b / 2 ^ h)) in
     let l : bitXor a b < bitXor a b / 2 ^ h * 2 ^ h + 2 ^ h = lt-div-mul-add (pow-pos h) in
     omega (arith, rw z at l)
+
+pub xor-undo : (a m : ℕ) → bitXor (bitXor a m) m ≡ a
+xor-undo a m = cc (xor-assoc a m m, xor-self m, xor-zero-r a)

@@ -1,0 +1,64 @@
+-- The claim is not empty: four boards, board 3 dead, four runs, of which one is refused at its start and one at an entry. The premises hold,
+-- d·d rounds close, and each has the seven tests that the claim counts.
+-- Assumes nothing.
+use mathlib.Core.Path.{_≡_, refl}
+use mathlib.Core.List.{List, [], _∷_, map}
+use Prim.Native.Nat.{ℕ, _-_, _*_}
+use native.Mathlib.Omega.{arith}
+use lib.ListN.{length, replicate}
+use Rattle.station.specs.Search.{least, every, listOf}
+use Rattle.station.specs.Groups.{isSize, level, dimension, width, member}
+use Rattle.station.specs.Table.{tableLength, lineStart, cell, setCell, statusColumn, row, setRow}
+use Rattle.station.specs.Rules.{rowRule, lineRules, someLive, liveFinished, shapeNumber, tableNumber}
+use Rattle.station.specs.Tests.{unsuspected, firstPlace, first, due}
+use Rattle.station.specs.Rows.{unionByte, union, mark}
+use Rattle.station.specs.Calls.{freshByte, freshTable}
+use Rattle.plant.specs.Steps.{steps}
+use Rattle.plant.specs.Turn.{nextTest, makesTest, finishPass, countTest, replies, isTold, exchangeRows, suspect, afterTest, testOutcome, selfOrSuspected, isAlone, afterAlone, testing, turn, turnTested, turnOutcome, crash, roundOver, resetLine, resetLines, afterRound}
+use Rattle.plant.specs.Entry.{State, entryNumber, acted, after, testedOf, outcomeOf, sheetLine}
+use Rattle.plant.specs.Run.{entries, writeLine, goOn, startNumber, run}
+use Rattle.detection.specs.Sums.{sum}
+use Rattle.detection.specs.Runs.{Call, Taken, ranAll, takenFrom, takenIn, takenAll}
+use Rattle.detection.specs.Rounds.{some, all, count, closes, cut, testsIn}
+use Rattle.detection.specs.Claim.{atStart, liveCount, noneSuspected, deadGroup, deadPairs, roundsOf, Premises}
+
+-- four boards, board 3 dead, nothing suspected
+unfoldable pub boards : State
+boards = record { table = setCell 4 (freshTable 4) 3 statusColumn 1; rounds = 0; tests = 0 }
+
+-- a schedule of turns of the stations listed
+unfoldable pub turnsOf : List ℕ → List ℕ
+turnsOf [] = []
+turnsOf (i ∷ is) = 1 ∷ i ∷ turnsOf is
+
+abbrev pub callOf : ℕ → List ℕ → Call
+callOf n schedule = record { size = n; schedule = schedule; sheet = replicate (2 * length schedule) 0 }
+
+-- the turns of one round: two tests each of 0 and 1, three of 2, and one turn of each that finishes
+abbrev pub onePass : List ℕ → List ℕ
+onePass rest = 0 ∷ 1 ∷ 2 ∷ 0 ∷ 1 ∷ 2 ∷ 2 ∷ 0 ∷ 1 ∷ 2 ∷ rest
+
+-- the second run has another size, and the third a kind that is none, so its last entries are not reached
+unfoldable pub calls : List Call
+calls =
+    callOf 4 (turnsOf (onePass (0 ∷ 1 ∷ [])))
+    ∷ callOf 8 (turnsOf (0 ∷ 1 ∷ []))
+    ∷ callOf 4 (1 ∷ 2 ∷ 9 ∷ 0 ∷ 1 ∷ 0 ∷ [])
+    ∷ callOf 4 (turnsOf (0 ∷ 1 ∷ 2 ∷ 2 ∷ 0 ∷ 1 ∷ 2 ∷ onePass (onePass (2 ∷ []))))
+    ∷ []
+
+-- the premises, the tests of the closed rounds, those of the open one, and the count of the claim
+pub record Computed : Type 0 where
+  pub premises : Premises 4 boards calls
+  pub closedTests : map testsIn (roundsOf boards calls .closed) ≡ 7 ∷ 7 ∷ 7 ∷ 7 ∷ []
+  pub openTests : testsIn (roundsOf boards calls .unclosed) ≡ 1
+  pub counted : 4 * dimension 4 - deadPairs 4 (boards .table) ≡ 7
+
+pub witness : Computed
+unfolding boards turnsOf calls atStart liveCount noneSuspected deadPairs deadGroup sum ranAll takenFrom takenIn takenAll some all count closes cut run startNumber tableNumber shapeNumber isSize tableLength every lineRules rowRule someLive liveFinished cell lineStart row setRow setCell freshTable freshByte listOf goOn entries writeLine entryNumber after acted sheetLine testedOf outcomeOf turn turnTested turnOutcome crash roundOver resetLine resetLines afterRound steps nextTest makesTest finishPass countTest replies isTold exchangeRows suspect afterTest testOutcome selfOrSuspected isAlone afterAlone testing due first firstPlace least unsuspected member width level dimension union unionByte mark
+witness = record {
+  premises = record { accepted = refl; start = refl; twoLive = omega arith; trusted = refl; noCrash = refl; noLate = refl };
+  closedTests = refl;
+  openTests = refl;
+  counted = refl;
+}
