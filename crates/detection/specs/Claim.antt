@@ -48,6 +48,10 @@ roundsOf s calls = cut [] (takenAll s calls)
 abbrev pub allRounds : Rounds → List (List Taken)
 allRounds r = r .closed ++ (r .unclosed ∷ [])
 
+-- the kth round, from 0; after the closed ones the open one
+abbrev pub roundAt : State → List Call → ℕ → List Taken
+roundAt s calls k = getD (allRounds (roundsOf s calls)) k []
+
 -- what the claim supposes: the table that refusals 1 to 4 let through, at the start of a round, two live boards at least, no live one
 -- suspecting a live one; any tally, any list of runs, without crashes and late replies of live boards
 pub record Premises (n : ℕ) (s : State) (calls : List Call) : Type 0 where
@@ -64,7 +68,7 @@ pub record Conclusion (n : ℕ) (s : State) (calls : List Call) : Type 0 where
   pub sameLive : (i : ℕ) → i < n → live n (ranAll s calls .table) i ≡ live n (s .table) i
   -- in every round, the open one included, a live board has at most N turns, and an Nth turn finished its pass
   pub turns : (k i : ℕ) → k ≤ length (roundsOf s calls .closed) → i < n → live n (s .table) i ≡ true
-      → (turnsIn i (getD (allRounds (roundsOf s calls)) k []) ≤ n) × (turnsIn i (getD (allRounds (roundsOf s calls)) k []) ≡ n → lastFinishes i (getD (allRounds (roundsOf s calls)) k []) ≡ true)
+      → (turnsIn i (roundAt s calls k) ≤ n) × (turnsIn i (roundAt s calls k) ≡ n → lastFinishes i (roundAt s calls k) ≡ true)
   -- once d·d rounds have closed, each live board suspects exactly the boards that are not live
   pub known : dimension n * dimension n ≤ length (roundsOf s calls .closed)
       → (i j : ℕ) → i < n → j < n → live n (s .table) i ≡ true → suspects n (ranAll s calls .table) i j ≡ bit (notLive n (s .table) j)

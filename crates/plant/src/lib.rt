@@ -1,1 +1,19 @@
-// The plant run of the vCube watch (document 01, "What an entry does" and the run): its definitions stand in specs/, with laws in proofs/.
+// The plant run of the vCube watch (document 01, "What an entry does" and the run): entries, rounds, the tally. It stands above `station`
+// and relies only on what that crate states. The one call is run::run.
+mod entry;
+mod rounds;
+pub mod run;
+mod turn;
+
+// The tally of closed rounds and of tests.
+pub struct Tally {
+    pub rounds: u32,
+    pub tests: u32,
+}
+
+// What a run answers: 0 or the refusal, how many entries were taken, and the tally.
+pub struct Answer {
+    pub number: u8,
+    pub taken: usize,
+    pub tally: Tally,
+}

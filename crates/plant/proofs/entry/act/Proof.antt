@@ -1,0 +1,34 @@
+-- `entry::act` meets its contract: each way is the one that the definition takes.
+-- Assumes nothing.
+use mathlib.Core.Path.{refl}
+use borrow.Author.Needs.{needs}
+use borrow.Author.Tests.{eq-eqb, ne-eqb}
+use Rattle.plant.specs.Turn.{crash}
+use Rattle.plant.specs.Entry.{acted, testedOf, outcomeOf}
+use Rattle.plant.proofs.entry.act.Statement.{statement}
+use Rattle.plant.proofs.entry.act.Tie as tie
+
+set-cell-requires : tie.Need-set-cell-requires
+set-cell-requires c κs = search needs
+
+same-length : tie.Need-same-length
+same-length c = search needs
+
+returns : tie.Need-returns
+unfolding acted testedOf outcomeOf crash
+returns c = rw (eq-eqb _ _ (c .before .before .before .before .if1 .taken)) (refl, (refl, c .before .before .set-cell .ensures))
+
+take-turn-requires : tie.Need-take-turn-requires
+take-turn-requires c κs = search needs
+
+same-length-2 : tie.Need-same-length-2
+same-length-2 c = search needs
+
+returns-2 : tie.Need-returns-2
+unfolding acted testedOf outcomeOf
+returns-2 c = rw (ne-eqb _ _ (c .before .before .before .before .if1 .left)) (c .before .before .take-turn .ensures)
+
+pub act-spec : {M : Type 1} → statement M
+act-spec =
+    tie.close
+    (tie.spec set-cell-requires same-length returns take-turn-requires same-length-2 returns-2)

@@ -1,0 +1,50 @@
+-- `entry::entry_number` meets its contract: each refusal is the first whose test holds.
+-- Assumes nothing.
+use borrow.Author.Needs.{needs}
+use borrow.Author.Tests.{le-leb, lt-leb}
+use Rattle.plant.specs.Entry.{entryNumber}
+use Rattle.plant.proofs.entry.entry_number.Statement.{statement}
+use Rattle.plant.proofs.entry.entry_number.Tie as tie
+
+returns : tie.Need-returns
+unfolding entryNumber
+returns c = simp (c .if1 .taken)
+
+returns-2 : tie.Need-returns-2
+unfolding entryNumber
+returns-2 c = simp (c .before .if1 .left, c .if2 .taken)
+
+returns-3 : tie.Need-returns-3
+unfolding entryNumber
+returns-3 c = simp (c .before .before .before .if1 .left, c .before .before .if2 .left, le-leb _ _ (c .if3 .taken))
+
+is-live-requires : tie.Need-is-live-requires
+is-live-requires c κs = search needs
+
+returns-4 : tie.Need-returns-4
+unfolding entryNumber
+returns-4 c = simp (c .before .before .before .before .before .if1 .left, c .before .before .before .before .if2 .left, lt-leb _ _ (c .before .before .if3 .left), ← c .before .is-live .ensures, c .if4 .taken)
+
+get-cell-requires : tie.Need-get-cell-requires
+get-cell-requires c κs = search needs
+
+returns-5 : tie.Need-returns-5
+unfolding entryNumber
+returns-5 c = simp (c .before .before .before .before .before .before .before .if1 .left, c .before .before .before .before .before .before .if2 .left, lt-leb _ _ (c .before .before .before .before .if3 .left), ← c .before .before .before .is-live .ensures, c .before .before .if4 .left, ← c .before .get-cell .ensures, c .if5 .taken)
+
+returns-6 : tie.Need-returns-6
+unfolding entryNumber
+returns-6 c = simp (c .before .before .before .before .before .before .before .if1 .left, c .before .before .before .before .before .before .if2 .left, lt-leb _ _ (c .before .before .before .before .if3 .left), ← c .before .before .before .is-live .ensures, c .before .before .if4 .left, ← c .before .get-cell .ensures, c .if5 .left)
+
+pub entry-number-spec : {M : Type 1} → statement M
+entry-number-spec =
+    tie.close
+    (tie.spec
+    returns
+    returns-2
+    returns-3
+    is-live-requires
+    returns-4
+    get-cell-requires
+    returns-5
+    returns-6)

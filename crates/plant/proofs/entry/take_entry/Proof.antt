@@ -1,0 +1,79 @@
+-- `entry::take_entry` meets its contract: the entry is taken, so that no tally is full, and its outcome tells whether a test was made.
+-- Assumes nothing.
+use native.Mathlib.Omega.{arith}
+use lib.ListN.{length-set}
+use borrow.Author.Needs.{needs}
+use Rattle.plant.specs.Entry.{stateOf, entryOf, after, sheetLine}
+use Rattle.plant.proofs.Kept.{entry-facts}
+use Rattle.plant.proofs.RunLaws.{made-test, line-written}
+use Rattle.plant.proofs.entry.take_entry.Statement.{statement}
+use Rattle.plant.proofs.entry.take_entry.Tie as tie
+
+act-requires : tie.Need-act-requires
+act-requires c κs =
+    let p = c .before .before .before .pre in
+    (p .0, entry-facts _ _ _ (p .1) .below)
+
+close-round-requires : tie.Need-close-round-requires
+close-round-requires c κs = search needs
+
+slice-write-line : tie.Need-slice-write-line
+slice-write-line c = search needs
+
+slice-write-line-2 : tie.Need-slice-write-line-2
+slice-write-line-2 c = simp length-set (omega arith)
+
+slice-write-line-3 : tie.Need-slice-write-line-3
+slice-write-line-3 c = simp length-set (omega arith)
+
+get-cell-requires : tie.Need-get-cell-requires
+get-cell-requires c κs = search needs
+
+slice-write-line-4 : tie.Need-slice-write-line-4
+slice-write-line-4 c = simp length-set (omega arith)
+
+grown-requires : tie.Need-grown-requires
+grown-requires c κs =
+    let a = c .before .before .before .before .before .before .before .before .before .before .before .before .before .args in
+    let p = c .before .before .before .before .before .before .before .before .before .before .before .before .before .pre in
+    let f = entry-facts (a .n) (stateOf (a .table .now) (a .tally .rounds) (a .tally .tests)) (entryOf (a .kind) (a .i .0)) (p .1) in
+    omega (arith, f .roundsFit)
+
+grown-requires-2 : tie.Need-grown-requires-2
+grown-requires-2 c κs =
+    let a = c .before .before .before .before .before .before .before .before .before .before .before .before .before .before .args in
+    let p = c .before .before .before .before .before .before .before .before .before .before .before .before .before .before .pre in
+    let f = entry-facts (a .n) (stateOf (a .table .now) (a .tally .rounds) (a .tally .tests)) (entryOf (a .kind) (a .i .0)) (p .1) in
+    omega (arith, f .testsFit)
+
+same-length : tie.Need-same-length
+same-length c = search needs
+
+same-length-2 : tie.Need-same-length-2
+same-length-2 c = search needs
+
+returns : tie.Need-returns
+unfolding after sheetLine
+returns c =
+    let a = c .before .before .before .before .before .before .before .before .before .before .before .before .before .before .before .args in
+    let m = made-test (a .n) (a .table .now) (entryOf (a .kind) (a .i .0)) in
+    let d = c .before .before .before .before .before .before .before .before .before .before .before .act .result in
+    let l = line-written (a .line .now) (a .i .0) (d .tested) (d .outcome) (c .before .before .before .get-cell .result) (c .before .before .before .before .before .before .before .before .before .before .before .before .before .before .before .pre .2) in
+    (cc, (cc, (cc, cc)))
+
+pub take-entry-spec : {M : Type 1} → statement M
+take-entry-spec =
+    tie.close
+    (tie.spec
+    act-requires
+    close-round-requires
+    slice-write-line
+    slice-write-line-2
+    slice-write-line-3
+    get-cell-requires
+    slice-write-line-4
+    grown-requires
+    grown-requires-2
+    same-length
+    same-length-2
+    returns)

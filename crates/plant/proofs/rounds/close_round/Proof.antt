@@ -1,0 +1,42 @@
+-- `rounds::close_round` meets its contract: each way is the one that the definition takes.
+-- Assumes nothing.
+use mathlib.Core.Path.{refl}
+use borrow.Author.Needs.{needs}
+use Rattle.plant.specs.Turn.{roundOver, afterRound}
+use Rattle.plant.proofs.rounds.close_round.Statement.{statement}
+use Rattle.plant.proofs.rounds.close_round.Tie as tie
+
+some-live-requires : tie.Need-some-live-requires
+some-live-requires c κs = search needs
+
+live-finished-requires : tie.Need-live-finished-requires
+live-finished-requires c κs = search needs
+
+reset-lines-requires : tie.Need-reset-lines-requires
+reset-lines-requires c κs = search needs
+
+same-length : tie.Need-same-length
+same-length c = search needs
+
+returns : tie.Need-returns
+unfolding roundOver afterRound
+returns c = rw (← c .before .before .before .before .before .before .before .some-live .ensures, ← c .before .before .before .before .before .live-finished .ensures, c .before .before .before .before .if1 .taken) (refl, c .before .before .reset-lines .ensures)
+
+same-length-2 : tie.Need-same-length-2
+same-length-2 c = search needs
+
+returns-2 : tie.Need-returns-2
+unfolding roundOver afterRound
+returns-2 c = rw (← c .before .before .before .some-live .ensures, ← c .before .live-finished .ensures, c .if1 .left) (refl, refl)
+
+pub close-round-spec : {M : Type 1} → statement M
+close-round-spec =
+    tie.close
+    (tie.spec
+    some-live-requires
+    live-finished-requires
+    reset-lines-requires
+    same-length
+    returns
+    same-length-2
+    returns-2)

@@ -1,0 +1,53 @@
+-- `rounds::reset_lines` meets its contract: the lines passed so far begin a new round, the others are as they were.
+-- Assumes nothing.
+use mathlib.Core.Path.{_≡_}
+use Prim.Native.Nat.{_-_, _≤_}
+use lib.ListN.{length}
+use borrow.Author.Needs.{needs}
+use Rattle.plant.specs.Steps.{steps}
+use Rattle.plant.specs.Turn.{resetLine, resetLines}
+use Rattle.plant.proofs.StepsLaws.{stepping}
+use Rattle.plant.proofs.rounds.reset_lines.Statement.{statement}
+use Rattle.plant.proofs.rounds.reset_lines.Tie as tie
+
+abbrev Inv-loop : tie.InvT-loop
+Inv-loop n table₀ i₀ table i = (i ≤ n) × (length table ≡ length table₀) × (table ≡ steps (resetLine n) i table₀)
+
+abbrev μ-loop : tie.MeasureT-loop
+μ-loop n table₀ i₀ table i = n - i
+
+loop-holds : tie.Need-loop-holds Inv-loop μ-loop
+loop-holds c = search (needs, stepping)
+
+reset-line-requires : tie.Need-reset-line-requires Inv-loop μ-loop
+reset-line-requires c κs = search (needs, stepping)
+
+add-i : tie.Need-add-i Inv-loop μ-loop
+add-i c = search (needs, stepping)
+
+loop-less : tie.Need-loop-less Inv-loop μ-loop
+loop-less c = search (needs, stepping)
+
+loop-again : tie.Need-loop-again Inv-loop μ-loop
+loop-again c = search (needs, stepping)
+
+same-length : tie.Need-same-length Inv-loop μ-loop
+same-length c = search (needs, stepping)
+
+returns : tie.Need-returns Inv-loop μ-loop
+unfolding resetLines
+returns c = search (needs, stepping)
+
+pub reset-lines-spec : {M : Type 1} → statement M
+reset-lines-spec =
+    tie.close
+    (tie.spec
+    Inv-loop
+    μ-loop
+    loop-holds
+    reset-line-requires
+    add-i
+    loop-less
+    loop-again
+    same-length
+    returns)

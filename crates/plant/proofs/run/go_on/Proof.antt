@@ -1,0 +1,149 @@
+-- `run::go_on` meets its contract: the rest of the run, from where it stands, gives what the whole gives, and the table obeys the rules.
+-- Assumes nothing.
+use mathlib.Core.Path.{_≡_, refl, sym, ap, _∙_}
+use Prim.Native.Nat.{_*_, _-_, _/_, _≤_}
+use native.Mathlib.Omega.{arith}
+use lib.ListN.{length, drop, length-take, length-drop}
+use borrow.Author.Needs.{needs}
+use Rattle.station.proofs.Refusals.{Accepted}
+use Rattle.plant.specs.Entry.{stateOf}
+use Rattle.plant.specs.Run.{entries, goOn, writeLine}
+use Rattle.plant.proofs.Kept.{accepted-kept}
+use Rattle.plant.proofs.RunLaws.{accepted-number, entryAt, line-back, go-taken, go-stopped, go-done, state-is, outcome-parts, start-facts}
+use Rattle.plant.proofs.run.go_on.Statement.{statement}
+use Rattle.plant.proofs.run.go_on.Tie as tie
+
+abbrev Inv-loop : tie.InvT-loop
+Inv-loop n table₀ schedule sheet₀ held₀ k₀ table sheet held k =
+    (k ≤ length schedule / 2) × (length table ≡ length table₀) × (length sheet ≡ 2 * length schedule) × (length sheet₀ ≡ 2 * length schedule) × Accepted n table
+    × (goOn n k (stateOf table (held .rounds) (held .tests)) sheet (drop k (entries schedule)) ≡ goOn n 0 (stateOf table₀ (held₀ .rounds) (held₀ .tests)) sheet₀ (entries schedule))
+
+abbrev μ-loop : tie.MeasureT-loop
+μ-loop n table₀ schedule sheet₀ held₀ k₀ table sheet held k = length schedule / 2 - k
+
+loop-holds : tie.Need-loop-holds Inv-loop μ-loop
+loop-holds c =
+    let f = start-facts _ _ _ _ (c .before .before .before .pre) in
+    (omega arith, refl, f .2, f .2, f .0, refl)
+
+mul-kind : tie.Need-mul-kind Inv-loop μ-loop
+mul-kind c = search needs
+
+shared-slice-read-kind : tie.Need-shared-slice-read-kind Inv-loop μ-loop
+shared-slice-read-kind c = search needs
+
+mul-t14 : tie.Need-mul-t14 Inv-loop μ-loop
+mul-t14 c = search needs
+
+add-t13 : tie.Need-add-t13 Inv-loop μ-loop
+add-t13 c = search needs
+
+shared-slice-read-t17 : tie.Need-shared-slice-read-t17 Inv-loop μ-loop
+shared-slice-read-t17 c = search needs
+
+entry-number-requires : tie.Need-entry-number-requires Inv-loop μ-loop
+entry-number-requires c κs = search needs
+
+same-length : tie.Need-same-length Inv-loop μ-loop
+same-length c = c .before .before .before .before .before .before .loop .inv .1
+
+same-length-2 : tie.Need-same-length-2 Inv-loop μ-loop
+same-length-2 c =
+    let i = c .before .before .before .before .before .before .loop .inv in
+    i .2 ∙ sym (i .3)
+
+returns : tie.Need-returns Inv-loop μ-loop
+returns c =
+    let a = c .before .before .before .before .before .before .before .before .before .before .args in
+    let l = c .before .before .before .before .before .before .loop in
+    let s = stateOf (l .table) (l .held .rounds) (l .held .tests) in
+    let e = go-stopped (a .n) (l .k) s (l .sheet) (a .schedule .now) _ (c .before .before .before .before .before .loop-test .taken) (c .before .entry-number .ensures) (c .if1 .taken) in
+    outcome-parts _ _ _ _ _ (sym (l .inv .5) ∙ e)
+
+mul-a : tie.Need-mul-a Inv-loop μ-loop
+mul-a c = search needs
+
+add-e : tie.Need-add-e Inv-loop μ-loop
+add-e c = search needs
+
+sub-take-entry : tie.Need-sub-take-entry Inv-loop μ-loop
+sub-take-entry c = search needs
+
+part-take-entry-start : tie.Need-part-take-entry-start Inv-loop μ-loop
+part-take-entry-start c = search needs
+
+part-take-entry-end : tie.Need-part-take-entry-end Inv-loop μ-loop
+part-take-entry-end c = search needs
+
+take-entry-requires : tie.Need-take-entry-requires Inv-loop μ-loop
+take-entry-requires c κs =
+    let i = c .before .before .before .before .before .before .before .before .loop .inv in
+    let h = c .before .before .before .before .before .before .before .loop-test .taken in
+    (accepted-number _ _ (i .4), sym (c .before .before .before .entry-number .ensures) ∙ c .before .before .if1 .left, simp (length-take, length-drop) (omega (arith, i .2, h)))
+
+add-k : tie.Need-add-k Inv-loop μ-loop
+add-k c = search needs
+
+loop-less : tie.Need-loop-less Inv-loop μ-loop
+loop-less c = search needs
+
+loop-again : tie.Need-loop-again Inv-loop μ-loop
+loop-again c =
+    let a = c .before .before .before .before .before .before .before .before .before .before .before .before .before .before .before .before .before .args in
+    let l = c .before .before .before .before .before .before .before .before .before .before .before .before .before .loop in
+    let i = l .inv in
+    let h = c .before .before .before .before .before .before .before .before .before .before .before .before .loop-test .taken in
+    let s = stateOf (l .table) (l .held .rounds) (l .held .tests) in
+    let z = sym (c .before .before .before .before .before .before .before .before .entry-number .ensures) ∙ c .before .before .before .before .before .before .before .if1 .left in
+    let p = c .before .before .before .before .take-entry .ensures in
+    let q = state-is _ _ _ _ (p .1 .1 .0) (p .0) (p .1 .0) in
+    let w = line-back (l .sheet) (l .k) _ ∙ ap (writeLine (l .sheet) (l .k)) (p .1 .1 .1) in (
+      omega arith,
+      omega (arith, c .before .before .before .table .given),
+      omega (arith, c .before .sheet .given),
+      i .3,
+      rw (p .1 .1 .0) (accepted-kept (a .n) s (entryAt (a .schedule .now) (l .k)) (i .4) z),
+      go-taken (a .n) (l .k) s (l .sheet) (a .schedule .now) _ _ h z q w ∙ i .5,
+    )
+
+same-length-3 : tie.Need-same-length-3 Inv-loop μ-loop
+same-length-3 c = c .before .loop .inv .1
+
+same-length-4 : tie.Need-same-length-4 Inv-loop μ-loop
+same-length-4 c = let i = c .before .loop .inv in i .2 ∙ sym (i .3)
+
+returns-2 : tie.Need-returns-2 Inv-loop μ-loop
+returns-2 c =
+    let a = c .before .before .before .before .before .args in
+    let l = c .before .loop in
+    let s = stateOf (l .table) (l .held .rounds) (l .held .tests) in
+    outcome-parts _ _ _ _ _ (sym (l .inv .5) ∙ go-done (a .n) (l .k) s (l .sheet) (a .schedule .now) (c .loop-test .left))
+
+pub go-on-spec : {M : Type 1} → statement M
+go-on-spec =
+    tie.close
+    (tie.spec
+    Inv-loop
+    μ-loop
+    loop-holds
+    mul-kind
+    shared-slice-read-kind
+    mul-t14
+    add-t13
+    shared-slice-read-t17
+    entry-number-requires
+    same-length
+    same-length-2
+    returns
+    mul-a
+    add-e
+    sub-take-entry
+    part-take-entry-start
+    part-take-entry-end
+    take-entry-requires
+    add-k
+    loop-less
+    loop-again
+    same-length-3
+    same-length-4
+    returns-2)

@@ -1,0 +1,51 @@
+-- `run::run` meets its contract: a run that is not refused at its start goes on with the entries.
+-- Assumes nothing.
+use mathlib.Core.Path.{sym, _∙_}
+use native.Mathlib.Omega.{arith}
+use borrow.Author.Needs.{needs}
+use Rattle.station.proofs.Refusals.{size-bounds}
+use Rattle.plant.specs.Entry.{stateOf}
+use Rattle.plant.proofs.RunLaws.{outcome-parts, start-facts, run-refused, run-goes}
+use Rattle.plant.proofs.run.run.Statement.{statement}
+use Rattle.plant.proofs.run.run.Tie as tie
+
+start-number-requires : tie.Need-start-number-requires
+start-number-requires c κs = search needs
+
+same-length : tie.Need-same-length
+same-length c = search needs
+
+returns : tie.Need-returns
+returns c =
+    let a = c .before .before .before .before .before .before .args in
+    outcome-parts _ _ _ _ _ (run-refused (a .n) (stateOf (a .table .now) (a .tally .rounds) (a .tally .tests)) (a .schedule .now) (a .sheet .now) _ (c .before .start-number .ensures) (c .if1 .taken))
+
+cast-go-on : tie.Need-cast-go-on
+cast-go-on c = omega (arith, size-bounds _ (start-facts _ _ _ _ (sym (c .before .start-number .ensures) ∙ c .if1 .left) .0 .size))
+
+go-on-requires : tie.Need-go-on-requires
+go-on-requires c κs = sym (c .before .before .before .start-number .ensures) ∙ c .before .before .if1 .left
+
+same-length-2 : tie.Need-same-length-2
+same-length-2 c = search needs
+
+same-length-3 : tie.Need-same-length-3
+same-length-3 c = search needs
+
+returns-2 : tie.Need-returns-2
+returns-2 c =
+    let a = c .before .before .before .before .before .before .before .before .before .before .before .before .before .args in
+    rw (run-goes (a .n) (stateOf (a .table .now) (a .tally .rounds) (a .tally .tests)) (a .schedule .now) (a .sheet .now) (sym (c .before .before .before .before .before .before .before .before .start-number .ensures) ∙ c .before .before .before .before .before .before .before .if1 .left)) (c .before .before .before .before .go-on .ensures)
+
+pub run-spec : {M : Type 1} → statement M
+run-spec =
+    tie.close
+    (tie.spec
+    start-number-requires
+    same-length
+    returns
+    cast-go-on
+    go-on-requires
+    same-length-2
+    same-length-3
+    returns-2)

@@ -1,0 +1,16 @@
+-- `turn::does_reply` meets its contract: one byte is read.
+-- Assumes nothing.
+use borrow.Author.Needs.{needs}
+use Rattle.plant.specs.Turn.{replies}
+use Rattle.plant.proofs.turn.does_reply.Statement.{statement}
+use Rattle.plant.proofs.turn.does_reply.Tie as tie
+
+is-live-requires : tie.Need-is-live-requires
+is-live-requires c κs = search needs
+
+returns : tie.Need-returns
+unfolding replies
+returns c = cc
+
+pub does-reply-spec : {M : Type 1} → statement M
+does-reply-spec = tie.close (tie.spec is-live-requires returns)

@@ -1,0 +1,22 @@
+-- `turn::finish_pass` meets its contract: each byte is written in its turn.
+-- Assumes nothing.
+use borrow.Author.Needs.{needs}
+use Rattle.plant.specs.Turn.{finishPass}
+use Rattle.plant.proofs.turn.finish_pass.Statement.{statement}
+use Rattle.plant.proofs.turn.finish_pass.Tie as tie
+
+set-cell-requires : tie.Need-set-cell-requires
+set-cell-requires c κs = search needs
+
+set-cell-requires-2 : tie.Need-set-cell-requires-2
+set-cell-requires-2 c κs = search needs
+
+same-length : tie.Need-same-length
+same-length c = search needs
+
+returns : tie.Need-returns
+unfolding finishPass
+returns c = cc
+
+pub finish-pass-spec : {M : Type 1} → statement M
+finish-pass-spec = tie.close (tie.spec set-cell-requires set-cell-requires-2 same-length returns)

@@ -1,0 +1,58 @@
+-- `turn::make_test` meets its contract: the station tested is another one of the plant.
+-- Assumes nothing.
+use mathlib.Core.Path.{ap, _∙_}
+use native.Mathlib.Omega.{arith}
+use lib.ListN.{length}
+use borrow.Author.Needs.{needs}
+use Rattle.station.proofs.Refusals.{accepted, size-bounds}
+use Rattle.station.proofs.CellLaws.{accepted-line}
+use Rattle.plant.specs.Turn.{testing}
+use Rattle.plant.proofs.StepCells.{countTest-length}
+use Rattle.plant.proofs.StepLines.{station-apart, station-below}
+use Rattle.plant.proofs.turn.make_test.Statement.{statement}
+use Rattle.plant.proofs.turn.make_test.Tie as tie
+
+station-at-requires : tie.Need-station-at-requires
+station-at-requires c κs = search needs
+
+count-test-requires : tie.Need-count-test-requires
+count-test-requires c κs =
+    let a = c .before .before .before .args in
+    let p = c .before .before .before .pre in
+    let t = accepted (a .n) (a .table .now) (p .0) in
+    let l = accepted-line (a .n) (a .table .now) t (a .i .0) (p .1) in
+    omega (arith, size-bounds (a .n) (t .size), l .testsBound, l .nextHigh)
+
+hear-reply-requires : tie.Need-hear-reply-requires
+hear-reply-requires c κs =
+    let a = c .before .before .before .before .before .before .before .args in
+    let p = c .before .before .before .before .before .before .before .pre in
+    let t = accepted (a .n) (a .table .now) (p .0) in
+    let e = c .before .before .before .before .before .station-at .ensures in (
+      size-bounds (a .n) (t .size) .1,
+      ap length (c .before .before .before .count-test .ensures) ∙ (countTest-length (a .n) (a .table .now) (a .i .0) (a .m .0) ∙ t .long),
+      p .1,
+      rw e (station-below (a .n) (a .i .0) (a .m .0) (t .size) (p .1) (p .3)),
+      λ q. station-apart (a .i .0) (a .m .0) (p .2) (q ∙ e),
+    )
+
+leave-if-alone-requires : tie.Need-leave-if-alone-requires
+leave-if-alone-requires c κs = search needs
+
+same-length : tie.Need-same-length
+same-length c = search needs
+
+returns : tie.Need-returns
+unfolding testing
+returns c = (cc, cc)
+
+pub make-test-spec : {M : Type 1} → statement M
+make-test-spec =
+    tie.close
+    (tie.spec
+    station-at-requires
+    count-test-requires
+    hear-reply-requires
+    leave-if-alone-requires
+    same-length
+    returns)

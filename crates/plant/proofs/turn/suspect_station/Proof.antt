@@ -1,0 +1,59 @@
+-- `turn::suspect_station` meets its contract: the part of the table that is lent is the station's row.
+-- Assumes nothing.
+use mathlib.Core.Path.{ap, _∙_}
+use mathlib.Core.List.{List}
+use Prim.Native.Nat.{ℕ}
+use native.Mathlib.Omega.{arith}
+use borrow.Author.Needs.{needs}
+use Rattle.station.specs.Table.{setRow}
+use Rattle.station.specs.Rows.{mark}
+use Rattle.station.proofs.CellLaws.{row-inside, row-part}
+use Rattle.plant.specs.Turn.{suspect}
+use Rattle.plant.proofs.RowLaws.{row-back}
+use Rattle.plant.proofs.turn.suspect_station.Statement.{statement}
+use Rattle.plant.proofs.turn.suspect_station.Tie as tie
+
+row-start-requires : tie.Need-row-start-requires
+row-start-requires c κs = search needs
+
+add-e : tie.Need-add-e
+add-e c = search needs
+
+sub-mark-row : tie.Need-sub-mark-row
+sub-mark-row c = search needs
+
+part-mark-row-start : tie.Need-part-mark-row-start
+part-mark-row-start c = search needs
+
+part-mark-row-end : tie.Need-part-mark-row-end
+part-mark-row-end c =
+    let a = c .before .before .args in
+    let p = c .before .before .pre in
+    omega (arith, row-inside (a .n) (a .table .now) (a .i .0) (p .0) (p .1))
+
+mark-row-requires : tie.Need-mark-row-requires
+mark-row-requires c κs = search needs
+
+same-length : tie.Need-same-length
+same-length c = search needs
+
+returns : tie.Need-returns
+unfolding suspect
+returns c =
+    let a = c .before .before .before .before .before .before .args in
+    let s = c .before .before .before .before .row-start .ensures .0 in
+    row-back (a .n) (a .table .now) (a .i .0) _ _ s
+    ∙ ap (setRow (a .n) (a .table .now) (a .i .0)) (c .before .before .mark-row .ensures ∙ ap (λ (r : List ℕ). mark r (a .j .0)) (row-part (a .n) (a .table .now) (a .i .0) _ s))
+
+pub suspect-station-spec : {M : Type 1} → statement M
+suspect-station-spec =
+    tie.close
+    (tie.spec
+    row-start-requires
+    add-e
+    sub-mark-row
+    part-mark-row-start
+    part-mark-row-end
+    mark-row-requires
+    same-length
+    returns)

@@ -1,0 +1,90 @@
+// One entry of a schedule (document 01, "What an entry does" and refusals 7 to 11).
+ghost use mathlib.Core.Path.{_≡_};
+ghost use Prim.Native.Nat.{_+_, _<_};
+ghost use mathlib.Core.Bool.{cond};
+ghost use lib.ListN.{length};
+ghost use Rattle.station.specs.Rules.{tableNumber};
+ghost use Rattle.plant.specs.Entry.{stateOf, entryOf, entryNumber, acted, after, testedOf, outcomeOf, sheetLine};
+use crate::Tally;
+use crate::rounds;
+use crate::turn;
+use crate::turn::Turned;
+use station::Station;
+use station::cells;
+use station::rules;
+
+// Refusals 7 to 11, or 0.
+pub fn entry_number(n: u8, table: &[u8], tally: Tally, kind: u8, i: Station) -> u8
+    ensures { λ r. ⌜ r ≡ entryNumber n (stateOf (now (table .entry)) (tally .rounds) (tally .tests)) (entryOf kind (i .0)) ⌝ }
+{
+    if (tally.rounds == 4294967295) | (tally.tests == 4294967295) {
+        return 7;
+    }
+    if !((1 <= kind) & (kind <= 3)) {
+        return 8;
+    }
+    if n <= i.0 {
+        return 9;
+    }
+    if !rules::is_live(n, table, i) {
+        return 10;
+    }
+    let finished = cells::get_cell(n, table, i, cells::FINISHED);
+    if (kind != 3) & (finished == 1) {
+        return 11;
+    }
+    0
+}
+
+// An entry that is not refused: steps 1 to 8, and its line of the sheet. The answer is the tally after it.
+pub fn take_entry(
+    n: u8,
+    table: &mut [u8],
+    tally: Tally,
+    kind: u8,
+    i: Station,
+    line: &mut [u8],
+) -> Tally
+    requires { ⌜ (tableNumber n (now table) ≡ 0) × (entryNumber n (stateOf (now table) (tally .rounds) (tally .tests)) (entryOf kind (i .0)) ≡ 0) × (length (now line) ≡ 4) ⌝ }
+    ensures { λ r. ⌜ r .rounds ≡ after n (stateOf (now (table .entry)) (tally .rounds) (tally .tests)) (entryOf kind (i .0)) .rounds ⌝ }
+    ensures { λ r. ⌜ r .tests ≡ after n (stateOf (now (table .entry)) (tally .rounds) (tally .tests)) (entryOf kind (i .0)) .tests ⌝ }
+    ensures { λ _. ⌜ now (table .exit) ≡ after n (stateOf (now (table .entry)) (tally .rounds) (tally .tests)) (entryOf kind (i .0)) .table ⌝ }
+    ensures { λ _. ⌜ now (line .exit) ≡ sheetLine n (stateOf (now (table .entry)) (tally .rounds) (tally .tests)) (entryOf kind (i .0)) ⌝ }
+{
+    let done = act(n, table, kind, i);
+    let over = rounds::close_round(n, table);
+    line[0] = i.0;
+    line[1] = done.tested;
+    line[2] = done.outcome;
+    line[3] = cells::get_cell(n, table, i, cells::STATUS);
+    let made = done.outcome != 0;
+    Tally {
+        rounds: grown(tally.rounds, over),
+        tests: grown(tally.tests, made & (kind != 3)),
+    }
+}
+
+// Steps 2 to 7: a crash or a turn.
+fn act(n: u8, table: &mut [u8], kind: u8, i: Station) -> Turned
+    requires { ⌜ (tableNumber n (now table) ≡ 0) × (i .0 < n) ⌝ }
+    ensures { λ r. ⌜ r .tested ≡ testedOf n (now (table .entry)) (entryOf kind (i .0)) ⌝ }
+    ensures { λ r. ⌜ r .outcome ≡ outcomeOf n (now (table .entry)) (entryOf kind (i .0)) ⌝ }
+    ensures { λ _. ⌜ now (table .exit) ≡ acted n (now (table .entry)) (entryOf kind (i .0)) ⌝ }
+{
+    if kind == 3 {
+        cells::set_cell(n, table, i, cells::STATUS, 1);
+        return Turned {
+            tested: 255,
+            outcome: 4,
+        };
+    }
+    turn::take_turn(n, table, kind, i)
+}
+
+// One more where `more` holds.
+fn grown(x: u32, more: bool) -> u32
+    requires { ⌜ x < 4294967295 ⌝ }
+    ensures { λ r. ⌜ r ≡ cond more (x + 1) x ⌝ }
+{
+    if more { x + 1 } else { x }
+}

@@ -1,0 +1,38 @@
+// Closing a round (document 01, step 8).
+ghost use mathlib.Core.Path.{_≡_};
+ghost use Rattle.plant.specs.Turn.{roundOver, resetLine, resetLines, afterRound};
+use station::Station;
+use station::cells;
+use station::rules;
+
+// Closes the round if a station is live and all live ones are finished; answers whether it closed.
+pub fn close_round(n: u8, table: &mut [u8]) -> bool
+    ensures { λ r. ⌜ r ≡ roundOver n (now (table .entry)) ⌝ }
+    ensures { λ _. ⌜ now (table .exit) ≡ afterRound n (now (table .entry)) ⌝ }
+{
+    let over = rules::some_live(n, table) & rules::live_finished(n, table);
+    if over {
+        reset_lines(n, table);
+    }
+    over
+}
+
+// Every line, live or not, begins a new round.
+fn reset_lines(n: u8, table: &mut [u8])
+    ensures { λ _. ⌜ now (table .exit) ≡ resetLines n (now (table .entry)) ⌝ }
+{
+    let mut i: u8 = 0;
+    while i < n {
+        reset_line(n, table, Station(i));
+        i += 1;
+    }
+}
+
+// Next distance 1, finished 0, tests 0.
+fn reset_line(n: u8, table: &mut [u8], i: Station)
+    ensures { λ _. ⌜ now (table .exit) ≡ resetLine n (i .0) (now (table .entry)) ⌝ }
+{
+    cells::set_cell(n, table, i, cells::NEXT, 1);
+    cells::set_cell(n, table, i, cells::FINISHED, 0);
+    cells::set_cell(n, table, i, cells::TESTS, 0);
+}

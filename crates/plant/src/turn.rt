@@ -1,0 +1,217 @@
+// A turn of one station (document 01, steps 2 to 6).
+ghost use mathlib.Core.Path.{_≡_};
+ghost use Prim.Native.Nat.{_-_, _<_, _≤_};
+ghost use mathlib.Core.List.{_++_};
+ghost use lib.ListN.{length, drop};
+ghost use Rattle.station.specs.Search.{least};
+ghost use Rattle.station.specs.Table.{tableLength, testsMade, row, setRow};
+ghost use Rattle.station.specs.Groups.{stationAt};
+ghost use Rattle.station.specs.Rows.{union};
+ghost use Rattle.station.specs.Rules.{tableNumber};
+ghost use Rattle.station.specs.Tests.{due};
+ghost use Rattle.plant.specs.Turn.{nextTest, finishPass, countTest, replies, isTold, exchangeRows, suspect, afterTest, testOutcome, selfOrSuspected, isAlone, afterAlone, testing, turn, turnTested, turnOutcome};
+use station::Distance;
+use station::Station;
+use station::cells;
+use station::due;
+use station::order;
+use station::rows;
+use station::rules;
+
+// What a turn puts on the sheet: the tested station or 255, and the outcome.
+pub struct Turned {
+    pub tested: u8,
+    pub outcome: u8,
+}
+
+// Steps 2 to 6: the turn of station i.
+pub fn take_turn(n: u8, table: &mut [u8], kind: u8, i: Station) -> Turned
+    requires { ⌜ (tableNumber n (now table) ≡ 0) × (i .0 < n) ⌝ }
+    ensures { λ r. ⌜ r .tested ≡ turnTested n (now (table .entry)) (i .0) ⌝ }
+    ensures { λ r. ⌜ r .outcome ≡ turnOutcome n (now (table .entry)) kind (i .0) ⌝ }
+    ensures { λ _. ⌜ now (table .exit) ≡ turn n (now (table .entry)) kind (i .0) ⌝ }
+{
+    let m = next_test(n, table, i);
+    if n <= m.0 {
+        finish_pass(n, table, i);
+        return Turned {
+            tested: 255,
+            outcome: 0,
+        };
+    }
+    let j = order::station_at(i, m);
+    let outcome = make_test(n, table, kind, i, m);
+    Turned {
+        tested: j.0,
+        outcome: outcome,
+    }
+}
+
+// Step 2: the least due distance not below the next one; n where there is none.
+fn next_test(n: u8, table: &[u8], i: Station) -> Distance
+    requires { ⌜ (length (now table) ≡ tableLength n) × (i .0 < n) ⌝ }
+    ensures { λ r. ⌜ r .0 ≡ nextTest n (now (table .entry)) (i .0) ⌝ }
+{
+    let next = cells::get_cell(n, table, i, cells::NEXT);
+    let a = cells::row_start(n, i);
+    let e = a + n as usize;
+    scan(&table[a..e], i, n, Distance(next))
+}
+
+// The least distance from `from` on, and below n, that is due for i by its row; n, or `from` if that is greater, where there is none.
+fn scan(row: &[u8], i: Station, n: u8, from: Distance) -> Distance
+    ensures { λ r. ⌜ r .0 ≡ least (due (now (row .entry)) (i .0)) (n - from .0) (from .0) ⌝ }
+{
+    let mut m = from.0;
+    while m < n {
+        if due::is_due(row, i, Distance(m)) {
+            return Distance(m);
+        }
+        m += 1;
+    }
+    Distance(m)
+}
+
+// Step 2: no distance is due any more.
+fn finish_pass(n: u8, table: &mut [u8], i: Station)
+    ensures { λ _. ⌜ now (table .exit) ≡ finishPass n (now (table .entry)) (i .0) ⌝ }
+{
+    cells::set_cell(n, table, i, cells::NEXT, n);
+    cells::set_cell(n, table, i, cells::FINISHED, 1);
+}
+
+// Steps 3 to 6: station i tests the station at distance m. The answer is the outcome.
+fn make_test(n: u8, table: &mut [u8], kind: u8, i: Station, m: Distance) -> u8
+    requires { ⌜ (tableNumber n (now table) ≡ 0) × (i .0 < n) × (0 < m .0) × (m .0 < n) ⌝ }
+    ensures { λ r. ⌜ r ≡ testOutcome n (countTest n (now (table .entry)) (i .0) (m .0)) kind (i .0) (stationAt (i .0) (m .0)) ⌝ }
+    ensures { λ _. ⌜ now (table .exit) ≡ testing n (now (table .entry)) kind (i .0) (m .0) ⌝ }
+{
+    let j = order::station_at(i, m);
+    count_test(n, table, i, m);
+    let outcome = hear_reply(n, table, kind, i, j);
+    leave_if_alone(n, table, i);
+    outcome
+}
+
+// Step 3: next distance and tests of i.
+fn count_test(n: u8, table: &mut [u8], i: Station, m: Distance)
+    requires { ⌜ (m .0 < 255) × (testsMade n (now table) (i .0) < 255) ⌝ }
+    ensures { λ _. ⌜ now (table .exit) ≡ countTest n (now (table .entry)) (i .0) (m .0) ⌝ }
+{
+    let tests = cells::get_cell(n, table, i, cells::TESTS);
+    cells::set_cell(n, table, i, cells::NEXT, m.0 + 1);
+    cells::set_cell(n, table, i, cells::TESTS, tests + 1);
+}
+
+// Steps 4 and 5: the reply of j, or none. The answer is the outcome.
+fn hear_reply(n: u8, table: &mut [u8], kind: u8, i: Station, j: Station) -> u8
+    requires { ⌜ (n ≤ 64) × (length (now table) ≡ tableLength n) × (i .0 < n) × (j .0 < n) × (i .0 ≡ j .0 → ⊥) ⌝ }
+    ensures { λ r. ⌜ r ≡ testOutcome n (now (table .entry)) kind (i .0) (j .0) ⌝ }
+    ensures { λ _. ⌜ now (table .exit) ≡ afterTest n (now (table .entry)) kind (i .0) (j .0) ⌝ }
+{
+    if !does_reply(n, table, kind, j) {
+        suspect_station(n, table, i, j);
+        return 3;
+    }
+    if is_told(n, table, i, j) {
+        cells::set_cell(n, table, i, cells::STATUS, 2);
+        return 2;
+    }
+    exchange_rows(n, table, i, j);
+    1
+}
+
+// Step 4: whether j replies in time.
+fn does_reply(n: u8, table: &[u8], kind: u8, j: Station) -> bool
+    ensures { λ r. ⌜ r ≡ replies n (now (table .entry)) kind (j .0) ⌝ }
+{
+    rules::is_live(n, table, j) & (kind == 1)
+}
+
+// Step 4: whether j suspects i.
+fn is_told(n: u8, table: &[u8], i: Station, j: Station) -> bool
+    ensures { λ r. ⌜ r ≡ isTold n (now (table .entry)) (i .0) (j .0) ⌝ }
+{
+    let of = i.0;
+    cells::get_cell(n, table, j, cells::HEAD + of as u16) == 1
+}
+
+// Step 5: i suspects j. The row is lent as a part of the table.
+fn suspect_station(n: u8, table: &mut [u8], i: Station, j: Station)
+    requires { ⌜ (length (now table) ≡ tableLength n) × (i .0 < n) ⌝ }
+    ensures { λ _. ⌜ now (table .exit) ≡ suspect n (now (table .entry)) (i .0) (j .0) ⌝ }
+{
+    let a = cells::row_start(n, i);
+    let e = a + n as usize;
+    rows::mark_row(&mut table[a..e], j);
+}
+
+// Step 4: both rows become the union of the two. Each row is lent in turn as a part of the table, with a copy of the other.
+fn exchange_rows(n: u8, table: &mut [u8], i: Station, j: Station)
+    requires { ⌜ (n ≤ 64) × (length (now table) ≡ tableLength n) × (i .0 < n) × (j .0 < n) × (i .0 ≡ j .0 → ⊥) ⌝ }
+    ensures { λ _. ⌜ now (table .exit) ≡ exchangeRows n (now (table .entry)) (i .0) (j .0) ⌝ }
+{
+    let size = n as usize;
+    let mut mine = [0u8; 64];
+    let mut theirs = [0u8; 64];
+    copy_row(n, table, i, &mut mine);
+    copy_row(n, table, j, &mut theirs);
+    join_into(n, table, i, &theirs[..size]);
+    join_into(n, table, j, &mine[..size]);
+}
+
+// Copies the row of station i to the front of a buffer.
+fn copy_row(n: u8, table: &[u8], i: Station, out: &mut [u8])
+    requires { ⌜ (length (now table) ≡ tableLength n) × (i .0 < n) × (n ≤ length (now out)) ⌝ }
+    ensures { λ _. ⌜ now (out .exit) ≡ row n (now (table .entry)) (i .0) ++ drop n (now (out .entry)) ⌝ }
+{
+    let mut k: u8 = 0;
+    while k < n {
+        out[k as usize] = cells::get_cell(n, table, i, cells::HEAD + k as u16);
+        k += 1;
+    }
+}
+
+// Joins another row into the row of station i, lent as a part of the table.
+fn join_into(n: u8, table: &mut [u8], i: Station, other: &[u8])
+    requires { ⌜ (length (now table) ≡ tableLength n) × (i .0 < n) ⌝ }
+    ensures { λ _. ⌜ now (table .exit) ≡ setRow n (now (table .entry)) (i .0) (union (row n (now (table .entry)) (i .0)) (now (other .entry)) (i .0)) ⌝ }
+{
+    let a = cells::row_start(n, i);
+    let e = a + n as usize;
+    rows::join_row(&mut table[a..e], other, i);
+}
+
+// Step 6: i leaves if it is live and suspects all others.
+fn leave_if_alone(n: u8, table: &mut [u8], i: Station)
+    ensures { λ _. ⌜ now (table .exit) ≡ afterAlone n (now (table .entry)) (i .0) ⌝ }
+{
+    if suspects_all(n, table, i) {
+        cells::set_cell(n, table, i, cells::STATUS, 3);
+    }
+}
+
+// Step 6: whether i is live and suspects all others.
+fn suspects_all(n: u8, table: &[u8], i: Station) -> bool
+    ensures { λ r. ⌜ r ≡ isAlone n (now (table .entry)) (i .0) ⌝ }
+{
+    if !rules::is_live(n, table, i) {
+        return false;
+    }
+    let mut k: u8 = 0;
+    while k < n {
+        if !self_or_suspected(n, table, i, Station(k)) {
+            return false;
+        }
+        k += 1;
+    }
+    true
+}
+
+fn self_or_suspected(n: u8, table: &[u8], i: Station, k: Station) -> bool
+    ensures { λ r. ⌜ r ≡ selfOrSuspected n (now (table .entry)) (i .0) (k .0) ⌝ }
+{
+    let of = k.0;
+    let byte = cells::get_cell(n, table, i, cells::HEAD + of as u16);
+    (of == i.0) | (byte == 1)
+}
