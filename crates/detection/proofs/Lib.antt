@@ -12,4 +12,5 @@ pub mod Closing
 pub mod RoundCount
 pub mod Progress
 pub mod Demand3
+pub mod SameRun
 pub mod Witness

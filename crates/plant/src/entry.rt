@@ -14,7 +14,7 @@ use station::cells;
 use station::rules;
 
 // Refusals 7 to 11, or 0.
-pub fn entry_number(n: u8, table: &[u8], tally: Tally, kind: u8, i: Station) -> u8
+pub(crate) fn entry_number(n: u8, table: &[u8], tally: Tally, kind: u8, i: Station) -> u8
     ensures { λ r. ⌜ r ≡ entryNumber n (stateOf (now (table .entry)) (tally .rounds) (tally .tests)) (entryOf kind (i .0)) ⌝ }
 {
     if (tally.rounds == 4294967295) | (tally.tests == 4294967295) {
@@ -37,7 +37,7 @@ pub fn entry_number(n: u8, table: &[u8], tally: Tally, kind: u8, i: Station) -> 
 }
 
 // An entry that is not refused: steps 1 to 8, and its line of the sheet. The answer is the tally after it.
-pub fn take_entry(
+pub(crate) fn take_entry(
     n: u8,
     table: &mut [u8],
     tally: Tally,

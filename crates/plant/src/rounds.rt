@@ -6,7 +6,7 @@ use station::cells;
 use station::rules;
 
 // Closes the round if a station is live and all live ones are finished; answers whether it closed.
-pub fn close_round(n: u8, table: &mut [u8]) -> bool
+pub(crate) fn close_round(n: u8, table: &mut [u8]) -> bool
     ensures { λ r. ⌜ r ≡ roundOver n (now (table .entry)) ⌝ }
     ensures { λ _. ⌜ now (table .exit) ≡ afterRound n (now (table .entry)) ⌝ }
 {

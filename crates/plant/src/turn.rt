@@ -25,7 +25,7 @@ pub struct Turned {
 }
 
 // Steps 2 to 6: the turn of station i.
-pub fn take_turn(n: u8, table: &mut [u8], kind: u8, i: Station) -> Turned
+pub(crate) fn take_turn(n: u8, table: &mut [u8], kind: u8, i: Station) -> Turned
     requires { ⌜ (tableNumber n (now table) ≡ 0) × (i .0 < n) ⌝ }
     ensures { λ r. ⌜ r .tested ≡ turnTested n (now (table .entry)) (i .0) ⌝ }
     ensures { λ r. ⌜ r .outcome ≡ turnOutcome n (now (table .entry)) kind (i .0) ⌝ }
