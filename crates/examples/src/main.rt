@@ -1,5 +1,8 @@
 // Computes the examples of document 01 that are not marked [P], and all of Table 1 of paper 000. What it writes is compared with the file
 // `stdout`, which has what the documents say.
+use plant::Answer;
+use plant::Tally;
+use plant::run;
 use station::Level;
 use station::Station;
 use station::fresh;
@@ -10,6 +13,9 @@ const OUT: i32 = 1;
 fn main() {
     table_1();
     sizes();
+    sixty_four();
+    eight_boards();
+    top_tally();
 }
 
 // Table 1 of paper 000: the groups of eight stations. A line for each level, a column for each station.
@@ -103,6 +109,136 @@ fn fresh_number(n: usize, len: usize, space: &mut [u8]) -> u8 {
         return 255;
     }
     fresh::fresh_table(n, &mut space[0..len])
+}
+
+// "N = 64, none dead: 384 tests."
+fn sixty_four() {
+    let mut table = [0u8; 4352];
+    fresh::fresh_table(64, &mut table);
+    let tally = one_round(64, &mut table, no_tally(), 255);
+    tests_line(no_tally(), tally);
+}
+
+// Eight boards. None dead: 24 tests a round, of which board 0 makes three. Board 4 loses its supply: 23 tests a round once all know it, and
+// board 5 tests 0 and 6 besides.
+fn eight_boards() {
+    let mut table = [0u8; 96];
+    fresh::fresh_table(8, &mut table);
+    let first = one_round(8, &mut table, no_tally(), 0);
+    tests_line(no_tally(), first);
+    let crashed = entry_of(8, &mut table, first, 3, 4);
+    let second = one_round(8, &mut table, crashed.tally, 255);
+    let third = one_round(8, &mut table, second, 5);
+    tests_line(second, third);
+}
+
+// "Tests at 4,294,967,294: a testing turn is taken, the next entry gets 7."
+fn top_tally() {
+    let mut table = [0u8; 12];
+    fresh::fresh_table(2, &mut table);
+    let top = Tally {
+        rounds: 0,
+        tests: 4294967294,
+    };
+    let first = entry_of(2, &mut table, top, 1, 0);
+    answer_line(first);
+    let second = entry_of(2, &mut table, first.tally, 1, 0);
+    answer_line(second);
+}
+
+fn no_tally() -> Tally {
+    Tally {
+        rounds: 0,
+        tests: 0,
+    }
+}
+
+// A round: each board takes its turns until its pass is finished. The tests of board `shown` are printed.
+fn one_round(n: u8, table: &mut [u8], before: Tally, shown: u8) -> Tally {
+    let mut tally = before;
+    let mut i: u8 = 0;
+    while i < n {
+        tally = one_pass(n, table, tally, i, i == shown);
+        i += 1;
+    }
+    tally
+}
+
+// The turns of board i until its pass is finished or a turn is refused.
+fn one_pass(n: u8, table: &mut [u8], before: Tally, i: u8, shown: bool) -> Tally {
+    let mut tally = before;
+    let mut k: u8 = 0;
+    while k < n {
+        let done = turn_of(n, table, tally, i, shown);
+        tally = done.tally;
+        if done.ended {
+            return tally;
+        }
+        k += 1;
+    }
+    tally
+}
+
+// A turn: the tally after it, and whether the pass is finished or the turn was refused.
+struct Turn {
+    tally: Tally,
+    ended: bool,
+}
+
+fn turn_of(n: u8, table: &mut [u8], tally: Tally, i: u8, shown: bool) -> Turn {
+    let schedule = [1u8, i];
+    let mut line = [0u8; 4];
+    let answer = run::run(n as usize, table, tally, &schedule, &mut line);
+    let after = answer.tally;
+    let tested = line[1];
+    let outcome = line[2];
+    if (answer.number != 0) | (outcome == 0) {
+        return Turn {
+            tally: after,
+            ended: true,
+        };
+    }
+    if shown {
+        test_line(i, tested);
+    }
+    Turn {
+        tally: after,
+        ended: false,
+    }
+}
+
+// One entry: kind and station.
+fn entry_of(n: u8, table: &mut [u8], tally: Tally, kind: u8, i: u8) -> Answer {
+    let schedule = [kind, i];
+    let mut line = [0u8; 4];
+    run::run(n as usize, table, tally, &schedule, &mut line)
+}
+
+fn test_line(i: u8, tested: u8) {
+    byte(i);
+    io::write_all(OUT, b" tests ");
+    byte(tested);
+    line_end();
+}
+
+// The tests and the rounds from one tally to a later one.
+fn tests_line(before: Tally, after: Tally) {
+    io::write_all(OUT, b"rounds ");
+    print(std::num::wrapping_sub_u32(after.rounds, before.rounds) as u64);
+    io::write_all(OUT, b" tests ");
+    print(std::num::wrapping_sub_u32(after.tests, before.tests) as u64);
+    line_end();
+}
+
+fn answer_line(answer: Answer) {
+    io::write_all(OUT, b"number ");
+    byte(answer.number);
+    io::write_all(OUT, b" taken ");
+    print(answer.taken as u64);
+    io::write_all(OUT, b" tests ");
+    let tally = answer.tally;
+    print(tally.tests as u64);
+    line_end();
 }
 
 fn print(x: u64) {
