@@ -13,7 +13,7 @@ use Rattle.station.specs.Table.{tableLength}
 use Rattle.station.proofs.Refusals.{Accepted, accepted, else-zero}
 use Rattle.plant.specs.Entry.{Entry, State, entryNumber, after, sheetLine}
 use Rattle.plant.specs.Run.{entries, writeLine, goOn, startNumber, run}
-use Rattle.detection.specs.Runs.{Call, Taken, ranOn, ranAll, takenFrom, takenIn, takenAll}
+use Rattle.detection.specs.Runs.{Call, Taken, afterRun, afterRuns, takenFrom, takenIn, takenAll}
 
 -- xs are entries taken one behind the other at size n, from s to s′
 abbrev pub Chain : ℕ → State → List Taken → State → Type 0
@@ -56,25 +56,25 @@ chain-accepted n s s′ [] kept c a = rw c at a
 chain-accepted n s s′ (x ∷ xs) kept c a = chain-accepted n (after n s (x .entry)) s′ xs kept (c .3) (kept s (x .entry) a (c .2))
 
 -- the entries of one run: a run of another size is turned away, and takes none
-chain-run : (n : ℕ) (s : State) (c : Call) → Accepted n (s .table) → Chain n s (takenIn s c) (ranOn s c)
+chain-run : (n : ℕ) (s : State) (c : Call) → Accepted n (s .table) → Chain n s (takenIn s c) (afterRun s c)
 unfolding takenIn run startNumber
 chain-run n s c a = go (eqb number 0) refl
   where
     number : ℕ
     number = startNumber (c .size) (s .table) (length (c .schedule)) (length (c .sheet))
 
-    go : (b : Bool) → eqb number 0 ≡ b → Chain n s (takenIn s c) (ranOn s c)
+    go : (b : Bool) → eqb number 0 ≡ b → Chain n s (takenIn s c) (afterRun s c)
     go true t =
         let fits = accepted (c .size) (s .table) (else-zero _ _ (eqb-true _ 0 t) .0) in
         let same : c .size ≡ n = size-unique (c .size) n (sym (fits .long) ∙ a .long) in
-        rw (ranOn, t, same) (chain-entries n 0 s (c .sheet) (entries (c .schedule)))
-    go false t = rw (ranOn, t)
+        rw (afterRun, t, same) (chain-entries n 0 s (c .sheet) (entries (c .schedule)))
+    go false t = rw (afterRun, t)
 
 -- the entries of all runs
-pub chain-all : (n : ℕ) (s : State) (calls : List Call) → Kept n → Accepted n (s .table) → Chain n s (takenAll s calls) (ranAll s calls)
-unfolding takenAll ranAll
+pub chain-all : (n : ℕ) (s : State) (calls : List Call) → Kept n → Accepted n (s .table) → Chain n s (takenAll s calls) (afterRuns s calls)
+unfolding takenAll afterRuns
 chain-all n s [] kept a = refl
 chain-all n s (c ∷ calls) kept a =
-    let first : Chain n s (takenIn s c) (ranOn s c) = chain-run n s c a in
-    let rest = chain-all n (ranOn s c) calls kept (chain-accepted n s (ranOn s c) (takenIn s c) kept first a) in
-    chain-append n s (ranOn s c) (ranAll (ranOn s c) calls) (takenIn s c) (takenAll (ranOn s c) calls) first rest
+    let first : Chain n s (takenIn s c) (afterRun s c) = chain-run n s c a in
+    let rest = chain-all n (afterRun s c) calls kept (chain-accepted n s (afterRun s c) (takenIn s c) kept first a) in
+    chain-append n s (afterRun s c) (afterRuns (afterRun s c) calls) (takenIn s c) (takenAll (afterRun s c) calls) first rest

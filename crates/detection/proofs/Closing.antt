@@ -19,7 +19,7 @@ use Rattle.plant.specs.Turn.{roundOver, resetLines, afterRound}
 use Rattle.plant.specs.Entry.{Entry, State, acted, after}
 use Rattle.plant.proofs.StepCells.{reset-length, reset-cells, reset-other}
 use Rattle.detection.specs.Runs.{Taken, tableAfter}
-use Rattle.detection.specs.Rounds.{some, finishesOf, passedOrNot, closes}
+use Rattle.detection.specs.Rounds.{any, finishesOf, finishedOrNotLive, closes}
 use Rattle.detection.proofs.Inside.{Ahead, Handed, Plain, Inside, start}
 
 -- tests that agree on all numbers below n
@@ -50,7 +50,7 @@ unfolding closes roundOver someLive liveFinished after
 closes-is n d L t₀ here s e inv =
     ap₂ _&&_
     (ap not (every-same (notLive n (tableAfter x)) (notLive n t′) n (λ k h. ap not (alike k))))
-    (every-same (passedOrNot here x) (finishedIfLive n t′) n (λ k h. ap₂ _||_ (ap not (alike k)) (inv .ended k h)))
+    (every-same (finishedOrNotLive here x) (finishedIfLive n t′) n (λ k h. ap₂ _||_ (ap not (alike k)) (inv .ended k h)))
   where
     x : Taken
     x = record { size = n; before = s; entry = e }

@@ -16,8 +16,13 @@ use Rattle.station.specs.Tests.{firstPlace, first, isStation}
 use Rattle.station.proofs.Xor.{xor-cancel, xor-undo}
 use Rattle.station.proofs.SearchLaws.{least-passes, least-before, every-all, every-not}
 use Rattle.station.proofs.Levels.{level-in}
-use Rattle.detection.specs.Sums.{sum, bit, isSome}
+use Rattle.detection.specs.Sums.{sum, bit}
 use Rattle.detection.proofs.SumLaws.{sum-by, sum-add, sum-const, sum-zero, sum-single, sum-swap, sum-levels, sum-xor, sum-not}
+
+-- whether a station was found
+abbrev pub isSome : Option ℕ → Bool
+isSome none = false
+isSome (some x) = true
 
 -- two places of a group hold different stations
 member-apart : (j s p k : ℕ) → k ≢ p → member j s p ≢ member j s k

@@ -21,9 +21,9 @@ use Rattle.station.proofs.Sizes.{size-pow}
 use Rattle.plant.specs.Turn.{makesTest, nextTest, turn, turnTested, roundOver, resetLines, afterRound}
 use Rattle.plant.specs.Entry.{Entry, State, isCrash, isTest, entryNumber, acted, after, testedOf}
 use Rattle.detection.specs.Sums.{sum, bit}
-use Rattle.detection.specs.Runs.{Call, Taken, takenAll, ranAll, isTurnOf, makesOne, finishes, crashes, isLate}
+use Rattle.detection.specs.Runs.{Call, Taken, takenAll, afterRuns, isTurnOf, takenTest, finishes, crashes, isLate}
 use Rattle.detection.specs.Rounds.{all, count, finishesOf, closes, cut, testsIn, testsOfAll, turnsIn, lastFinishes}
-use Rattle.detection.specs.Claim.{lineAtStart, atStart, liveCount, trusts, noneSuspected, deadGroup, deadPairs, Premises, Conclusion, Demand3}
+use Rattle.detection.specs.Claim.{lineAtStart, atStart, liveCount, noLiveSuspicion, noneSuspected, deadGroup, deadPairs, Premises, Conclusion, Demand3}
 use Rattle.detection.proofs.SumLaws.{sum-zero, sum-single}
 use Rattle.detection.proofs.TakenLaws.{count-snoc, tests-snoc, getD-snoc-last, getD-snoc-before}
 use Rattle.detection.proofs.Chain.{Chain, chain-all}
@@ -85,7 +85,7 @@ module _ (n d : ℕ) (L : ℕ → Bool) (s₀ : State) (pow : n ≡ 2 ^ d) (comp
           pick2 (inl q) = sym q
           pick2 (inr m) = absurd (not3 (omega (arith, facts .kindHigh)))
 
-  madeOne : makesOne x ≡ makesTest n t i
+  madeOne : takenTest x ≡ makesTest n t i
   madeOne = rw noCrash
 
   notLate : (eqb (e .kind) 2 && makesTest n t i && live n t (stationAt i (nextTest n t i))) ≡ false
@@ -121,7 +121,7 @@ module _ (n d : ℕ) (L : ℕ → Bool) (s₀ : State) (pow : n ≡ 2 ^ d) (comp
     where
       at : (b : Bool) → makesTest n t i ≡ b → Turned n t t′ i → Did n t t′ i b → Inside n d L (p .start (length closed)) here t′
       at b q turned did =
-          let made : makesOne x ≡ b = madeOne ∙ q in
+          let made : takenTest x ≡ b = madeOne ∙ q in
           let fin : finishes x ≡ not b = rw noCrash (ap not q) in
           move n d L (p .start (length closed)) t t′ cur x i b pow (p .plains (length closed) (omega arith)) (p .inside) turned did (acted-lines n s e (p .accepted) takes .1)
           (facts .below) isLive unfinished turnOf made (λ k. ap (λ (c : Bool). eqb i k && c) fin) fin
@@ -138,7 +138,7 @@ module _ (n d : ℕ) (L : ℕ → Bool) (s₀ : State) (pow : n ≡ 2 ^ d) (comp
 
   testsTally : after n s e .tests + testsIn cur ≡ s .tests + testsIn here
   unfolding after
-  testsTally = omega (arith, count-snoc makesOne cur x, one (isTest n t e) (s .tests))
+  testsTally = omega (arith, count-snoc takenTest cur x, one (isTest n t e) (s .tests))
     where
       one : (b : Bool) (k : ℕ) → cond b (k + 1) k ≡ k + bit b
       one true k = refl
@@ -173,7 +173,7 @@ module _ (n d : ℕ) (L : ℕ → Bool) (s₀ : State) (pow : n ≡ 2 ^ d) (comp
 -- a chain of taken entries without crashes and late replies, cut into rounds
 pub rounds-of : (n d : ℕ) (L : ℕ → Bool) (s₀ : State) → n ≡ 2 ^ d → Company n L → (xs : List Taken) (closed : List (List Taken)) (cur : List Taken) (s s′ : State)
     → Progress n d L s₀ closed cur s → Chain n s xs s′ → all (λ x. not (crashes x)) xs ≡ true → all (λ x. not (isLate x)) xs ≡ true
-    → Progress n d L s₀ (closed ++ cut cur xs .closed) (cut cur xs .unclosed) s′
+    → Progress n d L s₀ (closed ++ cut cur xs .closed) (cut cur xs .openRound) s′
 unfolding cut all
 rounds-of n d L s₀ pow company [] closed cur s s′ p chain a b =
     subst (λ (z : List (List Taken)). Progress n d L s₀ z cur s′) (sym (append-nil closed)) (subst (Progress n d L s₀ closed cur) chain p)
@@ -203,7 +203,7 @@ rounds-of n d L s₀ pow company (y ∷ xs) closed cur s s′ p chain a b =
 
     Rest : Type 0
     Rest = (done : List (List Taken)) (now : List Taken) (z : State) → Progress n d L s₀ done now z → Chain n z xs s′ → all (λ x. not (crashes x)) xs ≡ true
-        → all (λ x. not (isLate x)) xs ≡ true → Progress n d L s₀ (done ++ cut now xs .closed) (cut now xs .unclosed) s′
+        → all (λ x. not (isLate x)) xs ≡ true → Progress n d L s₀ (done ++ cut now xs .closed) (cut now xs .openRound) s′
 
     closesAt : (c : Bool) → closes (cur ++ (y ∷ [])) y ≡ c → closes (cur ++ (x ∷ [])) x ≡ c
     closesAt c q = subst (λ (z : Taken). closes (cur ++ (z ∷ [])) z ≡ c) y≡x q
@@ -211,7 +211,7 @@ rounds-of n d L s₀ pow company (y ∷ xs) closed cur s s′ p chain a b =
     back : (P : List Taken → Type 0) → P (cur ++ (x ∷ [])) → P (cur ++ (y ∷ []))
     back P = subst (λ (z : Taken). P (cur ++ (z ∷ []))) (sym y≡x)
 
-    at : (c : Bool) → closes (cur ++ (y ∷ [])) y ≡ c → Rest → Progress n d L s₀ (closed ++ cut cur (y ∷ xs) .closed) (cut cur (y ∷ xs) .unclosed) s′
+    at : (c : Bool) → closes (cur ++ (y ∷ [])) y ≡ c → Rest → Progress n d L s₀ (closed ++ cut cur (y ∷ xs) .closed) (cut cur (y ∷ xs) .openRound) s′
     at true q rest =
         let next = closing n d L s₀ pow company closed cur s e p (chain .2) noCrash inTime (closesAt true q) in
         let done = rest (closed ++ ((cur ++ (y ∷ [])) ∷ [])) [] (after n s e) (back (λ h. Progress n d L s₀ (closed ++ (h ∷ [])) [] (after n s e)) next) (chain .3) (crashParts .1) (lateParts .1) in
@@ -265,7 +265,7 @@ demand-3 n s calls given = record {
   known = λ far i j h g l. known i j h g l (exact-at n d L (p .start) (length closed) pow (p .history) (length closed) far (omega arith)) (L j) refl;
   tests = counted;
   roundsTally = p .roundsTally;
-  testsTally = p .testsTally ∙ ap (λ (v : ℕ). s .tests + v) (sym (tests-snoc closed unclosed));
+  testsTally = p .testsTally ∙ ap (λ (v : ℕ). s .tests + v) (sym (tests-snoc closed openRound));
 }
   where
     t : List ℕ
@@ -286,11 +286,11 @@ demand-3 n s calls given = record {
     closed : List (List Taken)
     closed = cut [] (takenAll s calls) .closed
 
-    unclosed : List Taken
-    unclosed = cut [] (takenAll s calls) .unclosed
+    openRound : List Taken
+    openRound = cut [] (takenAll s calls) .openRound
 
     trusted : (i j : ℕ) → i < n → j < n → L i ≡ true → L j ≡ true → suspects n t i j ≡ 0
-    trusted i j h g a b = eqb-true (suspects n t i j) 0 (both-live (L i) a (L j) b (every-at (trusts n t i) n j (every-at (λ k. every (trusts n t k) n) n i (given .trusted) h) g))
+    trusted i j h g a b = eqb-true (suspects n t i j) 0 (both-live (L i) a (L j) b (every-at (noLiveSuspicion n t i) n j (every-at (λ k. every (noLiveSuspicion n t k) n) n i (given .trusted) h) g))
       where
         both-live : (a : Bool) → a ≡ true → (b : Bool) → b ≡ true → {c : Bool} → ((not a || not b) || c) ≡ true → c ≡ true
         both-live true p true q f = f
@@ -320,16 +320,16 @@ demand-3 n s calls given = record {
       testsTally = omega arith;
     }
 
-    p : Progress n d L s closed unclosed (ranAll s calls)
-    p = rounds-of n d L s pow (company-of n t (given .twoLive)) (takenAll s calls) [] [] s (ranAll s calls) first (chain-all n s calls (accepted-kept n) ok) (given .noCrash) (given .noLate)
+    p : Progress n d L s closed openRound (afterRuns s calls)
+    p = rounds-of n d L s pow (company-of n t (given .twoLive)) (takenAll s calls) [] [] s (afterRuns s calls) first (chain-all n s calls (accepted-kept n) ok) (given .noCrash) (given .noLate)
 
-    turns : (k i : ℕ) → i < n → (k ≡ length closed) ⊎ (k < length closed) → TurnsOk n i (getD (closed ++ (unclosed ∷ [])) k [])
+    turns : (k i : ℕ) → i < n → (k ≡ length closed) ⊎ (k < length closed) → TurnsOk n i (getD (closed ++ (openRound ∷ [])) k [])
     turns k i h (inl e) =
-        subst (TurnsOk n i) (sym (ap (λ (j : ℕ). getD (closed ++ (unclosed ∷ [])) j []) e ∙ getD-snoc-last closed unclosed))
-        (turns-ok n d L (p .start (length closed)) (ranAll s calls .table) unclosed (p .inside) i h)
-    turns k i h (inr l) = subst (TurnsOk n i) (sym (getD-snoc-before closed unclosed k l)) (p .turns k i l h)
+        subst (TurnsOk n i) (sym (ap (λ (j : ℕ). getD (closed ++ (openRound ∷ [])) j []) e ∙ getD-snoc-last closed openRound))
+        (turns-ok n d L (p .start (length closed)) (afterRuns s calls .table) openRound (p .inside) i h)
+    turns k i h (inr l) = subst (TurnsOk n i) (sym (getD-snoc-before closed openRound k l)) (p .turns k i l h)
 
-    known : (i j : ℕ) → i < n → j < n → L i ≡ true → Exact n L (p .start (length closed)) → (b : Bool) → L j ≡ b → suspects n (ranAll s calls .table) i j ≡ bit (notLive n t j)
+    known : (i j : ℕ) → i < n → j < n → L i ≡ true → Exact n L (p .start (length closed)) → (b : Bool) → L j ≡ b → suspects n (afterRuns s calls .table) i j ≡ bit (notLive n t j)
     known i j h g l exact true e = p .inside .plain .trusted i j h g l e ∙ ap (λ (c : Bool). bit (not c)) (sym e)
     known i j h g l exact false e = p .inside .grown i j h g (exact i j h g l e) ∙ ap (λ (c : Bool). bit (not c)) (sym e)
 

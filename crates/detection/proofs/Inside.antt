@@ -19,8 +19,8 @@ use Rattle.station.specs.Tests.{due}
 use Rattle.station.proofs.DueLaws.{due-zero}
 use Rattle.station.proofs.CellLaws.{Line, row-length, row-at, row-same}
 use Rattle.detection.specs.Sums.{sum, bit}
-use Rattle.detection.specs.Runs.{Taken, isTurnOf, makesOne, finishes}
-use Rattle.detection.specs.Rounds.{some, count, finishesOf, testsIn, turnsIn, lastFinishes}
+use Rattle.detection.specs.Runs.{Taken, isTurnOf, takenTest, finishes}
+use Rattle.detection.specs.Rounds.{any, count, finishesOf, testsIn, turnsIn, lastFinishes}
 use Rattle.detection.proofs.SumLaws.{sum-zero}
 use Rattle.detection.proofs.DueLaw.{due-holds}
 use Rattle.detection.proofs.TakenLaws.{some-snoc, count-snoc, last-snoc-turn, last-snoc-other}
@@ -55,7 +55,7 @@ pub record Inside (n d : ℕ) (L : ℕ → Bool) (t₀ : List ℕ) (cur : List T
   pub met : (i m h : ℕ) → i < n → L i ≡ true → h < d → 2 ^ h ≤ m → m < 2 ^ suc h → m < nextDistance n t i → Ahead n t₀ i m h → Handed n L t₀ t i m
   -- what bytes 2 and 3 count
   pub turnCount : (i : ℕ) → i < n → turnsIn i cur ≡ testsMade n t i + finished n t i
-  pub ended : (i : ℕ) → i < n → some (finishesOf i) cur ≡ eqb (finished n t i) 1
+  pub ended : (i : ℕ) → i < n → any (finishesOf i) cur ≡ eqb (finished n t i) 1
   pub lastEnds : (i : ℕ) → i < n → finished n t i ≡ 1 → lastFinishes i cur ≡ true
   pub testCount : testsIn cur ≡ sum (testsMade n t) n
   -- in a round that starts exact byte 3 counts the due distances passed
@@ -92,7 +92,7 @@ sum-grows f g (suc n) i v h same more =
 -- where a round starts
 pub start : (n d : ℕ) (L : ℕ → Bool) (t : List ℕ) → Plain n L t
     → ((i : ℕ) → i < n → (nextDistance n t i ≡ 1) × (finished n t i ≡ 0) × (testsMade n t i ≡ 0)) → Inside n d L t [] t
-unfolding some count lastFinishes
+unfolding any count lastFinishes
 start n d L t p fresh = record {
   plain = p;
   grown = λ i j a b s. s;
@@ -149,7 +149,7 @@ did-test n t t′ i m unfinished f = record {
 -- a turn of the live station i, as the taken entry x, keeps the invariant
 module _ (n d : ℕ) (L : ℕ → Bool) (t₀ t t′ : List ℕ) (cur : List Taken) (x : Taken) (i : ℕ) (b : Bool) (pow : n ≡ 2 ^ d) (p₀ : Plain n L t₀)
     (inv : Inside n d L t₀ cur t) (turned : Turned n t t′ i) (did : Did n t t′ i b) (lines′ : (k : ℕ) → k < n → Line n t′ k) (below : i < n) (isLive : L i ≡ true)
-    (unfinished : finished n t i ≡ 0) (turnOf : (k : ℕ) → isTurnOf k x ≡ eqb i k) (made : makesOne x ≡ b) (ends : (k : ℕ) → finishesOf k x ≡ (eqb i k && not b))
+    (unfinished : finished n t i ≡ 0) (turnOf : (k : ℕ) → isTurnOf k x ≡ eqb i k) (made : takenTest x ≡ b) (ends : (k : ℕ) → finishesOf k x ≡ (eqb i k && not b))
     (fin : finishes x ≡ not b) where
   p : Plain n L t
   p = inv .plain
@@ -243,22 +243,22 @@ module _ (n d : ℕ) (L : ℕ → Bool) (t₀ t t′ : List ℕ) (cur : List Tak
           let none : bit (isTurnOf k x) ≡ 0 = ap bit (turnOf k ∙ apart k e) in
           omega (arith, count-snoc (isTurnOf k) cur x, inv .turnCount k h, turned .tests k h e, turned .finisheds k h e)
 
-  ended′ : (k : ℕ) → k < n → some (finishesOf k) here ≡ eqb (finished n t′ k) 1
-  ended′ = byLine (λ k. some (finishesOf k) here ≡ eqb (finished n t′ k) 1) own others
+  ended′ : (k : ℕ) → k < n → any (finishesOf k) here ≡ eqb (finished n t′ k) 1
+  ended′ = byLine (λ k. any (finishesOf k) here ≡ eqb (finished n t′ k) 1) own others
     where
-      own : some (finishesOf i) here ≡ eqb (finished n t′ i) 1
+      own : any (finishesOf i) here ≡ eqb (finished n t′ i) 1
       own =
-          let before : some (finishesOf i) cur ≡ false = inv .ended i below ∙ ap (λ (v : ℕ). eqb v 1) unfinished in
+          let before : any (finishesOf i) cur ≡ false = inv .ended i below ∙ ap (λ (v : ℕ). eqb v 1) unfinished in
           some-snoc (finishesOf i) cur x ∙ ap (λ (c : Bool). c || finishesOf i x) before ∙ ends i ∙ ap (λ (c : Bool). c && not b) mine ∙ bits b ∙ ap (λ (v : ℕ). eqb v 1) (sym (did .finish))
         where
           bits : (c : Bool) → not c ≡ eqb (bit (not c)) 1
           bits true = refl
           bits false = refl
 
-      others : (k : ℕ) → k < n → (k ≡ i → ⊥) → some (finishesOf k) here ≡ eqb (finished n t′ k) 1
+      others : (k : ℕ) → k < n → (k ≡ i → ⊥) → any (finishesOf k) here ≡ eqb (finished n t′ k) 1
       others k h e =
-          some-snoc (finishesOf k) cur x ∙ ap (λ (c : Bool). some (finishesOf k) cur || c) (ends k ∙ ap (λ (c : Bool). c && not b) (apart k e))
-          ∙ or-false (some (finishesOf k) cur) ∙ inv .ended k h ∙ ap (λ (v : ℕ). eqb v 1) (sym (turned .finisheds k h e))
+          some-snoc (finishesOf k) cur x ∙ ap (λ (c : Bool). any (finishesOf k) cur || c) (ends k ∙ ap (λ (c : Bool). c && not b) (apart k e))
+          ∙ or-false (any (finishesOf k) cur) ∙ inv .ended k h ∙ ap (λ (v : ℕ). eqb v 1) (sym (turned .finisheds k h e))
         where
           or-false : (c : Bool) → (c || false) ≡ c
           or-false true = refl
@@ -279,8 +279,8 @@ module _ (n d : ℕ) (L : ℕ → Bool) (t₀ t t′ : List ℕ) (cur : List Tak
 
   testCount′ : testsIn here ≡ sum (testsMade n t′) n
   testCount′ =
-      let more : bit (makesOne x) ≡ bit b = ap bit made in
-      omega (arith, count-snoc makesOne cur x, inv .testCount, sum-grows (testsMade n t) (testsMade n t′) n i (bit b) below (turned .tests) (did .tests))
+      let more : bit (takenTest x) ≡ bit b = ap bit made in
+      omega (arith, count-snoc takenTest cur x, inv .testCount, sum-grows (testsMade n t) (testsMade n t′) n i (bit b) below (turned .tests) (did .tests))
 
   -- in a round that starts exact the rows of live stations do not change
   rowKept : Exact n L t₀ → row n t i ≡ row n t₀ i

@@ -10,13 +10,13 @@ use lib.ListN.{length, getD, length-append, List·getD-append}
 use lib.Seq.{getD-append-seam}
 use Rattle.detection.specs.Sums.{bit}
 use Rattle.detection.specs.Runs.{Taken, isTurnOf, finishes}
-use Rattle.detection.specs.Rounds.{some, all, count, testsIn, testsOfAll, lastFinishes}
+use Rattle.detection.specs.Rounds.{any, all, count, testsIn, testsOfAll, lastFinishes}
 
--- whether some entry of the longer list passes q
-pub some-snoc : (q : Taken → Bool) (xs : List Taken) (x : Taken) → some q (xs ++ (x ∷ [])) ≡ (some q xs || q x)
-unfolding some
+-- whether any entry of the longer list passes q
+pub some-snoc : (q : Taken → Bool) (xs : List Taken) (x : Taken) → any q (xs ++ (x ∷ [])) ≡ (any q xs || q x)
+unfolding any
 some-snoc q [] x = or-false (q x)
-some-snoc q (y ∷ xs) x = rw (some-snoc q xs x) (sym (or-assoc (q y) (some q xs) (q x)))
+some-snoc q (y ∷ xs) x = rw (some-snoc q xs x) (sym (or-assoc (q y) (any q xs) (q x)))
 
 -- how many entries of the longer list pass q
 pub count-snoc : (q : Taken → Bool) (xs : List Taken) (x : Taken) → count q (xs ++ (x ∷ [])) ≡ count q xs + bit (q x)
@@ -32,13 +32,13 @@ all-append q (x ∷ xs) ys = rw (all-append q xs ys) (sym (and-assoc (q x) (all 
 
 -- a turn of i at the end is the last one of i
 pub last-snoc-turn : (i : ℕ) (xs : List Taken) (x : Taken) → isTurnOf i x ≡ true → lastFinishes i (xs ++ (x ∷ [])) ≡ finishes x
-unfolding lastFinishes some
+unfolding lastFinishes any
 last-snoc-turn i [] x e = rw e
 last-snoc-turn i (y ∷ xs) x e = rw (some-snoc (isTurnOf i) xs x, e, or-true) (last-snoc-turn i xs x e)
 
 -- what is no turn of i at the end leaves the last one of i
 pub last-snoc-other : (i : ℕ) (xs : List Taken) (x : Taken) → isTurnOf i x ≡ false → lastFinishes i (xs ++ (x ∷ [])) ≡ lastFinishes i xs
-unfolding lastFinishes some
+unfolding lastFinishes any
 last-snoc-other i [] x e = rw e
 last-snoc-other i (y ∷ xs) x e = rw (some-snoc (isTurnOf i) xs x, e, or-false, last-snoc-other i xs x e)
 

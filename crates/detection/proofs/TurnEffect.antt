@@ -228,8 +228,8 @@ module _ (n : ℕ) (t t₁ : List ℕ) (s : Sound n t) (long : length t₁ ≡ t
       where
         go : (b : Bool) → live n t x ≡ b → Step n t t₁ (afterTest n t₁ kind i x) i x
         go true e =
-            let trusts : suspects n t₁ x i ≡ 0 = rows x i hi ∙ s .trusted x i hx hi e li in
-            rw (same, e, eq-eqb kind 1 (prompt e), trusts) (exchanged apart li e)
+            let noLiveSuspicion : suspects n t₁ x i ≡ 0 = rows x i hi ∙ s .trusted x i hx hi e li in
+            rw (same, e, eq-eqb kind 1 (prompt e), noLiveSuspicion) (exchanged apart li e)
         go false e = rw (same, e) (marked e)
 
 -- a turn of a live station
@@ -242,8 +242,8 @@ module _ (n : ℕ) (t : List ℕ) (i : ℕ) (s : Sound n t) (hi : i < n) (li : l
   unfolding afterAlone isAlone selfOrSuspected
   not-alone t′ kept =
       let o = s .other i hi li in
-      let trusts : suspects n t′ i (o .0) ≡ 0 = kept i (o .0) hi (o .1) .1 li (o .3) in
-      let fails : selfOrSuspected n t′ i (o .0) ≡ false = rw (ne-eqb (o .0) i (λ e. o .2 (sym e)), trusts) in
+      let noLiveSuspicion : suspects n t′ i (o .0) ≡ 0 = kept i (o .0) hi (o .1) .1 li (o .3) in
+      let fails : selfOrSuspected n t′ i (o .0) ≡ false = rw (ne-eqb (o .0) i (λ e. o .2 (sym e)), noLiveSuspicion) in
       rw (every-not (selfOrSuspected n t′ i) n (o .0) (o .1) fails, and-false)
 
   -- a turn that makes no test

@@ -1,5 +1,5 @@
 -- The claim is not empty: four boards, board 3 dead, four runs, of which one is refused at its start and one at an entry. The premises hold,
--- d·d rounds close, and each has the seven tests that the claim counts.
+-- d·d rounds close and one more, and each has the seven tests that the claim counts from the fifth on.
 -- Assumes nothing.
 use mathlib.Core.Path.{_≡_, refl}
 use mathlib.Core.List.{List, [], _∷_, map}
@@ -13,13 +13,13 @@ use Rattle.station.specs.Rules.{rowRule, lineRules, someLive, liveFinished, sha
 use Rattle.station.specs.Tests.{unsuspected, firstPlace, first, due}
 use Rattle.station.specs.Rows.{unionByte, union, mark}
 use Rattle.station.specs.Calls.{freshByte, freshTable}
-use Rattle.plant.specs.Steps.{steps}
+use Rattle.plant.specs.Iterate.{iterate}
 use Rattle.plant.specs.Turn.{nextTest, makesTest, finishPass, countTest, replies, isTold, exchangeRows, suspect, afterTest, testOutcome, selfOrSuspected, isAlone, afterAlone, testing, turn, turnTested, turnOutcome, crash, roundOver, resetLine, resetLines, afterRound}
 use Rattle.plant.specs.Entry.{State, entryNumber, acted, after, testedOf, outcomeOf, sheetLine}
 use Rattle.plant.specs.Run.{entries, writeLine, goOn, startNumber, run}
 use Rattle.detection.specs.Sums.{sum}
-use Rattle.detection.specs.Runs.{Call, Taken, ranAll, takenFrom, takenIn, takenAll}
-use Rattle.detection.specs.Rounds.{some, all, count, closes, cut, testsIn}
+use Rattle.detection.specs.Runs.{Call, Taken, afterRuns, takenFrom, takenIn, takenAll}
+use Rattle.detection.specs.Rounds.{any, all, count, closes, cut, testsIn}
 use Rattle.detection.specs.Claim.{atStart, liveCount, noneSuspected, deadGroup, deadPairs, roundsOf, Premises}
 
 -- four boards, board 3 dead, nothing suspected
@@ -44,18 +44,18 @@ calls =
     callOf 4 (turnsOf (onePass (0 ∷ 1 ∷ [])))
     ∷ callOf 8 (turnsOf (0 ∷ 1 ∷ []))
     ∷ callOf 4 (1 ∷ 2 ∷ 9 ∷ 0 ∷ 1 ∷ 0 ∷ [])
-    ∷ callOf 4 (turnsOf (0 ∷ 1 ∷ 2 ∷ 2 ∷ 0 ∷ 1 ∷ 2 ∷ onePass (onePass (2 ∷ []))))
+    ∷ callOf 4 (turnsOf (0 ∷ 1 ∷ 2 ∷ 2 ∷ 0 ∷ 1 ∷ 2 ∷ onePass (onePass (onePass (2 ∷ [])))))
     ∷ []
 
 -- the premises, the tests of the closed rounds, those of the open one, and the count of the claim
 pub record Computed : Type 0 where
   pub premises : Premises 4 boards calls
-  pub closedTests : map testsIn (roundsOf boards calls .closed) ≡ 7 ∷ 7 ∷ 7 ∷ 7 ∷ []
-  pub openTests : testsIn (roundsOf boards calls .unclosed) ≡ 1
+  pub closedTests : map testsIn (roundsOf boards calls .closed) ≡ 7 ∷ 7 ∷ 7 ∷ 7 ∷ 7 ∷ []
+  pub openTests : testsIn (roundsOf boards calls .openRound) ≡ 1
   pub counted : 4 * dimension 4 - deadPairs 4 (boards .table) ≡ 7
 
 pub witness : Computed
-unfolding boards turnsOf calls atStart liveCount noneSuspected deadPairs deadGroup sum ranAll takenFrom takenIn takenAll some all count closes cut run startNumber tableNumber shapeNumber isSize tableLength every lineRules rowRule someLive liveFinished cell lineStart row setRow setCell freshTable freshByte listOf goOn entries writeLine entryNumber after acted sheetLine testedOf outcomeOf turn turnTested turnOutcome crash roundOver resetLine resetLines afterRound steps nextTest makesTest finishPass countTest replies isTold exchangeRows suspect afterTest testOutcome selfOrSuspected isAlone afterAlone testing due first firstPlace least unsuspected member width level dimension union unionByte mark
+unfolding boards turnsOf calls atStart liveCount noneSuspected deadPairs deadGroup sum afterRuns takenFrom takenIn takenAll any all count closes cut run startNumber tableNumber shapeNumber isSize tableLength every lineRules rowRule someLive liveFinished cell lineStart row setRow setCell freshTable freshByte listOf goOn entries writeLine entryNumber after acted sheetLine testedOf outcomeOf turn turnTested turnOutcome crash roundOver resetLine resetLines afterRound iterate nextTest makesTest finishPass countTest replies isTold exchangeRows suspect afterTest testOutcome selfOrSuspected isAlone afterAlone testing due first firstPlace least unsuspected member width level dimension union unionByte mark
 witness = record {
   premises = record { accepted = refl; start = refl; twoLive = omega arith; trusted = refl; noCrash = refl; noLate = refl };
   closedTests = refl;

@@ -12,7 +12,7 @@ use Rattle.station.specs.Table.{nextDistance, finished, testsMade, suspects, li
 use Rattle.station.specs.Rules.{notLive, tableNumber}
 use Rattle.plant.specs.Entry.{State}
 use Rattle.detection.specs.Sums.{sum, bit}
-use Rattle.detection.specs.Runs.{Call, Taken, ranAll, takenAll, crashes, isLate}
+use Rattle.detection.specs.Runs.{Call, Taken, afterRuns, takenAll, crashes, isLate}
 use Rattle.detection.specs.Rounds.{all, Rounds, cut, testsIn, testsOfAll, turnsIn, lastFinishes}
 
 -- "A table stands at the start of a round when every line has these three": next distance 1, finished 0, tests 0
@@ -27,11 +27,11 @@ unfoldable pub liveCount : ℕ → List ℕ → ℕ
 liveCount n t = sum (λ i. bit (live n t i)) n
 
 -- no live station suspects a live one
-abbrev pub trusts : ℕ → List ℕ → ℕ → ℕ → Bool
-trusts n t i j = notLive n t i || notLive n t j || eqb (suspects n t i j) 0
+abbrev pub noLiveSuspicion : ℕ → List ℕ → ℕ → ℕ → Bool
+noLiveSuspicion n t i j = notLive n t i || notLive n t j || eqb (suspects n t i j) 0
 
 unfoldable pub noneSuspected : ℕ → List ℕ → Bool
-noneSuspected n t = every (λ i. every (trusts n t i) n) n
+noneSuspected n t = every (λ i. every (noLiveSuspicion n t i) n) n
 
 -- the pairs of a station, live or not, and a level from 1 to d whose group has no live board
 unfoldable pub deadGroup : ℕ → List ℕ → ℕ → ℕ → Bool
@@ -46,7 +46,7 @@ roundsOf s calls = cut [] (takenAll s calls)
 
 -- all rounds, the one that is still open last
 abbrev pub allRounds : Rounds → List (List Taken)
-allRounds r = r .closed ++ (r .unclosed ∷ [])
+allRounds r = r .closed ++ (r .openRound ∷ [])
 
 -- the kth round, from 0; after the closed ones the open one
 abbrev pub roundAt : State → List Call → ℕ → List Taken
@@ -62,23 +62,23 @@ pub record Premises (n : ℕ) (s : State) (calls : List Call) : Type 0 where
   pub noCrash : all (λ x. not (crashes x)) (takenAll s calls) ≡ true
   pub noLate : all (λ x. not (isLate x)) (takenAll s calls) ≡ true
 
--- what the claim says
-pub record Conclusion (n : ℕ) (s : State) (calls : List Call) : Type 0 where
+-- what the claim says of table and tally after the list
+pub record Conclusion (n : ℕ) (s : State) (calls : List Call) (end : State) : Type 0 where
   -- the live boards are the same as at first
-  pub sameLive : (i : ℕ) → i < n → live n (ranAll s calls .table) i ≡ live n (s .table) i
+  pub sameLive : (i : ℕ) → i < n → live n (end .table) i ≡ live n (s .table) i
   -- in every round, the open one included, a live board has at most N turns, and an Nth turn finished its pass
   pub turns : (k i : ℕ) → k ≤ length (roundsOf s calls .closed) → i < n → live n (s .table) i ≡ true
       → (turnsIn i (roundAt s calls k) ≤ n) × (turnsIn i (roundAt s calls k) ≡ n → lastFinishes i (roundAt s calls k) ≡ true)
   -- once d·d rounds have closed, each live board suspects exactly the boards that are not live
   pub known : dimension n * dimension n ≤ length (roundsOf s calls .closed)
-      → (i j : ℕ) → i < n → j < n → live n (s .table) i ≡ true → suspects n (ranAll s calls .table) i j ≡ bit (notLive n (s .table) j)
+      → (i j : ℕ) → i < n → j < n → live n (s .table) i ≡ true → suspects n (end .table) i j ≡ bit (notLive n (s .table) j)
   -- each closed round from the (d·d + 1)th on has exactly N·d tests less the pairs whose group has no live board
   pub tests : (k : ℕ) → dimension n * dimension n ≤ k → k < length (roundsOf s calls .closed)
       → testsIn (getD (roundsOf s calls .closed) k []) ≡ n * dimension n - deadPairs n (s .table)
   -- the tally: the closed rounds are added to its rounds, and the tests of all rounds, the open one included, to its tests
-  pub roundsTally : ranAll s calls .rounds ≡ s .rounds + length (roundsOf s calls .closed)
-  pub testsTally : ranAll s calls .tests ≡ s .tests + testsOfAll (allRounds (roundsOf s calls))
+  pub roundsTally : end .rounds ≡ s .rounds + length (roundsOf s calls .closed)
+  pub testsTally : end .tests ≡ s .tests + testsOfAll (allRounds (roundsOf s calls))
 
 -- demand 3, for all sizes, tables, tallies and lists of runs
 abbrev pub Demand3 : Type 0
-Demand3 = (n : ℕ) (s : State) (calls : List Call) → Premises n s calls → Conclusion n s calls
+Demand3 = (n : ℕ) (s : State) (calls : List Call) → Premises n s calls → Conclusion n s calls (afterRuns s calls)

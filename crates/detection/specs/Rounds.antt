@@ -1,18 +1,18 @@
 -- The rounds of a list of taken entries, cut by what the entries did.
 -- Assumes nothing.
-use Prim.Native.Nat.{ℕ, zero, suc, _+_}
-use mathlib.Core.Bool.{Bool, true, false, cond, not, _&&_, _||_}
+use Prim.Native.Nat.{ℕ, _+_}
+use mathlib.Core.Bool.{Bool, true, false, cond, _&&_, _||_}
 use mathlib.Core.List.{List, [], _∷_, _++_}
 use lib.Dec.{eqb}
 use Rattle.station.specs.Search.{every}
 use Rattle.station.specs.Rules.{notLive, someLive}
 use Rattle.detection.specs.Sums.{bit}
-use Rattle.detection.specs.Runs.{Taken, tableAfter, isTurnOf, makesOne, finishes}
+use Rattle.detection.specs.Runs.{Taken, tableAfter, isTurnOf, takenTest, finishes}
 
--- whether some entry of the list passes q, whether all do, and how many do
-unfoldable pub some : (Taken → Bool) → List Taken → Bool
-some q [] = false
-some q (x ∷ xs) = q x || some q xs
+-- whether any entry of the list passes q, whether all do, and how many do
+unfoldable pub any : (Taken → Bool) → List Taken → Bool
+any q [] = false
+any q (x ∷ xs) = q x || any q xs
 
 unfoldable pub all : (Taken → Bool) → List Taken → Bool
 all q [] = true
@@ -27,25 +27,25 @@ abbrev pub finishesOf : ℕ → Taken → Bool
 finishesOf i x = eqb (x .entry .station) i && finishes x
 
 -- "each live one has finished its pass in that round": station i is not live after x, or finished its pass in the round
-abbrev pub passedOrNot : List Taken → Taken → ℕ → Bool
-passedOrNot round x i = notLive (x .size) (tableAfter x) i || some (finishesOf i) round
+abbrev pub finishedOrNotLive : List Taken → Taken → ℕ → Bool
+finishedOrNotLive round x i = notLive (x .size) (tableAfter x) i || any (finishesOf i) round
 
 -- "It closes with the taken entry after which a station is live and each live one has finished its pass in that round": x is the last
 -- entry of the round so far
 unfoldable pub closes : List Taken → Taken → Bool
-closes round x = someLive (x .size) (tableAfter x) && every (passedOrNot round x) (x .size)
+closes round x = someLive (x .size) (tableAfter x) && every (finishedOrNotLive round x) (x .size)
 
 pub record Rounds : Type 0 where
   pub closed : List (List Taken)
-  pub unclosed : List Taken
+  pub openRound : List Taken
 
 -- a closed round before the others
 abbrev pub roundBefore : List Taken → Rounds → Rounds
-roundBefore round r = record { closed = round ∷ r .closed; unclosed = r .unclosed }
+roundBefore round r = record { closed = round ∷ r .closed; openRound = r .openRound }
 
 -- "A round begins with the table first handed in, and anew after each closing." `round` holds the entries of the round so far
 unfoldable pub cut : List Taken → List Taken → Rounds
-cut round [] = record { closed = []; unclosed = round }
+cut round [] = record { closed = []; openRound = round }
 cut round (x ∷ xs) =
     let here = round ++ (x ∷ []) in
     let closing = roundBefore here (cut [] xs) in
@@ -54,7 +54,7 @@ cut round (x ∷ xs) =
 
 -- "A round's tests are the turns in it that make a test."
 abbrev pub testsIn : List Taken → ℕ
-testsIn round = count makesOne round
+testsIn round = count takenTest round
 
 -- the tests of a list of rounds
 unfoldable pub testsOfAll : List (List Taken) → ℕ
@@ -68,4 +68,4 @@ turnsIn i round = count (isTurnOf i) round
 -- whether the last turn of station i in the list finishes its pass
 unfoldable pub lastFinishes : ℕ → List Taken → Bool
 lastFinishes i [] = false
-lastFinishes i (x ∷ xs) = cond (some (isTurnOf i) xs) (lastFinishes i xs) (isTurnOf i x && finishes x)
+lastFinishes i (x ∷ xs) = cond (any (isTurnOf i) xs) (lastFinishes i xs) (isTurnOf i x && finishes x)

@@ -17,13 +17,13 @@ pub record Call : Type 0 where
   pub sheet : List ℕ
 
 -- table and tally as a run leaves them
-abbrev pub ranOn : State → Call → State
-ranOn s c = run (c .size) s (c .schedule) (c .sheet) .state
+abbrev pub afterRun : State → Call → State
+afterRun s c = run (c .size) s (c .schedule) (c .sheet) .state
 
 -- "Each later one gets the table as the run before left it and the tally it gave back": table and tally after the list
-unfoldable pub ranAll : State → List Call → State
-ranAll s [] = s
-ranAll s (c ∷ cs) = ranAll (ranOn s c) cs
+unfoldable pub afterRuns : State → List Call → State
+afterRuns s [] = s
+afterRuns s (c ∷ cs) = afterRuns (afterRun s c) cs
 
 -- a taken entry: the size of its run, and table and tally as it found them
 pub record Taken : Type 0 where
@@ -37,13 +37,14 @@ unfoldable pub takenFrom : ℕ → State → List Entry → List Taken
 takenFrom n s [] = []
 takenFrom n s (e ∷ es) = cond (eqb (entryNumber n s e) 0) (record { size = n; before = s; entry = e } ∷ takenFrom n (after n s e) es) []
 
+-- the taken entries of one run
 unfoldable pub takenIn : State → Call → List Taken
 takenIn s c = cond (eqb (startNumber (c .size) (s .table) (length (c .schedule)) (length (c .sheet))) 0) (takenFrom (c .size) s (entries (c .schedule))) []
 
 -- "the taken entries of all runs, one run's behind the other's"
 unfoldable pub takenAll : State → List Call → List Taken
 takenAll s [] = []
-takenAll s (c ∷ cs) = takenIn s c ++ takenAll (ranOn s c) cs
+takenAll s (c ∷ cs) = takenIn s c ++ takenAll (afterRun s c) cs
 
 -- the table after the taken entry
 abbrev pub tableAfter : Taken → List ℕ
@@ -54,12 +55,12 @@ abbrev pub isTurnOf : ℕ → Taken → Bool
 isTurnOf i x = not (isCrash (x .entry)) && eqb (x .entry .station) i
 
 -- "the turns in it that make a test"
-abbrev pub makesOne : Taken → Bool
-makesOne x = isTest (x .size) (x .before .table) (x .entry)
+abbrev pub takenTest : Taken → Bool
+takenTest x = isTest (x .size) (x .before .table) (x .entry)
 
 -- "One that makes no test finishes its pass."
 abbrev pub finishes : Taken → Bool
-finishes x = not (isCrash (x .entry)) && not (makesOne x)
+finishes x = not (isCrash (x .entry)) && not (takenTest x)
 
 -- "A crash is a taken entry of kind 3."
 abbrev pub crashes : Taken → Bool
@@ -67,4 +68,4 @@ crashes x = isCrash (x .entry)
 
 -- "A live board's reply is late at a taken entry of kind 2 that tests a live station."
 abbrev pub isLate : Taken → Bool
-isLate x = eqb (x .entry .kind) kindLate && makesOne x && live (x .size) (x .before .table) (testedOf (x .size) (x .before .table) (x .entry))
+isLate x = eqb (x .entry .kind) kindLate && takenTest x && live (x .size) (x .before .table) (testedOf (x .size) (x .before .table) (x .entry))

@@ -2,7 +2,6 @@
 -- Assumes nothing.
 use Prim.Native.Nat.{ℕ, zero, suc, _+_}
 use mathlib.Core.Bool.{Bool, true, false}
-use mathlib.Core.Option.{Option, none, some}
 
 -- the sum f 0 + f 1 + .. + f (n − 1)
 unfoldable pub sum : (ℕ → ℕ) → ℕ → ℕ
@@ -13,8 +12,3 @@ sum f (suc n) = sum f n + f n
 abbrev pub bit : Bool → ℕ
 bit true = 1
 bit false = 0
-
--- whether a station was found
-abbrev pub isSome : Option ℕ → Bool
-isSome none = false
-isSome (some x) = true

@@ -1,7 +1,6 @@
 -- The plant examples of document 01 marked [P], in one table: what the definitions give, and what the document says. One statement covers it.
 -- Assumes nothing.
 use mathlib.Core.Path.{_≡_, refl}
-use mathlib.Core.Bool.{Bool}
 use mathlib.Core.List.{List, [], _∷_, map}
 use Prim.Native.Nat.{ℕ, _-_, _*_}
 use lib.ListN.{replicate}
@@ -12,7 +11,7 @@ use Rattle.station.specs.Rules.{rowRule, lineRules, someLive, liveFinished, sha
 use Rattle.station.specs.Tests.{unsuspected, firstPlace, first, due, dueDistances}
 use Rattle.station.specs.Rows.{unionByte, union, mark}
 use Rattle.station.specs.Calls.{freshByte, freshTable}
-use Rattle.plant.specs.Steps.{steps}
+use Rattle.plant.specs.Iterate.{iterate}
 use Rattle.plant.specs.Turn.{nextTest, makesTest, finishPass, countTest, replies, isTold, exchangeRows, suspect, afterTest, testOutcome, selfOrSuspected, isAlone, afterAlone, testing, turn, turnTested, turnOutcome, crash, roundOver, resetLine, resetLines, afterRound}
 use Rattle.plant.specs.Entry.{stateOf, entryNumber, acted, after, testedOf, outcomeOf, sheetLine}
 use Rattle.plant.specs.Run.{Outcome, entries, writeLine, goOn, startNumber, run}
@@ -76,5 +75,5 @@ examples =
 
 -- each example holds
 pub as-said : map (λ (e : Example). e .given) examples ≡ map (λ (e : Example). e .said) examples
-unfolding examples fourBoards fourDead fourAndFiveDead deadPairs deadGroup sum run startNumber tableNumber shapeNumber isSize tableLength every lineRules rowRule someLive liveFinished cell lineStart row setRow setCell freshTable freshByte listOf goOn entries writeLine entryNumber after acted sheetLine testedOf outcomeOf turn turnTested turnOutcome crash roundOver resetLine resetLines afterRound steps nextTest makesTest finishPass countTest replies isTold exchangeRows suspect afterTest testOutcome selfOrSuspected isAlone afterAlone testing due dueDistances select first firstPlace least unsuspected member width level dimension group union unionByte mark
+unfolding examples fourBoards fourDead fourAndFiveDead deadPairs deadGroup sum run startNumber tableNumber shapeNumber isSize tableLength every lineRules rowRule someLive liveFinished cell lineStart row setRow setCell freshTable freshByte listOf goOn entries writeLine entryNumber after acted sheetLine testedOf outcomeOf turn turnTested turnOutcome crash roundOver resetLine resetLines afterRound iterate nextTest makesTest finishPass countTest replies isTold exchangeRows suspect afterTest testOutcome selfOrSuspected isAlone afterAlone testing due dueDistances select first firstPlace least unsuspected member width level dimension group union unionByte mark
 as-said = refl

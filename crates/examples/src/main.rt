@@ -1,5 +1,5 @@
-// Computes the examples of document 01 that are not marked [P], and all of Table 1 of paper 000. What it writes is compared with the file
-// `stdout`, which has what the documents say.
+// Computes the examples of document 01 that are not marked [P], a plant of eight boards, and all of Table 1 of paper 000. What it writes is
+// compared with the file `stdout`, which has what the documents say.
 use plant::Answer;
 use plant::Tally;
 use plant::run;
@@ -119,7 +119,7 @@ fn sixty_four() {
     tests_line(no_tally(), tally);
 }
 
-// Eight boards. None dead: 24 tests a round, of which board 0 makes three. Board 4 loses its supply: 23 tests a round once all know it, and
+// Eight boards. None dead: 24 tests a round, of which board 0 makes three. Board 4 crashes: 23 tests a round once all know it, and
 // board 5 tests 0 and 6 besides.
 fn eight_boards() {
     let mut table = [0u8; 96];

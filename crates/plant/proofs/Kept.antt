@@ -12,7 +12,8 @@ use Rattle.station.specs.Search.{every}
 use Rattle.station.specs.Table.{tableLength, finished, live}
 use Rattle.station.specs.Rules.{lineRules, notLive, someLive, finishedIfLive, liveFinished}
 use Rattle.station.proofs.SearchLaws.{both, every-at, every-all}
-use Rattle.station.proofs.Refusals.{Accepted, size-bounds, else-zero, refuse-zero}
+use Rattle.station.proofs.Refusals.{Accepted, else-zero, refuse-zero}
+use Rattle.station.proofs.Sizes.{size-bounds}
 use Rattle.station.proofs.CellLaws.{Line, line-holds, accepted-line}
 use Rattle.plant.specs.Turn.{turn, crash, roundOver, resetLines, afterRound}
 use Rattle.plant.specs.Entry.{Entry, State, tallyTop, isCrash, isTest, entryNumber, acted, after, sheetLine}
@@ -20,7 +21,7 @@ use Rattle.plant.specs.Run.{Outcome, entries, writeLine, goOn, startNumb
 use Rattle.plant.proofs.StepLines.{Lines, leave-lines, turn-lines, reset-lines}
 use Rattle.plant.proofs.StepCells.{reset-cells}
 
--- what the refusals 7 to 11 leave of an entry
+-- what the refusals 7 to 11 setStatus of an entry
 pub record Takes (n : ℕ) (s : State) (e : Entry) : Type 0 where
   pub roundsFit : s .rounds ≡ tallyTop → ⊥
   pub testsFit : s .tests ≡ tallyTop → ⊥

@@ -3,6 +3,6 @@ pub mod NextTest
 pub mod StepCells
 pub mod StepLines
 pub mod Kept
-pub mod StepsLaws
+pub mod IterateLaws
 pub mod RowLaws
 pub mod RunLaws

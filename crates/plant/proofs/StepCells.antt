@@ -11,7 +11,7 @@ use lib.ListN.{length}
 use Rattle.station.specs.Table.{head, stride, tableLength, cell, setCell, nextColumn, finishedColumn, testsColumn, nextDistance, finished, testsMade, suspects, row, setRow}
 use Rattle.station.specs.Rows.{unionByte, union, mark}
 use Rattle.station.proofs.CellLaws.{cell-same, cell-other, setCell-length, row-length, row-at, setRow-length, setRow-in, setRow-out, union-length, union-at, union-own, union-others, mark-length, mark-same, mark-other}
-use Rattle.plant.specs.Steps.{steps}
+use Rattle.plant.specs.Iterate.{iterate}
 use Rattle.plant.specs.Turn.{finishPass, countTest, exchangeRows, suspect, resetLine, resetLines}
 
 module _ (n : ℕ) (t : List ℕ) (i : ℕ) where
@@ -184,24 +184,24 @@ resetLine-here n i t long h =
       untested = cell-same n t₂ i testsColumn 0 long₂ h (omega arith);
     }
 
-resets-length : (n m : ℕ) (t : List ℕ) → length (steps (resetLine n) m t) ≡ length t
-unfolding steps
+resets-length : (n m : ℕ) (t : List ℕ) → length (iterate (resetLine n) m t) ≡ length t
+unfolding iterate
 resets-length n zero t = refl
-resets-length n (suc m) t = resetLine-length n m (steps (resetLine n) m t) ∙ resets-length n m t
+resets-length n (suc m) t = resetLine-length n m (iterate (resetLine n) m t) ∙ resets-length n m t
 
 resets-other : (n m : ℕ) (t : List ℕ) (i c : ℕ) → c < stride n → (c ≢ nextColumn) × (c ≢ finishedColumn) × (c ≢ testsColumn)
-    → cell n (steps (resetLine n) m t) i c ≡ cell n t i c
-unfolding steps
+    → cell n (iterate (resetLine n) m t) i c ≡ cell n t i c
+unfolding iterate
 resets-other n zero t i c h out = refl
-resets-other n (suc m) t i c h out = resetLine-other n m (steps (resetLine n) m t) i c h (λ _. out) ∙ resets-other n m t i c h out
+resets-other n (suc m) t i c h out = resetLine-other n m (iterate (resetLine n) m t) i c h (λ _. out) ∙ resets-other n m t i c h out
 
-resets-here : (n m : ℕ) (t : List ℕ) → length t ≡ tableLength n → m ≤ n → (i : ℕ) → i < m → Reset n (steps (resetLine n) m t) i
-unfolding steps
+resets-here : (n m : ℕ) (t : List ℕ) → length t ≡ tableLength n → m ≤ n → (i : ℕ) → i < m → Reset n (iterate (resetLine n) m t) i
+unfolding iterate
 resets-here n zero t long hm i h = absurd (omega arith)
 resets-here n (suc m) t long hm i h = pick (resets-here n m t long (omega arith) i) (eq-or-lt-of-le (le-of-suc-le-suc h))
   where
     s : List ℕ
-    s = steps (resetLine n) m t
+    s = iterate (resetLine n) m t
 
     pick : (i < m → Reset n s i) → (i ≡ m) ⊎ (i < m) → Reset n (resetLine n m s) i
     pick rest (inl e) = rw e (resetLine-here n m s (resets-length n m t ∙ long) hm)

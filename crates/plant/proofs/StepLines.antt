@@ -14,7 +14,7 @@ use Rattle.station.specs.Table.{head, stride, tableLength, cell, statusColumn, 
 use Rattle.station.proofs.Xor.{xor-cancel}
 use Rattle.station.proofs.Sizes.{size-pow}
 use Rattle.station.proofs.CellLaws.{Line, cell-same, cell-other, setCell-length}
-use Rattle.plant.specs.Turn.{leave, makesTest, nextTest, finishPass, countTest, replies, isTold, exchangeRows, suspect, afterTest, isAlone, afterAlone, testing, turn, resetLines}
+use Rattle.plant.specs.Turn.{setStatus, makesTest, nextTest, finishPass, countTest, replies, isTold, exchangeRows, suspect, afterTest, isAlone, afterAlone, testing, turn, resetLines}
 use Rattle.plant.proofs.NextTest.{nextTest-low, test-below}
 use Rattle.plant.proofs.StepCells.{finishPass-length, finishPass-other, finishPass-next, finishPass-finished, countTest-length, countTest-other, countTest-next, countTest-tests, suspect-length, suspect-same, suspect-other, exchange-length, exchange-other, exchange-tester, exchange-tested, exchange-tester-own, exchange-tested-own, reset-length, reset-cells, reset-other}
 
@@ -59,12 +59,12 @@ one-line n t t′ i len same here old = (len ∙ old .0, λ k h. pick k h (ℕ-d
 
 module _ (n : ℕ) (t : List ℕ) (i : ℕ) (lines : Lines n t) (h : i < n) where
   -- Steps 4, 6 and 7: the status
-  pub leave-lines : (s : ℕ) → s ≤ 3 → Lines n (leave n t i s)
+  pub leave-lines : (s : ℕ) → s ≤ 3 → Lines n (setStatus n t i s)
   leave-lines s hs =
       let l = lines .1 i h in
-      let e : status n (leave n t i s) i ≡ s = cell-same n t i statusColumn s (lines .0) h (omega arith) in
-      let other : (c : ℕ) → c < stride n → 1 ≤ c → cell n (leave n t i s) i c ≡ cell n t i c = λ c hc pos. cell-other n t i statusColumn s i c (omega arith) hc (omega arith) in
-      one-line n t (leave n t i s) i (setCell-length n t i statusColumn s)
+      let e : status n (setStatus n t i s) i ≡ s = cell-same n t i statusColumn s (lines .0) h (omega arith) in
+      let other : (c : ℕ) → c < stride n → 1 ≤ c → cell n (setStatus n t i s) i c ≡ cell n t i c = λ c hc pos. cell-other n t i statusColumn s i c (omega arith) hc (omega arith) in
+      one-line n t (setStatus n t i s) i (setCell-length n t i statusColumn s)
       (λ k c hc d. cell-other n t i statusColumn s k c (omega arith) hc (λ f. absurd (d f)))
       (record {
         statusRange = omega arith;

@@ -7,9 +7,9 @@ use lib.Dec.{leb, eqb}
 use Rattle.station.specs.Table.{status, finished, live}
 use Rattle.station.specs.Rules.{refuse, _else_}
 use Rattle.station.specs.Calls.{stationRefusal}
-use Rattle.plant.specs.Turn.{kindCrash, crashed, noStation, makesTest, turn, turnTested, turnOutcome, crash, roundOver, afterRound}
+use Rattle.plant.specs.Turn.{kindCrash, outcomeCrash, noStation, makesTest, turn, turnTested, turnOutcome, crash, roundOver, afterRound}
 
--- "A schedule entry is two bytes: kind and station i."
+-- "A schedule entry is two bytes: kind [..] and station i."
 pub record Entry : Type 0 where
   pub kind : ℕ
   pub station : ℕ
@@ -65,9 +65,9 @@ unfoldable pub testedOf : ℕ → List ℕ → Entry → ℕ
 testedOf n t e = cond (isCrash e) noStation (turnTested n t (e .station))
 
 unfoldable pub outcomeOf : ℕ → List ℕ → Entry → ℕ
-outcomeOf n t e = cond (isCrash e) crashed (turnOutcome n t (e .kind) (e .station))
+outcomeOf n t e = cond (isCrash e) outcomeCrash (turnOutcome n t (e .kind) (e .station))
 
--- "four bytes of the sheet: i; the tested station or 255; the outcome; i's status after the entry"
+-- "four bytes of the sheet: i; the tested station or 255; the outcome [..]; i's status after the entry"
 unfoldable pub sheetLine : ℕ → State → Entry → List ℕ
 sheetLine n s e =
     e .station ∷ testedOf n (s .table) e ∷ outcomeOf n (s .table) e ∷ status n (after n s e .table) (e .station) ∷ []

@@ -1,5 +1,5 @@
 -- What the contracts of `plant` cite: document 01, "What an entry does" and the run.
-pub mod Steps
+pub mod Iterate
 pub mod Turn
 pub mod Entry
 pub mod Run

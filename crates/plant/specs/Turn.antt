@@ -1,7 +1,7 @@
 -- Document 01, steps 2 to 8 of "What an entry does", as functions of the table. Station i is the entry's, kind its kind, j the tested station.
 -- Assumes nothing.
-use Prim.Native.Nat.{ℕ, suc, _+_, _-_}
-use mathlib.Core.Bool.{Bool, cond, not, _&&_, _||_}
+use Prim.Native.Nat.{ℕ, _+_, _-_}
+use mathlib.Core.Bool.{Bool, cond, _&&_, _||_}
 use mathlib.Core.List.{List}
 use lib.Dec.{ltb, eqb}
 use Rattle.station.specs.Search.{least, every}
@@ -10,7 +10,7 @@ use Rattle.station.specs.Table.{setCell, statusColumn, nextColumn, finishedColu
 use Rattle.station.specs.Rules.{someLive, liveFinished}
 use Rattle.station.specs.Tests.{due}
 use Rattle.station.specs.Rows.{union, mark}
-use Rattle.plant.specs.Steps.{steps}
+use Rattle.plant.specs.Iterate.{iterate}
 
 -- the kinds of an entry: 1 turn, 2 turn whose reply comes late, 3 crash
 abbrev pub kindTurn : ℕ
@@ -23,33 +23,44 @@ abbrev pub kindCrash : ℕ
 kindCrash = 3
 
 -- the outcomes on the sheet: 0 pass finished, 1 exchanged, 2 told, 3 no reply, 4 crash
-abbrev pub passFinished : ℕ
-passFinished = 0
+abbrev pub outcomeFinished : ℕ
+outcomeFinished = 0
 
-abbrev pub exchanged : ℕ
-exchanged = 1
+abbrev pub outcomeExchanged : ℕ
+outcomeExchanged = 1
 
-abbrev pub told : ℕ
-told = 2
+abbrev pub outcomeTold : ℕ
+outcomeTold = 2
 
-abbrev pub noReply : ℕ
-noReply = 3
+abbrev pub outcomeNoReply : ℕ
+outcomeNoReply = 3
 
-abbrev pub crashed : ℕ
-crashed = 4
+abbrev pub outcomeCrash : ℕ
+outcomeCrash = 4
+
+-- the statuses of a station that is not live: 1 crashed, 2 left because told, 3 left because alone
+abbrev pub statusCrashed : ℕ
+statusCrashed = 1
+
+abbrev pub statusTold : ℕ
+statusTold = 2
+
+abbrev pub statusAlone : ℕ
+statusAlone = 3
 
 -- what the sheet has for the tested station where there is none
 abbrev pub noStation : ℕ
 noStation = 255
 
 -- the station's status becomes s
-abbrev pub leave : ℕ → List ℕ → ℕ → ℕ → List ℕ
-leave n t i s = setCell n t i statusColumn s
+abbrev pub setStatus : ℕ → List ℕ → ℕ → ℕ → List ℕ
+setStatus n t i s = setCell n t i statusColumn s
 
 -- Step 2: "A turn takes the least due distance not below i's next distance." N where there is none
 unfoldable pub nextTest : ℕ → List ℕ → ℕ → ℕ
 nextTest n t i = least (due (row n t i) i) (n - nextDistance n t i) (nextDistance n t i)
 
+-- whether there is one
 unfoldable pub makesTest : ℕ → List ℕ → ℕ → Bool
 makesTest n t i = ltb (nextTest n t i) n
 
@@ -57,7 +68,7 @@ makesTest n t i = ltb (nextTest n t i) n
 unfoldable pub finishPass : ℕ → List ℕ → ℕ → List ℕ
 finishPass n t i = setCell n (setCell n t i nextColumn n) i finishedColumn 1
 
--- Step 3: "Next distance becomes m + 1; i's tests and the tally of tests grow by one."
+-- Step 3: "Next distance becomes m + 1; i's tests [..] grow by one." The tally of tests grows in `after`
 unfoldable pub countTest : ℕ → List ℕ → ℕ → ℕ → List ℕ
 countTest n t i m = setCell n (setCell n t i nextColumn (m + 1)) i testsColumn (testsMade n t i + 1)
 
@@ -73,16 +84,17 @@ isTold n t i j = eqb (suspects n t j i) 1
 unfoldable pub exchangeRows : ℕ → List ℕ → ℕ → ℕ → List ℕ
 exchangeRows n t i j = setRow n (setRow n t i (union (row n t i) (row n t j) i)) j (union (row n t j) (row n t i) j)
 
--- Step 5, "No reply: i suspects j."
+-- Step 5: "i suspects j."
 unfoldable pub suspect : ℕ → List ℕ → ℕ → ℕ → List ℕ
 suspect n t i j = setRow n t i (mark (row n t i) j)
 
 -- steps 4 and 5: the table after the test of j
 unfoldable pub afterTest : ℕ → List ℕ → ℕ → ℕ → ℕ → List ℕ
-afterTest n t kind i j = cond (replies n t kind j) (cond (isTold n t i j) (leave n t i 2) (exchangeRows n t i j)) (suspect n t i j)
+afterTest n t kind i j = cond (replies n t kind j) (cond (isTold n t i j) (setStatus n t i statusTold) (exchangeRows n t i j)) (suspect n t i j)
 
+-- the outcome of the test of j
 unfoldable pub testOutcome : ℕ → List ℕ → ℕ → ℕ → ℕ → ℕ
-testOutcome n t kind i j = cond (replies n t kind j) (cond (isTold n t i j) told exchanged) noReply
+testOutcome n t kind i j = cond (replies n t kind j) (cond (isTold n t i j) outcomeTold outcomeExchanged) outcomeNoReply
 
 -- Step 6: "i, if still live, leaves with status 3 if it suspects all others"
 unfoldable pub selfOrSuspected : ℕ → List ℕ → ℕ → ℕ → Bool
@@ -92,7 +104,7 @@ unfoldable pub isAlone : ℕ → List ℕ → ℕ → Bool
 isAlone n t i = live n t i && every (selfOrSuspected n t i) n
 
 unfoldable pub afterAlone : ℕ → List ℕ → ℕ → List ℕ
-afterAlone n t i = cond (isAlone n t i) (leave n t i 3) t
+afterAlone n t i = cond (isAlone n t i) (setStatus n t i statusAlone) t
 
 -- steps 3 to 6: a turn that tests the station at distance m
 unfoldable pub testing : ℕ → List ℕ → ℕ → ℕ → ℕ → List ℕ
@@ -102,15 +114,17 @@ testing n t kind i m = afterAlone n (afterTest n (countTest n t i m) kind i (sta
 unfoldable pub turn : ℕ → List ℕ → ℕ → ℕ → List ℕ
 turn n t kind i = cond (makesTest n t i) (testing n t kind i (nextTest n t i)) (finishPass n t i)
 
+-- the tested station or 255
 unfoldable pub turnTested : ℕ → List ℕ → ℕ → ℕ
 turnTested n t i = cond (makesTest n t i) (stationAt i (nextTest n t i)) noStation
 
+-- the outcome of the turn
 unfoldable pub turnOutcome : ℕ → List ℕ → ℕ → ℕ → ℕ
-turnOutcome n t kind i = cond (makesTest n t i) (testOutcome n (countTest n t i (nextTest n t i)) kind i (stationAt i (nextTest n t i))) passFinished
+turnOutcome n t kind i = cond (makesTest n t i) (testOutcome n (countTest n t i (nextTest n t i)) kind i (stationAt i (nextTest n t i))) outcomeFinished
 
 -- Step 7: "Status becomes 1, nothing else on the line."
 unfoldable pub crash : ℕ → List ℕ → ℕ → List ℕ
-crash n t i = leave n t i 1
+crash n t i = setStatus n t i statusCrashed
 
 -- Step 8: "if a station is live and all live ones are finished, the round closes"
 unfoldable pub roundOver : ℕ → List ℕ → Bool
@@ -121,7 +135,7 @@ unfoldable pub resetLine : ℕ → ℕ → List ℕ → List ℕ
 resetLine n i t = setCell n (setCell n (setCell n t i nextColumn 1) i finishedColumn 0) i testsColumn 0
 
 unfoldable pub resetLines : ℕ → List ℕ → List ℕ
-resetLines n t = steps (resetLine n) n t
+resetLines n t = iterate (resetLine n) n t
 
 unfoldable pub afterRound : ℕ → List ℕ → List ℕ
 afterRound n t = cond (roundOver n t) (resetLines n t) t

@@ -6,8 +6,8 @@ pub mod Levels
 pub mod GroupLaws
 pub mod Lists
 pub mod Loops
-pub mod Refusals
 pub mod Sizes
+pub mod Refusals
 pub mod CellLaws
 pub mod DueLaws
 pub mod SelectLaws

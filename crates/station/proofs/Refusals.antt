@@ -35,25 +35,6 @@ unless-refused r a x y e h = let f = ne-eqb a 0 (λ z. h (e ∙ z)) in rw f
 pub unless-accepted {ℓ} : {A : Type ℓ} (a : ℕ) (x y : A) → a ≡ 0 → y ≡ unless a x y
 unless-accepted a x y e = rw e
 
--- a size is at least 2 and at most 64
-pub size-bounds : (n : ℕ) → isSize n ≡ true → (2 ≤ n) × (n ≤ 64)
-unfolding isSize
-size-bounds n e = go (eqb n 2) refl (eqb n 4) refl (eqb n 8) refl (eqb n 16) refl (eqb n 32) refl (eqb n 64) refl e
-  where
-    go : (a : Bool) → eqb n 2 ≡ a → (b : Bool) → eqb n 4 ≡ b → (c : Bool) → eqb n 8 ≡ c → (d : Bool) → eqb n 16 ≡ d → (x : Bool) → eqb n 32 ≡ x → (y : Bool) → eqb n 64 ≡ y
-        → ((((((a || b) || c) || d) || x) || y) ≡ true) → (2 ≤ n) × (n ≤ 64)
-    go true p b q c r d s x t y u h = omega (arith, eqb-true n 2 p)
-    go false p true q c r d s x t y u h = omega (arith, eqb-true n 4 q)
-    go false p false q true r d s x t y u h = omega (arith, eqb-true n 8 r)
-    go false p false q false r true s x t y u h = omega (arith, eqb-true n 16 s)
-    go false p false q false r false s true t y u h = omega (arith, eqb-true n 32 t)
-    go false p false q false r false s false t true u h = omega (arith, eqb-true n 64 u)
-    go false p false q false r false s false t false u h = let z : _≡_ {A = ℕ} 0 1 = cc in omega arith
-
-pub size-dimension : (n : ℕ) → isSize n ≡ true → dimension n ≤ 6
-unfolding dimension
-size-dimension n e = level-le (n - 1) 6 (omega (arith, size-bounds n e))
-
 or-false : (a b : Bool) → (a || b) ≡ false → (a ≡ false) × (b ≡ false)
 or-false true b e = (e, cc)
 or-false false b e = (refl, e)

@@ -1,7 +1,7 @@
 -- Document 01, "What can be asked", all but the run: the number, the figures and the bytes that each call gives, for all inputs.
 -- Assumes nothing.
 use Prim.Native.Nat.{ℕ, _-_, _%_}
-use mathlib.Core.Bool.{Bool, cond, not, _||_}
+use mathlib.Core.Bool.{cond, not, _||_}
 use mathlib.Core.List.{List, [], _++_}
 use mathlib.Core.Option.{Option, none, some}
 use lib.ListN.{length, replicate}

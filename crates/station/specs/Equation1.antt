@@ -1,10 +1,10 @@
--- Paper 001, equation 1: the right side.
+-- Paper 001, equation 1: its right side but for the first station.
 -- Assumes nothing.
 use Prim.Native.Nat.{ℕ, zero, suc}
 use mathlib.Core.List.{List, [], _++_}
 use Rattle.station.specs.Groups.{group}
 
--- the groups of station j at levels 1 to h, one behind the other (the right side of equation 1 of paper 001)
+-- the groups of station j at levels 1 to h, one behind the other (the right side of equation 1 of paper 001, but for its first station)
 unfoldable pub groupsTo : ℕ → ℕ → List ℕ
 groupsTo j zero = []
 groupsTo j (suc h) = groupsTo j h ++ group j (suc h)

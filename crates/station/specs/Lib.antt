@@ -1,4 +1,4 @@
--- What the contracts of `station` cite, in the order of document 01.
+-- What the contracts and theorems of `station` cite, in the order of document 01.
 pub mod Search
 pub mod Groups
 pub mod Equation1

@@ -1,6 +1,6 @@
--- Document 01, "The lent table": N lines of N + 4 bytes, in station order. Every byte is read and written by line and column here.
+-- Document 01, "The lent table": N lines of N + 4 bytes, in station order. A byte is read and written by line and column.
 -- Assumes nothing.
-use Prim.Native.Nat.{ℕ, _+_, _*_, _-_}
+use Prim.Native.Nat.{ℕ, _+_, _*_}
 use mathlib.Core.Bool.{Bool}
 use mathlib.Core.List.{List, _++_}
 use lib.ListN.{getD, set, take, drop}
@@ -14,6 +14,7 @@ head = 4
 abbrev pub stride : ℕ → ℕ
 stride n = n + head
 
+-- "N lines of N + 4 bytes"
 unfoldable pub tableLength : ℕ → ℕ
 tableLength n = n * stride n
 

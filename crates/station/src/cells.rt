@@ -1,4 +1,4 @@
-// The bytes of the lent table, by line and column (document 01, "The lent table"). Every offset is computed here.
+// The bytes of the lent table, by line and column (document 01, "The lent table").
 ghost use mathlib.Core.Path.{_≡_};
 ghost use Prim.Native.Nat.{_<_};
 ghost use Rattle.station.specs.Table.{tableLength, lineStart, cell, setCell, rowStart};
@@ -20,7 +20,15 @@ pub const HEAD: u16 = 4;
 pub fn table_length(n: u8) -> usize
     ensures { λ r. ⌜ r ≡ tableLength n ⌝ }
 {
-    line_start(n, Station(n))
+    lines_length(n, n)
+}
+
+// The length of some lines of a table of n stations.
+fn lines_length(lines: u8, n: u8) -> usize
+    ensures { λ r. ⌜ r ≡ lineStart n lines ⌝ }
+    ensures { λ r. ⌜ r < 66048 ⌝ }
+{
+    lines as usize * (n as usize + HEAD as usize)
 }
 
 // Where line i begins.
@@ -28,8 +36,7 @@ pub fn line_start(n: u8, i: Station) -> usize
     ensures { λ r. ⌜ r ≡ lineStart n (i .0) ⌝ }
     ensures { λ r. ⌜ r < 66048 ⌝ }
 {
-    let line = i.0;
-    line as usize * (n as usize + HEAD as usize)
+    lines_length(i.0, n)
 }
 
 // Where the row of line i begins.

@@ -4,14 +4,14 @@ use mathlib.Core.Path.{_≡_}
 use Prim.Native.Nat.{_-_, _≤_}
 use lib.ListN.{length}
 use borrow.Author.Needs.{needs}
-use Rattle.plant.specs.Steps.{steps}
+use Rattle.plant.specs.Iterate.{iterate}
 use Rattle.plant.specs.Turn.{resetLine, resetLines}
-use Rattle.plant.proofs.StepsLaws.{stepping}
+use Rattle.plant.proofs.IterateLaws.{stepping}
 use Rattle.plant.proofs.rounds.reset_lines.Statement.{statement}
 use Rattle.plant.proofs.rounds.reset_lines.Tie as tie
 
 abbrev Inv-loop : tie.InvT-loop
-Inv-loop n table₀ i₀ table i = (i ≤ n) × (length table ≡ length table₀) × (table ≡ steps (resetLine n) i table₀)
+Inv-loop n table₀ i₀ table i = (i ≤ n) × (length table ≡ length table₀) × (table ≡ iterate (resetLine n) i table₀)
 
 abbrev μ-loop : tie.MeasureT-loop
 μ-loop n table₀ i₀ table i = n - i

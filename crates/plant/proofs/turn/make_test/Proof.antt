@@ -4,7 +4,8 @@ use mathlib.Core.Path.{ap, _∙_}
 use native.Mathlib.Omega.{arith}
 use lib.ListN.{length}
 use borrow.Author.Needs.{needs}
-use Rattle.station.proofs.Refusals.{accepted, size-bounds}
+use Rattle.station.proofs.Refusals.{accepted}
+use Rattle.station.proofs.Sizes.{size-bounds}
 use Rattle.station.proofs.CellLaws.{accepted-line}
 use Rattle.plant.specs.Turn.{testing}
 use Rattle.plant.proofs.StepCells.{countTest-length}

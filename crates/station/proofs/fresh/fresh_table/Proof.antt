@@ -4,7 +4,8 @@ use mathlib.Core.Path.{_∙_, sym}
 use native.Mathlib.Omega.{arith}
 use borrow.Author.Needs.{needs}
 use Rattle.station.specs.Calls.{freshAfter}
-use Rattle.station.proofs.Refusals.{unless-refused, unless-accepted, shape-zero, size-bounds}
+use Rattle.station.proofs.Refusals.{unless-refused, unless-accepted, shape-zero}
+use Rattle.station.proofs.Sizes.{size-bounds}
 use Rattle.station.proofs.fresh.fresh_table.Statement.{statement}
 use Rattle.station.proofs.fresh.fresh_table.Tie as tie
 

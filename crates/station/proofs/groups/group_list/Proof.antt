@@ -4,7 +4,8 @@ use mathlib.Core.Path.{_∙_, sym}
 use native.Mathlib.Omega.{arith}
 use borrow.Author.Needs.{needs}
 use Rattle.station.specs.Calls.{groupAfter}
-use Rattle.station.proofs.Refusals.{unless-refused, unless-accepted, group-zero, size-dimension}
+use Rattle.station.proofs.Refusals.{unless-refused, unless-accepted, group-zero}
+use Rattle.station.proofs.Sizes.{size-dimension}
 use Rattle.station.proofs.groups.group_list.Statement.{statement}
 use Rattle.station.proofs.groups.group_list.Tie as tie
 

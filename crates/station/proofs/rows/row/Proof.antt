@@ -4,7 +4,8 @@ use mathlib.Core.Path.{_∙_, sym}
 use native.Mathlib.Omega.{arith}
 use borrow.Author.Needs.{needs}
 use Rattle.station.specs.Calls.{rowPart}
-use Rattle.station.proofs.Refusals.{unless-refused, unless-accepted, row-zero, size-bounds}
+use Rattle.station.proofs.Refusals.{unless-refused, unless-accepted, row-zero}
+use Rattle.station.proofs.Sizes.{size-bounds}
 use Rattle.station.proofs.CellLaws.{row-inside, row-part}
 use Rattle.station.proofs.rows.row.Statement.{statement}
 use Rattle.station.proofs.rows.row.Tie as tie

@@ -5,7 +5,7 @@ use native.Mathlib.Omega.{arith}
 use borrow.Author.Tests.{eq-eqb, ne-eqb, not-false}
 use borrow.Author.Needs.{needs}
 use Rattle.station.specs.Rules.{shapeNumber}
-use Rattle.station.proofs.Refusals.{size-bounds}
+use Rattle.station.proofs.Sizes.{size-bounds}
 use Rattle.station.proofs.rules.check_shape.Statement.{statement}
 use Rattle.station.proofs.rules.check_shape.Tie as tie
 

@@ -4,7 +4,8 @@ use mathlib.Core.Path.{_∙_, sym}
 use native.Mathlib.Omega.{arith}
 use borrow.Author.Needs.{needs}
 use Rattle.station.specs.Rules.{tableNumber}
-use Rattle.station.proofs.Refusals.{else-first, shape-zero, size-bounds}
+use Rattle.station.proofs.Refusals.{else-first, shape-zero}
+use Rattle.station.proofs.Sizes.{size-bounds}
 use Rattle.station.proofs.rules.check_table.Statement.{statement}
 use Rattle.station.proofs.rules.check_table.Tie as tie
 

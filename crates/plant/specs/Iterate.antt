@@ -3,6 +3,6 @@
 use Prim.Native.Nat.{ℕ, zero, suc}
 
 -- the state after the steps f 0, f 1, .., f (n − 1), from s
-unfoldable pub steps {ℓ} : {A : Type ℓ} → (ℕ → A → A) → ℕ → A → A
-steps f zero s = s
-steps f (suc n) s = f n (steps f n s)
+unfoldable pub iterate {ℓ} : {A : Type ℓ} → (ℕ → A → A) → ℕ → A → A
+iterate f zero s = s
+iterate f (suc n) s = f n (iterate f n s)
