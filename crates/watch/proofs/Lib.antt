@@ -1,0 +1,5 @@
+-- The laws that the proofs of `watch` share.
+pub mod LineLaws
+pub mod NumberLaws
+pub mod ReadLaws
+pub mod Buffer

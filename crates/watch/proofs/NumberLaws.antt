@@ -1,0 +1,88 @@
+-- Laws of numbers in digits, by position, and of their greatest values.
+-- Assumes nothing.
+use mathlib.Core.Path.{_≡_, refl, sym, _∙_}
+use mathlib.Core.Bool.{Bool, true, false, cond, _&&_}
+use mathlib.Core.List.{List, [], _∷_}
+use mathlib.Core.Option.{Option, none, some}
+use Prim.Native.Nat.{ℕ, zero, suc, _+_, _*_, _-_, _≤_, _<_}
+use native.Mathlib.Numerals.{add-one}
+use native.Mathlib.Omega.{arith}
+use borrow.Author.Tests.{le-leb, lt-leb, leb-true}
+use lib.Dec.{leb}
+use lib.ListN.{length, getD, drop, drop-of-length-le}
+use lib.Seq.{drop-cons}
+use Rattle.watch.specs.Input.{isDigit, digitsFrom, numberOf}
+
+-- one digit more, from position i on
+module _ (l : List ℕ) (i v : ℕ) (h : i < length l) where
+  pub digits-next : 48 ≤ getD l i 0 → getD l i 0 ≤ 57 → digitsFrom v (drop i l) ≡ digitsFrom (10 * v + (getD l i 0 - 48)) (drop (i + 1) l)
+  unfolding digitsFrom
+  digits-next a b = rw (add-one, drop-cons l i 0, le-leb 48 (getD l i 0) a, le-leb (getD l i 0) 57 b)
+
+  pub digits-low : getD l i 0 < 48 → digitsFrom v (drop i l) ≡ none
+  unfolding digitsFrom
+  digits-low a = rw (drop-cons l i 0, lt-leb 48 (getD l i 0) a)
+
+  pub digits-high : 57 < getD l i 0 → digitsFrom v (drop i l) ≡ none
+  unfolding digitsFrom
+  digits-high a = rw (drop-cons l i 0, le-leb 48 (getD l i 0) (omega arith), lt-leb (getD l i 0) 57 a)
+
+pub digits-done : (l : List ℕ) (i v : ℕ) → length l ≤ i → digitsFrom v (drop i l) ≡ some v
+unfolding digitsFrom
+digits-done l i v h = rw (drop-of-length-le l {i = i} h)
+
+-- how long a number is
+pub number-empty : (most : ℕ) (l : List ℕ) → length l < 1 → numberOf most l ≡ none
+unfolding numberOf
+number-empty most l h = rw (lt-leb 1 (length l) h)
+
+pub number-long : (most : ℕ) (l : List ℕ) → 1 ≤ length l → most < length l → numberOf most l ≡ none
+unfolding numberOf
+number-long most l a b = rw (le-leb 1 (length l) a, lt-leb (length l) most b)
+
+pub number-digits : (most : ℕ) (l : List ℕ) → 1 ≤ length l → length l ≤ most → numberOf most l ≡ digitsFrom 0 l
+unfolding numberOf
+number-digits most l a b = rw (le-leb 1 (length l) a, le-leb (length l) most b)
+
+-- the greatest number of k digits
+unfoldable pub greatest : ℕ → ℕ
+greatest zero = 0
+greatest (suc k) = 10 * greatest k + 9
+
+pub greatest-next : (k : ℕ) → greatest (k + 1) ≡ 10 * greatest k + 9
+unfolding greatest
+greatest-next k = rw add-one
+
+pub greatest-two : (k : ℕ) → k ≤ 2 → greatest k ≤ 99
+unfolding greatest
+greatest-two zero h = omega arith
+greatest-two (suc zero) h = omega arith
+greatest-two (suc (suc zero)) h = omega arith
+greatest-two (suc (suc (suc k))) h = absurd (omega arith)
+
+both-true : (a b : Bool) → (a && b) ≡ true → b ≡ true
+both-true true b e = e
+both-true false b e = cc
+
+pub digits-small : (l : List ℕ) (k v w : ℕ) → v ≤ greatest k → digitsFrom v l ≡ some w → w ≤ greatest (k + length l)
+unfolding digitsFrom greatest
+digits-small [] k v w h e = let x : k + 0 ≡ k = omega arith in let y : v ≡ w = cc in rw (x, ← y) h
+digits-small (b ∷ rest) k v w h e = go (isDigit b) refl e (digits-small rest (suc k) (10 * v + (b - 48)) w)
+  where
+    go : (x : Bool) → isDigit b ≡ x → cond x (digitsFrom (10 * v + (b - 48)) rest) none ≡ some w
+        → (10 * v + (b - 48) ≤ 10 * greatest k + 9 → digitsFrom (10 * v + (b - 48)) rest ≡ some w → w ≤ greatest (suc k + length rest))
+        → w ≤ greatest (k + suc (length rest))
+    go true p e f =
+        let y : k + suc (length rest) ≡ suc k + length rest = omega arith in
+        rw y (f (omega (arith, leb-true b 57 (both-true (leb 48 b) (leb b 57) p))) e)
+    go false p e f = let z : _≡_ {A = ℕ} 0 1 = cc in absurd (omega arith)
+
+-- a number of at most two digits fits a byte
+pub number-two : (l : List ℕ) (w : ℕ) → numberOf 2 l ≡ some w → w ≤ 99
+unfolding numberOf
+number-two l w e = go (leb 1 (length l)) (leb (length l) 2) refl e
+  where
+    go : (a b : Bool) → leb (length l) 2 ≡ b → cond (a && b) (digitsFrom 0 l) none ≡ some w → w ≤ 99
+    go true true p e = omega (arith, digits-small l 0 0 w (omega arith) e, greatest-two (0 + length l) (omega (arith, leb-true (length l) 2 p)))
+    go true false p e = let z : _≡_ {A = ℕ} 0 1 = cc in absurd (omega arith)
+    go false b p e = let z : _≡_ {A = ℕ} 0 1 = cc in absurd (omega arith)

@@ -1,0 +1,61 @@
+-- `input::parse` meets its contract: the first line decides on the size, the lines after it on the entries.
+-- Assumes nothing.
+use mathlib.Core.Path.{refl, sym, ap}
+use native.Mathlib.Omega.{arith}
+use lib.ListN.{length}
+use lib.Seq.{length-take-le}
+use Rattle.watch.specs.Input.{roomFor, numberValue}
+use Rattle.watch.proofs.ReadLaws.{read-unsized, read-sized, reading-parts}
+use borrow.Author.Needs.{needs}
+use Rattle.watch.proofs.input.parse.Statement.{statement}
+use Rattle.watch.proofs.input.parse.Tie as tie
+
+line-end-requires : tie.Need-line-end-requires
+line-end-requires c κs = search needs
+
+slice-aggregate-read-number : tie.Need-slice-aggregate-read-number
+slice-aggregate-read-number c = sym (length-take-le _ _ (c .before .line-end .ensures .1 .1))
+
+read-number-requires : tie.Need-read-number-requires
+read-number-requires c κs = search needs
+
+enum-known-size : tie.Need-enum-known-size
+enum-known-size c = search needs
+
+enum-told : tie.Need-enum-told
+enum-told c = search needs
+
+returns : tie.Need-returns
+returns c =
+    let e = read-unsized _ _ _ _ (c .before .before .before .before .line-end .ensures .0) (c .before .before .read-number .ensures) (ap numberValue (c .enum-told .given .1)) in
+    reading-parts _ _ _ _ _ _ _ e refl
+
+line-after-requires : tie.Need-line-after-requires
+line-after-requires c κs = search needs
+
+read-entries-requires : tie.Need-read-entries-requires
+read-entries-requires c κs = search needs
+
+same-length : tie.Need-same-length
+same-length c = search needs
+
+returns-2 : tie.Need-returns-2
+returns-2 c =
+    let a = c .before .before .before .before .before .before .before .before .before .before .before .before .before .args in
+    let e = read-sized (roomFor (length (a .schedule .now))) _ (a .input .now) _ (c .before .before .before .before .before .before .before .before .before .before .line-end .ensures .0) (c .before .before .before .before .before .before .before .before .read-number .ensures) _ _ (ap numberValue (c .before .before .before .before .before .before .size .given .1)) (c .before .before .before .before .line-after .ensures) in
+    rw e (c .before .before .read-entries .ensures)
+
+pub parse-spec : {M : Type 1} → statement M
+parse-spec =
+    tie.close
+    (tie.spec
+    line-end-requires
+    slice-aggregate-read-number
+    read-number-requires
+    enum-known-size
+    enum-told
+    returns
+    line-after-requires
+    read-entries-requires
+    same-length
+    returns-2)

@@ -1,0 +1,42 @@
+-- `input::put_entry` meets its contract: the two stores make the entry's bytes, and nothing past them changes.
+-- Assumes nothing.
+use Prim.Native.Nat.{_*_}
+use native.Mathlib.Omega.{arith}
+use lib.ListN.{length-set}
+use Rattle.watch.proofs.ReadLaws.{pair-take, pair-drop}
+use borrow.Author.Needs.{needs}
+use Rattle.watch.proofs.input.put_entry.Statement.{statement}
+use Rattle.watch.proofs.input.put_entry.Tie as tie
+
+mul-schedule : tie.Need-mul-schedule
+mul-schedule c = search needs
+
+slice-write-schedule : tie.Need-slice-write-schedule
+slice-write-schedule c = search needs
+
+mul-schedule-2 : tie.Need-mul-schedule-2
+mul-schedule-2 c = search needs
+
+add-schedule : tie.Need-add-schedule
+add-schedule c = search needs
+
+slice-write-schedule-2 : tie.Need-slice-write-schedule-2
+slice-write-schedule-2 c = simp length-set (omega arith)
+
+same-length : tie.Need-same-length
+same-length c = search needs
+
+returns : tie.Need-returns
+returns c = (pair-take _ _ _ _ (c .pre), pair-drop _ _ _ _ (c .pre))
+
+pub put-entry-spec : {M : Type 1} → statement M
+put-entry-spec =
+    tie.close
+    (tie.spec
+    mul-schedule
+    slice-write-schedule
+    mul-schedule-2
+    add-schedule
+    slice-write-schedule-2
+    same-length
+    returns)

@@ -1,0 +1,35 @@
+-- `table_part` meets its contract: a size is at most 64, and 64 · 68 is 4,352.
+-- Assumes nothing.
+use mathlib.Core.Path.{_∙_, sym}
+use Prim.Native.Nat.{ℕ, _+_, _*_, _≤_}
+use native.Mathlib.Nat.{mul-le-mul}
+use native.Mathlib.Omega.{arith}
+use borrow.Author.Tests.{not-false}
+use Rattle.station.specs.Table.{tableLength}
+use Rattle.station.proofs.Refusals.{size-bounds}
+use borrow.Author.Needs.{needs}
+use Rattle.watch.proofs.table_part.Statement.{statement}
+use Rattle.watch.proofs.table_part.Tie as tie
+
+table-within : (n : ℕ) → n ≤ 64 → tableLength n ≤ 4352
+unfolding tableLength
+table-within n h = let e : n + 4 ≤ 68 = omega arith in mul-le-mul h e
+
+is-size-requires : tie.Need-is-size-requires
+is-size-requires c κs = search needs
+
+returns : tie.Need-returns
+returns c = search needs
+
+cast-table-length : tie.Need-cast-table-length
+cast-table-length c = omega (arith, size-bounds _ (sym (c .before .is-size .ensures) ∙ not-false _ (c .if1 .left)))
+
+table-length-requires : tie.Need-table-length-requires
+table-length-requires c κs = search needs
+
+returns-2 : tie.Need-returns-2
+returns-2 c = let h = size-bounds _ (sym (c .before .before .is-size .ensures) ∙ not-false _ (c .before .if1 .left)) in rw (c .table-length .ensures) (table-within _ (h .1))
+
+pub table-part-spec : {M : Type 1} → statement M
+table-part-spec =
+    tie.close (tie.spec is-size-requires returns cast-table-length table-length-requires returns-2)

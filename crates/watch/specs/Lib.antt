@@ -1,0 +1,2 @@
+-- What the contracts of `watch` cite.
+pub mod Input

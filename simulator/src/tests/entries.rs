@@ -1,0 +1,360 @@
+//! What an entry does, and the refusals of a run.
+
+use super::{answer, finish, fresh, head, place, row_bytes, run_with, set, suspect, UNWRITTEN};
+use crate::{check_table, run};
+
+const MOST: u32 = 4_294_967_295;
+
+/// Runs and checks that the run is refused at its start and changes nothing.
+fn refused_at_start(n: usize, table: &[u8], schedule: &[u8], sheet: usize, number: u8) {
+    let mut after = table.to_vec();
+    let mut sheet = vec![UNWRITTEN; sheet];
+    let given = run(n, &mut after, (7, 8), schedule, &mut sheet);
+    assert_eq!(given, answer(number, 0, 7, 8));
+    assert_eq!(after, table);
+    assert!(sheet.iter().all(|byte| *byte == UNWRITTEN));
+}
+
+/// Runs one entry and checks that it is refused and changes nothing.
+fn refused_entry(table: &[u8], tally: (u32, u32), entry: [u8; 2], number: u8) {
+    let mut after = table.to_vec();
+    let (given, sheet) = run_with(4, &mut after, tally, &entry);
+    assert_eq!(given, answer(number, 0, tally.0, tally.1));
+    assert_eq!(after, table);
+    assert_eq!(sheet, [UNWRITTEN; 4]);
+}
+
+#[test]
+fn example_of_4_stations() {
+    let mut table = fresh(4);
+    let (given, sheet) = run_with(4, &mut table, (0, 0), &[2, 0, 1, 0, 1, 0, 1, 1]);
+    assert_eq!(given, answer(0, 4, 0, 4));
+    assert_eq!(sheet, [0, 1, 3, 0, 0, 2, 1, 0, 0, 3, 1, 0, 1, 0, 2, 2]);
+    let expected = [
+        [0, 4, 0, 3, 0, 1, 0, 0],
+        [2, 2, 0, 1, 0, 0, 0, 0],
+        [0, 1, 0, 0, 0, 1, 0, 0],
+        [0, 1, 0, 0, 0, 1, 0, 0],
+    ];
+    assert_eq!(table, expected.concat());
+}
+
+#[test]
+fn due_tests_are_not_fixed_at_the_start_of_a_pass() {
+    let mut table = fresh(4);
+    let (_, sheet) = run_with(4, &mut table, (0, 0), &[2, 0, 1, 0, 1, 0]);
+    assert_eq!(sheet[8..], [0, 3, 1, 0]);
+}
+
+#[test]
+fn row_is_handed_both_ways() {
+    let mut table = fresh(4);
+    run_with(4, &mut table, (0, 0), &[2, 0, 1, 0]);
+    assert_eq!(row_bytes(4, &table, 2), [0, 1, 0, 0]);
+    let mut table = fresh(4);
+    suspect(4, &mut table, 2, 3);
+    set(4, &mut table, 0, 1, 2);
+    run_with(4, &mut table, (0, 0), &[1, 0]);
+    assert_eq!(row_bytes(4, &table, 0), [0, 0, 0, 1]);
+}
+
+#[test]
+fn late_reply_reaches_nobody() {
+    let mut table = fresh(4);
+    suspect(4, &mut table, 0, 3);
+    suspect(4, &mut table, 1, 2);
+    let (_, sheet) = run_with(4, &mut table, (0, 0), &[2, 0]);
+    assert_eq!(sheet, [0, 1, 3, 0]);
+    assert_eq!(row_bytes(4, &table, 0), [0, 1, 0, 1]);
+    assert_eq!(row_bytes(4, &table, 1), [0, 0, 1, 0]);
+}
+
+#[test]
+fn late_reply_does_not_tell() {
+    let mut table = fresh(4);
+    suspect(4, &mut table, 1, 0);
+    let (_, sheet) = run_with(4, &mut table, (0, 0), &[2, 0]);
+    assert_eq!(sheet, [0, 1, 3, 0]);
+}
+
+#[test]
+fn told_station_leaves_and_no_row_changes() {
+    let mut table = fresh(4);
+    suspect(4, &mut table, 1, 0);
+    suspect(4, &mut table, 1, 2);
+    suspect(4, &mut table, 0, 3);
+    let (given, sheet) = run_with(4, &mut table, (0, 0), &[1, 0]);
+    assert_eq!(given, answer(0, 1, 0, 1));
+    assert_eq!(sheet, [0, 1, 2, 2]);
+    assert_eq!(head(4, &table, 0), [2, 2, 0, 1]);
+    assert_eq!(row_bytes(4, &table, 0), [0, 0, 0, 1]);
+    assert_eq!(row_bytes(4, &table, 1), [1, 0, 1, 0]);
+}
+
+#[test]
+fn told_station_that_suspects_all_others_has_status_2() {
+    let mut table = fresh(2);
+    suspect(2, &mut table, 0, 1);
+    suspect(2, &mut table, 1, 0);
+    let (given, sheet) = run_with(2, &mut table, (0, 0), &[1, 0]);
+    assert_eq!(given, answer(0, 1, 0, 1));
+    assert_eq!(sheet, [0, 1, 2, 2]);
+    assert_eq!(table, [2, 2, 0, 1, 0, 1, 0, 1, 0, 0, 1, 0]);
+}
+
+#[test]
+fn only_the_tester_looks_for_itself() {
+    let mut table = fresh(4);
+    suspect(4, &mut table, 0, 1);
+    let (_, sheet) = run_with(4, &mut table, (0, 0), &[1, 0]);
+    assert_eq!(sheet, [0, 1, 1, 0]);
+    assert_eq!(head(4, &table, 1), [0, 1, 0, 0]);
+    assert_eq!(row_bytes(4, &table, 0), [0, 1, 0, 0]);
+    assert_eq!(row_bytes(4, &table, 1), [0, 0, 0, 0]);
+}
+
+#[test]
+fn status_of_the_tested_decides_not_the_row() {
+    for status in 1..4 {
+        for kind in 1..3 {
+            let mut table = fresh(4);
+            set(4, &mut table, 1, 0, status);
+            suspect(4, &mut table, 1, 0);
+            let (_, sheet) = run_with(4, &mut table, (0, 0), &[kind, 0]);
+            assert_eq!(sheet, [0, 1, 3, 0]);
+            assert_eq!(row_bytes(4, &table, 0), [0, 1, 0, 0]);
+            assert_eq!(row_bytes(4, &table, 1), [1, 0, 0, 0]);
+        }
+    }
+}
+
+#[test]
+fn alone_after_no_reply() {
+    let mut table = fresh(2);
+    let (given, sheet) = run_with(2, &mut table, (0, 0), &[2, 0]);
+    assert_eq!(given, answer(0, 1, 0, 1));
+    assert_eq!(sheet, [0, 1, 3, 3]);
+    assert_eq!(table, [3, 2, 0, 1, 0, 1, 0, 1, 0, 0, 0, 0]);
+}
+
+#[test]
+fn alone_after_an_exchange() {
+    let mut table = fresh(4);
+    suspect(4, &mut table, 0, 1);
+    suspect(4, &mut table, 1, 2);
+    suspect(4, &mut table, 1, 3);
+    let (_, sheet) = run_with(4, &mut table, (0, 0), &[1, 0]);
+    assert_eq!(sheet, [0, 1, 1, 3]);
+    assert_eq!(row_bytes(4, &table, 0), [0, 1, 1, 1]);
+    assert_eq!(row_bytes(4, &table, 1), [0, 0, 1, 1]);
+}
+
+#[test]
+fn tested_station_does_not_leave_alone() {
+    let mut table = fresh(4);
+    suspect(4, &mut table, 0, 2);
+    suspect(4, &mut table, 0, 3);
+    suspect(4, &mut table, 1, 2);
+    run_with(4, &mut table, (0, 0), &[1, 0]);
+    assert_eq!(head(4, &table, 1)[0], 0);
+    assert_eq!(row_bytes(4, &table, 1), [0, 0, 1, 1]);
+}
+
+#[test]
+fn no_test_does_not_look_for_alone() {
+    let mut table = fresh(2);
+    suspect(2, &mut table, 0, 1);
+    set(2, &mut table, 0, 1, 2);
+    let (given, sheet) = run_with(2, &mut table, (0, 0), &[1, 0]);
+    assert_eq!(given, answer(0, 1, 0, 0));
+    assert_eq!(sheet, [0, 255, 0, 0]);
+    assert_eq!(head(2, &table, 0), [0, 2, 1, 0]);
+}
+
+#[test]
+fn turn_without_a_test_finishes_the_pass() {
+    for kind in 1..3 {
+        let mut table = fresh(8);
+        set(8, &mut table, 0, 1, 5);
+        let (given, sheet) = run_with(8, &mut table, (0, 0), &[kind, 0]);
+        assert_eq!(given, answer(0, 1, 0, 0));
+        assert_eq!(sheet, [0, 255, 0, 0]);
+        assert_eq!(head(8, &table, 0), [0, 8, 1, 0]);
+    }
+}
+
+#[test]
+fn test_of_the_last_distance_does_not_finish_the_pass() {
+    let mut table = fresh(2);
+    run_with(2, &mut table, (0, 0), &[1, 0]);
+    assert_eq!(head(2, &table, 0), [0, 2, 0, 1]);
+}
+
+#[test]
+fn crash_changes_only_the_status() {
+    let mut table = fresh(4);
+    set(4, &mut table, 2, 1, 3);
+    set(4, &mut table, 2, 3, 2);
+    suspect(4, &mut table, 2, 1);
+    let mut expected = table.clone();
+    expected[place(4, 2, 0)] = 1;
+    let (given, sheet) = run_with(4, &mut table, (5, 6), &[3, 2]);
+    assert_eq!(given, answer(0, 1, 5, 6));
+    assert_eq!(sheet, [2, 255, 4, 1]);
+    assert_eq!(table, expected);
+}
+
+#[test]
+fn empty_schedule_is_accepted_and_changes_nothing() {
+    let mut table = fresh(4);
+    suspect(4, &mut table, 2, 1);
+    let before = table.clone();
+    assert_eq!(
+        run(4, &mut table, (MOST, MOST), &[], &mut []),
+        answer(0, 0, MOST, MOST)
+    );
+    assert_eq!(table, before);
+}
+
+#[test]
+fn refusals_at_the_start() {
+    let table = fresh(4);
+    refused_at_start(3, &table, &[1, 0], 4, 1);
+    refused_at_start(128, &table, &[1, 0], 4, 1);
+    refused_at_start(4, &table[1..], &[1, 0], 4, 2);
+    refused_at_start(4, &table, &[1, 0, 1], 6, 5);
+    refused_at_start(4, &table, &[1], 2, 5);
+    refused_at_start(4, &table, &[1, 0], 3, 6);
+    refused_at_start(4, &table, &[1, 0], 5, 6);
+    refused_at_start(4, &table, &[1, 0], 0, 6);
+    refused_at_start(4, &table, &[], 1, 6);
+}
+
+#[test]
+fn refusals_at_the_start_in_order() {
+    let mut table = fresh(4);
+    refused_at_start(4, &table, &[9, 9, 9], 7, 5);
+    refused_at_start(4, &table, &[9, 9], 7, 6);
+    for station in 0..4 {
+        finish(4, &mut table, station);
+    }
+    refused_at_start(4, &table, &[9, 9, 9], 7, 4);
+    set(4, &mut table, 0, 1, 0);
+    refused_at_start(4, &table, &[9, 9, 9], 7, 3);
+    refused_at_start(4, &table[1..], &[9, 9, 9], 7, 2);
+    refused_at_start(5, &table[1..], &[9, 9, 9], 7, 1);
+}
+
+#[test]
+fn damaged_bytes_are_refused_before_decoding() {
+    for byte in 0..8 {
+        let mut table = fresh(4);
+        set(4, &mut table, 1, byte, 255);
+        refused_at_start(4, &table, &[1, 0], 4, 3);
+    }
+    refused_at_start(4, &[255; 32], &[1, 0], 4, 3);
+    refused_at_start(4, &[0; 32], &[1, 0], 4, 3);
+}
+
+#[test]
+fn refused_kinds() {
+    let table = fresh(4);
+    for kind in (0..=255).filter(|kind| !(1..=3).contains(kind)) {
+        refused_entry(&table, (0, 0), [kind, 0], 8);
+    }
+}
+
+#[test]
+fn refused_stations() {
+    let table = fresh(4);
+    for kind in 1..4 {
+        refused_entry(&table, (0, 0), [kind, 4], 9);
+        refused_entry(&table, (0, 0), [kind, 255], 9);
+        let (given, _) = run_with(4, &mut table.clone(), (0, 0), &[kind, 3]);
+        assert_eq!(given.number, 0);
+    }
+}
+
+#[test]
+fn refused_when_not_live() {
+    for status in 1..4 {
+        let mut table = fresh(4);
+        set(4, &mut table, 2, 0, status);
+        for kind in 1..4 {
+            refused_entry(&table, (0, 0), [kind, 2], 10);
+        }
+    }
+}
+
+#[test]
+fn refused_when_the_pass_is_finished() {
+    let mut table = fresh(4);
+    finish(4, &mut table, 2);
+    refused_entry(&table, (0, 0), [1, 2], 11);
+    refused_entry(&table, (0, 0), [2, 2], 11);
+    let (given, sheet) = run_with(4, &mut table, (0, 0), &[3, 2]);
+    assert_eq!(given, answer(0, 1, 0, 0));
+    assert_eq!(sheet, [2, 255, 4, 1]);
+    assert_eq!(head(4, &table, 2), [1, 4, 1, 0]);
+}
+
+#[test]
+fn entry_refusals_in_order() {
+    let mut table = fresh(4);
+    finish(4, &mut table, 2);
+    set(4, &mut table, 2, 0, 1);
+    refused_entry(&table, (MOST, 0), [0, 4], 7);
+    refused_entry(&table, (0, MOST), [0, 4], 7);
+    refused_entry(&table, (0, 0), [0, 4], 8);
+    refused_entry(&table, (0, 0), [1, 4], 9);
+    refused_entry(&table, (0, 0), [1, 2], 10);
+}
+
+#[test]
+fn full_tally_refuses_a_crash_too() {
+    let table = fresh(4);
+    refused_entry(&table, (MOST, 0), [3, 0], 7);
+    refused_entry(&table, (0, MOST), [3, 0], 7);
+}
+
+#[test]
+fn tests_one_below_the_limit() {
+    let mut table = fresh(4);
+    let (given, sheet) = run_with(4, &mut table, (0, MOST - 1), &[1, 0, 1, 0]);
+    assert_eq!(given, answer(7, 1, 0, MOST));
+    assert_eq!(
+        sheet,
+        [0, 1, 1, 0, UNWRITTEN, UNWRITTEN, UNWRITTEN, UNWRITTEN]
+    );
+    assert_eq!(head(4, &table, 0), [0, 2, 0, 1]);
+}
+
+#[test]
+fn turns_without_a_test_leave_the_tests_below_the_limit() {
+    let mut table = fresh(4);
+    set(4, &mut table, 0, 1, 4);
+    let (given, _) = run_with(4, &mut table, (0, MOST - 1), &[1, 0, 3, 1, 1, 2, 1, 2]);
+    assert_eq!(given, answer(7, 3, 0, MOST));
+}
+
+#[test]
+fn rounds_one_below_the_limit() {
+    let mut table = fresh(2);
+    let schedule = [1, 0, 1, 0, 1, 1, 1, 1, 1, 0];
+    let (given, _) = run_with(2, &mut table, (MOST - 1, 0), &schedule);
+    assert_eq!(given, answer(7, 4, MOST, 2));
+    assert_eq!(table, fresh(2));
+}
+
+#[test]
+fn stopped_run_keeps_only_the_earlier_entries() {
+    let mut whole = fresh(4);
+    let (given, sheet) = run_with(4, &mut whole, (1, 2), &[2, 0, 1, 0, 1, 4, 1, 0]);
+    let mut part = fresh(4);
+    let (_, first) = run_with(4, &mut part, (1, 2), &[2, 0, 1, 0]);
+    assert_eq!(given, answer(9, 2, 1, 4));
+    assert_eq!(whole, part);
+    assert_eq!(sheet[..8], first);
+    assert_eq!(sheet[8..], [UNWRITTEN; 8]);
+    assert_eq!(check_table(4, &whole), 0);
+}

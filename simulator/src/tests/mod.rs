@@ -1,0 +1,96 @@
+//! Tests of the simulator against document 01 and the papers.
+
+mod due;
+mod entries;
+mod groups;
+mod laws;
+mod program;
+mod questions;
+mod rounds;
+mod tables;
+
+use crate::{fresh_table, run, Answer};
+
+/// All sizes with their d.
+pub const SIZES: [(usize, u8); 6] = [(2, 1), (4, 2), (8, 3), (16, 4), (32, 5), (64, 6)];
+
+/// The value of buffer bytes that nobody has written.
+pub const UNWRITTEN: u8 = 170;
+
+/// A fresh table of size n.
+pub fn fresh(n: usize) -> Vec<u8> {
+    let mut table = vec![UNWRITTEN; n * (n + 4)];
+    assert_eq!(fresh_table(n, &mut table), 0);
+    table
+}
+
+/// The place in the table of a byte of a station's line.
+pub fn place(n: usize, station: usize, byte: usize) -> usize {
+    station * (n + 4) + byte
+}
+
+/// Sets one byte of a station's line.
+pub fn set(n: usize, table: &mut [u8], station: usize, byte: usize, value: u8) {
+    table[place(n, station, byte)] = value;
+}
+
+/// Sets the byte of a station's row about another station.
+pub fn suspect(n: usize, table: &mut [u8], station: usize, other: usize) {
+    set(n, table, station, 4 + other, 1);
+}
+
+/// Makes a line that has finished its pass.
+pub fn finish(n: usize, table: &mut [u8], station: usize) {
+    set(n, table, station, 1, n as u8);
+    set(n, table, station, 2, 1);
+}
+
+/// The four bytes before a station's row.
+pub fn head(n: usize, table: &[u8], station: usize) -> &[u8] {
+    &table[place(n, station, 0)..place(n, station, 4)]
+}
+
+/// The bytes of a station's row.
+pub fn row_bytes(n: usize, table: &[u8], station: usize) -> &[u8] {
+    &table[place(n, station, 4)..place(n, station + 1, 0)]
+}
+
+/// Runs a schedule on a sheet of the right length; gives the answer and the sheet.
+pub fn run_with(
+    n: usize,
+    table: &mut [u8],
+    tally: (u32, u32),
+    schedule: &[u8],
+) -> (Answer, Vec<u8>) {
+    let mut sheet = vec![UNWRITTEN; 2 * schedule.len()];
+    let answer = run(n, table, tally, schedule, &mut sheet);
+    (answer, sheet)
+}
+
+/// An answer with all its figures.
+pub fn answer(number: u8, taken: usize, rounds: u32, tests: u32) -> Answer {
+    Answer {
+        number,
+        taken,
+        rounds,
+        tests,
+    }
+}
+
+/// Numbers for tests that go through many cases.
+pub struct Numbers(u64);
+
+impl Numbers {
+    pub fn new(seed: u64) -> Numbers {
+        Numbers(seed.wrapping_mul(2).wrapping_add(1))
+    }
+
+    /// A number below the limit.
+    pub fn below(&mut self, limit: usize) -> usize {
+        self.0 = self
+            .0
+            .wrapping_mul(6364136223846793005)
+            .wrapping_add(1442695040888963407);
+        (self.0 >> 33) as usize % limit
+    }
+}

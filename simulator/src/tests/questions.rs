@@ -1,0 +1,177 @@
+//! Refusals of the questions, at their boundaries and in their order.
+
+use super::{finish, fresh, place, set, suspect, SIZES, UNWRITTEN};
+use crate::{assignment, check_table, fresh_table, group_list, row, row_number};
+
+/// Asks for a group into a list of this length. A refusal writes nothing.
+fn group_number(n: usize, station: u8, level: u8, length: usize) -> u8 {
+    let mut list = vec![UNWRITTEN; length];
+    let number = group_list(n, station, level, &mut list);
+    if number != 0 {
+        assert!(list.iter().all(|byte| *byte == UNWRITTEN));
+    }
+    number
+}
+
+/// Asks for an assignment into a list of this length.
+/// A refusal writes nothing and counts 0.
+fn assignment_number(n: usize, table: &[u8], station: u8, length: usize) -> u8 {
+    let mut list = vec![UNWRITTEN; length];
+    let (number, count) = assignment(n, table, station, &mut list);
+    if number != 0 {
+        assert_eq!(count, 0);
+        assert!(list.iter().all(|byte| *byte == UNWRITTEN));
+    }
+    number
+}
+
+#[test]
+fn fresh_table_has_live_lines_with_next_distance_1() {
+    for (n, _) in SIZES {
+        let table = fresh(n);
+        for line in table.chunks(n + 4) {
+            assert_eq!(line[..2], [0, 1]);
+            assert!(line[2..].iter().all(|byte| *byte == 0));
+        }
+    }
+}
+
+#[test]
+fn fresh_table_refuses_sizes() {
+    let accepted: Vec<usize> = (0..=1000)
+        .filter(|n| fresh_table(*n, &mut vec![0; n * (n + 4)]) == 0)
+        .collect();
+    assert_eq!(accepted, [2, 4, 8, 16, 32, 64]);
+    assert_eq!(fresh_table(usize::MAX, &mut []), 1);
+    assert_eq!(fresh_table(258, &mut [0; 12]), 1);
+}
+
+#[test]
+fn table_lengths() {
+    for (n, length) in [(2, 12), (4, 32), (8, 96), (16, 320), (32, 1152), (64, 4352)] {
+        assert_eq!(fresh_table(n, &mut vec![0; length - 1]), 2);
+        assert_eq!(fresh_table(n, &mut vec![0; length]), 0);
+        assert_eq!(fresh_table(n, &mut vec![0; length + 1]), 2);
+        assert_eq!(check_table(n, &vec![0; length - 1]), 2);
+        assert_eq!(check_table(n, &vec![0; length + 1]), 2);
+    }
+}
+
+#[test]
+fn refused_fresh_table_writes_nothing() {
+    for (n, length) in [(3, 21), (128, 16896), (2, 11), (2, 13), (2, 0)] {
+        let mut table = vec![UNWRITTEN; length];
+        assert_ne!(fresh_table(n, &mut table), 0);
+        assert_eq!(table, vec![UNWRITTEN; length]);
+    }
+}
+
+#[test]
+fn group_list_boundaries() {
+    for (n, d) in SIZES {
+        assert_eq!(group_number(n, n as u8 - 1, d, n / 2), 0);
+        assert_eq!(group_number(n, n as u8, d, n / 2), 9);
+        assert_eq!(group_number(n, 255, d, n / 2), 9);
+        assert_eq!(group_number(n, 0, 0, n / 2), 12);
+        assert_eq!(group_number(n, 0, d + 1, n), 12);
+        assert_eq!(group_number(n, 0, 255, n), 12);
+        assert_eq!(group_number(n, 0, d, n / 2 - 1), 13);
+        assert_eq!(group_number(n, 0, d, n / 2 + 1), 13);
+        assert_eq!(group_number(n, 0, 1, 0), 13);
+    }
+}
+
+#[test]
+fn group_list_refuses_in_order() {
+    assert_eq!(group_number(3, 9, 9, 9), 1);
+    assert_eq!(group_number(128, 0, 1, 1), 1);
+    assert_eq!(group_number(8, 8, 0, 9), 9);
+    assert_eq!(group_number(8, 7, 0, 9), 12);
+    assert_eq!(group_number(8, 7, 4, 8), 12);
+    assert_eq!(group_number(8, 7, 3, 8), 13);
+}
+
+#[test]
+fn assignment_boundaries() {
+    for (n, _) in SIZES {
+        let table = fresh(n);
+        assert_eq!(assignment_number(n, &table, n as u8 - 1, n - 1), 0);
+        assert_eq!(assignment_number(n, &table, n as u8, n - 1), 9);
+        assert_eq!(assignment_number(n, &table, 0, n - 2), 13);
+        assert_eq!(assignment_number(n, &table, 0, n), 13);
+    }
+}
+
+#[test]
+fn assignment_refuses_in_order() {
+    let mut table = fresh(4);
+    assert_eq!(assignment_number(3, &table[1..], 9, 9), 1);
+    assert_eq!(assignment_number(4, &table[1..], 9, 9), 2);
+    set(4, &mut table, 1, 0, 3);
+    assert_eq!(assignment_number(4, &table, 4, 9), 9);
+    assert_eq!(assignment_number(4, &table, 1, 9), 10);
+    assert_eq!(assignment_number(4, &table, 0, 9), 13);
+    for station in 0..4 {
+        finish(4, &mut table, station);
+    }
+    assert_eq!(assignment_number(4, &table, 4, 9), 4);
+    set(4, &mut table, 3, 0, 4);
+    assert_eq!(assignment_number(4, &table, 4, 9), 3);
+}
+
+#[test]
+fn assignment_of_a_finished_station_is_given() {
+    let mut table = fresh(4);
+    finish(4, &mut table, 1);
+    assert_eq!(assignment_number(4, &table, 1, 3), 0);
+}
+
+#[test]
+fn row_is_the_very_part_of_the_table() {
+    for (n, _) in SIZES {
+        let table = fresh(n);
+        for station in 0..n {
+            let part = row(n, &table, station as u8);
+            assert_eq!(part.len(), n);
+            assert_eq!(part.as_ptr(), table[place(n, station, 4)..].as_ptr());
+            assert_eq!(row_number(n, &table, station as u8), 0);
+        }
+    }
+}
+
+#[test]
+fn row_shows_the_suspected_stations() {
+    let mut table = fresh(4);
+    suspect(4, &mut table, 2, 0);
+    suspect(4, &mut table, 2, 3);
+    assert_eq!(row(4, &table, 2), [1, 0, 0, 1]);
+}
+
+#[test]
+fn row_of_a_station_that_is_not_live_is_given() {
+    for status in 0..4 {
+        let mut table = fresh(4);
+        set(4, &mut table, 2, 0, status);
+        assert_eq!(row_number(4, &table, 2), 0);
+        assert_eq!(row(4, &table, 2).len(), 4);
+    }
+}
+
+#[test]
+fn refused_row_is_empty() {
+    let refused = |n, table: &[u8], station, number| {
+        assert_eq!(row_number(n, table, station), number);
+        assert!(row(n, table, station).is_empty());
+    };
+    let mut table = fresh(4);
+    refused(3, &table, 4, 1);
+    refused(4, &table[1..], 4, 2);
+    refused(4, &table, 4, 9);
+    refused(4, &table, 255, 9);
+    for station in 0..4 {
+        finish(4, &mut table, station);
+    }
+    refused(4, &table, 4, 4);
+    set(4, &mut table, 0, 3, 4);
+    refused(4, &table, 4, 3);
+}

@@ -1,0 +1,164 @@
+//! Rounds: how they close, and the counts of tests in a round.
+
+use super::{answer, finish, fresh, head, run_with, set, suspect, SIZES};
+use crate::check_table;
+
+/// A table at the start of a round in which each of these stations is
+/// crashed and suspected by all others.
+fn with_dead(n: usize, dead: &[usize]) -> Vec<u8> {
+    let mut table = fresh(n);
+    for k in dead {
+        set(n, &mut table, *k, 0, 1);
+        for i in (0..n).filter(|i| i != k) {
+            suspect(n, &mut table, i, *k);
+        }
+    }
+    table
+}
+
+/// Gives every live station turns until its pass is finished, in station
+/// order. Gives the tests of the round.
+fn tests_of_a_round(n: usize, dead: &[usize]) -> u32 {
+    let mut table = with_dead(n, dead);
+    let mut tally = (0, 0);
+    for i in (0..n).filter(|i| !dead.contains(i)) {
+        let mut outcome = 255;
+        while outcome != 0 {
+            let (given, sheet) = run_with(n, &mut table, tally, &[1, i as u8]);
+            assert_eq!(given.number, 0);
+            tally = (given.rounds, given.tests);
+            outcome = sheet[2];
+        }
+    }
+    assert_eq!(tally.0, 1);
+    assert_eq!(table, with_dead(n, dead));
+    tally.1
+}
+
+/// The pairs of a station and a level whose group is not all dead.
+fn pairs(n: usize, d: u8, dead: &[usize]) -> u32 {
+    let living = |i: usize, s: u8| {
+        let half = 1 << (s - 1);
+        (half..2 * half).any(|m| !dead.contains(&(i ^ m)))
+    };
+    let count = |i| (1..=d).filter(|s| living(i, *s)).count() as u32;
+    (0..n).map(count).sum()
+}
+
+#[test]
+fn counts_of_8_stations() {
+    assert_eq!(tests_of_a_round(8, &[]), 24);
+    assert_eq!(tests_of_a_round(8, &[4]), 23);
+    assert_eq!(tests_of_a_round(8, &[4, 5]), 20);
+}
+
+#[test]
+fn pairs_of_8_stations() {
+    assert_eq!(pairs(8, 3, &[]), 24);
+    assert_eq!(pairs(8, 3, &[4]), 23);
+    assert_eq!(pairs(8, 3, &[4, 5]), 20);
+}
+
+#[test]
+fn count_of_64_stations() {
+    assert_eq!(tests_of_a_round(64, &[]), 384);
+}
+
+#[test]
+fn count_of_every_size() {
+    for (n, d) in SIZES {
+        assert_eq!(tests_of_a_round(n, &[]), n as u32 * u32::from(d));
+    }
+}
+
+#[test]
+fn counts_are_the_pairs_for_every_set_of_dead_of_8_stations() {
+    for set in 0..256_usize {
+        let dead: Vec<usize> = (0..8).filter(|k| set >> k & 1 == 1).collect();
+        if dead.len() < 7 {
+            assert_eq!(tests_of_a_round(8, &dead), pairs(8, 3, &dead));
+        }
+    }
+}
+
+#[test]
+fn round_closes_with_the_last_pass() {
+    let mut table = fresh(4);
+    for station in 0..3 {
+        finish(4, &mut table, station);
+        set(4, &mut table, station, 3, 2);
+    }
+    set(4, &mut table, 3, 1, 4);
+    set(4, &mut table, 3, 3, 2);
+    let (given, sheet) = run_with(4, &mut table, (3, 9), &[1, 3]);
+    assert_eq!(given, answer(0, 1, 4, 9));
+    assert_eq!(sheet, [3, 255, 0, 0]);
+    assert_eq!(table, fresh(4));
+}
+
+#[test]
+fn round_closes_with_a_crash() {
+    let mut table = fresh(4);
+    for station in 0..3 {
+        finish(4, &mut table, station);
+    }
+    set(4, &mut table, 3, 1, 3);
+    set(4, &mut table, 3, 3, 2);
+    let (given, _) = run_with(4, &mut table, (0, 0), &[3, 3]);
+    assert_eq!(given, answer(0, 1, 1, 0));
+    for station in 0..4 {
+        let status = u8::from(station == 3);
+        assert_eq!(head(4, &table, station), [status, 1, 0, 0]);
+    }
+}
+
+#[test]
+fn round_closes_when_a_told_station_leaves() {
+    let mut table = fresh(4);
+    for station in 1..4 {
+        finish(4, &mut table, station);
+    }
+    suspect(4, &mut table, 1, 0);
+    let (given, sheet) = run_with(4, &mut table, (0, 0), &[1, 0]);
+    assert_eq!(given, answer(0, 1, 1, 1));
+    assert_eq!(sheet, [0, 1, 2, 2]);
+    assert_eq!(head(4, &table, 0), [2, 1, 0, 0]);
+}
+
+#[test]
+fn round_closes_when_a_station_leaves_alone() {
+    let mut table = fresh(2);
+    finish(2, &mut table, 1);
+    let (given, sheet) = run_with(2, &mut table, (0, 0), &[2, 0]);
+    assert_eq!(given, answer(0, 1, 1, 1));
+    assert_eq!(sheet, [0, 1, 3, 3]);
+    assert_eq!(head(2, &table, 1), [0, 1, 0, 0]);
+}
+
+#[test]
+fn round_does_not_close_without_a_live_station() {
+    let mut table = fresh(2);
+    set(2, &mut table, 1, 0, 1);
+    finish(2, &mut table, 1);
+    let (given, _) = run_with(2, &mut table, (0, 0), &[3, 0]);
+    assert_eq!(given, answer(0, 1, 0, 0));
+    assert_eq!(head(2, &table, 1), [1, 2, 1, 0]);
+    assert_eq!(check_table(2, &table), 0);
+}
+
+#[test]
+fn finished_lines_that_are_not_live_begin_the_round_too() {
+    let mut table = fresh(4);
+    for station in 0..4 {
+        finish(4, &mut table, station);
+    }
+    for station in 1..4 {
+        set(4, &mut table, station, 0, station as u8);
+    }
+    set(4, &mut table, 0, 2, 0);
+    let (given, _) = run_with(4, &mut table, (0, 0), &[1, 0]);
+    assert_eq!(given, answer(0, 1, 1, 0));
+    for station in 0..4 {
+        assert_eq!(head(4, &table, station), [station as u8, 1, 0, 0]);
+    }
+}

@@ -1,0 +1,126 @@
+//! The line rules and refusal 4, byte by byte.
+
+use super::{finish, fresh, place, set, SIZES};
+use crate::check_table;
+
+/// The values of one byte with which the table is accepted.
+fn accepted(n: usize, table: &[u8], station: usize, byte: usize) -> Vec<u8> {
+    let mut table = table.to_vec();
+    let mut values = Vec::new();
+    for value in 0..=255 {
+        table[place(n, station, byte)] = value;
+        match check_table(n, &table) {
+            0 => values.push(value),
+            number => assert_eq!(number, 3),
+        }
+    }
+    values
+}
+
+fn up_to(last: usize) -> Vec<u8> {
+    (0..=last as u8).collect()
+}
+
+#[test]
+fn bytes_of_a_fresh_line() {
+    for (n, _) in SIZES {
+        let table = fresh(n);
+        for station in [0, n / 2, n - 1] {
+            let next: Vec<u8> = (1..=n as u8).collect();
+            assert_eq!(accepted(n, &table, station, 0), up_to(3));
+            assert_eq!(accepted(n, &table, station, 1), next);
+            assert_eq!(accepted(n, &table, station, 2), [0]);
+            assert_eq!(accepted(n, &table, station, 3), [0]);
+        }
+    }
+}
+
+#[test]
+fn bytes_of_a_row() {
+    for (n, _) in &SIZES[..4] {
+        let table = fresh(*n);
+        for station in 0..*n {
+            for k in 0..*n {
+                let values = accepted(*n, &table, station, 4 + k);
+                assert_eq!(values, up_to(usize::from(k != station)));
+            }
+        }
+    }
+}
+
+#[test]
+fn tests_are_at_most_next_distance_less_1() {
+    for next in 1..=8 {
+        let mut table = fresh(8);
+        set(8, &mut table, 5, 1, next as u8);
+        assert_eq!(accepted(8, &table, 5, 3), up_to(next - 1));
+    }
+}
+
+#[test]
+fn finished_line_has_next_distance_n() {
+    for (n, _) in SIZES {
+        let mut table = fresh(n);
+        finish(n, &mut table, 1);
+        assert_eq!(accepted(n, &table, 1, 1), [n as u8]);
+        assert_eq!(accepted(n, &table, 1, 2), [0, 1]);
+        assert_eq!(accepted(n, &table, 1, 3), up_to(n - 1));
+    }
+}
+
+#[test]
+fn line_rules_hold_for_lines_that_are_not_live() {
+    for status in 1..4 {
+        let mut table = fresh(4);
+        set(4, &mut table, 3, 0, status);
+        assert_eq!(accepted(4, &table, 3, 1), [1, 2, 3, 4]);
+        assert_eq!(accepted(4, &table, 3, 2), [0]);
+        assert_eq!(accepted(4, &table, 3, 3), [0]);
+        assert_eq!(accepted(4, &table, 3, 4 + 3), [0]);
+        assert_eq!(accepted(4, &table, 3, 4), [0, 1]);
+    }
+}
+
+#[test]
+fn every_live_one_finished_is_refused() {
+    let mut table = fresh(4);
+    for station in 0..3 {
+        finish(4, &mut table, station);
+        assert_eq!(check_table(4, &table), 0);
+    }
+    finish(4, &mut table, 3);
+    assert_eq!(check_table(4, &table), 4);
+}
+
+#[test]
+fn one_live_finished_station_is_refused() {
+    let mut table = fresh(4);
+    for station in 1..4 {
+        set(4, &mut table, station, 0, station as u8);
+    }
+    assert_eq!(check_table(4, &table), 0);
+    finish(4, &mut table, 0);
+    assert_eq!(check_table(4, &table), 4);
+}
+
+#[test]
+fn no_live_station_is_accepted() {
+    let mut table = fresh(4);
+    for station in 0..4 {
+        set(4, &mut table, station, 0, 1);
+        finish(4, &mut table, station);
+    }
+    assert_eq!(check_table(4, &table), 0);
+}
+
+#[test]
+fn refusals_in_order() {
+    let mut table = fresh(2);
+    finish(2, &mut table, 0);
+    finish(2, &mut table, 1);
+    assert_eq!(check_table(2, &table), 4);
+    set(2, &mut table, 1, 5, 1);
+    assert_eq!(check_table(2, &table), 3);
+    assert_eq!(check_table(2, &table[1..]), 2);
+    assert_eq!(check_table(3, &table[1..]), 1);
+}
