@@ -1,17 +1,17 @@
 -- The program's buffers decide every input: reading the first 20,490 bytes into a schedule of 8,192 bytes is reading the whole input.
 -- Assumes nothing.
-use mathlib.Core.Path.{_≡_, refl, sym, ap, _∙_}
+use mathlib.Core.Path.{_≡_, refl, _∙_}
 use mathlib.Core.Bool.{Bool, true, false, cond, not, _&&_}
 use mathlib.Core.List.{List, [], _∷_, _++_}
 use mathlib.Core.Option.{Option, none, some}
 use Prim.Native.Nat.{ℕ, zero, suc, _+_, _*_, _-_, _≤_, _<_, min}
 use native.Mathlib.Omega.{arith}
 use native.Mathlib.Decide.{decLt}
-use borrow.Author.Tests.{leb-true, lt-ltb, le-ltb}
+use borrow.Author.Tests.{leb-true, le-ltb}
 use lib.Dec.{leb, ltb, eqb}
 use lib.ListN.{length, take, drop, length-take}
-use lib.Seq.{take-take, take-nil, drop-nil}
-use Rattle.watch.specs.Input.{given, isLineFeed, lines, lineLength, digitsFrom, numberOf, sizeOf, kindOf, entryOf, Reading, readingOf, readEntries, readLines, readUpTo, readInput, readInto, roomFor}
+use lib.Seq.{take-take, take-nil}
+use Rattle.watch.specs.Input.{given, isLineFeed, lines, lineLength, digitsFrom, numberOf, sizeOf, kindOf, entryOf, Reading, readEntries, readLines, readUpTo, readInput, readInto, roomFor}
 use Rattle.watch.proofs.LineLaws.{line-within, lines-first}
 
 -- a readable line is short
@@ -74,7 +74,7 @@ long-number most l h = go (numberOf most l) (number-short most l)
   where
     go : (o : Option ℕ) → ((v : ℕ) → o ≡ some v → length l ≤ most) → o ≡ none
     go none f = refl
-    go (some v) f = let h = f v refl in absurd (omega arith)
+    go (some v) f = let g = f v refl in absurd (omega arith)
 
 long-entry : (b : Bool) (l : List ℕ) → 4 < length l → cond b (entryOf l) none ≡ none
 long-entry false l h = refl
@@ -82,7 +82,7 @@ long-entry true l h = go (entryOf l) (entry-four l)
   where
     go : (o : Option (List ℕ)) → ((e : List ℕ) → o ≡ some e → length l ≤ 4) → o ≡ none
     go none f = refl
-    go (some e) f = let h = f e refl in absurd (omega arith)
+    go (some e) f = let g = f e refl in absurd (omega arith)
 
 -- what is read after a value goes by the value
 given-same : {A : Type 0} (o : Option A) (f g : A → Reading) (r : Reading) → ((a : A) → o ≡ some a → f a ≡ g a) → given o f r ≡ given o g r
@@ -93,38 +93,48 @@ taken-entry : (b : Bool) (o : Option (List ℕ)) (e : List ℕ) → cond b o non
 taken-entry true o e p = p
 taken-entry false o e p = cc
 
--- entries: five bytes for each that there is room for, and six more
+-- the lines after k entries of an input that is cut
+module _ (room n k m : ℕ) (s : List ℕ) where
+  -- without room for one more entry
+  cut-full : (l : List ℕ) → room ≤ k → 0 < m → readEntries room n k s (lines (take m l)) ≡ readEntries room n k s (lines l)
+  unfolding readEntries
+  cut-full [] a b = rw take-nil
+  cut-full (x ∷ l) a b = go (x ∷ l) (rw length-take (omega arith)) (omega arith)
+    where
+      go : (l : List ℕ) → 0 < length (take m l) → 0 < length l → readEntries room n k s (lines (take m l)) ≡ readEntries room n k s (lines l)
+      go l p q = rw (lines-first (take m l) p, lines-first l q, le-ltb k room a)
+
+  -- with a line that leaves j bytes or more for those after it
+  cut-next : (j : ℕ) (l : List ℕ) → j + 5 ≤ m → 4 < m
+      → ((e r : List ℕ) (i : ℕ) → j ≤ i → readEntries room n (suc k) (s ++ e) (lines (take i r)) ≡ readEntries room n (suc k) (s ++ e) (lines r))
+      → readEntries room n k s (lines (take m l)) ≡ readEntries room n k s (lines l)
+  unfolding readEntries
+  cut-next j [] a b on = rw take-nil
+  cut-next j (x ∷ l) a b on = pick (x ∷ l) (omega arith) (decLt (lineLength (x ∷ l)) m)
+    where
+      pick : (l : List ℕ) → 0 < length l → Dec (lineLength l < m) → readEntries room n k s (lines (take m l)) ≡ readEntries room n k s (lines l)
+      pick l h (yes p) =
+          let w = line-within l in
+          let q : length (take (lineLength l) l) ≡ lineLength l = rw length-take (omega arith) in
+          rw (cut-lines m l h p, lines-first l h)
+          (given-same (cond (ltb k room) (entryOf (take (lineLength l) l)) none) _ _ _ (λ e t. on e _ (m - suc (lineLength l)) (omega (arith, q, entry-four (take (lineLength l) l) e (taken-entry (ltb k room) _ e t)))))
+      pick l h (no p) =
+          let w = line-within l in
+          let o : m ≤ lineLength l = omega arith in
+          let c = cut-long m l o in
+          let d = whole-long m l o in
+          rw (
+            lines-first (take m l) (rw length-take (omega arith)),
+            lines-first l h,
+            long-entry (ltb k room) (take (lineLength (take m l)) (take m l)) (omega arith),
+            long-entry (ltb k room) (take (lineLength l) l) (omega arith),
+          )
+
+-- five bytes for each entry that there is room for, and six more
 cut-entries : (f room n k m : ℕ) (s l : List ℕ) → room ≤ k + f → 5 * f + 6 ≤ m → readEntries room n k s (lines (take m l)) ≡ readEntries room n k s (lines l)
-unfolding readEntries
-cut-entries f room n k m s [] a b = rw take-nil
-cut-entries zero room n k m s (x ∷ l) a b =
-    let h : 0 < length (take m (x ∷ l)) = rw length-take (omega arith) in
-    full m (x ∷ l) h (omega arith)
-  where
-    full : (m : ℕ) (l : List ℕ) → 0 < length (take m l) → 0 < length l → readEntries room n k s (lines (take m l)) ≡ readEntries room n k s (lines l)
-    full m l p q = rw (lines-first (take m l) p, lines-first l q, le-ltb k room (omega arith))
-cut-entries (suc f) room n k m s (x ∷ l) a b =
-    pick (x ∷ l) (omega arith) (decLt (lineLength (x ∷ l)) m) (λ e r j. cut-entries f room n (suc k) j (s ++ e) r (omega arith))
-  where
-    pick : (l : List ℕ) → 0 < length l → Dec (lineLength l < m)
-        → ((e r : List ℕ) (j : ℕ) → 5 * f + 6 ≤ j → readEntries room n (suc k) (s ++ e) (lines (take j r)) ≡ readEntries room n (suc k) (s ++ e) (lines r))
-        → readEntries room n k s (lines (take m l)) ≡ readEntries room n k s (lines l)
-    pick l h (yes p) on =
-        let w = line-within l in
-        let q : length (take (lineLength l) l) ≡ lineLength l = rw length-take (omega arith) in
-        rw (cut-lines m l h p, lines-first l h)
-        (given-same _ _ _ _ (λ e t. let z = entry-four _ e (taken-entry (ltb k room) _ e t) in on e _ (m - suc (lineLength l)) (omega (arith, z, q))))
-    pick l h (no p) on =
-        let w = line-within l in
-        let o : m ≤ lineLength l = omega arith in
-        let c = cut-long m l o in
-        let d = whole-long m l o in
-        rw (
-          lines-first (take m l) (rw length-take (omega arith)),
-          lines-first l h,
-          long-entry (ltb k room) (take (lineLength (take m l)) (take m l)) (omega arith),
-          long-entry (ltb k room) (take (lineLength l) l) (omega arith),
-        )
+cut-entries zero room n k m s l a b = cut-full room n k m s l (omega arith) (omega arith)
+cut-entries (suc f) room n k m s l a b =
+    cut-next room n k m s (5 * f + 6) l (omega arith) (omega arith) (λ e r i h. cut-entries f room n (suc k) i (s ++ e) r (omega arith) h)
 
 -- the size's line takes four bytes more
 pub cut-input : (room m : ℕ) (l : List ℕ) → 5 * room + 10 ≤ m → readUpTo room (take m l) ≡ readUpTo room l
@@ -137,7 +147,7 @@ cut-input room m (x ∷ l) b = pick (x ∷ l) (omega arith) (decLt (lineLength (
         let w = line-within l in
         let q : length (take (lineLength l) l) ≡ lineLength l = rw length-take (omega arith) in
         rw (cut-lines m l h p, lines-first l h)
-        (given-same _ _ _ _ (λ n t. let z = number-short 3 _ n t in cut-entries room room n 0 (m - suc (lineLength l)) [] _ (omega arith) (omega (arith, z, q))))
+        (given-same (sizeOf (take (lineLength l) l)) _ _ _ (λ n t. cut-entries room room n 0 (m - suc (lineLength l)) [] _ (omega arith) (omega (arith, q, number-short 3 (take (lineLength l) l) n t))))
     pick l h (no p) =
         let w = line-within l in
         let o : m ≤ lineLength l = omega arith in

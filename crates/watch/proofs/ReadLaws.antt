@@ -85,6 +85,7 @@ rest-kept k s s′ s₀ e f =
 pub after-two : (l : List ℕ) → take (length l - 2) (drop 2 l) ≡ drop 2 l
 after-two l = take-all (length l - 2) (drop 2 l) (rw length-drop (omega arith))
 
+-- what the first line decides
 first-unsized : (room : ℕ) (l : List ℕ) → sizeOf (take (lineLength l) l) ≡ none → readLines room (lines l) ≡ readingOf 1 0 0 []
 unfolding readLines lines
 first-unsized room [] e = refl

@@ -12,10 +12,10 @@ use station::cells;
 use station::fresh;
 use station::groups;
 
-// Every input is decided by its first 20,490 bytes. A readable line has at most three bytes (the size) or four (an entry) and its line
-// feed, so the size and 4,096 entries have at most 4 + 5 · 4,096 = 20,484. Where these bytes hold a 4,097th entry's line, or an unreadable
-// line whole, the answer is that line's number, whatever follows. Else, in a longer input, at least six bytes with no line feed stand after
-// the last whole line; the line that they begin has more than four bytes and is unreadable, cut or not.
+// The first 20,490 bytes decide every input. A readable line has at most three bytes (the size) or four (an entry) and its line feed, so the
+// size and 4,096 entries have at most 4 + 5 · 4,096 = 20,484. Where those bytes hold an unreadable line whole, or begin a 4,097th entry's,
+// that line's number is the answer, whatever follows. Else, in a longer input, at least six bytes with no line feed follow the last whole
+// line; the line that they begin is longer than four bytes and so unreadable, cut or not. `program-reads` of proofs/Buffer.antt shows it.
 fn main() {
     let mut buffer = [0u8; 20490];
     let mut schedule = [0u8; 8192];

@@ -1,12 +1,12 @@
 -- `table_part` meets its contract: a size is at most 64, and 64 · 68 is 4,352.
 -- Assumes nothing.
 use mathlib.Core.Path.{_∙_, sym}
-use Prim.Native.Nat.{ℕ, _+_, _*_, _≤_}
+use Prim.Native.Nat.{ℕ, _+_, _≤_}
 use native.Mathlib.Nat.{mul-le-mul}
 use native.Mathlib.Omega.{arith}
 use borrow.Author.Tests.{not-false}
 use Rattle.station.specs.Table.{tableLength}
-use Rattle.station.proofs.Refusals.{size-bounds}
+use Rattle.station.proofs.Sizes.{size-bounds}
 use borrow.Author.Needs.{needs}
 use Rattle.watch.proofs.table_part.Statement.{statement}
 use Rattle.watch.proofs.table_part.Tie as tie

@@ -1,7 +1,6 @@
 -- `input::parse` meets its contract: the first line decides on the size, the lines after it on the entries.
 -- Assumes nothing.
 use mathlib.Core.Path.{refl, sym, ap}
-use native.Mathlib.Omega.{arith}
 use lib.ListN.{length}
 use lib.Seq.{length-take-le}
 use Rattle.watch.specs.Input.{roomFor, numberValue}

@@ -1,6 +1,5 @@
 -- `input::put_entry` meets its contract: the two stores make the entry's bytes, and nothing past them changes.
 -- Assumes nothing.
-use Prim.Native.Nat.{_*_}
 use native.Mathlib.Omega.{arith}
 use lib.ListN.{length-set}
 use Rattle.watch.proofs.ReadLaws.{pair-take, pair-drop}
