@@ -111,7 +111,7 @@ pub outcome-parts : (o : Outcome) (r k : ℕ) (s : State) (sheet : List ℕ) →
     → (r ≡ o .number) × ((k ≡ o .taken) × ((s ≡ o .state) × (sheet ≡ o .sheet)))
 outcome-parts o r k s sheet e = rw e (refl, (refl, (refl, refl)))
 
--- what the refusals 1 to 6 setStatus of a run
+-- what a run has that refusals 1 to 6 let through
 pub start-facts : (n : ℕ) (t : List ℕ) (a b : ℕ) → startNumber n t a b ≡ 0 → Accepted n t × (a % 2 ≡ 1 → ⊥) × (b ≡ 2 * a)
 unfolding startNumber
 start-facts n t a b z =

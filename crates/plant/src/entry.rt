@@ -52,7 +52,7 @@ pub(crate) fn take_entry(
     ensures { λ _. ⌜ now (line .exit) ≡ sheetLine n (stateOf (now (table .entry)) (tally .rounds) (tally .tests)) (entryOf kind (i .0)) ⌝ }
 {
     let done = act(n, table, kind, i);
-    let over = rounds::close_round(n, table);
+    let over = rounds::close_round(n, table, i);
     line[0] = i.0;
     line[1] = done.tested;
     line[2] = done.outcome;

@@ -1,20 +1,33 @@
 // Closing a round (document 01, step 8).
 ghost use mathlib.Core.Path.{_≡_};
+ghost use Prim.Native.Nat.{_<_};
 ghost use Rattle.plant.specs.Turn.{roundOver, resetLine, resetLines, afterRound};
 use station::Station;
 use station::cells;
 use station::rules;
 
-// Closes the round if a station is live and all live ones are finished; answers whether it closed.
-pub(crate) fn close_round(n: u8, table: &mut [u8]) -> bool
+// Closes the round if a station is live and all live ones are finished; answers whether it closed. i is the station of the entry.
+pub(crate) fn close_round(n: u8, table: &mut [u8], i: Station) -> bool
+    requires { ⌜ i .0 < n ⌝ }
     ensures { λ r. ⌜ r ≡ roundOver n (now (table .entry)) ⌝ }
     ensures { λ _. ⌜ now (table .exit) ≡ afterRound n (now (table .entry)) ⌝ }
 {
-    let over = rules::some_live(n, table) & rules::live_finished(n, table);
+    let over = round_over(n, table, i);
     if over {
         reset_lines(n, table);
     }
     over
+}
+
+// Whether a station is live and all live ones are finished. i is looked at first, since most often it is live and has not finished.
+fn round_over(n: u8, table: &[u8], i: Station) -> bool
+    requires { ⌜ i .0 < n ⌝ }
+    ensures { λ r. ⌜ r ≡ roundOver n (now (table .entry)) ⌝ }
+{
+    if !rules::finished_if_live(n, table, i) {
+        return false;
+    }
+    rules::some_live(n, table) & rules::live_finished(n, table)
 }
 
 // Every line, live or not, begins a new round.

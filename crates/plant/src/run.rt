@@ -29,7 +29,7 @@ pub fn run(n: usize, table: &mut [u8], tally: Tally, schedule: &[u8], sheet: &mu
 }
 
 // Refusals 1 to 6, or 0.
-fn start_number(n: usize, table: &[u8], schedule: usize, sheet: usize) -> u8
+pub fn start_number(n: usize, table: &[u8], schedule: usize, sheet: usize) -> u8
     ensures { λ r. ⌜ r ≡ startNumber n (now (table .entry)) schedule sheet ⌝ }
 {
     let number = rules::check_table(n, table);

@@ -146,28 +146,29 @@ fn suspect_station(n: u8, table: &mut [u8], i: Station, j: Station)
     rows::mark_row(&mut table[a..e], j);
 }
 
-// Step 4: both rows become the union of the two. Each row is lent in turn as a part of the table, with a copy of the other.
+// Step 4: both rows become the union of the two. Each row is lent in turn as a part of the table, with the union in a buffer.
 fn exchange_rows(n: u8, table: &mut [u8], i: Station, j: Station)
     requires { ⌜ (n ≤ 64) × (length (now table) ≡ tableLength n) × (i .0 < n) × (j .0 < n) × (i .0 ≡ j .0 → ⊥) ⌝ }
     ensures { λ _. ⌜ now (table .exit) ≡ exchangeRows n (now (table .entry)) (i .0) (j .0) ⌝ }
 {
     let size = n as usize;
-    let mut mine = [0u8; 64];
-    let mut theirs = [0u8; 64];
-    copy_row(n, table, i, &mut mine);
-    copy_row(n, table, j, &mut theirs);
-    join_into(n, table, i, &theirs[..size]);
-    join_into(n, table, j, &mine[..size]);
+    let mut both = [0u8; 64];
+    unite_rows(n, table, i, j, &mut both);
+    join_into(n, table, i, &both[..size]);
+    join_into(n, table, j, &both[..size]);
 }
 
-// Copies the row of station i to the front of a buffer.
-fn copy_row(n: u8, table: &[u8], i: Station, out: &mut [u8])
-    requires { ⌜ (length (now table) ≡ tableLength n) × (i .0 < n) × (n ≤ length (now out)) ⌝ }
-    ensures { λ _. ⌜ now (out .exit) ≡ row n (now (table .entry)) (i .0) ++ drop n (now (out .entry)) ⌝ }
+// Writes the union of all bytes of two rows to the front of a buffer.
+fn unite_rows(n: u8, table: &[u8], i: Station, j: Station, out: &mut [u8])
+    requires { ⌜ (length (now table) ≡ tableLength n) × (i .0 < n) × (j .0 < n) × (n ≤ length (now out)) ⌝ }
+    ensures { λ _. ⌜ now (out .exit) ≡ union (row n (now (table .entry)) (i .0)) (row n (now (table .entry)) (j .0)) n ++ drop n (now (out .entry)) ⌝ }
 {
-    let mut k: u8 = 0;
-    while k < n {
-        out[k as usize] = cells::get_cell(n, table, i, cells::HEAD + k as u16);
+    let size = n as usize;
+    let a = cells::row_start(n, i);
+    let b = cells::row_start(n, j);
+    let mut k: usize = 0;
+    while k < size {
+        out[k] = rows::greater(table[a + k], table[b + k]);
         k += 1;
     }
 }

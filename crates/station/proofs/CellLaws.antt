@@ -1,22 +1,23 @@
 -- Laws of the cells and rows of a lent table, of specs/Table, of what is done to a row, of specs/Rows, and the line rules of specs/Rules as facts.
 -- Assumes nothing.
-use mathlib.Core.Path.{_≡_, refl, sym, ap, _∙_}
+use mathlib.Core.Path.{_≡_, refl, sym, ap, subst, _∙_}
 use mathlib.Core.Bool.{Bool, true, false, _&&_, _||_}
 use mathlib.Core.List.{List, _++_}
 use mathlib.Core.Logic.{_≢_}
-use Prim.Native.Nat.{ℕ, _+_, _-_, _/_, _%_, max, _≤_, _<_}
-use native.Mathlib.Decide.{decLt}
+use Prim.Native.Nat.{ℕ, _+_, _-_, _/_, _%_, min, max, _≤_, _<_}
+use native.Mathlib.Decide.{decLt, ℕ-discrete}
 use native.Mathlib.Nat.{suc-mul, mul-le-mul-right}
 use native.Mathlib.Omega.{arith}
 use borrow.Author.Tests.{leb-true, eqb-true, eqb-false, le-leb, eq-eqb, ne-eqb}
 use lib.Arith.{digits-div, digits-mod}
 use lib.Dec.{eqb}
-use lib.ListN.{length, getD, take, drop, length-append, length-take, length-drop, length-set, List·getD-append}
+use lib.ListN.{length, getD, set, take, drop, length-append, length-take, length-drop, length-set, List·getD-append, List·getD-eq-default}
 use lib.Seq.{length-take-le, getD-append-add, getD-take, getD-drop, getD-set-same, getD-set-other, ext-getD}
 use Rattle.station.specs.Table.{head, stride, tableLength, lineStart, cell, setCell, status, nextDistance, finished, testsMade, suspects, rowStart, row, setRow}
 use Rattle.station.specs.Rules.{suspicionRule, rowRule, lineRules}
 use Rattle.station.specs.Rows.{unionByte, union, mark}
-use Rattle.station.proofs.SearchLaws.{both, every-at, every-all, listOf-length, listOf-at}
+use Rattle.station.proofs.SearchLaws.{both, every-at, every-all, listOf-length, listOf-at, listOf-same}
+use Rattle.station.proofs.Loops.{filled, filled-rest}
 use Rattle.station.proofs.Refusals.{Accepted}
 
 -- two places are one only where line and column are
@@ -139,6 +140,34 @@ union-own r o own = rw (eq-eqb own own refl)
 pub union-others : (r o : List ℕ) (own k : ℕ) → k ≢ own → unionByte r o own k ≡ max (getD r k 0) (getD o k 0)
 unfolding unionByte
 union-others r o own k apart = rw (ne-eqb k own apart)
+
+-- the union of all bytes is that of a station beyond the row's end
+pub union-byte : (r o : List ℕ) (k a v : ℕ) → k < length r → a ≡ getD r k 0 → v ≡ max a (getD o k 0) → v ≡ unionByte r o (length r) k
+union-byte r o k a v h e f = f ∙ ap (λ x. max x (getD o k 0)) e ∙ sym (union-others r o (length r) k (λ q. omega arith))
+
+-- past the other row's end the bytes stay as they are
+pub union-filled : (r o : List ℕ) (k : ℕ) (t : List ℕ) → t ≡ filled (unionByte r o (length r)) k r → k ≡ min (length r) (length o) → t ≡ union r o (length r)
+unfolding union
+union-filled r o k t e m = filled-rest (unionByte r o (length r)) k r t e (omega arith) (λ y a b. let z : getD o y 0 ≡ 0 = List·getD-eq-default o 0 (omega arith) in union-byte r o y (getD r y 0) (getD r y 0) b refl (omega arith))
+
+-- the byte of the row's own station put back
+pub union-kept : (r o t : List ℕ) (own : ℕ) → t ≡ union r o (length r) → own < length r → set t own (getD r own 0) ≡ union r o own
+union-kept r o t own e h =
+    ext-getD 0 (set t own (getD r own 0)) (union r o own) (length-set t own (getD r own 0) ∙ long ∙ sym (union-length r o own))
+    (λ k l. let hk : k < length r = subst (λ (x : ℕ). k < x) (length-set t own (getD r own 0) ∙ long) l in at k hk (ℕ-discrete k own) ∙ sym (union-at r o own k hk))
+  where
+    long : length t ≡ length r
+    long = ap length e ∙ union-length r o (length r)
+
+    at : (k : ℕ) → k < length r → Dec (k ≡ own) → getD (set t own (getD r own 0)) k 0 ≡ unionByte r o own k
+    at k hk (yes q) = rw q (getD-set-same t own (getD r own 0) 0 (omega (arith, long)) ∙ sym (union-own r o own))
+    at k hk (no d) =
+        getD-set-other t own k (getD r own 0) 0 d
+        ∙ ap (λ (x : List ℕ). getD x k 0) e ∙ union-at r o (length r) k hk ∙ union-others r o (length r) k (λ q. omega arith) ∙ sym (union-others r o own k d)
+
+pub union-beyond : (r o t : List ℕ) (own : ℕ) → t ≡ union r o (length r) → length r ≤ own → t ≡ union r o own
+unfolding union
+union-beyond r o t own e h = e ∙ listOf-same _ _ (length r) (λ k l. union-others r o (length r) k (λ q. omega arith) ∙ sym (union-others r o own k (λ q. omega arith)))
 
 pub mark-length : (r : List ℕ) (j : ℕ) → length (mark r j) ≡ length r
 unfolding mark

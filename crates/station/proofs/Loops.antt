@@ -4,15 +4,15 @@
 use mathlib.Core.Path.{_≡_, refl, sym, ap, subst, _∙_}
 use mathlib.Core.Bool.{Bool, true, false, not}
 use mathlib.Core.List.{List, [], _∷_, _++_, append-nil, append-assoc}
-use Prim.Native.Nat.{ℕ, suc, _+_, _≤_, _<_}
+use Prim.Native.Nat.{ℕ, suc, _+_, _-_, _≤_, _<_}
 use native.Mathlib.Nat.{le-antisymm}
 use native.Mathlib.Numerals.{add-one}
 use native.Mathlib.Omega.{arith}
 use borrow.Author.Tests.{not-true, not-false}
-use lib.ListN.{length, getD, set, drop, drop-of-length-le}
-use lib.Seq.{set-at, getD-at, drop-cons}
+use lib.ListN.{length, getD, set, drop, drop-of-length-le, length-drop}
+use lib.Seq.{set-at, getD-at, drop-cons, getD-drop, ext-getD}
 use Rattle.station.specs.Search.{every, listOf}
-use Rattle.station.proofs.SearchLaws.{every-not, listOf-length}
+use Rattle.station.proofs.SearchLaws.{every-not, listOf-length, listOf-at, listOf-append}
 
 pub every-start : (q : ℕ → Bool) → every q 0 ≡ true
 unfolding every
@@ -60,5 +60,15 @@ filled-done f k n l t e s w a b =
     let d : drop k l ≡ [] = drop-of-length-le l {i = k} (omega arith) in
     let x : k ≡ n = omega arith in
     rw (e, d, append-nil) (ap (listOf f) x)
+
+-- a loop that stops early, where what is not yet written is right as it is
+pub filled-rest : (f : ℕ → ℕ) (k : ℕ) (l t : List ℕ) → t ≡ filled f k l → k ≤ length l → ((y : ℕ) → k ≤ y → y < length l → getD l y 0 ≡ f y) → t ≡ listOf f (length l)
+unfolding filled
+filled-rest f k l t e h same =
+    let s : k + (length l - k) ≡ length l = omega arith in
+    let d : drop k l ≡ listOf (λ y. f (k + y)) (length l - k) =
+    ext-getD 0 (drop k l) (listOf (λ y. f (k + y)) (length l - k)) (length-drop k l ∙ sym (listOf-length (λ y. f (k + y)) (length l - k)))
+    (λ y b. let hy : y < length l - k = subst (λ (x : ℕ). y < x) (length-drop k l) b in getD-drop k l y 0 ∙ same (k + y) (omega arith) (omega arith) ∙ sym (listOf-at (λ z. f (k + z)) (length l - k) y hy)) in
+    e ∙ ap (λ x. listOf f k ++ x) d ∙ sym (listOf-append f k (length l - k)) ∙ ap (listOf f) s
 
 pub ruleset loops = (every-start, every-next, every-stop, every-done, some-stop, some-none, filled-start, filled-next, filled-done)

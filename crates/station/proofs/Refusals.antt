@@ -1,17 +1,17 @@
 -- Laws of the refusal numbers: what a number of 0 says, and which number stands where a test fails.
 -- Assumes nothing.
-use mathlib.Core.Path.{_≡_, refl, _∙_}
+use mathlib.Core.Path.{_≡_, refl, ap, _∙_}
 use mathlib.Core.Bool.{Bool, true, false, not, _&&_, _||_}
 use mathlib.Core.List.{List}
 use Prim.Native.Nat.{ℕ, zero, suc, _-_, _≤_, _<_}
 use native.Mathlib.Omega.{arith}
 use borrow.Author.Tests.{eqb-true, eqb-false, eq-eqb, ne-eqb, le-ltb, ltb-false, not-false, lt-leb, leb-false}
 use lib.ListN.{length}
-use lib.Dec.{eqb}
+use lib.Dec.{ltb, leb, eqb, leb·suc-suc}
 use Rattle.station.specs.Search.{every}
 use Rattle.station.specs.Groups.{isSize, dimension, width}
-use Rattle.station.specs.Table.{tableLength, live}
-use Rattle.station.specs.Rules.{refuse, _else_, lineRules, someLive, liveFinished, shapeNumber, tableNumber}
+use Rattle.station.specs.Table.{tableLength, status, nextDistance, finished, testsMade, suspects, live}
+use Rattle.station.specs.Rules.{refuse, _else_, headRule, testsRule, finishedRule, ownRule, lineRules, someLive, liveFinished, shapeNumber, tableNumber}
 use Rattle.station.specs.Calls.{unless, rowNumber, groupNumber, assignmentNumber}
 use Rattle.station.proofs.Levels.{level-le}
 
@@ -38,6 +38,17 @@ unless-accepted a x y e = rw e
 or-false : (a b : Bool) → (a || b) ≡ false → (a ≡ false) × (b ≡ false)
 or-false true b e = (e, cc)
 or-false false b e = (refl, e)
+
+-- "byte 3 at most byte 1 less 1": below byte 1, where that is 1 or more
+tests-below : (a b c : Bool) (next tests : ℕ) → (a && (leb 1 next && b) && c && ltb tests next) ≡ (a && (leb 1 next && b) && c && leb tests (next - 1))
+tests-below true b c zero tests = refl
+tests-below false b c zero tests = refl
+tests-below a b c (suc next) tests = let p : suc next - 1 ≡ next = omega arith in rw (p, leb·suc-suc tests next)
+
+-- the rules of the head and of a station's byte about itself, of the bytes that the code has read
+pub head-rules-are : (n : ℕ) (t : List ℕ) (i s x f m o : ℕ) → s ≡ status n t i → x ≡ nextDistance n t i → f ≡ finished n t i → m ≡ testsMade n t i → o ≡ suspects n t i i → ((leb s 3 && (leb 1 x && leb x n) && leb f 1) && ltb m x && (eqb f 0 || eqb x n) && eqb o 0) ≡ (headRule n t i && testsRule n t i && finishedRule n t i && ownRule n t i)
+head-rules-are n t i s x f m o a b c d e =
+    rw (← a, ← b, ← c, ← d, ← e) (ap (λ h. h && (eqb f 0 || eqb x n) && eqb o 0) (tests-below (leb s 3) (leb x n) (leb f 1) x m))
 
 -- what a group list that is not refused has
 pub group-zero : (n i s len : ℕ) → groupNumber n i s len ≡ 0 → (isSize n ≡ true) × (i < n) × (0 < s) × (s ≤ dimension n) × (len ≡ width s)

@@ -76,7 +76,7 @@ pub fn assignment(n: usize, table: &[u8], i: Station, list: &mut [u8]) -> Assign
 }
 
 // Refusals 1 to 4, 9, 10, 13, or 0.
-fn assignment_number(n: usize, table: &[u8], i: Station, len: usize) -> u8
+pub fn assignment_number(n: usize, table: &[u8], i: Station, len: usize) -> u8
     ensures { λ r. ⌜ r ≡ assignmentNumber n (now (table .entry)) (i .0) len ⌝ }
 {
     let number = rows::row_number(n, table, i);

@@ -91,7 +91,7 @@ fn write_group(i: Station, s: Level, list: &mut [u8])
     let w = width_of(s);
     let mut k: u8 = 0;
     while k < w {
-        let x = order::station_at(i, Distance(w + k));
+        let x = order::lookup(i, Distance(w + k));
         list[k as usize] = x.0;
         k += 1;
     }

@@ -5,8 +5,9 @@ ghost use Rattle.station.specs.Groups.{stationAt};
 use crate::Distance;
 use crate::Station;
 
-// The station at distance m from i. The constant table has the answer for every plant; past its 64 rows and places the rule is computed.
-pub fn station_at(i: Station, m: Distance) -> Station
+// The station at distance m from i, looked up. The constant table has the answer for every plant; past its 64 rows and places the rule is
+// computed.
+pub fn lookup(i: Station, m: Distance) -> Station
     ensures { λ r. ⌜ r .0 ≡ stationAt (i .0) (m .0) ⌝ }
 {
     let a = i.0;
@@ -18,6 +19,14 @@ pub fn station_at(i: Station, m: Distance) -> Station
         return Station(a ^ b);
     }
     Station(entry(a as usize * 64 + b as usize))
+}
+
+// The station at distance m from i, computed: for the loops of the run, since the compiler builds the constant table anew at each lookup.
+pub fn station_at(i: Station, m: Distance) -> Station
+    ensures { λ r. ⌜ r .0 ≡ stationAt (i .0) (m .0) ⌝ }
+{
+    let a = i.0;
+    Station(a ^ m.0)
 }
 
 // The table's entry at a place: row place / 64, place place % 64.

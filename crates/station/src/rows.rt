@@ -1,8 +1,7 @@
 // Rows: handed back as a part of the lent table, joined and marked (document 01, steps 4 and 5).
 ghost use mathlib.Core.Path.{_≡_};
-ghost use Prim.Native.Nat.{max};
-ghost use mathlib.Core.Bool.{cond};
-ghost use lib.ListN.{getD};
+ghost use Prim.Native.Nat.{min, max};
+ghost use lib.ListN.{length};
 ghost use Rattle.station.specs.Rows.{union, mark};
 ghost use Rattle.station.specs.Calls.{rowNumber, rowPart};
 use crate::Station;
@@ -42,31 +41,39 @@ pub fn join_row(row: &mut [u8], other: &[u8], own: Station)
     ensures { λ _. ⌜ now (row .exit) ≡ union (now (row .entry)) (now (other .entry)) (own .0) ⌝ }
 {
     let of = own.0 as usize;
+    if row.len() <= of {
+        join_bytes(row, other);
+        return;
+    }
+    let kept = row[of];
+    join_bytes(row, other);
+    row[of] = kept;
+}
+
+// The union of all bytes: that of a station whose own byte is not in the row.
+fn join_bytes(row: &mut [u8], other: &[u8])
+    ensures { λ _. ⌜ now (row .exit) ≡ union (now (row .entry)) (now (other .entry)) (length (now (row .entry))) ⌝ }
+{
+    let end = lesser(row.len(), other.len());
     let mut k: usize = 0;
-    while k < row.len() {
-        row[k] = joined(row[k], byte_at(other, k), k == of);
+    while k < end {
+        row[k] = greater(row[k], other[k]);
         k += 1;
     }
 }
 
-// One byte of the union.
-fn joined(a: u8, b: u8, own: bool) -> u8
-    ensures { λ r. ⌜ r ≡ cond own a (max a b) ⌝ }
+// The greater of two bytes.
+pub fn greater(a: u8, b: u8) -> u8
+    ensures { λ r. ⌜ r ≡ max a b ⌝ }
 {
-    if own {
-        return a;
-    }
-    if a < b {
-        return b;
-    }
-    a
+    if a < b { b } else { a }
 }
 
-// The byte at k; 0 past the end.
-fn byte_at(row: &[u8], k: usize) -> u8
-    ensures { λ r. ⌜ r ≡ getD (now (row .entry)) k 0 ⌝ }
+// The lesser of two lengths.
+fn lesser(a: usize, b: usize) -> usize
+    ensures { λ r. ⌜ r ≡ min a b ⌝ }
 {
-    if k < row.len() { row[k] } else { 0 }
+    if a < b { a } else { b }
 }
 
 // Marks station j as suspected in the row; past the row's end nothing.

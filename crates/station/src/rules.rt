@@ -1,9 +1,9 @@
 // The line rules and the check of a table: refusals 1 to 4 (document 01, "The lent table" and "Refusal list").
 ghost use mathlib.Core.Path.{_≡_};
-ghost use Prim.Native.Nat.{_-_};
+ghost use mathlib.Core.Bool.{_&&_};
 ghost use Rattle.station.specs.Search.{every};
 ghost use Rattle.station.specs.Table.{live, suspects};
-ghost use Rattle.station.specs.Rules.{headRule, testsRule, finishedRule, ownRule, suspicionRule, rowRule, lineRules, notLive, someLive, finishedIfLive, liveFinished, shapeNumber, tableNumber};
+ghost use Rattle.station.specs.Rules.{headRule, testsRule, finishedRule, ownRule, rowRule, lineRules, someLive, finishedIfLive, liveFinished, shapeNumber, tableNumber};
 use crate::Station;
 use crate::cells;
 use crate::groups;
@@ -46,19 +46,13 @@ pub fn is_live(n: u8, table: &[u8], i: Station) -> bool
     cells::get_cell(n, table, i, cells::STATUS) == 0
 }
 
-fn not_live(n: u8, table: &[u8], i: Station) -> bool
-    ensures { λ r. ⌜ r ≡ notLive n (now (table .entry)) (i .0) ⌝ }
-{
-    !is_live(n, table, i)
-}
-
 // Whether some station is live.
 pub fn some_live(n: u8, table: &[u8]) -> bool
     ensures { λ r. ⌜ r ≡ someLive n (now (table .entry)) ⌝ }
 {
     let mut i: u8 = 0;
     while i < n {
-        if !not_live(n, table, Station(i)) {
+        if is_live(n, table, Station(i)) {
             return true;
         }
         i += 1;
@@ -81,11 +75,11 @@ pub fn live_finished(n: u8, table: &[u8]) -> bool
 }
 
 // Whether station i, if it is live, has finished its pass.
-fn finished_if_live(n: u8, table: &[u8], i: Station) -> bool
+pub fn finished_if_live(n: u8, table: &[u8], i: Station) -> bool
     ensures { λ r. ⌜ r ≡ finishedIfLive n (now (table .entry)) (i .0) ⌝ }
 {
     let finished = cells::get_cell(n, table, i, cells::FINISHED);
-    not_live(n, table, i) | (finished == 1)
+    !is_live(n, table, i) | (finished == 1)
 }
 
 // Whether every line obeys the line rules.
@@ -105,49 +99,20 @@ fn all_lines(n: u8, table: &[u8]) -> bool
 fn line_rules(n: u8, table: &[u8], i: Station) -> bool
     ensures { λ r. ⌜ r ≡ lineRules n (now (table .entry)) (i .0) ⌝ }
 {
-    head_rule(n, table, i)
-        & tests_rule(n, table, i)
-        & finished_rule(n, table, i)
-        & own_rule(n, table, i)
-        & row_rule(n, table, i)
+    head_rules(n, table, i) & row_rule(n, table, i)
 }
 
-fn head_rule(n: u8, table: &[u8], i: Station) -> bool
-    ensures { λ r. ⌜ r ≡ headRule n (now (table .entry)) (i .0) ⌝ }
+// The rules of the head's bytes and of the station's byte about itself.
+fn head_rules(n: u8, table: &[u8], i: Station) -> bool
+    ensures { λ r. ⌜ r ≡ (headRule n (now (table .entry)) (i .0) && testsRule n (now (table .entry)) (i .0) && finishedRule n (now (table .entry)) (i .0) && ownRule n (now (table .entry)) (i .0)) ⌝ }
 {
     let status = cells::get_cell(n, table, i, cells::STATUS);
     let next = cells::get_cell(n, table, i, cells::NEXT);
     let finished = cells::get_cell(n, table, i, cells::FINISHED);
-    (status <= 3) & ((1 <= next) & (next <= n)) & (finished <= 1)
-}
-
-fn tests_rule(n: u8, table: &[u8], i: Station) -> bool
-    ensures { λ r. ⌜ r ≡ testsRule n (now (table .entry)) (i .0) ⌝ }
-{
-    let next = cells::get_cell(n, table, i, cells::NEXT);
     let tests = cells::get_cell(n, table, i, cells::TESTS);
-    tests <= less_one(next)
-}
-
-// One less, and 0 for 0.
-fn less_one(x: u8) -> u8
-    ensures { λ r. ⌜ r ≡ x - 1 ⌝ }
-{
-    if x == 0 { 0 } else { x - 1 }
-}
-
-fn finished_rule(n: u8, table: &[u8], i: Station) -> bool
-    ensures { λ r. ⌜ r ≡ finishedRule n (now (table .entry)) (i .0) ⌝ }
-{
-    let next = cells::get_cell(n, table, i, cells::NEXT);
-    let finished = cells::get_cell(n, table, i, cells::FINISHED);
-    (finished == 0) | (next == n)
-}
-
-fn own_rule(n: u8, table: &[u8], i: Station) -> bool
-    ensures { λ r. ⌜ r ≡ ownRule n (now (table .entry)) (i .0) ⌝ }
-{
-    suspicion(n, table, i, i) == 0
+    let own = suspicion(n, table, i, i);
+    let in_range = (status <= 3) & ((1 <= next) & (next <= n)) & (finished <= 1);
+    in_range & (tests < next) & ((finished == 0) | (next == n)) & (own == 0)
 }
 
 // The byte of i's row about station k.
@@ -158,18 +123,12 @@ fn suspicion(n: u8, table: &[u8], i: Station, k: Station) -> u8
     cells::get_cell(n, table, i, cells::HEAD + of as u16)
 }
 
-fn suspicion_rule(n: u8, table: &[u8], i: Station, k: Station) -> bool
-    ensures { λ r. ⌜ r ≡ suspicionRule n (now (table .entry)) (i .0) (k .0) ⌝ }
-{
-    suspicion(n, table, i, k) <= 1
-}
-
 fn row_rule(n: u8, table: &[u8], i: Station) -> bool
     ensures { λ r. ⌜ r ≡ rowRule n (now (table .entry)) (i .0) ⌝ }
 {
     let mut k: u8 = 0;
     while k < n {
-        if !suspicion_rule(n, table, i, Station(k)) {
+        if 1 < suspicion(n, table, i, Station(k)) {
             return false;
         }
         k += 1;

@@ -15,7 +15,9 @@ act-requires c κs =
     (p .0, entry-facts _ _ _ (p .1) .below)
 
 close-round-requires : tie.Need-close-round-requires
-close-round-requires c κs = search needs
+close-round-requires c κs =
+    let p = c .before .before .before .before .before .before .before .pre in
+    entry-facts _ _ _ (p .1) .below
 
 slice-write-line : tie.Need-slice-write-line
 slice-write-line c = search needs

@@ -2,15 +2,12 @@
 -- Assumes nothing.
 use mathlib.Core.Path.{refl}
 use borrow.Author.Needs.{needs}
-use Rattle.plant.specs.Turn.{roundOver, afterRound}
+use Rattle.plant.specs.Turn.{afterRound}
 use Rattle.plant.proofs.rounds.close_round.Statement.{statement}
 use Rattle.plant.proofs.rounds.close_round.Tie as tie
 
-some-live-requires : tie.Need-some-live-requires
-some-live-requires c κs = search needs
-
-live-finished-requires : tie.Need-live-finished-requires
-live-finished-requires c κs = search needs
+round-over-requires : tie.Need-round-over-requires
+round-over-requires c κs = search needs
 
 reset-lines-requires : tie.Need-reset-lines-requires
 reset-lines-requires c κs = search needs
@@ -19,22 +16,21 @@ same-length : tie.Need-same-length
 same-length c = search needs
 
 returns : tie.Need-returns
-unfolding roundOver afterRound
-returns c = rw (← c .before .before .before .before .before .before .before .some-live .ensures, ← c .before .before .before .before .before .live-finished .ensures, c .before .before .before .before .if1 .taken) (refl, c .before .before .reset-lines .ensures)
+unfolding afterRound
+returns c = rw (← c .before .before .before .before .before .round-over .ensures, c .before .before .before .before .if1 .taken) (refl, c .before .before .reset-lines .ensures)
 
 same-length-2 : tie.Need-same-length-2
 same-length-2 c = search needs
 
 returns-2 : tie.Need-returns-2
-unfolding roundOver afterRound
-returns-2 c = rw (← c .before .before .before .some-live .ensures, ← c .before .live-finished .ensures, c .if1 .left) (refl, refl)
+unfolding afterRound
+returns-2 c = rw (← c .before .round-over .ensures, c .if1 .left) (refl, refl)
 
 pub close-round-spec : {M : Type 1} → statement M
 close-round-spec =
     tie.close
     (tie.spec
-    some-live-requires
-    live-finished-requires
+    round-over-requires
     reset-lines-requires
     same-length
     returns

@@ -7,36 +7,26 @@ use Rattle.plant.proofs.RowLaws.{exchange-is}
 use Rattle.plant.proofs.turn.exchange_rows.Statement.{statement}
 use Rattle.plant.proofs.turn.exchange_rows.Tie as tie
 
-slice-aggregate-copy-row : tie.Need-slice-aggregate-copy-row
-slice-aggregate-copy-row c = search needs
+slice-aggregate-unite-rows : tie.Need-slice-aggregate-unite-rows
+slice-aggregate-unite-rows c = search needs
 
-copy-row-requires : tie.Need-copy-row-requires
-copy-row-requires c κs = search needs
+unite-rows-requires : tie.Need-unite-rows-requires
+unite-rows-requires c κs = search needs
 
-slice-aggregate-copy-row-2 : tie.Need-slice-aggregate-copy-row-2
-slice-aggregate-copy-row-2 c = search needs
-
-copy-row-requires-2 : tie.Need-copy-row-requires-2
-copy-row-requires-2 c κs = search needs
-
-array-share-prefix-theirs : tie.Need-array-share-prefix-theirs
-array-share-prefix-theirs c = search needs
+array-share-prefix-both : tie.Need-array-share-prefix-both
+array-share-prefix-both c = search needs
 
 slice-aggregate-join-into : tie.Need-slice-aggregate-join-into
-slice-aggregate-join-into c =
-    let p = c .before .before .before .before .before .before .before .before .before .before .before .pre in
-    simp length-take (omega (arith, p .0, c .before .before .before .copy-row2 .kept))
+slice-aggregate-join-into c = simp length-take (omega (arith, c .before .before .before .before .before .before .before .pre .0, c .before .before .before .unite-rows .kept))
 
 join-into-requires : tie.Need-join-into-requires
 join-into-requires c κs = search needs
 
-array-share-prefix-mine : tie.Need-array-share-prefix-mine
-array-share-prefix-mine c = search needs
+array-share-prefix-both-2 : tie.Need-array-share-prefix-both-2
+array-share-prefix-both-2 c = search needs
 
 slice-aggregate-join-into-2 : tie.Need-slice-aggregate-join-into-2
-slice-aggregate-join-into-2 c =
-    let p = c .before .before .before .before .before .before .before .before .before .before .before .before .before .before .before .before .pre in
-    simp length-take (omega (arith, p .0, c .before .before .before .before .before .before .before .before .before .before .before .before .copy-row .kept))
+slice-aggregate-join-into-2 c = simp length-take (omega (arith, c .before .before .before .before .before .before .before .before .before .before .before .before .pre .0, c .before .before .before .before .before .before .before .before .unite-rows .kept))
 
 join-into-requires-2 : tie.Need-join-into-requires-2
 join-into-requires-2 c κs = search needs
@@ -46,23 +36,19 @@ same-length c = search needs
 
 returns : tie.Need-returns
 returns c =
-    let p = c .before .before .before .before .before .before .before .before .before .before .before .before .before .before .before .before .before .before .before .pre in
-    let own = c .before .before .before .before .before .before .before .before .before .before .before .before .before .before .before .copy-row .ensures in
-    let others = c .before .before .before .before .before .before .before .before .before .before .before .copy-row2 .ensures in
-    exchange-is _ _ _ _ (p .1) (p .2) (p .3) (p .4) _ _ _ _ _ _ others own (c .before .before .before .before .before .before .before .join-into .ensures) (c .before .before .join-into2 .ensures)
+    let p = c .before .before .before .before .before .before .before .before .before .before .before .before .before .before .before .pre in
+    exchange-is _ _ _ _ (p .1) (p .2) (p .3) (p .4) _ _ _ _ (c .before .before .before .before .before .before .before .before .before .before .before .unite-rows .ensures) (c .before .before .before .before .before .before .before .join-into .ensures) (c .before .before .join-into2 .ensures)
 
 pub exchange-rows-spec : {M : Type 1} → statement M
 exchange-rows-spec =
     tie.close
     (tie.spec
-    slice-aggregate-copy-row
-    copy-row-requires
-    slice-aggregate-copy-row-2
-    copy-row-requires-2
-    array-share-prefix-theirs
+    slice-aggregate-unite-rows
+    unite-rows-requires
+    array-share-prefix-both
     slice-aggregate-join-into
     join-into-requires
-    array-share-prefix-mine
+    array-share-prefix-both-2
     slice-aggregate-join-into-2
     join-into-requires-2
     same-length

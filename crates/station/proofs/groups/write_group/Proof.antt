@@ -30,8 +30,8 @@ loop-holds c = search (needs, loops)
 add-t8 : tie.Need-add-t8 Inv-loop μ-loop
 add-t8 c = search (needs, loops)
 
-station-at-requires : tie.Need-station-at-requires Inv-loop μ-loop
-station-at-requires c κs = search (needs, loops)
+lookup-requires : tie.Need-lookup-requires Inv-loop μ-loop
+lookup-requires c κs = search (needs, loops)
 
 cast-list : tie.Need-cast-list Inv-loop μ-loop
 cast-list c = search (needs, loops)
@@ -67,7 +67,7 @@ write-group-spec =
     width-of-requires
     loop-holds
     add-t8
-    station-at-requires
+    lookup-requires
     cast-list
     slice-write-list
     add-k

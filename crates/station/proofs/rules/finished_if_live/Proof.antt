@@ -7,11 +7,11 @@ use Rattle.station.proofs.rules.finished_if_live.Tie as tie
 get-cell-requires : tie.Need-get-cell-requires
 get-cell-requires c κs = search needs
 
-not-live-requires : tie.Need-not-live-requires
-not-live-requires c κs = search needs
+is-live-requires : tie.Need-is-live-requires
+is-live-requires c κs = search needs
 
 returns : tie.Need-returns
 returns c = cc
 
 pub finished-if-live-spec : {M : Type 1} → statement M
-finished-if-live-spec = tie.close (tie.spec get-cell-requires not-live-requires returns)
+finished-if-live-spec = tie.close (tie.spec get-cell-requires is-live-requires returns)

@@ -8,7 +8,7 @@ get-cell-requires : tie.Need-get-cell-requires
 get-cell-requires c κs = search needs
 
 returns : tie.Need-returns
-returns c = cc
+returns c = rw (c .get-cell .ensures)
 
 pub is-live-spec : {M : Type 1} → statement M
 is-live-spec = tie.close (tie.spec get-cell-requires returns)

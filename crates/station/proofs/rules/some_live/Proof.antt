@@ -1,10 +1,11 @@
 -- `rules::some_live` meets its contract: the lines passed so far all pass the test.
 -- Assumes nothing.
-use mathlib.Core.Path.{_≡_}
-use mathlib.Core.Bool.{true}
+use mathlib.Core.Path.{_≡_, ap}
+use mathlib.Core.Bool.{true, not}
 use Prim.Native.Nat.{_-_, _≤_}
+use native.Mathlib.Omega.{arith}
 use borrow.Author.Needs.{needs}
-use Rattle.station.proofs.Loops.{loops}
+use Rattle.station.proofs.Loops.{loops, some-stop, every-next}
 use Rattle.station.specs.Search.{every}
 use Rattle.station.specs.Rules.{notLive, someLive}
 use Rattle.station.proofs.rules.some_live.Statement.{statement}
@@ -19,12 +20,12 @@ abbrev μ-loop : tie.MeasureT-loop
 loop-holds : tie.Need-loop-holds Inv-loop μ-loop
 loop-holds c = search (needs, loops)
 
-not-live-requires : tie.Need-not-live-requires Inv-loop μ-loop
-not-live-requires c κs = search (needs, loops)
+is-live-requires : tie.Need-is-live-requires Inv-loop μ-loop
+is-live-requires c κs = search (needs, loops)
 
 returns : tie.Need-returns Inv-loop μ-loop
 unfolding someLive
-returns c = search (needs, loops)
+returns c = some-stop _ _ _ _ (omega arith) (ap not (c .before .is-live .ensures)) (ap (λ b. not (not b)) (c .if1 .taken))
 
 add-i : tie.Need-add-i Inv-loop μ-loop
 add-i c = search (needs, loops)
@@ -33,7 +34,7 @@ loop-less : tie.Need-loop-less Inv-loop μ-loop
 loop-less c = search (needs, loops)
 
 loop-again : tie.Need-loop-again Inv-loop μ-loop
-loop-again c = search (needs, loops)
+loop-again c = (search needs, every-next _ _ _ (c .before .before .before .loop .inv .1) (ap not (c .before .is-live .ensures)) (ap (λ b. not (not b)) (c .if1 .left)))
 
 returns-2 : tie.Need-returns-2 Inv-loop μ-loop
 unfolding someLive
@@ -46,7 +47,7 @@ some-live-spec =
     Inv-loop
     μ-loop
     loop-holds
-    not-live-requires
+    is-live-requires
     returns
     add-i
     loop-less

@@ -1,0 +1,171 @@
+//! A safe binding to the vCube watch library (include/vcube.h).
+//!
+//! What each call does, and when it is refused, is said in document 01. Every
+//! call takes any numbers and slices of any length: nothing need be tested
+//! before calling. A refused call changes no byte; a run that stops at an
+//! entry keeps the work of the entries before it.
+//!
+//! The example of document 01 for N = 4:
+//!
+//! ```
+//! use vcube::{Answer, Distance, Station, Tally};
+//!
+//! let n = 4;
+//! let mut table = [0; vcube::table_length(4)];
+//! vcube::fresh_table(n, &mut table)?;
+//!
+//! let schedule = [2, 0, 1, 0, 1, 0, 1, 1];
+//! let mut sheet = [0; 16];
+//! let answer = vcube::run(n, &mut table, Tally::default(), &schedule, &mut sheet);
+//!
+//! // 0 suspects 1, exchanges with 2, then with 3; 1 tests 0, is told and leaves.
+//! let tally = Tally { rounds: 0, tests: 4 };
+//! assert_eq!(answer, Answer { refusal: None, taken: 4, tally });
+//! assert_eq!(sheet, [0, 1, 3, 0, 0, 2, 1, 0, 0, 3, 1, 0, 1, 0, 2, 2]);
+//! assert_eq!(vcube::row(n, &table, Station(0))?, [0, 1, 0, 0]);
+//! assert_eq!(vcube::row(n, &table, Station(1))?, [0, 0, 0, 0]);
+//!
+//! let mut list = [0; 3];
+//! let due = vcube::due_distances(n, &table, Station(0), &mut list)?;
+//! assert!(due.eq([Distance(1), Distance(2), Distance(3)]));
+//! # Ok::<(), vcube::Refusal>(())
+//! ```
+
+#![deny(unsafe_code)]
+
+#[allow(unsafe_code)]
+pub mod raw;
+mod refusal;
+
+#[cfg(test)]
+mod tests;
+
+pub use refusal::Refusal;
+
+/// A station number. Any number can stand here; the library refuses N or more.
+#[derive(Clone, Copy, Debug, PartialEq, Eq, Hash, PartialOrd, Ord)]
+pub struct Station(pub usize);
+
+/// A distance: the exclusive or of two station numbers.
+#[derive(Clone, Copy, Debug, PartialEq, Eq, Hash, PartialOrd, Ord)]
+pub struct Distance(pub u8);
+
+/// A level. Any number can stand here; the library refuses 0 and those above d.
+#[derive(Clone, Copy, Debug, PartialEq, Eq, Hash, PartialOrd, Ord)]
+pub struct Level(pub usize);
+
+/// The tally of closed rounds and of tests.
+#[derive(Clone, Copy, Debug, Default, PartialEq, Eq, Hash)]
+pub struct Tally {
+    pub rounds: u32,
+    pub tests: u32,
+}
+
+/// What a run answers.
+#[derive(Clone, Copy, Debug, PartialEq, Eq, Hash)]
+pub struct Answer {
+    /// The refusal it stopped with, if any.
+    pub refusal: Option<Refusal>,
+    /// How many entries were taken.
+    pub taken: usize,
+    /// The tally given back.
+    pub tally: Tally,
+}
+
+impl Station {
+    /// The station at this distance from this one.
+    pub fn at(self, distance: Distance) -> Station {
+        Station(self.0 ^ usize::from(distance.0))
+    }
+}
+
+/// The length of a table of n stations: n lines of n + 4 bytes.
+/// It has no meaning for a size that the library refuses.
+pub const fn table_length(n: usize) -> usize {
+    n.wrapping_mul(n.wrapping_add(4))
+}
+
+/// Fresh table: every line live, next distance 1, all else 0.
+/// Refusals: 1, 2.
+pub fn fresh_table(n: usize, table: &mut [u8]) -> Result<(), Refusal> {
+    accepted(raw::fresh_table(n, table))
+}
+
+/// Group list: the members of the station's group at that level, in order,
+/// into a list of just that length, 2^(level - 1).
+/// Refusals: 1, 9, 12, 13.
+pub fn group_list(
+    n: usize,
+    station: Station,
+    level: Level,
+    list: &mut [u8],
+) -> Result<(), Refusal> {
+    accepted(raw::group_list(n, station.0, level.0, list))
+}
+
+/// Assignment: the distances due for a live station, ascending, into a list of
+/// n - 1 bytes, the rest 0. Gives how many are due.
+/// Refusals: 1 to 4, 9, 10, 13.
+pub fn assignment(
+    n: usize,
+    table: &[u8],
+    station: Station,
+    list: &mut [u8],
+) -> Result<usize, Refusal> {
+    let mut count = [0];
+    accepted(raw::assignment(n, table, station.0, list, &mut count))?;
+    Ok(usize::from(count[0]))
+}
+
+/// The assignment as typed distances: those due, ascending, read from the list.
+/// Refusals: 1 to 4, 9, 10, 13.
+pub fn due_distances<'a>(
+    n: usize,
+    table: &[u8],
+    station: Station,
+    list: &'a mut [u8],
+) -> Result<impl Iterator<Item = Distance> + 'a, Refusal> {
+    let many = assignment(n, table, station, list)?;
+    Ok(list[..many].iter().copied().map(Distance))
+}
+
+/// Row: the station's row as that very part of the lent table.
+/// Refusals: 1 to 4, 9.
+pub fn row(n: usize, table: &[u8], station: Station) -> Result<&[u8], Refusal> {
+    accepted(raw::row_number(n, table, station.0))?;
+    let start = raw::row_start(n, table, station.0);
+    let length = raw::row_length(n, table, station.0);
+    Ok(&table[start..][..length])
+}
+
+/// Run: takes the entries of a schedule in order; writes four bytes of the
+/// sheet for each entry taken.
+/// Refusals: 1 to 6, then 7 to 11 at each entry.
+pub fn run(n: usize, table: &mut [u8], tally: Tally, schedule: &[u8], sheet: &mut [u8]) -> Answer {
+    let mut bytes = [0; raw::ANSWER_LENGTH];
+    let Tally { rounds, tests } = tally;
+    let number = raw::run(n, table, rounds, tests, schedule, sheet, &mut bytes);
+    decode_answer(number, bytes)
+}
+
+/// The answer's 16 bytes: taken (8), rounds (4), tests (4), high byte first.
+fn decode_answer(number: u8, bytes: [u8; raw::ANSWER_LENGTH]) -> Answer {
+    let all = u128::from_be_bytes(bytes);
+    Answer {
+        refusal: accepted(number).err(),
+        taken: (all >> 64) as usize,
+        tally: Tally {
+            rounds: (all >> 32) as u32,
+            tests: all as u32,
+        },
+    }
+}
+
+/// Turns the number of a call into a result.
+fn accepted(number: u8) -> Result<(), Refusal> {
+    match (number, Refusal::from_number(number)) {
+        (0, _) => Ok(()),
+        (_, Some(refusal)) => Err(refusal),
+        (_, None) => panic!("the library gave {number}, which the refusal list has not"),
+    }
+}

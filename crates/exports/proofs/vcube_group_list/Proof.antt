@@ -1,0 +1,32 @@
+-- `vcube_group_list` meets its contract: station and level are handed on as bytes.
+-- Assumes nothing.
+use mathlib.Core.Path.{_∙_}
+use borrow.Author.Needs.{needs}
+use Rattle.exports.proofs.Narrow.{group-number-narrow, group-after-narrow}
+use Rattle.exports.proofs.vcube_group_list.Statement.{statement}
+use Rattle.exports.proofs.vcube_group_list.Tie as tie
+
+byte-of-requires : tie.Need-byte-of-requires
+byte-of-requires c κs = search needs
+
+byte-of-requires-2 : tie.Need-byte-of-requires-2
+byte-of-requires-2 c κs = search needs
+
+group-list-requires : tie.Need-group-list-requires
+group-list-requires c κs = search needs
+
+same-length : tie.Need-same-length
+same-length c = search needs
+
+returns : tie.Need-returns
+returns c =
+    let a = c .before .before .before .before .before .before .before .args in
+    let e = c .before .before .group-list .ensures in
+    let i = c .before .before .before .before .before .byte-of .ensures in
+    let s = c .before .before .before .before .byte-of2 .ensures in
+    (e .0 ∙ group-number-narrow (a .n) (a .station) (a .level) _ _ i s _, e .1 ∙ group-after-narrow (a .n) (a .station) (a .level) _ _ i s _)
+
+pub vcube-group-list-spec : {M : Type 1} → statement M
+vcube-group-list-spec =
+    tie.close
+    (tie.spec byte-of-requires byte-of-requires-2 group-list-requires same-length returns)

@@ -1,0 +1,99 @@
+-- `vcube_run` meets its contract: with an answer of another length only the number of the start is found, with 16 bytes the run is that of `plant`.
+-- Assumes nothing.
+use mathlib.Core.Path.{sym, ap, _∙_}
+use borrow.Author.Needs.{needs}
+use Rattle.station.proofs.Refusals.{else-first}
+use Rattle.plant.specs.Entry.{State, stateOf}
+use Rattle.plant.specs.Run.{run}
+use Rattle.exports.specs.Exports.{exportedRunTable, exportedRunSheet, exportedRunAnswer}
+use Rattle.exports.proofs.Lent.{lent-met, lent-missed}
+use Rattle.exports.proofs.RunLaws.{run-number-met, run-number-missed, outcome-written}
+use Rattle.exports.proofs.vcube_run.Statement.{statement}
+use Rattle.exports.proofs.vcube_run.Tie as tie
+
+start-number-requires : tie.Need-start-number-requires
+start-number-requires c κs = search needs
+
+same-length : tie.Need-same-length
+same-length c = search needs
+
+returns : tie.Need-returns
+unfolding exportedRunTable exportedRunSheet exportedRunAnswer
+returns c =
+    let a = c .before .before .before .before .before .before .before .before .args in
+    let h = c .before .before .before .if1 .taken in
+    let s = stateOf (a .table .now) (a .rounds) (a .tests) in (
+      else-first _ _ _ (c .before .start-number .ensures) (c .if2 .taken) ∙ sym (run-number-missed (a .n) s (a .schedule .now) (a .sheet .now) (a .answer .now) h),
+      (lent-missed 16 (a .answer .now) _ _ h, (lent-missed 16 (a .answer .now) _ _ h, lent-missed 16 (a .answer .now) _ _ h)),
+    )
+
+same-length-2 : tie.Need-same-length-2
+same-length-2 c = search needs
+
+returns-2 : tie.Need-returns-2
+unfolding exportedRunTable exportedRunSheet exportedRunAnswer
+returns-2 c =
+    let a = c .before .before .before .before .before .before .before .before .args in
+    let h = c .before .before .before .if1 .taken in
+    let s = stateOf (a .table .now) (a .rounds) (a .tests) in (
+      simp (run-number-missed (a .n) s (a .schedule .now) (a .sheet .now) (a .answer .now) h, ← c .before .start-number .ensures, c .if2 .left),
+      (lent-missed 16 (a .answer .now) _ _ h, (lent-missed 16 (a .answer .now) _ _ h, lent-missed 16 (a .answer .now) _ _ h)),
+    )
+
+run-requires : tie.Need-run-requires
+run-requires c κs = search needs
+
+cast-write-answer : tie.Need-cast-write-answer
+cast-write-answer c = search needs
+
+cast-write-answer-2 : tie.Need-cast-write-answer-2
+cast-write-answer-2 c = search needs
+
+write-answer-requires : tie.Need-write-answer-requires
+write-answer-requires c κs = search needs
+
+same-length-3 : tie.Need-same-length-3
+same-length-3 c = search needs
+
+same-length-4 : tie.Need-same-length-4
+same-length-4 c = search needs
+
+same-length-5 : tie.Need-same-length-5
+same-length-5 c = search needs
+
+returns-3 : tie.Need-returns-3
+unfolding exportedRunTable exportedRunSheet exportedRunAnswer
+returns-3 c =
+    let a = c .before .before .before .before .before .before .before .before .before .before .before .before .before .before .before .before .before .before .before .args in
+    let h = c .before .before .before .before .before .before .before .before .before .before .before .before .before .before .if1 .left in
+    let s = stateOf (a .table .now) (a .rounds) (a .tests) in
+    let o = run (a .n) s (a .schedule .now) (a .sheet .now) in
+    let e = c .before .before .before .before .before .before .before .before .before .before .before .run .ensures in
+    let t = e .1 .1 .0 in (
+      e .0 ∙ run-number-met (a .n) s (a .schedule .now) (a .sheet .now) (a .answer .now) h,
+      (
+        ap (λ (x : State). x .table) t ∙ lent-met 16 (a .answer .now) _ _ h,
+        (
+          e .1 .1 .1 ∙ lent-met 16 (a .answer .now) _ _ h,
+          c .before .before .write-answer .ensures ∙ outcome-written o _ _ _ _ (e .1 .0) t ∙ lent-met 16 (a .answer .now) _ _ h,
+        ),
+      ),
+    )
+
+pub vcube-run-spec : {M : Type 1} → statement M
+vcube-run-spec =
+    tie.close
+    (tie.spec
+    start-number-requires
+    same-length
+    returns
+    same-length-2
+    returns-2
+    run-requires
+    cast-write-answer
+    cast-write-answer-2
+    write-answer-requires
+    same-length-3
+    same-length-4
+    same-length-5
+    returns-3)

@@ -1,0 +1,2 @@
+-- What the contracts and theorems of `exports` cite.
+pub mod Exports

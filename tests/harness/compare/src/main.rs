@@ -1,0 +1,84 @@
+//! Runs the library and the simulator on the same random calls and compares
+//! every byte and every figure.
+
+#![forbid(unsafe_code)]
+
+mod by_library;
+mod by_simulator;
+mod call;
+mod counts;
+mod generate;
+mod guarded;
+mod options;
+mod outcome;
+mod prng;
+mod report;
+mod self_test;
+mod trial;
+
+use std::env;
+use std::process::ExitCode;
+
+use counts::Counts;
+use options::{Options, Task};
+use trial::Trial;
+
+/// From so many calls on, the coverage is checked.
+const ENOUGH_CALLS: u64 = 200_000;
+
+fn main() -> ExitCode {
+    let given: Vec<String> = env::args().skip(1).collect();
+    match Options::read(&given).and_then(|options| work(&options)) {
+        Ok(text) => {
+            println!("{text}");
+            ExitCode::SUCCESS
+        }
+        Err(text) => {
+            eprintln!("{text}");
+            ExitCode::FAILURE
+        }
+    }
+}
+
+fn work(options: &Options) -> Result<String, String> {
+    let seed = options.seed;
+    match options.task {
+        Task::SelfTest => self_test::self_test(seed)
+            .map(|noticed| format!("compare: self-test: all {noticed} alterations noticed")),
+        Task::Only(number) => only(seed, number),
+        Task::Calls(calls) => compare(seed, calls, options.trace),
+    }
+}
+
+/// Makes one call and prints all of it.
+fn only(seed: u64, number: u64) -> Result<String, String> {
+    let trial = Trial::make(seed, number);
+    let text = report::trial_text(number, &trial, usize::MAX);
+    match trial.difference() {
+        None => Ok(text + "no difference"),
+        Some(found) => Err(format!("{text}difference: {found}")),
+    }
+}
+
+/// Makes the calls up to the first difference.
+fn compare(seed: u64, calls: u64, trace: bool) -> Result<String, String> {
+    let mut counts = Counts::all(0);
+    for number in 1..=calls {
+        if trace {
+            eprintln!("call {number}");
+        }
+        let trial = Trial::make(seed, number);
+        if let Some(found) = trial.difference() {
+            return Err(report::difference(seed, number, &trial, &found));
+        }
+        counts.add(&trial.call, &trial.simulator);
+    }
+    let missing = counts.missing();
+    if calls >= ENOUGH_CALLS && !missing.is_empty() {
+        let list = missing.join("; ");
+        return Err(format!("compare: occurred too seldom or never: {list}"));
+    }
+    Ok(format!(
+        "compare: seed {seed}, {calls} calls agree: {counts}"
+    ))
+}
