@@ -4,17 +4,22 @@ use mathlib.Core.Path.{_≡_, refl, sym, ap, _∙_}
 use mathlib.Core.Bool.{Bool, true, false, not, _&&_}
 use mathlib.Core.Logic.{_≢_}
 use mathlib.Core.List.{List, _++_}
-use Prim.Native.Nat.{ℕ, _+_, _-_, max, _≤_, _<_}
+use Prim.Native.Nat.{ℕ, zero, suc, _+_, _-_, max, _≤_, _<_}
 use native.Mathlib.Decide.{ℕ-discrete}
-use native.Mathlib.Nat.{max-comm}
+use native.Mathlib.Nat.{max-comm, zero-max, max-eq-left, le-refl}
+use native.Mathlib.Numerals.{add-one}
 use native.Mathlib.Omega.{arith}
-use lib.ListN.{length, getD, take, drop}
-use lib.Seq.{take-at}
+use borrow.Author.Tests.{eqb-true, eq-eqb, ne-eqb}
+use lib.Bits.{bitXor, xor-self}
+use lib.Dec.{eqb}
+use lib.ListN.{length, getD, take, drop, take-append-drop}
+use lib.Seq.{take-at, ext-getD}
 use Rattle.station.specs.Search.{every, listOf}
 use Rattle.station.specs.Table.{head, tableLength, cell, rowStart, row, setRow}
 use Rattle.station.specs.Rules.{someLive, finishedIfLive, liveFinished}
 use Rattle.station.specs.Rows.{unionByte, union}
-use Rattle.station.proofs.SearchLaws.{listOf-same}
+use Rattle.station.proofs.SearchLaws.{every-at, listOf-same}
+use Rattle.station.proofs.Xor.{xor-zero-eq}
 use Rattle.station.proofs.Loops.{filled, every-stop}
 use Rattle.station.proofs.CellLaws.{row-length, row-at, row-same, setRow-length, setRow-out, union-length, union-at, union-own, union-others}
 use Rattle.plant.specs.Turn.{exchangeRows, roundOver}
@@ -39,6 +44,59 @@ rows-united n t i j a b k l out ea eb long hi hj e c d =
     let same : listOf (λ y. max (getD t (a + y) 0) (getD t (b + y) 0)) n ≡ listOf (unionByte (row n t i) (row n t j) n) n =
     listOf-same _ _ n (λ y h. ap (λ (z : ℕ). max z (getD t (b + y) 0)) (place n t i a y ea h) ∙ ap (max (getD (row n t i) y 0)) (place n t j b y eb h) ∙ sym (union-others (row n t i) (row n t j) n y (λ q. omega arith))) in
     e ∙ rw (x, same, w)
+
+-- a row written back as it is
+setRow-same : (n : ℕ) (t : List ℕ) (i : ℕ) → setRow n t i (row n t i) ≡ t
+unfolding setRow row
+setRow-same n t i = rw (take-append-drop n (drop (rowStart n i) t), take-append-drop (rowStart n i) t)
+
+every-same : (p q : ℕ → Bool) (n : ℕ) → ((k : ℕ) → k < n → p k ≡ q k) → every p n ≡ every q n
+unfolding every
+every-same p q zero e = refl
+every-same p q (suc n) e = ap (λ (b : Bool). b && p n) (every-same p q n (λ k h. e k (omega arith))) ∙ ap (_&&_ (every q n)) (e n (omega arith))
+
+-- two rows that hold the same bytes, as the loop that compares them asks for it
+unfoldable pub same : List ℕ → ℕ → ℕ → ℕ → Bool
+same t a b y = eqb (getD t (a + y) 0) (getD t (b + y) 0)
+
+pub same-next : (t : List ℕ) (a b k apart x : ℕ) → eqb apart 0 ≡ every (same t a b) k → x ≡ max apart (bitXor (getD t (a + k) 0) (getD t (b + k) 0))
+    → eqb x 0 ≡ every (same t a b) (k + 1)
+unfolding every same
+same-next t a b k apart x e f =
+    let u : ℕ = getD t (a + k) 0 in
+    let v : ℕ = getD t (b + k) 0 in
+    rw (f, add-one, ← e) (max-zero apart (bitXor u v) ∙ ap (_&&_ (eqb apart 0)) (xor-zero u v (ℕ-discrete u v)))
+  where
+    max-zero : (c d : ℕ) → eqb (max c d) 0 ≡ (eqb c 0 && eqb d 0)
+    max-zero zero d = rw zero-max
+    max-zero (suc c) d = rw (ne-eqb (suc c) 0 (λ z. omega arith)) (ne-eqb (max (suc c) d) 0 (λ z. omega arith))
+
+    xor-zero : (u v : ℕ) → Dec (u ≡ v) → eqb (bitXor u v) 0 ≡ eqb u v
+    xor-zero u v (yes q) = rw q (eq-eqb (bitXor v v) 0 (xor-self v) ∙ sym (eq-eqb v v refl))
+    xor-zero u v (no d) = ne-eqb (bitXor u v) 0 (λ z. d (xor-zero-eq u v z)) ∙ sym (ne-eqb u v d)
+
+pub same-done : (n : ℕ) (t : List ℕ) (i j a b k : ℕ) (r : Bool) → a ≡ rowStart n i → b ≡ rowStart n j → r ≡ every (same t a b) k → k ≤ n → n ≤ k
+    → r ≡ every (λ y. eqb (getD (row n t i) y 0) (getD (row n t j) y 0)) n
+unfolding same
+same-done n t i j a b k r ea eb e c d =
+    let x : k ≡ n = omega arith in
+    e ∙ ap (every (same t a b)) x ∙ every-same _ _ n (λ y h. ap (λ (z : ℕ). eqb z (getD t (b + y) 0)) (place n t i a y ea h) ∙ ap (eqb (getD (row n t i) y 0)) (place n t j b y eb h))
+
+-- rows that are the same are their union already
+pub same-exchange : (n : ℕ) (t : List ℕ) (i j : ℕ) → length t ≡ tableLength n → i < n → j < n
+    → every (λ y. eqb (getD (row n t i) y 0) (getD (row n t j) y 0)) n ≡ true → t ≡ exchangeRows n t i j
+unfolding exchangeRows
+same-exchange n t i j long hi hj e =
+    let w : row n t i ≡ row n t j = ext-getD 0 (row n t i) (row n t j) (row-length n t i long hi ∙ sym (row-length n t j long hj)) (λ y h. eqb-true _ _ (every-at _ n y e (omega (arith, row-length n t i long hi)))) in
+    let s : setRow n t i (union (row n t i) (row n t j) i) ≡ t = ap (setRow n t i) (ap (λ (r : List ℕ). union (row n t i) r i) (sym w) ∙ union-self (row n t i) i) ∙ setRow-same n t i in
+    sym (rw s (ap (setRow n t j) (ap (λ (r : List ℕ). union (row n t j) r j) w ∙ union-self (row n t j) j) ∙ setRow-same n t j))
+  where
+    union-self : (r : List ℕ) (own : ℕ) → union r r own ≡ r
+    union-self r own = ext-getD 0 (union r r own) r (union-length r r own) (λ k h. let hk : k < length r = omega (arith, union-length r r own) in union-at r r own k hk ∙ pick k (ℕ-discrete k own))
+      where
+        pick : (k : ℕ) → Dec (k ≡ own) → unionByte r r own k ≡ getD r k 0
+        pick k (yes q) = rw q (union-own r r own)
+        pick k (no d) = union-others r r own k d ∙ max-eq-left (le-refl (getD r k 0))
 
 -- a row joined with the union of two rows, of which it is the one or the other
 union-twice : (r o u : List ℕ) (n own : ℕ) → length r ≡ n → ((k : ℕ) → k < n → getD u k 0 ≡ max (getD r k 0) (getD o k 0)) → union r u own ≡ union r o own

@@ -2,8 +2,9 @@
 ghost use mathlib.Core.Path.{_≡_};
 ghost use Prim.Native.Nat.{_-_, _<_, _≤_};
 ghost use mathlib.Core.List.{_++_};
-ghost use lib.ListN.{length, drop};
-ghost use Rattle.station.specs.Search.{least};
+ghost use lib.Dec.{eqb};
+ghost use lib.ListN.{length, getD, drop};
+ghost use Rattle.station.specs.Search.{least, every};
 ghost use Rattle.station.specs.Table.{tableLength, testsMade, row, setRow};
 ghost use Rattle.station.specs.Groups.{stationAt};
 ghost use Rattle.station.specs.Rows.{union};
@@ -146,16 +147,37 @@ fn suspect_station(n: u8, table: &mut [u8], i: Station, j: Station)
     rows::mark_row(&mut table[a..e], j);
 }
 
-// Step 4: both rows become the union of the two. Each row is lent in turn as a part of the table, with the union in a buffer.
+// Step 4: both rows become the union of the two. Rows that are the same stay as they are. Otherwise each row is lent in turn as a part of
+// the table, with the union in a buffer.
 fn exchange_rows(n: u8, table: &mut [u8], i: Station, j: Station)
     requires { ⌜ (n ≤ 64) × (length (now table) ≡ tableLength n) × (i .0 < n) × (j .0 < n) × (i .0 ≡ j .0 → ⊥) ⌝ }
     ensures { λ _. ⌜ now (table .exit) ≡ exchangeRows n (now (table .entry)) (i .0) (j .0) ⌝ }
 {
+    if same_rows(n, table, i, j) {
+        return;
+    }
     let size = n as usize;
     let mut both = [0u8; 64];
     unite_rows(n, table, i, j, &mut both);
     join_into(n, table, i, &both[..size]);
     join_into(n, table, j, &both[..size]);
+}
+
+// Whether two rows hold the same bytes.
+fn same_rows(n: u8, table: &[u8], i: Station, j: Station) -> bool
+    requires { ⌜ (length (now table) ≡ tableLength n) × (i .0 < n) × (j .0 < n) ⌝ }
+    ensures { λ r. ⌜ r ≡ every (λ k. eqb (getD (row n (now (table .entry)) (i .0)) k 0) (getD (row n (now (table .entry)) (j .0)) k 0)) n ⌝ }
+{
+    let size = n as usize;
+    let a = cells::row_start(n, i);
+    let b = cells::row_start(n, j);
+    let mut apart: u8 = 0;
+    let mut k: usize = 0;
+    while k < size {
+        apart = rows::greater(apart, table[a + k] ^ table[b + k]);
+        k += 1;
+    }
+    apart == 0
 }
 
 // Writes the union of all bytes of two rows to the front of a buffer.

@@ -60,11 +60,6 @@ level-split m pos = go (level m) refl
     go zero e = absurd (omega (arith, rw e at (level-upper m)))
     go (suc h) e = (h, e, level-bounds m h e .0, level-bounds m h e .1)
 
--- the group at the level of m begins at or before distance m
-pub width-level : (m : ℕ) → 0 < m → width (level m) ≤ m
-unfolding width
-width-level m pos = let t = level-split m pos in rw (t .1) (t .2)
-
 -- the distance at place k of a group at level h + 1
 pub level-in : (h k : ℕ) → k < 2 ^ h → level (2 ^ h + k) ≡ suc h
 level-in h k l = level-is (2 ^ h + k) h (omega arith) (omega arith)

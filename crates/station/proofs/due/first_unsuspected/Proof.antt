@@ -44,7 +44,7 @@ is-unsuspected-requires c κs = search needs
 returns-2 : tie.Need-returns-2 Inv-loop μ-loop
 returns-2 c =
     ap some (c .before .before .station-at .ensures)
-    ∙ sym (first-at _ _ _ _ (c .before .before .before .before .before .width-of .ensures .0 ∙ ap width (c .before .before .before .before .before .before .level-of .ensures .0)) _ (c .before .before .before .loop-test .taken) (cc) (c .before .before .before .before .loop .inv .2))
+    ∙ sym (first-at _ _ _ _ (c .before .before .before .before .before .width-of .ensures .0 ∙ ap width (c .before .before .before .before .before .before .level-of .ensures .0)) _ (c .before .before .before .loop-test .taken) (sym (ap (unsuspected _) (c .before .before .station-at .ensures)) ∙ sym (c .before .is-unsuspected .ensures) ∙ c .if2 .taken) (c .before .before .before .before .loop .inv .2))
 
 add-k : tie.Need-add-k Inv-loop μ-loop
 add-k c = search needs
@@ -53,7 +53,7 @@ loop-less : tie.Need-loop-less Inv-loop μ-loop
 loop-less c = search needs
 
 loop-again : tie.Need-loop-again Inv-loop μ-loop
-loop-again c = (search needs, search needs, below-more _ _ (c .before .before .before .before .loop .inv .2) (cc))
+loop-again c = (search needs, search needs, below-more _ _ (c .before .before .before .before .loop .inv .2) (sym (ap (unsuspected _) (c .before .before .station-at .ensures)) ∙ sym (c .before .is-unsuspected .ensures) ∙ c .if2 .left))
 
 returns-3 : tie.Need-returns-3 Inv-loop μ-loop
 returns-3 c =

@@ -11,7 +11,7 @@ is-live-requires : tie.Need-is-live-requires
 is-live-requires c κs = search needs
 
 returns : tie.Need-returns
-returns c = cc
+returns c = rw (c .before .get-cell .ensures, c .is-live .ensures)
 
 pub finished-if-live-spec : {M : Type 1} → statement M
 finished-if-live-spec = tie.close (tie.spec get-cell-requires is-live-requires returns)

@@ -1,0 +1,195 @@
+//! The chart of the rounds until the dead boards are known, as SVG.
+
+use std::fmt::Write;
+
+/// What is drawn for one size.
+pub struct Point {
+    pub n: usize,
+    pub least: u32,
+    pub mean: f64,
+    pub greatest: u32,
+    pub shown: u32,
+    pub stated: u32,
+}
+
+const WIDTH: f64 = 760.0;
+const HEIGHT: f64 = 480.0;
+const LEFT: f64 = 70.0;
+const RIGHT: f64 = 30.0;
+const TOP: f64 = 50.0;
+const BOTTOM: f64 = 60.0;
+
+const GRID_STEP: u32 = 4;
+const MOST_ROUNDS: u32 = 40;
+
+const STATED: &str = "#7a7a7a";
+const SHOWN: &str = "#b8641f";
+const OBSERVED: &str = "#1f5fa8";
+
+/// The whole chart.
+pub fn draw(points: &[Point]) -> String {
+    let parts = [
+        frame(),
+        axes(points),
+        bound(points, |point| point.stated, STATED, ""),
+        bound(points, |point| point.shown, SHOWN, "7 4"),
+        observed(points),
+        legend(),
+    ];
+    format!("{}</svg>\n", parts.concat())
+}
+
+/// The place of size k of `many` on the x axis.
+fn x(k: usize, many: usize) -> f64 {
+    let step = (WIDTH - LEFT - RIGHT) / many as f64;
+    LEFT + step * (k as f64 + 0.5)
+}
+
+/// The place of a number of rounds on the y axis.
+fn y(rounds: f64) -> f64 {
+    HEIGHT - BOTTOM - rounds * (HEIGHT - TOP - BOTTOM) / f64::from(MOST_ROUNDS)
+}
+
+/// Each point with its place on the x axis.
+fn placed(points: &[Point]) -> impl Iterator<Item = (f64, &Point)> {
+    let many = points.len();
+    let place = move |(k, point)| (x(k, many), point);
+    points.iter().enumerate().map(place)
+}
+
+fn frame() -> String {
+    let title = "Closed rounds until every live board suspects exactly the dead ones";
+    let middle = WIDTH / 2.0;
+    format!(
+        "<svg xmlns=\"http://www.w3.org/2000/svg\" viewBox=\"0 0 {WIDTH} {HEIGHT}\" width=\"{WIDTH}\" height=\"{HEIGHT}\" \
+         font-family=\"sans-serif\" font-size=\"13\" fill=\"#222222\">\n\
+         <title>{title}</title>\n\
+         <rect width=\"{WIDTH}\" height=\"{HEIGHT}\" fill=\"#ffffff\"/>\n\
+         <text x=\"{middle}\" y=\"26\" font-size=\"15\" text-anchor=\"middle\">{title}</text>\n"
+    )
+}
+
+fn axes(points: &[Point]) -> String {
+    let mut text = String::new();
+    for rounds in (0..=MOST_ROUNDS).step_by(GRID_STEP as usize) {
+        let height = y(f64::from(rounds));
+        let colour = if rounds == 0 { "#222222" } else { "#e4e4e4" };
+        text += &line((LEFT, height), (WIDTH - RIGHT, height), colour, 1.0, "");
+        text += &label(LEFT - 8.0, height + 4.5, "end", &rounds.to_string());
+    }
+    for (place, point) in placed(points) {
+        text += &label(
+            place,
+            HEIGHT - BOTTOM + 20.0,
+            "middle",
+            &point.n.to_string(),
+        );
+    }
+    let (middle, bottom) = ((LEFT + WIDTH - RIGHT) / 2.0, HEIGHT - 16.0);
+    text += &label(middle, bottom, "middle", "boards in the plant (N)");
+    let half = (TOP + HEIGHT - BOTTOM) / 2.0;
+    let _ = writeln!(
+        text,
+        "<text x=\"24\" y=\"{half:.1}\" text-anchor=\"middle\" transform=\"rotate(-90 24 {half:.1})\">closed rounds</text>"
+    );
+    text
+}
+
+/// A bound: a line with square marks and its numbers.
+fn bound(points: &[Point], rounds: fn(&Point) -> u32, colour: &str, dashes: &str) -> String {
+    let places: Vec<(f64, f64)> = placed(points)
+        .map(|(place, point)| (place, y(f64::from(rounds(point)))))
+        .collect();
+    let mut text = String::new();
+    for pair in places.windows(2) {
+        text += &line(pair[0], pair[1], colour, 2.0, dashes);
+    }
+    for (point, (place, height)) in points.iter().zip(places) {
+        text += &square(place, height, colour);
+        if rounds(point) > 1 {
+            let number = rounds(point).to_string();
+            text += &label(place - 9.0, height - 6.0, "end", &number);
+        }
+    }
+    text
+}
+
+/// For each size a bar from least to greatest, and a dot and a number at the
+/// mean.
+fn observed(points: &[Point]) -> String {
+    let mut text = String::new();
+    for (place, point) in placed(points) {
+        let (least, greatest) = (y(f64::from(point.least)), y(f64::from(point.greatest)));
+        let mean = y(point.mean);
+        text += &bar(place, least, greatest);
+        text += &dot(place, mean);
+        if point.mean > 0.0 {
+            text += &label(
+                place + 12.0,
+                mean + 4.5,
+                "start",
+                &format!("{:.2}", point.mean),
+            );
+        }
+    }
+    text
+}
+
+/// The legend, in the free corner at the top left.
+fn legend() -> String {
+    let row = |k: f64| TOP + 24.0 + 24.0 * k;
+    let left = LEFT + 20.0;
+    let text = |k, words| label(left + 42.0, row(k) + 4.5, "start", words);
+    let sample = |k, colour, dashes| {
+        line((left, row(k)), (left + 30.0, row(k)), colour, 2.0, dashes)
+            + &square(left + 15.0, row(k), colour)
+    };
+    [
+        white(left - 10.0, TOP + 6.0, 380.0, 84.0),
+        sample(0.0, STATED, ""),
+        text(0.0, "d·d: stated and proved"),
+        sample(1.0, SHOWN, "7 4"),
+        text(1.0, "1 + d(d − 1)/2: what the proof shows"),
+        bar(left + 15.0, row(2.0) + 8.0, row(2.0) - 8.0),
+        dot(left + 15.0, row(2.0)),
+        text(2.0, "observed: least, mean and greatest"),
+    ]
+    .concat()
+}
+
+/// A white ground over the grid.
+fn white(x: f64, y: f64, width: f64, height: f64) -> String {
+    format!(
+        "<rect x=\"{x:.1}\" y=\"{y:.1}\" width=\"{width}\" height=\"{height}\" fill=\"#ffffff\"/>\n"
+    )
+}
+
+fn line(from: (f64, f64), to: (f64, f64), colour: &str, width: f64, dashes: &str) -> String {
+    let ((x1, y1), (x2, y2)) = (from, to);
+    let dashes = match dashes {
+        "" => String::new(),
+        _ => format!(" stroke-dasharray=\"{dashes}\""),
+    };
+    format!(
+        "<line x1=\"{x1:.1}\" y1=\"{y1:.1}\" x2=\"{x2:.1}\" y2=\"{y2:.1}\" stroke=\"{colour}\" stroke-width=\"{width}\"{dashes}/>\n"
+    )
+}
+
+fn label(x: f64, y: f64, anchor: &str, text: &str) -> String {
+    format!("<text x=\"{x:.1}\" y=\"{y:.1}\" text-anchor=\"{anchor}\">{text}</text>\n")
+}
+
+fn square(x: f64, y: f64, colour: &str) -> String {
+    let (left, top) = (x - 4.0, y - 4.0);
+    format!("<rect x=\"{left:.1}\" y=\"{top:.1}\" width=\"8\" height=\"8\" fill=\"{colour}\"/>\n")
+}
+
+fn dot(x: f64, y: f64) -> String {
+    format!("<circle cx=\"{x:.1}\" cy=\"{y:.1}\" r=\"4.5\" fill=\"{OBSERVED}\"/>\n")
+}
+
+/// A vertical bar with a cap at each end.
+fn bar(x: f64, low: f64, high: f64) -> String {
+    let cap = |y| line((x - 6.0, y), (x + 6.0, y), OBSERVED, 2.0, "");
+    line((x, low), (x, high), OBSERVED, 2.0, "") + &cap(low) + &cap(high)
+}

@@ -1,0 +1,54 @@
+//! The three implementations of the run, called the same way.
+
+use crate::{plain, Answer};
+use vcube::Tally;
+
+/// An implementation of the run.
+#[derive(Clone, Copy, Debug, PartialEq, Eq)]
+pub enum Contender {
+    Library,
+    Plain,
+    Simulator,
+}
+
+impl Contender {
+    pub const ALL: [Contender; 3] = [Contender::Library, Contender::Plain, Contender::Simulator];
+
+    pub fn from_name(name: &str) -> Option<Contender> {
+        match name {
+            "library" => Some(Contender::Library),
+            "plain" => Some(Contender::Plain),
+            "simulator" => Some(Contender::Simulator),
+            _ => None,
+        }
+    }
+
+    /// Runs a schedule with tallies of 0.
+    pub fn run(self, n: usize, table: &mut [u8], schedule: &[u8], sheet: &mut [u8]) -> Answer {
+        match self {
+            Contender::Library => run_library(n, table, schedule, sheet),
+            Contender::Plain => plain::run(n, table, (0, 0), schedule, sheet),
+            Contender::Simulator => run_simulator(n, table, schedule, sheet),
+        }
+    }
+}
+
+fn run_library(n: usize, table: &mut [u8], schedule: &[u8], sheet: &mut [u8]) -> Answer {
+    let answer = vcube::run(n, table, Tally::default(), schedule, sheet);
+    Answer {
+        number: answer.refusal.map_or(0, |refusal| refusal.number()),
+        taken: answer.taken,
+        rounds: answer.tally.rounds,
+        tests: answer.tally.tests,
+    }
+}
+
+fn run_simulator(n: usize, table: &mut [u8], schedule: &[u8], sheet: &mut [u8]) -> Answer {
+    let answer = simulator::run(n, table, (0, 0), schedule, sheet);
+    Answer {
+        number: answer.number,
+        taken: answer.taken,
+        rounds: answer.rounds,
+        tests: answer.tests,
+    }
+}

@@ -1,0 +1,142 @@
+//! How many rounds close until every live board suspects exactly the dead
+//! ones. Everything is done by the library, one entry a run.
+
+use crate::random::Random;
+use crate::work::unfinished;
+use vcube::Tally;
+
+const TURN: u8 = 1;
+const CRASH: u8 = 3;
+
+/// Which live board that has not finished its pass takes the next turn.
+#[derive(Clone, Copy, Debug, PartialEq, Eq)]
+pub enum Order {
+    /// Any of them, at random.
+    Random,
+    /// Each takes its whole pass, in an order drawn anew for each round.
+    Passes,
+    /// Each takes its whole pass, by rising number.
+    Rising,
+    /// Each takes its whole pass, by falling number.
+    Falling,
+    /// The one whose turn adds the fewest suspicions to the table.
+    Delaying,
+}
+
+/// A plant and its closed rounds.
+struct Plant {
+    n: usize,
+    table: Vec<u8>,
+    rounds: u32,
+}
+
+/// The closed rounds until every live board suspects exactly the dead ones,
+/// from a fresh table on which the dead boards crash first. Stops the program
+/// if they are more than d·d.
+pub fn rounds_until_known(n: usize, dead: &[usize], order: Order, random: &mut Random) -> u32 {
+    let mut plant = Plant::new(n, dead);
+    while !plant.dead_are_known() {
+        plant.play_round(order, random);
+        assert!(plant.rounds <= n.ilog2().pow(2), "more than d·d rounds");
+    }
+    plant.rounds
+}
+
+/// Random dead boards; at least two boards are live, and one is dead unless
+/// N is 2. The number of live boards is drawn from 2 to a power of two that is
+/// drawn first, since few live boards take the most rounds.
+pub fn random_dead(n: usize, random: &mut Random) -> Vec<usize> {
+    let power = 2 << random.below(n.ilog2() as usize);
+    let most = power.min(n - 1).max(2);
+    let live = 2 + random.below(most - 1);
+    let mut boards = random.order(n);
+    boards.truncate(n - live);
+    boards
+}
+
+impl Plant {
+    fn new(n: usize, dead: &[usize]) -> Plant {
+        let mut plant = Plant {
+            n,
+            table: vec![0; vcube::table_length(n)],
+            rounds: 0,
+        };
+        vcube::fresh_table(n, &mut plant.table).expect("a size of the list");
+        for i in dead {
+            plant.take(CRASH, *i);
+        }
+        plant
+    }
+
+    /// Carries out one entry.
+    fn take(&mut self, kind: u8, i: usize) {
+        self.rounds += run_entry(self.n, &mut self.table, kind, i);
+    }
+
+    fn play_round(&mut self, order: Order, random: &mut Random) {
+        let before = self.rounds;
+        let passes = self.pass_order(order, random);
+        while self.rounds == before {
+            let ready = unfinished(self.n, &self.table);
+            let i = match order {
+                Order::Random => random.pick(&ready),
+                Order::Delaying => self.most_delaying(ready, random),
+                _ => first_of(&passes, &ready),
+            };
+            self.take(TURN, i);
+        }
+    }
+
+    /// The order of the whole passes in this round, where the order has one.
+    fn pass_order(&self, order: Order, random: &mut Random) -> Vec<usize> {
+        match order {
+            Order::Passes => random.order(self.n),
+            Order::Falling => (0..self.n).rev().collect(),
+            Order::Rising => (0..self.n).collect(),
+            Order::Random | Order::Delaying => Vec::new(),
+        }
+    }
+
+    /// The ready board whose turn leaves the fewest suspicions in the table;
+    /// of several, one at random.
+    fn most_delaying(&self, mut ready: Vec<usize>, random: &mut Random) -> usize {
+        random.shuffle(&mut ready);
+        let now = suspicions(self.n, &self.table);
+        let mut least = (usize::MAX, ready[0]);
+        for i in ready {
+            let mut table = self.table.clone();
+            run_entry(self.n, &mut table, TURN, i);
+            least = least.min((suspicions(self.n, &table), i));
+            if least.0 == now {
+                break;
+            }
+        }
+        least.1
+    }
+
+    /// Whether every live board suspects exactly the boards that are not live.
+    fn dead_are_known(&self) -> bool {
+        let lines = || self.table.chunks_exact(self.n + 4);
+        let dead: Vec<u8> = lines().map(|line| u8::from(line[0] != 0)).collect();
+        lines().all(|line| line[0] != 0 || line[4..] == dead)
+    }
+}
+
+/// Runs one entry, which must be taken; gives the rounds it closed.
+fn run_entry(n: usize, table: &mut [u8], kind: u8, i: usize) -> u32 {
+    let answer = vcube::run(n, table, Tally::default(), &[kind, i as u8], &mut [0; 4]);
+    assert_eq!((answer.refusal, answer.taken), (None, 1));
+    answer.tally.rounds
+}
+
+/// The first board of the order that is ready.
+fn first_of(order: &[usize], ready: &[usize]) -> usize {
+    let first = order.iter().find(|i| ready.contains(i));
+    *first.expect("a board is ready in an open round")
+}
+
+/// How many suspicions the rows of the table hold.
+fn suspicions(n: usize, table: &[u8]) -> usize {
+    let rows = table.chunks_exact(n + 4).map(|line| &line[4..]);
+    rows.flatten().map(|byte| usize::from(*byte)).sum()
+}

@@ -1,0 +1,147 @@
+//! Plain Rust against the simulator: every byte and every answer.
+
+use crate::random::Random;
+use crate::work::{table_with_crashed, unfinished, Work};
+use crate::{plain, Answer};
+
+const SIZES: [usize; 6] = [2, 4, 8, 16, 32, 64];
+
+/// Both give the same answer, table and sheet, which are given back.
+fn compare(
+    n: usize,
+    table: &[u8],
+    tally: (u32, u32),
+    schedule: &[u8],
+    sheet: usize,
+) -> (Answer, Vec<u8>, Vec<u8>) {
+    let (mut table_a, mut table_b) = (table.to_vec(), table.to_vec());
+    let (mut sheet_a, mut sheet_b) = (vec![7; sheet], vec![7; sheet]);
+    let answer = plain::run(n, &mut table_a, tally, schedule, &mut sheet_a);
+    let other = simulator::run(n, &mut table_b, tally, schedule, &mut sheet_b);
+    assert_eq!((answer.number, answer.taken), (other.number, other.taken));
+    assert_eq!((answer.rounds, answer.tests), (other.rounds, other.tests));
+    assert_eq!(table_a, table_b);
+    assert_eq!(sheet_a, sheet_b);
+    (answer, table_a, sheet_a)
+}
+
+/// A random entry: mostly a turn that is taken, sometimes late, seldom a
+/// crash or any two bytes.
+fn random_entry(n: usize, table: &[u8], random: &mut Random) -> [u8; 2] {
+    let ready = unfinished(n, table);
+    let kind = match random.below(100) {
+        0 => 3,
+        1..=6 => 2,
+        _ => 1,
+    };
+    if ready.is_empty() || random.below(200) == 0 {
+        [random.below(5) as u8, random.below(n + 2) as u8]
+    } else {
+        [kind, random.pick(&ready) as u8]
+    }
+}
+
+/// Entries chosen one after the other by the table that each leaves.
+fn random_schedule(n: usize, table: &[u8], random: &mut Random) -> Vec<u8> {
+    let mut table = table.to_vec();
+    let mut schedule = Vec::new();
+    for _ in 0..random.below(200) {
+        let entry = random_entry(n, &table, random);
+        simulator::run(n, &mut table, (0, 0), &entry, &mut [0; 4]);
+        schedule.extend(entry);
+    }
+    schedule
+}
+
+#[test]
+fn random_schedules() {
+    let mut random = Random::new(11);
+    let mut outcomes = [0; 5];
+    let mut statuses = [0; 4];
+    for n in SIZES {
+        for _ in 0..100 {
+            let mut table = table_with_crashed(n, &[]);
+            for _ in 0..5 {
+                let schedule = random_schedule(n, &table, &mut random);
+                let sheet = 2 * schedule.len();
+                let (answer, after, sheet) = compare(n, &table, (3, 5), &schedule, sheet);
+                for line in sheet.chunks_exact(4).take(answer.taken) {
+                    outcomes[usize::from(line[2])] += 1;
+                    statuses[usize::from(line[3])] += 1;
+                }
+                table = after;
+            }
+        }
+    }
+    assert!(outcomes.iter().all(|many| *many > 50), "{outcomes:?}");
+    assert!(statuses.iter().all(|many| *many > 50), "{statuses:?}");
+}
+
+#[test]
+fn schedules_of_the_benchmark() {
+    let mut random = Random::new(12);
+    for n in SIZES {
+        for dead in [0, n / 4, n / 2] {
+            let work = Work::new(n, dead.min(n - 2), 1000, &mut random);
+            let sheet = 2 * work.schedule.len();
+            let (answer, _, _) = compare(n, &work.table, (0, 0), &work.schedule, sheet);
+            assert_eq!((answer.number, answer.taken), (0, 1000));
+        }
+    }
+}
+
+#[test]
+fn damaged_tables() {
+    let mut random = Random::new(13);
+    for n in SIZES {
+        let work = Work::new(n, 0, 100, &mut random);
+        for _ in 0..500 {
+            let mut table = work.table.clone();
+            let place = random.below(table.len());
+            table[place] = random.below(n + 3) as u8;
+            compare(n, &table, (0, 0), &work.schedule, 400);
+        }
+    }
+}
+
+#[test]
+fn every_live_one_finished() {
+    for n in SIZES {
+        let mut table = table_with_crashed(n, &[0]);
+        for line in table.chunks_exact_mut(n + 4) {
+            line[1] = n as u8;
+            line[2] = 1;
+        }
+        let (answer, _, _) = compare(n, &table, (0, 0), &[1, 1], 4);
+        assert_eq!(answer.number, 4);
+    }
+}
+
+#[test]
+fn sizes_and_lengths() {
+    let mut random = Random::new(14);
+    for n in 0..130 {
+        for _ in 0..50 {
+            let table = vec![1; n * (n + 4) + random.below(3)];
+            let schedule = vec![1; random.below(5)];
+            compare(n, &table, (0, 0), &schedule, random.below(12));
+        }
+    }
+    for n in SIZES {
+        let table = table_with_crashed(n, &[]);
+        for (schedule, sheet) in [(3, 6), (2, 3), (2, 5), (2, 4), (0, 0), (0, 1)] {
+            compare(n, &table, (0, 0), &vec![1; schedule], sheet);
+        }
+    }
+}
+
+#[test]
+fn tallies_at_their_end() {
+    let table = table_with_crashed(2, &[]);
+    let schedule = [1, 0, 1, 0, 1, 1, 1, 1, 1, 0];
+    for less in 0..4 {
+        let end = u32::MAX - less;
+        compare(2, &table, (end, 0), &schedule, 20);
+        compare(2, &table, (0, end), &schedule, 20);
+    }
+}
