@@ -2,11 +2,10 @@
 -- Assumes nothing.
 use mathlib.Core.Path.{_≡_, refl, sym}
 use mathlib.Core.List.{List, [], _∷_}
-use Prim.Native.Nat.{ℕ, zero, suc}
+use Prim.Native.Nat.{ℕ}
 use native.Mathlib.Omega.{arith}
 use borrow.Author.Tests.{eq-eqb, ne-eqb}
 use lib.ListN.{length, set}
-use Rattle.station.specs.Rules.{_else_}
 use Rattle.station.specs.Calls.{lengthRefusal}
 use Rattle.station.proofs.Refusals.{unless-refused, unless-accepted}
 use Rattle.exports.specs.Exports.{lent}
@@ -24,11 +23,6 @@ module _ (stated : ℕ) (buffer : List ℕ) where
 
   pub lent-missed {ℓ} : {A : Type ℓ} (x y : A) → (length buffer ≡ stated → ⊥) → x ≡ lent stated buffer x y
   lent-missed x y h = unless-refused 13 _ x y (sym (length-missed h)) (λ z. omega arith)
-
--- a refusal that is 0 changes nothing, at the end of a list of refusals
-pub else-none : (a : ℕ) → (a else 0) ≡ a
-else-none zero = refl
-else-none (suc a) = refl
 
 -- a buffer of one byte, written
 pub one-written : (l : List ℕ) (v : ℕ) → length l ≡ 1 → set l 0 v ≡ v ∷ []

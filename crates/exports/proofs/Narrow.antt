@@ -1,10 +1,10 @@
 -- A station and a level are handed on as a byte, 255 for all that are greater. Each definition gives the same of the number and of its byte:
 -- a plant has at most 64 stations and 6 levels, so that station 255 and all above meet refusal 9, and such a level 12, or an earlier one.
 -- Assumes nothing.
-use mathlib.Core.Path.{_≡_, refl, sym, ap, _∙_}
+use mathlib.Core.Path.{_≡_, sym, ap, _∙_}
 use mathlib.Core.Bool.{true, not, _||_}
 use mathlib.Core.List.{List}
-use Prim.Native.Nat.{ℕ, zero, suc, min, _≤_, _<_}
+use Prim.Native.Nat.{ℕ, min, _≤_, _<_}
 use native.Mathlib.Decide.{decLt}
 use native.Mathlib.Omega.{arith}
 use borrow.Author.Tests.{ne-eqb, lt-ltb, le-leb, not-false}
@@ -13,7 +13,7 @@ use lib.ListN.{length}
 use Rattle.station.specs.Groups.{isSize, dimension, width, group}
 use Rattle.station.specs.Rules.{refuse, _else_, tableNumber}
 use Rattle.station.specs.Calls.{unless, stationRefusal, lengthRefusal, groupNumber, groupAfter, rowNumber, assignmentNumber, assignmentAfter, assignmentCount}
-use Rattle.station.proofs.Refusals.{else-first, else-zero, refuse-zero, unless-refused, accepted}
+use Rattle.station.proofs.Refusals.{else-first, else-same, else-not, refuse-zero, unless-refused, accepted}
 use Rattle.station.proofs.Sizes.{size-bounds, size-dimension}
 use Rattle.exports.specs.Exports.{exportedRowStart, exportedRowLength}
 
@@ -33,15 +33,6 @@ narrow f v far x b e = pick (decLt x 255)
 narrow-unless {ℓ} : {A : Type ℓ} (f : ℕ → ℕ) (v : ℕ) (a : A) (g : ℕ → A) → ((x : ℕ) → 255 ≤ x → f x ≡ v) → (v ≡ 0 → ⊥)
     → Narrow (λ x. unless (f x) a (g x))
 narrow-unless f v a g far h = narrow (λ x. unless (f x) a (g x)) a (λ x l. sym (unless-refused v (f x) a (g x) (sym (far x l)) h))
-
--- a later refusal matters only where the earlier one is 0
-else-same : (a b b′ : ℕ) → (a ≡ 0 → b ≡ b′) → (a else b) ≡ (a else b′)
-else-same zero b b′ h = h refl
-else-same (suc a) b b′ h = refl
-
--- a list of refusals that ends with one that applies
-else-not : (a b : ℕ) → (b ≡ 0 → ⊥) → (a else b) ≡ 0 → ⊥
-else-not a b h z = h (else-zero a b z .1)
 
 sized : (n : ℕ) → refuse 1 (not (isSize n)) ≡ 0 → isSize n ≡ true
 sized n z = not-false _ (refuse-zero 0 _ z)

@@ -24,6 +24,20 @@ pub else-zero : (a b : ℕ) → (a else b) ≡ 0 → (a ≡ 0) × (b ≡ 0)
 else-zero zero b e = (refl, e)
 else-zero (suc a) b e = absurd (omega arith)
 
+-- a refusal that is 0 changes nothing, at the end of a list of refusals
+pub else-none : (a : ℕ) → (a else 0) ≡ a
+else-none zero = refl
+else-none (suc a) = refl
+
+-- a later refusal matters only where the earlier one is 0
+pub else-same : (a b b′ : ℕ) → (a ≡ 0 → b ≡ b′) → (a else b) ≡ (a else b′)
+else-same zero b b′ h = h refl
+else-same (suc a) b b′ h = refl
+
+-- a list of refusals that ends with one that applies
+pub else-not : (a b : ℕ) → (b ≡ 0 → ⊥) → (a else b) ≡ 0 → ⊥
+else-not a b h z = h (else-zero a b z .1)
+
 pub refuse-zero : (k : ℕ) (b : Bool) → refuse (suc k) b ≡ 0 → b ≡ false
 refuse-zero k true e = absurd (omega arith)
 refuse-zero k false e = refl

@@ -5,10 +5,10 @@ use mathlib.Core.Path.{ap, _∙_}
 use mathlib.Core.List.{[], _∷_}
 use Prim.Native.Nat.{ℕ}
 use borrow.Author.Needs.{needs}
-use Rattle.station.proofs.Refusals.{else-first}
+use Rattle.station.proofs.Refusals.{else-none, else-first}
 use Rattle.exports.specs.Exports.{exportedAssignmentNumber, exportedAssignmentList, exportedAssignmentCount}
 use Rattle.exports.proofs.Narrow.{assignment-number-narrow, assignment-after-narrow, assignment-count-narrow}
-use Rattle.exports.proofs.Lent.{length-met, length-missed, lent-met, lent-missed, else-none, one-written}
+use Rattle.exports.proofs.Lent.{length-met, length-missed, lent-met, lent-missed, one-written}
 use Rattle.exports.proofs.vcube_assignment.Statement.{statement}
 use Rattle.exports.proofs.vcube_assignment.Tie as tie
 
