@@ -3,18 +3,20 @@ ghost use mathlib.Core.Path.{_≡_};
 ghost use Prim.Native.Nat.{_+_, _<_};
 ghost use mathlib.Core.Bool.{cond};
 ghost use lib.ListN.{length};
+ghost use Rattle.station.specs.Table.{tableLength};
 ghost use Rattle.station.specs.Rules.{tableNumber};
 ghost use Rattle.plant.specs.Entry.{stateOf, entryOf, entryNumber, acted, after, testedOf, outcomeOf, sheetLine};
 use crate::Tally;
+use crate::inside;
 use crate::rounds;
 use crate::turn;
 use crate::turn::Turned;
 use station::Station;
 use station::cells;
-use station::rules;
 
 // Refusals 7 to 11, or 0.
 pub(crate) fn entry_number(n: u8, table: &[u8], tally: Tally, kind: u8, i: Station) -> u8
+    requires { ⌜ length (now table) ≡ tableLength n ⌝ }
     ensures { λ r. ⌜ r ≡ entryNumber n (stateOf (now (table .entry)) (tally .rounds) (tally .tests)) (entryOf kind (i .0)) ⌝ }
 {
     if (tally.rounds == 4294967295) | (tally.tests == 4294967295) {
@@ -26,10 +28,10 @@ pub(crate) fn entry_number(n: u8, table: &[u8], tally: Tally, kind: u8, i: Stati
     if n <= i.0 {
         return 9;
     }
-    if !rules::is_live(n, table, i) {
+    if inside::get(n, table, i, cells::STATUS) != 0 {
         return 10;
     }
-    let finished = cells::get_cell(n, table, i, cells::FINISHED);
+    let finished = inside::get(n, table, i, cells::FINISHED);
     if (kind != 3) & (finished == 1) {
         return 11;
     }
@@ -56,7 +58,7 @@ pub(crate) fn take_entry(
     line[0] = i.0;
     line[1] = done.tested;
     line[2] = done.outcome;
-    line[3] = cells::get_cell(n, table, i, cells::STATUS);
+    line[3] = inside::get(n, table, i, cells::STATUS);
     let made = done.outcome != 0;
     Tally {
         rounds: grown(tally.rounds, over),
@@ -72,7 +74,7 @@ fn act(n: u8, table: &mut [u8], kind: u8, i: Station) -> Turned
     ensures { λ _. ⌜ now (table .exit) ≡ acted n (now (table .entry)) (entryOf kind (i .0)) ⌝ }
 {
     if kind == 3 {
-        cells::set_cell(n, table, i, cells::STATUS, 1);
+        inside::put(n, table, i, cells::STATUS, 1);
         return Turned {
             tested: 255,
             outcome: 4,

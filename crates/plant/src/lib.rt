@@ -1,6 +1,7 @@
 // The plant run of the vCube watch (document 01, "What an entry does" and the run): entries, rounds, the tally. It stands above `station`
 // and relies only on what that crate states. The one call is run::run.
 mod entry;
+mod inside;
 mod rounds;
 pub mod run;
 mod turn;

@@ -1,14 +1,17 @@
 // Closing a round (document 01, step 8).
 ghost use mathlib.Core.Path.{_≡_};
 ghost use Prim.Native.Nat.{_<_};
+ghost use lib.ListN.{length};
+ghost use Rattle.station.specs.Table.{tableLength};
 ghost use Rattle.plant.specs.Turn.{roundOver, resetLine, resetLines, afterRound};
+use crate::inside;
 use station::Station;
 use station::cells;
 use station::rules;
 
 // Closes the round if a station is live and all live ones are finished; answers whether it closed. i is the station of the entry.
 pub(crate) fn close_round(n: u8, table: &mut [u8], i: Station) -> bool
-    requires { ⌜ i .0 < n ⌝ }
+    requires { ⌜ (length (now table) ≡ tableLength n) × (i .0 < n) ⌝ }
     ensures { λ r. ⌜ r ≡ roundOver n (now (table .entry)) ⌝ }
     ensures { λ _. ⌜ now (table .exit) ≡ afterRound n (now (table .entry)) ⌝ }
 {
@@ -32,6 +35,7 @@ fn round_over(n: u8, table: &[u8], i: Station) -> bool
 
 // Every line, live or not, begins a new round.
 fn reset_lines(n: u8, table: &mut [u8])
+    requires { ⌜ length (now table) ≡ tableLength n ⌝ }
     ensures { λ _. ⌜ now (table .exit) ≡ resetLines n (now (table .entry)) ⌝ }
 {
     let mut i: u8 = 0;
@@ -43,9 +47,10 @@ fn reset_lines(n: u8, table: &mut [u8])
 
 // Next distance 1, finished 0, tests 0.
 fn reset_line(n: u8, table: &mut [u8], i: Station)
+    requires { ⌜ (length (now table) ≡ tableLength n) × (i .0 < n) ⌝ }
     ensures { λ _. ⌜ now (table .exit) ≡ resetLine n (i .0) (now (table .entry)) ⌝ }
 {
-    cells::set_cell(n, table, i, cells::NEXT, 1);
-    cells::set_cell(n, table, i, cells::FINISHED, 0);
-    cells::set_cell(n, table, i, cells::TESTS, 0);
+    inside::put(n, table, i, cells::NEXT, 1);
+    inside::put(n, table, i, cells::FINISHED, 0);
+    inside::put(n, table, i, cells::TESTS, 0);
 }

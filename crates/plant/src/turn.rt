@@ -1,23 +1,21 @@
 // A turn of one station (document 01, steps 2 to 6).
 ghost use mathlib.Core.Path.{_≡_};
 ghost use Prim.Native.Nat.{_-_, _<_, _≤_};
-ghost use mathlib.Core.List.{_++_};
-ghost use lib.Dec.{eqb};
-ghost use lib.ListN.{length, getD, drop};
-ghost use Rattle.station.specs.Search.{least, every};
+ghost use lib.ListN.{length};
+ghost use Rattle.station.specs.Search.{least};
 ghost use Rattle.station.specs.Table.{tableLength, testsMade, row, setRow};
 ghost use Rattle.station.specs.Groups.{stationAt};
-ghost use Rattle.station.specs.Rows.{union};
+ghost use Rattle.station.specs.Rows.{union, sameRows, united};
 ghost use Rattle.station.specs.Rules.{tableNumber};
 ghost use Rattle.station.specs.Tests.{due};
 ghost use Rattle.plant.specs.Turn.{nextTest, finishPass, countTest, replies, isTold, exchangeRows, suspect, afterTest, testOutcome, selfOrSuspected, isAlone, afterAlone, testing, turn, turnTested, turnOutcome};
+use crate::inside;
 use station::Distance;
 use station::Station;
 use station::cells;
 use station::due;
 use station::order;
 use station::rows;
-use station::rules;
 
 // What a turn puts on the sheet: the tested station or 255, and the outcome.
 pub struct Turned {
@@ -53,7 +51,7 @@ fn next_test(n: u8, table: &[u8], i: Station) -> Distance
     requires { ⌜ (length (now table) ≡ tableLength n) × (i .0 < n) ⌝ }
     ensures { λ r. ⌜ r .0 ≡ nextTest n (now (table .entry)) (i .0) ⌝ }
 {
-    let next = cells::get_cell(n, table, i, cells::NEXT);
+    let next = inside::get(n, table, i, cells::NEXT);
     let a = cells::row_start(n, i);
     let e = a + n as usize;
     scan(&table[a..e], i, n, Distance(next))
@@ -75,10 +73,11 @@ fn scan(row: &[u8], i: Station, n: u8, from: Distance) -> Distance
 
 // Step 2: no distance is due any more.
 fn finish_pass(n: u8, table: &mut [u8], i: Station)
+    requires { ⌜ (length (now table) ≡ tableLength n) × (i .0 < n) ⌝ }
     ensures { λ _. ⌜ now (table .exit) ≡ finishPass n (now (table .entry)) (i .0) ⌝ }
 {
-    cells::set_cell(n, table, i, cells::NEXT, n);
-    cells::set_cell(n, table, i, cells::FINISHED, 1);
+    inside::put(n, table, i, cells::NEXT, n);
+    inside::put(n, table, i, cells::FINISHED, 1);
 }
 
 // Steps 3 to 6: station i tests the station at distance m. The answer is the outcome.
@@ -96,12 +95,12 @@ fn make_test(n: u8, table: &mut [u8], kind: u8, i: Station, m: Distance) -> u8
 
 // Step 3: next distance and tests of i.
 fn count_test(n: u8, table: &mut [u8], i: Station, m: Distance)
-    requires { ⌜ (m .0 < 255) × (testsMade n (now table) (i .0) < 255) ⌝ }
+    requires { ⌜ (length (now table) ≡ tableLength n) × (i .0 < n) × (m .0 < 255) × (testsMade n (now table) (i .0) < 255) ⌝ }
     ensures { λ _. ⌜ now (table .exit) ≡ countTest n (now (table .entry)) (i .0) (m .0) ⌝ }
 {
-    let tests = cells::get_cell(n, table, i, cells::TESTS);
-    cells::set_cell(n, table, i, cells::NEXT, m.0 + 1);
-    cells::set_cell(n, table, i, cells::TESTS, tests + 1);
+    let tests = inside::get(n, table, i, cells::TESTS);
+    inside::put(n, table, i, cells::NEXT, m.0 + 1);
+    inside::put(n, table, i, cells::TESTS, tests + 1);
 }
 
 // Steps 4 and 5: the reply of j, or none. The answer is the outcome.
@@ -115,7 +114,7 @@ fn hear_reply(n: u8, table: &mut [u8], kind: u8, i: Station, j: Station) -> u8
         return 3;
     }
     if is_told(n, table, i, j) {
-        cells::set_cell(n, table, i, cells::STATUS, 2);
+        inside::put(n, table, i, cells::STATUS, 2);
         return 2;
     }
     exchange_rows(n, table, i, j);
@@ -124,17 +123,20 @@ fn hear_reply(n: u8, table: &mut [u8], kind: u8, i: Station, j: Station) -> u8
 
 // Step 4: whether j replies in time.
 fn does_reply(n: u8, table: &[u8], kind: u8, j: Station) -> bool
+    requires { ⌜ (length (now table) ≡ tableLength n) × (j .0 < n) ⌝ }
     ensures { λ r. ⌜ r ≡ replies n (now (table .entry)) kind (j .0) ⌝ }
 {
-    rules::is_live(n, table, j) & (kind == 1)
+    let status = inside::get(n, table, j, cells::STATUS);
+    (status == 0) & (kind == 1)
 }
 
 // Step 4: whether j suspects i.
 fn is_told(n: u8, table: &[u8], i: Station, j: Station) -> bool
+    requires { ⌜ (length (now table) ≡ tableLength n) × (i .0 < n) × (j .0 < n) ⌝ }
     ensures { λ r. ⌜ r ≡ isTold n (now (table .entry)) (i .0) (j .0) ⌝ }
 {
     let of = i.0;
-    cells::get_cell(n, table, j, cells::HEAD + of as u16) == 1
+    inside::get(n, table, j, cells::HEAD + of as u16) == 1
 }
 
 // Step 5: i suspects j. The row is lent as a part of the table.
@@ -163,36 +165,28 @@ fn exchange_rows(n: u8, table: &mut [u8], i: Station, j: Station)
     join_into(n, table, j, &both[..size]);
 }
 
-// Whether two rows hold the same bytes.
+// Whether the rows of i and j hold the same bytes.
 fn same_rows(n: u8, table: &[u8], i: Station, j: Station) -> bool
     requires { ⌜ (length (now table) ≡ tableLength n) × (i .0 < n) × (j .0 < n) ⌝ }
-    ensures { λ r. ⌜ r ≡ every (λ k. eqb (getD (row n (now (table .entry)) (i .0)) k 0) (getD (row n (now (table .entry)) (j .0)) k 0)) n ⌝ }
+    ensures { λ r. ⌜ r ≡ sameRows (row n (now (table .entry)) (i .0)) (row n (now (table .entry)) (j .0)) ⌝ }
 {
-    let size = n as usize;
     let a = cells::row_start(n, i);
+    let e = a + n as usize;
     let b = cells::row_start(n, j);
-    let mut apart: u8 = 0;
-    let mut k: usize = 0;
-    while k < size {
-        apart = rows::greater(apart, table[a + k] ^ table[b + k]);
-        k += 1;
-    }
-    apart == 0
+    let f = b + n as usize;
+    rows::same_rows(&table[a..e], &table[b..f])
 }
 
-// Writes the union of all bytes of two rows to the front of a buffer.
+// Writes the union of the rows of i and j to the front of a buffer.
 fn unite_rows(n: u8, table: &[u8], i: Station, j: Station, out: &mut [u8])
-    requires { ⌜ (length (now table) ≡ tableLength n) × (i .0 < n) × (j .0 < n) × (n ≤ length (now out)) ⌝ }
-    ensures { λ _. ⌜ now (out .exit) ≡ union (row n (now (table .entry)) (i .0)) (row n (now (table .entry)) (j .0)) n ++ drop n (now (out .entry)) ⌝ }
+    requires { ⌜ (length (now table) ≡ tableLength n) × (i .0 < n) × (j .0 < n) ⌝ }
+    ensures { λ _. ⌜ now (out .exit) ≡ united (row n (now (table .entry)) (i .0)) (row n (now (table .entry)) (j .0)) (now (out .entry)) ⌝ }
 {
-    let size = n as usize;
     let a = cells::row_start(n, i);
+    let e = a + n as usize;
     let b = cells::row_start(n, j);
-    let mut k: usize = 0;
-    while k < size {
-        out[k] = rows::greater(table[a + k], table[b + k]);
-        k += 1;
-    }
+    let f = b + n as usize;
+    rows::unite_rows(&table[a..e], &table[b..f], out);
 }
 
 // Joins another row into the row of station i, lent as a part of the table.
@@ -207,18 +201,20 @@ fn join_into(n: u8, table: &mut [u8], i: Station, other: &[u8])
 
 // Step 6: i leaves if it is live and suspects all others.
 fn leave_if_alone(n: u8, table: &mut [u8], i: Station)
+    requires { ⌜ (length (now table) ≡ tableLength n) × (i .0 < n) ⌝ }
     ensures { λ _. ⌜ now (table .exit) ≡ afterAlone n (now (table .entry)) (i .0) ⌝ }
 {
     if suspects_all(n, table, i) {
-        cells::set_cell(n, table, i, cells::STATUS, 3);
+        inside::put(n, table, i, cells::STATUS, 3);
     }
 }
 
 // Step 6: whether i is live and suspects all others.
 fn suspects_all(n: u8, table: &[u8], i: Station) -> bool
+    requires { ⌜ (length (now table) ≡ tableLength n) × (i .0 < n) ⌝ }
     ensures { λ r. ⌜ r ≡ isAlone n (now (table .entry)) (i .0) ⌝ }
 {
-    if !rules::is_live(n, table, i) {
+    if inside::get(n, table, i, cells::STATUS) != 0 {
         return false;
     }
     let mut k: u8 = 0;
@@ -231,10 +227,12 @@ fn suspects_all(n: u8, table: &[u8], i: Station) -> bool
     true
 }
 
+// Whether k is i or i suspects it.
 fn self_or_suspected(n: u8, table: &[u8], i: Station, k: Station) -> bool
+    requires { ⌜ (length (now table) ≡ tableLength n) × (i .0 < n) × (k .0 < n) ⌝ }
     ensures { λ r. ⌜ r ≡ selfOrSuspected n (now (table .entry)) (i .0) (k .0) ⌝ }
 {
     let of = k.0;
-    let byte = cells::get_cell(n, table, i, cells::HEAD + of as u16);
+    let byte = inside::get(n, table, i, cells::HEAD + of as u16);
     (of == i.0) | (byte == 1)
 }

@@ -4,19 +4,23 @@ use mathlib.Core.Path.{_≡_, refl, sym, ap, subst, _∙_}
 use mathlib.Core.Bool.{Bool, true, false, _&&_, _||_}
 use mathlib.Core.List.{List, _++_}
 use mathlib.Core.Logic.{_≢_}
-use Prim.Native.Nat.{ℕ, _+_, _-_, _/_, _%_, min, max, _≤_, _<_}
+use Prim.Native.Nat.{ℕ, zero, suc, _+_, _-_, _/_, _%_, min, max, _≤_, _<_}
 use native.Mathlib.Decide.{decLt, ℕ-discrete}
-use native.Mathlib.Nat.{suc-mul, mul-le-mul-right}
+use native.Mathlib.Nat.{suc-mul, mul-le-mul-right, zero-max}
+use native.Mathlib.Numerals.{add-one}
 use native.Mathlib.Omega.{arith}
-use borrow.Author.Tests.{leb-true, eqb-true, eqb-false, le-leb, eq-eqb, ne-eqb}
+use borrow.Author.Tests.{leb-true, eqb-true, eqb-false, le-leb, lt-leb, eq-eqb, ne-eqb}
+use lib.Bits.{bitXor, xor-self}
 use lib.Arith.{digits-div, digits-mod}
 use lib.Dec.{eqb}
 use lib.ListN.{length, getD, set, take, drop, length-append, length-take, length-drop, length-set, List·getD-append, List·getD-eq-default}
 use lib.Seq.{length-take-le, getD-append-add, getD-take, getD-drop, getD-set-same, getD-set-other, ext-getD}
 use Rattle.station.specs.Table.{head, stride, tableLength, lineStart, cell, setCell, status, nextDistance, finished, testsMade, suspects, rowStart, row, setRow}
 use Rattle.station.specs.Rules.{suspicionRule, rowRule, lineRules}
-use Rattle.station.specs.Rows.{unionByte, union, mark}
+use Rattle.station.specs.Rows.{unionByte, union, sameByte, sameRows, united, mark}
+use Rattle.station.specs.Search.{every}
 use Rattle.station.proofs.SearchLaws.{both, every-at, every-all, listOf-length, listOf-at, listOf-same}
+use Rattle.station.proofs.Xor.{xor-zero-eq}
 use Rattle.station.proofs.Loops.{filled, filled-rest}
 use Rattle.station.proofs.Refusals.{Accepted}
 
@@ -168,6 +172,55 @@ union-kept r o t own e h =
 pub union-beyond : (r o t : List ℕ) (own : ℕ) → t ≡ union r o (length r) → length r ≤ own → t ≡ union r o own
 unfolding union
 union-beyond r o t own e h = e ∙ listOf-same _ _ (length r) (λ k l. union-others r o (length r) k (λ q. omega arith) ∙ sym (union-others r o own k (λ q. omega arith)))
+
+-- the greatest exclusive or of two bytes so far is 0 as long as all were the same
+pub same-next : (r o : List ℕ) (k apart x : ℕ) → eqb apart 0 ≡ every (sameByte r o) k → x ≡ max apart (bitXor (getD r k 0) (getD o k 0))
+    → eqb x 0 ≡ every (sameByte r o) (k + 1)
+unfolding every sameByte
+same-next r o k apart x e f =
+    let u : ℕ = getD r k 0 in
+    let v : ℕ = getD o k 0 in
+    rw (f, add-one, ← e) (max-zero apart (bitXor u v) ∙ ap (_&&_ (eqb apart 0)) (xor-zero u v (ℕ-discrete u v)))
+  where
+    max-zero : (c d : ℕ) → eqb (max c d) 0 ≡ (eqb c 0 && eqb d 0)
+    max-zero zero d = rw zero-max
+    max-zero (suc c) d = rw (ne-eqb (suc c) 0 (λ z. omega arith)) (ne-eqb (max (suc c) d) 0 (λ z. omega arith))
+
+    xor-zero : (u v : ℕ) → Dec (u ≡ v) → eqb (bitXor u v) 0 ≡ eqb u v
+    xor-zero u v (yes q) = rw q (eq-eqb (bitXor v v) 0 (xor-self v) ∙ sym (eq-eqb v v refl))
+    xor-zero u v (no d) = ne-eqb (bitXor u v) 0 (λ z. d (xor-zero-eq u v z)) ∙ sym (ne-eqb u v d)
+
+pub same-apart : (r o : List ℕ) → (length r ≡ length o → ⊥) → false ≡ sameRows r o
+unfolding sameRows
+same-apart r o h = rw (ne-eqb (length r) (length o) h)
+
+pub same-done : (r o : List ℕ) (k : ℕ) (b : Bool) → length r ≡ length o → b ≡ every (sameByte r o) k → k ≤ length r → length r ≤ k → b ≡ sameRows r o
+unfolding sameRows
+same-done r o k b h e l m = let x : k ≡ length r = omega arith in rw (eq-eqb (length r) (length o) h) (e ∙ ap (every (sameByte r o)) x)
+
+pub same-rows : (r o : List ℕ) → sameRows r o ≡ true → r ≡ o
+unfolding sameRows sameByte
+same-rows r o e =
+    let p = both _ _ e in
+    ext-getD 0 r o (eqb-true _ _ (p .0)) (λ k h. eqb-true _ _ (every-at _ (length r) k (p .1) h))
+
+-- the union of two rows in a buffer
+pub united-apart : (r o out : List ℕ) → (length r ≡ length o → ⊥) → out ≡ united r o out
+unfolding united
+united-apart r o out h = rw (ne-eqb (length r) (length o) h)
+
+pub united-short : (r o out : List ℕ) → length r ≡ length o → length out < length r → out ≡ united r o out
+unfolding united
+united-short r o out e h = rw (eq-eqb (length r) (length o) e, lt-leb (length r) (length out) h)
+
+pub united-fits : (r o out : List ℕ) → length r ≡ length o → length r ≤ length out → united r o out ≡ union r o (length r) ++ drop (length r) out
+unfolding united
+united-fits r o out e h = rw (eq-eqb (length r) (length o) e, le-leb (length r) (length out) h)
+
+pub united-filled : (r o out : List ℕ) (k : ℕ) (t : List ℕ) → length r ≡ length o → length r ≤ length out → t ≡ filled (unionByte r o (length r)) k out
+    → k ≤ length r → length r ≤ k → t ≡ united r o out
+unfolding filled union
+united-filled r o out k t e h f l m = let x : k ≡ length r = omega arith in f ∙ rw x (sym (united-fits r o out e h))
 
 pub mark-length : (r : List ℕ) (j : ℕ) → length (mark r j) ≡ length r
 unfolding mark

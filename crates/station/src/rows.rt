@@ -2,7 +2,7 @@
 ghost use mathlib.Core.Path.{_≡_};
 ghost use Prim.Native.Nat.{min, max};
 ghost use lib.ListN.{length};
-ghost use Rattle.station.specs.Rows.{union, mark};
+ghost use Rattle.station.specs.Rows.{union, united, sameRows, mark};
 ghost use Rattle.station.specs.Calls.{rowNumber, rowPart};
 use crate::Station;
 use crate::cells;
@@ -63,7 +63,7 @@ fn join_bytes(row: &mut [u8], other: &[u8])
 }
 
 // The greater of two bytes.
-pub fn greater(a: u8, b: u8) -> u8
+fn greater(a: u8, b: u8) -> u8
     ensures { λ r. ⌜ r ≡ max a b ⌝ }
 {
     if a < b { b } else { a }
@@ -74,6 +74,39 @@ fn lesser(a: usize, b: usize) -> usize
     ensures { λ r. ⌜ r ≡ min a b ⌝ }
 {
     if a < b { a } else { b }
+}
+
+// Whether two rows hold the same bytes.
+pub fn same_rows(row: &[u8], other: &[u8]) -> bool
+    ensures { λ r. ⌜ r ≡ sameRows (now (row .entry)) (now (other .entry)) ⌝ }
+{
+    if row.len() != other.len() {
+        return false;
+    }
+    let mut apart: u8 = 0;
+    let mut k: usize = 0;
+    while k < row.len() {
+        apart = greater(apart, row[k] ^ other[k]);
+        k += 1;
+    }
+    apart == 0
+}
+
+// Writes the union of all bytes of two rows to the front of a buffer. Rows of two lengths, or a buffer without room: nothing.
+pub fn unite_rows(row: &[u8], other: &[u8], out: &mut [u8])
+    ensures { λ _. ⌜ now (out .exit) ≡ united (now (row .entry)) (now (other .entry)) (now (out .entry)) ⌝ }
+{
+    if row.len() != other.len() {
+        return;
+    }
+    if out.len() < row.len() {
+        return;
+    }
+    let mut k: usize = 0;
+    while k < row.len() {
+        out[k] = greater(row[k], other[k]);
+        k += 1;
+    }
 }
 
 // Marks station j as suspected in the row; past the row's end nothing.

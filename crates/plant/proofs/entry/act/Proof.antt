@@ -1,22 +1,27 @@
 -- `entry::act` meets its contract: each way is the one that the definition takes.
 -- Assumes nothing.
 use mathlib.Core.Path.{refl}
+use native.Mathlib.Omega.{arith}
 use borrow.Author.Needs.{needs}
 use borrow.Author.Tests.{eq-eqb, ne-eqb}
+use Rattle.station.proofs.Refusals.{accepted}
 use Rattle.plant.specs.Turn.{crash}
 use Rattle.plant.specs.Entry.{acted, testedOf, outcomeOf}
 use Rattle.plant.proofs.entry.act.Statement.{statement}
 use Rattle.plant.proofs.entry.act.Tie as tie
 
-set-cell-requires : tie.Need-set-cell-requires
-set-cell-requires c κs = search needs
+put-requires : tie.Need-put-requires
+put-requires c κs =
+    let a = c .before .before .before .args in
+    let p = c .before .before .before .pre in
+    (accepted (a .n) (a .table .now) (p .0) .long, p .1, omega arith)
 
 same-length : tie.Need-same-length
 same-length c = search needs
 
 returns : tie.Need-returns
 unfolding acted testedOf outcomeOf crash
-returns c = rw (eq-eqb _ _ (c .before .before .before .before .if1 .taken)) (refl, (refl, c .before .before .set-cell .ensures))
+returns c = rw (eq-eqb _ _ (c .before .before .before .before .if1 .taken)) (refl, (refl, c .before .before .put .ensures))
 
 take-turn-requires : tie.Need-take-turn-requires
 take-turn-requires c κs = search needs
@@ -31,4 +36,4 @@ returns-2 c = rw (ne-eqb _ _ (c .before .before .before .before .if1 .left)) (c 
 pub act-spec : {M : Type 1} → statement M
 act-spec =
     tie.close
-    (tie.spec set-cell-requires same-length returns take-turn-requires same-length-2 returns-2)
+    (tie.spec put-requires same-length returns take-turn-requires same-length-2 returns-2)

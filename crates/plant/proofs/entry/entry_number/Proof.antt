@@ -1,7 +1,7 @@
 -- `entry::entry_number` meets its contract: each refusal is the first whose test holds.
 -- Assumes nothing.
 use borrow.Author.Needs.{needs}
-use borrow.Author.Tests.{le-leb, lt-leb}
+use borrow.Author.Tests.{eq-eqb, ne-eqb, le-leb, lt-leb}
 use Rattle.plant.specs.Entry.{entryNumber}
 use Rattle.plant.proofs.entry.entry_number.Statement.{statement}
 use Rattle.plant.proofs.entry.entry_number.Tie as tie
@@ -18,23 +18,23 @@ returns-3 : tie.Need-returns-3
 unfolding entryNumber
 returns-3 c = simp (c .before .before .before .if1 .left, c .before .before .if2 .left, le-leb _ _ (c .if3 .taken))
 
-is-live-requires : tie.Need-is-live-requires
-is-live-requires c κs = search needs
+get-requires : tie.Need-get-requires
+get-requires c κs = search needs
 
 returns-4 : tie.Need-returns-4
 unfolding entryNumber
-returns-4 c = simp (c .before .before .before .before .before .if1 .left, c .before .before .before .before .if2 .left, lt-leb _ _ (c .before .before .if3 .left), ← c .before .is-live .ensures, c .if4 .taken)
+returns-4 c = simp (c .before .before .before .before .before .if1 .left, c .before .before .before .before .if2 .left, lt-leb _ _ (c .before .before .if3 .left), ← c .before .get .ensures, ne-eqb _ _ (c .if4 .taken))
 
-get-cell-requires : tie.Need-get-cell-requires
-get-cell-requires c κs = search needs
+get-requires-2 : tie.Need-get-requires-2
+get-requires-2 c κs = search needs
 
 returns-5 : tie.Need-returns-5
 unfolding entryNumber
-returns-5 c = simp (c .before .before .before .before .before .before .before .if1 .left, c .before .before .before .before .before .before .if2 .left, lt-leb _ _ (c .before .before .before .before .if3 .left), ← c .before .before .before .is-live .ensures, c .before .before .if4 .left, ← c .before .get-cell .ensures, c .if5 .taken)
+returns-5 c = simp (c .before .before .before .before .before .before .before .if1 .left, c .before .before .before .before .before .before .if2 .left, lt-leb _ _ (c .before .before .before .before .if3 .left), ← c .before .before .before .get .ensures, eq-eqb _ _ (c .before .before .if4 .left), ← c .before .get2 .ensures, c .if5 .taken)
 
 returns-6 : tie.Need-returns-6
 unfolding entryNumber
-returns-6 c = simp (c .before .before .before .before .before .before .before .if1 .left, c .before .before .before .before .before .before .if2 .left, lt-leb _ _ (c .before .before .before .before .if3 .left), ← c .before .before .before .is-live .ensures, c .before .before .if4 .left, ← c .before .get-cell .ensures, c .if5 .left)
+returns-6 c = simp (c .before .before .before .before .before .before .before .if1 .left, c .before .before .before .before .before .before .if2 .left, lt-leb _ _ (c .before .before .before .before .if3 .left), ← c .before .before .before .get .ensures, eq-eqb _ _ (c .before .before .if4 .left), ← c .before .get2 .ensures, c .if5 .left)
 
 pub entry-number-spec : {M : Type 1} → statement M
 entry-number-spec =
@@ -43,8 +43,8 @@ entry-number-spec =
     returns
     returns-2
     returns-3
-    is-live-requires
+    get-requires
     returns-4
-    get-cell-requires
+    get-requires-2
     returns-5
     returns-6)

@@ -3,6 +3,7 @@
 use native.Mathlib.Omega.{arith}
 use lib.ListN.{length-set}
 use borrow.Author.Needs.{needs}
+use Rattle.station.proofs.Refusals.{accepted}
 use Rattle.plant.specs.Entry.{stateOf, entryOf, after, sheetLine}
 use Rattle.plant.proofs.Kept.{entry-facts}
 use Rattle.plant.proofs.RunLaws.{made-test, line-written}
@@ -16,8 +17,9 @@ act-requires c κs =
 
 close-round-requires : tie.Need-close-round-requires
 close-round-requires c κs =
+    let a = c .before .before .before .before .before .before .before .args in
     let p = c .before .before .before .before .before .before .before .pre in
-    entry-facts _ _ _ (p .1) .below
+    (omega (arith, accepted (a .n) (a .table .now) (p .0) .long), entry-facts _ _ _ (p .1) .below)
 
 slice-write-line : tie.Need-slice-write-line
 slice-write-line c = search needs
@@ -28,8 +30,11 @@ slice-write-line-2 c = simp length-set (omega arith)
 slice-write-line-3 : tie.Need-slice-write-line-3
 slice-write-line-3 c = simp length-set (omega arith)
 
-get-cell-requires : tie.Need-get-cell-requires
-get-cell-requires c κs = search needs
+get-requires : tie.Need-get-requires
+get-requires c κs =
+    let a = c .before .before .before .before .before .before .before .before .before .before .before .args in
+    let p = c .before .before .before .before .before .before .before .before .before .before .before .pre in
+    (omega (arith, accepted (a .n) (a .table .now) (p .0) .long), entry-facts _ _ _ (p .1) .below, omega arith)
 
 slice-write-line-4 : tie.Need-slice-write-line-4
 slice-write-line-4 c = simp length-set (omega arith)
@@ -60,7 +65,7 @@ returns c =
     let a = c .before .before .before .before .before .before .before .before .before .before .before .before .before .before .before .args in
     let m = made-test (a .n) (a .table .now) (entryOf (a .kind) (a .i .0)) in
     let d = c .before .before .before .before .before .before .before .before .before .before .before .act .result in
-    let l = line-written (a .line .now) (a .i .0) (d .tested) (d .outcome) (c .before .before .before .get-cell .result) (c .before .before .before .before .before .before .before .before .before .before .before .before .before .before .before .pre .2) in
+    let l = line-written (a .line .now) (a .i .0) (d .tested) (d .outcome) (c .before .before .before .get .result) (c .before .before .before .before .before .before .before .before .before .before .before .before .before .before .before .pre .2) in
     (cc, (cc, (cc, cc)))
 
 pub take-entry-spec : {M : Type 1} → statement M
@@ -72,7 +77,7 @@ take-entry-spec =
     slice-write-line
     slice-write-line-2
     slice-write-line-3
-    get-cell-requires
+    get-requires
     slice-write-line-4
     grown-requires
     grown-requires-2

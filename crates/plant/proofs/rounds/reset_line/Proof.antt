@@ -5,14 +5,14 @@ use Rattle.plant.specs.Turn.{resetLine}
 use Rattle.plant.proofs.rounds.reset_line.Statement.{statement}
 use Rattle.plant.proofs.rounds.reset_line.Tie as tie
 
-set-cell-requires : tie.Need-set-cell-requires
-set-cell-requires c κs = search needs
+put-requires : tie.Need-put-requires
+put-requires c κs = search needs
 
-set-cell-requires-2 : tie.Need-set-cell-requires-2
-set-cell-requires-2 c κs = search needs
+put-requires-2 : tie.Need-put-requires-2
+put-requires-2 c κs = search needs
 
-set-cell-requires-3 : tie.Need-set-cell-requires-3
-set-cell-requires-3 c κs = search needs
+put-requires-3 : tie.Need-put-requires-3
+put-requires-3 c κs = search needs
 
 same-length : tie.Need-same-length
 same-length c = search needs
@@ -24,4 +24,4 @@ returns c = cc
 pub reset-line-spec : {M : Type 1} → statement M
 reset-line-spec =
     tie.close
-    (tie.spec set-cell-requires set-cell-requires-2 set-cell-requires-3 same-length returns)
+    (tie.spec put-requires put-requires-2 put-requires-3 same-length returns)

@@ -5,20 +5,20 @@ use Rattle.plant.specs.Turn.{countTest}
 use Rattle.plant.proofs.turn.count_test.Statement.{statement}
 use Rattle.plant.proofs.turn.count_test.Tie as tie
 
-get-cell-requires : tie.Need-get-cell-requires
-get-cell-requires c κs = search needs
+get-requires : tie.Need-get-requires
+get-requires c κs = search needs
 
-add-set-cell : tie.Need-add-set-cell
-add-set-cell c = search needs
+add-put : tie.Need-add-put
+add-put c = search needs
 
-set-cell-requires : tie.Need-set-cell-requires
-set-cell-requires c κs = search needs
+put-requires : tie.Need-put-requires
+put-requires c κs = search needs
 
-add-set-cell-2 : tie.Need-add-set-cell-2
-add-set-cell-2 c = search needs
+add-put-2 : tie.Need-add-put-2
+add-put-2 c = search needs
 
-set-cell-requires-2 : tie.Need-set-cell-requires-2
-set-cell-requires-2 c κs = search needs
+put-requires-2 : tie.Need-put-requires-2
+put-requires-2 c κs = search needs
 
 same-length : tie.Need-same-length
 same-length c = search needs
@@ -31,10 +31,10 @@ pub count-test-spec : {M : Type 1} → statement M
 count-test-spec =
     tie.close
     (tie.spec
-    get-cell-requires
-    add-set-cell
-    set-cell-requires
-    add-set-cell-2
-    set-cell-requires-2
+    get-requires
+    add-put
+    put-requires
+    add-put-2
+    put-requires-2
     same-length
     returns)

@@ -5,12 +5,12 @@ use Rattle.plant.specs.Turn.{replies}
 use Rattle.plant.proofs.turn.does_reply.Statement.{statement}
 use Rattle.plant.proofs.turn.does_reply.Tie as tie
 
-is-live-requires : tie.Need-is-live-requires
-is-live-requires c κs = search needs
+get-requires : tie.Need-get-requires
+get-requires c κs = search needs
 
 returns : tie.Need-returns
 unfolding replies
 returns c = cc
 
 pub does-reply-spec : {M : Type 1} → statement M
-does-reply-spec = tie.close (tie.spec is-live-requires returns)
+does-reply-spec = tie.close (tie.spec get-requires returns)

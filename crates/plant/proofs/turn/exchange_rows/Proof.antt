@@ -15,9 +15,7 @@ same-length : tie.Need-same-length
 same-length c = search needs
 
 returns : tie.Need-returns
-returns c =
-    let p = c .before .before .before .before .pre in
-    same-exchange _ _ _ _ (p .1) (p .2) (p .3) (sym (c .before .same-rows .ensures) ∙ c .if1 .taken)
+returns c = same-exchange _ _ _ _ (sym (c .before .same-rows .ensures) ∙ c .if1 .taken)
 
 slice-aggregate-unite-rows : tie.Need-slice-aggregate-unite-rows
 slice-aggregate-unite-rows c = search needs
@@ -49,7 +47,7 @@ same-length-2 c = search needs
 returns-2 : tie.Need-returns-2
 returns-2 c =
     let p = c .before .before .before .before .before .before .before .before .before .before .before .before .before .before .before .before .before .before .pre in
-    exchange-is _ _ _ _ (p .1) (p .2) (p .3) (p .4) _ _ _ _ (c .before .before .before .before .before .before .before .before .before .before .before .unite-rows .ensures) (c .before .before .before .before .before .before .before .join-into .ensures) (c .before .before .join-into2 .ensures)
+    exchange-is _ _ _ _ (p .1) (p .2) (p .3) (p .4) _ _ _ _ (p .0) (c .before .before .before .before .before .before .before .before .before .before .before .unite-rows .ensures) (c .before .before .before .before .before .before .before .join-into .ensures) (c .before .before .join-into2 .ensures)
 
 pub exchange-rows-spec : {M : Type 1} → statement M
 exchange-rows-spec =

@@ -5,11 +5,11 @@ use Rattle.plant.specs.Turn.{finishPass}
 use Rattle.plant.proofs.turn.finish_pass.Statement.{statement}
 use Rattle.plant.proofs.turn.finish_pass.Tie as tie
 
-set-cell-requires : tie.Need-set-cell-requires
-set-cell-requires c κs = search needs
+put-requires : tie.Need-put-requires
+put-requires c κs = search needs
 
-set-cell-requires-2 : tie.Need-set-cell-requires-2
-set-cell-requires-2 c κs = search needs
+put-requires-2 : tie.Need-put-requires-2
+put-requires-2 c κs = search needs
 
 same-length : tie.Need-same-length
 same-length c = search needs
@@ -19,4 +19,4 @@ unfolding finishPass
 returns c = cc
 
 pub finish-pass-spec : {M : Type 1} → statement M
-finish-pass-spec = tie.close (tie.spec set-cell-requires set-cell-requires-2 same-length returns)
+finish-pass-spec = tie.close (tie.spec put-requires put-requires-2 same-length returns)

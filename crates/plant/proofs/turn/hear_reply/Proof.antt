@@ -25,8 +25,8 @@ returns c =
 is-told-requires : tie.Need-is-told-requires
 is-told-requires c κs = search needs
 
-set-cell-requires : tie.Need-set-cell-requires
-set-cell-requires c κs = search needs
+put-requires : tie.Need-put-requires
+put-requires c κs = search needs
 
 same-length-2 : tie.Need-same-length-2
 same-length-2 c = search needs
@@ -36,7 +36,7 @@ unfolding afterTest testOutcome
 returns-2 c =
     let r = c .before .before .before .before .before .before .before .before .does-reply in
     rw (← r .ensures, not-false (r .result) (c .before .before .before .before .before .before .before .if1 .left), ← c .before .before .before .before .before .is-told .ensures, c .before .before .before .before .if2 .taken)
-    (refl, c .before .before .set-cell .ensures)
+    (refl, c .before .before .put .ensures)
 
 exchange-rows-requires : tie.Need-exchange-rows-requires
 exchange-rows-requires c κs = search needs
@@ -60,7 +60,7 @@ hear-reply-spec =
     same-length
     returns
     is-told-requires
-    set-cell-requires
+    put-requires
     same-length-2
     returns-2
     exchange-rows-requires

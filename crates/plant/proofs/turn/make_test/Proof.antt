@@ -22,7 +22,8 @@ count-test-requires c κs =
     let p = c .before .before .before .pre in
     let t = accepted (a .n) (a .table .now) (p .0) in
     let l = accepted-line (a .n) (a .table .now) t (a .i .0) (p .1) in
-    omega (arith, size-bounds (a .n) (t .size), l .testsBound, l .nextHigh)
+    let b = size-bounds (a .n) (t .size) in
+    (t .long, p .1, omega (arith, b), omega (arith, b, l .testsBound, l .nextHigh))
 
 hear-reply-requires : tie.Need-hear-reply-requires
 hear-reply-requires c κs =
@@ -38,7 +39,10 @@ hear-reply-requires c κs =
     )
 
 leave-if-alone-requires : tie.Need-leave-if-alone-requires
-leave-if-alone-requires c κs = search needs
+leave-if-alone-requires c κs =
+    let a = c .before .before .before .before .before .before .before .before .before .before .before .args in
+    let p = c .before .before .before .before .before .before .before .before .before .before .before .pre in
+    (omega (arith, accepted (a .n) (a .table .now) (p .0) .long), p .1)
 
 same-length : tie.Need-same-length
 same-length c = search needs

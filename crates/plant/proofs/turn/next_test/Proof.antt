@@ -7,8 +7,8 @@ use Rattle.plant.specs.Turn.{nextTest}
 use Rattle.plant.proofs.turn.next_test.Statement.{statement}
 use Rattle.plant.proofs.turn.next_test.Tie as tie
 
-get-cell-requires : tie.Need-get-cell-requires
-get-cell-requires c κs = search needs
+get-requires : tie.Need-get-requires
+get-requires c κs = search needs
 
 row-start-requires : tie.Need-row-start-requires
 row-start-requires c κs = search needs
@@ -36,13 +36,13 @@ unfolding nextTest
 returns c =
     let a = c .before .before .before .before .before .args in
     let e = row-part (a .n) (a .table .now) (a .i .0) _ (c .before .before .row-start .ensures .0) in
-    rw (e, c .before .before .before .get-cell .ensures) at (c .scan .ensures)
+    rw (e, c .before .before .before .get .ensures) at (c .scan .ensures)
 
 pub next-test-spec : {M : Type 1} → statement M
 next-test-spec =
     tie.close
     (tie.spec
-    get-cell-requires
+    get-requires
     row-start-requires
     add-e
     sub-scan

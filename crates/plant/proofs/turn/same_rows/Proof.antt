@@ -1,86 +1,70 @@
--- `turn::same_rows` meets its contract: as long as no two bytes were apart, all bytes passed are the same.
+-- `turn::same_rows` meets its contract: the parts of the table that are lent are the rows.
 -- Assumes nothing.
-use mathlib.Core.Path.{_≡_, sym}
-use Prim.Native.Nat.{_+_, _-_, _≤_}
 use native.Mathlib.Omega.{arith}
-use lib.Dec.{eqb}
-use lib.ListN.{length}
 use borrow.Author.Needs.{needs}
-use Rattle.station.specs.Search.{every}
-use Rattle.station.proofs.CellLaws.{row-inside}
-use Rattle.station.proofs.Loops.{every-start}
-use Rattle.plant.proofs.RowLaws.{same, same-next, same-done}
+use Rattle.station.proofs.CellLaws.{row-inside, row-part}
 use Rattle.plant.proofs.turn.same_rows.Statement.{statement}
 use Rattle.plant.proofs.turn.same_rows.Tie as tie
 
-abbrev Inv-loop : tie.InvT-loop
-Inv-loop n table size a b apart₀ k₀ apart k = (k ≤ size) × (a + size ≤ length table) × (b + size ≤ length table) × (eqb apart 0 ≡ every (same table a b) k)
-
-abbrev μ-loop : tie.MeasureT-loop
-μ-loop n table size a b apart₀ k₀ apart k = size - k
-
-row-start-requires : tie.Need-row-start-requires Inv-loop μ-loop
+row-start-requires : tie.Need-row-start-requires
 row-start-requires c κs = search needs
 
-row-start-requires-2 : tie.Need-row-start-requires-2 Inv-loop μ-loop
+add-e : tie.Need-add-e
+add-e c = search needs
+
+row-start-requires-2 : tie.Need-row-start-requires-2
 row-start-requires-2 c κs = search needs
 
-loop-holds : tie.Need-loop-holds Inv-loop μ-loop
-loop-holds c =
+add-f : tie.Need-add-f
+add-f c = search needs
+
+sub-same-rows : tie.Need-sub-same-rows
+sub-same-rows c = search needs
+
+part-same-rows-start : tie.Need-part-same-rows-start
+part-same-rows-start c = search needs
+
+part-same-rows-end : tie.Need-part-same-rows-end
+part-same-rows-end c =
+    let a = c .before .before .before .args in
     let p = c .before .before .before .pre in
-    let a = c .before .before .before .args in (
-      search needs,
-      omega (arith, row-inside (a .n) (a .table .now) (a .i .0) (p .0) (p .1)),
-      omega (arith, row-inside (a .n) (a .table .now) (a .j .0) (p .0) (p .2)),
-      sym (every-start _),
-    )
+    omega (arith, row-inside (a .n) (a .table .now) (a .i .0) (p .0) (p .1))
 
-add-greater : tie.Need-add-greater Inv-loop μ-loop
-add-greater c = search needs
+sub-same-rows-2 : tie.Need-sub-same-rows-2
+sub-same-rows-2 c = search needs
 
-shared-slice-read-greater : tie.Need-shared-slice-read-greater Inv-loop μ-loop
-shared-slice-read-greater c = search needs
+part-same-rows-start-2 : tie.Need-part-same-rows-start-2
+part-same-rows-start-2 c = search needs
 
-add-greater-2 : tie.Need-add-greater-2 Inv-loop μ-loop
-add-greater-2 c = search needs
+part-same-rows-end-2 : tie.Need-part-same-rows-end-2
+part-same-rows-end-2 c =
+    let a = c .before .before .before .before .args in
+    let p = c .before .before .before .before .pre in
+    omega (arith, row-inside (a .n) (a .table .now) (a .j .0) (p .0) (p .2))
 
-shared-slice-read-greater-2 : tie.Need-shared-slice-read-greater-2 Inv-loop μ-loop
-shared-slice-read-greater-2 c = search needs
+same-rows-requires : tie.Need-same-rows-requires
+same-rows-requires c κs = search needs
 
-greater-requires : tie.Need-greater-requires Inv-loop μ-loop
-greater-requires c κs = search needs
-
-add-k : tie.Need-add-k Inv-loop μ-loop
-add-k c = search needs
-
-loop-less : tie.Need-loop-less Inv-loop μ-loop
-loop-less c = search needs
-
-loop-again : tie.Need-loop-again Inv-loop μ-loop
-loop-again c =
-    let i = c .before .before .before .before .loop .inv in
-    (search needs, search needs, search needs, same-next _ _ _ _ _ _ (i .3) (c .greater .ensures))
-
-returns : tie.Need-returns Inv-loop μ-loop
+returns : tie.Need-returns
 returns c =
-    let i = c .before .loop .inv in
-    same-done _ _ _ _ _ _ _ _ (c .before .before .before .row-start .ensures .0) (c .before .before .row-start2 .ensures .0) (i .3) (i .0) (c .loop-test .left)
+    let a = c .before .before .before .before .before .before .args in
+    let e = row-part (a .n) (a .table .now) (a .i .0) _ (c .before .before .before .before .row-start .ensures .0) in
+    let f = row-part (a .n) (a .table .now) (a .j .0) _ (c .before .before .before .row-start2 .ensures .0) in
+    rw (e, f) at (c .same-rows .ensures)
 
 pub same-rows-spec : {M : Type 1} → statement M
 same-rows-spec =
     tie.close
     (tie.spec
-    Inv-loop
-    μ-loop
     row-start-requires
+    add-e
     row-start-requires-2
-    loop-holds
-    add-greater
-    shared-slice-read-greater
-    add-greater-2
-    shared-slice-read-greater-2
-    greater-requires
-    add-k
-    loop-less
-    loop-again
+    add-f
+    sub-same-rows
+    part-same-rows-start
+    part-same-rows-end
+    sub-same-rows-2
+    part-same-rows-start-2
+    part-same-rows-end-2
+    same-rows-requires
     returns)

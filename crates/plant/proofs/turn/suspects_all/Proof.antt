@@ -4,7 +4,7 @@ use mathlib.Core.Path.{_≡_}
 use mathlib.Core.Bool.{true}
 use Prim.Native.Nat.{_-_, _≤_}
 use borrow.Author.Needs.{needs}
-use borrow.Author.Tests.{not-true, not-false}
+use borrow.Author.Tests.{eq-eqb, ne-eqb}
 use Rattle.station.specs.Search.{every}
 use Rattle.station.proofs.Loops.{loops, every-stop, every-done}
 use Rattle.plant.specs.Turn.{selfOrSuspected, isAlone}
@@ -17,12 +17,12 @@ Inv-loop n table i k₀ k = (k ≤ n) × (every (selfOrSuspected n table (i .0))
 abbrev μ-loop : tie.MeasureT-loop
 μ-loop n table i k₀ k = n - k
 
-is-live-requires : tie.Need-is-live-requires Inv-loop μ-loop
-is-live-requires c κs = search (needs, loops)
+get-requires : tie.Need-get-requires Inv-loop μ-loop
+get-requires c κs = search (needs, loops)
 
 returns : tie.Need-returns Inv-loop μ-loop
 unfolding isAlone
-returns c = rw (← c .before .is-live .ensures, not-true (c .before .is-live .result) (c .if1 .taken))
+returns c = rw (← c .before .get .ensures, ne-eqb _ _ (c .if1 .taken))
 
 loop-holds : tie.Need-loop-holds Inv-loop μ-loop
 loop-holds c = search (needs, loops)
@@ -32,7 +32,7 @@ self-or-suspected-requires c κs = search (needs, loops)
 
 returns-2 : tie.Need-returns-2 Inv-loop μ-loop
 unfolding isAlone
-returns-2 c = rw (← c .before .before .before .before .before .is-live .ensures, not-false (c .before .before .before .before .before .is-live .result) (c .before .before .before .before .if1 .left)) (every-stop _ _ _ _ (c .before .before .loop-test .taken) (c .before .self-or-suspected .ensures) (c .if2 .taken))
+returns-2 c = rw (← c .before .before .before .before .before .get .ensures, eq-eqb _ _ (c .before .before .before .before .if1 .left)) (every-stop _ _ _ _ (c .before .before .loop-test .taken) (c .before .self-or-suspected .ensures) (c .if2 .taken))
 
 add-k : tie.Need-add-k Inv-loop μ-loop
 add-k c = search (needs, loops)
@@ -45,7 +45,7 @@ loop-again c = search (needs, loops)
 
 returns-3 : tie.Need-returns-3 Inv-loop μ-loop
 unfolding isAlone
-returns-3 c = rw (← c .before .before .before .is-live .ensures, not-false (c .before .before .before .is-live .result) (c .before .before .if1 .left)) (every-done _ _ _ (c .before .loop .inv .1) (c .before .loop .inv .0) (c .loop-test .left))
+returns-3 c = rw (← c .before .before .before .get .ensures, eq-eqb _ _ (c .before .before .if1 .left)) (every-done _ _ _ (c .before .loop .inv .1) (c .before .loop .inv .0) (c .loop-test .left))
 
 pub suspects-all-spec : {M : Type 1} → statement M
 suspects-all-spec =
@@ -53,7 +53,7 @@ suspects-all-spec =
     (tie.spec
     Inv-loop
     μ-loop
-    is-live-requires
+    get-requires
     returns
     loop-holds
     self-or-suspected-requires

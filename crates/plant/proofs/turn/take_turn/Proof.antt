@@ -18,7 +18,10 @@ next-test-requires c κs =
     (accepted (a .n) (a .table .now) (p .0) .long, p .1)
 
 finish-pass-requires : tie.Need-finish-pass-requires
-finish-pass-requires c κs = search needs
+finish-pass-requires c κs =
+    let a = c .before .before .before .before .before .before .args in
+    let p = c .before .before .before .before .before .before .pre in
+    (accepted (a .n) (a .table .now) (p .0) .long, p .1)
 
 same-length : tie.Need-same-length
 same-length c = search needs

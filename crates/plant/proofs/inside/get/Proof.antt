@@ -1,0 +1,23 @@
+-- `inside::get` meets its contract: the place lies inside the table.
+-- Assumes nothing.
+use borrow.Author.Needs.{needs}
+use Rattle.station.specs.Table.{cell}
+use Rattle.plant.proofs.RowLaws.{byte-inside}
+use Rattle.plant.proofs.inside.get.Statement.{statement}
+use Rattle.plant.proofs.inside.get.Tie as tie
+
+line-start-requires : tie.Need-line-start-requires
+line-start-requires c κs = search needs
+
+add-at : tie.Need-add-at
+add-at c = search needs
+
+shared-slice-read-result : tie.Need-shared-slice-read-result
+shared-slice-read-result c = search (needs, byte-inside)
+
+returns : tie.Need-returns
+unfolding cell
+returns c = cc
+
+pub get-spec : {M : Type 1} → statement M
+get-spec = tie.close (tie.spec line-start-requires add-at shared-slice-read-result returns)

@@ -1,0 +1,64 @@
+-- `rows::same_rows` meets its contract: as long as no two bytes were apart, all bytes passed are the same.
+-- Assumes nothing.
+use mathlib.Core.Path.{_≡_, sym}
+use Prim.Native.Nat.{_-_, _≤_}
+use lib.Dec.{eqb}
+use lib.ListN.{length}
+use borrow.Author.Needs.{needs}
+use Rattle.station.specs.Search.{every}
+use Rattle.station.specs.Rows.{sameByte}
+use Rattle.station.proofs.Loops.{every-start}
+use Rattle.station.proofs.CellLaws.{same-next, same-apart, same-done}
+use Rattle.station.proofs.rows.same_rows.Statement.{statement}
+use Rattle.station.proofs.rows.same_rows.Tie as tie
+
+abbrev Inv-loop : tie.InvT-loop
+Inv-loop row other apart₀ k₀ apart k = (k ≤ length row) × (length row ≡ length other) × (eqb apart 0 ≡ every (sameByte row other) k)
+
+abbrev μ-loop : tie.MeasureT-loop
+μ-loop row other apart₀ k₀ apart k = length row - k
+
+returns : tie.Need-returns Inv-loop μ-loop
+returns c = same-apart _ _ (c .if1 .taken)
+
+loop-holds : tie.Need-loop-holds Inv-loop μ-loop
+loop-holds c = (search needs, search needs, sym (every-start _))
+
+shared-slice-read-greater : tie.Need-shared-slice-read-greater Inv-loop μ-loop
+shared-slice-read-greater c = search needs
+
+shared-slice-read-greater-2 : tie.Need-shared-slice-read-greater-2 Inv-loop μ-loop
+shared-slice-read-greater-2 c = search needs
+
+greater-requires : tie.Need-greater-requires Inv-loop μ-loop
+greater-requires c κs = search needs
+
+add-k : tie.Need-add-k Inv-loop μ-loop
+add-k c = search needs
+
+loop-less : tie.Need-loop-less Inv-loop μ-loop
+loop-less c = search needs
+
+loop-again : tie.Need-loop-again Inv-loop μ-loop
+loop-again c = (search needs, search needs, same-next _ _ _ _ _ (c .before .before .before .before .loop .inv .2) (c .greater .ensures))
+
+returns-2 : tie.Need-returns-2 Inv-loop μ-loop
+returns-2 c =
+    let i = c .before .loop .inv in
+    same-done _ _ _ _ (i .1) (i .2) (i .0) (c .loop-test .left)
+
+pub same-rows-spec : {M : Type 1} → statement M
+same-rows-spec =
+    tie.close
+    (tie.spec
+    Inv-loop
+    μ-loop
+    returns
+    loop-holds
+    shared-slice-read-greater
+    shared-slice-read-greater-2
+    greater-requires
+    add-k
+    loop-less
+    loop-again
+    returns-2)
