@@ -7,6 +7,7 @@ ghost use Rattle.station.specs.Table.{tableLength};
 ghost use Rattle.station.specs.Rules.{tableNumber};
 ghost use Rattle.plant.specs.Entry.{stateOf, entryOf, entryNumber, acted, after, testedOf, outcomeOf, sheetLine};
 use crate::Tally;
+use crate::codes;
 use crate::inside;
 use crate::rounds;
 use crate::turn;
@@ -19,20 +20,20 @@ pub(crate) fn entry_number(n: u8, table: &[u8], tally: Tally, kind: u8, i: Stati
     requires { ⌜ length (now table) ≡ tableLength n ⌝ }
     ensures { λ r. ⌜ r ≡ entryNumber n (stateOf (now (table .entry)) (tally .rounds) (tally .tests)) (entryOf kind (i .0)) ⌝ }
 {
-    if (tally.rounds == 4294967295) | (tally.tests == 4294967295) {
+    if (tally.rounds == codes::TALLY_TOP) | (tally.tests == codes::TALLY_TOP) {
         return 7;
     }
-    if !((1 <= kind) & (kind <= 3)) {
+    if !((codes::TURN <= kind) & (kind <= codes::CRASH)) {
         return 8;
     }
     if n <= i.0 {
         return 9;
     }
-    if inside::get(n, table, i, cells::STATUS) != 0 {
+    if inside::get(n, table, i, cells::STATUS) != codes::LIVE {
         return 10;
     }
     let finished = inside::get(n, table, i, cells::FINISHED);
-    if (kind != 3) & (finished == 1) {
+    if (kind != codes::CRASH) & (finished == 1) {
         return 11;
     }
     0
@@ -59,10 +60,10 @@ pub(crate) fn take_entry(
     line[1] = done.tested;
     line[2] = done.outcome;
     line[3] = inside::get(n, table, i, cells::STATUS);
-    let made = done.outcome != 0;
+    let made = done.outcome != codes::PASS_FINISHED;
     Tally {
         rounds: grown(tally.rounds, over),
-        tests: grown(tally.tests, made & (kind != 3)),
+        tests: grown(tally.tests, made & (kind != codes::CRASH)),
     }
 }
 
@@ -73,11 +74,11 @@ fn act(n: u8, table: &mut [u8], kind: u8, i: Station) -> Turned
     ensures { λ r. ⌜ r .outcome ≡ outcomeOf n (now (table .entry)) (entryOf kind (i .0)) ⌝ }
     ensures { λ _. ⌜ now (table .exit) ≡ acted n (now (table .entry)) (entryOf kind (i .0)) ⌝ }
 {
-    if kind == 3 {
-        inside::put(n, table, i, cells::STATUS, 1);
+    if kind == codes::CRASH {
+        inside::put(n, table, i, cells::STATUS, codes::CRASHED);
         return Turned {
-            tested: 255,
-            outcome: 4,
+            tested: codes::NO_STATION,
+            outcome: codes::CRASH_MADE,
         };
     }
     turn::take_turn(n, table, kind, i)

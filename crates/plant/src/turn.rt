@@ -9,6 +9,7 @@ ghost use Rattle.station.specs.Rows.{union, sameRows, united};
 ghost use Rattle.station.specs.Rules.{tableNumber};
 ghost use Rattle.station.specs.Tests.{due};
 ghost use Rattle.plant.specs.Turn.{nextTest, finishPass, countTest, replies, isTold, exchangeRows, suspect, afterTest, testOutcome, selfOrSuspected, isAlone, afterAlone, testing, turn, turnTested, turnOutcome};
+use crate::codes;
 use crate::inside;
 use station::Distance;
 use station::Station;
@@ -34,8 +35,8 @@ pub(crate) fn take_turn(n: u8, table: &mut [u8], kind: u8, i: Station) -> Turned
     if n <= m.0 {
         finish_pass(n, table, i);
         return Turned {
-            tested: 255,
-            outcome: 0,
+            tested: codes::NO_STATION,
+            outcome: codes::PASS_FINISHED,
         };
     }
     let j = order::station_at(i, m);
@@ -111,14 +112,14 @@ fn hear_reply(n: u8, table: &mut [u8], kind: u8, i: Station, j: Station) -> u8
 {
     if !does_reply(n, table, kind, j) {
         suspect_station(n, table, i, j);
-        return 3;
+        return codes::NO_REPLY;
     }
     if is_told(n, table, i, j) {
-        inside::put(n, table, i, cells::STATUS, 2);
-        return 2;
+        inside::put(n, table, i, cells::STATUS, codes::LEFT_TOLD);
+        return codes::TOLD;
     }
     exchange_rows(n, table, i, j);
-    1
+    codes::EXCHANGED
 }
 
 // Step 4: whether j replies in time.
@@ -127,7 +128,7 @@ fn does_reply(n: u8, table: &[u8], kind: u8, j: Station) -> bool
     ensures { λ r. ⌜ r ≡ replies n (now (table .entry)) kind (j .0) ⌝ }
 {
     let status = inside::get(n, table, j, cells::STATUS);
-    (status == 0) & (kind == 1)
+    (status == codes::LIVE) & (kind == codes::TURN)
 }
 
 // Step 4: whether j suspects i.
@@ -205,7 +206,7 @@ fn leave_if_alone(n: u8, table: &mut [u8], i: Station)
     ensures { λ _. ⌜ now (table .exit) ≡ afterAlone n (now (table .entry)) (i .0) ⌝ }
 {
     if suspects_all(n, table, i) {
-        inside::put(n, table, i, cells::STATUS, 3);
+        inside::put(n, table, i, cells::STATUS, codes::LEFT_ALONE);
     }
 }
 
@@ -214,7 +215,7 @@ fn suspects_all(n: u8, table: &[u8], i: Station) -> bool
     requires { ⌜ (length (now table) ≡ tableLength n) × (i .0 < n) ⌝ }
     ensures { λ r. ⌜ r ≡ isAlone n (now (table .entry)) (i .0) ⌝ }
 {
-    if inside::get(n, table, i, cells::STATUS) != 0 {
+    if inside::get(n, table, i, cells::STATUS) != codes::LIVE {
         return false;
     }
     let mut k: u8 = 0;

@@ -21,7 +21,7 @@ pub fn lookup(i: Station, m: Distance) -> Station
     Station(entry(a as usize * 64 + b as usize))
 }
 
-// The station at distance m from i, computed: for the loops of the run, since the compiler builds the constant table anew at each lookup.
+// The station at distance m from i, computed: for due tests and turns, since the compiler builds the constant table anew at each lookup.
 pub fn station_at(i: Station, m: Distance) -> Station
     ensures { λ r. ⌜ r .0 ≡ stationAt (i .0) (m .0) ⌝ }
 {
@@ -29,12 +29,12 @@ pub fn station_at(i: Station, m: Distance) -> Station
     Station(a ^ m.0)
 }
 
-// The table's entry at a place: row place / 64, place place % 64.
-fn entry(place: usize) -> u8
-    requires { ⌜ place < 4096 ⌝ }
-    ensures { λ r. ⌜ r ≡ stationAt (place / 64) (place % 64) ⌝ }
+// The table's entry at an index: row index / 64, place index % 64.
+fn entry(index: usize) -> u8
+    requires { ⌜ index < 4096 ⌝ }
+    ensures { λ r. ⌜ r ≡ stationAt (index / 64) (index % 64) ⌝ }
 {
-    ORDER[place]
+    ORDER[index]
 }
 
 const ORDER: [u8; 4096] = [

@@ -23,7 +23,7 @@ array-read-result : tie.Need-array-read-result
 array-read-result c = search needs
 
 returns : tie.Need-returns
-returns c = let h : c .args .place < 4096 = c .pre in rw (rule, tt)
+returns c = let h : c .args .index < 4096 = c .pre in rw (rule, tt)
 
 pub entry-spec : {M : Type 1} → statement M
 entry-spec = tie.close (tie.spec array-read-result returns)

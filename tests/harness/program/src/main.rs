@@ -1,0 +1,110 @@
+//! Runs the run program on odd and random inputs and compares what it prints,
+//! byte for byte, with what must be printed: for odd inputs by a table written
+//! by hand, to which the simulator is held too, and for random ones by the
+//! simulator.
+
+#![forbid(unsafe_code)]
+
+mod case;
+mod child;
+mod counts;
+mod generate;
+mod odd;
+mod options;
+mod prng;
+mod report;
+mod self_test;
+mod stand_in;
+
+use std::env;
+use std::ffi::OsString;
+use std::process::ExitCode;
+use std::time::Duration;
+
+use case::{Case, Source};
+use child::Program;
+use counts::Counts;
+use options::{Options, Task};
+
+/// From so many random inputs on, the coverage is checked.
+const ENOUGH_INPUTS: u64 = options::DEFAULT_INPUTS;
+
+/// How long the run program may take for one input.
+const LIMIT: Duration = Duration::from_secs(10);
+
+fn main() -> ExitCode {
+    let given: Vec<OsString> = env::args_os().skip(1).collect();
+    match Options::read(&given).and_then(|options| work(&options)) {
+        Ok(code) => code,
+        Err(text) => {
+            eprintln!("{text}");
+            ExitCode::FAILURE
+        }
+    }
+}
+
+fn work(options: &Options) -> Result<ExitCode, String> {
+    let seed = options.seed;
+    let text = match options.task {
+        Task::StandIn(fault) => {
+            return stand_in::run(fault).map_err(|error| format!("stand-in: {error}"))
+        }
+        Task::SelfTest => {
+            let noticed = self_test::self_test(seed)?;
+            format!("program: self-test: all {noticed} alterations noticed")
+        }
+        Task::Only(number) => only(&program(options)?, Case::random(seed, number))?,
+        Task::Odd(number) => only(&program(options)?, odd_case(number)?)?,
+        Task::Inputs(inputs) => compare(&program(options)?, seed, inputs)?,
+    };
+    println!("{text}");
+    Ok(ExitCode::SUCCESS)
+}
+
+fn program(options: &Options) -> Result<Program, String> {
+    Ok(Program::new(options.binary()?, Vec::new(), LIMIT))
+}
+
+fn odd_case(number: u64) -> Result<Case, String> {
+    let wanted =
+        |case: &Case| matches!(case.source, Source::Odd { number: one, .. } if one == number);
+    let found = case::odd_cases().find(wanted);
+    found.ok_or_else(|| format!("there is no odd input {number}"))
+}
+
+/// Checks one input and prints all of it.
+fn only(program: &Program, case: Case) -> Result<String, String> {
+    check(program, &case, usize::MAX)?;
+    Ok(report::whole(&case) + "no difference")
+}
+
+/// Checks the inputs up to the first difference.
+fn compare(program: &Program, seed: u64, inputs: u64) -> Result<String, String> {
+    let mut odd_inputs = 0;
+    for case in case::odd_cases() {
+        check(program, &case, report::CUT)?;
+        odd_inputs += 1;
+    }
+    let mut counts = Counts::all(0);
+    for number in 1..=inputs {
+        let case = Case::random(seed, number);
+        check(program, &case, report::CUT)?;
+        counts.add(&case);
+    }
+    let missing = counts.missing();
+    if inputs >= ENOUGH_INPUTS && !missing.is_empty() {
+        let list = missing.join("; ");
+        return Err(format!("program: occurred too seldom or never: {list}"));
+    }
+    let odd = format!("{odd_inputs} odd inputs, all in pieces too");
+    let random = format!("{inputs} random inputs of seed {seed}");
+    Ok(format!("program: {odd}, and {random} agree: {counts}"))
+}
+
+/// If there is a difference, a report in which long texts are cut.
+fn check(program: &Program, case: &Case, cut: usize) -> Result<(), String> {
+    match case.check(program) {
+        None => Ok(()),
+        Some(found) => Err(report::difference(case, &found, cut)),
+    }
+}

@@ -1,0 +1,173 @@
+//! Shows that the comparison fails when something is altered.
+
+use std::env;
+use std::time::Duration;
+
+use crate::case::{odd_cases, By, Case};
+use crate::child::Program;
+use crate::counts::{Counts, LEAST, NUMBERS};
+use crate::report;
+use crate::stand_in::Fault;
+
+/// How many random inputs are used for altered outputs.
+const INPUTS: u64 = 200;
+
+/// Every so many odd inputs, one is given to the programs with a fault.
+const EVERY: usize = 16;
+
+/// Gives how many alterations were noticed, or what was not noticed. The run
+/// program is not started, so that a fault of it shows in the comparison and
+/// not here.
+pub fn self_test(seed: u64) -> Result<usize, String> {
+    let mut noticed = 0;
+    for number in 1..=INPUTS {
+        noticed += alter_outputs(&Case::random(seed, number))?;
+    }
+    noticed += alter_table()?;
+    for fault in Fault::ALL {
+        noticed += run_with(fault)?;
+    }
+    Ok(noticed + alter_counts()?)
+}
+
+/// The output with one byte less, one more, and one changed at each of some
+/// places, the first and the last among them.
+fn altered(output: &[u8]) -> Vec<Vec<u8>> {
+    let mut all = Vec::new();
+    let last = output.len() - 1;
+    all.push(output[..last].to_vec());
+    all.push([output, b"\n"].concat());
+    for place in (0..last).step_by(1 + last / 40).chain([last]) {
+        let mut changed = output.to_vec();
+        changed[place] ^= 1;
+        all.push(changed);
+    }
+    all
+}
+
+/// Alters what the run program would print.
+fn alter_outputs(case: &Case) -> Result<usize, String> {
+    if case.compare(By::Whole, Ok(case.expected.clone())).is_some() {
+        return Err(String::from("nothing was altered, a difference was found"));
+    }
+    let outputs = altered(&case.expected);
+    for output in &outputs {
+        let command = report::command(&case.source);
+        let found = case.compare(By::Whole, Ok(output.clone()));
+        let found = found.ok_or_else(|| format!("an output was altered unnoticed: {command}"))?;
+        let text = report::difference(case, &found, report::CUT);
+        if !text.contains(&command) {
+            return Err(format!("the report is not complete: {text}"));
+        }
+    }
+    Ok(outputs.len())
+}
+
+/// Alters what the table of odd inputs gives; the simulator must then differ.
+fn alter_table() -> Result<usize, String> {
+    let mut count = 0;
+    for mut case in odd_cases() {
+        if case.check_simulator().is_some() {
+            // The comparison will show it.
+            continue;
+        }
+        for output in altered(&case.expected) {
+            case.expected = output;
+            if case.check_simulator().is_none() {
+                let command = report::command(&case.source);
+                return Err(format!("the table was altered unnoticed: {command}"));
+            }
+            count += 1;
+        }
+    }
+    Ok(count)
+}
+
+/// Runs this program in the place of the run program, with a fault. It must
+/// be noticed.
+fn run_with(fault: Fault) -> Result<usize, String> {
+    let program = stand_in(fault)?;
+    let mut noticed = 0;
+    let mut unnoticed = 0;
+    for mut case in odd_cases().step_by(step(fault)) {
+        // The table is not tested here.
+        case.expected = simulator::program::respond(&case.input).into_bytes();
+        match case.check(&program) {
+            Some(_) => noticed += 1,
+            None => unnoticed += 1,
+        }
+        if fault == Fault::FirstRead && noticed != 0 {
+            break;
+        }
+    }
+    let right = match fault {
+        Fault::None => noticed == 0,
+        Fault::FirstRead => noticed != 0,
+        _ => unnoticed == 0,
+    };
+    let problem = || format!("fault {fault:?}: noticed {noticed}, unnoticed {unnoticed}");
+    right.then_some(noticed).ok_or_else(problem)
+}
+
+/// The step through the odd inputs. An endless program takes long. One that
+/// reads once need not be noticed on every input, so all are tried until it is.
+fn step(fault: Fault) -> usize {
+    match fault {
+        Fault::Endless => 4 * EVERY,
+        Fault::FirstRead => 1,
+        _ => EVERY,
+    }
+}
+
+fn stand_in(fault: Fault) -> Result<Program, String> {
+    let path = env::current_exe().map_err(|error| format!("this program: {error}"))?;
+    let limit = match fault {
+        Fault::Endless => Duration::from_millis(50),
+        _ => Duration::from_secs(10),
+    };
+    let arguments = vec!["--stand-in", fault.name()];
+    Ok(Program::new(path.into_os_string(), arguments, limit))
+}
+
+/// Lowers each count in turn; the coverage must then miss just that one.
+fn alter_counts() -> Result<usize, String> {
+    if !Counts::all(LEAST).missing().is_empty() {
+        return Err(String::from("the coverage fails on full counts"));
+    }
+    let counts = lowered_counts();
+    if counts.iter().any(|one| one.missing().len() != 1) {
+        return Err(String::from("the coverage passes on a lowered count"));
+    }
+    Ok(counts.len())
+}
+
+/// Counts of which one is too low, for each that must not be low.
+fn lowered_counts() -> Vec<Counts> {
+    let mut all = Vec::new();
+    let mut lower = |one: &dyn Fn(&mut Counts) -> &mut u64| {
+        let mut counts = Counts::all(LEAST);
+        *one(&mut counts) -= 1;
+        all.push(counts);
+    };
+    lower(&|counts| &mut counts.unread_first);
+    lower(&|counts| &mut counts.unread_entry);
+    lower(&|counts| &mut counts.unread_last);
+    for number in NUMBERS {
+        lower(&|counts| &mut counts.numbers[number]);
+    }
+    for d in 1..=6 {
+        lower(&|counts| &mut counts.sizes[d - 1]);
+    }
+    for outcome in 0..5 {
+        lower(&|counts| &mut counts.outcomes[outcome]);
+    }
+    for status in 0..4 {
+        lower(&|counts| &mut counts.statuses[status]);
+    }
+    lower(&|counts| &mut counts.rounds);
+    lower(&|counts| &mut counts.full);
+    lower(&|counts| &mut counts.full_taken);
+    lower(&|counts| &mut counts.unended);
+    lower(&|counts| &mut counts.pieces);
+    all
+}
