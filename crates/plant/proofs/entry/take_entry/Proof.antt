@@ -1,5 +1,6 @@
 -- `entry::take_entry` meets its contract: the entry is taken, so that no tally is full, and its outcome tells whether a test was made.
 -- Assumes nothing.
+use mathlib.Core.Path.{_∙_}
 use native.Mathlib.Omega.{arith}
 use lib.ListN.{length-set}
 use borrow.Author.Needs.{needs}
@@ -66,7 +67,11 @@ returns c =
     let m = made-test (a .n) (a .table .now) (entryOf (a .kind) (a .i .0)) in
     let d = c .before .before .before .before .before .before .before .before .before .before .before .act .result in
     let l = line-written (a .line .now) (a .i .0) (d .tested) (d .outcome) (c .before .before .before .get .result) (c .before .before .before .before .before .before .before .before .before .before .before .before .before .before .before .pre .2) in
-    (cc, (cc, (cc, cc)))
+    let e = c .before .before .before .before .before .before .before .before .before .before .before .act .ensures in
+    let f = c .before .before .before .before .before .before .before .close-round .ensures in (
+      rw (c .before .grown .ensures, f .0, e .1 .1),
+      (rw (c .grown2 .ensures, e .1 .0, m), (rw (f .1, e .1 .1), l ∙ rw (e .0, e .1 .0, c .before .before .before .get .ensures, f .1, e .1 .1))),
+    )
 
 pub take-entry-spec : {M : Type 1} → statement M
 take-entry-spec =

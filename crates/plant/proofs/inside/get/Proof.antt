@@ -17,7 +17,7 @@ shared-slice-read-result c = search (needs, byte-inside)
 
 returns : tie.Need-returns
 unfolding cell
-returns c = cc
+returns c = rw (c .before .line-start .ensures .0)
 
 pub get-spec : {M : Type 1} → statement M
 get-spec = tie.close (tie.spec line-start-requires add-at shared-slice-read-result returns)

@@ -25,7 +25,7 @@ same-length c = search needs
 
 returns : tie.Need-returns
 unfolding countTest
-returns c = cc
+returns c = rw (c .before .before .put2 .ensures, c .before .before .before .before .before .before .put .ensures, c .before .before .before .before .before .before .before .before .before .get .ensures)
 
 pub count-test-spec : {M : Type 1} → statement M
 count-test-spec =

@@ -10,7 +10,7 @@ get-requires c κs = search needs
 
 returns : tie.Need-returns
 unfolding replies
-returns c = cc
+returns c = rw (c .get .ensures)
 
 pub does-reply-spec : {M : Type 1} → statement M
 does-reply-spec = tie.close (tie.spec get-requires returns)

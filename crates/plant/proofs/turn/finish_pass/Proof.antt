@@ -16,7 +16,7 @@ same-length c = search needs
 
 returns : tie.Need-returns
 unfolding finishPass
-returns c = cc
+returns c = rw (c .before .before .put2 .ensures, c .before .before .before .before .before .before .put .ensures)
 
 pub finish-pass-spec : {M : Type 1} → statement M
 finish-pass-spec = tie.close (tie.spec put-requires put-requires-2 same-length returns)

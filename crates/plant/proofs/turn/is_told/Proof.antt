@@ -16,7 +16,7 @@ get-requires c κs = search needs
 
 returns : tie.Need-returns
 unfolding isTold
-returns c = cc
+returns c = rw (c .get .ensures)
 
 pub is-told-spec : {M : Type 1} → statement M
 is-told-spec = tie.close (tie.spec cast-get add-get get-requires returns)

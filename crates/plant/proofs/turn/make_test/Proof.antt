@@ -49,7 +49,7 @@ same-length c = search needs
 
 returns : tie.Need-returns
 unfolding testing
-returns c = (cc, cc)
+returns c = (rw (c .before .before .before .before .before .before .hear-reply .ensures .0, c .before .before .before .before .before .before .before .before .before .before .count-test .ensures, c .before .before .before .before .before .before .before .before .before .before .before .before .station-at .ensures), rw (c .before .before .leave-if-alone .ensures, c .before .before .before .before .before .before .hear-reply .ensures .1, c .before .before .before .before .before .before .before .before .before .before .count-test .ensures, c .before .before .before .before .before .before .before .before .before .before .before .before .station-at .ensures))
 
 pub make-test-spec : {M : Type 1} → statement M
 make-test-spec =

@@ -16,7 +16,7 @@ get-requires c κs = search needs
 
 returns : tie.Need-returns
 unfolding selfOrSuspected
-returns c = cc
+returns c = rw (c .before .get .ensures)
 
 pub self-or-suspected-spec : {M : Type 1} → statement M
 self-or-suspected-spec = tie.close (tie.spec cast-get add-get get-requires returns)
