@@ -34,6 +34,7 @@
 #![deny(unsafe_code)]
 
 #[allow(unsafe_code)]
+#[doc(hidden)]
 pub mod raw;
 mod refusal;
 
@@ -72,13 +73,6 @@ pub struct Answer {
     pub tally: Tally,
 }
 
-impl Station {
-    /// The station at this distance from this one.
-    pub fn at(self, distance: Distance) -> Station {
-        Station(self.0 ^ usize::from(distance.0))
-    }
-}
-
 /// The length of a table of n stations: n lines of n + 4 bytes.
 /// It has no meaning for a size that the library refuses.
 pub const fn table_length(n: usize) -> usize {
@@ -101,6 +95,18 @@ pub fn group_list(
     list: &mut [u8],
 ) -> Result<(), Refusal> {
     accepted(raw::group_list(n, station.0, level.0, list))
+}
+
+/// The group list as typed stations: the members, in order, read from the list.
+/// Refusals: 1, 9, 12, 13.
+pub fn group_stations(
+    n: usize,
+    station: Station,
+    level: Level,
+    list: &mut [u8],
+) -> Result<impl Iterator<Item = Station> + '_, Refusal> {
+    group_list(n, station, level, list)?;
+    Ok(list.iter().map(|member| Station(usize::from(*member))))
 }
 
 /// Assignment: the distances due for a live station, ascending, into a list of
@@ -132,9 +138,12 @@ pub fn due_distances<'a>(
 /// Row: the station's row as that very part of the lent table.
 /// Refusals: 1 to 4, 9.
 pub fn row(n: usize, table: &[u8], station: Station) -> Result<&[u8], Refusal> {
-    accepted(raw::row_number(n, table, station.0))?;
     let start = raw::row_start(n, table, station.0);
     let length = raw::row_length(n, table, station.0);
+    if length == 0 {
+        // Only a refused row is empty, since n is 2 or more.
+        accepted(raw::row_number(n, table, station.0))?;
+    }
     Ok(&table[start..][..length])
 }
 

@@ -1,7 +1,8 @@
-//! The calls of include/vcube.h as safe functions over slices.
+//! Untyped: the calls of include/vcube.h as they are, for the comparison only.
 //!
-//! They give just what the C calls give: the number, and the bytes written
-//! into the lent slices. All `unsafe` of this crate is in this module.
+//! They are safe functions over slices and give just what the C calls give: the
+//! number, and the bytes written into the lent slices. All `unsafe` of this
+//! crate is in this module.
 //!
 //! Why it is sound:
 //!
@@ -87,8 +88,10 @@ pub fn group_list(n: usize, station: usize, level: usize, list: &mut [u8]) -> u8
     unsafe { c::vcube_group_list(n, station, level, list.as_mut_ptr(), list.len()) }
 }
 
-/// Assignment; how many are due goes into `count[0]`.
-/// Gives 0 or the number of the refusal: 1 to 4, 9, 10, 13.
+/// Assignment; how many are due goes into `count[0]`, which a refused call sets
+/// to 0 if the count has one byte.
+/// Gives 0 or the number of the refusal: 1 to 4, 9, 10, 13. The last is also
+/// for a count that has not one byte.
 pub fn assignment(n: usize, table: &[u8], station: usize, list: &mut [u8], count: &mut [u8]) -> u8 {
     unsafe {
         c::vcube_assignment(
@@ -120,7 +123,8 @@ pub fn row_length(n: usize, table: &[u8], station: usize) -> usize {
 }
 
 /// Run; entries taken, rounds and tests go into the answer's 8, 4 and 4 bytes.
-/// Gives 0 or the number of the refusal: 1 to 6, 13, 7 to 11.
+/// Gives 0 or the number of the refusal: 1 to 6; 13 for an answer that has not
+/// 16 bytes; 7 to 11.
 pub fn run(
     n: usize,
     table: &mut [u8],

@@ -8,11 +8,18 @@ fn fresh(n: usize) -> Vec<u8> {
     table
 }
 
-/// The group as stations; the list has the length stated.
+/// The group as bytes; the list has the length stated.
 fn group(n: usize, station: Station, level: Level) -> Vec<u8> {
     let mut list = vec![9; 1 << (level.0 - 1)];
     assert_eq!(group_list(n, station, level, &mut list), Ok(()));
     list
+}
+
+/// The group as stations.
+fn stations(n: usize, station: Station, level: Level) -> Vec<Station> {
+    let mut list = vec![9; 1 << (level.0 - 1)];
+    let stations = group_stations(n, station, level, &mut list);
+    stations.expect("accepted").collect()
 }
 
 fn due(n: usize, table: &[u8], station: Station) -> Vec<Distance> {
@@ -36,9 +43,30 @@ fn groups_stand_in_order_of_distance() {
 }
 
 #[test]
-fn a_group_member_is_the_station_at_its_distance() {
-    assert_eq!(Station(3).at(Distance(2)), Station(1));
-    assert_eq!(Station(3).at(Distance(3)), Station(0));
+fn group_stations_are_the_group_list() {
+    let expected = [3, 2, 1, 0].map(Station);
+    assert_eq!(stations(8, Station(7), Level(3)), expected);
+    for station in 0..64 {
+        for level in 1..=6 {
+            let bytes = group(64, Station(station), Level(level));
+            let expected = bytes.into_iter().map(|byte| Station(byte.into()));
+            assert!(expected.eq(stations(64, Station(station), Level(level))));
+        }
+    }
+}
+
+#[test]
+fn group_stations_are_refused_as_the_group_list() {
+    let refusal = |n, station, level, length| {
+        let mut list = vec![9; length];
+        let refused = group_stations(n, Station(station), Level(level), &mut list).err();
+        assert_eq!(list, vec![9; length]);
+        refused
+    };
+    assert_eq!(refusal(3, 0, 1, 1), Some(Refusal::Size));
+    assert_eq!(refusal(8, 8, 1, 1), Some(Refusal::Station));
+    assert_eq!(refusal(8, 0, 4, 8), Some(Refusal::Level));
+    assert_eq!(refusal(8, 0, 3, 3), Some(Refusal::ListLength));
 }
 
 #[test]
@@ -53,8 +81,9 @@ fn station_5_of_8_that_suspects_4_has_five_due() {
     table[5 * 12 + 4 + 4] = 1;
     let expected = [1, 2, 3, 4, 5].map(Distance);
     assert_eq!(due(8, &table, Station(5)), expected);
-    assert_eq!(Station(5).at(Distance(3)), Station(6));
-    assert_eq!(Station(5).at(Distance(5)), Station(0));
+    // 3 and 5 are the second distances of their levels: stations 6 and 0.
+    assert_eq!(stations(8, Station(5), Level(2))[1], Station(6));
+    assert_eq!(stations(8, Station(5), Level(3))[1], Station(0));
 }
 
 #[test]
@@ -83,6 +112,16 @@ fn the_row_is_that_very_part_of_the_table() {
     let table = fresh(4);
     let row = row(4, &table, Station(2)).expect("accepted");
     assert!(std::ptr::eq(row, &table[2 * 8 + 4..3 * 8]));
+}
+
+#[test]
+fn a_refused_row_has_its_refusal() {
+    let mut table = fresh(4);
+    assert_eq!(row(3, &table, Station(0)), Err(Refusal::Size));
+    assert_eq!(row(4, &table[1..], Station(0)), Err(Refusal::TableLength));
+    assert_eq!(row(4, &table, Station(4)), Err(Refusal::Station));
+    table[0] = 4;
+    assert_eq!(row(4, &table, Station(0)), Err(Refusal::LineRule));
 }
 
 #[test]

@@ -98,7 +98,7 @@ impl Plant {
     }
 
     /// The ready board whose turn leaves the fewest suspicions in the table;
-    /// of several, one at random.
+    /// of several, one at random: the first in a random order.
     fn most_delaying(&self, mut ready: Vec<usize>, random: &mut Random) -> usize {
         random.shuffle(&mut ready);
         let now = suspicions(self.n, &self.table);
@@ -106,8 +106,11 @@ impl Plant {
         for i in ready {
             let mut table = self.table.clone();
             run_entry(self.n, &mut table, TURN, i);
-            least = least.min((suspicions(self.n, &table), i));
-            if least.0 == now {
+            let after = suspicions(self.n, &table);
+            if after < least.0 {
+                least = (after, i);
+            }
+            if after == now {
                 break;
             }
         }

@@ -6,6 +6,7 @@
 pub mod chart;
 pub mod contender;
 pub mod detection;
+pub mod measure;
 pub mod plain;
 pub mod random;
 pub mod statistics;

@@ -1,7 +1,10 @@
 //! The run of document 01 in plain Rust over the lent bytes.
 //!
 //! Table, schedule and sheet are used as they are lent: nothing is decoded,
-//! and the group order is computed with exclusive or.
+//! and the group order is computed with exclusive or. As the document's steps
+//! read, it looks through all lines for the round's end after each entry, and
+//! always exchanges both rows. (The library looks at the entry's own station
+//! first and leaves equal rows alone.)
 
 use crate::Answer;
 

@@ -1,5 +1,6 @@
 //! Plain Rust against the simulator: every byte and every answer.
 
+use crate::measure::check_equal;
 use crate::random::Random;
 use crate::work::{table_with_crashed, unfinished, Work};
 use crate::{plain, Answer};
@@ -87,6 +88,37 @@ fn schedules_of_the_benchmark() {
             let (answer, _, _) = compare(n, &work.table, (0, 0), &work.schedule, sheet);
             assert_eq!((answer.number, answer.taken), (0, 1000));
         }
+    }
+}
+
+#[test]
+fn a_first_round_closes_with_its_last_entry() {
+    let mut random = Random::new(15);
+    for n in SIZES {
+        for dead in [0, n / 4, n / 2] {
+            let work = Work::first_round(n, dead.min(n - 2), &mut random);
+            let last = work.schedule.len() - 2;
+            let (answer, _, _) = compare(n, &work.table, (0, 0), &work.schedule, 2 * last + 4);
+            assert_eq!((answer.taken, answer.rounds), (work.entries(), 1));
+            let (answer, _, _) = compare(n, &work.table, (0, 0), &work.schedule[..last], 2 * last);
+            assert_eq!((answer.number, answer.rounds), (0, 0));
+        }
+    }
+}
+
+#[test]
+fn rows_are_the_same_with_none_dead() {
+    let work = Work::first_round(8, 0, &mut Random::new(16));
+    assert_eq!(work.exchanges(), (0, 24));
+    let (differ, all) = Work::first_round(8, 4, &mut Random::new(16)).exchanges();
+    assert!(0 < differ && differ < all);
+}
+
+#[test]
+fn all_three_give_the_same() {
+    for n in SIZES {
+        check_equal(&Work::one_turn(n));
+        check_equal(&Work::first_round(n, n / 2 - 1, &mut Random::new(17)));
     }
 }
 

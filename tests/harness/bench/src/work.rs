@@ -1,10 +1,17 @@
 //! Start tables and schedules of turns in which every entry is taken.
 
 use crate::random::Random;
+use vcube::Tally;
+
+const TURN: u8 = 1;
+const EXCHANGED: u8 = 1;
 
 /// A table at the start of a round, and a schedule for it.
+#[derive(Clone)]
 pub struct Work {
     pub n: usize,
+    /// How many stations are crashed.
+    pub dead: usize,
     pub table: Vec<u8>,
     pub schedule: Vec<u8>,
 }
@@ -13,14 +20,71 @@ impl Work {
     /// Turns of live stations that have not finished their pass, in a random
     /// interleaving over many rounds.
     pub fn new(n: usize, dead: usize, entries: usize, random: &mut Random) -> Work {
+        let mut work = Work::start(n, dead, random);
+        let mut table = work.table.clone();
+        for _ in 0..entries {
+            work.add_random_turn(&mut table, random);
+        }
+        work
+    }
+
+    /// The same up to the end of the first round.
+    pub fn first_round(n: usize, dead: usize, random: &mut Random) -> Work {
+        let mut work = Work::start(n, dead, random);
+        let mut table = work.table.clone();
+        while work.add_random_turn(&mut table, random) == 0 {}
+        work
+    }
+
+    /// One turn of station 0 on a fresh table.
+    pub fn one_turn(n: usize) -> Work {
+        Work {
+            n,
+            dead: 0,
+            table: table_with_crashed(n, &[]),
+            schedule: vec![TURN, 0],
+        }
+    }
+
+    /// A table with random stations crashed, and no entry yet.
+    fn start(n: usize, dead: usize, random: &mut Random) -> Work {
         let stations = random.order(n);
-        let table = table_with_crashed(n, &stations[..dead]);
-        let schedule = random_turns(n, table.clone(), entries, random);
-        Work { n, table, schedule }
+        Work {
+            n,
+            dead,
+            table: table_with_crashed(n, &stations[..dead]),
+            schedule: Vec::new(),
+        }
+    }
+
+    /// Adds a turn that the table takes and works it on the table. Gives how
+    /// many rounds it closes.
+    fn add_random_turn(&mut self, table: &mut [u8], random: &mut Random) -> u32 {
+        let entry = [TURN, random.pick(&unfinished(self.n, table)) as u8];
+        self.schedule.extend(entry);
+        let answer = vcube::run(self.n, table, Tally::default(), &entry, &mut [0; 4]);
+        answer.tally.rounds
     }
 
     pub fn entries(&self) -> usize {
         self.schedule.len() / 2
+    }
+
+    /// How many entries exchange rows that differ, and how many exchange rows.
+    pub fn exchanges(&self) -> (usize, usize) {
+        let mut table = self.table.clone();
+        let mut exchanges = (0, 0);
+        for entry in self.schedule.chunks_exact(2) {
+            let mut sheet = [0; 4];
+            let before = table.clone();
+            vcube::run(self.n, &mut table, Tally::default(), entry, &mut sheet);
+            let row = |i: u8| &before[usize::from(i) * (self.n + 4) + 4..][..self.n];
+            if sheet[2] == EXCHANGED {
+                exchanges.0 += usize::from(row(sheet[0]) != row(sheet[1]));
+                exchanges.1 += 1;
+            }
+        }
+        exchanges
     }
 }
 
@@ -39,15 +103,4 @@ pub fn unfinished(n: usize, table: &[u8]) -> Vec<usize> {
     let lines = table.chunks_exact(n + 4).enumerate();
     let ready = lines.filter(|(_, line)| line[0] == 0 && line[2] == 0);
     ready.map(|(i, _)| i).collect()
-}
-
-fn random_turns(n: usize, mut table: Vec<u8>, entries: usize, random: &mut Random) -> Vec<u8> {
-    let mut schedule = Vec::with_capacity(2 * entries);
-    let mut sheet = [0; 4];
-    for _ in 0..entries {
-        let entry = [1, random.pick(&unfinished(n, &table)) as u8];
-        simulator::run(n, &mut table, (0, 0), &entry, &mut sheet);
-        schedule.extend(entry);
-    }
-    schedule
 }

@@ -6,7 +6,7 @@ use vcube::raw;
 
 use crate::call::{Buffers, Call, Kind, Numbers};
 use crate::guarded::Guarded;
-use crate::outcome::{Figures, Outcome};
+use crate::outcome::{Figures, Outcome, Side};
 
 /// Lends the guarded buffers to the library.
 pub fn make(call: &Call, mut buffers: Buffers<Guarded>) -> Outcome {
@@ -20,7 +20,11 @@ pub fn make(call: &Call, mut buffers: Buffers<Guarded>) -> Outcome {
     };
     // The compiler must not take a buffer lent for reading to be unchanged.
     let buffers = black_box(buffers);
-    Outcome { figures, buffers }
+    Outcome {
+        side: Side::Library,
+        figures,
+        buffers,
+    }
 }
 
 fn fresh_table(numbers: &Numbers, buffers: &mut Buffers<Guarded>) -> u8 {

@@ -8,7 +8,7 @@
 
 use crate::call::{Buffers, Call, Kind, Numbers};
 use crate::guarded::Guarded;
-use crate::outcome::{Figures, Outcome};
+use crate::outcome::{Figures, Outcome, Side};
 
 /// Works the call on the guarded buffers; the guards stay as they are.
 pub fn make(call: &Call, mut buffers: Buffers<Guarded>) -> Outcome {
@@ -20,7 +20,11 @@ pub fn make(call: &Call, mut buffers: Buffers<Guarded>) -> Outcome {
         Kind::Row => row(numbers, buffers.table.contents()),
         Kind::Run => Figures::only(run(numbers, &mut buffers)),
     };
-    Outcome { figures, buffers }
+    Outcome {
+        side: Side::Simulator,
+        figures,
+        buffers,
+    }
 }
 
 /// A station or level as the simulator takes it. All numbers from 255 on are

@@ -3,20 +3,46 @@
 use std::fmt;
 
 use crate::call::{Call, Kind};
+use crate::entries::{self, Answer, Entry};
 use crate::outcome::Outcome;
 
 const KINDS: usize = Kind::ALL.len();
 
+/// How many sizes there are; the size 2^d has place d - 1.
+pub const SIZES: usize = 6;
+
 /// How often each thing must occur at least, if there are enough calls.
 pub const LEAST: u64 = 100;
+
+/// A run that takes so many entries is a long one: one byte cannot count them.
+const LONG_RUN: usize = 256;
 
 /// How often each thing occurred.
 #[derive(Clone)]
 pub struct Counts {
     /// The number a call gave, 0 to 13, by kind of call.
     pub numbers: [[u64; 14]; KINDS],
-    /// The sizes of accepted calls, by d - 1, by kind of call.
-    pub sizes: [[u64; 6]; KINDS],
+    /// The sizes of accepted calls, by kind of call.
+    pub sizes: [[u64; SIZES]; KINDS],
+    /// What occurred in runs, by size.
+    pub runs: [InRuns; SIZES],
+    /// Refusals 7 after an entry was taken: the tally of rounds, that of tests.
+    pub full_tallies: [u64; 2],
+    /// Rounds closed by an entry after which its station is crashed, has left
+    /// because told, has left because alone.
+    pub closed_leaving: [u64; 3],
+    /// Replies of live stations that came late.
+    pub late_replies: u64,
+    /// Runs that took at least `LONG_RUN` entries.
+    pub long_runs: u64,
+}
+
+/// What occurred in the runs of one size. For each size, 2 included, every
+/// outcome and every status is possible. For 2, outcome 2 needs a table handed
+/// in with a live station that suspects the other: a run makes none, since
+/// such a station leaves as alone.
+#[derive(Clone)]
+pub struct InRuns {
     /// The outcomes of entries taken, 0 to 4.
     pub outcomes: [u64; 5],
     /// The statuses after entries taken, 0 to 3.
@@ -25,15 +51,30 @@ pub struct Counts {
     pub rounds: u64,
 }
 
+impl InRuns {
+    fn add(&mut self, entry: &Entry) {
+        self.outcomes[usize::from(entry.outcome)] += 1;
+        self.statuses[usize::from(entry.status)] += 1;
+        self.rounds += u64::from(entry.closes);
+    }
+}
+
 impl Counts {
     /// Every count the same.
     pub fn all(count: u64) -> Counts {
-        Counts {
-            numbers: [[count; 14]; KINDS],
-            sizes: [[count; 6]; KINDS],
+        let in_runs = InRuns {
             outcomes: [count; 5],
             statuses: [count; 4],
             rounds: count,
+        };
+        Counts {
+            numbers: [[count; 14]; KINDS],
+            sizes: [[count; SIZES]; KINDS],
+            runs: [(); SIZES].map(|()| in_runs.clone()),
+            full_tallies: [count; 2],
+            closed_leaving: [count; 3],
+            late_replies: count,
+            long_runs: count,
         }
     }
 
@@ -42,56 +83,120 @@ impl Counts {
         let number = outcome.figures.number;
         self.numbers[kind][usize::from(number)] += 1;
         if number == 0 {
-            let d = call.numbers.n.trailing_zeros() as usize;
-            self.sizes[kind][d - 1] += 1;
+            self.sizes[kind][place(call)] += 1;
         }
         if call.kind == Kind::Run {
             self.add_run(call, outcome);
         }
     }
 
-    /// Counts the entries taken and the rounds closed, if there is an answer.
+    /// Counts what a run did, if there is an answer.
     fn add_run(&mut self, call: &Call, outcome: &Outcome) {
-        let Ok(answer) = outcome.buffers.answer.contents().try_into() else {
+        let Some(answer) = entries::answer(outcome) else {
             return;
         };
-        let all = u128::from_be_bytes(answer);
-        let taken = (all >> 64) as usize;
-        for line in outcome.buffers.sheet.contents().chunks_exact(4).take(taken) {
-            self.outcomes[usize::from(line[2])] += 1;
-            self.statuses[usize::from(line[3])] += 1;
+        let entries = entries::taken(call, outcome, &answer);
+        let closed = entries.iter().filter(|entry| entry.closes).count();
+        let tally = answer.rounds - call.numbers.rounds;
+        assert_eq!(closed as u32, tally, "sheet and tally: rounds closed");
+        for entry in &entries {
+            self.runs[place(call)].add(entry);
+            self.add_entry(entry);
         }
-        let rounds = (all >> 32) as u32;
-        self.rounds += u64::from(rounds - call.numbers.rounds);
+        self.long_runs += u64::from(answer.taken >= LONG_RUN);
+        if outcome.figures.number == 7 && answer.taken != 0 {
+            self.add_full_tally(&answer);
+        }
+    }
+
+    fn add_entry(&mut self, entry: &Entry) {
+        if entry.closes && entry.status != 0 {
+            self.closed_leaving[usize::from(entry.status) - 1] += 1;
+        }
+        self.late_replies += u64::from(entry.late);
+    }
+
+    fn add_full_tally(&mut self, answer: &Answer) {
+        self.full_tallies[0] += u64::from(answer.rounds == u32::MAX);
+        self.full_tallies[1] += u64::from(answer.tests == u32::MAX);
     }
 
     /// The things that occurred too seldom or not at all.
     pub fn missing(&self) -> Vec<String> {
-        let mut missing = Vec::new();
-        let mut need = |count: u64, text: String| {
-            if count < LEAST {
-                missing.push(format!("{text}: {count}"));
-            }
-        };
+        let required = self.required().into_iter();
+        let seldom = required.filter(|(count, _)| *count < LEAST);
+        seldom
+            .map(|(count, text)| format!("{text}: {count}"))
+            .collect()
+    }
+
+    /// All counts that must not be low, and what they count.
+    fn required(&self) -> Vec<(u64, String)> {
+        let mut required = Vec::new();
         for kind in Kind::ALL {
-            let text = kind.text();
-            for number in kind.possible_numbers() {
-                let count = self.numbers[kind as usize][usize::from(*number)];
-                need(count, format!("{text} with number {number}"));
-            }
-            for (count, d) in self.sizes[kind as usize].iter().zip(1..) {
-                need(*count, format!("accepted {text} of size {}", 1 << d));
-            }
+            self.require_kind(kind, &mut required);
         }
+        for (runs, d) in self.runs.iter().zip(1..) {
+            runs.require(1 << d, &mut required);
+        }
+        self.require_singly(&mut required);
+        required
+    }
+
+    fn require_kind(&self, kind: Kind, required: &mut Vec<(u64, String)>) {
+        let text = kind.text();
+        for number in kind.possible_numbers() {
+            let count = self.numbers[kind as usize][usize::from(*number)];
+            required.push((count, format!("{text} with number {number}")));
+        }
+        for (count, d) in self.sizes[kind as usize].iter().zip(1..) {
+            required.push((*count, format!("accepted {text} of size {}", 1 << d)));
+        }
+    }
+
+    fn require_singly(&self, required: &mut Vec<(u64, String)>) {
+        let [by_rounds, by_tests] = self.full_tallies;
+        let [crashed, told, alone] = self.closed_leaving;
+        let counts = [
+            (by_rounds, "tally of rounds full after an entry"),
+            (by_tests, "tally of tests full after an entry"),
+            (crashed, "round closed by a crash"),
+            (told, "round closed by a station that is told"),
+            (alone, "round closed by a station that is alone"),
+            (self.late_replies, "late reply of a live station"),
+            (self.long_runs, "run that took 256 entries or more"),
+        ];
+        required.extend(counts.map(|(count, text)| (count, String::from(text))));
+    }
+
+    /// The sums over all sizes.
+    fn all_runs(&self) -> InRuns {
+        let sum = |one: &dyn Fn(&InRuns) -> u64| self.runs.iter().map(one).sum();
+        InRuns {
+            outcomes: std::array::from_fn(|k| sum(&|runs| runs.outcomes[k])),
+            statuses: std::array::from_fn(|k| sum(&|runs| runs.statuses[k])),
+            rounds: sum(&|runs| runs.rounds),
+        }
+    }
+}
+
+impl InRuns {
+    fn require(&self, size: usize, required: &mut Vec<(u64, String)>) {
         for (count, outcome) in self.outcomes.iter().zip(0..) {
-            need(*count, format!("entry with outcome {outcome}"));
+            let text = format!("entry of size {size} with outcome {outcome}");
+            required.push((*count, text));
         }
         for (count, status) in self.statuses.iter().zip(0..) {
-            need(*count, format!("entry with status {status}"));
+            let text = format!("entry of size {size} with status {status}");
+            required.push((*count, text));
         }
-        need(self.rounds, String::from("closed round"));
-        missing
+        required.push((self.rounds, format!("round of size {size} closed")));
     }
+}
+
+/// The place of the size of a call that was not refused by its size.
+fn place(call: &Call) -> usize {
+    call.numbers.n.trailing_zeros() as usize - 1
 }
 
 /// Each count that is not 0, behind what it counts.
@@ -102,7 +207,7 @@ fn list(counts: &[u64]) -> String {
 }
 
 impl fmt::Display for Counts {
-    /// All counts, on one line.
+    /// The counts, on one line.
     fn fmt(&self, f: &mut fmt::Formatter<'_>) -> fmt::Result {
         for kind in Kind::ALL {
             let numbers = &self.numbers[kind as usize];
@@ -111,6 +216,26 @@ impl fmt::Display for Counts {
             write!(f, "{text} {calls}, accepted {accepted}, ")?;
             write!(f, "by number ({}); ", list(numbers))?;
         }
+        write!(f, "{}; ", self.all_runs())?;
+        let [crashed, told, alone] = self.closed_leaving;
+        write!(f, "of these by a crash {crashed}, by one told {told}, ")?;
+        write!(f, "by one alone {alone}; ")?;
+        write!(f, "late replies {}; ", self.late_replies)?;
+        let [rounds, tests] = self.full_tallies;
+        write!(
+            f,
+            "tally full after an entry: rounds {rounds}, tests {tests}; "
+        )?;
+        write!(f, "runs of {LONG_RUN} entries or more {}", self.long_runs)?;
+        let rarest = self.required().into_iter().min();
+        rarest.map_or(Ok(()), |(count, text)| {
+            write!(f, "; rarest: {text}: {count}")
+        })
+    }
+}
+
+impl fmt::Display for InRuns {
+    fn fmt(&self, f: &mut fmt::Formatter<'_>) -> fmt::Result {
         let entries: u64 = self.outcomes.iter().sum();
         write!(f, "entries taken {entries}, ")?;
         write!(f, "by outcome ({}), ", list(&self.outcomes))?;

@@ -1,4 +1,7 @@
 //! A buffer inside a larger one, with guard bytes before and behind it.
+//!
+//! A write out of bounds shows in the guards. A read out of bounds is not seen,
+//! unless what was read changes the outcome.
 
 use crate::prng::Prng;
 
@@ -9,8 +12,9 @@ pub struct Guarded {
     length: usize,
 }
 
-/// The least number of guard bytes on either side.
-const LEAST_GUARD: usize = 32;
+/// The least number of guard bytes on either side: more than a line of a table
+/// of 64 stations, which has 68 bytes.
+const LEAST_GUARD: usize = 128;
 
 impl Guarded {
     /// The contents between guards of random length and contents.

@@ -1,12 +1,14 @@
-//! Runs the library and the simulator on the same random calls and compares
-//! every byte and every figure.
+//! Runs the simulator, the library and the typed layer of bindings/rust on the
+//! same random calls and compares every byte and every figure.
 
 #![forbid(unsafe_code)]
 
 mod by_library;
 mod by_simulator;
+mod by_typed;
 mod call;
 mod counts;
+mod entries;
 mod generate;
 mod guarded;
 mod options;

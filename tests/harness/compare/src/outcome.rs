@@ -1,4 +1,4 @@
-//! What a call gave, by the simulator and by the library, and the first difference.
+//! What a call gave, by one of the three sides, and the first difference.
 
 use std::fmt;
 
@@ -13,9 +13,20 @@ pub struct Figures {
     pub length: usize,
 }
 
+/// Who made a call.
+#[derive(Clone, Copy, Debug, PartialEq, Eq)]
+pub enum Side {
+    Simulator,
+    /// By the raw calls of bindings/rust.
+    Library,
+    /// By the typed layer of bindings/rust.
+    Typed,
+}
+
 /// The figures, and all buffers with their guards after the call.
 #[derive(Clone, Debug)]
 pub struct Outcome {
+    pub side: Side,
     pub figures: Figures,
     pub buffers: Buffers<Guarded>,
 }
@@ -32,37 +43,49 @@ pub enum Place {
 /// The first difference of two outcomes.
 #[derive(Clone, Debug, PartialEq, Eq)]
 pub struct Difference {
+    /// The side that gives something else than expected.
+    pub side: Side,
     pub place: Place,
     text: String,
 }
 
 /// The first difference, if there is one. Every figure and every byte is compared.
-pub fn difference(kind: Kind, simulator: &Outcome, library: &Outcome) -> Option<Difference> {
-    figures_difference(&simulator.figures, &library.figures).or_else(|| {
-        let mut names = kind.buffers().iter();
-        names.find_map(|name| {
-            let expected = simulator.buffers.get(*name);
-            buffer_difference(*name, expected, library.buffers.get(*name))
-        })
-    })
+pub fn difference(kind: Kind, expected: &Outcome, given: &Outcome) -> Option<Difference> {
+    let names = kind.buffers().iter();
+    let mut in_buffers = names.filter_map(|name| buffer_difference(*name, expected, given));
+    figures_difference(expected, given).or_else(|| in_buffers.next())
 }
 
-fn figures_difference(simulator: &Figures, library: &Figures) -> Option<Difference> {
-    let differ = simulator != library;
+fn figures_difference(expected: &Outcome, given: &Outcome) -> Option<Difference> {
+    let differ = expected.figures != given.figures;
     differ.then(|| Difference {
+        side: given.side,
         place: Place::Figures,
-        text: format!("the simulator gives {simulator}, the library {library}"),
+        text: format!(
+            "{} gives {}, {} {}",
+            expected.side.text(),
+            expected.figures,
+            given.side.text(),
+            given.figures
+        ),
     })
 }
 
-fn buffer_difference(name: Name, simulator: &Guarded, library: &Guarded) -> Option<Difference> {
-    let mut pairs = simulator.whole().iter().zip(library.whole());
+fn buffer_difference(name: Name, expected: &Outcome, given: &Outcome) -> Option<Difference> {
+    let (one, other) = (expected.buffers.get(name), given.buffers.get(name));
+    let mut pairs = one.whole().iter().zip(other.whole());
     let at = pairs.position(|(expected, given)| expected != given)?;
-    let (expected, given) = (simulator.whole()[at], library.whole()[at]);
-    let (place, text) = locate(name, simulator, at);
+    let (place, text) = locate(name, one, at);
     Some(Difference {
+        side: given.side,
         place,
-        text: format!("{text}: the simulator gives {expected:02x}, the library {given:02x}"),
+        text: format!(
+            "{text}: {} gives {:02x}, {} {:02x}",
+            expected.side.text(),
+            one.whole()[at],
+            given.side.text(),
+            other.whole()[at]
+        ),
     })
 }
 
@@ -81,6 +104,16 @@ fn locate(name: Name, buffer: &Guarded, at: usize) -> (Place, String) {
         let distance = at - behind + 1;
         let text = format!("guard byte {distance} behind the {text}");
         (Place::GuardBehind(name), text)
+    }
+}
+
+impl Side {
+    pub fn text(self) -> &'static str {
+        match self {
+            Side::Simulator => "the simulator",
+            Side::Library => "the library",
+            Side::Typed => "the typed layer",
+        }
     }
 }
 

@@ -7,7 +7,7 @@ use crate::trial::Trial;
 /// How many bytes of a buffer are printed where it is cut.
 pub const CUT: usize = 256;
 
-/// The call, both outcomes, the difference and the command that repeats it.
+/// The call, the outcomes, the difference and the command that repeats it.
 pub fn difference(seed: u64, number: u64, trial: &Trial, found: &Difference) -> String {
     let mut text = trial_text(number, trial, CUT);
     text += &format!("difference: {found}\n");
@@ -20,7 +20,7 @@ pub fn command(seed: u64, number: u64) -> String {
     format!("tests/compare --seed {seed} --only {number}")
 }
 
-/// The call and both outcomes; buffers longer than the cut are cut.
+/// The call and the outcomes; buffers longer than the cut are cut.
 pub fn trial_text(number: u64, trial: &Trial, cut: usize) -> String {
     let call = &trial.call;
     let mut text = format!("call {number}: {}\n", call.kind.text());
@@ -28,10 +28,9 @@ pub fn trial_text(number: u64, trial: &Trial, cut: usize) -> String {
     for name in call.kind.buffers() {
         text += &buffer(name.text(), call.buffers.get(*name), cut);
     }
-    text += "the simulator gives:\n";
-    text += &outcome(call, &trial.simulator, cut);
-    text += "the library gives:\n";
-    text += &outcome(call, &trial.library, cut);
+    for given in trial.outcomes() {
+        text += &outcome(call, given, cut);
+    }
     text
 }
 
@@ -52,7 +51,8 @@ fn numbers(kind: Kind, numbers: &Numbers) -> String {
 }
 
 fn outcome(call: &Call, outcome: &Outcome, cut: usize) -> String {
-    let mut text = format!("  {}\n", outcome.figures);
+    let mut text = format!("{} gives:\n", outcome.side.text());
+    text += &format!("  {}\n", outcome.figures);
     for name in call.kind.buffers() {
         let after = outcome.buffers.get(*name).contents();
         if after == call.buffers.get(*name) {

@@ -1,8 +1,8 @@
 //! Shows that the comparison fails when something is altered.
 
 use crate::call::{Kind, Name};
-use crate::counts::{Counts, LEAST};
-use crate::outcome::Place;
+use crate::counts::{Counts, LEAST, SIZES};
+use crate::outcome::{Outcome, Place, Side};
 use crate::prng::Prng;
 use crate::report;
 use crate::trial::Trial;
@@ -10,21 +10,28 @@ use crate::trial::Trial;
 /// How many calls are altered.
 const CALLS: u64 = 2_000;
 
-/// Takes calls on which library and simulator agree, and alters the library's
-/// outcome, one thing at a time; then the counts. Gives how many alterations
-/// were noticed, or what was not noticed. The library is not called, so that
-/// a fault of it shows in the comparison and not here.
+/// What was altered, and on which side.
+type Altered = Vec<(Side, Place)>;
+
+/// A call on which all sides agree until something is altered.
+struct Subject {
+    seed: u64,
+    number: u64,
+    trial: Trial,
+    rng: Prng,
+}
+
+/// Takes calls on which all sides agree, and alters the outcome of the library
+/// and of the typed layer, one thing at a time; then the counts. Gives how many
+/// alterations were noticed, or what was not noticed. The library is not
+/// called, so that a fault of it shows in the comparison and not here.
 pub fn self_test(seed: u64) -> Result<u64, String> {
-    let mut altered = Vec::new();
+    let mut altered = Altered::new();
     for number in 1..=CALLS {
-        let mut trial = Trial::make_agreeing(seed, number);
-        if let Some(found) = trial.difference() {
-            return Err(format!("nothing was altered, {found} was found"));
-        }
-        let mut rng = Prng::for_call(!seed, number);
-        alter_figures(seed, number, &mut trial, &mut altered)?;
-        for name in trial.call.kind.buffers() {
-            alter_buffer(seed, number, &mut trial, *name, &mut rng, &mut altered)?;
+        let mut subject = Subject::new(seed, number)?;
+        subject.alter(Side::Library, &mut altered)?;
+        if subject.trial.typed.is_some() {
+            subject.alter(Side::Typed, &mut altered)?;
         }
     }
     all_places_altered(&altered)?;
@@ -32,76 +39,103 @@ pub fn self_test(seed: u64) -> Result<u64, String> {
     Ok(altered.len() as u64 + counts)
 }
 
-/// Changes each figure in turn.
-fn alter_figures(
-    seed: u64,
-    number: u64,
-    trial: &mut Trial,
-    altered: &mut Vec<Place>,
-) -> Result<(), String> {
-    let before = trial.library.figures;
-    for figure in 0..3 {
-        let figures = &mut trial.library.figures;
-        match figure {
-            0 => figures.number ^= 1,
-            1 => figures.start ^= 1,
-            _ => figures.length ^= 1,
+impl Subject {
+    fn new(seed: u64, number: u64) -> Result<Subject, String> {
+        let trial = Trial::make_agreeing(seed, number);
+        if let Some(found) = trial.difference() {
+            return Err(format!("nothing was altered, {found} was found"));
         }
-        noticed(seed, number, trial, Place::Figures)?;
-        altered.push(Place::Figures);
-        trial.library.figures = before;
+        Ok(Subject {
+            seed,
+            number,
+            trial,
+            rng: Prng::for_call(!seed, number),
+        })
     }
-    Ok(())
-}
 
-/// Changes a guard byte before the contents, one of the contents, if there is
-/// one, and a guard byte behind, in turn.
-fn alter_buffer(
-    seed: u64,
-    number: u64,
-    trial: &mut Trial,
-    name: Name,
-    rng: &mut Prng,
-    altered: &mut Vec<Place>,
-) -> Result<(), String> {
-    let buffer = trial.library.buffers.get(name);
-    let (before, behind) = (buffer.before(), buffer.behind());
-    let parts = [
-        (Place::GuardBefore(name), 0..before),
-        (Place::Contents(name), before..behind),
-        (Place::GuardBehind(name), behind..buffer.whole().len()),
-    ];
-    for (place, part) in parts {
-        if part.is_empty() {
-            continue;
+    /// The outcome of a side that can be altered.
+    fn outcome(&mut self, side: Side) -> &mut Outcome {
+        match (side, &mut self.trial.typed) {
+            (Side::Typed, Some(typed)) => typed,
+            _ => &mut self.trial.library,
         }
-        let at = part.start + rng.below(part.len());
-        let bit = 1 << rng.below(8);
-        trial.library.buffers.get_mut(name).whole_mut()[at] ^= bit;
-        noticed(seed, number, trial, place)?;
-        trial.library.buffers.get_mut(name).whole_mut()[at] ^= bit;
-        altered.push(place);
     }
-    Ok(())
+
+    /// Alters the figures and each buffer of one side.
+    fn alter(&mut self, side: Side, altered: &mut Altered) -> Result<(), String> {
+        self.alter_figures(side, altered)?;
+        for name in self.trial.call.kind.buffers() {
+            self.alter_buffer(side, *name, altered)?;
+        }
+        Ok(())
+    }
+
+    /// Changes each figure in turn.
+    fn alter_figures(&mut self, side: Side, altered: &mut Altered) -> Result<(), String> {
+        let before = self.outcome(side).figures;
+        for figure in 0..3 {
+            let figures = &mut self.outcome(side).figures;
+            match figure {
+                0 => figures.number ^= 1,
+                1 => figures.start ^= 1,
+                _ => figures.length ^= 1,
+            }
+            self.noticed(side, Place::Figures)?;
+            altered.push((side, Place::Figures));
+            self.outcome(side).figures = before;
+        }
+        Ok(())
+    }
+
+    /// Changes a guard byte before the contents, one of the contents, if there
+    /// is one, and a guard byte behind, in turn.
+    fn alter_buffer(
+        &mut self,
+        side: Side,
+        name: Name,
+        altered: &mut Altered,
+    ) -> Result<(), String> {
+        let buffer = self.outcome(side).buffers.get(name);
+        let (before, behind) = (buffer.before(), buffer.behind());
+        let parts = [
+            (Place::GuardBefore(name), 0..before),
+            (Place::Contents(name), before..behind),
+            (Place::GuardBehind(name), behind..buffer.whole().len()),
+        ];
+        for (place, part) in parts {
+            if part.is_empty() {
+                continue;
+            }
+            let at = part.start + self.rng.below(part.len());
+            let bit = 1 << self.rng.below(8);
+            self.outcome(side).buffers.get_mut(name).whole_mut()[at] ^= bit;
+            self.noticed(side, place)?;
+            self.outcome(side).buffers.get_mut(name).whole_mut()[at] ^= bit;
+            altered.push((side, place));
+        }
+        Ok(())
+    }
+
+    /// The altered outcome must differ at the right side and place, and the
+    /// report must say how to repeat the call.
+    fn noticed(&self, side: Side, place: Place) -> Result<(), String> {
+        let call = report::command(self.seed, self.number);
+        let what = format!("{side:?}, {place:?}: altered");
+        let found = self.trial.difference();
+        let found = found.ok_or_else(|| format!("{what} unnoticed: {call}"))?;
+        if (found.side, found.place) != (side, place) {
+            return Err(format!("{what}, {found} was found: {call}"));
+        }
+        let text = report::difference(self.seed, self.number, &self.trial, &found);
+        let repeats = text.contains(&call) && text.contains(&found.to_string());
+        let problem = || format!("the report is not complete: {text}");
+        repeats.then_some(()).ok_or_else(problem)
+    }
 }
 
-/// The altered outcome must differ at the right place, and the report must
-/// say how to repeat the call.
-fn noticed(seed: u64, number: u64, trial: &Trial, place: Place) -> Result<(), String> {
-    let call = report::command(seed, number);
-    let found = trial.difference();
-    let found = found.ok_or_else(|| format!("{place:?} was altered unnoticed: {call}"))?;
-    if found.place != place {
-        return Err(format!("{place:?} was altered, {found} was found: {call}"));
-    }
-    let text = report::difference(seed, number, trial, &found);
-    let repeats = text.contains(&call) && text.contains(&found.to_string());
-    let problem = || format!("the report is not complete: {text}");
-    repeats.then_some(()).ok_or_else(problem)
-}
-
-/// Every part of every buffer must have been altered, and the figures.
-fn all_places_altered(altered: &[Place]) -> Result<(), String> {
+/// Every part of every buffer must have been altered, and the figures, on both
+/// sides.
+fn all_places_altered(altered: &Altered) -> Result<(), String> {
     let mut places = vec![Place::Figures];
     for name in Name::ALL {
         places.extend([
@@ -110,10 +144,13 @@ fn all_places_altered(altered: &[Place]) -> Result<(), String> {
             Place::GuardBehind(name),
         ]);
     }
-    match places.iter().find(|place| !altered.contains(place)) {
-        Some(place) => Err(format!("{place:?} was never altered")),
-        None => Ok(()),
+    for side in [Side::Library, Side::Typed] {
+        let never = |place: &&Place| !altered.contains(&(side, **place));
+        if let Some(place) = places.iter().find(never) {
+            return Err(format!("{side:?}, {place:?}: never altered"));
+        }
     }
+    Ok(())
 }
 
 /// Lowers each count in turn; the coverage must then miss just that one.
@@ -122,6 +159,9 @@ fn alter_counts() -> Result<u64, String> {
         return Err(String::from("the coverage fails on full counts"));
     }
     let counts = lowered_counts();
+    if counts.len() != Counts::all(0).missing().len() {
+        return Err(String::from("not every required count is lowered"));
+    }
     if counts.iter().any(|one| one.missing().len() != 1) {
         return Err(String::from("the coverage passes on a lowered count"));
     }
@@ -140,16 +180,26 @@ fn lowered_counts() -> Vec<Counts> {
         for number in kind.possible_numbers() {
             lower(&|counts| &mut counts.numbers[kind as usize][usize::from(*number)]);
         }
-        for d in 1..=6 {
-            lower(&|counts| &mut counts.sizes[kind as usize][d - 1]);
+        for size in 0..SIZES {
+            lower(&|counts| &mut counts.sizes[kind as usize][size]);
         }
     }
-    for outcome in 0..5 {
-        lower(&|counts| &mut counts.outcomes[outcome]);
+    for size in 0..SIZES {
+        for outcome in 0..5 {
+            lower(&|counts| &mut counts.runs[size].outcomes[outcome]);
+        }
+        for status in 0..4 {
+            lower(&|counts| &mut counts.runs[size].statuses[status]);
+        }
+        lower(&|counts| &mut counts.runs[size].rounds);
     }
-    for status in 0..4 {
-        lower(&|counts| &mut counts.statuses[status]);
+    for tally in 0..2 {
+        lower(&|counts| &mut counts.full_tallies[tally]);
     }
-    lower(&|counts| &mut counts.rounds);
+    for status in 1..=3 {
+        lower(&|counts| &mut counts.closed_leaving[status - 1]);
+    }
+    lower(&|counts| &mut counts.late_replies);
+    lower(&|counts| &mut counts.long_runs);
     all
 }

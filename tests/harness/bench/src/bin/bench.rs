@@ -1,17 +1,15 @@
 //! Entries per second of the run: the library, plain Rust over the same
 //! bytes, and the simulator.
 //!
-//! `bench` prints the table; `--quick` repeats less.
+//! `bench` prints the tables; `--quick` repeats less.
 //! `--only NAME N DEAD` runs one of library, plain and simulator once, for a
 //! profiler.
 
 use bench::contender::Contender;
+use bench::measure;
 use bench::random::Random;
 use bench::work::Work;
-use bench::Answer;
-use std::hint::black_box;
 use std::process::ExitCode;
-use std::time::Instant;
 
 const SEED: u64 = 1;
 const ENTRIES: usize = 4000;
@@ -19,38 +17,18 @@ const SIZES: [usize; 4] = [8, 16, 32, 64];
 const REPETITIONS: usize = 301;
 const QUICK_REPETITIONS: usize = 31;
 
-/// The buffers of a run.
-struct Buffers {
-    table: Vec<u8>,
-    sheet: Vec<u8>,
-}
+/// How many short runs are timed together.
+const BATCH: usize = 200;
 
-impl Buffers {
-    fn new(work: &Work) -> Buffers {
-        Buffers {
-            table: work.table.clone(),
-            sheet: vec![0; 2 * work.schedule.len()],
-        }
-    }
-
-    /// The start table again, and a cleared sheet.
-    fn prepare(&mut self, work: &Work) {
-        self.table.copy_from_slice(&work.table);
-        self.sheet.fill(0);
-    }
-
-    fn run(&mut self, contender: Contender, work: &Work) -> Answer {
-        let Buffers { table, sheet } = self;
-        contender.run(work.n, table, black_box(&work.schedule), sheet)
-    }
-}
+/// By this the repetitions are divided where runs are timed together.
+const BATCH_DIVISOR: usize = 3;
 
 fn main() -> ExitCode {
     let words: Vec<String> = std::env::args().skip(1).collect();
     let words: Vec<&str> = words.iter().map(String::as_str).collect();
     match words[..] {
-        [] => print_table(REPETITIONS),
-        ["--quick"] => print_table(QUICK_REPETITIONS),
+        [] => print_tables(REPETITIONS),
+        ["--quick"] => print_tables(QUICK_REPETITIONS),
         ["--only", name, n, dead] => return run_only(name, n, dead),
         _ => return usage(),
     }
@@ -59,12 +37,8 @@ fn main() -> ExitCode {
 
 fn usage() -> ExitCode {
     eprintln!("usage: bench [--quick | --only library|plain|simulator N DEAD]");
+    eprintln!("N is 8, 16, 32 or 64; at least two of N are not dead");
     ExitCode::from(2)
-}
-
-/// The work of a size and a number of dead stations.
-fn work(n: usize, dead: usize) -> Work {
-    Work::new(n, dead, ENTRIES, &mut Random::new(SEED))
 }
 
 /// One run of one implementation.
@@ -73,71 +47,114 @@ fn run_only(name: &str, n: &str, dead: &str) -> ExitCode {
     else {
         return usage();
     };
-    if !SIZES.contains(&n) || dead >= n {
+    if !SIZES.contains(&n) || dead > n - 2 {
         return usage();
     }
-    let work = work(n, dead);
-    let answer = Buffers::new(&work).run(contender, &work);
+    let (answer, _, _) = measure::run_once(contender, &many_rounds(n, dead));
     println!("{answer:?}");
     ExitCode::SUCCESS
 }
 
-fn print_table(repetitions: usize) {
-    println!("Thousands of entries per second of the run: {ENTRIES} entries a run, the best of");
-    println!(
-        "{repetitions} repetitions, each running the three implementations one after the other."
-    );
-    println!("The table is copied and the sheet cleared before each run, untimed.");
-    println!();
+fn many_rounds(n: usize, dead: usize) -> Work {
+    Work::new(n, dead, ENTRIES, &mut Random::new(SEED))
+}
+
+/// The same first round many times.
+fn same_rounds(n: usize, dead: usize) -> Vec<Work> {
+    vec![Work::first_round(n, dead, &mut Random::new(SEED)); BATCH]
+}
+
+/// First rounds with other dead stations and another order each.
+fn other_rounds(n: usize, dead: usize) -> Vec<Work> {
+    let mut random = Random::new(SEED);
+    let one = |_| Work::first_round(n, dead, &mut random);
+    (0..BATCH).map(one).collect()
+}
+
+fn print_tables(repetitions: usize) {
+    let fewer = repetitions / BATCH_DIVISOR;
+    println!("Thousands of entries per second of the run: the best of {repetitions} repetitions,");
+    println!("{fewer} where {BATCH} runs are timed together. Each repetition times the three");
+    println!("implementations one after the other. Tables are copied and the sheet is cleared");
+    println!("before, untimed. The dead are crashed from the start; all entries are turns, and");
+    println!("all are taken.");
+    print_many_rounds(repetitions);
+    print_same_rounds(fewer);
+    print_other_rounds(fewer);
+    print_one_entry(fewer);
+}
+
+fn print_many_rounds(repetitions: usize) {
+    println!("\nMany rounds\n");
+    println!("A run of {ENTRIES} entries over many rounds. Once the dead are known, all rows are");
+    println!("the same.\n");
+    let works = SIZES.map(|n| [0, n / 4, n / 2].map(|dead| vec![many_rounds(n, dead)]));
+    print_table(works.as_flattened(), repetitions);
+}
+
+fn print_same_rounds(repetitions: usize) {
+    let works = SIZES.map(|n| [n / 4, n / 2].map(|dead| same_rounds(n, dead)));
+    let works = works.as_flattened();
+    println!("\nRows that differ\n");
+    println!("The first round only, from the start table, where the dead are not yet known:");
+    let singles = works.iter().map(|batch| &batch[..1]);
+    println!("rows differ in {} % of the exchanges.", shares(singles));
+    println!("{BATCH} runs are timed together, each on its own copy of the table; all have the");
+    println!("same schedule.\n");
+    print_table(works, repetitions);
+}
+
+fn print_other_rounds(repetitions: usize) {
+    let works = SIZES.map(|n| [n / 4, n / 2].map(|dead| other_rounds(n, dead)));
+    let works = works.as_flattened();
+    println!("\nRows that differ, each round another\n");
+    println!("As before, but each of the {BATCH} runs has other dead stations and another order");
+    println!("of turns, so that none can be foretold from the one before. Rows differ in");
+    let differ = shares(works.iter().map(Vec::as_slice));
+    println!("{differ} % of the exchanges.\n");
+    print_table(works, repetitions);
+}
+
+/// The least and the greatest share of exchanges between rows that differ, in
+/// hundredths.
+fn shares<'a>(batches: impl Iterator<Item = &'a [Work]>) -> String {
+    let shares: Vec<usize> = batches.map(share).collect();
+    let (least, greatest) = (shares.iter().min(), shares.iter().max());
+    format!("{} to {}", least.unwrap_or(&0), greatest.unwrap_or(&0))
+}
+
+fn share(works: &[Work]) -> usize {
+    let exchanges = works.iter().map(Work::exchanges);
+    let (differ, all) = exchanges.fold((0, 0), |a, b| (a.0 + b.0, a.1 + b.1));
+    100 * differ / all
+}
+
+fn print_one_entry(repetitions: usize) {
+    println!("\nOne entry a run\n");
+    println!("A run of one turn on a fresh table, with its check of the table at the start.");
+    println!("{BATCH} runs are timed together, each on its own copy of the table.\n");
+    let works = SIZES.map(|n| vec![Work::one_turn(n); BATCH]);
+    print_table(&works, repetitions);
+}
+
+/// A row for each batch of runs.
+fn print_table(batches: &[Vec<Work>], repetitions: usize) {
     println!(
         "| N | dead | library | plain Rust | simulator | library / plain | library / simulator |"
     );
     println!("|--:|--:|--:|--:|--:|--:|--:|");
-    for n in SIZES {
-        for dead in [0, n / 4, n / 2] {
-            print_row(&work(n, dead), dead, repetitions);
-        }
+    for works in batches {
+        print_row(works, repetitions);
     }
 }
 
-fn print_row(work: &Work, dead: usize, repetitions: usize) {
-    check_equal(work);
-    let thousands = |seconds| work.entries() as f64 / seconds / 1e3;
-    let [library, plain, simulator] = best_times(work, repetitions).map(thousands);
+fn print_row(works: &[Work], repetitions: usize) {
+    works.iter().for_each(measure::check_equal);
+    let entries: usize = works.iter().map(Work::entries).sum();
+    let thousands = |seconds| entries as f64 / seconds / 1e3;
+    let times = measure::best_times(works, repetitions);
+    let [library, plain, simulator] = times.map(thousands);
     let (by_plain, by_simulator) = (library / plain, library / simulator);
-    let n = work.n;
+    let (n, dead) = (works[0].n, works[0].dead);
     println!("| {n} | {dead} | {library:.0} | {plain:.0} | {simulator:.0} | {by_plain:.2} | {by_simulator:.2} |");
-}
-
-/// Stops unless all three give equal tables, sheets and answers, and take
-/// every entry.
-fn check_equal(work: &Work) {
-    let results = Contender::ALL.map(|contender| {
-        let mut buffers = Buffers::new(work);
-        let answer = buffers.run(contender, work);
-        (answer, buffers.table, buffers.sheet)
-    });
-    assert_eq!(results[0].0.taken, work.entries());
-    assert!(results[0] == results[1], "library and plain Rust differ");
-    assert!(results[0] == results[2], "library and simulator differ");
-}
-
-/// The seconds of the best run of each implementation.
-fn best_times(work: &Work, repetitions: usize) -> [f64; 3] {
-    let mut buffers = Buffers::new(work);
-    let mut best = [f64::INFINITY; 3];
-    for _ in 0..repetitions {
-        for (best, contender) in best.iter_mut().zip(Contender::ALL) {
-            *best = best.min(time(contender, work, &mut buffers));
-        }
-    }
-    best
-}
-
-/// The seconds of one run.
-fn time(contender: Contender, work: &Work, buffers: &mut Buffers) -> f64 {
-    buffers.prepare(work);
-    let start = Instant::now();
-    black_box(buffers.run(contender, work));
-    start.elapsed().as_secs_f64()
 }

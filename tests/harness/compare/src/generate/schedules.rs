@@ -4,6 +4,9 @@
 use super::{tables, Size};
 use crate::prng::Prng;
 
+/// From so many entries on, a schedule is a long one.
+const LONG: usize = 256;
+
 /// Once in how many entries a late reply or a crash comes; 0 is never.
 struct Style {
     late: usize,
@@ -32,7 +35,7 @@ pub fn given(size: Size, table: &[u8], rng: &mut Prng) -> Vec<u8> {
 fn how_many(size: Size, rng: &mut Prng) -> usize {
     match rng.below(200) {
         0 => 2_000 * size / 64,
-        1..=3 => rng.below(300),
+        1..=3 => rng.between(LONG, 2 * LONG),
         4..=40 => rng.below(4),
         _ => rng.below(61),
     }
@@ -57,7 +60,7 @@ pub fn extend(
     entries: usize,
     rng: &mut Prng,
 ) {
-    let style = style(rng);
+    let style = style(entries, rng);
     let end = schedule.len() + 2 * entries;
     while schedule.len() < end {
         let stations = tables::unfinished_stations(table, size);
@@ -76,10 +79,16 @@ pub fn extend(
     }
 }
 
-fn style(rng: &mut Prng) -> Style {
+/// A long schedule has fewer late replies and crashes, so that stations stay
+/// live to its end.
+fn style(entries: usize, rng: &mut Prng) -> Style {
+    let (late, crash) = match entries {
+        LONG.. => ([0, 0, 0, 40, 400], [0, 0, 0, 60, 600]),
+        _ => ([0, 0, 3, 10, 40], [0, 0, 5, 20, 60]),
+    };
     Style {
-        late: rng.pick(&[0, 0, 3, 10, 40]),
-        crash: rng.pick(&[0, 0, 5, 20, 60]),
+        late: rng.pick(&late),
+        crash: rng.pick(&crash),
         in_turn: rng.once_in(2),
     }
 }
@@ -112,7 +121,7 @@ impl Style {
 
 /// Entries of right kinds and stations, whatever the table holds.
 fn blind(size: Size, entries: usize, rng: &mut Prng) -> Vec<u8> {
-    let style = style(rng);
+    let style = style(entries, rng);
     let stations: Vec<usize> = (0..size).collect();
     propose(&stations, entries, &style, rng)
 }

@@ -1,0 +1,81 @@
+//! Times the three implementations on the same work.
+
+use crate::contender::Contender;
+use crate::work::Work;
+use crate::Answer;
+use std::hint::black_box;
+use std::time::Instant;
+
+/// A batch of runs, each on a table of its own. The sheet is the same for all.
+struct Batch<'a> {
+    works: &'a [Work],
+    tables: Vec<Vec<u8>>,
+    sheet: Vec<u8>,
+}
+
+impl Batch<'_> {
+    fn new(works: &[Work]) -> Batch<'_> {
+        let longest = works.iter().map(|work| 2 * work.schedule.len()).max();
+        Batch {
+            works,
+            tables: works.iter().map(|work| work.table.clone()).collect(),
+            sheet: vec![0; longest.unwrap_or(0)],
+        }
+    }
+
+    /// The start tables again, and a cleared sheet.
+    fn prepare(&mut self) {
+        for (table, work) in self.tables.iter_mut().zip(self.works) {
+            table.copy_from_slice(&work.table);
+        }
+        self.sheet.fill(0);
+    }
+
+    /// The seconds that all runs take together.
+    fn time(&mut self, contender: Contender) -> f64 {
+        self.prepare();
+        let Batch {
+            works,
+            tables,
+            sheet,
+        } = black_box(self);
+        let start = Instant::now();
+        for (work, table) in works.iter().zip(&mut *tables) {
+            let sheet = &mut sheet[..2 * work.schedule.len()];
+            black_box(contender.run(work.n, table, &work.schedule, sheet));
+        }
+        let seconds = start.elapsed().as_secs_f64();
+        black_box((tables, sheet));
+        seconds
+    }
+}
+
+/// The seconds that all runs take together with each implementation: the best
+/// of the repetitions, each of which times one implementation after the other.
+pub fn best_times(works: &[Work], repetitions: usize) -> [f64; 3] {
+    let mut batch = Batch::new(works);
+    let mut best = [f64::INFINITY; 3];
+    for _ in 0..repetitions {
+        for (best, contender) in best.iter_mut().zip(Contender::ALL) {
+            *best = best.min(batch.time(contender));
+        }
+    }
+    best
+}
+
+/// One run: the answer, the table and the sheet.
+pub fn run_once(contender: Contender, work: &Work) -> (Answer, Vec<u8>, Vec<u8>) {
+    let mut table = work.table.clone();
+    let mut sheet = vec![0; 2 * work.schedule.len()];
+    let answer = contender.run(work.n, &mut table, &work.schedule, &mut sheet);
+    (answer, table, sheet)
+}
+
+/// Stops unless all three give equal tables, sheets and answers, and take
+/// every entry.
+pub fn check_equal(work: &Work) {
+    let results = Contender::ALL.map(|contender| run_once(contender, work));
+    assert_eq!(results[0].0.taken, work.entries());
+    assert!(results[0] == results[1], "library and plain Rust differ");
+    assert!(results[0] == results[2], "library and simulator differ");
+}
