@@ -1,7 +1,7 @@
 -- The calls of document 01 as C has them (include/vcube.h), where they differ from those of `station` and `plant`, for all inputs: the row is
 -- given by its start and length, and the count and the answer are written into lent buffers, which refusal 13 holds to their length.
 -- Assumes nothing.
-use Prim.Native.Nat.{ℕ, zero, suc, _/_, _%_}
+use Prim.Native.Nat.{ℕ, zero, suc, _+_, _*_, _/_, _%_}
 use mathlib.Core.List.{List, [], _∷_, _++_}
 use lib.ListN.{length}
 use Rattle.station.specs.Table.{rowStart}
@@ -42,6 +42,11 @@ exportedRowLength n t i = unless (rowNumber n t i) 0 n
 unfoldable pub bytesOf : ℕ → ℕ → List ℕ
 bytesOf zero x = []
 bytesOf (suc w) x = bytesOf w (x / 256) ++ (x % 256 ∷ [])
+
+-- the number that bytes hold, the high byte first, after those that gave x: what vcube_number_at of include/vcube.h computes, from 0
+unfoldable pub numberFrom : ℕ → List ℕ → ℕ
+numberFrom x [] = x
+numberFrom x (b ∷ bytes) = numberFrom (x * 256 + b) bytes
 
 -- "The answer has 16 bytes"
 abbrev pub answerLength : ℕ

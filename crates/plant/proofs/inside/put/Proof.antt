@@ -20,7 +20,7 @@ same-length c = search needs
 
 returns : tie.Need-returns
 unfolding setCell
-returns c = rw (c .line-start .ensures .0)
+returns c = cc
 
 pub put-spec : {M : Type 1} → statement M
 put-spec = tie.close (tie.spec line-start-requires add-at slice-write-table same-length returns)
