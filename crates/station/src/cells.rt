@@ -1,7 +1,7 @@
 // The bytes of the lent table, by line and column (document 01, "The lent table").
 ghost use mathlib.Core.Path.{_≡_};
 ghost use Prim.Native.Nat.{_<_};
-ghost use Rattle.station.specs.Table.{tableLength, lineStart, cell, setCell, rowStart};
+ghost use Rattle.station.specs.Table.{tableLength, lineStart, cell, rowStart};
 use crate::Station;
 
 // The columns of a line's head.
@@ -53,14 +53,4 @@ pub fn get_cell(n: u8, table: &[u8], i: Station, c: u16) -> u8
 {
     let at = line_start(n, i) + c as usize;
     if at < table.len() { table[at] } else { 0 }
-}
-
-// Writes byte c of line i; past the table's end nothing.
-pub fn set_cell(n: u8, table: &mut [u8], i: Station, c: u16, v: u8)
-    ensures { λ _. ⌜ now (table .exit) ≡ setCell n (now (table .entry)) (i .0) c v ⌝ }
-{
-    let at = line_start(n, i) + c as usize;
-    if at < table.len() {
-        table[at] = v;
-    }
 }
