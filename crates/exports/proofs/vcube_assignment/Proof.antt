@@ -12,12 +12,6 @@ use Rattle.exports.proofs.Lent.{length-met, length-missed, lent-met, le
 use Rattle.exports.proofs.vcube_assignment.Statement.{statement}
 use Rattle.exports.proofs.vcube_assignment.Tie as tie
 
-byte-of-requires : tie.Need-byte-of-requires
-byte-of-requires c κs = search needs
-
-assignment-number-requires : tie.Need-assignment-number-requires
-assignment-number-requires c κs = search needs
-
 returns : tie.Need-returns
 unfolding exportedAssignmentNumber exportedAssignmentList exportedAssignmentCount
 returns c =
@@ -33,18 +27,6 @@ returns-2 c =
     let h = c .before .before .if1 .taken in
     let e = c .before .assignment-number .ensures ∙ assignment-number-narrow (a .n) (a .table .now) _ (a .station) _ (c .before .before .before .byte-of .ensures) in
     (simp (← e, c .if2 .left, length-missed 1 (a .count .now) h), (lent-missed 1 (a .count .now) _ _ h, lent-missed 1 (a .count .now) _ _ h))
-
-assignment-requires : tie.Need-assignment-requires
-assignment-requires c κs = search needs
-
-slice-write-count : tie.Need-slice-write-count
-slice-write-count c = search needs
-
-same-length : tie.Need-same-length
-same-length c = search needs
-
-same-length-2 : tie.Need-same-length-2
-same-length-2 c = search needs
 
 returns-3 : tie.Need-returns-3
 unfolding exportedAssignmentNumber exportedAssignmentList exportedAssignmentCount
@@ -64,12 +46,12 @@ pub vcube-assignment-spec : {M : Type 1} → statement M
 vcube-assignment-spec =
     tie.close
     (tie.spec
-    byte-of-requires
-    assignment-number-requires
+    (λ c κs. search needs)
+    (λ c κs. search needs)
     returns
     returns-2
-    assignment-requires
-    slice-write-count
-    same-length
-    same-length-2
+    (λ c κs. search needs)
+    (λ c. search needs)
+    (λ c. search needs)
+    (λ c. search needs)
     returns-3)

@@ -6,18 +6,6 @@ use Rattle.exports.proofs.Narrow.{group-number-narrow, group-after-narr
 use Rattle.exports.proofs.vcube_group_list.Statement.{statement}
 use Rattle.exports.proofs.vcube_group_list.Tie as tie
 
-byte-of-requires : tie.Need-byte-of-requires
-byte-of-requires c κs = search needs
-
-byte-of-requires-2 : tie.Need-byte-of-requires-2
-byte-of-requires-2 c κs = search needs
-
-group-list-requires : tie.Need-group-list-requires
-group-list-requires c κs = search needs
-
-same-length : tie.Need-same-length
-same-length c = search needs
-
 returns : tie.Need-returns
 returns c =
     let a = c .before .before .before .before .before .before .before .args in
@@ -29,4 +17,4 @@ returns c =
 pub vcube-group-list-spec : {M : Type 1} → statement M
 vcube-group-list-spec =
     tie.close
-    (tie.spec byte-of-requires byte-of-requires-2 group-list-requires same-length returns)
+    (tie.spec (λ c κs. search needs) (λ c κs. search needs) (λ c κs. search needs) (λ c. search needs) returns)

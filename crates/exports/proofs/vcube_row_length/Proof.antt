@@ -8,12 +8,6 @@ use Rattle.exports.proofs.Narrow.{row-length-narrow}
 use Rattle.exports.proofs.vcube_row_length.Statement.{statement}
 use Rattle.exports.proofs.vcube_row_length.Tie as tie
 
-byte-of-requires : tie.Need-byte-of-requires
-byte-of-requires c κs = search needs
-
-row-number-requires : tie.Need-row-number-requires
-row-number-requires c κs = search needs
-
 returns : tie.Need-returns
 unfolding exportedRowLength
 returns c =
@@ -27,4 +21,4 @@ returns-2 c =
     unless-refused _ _ _ _ (c .before .row-number .ensures) (c .if1 .left) ∙ row-length-narrow (a .n) (a .table .now) (a .station) _ (c .before .before .byte-of .ensures)
 
 pub vcube-row-length-spec : {M : Type 1} → statement M
-vcube-row-length-spec = tie.close (tie.spec byte-of-requires row-number-requires returns returns-2)
+vcube-row-length-spec = tie.close (tie.spec (λ c κs. search needs) (λ c κs. search needs) returns returns-2)

@@ -6,16 +6,10 @@ use Rattle.exports.proofs.Narrow.{row-number-narrow}
 use Rattle.exports.proofs.vcube_row_number.Statement.{statement}
 use Rattle.exports.proofs.vcube_row_number.Tie as tie
 
-byte-of-requires : tie.Need-byte-of-requires
-byte-of-requires c κs = search needs
-
-row-number-requires : tie.Need-row-number-requires
-row-number-requires c κs = search needs
-
 returns : tie.Need-returns
 returns c =
     let a = c .before .before .before .args in
     c .row-number .ensures ∙ row-number-narrow (a .n) (a .table .now) (a .station) _ (c .before .byte-of .ensures)
 
 pub vcube-row-number-spec : {M : Type 1} → statement M
-vcube-row-number-spec = tie.close (tie.spec byte-of-requires row-number-requires returns)
+vcube-row-number-spec = tie.close (tie.spec (λ c κs. search needs) (λ c κs. search needs) returns)

@@ -10,17 +10,8 @@ use Rattle.exports.proofs.Narrow.{row-start-narrow}
 use Rattle.exports.proofs.vcube_row_start.Statement.{statement}
 use Rattle.exports.proofs.vcube_row_start.Tie as tie
 
-byte-of-requires : tie.Need-byte-of-requires
-byte-of-requires c κs = search needs
-
-row-number-requires : tie.Need-row-number-requires
-row-number-requires c κs = search needs
-
 cast-row-start : tie.Need-cast-row-start
 cast-row-start c = omega (arith, size-bounds _ (row-zero _ _ _ (sym (c .before .row-number .ensures) ∙ c .if1 .taken) .0 .size))
-
-row-start-requires : tie.Need-row-start-requires
-row-start-requires c κs = search needs
 
 returns : tie.Need-returns
 unfolding exportedRowStart
@@ -39,9 +30,9 @@ pub vcube-row-start-spec : {M : Type 1} → statement M
 vcube-row-start-spec =
     tie.close
     (tie.spec
-    byte-of-requires
-    row-number-requires
+    (λ c κs. search needs)
+    (λ c κs. search needs)
     cast-row-start
-    row-start-requires
+    (λ c κs. search needs)
     returns
     returns-2)

@@ -11,12 +11,6 @@ use Rattle.exports.proofs.RunLaws.{run-number-met, run-number-missed, o
 use Rattle.exports.proofs.vcube_run.Statement.{statement}
 use Rattle.exports.proofs.vcube_run.Tie as tie
 
-start-number-requires : tie.Need-start-number-requires
-start-number-requires c κs = search needs
-
-same-length : tie.Need-same-length
-same-length c = search needs
-
 returns : tie.Need-returns
 unfolding exportedRunTable exportedRunSheet exportedRunAnswer
 returns c =
@@ -27,9 +21,6 @@ returns c =
       (lent-missed 16 (a .answer .now) _ _ h, (lent-missed 16 (a .answer .now) _ _ h, lent-missed 16 (a .answer .now) _ _ h)),
     )
 
-same-length-2 : tie.Need-same-length-2
-same-length-2 c = search needs
-
 returns-2 : tie.Need-returns-2
 unfolding exportedRunTable exportedRunSheet exportedRunAnswer
 returns-2 c =
@@ -39,27 +30,6 @@ returns-2 c =
       simp (run-number-missed (a .n) s (a .schedule .now) (a .sheet .now) (a .answer .now) h, ← c .before .start-number .ensures, c .if2 .left),
       (lent-missed 16 (a .answer .now) _ _ h, (lent-missed 16 (a .answer .now) _ _ h, lent-missed 16 (a .answer .now) _ _ h)),
     )
-
-run-requires : tie.Need-run-requires
-run-requires c κs = search needs
-
-cast-write-answer : tie.Need-cast-write-answer
-cast-write-answer c = search needs
-
-cast-write-answer-2 : tie.Need-cast-write-answer-2
-cast-write-answer-2 c = search needs
-
-write-answer-requires : tie.Need-write-answer-requires
-write-answer-requires c κs = search needs
-
-same-length-3 : tie.Need-same-length-3
-same-length-3 c = search needs
-
-same-length-4 : tie.Need-same-length-4
-same-length-4 c = search needs
-
-same-length-5 : tie.Need-same-length-5
-same-length-5 c = search needs
 
 returns-3 : tie.Need-returns-3
 unfolding exportedRunTable exportedRunSheet exportedRunAnswer
@@ -84,16 +54,16 @@ pub vcube-run-spec : {M : Type 1} → statement M
 vcube-run-spec =
     tie.close
     (tie.spec
-    start-number-requires
-    same-length
+    (λ c κs. search needs)
+    (λ c. search needs)
     returns
-    same-length-2
+    (λ c. search needs)
     returns-2
-    run-requires
-    cast-write-answer
-    cast-write-answer-2
-    write-answer-requires
-    same-length-3
-    same-length-4
-    same-length-5
+    (λ c κs. search needs)
+    (λ c. search needs)
+    (λ c. search needs)
+    (λ c κs. search needs)
+    (λ c. search needs)
+    (λ c. search needs)
+    (λ c. search needs)
     returns-3)

@@ -15,21 +15,12 @@ table-within : (n : ℕ) → n ≤ 64 → tableLength n ≤ 4352
 unfolding tableLength
 table-within n h = let e : n + 4 ≤ 68 = omega arith in mul-le-mul h e
 
-is-size-requires : tie.Need-is-size-requires
-is-size-requires c κs = search needs
-
-returns : tie.Need-returns
-returns c = search needs
-
 cast-table-length : tie.Need-cast-table-length
 cast-table-length c = omega (arith, size-bounds _ (sym (c .before .is-size .ensures) ∙ not-false _ (c .if1 .left)))
-
-table-length-requires : tie.Need-table-length-requires
-table-length-requires c κs = search needs
 
 returns-2 : tie.Need-returns-2
 returns-2 c = let h = size-bounds _ (sym (c .before .before .is-size .ensures) ∙ not-false _ (c .before .if1 .left)) in rw (c .table-length .ensures) (table-within _ (h .1))
 
 pub table-part-spec : {M : Type 1} → statement M
 table-part-spec =
-    tie.close (tie.spec is-size-requires returns cast-table-length table-length-requires returns-2)
+    tie.close (tie.spec (λ c κs. search needs) (λ c. search needs) cast-table-length (λ c κs. search needs) returns-2)

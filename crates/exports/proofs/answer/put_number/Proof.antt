@@ -21,26 +21,11 @@ abbrev μ-loop : tie.MeasureT-loop
 loop-holds : tie.Need-loop-holds Inv-loop μ-loop
 loop-holds c = let p = c .args .part .now in (omega arith, refl, rw (drop-length p, append-nil))
 
-sub-k : tie.Need-sub-k Inv-loop μ-loop
-sub-k c = search needs
-
-cast-part : tie.Need-cast-part Inv-loop μ-loop
-cast-part c = search needs
-
-slice-write-part : tie.Need-slice-write-part Inv-loop μ-loop
-slice-write-part c = search needs
-
-loop-less : tie.Need-loop-less Inv-loop μ-loop
-loop-less c = search needs
-
 loop-again : tie.Need-loop-again Inv-loop μ-loop
 loop-again c =
     let l = c .before .loop in
     let n = length-set (l .part) (l .k - 1) (l .rest % 256) in
     (omega (arith, n), n ∙ l .inv .1, l .inv .2 ∙ bytes-next (l .k) (l .rest) (l .part) (c .loop-test .taken) (l .inv .0))
-
-same-length : tie.Need-same-length Inv-loop μ-loop
-same-length c = search needs
 
 returns : tie.Need-returns Inv-loop μ-loop
 unfolding bytesOf
@@ -53,10 +38,10 @@ put-number-spec =
     Inv-loop
     μ-loop
     loop-holds
-    sub-k
-    cast-part
-    slice-write-part
-    loop-less
+    (λ c. search needs)
+    (λ c. search needs)
+    (λ c. search needs)
+    (λ c. search needs)
     loop-again
-    same-length
+    (λ c. search needs)
     returns)

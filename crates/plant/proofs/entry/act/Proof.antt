@@ -16,18 +16,9 @@ put-requires c κs =
     let p = c .before .before .before .pre in
     (accepted (a .n) (a .table .now) (p .0) .long, p .1, omega arith)
 
-same-length : tie.Need-same-length
-same-length c = search needs
-
 returns : tie.Need-returns
 unfolding acted testedOf outcomeOf crash
 returns c = rw (eq-eqb _ _ (c .before .before .before .before .if1 .taken)) (refl, (refl, c .before .before .put .ensures))
-
-take-turn-requires : tie.Need-take-turn-requires
-take-turn-requires c κs = search needs
-
-same-length-2 : tie.Need-same-length-2
-same-length-2 c = search needs
 
 returns-2 : tie.Need-returns-2
 unfolding acted testedOf outcomeOf
@@ -36,4 +27,4 @@ returns-2 c = rw (ne-eqb _ _ (c .before .before .before .before .if1 .left)) (c 
 pub act-spec : {M : Type 1} → statement M
 act-spec =
     tie.close
-    (tie.spec put-requires same-length returns take-turn-requires same-length-2 returns-2)
+    (tie.spec put-requires (λ c. search needs) returns (λ c κs. search needs) (λ c. search needs) returns-2)

@@ -18,15 +18,9 @@ returns-3 : tie.Need-returns-3
 unfolding entryNumber
 returns-3 c = simp (c .before .before .before .if1 .left, c .before .before .if2 .left, le-leb _ _ (c .if3 .taken))
 
-get-requires : tie.Need-get-requires
-get-requires c κs = search needs
-
 returns-4 : tie.Need-returns-4
 unfolding entryNumber
 returns-4 c = simp (c .before .before .before .before .before .if1 .left, c .before .before .before .before .if2 .left, lt-leb _ _ (c .before .before .if3 .left), ← c .before .get .ensures, ne-eqb _ _ (c .if4 .taken))
-
-get-requires-2 : tie.Need-get-requires-2
-get-requires-2 c κs = search needs
 
 returns-5 : tie.Need-returns-5
 unfolding entryNumber
@@ -43,8 +37,8 @@ entry-number-spec =
     returns
     returns-2
     returns-3
-    get-requires
+    (λ c κs. search needs)
     returns-4
-    get-requires-2
+    (λ c κs. search needs)
     returns-5
     returns-6)

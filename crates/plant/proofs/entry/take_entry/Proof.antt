@@ -22,9 +22,6 @@ close-round-requires c κs =
     let p = c .before .before .before .before .before .before .before .pre in
     (omega (arith, accepted (a .n) (a .table .now) (p .0) .long), entry-facts _ _ _ (p .1) .below)
 
-slice-write-line : tie.Need-slice-write-line
-slice-write-line c = search needs
-
 slice-write-line-2 : tie.Need-slice-write-line-2
 slice-write-line-2 c = simp length-set (omega arith)
 
@@ -54,12 +51,6 @@ grown-requires-2 c κs =
     let f = entry-facts (a .n) (stateOf (a .table .now) (a .tally .rounds) (a .tally .tests)) (entryOf (a .kind) (a .i .0)) (p .1) in
     omega (arith, f .testsFit)
 
-same-length : tie.Need-same-length
-same-length c = search needs
-
-same-length-2 : tie.Need-same-length-2
-same-length-2 c = search needs
-
 returns : tie.Need-returns
 unfolding after sheetLine
 returns c =
@@ -79,13 +70,13 @@ take-entry-spec =
     (tie.spec
     act-requires
     close-round-requires
-    slice-write-line
+    (λ c. search needs)
     slice-write-line-2
     slice-write-line-3
     get-requires
     slice-write-line-4
     grown-requires
     grown-requires-2
-    same-length
-    same-length-2
+    (λ c. search needs)
+    (λ c. search needs)
     returns)

@@ -6,12 +6,6 @@ use Rattle.plant.proofs.RowLaws.{byte-inside}
 use Rattle.plant.proofs.inside.get.Statement.{statement}
 use Rattle.plant.proofs.inside.get.Tie as tie
 
-line-start-requires : tie.Need-line-start-requires
-line-start-requires c κs = search needs
-
-add-at : tie.Need-add-at
-add-at c = search needs
-
 shared-slice-read-result : tie.Need-shared-slice-read-result
 shared-slice-read-result c = search (needs, byte-inside)
 
@@ -20,4 +14,4 @@ unfolding cell
 returns c = rw (c .before .line-start .ensures .0)
 
 pub get-spec : {M : Type 1} → statement M
-get-spec = tie.close (tie.spec line-start-requires add-at shared-slice-read-result returns)
+get-spec = tie.close (tie.spec (λ c κs. search needs) (λ c. search needs) shared-slice-read-result returns)

@@ -6,21 +6,9 @@ use Rattle.plant.specs.Turn.{afterRound}
 use Rattle.plant.proofs.rounds.close_round.Statement.{statement}
 use Rattle.plant.proofs.rounds.close_round.Tie as tie
 
-round-over-requires : tie.Need-round-over-requires
-round-over-requires c κs = search needs
-
-reset-lines-requires : tie.Need-reset-lines-requires
-reset-lines-requires c κs = search needs
-
-same-length : tie.Need-same-length
-same-length c = search needs
-
 returns : tie.Need-returns
 unfolding afterRound
 returns c = rw (← c .before .before .before .before .before .round-over .ensures, c .before .before .before .before .if1 .taken) (refl, c .before .before .reset-lines .ensures)
-
-same-length-2 : tie.Need-same-length-2
-same-length-2 c = search needs
 
 returns-2 : tie.Need-returns-2
 unfolding afterRound
@@ -30,9 +18,9 @@ pub close-round-spec : {M : Type 1} → statement M
 close-round-spec =
     tie.close
     (tie.spec
-    round-over-requires
-    reset-lines-requires
-    same-length
+    (λ c κs. search needs)
+    (λ c κs. search needs)
+    (λ c. search needs)
     returns
-    same-length-2
+    (λ c. search needs)
     returns-2)

@@ -6,17 +6,8 @@ use Rattle.plant.proofs.RowLaws.{open-round}
 use Rattle.plant.proofs.rounds.round_over.Statement.{statement}
 use Rattle.plant.proofs.rounds.round_over.Tie as tie
 
-finished-if-live-requires : tie.Need-finished-if-live-requires
-finished-if-live-requires c κs = search needs
-
 returns : tie.Need-returns
 returns c = open-round _ _ _ _ (c .before .before .before .pre) (c .before .finished-if-live .ensures) (c .if1 .taken)
-
-some-live-requires : tie.Need-some-live-requires
-some-live-requires c κs = search needs
-
-live-finished-requires : tie.Need-live-finished-requires
-live-finished-requires c κs = search needs
 
 returns-2 : tie.Need-returns-2
 unfolding roundOver
@@ -26,8 +17,8 @@ pub round-over-spec : {M : Type 1} → statement M
 round-over-spec =
     tie.close
     (tie.spec
-    finished-if-live-requires
+    (λ c κs. search needs)
     returns
-    some-live-requires
-    live-finished-requires
+    (λ c κs. search needs)
+    (λ c κs. search needs)
     returns-2)

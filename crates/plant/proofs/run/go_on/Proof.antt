@@ -26,24 +26,6 @@ loop-holds c =
     let f = start-facts _ _ _ _ (c .before .before .before .pre) in
     (omega arith, refl, f .2, f .2, f .0, refl)
 
-mul-kind : tie.Need-mul-kind Inv-loop μ-loop
-mul-kind c = search needs
-
-shared-slice-read-kind : tie.Need-shared-slice-read-kind Inv-loop μ-loop
-shared-slice-read-kind c = search needs
-
-mul-t14 : tie.Need-mul-t14 Inv-loop μ-loop
-mul-t14 c = search needs
-
-add-t13 : tie.Need-add-t13 Inv-loop μ-loop
-add-t13 c = search needs
-
-shared-slice-read-t17 : tie.Need-shared-slice-read-t17 Inv-loop μ-loop
-shared-slice-read-t17 c = search needs
-
-entry-number-requires : tie.Need-entry-number-requires Inv-loop μ-loop
-entry-number-requires c κs = search needs
-
 same-length : tie.Need-same-length Inv-loop μ-loop
 same-length c = c .before .before .before .before .before .before .loop .inv .1
 
@@ -60,32 +42,11 @@ returns c =
     let e = go-stopped (a .n) (l .k) s (l .sheet) (a .schedule .now) _ (c .before .before .before .before .before .loop-test .taken) (c .before .entry-number .ensures) (c .if1 .taken) in
     outcome-parts _ _ _ _ _ (sym (l .inv .5) ∙ e)
 
-mul-a : tie.Need-mul-a Inv-loop μ-loop
-mul-a c = search needs
-
-add-e : tie.Need-add-e Inv-loop μ-loop
-add-e c = search needs
-
-sub-take-entry : tie.Need-sub-take-entry Inv-loop μ-loop
-sub-take-entry c = search needs
-
-part-take-entry-start : tie.Need-part-take-entry-start Inv-loop μ-loop
-part-take-entry-start c = search needs
-
-part-take-entry-end : tie.Need-part-take-entry-end Inv-loop μ-loop
-part-take-entry-end c = search needs
-
 take-entry-requires : tie.Need-take-entry-requires Inv-loop μ-loop
 take-entry-requires c κs =
     let i = c .before .before .before .before .before .before .before .before .loop .inv in
     let h = c .before .before .before .before .before .before .before .loop-test .taken in
     (accepted-number _ _ (i .4), sym (c .before .before .before .entry-number .ensures) ∙ c .before .before .if1 .left, simp (length-take, length-drop) (omega (arith, i .2, h)))
-
-add-k : tie.Need-add-k Inv-loop μ-loop
-add-k c = search needs
-
-loop-less : tie.Need-loop-less Inv-loop μ-loop
-loop-less c = search needs
 
 loop-again : tie.Need-loop-again Inv-loop μ-loop
 loop-again c =
@@ -126,23 +87,23 @@ go-on-spec =
     Inv-loop
     μ-loop
     loop-holds
-    mul-kind
-    shared-slice-read-kind
-    mul-t14
-    add-t13
-    shared-slice-read-t17
-    entry-number-requires
+    (λ c. search needs)
+    (λ c. search needs)
+    (λ c. search needs)
+    (λ c. search needs)
+    (λ c. search needs)
+    (λ c κs. search needs)
     same-length
     same-length-2
     returns
-    mul-a
-    add-e
-    sub-take-entry
-    part-take-entry-start
-    part-take-entry-end
+    (λ c. search needs)
+    (λ c. search needs)
+    (λ c. search needs)
+    (λ c. search needs)
+    (λ c. search needs)
     take-entry-requires
-    add-k
-    loop-less
+    (λ c. search needs)
+    (λ c. search needs)
     loop-again
     same-length-3
     same-length-4

@@ -9,12 +9,6 @@ use Rattle.plant.proofs.RunLaws.{outcome-parts, start-facts, run-refuse
 use Rattle.plant.proofs.run.run.Statement.{statement}
 use Rattle.plant.proofs.run.run.Tie as tie
 
-start-number-requires : tie.Need-start-number-requires
-start-number-requires c κs = search needs
-
-same-length : tie.Need-same-length
-same-length c = search needs
-
 returns : tie.Need-returns
 returns c =
     let a = c .before .before .before .before .before .before .args in
@@ -26,12 +20,6 @@ cast-go-on c = omega (arith, size-bounds _ (start-facts _ _ _ _ (sym (c .before 
 go-on-requires : tie.Need-go-on-requires
 go-on-requires c κs = sym (c .before .before .before .start-number .ensures) ∙ c .before .before .if1 .left
 
-same-length-2 : tie.Need-same-length-2
-same-length-2 c = search needs
-
-same-length-3 : tie.Need-same-length-3
-same-length-3 c = search needs
-
 returns-2 : tie.Need-returns-2
 returns-2 c =
     let a = c .before .before .before .before .before .before .before .before .before .before .before .before .before .args in
@@ -41,11 +29,11 @@ pub run-spec : {M : Type 1} → statement M
 run-spec =
     tie.close
     (tie.spec
-    start-number-requires
-    same-length
+    (λ c κs. search needs)
+    (λ c. search needs)
     returns
     cast-go-on
     go-on-requires
-    same-length-2
-    same-length-3
+    (λ c. search needs)
+    (λ c. search needs)
     returns-2)

@@ -9,9 +9,6 @@ use Rattle.plant.specs.Run.{startNumber}
 use Rattle.plant.proofs.run.start_number.Statement.{statement}
 use Rattle.plant.proofs.run.start_number.Tie as tie
 
-check-table-requires : tie.Need-check-table-requires
-check-table-requires c κs = search needs
-
 returns : tie.Need-returns
 unfolding startNumber
 returns c = else-first _ _ _ (c .before .check-table .ensures) (c .if1 .taken)
@@ -34,4 +31,4 @@ returns-5 c = simp (← c .before .before .before .before .check-table .ensures,
 
 pub start-number-spec : {M : Type 1} → statement M
 start-number-spec =
-    tie.close (tie.spec check-table-requires returns returns-2 returns-3 returns-4 returns-5)
+    tie.close (tie.spec (λ c κs. search needs) returns returns-2 returns-3 returns-4 returns-5)

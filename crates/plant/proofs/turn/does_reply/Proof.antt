@@ -5,12 +5,9 @@ use Rattle.plant.specs.Turn.{replies}
 use Rattle.plant.proofs.turn.does_reply.Statement.{statement}
 use Rattle.plant.proofs.turn.does_reply.Tie as tie
 
-get-requires : tie.Need-get-requires
-get-requires c κs = search needs
-
 returns : tie.Need-returns
 unfolding replies
 returns c = rw (c .get .ensures)
 
 pub does-reply-spec : {M : Type 1} → statement M
-does-reply-spec = tie.close (tie.spec get-requires returns)
+does-reply-spec = tie.close (tie.spec (λ c κs. search needs) returns)

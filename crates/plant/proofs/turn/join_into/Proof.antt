@@ -12,29 +12,11 @@ use Rattle.plant.proofs.RowLaws.{row-back}
 use Rattle.plant.proofs.turn.join_into.Statement.{statement}
 use Rattle.plant.proofs.turn.join_into.Tie as tie
 
-row-start-requires : tie.Need-row-start-requires
-row-start-requires c κs = search needs
-
-add-e : tie.Need-add-e
-add-e c = search needs
-
-sub-join-row : tie.Need-sub-join-row
-sub-join-row c = search needs
-
-part-join-row-start : tie.Need-part-join-row-start
-part-join-row-start c = search needs
-
 part-join-row-end : tie.Need-part-join-row-end
 part-join-row-end c =
     let a = c .before .before .before .args in
     let p = c .before .before .before .pre in
     omega (arith, row-inside (a .n) (a .table .now) (a .i .0) (p .0) (p .1))
-
-join-row-requires : tie.Need-join-row-requires
-join-row-requires c κs = search needs
-
-same-length : tie.Need-same-length
-same-length c = search needs
 
 returns : tie.Need-returns
 returns c =
@@ -47,11 +29,11 @@ pub join-into-spec : {M : Type 1} → statement M
 join-into-spec =
     tie.close
     (tie.spec
-    row-start-requires
-    add-e
-    sub-join-row
-    part-join-row-start
+    (λ c κs. search needs)
+    (λ c. search needs)
+    (λ c. search needs)
+    (λ c. search needs)
     part-join-row-end
-    join-row-requires
-    same-length
+    (λ c κs. search needs)
+    (λ c. search needs)
     returns)

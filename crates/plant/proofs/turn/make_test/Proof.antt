@@ -13,9 +13,6 @@ use Rattle.plant.proofs.StepLines.{station-apart, station-below}
 use Rattle.plant.proofs.turn.make_test.Statement.{statement}
 use Rattle.plant.proofs.turn.make_test.Tie as tie
 
-station-at-requires : tie.Need-station-at-requires
-station-at-requires c κs = search needs
-
 count-test-requires : tie.Need-count-test-requires
 count-test-requires c κs =
     let a = c .before .before .before .args in
@@ -44,9 +41,6 @@ leave-if-alone-requires c κs =
     let p = c .before .before .before .before .before .before .before .before .before .before .before .pre in
     (omega (arith, accepted (a .n) (a .table .now) (p .0) .long), p .1)
 
-same-length : tie.Need-same-length
-same-length c = search needs
-
 returns : tie.Need-returns
 unfolding testing
 returns c = (rw (c .before .before .before .before .before .before .hear-reply .ensures .0, c .before .before .before .before .before .before .before .before .before .before .count-test .ensures, c .before .before .before .before .before .before .before .before .before .before .before .before .station-at .ensures), rw (c .before .before .leave-if-alone .ensures, c .before .before .before .before .before .before .hear-reply .ensures .1, c .before .before .before .before .before .before .before .before .before .before .count-test .ensures, c .before .before .before .before .before .before .before .before .before .before .before .before .station-at .ensures))
@@ -55,9 +49,9 @@ pub make-test-spec : {M : Type 1} → statement M
 make-test-spec =
     tie.close
     (tie.spec
-    station-at-requires
+    (λ c κs. search needs)
     count-test-requires
     hear-reply-requires
     leave-if-alone-requires
-    same-length
+    (λ c. search needs)
     returns)

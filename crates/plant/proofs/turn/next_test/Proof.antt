@@ -7,29 +7,11 @@ use Rattle.plant.specs.Turn.{nextTest}
 use Rattle.plant.proofs.turn.next_test.Statement.{statement}
 use Rattle.plant.proofs.turn.next_test.Tie as tie
 
-get-requires : tie.Need-get-requires
-get-requires c κs = search needs
-
-row-start-requires : tie.Need-row-start-requires
-row-start-requires c κs = search needs
-
-add-e : tie.Need-add-e
-add-e c = search needs
-
-sub-scan : tie.Need-sub-scan
-sub-scan c = search needs
-
-part-scan-start : tie.Need-part-scan-start
-part-scan-start c = search needs
-
 part-scan-end : tie.Need-part-scan-end
 part-scan-end c =
     let a = c .before .before .before .args in
     let p = c .before .before .before .pre in
     omega (arith, row-inside (a .n) (a .table .now) (a .i .0) (p .0) (p .1))
-
-scan-requires : tie.Need-scan-requires
-scan-requires c κs = search needs
 
 returns : tie.Need-returns
 unfolding nextTest
@@ -42,11 +24,11 @@ pub next-test-spec : {M : Type 1} → statement M
 next-test-spec =
     tie.close
     (tie.spec
-    get-requires
-    row-start-requires
-    add-e
-    sub-scan
-    part-scan-start
+    (λ c κs. search needs)
+    (λ c κs. search needs)
+    (λ c. search needs)
+    (λ c. search needs)
+    (λ c. search needs)
     part-scan-end
-    scan-requires
+    (λ c κs. search needs)
     returns)

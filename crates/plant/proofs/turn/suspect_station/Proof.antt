@@ -13,29 +13,11 @@ use Rattle.plant.proofs.RowLaws.{row-back}
 use Rattle.plant.proofs.turn.suspect_station.Statement.{statement}
 use Rattle.plant.proofs.turn.suspect_station.Tie as tie
 
-row-start-requires : tie.Need-row-start-requires
-row-start-requires c κs = search needs
-
-add-e : tie.Need-add-e
-add-e c = search needs
-
-sub-mark-row : tie.Need-sub-mark-row
-sub-mark-row c = search needs
-
-part-mark-row-start : tie.Need-part-mark-row-start
-part-mark-row-start c = search needs
-
 part-mark-row-end : tie.Need-part-mark-row-end
 part-mark-row-end c =
     let a = c .before .before .args in
     let p = c .before .before .pre in
     omega (arith, row-inside (a .n) (a .table .now) (a .i .0) (p .0) (p .1))
-
-mark-row-requires : tie.Need-mark-row-requires
-mark-row-requires c κs = search needs
-
-same-length : tie.Need-same-length
-same-length c = search needs
 
 returns : tie.Need-returns
 unfolding suspect
@@ -49,11 +31,11 @@ pub suspect-station-spec : {M : Type 1} → statement M
 suspect-station-spec =
     tie.close
     (tie.spec
-    row-start-requires
-    add-e
-    sub-mark-row
-    part-mark-row-start
+    (λ c κs. search needs)
+    (λ c. search needs)
+    (λ c. search needs)
+    (λ c. search needs)
     part-mark-row-end
-    mark-row-requires
-    same-length
+    (λ c κs. search needs)
+    (λ c. search needs)
     returns)

@@ -23,17 +23,11 @@ finish-pass-requires c κs =
     let p = c .before .before .before .before .before .before .pre in
     (accepted (a .n) (a .table .now) (p .0) .long, p .1)
 
-same-length : tie.Need-same-length
-same-length c = search needs
-
 returns : tie.Need-returns
 unfolding turn turnTested turnOutcome makesTest
 returns c =
     let e = le-ltb _ _ (c .before .before .before .before .if1 .taken) in
     rw (← c .before .before .before .before .before .before .next-test .ensures, e) (refl, (refl, c .before .before .finish-pass .ensures))
-
-station-at-requires : tie.Need-station-at-requires
-station-at-requires c κs = search needs
 
 make-test-requires : tie.Need-make-test-requires
 make-test-requires c κs =
@@ -41,9 +35,6 @@ make-test-requires c κs =
     let p = c .before .before .before .before .before .before .before .pre in
     let l = accepted-line (a .n) (a .table .now) (accepted (a .n) (a .table .now) (p .0)) (a .i .0) (p .1) in
     (p .0, p .1, omega (arith, c .before .before .before .before .next-test .ensures, nextTest-low (a .n) (a .table .now) (a .i .0), l .nextLow), omega arith)
-
-same-length-2 : tie.Need-same-length-2
-same-length-2 c = search needs
 
 returns-2 : tie.Need-returns-2
 unfolding turn turnTested turnOutcome makesTest
@@ -57,9 +48,9 @@ take-turn-spec =
     (tie.spec
     next-test-requires
     finish-pass-requires
-    same-length
+    (λ c. search needs)
     returns
-    station-at-requires
+    (λ c κs. search needs)
     make-test-requires
-    same-length-2
+    (λ c. search needs)
     returns-2)

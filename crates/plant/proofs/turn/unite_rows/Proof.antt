@@ -6,47 +6,17 @@ use Rattle.station.proofs.CellLaws.{row-inside, row-part}
 use Rattle.plant.proofs.turn.unite_rows.Statement.{statement}
 use Rattle.plant.proofs.turn.unite_rows.Tie as tie
 
-row-start-requires : tie.Need-row-start-requires
-row-start-requires c κs = search needs
-
-add-e : tie.Need-add-e
-add-e c = search needs
-
-row-start-requires-2 : tie.Need-row-start-requires-2
-row-start-requires-2 c κs = search needs
-
-add-f : tie.Need-add-f
-add-f c = search needs
-
-sub-unite-rows : tie.Need-sub-unite-rows
-sub-unite-rows c = search needs
-
-part-unite-rows-start : tie.Need-part-unite-rows-start
-part-unite-rows-start c = search needs
-
 part-unite-rows-end : tie.Need-part-unite-rows-end
 part-unite-rows-end c =
     let a = c .before .before .before .before .args in
     let p = c .before .before .before .before .pre in
     omega (arith, row-inside (a .n) (a .table .now) (a .i .0) (p .0) (p .1))
 
-sub-unite-rows-2 : tie.Need-sub-unite-rows-2
-sub-unite-rows-2 c = search needs
-
-part-unite-rows-start-2 : tie.Need-part-unite-rows-start-2
-part-unite-rows-start-2 c = search needs
-
 part-unite-rows-end-2 : tie.Need-part-unite-rows-end-2
 part-unite-rows-end-2 c =
     let a = c .before .before .before .before .before .args in
     let p = c .before .before .before .before .before .pre in
     omega (arith, row-inside (a .n) (a .table .now) (a .j .0) (p .0) (p .2))
-
-unite-rows-requires : tie.Need-unite-rows-requires
-unite-rows-requires c κs = search needs
-
-same-length : tie.Need-same-length
-same-length c = search needs
 
 returns : tie.Need-returns
 returns c =
@@ -59,16 +29,16 @@ pub unite-rows-spec : {M : Type 1} → statement M
 unite-rows-spec =
     tie.close
     (tie.spec
-    row-start-requires
-    add-e
-    row-start-requires-2
-    add-f
-    sub-unite-rows
-    part-unite-rows-start
+    (λ c κs. search needs)
+    (λ c. search needs)
+    (λ c κs. search needs)
+    (λ c. search needs)
+    (λ c. search needs)
+    (λ c. search needs)
     part-unite-rows-end
-    sub-unite-rows-2
-    part-unite-rows-start-2
+    (λ c. search needs)
+    (λ c. search needs)
     part-unite-rows-end-2
-    unite-rows-requires
-    same-length
+    (λ c κs. search needs)
+    (λ c. search needs)
     returns)

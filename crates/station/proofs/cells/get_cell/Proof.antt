@@ -7,15 +7,6 @@ use Rattle.station.specs.Table.{cell}
 use Rattle.station.proofs.cells.get_cell.Statement.{statement}
 use Rattle.station.proofs.cells.get_cell.Tie as tie
 
-line-start-requires : tie.Need-line-start-requires
-line-start-requires c κs = search needs
-
-add-at : tie.Need-add-at
-add-at c = search needs
-
-shared-slice-read-result : tie.Need-shared-slice-read-result
-shared-slice-read-result c = search needs
-
 returns : tie.Need-returns
 unfolding cell
 returns c = rw (← c .before .before .line-start .ensures .0)
@@ -26,4 +17,4 @@ returns-2 c = rw (← c .before .line-start .ensures .0) (sym (List·getD-eq-def
 
 pub get-cell-spec : {M : Type 1} → statement M
 get-cell-spec =
-    tie.close (tie.spec line-start-requires add-at shared-slice-read-result returns returns-2)
+    tie.close (tie.spec (λ c κs. search needs) (λ c. search needs) (λ c. search needs) returns returns-2)

@@ -12,12 +12,6 @@ use Rattle.station.proofs.cells.lines_length.Tie as tie
 bound : (i n : ℕ) → i < 256 → n < 256 → i * (n + 4) ≤ 255 * 259
 bound i n h k = mul-le-mul {n₁ = i} {m₁ = n + 4} {n₂ = 255} {m₂ = 259} (omega arith) (omega arith)
 
-cast-result : tie.Need-cast-result
-cast-result c = search needs
-
-add-result : tie.Need-add-result
-add-result c = search needs
-
 mul-result : tie.Need-mul-result
 mul-result c = omega (arith, bound (c .args .lines) (c .args .n) (omega arith) (omega arith))
 
@@ -26,4 +20,4 @@ unfolding lineStart
 returns c = (search needs, omega (arith, bound (c .args .lines) (c .args .n) (omega arith) (omega arith)))
 
 pub lines-length-spec : {M : Type 1} → statement M
-lines-length-spec = tie.close (tie.spec cast-result add-result mul-result returns)
+lines-length-spec = tie.close (tie.spec (λ c. search needs) (λ c. search needs) mul-result returns)

@@ -5,12 +5,9 @@ use Rattle.station.specs.Table.{tableLength, lineStart}
 use Rattle.station.proofs.cells.table_length.Statement.{statement}
 use Rattle.station.proofs.cells.table_length.Tie as tie
 
-lines-length-requires : tie.Need-lines-length-requires
-lines-length-requires c κs = search needs
-
 returns : tie.Need-returns
 unfolding tableLength lineStart
 returns c = c .lines-length .ensures .0
 
 pub table-length-spec : {M : Type 1} → statement M
-table-length-spec = tie.close (tie.spec lines-length-requires returns)
+table-length-spec = tie.close (tie.spec (λ c κs. search needs) returns)

@@ -10,9 +10,6 @@ use Rattle.station.proofs.CellLaws.{row-inside, row-length, row-part}
 use Rattle.station.proofs.due.assignment.Statement.{statement}
 use Rattle.station.proofs.due.assignment.Tie as tie
 
-assignment-number-requires : tie.Need-assignment-number-requires
-assignment-number-requires c κs = search needs
-
 returns : tie.Need-returns
 unfolding assignmentCount assignmentAfter
 returns c =
@@ -22,17 +19,8 @@ returns c =
 cast-row-start : tie.Need-cast-row-start
 cast-row-start c = omega (arith, size-bounds _ (assignment-zero _ _ _ _ (sym (c .before .assignment-number .ensures) ∙ c .if1 .left) .0 .size))
 
-row-start-requires : tie.Need-row-start-requires
-row-start-requires c κs = search needs
-
 add-e : tie.Need-add-e
 add-e c = omega (arith, size-bounds _ (assignment-zero _ _ _ _ (sym (c .before .before .assignment-number .ensures) ∙ c .before .if1 .left) .0 .size))
-
-sub-write-due : tie.Need-sub-write-due
-sub-write-due c = search needs
-
-part-write-due-start : tie.Need-part-write-due-start
-part-write-due-start c = search needs
 
 part-write-due-end : tie.Need-part-write-due-end
 part-write-due-end c =
@@ -46,9 +34,6 @@ write-due-requires c κs =
     let z = assignment-zero _ _ _ _ (sym (c .before .before .before .before .assignment-number .ensures) ∙ c .before .before .before .if1 .left) in
     rw (row-part (a .n) (a .table .now) (a .i .0) _ (c .before .before .row-start .ensures .0), row-length (a .n) (a .table .now) (a .i .0) (z .0 .long) (z .1))
     (omega (arith, size-bounds _ (z .0 .size), z .3))
-
-same-length : tie.Need-same-length
-same-length c = search needs
 
 returns-2 : tie.Need-returns-2
 unfolding assignmentCount assignmentAfter
@@ -64,14 +49,14 @@ pub assignment-spec : {M : Type 1} → statement M
 assignment-spec =
     tie.close
     (tie.spec
-    assignment-number-requires
+    (λ c κs. search needs)
     returns
     cast-row-start
-    row-start-requires
+    (λ c κs. search needs)
     add-e
-    sub-write-due
-    part-write-due-start
+    (λ c. search needs)
+    (λ c. search needs)
     part-write-due-end
     write-due-requires
-    same-length
+    (λ c. search needs)
     returns-2)

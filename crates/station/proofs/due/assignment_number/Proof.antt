@@ -10,18 +10,12 @@ use Rattle.station.proofs.Sizes.{size-bounds}
 use Rattle.station.proofs.due.assignment_number.Statement.{statement}
 use Rattle.station.proofs.due.assignment_number.Tie as tie
 
-row-number-requires : tie.Need-row-number-requires
-row-number-requires c κs = search needs
-
 returns : tie.Need-returns
 unfolding assignmentNumber
 returns c = else-first _ _ _ (c .before .row-number .ensures) (c .if1 .taken)
 
 cast-is-live : tie.Need-cast-is-live
 cast-is-live c = omega (arith, size-bounds _ (row-zero _ _ _ (sym (c .before .row-number .ensures) ∙ c .if1 .left) .0 .size))
-
-is-live-requires : tie.Need-is-live-requires
-is-live-requires c κs = search needs
 
 returns-2 : tie.Need-returns-2
 unfolding assignmentNumber
@@ -42,10 +36,10 @@ pub assignment-number-spec : {M : Type 1} → statement M
 assignment-number-spec =
     tie.close
     (tie.spec
-    row-number-requires
+    (λ c κs. search needs)
     returns
     cast-is-live
-    is-live-requires
+    (λ c κs. search needs)
     returns-2
     sub-if3
     returns-3

@@ -23,34 +23,16 @@ abbrev μ-loop : tie.MeasureT-loop
 returns : tie.Need-returns Inv-loop μ-loop
 returns c = rw (c .if1 .taken, level-zero, first-zero)
 
-level-of-requires : tie.Need-level-of-requires Inv-loop μ-loop
-level-of-requires c κs = search needs
-
 width-of-requires : tie.Need-width-of-requires Inv-loop μ-loop
 width-of-requires c κs = let z : ¬ (c .before .before .before .before .args .m .0 ≡ 0) = c .before .if1 .left in omega (arith, level-split (c .before .before .before .before .args .m .0) (omega arith) .1)
 
 loop-holds : tie.Need-loop-holds Inv-loop μ-loop
 loop-holds c = (search needs, search needs, below-none _)
 
-add-t10 : tie.Need-add-t10 Inv-loop μ-loop
-add-t10 c = search needs
-
-station-at-requires : tie.Need-station-at-requires Inv-loop μ-loop
-station-at-requires c κs = search needs
-
-is-unsuspected-requires : tie.Need-is-unsuspected-requires Inv-loop μ-loop
-is-unsuspected-requires c κs = search needs
-
 returns-2 : tie.Need-returns-2 Inv-loop μ-loop
 returns-2 c =
     ap some (c .before .before .station-at .ensures)
     ∙ sym (first-at _ _ _ _ (c .before .before .before .before .before .width-of .ensures .0 ∙ ap width (c .before .before .before .before .before .before .level-of .ensures .0)) _ (c .before .before .before .loop-test .taken) (sym (ap (unsuspected _) (c .before .before .station-at .ensures)) ∙ sym (c .before .is-unsuspected .ensures) ∙ c .if2 .taken) (c .before .before .before .before .loop .inv .2))
-
-add-k : tie.Need-add-k Inv-loop μ-loop
-add-k c = search needs
-
-loop-less : tie.Need-loop-less Inv-loop μ-loop
-loop-less c = search needs
 
 loop-again : tie.Need-loop-again Inv-loop μ-loop
 loop-again c = (search needs, search needs, below-more _ _ (c .before .before .before .before .loop .inv .2) (sym (ap (unsuspected _) (c .before .before .station-at .ensures)) ∙ sym (c .before .is-unsuspected .ensures) ∙ c .if2 .left))
@@ -66,14 +48,14 @@ first-unsuspected-spec =
     Inv-loop
     μ-loop
     returns
-    level-of-requires
+    (λ c κs. search needs)
     width-of-requires
     loop-holds
-    add-t10
-    station-at-requires
-    is-unsuspected-requires
+    (λ c. search needs)
+    (λ c κs. search needs)
+    (λ c κs. search needs)
     returns-2
-    add-k
-    loop-less
+    (λ c. search needs)
+    (λ c. search needs)
     loop-again
     returns-3)

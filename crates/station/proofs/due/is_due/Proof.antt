@@ -5,18 +5,6 @@ use Rattle.station.specs.Tests.{due}
 use Rattle.station.proofs.due.is_due.Statement.{statement}
 use Rattle.station.proofs.due.is_due.Tie as tie
 
-station-at-requires : tie.Need-station-at-requires
-station-at-requires c κs = search needs
-
-first-unsuspected-requires : tie.Need-first-unsuspected-requires
-first-unsuspected-requires c κs = search needs
-
-enum-known-x : tie.Need-enum-known-x
-enum-known-x c = search needs
-
-enum-told : tie.Need-enum-told
-enum-told c = search needs
-
 returns : tie.Need-returns
 unfolding due
 returns c =
@@ -34,9 +22,9 @@ pub is-due-spec : {M : Type 1} → statement M
 is-due-spec =
     tie.close
     (tie.spec
-    station-at-requires
-    first-unsuspected-requires
-    enum-known-x
-    enum-told
+    (λ c κs. search needs)
+    (λ c κs. search needs)
+    (λ c. search needs)
+    (λ c. search needs)
     returns
     returns-2)

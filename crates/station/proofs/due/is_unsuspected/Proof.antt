@@ -7,12 +7,6 @@ use Rattle.station.proofs.Lists.{getD-within}
 use Rattle.station.proofs.due.is_unsuspected.Statement.{statement}
 use Rattle.station.proofs.due.is_unsuspected.Tie as tie
 
-cast-k : tie.Need-cast-k
-cast-k c = search needs
-
-shared-slice-read-result : tie.Need-shared-slice-read-result
-shared-slice-read-result c = search needs
-
 returns : tie.Need-returns
 unfolding unsuspected
 returns c = rw (getD-within _ _ 0 1 (c .before .if1 .taken))
@@ -22,4 +16,4 @@ unfolding unsuspected
 returns-2 c = rw (List·getD-eq-default (c .before .before .args .row .now) 1 (c .if1 .left))
 
 pub is-unsuspected-spec : {M : Type 1} → statement M
-is-unsuspected-spec = tie.close (tie.spec cast-k shared-slice-read-result returns returns-2)
+is-unsuspected-spec = tie.close (tie.spec (λ c. search needs) (λ c. search needs) returns returns-2)

@@ -9,17 +9,8 @@ use borrow.Author.Tests.{not-true, not-false}
 use Rattle.station.proofs.due.put_due.Statement.{statement}
 use Rattle.station.proofs.due.put_due.Tie as tie
 
-is-due-requires : tie.Need-is-due-requires
-is-due-requires c κs = search needs
-
 returns : tie.Need-returns
 returns c = rw (sym (c .before .is-due .ensures) ∙ not-true _ (c .if1 .taken)) (refl, refl)
-
-slice-write-list : tie.Need-slice-write-list
-slice-write-list c = search needs
-
-add-result : tie.Need-add-result
-add-result c = search needs
 
 same-length : tie.Need-same-length
 same-length c = ⊎-elim (λ w. simp (w .1, length-set)) (λ w. simp (w .1)) (c .if2 .came)
@@ -30,4 +21,4 @@ returns-2 c =
 
 pub put-due-spec : {M : Type 1} → statement M
 put-due-spec =
-    tie.close (tie.spec is-due-requires returns slice-write-list add-result same-length returns-2)
+    tie.close (tie.spec (λ c κs. search needs) returns (λ c. search needs) (λ c. search needs) same-length returns-2)

@@ -20,26 +20,14 @@ Inv-loop row i list₀ count₀ m₀ list count m =
 abbrev μ-loop : tie.MeasureT-loop
 μ-loop row i list₀ count₀ m₀ list count m = length row - m
 
-clear-requires : tie.Need-clear-requires Inv-loop μ-loop
-clear-requires c κs = search needs
-
 loop-holds : tie.Need-loop-holds Inv-loop μ-loop
 loop-holds c =
     let l : length (c .before .before .before .before .before .before .args .list .now) ≡ length (c .before .before .clear .last .0) = sym (c .before .list .given) in
     let none = due-zero (c .before .before .before .before .before .before .args .row .now) (c .before .before .before .before .before .before .args .i .0) in
     (omega arith, omega arith, omega arith, refl, rw (select-one _ none), c .before .before .clear .ensures ∙ rw l (padded-start _ none _))
 
-cast-loop : tie.Need-cast-loop Inv-loop μ-loop
-cast-loop c = search needs
-
 put-due-requires : tie.Need-put-due-requires Inv-loop μ-loop
 put-due-requires c κs = let i = c .before .before .loop .inv in omega (arith, count-below _ (due-zero _ _) _ _ (i .0) (i .4))
-
-add-m : tie.Need-add-m Inv-loop μ-loop
-add-m c = search needs
-
-loop-less : tie.Need-loop-less Inv-loop μ-loop
-loop-less c = search needs
 
 loop-again : tie.Need-loop-again Inv-loop μ-loop
 loop-again c =
@@ -52,9 +40,6 @@ loop-again c =
       count-next _ _ _ _ (i .4) (p .0),
       padded-next _ _ _ _ _ _ (i .5) (i .4) (omega (arith, count-below _ (due-zero _ _) _ _ (i .0) (i .4))) (p .1),
     )
-
-same-length : tie.Need-same-length Inv-loop μ-loop
-same-length c = search needs
 
 returns : tie.Need-returns Inv-loop μ-loop
 unfolding dueDistances
@@ -70,12 +55,12 @@ write-due-spec =
     (tie.spec
     Inv-loop
     μ-loop
-    clear-requires
+    (λ c κs. search needs)
     loop-holds
-    cast-loop
+    (λ c. search needs)
     put-due-requires
-    add-m
-    loop-less
+    (λ c. search needs)
+    (λ c. search needs)
     loop-again
-    same-length
+    (λ c. search needs)
     returns)

@@ -9,9 +9,6 @@ use Rattle.station.proofs.Sizes.{size-bounds}
 use Rattle.station.proofs.fresh.fresh_table.Statement.{statement}
 use Rattle.station.proofs.fresh.fresh_table.Tie as tie
 
-check-shape-requires : tie.Need-check-shape-requires
-check-shape-requires c κs = search needs
-
 returns : tie.Need-returns
 unfolding freshAfter
 returns c = (c .before .check-shape .ensures, unless-refused _ _ _ _ (c .before .check-shape .ensures) (c .if1 .taken))
@@ -21,9 +18,6 @@ cast-write-fresh c = omega (arith, size-bounds _ (shape-zero _ _ (sym (c .before
 
 write-fresh-requires : tie.Need-write-fresh-requires
 write-fresh-requires c κs = shape-zero _ _ (sym (c .before .before .check-shape .ensures) ∙ c .before .if1 .left) .1
-
-same-length : tie.Need-same-length
-same-length c = search needs
 
 returns-2 : tie.Need-returns-2
 unfolding freshAfter
@@ -35,9 +29,9 @@ pub fresh-table-spec : {M : Type 1} → statement M
 fresh-table-spec =
     tie.close
     (tie.spec
-    check-shape-requires
+    (λ c κs. search needs)
     returns
     cast-write-fresh
     write-fresh-requires
-    same-length
+    (λ c. search needs)
     returns-2)

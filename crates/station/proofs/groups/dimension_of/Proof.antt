@@ -6,18 +6,9 @@ use Rattle.station.specs.Groups.{dimension}
 use Rattle.station.proofs.groups.dimension_of.Statement.{statement}
 use Rattle.station.proofs.groups.dimension_of.Tie as tie
 
-level-of-requires : tie.Need-level-of-requires
-level-of-requires c κs = search needs
-
 returns : tie.Need-returns
 unfolding dimension
 returns c = let e : c .before .before .args .n ≡ 0 = c .before .if1 .taken in rw e (c .level-of .ensures .0)
-
-sub-t4 : tie.Need-sub-t4
-sub-t4 c = search needs
-
-level-of-requires-2 : tie.Need-level-of-requires-2
-level-of-requires-2 c κs = search needs
 
 returns-2 : tie.Need-returns-2
 unfolding dimension
@@ -25,4 +16,4 @@ returns-2 c = c .level-of2 .ensures .0
 
 pub dimension-of-spec : {M : Type 1} → statement M
 dimension-of-spec =
-    tie.close (tie.spec level-of-requires returns sub-t4 level-of-requires-2 returns-2)
+    tie.close (tie.spec (λ c κs. search needs) returns (λ c. search needs) (λ c κs. search needs) returns-2)

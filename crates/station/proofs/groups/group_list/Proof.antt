@@ -9,16 +9,10 @@ use Rattle.station.proofs.Sizes.{size-dimension}
 use Rattle.station.proofs.groups.group_list.Statement.{statement}
 use Rattle.station.proofs.groups.group_list.Tie as tie
 
-group-number-requires : tie.Need-group-number-requires
-group-number-requires c κs = search needs
-
 write-group-requires : tie.Need-write-group-requires
 write-group-requires c κs =
     let z = group-zero _ _ _ _ (sym (c .before .before .group-number .ensures) ∙ c .before .if1 .taken) in
     ((z .2, omega (arith, size-dimension _ (z .0))), z .4)
-
-same-length : tie.Need-same-length
-same-length c = search needs
 
 returns : tie.Need-returns
 unfolding groupAfter
@@ -32,4 +26,4 @@ returns-2 c = (c .before .group-number .ensures, unless-refused _ _ _ _ (c .befo
 
 pub group-list-spec : {M : Type 1} → statement M
 group-list-spec =
-    tie.close (tie.spec group-number-requires write-group-requires same-length returns returns-2)
+    tie.close (tie.spec (λ c κs. search needs) write-group-requires (λ c. search needs) returns returns-2)

@@ -10,15 +10,9 @@ use Rattle.station.proofs.Sizes.{size-bounds, size-dimension}
 use Rattle.station.proofs.groups.group_number.Statement.{statement}
 use Rattle.station.proofs.groups.group_number.Tie as tie
 
-is-size-requires : tie.Need-is-size-requires
-is-size-requires c κs = search needs
-
 returns : tie.Need-returns
 unfolding groupNumber
 returns c = simp (← c .before .is-size .ensures, c .if1 .taken)
-
-cast-if2 : tie.Need-cast-if2
-cast-if2 c = search needs
 
 returns-2 : tie.Need-returns-2
 unfolding groupNumber
@@ -30,9 +24,6 @@ returns-3 c = simp (← c .before .before .before .before .is-size .ensures, c .
 
 cast-dimension-of : tie.Need-cast-dimension-of
 cast-dimension-of c = omega (arith, size-bounds _ (sym (c .before .before .before .before .is-size .ensures) ∙ not-false _ (c .before .before .before .if1 .left)))
-
-dimension-of-requires : tie.Need-dimension-of-requires
-dimension-of-requires c κs = search needs
 
 returns-4 : tie.Need-returns-4
 unfolding groupNumber
@@ -50,9 +41,6 @@ width-of-requires : tie.Need-width-of-requires
 width-of-requires c κs =
     omega (arith, size-dimension _ (sym (c .before .before .before .before .before .before .before .before .is-size .ensures) ∙ not-false _ (c .before .before .before .before .before .before .before .if1 .left)))
 
-cast-if5 : tie.Need-cast-if5
-cast-if5 c = search needs
-
 returns-5 : tie.Need-returns-5
 returns-5 c = search (needs, group-long)
 
@@ -63,15 +51,15 @@ pub group-number-spec : {M : Type 1} → statement M
 group-number-spec =
     tie.close
     (tie.spec
-    is-size-requires
+    (λ c κs. search needs)
     returns
-    cast-if2
+    (λ c. search needs)
     returns-2
     returns-3
     cast-dimension-of
-    dimension-of-requires
+    (λ c κs. search needs)
     returns-4
     width-of-requires
-    cast-if5
+    (λ c. search needs)
     returns-5
     returns-6)

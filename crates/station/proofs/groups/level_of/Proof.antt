@@ -24,11 +24,8 @@ digits m h = go (eq-zero-or-pos m)
 sub-t3 : tie.Need-sub-t3
 sub-t3 c = leading-le 8 (c .before .args .m .0)
 
-cast-t4 : tie.Need-cast-t4
-cast-t4 c = search needs
-
 returns : tie.Need-returns
 returns c = (digits (c .before .args .m .0) (omega arith), omega arith)
 
 pub level-of-spec : {M : Type 1} → statement M
-level-of-spec = tie.close (tie.spec sub-t3 cast-t4 returns)
+level-of-spec = tie.close (tie.spec sub-t3 (λ c. search needs) returns)

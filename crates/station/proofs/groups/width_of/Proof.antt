@@ -19,14 +19,8 @@ shifted (suc k) p h =
     let m : 1 * 2 ^ (suc k - 1) % 256 ≡ 2 ^ k = rw (e, one-mul) (mod-eq-of-lt (omega arith)) in
     (m, omega arith)
 
-sub-h : tie.Need-sub-h
-sub-h c = search needs
-
-shl-result : tie.Need-shl-result
-shl-result c = search needs
-
 returns : tie.Need-returns
 returns c = shifted (c .before .args .s .0) (c .before .pre .0) (c .before .pre .1)
 
 pub width-of-spec : {M : Type 1} → statement M
-width-of-spec = tie.close (tie.spec sub-h shl-result returns)
+width-of-spec = tie.close (tie.spec (λ c. search needs) (λ c. search needs) returns)

@@ -21,9 +21,6 @@ Inv-loop i list₀ w k₀ list k = (k ≤ w) × (w ≤ 128) × (length list₀ �
 abbrev μ-loop : tie.MeasureT-loop
 μ-loop i list₀ w k₀ list k = w - k
 
-width-of-requires : tie.Need-width-of-requires Inv-loop μ-loop
-width-of-requires c κs = search needs
-
 loop-holds : tie.Need-loop-holds Inv-loop μ-loop
 loop-holds c = search (needs, loops)
 
@@ -64,7 +61,7 @@ write-group-spec =
     (tie.spec
     Inv-loop
     μ-loop
-    width-of-requires
+    (λ c κs. search needs)
     loop-holds
     add-t8
     lookup-requires

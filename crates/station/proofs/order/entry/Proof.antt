@@ -19,11 +19,8 @@ right p x = eqb x (stationAt (p / 64) (p % 64))
 rule : (xs : List ℕ) (p : ℕ) → T (passes right 0 xs) → p < length xs → getD xs p 0 ≡ stationAt (p / 64) (p % 64)
 rule xs p t h = eqb→eq (getD xs p 0) (stationAt (p / 64) (p % 64)) (at right xs t p h)
 
-array-read-result : tie.Need-array-read-result
-array-read-result c = search needs
-
 returns : tie.Need-returns
 returns c = let h : c .args .index < 4096 = c .pre in rw (rule, tt)
 
 pub entry-spec : {M : Type 1} → statement M
-entry-spec = tie.close (tie.spec array-read-result returns)
+entry-spec = tie.close (tie.spec (λ c. search needs) returns)

@@ -7,15 +7,6 @@ use Rattle.station.specs.Rows.{mark}
 use Rattle.station.proofs.rows.mark_row.Statement.{statement}
 use Rattle.station.proofs.rows.mark_row.Tie as tie
 
-cast-k : tie.Need-cast-k
-cast-k c = search needs
-
-slice-write-row : tie.Need-slice-write-row
-slice-write-row c = search needs
-
-same-length : tie.Need-same-length
-same-length c = search needs
-
 returns : tie.Need-returns
 unfolding mark
 returns c = search needs
@@ -25,4 +16,4 @@ unfolding mark
 returns-2 c = sym (set-out _ _ 1 (c .if1 .left))
 
 pub mark-row-spec : {M : Type 1} → statement M
-mark-row-spec = tie.close (tie.spec cast-k slice-write-row same-length returns returns-2)
+mark-row-spec = tie.close (tie.spec (λ c. search needs) (λ c. search needs) (λ c. search needs) returns returns-2)

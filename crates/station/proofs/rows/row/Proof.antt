@@ -10,18 +10,6 @@ use Rattle.station.proofs.CellLaws.{row-inside, row-part}
 use Rattle.station.proofs.rows.row.Statement.{statement}
 use Rattle.station.proofs.rows.row.Tie as tie
 
-row-number-requires : tie.Need-row-number-requires
-row-number-requires c κs = search needs
-
-sub-result : tie.Need-sub-result
-sub-result c = search needs
-
-part-result-start : tie.Need-part-result-start
-part-result-start c = search needs
-
-part-result-end : tie.Need-part-result-end
-part-result-end c = search needs
-
 returns : tie.Need-returns
 unfolding rowPart
 returns c = unless-refused _ _ _ _ (c .before .before .row-number .ensures) (c .before .if1 .taken)
@@ -29,17 +17,8 @@ returns c = unless-refused _ _ _ _ (c .before .before .row-number .ensures) (c .
 cast-row-start : tie.Need-cast-row-start
 cast-row-start c = omega (arith, size-bounds _ (row-zero _ _ _ (sym (c .before .row-number .ensures) ∙ c .if1 .left) .0 .size))
 
-row-start-requires : tie.Need-row-start-requires
-row-start-requires c κs = search needs
-
 add-e : tie.Need-add-e
 add-e c = omega (arith, size-bounds _ (row-zero _ _ _ (sym (c .before .before .row-number .ensures) ∙ c .before .if1 .left) .0 .size))
-
-sub-result-2 : tie.Need-sub-result-2
-sub-result-2 c = search needs
-
-part-result-start-2 : tie.Need-part-result-start-2
-part-result-start-2 c = search needs
 
 part-result-end-2 : tie.Need-part-result-end-2
 part-result-end-2 c =
@@ -55,15 +34,15 @@ pub row-spec : {M : Type 1} → statement M
 row-spec =
     tie.close
     (tie.spec
-    row-number-requires
-    sub-result
-    part-result-start
-    part-result-end
+    (λ c κs. search needs)
+    (λ c. search needs)
+    (λ c. search needs)
+    (λ c. search needs)
     returns
     cast-row-start
-    row-start-requires
+    (λ c κs. search needs)
     add-e
-    sub-result-2
-    part-result-start-2
+    (λ c. search needs)
+    (λ c. search needs)
     part-result-end-2
     returns-2)

@@ -7,15 +7,9 @@ use Rattle.station.proofs.Refusals.{else-first}
 use Rattle.station.proofs.rows.row_number.Statement.{statement}
 use Rattle.station.proofs.rows.row_number.Tie as tie
 
-check-table-requires : tie.Need-check-table-requires
-check-table-requires c κs = search needs
-
 returns : tie.Need-returns
 unfolding rowNumber
 returns c = else-first _ _ _ (c .before .check-table .ensures) (c .if1 .taken)
-
-cast-if2 : tie.Need-cast-if2
-cast-if2 c = search needs
 
 returns-2 : tie.Need-returns-2
 unfolding rowNumber
@@ -26,4 +20,4 @@ unfolding rowNumber
 returns-3 c = simp (← c .before .before .check-table .ensures, c .before .if1 .left, lt-leb _ _ (c .if2 .left))
 
 pub row-number-spec : {M : Type 1} → statement M
-row-number-spec = tie.close (tie.spec check-table-requires returns cast-if2 returns-2 returns-3)
+row-number-spec = tie.close (tie.spec (λ c κs. search needs) returns (λ c. search needs) returns-2 returns-3)

@@ -9,18 +9,12 @@ use Rattle.station.proofs.Sizes.{size-bounds}
 use Rattle.station.proofs.rules.check_shape.Statement.{statement}
 use Rattle.station.proofs.rules.check_shape.Tie as tie
 
-is-size-requires : tie.Need-is-size-requires
-is-size-requires c κs = search needs
-
 returns : tie.Need-returns
 unfolding shapeNumber
 returns c = simp (← c .before .is-size .ensures, c .if1 .taken)
 
 cast-table-length : tie.Need-cast-table-length
 cast-table-length c = omega (arith, size-bounds _ (sym (c .before .is-size .ensures) ∙ not-false _ (c .if1 .left)))
-
-table-length-requires : tie.Need-table-length-requires
-table-length-requires c κs = search needs
 
 returns-2 : tie.Need-returns-2
 unfolding shapeNumber
@@ -33,4 +27,4 @@ returns-3 c = simp (← c .before .before .before .is-size .ensures, c .before .
 pub check-shape-spec : {M : Type 1} → statement M
 check-shape-spec =
     tie.close
-    (tie.spec is-size-requires returns cast-table-length table-length-requires returns-2 returns-3)
+    (tie.spec (λ c κs. search needs) returns cast-table-length (λ c κs. search needs) returns-2 returns-3)

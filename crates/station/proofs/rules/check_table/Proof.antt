@@ -9,9 +9,6 @@ use Rattle.station.proofs.Sizes.{size-bounds}
 use Rattle.station.proofs.rules.check_table.Statement.{statement}
 use Rattle.station.proofs.rules.check_table.Tie as tie
 
-check-shape-requires : tie.Need-check-shape-requires
-check-shape-requires c κs = search needs
-
 returns : tie.Need-returns
 unfolding tableNumber
 returns c = else-first _ _ _ (c .before .check-shape .ensures) (c .if1 .taken)
@@ -19,18 +16,9 @@ returns c = else-first _ _ _ (c .before .check-shape .ensures) (c .if1 .taken)
 cast-size : tie.Need-cast-size
 cast-size c = omega (arith, size-bounds _ (shape-zero _ _ (sym (c .before .check-shape .ensures) ∙ c .if1 .left) .0))
 
-all-lines-requires : tie.Need-all-lines-requires
-all-lines-requires c κs = search needs
-
 returns-2 : tie.Need-returns-2
 unfolding tableNumber
 returns-2 c = simp (← c .before .before .before .check-shape .ensures, c .before .before .if1 .left, ← c .before .all-lines .ensures, c .if2 .taken)
-
-some-live-requires : tie.Need-some-live-requires
-some-live-requires c κs = search needs
-
-live-finished-requires : tie.Need-live-finished-requires
-live-finished-requires c κs = search needs
 
 returns-3 : tie.Need-returns-3
 unfolding tableNumber
@@ -44,12 +32,12 @@ pub check-table-spec : {M : Type 1} → statement M
 check-table-spec =
     tie.close
     (tie.spec
-    check-shape-requires
+    (λ c κs. search needs)
     returns
     cast-size
-    all-lines-requires
+    (λ c κs. search needs)
     returns-2
-    some-live-requires
-    live-finished-requires
+    (λ c κs. search needs)
+    (λ c κs. search needs)
     returns-3
     returns-4)

@@ -4,14 +4,8 @@ use borrow.Author.Needs.{needs}
 use Rattle.station.proofs.rules.finished_if_live.Statement.{statement}
 use Rattle.station.proofs.rules.finished_if_live.Tie as tie
 
-get-cell-requires : tie.Need-get-cell-requires
-get-cell-requires c κs = search needs
-
-is-live-requires : tie.Need-is-live-requires
-is-live-requires c κs = search needs
-
 returns : tie.Need-returns
 returns c = rw (c .before .get-cell .ensures, c .is-live .ensures)
 
 pub finished-if-live-spec : {M : Type 1} → statement M
-finished-if-live-spec = tie.close (tie.spec get-cell-requires is-live-requires returns)
+finished-if-live-spec = tie.close (tie.spec (λ c κs. search needs) (λ c κs. search needs) returns)

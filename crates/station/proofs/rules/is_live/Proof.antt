@@ -4,11 +4,8 @@ use borrow.Author.Needs.{needs}
 use Rattle.station.proofs.rules.is_live.Statement.{statement}
 use Rattle.station.proofs.rules.is_live.Tie as tie
 
-get-cell-requires : tie.Need-get-cell-requires
-get-cell-requires c κs = search needs
-
 returns : tie.Need-returns
 returns c = rw (c .get-cell .ensures)
 
 pub is-live-spec : {M : Type 1} → statement M
-is-live-spec = tie.close (tie.spec get-cell-requires returns)
+is-live-spec = tie.close (tie.spec (λ c κs. search needs) returns)

@@ -5,15 +5,9 @@ use Rattle.station.specs.Rules.{lineRules}
 use Rattle.station.proofs.rules.line_rules.Statement.{statement}
 use Rattle.station.proofs.rules.line_rules.Tie as tie
 
-head-rules-requires : tie.Need-head-rules-requires
-head-rules-requires c κs = search needs
-
-row-rule-requires : tie.Need-row-rule-requires
-row-rule-requires c κs = search needs
-
 returns : tie.Need-returns
 unfolding lineRules
 returns c = rw (c .before .head-rules .ensures, c .row-rule .ensures)
 
 pub line-rules-spec : {M : Type 1} → statement M
-line-rules-spec = tie.close (tie.spec head-rules-requires row-rule-requires returns)
+line-rules-spec = tie.close (tie.spec (λ c κs. search needs) (λ c κs. search needs) returns)

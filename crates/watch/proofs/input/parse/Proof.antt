@@ -9,34 +9,13 @@ use borrow.Author.Needs.{needs}
 use Rattle.watch.proofs.input.parse.Statement.{statement}
 use Rattle.watch.proofs.input.parse.Tie as tie
 
-line-end-requires : tie.Need-line-end-requires
-line-end-requires c κs = search needs
-
 slice-aggregate-read-number : tie.Need-slice-aggregate-read-number
 slice-aggregate-read-number c = sym (length-take-le _ _ (c .before .line-end .ensures .1 .1))
-
-read-number-requires : tie.Need-read-number-requires
-read-number-requires c κs = search needs
-
-enum-known-size : tie.Need-enum-known-size
-enum-known-size c = search needs
-
-enum-told : tie.Need-enum-told
-enum-told c = search needs
 
 returns : tie.Need-returns
 returns c =
     let e = read-unsized _ _ _ _ (c .before .before .before .before .line-end .ensures .0) (c .before .before .read-number .ensures) (ap numberValue (c .enum-told .given .1)) in
     reading-parts _ _ _ _ _ _ _ e refl
-
-line-after-requires : tie.Need-line-after-requires
-line-after-requires c κs = search needs
-
-read-entries-requires : tie.Need-read-entries-requires
-read-entries-requires c κs = search needs
-
-same-length : tie.Need-same-length
-same-length c = search needs
 
 returns-2 : tie.Need-returns-2
 returns-2 c =
@@ -48,13 +27,13 @@ pub parse-spec : {M : Type 1} → statement M
 parse-spec =
     tie.close
     (tie.spec
-    line-end-requires
+    (λ c κs. search needs)
     slice-aggregate-read-number
-    read-number-requires
-    enum-known-size
-    enum-told
+    (λ c κs. search needs)
+    (λ c. search needs)
+    (λ c. search needs)
     returns
-    line-after-requires
-    read-entries-requires
-    same-length
+    (λ c κs. search needs)
+    (λ c κs. search needs)
+    (λ c. search needs)
     returns-2)

@@ -20,38 +20,8 @@ Inv-loop input from n schedule₀ room p₀ k₀ schedule p k =
 abbrev μ-loop : tie.MeasureT-loop
 μ-loop input from n schedule₀ room p₀ k₀ schedule p k = length input - p
 
-room-for-requires : tie.Need-room-for-requires Inv-loop μ-loop
-room-for-requires c κs = search needs
-
 loop-holds : tie.Need-loop-holds Inv-loop μ-loop
 loop-holds c = (search needs, omega arith, c .room-for .ensures, refl, refl, refl)
-
-line-end-requires : tie.Need-line-end-requires Inv-loop μ-loop
-line-end-requires c κs = search needs
-
-sub-entry-with-room : tie.Need-sub-entry-with-room Inv-loop μ-loop
-sub-entry-with-room c = search needs
-
-part-entry-with-room-start : tie.Need-part-entry-with-room-start Inv-loop μ-loop
-part-entry-with-room-start c = search needs
-
-part-entry-with-room-end : tie.Need-part-entry-with-room-end Inv-loop μ-loop
-part-entry-with-room-end c = search needs
-
-entry-with-room-requires : tie.Need-entry-with-room-requires Inv-loop μ-loop
-entry-with-room-requires c κs = search needs
-
-enum-known-entry : tie.Need-enum-known-entry Inv-loop μ-loop
-enum-known-entry c = search needs
-
-enum-told : tie.Need-enum-told Inv-loop μ-loop
-enum-told c = search needs
-
-add-t18 : tie.Need-add-t18 Inv-loop μ-loop
-add-t18 c = search needs
-
-same-length : tie.Need-same-length Inv-loop μ-loop
-same-length c = search needs
 
 returns : tie.Need-returns Inv-loop μ-loop
 returns c =
@@ -66,15 +36,6 @@ put-entry-requires c κs =
     let z = ap entryValue (c .before .before .entry .given .1) in
     let h = has-room _ (c .before .before .before .before .before .before .before .before .before .before .before .before .args .n) (l .k) (l .schedule) _ (l .p) _ _ _ (c .before .before .before .before .before .before .before .loop-test .taken) (l .inv .2) (c .before .before .before .before .before .before .line-end .ensures .0) (c .before .before .before .before .entry-with-room .ensures) _ z in
     omega (arith, h, l .inv .2, l .inv .3)
-
-add-k : tie.Need-add-k Inv-loop μ-loop
-add-k c = search needs
-
-line-after-requires : tie.Need-line-after-requires Inv-loop μ-loop
-line-after-requires c κs = search needs
-
-loop-less : tie.Need-loop-less Inv-loop μ-loop
-loop-less c = search needs
 
 loop-again : tie.Need-loop-again Inv-loop μ-loop
 loop-again c =
@@ -94,9 +55,6 @@ loop-again c =
       read-next _ n (l .k) (l .schedule) _ (l .p) _ _ _ t (l .inv .2) e o _ _ _ _ z (w .ensures .0) (c .line-after .ensures) ∙ l .inv .5,
     )
 
-same-length-2 : tie.Need-same-length-2 Inv-loop μ-loop
-same-length-2 c = search needs
-
 returns-2 : tie.Need-returns-2 Inv-loop μ-loop
 returns-2 c =
     let l = c .before .loop in
@@ -109,22 +67,22 @@ read-entries-spec =
     (tie.spec
     Inv-loop
     μ-loop
-    room-for-requires
+    (λ c κs. search needs)
     loop-holds
-    line-end-requires
-    sub-entry-with-room
-    part-entry-with-room-start
-    part-entry-with-room-end
-    entry-with-room-requires
-    enum-known-entry
-    enum-told
-    add-t18
-    same-length
+    (λ c κs. search needs)
+    (λ c. search needs)
+    (λ c. search needs)
+    (λ c. search needs)
+    (λ c κs. search needs)
+    (λ c. search needs)
+    (λ c. search needs)
+    (λ c. search needs)
+    (λ c. search needs)
     returns
     put-entry-requires
-    add-k
-    line-after-requires
-    loop-less
+    (λ c. search needs)
+    (λ c κs. search needs)
+    (λ c. search needs)
     loop-again
-    same-length-2
+    (λ c. search needs)
     returns-2)

@@ -26,9 +26,6 @@ returns-2 c = sym (number-long _ _ (c .before .if1 .left) (c .if2 .taken))
 loop-holds : tie.Need-loop-holds Inv-loop μ-loop
 loop-holds c = (omega arith, omega arith, omega arith, number-digits _ _ (c .before .if1 .left) (c .if2 .left))
 
-shared-slice-read-b : tie.Need-shared-slice-read-b Inv-loop μ-loop
-shared-slice-read-b c = search needs
-
 returns-3 : tie.Need-returns-3 Inv-loop μ-loop
 returns-3 c = let l = c .before .before .before .loop in sym (l .inv .3 ∙ digits-low _ (l .i) (l .value) (c .before .before .loop-test .taken) (c .if3 .taken))
 
@@ -38,17 +35,8 @@ returns-4 c = let l = c .before .before .before .before .loop in sym (l .inv .3 
 mul-value : tie.Need-mul-value Inv-loop μ-loop
 mul-value c = omega (arith, greatest-two (c .before .before .before .before .loop .i) (omega arith))
 
-cast-value : tie.Need-cast-value Inv-loop μ-loop
-cast-value c = search needs
-
 add-value : tie.Need-add-value Inv-loop μ-loop
 add-value c = omega (arith, greatest-two (c .before .before .before .before .loop .i) (omega arith))
-
-add-i : tie.Need-add-i Inv-loop μ-loop
-add-i c = search needs
-
-loop-less : tie.Need-loop-less Inv-loop μ-loop
-loop-less c = search needs
 
 loop-again : tie.Need-loop-again Inv-loop μ-loop
 loop-again c =
@@ -68,13 +56,13 @@ read-number-spec =
     returns
     returns-2
     loop-holds
-    shared-slice-read-b
+    (λ c. search needs)
     returns-3
     returns-4
     mul-value
-    cast-value
+    (λ c. search needs)
     add-value
-    add-i
-    loop-less
+    (λ c. search needs)
+    (λ c. search needs)
     loop-again
     returns-5)
