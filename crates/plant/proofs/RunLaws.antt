@@ -15,7 +15,7 @@ use Rattle.station.specs.Rules.{shapeNumber, tableNumber}
 use Rattle.station.specs.Table.{tableLength}
 use Rattle.station.proofs.Refusals.{Accepted, accepted, else-zero, refuse-zero}
 use Rattle.plant.specs.Turn.{countTest, replies, isTold, testOutcome, makesTest, nextTest, turnOutcome}
-use Rattle.plant.specs.Entry.{Entry, State, stateOf, entryOf, isCrash, isTest, entryNumber, after, outcomeOf, sheetLine}
+use Rattle.plant.specs.Entry.{Entry, State, entryOf, isCrash, isTest, entryNumber, after, outcomeOf, sheetLine}
 use Rattle.plant.specs.Run.{Outcome, entries, writeLine, goOn, startNumber, run}
 
 -- a table that obeys the rules gets no refusal
@@ -101,15 +101,6 @@ module _ (n k : ℕ) (s : State) (sheet schedule : List ℕ) where
   pub go-done : length schedule / 2 ≤ k → from-here ≡ record { number = 0; taken = k; state = s; sheet = sheet }
   unfolding goOn
   go-done h = rw (drop-of-length-le (entries schedule) {i = k} (omega (arith, entries-length schedule)))
-
--- a state by its parts
-pub state-is : (s : State) (t : List ℕ) (r u : ℕ) → t ≡ s .table → r ≡ s .rounds → u ≡ s .tests → stateOf t r u ≡ s
-state-is s t r u a b c = rw (a, b, c)
-
--- the figures of an outcome, as the contracts ask for them
-pub outcome-parts : (o : Outcome) (r k : ℕ) (s : State) (sheet : List ℕ) → o ≡ record { number = r; taken = k; state = s; sheet = sheet }
-    → (r ≡ o .number) × ((k ≡ o .taken) × ((s ≡ o .state) × (sheet ≡ o .sheet)))
-outcome-parts o r k s sheet e = rw e (refl, (refl, (refl, refl)))
 
 -- what a run has that refusals 1 to 6 let through
 pub start-facts : (n : ℕ) (t : List ℕ) (a b : ℕ) → startNumber n t a b ≡ 0 → Accepted n t × (a % 2 ≡ 1 → ⊥) × (b ≡ 2 * a)

@@ -7,6 +7,7 @@ use lib.Dec.{leb, eqb}
 use Rattle.station.specs.Table.{status, finished, live}
 use Rattle.station.specs.Rules.{refuse, _else_}
 use Rattle.station.specs.Calls.{stationRefusal}
+use Rattle.plant.specs.declared.Tally.{Tally}
 use Rattle.plant.specs.Turn.{kindCrash, outcomeCrash, noStation, makesTest, turn, turnTested, turnOutcome, crash, roundOver, afterRound}
 
 -- "A schedule entry is two bytes: kind [..] and station i."
@@ -20,9 +21,13 @@ pub record State : Type 0 where
   pub rounds : ℕ
   pub tests : ℕ
 
--- a state and an entry by their parts, as the contracts name them
+-- a state and an entry by their parts
 abbrev pub stateOf : List ℕ → ℕ → ℕ → State
 stateOf t r u = record { table = t; rounds = r; tests = u }
+
+-- the table and the tally that are handed to a call, or that it gives back
+abbrev pub stateWith : List ℕ → Tally → State
+stateWith t tally = stateOf t (tally .rounds) (tally .tests)
 
 abbrev pub entryOf : ℕ → ℕ → Entry
 entryOf k i = record { kind = k; station = i }

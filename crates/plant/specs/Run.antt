@@ -6,7 +6,8 @@ use mathlib.Core.List.{List, [], _∷_, _++_}
 use lib.ListN.{length, take, drop}
 use lib.Dec.{eqb}
 use Rattle.station.specs.Rules.{refuse, _else_, tableNumber}
-use Rattle.plant.specs.Entry.{Entry, State, entryNumber, after, sheetLine}
+use Rattle.plant.specs.declared.Answer.{Answer}
+use Rattle.plant.specs.Entry.{Entry, State, stateWith, entryNumber, after, sheetLine}
 
 -- the entries of a schedule, two bytes each
 unfoldable pub entries : List ℕ → List Entry
@@ -20,6 +21,10 @@ pub record Outcome : Type 0 where
   pub taken : ℕ
   pub state : State
   pub sheet : List ℕ
+
+-- the outcome of a call: its answer, and table and sheet as it left them
+abbrev pub outcomeWith : Answer → List ℕ → List ℕ → Outcome
+outcomeWith a t sheet = record { number = a .number; taken = a .taken; state = stateWith t (a .tally); sheet = sheet }
 
 -- the sheet with a line written as the kth, from 0
 unfoldable pub writeLine : List ℕ → ℕ → List ℕ → List ℕ

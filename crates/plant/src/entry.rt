@@ -5,7 +5,7 @@ ghost use mathlib.Core.Bool.{cond};
 ghost use lib.ListN.{length};
 ghost use Rattle.station.specs.Table.{tableLength};
 ghost use Rattle.station.specs.Rules.{tableNumber};
-ghost use Rattle.plant.specs.Entry.{stateOf, entryOf, entryNumber, acted, after, testedOf, outcomeOf, sheetLine};
+ghost use Rattle.plant.specs.Entry.{stateWith, entryOf, entryNumber, acted, after, testedOf, outcomeOf, sheetLine};
 use crate::Tally;
 use crate::codes;
 use crate::inside;
@@ -18,7 +18,7 @@ use station::cells;
 // Refusals 7 to 11, or 0.
 pub(crate) fn entry_number(n: u8, table: &[u8], tally: Tally, kind: u8, i: Station) -> u8
     requires { ⌜ length (now table) ≡ tableLength n ⌝ }
-    ensures { λ r. ⌜ r ≡ entryNumber n (stateOf (now (table .entry)) (tally .rounds) (tally .tests)) (entryOf kind (i .0)) ⌝ }
+    ensures { λ r. ⌜ r ≡ entryNumber n (stateWith (now (table .entry)) tally) (entryOf kind (i .0)) ⌝ }
 {
     if (tally.rounds == codes::TALLY_TOP) | (tally.tests == codes::TALLY_TOP) {
         return 7;
@@ -48,11 +48,9 @@ pub(crate) fn take_entry(
     i: Station,
     line: &mut [u8],
 ) -> Tally
-    requires { ⌜ (tableNumber n (now table) ≡ 0) × (entryNumber n (stateOf (now table) (tally .rounds) (tally .tests)) (entryOf kind (i .0)) ≡ 0) × (length (now line) ≡ 4) ⌝ }
-    ensures { λ r. ⌜ r .rounds ≡ after n (stateOf (now (table .entry)) (tally .rounds) (tally .tests)) (entryOf kind (i .0)) .rounds ⌝ }
-    ensures { λ r. ⌜ r .tests ≡ after n (stateOf (now (table .entry)) (tally .rounds) (tally .tests)) (entryOf kind (i .0)) .tests ⌝ }
-    ensures { λ _. ⌜ now (table .exit) ≡ after n (stateOf (now (table .entry)) (tally .rounds) (tally .tests)) (entryOf kind (i .0)) .table ⌝ }
-    ensures { λ _. ⌜ now (line .exit) ≡ sheetLine n (stateOf (now (table .entry)) (tally .rounds) (tally .tests)) (entryOf kind (i .0)) ⌝ }
+    requires { ⌜ (tableNumber n (now table) ≡ 0) × (entryNumber n (stateWith (now table) tally) (entryOf kind (i .0)) ≡ 0) × (length (now line) ≡ 4) ⌝ }
+    ensures { λ r. ⌜ stateWith (now (table .exit)) r ≡ after n (stateWith (now (table .entry)) tally) (entryOf kind (i .0)) ⌝ }
+    ensures { λ _. ⌜ now (line .exit) ≡ sheetLine n (stateWith (now (table .entry)) tally) (entryOf kind (i .0)) ⌝ }
 {
     let done = act(n, table, kind, i);
     let over = rounds::close_round(n, table, i);

@@ -1,5 +1,5 @@
 // The plant run of the vCube watch (document 01, "What an entry does" and the run): entries, rounds, the tally. It stands above `station`
-// and relies only on what that crate states. The call of document 01 is run::run; run::start_number is open for `exports`.
+// and relies only on what that crate states. The call of document 01 is run::run.
 mod codes;
 mod entry;
 mod inside;

@@ -1,8 +1,8 @@
 // The run (document 01, "What can be asked" and the refusal list).
 ghost use mathlib.Core.Path.{_≡_};
 ghost use lib.ListN.{length};
-ghost use Rattle.plant.specs.Entry.{stateOf};
-ghost use Rattle.plant.specs.Run.{entries, goOn, startNumber, run};
+ghost use Rattle.plant.specs.Entry.{stateWith};
+ghost use Rattle.plant.specs.Run.{entries, goOn, startNumber, outcomeWith, run};
 use crate::Answer;
 use crate::Tally;
 use crate::entry;
@@ -12,10 +12,7 @@ use station::rules;
 // Carries out a schedule on a table and a tally and fills the sheet, four bytes for each entry taken. A run refused at its start changes
 // no byte; one stopped at an entry keeps the work of the entries before it and no other.
 pub fn run(n: usize, table: &mut [u8], tally: Tally, schedule: &[u8], sheet: &mut [u8]) -> Answer
-    ensures { λ r. ⌜ r .number ≡ run n (stateOf (now (table .entry)) (tally .rounds) (tally .tests)) (now (schedule .entry)) (now (sheet .entry)) .number ⌝ }
-    ensures { λ r. ⌜ r .taken ≡ run n (stateOf (now (table .entry)) (tally .rounds) (tally .tests)) (now (schedule .entry)) (now (sheet .entry)) .taken ⌝ }
-    ensures { λ r. ⌜ stateOf (now (table .exit)) (r .tally .rounds) (r .tally .tests) ≡ run n (stateOf (now (table .entry)) (tally .rounds) (tally .tests)) (now (schedule .entry)) (now (sheet .entry)) .state ⌝ }
-    ensures { λ _. ⌜ now (sheet .exit) ≡ run n (stateOf (now (table .entry)) (tally .rounds) (tally .tests)) (now (schedule .entry)) (now (sheet .entry)) .sheet ⌝ }
+    ensures { λ r. ⌜ outcomeWith r (now (table .exit)) (now (sheet .exit)) ≡ run n (stateWith (now (table .entry)) tally) (now (schedule .entry)) (now (sheet .entry)) ⌝ }
 {
     let number = start_number(n, table, schedule.len(), sheet.len());
     if number != 0 {
@@ -29,7 +26,7 @@ pub fn run(n: usize, table: &mut [u8], tally: Tally, schedule: &[u8], sheet: &mu
 }
 
 // Refusals 1 to 6, or 0.
-pub fn start_number(n: usize, table: &[u8], schedule: usize, sheet: usize) -> u8
+fn start_number(n: usize, table: &[u8], schedule: usize, sheet: usize) -> u8
     ensures { λ r. ⌜ r ≡ startNumber n (now (table .entry)) schedule sheet ⌝ }
 {
     let number = rules::check_table(n, table);
@@ -51,10 +48,7 @@ pub fn start_number(n: usize, table: &[u8], schedule: usize, sheet: usize) -> u8
 // Takes the entries in order.
 fn go_on(n: u8, table: &mut [u8], tally: Tally, schedule: &[u8], sheet: &mut [u8]) -> Answer
     requires { ⌜ startNumber n (now table) (length (now schedule)) (length (now sheet)) ≡ 0 ⌝ }
-    ensures { λ r. ⌜ r .number ≡ goOn n 0 (stateOf (now (table .entry)) (tally .rounds) (tally .tests)) (now (sheet .entry)) (entries (now (schedule .entry))) .number ⌝ }
-    ensures { λ r. ⌜ r .taken ≡ goOn n 0 (stateOf (now (table .entry)) (tally .rounds) (tally .tests)) (now (sheet .entry)) (entries (now (schedule .entry))) .taken ⌝ }
-    ensures { λ r. ⌜ stateOf (now (table .exit)) (r .tally .rounds) (r .tally .tests) ≡ goOn n 0 (stateOf (now (table .entry)) (tally .rounds) (tally .tests)) (now (sheet .entry)) (entries (now (schedule .entry))) .state ⌝ }
-    ensures { λ _. ⌜ now (sheet .exit) ≡ goOn n 0 (stateOf (now (table .entry)) (tally .rounds) (tally .tests)) (now (sheet .entry)) (entries (now (schedule .entry))) .sheet ⌝ }
+    ensures { λ r. ⌜ outcomeWith r (now (table .exit)) (now (sheet .exit)) ≡ goOn n 0 (stateWith (now (table .entry)) tally) (now (sheet .entry)) (entries (now (schedule .entry))) ⌝ }
 {
     let mut held = tally;
     let mut k: usize = 0;

@@ -5,7 +5,7 @@ use native.Mathlib.Omega.{arith}
 use lib.ListN.{length-set}
 use borrow.Author.Needs.{needs}
 use Rattle.station.proofs.Refusals.{accepted}
-use Rattle.plant.specs.Entry.{stateOf, entryOf, after, sheetLine}
+use Rattle.plant.specs.Entry.{stateWith, entryOf, after, sheetLine}
 use Rattle.plant.proofs.Kept.{entry-facts}
 use Rattle.plant.proofs.RunLaws.{made-test, line-written}
 use Rattle.plant.proofs.entry.take_entry.Statement.{statement}
@@ -41,14 +41,14 @@ grown-requires : tie.Need-grown-requires
 grown-requires c κs =
     let a = c .before .before .before .before .before .before .before .before .before .before .before .before .before .args in
     let p = c .before .before .before .before .before .before .before .before .before .before .before .before .before .pre in
-    let f = entry-facts (a .n) (stateOf (a .table .now) (a .tally .rounds) (a .tally .tests)) (entryOf (a .kind) (a .i .0)) (p .1) in
+    let f = entry-facts (a .n) (stateWith (a .table .now) (a .tally)) (entryOf (a .kind) (a .i .0)) (p .1) in
     omega (arith, f .roundsFit)
 
 grown-requires-2 : tie.Need-grown-requires-2
 grown-requires-2 c κs =
     let a = c .before .before .before .before .before .before .before .before .before .before .before .before .before .before .args in
     let p = c .before .before .before .before .before .before .before .before .before .before .before .before .before .before .pre in
-    let f = entry-facts (a .n) (stateOf (a .table .now) (a .tally .rounds) (a .tally .tests)) (entryOf (a .kind) (a .i .0)) (p .1) in
+    let f = entry-facts (a .n) (stateWith (a .table .now) (a .tally)) (entryOf (a .kind) (a .i .0)) (p .1) in
     omega (arith, f .testsFit)
 
 returns : tie.Need-returns
@@ -60,8 +60,8 @@ returns c =
     let l = line-written (a .line .now) (a .i .0) (d .tested) (d .outcome) (c .before .before .before .get .result) (c .before .before .before .before .before .before .before .before .before .before .before .before .before .before .before .pre .2) in
     let e = c .before .before .before .before .before .before .before .before .before .before .before .act .ensures in
     let f = c .before .before .before .before .before .before .before .close-round .ensures in (
-      rw (c .before .grown .ensures, f .0, e .1 .1),
-      (rw (c .grown2 .ensures, e .1 .0, m), (rw (f .1, e .1 .1), l ∙ rw (e .0, e .1 .0, c .before .before .before .get .ensures, f .1, e .1 .1))),
+      rw (c .before .grown .ensures, c .grown2 .ensures, f .0, f .1, e .1 .1, e .1 .0, m),
+      l ∙ rw (e .0, e .1 .0, c .before .before .before .get .ensures, f .1, e .1 .1),
     )
 
 pub take-entry-spec : {M : Type 1} → statement M

@@ -6,17 +6,17 @@ use native.Mathlib.Omega.{arith}
 use lib.ListN.{length, drop, length-take, length-drop}
 use borrow.Author.Needs.{needs}
 use Rattle.station.proofs.Refusals.{Accepted}
-use Rattle.plant.specs.Entry.{stateOf}
+use Rattle.plant.specs.Entry.{State, stateWith}
 use Rattle.plant.specs.Run.{entries, goOn, writeLine}
 use Rattle.plant.proofs.Kept.{accepted-kept}
-use Rattle.plant.proofs.RunLaws.{accepted-number, entryAt, line-back, go-taken, go-stopped, go-done, state-is, outcome-parts, start-facts}
+use Rattle.plant.proofs.RunLaws.{accepted-number, entryAt, line-back, go-taken, go-stopped, go-done, start-facts}
 use Rattle.plant.proofs.run.go_on.Statement.{statement}
 use Rattle.plant.proofs.run.go_on.Tie as tie
 
 abbrev Inv-loop : tie.InvT-loop
 Inv-loop n table₀ schedule sheet₀ held₀ k₀ table sheet held k =
     (k ≤ length schedule / 2) × (length table ≡ length table₀) × (length sheet ≡ 2 * length schedule) × (length sheet₀ ≡ 2 * length schedule) × Accepted n table
-    × (goOn n k (stateOf table (held .rounds) (held .tests)) sheet (drop k (entries schedule)) ≡ goOn n 0 (stateOf table₀ (held₀ .rounds) (held₀ .tests)) sheet₀ (entries schedule))
+    × (goOn n k (stateWith table held) sheet (drop k (entries schedule)) ≡ goOn n 0 (stateWith table₀ held₀) sheet₀ (entries schedule))
 
 abbrev μ-loop : tie.MeasureT-loop
 μ-loop n table₀ schedule sheet₀ held₀ k₀ table sheet held k = length schedule / 2 - k
@@ -38,9 +38,9 @@ returns : tie.Need-returns Inv-loop μ-loop
 returns c =
     let a = c .before .before .before .before .before .before .before .before .before .before .args in
     let l = c .before .before .before .before .before .before .loop in
-    let s = stateOf (l .table) (l .held .rounds) (l .held .tests) in
+    let s = stateWith (l .table) (l .held) in
     let e = go-stopped (a .n) (l .k) s (l .sheet) (a .schedule .now) _ (c .before .before .before .before .before .loop-test .taken) (c .before .entry-number .ensures) (c .if1 .taken) in
-    outcome-parts _ _ _ _ _ (sym (l .inv .5) ∙ e)
+    sym (sym (l .inv .5) ∙ e)
 
 take-entry-requires : tie.Need-take-entry-requires Inv-loop μ-loop
 take-entry-requires c κs =
@@ -54,17 +54,16 @@ loop-again c =
     let l = c .before .before .before .before .before .before .before .before .before .before .before .before .before .loop in
     let i = l .inv in
     let h = c .before .before .before .before .before .before .before .before .before .before .before .before .loop-test .taken in
-    let s = stateOf (l .table) (l .held .rounds) (l .held .tests) in
+    let s = stateWith (l .table) (l .held) in
     let z = sym (c .before .before .before .before .before .before .before .before .entry-number .ensures) ∙ c .before .before .before .before .before .before .before .if1 .left in
     let p = c .before .before .before .before .take-entry .ensures in
-    let q = state-is _ _ _ _ (p .1 .1 .0) (p .0) (p .1 .0) in
-    let w = line-back (l .sheet) (l .k) _ ∙ ap (writeLine (l .sheet) (l .k)) (p .1 .1 .1) in (
+    let w = line-back (l .sheet) (l .k) _ ∙ ap (writeLine (l .sheet) (l .k)) (p .1) in (
       omega arith,
       omega (arith, c .before .before .before .table .given),
       omega (arith, c .before .sheet .given),
       i .3,
-      rw (p .1 .1 .0) (accepted-kept (a .n) s (entryAt (a .schedule .now) (l .k)) (i .4) z),
-      go-taken (a .n) (l .k) s (l .sheet) (a .schedule .now) _ _ h z q w ∙ i .5,
+      rw (ap (λ (z : State). z .table) (p .0)) (accepted-kept (a .n) s (entryAt (a .schedule .now) (l .k)) (i .4) z),
+      go-taken (a .n) (l .k) s (l .sheet) (a .schedule .now) _ _ h z (p .0) w ∙ i .5,
     )
 
 same-length-3 : tie.Need-same-length-3 Inv-loop μ-loop
@@ -77,8 +76,8 @@ returns-2 : tie.Need-returns-2 Inv-loop μ-loop
 returns-2 c =
     let a = c .before .before .before .before .before .args in
     let l = c .before .loop in
-    let s = stateOf (l .table) (l .held .rounds) (l .held .tests) in
-    outcome-parts _ _ _ _ _ (sym (l .inv .5) ∙ go-done (a .n) (l .k) s (l .sheet) (a .schedule .now) (c .loop-test .left))
+    let s = stateWith (l .table) (l .held) in
+    sym (sym (l .inv .5) ∙ go-done (a .n) (l .k) s (l .sheet) (a .schedule .now) (c .loop-test .left))
 
 pub go-on-spec : {M : Type 1} → statement M
 go-on-spec =
