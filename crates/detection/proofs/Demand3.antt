@@ -6,6 +6,7 @@ use mathlib.Core.Bool.{Bool, true, false, cond, not, _&&_, _||_}
 use mathlib.Core.List.{List, [], _∷_, _++_, append-nil, append-assoc}
 use Prim.Native.Nat.{ℕ, zero, suc, _+_, _-_, _*_, _^_, _≤_, _<_}
 use native.Mathlib.Nat.{eq-or-lt-of-le}
+use native.Mathlib.Decide.{ℕ-discrete}
 use native.Mathlib.Omega.{arith}
 use borrow.Author.Tests.{eqb-true, eqb-false, eq-eqb, ne-eqb, not-true, not-false}
 use lib.ListN.{length, getD}
@@ -21,12 +22,13 @@ use Rattle.station.proofs.Sizes.{size-pow}
 use Rattle.plant.specs.Turn.{makesTest, nextTest, turn, turnTested, roundOver, resetLines, afterRound}
 use Rattle.plant.specs.Entry.{Entry, State, isCrash, isTest, entryNumber, acted, after, testedOf}
 use Rattle.detection.specs.Sums.{sum, bit}
-use Rattle.detection.specs.Runs.{Call, Taken, takenAll, afterRuns, isTurnOf, takenTest, finishes, crashes, isLate}
-use Rattle.detection.specs.Rounds.{all, count, finishesOf, closes, cut, testsIn, testsOfAll, turnsIn, lastFinishes}
-use Rattle.detection.specs.Claim.{lineAtStart, atStart, liveCount, noLiveSuspicion, noneSuspected, deadGroup, deadPairs, Premises, Conclusion, Demand3}
+use Rattle.detection.specs.Runs.{Call, Taken, takenAll, afterRun, afterRuns, isTurnOf, takenTest, finishes, crashes, isLate}
+use Rattle.detection.specs.Rounds.{all, count, finishesOf, closes, cut, testsIn, testsOfAll, turnsIn}
+use Rattle.detection.specs.Claim.{lineAtStart, atStart, liveCount, noLiveSuspicion, noneSuspected, deadGroup, deadPairs, Premises, Conclusion, Demand3, Demand3After}
 use Rattle.detection.proofs.SumLaws.{sum-zero, sum-single}
 use Rattle.detection.proofs.TakenLaws.{count-snoc, tests-snoc, getD-snoc-last, getD-snoc-before}
 use Rattle.detection.proofs.Chain.{Chain, chain-all}
+use Rattle.detection.proofs.TurnedAway.{turned-away}
 use Rattle.detection.proofs.Inside.{Plain, Inside, Exact, did-finish, did-test, Did, move, start}
 use Rattle.detection.proofs.Closing.{RoundStep, closes-is, at-end, round-step, restart}
 use Rattle.detection.proofs.RoundCount.{round-count}
@@ -256,10 +258,10 @@ company-of n t two i h l = go (every alone n) refl
         let r = or-parts (eqb (w .0) i) (notLive n t (w .0)) (w .2) in
         (w .0, w .1, λ e. eqb-false (w .0) i (r .0) (sym e), not-false (live n t (w .0)) (r .1))
 
--- demand 3
-pub demand-3 : Demand3
+-- demand 3 of a table that refusals 1 to 4 let through
+demand-3-accepted : (n : ℕ) (s : State) (calls : List Call) → Accepted n (s .table) → Premises n s calls → Conclusion n s calls (afterRuns s calls)
 unfolding atStart noneSuspected deadPairs deadGroup emptyPairs testsOfAll count
-demand-3 n s calls given = record {
+demand-3-accepted n s calls ok given = record {
   sameLive = λ i h. p .inside .plain .lives i h;
   turns = λ k i h g l. turns k i g (eq-or-lt-of-le h);
   known = λ far i j h g l. known i j h g l (exact-at n d L (p .start) (length closed) pow (p .history) (length closed) far (omega arith)) (L j) refl;
@@ -276,9 +278,6 @@ demand-3 n s calls given = record {
 
     L : ℕ → Bool
     L = live n t
-
-    ok : Accepted n t
-    ok = accepted n t (given .accepted)
 
     pow : n ≡ 2 ^ d
     pow = size-pow n (ok .size)
@@ -335,3 +334,22 @@ demand-3 n s calls given = record {
 
     counted : (k : ℕ) → d * d ≤ k → k < length closed → testsIn (getD closed k []) ≡ n * d - deadPairs n t
     counted k far h = p .counted k far h
+
+-- demand 3: a table that they do not let through is turned away by every run
+pub demand-3 : Demand3
+demand-3 n s calls given = go (ℕ-discrete (tableNumber n (s .table)) 0)
+  where
+    go : Dec (tableNumber n (s .table) ≡ 0) → Conclusion n s calls (afterRuns s calls)
+    go (yes z) = demand-3-accepted n s calls (accepted n (s .table) z) given
+    go (no z) = turned-away n s (given .long) z (given .size) calls
+
+-- the runs of a list and one more
+after-one-more : (s : State) (calls : List Call) (c : Call) → afterRuns s (calls ++ (c ∷ [])) ≡ afterRun (afterRuns s calls) c
+unfolding afterRuns
+after-one-more s [] c = refl
+after-one-more s (b ∷ calls) c = after-one-more (afterRun s b) calls c
+
+-- demand 3 of the last run of a list
+pub demand-3-after : (c : Call) (before : State) → Demand3After c before (afterRun before c)
+demand-3-after c before n s calls e given =
+    subst (Conclusion n s (calls ++ (c ∷ []))) (after-one-more s calls c ∙ ap (λ (z : State). afterRun z c) e) (demand-3 n s (calls ++ (c ∷ [])) given)

@@ -20,10 +20,10 @@ use Rattle.station.proofs.DueLaws.{due-zero}
 use Rattle.station.proofs.CellLaws.{Line, row-length, row-at, row-same}
 use Rattle.detection.specs.Sums.{sum, bit}
 use Rattle.detection.specs.Runs.{Taken, isTurnOf, takenTest, finishes}
-use Rattle.detection.specs.Rounds.{any, count, finishesOf, testsIn, turnsIn, lastFinishes}
+use Rattle.detection.specs.Rounds.{any, count, finishesOf, testsIn, turnsIn, nthTurnFinishes}
 use Rattle.detection.proofs.SumLaws.{sum-zero}
 use Rattle.detection.proofs.DueLaw.{due-holds}
-use Rattle.detection.proofs.TakenLaws.{some-snoc, count-snoc, last-snoc-turn, last-snoc-other}
+use Rattle.detection.proofs.TakenLaws.{some-snoc, count-snoc, nth-snoc-turn, nth-snoc-other}
 use Rattle.detection.proofs.TurnEffect.{Turned, Finished, Tested}
 
 -- all that stand ahead of i in the group of the station at distance m, at level h + 1, are suspected by i
@@ -56,7 +56,7 @@ pub record Inside (n d : ℕ) (L : ℕ → Bool) (t₀ : List ℕ) (cur : List T
   -- what bytes 2 and 3 count
   pub turnCount : (i : ℕ) → i < n → turnsIn i cur ≡ testsMade n t i + finished n t i
   pub ended : (i : ℕ) → i < n → any (finishesOf i) cur ≡ eqb (finished n t i) 1
-  pub lastEnds : (i : ℕ) → i < n → finished n t i ≡ 1 → lastFinishes i cur ≡ true
+  pub lastEnds : (i : ℕ) → i < n → finished n t i ≡ 1 → nthTurnFinishes i (turnsIn i cur) cur ≡ true
   pub testCount : testsIn cur ≡ sum (testsMade n t) n
   -- in a round that starts exact byte 3 counts the due distances passed
   pub exactCount : Exact n L t₀ → (i : ℕ) → i < n → L i ≡ true → testsMade n t i ≡ sum (λ m. bit (due (row n t₀ i) i m)) (nextDistance n t i)
@@ -92,7 +92,7 @@ sum-grows f g (suc n) i v h same more =
 -- where a round starts
 pub start : (n d : ℕ) (L : ℕ → Bool) (t : List ℕ) → Plain n L t
     → ((i : ℕ) → i < n → (nextDistance n t i ≡ 1) × (finished n t i ≡ 0) × (testsMade n t i ≡ 0)) → Inside n d L t [] t
-unfolding any count lastFinishes
+unfolding any count nthTurnFinishes
 start n d L t p fresh = record {
   plain = p;
   grown = λ i j a b s. s;
@@ -264,18 +264,22 @@ module _ (n d : ℕ) (L : ℕ → Bool) (t₀ t t′ : List ℕ) (cur : List Tak
           or-false true = refl
           or-false false = refl
 
-  lastEnds′ : (k : ℕ) → k < n → finished n t′ k ≡ 1 → lastFinishes k here ≡ true
-  lastEnds′ = byLine (λ k. finished n t′ k ≡ 1 → lastFinishes k here ≡ true) own others
+  lastEnds′ : (k : ℕ) → k < n → finished n t′ k ≡ 1 → nthTurnFinishes k (turnsIn k here) here ≡ true
+  lastEnds′ = byLine (λ k. finished n t′ k ≡ 1 → nthTurnFinishes k (turnsIn k here) here ≡ true) own others
     where
       one : (c : Bool) → bit c ≡ 1 → c ≡ true
       one true e = refl
       one false e = absurd (omega arith)
 
-      own : finished n t′ i ≡ 1 → lastFinishes i here ≡ true
-      own e = last-snoc-turn i cur x (turnOf i ∙ mine) ∙ fin ∙ one (not b) (sym (did .finish) ∙ e)
+      own : finished n t′ i ≡ 1 → nthTurnFinishes i (turnsIn i here) here ≡ true
+      own e =
+          let more : turnsIn i here ≡ suc (turnsIn i cur) = omega (arith, count-snoc (isTurnOf i) cur x, ap bit (turnOf i ∙ mine)) in
+          rw more (nth-snoc-turn i cur x (turnOf i ∙ mine) ∙ fin ∙ one (not b) (sym (did .finish) ∙ e))
 
-      others : (k : ℕ) → k < n → (k ≡ i → ⊥) → finished n t′ k ≡ 1 → lastFinishes k here ≡ true
-      others k h e f = last-snoc-other k cur x (turnOf k ∙ apart k e) ∙ inv .lastEnds k h (sym (turned .finisheds k h e) ∙ f)
+      others : (k : ℕ) → k < n → (k ≡ i → ⊥) → finished n t′ k ≡ 1 → nthTurnFinishes k (turnsIn k here) here ≡ true
+      others k h e f =
+          let same : turnsIn k here ≡ turnsIn k cur = omega (arith, count-snoc (isTurnOf k) cur x, ap bit (turnOf k ∙ apart k e)) in
+          rw same (nth-snoc-other k (turnsIn k cur) cur x (turnOf k ∙ apart k e) ∙ inv .lastEnds k h (sym (turned .finisheds k h e) ∙ f))
 
   testCount′ : testsIn here ≡ sum (testsMade n t′) n
   testCount′ =

@@ -11,6 +11,6 @@ pub mod Inside
 pub mod Closing
 pub mod RoundCount
 pub mod Progress
+pub mod TurnedAway
 pub mod Demand3
-pub mod SameRun
 pub mod Witness

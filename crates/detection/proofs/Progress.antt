@@ -19,7 +19,7 @@ use Rattle.station.proofs.Refusals.{Accepted}
 use Rattle.plant.specs.Entry.{State}
 use Rattle.detection.specs.Sums.{sum, bit}
 use Rattle.detection.specs.Runs.{Taken}
-use Rattle.detection.specs.Rounds.{count, turnsIn, lastFinishes, testsIn, testsOfAll}
+use Rattle.detection.specs.Rounds.{count, turnsIn, nthTurnFinishes, testsIn, testsOfAll}
 use Rattle.detection.proofs.Spread.{Rounds, bound, bound-le-square, detected}
 use Rattle.detection.proofs.TakenLaws.{tests-snoc, getD-snoc-last, getD-snoc-before, length-snoc}
 use Rattle.detection.proofs.Inside.{Plain, Inside, Exact}
@@ -27,12 +27,17 @@ use Rattle.detection.proofs.Closing.{RoundStep}
 
 -- a round in which station i has at most n turns, the nth of which finished its pass
 abbrev pub TurnsOk : ℕ → ℕ → List Taken → Type 0
-TurnsOk n i round = (turnsIn i round ≤ n) × (turnsIn i round ≡ n → lastFinishes i round ≡ true)
+TurnsOk n i round = (turnsIn i round ≤ n) × (n ≤ turnsIn i round → nthTurnFinishes i n round ≡ true)
 
 pub turns-ok : (n d : ℕ) (L : ℕ → Bool) (t₀ t : List ℕ) (cur : List Taken) → Inside n d L t₀ cur t → (i : ℕ) → i < n → TurnsOk n i cur
 turns-ok n d L t₀ t cur inv i h =
     let line = inv .plain .lines i h in
-    (omega (arith, inv .turnCount i h, line), λ e. inv .lastEnds i h (omega (arith, inv .turnCount i h, line)))
+    (
+      omega (arith, inv .turnCount i h, line),
+      λ e.
+          let all : turnsIn i cur ≡ n = omega (arith, inv .turnCount i h, line) in
+          rw all at (inv .lastEnds i h (omega (arith, inv .turnCount i h, line))),
+    )
 
 -- the pairs of a station and a level whose group has no live station
 unfoldable pub emptyPairs : ℕ → ℕ → (ℕ → Bool) → ℕ

@@ -2,7 +2,7 @@
 -- Assumes nothing.
 use mathlib.Core.Path.{_≡_, refl, sym, _∙_}
 use mathlib.Core.Bool.{Bool, true, false}
-use Prim.Native.Nat.{ℕ, zero, suc, _+_, _*_, _-_, _^_, _≤_, _<_}
+use Prim.Native.Nat.{ℕ, zero, suc, _+_, _*_, _-_, _/_, _^_, _≤_, _<_}
 use native.Mathlib.Nat.{add-suc, add-zero, mul-suc, suc-mul}
 use native.Mathlib.Decide.{decLt, le-ind}
 use native.Mathlib.Omega.{arith}
@@ -35,6 +35,15 @@ unfolding bound
 bound-le-square zero = omega arith
 bound-le-square (suc zero) = omega arith
 bound-le-square (suc (suc s)) = omega (arith, bound-le-square (suc s), mul-suc (suc (suc s)) (suc s), suc-mul (suc s) (suc s))
+
+-- the bound in closed form, an end in itself
+pub bound-is : (s : ℕ) → bound (suc s) ≡ 1 + suc s * s / 2
+unfolding bound
+bound-is s = omega (arith, twice s)
+  where
+    twice : (s : ℕ) → 2 * bound (suc s) ≡ 2 + suc s * s
+    twice zero = refl
+    twice (suc s) = omega (arith, twice s, suc-mul (suc s) (suc s), mul-suc (suc s) s)
 
 -- the least number from lo to hi that passes p
 record Least (p : ℕ → Bool) (lo hi : ℕ) : Type 0 where

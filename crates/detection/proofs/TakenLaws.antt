@@ -1,16 +1,18 @@
 -- Laws of the lists of taken entries, and of rounds, at the end of a list.
 -- Assumes nothing.
 use mathlib.Core.Path.{_≡_, refl, sym, _∙_}
-use mathlib.Core.Bool.{Bool, true, false, _&&_, _||_, or-false, or-true, or-assoc, and-assoc}
+use mathlib.Core.Bool.{Bool, true, false, cond, _&&_, _||_, or-false, or-assoc, and-assoc}
 use mathlib.Core.List.{List, [], _∷_, _++_}
-use Prim.Native.Nat.{ℕ, suc, _+_, _<_}
+use Prim.Native.Nat.{ℕ, suc, _+_, _-_, _<_}
 use native.Mathlib.Numerals.{add-one}
 use native.Mathlib.Omega.{arith}
+use borrow.Author.Tests.{ne-eqb}
+use lib.Dec.{eqb}
 use lib.ListN.{length, getD, length-append, List·getD-append}
 use lib.Seq.{getD-append-seam}
 use Rattle.detection.specs.Sums.{bit}
 use Rattle.detection.specs.Runs.{Taken, isTurnOf, finishes}
-use Rattle.detection.specs.Rounds.{any, all, count, testsIn, testsOfAll, lastFinishes}
+use Rattle.detection.specs.Rounds.{any, all, count, testsIn, testsOfAll, turnsIn, nthTurnFinishes}
 
 -- whether any entry of the longer list passes q
 pub some-snoc : (q : Taken → Bool) (xs : List Taken) (x : Taken) → any q (xs ++ (x ∷ [])) ≡ (any q xs || q x)
@@ -30,17 +32,27 @@ unfolding all
 all-append q [] ys = refl
 all-append q (x ∷ xs) ys = rw (all-append q xs ys) (sym (and-assoc (q x) (all q xs) (all q ys)))
 
--- a turn of i at the end is the last one of i
-pub last-snoc-turn : (i : ℕ) (xs : List Taken) (x : Taken) → isTurnOf i x ≡ true → lastFinishes i (xs ++ (x ∷ [])) ≡ finishes x
-unfolding lastFinishes any
-last-snoc-turn i [] x e = rw e
-last-snoc-turn i (y ∷ xs) x e = rw (some-snoc (isTurnOf i) xs x, e, or-true) (last-snoc-turn i xs x e)
+-- a turn of i behind k turns of i is the next one
+pub nth-snoc-turn : (i : ℕ) (xs : List Taken) (x : Taken) → isTurnOf i x ≡ true → nthTurnFinishes i (suc (turnsIn i xs)) (xs ++ (x ∷ [])) ≡ finishes x
+unfolding nthTurnFinishes count
+nth-snoc-turn i [] x e = rw e
+nth-snoc-turn i (y ∷ xs) x e = go (isTurnOf i y) (nth-snoc-turn i xs x e)
+  where
+    k : ℕ
+    k = turnsIn i xs
 
--- what is no turn of i at the end leaves the last one of i
-pub last-snoc-other : (i : ℕ) (xs : List Taken) (x : Taken) → isTurnOf i x ≡ false → lastFinishes i (xs ++ (x ∷ [])) ≡ lastFinishes i xs
-unfolding lastFinishes any
-last-snoc-other i [] x e = rw e
-last-snoc-other i (y ∷ xs) x e = rw (some-snoc (isTurnOf i) xs x, e, or-false, last-snoc-other i xs x e)
+    go : (b : Bool) → nthTurnFinishes i (suc k) (xs ++ (x ∷ [])) ≡ finishes x
+        → cond b (cond (eqb (suc (bit b + k)) 1) (finishes y) (nthTurnFinishes i (suc (bit b + k) - 1) (xs ++ (x ∷ [])))) (nthTurnFinishes i (suc (bit b + k)) (xs ++ (x ∷ []))) ≡ finishes x
+    go true rest =
+        let more : suc (1 + k) - 1 ≡ suc k = omega arith in
+        rw (ne-eqb (suc (1 + k)) 1 (λ q. omega arith), more) rest
+    go false rest = let e : 0 + k ≡ k = omega arith in rw e rest
+
+-- what is no turn of i at the end leaves the turns of i
+pub nth-snoc-other : (i k : ℕ) (xs : List Taken) (x : Taken) → isTurnOf i x ≡ false → nthTurnFinishes i k (xs ++ (x ∷ [])) ≡ nthTurnFinishes i k xs
+unfolding nthTurnFinishes
+nth-snoc-other i k [] x e = rw e
+nth-snoc-other i k (y ∷ xs) x e = rw (nth-snoc-other i k xs x e, nth-snoc-other i (k - 1) xs x e)
 
 -- the tests of one round more
 pub tests-snoc : (rs : List (List Taken)) (r : List Taken) → testsOfAll (rs ++ (r ∷ [])) ≡ testsOfAll rs + testsIn r

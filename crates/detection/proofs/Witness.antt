@@ -20,7 +20,7 @@ use Rattle.plant.specs.Run.{entries, writeLine, goOn, startNumber, run}
 use Rattle.detection.specs.Sums.{sum}
 use Rattle.detection.specs.Runs.{Call, Taken, afterRuns, takenFrom, takenIn, takenAll}
 use Rattle.detection.specs.Rounds.{any, all, count, closes, cut, testsIn}
-use Rattle.detection.specs.Claim.{atStart, liveCount, noneSuspected, deadGroup, deadPairs, roundsOf, Premises}
+use Rattle.detection.specs.Claim.{atStart, liveCount, noneSuspected, deadGroup, deadPairs, demandCount, roundsOf, Premises}
 
 -- four boards, board 3 dead, nothing suspected
 unfoldable pub boards : State
@@ -52,12 +52,12 @@ pub record Computed : Type 0 where
   pub premises : Premises 4 boards calls
   pub closedTests : map testsIn (roundsOf boards calls .closed) ≡ 7 ∷ 7 ∷ 7 ∷ 7 ∷ 7 ∷ []
   pub openTests : testsIn (roundsOf boards calls .openRound) ≡ 1
-  pub counted : 4 * dimension 4 - deadPairs 4 (boards .table) ≡ 7
+  pub counted : demandCount 4 (boards .table) ≡ 7
 
 pub witness : Computed
 unfolding boards turnsOf calls atStart liveCount noneSuspected deadPairs deadGroup sum afterRuns takenFrom takenIn takenAll any all count closes cut run startNumber tableNumber shapeNumber isSize tableLength every lineRules rowRule someLive liveFinished cell lineStart row setRow setCell freshTable freshByte listOf goOn entries writeLine entryNumber after acted sheetLine testedOf outcomeOf turn turnTested turnOutcome crash roundOver resetLine resetLines afterRound iterate nextTest makesTest finishPass countTest replies isTold exchangeRows suspect afterTest testOutcome selfOrSuspected isAlone afterAlone testing due first firstPlace least unsuspected member width level dimension union unionByte mark
 witness = record {
-  premises = record { accepted = refl; start = refl; twoLive = omega arith; trusted = refl; noCrash = refl; noLate = refl };
+  premises = record { size = refl; long = refl; start = refl; twoLive = omega arith; trusted = refl; noCrash = refl; noLate = refl };
   closedTests = refl;
   openTests = refl;
   counted = refl;

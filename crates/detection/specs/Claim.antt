@@ -7,13 +7,13 @@ use mathlib.Core.List.{List, [], _∷_, _++_}
 use lib.ListN.{length, getD}
 use lib.Dec.{eqb}
 use Rattle.station.specs.Search.{every}
-use Rattle.station.specs.Groups.{dimension, width, member}
-use Rattle.station.specs.Table.{nextDistance, finished, testsMade, suspects, live}
-use Rattle.station.specs.Rules.{notLive, tableNumber}
+use Rattle.station.specs.Groups.{isSize, dimension, width, member}
+use Rattle.station.specs.Table.{tableLength, nextDistance, finished, testsMade, suspects, live}
+use Rattle.station.specs.Rules.{notLive}
 use Rattle.plant.specs.Entry.{State}
 use Rattle.detection.specs.Sums.{sum, bit}
 use Rattle.detection.specs.Runs.{Call, Taken, afterRuns, takenAll, crashes, isLate}
-use Rattle.detection.specs.Rounds.{all, Rounds, cut, testsIn, testsOfAll, turnsIn, lastFinishes}
+use Rattle.detection.specs.Rounds.{all, Rounds, cut, testsIn, testsOfAll, turnsIn, nthTurnFinishes}
 
 -- "A table stands at the start of a round when every line has these three": next distance 1, finished 0, tests 0
 abbrev pub lineAtStart : ℕ → List ℕ → ℕ → Bool
@@ -40,6 +40,10 @@ deadGroup n t j s = every (λ k. notLive n t (member j s k)) (width s)
 unfoldable pub deadPairs : ℕ → List ℕ → ℕ
 deadPairs n t = sum (λ j. sum (λ h. bit (deadGroup n t j (suc h))) (dimension n)) n
 
+-- demand 3's count of a round's tests: N·d less these pairs
+abbrev pub demandCount : ℕ → List ℕ → ℕ
+demandCount n t = n * dimension n - deadPairs n t
+
 -- the rounds of the list of runs
 abbrev pub roundsOf : State → List Call → Rounds
 roundsOf s calls = cut [] (takenAll s calls)
@@ -52,10 +56,11 @@ allRounds r = r .closed ++ (r .openRound ∷ [])
 abbrev pub roundAt : State → List Call → ℕ → List Taken
 roundAt s calls k = getD (allRounds (roundsOf s calls)) k []
 
--- what the claim supposes: the table that refusals 1 to 4 let through, at the start of a round, two live boards at least, no live one
--- suspecting a live one; any tally, any list of runs, without crashes and late replies of live boards
+-- what the claim supposes: a size and a table of its length, at the start of a round, two live boards at least, no live one suspecting a
+-- live one; any tally, any list of runs, without crashes and late replies of live boards
 pub record Premises (n : ℕ) (s : State) (calls : List Call) : Type 0 where
-  pub accepted : tableNumber n (s .table) ≡ 0
+  pub size : isSize n ≡ true
+  pub long : length (s .table) ≡ tableLength n
   pub start : atStart n (s .table) ≡ true
   pub twoLive : 2 ≤ liveCount n (s .table)
   pub trusted : noneSuspected n (s .table) ≡ true
@@ -68,13 +73,13 @@ pub record Conclusion (n : ℕ) (s : State) (calls : List Call) (end : State) : 
   pub sameLive : (i : ℕ) → i < n → live n (end .table) i ≡ live n (s .table) i
   -- in every round, the open one included, a live board has at most N turns, and an Nth turn finished its pass
   pub turns : (k i : ℕ) → k ≤ length (roundsOf s calls .closed) → i < n → live n (s .table) i ≡ true
-      → (turnsIn i (roundAt s calls k) ≤ n) × (turnsIn i (roundAt s calls k) ≡ n → lastFinishes i (roundAt s calls k) ≡ true)
+      → (turnsIn i (roundAt s calls k) ≤ n) × (n ≤ turnsIn i (roundAt s calls k) → nthTurnFinishes i n (roundAt s calls k) ≡ true)
   -- once d·d rounds have closed, each live board suspects exactly the boards that are not live
   pub known : dimension n * dimension n ≤ length (roundsOf s calls .closed)
       → (i j : ℕ) → i < n → j < n → live n (s .table) i ≡ true → suspects n (end .table) i j ≡ bit (notLive n (s .table) j)
-  -- each closed round from the (d·d + 1)th on has exactly N·d tests less the pairs whose group has no live board
+  -- each closed round from the (d·d + 1)th on has exactly the tests that the demand counts
   pub tests : (k : ℕ) → dimension n * dimension n ≤ k → k < length (roundsOf s calls .closed)
-      → testsIn (getD (roundsOf s calls .closed) k []) ≡ n * dimension n - deadPairs n (s .table)
+      → testsIn (getD (roundsOf s calls .closed) k []) ≡ demandCount n (s .table)
   -- the tally: the closed rounds are added to its rounds, and the tests of all rounds, the open one included, to its tests
   pub roundsTally : end .rounds ≡ s .rounds + length (roundsOf s calls .closed)
   pub testsTally : end .tests ≡ s .tests + testsOfAll (allRounds (roundsOf s calls))
@@ -82,3 +87,9 @@ pub record Conclusion (n : ℕ) (s : State) (calls : List Call) (end : State) : 
 -- demand 3, for all sizes, tables, tallies and lists of runs
 abbrev pub Demand3 : Type 0
 Demand3 = (n : ℕ) (s : State) (calls : List Call) → Premises n s calls → Conclusion n s calls (afterRuns s calls)
+
+-- demand 3 of one run, `c`, from `before` to `after`: wherever it stands behind other runs, the claim about the whole list with it holds of the
+-- state that it leaves
+abbrev pub Demand3After : Call → State → State → Type 0
+Demand3After c before after =
+    (n : ℕ) (s : State) (calls : List Call) → afterRuns s calls ≡ before → Premises n s (calls ++ (c ∷ [])) → Conclusion n s (calls ++ (c ∷ [])) after

@@ -1,6 +1,6 @@
 -- The rounds of a list of taken entries, cut by what the entries did.
 -- Assumes nothing.
-use Prim.Native.Nat.{ℕ, _+_}
+use Prim.Native.Nat.{ℕ, _+_, _-_}
 use mathlib.Core.Bool.{Bool, true, false, cond, _&&_, _||_}
 use mathlib.Core.List.{List, [], _∷_, _++_}
 use lib.Dec.{eqb}
@@ -65,7 +65,7 @@ testsOfAll (round ∷ rounds) = testsIn round + testsOfAll rounds
 abbrev pub turnsIn : ℕ → List Taken → ℕ
 turnsIn i round = count (isTurnOf i) round
 
--- whether the last turn of station i in the list finishes its pass
-unfoldable pub lastFinishes : ℕ → List Taken → Bool
-lastFinishes i [] = false
-lastFinishes i (x ∷ xs) = cond (any (isTurnOf i) xs) (lastFinishes i xs) (isTurnOf i x && finishes x)
+-- whether the kth turn of station i in the list, from 1, finishes its pass; where there is no kth, it does not
+unfoldable pub nthTurnFinishes : ℕ → ℕ → List Taken → Bool
+nthTurnFinishes i k [] = false
+nthTurnFinishes i k (x ∷ xs) = cond (isTurnOf i x) (cond (eqb k 1) (finishes x) (nthTurnFinishes i (k - 1) xs)) (nthTurnFinishes i k xs)

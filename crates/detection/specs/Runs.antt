@@ -16,6 +16,10 @@ pub record Call : Type 0 where
   pub schedule : List ℕ
   pub sheet : List ℕ
 
+-- a run's own inputs by their parts
+abbrev pub callOf : ℕ → List ℕ → List ℕ → Call
+callOf n schedule sheet = record { size = n; schedule = schedule; sheet = sheet }
+
 -- table and tally as a run leaves them
 abbrev pub afterRun : State → Call → State
 afterRun s c = run (c .size) s (c .schedule) (c .sheet) .state
