@@ -13,4 +13,5 @@ pub mod RoundCount
 pub mod Progress
 pub mod TurnedAway
 pub mod Demand3
+pub mod FreshStart
 pub mod Witness

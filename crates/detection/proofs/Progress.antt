@@ -31,8 +31,7 @@ TurnsOk n i round = (turnsIn i round ≤ n) × (n ≤ turnsIn i round → nthTur
 
 pub turns-ok : (n d : ℕ) (L : ℕ → Bool) (t₀ t : List ℕ) (cur : List Taken) → Inside n d L t₀ cur t → (i : ℕ) → i < n → TurnsOk n i cur
 turns-ok n d L t₀ t cur inv i h =
-    let line = inv .plain .lines i h in
-    (
+    let line = inv .plain .lines i h in (
       omega (arith, inv .turnCount i h, line),
       λ e.
           let all : turnsIn i cur ≡ n = omega (arith, inv .turnCount i h, line) in

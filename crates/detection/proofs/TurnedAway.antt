@@ -1,9 +1,9 @@
 -- A table that refusals 3 or 4 meet at its own size: every run on it is turned away, so that demand 3 holds of it with no taken entry.
 -- Assumes nothing.
 use mathlib.Core.Path.{_≡_, refl, sym, subst, _∙_}
-use mathlib.Core.Bool.{Bool, true, false}
+use mathlib.Core.Bool.{true, false}
 use mathlib.Core.List.{List, [], _∷_}
-use Prim.Native.Nat.{ℕ, zero, suc, _*_, _^_, _≤_, _<_}
+use Prim.Native.Nat.{ℕ, zero, suc, _*_, _≤_}
 use native.Mathlib.Omega.{arith}
 use borrow.Author.Tests.{ne-eqb}
 use lib.ListN.{length}
@@ -21,10 +21,10 @@ use Rattle.detection.specs.Claim.{roundsOf, Conclusion}
 use Rattle.detection.proofs.Chain.{size-unique}
 
 -- a plant of a size has a level at least
-square-pos : (n : ℕ) → isSize n ≡ true → 1 ≤ dimension n * dimension n
-square-pos n e = go (dimension n) refl
+some-level : (n : ℕ) → isSize n ≡ true → (1 ≤ dimension n) × (1 ≤ dimension n * dimension n)
+some-level n e = go (dimension n) refl
   where
-    go : (d : ℕ) → dimension n ≡ d → 1 ≤ d * d
+    go : (d : ℕ) → dimension n ≡ d → (1 ≤ d) × (1 ≤ d * d)
     go zero z = let one : n ≡ 1 = size-pow n e ∙ rw z in absurd (omega (arith, size-bounds n e))
     go (suc d) z = omega arith
 
@@ -58,7 +58,7 @@ module _ (n : ℕ) (s : State) (long : length (s .table) ≡ tableLength n) (bad
       rw (unchanged calls) (record {
         sameLive = λ i h. refl;
         turns = λ k i h g l. let first : k ≡ 0 = omega (arith, none) in rw (first, none-taken calls) (omega arith, λ e. absurd (omega (arith, size-bounds n size)));
-        known = λ far. absurd (omega (arith, none, square-pos n size));
+        known = λ far. absurd (omega (arith, none, some-level n size));
         tests = λ k far h. absurd (omega (arith, none));
         roundsTally = omega (arith, none);
         testsTally = rw (none-taken calls) (omega arith);

@@ -1,4 +1,4 @@
--- A table that obeys the rules obeys them after every taken entry, and after every run; a taken entry's facts and tallies.
+-- A table that obeys the rules obeys them after every taken entry, and after every run; a taken entry's facts.
 -- Assumes nothing.
 use mathlib.Core.Path.{_≡_, refl, sym, _∙_}
 use mathlib.Core.Bool.{Bool, true, false, cond, not, _&&_, _||_, and-false, or-false}
@@ -10,7 +10,7 @@ use lib.Dec.{eqb}
 use lib.ListN.{length}
 use Rattle.station.specs.Search.{every}
 use Rattle.station.specs.Table.{tableLength, finished, live}
-use Rattle.station.specs.Rules.{lineRules, notLive, someLive, finishedIfLive, liveFinished}
+use Rattle.station.specs.Rules.{lineRules, notLive, someLive, finishedIfLive, liveFinished, tableNumber}
 use Rattle.station.proofs.SearchLaws.{both, every-at, every-all}
 use Rattle.station.proofs.Refusals.{Accepted, else-zero, refuse-zero}
 use Rattle.station.proofs.Sizes.{size-bounds}
@@ -21,7 +21,7 @@ use Rattle.plant.specs.Run.{Outcome, entries, writeLine, goOn, startNumb
 use Rattle.plant.proofs.StepLines.{Lines, leave-lines, turn-lines, reset-lines}
 use Rattle.plant.proofs.StepCells.{reset-cells}
 
--- what the refusals 7 to 11 setStatus of an entry
+-- what an entry has that refusals 7 to 11 let through
 pub record Takes (n : ℕ) (s : State) (e : Entry) : Type 0 where
   pub roundsFit : s .rounds ≡ tallyTop → ⊥
   pub testsFit : s .tests ≡ tallyTop → ⊥
@@ -104,29 +104,10 @@ accepted-kept n s e a z = pick (roundOver n t) refl
         make (resetLines n t) (reset-lines n t (omega (arith, size-bounds n (a .size))) lines) (unfinished-open n (resetLines n t) (λ i h. reset-cells n t (lines .0) i h .unfinished))
     pick false c = make t lines c
 
-grown : (b : Bool) (x : ℕ) → (cond b (x + 1) x ≤ x + 1) × (x ≤ cond b (x + 1) x)
-grown true x = omega arith
-grown false x = omega arith
-
-pub rounds-grow : (n : ℕ) (s : State) (e : Entry) → (after n s e .rounds ≤ s .rounds + 1) × (s .rounds ≤ after n s e .rounds)
-unfolding after
-rounds-grow n s e = grown (roundOver n (acted n (s .table) e)) (s .rounds)
-
-pub tests-grow : (n : ℕ) (s : State) (e : Entry) → (after n s e .tests ≤ s .tests + 1) × (s .tests ≤ after n s e .tests)
-unfolding after
-tests-grow n s e = grown (isTest n (s .table) e) (s .tests)
-
-pub empty-run : (n : ℕ) (s : State) (sheet : List ℕ)
-    → (run n s [] sheet .state ≡ s) × (run n s [] sheet .sheet ≡ sheet) × (run n s [] sheet .taken ≡ 0)
-unfolding run goOn entries
-empty-run n s sheet = pick (eqb (startNumber n (s .table) 0 (length sheet)) 0)
-  where
-    refused : Outcome
-    refused = record { number = startNumber n (s .table) 0 (length sheet); taken = 0; state = s; sheet = sheet }
-
-    pick : (b : Bool) → (cond b (goOn n 0 s sheet []) refused .state ≡ s) × (cond b (goOn n 0 s sheet []) refused .sheet ≡ sheet) × (cond b (goOn n 0 s sheet []) refused .taken ≡ 0)
-    pick true = (refl, refl, refl)
-    pick false = (refl, refl, refl)
+-- "An empty schedule is accepted and changes nothing": on a table that refusals 1 to 4 let through. An end in itself
+pub empty-run : (n : ℕ) (s : State) → tableNumber n (s .table) ≡ 0 → run n s [] [] ≡ record { number = 0; taken = 0; state = s; sheet = [] }
+unfolding run startNumber goOn entries
+empty-run n s z = rw z
 
 -- the rest of a run
 pub accepted-on : (n k : ℕ) (s : State) (sheet : List ℕ) (es : List Entry) → Accepted n (s .table) → Accepted n (goOn n k s sheet es .state .table)
@@ -143,6 +124,7 @@ accepted-on n k s sheet (e ∷ es) a =
     pick true c next = next (eqb-true (entryNumber n s e) 0 c)
     pick false c next = a
 
+-- the rules are kept by every run, an end in itself
 pub accepted-run : (n : ℕ) (s : State) (schedule sheet : List ℕ) → Accepted n (s .table) → Accepted n (run n s schedule sheet .state .table)
 unfolding run
 accepted-run n s schedule sheet a = pick (eqb (startNumber n (s .table) (length schedule) (length sheet)) 0)

@@ -2,7 +2,7 @@
 -- Assumes nothing.
 use mathlib.Core.Path.{sym, ap, subst}
 use borrow.Author.Needs.{needs}
-use Rattle.plant.specs.Entry.{State, stateWith}
+use Rattle.plant.specs.Entry.{stateWith}
 use Rattle.plant.specs.Run.{Outcome}
 use Rattle.detection.specs.Runs.{callOf}
 use Rattle.detection.specs.Claim.{Demand3After}

@@ -1,0 +1,61 @@
+-- A fresh table passes refusals 1 to 4 and stands at the start of a round: an end in itself.
+-- Assumes nothing.
+use mathlib.Core.Path.{_≡_, refl, ap, _∙_}
+use mathlib.Core.Bool.{true, cond}
+use Prim.Native.Nat.{ℕ, _+_, _%_, _≤_, _<_}
+use native.Mathlib.Nat.{mod-eq-of-lt, mul-add-mod-self-right}
+use native.Mathlib.Omega.{arith}
+use borrow.Author.Tests.{ne-eqb}
+use lib.Dec.{eqb}
+use Rattle.station.specs.Groups.{isSize}
+use Rattle.station.specs.Table.{head, stride, tableLength, lineStart, cell, nextColumn, suspects}
+use Rattle.station.specs.Rules.{lineRules, tableNumber}
+use Rattle.station.specs.Calls.{freshByte, freshTable}
+use Rattle.station.proofs.SearchLaws.{every-all, listOf-length, listOf-at}
+use Rattle.station.proofs.Sizes.{size-bounds}
+use Rattle.station.proofs.Refusals.{Accepted}
+use Rattle.station.proofs.CellLaws.{line-inside, Line, line-holds}
+use Rattle.plant.proofs.Kept.{unfinished-open}
+use Rattle.plant.proofs.RunLaws.{accepted-number}
+use Rattle.detection.specs.Claim.{lineAtStart, atStart}
+
+-- "every line live, next distance 1, all else 0"
+fresh-cell : (n i c : ℕ) → i < n → c < stride n → cell n (freshTable n) i c ≡ cond (eqb c nextColumn) 1 0
+unfolding cell freshTable freshByte lineStart
+fresh-cell n i c h g = listOf-at (freshByte n) (tableLength n) (lineStart n i + c) (omega (arith, line-inside n i h)) ∙ ap (λ (k : ℕ). cond (eqb k nextColumn) 1 0) place
+  where
+    place : (lineStart n i + c) % stride n ≡ c
+    place = mul-add-mod-self-right i (stride n) c ∙ mod-eq-of-lt g
+
+fresh-line : (n i : ℕ) → 2 ≤ n → i < n → Line n (freshTable n) i
+fresh-line n i h g = record {
+  statusRange = omega (arith, fresh-cell n i 0 g (omega arith));
+  nextLow = omega (arith, fresh-cell n i 1 g (omega arith));
+  nextHigh = omega (arith, fresh-cell n i 1 g (omega arith));
+  finishedRange = omega (arith, fresh-cell n i 2 g (omega arith));
+  testsBound = omega (arith, fresh-cell n i 3 g (omega arith));
+  finishedNext = λ e. absurd (omega (arith, fresh-cell n i 2 g (omega arith)));
+  own = row i g;
+  range = λ k l. omega (arith, row k l);
+}
+  where
+    row : (k : ℕ) → k < n → suspects n (freshTable n) i k ≡ 0
+    row k l = fresh-cell n i (head + k) g (omega arith) ∙ rw (ne-eqb (head + k) nextColumn (λ e. omega arith))
+
+pub fresh-start : (n : ℕ) → isSize n ≡ true → (tableNumber n (freshTable n) ≡ 0) × (atStart n (freshTable n) ≡ true)
+unfolding atStart freshTable
+fresh-start n e = (accepted-number n (freshTable n) accepted, every-all (lineAtStart n (freshTable n)) n at-start)
+  where
+    low : 2 ≤ n
+    low = size-bounds n e .0
+
+    at-start : (i : ℕ) → i < n → lineAtStart n (freshTable n) i ≡ true
+    at-start i h = rw (fresh-cell n i 1 h (omega arith), fresh-cell n i 2 h (omega arith), fresh-cell n i 3 h (omega arith))
+
+    accepted : Accepted n (freshTable n)
+    accepted = record {
+      size = e;
+      long = listOf-length (freshByte n) (tableLength n);
+      lines = every-all (lineRules n (freshTable n)) n (λ i h. line-holds n (freshTable n) i (fresh-line n i low h));
+      unclosed = unfinished-open n (freshTable n) (λ i h. fresh-cell n i 2 h (omega arith));
+    }
