@@ -2,7 +2,7 @@
 -- Assumes nothing.
 use mathlib.Core.Path.{_≡_, refl}
 use mathlib.Core.List.{List, [], _∷_, map}
-use Prim.Native.Nat.{ℕ, _-_, _*_}
+use Prim.Native.Nat.{ℕ}
 use lib.ListN.{replicate}
 use Rattle.station.specs.Search.{least, every, select, listOf}
 use Rattle.station.specs.Groups.{isSize, level, dimension, width, member, group, stationAt}
@@ -16,7 +16,7 @@ use Rattle.plant.specs.Turn.{nextTest, makesTest, finishPass, countTest, replie
 use Rattle.plant.specs.Entry.{stateOf, entryNumber, acted, after, testedOf, outcomeOf, sheetLine}
 use Rattle.plant.specs.Run.{Outcome, entries, writeLine, goOn, startNumber, run}
 use Rattle.detection.specs.Sums.{sum}
-use Rattle.detection.specs.Claim.{deadGroup, deadPairs}
+use Rattle.detection.specs.Claim.{deadGroup, deadPairs, demandCount}
 
 -- one example: what the definitions give, and what the document says
 pub record Example : Type 0 where
@@ -35,7 +35,7 @@ onlyFour = 0 ∷ 0 ∷ 0 ∷ 0 ∷ 1 ∷ 0 ∷ 0 ∷ 0 ∷ []
 
 -- demand 3's count for N = 8 and a table
 abbrev pub countOf : List ℕ → List ℕ
-countOf t = (8 * dimension 8 - deadPairs 8 t) ∷ []
+countOf t = demandCount 8 t ∷ []
 
 -- a table of eight with station 4 dead, and with 4 and 5 dead
 unfoldable pub fourDead : List ℕ

@@ -1,10 +1,11 @@
-// Computes the examples of document 01 that are not marked [P], a plant of eight boards, and all of Table 1 of paper 000. What it writes is
-// compared with the file `stdout`, which has what the documents say.
+// Computes the examples of document 01 that are not marked [P], a plant of eight boards, all of Table 1 of paper 000, and column vCube of
+// Table 3 of paper 001. What it writes is compared with the file `stdout`, which has what the documents and the papers say.
 use plant::Answer;
 use plant::Tally;
 use plant::run;
 use station::Level;
 use station::Station;
+use station::cells;
 use station::fresh;
 use station::groups;
 
@@ -16,6 +17,7 @@ fn main() {
     sixty_four();
     eight_boards();
     top_tally();
+    table_3();
 }
 
 // Table 1 of paper 000: the groups of eight stations. A line for each level, a column for each station.
@@ -140,10 +142,49 @@ fn top_tally() {
         rounds: 0,
         tests: 4294967294,
     };
-    let first = entry_of(2, &mut table, top, 1, 0);
-    answer_line(first);
-    let second = entry_of(2, &mut table, first.tally, 1, 0);
-    answer_line(second);
+    let schedule = [1u8, 0, 1, 1];
+    let mut sheet = [0u8; 8];
+    answer_line(run::run(2, &mut table, top, &schedule, &mut sheet));
+}
+
+// Table 3 of paper 001, column vCube: the messages of d·d rounds with nobody dead, two a test.
+fn table_3() {
+    messages_line(4, 4);
+    messages_line(8, 9);
+    messages_line(16, 16);
+    messages_line(32, 25);
+    messages_line(64, 36);
+}
+
+fn messages_line(n: u8, rounds: u8) {
+    let mut space = [0u8; 4352];
+    let tally = fresh_rounds(n, rounds, cells::table_length(n), &mut space);
+    byte(n);
+    io::write_all(OUT, b" boards rounds ");
+    print(tally.rounds as u64);
+    io::write_all(OUT, b" messages ");
+    print(2 * tally.tests as u64);
+    line_end();
+}
+
+// The tally of so many rounds on a fresh table in the first len bytes of space; no rounds where space is shorter.
+fn fresh_rounds(n: u8, rounds: u8, len: usize, space: &mut [u8]) -> Tally {
+    if space.len() < len {
+        return no_tally();
+    }
+    fresh::fresh_table(n as usize, &mut space[0..len]);
+    many_rounds(n, rounds, &mut space[0..len])
+}
+
+// The tally of so many rounds.
+fn many_rounds(n: u8, rounds: u8, table: &mut [u8]) -> Tally {
+    let mut tally = no_tally();
+    let mut k: u8 = 0;
+    while k < rounds {
+        tally = one_round(n, table, tally, 255);
+        k += 1;
+    }
+    tally
 }
 
 fn no_tally() -> Tally {
