@@ -19,8 +19,10 @@ use Rattle.station.proofs.SearchLaws.{every-not}
 use Rattle.station.proofs.Xor.{xor-cancel}
 use Rattle.station.proofs.Sizes.{size-pow}
 use Rattle.station.proofs.Refusals.{Accepted}
-use Rattle.station.proofs.CellLaws.{cell-same, cell-other, setCell-length, row-length, row-at, setRow-length, setRow-in, setRow-out, union-length, union-at, mark-length, mark-same, mark-other, Line, accepted-line}
+use Rattle.station.proofs.CellLaws.{Line, accepted-line}
 use Rattle.plant.specs.Turn.{nextTest, makesTest, finishPass, countTest, replies, isTold, exchangeRows, suspect, afterTest, selfOrSuspected, isAlone, afterAlone, testing, turn}
+use Rattle.plant.proofs.StepCells.{finishPass-length, finishPass-other, finishPass-next, finishPass-finished, countTest-length, countTest-other, countTest-next, countTest-tests, suspect-length, suspect-same, suspect-other, exchange-length, exchange-other, exchange-tester, exchange-tested, exchange-tester-own, exchange-tested-own}
+use Rattle.plant.proofs.StepLines.{station-apart, station-below}
 use Rattle.plant.proofs.NextTest.{nextTest-low, not-due-before, test-below, test-due, none-due}
 
 -- a table that refusals let through, in which no live board suspects a live one and no live board is the only one
@@ -59,29 +61,6 @@ pub record Tested (n : ℕ) (t t′ : List ℕ) (i m : ℕ) : Type 0 where
   pub dead : live n t (bitXor i m) ≡ false → suspects n t′ i (bitXor i m) ≡ 1
   pub handed : live n t (bitXor i m) ≡ true → (y : ℕ) → y < n → suspects n t i y ≡ 1 → suspects n t′ (bitXor i m) y ≡ 1
 
--- what a turn of i writes into its head: v as the next distance, w at column c
-record Wrote (n : ℕ) (t t′ : List ℕ) (i v c w : ℕ) : Type 0 where
-  long : length t′ ≡ length t
-  next : nextDistance n t′ i ≡ v
-  byte : cell n t′ i c ≡ w
-  others : (k x : ℕ) → x < stride n → (k ≡ i → (x ≢ nextColumn) × (x ≢ c)) → cell n t′ k x ≡ cell n t k x
-
--- two bytes written one after the other
-wrote : (n : ℕ) (t : List ℕ) (i v c w : ℕ) → length t ≡ tableLength n → i < n → nextColumn < c → c < head
-    → Wrote n t (setCell n (setCell n t i nextColumn v) i c w) i v c w
-wrote n t i v c w long hi lo hc =
-    let t₁ : List ℕ = setCell n t i nextColumn v in
-    let l₁ : length t₁ ≡ length t = setCell-length n t i nextColumn v in
-    record {
-      long = setCell-length n t₁ i c w ∙ l₁;
-      next = cell-other n t₁ i c w i nextColumn (omega arith) (omega arith) (λ p q. omega arith) ∙ cell-same n t i nextColumn v long hi (omega arith);
-      byte = cell-same n t₁ i c w (l₁ ∙ long) hi (omega arith);
-      others =
-          λ k x hx apart.
-          cell-other n t₁ i c w k x (omega arith) hx (λ p q. apart (sym p) .1 (sym q))
-          ∙ cell-other n t i nextColumn v k x (omega arith) hx (λ p q. apart (sym p) .0 (sym q));
-    }
-
 -- a suspicion stays, and no live board is suspected by a live one: byte y of the row of k
 abbrev Kept : ℕ → List ℕ → List ℕ → ℕ → ℕ → Type 0
 Kept n t t′ k y = (suspects n t k y ≡ 1 → suspects n t′ k y ≡ 1) × (live n t k ≡ true → live n t y ≡ true → suspects n t′ k y ≡ 0)
@@ -113,115 +92,68 @@ record Step (n : ℕ) (t t₁ t′ : List ℕ) (i x : ℕ) : Type 0 where
   dead : live n t x ≡ false → suspects n t′ i x ≡ 1
   handed : live n t x ≡ true → (y : ℕ) → y < n → suspects n t i y ≡ 1 → suspects n t′ x y ≡ 1
 
--- a byte of a union: p the row's own, q the other row's, b whether it is the byte about the row's station
-union-byte : (b : Bool) (p q : ℕ) → p ≤ 1 → q ≤ 1
-    → (p ≡ 1 → cond b p (max p q) ≡ 1) × (p ≡ 0 → q ≡ 0 → cond b p (max p q) ≡ 0) × (b ≡ false → q ≡ 1 → cond b p (max p q) ≡ 1)
-union-byte true p q hp hq = (λ e. e, λ e f. e, λ z e. cc)
-union-byte false p q hp hq = (λ e. omega arith, λ e f. omega arith, λ z e. omega arith)
-
 -- the test of x by i, where t₁ has the rows of t
 module _ (n : ℕ) (t t₁ : List ℕ) (s : Sound n t) (long : length t₁ ≡ tableLength n)
     (rows : (k y : ℕ) → y < n → suspects n t₁ k y ≡ suspects n t k y) where
-  row-of : (a y : ℕ) → y < n → getD (row n t₁ a) y 0 ≡ suspects n t a y
-  row-of a y hy = row-at n t₁ a y hy ∙ rows a y hy
-
-  union-long : (a b : ℕ) → a < n → length (union (row n t₁ a) (row n t₁ b) a) ≡ n
-  union-long a b ha = union-length (row n t₁ a) (row n t₁ b) a ∙ row-length n t₁ a long ha
-
-  -- the row of a live station that takes over the row of another live one
-  joined : (t′ : List ℕ) (a b : ℕ) → a < n → b < n → live n t b ≡ true
-      → ((y : ℕ) → y < n → suspects n t′ a y ≡ getD (union (row n t₁ a) (row n t₁ b) a) y 0)
-      → (y : ℕ) → y < n → Kept n t t′ a y × (y ≢ a → suspects n t b y ≡ 1 → suspects n t′ a y ≡ 1)
-  unfolding unionByte
-  joined t′ a b ha hb lb taken y hy =
-      let e = taken y hy ∙ union-at (row n t₁ a) (row n t₁ b) a y (omega (arith, row-length n t₁ a long ha)) in
-      let v = rw (row-of a y hy, row-of b y hy) at e in
-      let range : (k : ℕ) → k < n → suspects n t k y ≤ 1 = λ k hk. accepted-line n t (s .accepted) k hk .range y hy in
-      let u = union-byte (eqb y a) (suspects n t a y) (suspects n t b y) (range a ha) (range b hb) in
-      ((λ h. v ∙ u .0 h, λ c d. v ∙ u .1 (s .trusted a y ha hy c d) (s .trusted b y hb hy lb d)), λ m h. v ∙ u .2 (ne-eqb y a m) h)
+  -- a byte of the row of a that becomes the greater of its own and that of a live station b
+  joined : (t′ : List ℕ) (a b y : ℕ) → a < n → b < n → y < n → live n t b ≡ true → suspects n t′ a y ≡ max (suspects n t₁ a y) (suspects n t₁ b y)
+      → Kept n t t′ a y × (suspects n t b y ≡ 1 → suspects n t′ a y ≡ 1)
+  joined t′ a b y ha hb hy lb e =
+      let v = rw (rows a y hy, rows b y hy) at e in
+      let p = accepted-line n t (s .accepted) a ha .range y hy in
+      let q = accepted-line n t (s .accepted) b hb .range y hy in
+      ((λ h. omega arith, λ c d. omega (arith, s .trusted a y ha hy c d, s .trusted b y hb hy lb d)), λ h. omega arith)
 
   module _ (i x : ℕ) (hi : i < n) (hx : x < n) where
     -- a station that is not live is marked
     marked : live n t x ≡ false → Step n t t₁ (suspect n t₁ i x) i x
-    unfolding suspect
     marked f =
         record {
-          long = setRow-length n t₁ i r long hi hr;
-          heads = λ k c hc. setRow-out n t₁ i r k c long hi hr (omega arith) (λ p. hc);
+          long = suspect-length n t₁ i long hi x;
+          heads = λ k c hc. suspect-other n t₁ i long hi x k c (omega arith) (λ p. omega arith);
           kept = λ k y hk hy. kept k y hk hy (ℕ-discrete i k) (ℕ-discrete y x);
           dead = λ p. now;
           handed = λ p y hy h. cc;
         }
       where
-        r : List ℕ
-        r = mark (row n t₁ i) x
-
-        hr : length r ≡ n
-        hr = mark-length (row n t₁ i) x ∙ row-length n t₁ i long hi
-
         now : suspects n (suspect n t₁ i x) i x ≡ 1
-        now = setRow-in n t₁ i r x long hi hr hx ∙ mark-same (row n t₁ i) x (omega (arith, row-length n t₁ i long hi))
+        now = suspect-same n t₁ i long hi x hx
 
         kept : (k y : ℕ) → k < n → y < n → Dec (i ≡ k) → Dec (y ≡ x) → Kept n t (suspect n t₁ i x) k y
-        kept k y hk hy (no m) d =
-            same-kept n t _ s k y hk hy (setRow-out n t₁ i r k (head + y) long hi hr (omega arith) (λ p. absurd (m p)) ∙ rows k y hy)
-        kept k y hk hy (yes e) (no m) =
-            rw (← e)
-            (same-kept n t (suspect n t₁ i x) s i y hi hy (setRow-in n t₁ i r y long hi hr hy ∙ mark-other (row n t₁ i) x y m ∙ row-of i y hy))
         kept k y hk hy (yes e) (yes e′) = rw (← e, e′) (λ p. now, λ a b. cc)
+        kept k y hk hy (yes e) (no m) = same-kept n t _ s k y hk hy (suspect-other n t₁ i long hi x k (head + y) (omega arith) (λ p. omega arith) ∙ rows k y hy)
+        kept k y hk hy (no m) d = same-kept n t _ s k y hk hy (suspect-other n t₁ i long hi x k (head + y) (omega arith) (λ p. absurd (m p)) ∙ rows k y hy)
 
     -- two live stations exchange their rows
-    exchanged : x ≢ i → live n t i ≡ true → live n t x ≡ true → Step n t t₁ (exchangeRows n t₁ i x) i x
-    unfolding exchangeRows
+    exchanged : i ≢ x → live n t i ≡ true → live n t x ≡ true → Step n t t₁ (exchangeRows n t₁ i x) i x
     exchanged apart li lx =
         record {
-          long = setRow-length n t₂ x v l₂ hx hv ∙ setRow-length n t₁ i u long hi hu;
-          heads = λ k c hc. setRow-out n t₂ x v k c l₂ hx hv (omega arith) (λ p. hc) ∙ setRow-out n t₁ i u k c long hi hu (omega arith) (λ p. hc);
-          kept = λ k y hk hy. kept k y hk hy (ℕ-discrete x k) (ℕ-discrete i k);
+          long = exchange-length n t₁ i long hi x hx apart;
+          heads = λ k c hc. exchange-other n t₁ i long hi x hx apart k c (omega arith) (λ p. hc) (λ p. hc);
+          kept = λ k y hk hy. kept k y hk hy (ℕ-discrete i k) (ℕ-discrete x k) (ℕ-discrete y k);
           dead = λ p. cc;
-          handed = λ p y hy h. of-x y hy .1 (λ e. omega (arith, rw e at h, s .trusted i x hi hx li lx)) h;
+          handed = λ p y hy h. of-x y hy (λ e. omega (arith, rw e at h, s .trusted i x hi hx li lx)) .1 h;
         }
       where
-        u : List ℕ
-        u = union (row n t₁ i) (row n t₁ x) i
-
-        v : List ℕ
-        v = union (row n t₁ x) (row n t₁ i) x
-
-        hu : length u ≡ n
-        hu = union-long i x hi
-
-        hv : length v ≡ n
-        hv = union-long x i hx
-
-        t₂ : List ℕ
-        t₂ = setRow n t₁ i u
-
-        l₂ : length t₂ ≡ tableLength n
-        l₂ = setRow-length n t₁ i u long hi hu ∙ long
-
         t′ : List ℕ
-        t′ = setRow n t₂ x v
+        t′ = exchangeRows n t₁ i x
 
-        of-x : (y : ℕ) → y < n → Kept n t t′ x y × (y ≢ x → suspects n t i y ≡ 1 → suspects n t′ x y ≡ 1)
-        of-x = joined t′ x i hx hi li (λ y hy. setRow-in n t₂ x v y l₂ hx hv hy)
+        of-i : (y : ℕ) → y < n → y ≢ i → Kept n t t′ i y × (suspects n t x y ≡ 1 → suspects n t′ i y ≡ 1)
+        of-i y hy m = joined t′ i x y hi hx hy lx (exchange-tester n t₁ i long hi x hx apart y hy m)
 
-        of-i : (y : ℕ) → y < n → Kept n t t′ i y × (y ≢ i → suspects n t x y ≡ 1 → suspects n t′ i y ≡ 1)
-        of-i =
-            joined t′ i x hi hx lx
-            (λ y hy. setRow-out n t₂ x v i (head + y) l₂ hx hv (omega arith) (λ p. absurd (apart p)) ∙ setRow-in n t₁ i u y long hi hu hy)
+        of-x : (y : ℕ) → y < n → y ≢ x → Kept n t t′ x y × (suspects n t i y ≡ 1 → suspects n t′ x y ≡ 1)
+        of-x y hy m = joined t′ x i y hx hi hy li (exchange-tested n t₁ i long hi x hx apart y hy m)
 
-        kept : (k y : ℕ) → k < n → y < n → Dec (x ≡ k) → Dec (i ≡ k) → Kept n t t′ k y
-        kept k y hk hy (yes e) d = rw (← e) (of-x y hy .0)
-        kept k y hk hy (no m) (yes e) = rw (← e) (of-i y hy .0)
-        kept k y hk hy (no m) (no m′) =
-            same-kept n t t′ s k y hk hy
-            (setRow-out n t₂ x v k (head + y) l₂ hx hv (omega arith) (λ p. absurd (m p))
-            ∙ setRow-out n t₁ i u k (head + y) long hi hu (omega arith) (λ p. absurd (m′ p))
-            ∙ rows k y hy)
+        kept : (k y : ℕ) → k < n → y < n → Dec (i ≡ k) → Dec (x ≡ k) → Dec (y ≡ k) → Kept n t t′ k y
+        kept k y hk hy (yes e) d (no m) = rw (← e) (of-i y hy (λ q. m (q ∙ e)) .0)
+        kept k y hk hy (yes e) d (yes g) = same-kept n t t′ s k y hk hy (rw (g, ← e) (exchange-tester-own n t₁ i long hi x hx apart ∙ rows i i hi))
+        kept k y hk hy (no f) (yes e) (no m) = rw (← e) (of-x y hy (λ q. m (q ∙ e)) .0)
+        kept k y hk hy (no f) (yes e) (yes g) = same-kept n t t′ s k y hk hy (rw (g, ← e) (exchange-tested-own n t₁ i long hi x hx apart ∙ rows x x hx))
+        kept k y hk hy (no f) (no d) m =
+            same-kept n t t′ s k y hk hy (exchange-other n t₁ i long hi x hx apart k (head + y) (omega arith) (λ p. absurd (f p)) (λ p. absurd (d p)) ∙ rows k y hy)
 
     -- the test of another station by a live one, where the reply of a live one is not late
-    step : (kind : ℕ) → x ≢ i → live n t i ≡ true → status n t₁ x ≡ status n t x → (live n t x ≡ true → kind ≡ 1)
+    step : (kind : ℕ) → i ≢ x → live n t i ≡ true → status n t₁ x ≡ status n t x → (live n t x ≡ true → kind ≡ 1)
         → Step n t t₁ (afterTest n t₁ kind i x) i x
     unfolding afterTest replies isTold
     step kind apart li same prompt = go (live n t x) refl
@@ -248,18 +180,16 @@ module _ (n : ℕ) (t : List ℕ) (i : ℕ) (s : Sound n t) (hi : i < n) (li : l
 
   -- a turn that makes no test
   finish-effect : makesTest n t i ≡ false → Turned n t (finishPass n t i) i × Finished n t (finishPass n t i) i
-  unfolding finishPass
-  finish-effect e =
-      let w = wrote n t i n finishedColumn 1 (s .accepted .long) hi (omega arith) (omega arith) in (
-        turned n t _ i finishedColumn (w .long) (omega arith) (λ k x hx. w .others k x (omega arith))
-            (λ k y hk hy. same-kept n t _ s k y hk hy (w .others k (head + y) (omega arith) (λ p. omega arith))),
-        record {
-          next = w .next;
-          finish = w .byte;
-          made = w .others i testsColumn (omega arith) (λ p. omega arith);
-          passed = none-due n t i e (line .nextHigh);
-        },
-      )
+  finish-effect e = (
+    turned n t _ i finishedColumn (finishPass-length n t i) (omega arith) (λ k x hx out. finishPass-other n t i k x (omega arith) (λ p. out (sym p)))
+        (λ k y hk hy. same-kept n t _ s k y hk hy (finishPass-other n t i k (head + y) (omega arith) (λ p. omega arith))),
+    record {
+      next = finishPass-next n t i (s .accepted .long) hi;
+      finish = finishPass-finished n t i (s .accepted .long) hi;
+      made = finishPass-other n t i i testsColumn (omega arith) (λ p. omega arith);
+      passed = none-due n t i e (line .nextHigh);
+    },
+  )
 
   -- a turn that makes one, where the reply of a live station is not late
   test-effect : (kind : ℕ) → makesTest n t i ≡ true → (live n t (bitXor i (nextTest n t i)) ≡ true → kind ≡ 1)
@@ -267,15 +197,15 @@ module _ (n : ℕ) (t : List ℕ) (i : ℕ) (s : Sound n t) (hi : i < n) (li : l
   unfolding testing
   test-effect kind e prompt =
       rw (not-alone t₂ (effect .kept)) (
-        turned n t t₂ i testsColumn (effect .long ∙ w .long) (omega arith) heads (effect .kept),
+        turned n t t₂ i testsColumn (effect .long ∙ countTest-length n t i m) (omega arith) heads (effect .kept),
         record {
           low = low;
           high = test-below n t i e;
           isDue = test-due n t i e;
           passed = not-due-before n t i;
-          next = effect .heads i nextColumn (omega arith) ∙ w .next;
+          next = effect .heads i nextColumn (omega arith) ∙ countTest-next n t i (s .accepted .long) hi m;
           finish = heads i finishedColumn (omega arith) (λ p. omega arith);
-          made = effect .heads i testsColumn (omega arith) ∙ w .byte;
+          made = effect .heads i testsColumn (omega arith) ∙ countTest-tests n t i (s .accepted .long) hi m;
           dead = effect .dead;
           handed = effect .handed;
         },
@@ -291,34 +221,28 @@ module _ (n : ℕ) (t : List ℕ) (i : ℕ) (s : Sound n t) (hi : i < n) (li : l
       low = nextTest-low n t i
 
       hx : x < n
-      hx =
-          let p = size-pow n (s .accepted .size) in
-          let q = xor-lt (dimension n) i m (omega arith) (omega (arith, test-below n t i e)) in
-          omega arith
+      hx = station-below n i m (s .accepted .size) hi (test-below n t i e)
 
-      apart : x ≢ i
-      apart p = let z : m ≡ 0 = cc (xor-cancel i m, xor-self i) in omega (arith, line .nextLow, low)
+      apart : i ≢ x
+      apart = station-apart i m (omega (arith, line .nextLow, low))
 
       t₁ : List ℕ
       t₁ = countTest n t i m
 
-      w : Wrote n t t₁ i (m + 1) testsColumn (testsMade n t i + 1)
-      w = unfold countTest in wrote n t i (m + 1) testsColumn (testsMade n t i + 1) (s .accepted .long) hi (omega arith) (omega arith)
-
       l₁ : length t₁ ≡ tableLength n
-      l₁ = w .long ∙ s .accepted .long
+      l₁ = countTest-length n t i m ∙ s .accepted .long
 
       rows : (k y : ℕ) → y < n → suspects n t₁ k y ≡ suspects n t k y
-      rows k y hy = w .others k (head + y) (omega arith) (λ p. omega arith)
+      rows k y hy = countTest-other n t i m k (head + y) (omega arith) (λ p. omega arith)
 
       t₂ : List ℕ
       t₂ = afterTest n t₁ kind i x
 
       effect : Step n t t₁ t₂ i x
-      effect = step n t t₁ s l₁ rows i x hi hx kind apart li (w .others x 0 (omega arith) (λ p. omega arith)) prompt
+      effect = step n t t₁ s l₁ rows i x hi hx kind apart li (countTest-other n t i m x 0 (omega arith) (λ p. omega arith)) prompt
 
       heads : (k c : ℕ) → c < head → (k ≡ i → (c ≢ nextColumn) × (c ≢ testsColumn)) → cell n t₂ k c ≡ cell n t k c
-      heads k c hc apart = effect .heads k c hc ∙ w .others k c (omega arith) apart
+      heads k c hc out = effect .heads k c hc ∙ countTest-other n t i m k c (omega arith) (λ p. out (sym p))
 
 -- a turn of a live station, the reply of a live station not late
 pub turn-effect : (n : ℕ) (t : List ℕ) (kind i : ℕ) → Sound n t → i < n → live n t i ≡ true
