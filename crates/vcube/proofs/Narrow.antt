@@ -15,7 +15,7 @@ use Rattle.station.specs.Rules.{refuse, _else_, tableNumber}
 use Rattle.station.specs.Calls.{unless, stationRefusal, lengthRefusal, groupNumber, groupAfter, rowNumber, assignmentNumber, assignmentAfter, assignmentCount}
 use Rattle.station.proofs.Refusals.{else-first, else-same, else-not, refuse-zero, unless-refused, accepted}
 use Rattle.station.proofs.Sizes.{size-bounds, size-dimension}
-use Rattle.exports.specs.Exports.{exportedRowStart, exportedRowLength}
+use Rattle.vcube.specs.Exports.{givenStart, givenLength}
 
 -- f gives the same of a number and of its byte
 abbrev pub Narrow {ℓ} : {A : Type ℓ} → (ℕ → A) → Type ℓ
@@ -55,12 +55,12 @@ module _ (n : ℕ) (t : List ℕ) where
   pub row-number-narrow : Narrow (rowNumber n t)
   row-number-narrow = narrow (rowNumber n t) row-refused row-far
 
-  pub row-start-narrow : Narrow (exportedRowStart n t)
-  unfolding exportedRowStart
+  pub row-start-narrow : Narrow (givenStart n t)
+  unfolding givenStart
   row-start-narrow = narrow-unless (rowNumber n t) row-refused _ _ row-far refused
 
-  pub row-length-narrow : Narrow (exportedRowLength n t)
-  unfolding exportedRowLength
+  pub row-length-narrow : Narrow (givenLength n t)
+  unfolding givenLength
   row-length-narrow = narrow-unless (rowNumber n t) row-refused _ _ row-far refused
 
   assignment-far : (len x : ℕ) → 255 ≤ x → assignmentNumber n t x len ≡ row-refused

@@ -2,9 +2,9 @@
 -- Assumes nothing.
 use mathlib.Core.Path.{_∙_}
 use borrow.Author.Needs.{needs}
-use Rattle.exports.proofs.Narrow.{group-number-narrow, group-after-narrow}
-use Rattle.exports.proofs.vcube_group_list.Statement.{statement}
-use Rattle.exports.proofs.vcube_group_list.Tie as tie
+use Rattle.vcube.proofs.Narrow.{group-number-narrow, group-after-narrow}
+use Rattle.vcube.proofs.vcube_group_list.Statement.{statement}
+use Rattle.vcube.proofs.vcube_group_list.Tie as tie
 
 returns : tie.Need-returns
 returns c =

@@ -8,11 +8,11 @@ use lib.Dec.{eqb}
 use lib.ListN.{take, drop}
 use Rattle.station.specs.Table.{rowStart, row}
 use Rattle.station.specs.Calls.{rowNumber, rowPart}
-use Rattle.exports.specs.Exports.{exportedRowStart, exportedRowLength}
+use Rattle.vcube.specs.Exports.{givenStart, givenLength}
 
-pub row-part-exported : (n : ℕ) (t : List ℕ) (i : ℕ) → take (exportedRowLength n t i) (drop (exportedRowStart n t i) t) ≡ rowPart n t i
-unfolding exportedRowLength exportedRowStart rowPart row
-row-part-exported n t i = pick (eqb (rowNumber n t i) 0)
+pub row-part-given : (n : ℕ) (t : List ℕ) (i : ℕ) → take (givenLength n t i) (drop (givenStart n t i) t) ≡ rowPart n t i
+unfolding givenLength givenStart rowPart row
+row-part-given n t i = pick (eqb (rowNumber n t i) 0)
   where
     pick : (b : Bool) → take (cond b n 0) (drop (cond b (rowStart n i) 0) t) ≡ cond b (row n t i) []
     pick true = refl
