@@ -1,5 +1,6 @@
--- A station and a level are handed on as a byte, 255 for all that are greater. Each definition gives the same of the number and of its byte:
--- a plant has at most 64 stations and 6 levels, so that station 255 and all above meet refusal 9, and such a level 12, or an earlier one.
+-- A station and a level are handed on as a byte, 255 for all that are greater. Each definition gives the same of the number and of its
+-- byte: a plant has at most 64 stations and 6 levels, so that station 255 and all above meet refusal 9, and such a level 12, or an
+-- earlier one.
 -- Assumes nothing.
 use mathlib.Core.Path.{_≡_, sym, ap, _∙_}
 use mathlib.Core.Bool.{true, not, _||_}
@@ -12,10 +13,11 @@ use lib.Dec.{ltb, eqb}
 use lib.ListN.{length}
 use Rattle.station.specs.Groups.{isSize, dimension, width, group}
 use Rattle.station.specs.Rules.{refuse, _else_, tableNumber}
-use Rattle.station.specs.Calls.{unless, stationRefusal, lengthRefusal, groupNumber, groupAfter, rowNumber, assignmentNumber, assignmentAfter, assignmentCount}
+use Rattle.station.specs.Calls.{unless, stationRefusal, lengthRefusal, groupNumber, groupAfter, rowNumber}
+use Rattle.station.specs.Calls.{assignmentNumber, assignmentAfter, assignmentCount}
 use Rattle.station.proofs.Refusals.{else-first, else-same, else-not, refuse-zero, unless-refused, accepted}
 use Rattle.station.proofs.Sizes.{size-bounds, size-dimension}
-use Rattle.vcube.specs.Exports.{givenStart, givenLength}
+use Rattle.vcube.specs.Exports.{startOut, lengthOut}
 
 -- f gives the same of a number and of its byte
 abbrev pub Narrow {ℓ} : {A : Type ℓ} → (ℕ → A) → Type ℓ
@@ -55,12 +57,12 @@ module _ (n : ℕ) (t : List ℕ) where
   pub row-number-narrow : Narrow (rowNumber n t)
   row-number-narrow = narrow (rowNumber n t) row-refused row-far
 
-  pub row-start-narrow : Narrow (givenStart n t)
-  unfolding givenStart
+  pub row-start-narrow : Narrow (startOut n t)
+  unfolding startOut
   row-start-narrow = narrow-unless (rowNumber n t) row-refused _ _ row-far refused
 
-  pub row-length-narrow : Narrow (givenLength n t)
-  unfolding givenLength
+  pub row-length-narrow : Narrow (lengthOut n t)
+  unfolding lengthOut
   row-length-narrow = narrow-unless (rowNumber n t) row-refused _ _ row-far refused
 
   assignment-far : (len x : ℕ) → 255 ≤ x → assignmentNumber n t x len ≡ row-refused
@@ -72,7 +74,8 @@ module _ (n : ℕ) (t : List ℕ) where
 
   pub assignment-after-narrow : (list : List ℕ) → Narrow (λ x. assignmentAfter n t x list)
   unfolding assignmentAfter
-  assignment-after-narrow list = narrow-unless (λ x. assignmentNumber n t x (length list)) row-refused _ _ (assignment-far (length list)) refused
+  assignment-after-narrow list =
+      narrow-unless (λ x. assignmentNumber n t x (length list)) row-refused _ _ (assignment-far (length list)) refused
 
   pub assignment-count-narrow : (len : ℕ) → Narrow (λ x. assignmentCount n t x len)
   unfolding assignmentCount
@@ -102,5 +105,7 @@ module _ (n : ℕ) where
     pub group-after-narrow : (list : List ℕ) → groupAfter n i′ s′ list ≡ groupAfter n i s list
     unfolding groupAfter
     group-after-narrow list =
-        narrow-unless (λ x. groupNumber n x s′ (length list)) _ list (λ x. group x s′) (group-far s′ (length list)) (else-not unsized 9 (λ z. omega arith)) i i′ e
-        ∙ narrow-unless (λ x. groupNumber n i x (length list)) _ list (group i) (level-far i (length list)) (else-not unsized _ (else-not (stationRefusal n i) 12 (λ z. omega arith))) s s′ f
+        let h = else-not unsized 9 (λ z. omega arith) in
+        let k = else-not unsized _ (else-not (stationRefusal n i) 12 (λ z. omega arith)) in
+        narrow-unless (λ x. groupNumber n x s′ (length list)) _ list (λ x. group x s′) (group-far s′ (length list)) h i i′ e
+        ∙ narrow-unless (λ x. groupNumber n i x (length list)) _ list (group i) (level-far i (length list)) k s s′ f

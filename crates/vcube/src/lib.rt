@@ -7,7 +7,7 @@ ghost use Rattle.station.specs.Rules.{shapeNumber};
 ghost use Rattle.station.specs.Calls.{freshAfter, groupNumber, groupAfter, rowNumber, assignmentNumber, assignmentAfter, assignmentCount};
 ghost use Rattle.plant.specs.Entry.{stateOf};
 ghost use Rattle.plant.specs.Run.{run};
-ghost use Rattle.vcube.specs.Exports.{givenStart, givenLength, outcomeOf};
+ghost use Rattle.vcube.specs.Exports.{startOut, lengthOut, outcomeOut};
 use plant::Tally;
 use plant::run;
 use station::Level;
@@ -64,8 +64,8 @@ pub extern "C" fn vcube_row(
     length: &mut usize,
 ) -> u8
     ensures { λ r. ⌜ r ≡ rowNumber n (now (table .entry)) station ⌝ }
-    ensures { λ _. ⌜ now (start .exit) ≡ givenStart n (now (table .entry)) station ⌝ }
-    ensures { λ _. ⌜ now (length .exit) ≡ givenLength n (now (table .entry)) station ⌝ }
+    ensures { λ _. ⌜ now (start .exit) ≡ startOut n (now (table .entry)) station ⌝ }
+    ensures { λ _. ⌜ now (length .exit) ≡ lengthOut n (now (table .entry)) station ⌝ }
 {
     let i = Station(byte_of(station));
     let number = rows::row_number(n, table, i);
@@ -91,7 +91,10 @@ pub extern "C" fn vcube_run(
     sheet: &mut [u8],
     taken: &mut usize,
 ) -> u8
-    ensures { λ r. ⌜ outcomeOf r (now (taken .exit)) (stateOf (now (table .exit)) (now (rounds .exit)) (now (tests .exit))) (now (sheet .exit)) ≡ run n (stateOf (now (table .entry)) (now (rounds .entry)) (now (tests .entry))) (now (schedule .entry)) (now (sheet .entry)) ⌝ }
+    ensures { λ r. ⌜
+        outcomeOut r (now (taken .exit)) (now (table .exit)) (now (rounds .exit)) (now (tests .exit)) (now (sheet .exit))
+        ≡ run n (stateOf (now (table .entry)) (now (rounds .entry)) (now (tests .entry))) (now (schedule .entry)) (now (sheet .entry))
+        ⌝ }
 {
     let tally = Tally {
         rounds: *rounds,

@@ -11,8 +11,10 @@ returns c =
     let a = c .before .before .before .before .before .before .before .args in
     let e = c .before .before .group-list .ensures in
     let i = c .before .before .before .before .before .byte-of .ensures in
-    let s = c .before .before .before .before .byte-of2 .ensures in
-    (e .0 ∙ group-number-narrow (a .n) (a .station) (a .level) _ _ i s _, e .1 ∙ group-after-narrow (a .n) (a .station) (a .level) _ _ i s _)
+    let s = c .before .before .before .before .byte-of2 .ensures in (
+      e .0 ∙ group-number-narrow (a .n) (a .station) (a .level) _ _ i s _,
+      e .1 ∙ group-after-narrow (a .n) (a .station) (a .level) _ _ i s _,
+    )
 
 pub vcube-group-list-spec : {M : Type 1} → statement M
 vcube-group-list-spec =

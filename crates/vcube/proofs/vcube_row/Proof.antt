@@ -5,13 +5,13 @@ use native.Mathlib.Omega.{arith}
 use borrow.Author.Needs.{needs}
 use Rattle.station.proofs.Refusals.{unless-refused, unless-accepted, row-zero}
 use Rattle.station.proofs.Sizes.{size-bounds}
-use Rattle.vcube.specs.Exports.{givenStart, givenLength}
+use Rattle.vcube.specs.Exports.{startOut, lengthOut}
 use Rattle.vcube.proofs.Narrow.{row-number-narrow, row-start-narrow, row-length-narrow}
 use Rattle.vcube.proofs.vcube_row.Statement.{statement}
 use Rattle.vcube.proofs.vcube_row.Tie as tie
 
 returns : tie.Need-returns
-unfolding givenStart givenLength
+unfolding startOut lengthOut
 returns c =
     let a = c .before .before .before .before .args in
     let b = c .before .before .byte-of .ensures in
@@ -27,7 +27,7 @@ cast-row-start : tie.Need-cast-row-start
 cast-row-start c = omega (arith, size-bounds _ (row-zero _ _ _ (sym (c .before .row-number .ensures) ∙ c .if1 .left) .0 .size))
 
 returns-2 : tie.Need-returns-2
-unfolding givenStart givenLength
+unfolding startOut lengthOut
 returns-2 c =
     let a = c .before .before .before .before .before .args in
     let b = c .before .before .before .byte-of .ensures in
