@@ -1,2 +1,0 @@
--- What the contracts and theorems of `exports` cite.
-pub mod Exports

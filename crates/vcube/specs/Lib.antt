@@ -1,0 +1,2 @@
+-- What the contracts and theorems of `vcube` cite.
+pub mod Exports

@@ -1,0 +1,116 @@
+// The calls of document 01 for C and Rust, as include/vcube.h declares them. None has a `requires`: any numbers and buffers are taken. Each
+// returns 0 or the number of its refusal.
+ghost use mathlib.Core.Path.{_≡_};
+ghost use Prim.Native.Nat.{min};
+ghost use lib.ListN.{length};
+ghost use Rattle.station.specs.Rules.{shapeNumber};
+ghost use Rattle.station.specs.Calls.{freshAfter, groupNumber, groupAfter, rowNumber, assignmentNumber, assignmentAfter, assignmentCount};
+ghost use Rattle.plant.specs.Entry.{stateOf};
+ghost use Rattle.plant.specs.Run.{run};
+ghost use Rattle.vcube.specs.Exports.{startOut, lengthOut, outcomeOut};
+use plant::Tally;
+use plant::run;
+use station::Level;
+use station::Station;
+use station::cells;
+use station::due;
+use station::fresh;
+use station::groups;
+use station::rows;
+
+// Fresh table: every line live, next distance 1, all else 0.
+#[no_mangle]
+pub extern "C" fn vcube_fresh_table(n: usize, table: &mut [u8]) -> u8
+    ensures { λ r. ⌜ r ≡ shapeNumber n (length (now (table .entry))) ⌝ }
+    ensures { λ _. ⌜ now (table .exit) ≡ freshAfter n (now (table .entry)) ⌝ }
+{
+    fresh::fresh_table(n, table)
+}
+
+// Group list: the members of the station's group at that level, in order.
+#[no_mangle]
+pub extern "C" fn vcube_group_list(n: usize, station: usize, level: usize, list: &mut [u8]) -> u8
+    ensures { λ r. ⌜ r ≡ groupNumber n station level (length (now (list .entry))) ⌝ }
+    ensures { λ _. ⌜ now (list .exit) ≡ groupAfter n station level (now (list .entry)) ⌝ }
+{
+    groups::group_list(n, Station(byte_of(station)), Level(byte_of(level)), list)
+}
+
+// Assignment: the distances due for a live station, ascending, the rest of the list 0, and how many into count, 0 where it is refused.
+#[no_mangle]
+pub extern "C" fn vcube_assignment(
+    n: usize,
+    table: &[u8],
+    station: usize,
+    list: &mut [u8],
+    count: &mut usize,
+) -> u8
+    ensures { λ r. ⌜ r ≡ assignmentNumber n (now (table .entry)) station (length (now (list .entry))) ⌝ }
+    ensures { λ _. ⌜ now (count .exit) ≡ assignmentCount n (now (table .entry)) station (length (now (list .entry))) ⌝ }
+    ensures { λ _. ⌜ now (list .exit) ≡ assignmentAfter n (now (table .entry)) station (now (list .entry)) ⌝ }
+{
+    let assigned = due::assignment(n, table, Station(byte_of(station)), list);
+    *count = assigned.count as usize;
+    assigned.number
+}
+
+// Row: where the station's row begins in the table, and how many bytes it has; both 0 where it is refused.
+#[no_mangle]
+pub extern "C" fn vcube_row(
+    n: usize,
+    table: &[u8],
+    station: usize,
+    start: &mut usize,
+    length: &mut usize,
+) -> u8
+    ensures { λ r. ⌜ r ≡ rowNumber n (now (table .entry)) station ⌝ }
+    ensures { λ _. ⌜ now (start .exit) ≡ startOut n (now (table .entry)) station ⌝ }
+    ensures { λ _. ⌜ now (length .exit) ≡ lengthOut n (now (table .entry)) station ⌝ }
+{
+    let i = Station(byte_of(station));
+    let number = rows::row_number(n, table, i);
+    if number != 0 {
+        *start = 0;
+        *length = 0;
+        return number;
+    }
+    *start = cells::row_start(n as u8, i);
+    *length = n;
+    0
+}
+
+// Run: carries out a schedule on a table and the tally that rounds and tests hold, and fills the sheet. The tally given back is left in
+// rounds and tests, and how many entries were taken in taken.
+#[no_mangle]
+pub extern "C" fn vcube_run(
+    n: usize,
+    table: &mut [u8],
+    rounds: &mut u32,
+    tests: &mut u32,
+    schedule: &[u8],
+    sheet: &mut [u8],
+    taken: &mut usize,
+) -> u8
+    ensures { λ r. ⌜
+        outcomeOut r (now (taken .exit)) (now (table .exit)) (now (rounds .exit)) (now (tests .exit)) (now (sheet .exit))
+        ≡ run n (stateOf (now (table .entry)) (now (rounds .entry)) (now (tests .entry))) (now (schedule .entry)) (now (sheet .entry))
+        ⌝ }
+{
+    let tally = Tally {
+        rounds: *rounds,
+        tests: *tests,
+    };
+    let done = run::run(n, table, tally, schedule, sheet);
+    let after = done.tally;
+    *rounds = after.rounds;
+    *tests = after.tests;
+    *taken = done.taken;
+    done.number
+}
+
+// A number as a byte, 255 for all that are greater. No plant has a station or a level 255, so a greater one is refused as that one is.
+fn byte_of(x: usize) -> u8
+    ensures { λ r. ⌜ r ≡ min x 255 ⌝ }
+{
+    if x < 255 { x as u8 } else { 255 }
+}
