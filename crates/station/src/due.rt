@@ -10,8 +10,8 @@ use crate::Assigned;
 use crate::Distance;
 use crate::First;
 use crate::Station;
-use crate::cells;
 use crate::groups;
+use crate::inside;
 use crate::order;
 use crate::rows;
 use crate::rules;
@@ -66,9 +66,7 @@ pub fn assignment(n: usize, table: &[u8], i: Station, list: &mut [u8]) -> Assign
             count: 0,
         };
     }
-    let a = cells::row_start(n as u8, i);
-    let e = a + n;
-    let count = write_due(&table[a..e], i, list);
+    let count = write_due(inside::row(n as u8, table, i), i, list);
     Assigned {
         number: 0,
         count: count,
