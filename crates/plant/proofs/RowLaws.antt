@@ -1,8 +1,7 @@
--- Laws of a byte's place in the table, of a row that is lent as a part of the table and comes back, of two rows exchanged, and of a round that
--- stays open.
+-- Laws of a row that is lent as a part of the table and comes back, and of two rows exchanged.
 -- Assumes nothing.
-use mathlib.Core.Path.{_≡_, refl, sym, ap, _∙_}
-use mathlib.Core.Bool.{Bool, true, false, not, _&&_}
+use mathlib.Core.Path.{_≡_, sym, ap, _∙_}
+use mathlib.Core.Bool.{true}
 use mathlib.Core.Logic.{_≢_}
 use mathlib.Core.List.{List, _++_}
 use Prim.Native.Nat.{ℕ, _+_, _-_, max, _≤_, _<_}
@@ -11,18 +10,11 @@ use native.Mathlib.Nat.{max-comm, max-eq-left, le-refl}
 use native.Mathlib.Omega.{arith}
 use lib.ListN.{length, getD, take, drop, take-append-drop}
 use lib.Seq.{take-at, ext-getD}
-use Rattle.station.specs.Search.{every}
-use Rattle.station.specs.Table.{head, stride, tableLength, lineStart, rowStart, row, setRow}
-use Rattle.station.specs.Rules.{someLive, finishedIfLive, liveFinished}
+use Rattle.station.specs.Table.{head, tableLength, rowStart, row, setRow}
 use Rattle.station.specs.Rows.{unionByte, union, sameRows, united}
 use Rattle.station.proofs.SearchLaws.{listOf-same}
-use Rattle.station.proofs.Loops.{every-stop}
-use Rattle.station.proofs.CellLaws.{line-inside, row-length, row-same, setRow-length, setRow-out, union-length, union-at, union-own, union-others, same-rows, united-fits}
-use Rattle.plant.specs.Turn.{exchangeRows, roundOver}
-
--- a byte of a line below n lies inside the table, by the place where the line begins
-pub byte-inside : (n : ℕ) (t : List ℕ) (i c a : ℕ) → a ≡ lineStart n i → length t ≡ tableLength n → i < n → c < stride n → a + c < length t
-byte-inside n t i c a s e h hc = omega (arith, line-inside n i h)
+use Rattle.station.proofs.CellLaws.{row-length, row-same, setRow-length, setRow-out, union-length, union-at, union-own, union-others, same-rows, united-fits}
+use Rattle.plant.specs.Turn.{exchangeRows}
 
 -- the table with the row as it comes back
 pub row-back : (n : ℕ) (t : List ℕ) (i a : ℕ) (r : List ℕ) → a ≡ rowStart n i → take a t ++ (r ++ drop (a + n - a) (drop a t)) ≡ setRow n t i r
@@ -83,12 +75,3 @@ exchange-is n t i j long hi hj apart o x t₁ t₂ room eo e₁ e₂ =
     let w : row n t₁ j ≡ rj = ap (λ (l : List ℕ). row n l j) s ∙ w in
     let v : union rj (take n o) j ≡ union rj ri j = union-twice rj ri (take n o) n j lj (λ k h. f k h ∙ max-comm (getD ri k 0) (getD rj k 0)) in
     e₂ ∙ rw (w, v, s)
-
--- one live station that has not finished keeps the round open
-pub open-round : (n : ℕ) (t : List ℕ) (i : ℕ) (r : Bool) → i < n → r ≡ finishedIfLive n t i → not r ≡ true → false ≡ roundOver n t
-unfolding roundOver liveFinished
-open-round n t i r h e f = let p : false ≡ every (finishedIfLive n t) n = every-stop _ n i r h e f in rw (← p) (and-no (someLive n t))
-  where
-    and-no : (a : Bool) → false ≡ (a && false)
-    and-no true = refl
-    and-no false = refl

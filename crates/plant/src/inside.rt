@@ -1,19 +1,11 @@
-// A byte of the table, by line and column, that is known to lie inside it: no test of its place is made.
+// A byte of the table, by line and column, that is known to lie inside it: no test of its place is made. `station` reads it so.
 ghost use mathlib.Core.Path.{_≡_};
 ghost use Prim.Native.Nat.{_<_};
 ghost use lib.ListN.{length};
-ghost use Rattle.station.specs.Table.{stride, tableLength, cell, setCell};
+ghost use Rattle.station.specs.Table.{stride, tableLength, setCell};
 use station::Station;
 use station::cells;
-
-// Byte c of line i.
-pub(crate) fn get(n: u8, table: &[u8], i: Station, c: u16) -> u8
-    requires { ⌜ (length (now table) ≡ tableLength n) × (i .0 < n) × (c < stride n) ⌝ }
-    ensures { λ r. ⌜ r ≡ cell n (now (table .entry)) (i .0) c ⌝ }
-{
-    let at = cells::line_start(n, i) + c as usize;
-    table[at]
-}
+pub(crate) use station::inside::get;
 
 // Writes byte c of line i.
 pub(crate) fn put(n: u8, table: &mut [u8], i: Station, c: u16, v: u8)

@@ -30,7 +30,7 @@ fn round_over(n: u8, table: &[u8], i: Station) -> bool
     if !rules::finished_if_live(n, table, i) {
         return false;
     }
-    rules::some_live(n, table) & rules::live_finished(n, table)
+    rules::is_round_over(n, table)
 }
 
 // Every line, live or not, begins a new round.

@@ -39,7 +39,7 @@ pub(crate) fn take_turn(n: u8, table: &mut [u8], kind: u8, i: Station) -> Turned
             outcome: codes::PASS_FINISHED,
         };
     }
-    let j = order::station_at(i, m);
+    let j = order::lookup(i, m);
     let outcome = make_test(n, table, kind, i, m);
     Turned {
         tested: j.0,
@@ -87,7 +87,7 @@ fn make_test(n: u8, table: &mut [u8], kind: u8, i: Station, m: Distance) -> u8
     ensures { λ r. ⌜ r ≡ testOutcome n (countTest n (now (table .entry)) (i .0) (m .0)) kind (i .0) (stationAt (i .0) (m .0)) ⌝ }
     ensures { λ _. ⌜ now (table .exit) ≡ testing n (now (table .entry)) kind (i .0) (m .0) ⌝ }
 {
-    let j = order::station_at(i, m);
+    let j = order::lookup(i, m);
     count_test(n, table, i, m);
     let outcome = hear_reply(n, table, kind, i, j);
     leave_if_alone(n, table, i);

@@ -5,14 +5,14 @@ use mathlib.Core.Bool.{Bool, true, false, _&&_, _||_}
 use mathlib.Core.List.{List, _++_}
 use mathlib.Core.Logic.{_≢_}
 use Prim.Native.Nat.{ℕ, zero, suc, _+_, _-_, _/_, _%_, min, max, _≤_, _<_}
-use native.Mathlib.Decide.{decLt, ℕ-discrete}
+use native.Mathlib.Decide.{decLe, decLt, ℕ-discrete}
 use native.Mathlib.Nat.{suc-mul, mul-le-mul-right, zero-max}
 use native.Mathlib.Numerals.{add-one}
 use native.Mathlib.Omega.{arith}
 use borrow.Author.Tests.{leb-true, eqb-true, eqb-false, le-leb, lt-leb, eq-eqb, ne-eqb}
 use lib.Bits.{bitXor, xor-self}
 use lib.Arith.{digits-div, digits-mod}
-use lib.Dec.{eqb}
+use lib.Dec.{leb, eqb}
 use lib.ListN.{length, getD, set, take, drop, length-append, length-take, length-drop, length-set, List·getD-append, List·getD-eq-default}
 use lib.Seq.{length-take-le, getD-append-add, getD-take, getD-drop, getD-set-same, getD-set-other, ext-getD}
 use Rattle.station.specs.Table.{head, stride, tableLength, lineStart, cell, setCell, status, nextDistance, finished, testsMade, suspects, rowStart, row, setRow}
@@ -33,6 +33,10 @@ place-same n i c i′ c′ h h′ e =
 pub line-inside : (n i : ℕ) → i < n → lineStart n i + stride n ≤ tableLength n
 unfolding lineStart tableLength
 line-inside n i h = omega (arith, suc-mul i (stride n), mul-le-mul-right (stride n) h)
+
+-- a byte of a line below n lies inside the table, by the place where the line begins
+pub byte-inside : (n : ℕ) (t : List ℕ) (i c a : ℕ) → a ≡ lineStart n i → length t ≡ tableLength n → i < n → c < stride n → a + c < length t
+byte-inside n t i c a s e h hc = omega (arith, line-inside n i h)
 
 -- a row lies inside the table
 pub row-inside : (n : ℕ) (t : List ℕ) (i : ℕ) → length t ≡ tableLength n → i < n → rowStart n i + n ≤ length t
@@ -233,6 +237,18 @@ mark-same r j h = getD-set-same r j 1 0 h
 pub mark-other : (r : List ℕ) (j k : ℕ) → k ≢ j → getD (mark r j) k 0 ≡ getD r k 0
 unfolding mark
 mark-other r j k apart = getD-set-other r j k 1 0 apart
+
+-- the greatest byte so far is in its range as long as all bytes passed are
+pub range-next : (n : ℕ) (t r : List ℕ) (i k greatest x : ℕ) → r ≡ row n t i → k < n → leb greatest 1 ≡ every (suspicionRule n t i) k
+    → x ≡ max greatest (getD r k 0) → leb x 1 ≡ every (suspicionRule n t i) (k + 1)
+unfolding every
+range-next n t r i k greatest x e h f g =
+    rw (g, add-one, ← f, e, row-at n t i k h) (max-leb greatest (suspects n t i k) 1 (decLe greatest 1) (decLe (suspects n t i k) 1))
+  where
+    max-leb : (a b c : ℕ) → Dec (a ≤ c) → Dec (b ≤ c) → leb (max a b) c ≡ (leb a c && leb b c)
+    max-leb a b c (yes p) (yes q) = rw (le-leb a c p, le-leb b c q) (le-leb (max a b) c (omega arith))
+    max-leb a b c (yes p) (no q) = rw (le-leb a c p, lt-leb b c (omega arith)) (lt-leb (max a b) c (omega arith))
+    max-leb a b c (no p) q = rw (lt-leb a c (omega arith)) (lt-leb (max a b) c (omega arith))
 
 -- the line rules of line i
 pub record Line (n : ℕ) (t : List ℕ) (i : ℕ) : Type 0 where

@@ -2,7 +2,7 @@
 -- `r` is the answer of the call that makes the turn's test, and the loop is left where it is false.
 -- Assumes nothing.
 use mathlib.Core.Path.{_≡_, refl, sym, ap, subst, _∙_}
-use mathlib.Core.Bool.{Bool, true, false, not}
+use mathlib.Core.Bool.{Bool, true, false, not, _&&_, _||_}
 use mathlib.Core.List.{List, [], _∷_, _++_, append-nil, append-assoc}
 use Prim.Native.Nat.{ℕ, suc, _+_, _-_, _≤_, _<_}
 use native.Mathlib.Nat.{le-antisymm}
@@ -28,12 +28,15 @@ every-stop q n k r h s f = sym (every-not q n k h (sym s ∙ not-true r f))
 pub every-done : (q : ℕ → Bool) (n k : ℕ) → every q k ≡ true → k ≤ n → n ≤ k → true ≡ every q n
 every-done q n k e a b = subst (λ (x : ℕ). true ≡ every q x) (le-antisymm a b) (sym e)
 
--- the same of a loop that looks for one that fails the test
-pub some-stop : (q : ℕ → Bool) (n k : ℕ) (r : Bool) → k < n → r ≡ q k → not r ≡ true → true ≡ not (every q n)
-some-stop q n k r h s f = ap not (every-stop q n k r h s f)
-
-pub some-none : (q : ℕ → Bool) (n k : ℕ) → every q k ≡ true → k ≤ n → n ≤ k → false ≡ not (every q n)
-some-none q n k e a b = ap not (every-done q n k e a b)
+-- `some` says whether one passed so far fails the test, and l whether this one does
+pub some-next : (q : ℕ → Bool) (k : ℕ) (some l : Bool) → some ≡ not (every q k) → not l ≡ q k → (some || l) ≡ not (every q (k + 1))
+unfolding every
+some-next q k some l e f = rw (e, add-one, ← f) (cases (every q k) l)
+  where
+    cases : (a b : Bool) → (not a || b) ≡ not (a && not b)
+    cases true true = refl
+    cases true false = refl
+    cases false b = refl
 
 -- a list that a loop fills from its front: the first k bytes are written, the rest are as they were
 unfoldable pub filled : (ℕ → ℕ) → ℕ → List ℕ → List ℕ
@@ -71,4 +74,4 @@ filled-rest f k l t e h same =
     (λ y b. let hy : y < length l - k = subst (λ (x : ℕ). y < x) (length-drop k l) b in getD-drop k l y 0 ∙ same (k + y) (omega arith) (omega arith) ∙ sym (listOf-at (λ z. f (k + z)) (length l - k) y hy)) in
     e ∙ ap (λ x. listOf f k ++ x) d ∙ sym (listOf-append f k (length l - k)) ∙ ap (listOf f) s
 
-pub ruleset loops = (every-start, every-next, every-stop, every-done, some-stop, some-none, filled-start, filled-next, filled-done)
+pub ruleset loops = (every-start, every-next, every-stop, every-done, filled-start, filled-next, filled-done)

@@ -1,19 +1,21 @@
 -- Laws of the refusal numbers: what a number of 0 says, and which number stands where a test fails.
 -- Assumes nothing.
-use mathlib.Core.Path.{_≡_, refl, ap, _∙_}
-use mathlib.Core.Bool.{Bool, true, false, not, _&&_, _||_}
+use mathlib.Core.Path.{_≡_, refl, sym, ap, _∙_}
+use mathlib.Core.Bool.{Bool, true, false, not, _&&_, _||_, and-true, and-false, and-assoc}
 use mathlib.Core.List.{List}
 use Prim.Native.Nat.{ℕ, zero, suc, _-_, _≤_, _<_}
+use native.Mathlib.Nat.{le-antisymm}
 use native.Mathlib.Omega.{arith}
 use borrow.Author.Tests.{eqb-true, eqb-false, eq-eqb, ne-eqb, le-ltb, ltb-false, not-false, lt-leb, leb-false}
 use lib.ListN.{length}
 use lib.Dec.{ltb, leb, eqb, leb·suc-suc}
 use Rattle.station.specs.Search.{every}
 use Rattle.station.specs.Groups.{isSize, dimension, width}
-use Rattle.station.specs.Table.{tableLength, status, nextDistance, finished, testsMade, suspects, live}
-use Rattle.station.specs.Rules.{refuse, _else_, headRule, testsRule, finishedRule, ownRule, lineRules, someLive, liveFinished, shapeNumber, tableNumber}
+use Rattle.station.specs.Table.{tableLength, status, nextDistance, finished, testsMade, live}
+use Rattle.station.specs.Rules.{refuse, _else_, headRule, testsRule, finishedRule, ownRule, rowRule, lineRules, notLive, someLive, finishedIfLive, liveFinished, shapeNumber, tableNumber}
 use Rattle.station.specs.Calls.{unless, rowNumber, groupNumber, assignmentNumber}
 use Rattle.station.proofs.Levels.{level-le}
+use Rattle.station.proofs.Loops.{every-stop, every-done}
 
 -- a refusal that is not 0 hides the later ones
 pub else-first : (r a b : ℕ) → r ≡ a → (r ≡ 0 → ⊥) → r ≡ (a else b)
@@ -59,10 +61,17 @@ tests-below true b c zero tests = refl
 tests-below false b c zero tests = refl
 tests-below a b c (suc next) tests = let p : suc next - 1 ≡ next = omega arith in rw (p, leb·suc-suc tests next)
 
--- the rules of the head and of a station's byte about itself, of the bytes that the code has read
-pub head-rules-are : (n : ℕ) (t : List ℕ) (i s x f m o : ℕ) → s ≡ status n t i → x ≡ nextDistance n t i → f ≡ finished n t i → m ≡ testsMade n t i → o ≡ suspects n t i i → ((leb s 3 && (leb 1 x && leb x n) && leb f 1) && ltb m x && (eqb f 0 || eqb x n) && eqb o 0) ≡ (headRule n t i && testsRule n t i && finishedRule n t i && ownRule n t i)
-head-rules-are n t i s x f m o a b c d e =
-    rw (← a, ← b, ← c, ← d, ← e) (ap (λ h. h && (eqb f 0 || eqb x n) && eqb o 0) (tests-below (leb s 3) (leb x n) (leb f 1) x m))
+-- the rules of the head, of the bytes that the code has read
+pub head-rules-are : (n : ℕ) (t : List ℕ) (i s x f m : ℕ) → s ≡ status n t i → x ≡ nextDistance n t i → f ≡ finished n t i → m ≡ testsMade n t i
+    → ((leb s 3 && (leb 1 x && leb x n) && leb f 1) && ltb m x && (eqb f 0 || eqb x n)) ≡ (headRule n t i && testsRule n t i && finishedRule n t i)
+head-rules-are n t i s x f m a b c d =
+    rw (← a, ← b, ← c, ← d) (ap (λ h. h && (eqb f 0 || eqb x n)) (tests-below (leb s 3) (leb x n) (leb f 1) x m))
+
+-- all line rules, of the head's and the row's
+pub line-rules-are : (n : ℕ) (t : List ℕ) (i : ℕ) (h r : Bool) → h ≡ (headRule n t i && testsRule n t i && finishedRule n t i) → r ≡ (ownRule n t i && rowRule n t i)
+    → (h && r) ≡ lineRules n t i
+unfolding lineRules
+line-rules-are n t i h r e f = rw (e, f) (sym (and-assoc (headRule n t i && testsRule n t i && finishedRule n t i) (ownRule n t i) (rowRule n t i)))
 
 -- what a group list that is not refused has
 pub group-zero : (n i s len : ℕ) → groupNumber n i s len ≡ 0 → (isSize n ≡ true) × (i < n) × (0 < s) × (s ≤ dimension n) × (len ≡ width s)
@@ -91,6 +100,18 @@ module _ (n i s len d w : ℕ) (b : Bool) (e : b ≡ isSize n) (f : not b ≡ fa
 
   pub group-fits : len ≡ w → 0 ≡ groupNumber n i s len
   group-fits q = rw (group-last, eq-eqb len w q)
+
+-- refusal 4: one live station that has not finished keeps the round open
+pub round-open : (n : ℕ) (t : List ℕ) (i : ℕ) (r : Bool) → i < n → r ≡ finishedIfLive n t i → not r ≡ true → false ≡ (someLive n t && liveFinished n t)
+unfolding liveFinished
+round-open n t i r h e f = rw (← every-stop (finishedIfLive n t) n i r h e f, and-false)
+
+-- after all lines, of which every live one has finished
+pub round-done : (n : ℕ) (t : List ℕ) (i : ℕ) (some : Bool) → i ≤ n → n ≤ i → every (finishedIfLive n t) i ≡ true → some ≡ not (every (notLive n t) i)
+    → some ≡ (someLive n t && liveFinished n t)
+unfolding someLive liveFinished
+round-done n t i some a b e s =
+    rw (← every-done (finishedIfLive n t) n i e a b, and-true) (s ∙ ap (λ k. not (every (notLive n t) k)) (le-antisymm a b))
 
 -- a table that refusals 1 to 4 let through
 pub record Accepted (n : ℕ) (t : List ℕ) : Type 0 where

@@ -10,8 +10,8 @@ use crate::Assigned;
 use crate::Distance;
 use crate::First;
 use crate::Station;
-use crate::cells;
 use crate::groups;
+use crate::inside;
 use crate::order;
 use crate::rows;
 use crate::rules;
@@ -34,7 +34,7 @@ pub fn first_unsuspected(row: &[u8], j: Station, m: Distance) -> First
     let w = groups::width_of(groups::level_of(m));
     let mut k: u8 = 0;
     while k < w {
-        let x = order::station_at(j, Distance(w + k));
+        let x = order::lookup(j, Distance(w + k));
         if is_unsuspected(row, x) {
             return First::At(x);
         }
@@ -47,7 +47,7 @@ pub fn first_unsuspected(row: &[u8], j: Station, m: Distance) -> First
 pub fn is_due(row: &[u8], i: Station, m: Distance) -> bool
     ensures { λ r. ⌜ r ≡ due (now (row .entry)) (i .0) (m .0) ⌝ }
 {
-    match first_unsuspected(row, order::station_at(i, m), m) {
+    match first_unsuspected(row, order::lookup(i, m), m) {
         First::At(x) => x.0 == i.0,
         First::Nobody => false,
     }
@@ -66,9 +66,7 @@ pub fn assignment(n: usize, table: &[u8], i: Station, list: &mut [u8]) -> Assign
             count: 0,
         };
     }
-    let a = cells::row_start(n as u8, i);
-    let e = a + n;
-    let count = write_due(&table[a..e], i, list);
+    let count = write_due(inside::row(n as u8, table, i), i, list);
     Assigned {
         number: 0,
         count: count,

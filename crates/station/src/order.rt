@@ -21,14 +21,6 @@ pub fn lookup(i: Station, m: Distance) -> Station
     Station(entry(a as usize * 64 + b as usize))
 }
 
-// The station at distance m from i, computed: for due tests and turns, since the compiler builds the constant table anew at each lookup.
-pub fn station_at(i: Station, m: Distance) -> Station
-    ensures { λ r. ⌜ r .0 ≡ stationAt (i .0) (m .0) ⌝ }
-{
-    let a = i.0;
-    Station(a ^ m.0)
-}
-
 // The table's entry at an index: row index / 64, place index % 64.
 fn entry(index: usize) -> u8
     requires { ⌜ index < 4096 ⌝ }

@@ -5,7 +5,7 @@ ghost use lib.ListN.{length};
 ghost use Rattle.station.specs.Rows.{union, united, sameRows, mark};
 ghost use Rattle.station.specs.Calls.{rowNumber, rowPart};
 use crate::Station;
-use crate::cells;
+use crate::inside;
 use crate::rules;
 
 // The row of station i, as that very part of the table; refused: the empty part.
@@ -16,9 +16,7 @@ pub fn row(n: usize, table: &[u8], i: Station) -> &[u8]
     if number != 0 {
         return &table[0..0];
     }
-    let a = cells::row_start(n as u8, i);
-    let e = a + n;
-    &table[a..e]
+    inside::row(n as u8, table, i)
 }
 
 // Refusals 1 to 4, 9, or 0, of the row on the same inputs.
@@ -63,7 +61,7 @@ fn join_bytes(row: &mut [u8], other: &[u8])
 }
 
 // The greater of two bytes.
-fn greater(a: u8, b: u8) -> u8
+pub(crate) fn greater(a: u8, b: u8) -> u8
     ensures { λ r. ⌜ r ≡ max a b ⌝ }
 {
     if a < b { b } else { a }

@@ -1,12 +1,16 @@
 // The line rules and the check of a table: refusals 1 to 4 (document 01, "The lent table" and "Refusal list").
 ghost use mathlib.Core.Path.{_≡_};
+ghost use Prim.Native.Nat.{_<_};
 ghost use mathlib.Core.Bool.{_&&_};
+ghost use lib.ListN.{length};
 ghost use Rattle.station.specs.Search.{every};
-ghost use Rattle.station.specs.Table.{live, suspects};
+ghost use Rattle.station.specs.Table.{tableLength, live};
 ghost use Rattle.station.specs.Rules.{headRule, testsRule, finishedRule, ownRule, rowRule, lineRules, someLive, finishedIfLive, liveFinished, shapeNumber, tableNumber};
 use crate::Station;
 use crate::cells;
 use crate::groups;
+use crate::inside;
+use crate::rows;
 
 // Refusals 1 and 2, or 0.
 pub fn check_shape(n: usize, len: usize) -> u8
@@ -33,7 +37,7 @@ pub fn check_table(n: usize, table: &[u8]) -> u8
     if !all_lines(size, table) {
         return 3;
     }
-    if some_live(size, table) & live_finished(size, table) {
+    if is_round_over(size, table) {
         return 4;
     }
     0
@@ -46,32 +50,20 @@ pub fn is_live(n: u8, table: &[u8], i: Station) -> bool
     cells::get_cell(n, table, i, cells::STATUS) == 0
 }
 
-// Whether some station is live.
-pub fn some_live(n: u8, table: &[u8]) -> bool
-    ensures { λ r. ⌜ r ≡ someLive n (now (table .entry)) ⌝ }
+// Whether some station is live and every live one has finished its pass.
+pub fn is_round_over(n: u8, table: &[u8]) -> bool
+    ensures { λ r. ⌜ r ≡ (someLive n (now (table .entry)) && liveFinished n (now (table .entry))) ⌝ }
 {
-    let mut i: u8 = 0;
-    while i < n {
-        if is_live(n, table, Station(i)) {
-            return true;
-        }
-        i += 1;
-    }
-    false
-}
-
-// Whether every live station has finished its pass.
-pub fn live_finished(n: u8, table: &[u8]) -> bool
-    ensures { λ r. ⌜ r ≡ liveFinished n (now (table .entry)) ⌝ }
-{
+    let mut some = false;
     let mut i: u8 = 0;
     while i < n {
         if !finished_if_live(n, table, Station(i)) {
             return false;
         }
+        some = some | is_live(n, table, Station(i));
         i += 1;
     }
-    true
+    some
 }
 
 // Whether station i, if it is live, has finished its pass.
@@ -84,6 +76,7 @@ pub fn finished_if_live(n: u8, table: &[u8], i: Station) -> bool
 
 // Whether every line obeys the line rules.
 fn all_lines(n: u8, table: &[u8]) -> bool
+    requires { ⌜ length (now table) ≡ tableLength n ⌝ }
     ensures { λ r. ⌜ r ≡ every (lineRules n (now (table .entry))) n ⌝ }
 {
     let mut i: u8 = 0;
@@ -97,41 +90,39 @@ fn all_lines(n: u8, table: &[u8]) -> bool
 }
 
 fn line_rules(n: u8, table: &[u8], i: Station) -> bool
+    requires { ⌜ (length (now table) ≡ tableLength n) × (i .0 < n) ⌝ }
     ensures { λ r. ⌜ r ≡ lineRules n (now (table .entry)) (i .0) ⌝ }
 {
-    head_rules(n, table, i) & row_rule(n, table, i)
+    head_rules(n, table, i) & row_rules(n, table, i)
 }
 
-// The rules of the head's bytes and of the station's byte about itself.
+// The rules of the head's bytes.
 fn head_rules(n: u8, table: &[u8], i: Station) -> bool
-    ensures { λ r. ⌜ r ≡ (headRule n (now (table .entry)) (i .0) && testsRule n (now (table .entry)) (i .0) && finishedRule n (now (table .entry)) (i .0) && ownRule n (now (table .entry)) (i .0)) ⌝ }
+    requires { ⌜ (length (now table) ≡ tableLength n) × (i .0 < n) ⌝ }
+    ensures { λ r. ⌜ r ≡ (headRule n (now (table .entry)) (i .0) && testsRule n (now (table .entry)) (i .0) && finishedRule n (now (table .entry)) (i .0)) ⌝ }
 {
-    let status = cells::get_cell(n, table, i, cells::STATUS);
-    let next = cells::get_cell(n, table, i, cells::NEXT);
-    let finished = cells::get_cell(n, table, i, cells::FINISHED);
-    let tests = cells::get_cell(n, table, i, cells::TESTS);
-    let own = suspicion(n, table, i, i);
+    let status = inside::get(n, table, i, cells::STATUS);
+    let next = inside::get(n, table, i, cells::NEXT);
+    let finished = inside::get(n, table, i, cells::FINISHED);
+    let tests = inside::get(n, table, i, cells::TESTS);
     let in_range = (status <= 3) & ((1 <= next) & (next <= n)) & (finished <= 1);
-    in_range & (tests < next) & ((finished == 0) | (next == n)) & (own == 0)
+    in_range & (tests < next) & ((finished == 0) | (next == n))
 }
 
-// The byte of i's row about station k.
-fn suspicion(n: u8, table: &[u8], i: Station, k: Station) -> u8
-    ensures { λ r. ⌜ r ≡ suspects n (now (table .entry)) (i .0) (k .0) ⌝ }
+// The rules of the row: the station's byte about itself, and every byte, by the greatest one. The loop has no exit, so that the compiler
+// takes many bytes at a time.
+fn row_rules(n: u8, table: &[u8], i: Station) -> bool
+    requires { ⌜ (length (now table) ≡ tableLength n) × (i .0 < n) ⌝ }
+    ensures { λ r. ⌜ r ≡ (ownRule n (now (table .entry)) (i .0) && rowRule n (now (table .entry)) (i .0)) ⌝ }
 {
-    let of = k.0;
-    cells::get_cell(n, table, i, cells::HEAD + of as u16)
-}
-
-fn row_rule(n: u8, table: &[u8], i: Station) -> bool
-    ensures { λ r. ⌜ r ≡ rowRule n (now (table .entry)) (i .0) ⌝ }
-{
-    let mut k: u8 = 0;
-    while k < n {
-        if 1 < suspicion(n, table, i, Station(k)) {
-            return false;
-        }
+    let row = inside::row(n, table, i);
+    let of = i.0 as usize;
+    let own = row[of];
+    let mut greatest: u8 = 0;
+    let mut k: usize = 0;
+    while k < row.len() {
+        greatest = rows::greater(greatest, row[k]);
         k += 1;
     }
-    true
+    (own == 0) & (greatest <= 1)
 }

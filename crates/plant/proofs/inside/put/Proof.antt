@@ -2,7 +2,7 @@
 -- Assumes nothing.
 use borrow.Author.Needs.{needs}
 use Rattle.station.specs.Table.{setCell}
-use Rattle.plant.proofs.RowLaws.{byte-inside}
+use Rattle.station.proofs.CellLaws.{byte-inside}
 use Rattle.plant.proofs.inside.put.Statement.{statement}
 use Rattle.plant.proofs.inside.put.Tie as tie
 

@@ -27,7 +27,7 @@ hear-reply-requires c κs =
     let a = c .before .before .before .before .before .before .before .args in
     let p = c .before .before .before .before .before .before .before .pre in
     let t = accepted (a .n) (a .table .now) (p .0) in
-    let e = c .before .before .before .before .before .station-at .ensures in (
+    let e = c .before .before .before .before .before .lookup .ensures in (
       size-bounds (a .n) (t .size) .1,
       ap length (c .before .before .before .count-test .ensures) ∙ (countTest-length (a .n) (a .table .now) (a .i .0) (a .m .0) ∙ t .long),
       p .1,
@@ -43,7 +43,7 @@ leave-if-alone-requires c κs =
 
 returns : tie.Need-returns
 unfolding testing
-returns c = (rw (c .before .before .before .before .before .before .hear-reply .ensures .0, c .before .before .before .before .before .before .before .before .before .before .count-test .ensures, c .before .before .before .before .before .before .before .before .before .before .before .before .station-at .ensures), rw (c .before .before .leave-if-alone .ensures, c .before .before .before .before .before .before .hear-reply .ensures .1, c .before .before .before .before .before .before .before .before .before .before .count-test .ensures, c .before .before .before .before .before .before .before .before .before .before .before .before .station-at .ensures))
+returns c = (rw (c .before .before .before .before .before .before .hear-reply .ensures .0, c .before .before .before .before .before .before .before .before .before .before .count-test .ensures, c .before .before .before .before .before .before .before .before .before .before .before .before .lookup .ensures), rw (c .before .before .leave-if-alone .ensures, c .before .before .before .before .before .before .hear-reply .ensures .1, c .before .before .before .before .before .before .before .before .before .before .count-test .ensures, c .before .before .before .before .before .before .before .before .before .before .before .before .lookup .ensures))
 
 pub make-test-spec : {M : Type 1} → statement M
 make-test-spec =

@@ -40,7 +40,7 @@ returns-2 : tie.Need-returns-2
 unfolding turn turnTested turnOutcome makesTest
 returns-2 c =
     let e = lt-ltb _ _ (c .before .before .before .before .before .if1 .left) in
-    rw (← c .before .before .before .before .before .before .before .next-test .ensures, e) (c .before .before .before .before .station-at .ensures, (c .before .before .make-test .ensures .0, c .before .before .make-test .ensures .1))
+    rw (← c .before .before .before .before .before .before .before .next-test .ensures, e) (c .before .before .before .before .lookup .ensures, (c .before .before .make-test .ensures .0, c .before .before .make-test .ensures .1))
 
 pub take-turn-spec : {M : Type 1} → statement M
 take-turn-spec =

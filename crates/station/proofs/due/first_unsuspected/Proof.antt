@@ -31,11 +31,11 @@ loop-holds c = (search needs, search needs, below-none _)
 
 returns-2 : tie.Need-returns-2 Inv-loop μ-loop
 returns-2 c =
-    ap some (c .before .before .station-at .ensures)
-    ∙ sym (first-at _ _ _ _ (c .before .before .before .before .before .width-of .ensures .0 ∙ ap width (c .before .before .before .before .before .before .level-of .ensures .0)) _ (c .before .before .before .loop-test .taken) (sym (ap (unsuspected _) (c .before .before .station-at .ensures)) ∙ sym (c .before .is-unsuspected .ensures) ∙ c .if2 .taken) (c .before .before .before .before .loop .inv .2))
+    ap some (c .before .before .lookup .ensures)
+    ∙ sym (first-at _ _ _ _ (c .before .before .before .before .before .width-of .ensures .0 ∙ ap width (c .before .before .before .before .before .before .level-of .ensures .0)) _ (c .before .before .before .loop-test .taken) (sym (ap (unsuspected _) (c .before .before .lookup .ensures)) ∙ sym (c .before .is-unsuspected .ensures) ∙ c .if2 .taken) (c .before .before .before .before .loop .inv .2))
 
 loop-again : tie.Need-loop-again Inv-loop μ-loop
-loop-again c = (search needs, search needs, below-more _ _ (c .before .before .before .before .loop .inv .2) (sym (ap (unsuspected _) (c .before .before .station-at .ensures)) ∙ sym (c .before .is-unsuspected .ensures) ∙ c .if2 .left))
+loop-again c = (search needs, search needs, below-more _ _ (c .before .before .before .before .loop .inv .2) (sym (ap (unsuspected _) (c .before .before .lookup .ensures)) ∙ sym (c .before .is-unsuspected .ensures) ∙ c .if2 .left))
 
 returns-3 : tie.Need-returns-3 Inv-loop μ-loop
 returns-3 c =

@@ -9,14 +9,14 @@ returns : tie.Need-returns
 unfolding due
 returns c =
     rw (
-      ← c .before .before .before .before .before .before .station-at .ensures,
+      ← c .before .before .before .before .before .before .lookup .ensures,
       ← c .before .before .before .before .before .first-unsuspected .ensures,
       c .before .before .before .x .given .1,
     )
 
 returns-2 : tie.Need-returns-2
 unfolding due
-returns-2 c = rw (← c .before .before .before .station-at .ensures, ← c .before .before .first-unsuspected .ensures, c .enum-told .given .1)
+returns-2 c = rw (← c .before .before .before .lookup .ensures, ← c .before .before .first-unsuspected .ensures, c .enum-told .given .1)
 
 pub is-due-spec : {M : Type 1} → statement M
 is-due-spec =

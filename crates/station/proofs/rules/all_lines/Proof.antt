@@ -5,13 +5,15 @@ use mathlib.Core.Bool.{true}
 use Prim.Native.Nat.{_-_, _≤_}
 use borrow.Author.Needs.{needs}
 use Rattle.station.proofs.Loops.{loops}
+use lib.ListN.{length}
 use Rattle.station.specs.Search.{every}
+use Rattle.station.specs.Table.{tableLength}
 use Rattle.station.specs.Rules.{lineRules}
 use Rattle.station.proofs.rules.all_lines.Statement.{statement}
 use Rattle.station.proofs.rules.all_lines.Tie as tie
 
 abbrev Inv-loop : tie.InvT-loop
-Inv-loop n table i₀ i = (i ≤ n) × (every (lineRules n table) i ≡ true)
+Inv-loop n table i₀ i = (i ≤ n) × (length table ≡ tableLength n) × (every (lineRules n table) i ≡ true)
 
 abbrev μ-loop : tie.MeasureT-loop
 μ-loop n table i₀ i = n - i

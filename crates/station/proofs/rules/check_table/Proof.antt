@@ -16,17 +16,20 @@ returns c = else-first _ _ _ (c .before .check-shape .ensures) (c .if1 .taken)
 cast-size : tie.Need-cast-size
 cast-size c = omega (arith, size-bounds _ (shape-zero _ _ (sym (c .before .check-shape .ensures) ∙ c .if1 .left) .0))
 
+all-lines-requires : tie.Need-all-lines-requires
+all-lines-requires c κs = shape-zero _ _ (sym (c .before .check-shape .ensures) ∙ c .if1 .left) .1
+
 returns-2 : tie.Need-returns-2
 unfolding tableNumber
 returns-2 c = simp (← c .before .before .before .check-shape .ensures, c .before .before .if1 .left, ← c .before .all-lines .ensures, c .if2 .taken)
 
 returns-3 : tie.Need-returns-3
 unfolding tableNumber
-returns-3 c = simp (← c .before .before .before .before .before .before .check-shape .ensures, c .before .before .before .before .before .if1 .left, ← c .before .before .before .before .all-lines .ensures, c .before .before .before .if2 .left, ← c .before .before .some-live .ensures, ← c .before .live-finished .ensures, c .if3 .taken)
+returns-3 c = simp (← c .before .before .before .before .before .check-shape .ensures, c .before .before .before .before .if1 .left, ← c .before .before .before .all-lines .ensures, c .before .before .if2 .left, ← c .before .is-round-over .ensures, c .if3 .taken)
 
 returns-4 : tie.Need-returns-4
 unfolding tableNumber
-returns-4 c = simp (← c .before .before .before .before .before .before .check-shape .ensures, c .before .before .before .before .before .if1 .left, ← c .before .before .before .before .all-lines .ensures, c .before .before .before .if2 .left, ← c .before .before .some-live .ensures, ← c .before .live-finished .ensures, c .if3 .left)
+returns-4 c = simp (← c .before .before .before .before .before .check-shape .ensures, c .before .before .before .before .if1 .left, ← c .before .before .before .all-lines .ensures, c .before .before .if2 .left, ← c .before .is-round-over .ensures, c .if3 .left)
 
 pub check-table-spec : {M : Type 1} → statement M
 check-table-spec =
@@ -35,9 +38,8 @@ check-table-spec =
     (λ c κs. search needs)
     returns
     cast-size
-    (λ c κs. search needs)
+    all-lines-requires
     returns-2
-    (λ c κs. search needs)
     (λ c κs. search needs)
     returns-3
     returns-4)

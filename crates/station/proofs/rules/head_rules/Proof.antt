@@ -8,20 +8,13 @@ use Rattle.station.proofs.rules.head_rules.Tie as tie
 returns : tie.Need-returns
 returns c =
     head-rules-are
-    _ _ _ _ _ _ _ _
-    (c .before .before .before .before .get-cell .ensures)
-    (c .before .before .before .get-cell2 .ensures)
-    (c .before .before .get-cell3 .ensures)
-    (c .before .get-cell4 .ensures)
-    (c .suspicion .ensures)
+    _ _ _ _ _ _ _
+    (c .before .before .before .get .ensures)
+    (c .before .before .get2 .ensures)
+    (c .before .get3 .ensures)
+    (c .get4 .ensures)
 
 pub head-rules-spec : {M : Type 1} → statement M
 head-rules-spec =
     tie.close
-    (tie.spec
-    (λ c κs. search needs)
-    (λ c κs. search needs)
-    (λ c κs. search needs)
-    (λ c κs. search needs)
-    (λ c κs. search needs)
-    returns)
+    (tie.spec (λ c κs. search needs) (λ c κs. search needs) (λ c κs. search needs) (λ c κs. search needs) returns)

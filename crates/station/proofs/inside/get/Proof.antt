@@ -1,10 +1,10 @@
 -- `inside::get` meets its contract: the place lies inside the table.
 -- Assumes nothing.
 use borrow.Author.Needs.{needs}
 use Rattle.station.specs.Table.{cell}
-use Rattle.plant.proofs.RowLaws.{byte-inside}
-use Rattle.plant.proofs.inside.get.Statement.{statement}
-use Rattle.plant.proofs.inside.get.Tie as tie
+use Rattle.station.proofs.CellLaws.{byte-inside}
+use Rattle.station.proofs.inside.get.Statement.{statement}
+use Rattle.station.proofs.inside.get.Tie as tie
 
 shared-slice-read-result : tie.Need-shared-slice-read-result
 shared-slice-read-result c = search (needs, byte-inside)

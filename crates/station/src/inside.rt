@@ -1,0 +1,28 @@
+// Bytes and rows of a table that are known to lie inside it: no test of the place is made. These functions have a `requires`: they are `pub`
+// only for the crate above, which has checked the table.
+ghost use mathlib.Core.Path.{_≡_};
+ghost use Prim.Native.Nat.{_<_};
+ghost use lib.ListN.{length};
+ghost use Rattle.station.specs.Table.{stride, tableLength, cell, row};
+use crate::Station;
+use crate::cells;
+
+// Byte c of line i.
+pub fn get(n: u8, table: &[u8], i: Station, c: u16) -> u8
+    requires { ⌜ (length (now table) ≡ tableLength n) × (i .0 < n) × (c < stride n) ⌝ }
+    ensures { λ r. ⌜ r ≡ cell n (now (table .entry)) (i .0) c ⌝ }
+{
+    let at = cells::line_start(n, i) + c as usize;
+    table[at]
+}
+
+// The row of line i, as that part of the table.
+pub fn row(n: u8, table: &[u8], i: Station) -> &[u8]
+    requires { ⌜ (length (now table) ≡ tableLength n) × (i .0 < n) ⌝ }
+    ensures { λ r. ⌜ now r ≡ row n (now (table .entry)) (i .0) ⌝ }
+    ensures { λ r. ⌜ length (now r) ≡ n ⌝ }
+{
+    let a = cells::row_start(n, i);
+    let e = a + n as usize;
+    &table[a..e]
+}
