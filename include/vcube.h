@@ -1,27 +1,27 @@
 /* The vCube watch for C and C++: the calls of the document "The vCube watch on a gin's plant cable" (document 01). The library behind them
- * (crates/vcube, crates/plant, crates/station) is proved in Rattle to do what its definitions say; this header and the compiler's back end are
- * not part of the proof.
+ * (crates/vcube, crates/plant, crates/station) is proved in Rattle to do what its definitions say; this header and the compiler's back end
+ * are not part of the proof.
  *
  * Build the archive with `rt staticlib vcube` and link target/staticlib/libvcube.a (x86-64 Linux), or install it by bindings/c/install.
  *
- * Numbers and lengths may be anything at all: nothing need be tested before a call. A buffer is a pointer to bytes and their number; the pointer
- * must be valid for that many bytes, at any alignment. Where the number is 0 the pointer may be NULL: nothing is read or written there, and
- * the call gives what it gives for any other buffer of length 0. The pointers to size_t and uint32_t, where a call puts its figures, must each
- * point to a variable of that type, not NULL. No two buffers or variables of one call may overlap. The library keeps no state and no pointer:
- * calls may run at once in several threads, if none writes what another uses.
+ * Numbers and lengths may be anything at all: nothing need be tested before a call. A buffer is a pointer to bytes and their number; the
+ * pointer must be valid for that many bytes, at any alignment. Where the number is 0 the pointer may be NULL: nothing is read or written
+ * there, and the call gives what it gives for any other buffer of length 0 (tested, not proved). The pointers to size_t and uint32_t, where
+ * a call puts its figures, must each point to a variable of that type, not NULL. No two buffers or variables of one call may overlap. The
+ * library keeps no state and no pointer: calls may run at once in several threads, if none writes what another uses.
  *
  * Words. The distance of two stations is the exclusive or of their numbers. The group of station i at level s holds, in this order, the
- * stations i ^ (2^(s - 1) + k) for k from 0 to 2^(s - 1) - 1; the level of a distance m is the s with 2^(s - 1) <= m < 2^s. Distance m is due
- * for i if i is the first station that i does not suspect in the group of j at level s, where j is at distance m from i and s is the level of
- * m. A station suspects another by its own row.
+ * stations i ^ (2^(s - 1) + k) for k from 0 to 2^(s - 1) - 1; the level of a distance m is the s with 2^(s - 1) <= m < 2^s. Distance m is
+ * due for i if i is the first station that i does not suspect in the group of j at level s, where j is at distance m from i and s is the
+ * level of m. A station suspects another by its own row.
  *
- * The table has n lines of n + 4 bytes, in station order. Bytes 0 to 3 of a line are its status (enum vcube_status), its next distance (1 to
- * n), whether its pass is finished (0 or 1), and the tests made in this round. Then comes the station's row: byte k is 1 if it suspects station
- * k, else 0. The line rules, for lines that are not live too: each byte in its range; the tests at most the next distance less 1; a finished
- * line has next distance n; a station's byte about itself is 0.
+ * The table has n lines of n + 4 bytes, in station order. Bytes 0 to 3 of a line are its status (enum vcube_status), its next distance (1
+ * to n), whether its pass is finished (0 or 1), and the tests made in this round. Then comes the station's row: byte k is 1 if it suspects
+ * station k, else 0. The line rules, for lines that are not live too: each byte in its range; the tests at most the next distance less 1; a
+ * finished line has next distance n; a station's byte about itself is 0.
  *
- * Each call returns 0 or the number of its refusal (enum vcube_refusal). A refused call changes no byte of table, list or sheet, except that a
- * run which stops at an entry (7 to 11) keeps the work of the entries before it. What becomes of the figures is said of each call.
+ * Each call returns 0 or the number of its refusal (enum vcube_refusal). A refused call changes no byte of table, list or sheet, except
+ * that a run which stops at an entry (7 to 11) keeps the work of the entries before it. What becomes of the figures is said of each call.
  */
 #ifndef VCUBE_H
 #define VCUBE_H
@@ -94,19 +94,20 @@ uint8_t vcube_fresh_table(size_t n, uint8_t *table, size_t table_length);
  * Refusals: 1, 9, 12, 13. */
 uint8_t vcube_group_list(size_t n, size_t station, size_t level, uint8_t *list, size_t list_length);
 
-/* Assignment: the distances due for a live station, ascending, into a list of n - 1 bytes, the rest 0; how many into *count, which is 0 where
- * the call is refused.
+/* Assignment: the distances due for a live station, ascending, into a list of n - 1 bytes, the rest 0; how many into *count, which is 0
+ * where the call is refused.
  * Refusals: 1 to 4, 9, 10, 13. */
 uint8_t vcube_assignment(size_t n, const uint8_t *table, size_t table_length, size_t station, uint8_t *list, size_t list_length,
                          size_t *count);
 
-/* Row: the station's row is the part of the table that begins at byte *start and has *length bytes (n). Both are 0 where the call is refused.
+/* Row: the station's row is the part of the table that begins at byte *start and has *length bytes (n). Both are 0 where the call is
+ * refused.
  * Refusals: 1 to 4, 9. */
 uint8_t vcube_row(size_t n, const uint8_t *table, size_t table_length, size_t station, size_t *start, size_t *length);
 
-/* Run: takes the entries of a schedule in order. An entry is two bytes: kind (enum vcube_kind) and station. What an entry does is steps 1 to 8
- * of document 01, as definitions in crates/plant/specs/Turn.antt and Entry.antt. For each entry taken four bytes of the sheet are written: the
- * station, the station it tested or VCUBE_NO_STATION, the outcome (enum vcube_outcome) and its status after the entry.
+/* Run: takes the entries of a schedule in order. An entry is two bytes: kind (enum vcube_kind) and station. What an entry does is steps 1
+ * to 8 of document 01, as definitions in crates/plant/specs/Turn.antt and Entry.antt. For each entry taken four bytes of the sheet are
+ * written: the station, the station it tested or VCUBE_NO_STATION, the outcome (enum vcube_outcome) and its status after the entry.
  * *rounds and *tests are the tally of closed rounds and of tests: handed in there, given back there. *taken is how many entries were taken.
  * A run refused by 1 to 6 leaves the tally as it was, and *taken is 0.
  * Refusals: 1 to 6, then 7 to 11 at each entry. */

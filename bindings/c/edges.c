@@ -37,7 +37,8 @@ static void null_buffers(const uint8_t *table)
 }
 
 /* A run with this table, schedule and sheet returns the number, takes no entry and leaves the tally as it was. */
-static void run_takes_nothing(uint8_t *table, const uint8_t *schedule, size_t schedule_length, uint8_t *sheet, size_t sheet_length, int number)
+static void run_takes_nothing(uint8_t *table, const uint8_t *schedule, size_t schedule_length, uint8_t *sheet, size_t sheet_length,
+                              int number)
 {
     uint32_t rounds = ANY, tests = ANY + 1;
     size_t taken = ANY;

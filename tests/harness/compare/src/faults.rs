@@ -36,13 +36,10 @@ pub const ALL: [Fault; 12] = [
         }
     }),
     ("the count is one byte", |call, outcome| {
-        let count = outcome.buffers.get(Name::Count).contents().first().copied();
-        leave(call, outcome, Name::Count);
-        let place = outcome.buffers.get_mut(Name::Count).contents_mut();
-        place
-            .iter_mut()
-            .zip(count)
-            .for_each(|(byte, count)| *byte = count);
+        if let Some(count) = figure(outcome, Name::Count) {
+            leave(call, outcome, Name::Count);
+            outcome.buffers.get_mut(Name::Count).contents_mut()[0] = count as u8;
+        }
     }),
     ("a refused row leaves its start", |call, outcome| {
         if outcome.number != 0 {
@@ -73,7 +70,7 @@ pub const ALL: [Fault; 12] = [
     }),
 ];
 
-/// Of the calls with an outcome, only the run gives 3 to 6 beside a tally.
+/// Whether the call was refused by 1 to 6.
 fn refused_at_start(outcome: &Outcome) -> bool {
     (1..=6).contains(&outcome.number)
 }

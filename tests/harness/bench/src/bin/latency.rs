@@ -162,9 +162,9 @@ fn main_table(results: &[Results]) -> String {
     let mut text = String::from(
         "## Random plants
 
-At least two boards are live. Their number is drawn from 2 to a power of two that is drawn first from 2 to N, since few live boards take the
-most rounds; then which ones. At least one board is dead, but for N = 2, where there is nothing to find. Each turn is taken by any live board
-that has not finished its pass, at random. Demand 3 states d·d rounds; its proof shows 1 + d(d − 1)/2.
+At least two boards are live. Their number is drawn from 2 to a power of two that is drawn first from 2 to N, since few live boards take
+the most rounds; then which ones. At least one board is dead, but for N = 2, where there is nothing to find and no round is counted. Each
+turn is taken by any live board that has not finished its pass, at random. Demand 3 states d·d rounds; its proof shows 1 + d(d − 1)/2.
 
 | N | d | trials | least | mean | 99th percentile | greatest | 1 + d(d − 1)/2 | d·d |
 |--:|--:|--:|--:|--:|--:|--:|--:|--:|
