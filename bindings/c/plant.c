@@ -1,26 +1,30 @@
 /* Document 01's example for N = 4, by the C interface of the library. */
 
+#include "vcube.h"
+
 #include <inttypes.h>
 #include <stdio.h>
-
-#include "vcube.h"
 
 #define N 4
 #define ENTRIES 4
 
-static const uint8_t schedule[2 * ENTRIES] = {2, 0, 1, 0, 1, 0, 1, 1};
+static const uint8_t schedule[2 * ENTRIES] = {
+    VCUBE_KIND_LATE_TURN, 0,
+    VCUBE_KIND_TURN, 0,
+    VCUBE_KIND_TURN, 0,
+    VCUBE_KIND_TURN, 1,
+};
 
 static uint8_t table[VCUBE_TABLE_LENGTH(N)];
 static uint8_t sheet[4 * ENTRIES];
-static uint8_t answer[VCUBE_ANSWER_LENGTH];
 
-/* Prints numbers behind each other; 255, where there is no station, as -. */
+/* Prints numbers behind each other; VCUBE_NO_STATION as -. */
 static void print_bytes(const uint8_t *bytes, size_t length)
 {
     for (size_t k = 0; k < length; k++) {
         if (k > 0)
             printf(" ");
-        if (bytes[k] == 255)
+        if (bytes[k] == VCUBE_NO_STATION)
             printf("-");
         else
             printf("%d", bytes[k]);
@@ -31,23 +35,22 @@ static void print_bytes(const uint8_t *bytes, size_t length)
 /* Says which call was refused; gives whether it was. */
 static int refused(const char *call, uint8_t number)
 {
-    if (number != 0)
+    if (number != VCUBE_ACCEPTED)
         printf("%s: refused with %d\n", call, number);
-    return number != 0;
+    return number != VCUBE_ACCEPTED;
 }
 
-/* Runs the schedule and prints the sheet and the answer. */
+/* Runs the schedule and prints the sheet and the tally. */
 static void run(void)
 {
-    uint8_t number = vcube_run(N, table, sizeof table, 0, 0, schedule, sizeof schedule,
-                               sheet, sizeof sheet, answer, sizeof answer);
-    uint64_t taken = vcube_taken(answer);
+    uint32_t rounds = 0, tests = 0;
+    size_t taken;
+    uint8_t number = vcube_run(N, table, sizeof table, &rounds, &tests, schedule, sizeof schedule, sheet, sizeof sheet, &taken);
 
     printf("station tested outcome status\n");
-    for (uint64_t entry = 0; entry < taken; entry++)
+    for (size_t entry = 0; entry < taken; entry++)
         print_bytes(sheet + 4 * entry, 4);
-    printf("rounds %" PRIu32 " tests %" PRIu32, vcube_rounds(answer), vcube_tests(answer));
-    printf(" refused %d at %" PRIu64 "\n", number, taken);
+    printf("rounds %" PRIu32 " tests %" PRIu32 " refused %d at %zu\n", rounds, tests, number, taken);
 }
 
 /* Prints the group of station 3 at level 2, which has 2 members. */
@@ -62,14 +65,27 @@ static int print_group(void)
     return 0;
 }
 
+/* Prints the distances due for station 0. */
+static int print_due(void)
+{
+    uint8_t list[N - 1];
+    size_t count;
+
+    if (refused("assignment", vcube_assignment(N, table, sizeof table, 0, list, sizeof list, &count)))
+        return 1;
+    printf("due for 0: ");
+    print_bytes(list, count);
+    return 0;
+}
+
 /* Prints a station's row, which is a part of the table. */
 static int print_row(size_t station)
 {
-    if (refused("row", vcube_row_number(N, table, sizeof table, station)))
+    size_t start, length;
+
+    if (refused("row", vcube_row(N, table, sizeof table, station, &start, &length)))
         return 1;
-    size_t start = vcube_row_start(N, table, sizeof table, station);
-    size_t length = vcube_row_length(N, table, sizeof table, station);
-    printf("row of %d: ", (int)station);
+    printf("row of %zu: ", station);
     print_bytes(table + start, length);
     return 0;
 }
@@ -79,7 +95,7 @@ int main(void)
     if (refused("fresh table", vcube_fresh_table(N, table, sizeof table)))
         return 1;
     run();
-    if (print_group())
+    if (print_group() || print_due())
         return 1;
     for (size_t station = 0; station < N; station++)
         if (print_row(station))

@@ -2,26 +2,36 @@
 //!
 //! What each call does, and when it is refused, is said in document 01. Every
 //! call takes any numbers and slices of any length: nothing need be tested
-//! before calling. A refused call changes no byte; a run that stops at an
+//! before calling. A refused call changes nothing; a run that stops at an
 //! entry keeps the work of the entries before it.
 //!
 //! The example of document 01 for N = 4:
 //!
 //! ```
-//! use vcube::{Answer, Distance, Station, Tally};
+//! use vcube::{Answer, Distance, Entry, Kind, Outcome, Station, Status, Tally};
 //!
 //! let n = 4;
 //! let mut table = [0; vcube::table_length(4)];
 //! vcube::fresh_table(n, &mut table)?;
 //!
-//! let schedule = [2, 0, 1, 0, 1, 0, 1, 1];
+//! let entry = |kind, station| Entry { kind, station: Station(station) };
+//! let schedule = vcube::schedule(&[
+//!     entry(Kind::LateTurn, 0),
+//!     entry(Kind::Turn, 0),
+//!     entry(Kind::Turn, 0),
+//!     entry(Kind::Turn, 1),
+//! ]);
+//! let mut tally = Tally::default();
 //! let mut sheet = [0; 16];
-//! let answer = vcube::run(n, &mut table, Tally::default(), &schedule, &mut sheet);
+//! let answer = vcube::run(n, &mut table, &mut tally, &schedule, &mut sheet);
 //!
 //! // 0 suspects 1, exchanges with 2, then with 3; 1 tests 0, is told and leaves.
-//! let tally = Tally { rounds: 0, tests: 4 };
-//! assert_eq!(answer, Answer { refusal: None, taken: 4, tally });
-//! assert_eq!(sheet, [0, 1, 3, 0, 0, 2, 1, 0, 0, 3, 1, 0, 1, 0, 2, 2]);
+//! assert_eq!(answer, Answer { refusal: None, taken: 4 });
+//! assert_eq!(tally, Tally { rounds: 0, tests: 4 });
+//! let lines: Vec<_> = vcube::sheet_lines(&sheet, answer.taken).collect();
+//! assert_eq!(lines[0].outcome, Outcome::NoReply);
+//! assert_eq!(lines[2].tested, Some(Station(3)));
+//! assert_eq!(lines[3].status, Status::Told);
 //! assert_eq!(vcube::row(n, &table, Station(0))?, [0, 1, 0, 0]);
 //! assert_eq!(vcube::row(n, &table, Station(1))?, [0, 0, 0, 0]);
 //!
@@ -33,17 +43,18 @@
 
 #![deny(unsafe_code)]
 
+mod codes;
+mod entries;
 #[allow(unsafe_code)]
-#[doc(hidden)]
-pub mod raw;
-mod refusal;
+mod raw;
 
 #[cfg(test)]
 mod tests;
 
-pub use refusal::Refusal;
+pub use codes::{Kind, Outcome, Refusal, Status};
+pub use entries::{schedule, sheet_lines, Entry, SheetLine};
 
-/// A station number. Any number can stand here; the library refuses N or more.
+/// A station number. Any number can stand here; the library refuses n or more.
 #[derive(Clone, Copy, Debug, PartialEq, Eq, Hash, PartialOrd, Ord)]
 pub struct Station(pub usize);
 
@@ -62,19 +73,19 @@ pub struct Tally {
     pub tests: u32,
 }
 
-/// What a run answers.
+/// What a run answers beside the tally.
 #[derive(Clone, Copy, Debug, PartialEq, Eq, Hash)]
+#[must_use = "a refused run did not take all entries"]
 pub struct Answer {
     /// The refusal it stopped with, if any.
     pub refusal: Option<Refusal>,
     /// How many entries were taken.
     pub taken: usize,
-    /// The tally given back.
-    pub tally: Tally,
 }
 
 /// The length of a table of n stations: n lines of n + 4 bytes.
 /// It has no meaning for a size that the library refuses.
+#[must_use]
 pub const fn table_length(n: usize) -> usize {
     n.wrapping_mul(n.wrapping_add(4))
 }
@@ -118,9 +129,8 @@ pub fn assignment(
     station: Station,
     list: &mut [u8],
 ) -> Result<usize, Refusal> {
-    let mut count = [0];
-    accepted(raw::assignment(n, table, station.0, list, &mut count))?;
-    Ok(usize::from(count[0]))
+    let (number, count) = raw::assignment(n, table, station.0, list);
+    accepted(number).map(|()| count)
 }
 
 /// The assignment as typed distances: those due, ascending, read from the list.
@@ -138,35 +148,27 @@ pub fn due_distances<'a>(
 /// Row: the station's row as that very part of the lent table.
 /// Refusals: 1 to 4, 9.
 pub fn row(n: usize, table: &[u8], station: Station) -> Result<&[u8], Refusal> {
-    let start = raw::row_start(n, table, station.0);
-    let length = raw::row_length(n, table, station.0);
-    if length == 0 {
-        // Only a refused row is empty, since n is 2 or more.
-        accepted(raw::row_number(n, table, station.0))?;
-    }
-    Ok(&table[start..][..length])
+    let (number, start, length) = raw::row(n, table, station.0);
+    accepted(number).map(|()| &table[start..][..length])
 }
 
 /// Run: takes the entries of a schedule in order; writes four bytes of the
-/// sheet for each entry taken.
+/// sheet for each entry taken, which [`sheet_lines`] reads. The tally goes in
+/// and comes back in its place. A run that is refused at its start leaves the
+/// tally as it was.
 /// Refusals: 1 to 6, then 7 to 11 at each entry.
-pub fn run(n: usize, table: &mut [u8], tally: Tally, schedule: &[u8], sheet: &mut [u8]) -> Answer {
-    let mut bytes = [0; raw::ANSWER_LENGTH];
+pub fn run(
+    n: usize,
+    table: &mut [u8],
+    tally: &mut Tally,
+    schedule: &[u8],
+    sheet: &mut [u8],
+) -> Answer {
     let Tally { rounds, tests } = tally;
-    let number = raw::run(n, table, rounds, tests, schedule, sheet, &mut bytes);
-    decode_answer(number, bytes)
-}
-
-/// The answer's 16 bytes: taken (8), rounds (4), tests (4), high byte first.
-fn decode_answer(number: u8, bytes: [u8; raw::ANSWER_LENGTH]) -> Answer {
-    let all = u128::from_be_bytes(bytes);
+    let (number, taken) = raw::run(n, table, rounds, tests, schedule, sheet);
     Answer {
         refusal: accepted(number).err(),
-        taken: (all >> 64) as usize,
-        tally: Tally {
-            rounds: (all >> 32) as u32,
-            tests: all as u32,
-        },
+        taken,
     }
 }
 

@@ -97,7 +97,14 @@ fn the_assignment_fills_the_rest_of_the_list_with_0() {
 fn the_run_example_of_4_changes_the_table_as_stated() {
     let mut table = fresh(4);
     let schedule = [2, 0, 1, 0, 1, 0, 1, 1];
-    run(4, &mut table, Tally::default(), &schedule, &mut [0; 16]);
+    let answer = run(
+        4,
+        &mut table,
+        &mut Tally::default(),
+        &schedule,
+        &mut [0; 16],
+    );
+    assert_eq!(answer.refusal, None);
     let expected = [
         [0, 4, 0, 3, 0, 1, 0, 0],
         [2, 2, 0, 1, 0, 0, 0, 0],
@@ -124,22 +131,33 @@ fn a_refused_row_has_its_refusal() {
     assert_eq!(row(4, &table, Station(0)), Err(Refusal::LineRule));
 }
 
+/// The run example of 2: the answer, the tally and the sheet, which had 9 in
+/// every byte.
+fn run_example_of_2() -> (Answer, Tally, [u8; 28]) {
+    let entries = [
+        (Kind::Turn, 0),
+        (Kind::Turn, 0),
+        (Kind::Turn, 1),
+        (Kind::Turn, 1),
+        (Kind::Crash, 1),
+        (Kind::Turn, 0),
+        (Kind::Turn, 0),
+    ];
+    let entries = entries.map(|(kind, station)| Entry {
+        kind,
+        station: Station(station),
+    });
+    let (mut tally, mut sheet) = (Tally::default(), [9; 28]);
+    let schedule = schedule(&entries);
+    let answer = run(2, &mut fresh(2), &mut tally, &schedule, &mut sheet);
+    (answer, tally, sheet)
+}
+
 #[test]
 fn the_run_example_of_2_is_refused_at_entry_6() {
-    let mut table = fresh(2);
-    let schedule = [1, 0, 1, 0, 1, 1, 1, 1, 3, 1, 1, 0, 1, 0];
-    let mut sheet = [9; 28];
-    let answer = run(2, &mut table, Tally::default(), &schedule, &mut sheet);
-    let tally = Tally {
-        rounds: 1,
-        tests: 3,
-    };
-    let expected = Answer {
-        refusal: Some(Refusal::NotLive),
-        taken: 6,
-        tally,
-    };
-    assert_eq!(answer, expected);
+    let (answer, tally, sheet) = run_example_of_2();
+    assert_eq!((answer.refusal, answer.taken), (Some(Refusal::NotLive), 6));
+    assert_eq!((tally.rounds, tally.tests), (1, 3));
     let lines = [
         [0, 1, 1, 0],
         [0, 255, 0, 0],
@@ -153,31 +171,69 @@ fn the_run_example_of_2_is_refused_at_entry_6() {
 }
 
 #[test]
-fn a_testing_turn_is_taken_just_below_the_greatest_tally() {
-    let mut table = fresh(2);
-    let tally = Tally {
-        rounds: 0,
-        tests: 4_294_967_294,
+fn the_sheet_is_read_line_by_line() {
+    let (answer, _, sheet) = run_example_of_2();
+    let lines: Vec<SheetLine> = sheet_lines(&sheet, answer.taken).collect();
+    assert_eq!(lines.len(), 6);
+    let crash = SheetLine {
+        station: Station(1),
+        tested: None,
+        outcome: Outcome::Crash,
+        status: Status::Crashed,
     };
-    let answer = run(2, &mut table, tally, &[1, 0, 1, 1], &mut [0; 8]);
-    assert_eq!(answer.refusal, Some(Refusal::Tally));
-    assert_eq!(answer.taken, 1);
-    assert_eq!(answer.tally.tests, u32::MAX);
+    let last = SheetLine {
+        station: Station(0),
+        tested: Some(Station(1)),
+        outcome: Outcome::NoReply,
+        status: Status::Alone,
+    };
+    assert_eq!(lines[4..], [crash, last]);
+    // The seventh line was not written: 9 is no outcome.
+    assert_eq!(sheet_lines(&sheet, 7).count(), 6);
+    assert_eq!(sheet_lines(&sheet[..7], 6).count(), 1);
 }
 
 #[test]
-fn a_run_refused_at_its_start_gives_back_the_tally() {
-    let tally = Tally {
+fn an_entry_has_two_bytes() {
+    let bytes = |kind, station| {
+        let station = Station(station);
+        Entry { kind, station }.bytes()
+    };
+    assert_eq!(bytes(Kind::Turn, 5), [1, 5]);
+    assert_eq!(bytes(Kind::LateTurn, 63), [2, 63]);
+    for station in [255, 256, 261, usize::MAX] {
+        assert_eq!(bytes(Kind::Crash, station), [3, 255]);
+    }
+}
+
+#[test]
+fn a_testing_turn_is_taken_just_below_the_greatest_tally() {
+    let mut tally = Tally {
+        rounds: 0,
+        tests: 4_294_967_294,
+    };
+    let answer = run(2, &mut fresh(2), &mut tally, &[1, 0, 1, 1], &mut [0; 8]);
+    assert_eq!((answer.refusal, answer.taken), (Some(Refusal::Tally), 1));
+    assert_eq!((tally.rounds, tally.tests), (0, u32::MAX));
+}
+
+#[test]
+fn a_run_refused_at_its_start_leaves_the_tally() {
+    let before = Tally {
         rounds: 0x0102_0304,
         tests: 0x0506_0708,
     };
-    let answer = run(2, &mut fresh(2), tally, &[1], &mut []);
-    let expected = Answer {
-        refusal: Some(Refusal::ScheduleLength),
-        taken: 0,
-        tally,
+    let refused = |n, schedule: &[u8], sheet: usize| {
+        let mut tally = before;
+        let answer = run(n, &mut fresh(2), &mut tally, schedule, &mut vec![0; sheet]);
+        assert_eq!((answer.taken, tally), (0, before));
+        answer.refusal
     };
-    assert_eq!(answer, expected);
+    assert_eq!(refused(3, &[1, 0], 4), Some(Refusal::Size));
+    assert_eq!(refused(4, &[1, 0], 4), Some(Refusal::TableLength));
+    assert_eq!(refused(2, &[1], 2), Some(Refusal::ScheduleLength));
+    assert_eq!(refused(2, &[1, 0], 2), Some(Refusal::SheetLength));
+    assert_eq!(refused(2, &[], 0), None);
 }
 
 #[test]
@@ -206,13 +262,40 @@ fn numbers_out_of_range_are_refused() {
 }
 
 #[test]
-fn a_refusal_has_its_number_and_its_sentence() {
-    for (refusal, number) in Refusal::ALL.into_iter().zip(1..) {
-        assert_eq!(refusal.number(), number);
-        assert_eq!(Refusal::from_number(number), Some(refusal));
-    }
-    assert_eq!(Refusal::from_number(0), None);
-    assert_eq!(Refusal::from_number(14), None);
-    let text = Refusal::Level.to_string();
-    assert_eq!(text, "The level is 0 or above d.");
+fn numbers_are_those_of_document_01() {
+    let names = |name: fn(u8) -> Option<String>| (0..=255).filter_map(name).collect::<Vec<_>>();
+    let refusals = names(|k| Refusal::from_number(k).map(|one| format!("{k} {}", one.number())));
+    assert_eq!((refusals.len(), refusals[12].as_str()), (13, "13 13"));
+    let kinds = names(|k| Kind::from_number(k).map(|one| format!("{} {one:?}", one.number())));
+    assert_eq!(kinds, ["1 Turn", "2 LateTurn", "3 Crash"]);
+    let statuses = names(|k| Status::from_number(k).map(|one| format!("{k} {one:?}")));
+    assert_eq!(statuses, ["0 Live", "1 Crashed", "2 Told", "3 Alone"]);
+    let outcomes = names(|k| Outcome::from_number(k).map(|one| format!("{k} {one:?}")));
+    let expected = [
+        "0 PassFinished",
+        "1 Exchanged",
+        "2 Told",
+        "3 NoReply",
+        "4 Crash",
+    ];
+    assert_eq!(outcomes, expected);
+}
+
+#[test]
+fn each_refusal_has_a_message_of_its_own() {
+    let refusals = (1..=13).map(|k| Refusal::from_number(k).expect("13 refusals"));
+    let mut messages: Vec<String> = refusals.map(|refusal| refusal.to_string()).collect();
+    assert!(messages.iter().all(|message| !message.is_empty()));
+    messages.sort();
+    messages.dedup();
+    assert_eq!(messages.len(), 13);
+    let error: Box<dyn std::error::Error> = Refusal::NotLive.into();
+    assert_eq!(error.to_string(), "the station is not live");
+}
+
+#[test]
+fn the_header_has_the_version_of_this_crate() {
+    let header = include_str!("../../../include/vcube.h");
+    let version = env!("CARGO_PKG_VERSION");
+    assert!(header.contains(&format!("#define VCUBE_VERSION \"{version}\"\n")));
 }

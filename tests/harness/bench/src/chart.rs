@@ -8,6 +8,8 @@ pub struct Point {
     pub least: u32,
     pub mean: f64,
     pub greatest: u32,
+    /// The rounds of the slowest plant known, if there is one.
+    pub slowest: Option<u32>,
     pub shown: u32,
     pub stated: u32,
 }
@@ -25,6 +27,7 @@ const MOST_ROUNDS: u32 = 40;
 const STATED: &str = "#7a7a7a";
 const SHOWN: &str = "#b8641f";
 const OBSERVED: &str = "#1f5fa8";
+const SLOWEST: &str = "#a8201f";
 
 /// The whole chart.
 pub fn draw(points: &[Point]) -> String {
@@ -34,6 +37,7 @@ pub fn draw(points: &[Point]) -> String {
         bound(points, |point| point.stated, STATED, ""),
         bound(points, |point| point.shown, SHOWN, "7 4"),
         observed(points),
+        slowest(points),
         legend(),
     ];
     format!("{}</svg>\n", parts.concat())
@@ -135,6 +139,19 @@ fn observed(points: &[Point]) -> String {
     text
 }
 
+/// For each size with a slowest plant a mark and a number.
+fn slowest(points: &[Point]) -> String {
+    let mut text = String::new();
+    for (place, point) in placed(points) {
+        if let Some(rounds) = point.slowest {
+            let height = y(f64::from(rounds));
+            text += &diamond(place, height);
+            text += &label(place + 12.0, height + 4.5, "start", &rounds.to_string());
+        }
+    }
+    text
+}
+
 /// The legend, in the free corner at the top left.
 fn legend() -> String {
     let row = |k: f64| TOP + 24.0 + 24.0 * k;
@@ -145,14 +162,16 @@ fn legend() -> String {
             + &square(left + 15.0, row(k), colour)
     };
     [
-        white(left - 10.0, TOP + 6.0, 380.0, 84.0),
+        white(left - 10.0, TOP + 6.0, 380.0, 108.0),
         sample(0.0, STATED, ""),
         text(0.0, "d·d: stated and proved"),
         sample(1.0, SHOWN, "7 4"),
         text(1.0, "1 + d(d − 1)/2: what the proof shows"),
         bar(left + 15.0, row(2.0) + 8.0, row(2.0) - 8.0),
         dot(left + 15.0, row(2.0)),
-        text(2.0, "observed: least, mean and greatest"),
+        text(2.0, "random plants: least, mean and greatest"),
+        diamond(left + 15.0, row(3.0)),
+        text(3.0, "slowest plant known"),
     ]
     .concat()
 }
@@ -186,6 +205,13 @@ fn square(x: f64, y: f64, colour: &str) -> String {
 
 fn dot(x: f64, y: f64) -> String {
     format!("<circle cx=\"{x:.1}\" cy=\"{y:.1}\" r=\"4.5\" fill=\"{OBSERVED}\"/>\n")
+}
+
+fn diamond(x: f64, y: f64) -> String {
+    let (left, right, top, bottom) = (x - 6.0, x + 6.0, y - 6.0, y + 6.0);
+    format!(
+        "<polygon points=\"{left:.1},{y:.1} {x:.1},{top:.1} {right:.1},{y:.1} {x:.1},{bottom:.1}\" fill=\"{SLOWEST}\"/>\n"
+    )
 }
 
 /// A vertical bar with a cap at each end.

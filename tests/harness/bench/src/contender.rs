@@ -1,6 +1,7 @@
 //! The three implementations of the run, called the same way.
 
-use crate::{plain, Answer};
+use crate::plain;
+use simulator::Answer;
 use vcube::Tally;
 
 /// An implementation of the run.
@@ -28,27 +29,18 @@ impl Contender {
         match self {
             Contender::Library => run_library(n, table, schedule, sheet),
             Contender::Plain => plain::run(n, table, (0, 0), schedule, sheet),
-            Contender::Simulator => run_simulator(n, table, schedule, sheet),
+            Contender::Simulator => simulator::run(n, table, (0, 0), schedule, sheet),
         }
     }
 }
 
-fn run_library(n: usize, table: &mut [u8], schedule: &[u8], sheet: &mut [u8]) -> Answer {
-    let answer = vcube::run(n, table, Tally::default(), schedule, sheet);
+pub fn run_library(n: usize, table: &mut [u8], schedule: &[u8], sheet: &mut [u8]) -> Answer {
+    let mut tally = Tally::default();
+    let answer = vcube::run(n, table, &mut tally, schedule, sheet);
     Answer {
         number: answer.refusal.map_or(0, |refusal| refusal.number()),
         taken: answer.taken,
-        rounds: answer.tally.rounds,
-        tests: answer.tally.tests,
-    }
-}
-
-fn run_simulator(n: usize, table: &mut [u8], schedule: &[u8], sheet: &mut [u8]) -> Answer {
-    let answer = simulator::run(n, table, (0, 0), schedule, sheet);
-    Answer {
-        number: answer.number,
-        taken: answer.taken,
-        rounds: answer.rounds,
-        tests: answer.tests,
+        rounds: tally.rounds,
+        tests: tally.tests,
     }
 }

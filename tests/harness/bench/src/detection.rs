@@ -1,12 +1,10 @@
 //! How many rounds close until every live board suspects exactly the dead
 //! ones. Everything is done by the library, one entry a run.
 
-use crate::random::Random;
-use crate::work::unfinished;
-use vcube::Tally;
-
-const TURN: u8 = 1;
-const CRASH: u8 = 3;
+use crate::contender::run_library;
+use shared::random::Random;
+use shared::schedule::{Entry, CRASH, TURN};
+use shared::table;
 
 /// Which live board that has not finished its pass takes the next turn.
 #[derive(Clone, Copy, Debug, PartialEq, Eq)]
@@ -24,17 +22,20 @@ pub enum Order {
 }
 
 /// A plant and its closed rounds.
-struct Plant {
+pub struct Plant {
     n: usize,
     table: Vec<u8>,
-    rounds: u32,
+    pub rounds: u32,
 }
 
 /// The closed rounds until every live board suspects exactly the dead ones,
 /// from a fresh table on which the dead boards crash first. Stops the program
 /// if they are more than d·d.
 pub fn rounds_until_known(n: usize, dead: &[usize], order: Order, random: &mut Random) -> u32 {
-    let mut plant = Plant::new(n, dead);
+    let mut plant = Plant::fresh(n);
+    for i in dead {
+        plant.take([CRASH, *i as u8]);
+    }
     while !plant.dead_are_known() {
         plant.play_round(order, random);
         assert!(plant.rounds <= n.ilog2().pow(2), "more than d·d rounds");
@@ -55,35 +56,35 @@ pub fn random_dead(n: usize, random: &mut Random) -> Vec<usize> {
 }
 
 impl Plant {
-    fn new(n: usize, dead: &[usize]) -> Plant {
+    pub fn fresh(n: usize) -> Plant {
         let mut plant = Plant {
             n,
             table: vec![0; vcube::table_length(n)],
             rounds: 0,
         };
         vcube::fresh_table(n, &mut plant.table).expect("a size of the list");
-        for i in dead {
-            plant.take(CRASH, *i);
-        }
         plant
     }
 
-    /// Carries out one entry.
-    fn take(&mut self, kind: u8, i: usize) {
-        self.rounds += run_entry(self.n, &mut self.table, kind, i);
+    /// Carries out one entry. Gives whether it closed a round.
+    pub fn take(&mut self, entry: Entry) -> bool {
+        let closed = run_entry(self.n, &mut self.table, entry);
+        self.rounds += closed;
+        closed != 0
     }
 
     fn play_round(&mut self, order: Order, random: &mut Random) {
-        let before = self.rounds;
         let passes = self.pass_order(order, random);
-        while self.rounds == before {
-            let ready = unfinished(self.n, &self.table);
+        loop {
+            let ready = table::unfinished_stations(self.n, &self.table);
             let i = match order {
                 Order::Random => random.pick(&ready),
                 Order::Delaying => self.most_delaying(ready, random),
                 _ => first_of(&passes, &ready),
             };
-            self.take(TURN, i);
+            if self.take([TURN, i as u8]) {
+                return;
+            }
         }
     }
 
@@ -105,7 +106,7 @@ impl Plant {
         let mut least = (usize::MAX, ready[0]);
         for i in ready {
             let mut table = self.table.clone();
-            run_entry(self.n, &mut table, TURN, i);
+            run_entry(self.n, &mut table, [TURN, i as u8]);
             let after = suspicions(self.n, &table);
             if after < least.0 {
                 least = (after, i);
@@ -118,18 +119,23 @@ impl Plant {
     }
 
     /// Whether every live board suspects exactly the boards that are not live.
-    fn dead_are_known(&self) -> bool {
-        let lines = || self.table.chunks_exact(self.n + 4);
-        let dead: Vec<u8> = lines().map(|line| u8::from(line[0] != 0)).collect();
-        lines().all(|line| line[0] != 0 || line[4..] == dead)
+    pub fn dead_are_known(&self) -> bool {
+        let lines = || table::lines(self.n, &self.table);
+        let dead: Vec<u8> = lines().map(|line| u8::from(!line.is_live())).collect();
+        lines().all(|line| !line.is_live() || line.row() == dead)
+    }
+
+    /// How many boards are not live.
+    pub fn dead(&self) -> usize {
+        self.n - table::live_stations(self.n, &self.table).len()
     }
 }
 
 /// Runs one entry, which must be taken; gives the rounds it closed.
-fn run_entry(n: usize, table: &mut [u8], kind: u8, i: usize) -> u32 {
-    let answer = vcube::run(n, table, Tally::default(), &[kind, i as u8], &mut [0; 4]);
-    assert_eq!((answer.refusal, answer.taken), (None, 1));
-    answer.tally.rounds
+fn run_entry(n: usize, table: &mut [u8], entry: Entry) -> u32 {
+    let answer = run_library(n, table, &entry, &mut [0; 4]);
+    assert_eq!((answer.number, answer.taken), (0, 1));
+    answer.rounds
 }
 
 /// The first board of the order that is ready.
@@ -140,6 +146,6 @@ fn first_of(order: &[usize], ready: &[usize]) -> usize {
 
 /// How many suspicions the rows of the table hold.
 fn suspicions(n: usize, table: &[u8]) -> usize {
-    let rows = table.chunks_exact(n + 4).map(|line| &line[4..]);
+    let rows = table::lines(n, table).map(|line| line.row());
     rows.flatten().map(|byte| usize::from(*byte)).sum()
 }

@@ -8,22 +8,9 @@ pub mod contender;
 pub mod detection;
 pub mod measure;
 pub mod plain;
-pub mod random;
+pub mod slowest;
 pub mod statistics;
 pub mod work;
 
 #[cfg(test)]
 mod tests;
-
-/// What a run answers.
-#[derive(Clone, Copy, Debug, PartialEq, Eq)]
-pub struct Answer {
-    /// 0 or the refusal.
-    pub number: u8,
-    /// How many entries were taken.
-    pub taken: usize,
-    /// The tally of closed rounds.
-    pub rounds: u32,
-    /// The tally of tests.
-    pub tests: u32,
-}

@@ -2,7 +2,7 @@
 
 use crate::contender::Contender;
 use crate::work::Work;
-use crate::Answer;
+use simulator::Answer;
 use std::hint::black_box;
 use std::time::Instant;
 

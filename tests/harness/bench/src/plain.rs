@@ -6,7 +6,7 @@
 //! always exchanges both rows. (The library looks at the entry's own station
 //! first and leaves equal rows alone.)
 
-use crate::Answer;
+use simulator::Answer;
 
 /// The bytes of a line before its row, and what the first four hold.
 const HEAD: usize = 4;

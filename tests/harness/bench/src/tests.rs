@@ -1,11 +1,11 @@
 //! Plain Rust against the simulator: every byte and every answer.
 
 use crate::measure::check_equal;
-use crate::random::Random;
-use crate::work::{table_with_crashed, unfinished, Work};
-use crate::{plain, Answer};
-
-const SIZES: [usize; 6] = [2, 4, 8, 16, 32, 64];
+use crate::work::{table_with_crashed, Work};
+use crate::{plain, slowest};
+use shared::random::Random;
+use shared::table::{unfinished_stations, SIZES};
+use simulator::Answer;
 
 /// Both give the same answer, table and sheet, which are given back.
 fn compare(
@@ -19,8 +19,7 @@ fn compare(
     let (mut sheet_a, mut sheet_b) = (vec![7; sheet], vec![7; sheet]);
     let answer = plain::run(n, &mut table_a, tally, schedule, &mut sheet_a);
     let other = simulator::run(n, &mut table_b, tally, schedule, &mut sheet_b);
-    assert_eq!((answer.number, answer.taken), (other.number, other.taken));
-    assert_eq!((answer.rounds, answer.tests), (other.rounds, other.tests));
+    assert_eq!(answer, other);
     assert_eq!(table_a, table_b);
     assert_eq!(sheet_a, sheet_b);
     (answer, table_a, sheet_a)
@@ -29,7 +28,7 @@ fn compare(
 /// A random entry: mostly a turn that is taken, sometimes late, seldom a
 /// crash or any two bytes.
 fn random_entry(n: usize, table: &[u8], random: &mut Random) -> [u8; 2] {
-    let ready = unfinished(n, table);
+    let ready = unfinished_stations(n, table);
     let kind = match random.below(100) {
         0 => 3,
         1..=6 => 2,
@@ -117,6 +116,7 @@ fn rows_are_the_same_with_none_dead() {
 #[test]
 fn all_three_give_the_same() {
     for n in SIZES {
+        check_equal(&Work::empty(n));
         check_equal(&Work::one_turn(n));
         check_equal(&Work::first_round(n, n / 2 - 1, &mut Random::new(17)));
     }
@@ -176,4 +176,13 @@ fn tallies_at_their_end() {
         compare(2, &table, (end, 0), &schedule, 20);
         compare(2, &table, (0, end), &schedule, 20);
     }
+}
+
+/// The dead boards are those of the files, counted by hand.
+#[test]
+fn slowest_plants() {
+    let folder = concat!(env!("CARGO_MANIFEST_DIR"), "/../../../samples/slowest");
+    let run = |n| slowest::run(folder.as_ref(), n).expect("a plant");
+    let figures = slowest::SIZES.map(|n| (run(n).dead, run(n).rounds));
+    assert_eq!(figures, [(6, 3), (12, 4), (26, 6), (60, 8)]);
 }

@@ -1,10 +1,10 @@
 //! Start tables and schedules of turns in which every entry is taken.
 
-use crate::random::Random;
-use vcube::Tally;
-
-const TURN: u8 = 1;
-const EXCHANGED: u8 = 1;
+use crate::contender::run_library;
+use shared::random::Random;
+use shared::schedule::TURN;
+use shared::table::{self, Line};
+use vcube::Outcome;
 
 /// A table at the start of a round, and a schedule for it.
 #[derive(Clone)]
@@ -39,10 +39,18 @@ impl Work {
     /// One turn of station 0 on a fresh table.
     pub fn one_turn(n: usize) -> Work {
         Work {
+            schedule: vec![TURN, 0],
+            ..Work::empty(n)
+        }
+    }
+
+    /// A fresh table and no entry.
+    pub fn empty(n: usize) -> Work {
+        Work {
             n,
             dead: 0,
             table: table_with_crashed(n, &[]),
-            schedule: vec![TURN, 0],
+            schedule: Vec::new(),
         }
     }
 
@@ -60,10 +68,10 @@ impl Work {
     /// Adds a turn that the table takes and works it on the table. Gives how
     /// many rounds it closes.
     fn add_random_turn(&mut self, table: &mut [u8], random: &mut Random) -> u32 {
-        let entry = [TURN, random.pick(&unfinished(self.n, table)) as u8];
+        let ready = table::unfinished_stations(self.n, table);
+        let entry = [TURN, random.pick(&ready) as u8];
         self.schedule.extend(entry);
-        let answer = vcube::run(self.n, table, Tally::default(), &entry, &mut [0; 4]);
-        answer.tally.rounds
+        run_library(self.n, table, &entry, &mut [0; 4]).rounds
     }
 
     pub fn entries(&self) -> usize {
@@ -77,9 +85,9 @@ impl Work {
         for entry in self.schedule.chunks_exact(2) {
             let mut sheet = [0; 4];
             let before = table.clone();
-            vcube::run(self.n, &mut table, Tally::default(), entry, &mut sheet);
-            let row = |i: u8| &before[usize::from(i) * (self.n + 4) + 4..][..self.n];
-            if sheet[2] == EXCHANGED {
+            run_library(self.n, &mut table, entry, &mut sheet);
+            let row = |i: u8| table::lines(self.n, &before).nth(i.into()).map(Line::row);
+            if sheet[2] == Outcome::Exchanged.number() {
                 exchanges.0 += usize::from(row(sheet[0]) != row(sheet[1]));
                 exchanges.1 += 1;
             }
@@ -90,17 +98,9 @@ impl Work {
 
 /// A fresh table in which these stations are crashed.
 pub fn table_with_crashed(n: usize, crashed: &[usize]) -> Vec<u8> {
-    let mut table = vec![0; n * (n + 4)];
-    simulator::fresh_table(n, &mut table);
+    let mut table = table::fresh(n);
     for i in crashed {
-        table[i * (n + 4)] = 1;
+        table[i * table::line_length(n)] = 1;
     }
     table
-}
-
-/// The live stations that have not finished their pass.
-pub fn unfinished(n: usize, table: &[u8]) -> Vec<usize> {
-    let lines = table.chunks_exact(n + 4).enumerate();
-    let ready = lines.filter(|(_, line)| line[0] == 0 && line[2] == 0);
-    ready.map(|(i, _)| i).collect()
 }

@@ -1,31 +1,15 @@
 //! What a call must give: by the simulator, and by include/vcube.h where the
 //! simulator does not know it.
 //!
-//! The header adds to document 01: station and level numbers of any width, the
-//! buffer for the count, and the buffer for the answer. If the count has not
-//! 1 byte or the answer not 16, the call is refused with 13 unless another
-//! refusal comes first, and no byte changes.
+//! The header adds to document 01: station and level numbers of any width, and
+//! where the figures go. A row is its start in the table and its length.
 
-use crate::call::{Buffers, Call, Kind, Numbers};
+use crate::call::Numbers;
+use crate::calls::{Assignment, Calls, Row, Run};
 use crate::guarded::Guarded;
-use crate::outcome::{Figures, Outcome, Side};
+use crate::outcome::Side;
 
-/// Works the call on the guarded buffers; the guards stay as they are.
-pub fn make(call: &Call, mut buffers: Buffers<Guarded>) -> Outcome {
-    let numbers = &call.numbers;
-    let figures = match call.kind {
-        Kind::FreshTable => Figures::only(fresh_table(numbers, &mut buffers)),
-        Kind::GroupList => Figures::only(group_list(numbers, &mut buffers)),
-        Kind::Assignment => Figures::only(assignment(numbers, &mut buffers)),
-        Kind::Row => row(numbers, buffers.table.contents()),
-        Kind::Run => Figures::only(run(numbers, &mut buffers)),
-    };
-    Outcome {
-        side: Side::Simulator,
-        figures,
-        buffers,
-    }
-}
+pub struct Simulator;
 
 /// A station or level as the simulator takes it. All numbers from 255 on are
 /// out of range for every size, so they are refused alike.
@@ -33,86 +17,51 @@ fn narrow(number: usize) -> u8 {
     number.min(255) as u8
 }
 
-fn fresh_table(numbers: &Numbers, buffers: &mut Buffers<Guarded>) -> u8 {
-    simulator::fresh_table(numbers.n, buffers.table.contents_mut())
-}
+impl Calls for Simulator {
+    const SIDE: Side = Side::Simulator;
 
-fn group_list(numbers: &Numbers, buffers: &mut Buffers<Guarded>) -> u8 {
-    let station = narrow(numbers.station);
-    let level = narrow(numbers.level);
-    simulator::group_list(numbers.n, station, level, buffers.list.contents_mut())
-}
-
-fn assignment(numbers: &Numbers, buffers: &mut Buffers<Guarded>) -> u8 {
-    let table = buffers.table.contents();
-    let station = narrow(numbers.station);
-    let mut list = buffers.list.contents().to_vec();
-    let (number, many) = simulator::assignment(numbers.n, table, station, &mut list);
-    match buffers.count.contents_mut() {
-        [count] => {
-            *count = many as u8;
-            buffers.list.contents_mut().copy_from_slice(&list);
-            number
-        }
-        _ => unless_refused(number),
+    fn fresh_table(numbers: &Numbers, table: &mut Guarded) -> u8 {
+        simulator::fresh_table(numbers.n, table.contents_mut())
     }
-}
 
-/// Refusal 13 for a count of wrong length comes last.
-fn unless_refused(number: u8) -> u8 {
-    match number {
-        0 => 13,
-        _ => number,
+    fn group_list(numbers: &Numbers, list: &mut Guarded) -> u8 {
+        let (station, level) = (narrow(numbers.station), narrow(numbers.level));
+        simulator::group_list(numbers.n, station, level, list.contents_mut())
     }
-}
 
-fn row(numbers: &Numbers, table: &[u8]) -> Figures {
-    let station = narrow(numbers.station);
-    let number = simulator::row_number(numbers.n, table, station);
-    let part = simulator::row(numbers.n, table, station);
-    Figures {
-        number,
-        start: start_of(number, part, table),
-        length: part.len(),
+    fn assignment(numbers: &Numbers, lent: Assignment) -> u8 {
+        let (table, list) = (lent.table.contents(), lent.list.contents_mut());
+        let station = narrow(numbers.station);
+        let (number, count) = simulator::assignment(numbers.n, table, station, list);
+        lent.count.put_figure(count);
+        number
     }
-}
 
-/// Where the part begins in the table; 0 if the row is refused.
-fn start_of(number: u8, part: &[u8], table: &[u8]) -> usize {
-    match number {
-        0 => part.as_ptr() as usize - table.as_ptr() as usize,
-        _ => 0,
+    fn row(numbers: &Numbers, lent: Row) -> u8 {
+        let (table, station) = (lent.table.contents(), narrow(numbers.station));
+        let number = simulator::row_number(numbers.n, table, station);
+        let part = simulator::row(numbers.n, table, station);
+        let start = match number {
+            0 => part.as_ptr() as usize - table.as_ptr() as usize,
+            _ => 0,
+        };
+        lent.start.put_figure(start);
+        lent.length.put_figure(part.len());
+        number
     }
-}
 
-fn run(numbers: &Numbers, buffers: &mut Buffers<Guarded>) -> u8 {
-    let mut table = buffers.table.contents().to_vec();
-    let mut sheet = buffers.sheet.contents().to_vec();
-    let tally = (numbers.rounds, numbers.tests);
-    let schedule = buffers.schedule.contents();
-    let given = simulator::run(numbers.n, &mut table, tally, schedule, &mut sheet);
-    let answer = buffers.answer.contents_mut();
-    if answer.len() != vcube::raw::ANSWER_LENGTH {
-        return unless_refused_at_start(given.number);
+    fn run(numbers: &Numbers, lent: Run) -> u8 {
+        let tally = [&lent.rounds, &lent.tests].map(|place| place.figure() as u32);
+        let answer = simulator::run(
+            numbers.n,
+            lent.table.contents_mut(),
+            tally.into(),
+            lent.schedule.contents(),
+            lent.sheet.contents_mut(),
+        );
+        lent.rounds.put_figure(answer.rounds as usize);
+        lent.tests.put_figure(answer.tests as usize);
+        lent.taken.put_figure(answer.taken);
+        answer.number
     }
-    answer.copy_from_slice(&encode(&given));
-    buffers.table.contents_mut().copy_from_slice(&table);
-    buffers.sheet.contents_mut().copy_from_slice(&sheet);
-    given.number
-}
-
-/// Refusal 13 for an answer of wrong length comes after 1 to 6.
-fn unless_refused_at_start(number: u8) -> u8 {
-    match number {
-        1..=6 => number,
-        _ => 13,
-    }
-}
-
-/// Entries taken (8 bytes), rounds (4), tests (4), high byte first.
-fn encode(answer: &simulator::Answer) -> Vec<u8> {
-    let taken = (answer.taken as u64).to_be_bytes();
-    let rounds = answer.rounds.to_be_bytes();
-    let tests = answer.tests.to_be_bytes();
-    [&taken[..], &rounds, &tests].concat()
 }

@@ -1,96 +1,101 @@
 //! Makes a call by the typed layer of bindings/rust.
 //!
-//! That layer has no buffers for count and answer: it gives values. Here they
-//! are written into the buffers as the library would, so that the outcome can
-//! be compared with the library's byte by byte.
+//! Stations, distances, entries and lines of the sheet go through its types:
+//! what it reads from a buffer is written there again, and its figures are put
+//! where the library would put them. So a fault of it shows in a buffer.
 
-use std::hint::black_box;
+use vcube::{Entry, Level, Refusal, SheetLine, Station, Tally};
 
-use vcube::{Level, Refusal, Station, Tally};
-
-use crate::call::{Buffers, Call, Kind, Numbers};
+use crate::call::Numbers;
+use crate::calls::{Assignment, Calls, Row, Run};
 use crate::guarded::Guarded;
-use crate::outcome::{Figures, Outcome, Side};
+use crate::outcome::Side;
 
-/// Whether the typed layer can make the call: not where count or answer have
-/// a wrong length.
-pub fn can_make(call: &Call) -> bool {
-    match call.kind {
-        Kind::Assignment => call.buffers.count.len() == 1,
-        Kind::Run => call.buffers.answer.len() == vcube::raw::ANSWER_LENGTH,
-        Kind::FreshTable | Kind::GroupList | Kind::Row => true,
-    }
-}
-
-/// Lends the guarded buffers to the typed layer, which can make the call.
-pub fn make(call: &Call, mut buffers: Buffers<Guarded>) -> Outcome {
-    let numbers = &call.numbers;
-    let figures = match call.kind {
-        Kind::FreshTable => Figures::only(fresh_table(numbers, &mut buffers)),
-        Kind::GroupList => Figures::only(group_list(numbers, &mut buffers)),
-        Kind::Assignment => Figures::only(assignment(numbers, &mut buffers)),
-        Kind::Row => row(numbers, buffers.table.contents()),
-        Kind::Run => Figures::only(run(numbers, &mut buffers)),
-    };
-    // The compiler must not take a buffer lent for reading to be unchanged.
-    let buffers = black_box(buffers);
-    Outcome {
-        side: Side::Typed,
-        figures,
-        buffers,
-    }
-}
+pub struct Typed;
 
 /// 0 or the number of the refusal.
-fn number(refusal: Option<Refusal>) -> u8 {
-    refusal.map_or(0, Refusal::number)
+fn number<T>(given: &Result<T, Refusal>) -> u8 {
+    given.as_ref().err().map_or(0, |refusal| refusal.number())
 }
 
-fn fresh_table(numbers: &Numbers, buffers: &mut Buffers<Guarded>) -> u8 {
-    number(vcube::fresh_table(numbers.n, buffers.table.contents_mut()).err())
-}
+impl Calls for Typed {
+    const SIDE: Side = Side::Typed;
 
-fn group_list(numbers: &Numbers, buffers: &mut Buffers<Guarded>) -> u8 {
-    let (station, level) = (Station(numbers.station), Level(numbers.level));
-    let list = buffers.list.contents_mut();
-    number(vcube::group_list(numbers.n, station, level, list).err())
-}
+    fn fresh_table(numbers: &Numbers, table: &mut Guarded) -> u8 {
+        number(&vcube::fresh_table(numbers.n, table.contents_mut()))
+    }
 
-fn assignment(numbers: &Numbers, buffers: &mut Buffers<Guarded>) -> u8 {
-    let table = buffers.table.contents();
-    let list = buffers.list.contents_mut();
-    let given = vcube::assignment(numbers.n, table, Station(numbers.station), list);
-    let many = given.unwrap_or(0);
-    buffers.count.contents_mut()[0] = many.try_into().expect("at most 63 are due");
-    number(given.err())
-}
+    fn group_list(numbers: &Numbers, list: &mut Guarded) -> u8 {
+        let (station, level) = (Station(numbers.station), Level(numbers.level));
+        let given = vcube::group_stations(numbers.n, station, level, list.contents_mut());
+        let given = given.map(|members| members.map(byte).collect::<Vec<u8>>());
+        if let Ok(members) = &given {
+            list.contents_mut().copy_from_slice(members);
+        }
+        number(&given)
+    }
 
-fn row(numbers: &Numbers, table: &[u8]) -> Figures {
-    match vcube::row(numbers.n, table, Station(numbers.station)) {
-        Ok(row) => Figures {
-            number: 0,
-            start: row.as_ptr() as usize - table.as_ptr() as usize,
-            length: row.len(),
-        },
-        Err(refusal) => Figures::only(refusal.number()),
+    fn assignment(numbers: &Numbers, lent: Assignment) -> u8 {
+        let (table, station) = (lent.table.contents(), Station(numbers.station));
+        let list = lent.list.contents_mut();
+        let given = vcube::due_distances(numbers.n, table, station, list);
+        let given = given.map(|due| due.map(|distance| distance.0).collect::<Vec<u8>>());
+        let due = given.as_deref().unwrap_or(&[]);
+        list[..due.len()].copy_from_slice(due);
+        lent.count.put_figure(due.len());
+        number(&given)
+    }
+
+    fn row(numbers: &Numbers, lent: Row) -> u8 {
+        let table = lent.table.contents();
+        let given = vcube::row(numbers.n, table, Station(numbers.station));
+        let start = given.map_or(0, |row| row.as_ptr() as usize - table.as_ptr() as usize);
+        lent.start.put_figure(start);
+        lent.length.put_figure(given.map_or(0, <[u8]>::len));
+        number(&given)
+    }
+
+    fn run(numbers: &Numbers, lent: Run) -> u8 {
+        let mut tally = Tally {
+            rounds: lent.rounds.figure() as u32,
+            tests: lent.tests.figure() as u32,
+        };
+        let schedule = typed_schedule(lent.schedule.contents());
+        let (table, sheet) = (lent.table.contents_mut(), lent.sheet.contents_mut());
+        let answer = vcube::run(numbers.n, table, &mut tally, &schedule, sheet);
+        let lines: Vec<SheetLine> = vcube::sheet_lines(sheet, answer.taken).collect();
+        for (place, line) in sheet.chunks_exact_mut(4).zip(&lines) {
+            place.copy_from_slice(&line_bytes(line));
+        }
+        lent.rounds.put_figure(tally.rounds as usize);
+        lent.tests.put_figure(tally.tests as usize);
+        lent.taken.put_figure(lines.len());
+        number(&answer.refusal.map_or(Ok(()), Err))
     }
 }
 
-fn run(numbers: &Numbers, buffers: &mut Buffers<Guarded>) -> u8 {
-    let tally = Tally {
-        rounds: numbers.rounds,
-        tests: numbers.tests,
-    };
-    let answer = vcube::run(
-        numbers.n,
-        buffers.table.contents_mut(),
-        tally,
-        buffers.schedule.contents(),
-        buffers.sheet.contents_mut(),
-    );
-    let bytes = buffers.answer.contents_mut();
-    bytes[..8].copy_from_slice(&(answer.taken as u64).to_be_bytes());
-    bytes[8..12].copy_from_slice(&answer.tally.rounds.to_be_bytes());
-    bytes[12..].copy_from_slice(&answer.tally.tests.to_be_bytes());
-    number(answer.refusal)
+fn byte(station: Station) -> u8 {
+    station.0.try_into().expect("a station in a buffer")
+}
+
+/// The schedule by typed entries, if all of it is entries of known kinds; else
+/// the bytes as they are.
+fn typed_schedule(bytes: &[u8]) -> Vec<u8> {
+    let (pairs, rest) = bytes.as_chunks();
+    let entries = pairs.iter().map(|[kind, station]| {
+        Some(Entry {
+            kind: vcube::Kind::from_number(*kind)?,
+            station: Station(usize::from(*station)),
+        })
+    });
+    match entries.collect::<Option<Vec<Entry>>>() {
+        Some(entries) if rest.is_empty() => vcube::schedule(&entries),
+        _ => bytes.to_vec(),
+    }
+}
+
+fn line_bytes(line: &SheetLine) -> [u8; 4] {
+    let tested = line.tested.map_or(255, byte);
+    let (outcome, status) = (line.outcome.number(), line.status.number());
+    [byte(line.station), tested, outcome, status]
 }

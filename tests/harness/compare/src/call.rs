@@ -1,11 +1,13 @@
 //! A call: its kind, its numbers and its buffers.
+//!
+//! A place where a call puts a figure is a buffer too: the bytes of a `usize`,
+//! or of a `u32` for the tally, which is also handed in there.
 
 #[derive(Clone, Copy, Debug, PartialEq, Eq)]
 pub enum Kind {
     FreshTable,
     GroupList,
     Assignment,
-    /// The three questions row_number, row_start and row_length.
     Row,
     Run,
 }
@@ -16,19 +18,6 @@ pub struct Numbers {
     pub n: usize,
     pub station: usize,
     pub level: usize,
-    pub rounds: u32,
-    pub tests: u32,
-}
-
-/// One value for each buffer.
-#[derive(Clone, Debug, Default)]
-pub struct Buffers<T> {
-    pub table: T,
-    pub list: T,
-    pub count: T,
-    pub schedule: T,
-    pub sheet: T,
-    pub answer: T,
 }
 
 /// The name of a buffer.
@@ -36,11 +25,21 @@ pub struct Buffers<T> {
 pub enum Name {
     Table,
     List,
-    Count,
     Schedule,
     Sheet,
-    Answer,
+    Count,
+    Start,
+    Length,
+    Rounds,
+    Tests,
+    Taken,
 }
+
+const NAMES: usize = Name::ALL.len();
+
+/// One value for each buffer.
+#[derive(Clone, Debug, Default)]
+pub struct Buffers<T>([T; NAMES]);
 
 /// A call before it is made. The buffers that its kind does not take are empty.
 #[derive(Clone, Debug)]
@@ -48,6 +47,17 @@ pub struct Call {
     pub kind: Kind,
     pub numbers: Numbers,
     pub buffers: Buffers<Vec<u8>>,
+}
+
+impl Call {
+    /// The rounds and the tests that a run is handed.
+    pub fn tally(&self) -> (u32, u32) {
+        let figure = |name| {
+            let bytes = self.buffers.get(name)[..].try_into();
+            u32::from_ne_bytes(bytes.expect("a figure of the tally"))
+        };
+        (figure(Name::Rounds), figure(Name::Tests))
+    }
 }
 
 impl Kind {
@@ -75,8 +85,15 @@ impl Kind {
             Kind::FreshTable => &[Name::Table],
             Kind::GroupList => &[Name::List],
             Kind::Assignment => &[Name::Table, Name::List, Name::Count],
-            Kind::Row => &[Name::Table],
-            Kind::Run => &[Name::Table, Name::Schedule, Name::Sheet, Name::Answer],
+            Kind::Row => &[Name::Table, Name::Start, Name::Length],
+            Kind::Run => &[
+                Name::Table,
+                Name::Schedule,
+                Name::Sheet,
+                Name::Rounds,
+                Name::Tests,
+                Name::Taken,
+            ],
         }
     }
 
@@ -87,64 +104,78 @@ impl Kind {
             Kind::GroupList => &[0, 1, 9, 12, 13],
             Kind::Assignment => &[0, 1, 2, 3, 4, 9, 10, 13],
             Kind::Row => &[0, 1, 2, 3, 4, 9],
-            Kind::Run => &[0, 1, 2, 3, 4, 5, 6, 7, 8, 9, 10, 11, 13],
+            Kind::Run => &[0, 1, 2, 3, 4, 5, 6, 7, 8, 9, 10, 11],
         }
     }
 }
 
 impl Name {
-    pub const ALL: [Name; 6] = [
+    pub const ALL: [Name; 10] = [
         Name::Table,
         Name::List,
-        Name::Count,
         Name::Schedule,
         Name::Sheet,
-        Name::Answer,
+        Name::Count,
+        Name::Start,
+        Name::Length,
+        Name::Rounds,
+        Name::Tests,
+        Name::Taken,
     ];
 
     pub fn text(self) -> &'static str {
         match self {
             Name::Table => "table",
             Name::List => "list",
-            Name::Count => "count",
             Name::Schedule => "schedule",
             Name::Sheet => "sheet",
-            Name::Answer => "answer",
+            Name::Count => "count",
+            Name::Start => "start",
+            Name::Length => "length",
+            Name::Rounds => "rounds",
+            Name::Tests => "tests",
+            Name::Taken => "taken",
+        }
+    }
+
+    /// The width of the figure that stands there; none for bytes.
+    pub fn width(self) -> Option<usize> {
+        match self {
+            Name::Table | Name::List | Name::Schedule | Name::Sheet => None,
+            Name::Rounds | Name::Tests => Some(size_of::<u32>()),
+            Name::Count | Name::Start | Name::Length | Name::Taken => Some(size_of::<usize>()),
         }
     }
 }
 
 impl<T> Buffers<T> {
     pub fn get(&self, name: Name) -> &T {
-        match name {
-            Name::Table => &self.table,
-            Name::List => &self.list,
-            Name::Count => &self.count,
-            Name::Schedule => &self.schedule,
-            Name::Sheet => &self.sheet,
-            Name::Answer => &self.answer,
-        }
+        &self.0[name as usize]
     }
 
     pub fn get_mut(&mut self, name: Name) -> &mut T {
-        match name {
-            Name::Table => &mut self.table,
-            Name::List => &mut self.list,
-            Name::Count => &mut self.count,
-            Name::Schedule => &mut self.schedule,
-            Name::Sheet => &mut self.sheet,
-            Name::Answer => &mut self.answer,
-        }
+        &mut self.0[name as usize]
     }
 
-    pub fn map<U>(&self, mut f: impl FnMut(&T) -> U) -> Buffers<U> {
-        Buffers {
-            table: f(&self.table),
-            list: f(&self.list),
-            count: f(&self.count),
-            schedule: f(&self.schedule),
-            sheet: f(&self.sheet),
-            answer: f(&self.answer),
+    /// These buffers, and the others as they are by default.
+    pub fn of<const N: usize>(given: [(Name, T); N]) -> Buffers<T>
+    where
+        T: Default,
+    {
+        let mut buffers = Buffers::default();
+        for (name, contents) in given {
+            *buffers.get_mut(name) = contents;
         }
+        buffers
+    }
+
+    /// All of these buffers at once; no two names are the same.
+    pub fn get_all<const N: usize>(&mut self, names: [Name; N]) -> [&mut T; N] {
+        let places = names.map(|name| name as usize);
+        self.0.get_disjoint_mut(places).expect("different names")
+    }
+
+    pub fn map<U>(&self, mut f: impl FnMut(Name, &T) -> U) -> Buffers<U> {
+        Buffers(Name::ALL.map(|name| f(name, self.get(name))))
     }
 }

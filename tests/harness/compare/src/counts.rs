@@ -2,7 +2,9 @@
 
 use std::fmt;
 
-use crate::call::{Call, Kind};
+use shared::counts::{list, Required};
+
+use crate::call::{Call, Kind, Name};
 use crate::entries::{self, Answer, Entry};
 use crate::outcome::Outcome;
 
@@ -16,6 +18,9 @@ pub const LEAST: u64 = 100;
 
 /// A run that takes so many entries is a long one: one byte cannot count them.
 const LONG_RUN: usize = 256;
+
+/// The buffers that are bytes of any length.
+const BYTES: [Name; 4] = [Name::Table, Name::List, Name::Schedule, Name::Sheet];
 
 /// How often each thing occurred.
 #[derive(Clone)]
@@ -35,6 +40,10 @@ pub struct Counts {
     pub late_replies: u64,
     /// Runs that took at least `LONG_RUN` entries.
     pub long_runs: u64,
+    /// Runs refused at their start with a tally of which neither part is 0.
+    pub kept_tallies: u64,
+    /// Buffers of length 0 (handed over as NULL): those of `BYTES` in turn.
+    pub empty: [u64; BYTES.len()],
 }
 
 /// What occurred in the runs of one size. For each size, 2 included, every
@@ -75,37 +84,42 @@ impl Counts {
             closed_leaving: [count; 3],
             late_replies: count,
             long_runs: count,
+            kept_tallies: count,
+            empty: [count; BYTES.len()],
         }
     }
 
     pub fn add(&mut self, call: &Call, outcome: &Outcome) {
         let kind = call.kind as usize;
-        let number = outcome.figures.number;
-        self.numbers[kind][usize::from(number)] += 1;
-        if number == 0 {
+        self.numbers[kind][usize::from(outcome.number)] += 1;
+        if outcome.number == 0 {
             self.sizes[kind][place(call)] += 1;
+        }
+        for (count, name) in self.empty.iter_mut().zip(BYTES) {
+            let lent = call.kind.buffers().contains(&name);
+            *count += u64::from(lent && call.buffers.get(name).is_empty());
         }
         if call.kind == Kind::Run {
             self.add_run(call, outcome);
         }
     }
 
-    /// Counts what a run did, if there is an answer.
+    /// Counts what a run did.
     fn add_run(&mut self, call: &Call, outcome: &Outcome) {
-        let Some(answer) = entries::answer(outcome) else {
-            return;
-        };
+        let answer = entries::answer(outcome);
         let entries = entries::taken(call, outcome, &answer);
         let closed = entries.iter().filter(|entry| entry.closes).count();
-        let tally = answer.rounds - call.numbers.rounds;
-        assert_eq!(closed as u32, tally, "sheet and tally: rounds closed");
+        let rounds = call.tally().0 + closed as u32;
+        assert_eq!(answer.rounds, rounds, "sheet and tally: rounds closed");
         for entry in &entries {
             self.runs[place(call)].add(entry);
             self.add_entry(entry);
         }
         self.long_runs += u64::from(answer.taken >= LONG_RUN);
-        if outcome.figures.number == 7 && answer.taken != 0 {
-            self.add_full_tally(&answer);
+        match outcome.number {
+            1..=6 => self.kept_tallies += u64::from(call.tally().0 != 0 && call.tally().1 != 0),
+            7 if answer.taken != 0 => self.add_full_tally(&answer),
+            _ => {}
         }
     }
 
@@ -123,15 +137,11 @@ impl Counts {
 
     /// The things that occurred too seldom or not at all.
     pub fn missing(&self) -> Vec<String> {
-        let required = self.required().into_iter();
-        let seldom = required.filter(|(count, _)| *count < LEAST);
-        seldom
-            .map(|(count, text)| format!("{text}: {count}"))
-            .collect()
+        shared::counts::missing(self.required(), LEAST)
     }
 
     /// All counts that must not be low, and what they count.
-    fn required(&self) -> Vec<(u64, String)> {
+    fn required(&self) -> Vec<Required> {
         let mut required = Vec::new();
         for kind in Kind::ALL {
             self.require_kind(kind, &mut required);
@@ -143,7 +153,7 @@ impl Counts {
         required
     }
 
-    fn require_kind(&self, kind: Kind, required: &mut Vec<(u64, String)>) {
+    fn require_kind(&self, kind: Kind, required: &mut Vec<Required>) {
         let text = kind.text();
         for number in kind.possible_numbers() {
             let count = self.numbers[kind as usize][usize::from(*number)];
@@ -154,7 +164,7 @@ impl Counts {
         }
     }
 
-    fn require_singly(&self, required: &mut Vec<(u64, String)>) {
+    fn require_singly(&self, required: &mut Vec<Required>) {
         let [by_rounds, by_tests] = self.full_tallies;
         let [crashed, told, alone] = self.closed_leaving;
         let counts = [
@@ -165,8 +175,12 @@ impl Counts {
             (alone, "round closed by a station that is alone"),
             (self.late_replies, "late reply of a live station"),
             (self.long_runs, "run that took 256 entries or more"),
+            (self.kept_tallies, "run refused at its start with a tally"),
         ];
         required.extend(counts.map(|(count, text)| (count, String::from(text))));
+        for (count, name) in self.empty.iter().zip(BYTES) {
+            required.push((*count, format!("{} of length 0", name.text())));
+        }
     }
 
     /// The sums over all sizes.
@@ -181,7 +195,7 @@ impl Counts {
 }
 
 impl InRuns {
-    fn require(&self, size: usize, required: &mut Vec<(u64, String)>) {
+    fn require(&self, size: usize, required: &mut Vec<Required>) {
         for (count, outcome) in self.outcomes.iter().zip(0..) {
             let text = format!("entry of size {size} with outcome {outcome}");
             required.push((*count, text));
@@ -197,13 +211,6 @@ impl InRuns {
 /// The place of the size of a call that was not refused by its size.
 fn place(call: &Call) -> usize {
     call.numbers.n.trailing_zeros() as usize - 1
-}
-
-/// Each count that is not 0, behind what it counts.
-fn list(counts: &[u64]) -> String {
-    let pairs = counts.iter().enumerate().filter(|(_, count)| **count != 0);
-    let texts: Vec<String> = pairs.map(|(k, count)| format!("{k}: {count}")).collect();
-    texts.join(", ")
 }
 
 impl fmt::Display for Counts {
@@ -226,7 +233,11 @@ impl fmt::Display for Counts {
             f,
             "tally full after an entry: rounds {rounds}, tests {tests}; "
         )?;
-        write!(f, "runs of {LONG_RUN} entries or more {}", self.long_runs)?;
+        write!(f, "runs of {LONG_RUN} entries or more {}; ", self.long_runs)?;
+        write!(f, "tallies kept by a refused run {}; ", self.kept_tallies)?;
+        let [table, list, schedule, sheet] = self.empty;
+        write!(f, "of length 0: table {table}, list {list}, ")?;
+        write!(f, "schedule {schedule}, sheet {sheet}")?;
         let rarest = self.required().into_iter().min();
         rarest.map_or(Ok(()), |(count, text)| {
             write!(f, "; rarest: {text}: {count}")

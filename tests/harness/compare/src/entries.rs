@@ -1,6 +1,9 @@
 //! What a run's sheet tells of the entries taken.
 
-use crate::call::Call;
+use shared::schedule::LATE_TURN;
+use shared::table;
+
+use crate::call::{Call, Name};
 use crate::outcome::Outcome;
 
 /// The figures of a run's answer.
@@ -28,15 +31,13 @@ struct Line {
     finished: bool,
 }
 
-/// The answer, if it has its 16 bytes.
-pub fn answer(outcome: &Outcome) -> Option<Answer> {
-    let bytes = outcome.buffers.answer.contents().try_into().ok()?;
-    let all = u128::from_be_bytes(bytes);
-    Some(Answer {
-        taken: (all >> 64) as usize,
-        rounds: (all >> 32) as u32,
-        tests: all as u32,
-    })
+pub fn answer(outcome: &Outcome) -> Answer {
+    let figure = |name| outcome.buffers.get(name).figure();
+    Answer {
+        taken: figure(Name::Taken),
+        rounds: figure(Name::Rounds) as u32,
+        tests: figure(Name::Tests) as u32,
+    }
 }
 
 /// The entries taken. Only the table handed in, the schedule and the sheet are
@@ -45,9 +46,9 @@ pub fn taken(call: &Call, outcome: &Outcome, answer: &Answer) -> Vec<Entry> {
     if answer.taken == 0 {
         return Vec::new();
     }
-    let mut lines = lines(call.numbers.n, &call.buffers.table);
-    let schedule = call.buffers.schedule.chunks_exact(2);
-    let sheet = outcome.buffers.sheet.contents().chunks_exact(4);
+    let mut lines = lines(call.numbers.n, call.buffers.get(Name::Table));
+    let schedule = call.buffers.get(Name::Schedule).chunks_exact(2);
+    let sheet = outcome.buffers.get(Name::Sheet).contents().chunks_exact(4);
     let pairs = schedule.zip(sheet).take(answer.taken);
     pairs
         .map(|(entry, written)| take(&mut lines, entry, written))
@@ -55,18 +56,18 @@ pub fn taken(call: &Call, outcome: &Outcome, answer: &Answer) -> Vec<Entry> {
 }
 
 fn lines(n: usize, table: &[u8]) -> Vec<Line> {
-    let line = |bytes: &[u8]| Line {
-        live: bytes[0] == 0,
-        finished: bytes[2] == 1,
+    let line = |line: table::Line| Line {
+        live: line.is_live(),
+        finished: line.is_finished(),
     };
-    table.chunks_exact(n + 4).map(line).collect()
+    table::lines(n, table).map(line).collect()
 }
 
 /// Judges one entry and brings the lines up to date.
 fn take(lines: &mut [Line], entry: &[u8], written: &[u8]) -> Entry {
     let (outcome, status) = (written[2], written[3]);
     let tested = lines.get(usize::from(written[1]));
-    let late = entry[0] == 2 && tested.is_some_and(|line| line.live);
+    let late = entry[0] == LATE_TURN && tested.is_some_and(|line| line.live);
     let own = &mut lines[usize::from(written[0])];
     own.live = status == 0;
     own.finished |= outcome == 0;

@@ -3,7 +3,9 @@
 //! A write out of bounds shows in the guards. A read out of bounds is not seen,
 //! unless what was read changes the outcome.
 
-use crate::prng::Prng;
+use shared::random::Random;
+
+use crate::call::Name;
 
 #[derive(Clone, Debug, PartialEq, Eq)]
 pub struct Guarded {
@@ -17,13 +19,15 @@ pub struct Guarded {
 const LEAST_GUARD: usize = 128;
 
 impl Guarded {
-    /// The contents between guards of random length and contents.
-    pub fn new(contents: &[u8], rng: &mut Prng) -> Guarded {
-        let before = LEAST_GUARD + rng.below(32);
-        let behind = LEAST_GUARD + rng.below(32);
-        let mut whole = rng.bytes(before);
+    /// The contents between guards of random length and contents. A figure
+    /// stands at a multiple of its width, bytes anywhere.
+    pub fn new(name: Name, contents: &[u8], random: &mut Random) -> Guarded {
+        let width = name.width().unwrap_or(1);
+        let before = LEAST_GUARD + width * random.below(32);
+        let behind = LEAST_GUARD + random.below(32);
+        let mut whole = random.bytes(before);
         whole.extend_from_slice(contents);
-        whole.extend(rng.bytes(behind));
+        whole.extend(random.bytes(behind));
         Guarded {
             whole,
             before,
@@ -37,6 +41,25 @@ impl Guarded {
 
     pub fn contents_mut(&mut self) -> &mut [u8] {
         &mut self.whole[self.before..][..self.length]
+    }
+
+    /// The figure that stands there, if one does.
+    pub fn figure(&self) -> usize {
+        match self.contents() {
+            [a, b, c, d] => u32::from_ne_bytes([*a, *b, *c, *d]) as usize,
+            bytes => usize::from_ne_bytes(bytes.try_into().expect("a figure")),
+        }
+    }
+
+    /// Puts a figure there, which fits.
+    pub fn put_figure(&mut self, figure: usize) {
+        match self.contents_mut() {
+            [a, b, c, d] => {
+                let figure = u32::try_from(figure).expect("a figure of 32 bits");
+                [*a, *b, *c, *d] = figure.to_ne_bytes();
+            }
+            bytes => bytes.copy_from_slice(&figure.to_ne_bytes()),
+        }
     }
 
     pub fn whole(&self) -> &[u8] {

@@ -1,24 +1,24 @@
 //! Runs the simulator, the library and the typed layer of bindings/rust on the
 //! same random calls and compares every byte and every figure.
 
-#![forbid(unsafe_code)]
+#![deny(unsafe_code)]
 
 mod by_library;
 mod by_simulator;
 mod by_typed;
 mod call;
+mod calls;
 mod counts;
 mod entries;
+mod faults;
 mod generate;
 mod guarded;
 mod options;
 mod outcome;
-mod prng;
 mod report;
 mod self_test;
 mod trial;
 
-use std::env;
 use std::process::ExitCode;
 
 use counts::Counts;
@@ -26,20 +26,10 @@ use options::{Options, Task};
 use trial::Trial;
 
 /// From so many calls on, the coverage is checked.
-const ENOUGH_CALLS: u64 = 200_000;
+const ENOUGH_CALLS: u64 = options::DEFAULT_CALLS;
 
 fn main() -> ExitCode {
-    let given: Vec<String> = env::args().skip(1).collect();
-    match Options::read(&given).and_then(|options| work(&options)) {
-        Ok(text) => {
-            println!("{text}");
-            ExitCode::SUCCESS
-        }
-        Err(text) => {
-            eprintln!("{text}");
-            ExitCode::FAILURE
-        }
-    }
+    shared::options::end(Options::read().and_then(|options| work(&options)))
 }
 
 fn work(options: &Options) -> Result<String, String> {
@@ -75,11 +65,7 @@ fn compare(seed: u64, calls: u64, trace: bool) -> Result<String, String> {
         }
         counts.add(&trial.call, &trial.simulator);
     }
-    let missing = counts.missing();
-    if calls >= ENOUGH_CALLS && !missing.is_empty() {
-        let list = missing.join("; ");
-        return Err(format!("compare: occurred too seldom or never: {list}"));
-    }
+    shared::counts::check(&counts.missing(), calls >= ENOUGH_CALLS)?;
     Ok(format!(
         "compare: seed {seed}, {calls} calls agree: {counts}"
     ))

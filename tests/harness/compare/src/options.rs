@@ -1,10 +1,12 @@
 //! The options of the command.
 
+use shared::options::Words;
+
 const USAGE: &str = "usage: compare [--seed S] [--calls N | --only K | --self-test] [--trace]";
 
 const DEFAULT_SEED: u64 = 1;
 
-const DEFAULT_CALLS: u64 = 200_000;
+pub const DEFAULT_CALLS: u64 = 200_000;
 
 pub enum Task {
     /// Calls 1 up to this number.
@@ -22,28 +24,23 @@ pub struct Options {
 }
 
 impl Options {
-    pub fn read(given: &[String]) -> Result<Options, String> {
+    pub fn read() -> Result<Options, String> {
         let mut options = Options {
             seed: DEFAULT_SEED,
             task: Task::Calls(DEFAULT_CALLS),
             trace: false,
         };
-        let mut words = given.iter();
-        while let Some(word) = words.next() {
-            match word.as_str() {
-                "--seed" => options.seed = number(words.next())?,
-                "--calls" => options.task = Task::Calls(number(words.next())?),
-                "--only" => options.task = Task::Only(number(words.next())?),
-                "--self-test" => options.task = Task::SelfTest,
-                "--trace" => options.trace = true,
-                _ => return Err(String::from(USAGE)),
+        let mut words = Words::given(USAGE);
+        while let Some(word) = words.word() {
+            match word.to_str() {
+                Some("--seed") => options.seed = words.value()?,
+                Some("--calls") => options.task = Task::Calls(words.value()?),
+                Some("--only") => options.task = Task::Only(words.value()?),
+                Some("--self-test") => options.task = Task::SelfTest,
+                Some("--trace") => options.trace = true,
+                _ => return Err(words.usage()),
             }
         }
         Ok(options)
     }
-}
-
-fn number(word: Option<&String>) -> Result<u64, String> {
-    let parsed = word.and_then(|word| word.parse().ok());
-    parsed.ok_or_else(|| String::from(USAGE))
 }

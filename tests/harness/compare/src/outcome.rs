@@ -5,36 +5,27 @@ use std::fmt;
 use crate::call::{Buffers, Kind, Name};
 use crate::guarded::Guarded;
 
-/// The figures a call gives back. Start and length are those of a row, else 0.
-#[derive(Clone, Copy, Debug, Default, PartialEq, Eq)]
-pub struct Figures {
-    pub number: u8,
-    pub start: usize,
-    pub length: usize,
-}
-
 /// Who made a call.
 #[derive(Clone, Copy, Debug, PartialEq, Eq)]
 pub enum Side {
     Simulator,
-    /// By the raw calls of bindings/rust.
     Library,
     /// By the typed layer of bindings/rust.
     Typed,
 }
 
-/// The figures, and all buffers with their guards after the call.
+/// The number, and all buffers with their guards after the call.
 #[derive(Clone, Debug)]
 pub struct Outcome {
     pub side: Side,
-    pub figures: Figures,
+    pub number: u8,
     pub buffers: Buffers<Guarded>,
 }
 
 /// Where two outcomes differ.
 #[derive(Clone, Copy, Debug, PartialEq, Eq)]
 pub enum Place {
-    Figures,
+    Number,
     GuardBefore(Name),
     Contents(Name),
     GuardBehind(Name),
@@ -49,24 +40,24 @@ pub struct Difference {
     text: String,
 }
 
-/// The first difference, if there is one. Every figure and every byte is compared.
+/// The first difference, if there is one. The number and every byte are compared.
 pub fn difference(kind: Kind, expected: &Outcome, given: &Outcome) -> Option<Difference> {
     let names = kind.buffers().iter();
     let mut in_buffers = names.filter_map(|name| buffer_difference(*name, expected, given));
-    figures_difference(expected, given).or_else(|| in_buffers.next())
+    number_difference(expected, given).or_else(|| in_buffers.next())
 }
 
-fn figures_difference(expected: &Outcome, given: &Outcome) -> Option<Difference> {
-    let differ = expected.figures != given.figures;
+fn number_difference(expected: &Outcome, given: &Outcome) -> Option<Difference> {
+    let differ = expected.number != given.number;
     differ.then(|| Difference {
         side: given.side,
-        place: Place::Figures,
+        place: Place::Number,
         text: format!(
-            "{} gives {}, {} {}",
+            "{} gives number {}, {} {}",
             expected.side.text(),
-            expected.figures,
+            expected.number,
             given.side.text(),
-            given.figures
+            given.number
         ),
     })
 }
@@ -114,31 +105,6 @@ impl Side {
             Side::Library => "the library",
             Side::Typed => "the typed layer",
         }
-    }
-}
-
-impl Figures {
-    /// The figures of a call that gives a number alone.
-    pub fn only(number: u8) -> Figures {
-        Figures {
-            number,
-            ..Figures::default()
-        }
-    }
-}
-
-impl fmt::Display for Figures {
-    fn fmt(&self, f: &mut fmt::Formatter<'_>) -> fmt::Result {
-        let Figures {
-            number,
-            start,
-            length,
-        } = self;
-        write!(f, "number {number}")?;
-        if (*start, *length) != (0, 0) {
-            write!(f, ", row start {start}, row length {length}")?;
-        }
-        Ok(())
     }
 }
 

@@ -35,24 +35,17 @@ pub fn trial_text(number: u64, trial: &Trial, cut: usize) -> String {
 }
 
 fn numbers(kind: Kind, numbers: &Numbers) -> String {
-    let Numbers {
-        n,
-        station,
-        level,
-        rounds,
-        tests,
-    } = numbers;
+    let Numbers { n, station, level } = numbers;
     match kind {
-        Kind::FreshTable => format!("n {n}"),
+        Kind::FreshTable | Kind::Run => format!("n {n}"),
         Kind::GroupList => format!("n {n}, station {station}, level {level}"),
         Kind::Assignment | Kind::Row => format!("n {n}, station {station}"),
-        Kind::Run => format!("n {n}, rounds {rounds}, tests {tests}"),
     }
 }
 
 fn outcome(call: &Call, outcome: &Outcome, cut: usize) -> String {
     let mut text = format!("{} gives:\n", outcome.side.text());
-    text += &format!("  {}\n", outcome.figures);
+    text += &format!("  number {}\n", outcome.number);
     for name in call.kind.buffers() {
         let after = outcome.buffers.get(*name).contents();
         if after == call.buffers.get(*name) {

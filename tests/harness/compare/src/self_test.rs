@@ -1,9 +1,11 @@
 //! Shows that the comparison fails when something is altered.
 
+use shared::random::Random;
+
 use crate::call::{Kind, Name};
 use crate::counts::{Counts, LEAST, SIZES};
+use crate::faults::{self, Fault};
 use crate::outcome::{Outcome, Place, Side};
-use crate::prng::Prng;
 use crate::report;
 use crate::trial::Trial;
 
@@ -18,25 +20,44 @@ struct Subject {
     seed: u64,
     number: u64,
     trial: Trial,
-    rng: Prng,
+    random: Random,
 }
 
 /// Takes calls on which all sides agree, and alters the outcome of the library
-/// and of the typed layer, one thing at a time; then the counts. Gives how many
-/// alterations were noticed, or what was not noticed. The library is not
-/// called, so that a fault of it shows in the comparison and not here.
-pub fn self_test(seed: u64) -> Result<u64, String> {
+/// and of the typed layer, one thing at a time; then libraries with a fault
+/// stand in; then the counts are altered. Gives how many alterations were
+/// noticed, or what was not noticed. The library is not called, so that a fault
+/// of it shows in the comparison and not here.
+pub fn self_test(seed: u64) -> Result<usize, String> {
     let mut altered = Altered::new();
     for number in 1..=CALLS {
         let mut subject = Subject::new(seed, number)?;
         subject.alter(Side::Library, &mut altered)?;
-        if subject.trial.typed.is_some() {
-            subject.alter(Side::Typed, &mut altered)?;
-        }
+        subject.alter(Side::Typed, &mut altered)?;
     }
     all_places_altered(&altered)?;
-    let counts = alter_counts()?;
-    Ok(altered.len() as u64 + counts)
+    let mut noticed = altered.len();
+    for fault in faults::ALL {
+        noticed += stand_in(seed, fault)?;
+    }
+    let lowered = lowered_counts();
+    let counts = [0, LEAST].map(Counts::all);
+    Ok(noticed + shared::counts::check_lowered(counts, &lowered, Counts::missing)?)
+}
+
+/// A library with a fault: it must be noticed wherever it gives something else
+/// than the right outcome, and somewhere. Gives how often it was.
+fn stand_in(seed: u64, (fault, apply): Fault) -> Result<usize, String> {
+    let mut noticed = 0;
+    for number in 1..=CALLS {
+        let mut trial = Trial::make_agreeing(seed, number);
+        apply(&trial.call, &mut trial.library);
+        noticed += usize::from(trial.difference().is_some());
+    }
+    match noticed {
+        0 => Err(format!("a stand-in was not noticed: {fault}")),
+        _ => Ok(noticed),
+    }
 }
 
 impl Subject {
@@ -49,40 +70,26 @@ impl Subject {
             seed,
             number,
             trial,
-            rng: Prng::for_call(!seed, number),
+            random: Random::numbered(!seed, number),
         })
     }
 
     /// The outcome of a side that can be altered.
     fn outcome(&mut self, side: Side) -> &mut Outcome {
-        match (side, &mut self.trial.typed) {
-            (Side::Typed, Some(typed)) => typed,
+        match side {
+            Side::Typed => &mut self.trial.typed,
             _ => &mut self.trial.library,
         }
     }
 
-    /// Alters the figures and each buffer of one side.
+    /// Alters the number and each buffer of one side.
     fn alter(&mut self, side: Side, altered: &mut Altered) -> Result<(), String> {
-        self.alter_figures(side, altered)?;
+        self.outcome(side).number ^= 1;
+        self.noticed(side, Place::Number)?;
+        self.outcome(side).number ^= 1;
+        altered.push((side, Place::Number));
         for name in self.trial.call.kind.buffers() {
             self.alter_buffer(side, *name, altered)?;
-        }
-        Ok(())
-    }
-
-    /// Changes each figure in turn.
-    fn alter_figures(&mut self, side: Side, altered: &mut Altered) -> Result<(), String> {
-        let before = self.outcome(side).figures;
-        for figure in 0..3 {
-            let figures = &mut self.outcome(side).figures;
-            match figure {
-                0 => figures.number ^= 1,
-                1 => figures.start ^= 1,
-                _ => figures.length ^= 1,
-            }
-            self.noticed(side, Place::Figures)?;
-            altered.push((side, Place::Figures));
-            self.outcome(side).figures = before;
         }
         Ok(())
     }
@@ -106,8 +113,8 @@ impl Subject {
             if part.is_empty() {
                 continue;
             }
-            let at = part.start + self.rng.below(part.len());
-            let bit = 1 << self.rng.below(8);
+            let at = part.start + self.random.below(part.len());
+            let bit = 1 << self.random.below(8);
             self.outcome(side).buffers.get_mut(name).whole_mut()[at] ^= bit;
             self.noticed(side, place)?;
             self.outcome(side).buffers.get_mut(name).whole_mut()[at] ^= bit;
@@ -133,10 +140,10 @@ impl Subject {
     }
 }
 
-/// Every part of every buffer must have been altered, and the figures, on both
+/// Every part of every buffer must have been altered, and the number, on both
 /// sides.
 fn all_places_altered(altered: &Altered) -> Result<(), String> {
-    let mut places = vec![Place::Figures];
+    let mut places = vec![Place::Number];
     for name in Name::ALL {
         places.extend([
             Place::GuardBefore(name),
@@ -151,21 +158,6 @@ fn all_places_altered(altered: &Altered) -> Result<(), String> {
         }
     }
     Ok(())
-}
-
-/// Lowers each count in turn; the coverage must then miss just that one.
-fn alter_counts() -> Result<u64, String> {
-    if !Counts::all(LEAST).missing().is_empty() {
-        return Err(String::from("the coverage fails on full counts"));
-    }
-    let counts = lowered_counts();
-    if counts.len() != Counts::all(0).missing().len() {
-        return Err(String::from("not every required count is lowered"));
-    }
-    if counts.iter().any(|one| one.missing().len() != 1) {
-        return Err(String::from("the coverage passes on a lowered count"));
-    }
-    Ok(counts.len() as u64)
 }
 
 /// Counts of which one is too low, for each that must not be low.
@@ -201,5 +193,9 @@ fn lowered_counts() -> Vec<Counts> {
     }
     lower(&|counts| &mut counts.late_replies);
     lower(&|counts| &mut counts.long_runs);
+    lower(&|counts| &mut counts.kept_tallies);
+    for bytes in 0..4 {
+        lower(&|counts| &mut counts.empty[bytes]);
+    }
     all
 }

@@ -1,9 +1,10 @@
 //! One input with what must be printed for it.
 
+use shared::random::Random;
+
 use crate::child::Program;
 use crate::generate;
 use crate::odd::{self, Odd};
-use crate::prng::Prng;
 
 /// Where an input comes from.
 pub enum Source {
@@ -56,7 +57,7 @@ impl Case {
 
     /// The random input with this number. The simulator says what is expected.
     pub fn random(seed: u64, number: u64) -> Case {
-        let input = generate::input(&mut Prng::for_input(seed, number));
+        let input = generate::input(&mut Random::numbered(seed, number));
         Case {
             source: Source::Random { seed, number },
             expected: simulate(&input.bytes),

@@ -3,6 +3,8 @@
 
 use std::fmt;
 
+use shared::counts::{list, Required};
+
 use crate::case::Case;
 
 /// How often each thing must occur at least, if there are enough inputs.
@@ -142,12 +144,13 @@ impl Counts {
 
     /// The things that occurred too seldom or not at all.
     pub fn missing(&self) -> Vec<String> {
-        let mut missing = Vec::new();
-        let mut need = |count: u64, text: String| {
-            if count < LEAST {
-                missing.push(format!("{text}: {count}"));
-            }
-        };
+        shared::counts::missing(self.required(), LEAST)
+    }
+
+    /// All counts that must not be low, and what they count.
+    fn required(&self) -> Vec<Required> {
+        let mut required = Vec::new();
+        let mut need = |count: u64, text: String| required.push((count, text));
         need(self.unread_first, String::from("unread 1"));
         need(self.unread_entry, String::from("unread 2 to 4097"));
         need(self.unread_last, String::from("unread 4098"));
@@ -168,7 +171,7 @@ impl Counts {
         need(self.full_taken, String::from("4096 entries taken"));
         need(self.unended, String::from("no line feed at the end"));
         need(self.pieces, String::from("in pieces"));
-        missing
+        required
     }
 }
 
@@ -178,13 +181,6 @@ fn increase(counts: &mut [u64], number: &str) {
     if let Some(count) = counts.get_mut(index) {
         *count += 1;
     }
-}
-
-/// Each count that is not 0, behind what it counts.
-fn list(counts: &[u64]) -> String {
-    let pairs = counts.iter().enumerate().filter(|(_, count)| **count != 0);
-    let texts: Vec<String> = pairs.map(|(k, count)| format!("{k}: {count}")).collect();
-    texts.join(", ")
 }
 
 impl fmt::Display for Counts {

@@ -11,15 +11,14 @@ mod counts;
 mod generate;
 mod odd;
 mod options;
-mod prng;
 mod report;
 mod self_test;
 mod stand_in;
 
-use std::env;
-use std::ffi::OsString;
 use std::process::ExitCode;
 use std::time::Duration;
+
+use shared::options::end;
 
 use case::{Case, Source};
 use child::Program;
@@ -33,32 +32,24 @@ const ENOUGH_INPUTS: u64 = options::DEFAULT_INPUTS;
 const LIMIT: Duration = Duration::from_secs(10);
 
 fn main() -> ExitCode {
-    let given: Vec<OsString> = env::args_os().skip(1).collect();
-    match Options::read(&given).and_then(|options| work(&options)) {
-        Ok(code) => code,
-        Err(text) => {
-            eprintln!("{text}");
-            ExitCode::FAILURE
-        }
+    match Options::read() {
+        Ok(Options {
+            stand_in: Some(fault),
+            ..
+        }) => stand_in::run(fault),
+        options => end(options.and_then(|options| work(&options))),
     }
 }
 
-fn work(options: &Options) -> Result<ExitCode, String> {
+fn work(options: &Options) -> Result<String, String> {
     let seed = options.seed;
-    let text = match options.task {
-        Task::StandIn(fault) => {
-            return stand_in::run(fault).map_err(|error| format!("stand-in: {error}"))
-        }
-        Task::SelfTest => {
-            let noticed = self_test::self_test(seed)?;
-            format!("program: self-test: all {noticed} alterations noticed")
-        }
-        Task::Only(number) => only(&program(options)?, Case::random(seed, number))?,
-        Task::Odd(number) => only(&program(options)?, odd_case(number)?)?,
-        Task::Inputs(inputs) => compare(&program(options)?, seed, inputs)?,
-    };
-    println!("{text}");
-    Ok(ExitCode::SUCCESS)
+    match options.task {
+        Task::SelfTest => self_test::self_test(seed)
+            .map(|noticed| format!("program: self-test: all {noticed} alterations noticed")),
+        Task::Only(number) => only(&program(options)?, Case::random(seed, number)),
+        Task::Odd(number) => only(&program(options)?, odd_case(number)?),
+        Task::Inputs(inputs) => compare(&program(options)?, seed, inputs),
+    }
 }
 
 fn program(options: &Options) -> Result<Program, String> {
@@ -91,11 +82,7 @@ fn compare(program: &Program, seed: u64, inputs: u64) -> Result<String, String> 
         check(program, &case, report::CUT)?;
         counts.add(&case);
     }
-    let missing = counts.missing();
-    if inputs >= ENOUGH_INPUTS && !missing.is_empty() {
-        let list = missing.join("; ");
-        return Err(format!("program: occurred too seldom or never: {list}"));
-    }
+    shared::counts::check(&counts.missing(), inputs >= ENOUGH_INPUTS)?;
     let odd = format!("{odd_inputs} odd inputs, all in pieces too");
     let random = format!("{inputs} random inputs of seed {seed}");
     Ok(format!("program: {odd}, and {random} agree: {counts}"))

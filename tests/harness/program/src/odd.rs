@@ -6,6 +6,11 @@ const LONG: usize = 100_000;
 
 const HEADER: &str = "station tested outcome status\n";
 
+/// A round of a plant of two, and the same with leading zeros.
+const FOUR: &[u8] = b"T 0\nT 0\nT 1\nT 1\n";
+const LONG_FOUR: &[u8] = b"T 00\nT 00\nT 01\nT 01\n";
+
+#[derive(Clone)]
 pub struct Odd {
     pub name: &'static str,
     pub input: Vec<u8>,
@@ -290,7 +295,7 @@ pub fn all() -> Vec<Odd> {
     let unread_rows = unread_rows.map(|(name, input, line)| unread(name, &[input], *line));
     let read_rows = READ.iter();
     let read_rows = read_rows.map(|(name, input, sheet, last)| read(name, &[input], sheet, last));
-    let long = long_lines().into_iter().chain(many_entries());
+    let long = [long_lines(), many_entries(), too_many_entries()].concat();
     unread_rows.chain(read_rows).chain(long).collect()
 }
 
@@ -323,68 +328,52 @@ fn long_lines() -> Vec<Odd> {
     ]
 }
 
-/// 4,096 entries, which is the most, and more.
+/// 4,096 entries, which is the most.
 fn many_entries() -> Vec<Odd> {
-    let four = b"T 0\nT 0\nT 1\nT 1\n";
-    let all_but_one = &[&four.repeat(1_023), &four[..12]].concat();
-    let most = &four.repeat(1_024);
-    let longest = &b"T 00\nT 00\nT 01\nT 01\n".repeat(1_024);
-    let many = &b"T 0\n".repeat(LONG);
+    let all_but_one = &[&FOUR.repeat(1_023), &FOUR[..12]].concat();
+    let most = &FOUR.repeat(1_024);
+    let longest = &LONG_FOUR.repeat(1_024);
     let sheet = &"0 1 1 0\n0 - 0 0\n1 0 1 0\n1 - 0 0\n".repeat(1_024);
     let last = "rounds 1024 tests 2048 refused 0 at 4096\n";
     let no_size = "rounds 0 tests 0 refused 1 at 0\n";
+    let unended: &[&[u8]] = &[b"2\n", all_but_one, b"T 1"];
+    let unreadable: &[&[u8]] = &[b"2\n", all_but_one, b"t 1\n"];
+    let and_one_more: &[&[u8]] = &[b"2\n", all_but_one, b"t 1\nT 0\n"];
+    let long: &[&[u8]] = &[b"002\n", longest];
     vec![
         read("4,096 entries", &[b"2\n", most], sheet, last),
-        read(
-            "4,096 entries, no line feed",
-            &[b"2\n", all_but_one, b"T 1"],
-            sheet,
-            last,
-        ),
-        read(
-            "the longest readable input",
-            &[b"002\n", longest],
-            sheet,
-            last,
-        ),
+        read("4,096 entries, no line feed", unended, sheet, last),
+        read("the longest readable input", long, sheet, last),
         read("4,096 entries and size 3", &[b"3\n", most], "", no_size),
-        unread(
-            "unreadable 4,096th entry",
-            &[b"2\n", all_but_one, b"t 1\n"],
-            4_097,
-        ),
-        unread(
-            "unreadable 4,096th and one more",
-            &[b"2\n", all_but_one, b"t 1\nT 0\n"],
-            4_097,
-        ),
-        unread("4,097 entries", &[b"2\n", most, b"T 0\n"], 4_098),
-        unread(
-            "4,097 entries, no line feed",
-            &[b"2\n", most, b"T 0"],
-            4_098,
-        ),
-        unread("4,097 entries and size 3", &[b"3\n", most, b"T 0\n"], 4_098),
-        unread("4,097 long entries", &[b"002\n", longest, b"T 00\n"], 4_098),
-        unread("unreadable 4,097th entry", &[b"2\n", most, b"t 0\n"], 4_098),
-        unread(
-            "empty line behind 4,096 entries",
-            &[b"2\n", most, b"\n"],
-            4_098,
-        ),
-        unread(
-            "NUL behind 4,096 entries",
-            &[b"002\n", longest, b"\0"],
-            4_098,
-        ),
-        unread("4,098 entries", &[b"2\n", most, b"T 0\nT 0\n"], 4_098),
-        unread("100,000 entries", &[b"2\n", many], 4_098),
-        unread(
+        unread("unreadable 4,096th entry", unreadable, 4_097),
+        unread("unreadable 4,096th and one more", and_one_more, 4_097),
+    ]
+}
+
+/// Inputs whose line 4,098 is there.
+fn too_many_entries() -> Vec<Odd> {
+    let most = &FOUR.repeat(1_024);
+    let longest = &LONG_FOUR.repeat(1_024);
+    let many = &b"T 0\n".repeat(LONG);
+    let inputs: [(&'static str, &[&[u8]]); 10] = [
+        ("4,097 entries", &[b"2\n", most, b"T 0\n"]),
+        ("4,097 entries, no line feed", &[b"2\n", most, b"T 0"]),
+        ("4,097 entries and size 3", &[b"3\n", most, b"T 0\n"]),
+        ("4,097 long entries", &[b"002\n", longest, b"T 00\n"]),
+        ("unreadable 4,097th entry", &[b"2\n", most, b"t 0\n"]),
+        ("empty line behind 4,096 entries", &[b"2\n", most, b"\n"]),
+        ("NUL behind 4,096 entries", &[b"002\n", longest, b"\0"]),
+        ("4,098 entries", &[b"2\n", most, b"T 0\nT 0\n"]),
+        ("100,000 entries", &[b"2\n", many]),
+        (
             "unreadable line behind 4,097 entries",
             &[b"2\n", most, b"T 0\nx\n"],
-            4_098,
         ),
-    ]
+    ];
+    inputs
+        .into_iter()
+        .map(|(name, input)| unread(name, input, 4_098))
+        .collect()
 }
 
 fn unread(name: &'static str, input: &[&[u8]], line: usize) -> Odd {

@@ -2,6 +2,8 @@
 
 use std::ffi::OsString;
 
+use shared::options::Words;
+
 use crate::stand_in::Fault;
 
 const USAGE: &str = "usage: program BINARY [--seed S] [--inputs N | --only K | --odd K]
@@ -19,8 +21,6 @@ pub enum Task {
     /// Just the odd input with this number.
     Odd(u64),
     SelfTest,
-    /// This program stands in for the run program.
-    StandIn(Fault),
 }
 
 pub struct Options {
@@ -28,27 +28,30 @@ pub struct Options {
     pub task: Task,
     /// The run program.
     pub binary: Option<OsString>,
+    /// This program stands in for the run program, with a fault.
+    pub stand_in: Option<Fault>,
 }
 
 impl Options {
-    pub fn read(given: &[OsString]) -> Result<Options, String> {
+    pub fn read() -> Result<Options, String> {
         let mut options = Options {
             seed: DEFAULT_SEED,
             task: Task::Inputs(DEFAULT_INPUTS),
             binary: None,
+            stand_in: None,
         };
-        let mut words = given.iter();
-        while let Some(word) = words.next() {
+        let mut words = Words::given(USAGE);
+        while let Some(word) = words.word() {
             match word.to_str() {
-                Some("--seed") => options.seed = number(words.next())?,
-                Some("--inputs") => options.task = Task::Inputs(number(words.next())?),
-                Some("--only") => options.task = Task::Only(number(words.next())?),
-                Some("--odd") => options.task = Task::Odd(number(words.next())?),
+                Some("--seed") => options.seed = words.value()?,
+                Some("--inputs") => options.task = Task::Inputs(words.value()?),
+                Some("--only") => options.task = Task::Only(words.value()?),
+                Some("--odd") => options.task = Task::Odd(words.value()?),
                 Some("--self-test") => options.task = Task::SelfTest,
-                Some("--stand-in") => options.task = Task::StandIn(fault(words.next())?),
-                Some(text) if text.starts_with("--") => return Err(usage()),
-                _ if options.binary.is_some() => return Err(usage()),
-                _ => options.binary = Some(word.clone()),
+                Some("--stand-in") => options.stand_in = Some(words.value()?),
+                Some(text) if text.starts_with("--") => return Err(words.usage()),
+                _ if options.binary.is_some() => return Err(words.usage()),
+                _ => options.binary = Some(word),
             }
         }
         Ok(options)
@@ -56,23 +59,6 @@ impl Options {
 
     /// The path of the run program, which must have been given.
     pub fn binary(&self) -> Result<OsString, String> {
-        self.binary.clone().ok_or_else(usage)
+        self.binary.clone().ok_or_else(|| String::from(USAGE))
     }
-}
-
-pub fn usage() -> String {
-    String::from(USAGE)
-}
-
-fn number(word: Option<&OsString>) -> Result<u64, String> {
-    let text = word.and_then(|word| word.to_str());
-    let parsed = text.and_then(|text| text.parse().ok());
-    parsed.ok_or_else(usage)
-}
-
-fn fault(word: Option<&OsString>) -> Result<Fault, String> {
-    let text = word.and_then(|word| word.to_str());
-    let mut faults = Fault::ALL.into_iter();
-    let found = faults.find(|fault| Some(fault.name()) == text);
-    found.ok_or_else(usage)
 }

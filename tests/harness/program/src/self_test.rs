@@ -3,6 +3,8 @@
 use std::env;
 use std::time::Duration;
 
+use shared::counts;
+
 use crate::case::{odd_cases, By, Case};
 use crate::child::Program;
 use crate::counts::{Counts, LEAST, NUMBERS};
@@ -131,14 +133,11 @@ fn stand_in(fault: Fault) -> Result<Program, String> {
 
 /// Lowers each count in turn; the coverage must then miss just that one.
 fn alter_counts() -> Result<usize, String> {
-    if !Counts::all(LEAST).missing().is_empty() {
-        return Err(String::from("the coverage fails on full counts"));
-    }
-    let counts = lowered_counts();
-    if counts.iter().any(|one| one.missing().len() != 1) {
-        return Err(String::from("the coverage passes on a lowered count"));
-    }
-    Ok(counts.len())
+    counts::check_lowered(
+        [0, LEAST].map(Counts::all),
+        &lowered_counts(),
+        Counts::missing,
+    )
 }
 
 /// Counts of which one is too low, for each that must not be low.

@@ -3,6 +3,7 @@
 
 use std::io::{self, Read, Write};
 use std::process::ExitCode;
+use std::str::FromStr;
 use std::thread;
 use std::time::Duration;
 
@@ -47,8 +48,24 @@ impl Fault {
     }
 }
 
+impl FromStr for Fault {
+    type Err = ();
+
+    fn from_str(text: &str) -> Result<Fault, ()> {
+        let mut faults = Fault::ALL.into_iter();
+        faults.find(|fault| fault.name() == text).ok_or(())
+    }
+}
+
 /// Reads standard input and prints what the simulator gives, with the fault.
-pub fn run(fault: Fault) -> io::Result<ExitCode> {
+pub fn run(fault: Fault) -> ExitCode {
+    match respond(fault) {
+        Ok(()) if fault != Fault::Fails => ExitCode::SUCCESS,
+        _ => ExitCode::FAILURE,
+    }
+}
+
+fn respond(fault: Fault) -> io::Result<()> {
     let input = read(fault)?;
     let mut output = simulator::program::respond(&input).into_bytes();
     match fault {
@@ -64,11 +81,7 @@ pub fn run(fault: Fault) -> io::Result<ExitCode> {
         },
         Fault::None | Fault::Fails | Fault::FirstRead => {}
     }
-    io::stdout().lock().write_all(&output)?;
-    Ok(match fault {
-        Fault::Fails => ExitCode::FAILURE,
-        _ => ExitCode::SUCCESS,
-    })
+    io::stdout().lock().write_all(&output)
 }
 
 fn read(fault: Fault) -> io::Result<Vec<u8>> {

@@ -7,8 +7,8 @@
 
 use bench::contender::Contender;
 use bench::measure;
-use bench::random::Random;
 use bench::work::Work;
+use shared::random::Random;
 use std::process::ExitCode;
 
 const SEED: u64 = 1;
@@ -82,6 +82,7 @@ fn print_tables(repetitions: usize) {
     print_same_rounds(fewer);
     print_other_rounds(fewer);
     print_one_entry(fewer);
+    print_no_entry(fewer);
 }
 
 fn print_many_rounds(repetitions: usize) {
@@ -137,6 +138,14 @@ fn print_one_entry(repetitions: usize) {
     print_table(&works, repetitions);
 }
 
+fn print_no_entry(repetitions: usize) {
+    println!("\nAn empty schedule\n");
+    println!("A run of no entry on a fresh table: the check of the table at the start by itself.");
+    println!("Thousands of runs per second; {BATCH} are timed together, each on its own copy.\n");
+    let works = SIZES.map(|n| vec![Work::empty(n); BATCH]);
+    print_table(&works, repetitions);
+}
+
 /// A row for each batch of runs.
 fn print_table(batches: &[Vec<Work>], repetitions: usize) {
     println!(
@@ -150,7 +159,8 @@ fn print_table(batches: &[Vec<Work>], repetitions: usize) {
 
 fn print_row(works: &[Work], repetitions: usize) {
     works.iter().for_each(measure::check_equal);
-    let entries: usize = works.iter().map(Work::entries).sum();
+    // A run of no entry counts as one.
+    let entries: usize = works.iter().map(|work| work.entries().max(1)).sum();
     let thousands = |seconds| entries as f64 / seconds / 1e3;
     let times = measure::best_times(works, repetitions);
     let [library, plain, simulator] = times.map(thousands);

@@ -1,20 +1,23 @@
 //! How many rounds close until the dead boards are known, beside the two
 //! bounds: d·d, which is stated and proved, and 1 + d(d - 1)/2, which the
-//! proof shows.
+//! proof shows. Random plants, and the slowest plants known.
 //!
-//! `latency` writes docs/latency.md and docs/latency.svg under the current
-//! folder and prints the tables; `--quick` tries less, and only prints.
+//! `latency` reads samples/slowest and writes docs/latency.md and
+//! docs/latency.svg under the current folder, and prints the tables; `--quick`
+//! tries less, and only prints.
 
 use bench::chart::{self, Point};
 use bench::detection::{random_dead, rounds_until_known, Order};
-use bench::random::Random;
+use bench::slowest::{self, Slowest};
 use bench::statistics::Summary;
+use shared::random::Random;
+use shared::table::SIZES;
 use std::fmt::Write;
+use std::path::Path;
 use std::process::ExitCode;
 use std::{fs, io};
 
 const SEED: u64 = 1;
-const SIZES: [usize; 6] = [2, 4, 8, 16, 32, 64];
 
 /// The orders of turns, the first one for the main table.
 const ORDERS: [Order; 5] = [
@@ -34,6 +37,15 @@ fn trials(n: usize) -> usize {
     }
 }
 
+/// The bounds of a size: d·d, which is stated, and what the proof shows.
+fn stated(n: usize) -> u32 {
+    n.ilog2().pow(2)
+}
+
+fn shown(n: usize) -> u32 {
+    1 + n.ilog2() * (n.ilog2() - 1) / 2
+}
+
 /// The results of a size, by order.
 struct Results {
     n: usize,
@@ -41,18 +53,6 @@ struct Results {
 }
 
 impl Results {
-    fn d(&self) -> u32 {
-        self.n.ilog2()
-    }
-
-    fn stated(&self) -> u32 {
-        self.d() * self.d()
-    }
-
-    fn shown(&self) -> u32 {
-        1 + self.d() * (self.d() - 1) / 2
-    }
-
     fn random(&self) -> &Summary {
         &self.by_order[0]
     }
@@ -68,17 +68,27 @@ fn main() -> ExitCode {
             return ExitCode::from(2);
         }
     };
-    let results = SIZES.map(|n| try_size(n, quick));
-    print!("{}", tables(&results));
-    if quick {
-        return ExitCode::SUCCESS;
-    }
-    match write_files(&results) {
+    match work(quick) {
         Ok(()) => ExitCode::SUCCESS,
         Err(error) => {
-            eprintln!("docs/latency: {error}");
+            eprintln!("latency: {error}");
             ExitCode::FAILURE
         }
+    }
+}
+
+fn work(quick: bool) -> io::Result<()> {
+    let folder = Path::new("samples/slowest");
+    let slowest: io::Result<Vec<Slowest>> = slowest::SIZES
+        .into_iter()
+        .map(|n| slowest::run(folder, n))
+        .collect();
+    let slowest = slowest?;
+    let results = SIZES.map(|n| try_size(n, quick));
+    print!("{}", tables(&results, &slowest));
+    match quick {
+        true => Ok(()),
+        false => write_files(&results, &slowest),
     }
 }
 
@@ -102,48 +112,59 @@ fn try_order(n: usize, order: Order, trials: usize) -> Summary {
     Summary::of((0..trials).map(|_| one()).collect())
 }
 
-fn write_files(results: &[Results]) -> io::Result<()> {
-    let points: Vec<Point> = results.iter().map(point).collect();
+fn write_files(results: &[Results], slowest: &[Slowest]) -> io::Result<()> {
+    let points: Vec<Point> = results.iter().map(|row| point(row, slowest)).collect();
     fs::create_dir_all("docs")?;
-    fs::write("docs/latency.md", document(results))?;
+    fs::write("docs/latency.md", document(results, slowest))?;
     fs::write("docs/latency.svg", chart::draw(&points))
 }
 
-fn point(results: &Results) -> Point {
+fn point(results: &Results, slowest: &[Slowest]) -> Point {
+    let Results { n, .. } = *results;
+    let slowest = slowest.iter().find(|plant| plant.n == n);
     Point {
-        n: results.n,
+        n,
         least: results.random().least,
         mean: results.random().mean,
         greatest: results.random().greatest,
-        shown: results.shown(),
-        stated: results.stated(),
+        slowest: slowest.map(|plant| plant.rounds),
+        shown: shown(n),
+        stated: stated(n),
     }
 }
 
-fn document(results: &[Results]) -> String {
+fn document(results: &[Results], slowest: &[Slowest]) -> String {
     format!(
         "# How many rounds pass until the dead boards are known
 
 Made by `tests/latency` with seed {SEED}, by runs of the library; the same command gives the same file.
 
-Each trial begins with a fresh table on which the dead boards crash. It counts the closed rounds until every live board suspects exactly the dead ones.
-At least two boards are live. Their number is drawn from 2 to a power of two that is drawn first from 2 to N, since few live boards take the most rounds; then which
-ones. At least one board is dead, but for N = 2, where there is nothing to find. All turns are of kind 1.
+Counted are the closed rounds: from a fresh table on which the dead boards crash first, the rounds that close after the last crash, up to
+and with the first one at whose end every live board suspects exactly the dead ones. All turns are of kind 1.
 
 ![Closed rounds until the dead boards are known](latency.svg)
 
 {}",
-        tables(results)
+        tables(results, slowest)
     )
 }
 
-fn tables(results: &[Results]) -> String {
-    format!("{}\n{}", main_table(results), order_table(results))
+fn tables(results: &[Results], slowest: &[Slowest]) -> String {
+    let tables = [
+        main_table(results),
+        slowest_table(slowest),
+        order_table(results),
+    ];
+    tables.join("\n")
 }
 
 fn main_table(results: &[Results]) -> String {
     let mut text = String::from(
-        "Each turn is taken by any live board that has not finished its pass, at random. Demand 3 states d·d rounds; its proof shows 1 + d(d − 1)/2.
+        "## Random plants
+
+At least two boards are live. Their number is drawn from 2 to a power of two that is drawn first from 2 to N, since few live boards take
+the most rounds; then which ones. At least one board is dead, but for N = 2, where there is nothing to find and no round is counted. Each
+turn is taken by any live board that has not finished its pass, at random. Demand 3 states d·d rounds; its proof shows 1 + d(d − 1)/2.
 
 | N | d | trials | least | mean | 99th percentile | greatest | 1 + d(d − 1)/2 | d·d |
 |--:|--:|--:|--:|--:|--:|--:|--:|--:|
@@ -157,7 +178,8 @@ fn main_table(results: &[Results]) -> String {
             percentile,
             greatest,
         } = row.random();
-        let (n, d, shown, stated) = (row.n, row.d(), row.shown(), row.stated());
+        let (n, d) = (row.n, row.n.ilog2());
+        let (shown, stated) = (shown(n), stated(n));
         let _ = writeln!(
             text,
             "| {n} | {d} | {trials} | {least} | {mean:.2} | {percentile} | {greatest} | {shown} | {stated} |"
@@ -166,10 +188,34 @@ fn main_table(results: &[Results]) -> String {
     text
 }
 
+fn slowest_table(slowest: &[Slowest]) -> String {
+    let mut text = String::from(
+        "## The slowest plants known
+
+Inputs of the run program in `samples/slowest`, one a size, with many boards dead at once and the turns in an unlucky order: the dead boards
+crash first, then come the turns. With 32 and 64 boards more rounds are needed than log2 N.
+
+| N | dead | rounds until known | log2 N | 1 + d(d − 1)/2 | d·d | input |
+|--:|--:|--:|--:|--:|--:|---|
+",
+    );
+    for Slowest { n, dead, rounds } in slowest {
+        let (log, shown, stated) = (n.ilog2(), shown(*n), stated(*n));
+        let file = format!("[{n}-boards.txt](../samples/slowest/{n}-boards.txt)");
+        let _ = writeln!(
+            text,
+            "| {n} | {dead} | {rounds} | {log} | {shown} | {stated} | {file} |"
+        );
+    }
+    text
+}
+
 fn order_table(results: &[Results]) -> String {
     let mut text = String::from(
-        "Mean and greatest for other orders of turns. Whole passes: each board takes its pass in one go, in an order drawn anew for each round, or by rising or falling
-number. Delaying: each turn is taken by a board whose turn adds the fewest suspicions to the table (a tenth of the trials).
+        "## Other orders of turns
+
+Mean and greatest over random plants. Whole passes: each board takes its pass in one go, in an order drawn anew for each round, or by rising
+or falling number. Delaying: each turn is taken by a board whose turn adds the fewest suspicions to the table (a tenth of the trials).
 
 | N | random | whole passes | rising passes | falling passes | delaying |
 |--:|--:|--:|--:|--:|--:|

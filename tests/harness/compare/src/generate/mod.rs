@@ -1,67 +1,61 @@
 //! Random calls. Each is first made so that it is accepted; then, now and
-//! then, one or several of its parts are made wrong.
+//! then, one or several of its parts are made wrong. The places of figures hold
+//! anything before the call.
 
 mod numbers;
 mod schedules;
 mod tables;
 
-use crate::call::{Buffers, Call, Kind, Numbers};
-use crate::prng::Prng;
+use shared::random::Random;
+use shared::table::live_stations;
+
+use crate::call::{Buffers, Call, Kind, Name, Numbers};
 
 /// The size of the plant that a call is made for.
 type Size = usize;
 
-pub fn call(rng: &mut Prng) -> Call {
-    let size = numbers::size(rng);
-    match rng.below(20) {
-        0..=1 => fresh_table(size, rng),
-        2..=4 => group_list(size, rng),
-        5..=8 => assignment(size, rng),
-        9..=11 => row(size, rng),
-        _ => run(size, rng),
+pub fn call(random: &mut Random) -> Call {
+    let size = numbers::size(random);
+    match random.below(20) {
+        0..=1 => fresh_table(size, random),
+        2..=4 => group_list(size, random),
+        5..=8 => assignment(size, random),
+        9..=11 => row(size, random),
+        _ => run(size, random),
     }
 }
 
-fn fresh_table(size: Size, rng: &mut Prng) -> Call {
-    let n = numbers::given_size(size, rng);
-    let length = numbers::table_length(n, size, rng);
-    let table = rng.bytes(length);
+fn fresh_table(size: Size, random: &mut Random) -> Call {
+    let n = numbers::given_size(size, random);
+    let length = numbers::table_length(n, size, random);
     Call {
         kind: Kind::FreshTable,
         numbers: Numbers {
             n,
             ..Numbers::default()
         },
-        buffers: Buffers {
-            table,
-            ..Buffers::default()
-        },
+        buffers: Buffers::of([(Name::Table, random.bytes(length))]),
     }
 }
 
-fn group_list(size: Size, rng: &mut Prng) -> Call {
-    let level = rng.between(1, size.trailing_zeros() as usize);
-    let length = numbers::length(1 << (level - 1), rng);
+fn group_list(size: Size, random: &mut Random) -> Call {
+    let level = random.between(1, size.trailing_zeros() as usize);
+    let length = numbers::length(1 << (level - 1), random);
     Call {
         kind: Kind::GroupList,
         numbers: Numbers {
-            n: numbers::given_size(size, rng),
-            station: numbers::station(size, rng),
-            level: numbers::given_level(level, size, rng),
-            ..Numbers::default()
+            n: numbers::given_size(size, random),
+            station: numbers::station(size, random),
+            level: numbers::given_level(level, size, random),
         },
-        buffers: Buffers {
-            list: rng.bytes(length),
-            ..Buffers::default()
-        },
+        buffers: Buffers::of([(Name::List, random.bytes(length))]),
     }
 }
 
-fn assignment(size: Size, rng: &mut Prng) -> Call {
-    let (n, table) = tables::given(size, rng);
-    let station = station_in(&table, size, rng);
-    let list_length = numbers::length(size - 1, rng);
-    let count_length = numbers::length(1, rng);
+fn assignment(size: Size, random: &mut Random) -> Call {
+    let (n, table) = tables::given(size, random);
+    let station = station_in(&table, size, random);
+    let length = numbers::length(size - 1, random);
     Call {
         kind: Kind::Assignment,
         numbers: Numbers {
@@ -69,61 +63,59 @@ fn assignment(size: Size, rng: &mut Prng) -> Call {
             station,
             ..Numbers::default()
         },
-        buffers: Buffers {
-            table,
-            list: rng.bytes(list_length),
-            count: rng.bytes(count_length),
-            ..Buffers::default()
-        },
+        buffers: Buffers::of([
+            (Name::Table, table),
+            (Name::List, random.bytes(length)),
+            (Name::Count, random.bytes(size_of::<usize>())),
+        ]),
     }
 }
 
 /// A live station, if there is one, or any.
-fn station_in(table: &[u8], size: Size, rng: &mut Prng) -> usize {
-    let live = tables::live_stations(table, size);
-    if live.is_empty() || rng.once_in(6) {
-        numbers::station(size, rng)
+fn station_in(table: &[u8], size: Size, random: &mut Random) -> usize {
+    let live = live_stations(size, table);
+    if live.is_empty() || random.once_in(6) {
+        numbers::station(size, random)
     } else {
-        rng.pick(&live)
+        random.pick(&live)
     }
 }
 
-fn row(size: Size, rng: &mut Prng) -> Call {
-    let (n, table) = tables::given(size, rng);
+fn row(size: Size, random: &mut Random) -> Call {
+    let (n, table) = tables::given(size, random);
     Call {
         kind: Kind::Row,
         numbers: Numbers {
             n,
-            station: numbers::station(size, rng),
+            station: numbers::station(size, random),
             ..Numbers::default()
         },
-        buffers: Buffers {
-            table,
-            ..Buffers::default()
-        },
+        buffers: Buffers::of([
+            (Name::Table, table),
+            (Name::Start, random.bytes(size_of::<usize>())),
+            (Name::Length, random.bytes(size_of::<usize>())),
+        ]),
     }
 }
 
-fn run(size: Size, rng: &mut Prng) -> Call {
-    let (n, table) = tables::given(size, rng);
-    let schedule = schedules::given(size, &table, rng);
-    let (rounds, tests) = numbers::tally(schedule.len() / 2, rng);
-    let sheet_length = numbers::length(2 * schedule.len(), rng);
-    let answer_length = numbers::length(vcube::raw::ANSWER_LENGTH, rng);
+fn run(size: Size, random: &mut Random) -> Call {
+    let (n, table) = tables::given(size, random);
+    let schedule = schedules::given(size, &table, random);
+    let (rounds, tests) = numbers::tally(schedule.len() / 2, random);
+    let sheet_length = numbers::length(2 * schedule.len(), random);
     Call {
         kind: Kind::Run,
         numbers: Numbers {
             n,
-            rounds,
-            tests,
             ..Numbers::default()
         },
-        buffers: Buffers {
-            table,
-            schedule,
-            sheet: rng.bytes(sheet_length),
-            answer: rng.bytes(answer_length),
-            ..Buffers::default()
-        },
+        buffers: Buffers::of([
+            (Name::Table, table),
+            (Name::Schedule, schedule),
+            (Name::Sheet, random.bytes(sheet_length)),
+            (Name::Rounds, rounds.to_ne_bytes().to_vec()),
+            (Name::Tests, tests.to_ne_bytes().to_vec()),
+            (Name::Taken, random.bytes(size_of::<usize>())),
+        ]),
     }
 }

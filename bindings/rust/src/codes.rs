@@ -1,0 +1,110 @@
+//! The numbers of document 01 as types: refusals, kinds, statuses, outcomes.
+
+use std::error::Error;
+use std::fmt;
+
+/// An enum whose cases have the numbers of document 01.
+macro_rules! numbered {
+    ($(#[$about:meta])* $name:ident { $($(#[$of_case:meta])* $case:ident = $number:literal,)+ }) => {
+        $(#[$about])*
+        #[derive(Clone, Copy, Debug, PartialEq, Eq, Hash, PartialOrd, Ord)]
+        #[repr(u8)]
+        pub enum $name {
+            $($(#[$of_case])* $case = $number,)+
+        }
+
+        impl $name {
+            /// Its number in document 01.
+            #[must_use]
+            pub const fn number(self) -> u8 {
+                self as u8
+            }
+
+            /// The one with this number, if there is one.
+            #[must_use]
+            pub const fn from_number(number: u8) -> Option<$name> {
+                match number {
+                    $($number => Some($name::$case),)+
+                    _ => None,
+                }
+            }
+        }
+    };
+}
+
+numbered! {
+    /// Why a call was refused: the refusal list, in checking order.
+    #[non_exhaustive]
+    Refusal {
+        Size = 1,
+        TableLength = 2,
+        LineRule = 3,
+        AllFinished = 4,
+        ScheduleLength = 5,
+        SheetLength = 6,
+        Tally = 7,
+        Kind = 8,
+        Station = 9,
+        NotLive = 10,
+        PassFinished = 11,
+        Level = 12,
+        ListLength = 13,
+    }
+}
+
+numbered! {
+    /// What an entry asks of its station.
+    Kind {
+        Turn = 1,
+        /// A turn whose reply comes late.
+        LateTurn = 2,
+        Crash = 3,
+    }
+}
+
+numbered! {
+    /// Whether a station is live, and if not, why.
+    Status {
+        Live = 0,
+        Crashed = 1,
+        /// It left because it was told that it is suspected.
+        Told = 2,
+        /// It left because it suspects all others.
+        Alone = 3,
+    }
+}
+
+numbered! {
+    /// What an entry brought.
+    #[non_exhaustive]
+    Outcome {
+        /// No test was due any more.
+        PassFinished = 0,
+        Exchanged = 1,
+        Told = 2,
+        NoReply = 3,
+        Crash = 4,
+    }
+}
+
+impl fmt::Display for Refusal {
+    fn fmt(&self, f: &mut fmt::Formatter<'_>) -> fmt::Result {
+        f.write_str(match self {
+            Refusal::Size => "the size is none of 2, 4, 8, 16, 32, 64",
+            Refusal::TableLength => "the table's length is not n times (n + 4)",
+            Refusal::LineRule => "a line of the table breaks a line rule",
+            Refusal::AllFinished => "some station is live and every live one is finished",
+            Refusal::ScheduleLength => "the schedule's length is odd",
+            Refusal::SheetLength => "the sheet's length is not twice the schedule's",
+            Refusal::Tally => "either tally stands at 4294967295 when an entry is reached",
+            Refusal::Kind => "the kind is not 1, 2 or 3",
+            Refusal::Station => "the station number is n or more",
+            Refusal::NotLive => "the station is not live",
+            Refusal::PassFinished => "the kind is 1 or 2 and the station has finished its pass",
+            Refusal::Level => "the level is 0 or above d, the size's logarithm to base 2",
+            Refusal::ListLength => "the lent list has not the length stated",
+        })
+    }
+}
+
+impl Error for Refusal {}

@@ -1,0 +1,90 @@
+//! The calls as each side makes them, on the same guarded buffers.
+
+use std::hint::black_box;
+
+use crate::call::{Buffers, Call, Kind, Name, Numbers};
+use crate::guarded::Guarded;
+use crate::outcome::{Outcome, Side};
+
+/// A side. Each call gives its number, and works on the buffers lent.
+pub trait Calls {
+    const SIDE: Side;
+
+    fn fresh_table(numbers: &Numbers, table: &mut Guarded) -> u8;
+
+    fn group_list(numbers: &Numbers, list: &mut Guarded) -> u8;
+
+    fn assignment(numbers: &Numbers, lent: Assignment) -> u8;
+
+    fn row(numbers: &Numbers, lent: Row) -> u8;
+
+    fn run(numbers: &Numbers, lent: Run) -> u8;
+}
+
+pub struct Assignment<'a> {
+    pub table: &'a mut Guarded,
+    pub list: &'a mut Guarded,
+    pub count: &'a mut Guarded,
+}
+
+pub struct Row<'a> {
+    pub table: &'a mut Guarded,
+    pub start: &'a mut Guarded,
+    pub length: &'a mut Guarded,
+}
+
+pub struct Run<'a> {
+    pub table: &'a mut Guarded,
+    pub schedule: &'a mut Guarded,
+    pub sheet: &'a mut Guarded,
+    pub rounds: &'a mut Guarded,
+    pub tests: &'a mut Guarded,
+    pub taken: &'a mut Guarded,
+}
+
+/// Makes a call by one side.
+pub fn make<By: Calls>(call: &Call, mut buffers: Buffers<Guarded>) -> Outcome {
+    let numbers = &call.numbers;
+    let number = match call.kind {
+        Kind::FreshTable => By::fresh_table(numbers, buffers.get_mut(Name::Table)),
+        Kind::GroupList => By::group_list(numbers, buffers.get_mut(Name::List)),
+        Kind::Assignment => By::assignment(numbers, assignment(&mut buffers)),
+        Kind::Row => By::row(numbers, row(&mut buffers)),
+        Kind::Run => By::run(numbers, run(&mut buffers)),
+    };
+    Outcome {
+        side: By::SIDE,
+        number,
+        // The compiler must not take a buffer lent for reading to be unchanged.
+        buffers: black_box(buffers),
+    }
+}
+
+fn assignment(buffers: &mut Buffers<Guarded>) -> Assignment<'_> {
+    let [table, list, count] = buffers.get_all([Name::Table, Name::List, Name::Count]);
+    Assignment { table, list, count }
+}
+
+fn row(buffers: &mut Buffers<Guarded>) -> Row<'_> {
+    let [table, start, length] = buffers.get_all([Name::Table, Name::Start, Name::Length]);
+    Row {
+        table,
+        start,
+        length,
+    }
+}
+
+fn run(buffers: &mut Buffers<Guarded>) -> Run<'_> {
+    let [table, schedule, sheet] = [Name::Table, Name::Schedule, Name::Sheet];
+    let [rounds, tests, taken] = [Name::Rounds, Name::Tests, Name::Taken];
+    let [table, schedule, sheet, rounds, tests, taken] =
+        buffers.get_all([table, schedule, sheet, rounds, tests, taken]);
+    Run {
+        table,
+        schedule,
+        sheet,
+        rounds,
+        tests,
+        taken,
+    }
+}

@@ -1,0 +1,10 @@
+//! What the programs of the harness share: random numbers, a view of a table's
+//! lines, schedules, counts, and the words of a command.
+
+#![forbid(unsafe_code)]
+
+pub mod counts;
+pub mod options;
+pub mod random;
+pub mod schedule;
+pub mod table;
