@@ -282,6 +282,20 @@ fn numbers_are_those_of_document_01() {
 }
 
 #[test]
+fn refusals_of_tables_and_entries_have_their_names() {
+    let refusal = |table: &mut [u8], schedule: &[u8]| {
+        let mut sheet = vec![0; 2 * schedule.len()];
+        run(2, table, &mut Tally::default(), schedule, &mut sheet).refusal
+    };
+    let mut all_finished = [0, 2, 1, 0, 0, 0].repeat(2);
+    assert_eq!(refusal(&mut all_finished, &[]), Some(Refusal::AllFinished));
+    assert_eq!(refusal(&mut fresh(2), &[4, 0]), Some(Refusal::Kind));
+    assert_eq!(refusal(&mut fresh(2), &[1, 2]), Some(Refusal::Station));
+    let third_turn = refusal(&mut fresh(2), &[1, 0, 1, 0, 1, 0]);
+    assert_eq!(third_turn, Some(Refusal::PassFinished));
+}
+
+#[test]
 fn each_refusal_has_a_message_of_its_own() {
     let refusals = (1..=13).map(|k| Refusal::from_number(k).expect("13 refusals"));
     let mut messages: Vec<String> = refusals.map(|refusal| refusal.to_string()).collect();
