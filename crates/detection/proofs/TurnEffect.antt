@@ -20,7 +20,7 @@ use Rattle.station.proofs.Xor.{xor-cancel}
 use Rattle.station.proofs.Sizes.{size-pow}
 use Rattle.station.proofs.Refusals.{Accepted}
 use Rattle.station.proofs.CellLaws.{Line, accepted-line}
-use Rattle.plant.specs.Turn.{nextTest, makesTest, finishPass, countTest, replies, isTold, exchangeRows, suspect, afterTest, selfOrSuspected, isAlone, afterAlone, testing, turn}
+use Rattle.plant.specs.Turn.{nextTest, makesTest, finishPass, countTest, replies, isTold, exchangeRows, suspect, testOutcome, afterOutcome, afterTest, selfOrSuspected, isAlone, afterAlone, testing, turn}
 use Rattle.plant.proofs.StepCells.{finishPass-length, finishPass-other, finishPass-next, finishPass-finished, countTest-length, countTest-other, countTest-next, countTest-tests, suspect-length, suspect-same, suspect-other, exchange-length, exchange-other, exchange-tester, exchange-tested, exchange-tester-own, exchange-tested-own}
 use Rattle.plant.proofs.StepLines.{station-apart, station-below}
 use Rattle.plant.proofs.NextTest.{nextTest-low, not-due-before, test-below, test-due, none-due}
@@ -155,7 +155,7 @@ module _ (n : ℕ) (t t₁ : List ℕ) (s : Sound n t) (long : length t₁ ≡ t
     -- the test of another station by a live one, where the reply of a live one is not late
     step : (kind : ℕ) → i ≢ x → live n t i ≡ true → status n t₁ x ≡ status n t x → (live n t x ≡ true → kind ≡ 1)
         → Step n t t₁ (afterTest n t₁ kind i x) i x
-    unfolding afterTest replies isTold
+    unfolding afterOutcome testOutcome replies isTold
     step kind apart li same prompt = go (live n t x) refl
       where
         go : (b : Bool) → live n t x ≡ b → Step n t t₁ (afterTest n t₁ kind i x) i x

@@ -8,13 +8,14 @@ use Prim.Native.Nat.{ℕ, _+_, _^_, _≤_, _<_}
 use native.Mathlib.Decide.{ℕ-discrete}
 use native.Mathlib.Omega.{arith}
 use lib.Bits.{xor-self, xor-lt}
+use lib.Dec.{eqb}
 use lib.ListN.{length}
 use Rattle.station.specs.Groups.{isSize, dimension, stationAt}
 use Rattle.station.specs.Table.{head, stride, tableLength, cell, statusColumn, status, nextDistance, finished, testsMade, suspects}
 use Rattle.station.proofs.Xor.{xor-cancel}
 use Rattle.station.proofs.Sizes.{size-pow}
 use Rattle.station.proofs.CellLaws.{Line, cell-same, cell-other, setCell-length}
-use Rattle.plant.specs.Turn.{setStatus, makesTest, nextTest, finishPass, countTest, replies, isTold, exchangeRows, suspect, afterTest, isAlone, afterAlone, testing, turn, resetLines}
+use Rattle.plant.specs.Turn.{outcomeExchanged, outcomeTold, setStatus, makesTest, nextTest, finishPass, countTest, exchangeRows, suspect, testOutcome, afterOutcome, afterTest, isAlone, afterAlone, testing, turn, resetLines}
 use Rattle.plant.proofs.NextTest.{nextTest-low, test-below}
 use Rattle.plant.proofs.StepCells.{finishPass-length, finishPass-other, finishPass-next, finishPass-finished, countTest-length, countTest-other, countTest-next, countTest-tests, suspect-length, suspect-same, suspect-other, exchange-length, exchange-other, exchange-tester, exchange-tested, exchange-tester-own, exchange-tested-own, reset-length, reset-cells, reset-other}
 
@@ -163,9 +164,10 @@ module _ (n : ℕ) (t : List ℕ) (i : ℕ) (lines : Lines n t) (h : i < n) wher
 
     -- Steps 4 to 6
     pub afterTest-lines : (kind : ℕ) → Lines n (afterTest n t kind i j)
-    unfolding afterTest
+    unfolding afterOutcome
     afterTest-lines kind =
-        choose n (replies n t kind j) _ _ (choose n (isTold n t i j) _ _ (leave-lines 2 (omega arith)) exchange-lines) suspect-lines
+        let o : ℕ = testOutcome n t kind i j in
+        choose n (eqb o outcomeTold) _ _ (leave-lines 2 (omega arith)) (choose n (eqb o outcomeExchanged) _ _ exchange-lines suspect-lines)
 
   pub afterAlone-lines : Lines n (afterAlone n t i)
   unfolding afterAlone

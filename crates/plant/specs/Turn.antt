@@ -52,7 +52,7 @@ statusAlone = 3
 abbrev pub noStation : ℕ
 noStation = 255
 
--- the station's status becomes s
+-- the station leaves with status s (steps 4, 6 and 7)
 abbrev pub setStatus : ℕ → List ℕ → ℕ → ℕ → List ℕ
 setStatus n t i s = setCell n t i statusColumn s
 
@@ -88,13 +88,19 @@ exchangeRows n t i j = setRow n (setRow n t i (union (row n t i) (row n t j) i))
 unfoldable pub suspect : ℕ → List ℕ → ℕ → ℕ → List ℕ
 suspect n t i j = setRow n t i (mark (row n t i) j)
 
--- steps 4 and 5: the table after the test of j
-unfoldable pub afterTest : ℕ → List ℕ → ℕ → ℕ → ℕ → List ℕ
-afterTest n t kind i j = cond (replies n t kind j) (cond (isTold n t i j) (setStatus n t i statusTold) (exchangeRows n t i j)) (suspect n t i j)
-
--- the outcome of the test of j
+-- the outcome of the test of j, by steps 4 and 5
 unfoldable pub testOutcome : ℕ → List ℕ → ℕ → ℕ → ℕ → ℕ
 testOutcome n t kind i j = cond (replies n t kind j) (cond (isTold n t i j) outcomeTold outcomeExchanged) outcomeNoReply
+
+-- what steps 4 and 5 do to the table, by the outcome of the test of j
+unfoldable pub afterOutcome : ℕ → List ℕ → ℕ → ℕ → ℕ → List ℕ
+afterOutcome n t i j outcome =
+    cond (eqb outcome outcomeTold) (setStatus n t i statusTold)
+    (cond (eqb outcome outcomeExchanged) (exchangeRows n t i j) (suspect n t i j))
+
+-- the table after the test of j
+abbrev pub afterTest : ℕ → List ℕ → ℕ → ℕ → ℕ → List ℕ
+afterTest n t kind i j = afterOutcome n t i j (testOutcome n t kind i j)
 
 -- Step 6: "i, if still live, leaves with status 3 if it suspects all others"
 unfoldable pub selfOrSuspected : ℕ → List ℕ → ℕ → ℕ → Bool

@@ -73,7 +73,7 @@ fn act(n: u8, table: &mut [u8], kind: u8, i: Station) -> Turned
     ensures { λ _. ⌜ now (table .exit) ≡ acted n (now (table .entry)) (entryOf kind (i .0)) ⌝ }
 {
     if kind == codes::CRASH {
-        inside::put(n, table, i, cells::STATUS, codes::CRASHED);
+        turn::leave(n, table, i, codes::CRASHED);
         return Turned {
             tested: codes::NO_STATION,
             outcome: codes::CRASH_MADE,

@@ -6,6 +6,7 @@ ghost use Rattle.station.specs.Table.{stride, tableLength, setCell};
 use station::Station;
 use station::cells;
 pub(crate) use station::inside::get;
+pub(crate) use station::inside::row;
 
 // Writes byte c of line i.
 pub(crate) fn put(n: u8, table: &mut [u8], i: Station, c: u16, v: u8)

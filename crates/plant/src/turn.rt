@@ -8,7 +8,7 @@ ghost use Rattle.station.specs.Groups.{stationAt};
 ghost use Rattle.station.specs.Rows.{union, sameRows, united};
 ghost use Rattle.station.specs.Rules.{tableNumber};
 ghost use Rattle.station.specs.Tests.{due};
-ghost use Rattle.plant.specs.Turn.{nextTest, finishPass, countTest, replies, isTold, exchangeRows, suspect, afterTest, testOutcome, selfOrSuspected, isAlone, afterAlone, testing, turn, turnTested, turnOutcome};
+ghost use Rattle.plant.specs.Turn.{nextTest, finishPass, countTest, replies, isTold, exchangeRows, suspect, setStatus, testOutcome, afterOutcome, selfOrSuspected, isAlone, afterAlone, testing, turn, turnTested, turnOutcome};
 use crate::codes;
 use crate::inside;
 use station::Distance;
@@ -53,9 +53,7 @@ fn next_test(n: u8, table: &[u8], i: Station) -> Distance
     ensures { λ r. ⌜ r .0 ≡ nextTest n (now (table .entry)) (i .0) ⌝ }
 {
     let next = inside::get(n, table, i, cells::NEXT);
-    let a = cells::row_start(n, i);
-    let e = a + n as usize;
-    scan(&table[a..e], i, n, Distance(next))
+    scan(inside::row(n, table, i), i, n, Distance(next))
 }
 
 // The least distance from `from` on, and below n, that is due for i by its row; n, or `from` if that is greater, where there is none.
@@ -89,7 +87,8 @@ fn make_test(n: u8, table: &mut [u8], kind: u8, i: Station, m: Distance) -> u8
 {
     let j = order::lookup(i, m);
     count_test(n, table, i, m);
-    let outcome = hear_reply(n, table, kind, i, j);
+    let outcome = test_outcome(n, table, kind, i, j);
+    apply_outcome(n, table, i, j, outcome);
     leave_if_alone(n, table, i);
     outcome
 }
@@ -104,22 +103,42 @@ fn count_test(n: u8, table: &mut [u8], i: Station, m: Distance)
     inside::put(n, table, i, cells::TESTS, tests + 1);
 }
 
-// Steps 4 and 5: the reply of j, or none. The answer is the outcome.
-fn hear_reply(n: u8, table: &mut [u8], kind: u8, i: Station, j: Station) -> u8
-    requires { ⌜ (n ≤ 64) × (length (now table) ≡ tableLength n) × (i .0 < n) × (j .0 < n) × (i .0 ≡ j .0 → ⊥) ⌝ }
+// Steps 4 and 5: the outcome of the test of j.
+fn test_outcome(n: u8, table: &[u8], kind: u8, i: Station, j: Station) -> u8
+    requires { ⌜ (length (now table) ≡ tableLength n) × (i .0 < n) × (j .0 < n) ⌝ }
     ensures { λ r. ⌜ r ≡ testOutcome n (now (table .entry)) kind (i .0) (j .0) ⌝ }
-    ensures { λ _. ⌜ now (table .exit) ≡ afterTest n (now (table .entry)) kind (i .0) (j .0) ⌝ }
 {
     if !does_reply(n, table, kind, j) {
-        suspect_station(n, table, i, j);
         return codes::NO_REPLY;
     }
     if is_told(n, table, i, j) {
-        inside::put(n, table, i, cells::STATUS, codes::LEFT_TOLD);
         return codes::TOLD;
     }
-    exchange_rows(n, table, i, j);
     codes::EXCHANGED
+}
+
+// Steps 4 and 5: what the outcome of the test of j does to the table.
+fn apply_outcome(n: u8, table: &mut [u8], i: Station, j: Station, outcome: u8)
+    requires { ⌜ (n ≤ 64) × (length (now table) ≡ tableLength n) × (i .0 < n) × (j .0 < n) × (i .0 ≡ j .0 → ⊥) ⌝ }
+    ensures { λ _. ⌜ now (table .exit) ≡ afterOutcome n (now (table .entry)) (i .0) (j .0) outcome ⌝ }
+{
+    if outcome == codes::TOLD {
+        leave(n, table, i, codes::LEFT_TOLD);
+        return;
+    }
+    if outcome == codes::EXCHANGED {
+        exchange_rows(n, table, i, j);
+        return;
+    }
+    suspect_station(n, table, i, j);
+}
+
+// Steps 4, 6 and 7: the station leaves with a status.
+pub(crate) fn leave(n: u8, table: &mut [u8], i: Station, status: u8)
+    requires { ⌜ (length (now table) ≡ tableLength n) × (i .0 < n) ⌝ }
+    ensures { λ _. ⌜ now (table .exit) ≡ setStatus n (now (table .entry)) (i .0) status ⌝ }
+{
+    inside::put(n, table, i, cells::STATUS, status);
 }
 
 // Step 4: whether j replies in time.
@@ -171,11 +190,7 @@ fn same_rows(n: u8, table: &[u8], i: Station, j: Station) -> bool
     requires { ⌜ (length (now table) ≡ tableLength n) × (i .0 < n) × (j .0 < n) ⌝ }
     ensures { λ r. ⌜ r ≡ sameRows (row n (now (table .entry)) (i .0)) (row n (now (table .entry)) (j .0)) ⌝ }
 {
-    let a = cells::row_start(n, i);
-    let e = a + n as usize;
-    let b = cells::row_start(n, j);
-    let f = b + n as usize;
-    rows::same_rows(&table[a..e], &table[b..f])
+    rows::same_rows(inside::row(n, table, i), inside::row(n, table, j))
 }
 
 // Writes the union of the rows of i and j to the front of a buffer.
@@ -183,11 +198,7 @@ fn unite_rows(n: u8, table: &[u8], i: Station, j: Station, out: &mut [u8])
     requires { ⌜ (length (now table) ≡ tableLength n) × (i .0 < n) × (j .0 < n) ⌝ }
     ensures { λ _. ⌜ now (out .exit) ≡ united (row n (now (table .entry)) (i .0)) (row n (now (table .entry)) (j .0)) (now (out .entry)) ⌝ }
 {
-    let a = cells::row_start(n, i);
-    let e = a + n as usize;
-    let b = cells::row_start(n, j);
-    let f = b + n as usize;
-    rows::unite_rows(&table[a..e], &table[b..f], out);
+    rows::unite_rows(inside::row(n, table, i), inside::row(n, table, j), out);
 }
 
 // Joins another row into the row of station i, lent as a part of the table.
@@ -206,7 +217,7 @@ fn leave_if_alone(n: u8, table: &mut [u8], i: Station)
     ensures { λ _. ⌜ now (table .exit) ≡ afterAlone n (now (table .entry)) (i .0) ⌝ }
 {
     if suspects_all(n, table, i) {
-        inside::put(n, table, i, cells::STATUS, codes::LEFT_ALONE);
+        leave(n, table, i, codes::LEFT_ALONE);
     }
 }
 

@@ -1,7 +1,6 @@
 -- `entry::act` meets its contract: each way is the one that the definition takes.
 -- Assumes nothing.
 use mathlib.Core.Path.{refl}
-use native.Mathlib.Omega.{arith}
 use borrow.Author.Needs.{needs}
 use borrow.Author.Tests.{eq-eqb, ne-eqb}
 use Rattle.station.proofs.Refusals.{accepted}
@@ -10,15 +9,15 @@ use Rattle.plant.specs.Entry.{acted, testedOf, outcomeOf}
 use Rattle.plant.proofs.entry.act.Statement.{statement}
 use Rattle.plant.proofs.entry.act.Tie as tie
 
-put-requires : tie.Need-put-requires
-put-requires c κs =
+leave-requires : tie.Need-leave-requires
+leave-requires c κs =
     let a = c .before .before .before .args in
     let p = c .before .before .before .pre in
-    (accepted (a .n) (a .table .now) (p .0) .long, p .1, omega arith)
+    (accepted (a .n) (a .table .now) (p .0) .long, p .1)
 
 returns : tie.Need-returns
 unfolding acted testedOf outcomeOf crash
-returns c = rw (eq-eqb _ _ (c .before .before .before .before .if1 .taken)) (refl, (refl, c .before .before .put .ensures))
+returns c = rw (eq-eqb _ _ (c .before .before .before .before .if1 .taken)) (refl, (refl, c .before .before .leave .ensures))
 
 returns-2 : tie.Need-returns-2
 unfolding acted testedOf outcomeOf
@@ -27,4 +26,4 @@ returns-2 c = rw (ne-eqb _ _ (c .before .before .before .before .if1 .left)) (c 
 pub act-spec : {M : Type 1} → statement M
 act-spec =
     tie.close
-    (tie.spec put-requires (λ c. search needs) returns (λ c κs. search needs) (λ c. search needs) returns-2)
+    (tie.spec leave-requires (λ c. search needs) returns (λ c κs. search needs) (λ c. search needs) returns-2)

@@ -7,7 +7,7 @@ use Rattle.plant.proofs.turn.leave_if_alone.Tie as tie
 
 returns : tie.Need-returns
 unfolding afterAlone
-returns c = rw (← c .before .before .before .before .before .suspects-all .ensures, c .before .before .before .before .if1 .taken) (c .before .before .put .ensures)
+returns c = rw (← c .before .before .before .before .before .suspects-all .ensures, c .before .before .before .before .if1 .taken) (c .before .before .leave .ensures)
 
 returns-2 : tie.Need-returns-2
 unfolding afterAlone

@@ -22,14 +22,24 @@ count-test-requires c κs =
     let b = size-bounds (a .n) (t .size) in
     (t .long, p .1, omega (arith, b), omega (arith, b, l .testsBound, l .nextHigh))
 
-hear-reply-requires : tie.Need-hear-reply-requires
-hear-reply-requires c κs =
+test-outcome-requires : tie.Need-test-outcome-requires
+test-outcome-requires c κs =
     let a = c .before .before .before .before .before .before .before .args in
     let p = c .before .before .before .before .before .before .before .pre in
-    let t = accepted (a .n) (a .table .now) (p .0) in
-    let e = c .before .before .before .before .before .lookup .ensures in (
-      size-bounds (a .n) (t .size) .1,
+    let t = accepted (a .n) (a .table .now) (p .0) in (
       ap length (c .before .before .before .count-test .ensures) ∙ (countTest-length (a .n) (a .table .now) (a .i .0) (a .m .0) ∙ t .long),
+      p .1,
+      rw (c .before .before .before .before .before .lookup .ensures) (station-below (a .n) (a .i .0) (a .m .0) (t .size) (p .1) (p .3)),
+    )
+
+apply-outcome-requires : tie.Need-apply-outcome-requires
+apply-outcome-requires c κs =
+    let a = c .before .before .before .before .before .before .before .before .before .args in
+    let p = c .before .before .before .before .before .before .before .before .before .pre in
+    let t = accepted (a .n) (a .table .now) (p .0) in
+    let e = c .before .before .before .before .before .before .before .lookup .ensures in (
+      size-bounds (a .n) (t .size) .1,
+      ap length (c .before .before .before .before .before .count-test .ensures) ∙ (countTest-length (a .n) (a .table .now) (a .i .0) (a .m .0) ∙ t .long),
       p .1,
       rw e (station-below (a .n) (a .i .0) (a .m .0) (t .size) (p .1) (p .3)),
       λ q. station-apart (a .i .0) (a .m .0) (p .2) (q ∙ e),
@@ -37,13 +47,17 @@ hear-reply-requires c κs =
 
 leave-if-alone-requires : tie.Need-leave-if-alone-requires
 leave-if-alone-requires c κs =
-    let a = c .before .before .before .before .before .before .before .before .before .before .before .args in
-    let p = c .before .before .before .before .before .before .before .before .before .before .before .pre in
+    let a = c .before .before .before .before .before .before .before .before .before .before .before .before .before .args in
+    let p = c .before .before .before .before .before .before .before .before .before .before .before .before .before .pre in
     (omega (arith, accepted (a .n) (a .table .now) (p .0) .long), p .1)
 
 returns : tie.Need-returns
 unfolding testing
-returns c = (rw (c .before .before .before .before .before .before .hear-reply .ensures .0, c .before .before .before .before .before .before .before .before .before .before .count-test .ensures, c .before .before .before .before .before .before .before .before .before .before .before .before .lookup .ensures), rw (c .before .before .leave-if-alone .ensures, c .before .before .before .before .before .before .hear-reply .ensures .1, c .before .before .before .before .before .before .before .before .before .before .count-test .ensures, c .before .before .before .before .before .before .before .before .before .before .before .before .lookup .ensures))
+returns c =
+    let o = c .before .before .before .before .before .before .before .before .test-outcome .ensures in
+    let counted = c .before .before .before .before .before .before .before .before .before .before .before .before .count-test .ensures in
+    let j = c .before .before .before .before .before .before .before .before .before .before .before .before .before .before .lookup .ensures in
+    (rw (o, counted, j), rw (c .before .before .leave-if-alone .ensures, c .before .before .before .before .before .before .apply-outcome .ensures, o, counted, j))
 
 pub make-test-spec : {M : Type 1} → statement M
 make-test-spec =
@@ -51,7 +65,8 @@ make-test-spec =
     (tie.spec
     (λ c κs. search needs)
     count-test-requires
-    hear-reply-requires
+    test-outcome-requires
+    apply-outcome-requires
     leave-if-alone-requires
     (λ c. search needs)
     returns)
