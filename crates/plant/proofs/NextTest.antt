@@ -6,6 +6,7 @@ use mathlib.Core.List.{List}
 use Prim.Native.Nat.{ℕ, _-_, _≤_, _<_}
 use native.Mathlib.Omega.{arith}
 use borrow.Author.Tests.{ltb-true, ltb-false}
+use Rattle.station.specs.Groups.{distances}
 use Rattle.station.specs.Table.{nextDistance, row}
 use Rattle.station.specs.Tests.{due}
 use Rattle.station.proofs.SearchLaws.{least-between, least-passes, least-before}
@@ -14,31 +15,31 @@ use Rattle.plant.specs.Turn.{nextTest, makesTest}
 module _ (n : ℕ) (t : List ℕ) (i : ℕ) where
   pub nextTest-low : nextDistance n t i ≤ nextTest n t i
   unfolding nextTest
-  nextTest-low = least-between (due (row n t i) i) (n - nextDistance n t i) (nextDistance n t i) .0
+  nextTest-low = least-between (due (row n t i) i) (distances n - nextDistance n t i) (nextDistance n t i) .0
 
-  pub nextTest-high : nextDistance n t i ≤ n → nextTest n t i ≤ n
+  nextTest-high : nextDistance n t i ≤ distances n → nextTest n t i ≤ distances n
   unfolding nextTest
-  nextTest-high h = omega (arith, least-between (due (row n t i) i) (n - nextDistance n t i) (nextDistance n t i) .1)
+  nextTest-high h = omega (arith, least-between (due (row n t i) i) (distances n - nextDistance n t i) (nextDistance n t i) .1)
 
   -- no distance from the next one on is due before the one tested
   pub not-due-before : (y : ℕ) → nextDistance n t i ≤ y → y < nextTest n t i → due (row n t i) i y ≡ false
   unfolding nextTest
-  not-due-before y = least-before (due (row n t i) i) (n - nextDistance n t i) (nextDistance n t i) y
+  not-due-before y = least-before (due (row n t i) i) (distances n - nextDistance n t i) (nextDistance n t i) y
 
   -- a turn that makes a test
-  pub test-below : makesTest n t i ≡ true → nextTest n t i < n
+  pub test-below : makesTest n t i ≡ true → nextTest n t i < distances n
   unfolding makesTest
-  test-below e = ltb-true (nextTest n t i) n e
+  test-below e = ltb-true (nextTest n t i) (distances n) e
 
   pub test-due : makesTest n t i ≡ true → due (row n t i) i (nextTest n t i) ≡ true
   unfolding nextTest
   test-due e =
-      least-passes (due (row n t i) i) (n - nextDistance n t i) (nextDistance n t i) (omega (arith, test-below e, nextTest-low))
+      least-passes (due (row n t i) i) (distances n - nextDistance n t i) (nextDistance n t i) (omega (arith, test-below e, nextTest-low))
 
   -- a turn that makes none
-  pub no-test : makesTest n t i ≡ false → nextDistance n t i ≤ n → nextTest n t i ≡ n
+  no-test : makesTest n t i ≡ false → nextDistance n t i ≤ distances n → nextTest n t i ≡ distances n
   unfolding makesTest
-  no-test e h = omega (arith, ltb-false (nextTest n t i) n e, nextTest-high h)
+  no-test e h = omega (arith, ltb-false (nextTest n t i) (distances n) e, nextTest-high h)
 
-  pub none-due : makesTest n t i ≡ false → nextDistance n t i ≤ n → (y : ℕ) → nextDistance n t i ≤ y → y < n → due (row n t i) i y ≡ false
+  pub none-due : makesTest n t i ≡ false → nextDistance n t i ≤ distances n → (y : ℕ) → nextDistance n t i ≤ y → y < distances n → due (row n t i) i y ≡ false
   none-due e h y lo hi = not-due-before y lo (omega (arith, no-test e h))

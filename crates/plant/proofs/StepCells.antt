@@ -8,6 +8,7 @@ use native.Mathlib.Decide.{decLt, ℕ-discrete}
 use native.Mathlib.Nat.{eq-or-lt-of-le, le-of-suc-le-suc}
 use native.Mathlib.Omega.{arith}
 use lib.ListN.{length}
+use Rattle.station.specs.Groups.{distances}
 use Rattle.station.specs.Table.{head, stride, tableLength, cell, setCell, nextColumn, finishedColumn, testsColumn, nextDistance, finished, testsMade, suspects, row, setRow}
 use Rattle.station.specs.Rows.{unionByte, union, mark}
 use Rattle.station.proofs.CellLaws.{cell-same, cell-other, setCell-length, row-length, row-at, setRow-length, setRow-in, setRow-out, union-length, union-at, union-own, union-others, mark-length, mark-same, mark-other}
@@ -15,7 +16,7 @@ use Rattle.plant.specs.Iterate.{iterate}
 use Rattle.plant.specs.Turn.{finishPass, countTest, exchangeRows, suspect, resetLine, resetLines}
 
 module _ (n : ℕ) (t : List ℕ) (i : ℕ) where
-  -- Step 2, none due: next distance n, finished 1
+  -- Step 2, none due: next distance the number of distances, finished 1
   pub finishPass-length : length (finishPass n t i) ≡ length t
   unfolding finishPass
   finishPass-length = simp setCell-length
@@ -25,7 +26,7 @@ module _ (n : ℕ) (t : List ℕ) (i : ℕ) where
   unfolding finishPass
   finishPass-other i′ c h out =
       cell-other n _ i finishedColumn 1 i′ c (omega arith) h (λ e f. out e .1 (sym f))
-      ∙ cell-other n t i nextColumn n i′ c (omega arith) h (λ e f. out e .0 (sym f))
+      ∙ cell-other n t i nextColumn (distances n) i′ c (omega arith) h (λ e f. out e .0 (sym f))
 
   -- Step 3: next distance m + 1, one test more
   pub countTest-length : (m : ℕ) → length (countTest n t i m) ≡ length t
@@ -40,15 +41,15 @@ module _ (n : ℕ) (t : List ℕ) (i : ℕ) where
       ∙ cell-other n t i nextColumn (m + 1) i′ c (omega arith) h (λ e f. out e .0 (sym f))
 
   module _ (long : length t ≡ tableLength n) (h : i < n) where
-    pub finishPass-next : nextDistance n (finishPass n t i) i ≡ n
+    pub finishPass-next : nextDistance n (finishPass n t i) i ≡ distances n
     unfolding finishPass
     finishPass-next =
         cell-other n _ i finishedColumn 1 i nextColumn (omega arith) (omega arith) (omega arith)
-        ∙ cell-same n t i nextColumn n long h (omega arith)
+        ∙ cell-same n t i nextColumn (distances n) long h (omega arith)
 
     pub finishPass-finished : finished n (finishPass n t i) i ≡ 1
     unfolding finishPass
-    finishPass-finished = cell-same n _ i finishedColumn 1 (setCell-length n t i nextColumn n ∙ long) h (omega arith)
+    finishPass-finished = cell-same n _ i finishedColumn 1 (setCell-length n t i nextColumn (distances n) ∙ long) h (omega arith)
 
     pub countTest-next : (m : ℕ) → nextDistance n (countTest n t i m) i ≡ m + 1
     unfolding countTest

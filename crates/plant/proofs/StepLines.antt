@@ -10,8 +10,8 @@ use native.Mathlib.Omega.{arith}
 use lib.Bits.{xor-self, xor-lt}
 use lib.Dec.{eqb}
 use lib.ListN.{length}
-use Rattle.station.specs.Groups.{isSize, dimension, stationAt}
-use Rattle.station.specs.Table.{head, stride, tableLength, cell, statusColumn, status, nextDistance, finished, testsMade, suspects}
+use Rattle.station.specs.Groups.{isSize, dimension, distances, stationAt}
+use Rattle.station.specs.Table.{head, stride, tableLength, cell, statusColumn, nextColumn, finishedColumn, testsColumn, status, nextDistance, finished, suspects}
 use Rattle.station.proofs.Xor.{xor-cancel}
 use Rattle.station.proofs.Sizes.{size-pow}
 use Rattle.station.proofs.CellLaws.{Line, cell-same, cell-other, setCell-length}
@@ -31,17 +31,9 @@ choose n false t u a b = b
 pub line-row : (n : ℕ) (t t′ : List ℕ) (k : ℕ) → Line n t k → ((c : ℕ) → c < head → cell n t′ k c ≡ cell n t k c)
     → suspects n t′ k k ≡ 0 → ((x : ℕ) → x < n → suspects n t′ k x ≤ 1) → Line n t′ k
 line-row n t t′ k l same own range =
-    let a : status n t′ k ≡ status n t k = same 0 (omega arith) in
-    let b : nextDistance n t′ k ≡ nextDistance n t k = same 1 (omega arith) in
-    let c : finished n t′ k ≡ finished n t k = same 2 (omega arith) in
-    let d : testsMade n t′ k ≡ testsMade n t k = same 3 (omega arith) in
     record {
-      statusRange = omega (arith, l .statusRange);
-      nextLow = omega (arith, l .nextLow);
-      nextHigh = omega (arith, l .nextHigh);
-      finishedRange = omega (arith, l .finishedRange);
-      testsBound = omega (arith, l .testsBound);
-      finishedNext = λ p. b ∙ l .finishedNext (omega arith);
+      statusRange = rw (same statusColumn (omega arith)) (l .statusRange);
+      pass = rw (same nextColumn (omega arith), same finishedColumn (omega arith), same testsColumn (omega arith)) (l .pass);
       own = own;
       range = range;
     }
@@ -69,11 +61,7 @@ module _ (n : ℕ) (t : List ℕ) (i : ℕ) (lines : Lines n t) (h : i < n) wher
       (λ k c hc d. cell-other n t i statusColumn s k c (omega arith) hc (λ f. absurd (d f)))
       (record {
         statusRange = omega arith;
-        nextLow = rw (other 1 (omega arith) (omega arith)) (l .nextLow);
-        nextHigh = rw (other 1 (omega arith) (omega arith)) (l .nextHigh);
-        finishedRange = rw (other 2 (omega arith) (omega arith)) (l .finishedRange);
-        testsBound = rw (other 3 (omega arith) (omega arith), other 1 (omega arith) (omega arith)) (l .testsBound);
-        finishedNext = λ p. other 1 (omega arith) (omega arith) ∙ l .finishedNext (sym (other 2 (omega arith) (omega arith)) ∙ p);
+        pass = rw (other nextColumn (omega arith) (omega arith), other finishedColumn (omega arith) (omega arith), other testsColumn (omega arith) (omega arith)) (l .pass);
         own = other (head + i) (omega arith) (omega arith) ∙ l .own;
         range = λ x hx. rw (other (head + x) (omega arith) (omega arith)) (l .range x hx);
       }) lines
@@ -87,18 +75,20 @@ module _ (n : ℕ) (t : List ℕ) (i : ℕ) (lines : Lines n t) (h : i < n) wher
       let other = finishPass-other n t i i in
       one-line n t (finishPass n t i) i (finishPass-length n t i) (λ k c hc d. finishPass-other n t i k c hc (λ f. absurd (d f)))
       (record {
-        statusRange = rw (other 0 (omega arith) (omega arith)) (l .statusRange);
-        nextLow = omega arith;
-        nextHigh = omega arith;
-        finishedRange = omega arith;
-        testsBound = omega (arith, other 3 (omega arith) (omega arith), l .testsBound, l .nextHigh);
-        finishedNext = λ p. e;
+        statusRange = rw (other statusColumn (omega arith) (omega arith)) (l .statusRange);
+        pass = record {
+          nextLow = omega arith;
+          nextHigh = omega arith;
+          finishedRange = omega arith;
+          testsBound = omega (arith, other testsColumn (omega arith) (omega arith), l .pass .testsBound, l .pass .nextHigh);
+          finishedNext = λ p. e;
+        };
         own = other (head + i) (omega arith) (omega arith) ∙ l .own;
         range = λ x hx. rw (other (head + x) (omega arith) (omega arith)) (l .range x hx);
       }) lines
 
   -- Step 3
-  pub countTest-lines : (m : ℕ) → (finished n t i ≡ 1 → ⊥) → nextDistance n t i ≤ m → m < n → Lines n (countTest n t i m)
+  pub countTest-lines : (m : ℕ) → (finished n t i ≡ 1 → ⊥) → nextDistance n t i ≤ m → m < distances n → Lines n (countTest n t i m)
   countTest-lines m going lo hi =
       let l = lines .1 i h in
       let e = countTest-next n t i (lines .0) h m in
@@ -106,12 +96,14 @@ module _ (n : ℕ) (t : List ℕ) (i : ℕ) (lines : Lines n t) (h : i < n) wher
       let other = countTest-other n t i m i in
       one-line n t (countTest n t i m) i (countTest-length n t i m) (λ k c hc d. countTest-other n t i m k c hc (λ f. absurd (d f)))
       (record {
-        statusRange = rw (other 0 (omega arith) (omega arith)) (l .statusRange);
-        nextLow = omega arith;
-        nextHigh = omega arith;
-        finishedRange = rw (other 2 (omega arith) (omega arith)) (l .finishedRange);
-        testsBound = omega (arith, l .testsBound, l .nextLow);
-        finishedNext = λ p. absurd (going (sym (other 2 (omega arith) (omega arith)) ∙ p));
+        statusRange = rw (other statusColumn (omega arith) (omega arith)) (l .statusRange);
+        pass = record {
+          nextLow = omega arith;
+          nextHigh = omega arith;
+          finishedRange = rw (other finishedColumn (omega arith) (omega arith)) (l .pass .finishedRange);
+          testsBound = omega (arith, l .pass .testsBound, l .pass .nextLow);
+          finishedNext = λ p. absurd (going (sym (other finishedColumn (omega arith) (omega arith)) ∙ p));
+        };
         own = other (head + i) (omega arith) (omega arith) ∙ l .own;
         range = λ x hx. rw (other (head + x) (omega arith) (omega arith)) (l .range x hx);
       }) lines
@@ -177,7 +169,7 @@ module _ (n : ℕ) (t : List ℕ) (i : ℕ) (lines : Lines n t) (h : i < n) wher
 pub station-apart : (i m : ℕ) → 1 ≤ m → i ≢ stationAt i m
 station-apart i m pos e = let z : 0 ≡ m = cc (xor-self i, xor-cancel i m) in omega arith
 
-pub station-below : (n i m : ℕ) → isSize n ≡ true → i < n → m < n → stationAt i m < n
+pub station-below : (n i m : ℕ) → isSize n ≡ true → i < n → m < distances n → stationAt i m < n
 station-below n i m size hi hm =
     let e = size-pow n size in
     let l : stationAt i m < 2 ^ dimension n = xor-lt (dimension n) i m (omega arith) (omega arith) in
@@ -196,29 +188,24 @@ turn-lines n t kind i size lines h going = pick (makesTest n t i) refl
 
     pick : (b : Bool) → makesTest n t i ≡ b → Lines n (cond b (testing n t kind i m) (finishPass n t i))
     pick true e =
-        let hm : m < n = test-below n t i e in
+        let hm : m < distances n = test-below n t i e in
         let lo : nextDistance n t i ≤ m = nextTest-low n t i in
         let counted = countTest-lines n t i lines h m going lo hm in
-        let tested = afterTest-lines n (countTest n t i m) i counted h j (station-below n i m size h hm) (station-apart i m (omega (arith, lines .1 i h .nextLow))) kind in
+        let tested = afterTest-lines n (countTest n t i m) i counted h j (station-below n i m size h hm) (station-apart i m (omega (arith, lines .1 i h .pass .nextLow))) kind in
         afterAlone-lines n (afterTest n (countTest n t i m) kind i j) i tested h
     pick false e = finishPass-lines n t i lines h
 
 -- Step 8
-pub reset-lines : (n : ℕ) (t : List ℕ) → 1 ≤ n → Lines n t → Lines n (resetLines n t)
+pub reset-lines : (n : ℕ) (t : List ℕ) → 1 ≤ distances n → Lines n t → Lines n (resetLines n t)
 reset-lines n t pos lines = (
   reset-length n t ∙ lines .0,
   λ k h.
       let l = lines .1 k h in
       let r = reset-cells n t (lines .0) k h in
-      let next : nextDistance n (resetLines n t) k ≡ 1 = r .next in
-      let none : finished n (resetLines n t) k ≡ 0 = r .unfinished in
       record {
-        statusRange = rw (reset-other n t k 0 (omega arith) (omega arith)) (l .statusRange);
-        nextLow = omega arith;
-        nextHigh = omega arith;
-        finishedRange = omega arith;
-        testsBound = omega (arith, r .untested);
-        finishedNext = λ p. absurd (omega arith);
+        statusRange = rw (reset-other n t k statusColumn (omega arith) (omega arith)) (l .statusRange);
+        pass = rw (r .next, r .unfinished, r .untested)
+            (record { nextLow = omega arith; nextHigh = omega arith; finishedRange = omega arith; testsBound = omega arith; finishedNext = λ p. absurd (omega arith) });
         own = reset-other n t k (head + k) (omega arith) (omega arith) ∙ l .own;
         range = λ x hx. rw (reset-other n t k (head + x) (omega arith) (omega arith)) (l .range x hx);
       },

@@ -5,7 +5,7 @@ use mathlib.Core.Bool.{Bool, cond, _&&_, _||_}
 use mathlib.Core.List.{List}
 use lib.Dec.{ltb, eqb}
 use Rattle.station.specs.Search.{least, every}
-use Rattle.station.specs.Groups.{stationAt}
+use Rattle.station.specs.Groups.{stationAt, distances}
 use Rattle.station.specs.Table.{setCell, statusColumn, nextColumn, finishedColumn, testsColumn, nextDistance, testsMade, suspects, live, row, setRow}
 use Rattle.station.specs.Rules.{someLive, liveFinished}
 use Rattle.station.specs.Tests.{due}
@@ -56,17 +56,17 @@ noStation = 255
 abbrev pub setStatus : ℕ → List ℕ → ℕ → ℕ → List ℕ
 setStatus n t i s = setCell n t i statusColumn s
 
--- Step 2: "A turn takes the least due distance not below i's next distance." N where there is none
+-- Step 2: "A turn takes the least due distance not below i's next distance." Where there is none: the number of distances, N
 unfoldable pub nextTest : ℕ → List ℕ → ℕ → ℕ
-nextTest n t i = least (due (row n t i) i) (n - nextDistance n t i) (nextDistance n t i)
+nextTest n t i = least (due (row n t i) i) (distances n - nextDistance n t i) (nextDistance n t i)
 
 -- whether there is one
 unfoldable pub makesTest : ℕ → List ℕ → ℕ → Bool
-makesTest n t i = ltb (nextTest n t i) n
+makesTest n t i = ltb (nextTest n t i) (distances n)
 
 -- "If there is none, next distance becomes N and the pass is finished; no test is made."
 unfoldable pub finishPass : ℕ → List ℕ → ℕ → List ℕ
-finishPass n t i = setCell n (setCell n t i nextColumn n) i finishedColumn 1
+finishPass n t i = setCell n (setCell n t i nextColumn (distances n)) i finishedColumn 1
 
 -- Step 3: "Next distance becomes m + 1; i's tests [..] grow by one." The tally of tests grows in `after`
 unfoldable pub countTest : ℕ → List ℕ → ℕ → ℕ → List ℕ

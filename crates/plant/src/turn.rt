@@ -15,6 +15,7 @@ use station::Distance;
 use station::Station;
 use station::cells;
 use station::due;
+use station::groups;
 use station::order;
 use station::rows;
 
@@ -32,7 +33,7 @@ pub(crate) fn take_turn(n: u8, table: &mut [u8], kind: u8, i: Station) -> Turned
     ensures { λ _. ⌜ now (table .exit) ≡ turn n (now (table .entry)) kind (i .0) ⌝ }
 {
     let m = next_test(n, table, i);
-    if n <= m.0 {
+    if groups::distances(n) <= m.0 {
         finish_pass(n, table, i);
         return Turned {
             tested: codes::NO_STATION,
@@ -47,21 +48,21 @@ pub(crate) fn take_turn(n: u8, table: &mut [u8], kind: u8, i: Station) -> Turned
     }
 }
 
-// Step 2: the least due distance not below the next one; n where there is none.
+// Step 2: the least due distance not below the next one; the number of distances where there is none.
 fn next_test(n: u8, table: &[u8], i: Station) -> Distance
     requires { ⌜ (length (now table) ≡ tableLength n) × (i .0 < n) ⌝ }
     ensures { λ r. ⌜ r .0 ≡ nextTest n (now (table .entry)) (i .0) ⌝ }
 {
     let next = inside::get(n, table, i, cells::NEXT);
-    scan(inside::row(n, table, i), i, n, Distance(next))
+    scan(inside::row(n, table, i), i, groups::distances(n), Distance(next))
 }
 
-// The least distance from `from` on, and below n, that is due for i by its row; n, or `from` if that is greater, where there is none.
-fn scan(row: &[u8], i: Station, n: u8, from: Distance) -> Distance
-    ensures { λ r. ⌜ r .0 ≡ least (due (now (row .entry)) (i .0)) (n - from .0) (from .0) ⌝ }
+// The least distance from `from` on, and below `end`, that is due for i by its row; `end`, or `from` if that is greater, where there is none.
+fn scan(row: &[u8], i: Station, end: u8, from: Distance) -> Distance
+    ensures { λ r. ⌜ r .0 ≡ least (due (now (row .entry)) (i .0)) (end - from .0) (from .0) ⌝ }
 {
     let mut m = from.0;
-    while m < n {
+    while m < end {
         if due::is_due(row, i, Distance(m)) {
             return Distance(m);
         }
@@ -75,7 +76,7 @@ fn finish_pass(n: u8, table: &mut [u8], i: Station)
     requires { ⌜ (length (now table) ≡ tableLength n) × (i .0 < n) ⌝ }
     ensures { λ _. ⌜ now (table .exit) ≡ finishPass n (now (table .entry)) (i .0) ⌝ }
 {
-    inside::put(n, table, i, cells::NEXT, n);
+    inside::put(n, table, i, cells::NEXT, groups::distances(n));
     inside::put(n, table, i, cells::FINISHED, 1);
 }
 

@@ -15,8 +15,9 @@ use lib.Arith.{digits-div, digits-mod}
 use lib.Dec.{leb, eqb}
 use lib.ListN.{length, getD, set, take, drop, length-append, length-take, length-drop, length-set, List·getD-append, List·getD-eq-default}
 use lib.Seq.{length-take-le, getD-append-add, getD-take, getD-drop, getD-set-same, getD-set-other, ext-getD}
+use Rattle.station.specs.Groups.{distances}
 use Rattle.station.specs.Table.{head, stride, tableLength, lineStart, cell, setCell, status, nextDistance, finished, testsMade, suspects, rowStart, row, setRow}
-use Rattle.station.specs.Rules.{suspicionRule, rowRule, lineRules}
+use Rattle.station.specs.Rules.{passRule, suspicionRule, rowRule, lineRules}
 use Rattle.station.specs.Rows.{unionByte, union, sameByte, sameRows, united, mark}
 use Rattle.station.specs.Search.{every}
 use Rattle.station.proofs.SearchLaws.{both, every-at, every-all, listOf-length, listOf-at, listOf-same}
@@ -250,14 +251,18 @@ range-next n t r i k greatest x e h f g =
     max-leb a b c (yes p) (no q) = rw (le-leb a c p, lt-leb b c (omega arith)) (lt-leb (max a b) c (omega arith))
     max-leb a b c (no p) q = rw (lt-leb a c (omega arith)) (lt-leb (max a b) c (omega arith))
 
+-- the rules of bytes 1 to 3, of their values
+pub record Pass (n next finished tests : ℕ) : Type 0 where
+  pub nextLow : 1 ≤ next
+  pub nextHigh : next ≤ distances n
+  pub finishedRange : finished ≤ 1
+  pub testsBound : tests ≤ next - 1
+  pub finishedNext : finished ≡ 1 → next ≡ distances n
+
 -- the line rules of line i
 pub record Line (n : ℕ) (t : List ℕ) (i : ℕ) : Type 0 where
   pub statusRange : status n t i ≤ 3
-  pub nextLow : 1 ≤ nextDistance n t i
-  pub nextHigh : nextDistance n t i ≤ n
-  pub finishedRange : finished n t i ≤ 1
-  pub testsBound : testsMade n t i ≤ nextDistance n t i - 1
-  pub finishedNext : finished n t i ≡ 1 → nextDistance n t i ≡ n
+  pub pass : Pass n (nextDistance n t i) (finished n t i) (testsMade n t i)
   pub own : suspects n t i i ≡ 0
   pub range : (k : ℕ) → k < n → suspects n t i k ≤ 1
 
@@ -269,40 +274,43 @@ or-right : (a b : Bool) → (a ≡ false → b ≡ true) → (a || b) ≡ true
 or-right true b h = refl
 or-right false b h = h refl
 
-pub line-facts : (n : ℕ) (t : List ℕ) (i : ℕ) → lineRules n t i ≡ true → Line n t i
-unfolding lineRules rowRule
-line-facts n t i e =
+pass-facts : (n x f m : ℕ) → passRule n x f m ≡ true → Pass n x f m
+pass-facts n x f m e =
     let a = both _ _ e in
     let b = both _ _ (a .0) in
     let c = both _ _ (b .0) in
     let d = both _ _ (c .0) in
-    let f = both _ _ (d .0) in
-    let g = both _ _ (f .0) in
-    let x = both _ _ (g .1) in
     record {
-      statusRange = leb-true _ _ (g .0);
-      nextLow = leb-true _ _ (x .0);
-      nextHigh = leb-true _ _ (x .1);
-      finishedRange = leb-true _ _ (f .1);
-      testsBound = leb-true _ _ (d .1);
-      finishedNext = λ p. eqb-true _ _ (one-of _ _ (c .1) (ne-eqb (finished n t i) 0 (omega arith)));
-      own = eqb-true _ _ (b .1);
-      range = λ k h. leb-true _ _ (every-at (suspicionRule n t i) n k (a .1) h);
+      nextLow = leb-true _ _ (d .0);
+      nextHigh = leb-true _ _ (d .1);
+      finishedRange = leb-true _ _ (c .1);
+      testsBound = leb-true _ _ (b .1);
+      finishedNext = λ p. eqb-true _ _ (one-of _ _ (a .1) (ne-eqb f 0 (omega arith)));
+    }
+
+pass-holds : (n x f m : ℕ) → Pass n x f m → passRule n x f m ≡ true
+pass-holds n x f m p =
+    rw (le-leb 1 x (p .nextLow), le-leb x (distances n) (p .nextHigh), le-leb f 1 (p .finishedRange), le-leb m (x - 1) (p .testsBound))
+    (or-right (eqb f 0) (eqb x (distances n)) (λ g. eq-eqb x (distances n) (p .finishedNext (omega (arith, p .finishedRange, eqb-false f 0 g)))))
+
+line-facts : (n : ℕ) (t : List ℕ) (i : ℕ) → lineRules n t i ≡ true → Line n t i
+unfolding lineRules rowRule
+line-facts n t i e =
+    let a = both _ _ e in
+    let b = both _ _ (a .0) in
+    let r = both _ _ (a .1) in
+    record {
+      statusRange = leb-true _ _ (b .0);
+      pass = pass-facts n _ _ _ (b .1);
+      own = eqb-true _ _ (r .0);
+      range = λ k h. leb-true _ _ (every-at (suspicionRule n t i) n k (r .1) h);
     }
 
 pub line-holds : (n : ℕ) (t : List ℕ) (i : ℕ) → Line n t i → lineRules n t i ≡ true
 unfolding lineRules rowRule
 line-holds n t i l =
-    rw (
-      le-leb (status n t i) 3 (l .statusRange),
-      le-leb 1 (nextDistance n t i) (l .nextLow),
-      le-leb (nextDistance n t i) n (l .nextHigh),
-      le-leb (finished n t i) 1 (l .finishedRange),
-      le-leb (testsMade n t i) (nextDistance n t i - 1) (l .testsBound),
-      or-right (eqb (finished n t i) 0) (eqb (nextDistance n t i) n)
-          (λ f. eq-eqb (nextDistance n t i) n (l .finishedNext (omega (arith, l .finishedRange, eqb-false (finished n t i) 0 f)))),
-      eq-eqb (suspects n t i i) 0 (l .own),
-    ) (every-all (suspicionRule n t i) n (λ k h. le-leb (suspects n t i k) 1 (l .range k h)))
+    rw (le-leb (status n t i) 3 (l .statusRange), pass-holds n (nextDistance n t i) (finished n t i) (testsMade n t i) (l .pass), eq-eqb (suspects n t i i) 0 (l .own))
+    (every-all (suspicionRule n t i) n (λ k h. le-leb (suspects n t i k) 1 (l .range k h)))
 
 pub accepted-line : (n : ℕ) (t : List ℕ) → Accepted n t → (i : ℕ) → i < n → Line n t i
 accepted-line n t a i h = line-facts n t i (every-at (lineRules n t) n i (a .lines) h)

@@ -10,9 +10,9 @@ use borrow.Author.Tests.{eqb-true, eqb-false, eq-eqb, ne-eqb, le-ltb, ltb-false,
 use lib.ListN.{length}
 use lib.Dec.{ltb, leb, eqb, leb·suc-suc}
 use Rattle.station.specs.Search.{every}
-use Rattle.station.specs.Groups.{isSize, dimension, width}
+use Rattle.station.specs.Groups.{isSize, dimension, distances, width}
 use Rattle.station.specs.Table.{tableLength, status, nextDistance, finished, testsMade, live}
-use Rattle.station.specs.Rules.{refuse, _else_, headRule, testsRule, finishedRule, ownRule, rowRule, lineRules, notLive, someLive, finishedIfLive, liveFinished, shapeNumber, tableNumber}
+use Rattle.station.specs.Rules.{refuse, _else_, passRule, lineRules, notLive, someLive, finishedIfLive, liveFinished, shapeNumber, tableNumber}
 use Rattle.station.specs.Calls.{unless, rowNumber, groupNumber, assignmentNumber}
 use Rattle.station.proofs.Levels.{level-le}
 use Rattle.station.proofs.Loops.{every-stop, every-done}
@@ -56,22 +56,9 @@ or-false true b e = (e, cc)
 or-false false b e = (refl, e)
 
 -- "byte 3 at most byte 1 less 1": below byte 1, where that is 1 or more
-tests-below : (a b c : Bool) (next tests : ℕ) → (a && (leb 1 next && b) && c && ltb tests next) ≡ (a && (leb 1 next && b) && c && leb tests (next - 1))
-tests-below true b c zero tests = refl
-tests-below false b c zero tests = refl
-tests-below a b c (suc next) tests = let p : suc next - 1 ≡ next = omega arith in rw (p, leb·suc-suc tests next)
-
--- the rules of the head, of the bytes that the code has read
-pub head-rules-are : (n : ℕ) (t : List ℕ) (i s x f m : ℕ) → s ≡ status n t i → x ≡ nextDistance n t i → f ≡ finished n t i → m ≡ testsMade n t i
-    → ((leb s 3 && (leb 1 x && leb x n) && leb f 1) && ltb m x && (eqb f 0 || eqb x n)) ≡ (headRule n t i && testsRule n t i && finishedRule n t i)
-head-rules-are n t i s x f m a b c d =
-    rw (← a, ← b, ← c, ← d) (ap (λ h. h && (eqb f 0 || eqb x n)) (tests-below (leb s 3) (leb x n) (leb f 1) x m))
-
--- all line rules, of the head's and the row's
-pub line-rules-are : (n : ℕ) (t : List ℕ) (i : ℕ) (h r : Bool) → h ≡ (headRule n t i && testsRule n t i && finishedRule n t i) → r ≡ (ownRule n t i && rowRule n t i)
-    → (h && r) ≡ lineRules n t i
-unfolding lineRules
-line-rules-are n t i h r e f = rw (e, f) (sym (and-assoc (headRule n t i && testsRule n t i && finishedRule n t i) (ownRule n t i) (rowRule n t i)))
+pub pass-rule-is : (n next f tests : ℕ) → (leb 1 next && leb next (distances n) && leb f 1 && ltb tests next && (eqb f 0 || eqb next (distances n))) ≡ passRule n next f tests
+pass-rule-is n zero f tests = refl
+pass-rule-is n (suc next) f tests = let p : suc next - 1 ≡ next = omega arith in rw (p, leb·suc-suc tests next)
 
 -- what a group list that is not refused has
 pub group-zero : (n i s len : ℕ) → groupNumber n i s len ≡ 0 → (isSize n ≡ true) × (i < n) × (0 < s) × (s ≤ dimension n) × (len ≡ width s)

@@ -27,6 +27,10 @@ level m = least (λ s. ltb m (2 ^ s)) m 0
 unfoldable pub dimension : ℕ → ℕ
 dimension n = level (n - 1)
 
+-- how many distances there are, 0 included: a turn searches below it, next distance runs from 1 to it, and a finished line has it
+abbrev pub distances : ℕ → ℕ
+distances n = n
+
 -- how many stations a group at level s has, 2^(s−1), which is also its least distance; level 0 has none
 unfoldable pub width : ℕ → ℕ
 width zero = 0

@@ -6,35 +6,29 @@ use mathlib.Core.List.{List}
 use lib.ListN.{length}
 use lib.Dec.{leb, eqb}
 use Rattle.station.specs.Search.{every}
-use Rattle.station.specs.Groups.{isSize}
+use Rattle.station.specs.Groups.{isSize, distances}
 use Rattle.station.specs.Table.{tableLength, status, nextDistance, finished, testsMade, suspects, live}
 
--- "each byte in its range": the bytes of the head
-abbrev pub headRule : ℕ → List ℕ → ℕ → Bool
-headRule n t i = leb (status n t i) 3 && (leb 1 (nextDistance n t i) && leb (nextDistance n t i) n) && leb (finished n t i) 1
+-- status, "each byte in its range"
+abbrev pub statusRule : ℕ → Bool
+statusRule status = leb status 3
 
--- "byte 3 at most byte 1 less 1"
-abbrev pub testsRule : ℕ → List ℕ → ℕ → Bool
-testsRule n t i = leb (testsMade n t i) (nextDistance n t i - 1)
+-- next distance, pass finished and tests made: "each byte in its range; byte 3 at most byte 1 less 1; a finished line has next distance N"
+abbrev pub passRule : ℕ → ℕ → ℕ → ℕ → Bool
+passRule n next finished tests =
+    leb 1 next && leb next (distances n) && leb finished 1 && leb tests (next - 1) && (eqb finished 0 || eqb next (distances n))
 
--- "a finished line has next distance N"
-abbrev pub finishedRule : ℕ → List ℕ → ℕ → Bool
-finishedRule n t i = eqb (finished n t i) 0 || eqb (nextDistance n t i) n
-
--- "a station's byte about itself is 0"
-abbrev pub ownRule : ℕ → List ℕ → ℕ → Bool
-ownRule n t i = eqb (suspects n t i i) 0
-
--- "each byte in its range": byte k of the row
+-- byte k of the row, "each byte in its range"
 abbrev pub suspicionRule : ℕ → List ℕ → ℕ → ℕ → Bool
 suspicionRule n t i k = leb (suspects n t i k) 1
 
+-- the row: these, and "a station's byte about itself is 0"
 unfoldable pub rowRule : ℕ → List ℕ → ℕ → Bool
-rowRule n t i = every (suspicionRule n t i) n
+rowRule n t i = eqb (suspects n t i i) 0 && every (suspicionRule n t i) n
 
 -- all line rules, of line i
 unfoldable pub lineRules : ℕ → List ℕ → ℕ → Bool
-lineRules n t i = headRule n t i && testsRule n t i && finishedRule n t i && ownRule n t i && rowRule n t i
+lineRules n t i = statusRule (status n t i) && passRule n (nextDistance n t i) (finished n t i) (testsMade n t i) && rowRule n t i
 
 -- "Some station is live"
 abbrev pub notLive : ℕ → List ℕ → ℕ → Bool

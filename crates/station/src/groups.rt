@@ -2,7 +2,7 @@
 ghost use mathlib.Core.Path.{_≡_};
 ghost use Prim.Native.Nat.{_<_, _≤_};
 ghost use lib.ListN.{length};
-ghost use Rattle.station.specs.Groups.{isSize, level, dimension, width, group};
+ghost use Rattle.station.specs.Groups.{isSize, level, dimension, distances, width, group};
 ghost use Rattle.station.specs.Calls.{groupNumber, groupAfter};
 use crate::Distance;
 use crate::Level;
@@ -33,6 +33,13 @@ pub fn dimension_of(n: u8) -> Level
         return level_of(Distance(0));
     }
     level_of(Distance(n - 1))
+}
+
+// How many distances there are in a plant of n stations, 0 included.
+pub fn distances(n: u8) -> u8
+    ensures { λ r. ⌜ r ≡ distances n ⌝ }
+{
+    n
 }
 
 // How many stations a group at level s has, and its least distance.

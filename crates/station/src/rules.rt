@@ -4,8 +4,8 @@ ghost use Prim.Native.Nat.{_<_};
 ghost use mathlib.Core.Bool.{_&&_};
 ghost use lib.ListN.{length};
 ghost use Rattle.station.specs.Search.{every};
-ghost use Rattle.station.specs.Table.{tableLength, live};
-ghost use Rattle.station.specs.Rules.{headRule, testsRule, finishedRule, ownRule, rowRule, lineRules, someLive, finishedIfLive, liveFinished, shapeNumber, tableNumber};
+ghost use Rattle.station.specs.Table.{tableLength, nextDistance, finished, testsMade, live};
+ghost use Rattle.station.specs.Rules.{passRule, rowRule, lineRules, someLive, finishedIfLive, liveFinished, shapeNumber, tableNumber};
 use crate::Station;
 use crate::cells;
 use crate::groups;
@@ -93,27 +93,31 @@ fn line_rules(n: u8, table: &[u8], i: Station) -> bool
     requires { ⌜ (length (now table) ≡ tableLength n) × (i .0 < n) ⌝ }
     ensures { λ r. ⌜ r ≡ lineRules n (now (table .entry)) (i .0) ⌝ }
 {
-    head_rules(n, table, i) & row_rules(n, table, i)
+    let status = inside::get(n, table, i, cells::STATUS);
+    (status <= 3) & pass_rule(n, table, i) & row_rule(n, table, i)
 }
 
-// The rules of the head's bytes.
-fn head_rules(n: u8, table: &[u8], i: Station) -> bool
+// The rules of bytes 1 to 3.
+fn pass_rule(n: u8, table: &[u8], i: Station) -> bool
     requires { ⌜ (length (now table) ≡ tableLength n) × (i .0 < n) ⌝ }
-    ensures { λ r. ⌜ r ≡ (headRule n (now (table .entry)) (i .0) && testsRule n (now (table .entry)) (i .0) && finishedRule n (now (table .entry)) (i .0)) ⌝ }
+    ensures { λ r. ⌜ r ≡ passRule n (nextDistance n (now (table .entry)) (i .0)) (finished n (now (table .entry)) (i .0)) (testsMade n (now (table .entry)) (i .0)) ⌝ }
 {
-    let status = inside::get(n, table, i, cells::STATUS);
     let next = inside::get(n, table, i, cells::NEXT);
     let finished = inside::get(n, table, i, cells::FINISHED);
     let tests = inside::get(n, table, i, cells::TESTS);
-    let in_range = (status <= 3) & ((1 <= next) & (next <= n)) & (finished <= 1);
-    in_range & (tests < next) & ((finished == 0) | (next == n))
+    let last = groups::distances(n);
+    (1 <= next)
+        & (next <= last)
+        & (finished <= 1)
+        & (tests < next)
+        & ((finished == 0) | (next == last))
 }
 
 // The rules of the row: the station's byte about itself, and every byte, by the greatest one. The loop has no exit, so that the compiler
 // takes many bytes at a time.
-fn row_rules(n: u8, table: &[u8], i: Station) -> bool
+fn row_rule(n: u8, table: &[u8], i: Station) -> bool
     requires { ⌜ (length (now table) ≡ tableLength n) × (i .0 < n) ⌝ }
-    ensures { λ r. ⌜ r ≡ (ownRule n (now (table .entry)) (i .0) && rowRule n (now (table .entry)) (i .0)) ⌝ }
+    ensures { λ r. ⌜ r ≡ rowRule n (now (table .entry)) (i .0) ⌝ }
 {
     let row = inside::row(n, table, i);
     let of = i.0 as usize;

@@ -7,7 +7,7 @@ use Rattle.plant.proofs.turn.finish_pass.Tie as tie
 
 returns : tie.Need-returns
 unfolding finishPass
-returns c = rw (c .before .before .put2 .ensures, c .before .before .before .before .before .before .put .ensures)
+returns c = rw (c .before .before .put2 .ensures, c .before .before .before .before .before .before .put .ensures, c .before .before .before .before .before .before .before .distances .ensures)
 
 pub finish-pass-spec : {M : Type 1} → statement M
-finish-pass-spec = tie.close (tie.spec (λ c κs. search needs) (λ c κs. search needs) (λ c. search needs) returns)
+finish-pass-spec = tie.close (tie.spec (λ c κs. search needs) (λ c κs. search needs) (λ c κs. search needs) (λ c. search needs) returns)

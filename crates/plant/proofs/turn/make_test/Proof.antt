@@ -20,7 +20,7 @@ count-test-requires c κs =
     let t = accepted (a .n) (a .table .now) (p .0) in
     let l = accepted-line (a .n) (a .table .now) t (a .i .0) (p .1) in
     let b = size-bounds (a .n) (t .size) in
-    (t .long, p .1, omega (arith, b), omega (arith, b, l .testsBound, l .nextHigh))
+    (t .long, p .1, omega (arith, b), omega (arith, b, l .pass .testsBound, l .pass .nextHigh))
 
 test-outcome-requires : tie.Need-test-outcome-requires
 test-outcome-requires c κs =

@@ -7,7 +7,7 @@ use Rattle.plant.proofs.turn.next_test.Tie as tie
 
 returns : tie.Need-returns
 unfolding nextTest
-returns c = rw (c .before .row .ensures .0, c .before .before .get .ensures) at (c .scan .ensures)
+returns c = rw (c .before .distances .ensures, c .before .before .row .ensures .0, c .before .before .before .get .ensures) at (c .scan .ensures)
 
 pub next-test-spec : {M : Type 1} → statement M
-next-test-spec = tie.close (tie.spec (λ c κs. search needs) (λ c κs. search needs) (λ c κs. search needs) returns)
+next-test-spec = tie.close (tie.spec (λ c κs. search needs) (λ c κs. search needs) (λ c κs. search needs) (λ c κs. search needs) returns)

@@ -12,10 +12,10 @@ use Rattle.plant.proofs.turn.scan.Statement.{statement}
 use Rattle.plant.proofs.turn.scan.Tie as tie
 
 abbrev Inv-loop : tie.InvT-loop
-Inv-loop row i n m₀ m = (m₀ ≤ m) × (m ≤ m₀ + (n - m₀)) × ((y : ℕ) → y < m → m₀ ≤ y → due row (i .0) y ≡ false)
+Inv-loop row i end m₀ m = (m₀ ≤ m) × (m ≤ m₀ + (end - m₀)) × ((y : ℕ) → y < m → m₀ ≤ y → due row (i .0) y ≡ false)
 
 abbrev μ-loop : tie.MeasureT-loop
-μ-loop row i n m₀ m = n - m
+μ-loop row i end m₀ m = end - m
 
 loop-holds : tie.Need-loop-holds Inv-loop μ-loop
 loop-holds c = (omega arith, omega arith, λ y l h. absurd (omega arith))
@@ -34,8 +34,8 @@ returns-2 : tie.Need-returns-2 Inv-loop μ-loop
 returns-2 c =
     let a = c .before .before .before .args in
     let i = c .before .loop .inv in
-    let e : c .before .loop .m ≡ a .from .0 + (a .n - a .from .0) = omega arith in
-    e ∙ sym (least-none (due (a .row .now) (a .i .0)) (a .n - a .from .0) (a .from .0) (λ y lo hi. i .2 y (omega arith) lo))
+    let e : c .before .loop .m ≡ a .from .0 + (a .end - a .from .0) = omega arith in
+    e ∙ sym (least-none (due (a .row .now) (a .i .0)) (a .end - a .from .0) (a .from .0) (λ y lo hi. i .2 y (omega arith) lo))
 
 pub scan-spec : {M : Type 1} → statement M
 scan-spec =

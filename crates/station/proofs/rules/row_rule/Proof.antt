@@ -1,4 +1,4 @@
--- `rules::row_rules` meets its contract: the greatest byte so far is in its range as long as all bytes passed are.
+-- `rules::row_rule` meets its contract: the greatest byte so far is in its range as long as all bytes passed are.
 -- Assumes nothing.
 use mathlib.Core.Path.{_≡_, sym}
 use Prim.Native.Nat.{_-_, _≤_}
@@ -11,8 +11,8 @@ use Rattle.station.specs.Table.{row}
 use Rattle.station.specs.Rules.{suspicionRule, rowRule}
 use Rattle.station.proofs.Loops.{every-start}
 use Rattle.station.proofs.CellLaws.{row-at, range-next}
-use Rattle.station.proofs.rules.row_rules.Statement.{statement}
-use Rattle.station.proofs.rules.row_rules.Tie as tie
+use Rattle.station.proofs.rules.row_rule.Statement.{statement}
+use Rattle.station.proofs.rules.row_rule.Tie as tie
 
 abbrev Inv-loop : tie.InvT-loop
 Inv-loop n table part of own greatest₀ k₀ greatest k = (k ≤ n) × (length part ≡ n) × (part ≡ row n table of) × (leb greatest 1 ≡ every (suspicionRule n table of) k)
@@ -36,8 +36,8 @@ returns c =
     let e : c .before .loop .k ≡ a .n = omega arith in
     rw (i .2, row-at (a .n) (a .table .now) (a .i .0) (a .i .0) (omega arith), i .3, e)
 
-pub row-rules-spec : {M : Type 1} → statement M
-row-rules-spec =
+pub row-rule-spec : {M : Type 1} → statement M
+row-rule-spec =
     tie.close
     (tie.spec
     Inv-loop
