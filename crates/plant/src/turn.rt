@@ -54,7 +54,12 @@ fn next_test(n: u8, table: &[u8], i: Station) -> Distance
     ensures { λ r. ⌜ r .0 ≡ nextTest n (now (table .entry)) (i .0) ⌝ }
 {
     let next = inside::get(n, table, i, cells::NEXT);
-    scan(inside::row(n, table, i), i, groups::distances(n), Distance(next))
+    scan(
+        inside::row(n, table, i),
+        i,
+        groups::distances(n),
+        Distance(next),
+    )
 }
 
 // The least distance from `from` on, and below `end`, that is due for i by its row; `end`, or `from` if that is greater, where there is none.

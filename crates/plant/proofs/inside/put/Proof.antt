@@ -6,12 +6,9 @@ use Rattle.station.proofs.CellLaws.{byte-inside}
 use Rattle.plant.proofs.inside.put.Statement.{statement}
 use Rattle.plant.proofs.inside.put.Tie as tie
 
-slice-write-table : tie.Need-slice-write-table
-slice-write-table c = search (needs, byte-inside)
-
 returns : tie.Need-returns
 unfolding setCell
 returns c = cc
 
 pub put-spec : {M : Type 1} → statement M
-put-spec = tie.close (tie.spec (λ c κs. search needs) (λ c. search needs) slice-write-table (λ c. search needs) returns)
+put-spec = tie.close (tie.spec (λ c κs. search needs) (λ c. search needs) (λ c. search (needs, byte-inside)) (λ c. search needs) returns)

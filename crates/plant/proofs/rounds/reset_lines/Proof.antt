@@ -16,24 +16,6 @@ Inv-loop n table₀ i₀ table i = (i ≤ n) × (length table ≡ length table�
 abbrev μ-loop : tie.MeasureT-loop
 μ-loop n table₀ i₀ table i = n - i
 
-loop-holds : tie.Need-loop-holds Inv-loop μ-loop
-loop-holds c = search (needs, stepping)
-
-reset-line-requires : tie.Need-reset-line-requires Inv-loop μ-loop
-reset-line-requires c κs = search (needs, stepping)
-
-add-i : tie.Need-add-i Inv-loop μ-loop
-add-i c = search (needs, stepping)
-
-loop-less : tie.Need-loop-less Inv-loop μ-loop
-loop-less c = search (needs, stepping)
-
-loop-again : tie.Need-loop-again Inv-loop μ-loop
-loop-again c = search (needs, stepping)
-
-same-length : tie.Need-same-length Inv-loop μ-loop
-same-length c = search (needs, stepping)
-
 returns : tie.Need-returns Inv-loop μ-loop
 unfolding resetLines
 returns c = search (needs, stepping)
@@ -44,10 +26,10 @@ reset-lines-spec =
     (tie.spec
     Inv-loop
     μ-loop
-    loop-holds
-    reset-line-requires
-    add-i
-    loop-less
-    loop-again
-    same-length
+    (λ c. search (needs, stepping))
+    (λ c κs. search (needs, stepping))
+    (λ c. search (needs, stepping))
+    (λ c. search (needs, stepping))
+    (λ c. search (needs, stepping))
+    (λ c. search (needs, stepping))
     returns)

@@ -17,31 +17,13 @@ Inv-loop n table i k₀ k = (k ≤ n) × (every (selfOrSuspected n table (i .0))
 abbrev μ-loop : tie.MeasureT-loop
 μ-loop n table i k₀ k = n - k
 
-get-requires : tie.Need-get-requires Inv-loop μ-loop
-get-requires c κs = search (needs, loops)
-
 returns : tie.Need-returns Inv-loop μ-loop
 unfolding isAlone
 returns c = rw (← c .before .get .ensures, ne-eqb _ _ (c .if1 .taken))
 
-loop-holds : tie.Need-loop-holds Inv-loop μ-loop
-loop-holds c = search (needs, loops)
-
-self-or-suspected-requires : tie.Need-self-or-suspected-requires Inv-loop μ-loop
-self-or-suspected-requires c κs = search (needs, loops)
-
 returns-2 : tie.Need-returns-2 Inv-loop μ-loop
 unfolding isAlone
 returns-2 c = rw (← c .before .before .before .before .before .get .ensures, eq-eqb _ _ (c .before .before .before .before .if1 .left)) (every-stop _ _ _ _ (c .before .before .loop-test .taken) (c .before .self-or-suspected .ensures) (c .if2 .taken))
-
-add-k : tie.Need-add-k Inv-loop μ-loop
-add-k c = search (needs, loops)
-
-loop-less : tie.Need-loop-less Inv-loop μ-loop
-loop-less c = search (needs, loops)
-
-loop-again : tie.Need-loop-again Inv-loop μ-loop
-loop-again c = search (needs, loops)
 
 returns-3 : tie.Need-returns-3 Inv-loop μ-loop
 unfolding isAlone
@@ -53,12 +35,12 @@ suspects-all-spec =
     (tie.spec
     Inv-loop
     μ-loop
-    get-requires
+    (λ c κs. search (needs, loops))
     returns
-    loop-holds
-    self-or-suspected-requires
+    (λ c. search (needs, loops))
+    (λ c κs. search (needs, loops))
     returns-2
-    add-k
-    loop-less
-    loop-again
+    (λ c. search (needs, loops))
+    (λ c. search (needs, loops))
+    (λ c. search (needs, loops))
     returns-3)

@@ -18,24 +18,6 @@ Inv-loop list₀ k₀ list k = (k ≤ length list₀) × (length list ≡ length
 abbrev μ-loop : tie.MeasureT-loop
 μ-loop list₀ k₀ list k = length list₀ - k
 
-loop-holds : tie.Need-loop-holds Inv-loop μ-loop
-loop-holds c = search (needs, loops)
-
-slice-write-list : tie.Need-slice-write-list Inv-loop μ-loop
-slice-write-list c = search (needs, loops)
-
-add-k : tie.Need-add-k Inv-loop μ-loop
-add-k c = search (needs, loops)
-
-loop-less : tie.Need-loop-less Inv-loop μ-loop
-loop-less c = search (needs, loops)
-
-loop-again : tie.Need-loop-again Inv-loop μ-loop
-loop-again c = search (needs, loops)
-
-same-length : tie.Need-same-length Inv-loop μ-loop
-same-length c = search (needs, loops)
-
 returns : tie.Need-returns Inv-loop μ-loop
 returns c = let i = c .before .loop .inv in filled-done zeros _ _ _ _ (i .2) (i .1) refl (i .0) (c .loop-test .left) ∙ listOf-constant _ 0
 
@@ -45,10 +27,10 @@ clear-spec =
     (tie.spec
     Inv-loop
     μ-loop
-    loop-holds
-    slice-write-list
-    add-k
-    loop-less
-    loop-again
-    same-length
+    (λ c. search (needs, loops))
+    (λ c. search (needs, loops))
+    (λ c. search (needs, loops))
+    (λ c. search (needs, loops))
+    (λ c. search (needs, loops))
+    (λ c. search (needs, loops))
     returns)

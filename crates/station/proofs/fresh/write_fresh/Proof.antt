@@ -15,27 +15,6 @@ Inv-loop n table₀ p₀ table p = (p ≤ length table₀) × (length table ≡ 
 abbrev μ-loop : tie.MeasureT-loop
 μ-loop n table₀ p₀ table p = length table₀ - p
 
-loop-holds : tie.Need-loop-holds Inv-loop μ-loop
-loop-holds c = search (needs, loops)
-
-fresh-byte-requires : tie.Need-fresh-byte-requires Inv-loop μ-loop
-fresh-byte-requires c κs = search (needs, loops)
-
-slice-write-table : tie.Need-slice-write-table Inv-loop μ-loop
-slice-write-table c = search (needs, loops)
-
-add-p : tie.Need-add-p Inv-loop μ-loop
-add-p c = search (needs, loops)
-
-loop-less : tie.Need-loop-less Inv-loop μ-loop
-loop-less c = search (needs, loops)
-
-loop-again : tie.Need-loop-again Inv-loop μ-loop
-loop-again c = search (needs, loops)
-
-same-length : tie.Need-same-length Inv-loop μ-loop
-same-length c = search (needs, loops)
-
 returns : tie.Need-returns Inv-loop μ-loop
 unfolding freshTable
 returns c = search (needs, loops)
@@ -46,11 +25,11 @@ write-fresh-spec =
     (tie.spec
     Inv-loop
     μ-loop
-    loop-holds
-    fresh-byte-requires
-    slice-write-table
-    add-p
-    loop-less
-    loop-again
-    same-length
+    (λ c. search (needs, loops))
+    (λ c κs. search (needs, loops))
+    (λ c. search (needs, loops))
+    (λ c. search (needs, loops))
+    (λ c. search (needs, loops))
+    (λ c. search (needs, loops))
+    (λ c. search (needs, loops))
     returns)

@@ -41,12 +41,6 @@ width-of-requires : tie.Need-width-of-requires
 width-of-requires c κs =
     omega (arith, size-dimension _ (sym (c .before .before .before .before .before .before .before .before .is-size .ensures) ∙ not-false _ (c .before .before .before .before .before .before .before .if1 .left)))
 
-returns-5 : tie.Need-returns-5
-returns-5 c = search (needs, group-long)
-
-returns-6 : tie.Need-returns-6
-returns-6 c = search (needs, group-fits)
-
 pub group-number-spec : {M : Type 1} → statement M
 group-number-spec =
     tie.close
@@ -61,5 +55,5 @@ group-number-spec =
     returns-4
     width-of-requires
     (λ c. search needs)
-    returns-5
-    returns-6)
+    (λ c. search (needs, group-long))
+    (λ c. search (needs, group-fits)))

@@ -21,33 +21,6 @@ Inv-loop i list₀ w k₀ list k = (k ≤ w) × (w ≤ 128) × (length list₀ �
 abbrev μ-loop : tie.MeasureT-loop
 μ-loop i list₀ w k₀ list k = w - k
 
-loop-holds : tie.Need-loop-holds Inv-loop μ-loop
-loop-holds c = search (needs, loops)
-
-add-t8 : tie.Need-add-t8 Inv-loop μ-loop
-add-t8 c = search (needs, loops)
-
-lookup-requires : tie.Need-lookup-requires Inv-loop μ-loop
-lookup-requires c κs = search (needs, loops)
-
-cast-list : tie.Need-cast-list Inv-loop μ-loop
-cast-list c = search (needs, loops)
-
-slice-write-list : tie.Need-slice-write-list Inv-loop μ-loop
-slice-write-list c = search (needs, loops)
-
-add-k : tie.Need-add-k Inv-loop μ-loop
-add-k c = search (needs, loops)
-
-loop-less : tie.Need-loop-less Inv-loop μ-loop
-loop-less c = search (needs, loops)
-
-loop-again : tie.Need-loop-again Inv-loop μ-loop
-loop-again c = search (needs, loops)
-
-same-length : tie.Need-same-length Inv-loop μ-loop
-same-length c = search (needs, loops)
-
 returns : tie.Need-returns Inv-loop μ-loop
 unfolding group member
 returns c =
@@ -62,13 +35,13 @@ write-group-spec =
     Inv-loop
     μ-loop
     (λ c κs. search needs)
-    loop-holds
-    add-t8
-    lookup-requires
-    cast-list
-    slice-write-list
-    add-k
-    loop-less
-    loop-again
-    same-length
+    (λ c. search (needs, loops))
+    (λ c. search (needs, loops))
+    (λ c κs. search (needs, loops))
+    (λ c. search (needs, loops))
+    (λ c. search (needs, loops))
+    (λ c. search (needs, loops))
+    (λ c. search (needs, loops))
+    (λ c. search (needs, loops))
+    (λ c. search (needs, loops))
     returns)

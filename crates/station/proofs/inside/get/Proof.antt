@@ -6,12 +6,9 @@ use Rattle.station.proofs.CellLaws.{byte-inside}
 use Rattle.station.proofs.inside.get.Statement.{statement}
 use Rattle.station.proofs.inside.get.Tie as tie
 
-shared-slice-read-result : tie.Need-shared-slice-read-result
-shared-slice-read-result c = search (needs, byte-inside)
-
 returns : tie.Need-returns
 unfolding cell
 returns c = rw (c .before .line-start .ensures .0)
 
 pub get-spec : {M : Type 1} → statement M
-get-spec = tie.close (tie.spec (λ c κs. search needs) (λ c. search needs) shared-slice-read-result returns)
+get-spec = tie.close (tie.spec (λ c κs. search needs) (λ c. search needs) (λ c. search (needs, byte-inside)) returns)

@@ -17,9 +17,6 @@ Inv-loop row₀ other end k₀ row k = (k ≤ end) × (end ≡ min (length row�
 abbrev μ-loop : tie.MeasureT-loop
 μ-loop row₀ other end k₀ row k = end - k
 
-loop-holds : tie.Need-loop-holds Inv-loop μ-loop
-loop-holds c = search (needs, loops)
-
 loop-again : tie.Need-loop-again Inv-loop μ-loop
 loop-again c =
     let i = c .before .before .before .before .loop .inv in
@@ -37,7 +34,7 @@ join-bytes-spec =
     Inv-loop
     μ-loop
     (λ c κs. search needs)
-    loop-holds
+    (λ c. search (needs, loops))
     (λ c. search needs)
     (λ c. search needs)
     (λ c κs. search needs)

@@ -23,9 +23,6 @@ returns c = united-apart _ _ _ (search needs)
 returns-2 : tie.Need-returns-2 Inv-loop μ-loop
 returns-2 c = united-short _ _ _ (search needs) (search needs)
 
-loop-holds : tie.Need-loop-holds Inv-loop μ-loop
-loop-holds c = search (needs, loops)
-
 loop-again : tie.Need-loop-again Inv-loop μ-loop
 loop-again c =
     let i = c .before .before .before .before .loop .inv in
@@ -44,7 +41,7 @@ unite-rows-spec =
     μ-loop
     returns
     returns-2
-    loop-holds
+    (λ c. search (needs, loops))
     (λ c. search needs)
     (λ c. search needs)
     (λ c κs. search needs)
