@@ -19,7 +19,7 @@ cast-row c = omega (arith, size-bounds _ (row-zero _ _ _ (sym (c .before .row-nu
 row-requires : tie.Need-row-requires
 row-requires c κs =
     let z = row-zero _ _ _ (sym (c .before .row-number .ensures) ∙ c .if1 .left) in
-    (z .0 .long, z .1)
+    (z .0 .long, omega (arith, z .1))
 
 returns-2 : tie.Need-returns-2
 unfolding rowPart
