@@ -3,7 +3,7 @@
 use mathlib.Core.Path.{_≡_, refl, sym, _∙_}
 use mathlib.Core.Bool.{Bool, true, false, cond, not, _&&_, _||_, and-false, or-false}
 use mathlib.Core.List.{List, [], _∷_}
-use Prim.Native.Nat.{ℕ, suc, _+_, _≤_, _<_}
+use Prim.Native.Nat.{ℕ, suc, _≤_, _<_}
 use native.Mathlib.Omega.{arith}
 use borrow.Author.Tests.{leb-true, leb-false, eqb-true, eqb-false, eq-eqb, ne-eqb, not-false}
 use lib.Dec.{eqb}
@@ -16,7 +16,7 @@ use Rattle.station.proofs.Refusals.{Accepted, else-zero, refuse-zero}
 use Rattle.station.proofs.Sizes.{size-bounds}
 use Rattle.station.proofs.CellLaws.{Line, line-holds, accepted-line}
 use Rattle.plant.specs.Turn.{turn, crash, roundOver, resetLines, afterRound}
-use Rattle.plant.specs.Entry.{Entry, State, tallyTop, isCrash, isTest, entryNumber, acted, after, sheetLine}
+use Rattle.plant.specs.Entry.{Entry, State, tallyTop, isCrash, entryNumber, acted, after, sheetLine}
 use Rattle.plant.specs.Run.{Outcome, entries, writeLine, goOn, startNumber, run}
 use Rattle.plant.proofs.StepLines.{Lines, leave-lines, turn-lines, reset-lines}
 use Rattle.plant.proofs.StepCells.{reset-cells}
@@ -110,7 +110,7 @@ unfolding run startNumber goOn entries
 empty-run n s z = rw z
 
 -- the rest of a run
-pub accepted-on : (n k : ℕ) (s : State) (sheet : List ℕ) (es : List Entry) → Accepted n (s .table) → Accepted n (goOn n k s sheet es .state .table)
+accepted-on : (n k : ℕ) (s : State) (sheet : List ℕ) (es : List Entry) → Accepted n (s .table) → Accepted n (goOn n k s sheet es .state .table)
 unfolding goOn
 accepted-on n k s sheet [] a = a
 accepted-on n k s sheet (e ∷ es) a =

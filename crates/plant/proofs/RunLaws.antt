@@ -24,7 +24,7 @@ unfolding tableNumber shapeNumber
 accepted-number n t a = rw (a .size, eq-eqb (length t) (tableLength n) (a .long), a .lines, a .unclosed)
 
 -- the entries of a schedule
-pub entries-length : (s : List ℕ) → length (entries s) ≡ length s / 2
+entries-length : (s : List ℕ) → length (entries s) ≡ length s / 2
 unfolding entries
 entries-length [] = refl
 entries-length (k ∷ []) = refl
@@ -33,7 +33,7 @@ entries-length (k ∷ i ∷ rest) = omega (arith, entries-length rest)
 abbrev pub entryAt : List ℕ → ℕ → Entry
 entryAt s k = entryOf (getD s (2 * k) 0) (getD s (2 * k + 1) 0)
 
-pub entries-at : (s : List ℕ) (k : ℕ) → k < length s / 2 → drop k (entries s) ≡ entryAt s k ∷ drop (suc k) (entries s)
+entries-at : (s : List ℕ) (k : ℕ) → k < length s / 2 → drop k (entries s) ≡ entryAt s k ∷ drop (suc k) (entries s)
 unfolding entries
 entries-at [] k h = absurd (omega arith)
 entries-at (a ∷ []) k h = absurd (omega arith)

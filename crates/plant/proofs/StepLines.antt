@@ -23,12 +23,12 @@ use Rattle.plant.proofs.StepCells.{finishPass-length, finishPass-other,
 abbrev pub Lines : ℕ → List ℕ → Type 0
 Lines n t = (length t ≡ tableLength n) × ((i : ℕ) → i < n → Line n t i)
 
-pub choose : (n : ℕ) (b : Bool) (t u : List ℕ) → Lines n t → Lines n u → Lines n (cond b t u)
+choose : (n : ℕ) (b : Bool) (t u : List ℕ) → Lines n t → Lines n u → Lines n (cond b t u)
 choose n true t u a b = a
 choose n false t u a b = b
 
 -- a line whose head is as before
-pub line-row : (n : ℕ) (t t′ : List ℕ) (k : ℕ) → Line n t k → ((c : ℕ) → c < head → cell n t′ k c ≡ cell n t k c)
+line-row : (n : ℕ) (t t′ : List ℕ) (k : ℕ) → Line n t k → ((c : ℕ) → c < head → cell n t′ k c ≡ cell n t k c)
     → suspects n t′ k k ≡ 0 → ((x : ℕ) → x < n → suspects n t′ k x ≤ 1) → Line n t′ k
 line-row n t t′ k l same own range =
     record {
@@ -39,7 +39,7 @@ line-row n t t′ k l same own range =
     }
 
 -- all lines obey the rules where line i does and no other is written
-pub one-line : (n : ℕ) (t t′ : List ℕ) (i : ℕ) → length t′ ≡ length t → ((k c : ℕ) → c < stride n → i ≢ k → cell n t′ k c ≡ cell n t k c)
+one-line : (n : ℕ) (t t′ : List ℕ) (i : ℕ) → length t′ ≡ length t → ((k c : ℕ) → c < stride n → i ≢ k → cell n t′ k c ≡ cell n t k c)
     → Line n t′ i → Lines n t → Lines n t′
 one-line n t t′ i len same here old = (len ∙ old .0, λ k h. pick k h (ℕ-discrete i k))
   where

@@ -16,7 +16,7 @@ use Rattle.station.proofs.SearchLaws.{listOf-same, listOf-append}
 use Rattle.station.proofs.Levels.{level-zero, level-in, level-le, level-bounds, level-split, level-upper}
 
 -- an element of a list by f is f of a place
-pub mem-place : (f : ℕ → ℕ) (n x : ℕ) → List·Memᴰ x (listOf f n) → (k : ℕ) × (k < n) × (x ≡ f k)
+mem-place : (f : ℕ → ℕ) (n x : ℕ) → List·Memᴰ x (listOf f n) → (k : ℕ) × (k < n) × (x ≡ f k)
 unfolding listOf
 mem-place f zero x m = absurd (List·Memᴰ·not-nil m)
 mem-place f (suc n) x m = pick (mem-place f n x) (List·Memᴰ·append-cases (listOf f n) m)
@@ -41,7 +41,7 @@ unfolding group width listOf
 no-group-zero i x m = List·Memᴰ·not-nil m
 
 -- who is in the group of i at level s has a distance of that level
-pub members-level : (i s x : ℕ) → List·Memᴰ x (group i s) → level (distance i x) ≡ s
+members-level : (i s x : ℕ) → List·Memᴰ x (group i s) → level (distance i x) ≡ s
 unfolding group width member
 members-level i zero x m = absurd (no-group-zero i x m)
 members-level i (suc h) x m =
@@ -49,7 +49,7 @@ members-level i (suc h) x m =
     rw (t .2, xor-cancel) (level-in h (t .0) (t .1))
 
 -- and the other way
-pub level-members : (i s x : ℕ) → 0 < s → level (distance i x) ≡ s → List·Memᴰ x (group i s)
+level-members : (i s x : ℕ) → 0 < s → level (distance i x) ≡ s → List·Memᴰ x (group i s)
 unfolding group width member
 level-members i zero x pos e = absurd (omega arith)
 level-members i (suc h) x pos e =

@@ -10,7 +10,7 @@ use lib.Dec.{ltb}
 use lib.Pow.{pow-pos, pow-mono}
 use borrow.Author.Tests.{ltb-true, lt-ltb}
 use Rattle.station.specs.Search.{least}
-use Rattle.station.specs.Groups.{level, width, dimension}
+use Rattle.station.specs.Groups.{level, dimension}
 use Rattle.station.proofs.SearchLaws.{least-between, least-passes, least-before}
 
 lt-pow : (m : ℕ) → m < 2 ^ m

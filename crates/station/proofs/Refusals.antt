@@ -1,7 +1,7 @@
 -- Laws of the refusal numbers: what a number of 0 says, and which number stands where a test fails.
 -- Assumes nothing.
-use mathlib.Core.Path.{_≡_, refl, sym, ap, _∙_}
-use mathlib.Core.Bool.{Bool, true, false, not, _&&_, _||_, and-true, and-false, and-assoc}
+use mathlib.Core.Path.{_≡_, refl, ap, _∙_}
+use mathlib.Core.Bool.{Bool, true, false, not, _&&_, _||_, and-true, and-false}
 use mathlib.Core.List.{List}
 use Prim.Native.Nat.{ℕ, zero, suc, _-_, _≤_, _<_}
 use native.Mathlib.Nat.{le-antisymm}
@@ -11,10 +11,9 @@ use lib.ListN.{length}
 use lib.Dec.{ltb, leb, eqb, leb·suc-suc}
 use Rattle.station.specs.Search.{every}
 use Rattle.station.specs.Groups.{isSize, dimension, distances, width}
-use Rattle.station.specs.Table.{tableLength, status, nextDistance, finished, testsMade, live}
+use Rattle.station.specs.Table.{tableLength, live}
 use Rattle.station.specs.Rules.{refuse, _else_, passRule, lineRules, notLive, someLive, finishedIfLive, liveFinished, shapeNumber, tableNumber}
 use Rattle.station.specs.Calls.{unless, rowNumber, groupNumber, assignmentNumber}
-use Rattle.station.proofs.Levels.{level-le}
 use Rattle.station.proofs.Loops.{every-stop, every-done}
 
 -- a refusal that is not 0 hides the later ones
@@ -25,11 +24,6 @@ else-first r (suc a) b e h = e
 pub else-zero : (a b : ℕ) → (a else b) ≡ 0 → (a ≡ 0) × (b ≡ 0)
 else-zero zero b e = (refl, e)
 else-zero (suc a) b e = absurd (omega arith)
-
--- a refusal that is 0 changes nothing, at the end of a list of refusals
-pub else-none : (a : ℕ) → (a else 0) ≡ a
-else-none zero = refl
-else-none (suc a) = refl
 
 -- a later refusal matters only where the earlier one is 0
 pub else-same : (a b b′ : ℕ) → (a ≡ 0 → b ≡ b′) → (a else b) ≡ (a else b′)

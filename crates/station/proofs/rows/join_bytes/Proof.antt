@@ -1,11 +1,11 @@
 -- `rows::join_bytes` meets its contract: the bytes passed so far are those of the union, the others are as they were.
 -- Assumes nothing.
-use mathlib.Core.Path.{_≡_, sym, ap, _∙_}
-use Prim.Native.Nat.{ℕ, _-_, _≤_, min, max}
+use mathlib.Core.Path.{_≡_}
+use Prim.Native.Nat.{_-_, _≤_, min}
 use native.Mathlib.Omega.{arith}
-use lib.ListN.{length, getD}
+use lib.ListN.{length}
 use borrow.Author.Needs.{needs}
-use Rattle.station.specs.Rows.{unionByte, union}
+use Rattle.station.specs.Rows.{unionByte}
 use Rattle.station.proofs.Loops.{loops, filled, filled-ahead, filled-next}
 use Rattle.station.proofs.CellLaws.{union-byte, union-filled}
 use Rattle.station.proofs.rows.join_bytes.Statement.{statement}

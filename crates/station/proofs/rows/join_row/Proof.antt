@@ -1,6 +1,5 @@
 -- `rows::join_row` meets its contract: own's byte is put back.
 -- Assumes nothing.
-use mathlib.Core.Path.{_∙_}
 use borrow.Author.Needs.{needs}
 use Rattle.station.proofs.CellLaws.{union-kept, union-beyond}
 use Rattle.station.proofs.rows.join_row.Statement.{statement}
