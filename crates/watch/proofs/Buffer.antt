@@ -1,40 +1,20 @@
--- The program's buffers decide every input: reading the first 20,490 bytes into a schedule of 8,192 bytes is reading the whole input.
+-- The program's buffer decides every input: what comes of the first 20,490 bytes is what comes of the whole input.
 -- Assumes nothing.
 use mathlib.Core.Path.{_≡_, refl, _∙_}
-use mathlib.Core.Bool.{Bool, true, false, cond, not, _&&_}
+use mathlib.Core.Bool.{Bool, true, false, cond}
 use mathlib.Core.List.{List, [], _∷_, _++_}
 use mathlib.Core.Option.{Option, none, some}
 use Prim.Native.Nat.{ℕ, zero, suc, _+_, _*_, _-_, _≤_, _<_, min}
 use native.Mathlib.Omega.{arith}
 use native.Mathlib.Decide.{decLt}
-use borrow.Author.Tests.{leb-true, le-ltb}
-use lib.Dec.{leb, ltb, eqb}
+use lib.Dec.{ltb}
 use lib.ListN.{length, take, drop, length-take}
 use lib.Seq.{take-take, take-nil}
-use Rattle.watch.specs.Input.{given, isLineFeed, lines, lineLength, digitsFrom, numberOf, sizeOf, kindOf, entryOf, Reading, readEntries, readLines, readUpTo, readInput, readInto, roomFor}
+use Rattle.watch.specs.Input.{given, isLineFeed, lines, lineLength, sizeOf, entryOf, Reading, readingOf, readEntries, readLines, readUpTo}
+use Rattle.watch.specs.Watched.{watched}
 use Rattle.watch.proofs.LineLaws.{line-within, lines-first}
-
--- a readable line is short
-pub number-short : (most : ℕ) (l : List ℕ) (v : ℕ) → numberOf most l ≡ some v → length l ≤ most
-unfolding numberOf
-number-short most l v = go (leb 1 (length l)) (leb (length l) most) refl
-  where
-    go : (a b : Bool) → leb (length l) most ≡ b → cond (a && b) (digitsFrom 0 l) none ≡ some v → length l ≤ most
-    go true true p e = leb-true (length l) most p
-    go true false p e = let z : _≡_ {A = ℕ} 0 1 = cc in absurd (omega arith)
-    go false b p e = let z : _≡_ {A = ℕ} 0 1 = cc in absurd (omega arith)
-
-pub entry-four : (l e : List ℕ) → entryOf l ≡ some e → length l ≤ 4
-unfolding entryOf
-entry-four [] e p = omega arith
-entry-four (a ∷ []) e p = omega arith
-entry-four (a ∷ b ∷ l) e p = go (not (eqb (kindOf a) 0) && eqb b 32) (numberOf 2 l) (number-short 2 l) p
-  where
-    go : (x : Bool) (o : Option ℕ) → ((v : ℕ) → o ≡ some v → length l ≤ 2)
-        → cond x (given o (λ station. some (kindOf a ∷ station ∷ [])) none) none ≡ some e → suc (suc (length l)) ≤ 4
-    go true (some v) f p = let h = f v refl in omega arith
-    go true none f p = let z : _≡_ {A = ℕ} 0 1 = cc in absurd (omega arith)
-    go false o f p = let z : _≡_ {A = ℕ} 0 1 = cc in absurd (omega arith)
+use Rattle.watch.proofs.NumberLaws.{number-has}
+use Rattle.watch.proofs.ReadLaws.{taken-has}
 
 -- lines of an input that is cut after m bytes
 cut-line : (m : ℕ) (l : List ℕ) → lineLength (take m l) ≡ min (lineLength l) m
@@ -69,85 +49,32 @@ module _ (m : ℕ) (l : List ℕ) (out : m ≤ lineLength l) where
   whole-long : m ≤ length (take (lineLength l) l)
   whole-long = let w = line-within l in rw length-take (omega arith)
 
-long-number : (most : ℕ) (l : List ℕ) → most < length l → numberOf most l ≡ none
-long-number most l h = go (numberOf most l) (number-short most l)
-  where
-    go : (o : Option ℕ) → ((v : ℕ) → o ≡ some v → length l ≤ most) → o ≡ none
-    go none f = refl
-    go (some v) f = let g = f v refl in absurd (omega arith)
-
-long-entry : (b : Bool) (l : List ℕ) → 4 < length l → cond b (entryOf l) none ≡ none
-long-entry false l h = refl
-long-entry true l h = go (entryOf l) (entry-four l)
-  where
-    go : (o : Option (List ℕ)) → ((e : List ℕ) → o ≡ some e → length l ≤ 4) → o ≡ none
-    go none f = refl
-    go (some e) f = let g = f e refl in absurd (omega arith)
-
 -- what is read after a value goes by the value
 given-same : {A : Type 0} (o : Option A) (f g : A → Reading) (r : Reading) → ((a : A) → o ≡ some a → f a ≡ g a) → given o f r ≡ given o g r
 given-same none f g r same = refl
 given-same (some a) f g r same = same a refl
 
-taken-entry : (b : Bool) (o : Option (List ℕ)) (e : List ℕ) → cond b o none ≡ some e → o ≡ some e
-taken-entry true o e p = p
-taken-entry false o e p = cc
-
--- the lines after k entries of an input that is cut
-module _ (room n k m : ℕ) (s : List ℕ) where
-  -- without room for one more entry
-  cut-full : (l : List ℕ) → room ≤ k → 0 < m → readEntries room n k s (lines (take m l)) ≡ readEntries room n k s (lines l)
-  unfolding readEntries
-  cut-full [] a b = rw take-nil
-  cut-full (x ∷ l) a b = go (x ∷ l) (rw length-take (omega arith)) (omega arith)
+-- lines that are read so, and only where they have at most `most` bytes
+module _ {A : Type 0} (read : List ℕ → Option A) (most : ℕ) (short : (l : List ℕ) (a : A) → read l ≡ some a → length l ≤ most) where
+  long-none : (l : List ℕ) → most < length l → read l ≡ none
+  long-none l h = go (read l) (short l)
     where
-      go : (l : List ℕ) → 0 < length (take m l) → 0 < length l → readEntries room n k s (lines (take m l)) ≡ readEntries room n k s (lines l)
-      go l p q = rw (lines-first (take m l) p, lines-first l q, le-ltb k room a)
+      go : (o : Option A) → ((a : A) → o ≡ some a → length l ≤ most) → o ≡ none
+      go none f = refl
+      go (some a) f = let g = f a refl in absurd (omega arith)
 
-  -- with a line that leaves j bytes or more for those after it
-  cut-next : (j : ℕ) (l : List ℕ) → j + 5 ≤ m → 4 < m
-      → ((e r : List ℕ) (i : ℕ) → j ≤ i → readEntries room n (suc k) (s ++ e) (lines (take i r)) ≡ readEntries room n (suc k) (s ++ e) (lines r))
-      → readEntries room n k s (lines (take m l)) ≡ readEntries room n k s (lines l)
-  unfolding readEntries
-  cut-next j [] a b on = rw take-nil
-  cut-next j (x ∷ l) a b on = pick (x ∷ l) (omega arith) (decLt (lineLength (x ∷ l)) m)
-    where
-      pick : (l : List ℕ) → 0 < length l → Dec (lineLength l < m) → readEntries room n k s (lines (take m l)) ≡ readEntries room n k s (lines l)
-      pick l h (yes p) =
-          let w = line-within l in
-          let q : length (take (lineLength l) l) ≡ lineLength l = rw length-take (omega arith) in
-          rw (cut-lines m l h p, lines-first l h)
-          (given-same (cond (ltb k room) (entryOf (take (lineLength l) l)) none) _ _ _ (λ e t. on e _ (m - suc (lineLength l)) (omega (arith, q, entry-four (take (lineLength l) l) e (taken-entry (ltb k room) _ e t)))))
-      pick l h (no p) =
-          let w = line-within l in
-          let o : m ≤ lineLength l = omega arith in
-          let c = cut-long m l o in
-          let d = whole-long m l o in
-          rw (
-            lines-first (take m l) (rw length-take (omega arith)),
-            lines-first l h,
-            long-entry (ltb k room) (take (lineLength (take m l)) (take m l)) (omega arith),
-            long-entry (ltb k room) (take (lineLength l) l) (omega arith),
-          )
-
--- five bytes for each entry that there is room for, and six more
-cut-entries : (f room n k m : ℕ) (s l : List ℕ) → room ≤ k + f → 5 * f + 6 ≤ m → readEntries room n k s (lines (take m l)) ≡ readEntries room n k s (lines l)
-cut-entries zero room n k m s l a b = cut-full room n k m s l (omega arith) (omega arith)
-cut-entries (suc f) room n k m s l a b =
-    cut-next room n k m s (5 * f + 6) l (omega arith) (omega arith) (λ e r i h. cut-entries f room n (suc k) i (s ++ e) r (omega arith) h)
-
--- the size's line takes four bytes more
-pub cut-input : (room m : ℕ) (l : List ℕ) → 5 * room + 10 ≤ m → readUpTo room (take m l) ≡ readUpTo room l
-unfolding readUpTo readLines
-cut-input room m [] b = rw take-nil
-cut-input room m (x ∷ l) b = pick (x ∷ l) (omega arith) (decLt (lineLength (x ∷ l)) m)
-  where
-    pick : (l : List ℕ) → 0 < length l → Dec (lineLength l < m) → readLines room (lines (take m l)) ≡ readLines room (lines l)
+  -- an input whose first line is read so, cut after m bytes, where what follows that line may be cut
+  module _ (m : ℕ) (enough : most < m) (next : A → List (List ℕ) → Reading) (stop : Reading) (all : List (List ℕ) → Reading)
+      (first : (l : List ℕ) (ls : List (List ℕ)) → all (l ∷ ls) ≡ given (read l) (λ a. next a ls) stop)
+      (on : (l : List ℕ) (a : A) (r : List ℕ) (i : ℕ) → read l ≡ some a → m ≤ i + suc most
+      → next a (lines (take i r)) ≡ next a (lines r)) where
+    pick : (l : List ℕ) → 0 < length l → Dec (lineLength l < m) → all (lines (take m l)) ≡ all (lines l)
     pick l h (yes p) =
         let w = line-within l in
         let q : length (take (lineLength l) l) ≡ lineLength l = rw length-take (omega arith) in
-        rw (cut-lines m l h p, lines-first l h)
-        (given-same (sizeOf (take (lineLength l) l)) _ _ _ (λ n t. cut-entries room room n 0 (m - suc (lineLength l)) [] _ (omega arith) (omega (arith, q, number-short 3 (take (lineLength l) l) n t))))
+        rw (cut-lines m l h p, lines-first l h, first, first)
+        (given-same (read (take (lineLength l) l)) _ _ _
+        (λ a t. on _ a _ (m - suc (lineLength l)) t (omega (arith, q, short (take (lineLength l) l) a t))))
     pick l h (no p) =
         let w = line-within l in
         let o : m ≤ lineLength l = omega arith in
@@ -156,10 +83,42 @@ cut-input room m (x ∷ l) b = pick (x ∷ l) (omega arith) (decLt (lineLength (
         rw (
           lines-first (take m l) (rw length-take (omega arith)),
           lines-first l h,
-          long-number 3 (take (lineLength (take m l)) (take m l)) (omega arith),
-          long-number 3 (take (lineLength l) l) (omega arith),
+          first,
+          first,
+          long-none (take (lineLength (take m l)) (take m l)) (omega arith),
+          long-none (take (lineLength l) l) (omega arith),
         )
 
--- what the program reads
-pub program-reads : (lent input : List ℕ) → 8192 ≤ length lent → readInto lent (take 20490 input) ≡ readInput input
-program-reads lent input h = let e : roomFor (length lent) ≡ 4096 = omega arith in rw e (cut-input 4096 20490 input (omega arith))
+    cut-first : (l : List ℕ) → all (lines (take m l)) ≡ all (lines l)
+    cut-first [] = rw take-nil
+    cut-first (x ∷ l) = pick (x ∷ l) (omega arith) (decLt (lineLength (x ∷ l)) m)
+
+-- one entry, where those after it may be cut
+cut-entry : (room n k m : ℕ) (s : List ℕ) → 4 < m
+    → ((e r : List ℕ) (i : ℕ) → k < room → m ≤ i + 5
+    → readEntries room n (suc k) (s ++ e) (lines (take i r)) ≡ readEntries room n (suc k) (s ++ e) (lines r))
+    → (l : List ℕ) → readEntries room n k s (lines (take m l)) ≡ readEntries room n k s (lines l)
+unfolding readEntries
+cut-entry room n k m s h on =
+    cut-first (λ l. cond (ltb k room) (entryOf l) none) 4 (λ l e t. taken-has k room l e t .1)
+    m h (λ e. readEntries room n (suc k) (s ++ e)) (readingOf (k + 2) n k s) (readEntries room n k s) (λ l ls. refl)
+    (λ l e r i t. on e r i (taken-has k room l e t .0))
+
+-- five bytes for each entry that there is room for, and six more
+cut-entries : (f room n k m : ℕ) (s l : List ℕ) → room ≤ k + f → 5 * f + 6 ≤ m → readEntries room n k s (lines (take m l)) ≡ readEntries room n k s (lines l)
+cut-entries zero room n k m s l a b = cut-entry room n k m s (omega arith) (λ e r i t h. absurd (omega arith)) l
+cut-entries (suc f) room n k m s l a b =
+    cut-entry room n k m s (omega arith) (λ e r i t h. cut-entries f room n (suc k) i (s ++ e) r (omega arith) (omega arith)) l
+
+-- the size's line takes four bytes more
+cut-input : (room m : ℕ) (l : List ℕ) → 5 * room + 10 ≤ m → readUpTo room (take m l) ≡ readUpTo room l
+unfolding readUpTo readLines
+cut-input room m l b =
+    cut-first sizeOf 3 (λ l n t. number-has 3 l n t .0)
+    m (omega arith) (λ n. readEntries room n 0 []) (readingOf 1 0 0 []) (readLines room) (λ l ls. refl)
+    (λ _ n r i _ h. cut-entries room room n 0 i [] r (omega arith) (omega arith)) l
+
+-- what the program answers
+pub program-watches : (lent input : List ℕ) → watched lent (take 20490 input) ≡ watched lent input
+unfolding watched
+program-watches lent input = rw (cut-input 4096 20490 input (omega arith))

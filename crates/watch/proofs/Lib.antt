@@ -3,3 +3,4 @@ pub mod LineLaws
 pub mod NumberLaws
 pub mod ReadLaws
 pub mod Buffer
+pub mod WatchLaws

@@ -64,7 +64,7 @@ both-true : (a b : Bool) → (a && b) ≡ true → b ≡ true
 both-true true b e = e
 both-true false b e = cc
 
-pub digits-small : (l : List ℕ) (k v w : ℕ) → v ≤ greatest k → digitsFrom v l ≡ some w → w ≤ greatest (k + length l)
+digits-small : (l : List ℕ) (k v w : ℕ) → v ≤ greatest k → digitsFrom v l ≡ some w → w ≤ greatest (k + length l)
 unfolding digitsFrom greatest
 digits-small [] k v w h e = let x : k + 0 ≡ k = omega arith in let y : v ≡ w = cc in rw (x, ← y) h
 digits-small (b ∷ rest) k v w h e = go (isDigit b) refl e (digits-small rest (suc k) (10 * v + (b - 48)) w)
@@ -77,12 +77,19 @@ digits-small (b ∷ rest) k v w h e = go (isDigit b) refl e (digits-small rest (
         rw y (f (omega (arith, leb-true b 57 (both-true (leb 48 b) (leb b 57) p))) e)
     go false p e f = let z : _≡_ {A = ℕ} 0 1 = cc in absurd (omega arith)
 
--- a number of at most two digits fits a byte
-pub number-two : (l : List ℕ) (w : ℕ) → numberOf 2 l ≡ some w → w ≤ 99
+-- what a number has
+pub number-has : (most : ℕ) (l : List ℕ) (v : ℕ) → numberOf most l ≡ some v → (length l ≤ most) × (digitsFrom 0 l ≡ some v)
 unfolding numberOf
-number-two l w e = go (leb 1 (length l)) (leb (length l) 2) refl e
+number-has most l v = go (leb 1 (length l)) (leb (length l) most) refl
   where
-    go : (a b : Bool) → leb (length l) 2 ≡ b → cond (a && b) (digitsFrom 0 l) none ≡ some w → w ≤ 99
-    go true true p e = omega (arith, digits-small l 0 0 w (omega arith) e, greatest-two (0 + length l) (omega (arith, leb-true (length l) 2 p)))
+    go : (a b : Bool) → leb (length l) most ≡ b → cond (a && b) (digitsFrom 0 l) none ≡ some v
+        → (length l ≤ most) × (digitsFrom 0 l ≡ some v)
+    go true true p e = (leb-true (length l) most p, e)
     go true false p e = let z : _≡_ {A = ℕ} 0 1 = cc in absurd (omega arith)
     go false b p e = let z : _≡_ {A = ℕ} 0 1 = cc in absurd (omega arith)
+
+-- a number of at most two digits fits a byte
+pub number-two : (l : List ℕ) (w : ℕ) → numberOf 2 l ≡ some w → w ≤ 99
+number-two l w e =
+    let h = number-has 2 l w e in
+    omega (arith, digits-small l 0 0 w (omega arith) (h .1), greatest-two (0 + length l) (omega arith))

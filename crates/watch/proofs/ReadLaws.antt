@@ -9,10 +9,12 @@ use native.Mathlib.Numerals.{add-one}
 use native.Mathlib.Omega.{arith}
 use borrow.Author.Tests.{ltb-true}
 use lib.Dec.{ltb, eqb}
-use lib.ListN.{length, getD, set, take, drop, length-set, length-drop, drop-of-length-le, take-append-drop}
+use lib.ListN.{length, getD, set, take, drop, length-set, length-append, length-drop, drop-of-length-le, take-append-drop}
 use lib.Seq.{take-all, drop-drop, drop-set-lt, take-suc-set, length-take-le}
-use Rattle.watch.specs.Input.{given, lines, lineLength, numberOf, sizeOf, kindOf, entryOf, Reading, readingOf, readEntries, readLines, roomFor, readUpTo, written}
+use Rattle.watch.specs.declared.input.Parsed.{Parsed}
+use Rattle.watch.specs.Input.{given, lines, lineLength, digitsFrom, numberOf, sizeOf, kindOf, entryOf, Reading, readingOf, readEntries, readLines, readUpTo, written, ReadAs}
 use Rattle.watch.proofs.LineLaws.{lines-first, drop-min}
+use Rattle.watch.proofs.NumberLaws.{number-has}
 
 -- the entry of a line by the line's bytes
 pub entry-short : (l : List ℕ) → length l < 2 → entryOf l ≡ none
@@ -27,6 +29,27 @@ unfolding entryOf
 entry-long [] h = absurd (omega arith)
 entry-long (a ∷ []) h = absurd (omega arith)
 entry-long (a ∷ b ∷ l) h = refl
+
+-- an entry's line is short, and the entry has two bytes
+entry-has : (l e : List ℕ) → entryOf l ≡ some e → (length l ≤ 4) × (length e ≡ 2)
+unfolding entryOf
+entry-has [] e p = let z : _≡_ {A = ℕ} 0 1 = cc in absurd (omega arith)
+entry-has (a ∷ []) e p = let z : _≡_ {A = ℕ} 0 1 = cc in absurd (omega arith)
+entry-has (a ∷ b ∷ l) e p = go (not (eqb (kindOf a) 0) && eqb b 32) (numberOf 2 l) (number-has 2 l) p
+  where
+    go : (x : Bool) (o : Option ℕ) → ((v : ℕ) → o ≡ some v → (length l ≤ 2) × (digitsFrom 0 l ≡ some v))
+        → cond x (given o (λ station. some (kindOf a ∷ station ∷ [])) none) none ≡ some e → (suc (suc (length l)) ≤ 4) × (length e ≡ 2)
+    go true (some v) f p = let h = f v refl in let q : kindOf a ∷ v ∷ [] ≡ e = cc in (omega arith, rw (← q))
+    go true none f p = let z : _≡_ {A = ℕ} 0 1 = cc in absurd (omega arith)
+    go false o f p = let z : _≡_ {A = ℕ} 0 1 = cc in absurd (omega arith)
+
+-- so too where it is read only if there is room for one more
+pub taken-has : (k room : ℕ) (l e : List ℕ) → cond (ltb k room) (entryOf l) none ≡ some e → (k < room) × (length l ≤ 4) × (length e ≡ 2)
+taken-has k room l e = go (ltb k room) refl
+  where
+    go : (b : Bool) → ltb k room ≡ b → cond b (entryOf l) none ≡ some e → (k < room) × (length l ≤ 4) × (length e ≡ 2)
+    go true t p = let h = entry-has l e p in (ltb-true k room t, h .0, h .1)
+    go false t p = let z : _≡_ {A = ℕ} 0 1 = cc in absurd (omega arith)
 
 -- two bytes written one by one
 module _ (s : List ℕ) (a x y : ℕ) (h : a + 2 ≤ length s) where
@@ -68,11 +91,7 @@ module _ (room n k : ℕ) (s l : List ℕ) (p : ℕ) where
         rw (d, front, drop-min l q e next, lines-first (drop p l) (rw length-drop (omega arith)), read-as, z, drop-drop, w, add-one)
 
     pub has-room : (x : List ℕ) → o ≡ some x → k < r
-    has-room x z = go (ltb k r) refl told
-      where
-        go : (b : Bool) → ltb k r ≡ b → o ≡ cond b (entryOf (take (e - p) (drop p l))) none → k < r
-        go true t e = ltb-true k r t
-        go false t e = let z : _≡_ {A = ℕ} 0 1 = cc in absurd (omega arith)
+    has-room x z = taken-has k r _ x (sym told ∙ z) .0
 
 -- what stands after k + 1 entries is as it was
 pub rest-kept : (k : ℕ) (s s′ s₀ : List ℕ) → drop (2 * k + 2) s′ ≡ drop (2 * k + 2) s → drop (2 * k) s ≡ drop (2 * k) s₀
@@ -112,39 +131,40 @@ module _ (room e : ℕ) (l : List ℕ) (o : Option ℕ) (ends : e ≡ 0 + lineLe
       let w : e ≡ lineLength l = omega arith in
       first-sized room n l (size-as ∙ z) ∙ ap (λ (d : List ℕ). readEntries room n 0 [] (lines d)) (ap (λ (k : ℕ). drop (suc k) l) (sym w) ∙ sym (drop-min l q e next))
 
--- there are no more entries than there is room for
-pub entries-within : (room n k : ℕ) (s : List ℕ) (ls : List (List ℕ)) → k ≤ room → readEntries room n k s ls .entries ≤ room
+-- there are no more entries than there is room for, and each has two bytes
+pub record Fits (room : ℕ) (r : Reading) : Type 0 where
+  pub within : r .entries ≤ room
+  pub pairs : length (r .schedule) ≡ 2 * r .entries
+
+entries-fit : (room n k : ℕ) (s : List ℕ) (ls : List (List ℕ)) → k ≤ room → length s ≡ 2 * k → Fits room (readEntries room n k s ls)
 unfolding readEntries
-entries-within room n k s [] h = h
-entries-within room n k s (l ∷ ls) h = go (ltb k room) refl (entryOf l) (λ e. entries-within room n (suc k) (s ++ e) ls)
+entries-fit room n k s [] h p = record { within = h; pairs = p }
+entries-fit room n k s (l ∷ ls) h p =
+    go (cond (ltb k room) (entryOf l) none) (taken-has k room l) (λ e. entries-fit room n (suc k) (s ++ e) ls)
   where
-    go : (b : Bool) → ltb k room ≡ b → (o : Option (List ℕ)) → ((e : List ℕ) → suc k ≤ room → readEntries room n (suc k) (s ++ e) ls .entries ≤ room)
-        → given (cond b o none) (λ e. readEntries room n (suc k) (s ++ e) ls) (readingOf (k + 2) n k s) .entries ≤ room
-    go true p none f = h
-    go true p (some e) f = f e (ltb-true k room p)
-    go false p o f = h
+    go : (o : Option (List ℕ)) → ((e : List ℕ) → o ≡ some e → (k < room) × (length l ≤ 4) × (length e ≡ 2))
+        → ((e : List ℕ) → suc k ≤ room → length (s ++ e) ≡ 2 * suc k → Fits room (readEntries room n (suc k) (s ++ e) ls))
+        → Fits room (given o (λ e. readEntries room n (suc k) (s ++ e) ls) (readingOf (k + 2) n k s))
+    go none f on = record { within = h; pairs = p }
+    go (some e) f on = let g = f e refl in on e (omega arith) (simp length-append (omega arith))
 
-pub read-within : (room : ℕ) (l : List ℕ) → readUpTo room l .entries ≤ room
+pub read-fits : (room : ℕ) (l : List ℕ) → Fits room (readUpTo room l)
 unfolding readUpTo readLines
-read-within room l = go (lines l)
+read-fits room l = go (lines l)
   where
-    pick : (o : Option ℕ) (ls : List (List ℕ)) → given o (λ n. readEntries room n 0 [] ls) (readingOf 1 0 0 []) .entries ≤ room
-    pick none ls = omega arith
-    pick (some n) ls = entries-within room n 0 [] ls (omega arith)
+    pick : (o : Option ℕ) (ls : List (List ℕ)) → Fits room (given o (λ n. readEntries room n 0 [] ls) (readingOf 1 0 0 []))
+    pick none ls = record { within = omega arith; pairs = refl }
+    pick (some n) ls = entries-fit room n 0 [] ls (omega arith) refl
 
-    go : (ls : List (List ℕ)) → readLines room ls .entries ≤ room
-    go [] = omega arith
+    go : (ls : List (List ℕ)) → Fits room (readLines room ls)
+    go [] = record { within = omega arith; pairs = refl }
     go (l ∷ ls) = pick (sizeOf l) ls
-
--- so they fit the lent schedule, whose length is m before and m′ after
-pub entries-fit : (r m m′ : ℕ) (l : List ℕ) → r ≡ readUpTo (roomFor m) l .entries → m′ ≡ m → (2 * r ≤ m′) × (r ≤ 4096)
-entries-fit r m m′ l e k = let h = read-within (roomFor m) l in omega arith
 
 -- a schedule whose first k entries are written
 pub written-part : (s s₀ : List ℕ) (a : ℕ) → a ≤ length s → drop a s ≡ drop a s₀ → s ≡ written (take a s) s₀
 written-part s s₀ a h e = rw (length-take-le a s h, ← e) (sym (take-append-drop a s))
 
--- the figures of a reading, as the contracts ask for them
-pub reading-parts : (r : Reading) (u n k : ℕ) (s t t₀ : List ℕ) → r ≡ readingOf u n k s → t ≡ written s t₀
-    → (u ≡ r .unread) × ((n ≡ r .size) × ((k ≡ r .entries) × (t ≡ written (r .schedule) t₀)))
-reading-parts r u n k s t t₀ e w = rw e (refl, (refl, (refl, w)))
+-- a reading by its parts
+pub read-as-parts : (r : Reading) (p : Parsed) (s after lent : List ℕ) → r ≡ readingOf (p .unread) (p .size) (p .entries) s
+    → after ≡ written s lent → ReadAs p after lent r
+read-as-parts r p s after lent e w = rw e (record { unread = refl; size = refl; entries = refl; schedule = w })

@@ -1,11 +1,13 @@
 -- Document 01, the run program: what its standard input means, for all inputs.
 -- Assumes nothing.
+use mathlib.Core.Path.{_≡_}
 use Prim.Native.Nat.{ℕ, suc, _+_, _*_, _-_, _/_, min}
 use mathlib.Core.Bool.{Bool, cond, not, _&&_}
 use mathlib.Core.List.{List, [], _∷_, _++_}
 use mathlib.Core.Option.{Option, none, some}
 use lib.ListN.{length, drop}
 use lib.Dec.{ltb, leb, eqb}
+use Rattle.watch.specs.declared.input.Parsed.{Parsed}
 use Rattle.watch.specs.declared.input.Number.{Number}
 use Rattle.watch.specs.declared.input.Number.the-variants.{Value, NoNumber}
 use Rattle.watch.specs.declared.input.Entry.{Entry}
@@ -106,9 +108,16 @@ readInput input = readUpTo 4096 input
 abbrev pub readInto : List ℕ → List ℕ → Reading
 readInto lent input = readUpTo (roomFor (length lent)) input
 
--- a lent schedule after its first bytes are written: the rest is unchanged
+-- a lent schedule or sheet after its first bytes are written: the rest is unchanged
 abbrev pub written : List ℕ → List ℕ → List ℕ
 written s lent = s ++ drop (length s) lent
+
+-- the answer p and the lent schedule after a call that read r
+pub record ReadAs (p : Parsed) (after lent : List ℕ) (r : Reading) : Type 0 where
+  pub unread : p .unread ≡ r .unread
+  pub size : p .size ≡ r .size
+  pub entries : p .entries ≡ r .entries
+  pub schedule : after ≡ written (r .schedule) lent
 
 -- what the answers Number and Entry stand for
 abbrev pub numberValue : Number → Option ℕ

@@ -1,2 +1,3 @@
 -- What the contracts of `watch` cite.
 pub mod Input
+pub mod Watched

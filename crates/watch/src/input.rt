@@ -6,7 +6,7 @@ ghost use lib.Dec.{ltb};
 ghost use mathlib.Core.List.{[], _∷_, _++_};
 ghost use Prim.Native.Nat.{_+_, _*_, _≤_, _<_, min};
 ghost use lib.ListN.{length, take, drop};
-ghost use Rattle.watch.specs.Input.{lines, lineLength, numberOf, kindOf, entryOf, readEntries, roomFor, readInto, written, numberValue, entryValue};
+ghost use Rattle.watch.specs.Input.{lines, lineLength, numberOf, kindOf, entryOf, readEntries, roomFor, readInto, ReadAs, numberValue, entryValue};
 
 // The answer of `parse`: the number of the first unreadable line, from 1, or 0 where there is none; the size and how many entries were
 // read, all of them or those before that line.
@@ -17,13 +17,13 @@ pub struct Parsed {
 }
 
 // A number of a few digits, if they are one.
-pub enum Number {
+enum Number {
     Value(usize),
     NoNumber,
 }
 
 // The kind and the station of a line, if it is an entry.
-pub enum Entry {
+enum Entry {
     Bytes(u8, u8),
     NoEntry,
 }
@@ -31,10 +31,7 @@ pub enum Entry {
 // Reads the whole input. The entries before the first unreadable line go into the schedule, two bytes each, and its rest is unchanged. An
 // entry for which the schedule has no room counts as unreadable.
 pub fn parse(input: &[u8], schedule: &mut [u8]) -> Parsed
-    ensures { λ r. ⌜ r .unread ≡ readInto (now (schedule .entry)) (now (input .entry)) .unread ⌝ }
-    ensures { λ r. ⌜ r .size ≡ readInto (now (schedule .entry)) (now (input .entry)) .size ⌝ }
-    ensures { λ r. ⌜ r .entries ≡ readInto (now (schedule .entry)) (now (input .entry)) .entries ⌝ }
-    ensures { λ _. ⌜ now (schedule .exit) ≡ written (readInto (now (schedule .entry)) (now (input .entry)) .schedule) (now (schedule .entry)) ⌝ }
+    ensures { λ r. ⌜ ReadAs r (now (schedule .exit)) (now (schedule .entry)) (readInto (now (schedule .entry)) (now (input .entry))) ⌝ }
 {
     let e = line_end(input, 0);
     let size = read_number(&input[..e], 3);
@@ -52,10 +49,7 @@ pub fn parse(input: &[u8], schedule: &mut [u8]) -> Parsed
 // Reads the entries of the lines from `from` on, after the size n.
 fn read_entries(input: &[u8], from: usize, n: usize, schedule: &mut [u8]) -> Parsed
     requires { ⌜ from ≤ length (now input) ⌝ }
-    ensures { λ r. ⌜ r .unread ≡ readEntries (roomFor (length (now (schedule .entry)))) n 0 [] (lines (drop from (now (input .entry)))) .unread ⌝ }
-    ensures { λ r. ⌜ r .size ≡ readEntries (roomFor (length (now (schedule .entry)))) n 0 [] (lines (drop from (now (input .entry)))) .size ⌝ }
-    ensures { λ r. ⌜ r .entries ≡ readEntries (roomFor (length (now (schedule .entry)))) n 0 [] (lines (drop from (now (input .entry)))) .entries ⌝ }
-    ensures { λ _. ⌜ now (schedule .exit) ≡ written (readEntries (roomFor (length (now (schedule .entry)))) n 0 [] (lines (drop from (now (input .entry)))) .schedule) (now (schedule .entry)) ⌝ }
+    ensures { λ r. ⌜ ReadAs r (now (schedule .exit)) (now (schedule .entry)) (readEntries (roomFor (length (now (schedule .entry)))) n 0 [] (lines (drop from (now (input .entry))))) ⌝ }
 {
     let room = room_for(schedule.len());
     let mut p = from;

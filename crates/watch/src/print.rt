@@ -1,16 +1,25 @@
 // What the run program prints (document 01). No contract can say what is written; these functions are safe.
+use crate::watched::Report;
 use libc::STDOUT_FILENO;
 use plant::Answer;
 
+// What is printed of a report and the sheet.
+pub fn print_report(sheet: &[u8; 16384], report: Report) {
+    match report {
+        Report::Unread(line) => print_unread(line),
+        Report::Ran(answer) => print_answer(sheet, answer),
+    }
+}
+
 // All that is printed of an input that is not readable.
-pub fn print_unread(line: usize) {
+fn print_unread(line: usize) {
     io::write_all(STDOUT_FILENO, b"unread ");
     io::print_decimal(STDOUT_FILENO, line as u64);
     io::write_all(STDOUT_FILENO, b"\n");
 }
 
 // The header, a line for each entry taken, and the last line.
-pub fn print_answer(sheet: &[u8], answer: Answer) {
+fn print_answer(sheet: &[u8], answer: Answer) {
     io::write_all(STDOUT_FILENO, b"station tested outcome status\n");
     print_lines(sheet, answer.taken);
     print_number(b"rounds ", answer.tally.rounds as u64);

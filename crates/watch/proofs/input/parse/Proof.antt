@@ -4,7 +4,7 @@ use mathlib.Core.Path.{refl, sym, ap}
 use lib.ListN.{length}
 use lib.Seq.{length-take-le}
 use Rattle.watch.specs.Input.{roomFor, numberValue}
-use Rattle.watch.proofs.ReadLaws.{read-unsized, read-sized, reading-parts}
+use Rattle.watch.proofs.ReadLaws.{read-unsized, read-sized, read-as-parts}
 use borrow.Author.Needs.{needs}
 use Rattle.watch.proofs.input.parse.Statement.{statement}
 use Rattle.watch.proofs.input.parse.Tie as tie
@@ -15,7 +15,7 @@ slice-aggregate-read-number c = sym (length-take-le _ _ (c .before .line-end .en
 returns : tie.Need-returns
 returns c =
     let e = read-unsized _ _ _ _ (c .before .before .before .before .line-end .ensures .0) (c .before .before .read-number .ensures) (ap numberValue (c .enum-told .given .1)) in
-    reading-parts _ _ _ _ _ _ _ e refl
+    read-as-parts _ _ _ _ _ e refl
 
 returns-2 : tie.Need-returns-2
 returns-2 c =
