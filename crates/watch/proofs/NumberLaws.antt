@@ -82,11 +82,14 @@ pub number-has : (most : ℕ) (l : List ℕ) (v : ℕ) → numberOf most l ≡ s
 unfolding numberOf
 number-has most l v = go (leb 1 (length l)) (leb (length l) most) refl
   where
-    go : (a b : Bool) → leb (length l) most ≡ b → cond (a && b) (digitsFrom 0 l) none ≡ some v → (length l ≤ most) × (digitsFrom 0 l ≡ some v)
+    go : (a b : Bool) → leb (length l) most ≡ b → cond (a && b) (digitsFrom 0 l) none ≡ some v
+        → (length l ≤ most) × (digitsFrom 0 l ≡ some v)
     go true true p e = (leb-true (length l) most p, e)
     go true false p e = let z : _≡_ {A = ℕ} 0 1 = cc in absurd (omega arith)
     go false b p e = let z : _≡_ {A = ℕ} 0 1 = cc in absurd (omega arith)
 
 -- a number of at most two digits fits a byte
 pub number-two : (l : List ℕ) (w : ℕ) → numberOf 2 l ≡ some w → w ≤ 99
-number-two l w e = let h = number-has 2 l w e in omega (arith, digits-small l 0 0 w (omega arith) (h .1), greatest-two (0 + length l) (omega arith))
+number-two l w e =
+    let h = number-has 2 l w e in
+    omega (arith, digits-small l 0 0 w (omega arith) (h .1), greatest-two (0 + length l) (omega arith))

@@ -33,7 +33,8 @@ ranOn lent o = watchedWith (Ran (answerOf o)) (written (o .sheet) lent)
 abbrev pub carriedOut : ℕ → List ℕ → List ℕ → Watched
 carriedOut n schedule lent = ranOn lent (run n (stateOf (freshTable n) 0 0) schedule (take (2 * length schedule) lent))
 
--- "At the first unreadable line or a 4,097th entry, whichever comes first, the program prints only `unread`, a space and that line's number"
+-- "At the first unreadable line or a 4,097th entry, whichever comes first, the program prints only `unread`, a space and that line's
+-- number from 1"
 abbrev watchedOf : List ℕ → Reading → Watched
 watchedOf lent r = cond (eqb (r .unread) 0) (carriedOut (r .size) (r .schedule) lent) (watchedWith (Unread (r .unread)) lent)
 

@@ -5,7 +5,9 @@ use Rattle.watch.proofs.watched.run_fresh.Statement.{statement}
 use Rattle.watch.proofs.watched.run_fresh.Tie as tie
 
 returns : tie.Need-returns
-returns c = rw (← c .before .before .before .before .before .before .before .before .before .fresh-table .ensures .1) (c .before .before .before .before .run .ensures)
+returns c =
+    let r = c .before .before .before .before in
+    rw (← r .before .before .before .before .before .fresh-table .ensures .1) (r .run .ensures)
 
 pub run-fresh-spec : {M : Type 1} → statement M
 run-fresh-spec =

@@ -17,13 +17,17 @@ carry-out-requires : tie.Need-carry-out-requires
 carry-out-requires c κs =
     let p = c .before .before .before .before .before .before in
     let h = entries-within [] (p .before .before .before .args .input .now) _ _ _ (p .before .parse-arg .given .0 .1) (p .parse .ensures) in
-    (omega (arith, c .before .before .carry-out-arg2 .given .0), omega (arith, c .before .carry-out-arg3 .given .0 .1), omega (arith, c .carry-out-arg4 .given .0 .1))
+    let schedule = c .before .before .carry-out-arg2 .given .0 in
+    let table = c .before .carry-out-arg3 .given .0 .1 in
+    let sheet = c .carry-out-arg4 .given .0 .1 in
+    (omega arith, omega arith, omega arith)
 
 returns-2 : tie.Need-returns-2
 returns-2 c =
     let p = c .before .before .before .before .before .before .before in
     let a = p .before .before .before .args in
-    rw (← watched-ran (a .sheet .now) (a .input .now) _ _ _ (p .before .parse-arg .given .0 .1) (p .parse .ensures) (c .before .before .before .before .before .if1 .left))
+    let readable = c .before .before .before .before .before .if1 .left in
+    rw (← watched-ran (a .sheet .now) (a .input .now) _ _ _ (p .before .parse-arg .given .0 .1) (p .parse .ensures) readable)
     (c .carry-out .ensures)
 
 pub watch-plant-spec : {M : Type 1} → statement M
