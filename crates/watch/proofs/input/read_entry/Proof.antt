@@ -32,9 +32,6 @@ station-read c =
     let l = c .before .before .before .before .before .before .before .before .before .before .before .before .args .line .now in
     ap (numberOf 2) (sym (after-two l)) ∙ sym (c .before .before .before .read-number .ensures) ∙ ap numberValue (c .before .number .given .1)
 
-cast-t8 : tie.Need-cast-t8
-cast-t8 c = omega (arith, number-two _ _ (station-read c))
-
 returns-5 : tie.Need-returns-5
 returns-5 c =
     let e = station-read c in
@@ -57,5 +54,5 @@ read-entry-spec =
     (λ c. search needs)
     (λ c. search needs)
     returns-4
-    cast-t8
+    (λ c. omega (arith, number-two _ _ (station-read c)))
     returns-5)
