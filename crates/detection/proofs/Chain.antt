@@ -9,7 +9,7 @@ use native.Mathlib.Omega.{arith}
 use lib.ListN.{length}
 use lib.Dec.{eqb}
 use borrow.Author.Tests.{eqb-true}
-use Rattle.station.specs.Table.{tableLength}
+use Rattle.station.specs.Table.{stride, tableLength}
 use Rattle.station.proofs.Refusals.{Accepted, accepted, else-zero}
 use Rattle.plant.specs.Entry.{Entry, State, entryNumber, after, sheetLine}
 use Rattle.plant.specs.Run.{entries, writeLine, goOn, startNumber, run}
@@ -41,8 +41,8 @@ chain-entries n k s sheet (e ∷ es) = go (eqb (entryNumber n s e) 0) refl (chai
 not-less : (n m : ℕ) → tableLength n ≡ tableLength m → ¬ (n < m)
 unfolding tableLength
 not-less n m e l =
-    let more : n + 4 ≤ m + 4 = omega arith in
-    omega (arith, mul-le-mul l more, suc-mul n (n + 4))
+    let more : stride n ≤ stride m = omega arith in
+    omega (arith, mul-le-mul l more, suc-mul n (stride n))
 
 pub size-unique : (n m : ℕ) → tableLength n ≡ tableLength m → n ≡ m
 size-unique n m e = omega (arith, not-less n m e, not-less m n (sym e))

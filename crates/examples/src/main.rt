@@ -94,7 +94,7 @@ fn sizes() {
 
 // The number that a fresh table of a size and a length gets.
 fn size_line(n: usize, len: usize) {
-    let mut space = [0u8; 4352];
+    let mut space = [0u8; cells::GREATEST_TABLE];
     let number = fresh_number(n, len, &mut space);
     io::write_all(OUT, b"size ");
     print(n as u64);
@@ -115,7 +115,7 @@ fn fresh_number(n: usize, len: usize, space: &mut [u8]) -> u8 {
 
 // "N = 64, none dead: 384 tests."
 fn sixty_four() {
-    let mut table = [0u8; 4352];
+    let mut table = [0u8; cells::GREATEST_TABLE];
     fresh::fresh_table(64, &mut table);
     let tally = one_round(64, &mut table, no_tally(), 255);
     tests_line(no_tally(), tally);
@@ -157,7 +157,7 @@ fn table_3() {
 }
 
 fn messages_line(n: u8, rounds: u8) {
-    let mut space = [0u8; 4352];
+    let mut space = [0u8; cells::GREATEST_TABLE];
     let tally = fresh_rounds(n, rounds, cells::table_length(n), &mut space);
     byte(n);
     io::write_all(OUT, b" boards rounds ");

@@ -18,6 +18,10 @@ stride n = n + head
 unfoldable pub tableLength : ℕ → ℕ
 tableLength n = n * stride n
 
+-- the length of the greatest table, that of 64 stations
+abbrev pub greatestTable : ℕ
+greatestTable = 64 * stride 64
+
 -- where line i begins
 unfoldable pub lineStart : ℕ → ℕ → ℕ
 lineStart n i = i * stride n

@@ -1,7 +1,7 @@
 // The bytes of the lent table, by line and column (document 01, "The lent table").
 ghost use mathlib.Core.Path.{_≡_};
-ghost use Prim.Native.Nat.{_<_};
-ghost use Rattle.station.specs.Table.{tableLength, lineStart, cell, rowStart};
+ghost use Prim.Native.Nat.{_+_, _*_, _≤_};
+ghost use Rattle.station.specs.Table.{head, stride, tableLength, lineStart, cell, rowStart};
 use crate::Station;
 
 // The columns of a line's head.
@@ -16,6 +16,9 @@ pub const TESTS: u16 = 3;
 // How many bytes of a line stand before its row.
 pub const HEAD: u16 = 4;
 
+// The length of the greatest table, that of 64 stations.
+pub const GREATEST_TABLE: usize = 64 * (64 + HEAD as usize);
+
 // The length of a table of n stations.
 pub fn table_length(n: u8) -> usize
     ensures { λ r. ⌜ r ≡ tableLength n ⌝ }
@@ -26,7 +29,7 @@ pub fn table_length(n: u8) -> usize
 // The length of some lines of a table of n stations.
 fn lines_length(lines: u8, n: u8) -> usize
     ensures { λ r. ⌜ r ≡ lineStart n lines ⌝ }
-    ensures { λ r. ⌜ r < 66048 ⌝ }
+    ensures { λ r. ⌜ r ≤ 255 * stride 255 ⌝ }
 {
     lines as usize * (n as usize + HEAD as usize)
 }
@@ -34,7 +37,7 @@ fn lines_length(lines: u8, n: u8) -> usize
 // Where line i begins.
 pub fn line_start(n: u8, i: Station) -> usize
     ensures { λ r. ⌜ r ≡ lineStart n (i .0) ⌝ }
-    ensures { λ r. ⌜ r < 66048 ⌝ }
+    ensures { λ r. ⌜ r ≤ 255 * stride 255 ⌝ }
 {
     lines_length(i.0, n)
 }
@@ -42,7 +45,7 @@ pub fn line_start(n: u8, i: Station) -> usize
 // Where the row of line i begins.
 pub fn row_start(n: u8, i: Station) -> usize
     ensures { λ r. ⌜ r ≡ rowStart n (i .0) ⌝ }
-    ensures { λ r. ⌜ r < 66052 ⌝ }
+    ensures { λ r. ⌜ r ≤ 255 * stride 255 + head ⌝ }
 {
     line_start(n, i) + HEAD as usize
 }

@@ -5,6 +5,7 @@ mod print;
 mod watched;
 
 use libc::STDIN_FILENO;
+use station::cells;
 
 // The first 20,490 bytes decide every input. A readable line has at most three bytes (the size) or four (an entry) and its line feed, so
 // the size and 4,096 entries have at most 4 + 5 · 4,096 = 20,484. Where those bytes hold an unreadable line whole, or begin a 4,097th
@@ -14,7 +15,7 @@ use libc::STDIN_FILENO;
 fn main() {
     let mut buffer = [0u8; 20490];
     let mut schedule = [0u8; 8192];
-    let mut table = [0u8; 4352];
+    let mut table = [0u8; cells::GREATEST_TABLE];
     let mut sheet = [0u8; 16384];
     let got = io::read_full(STDIN_FILENO, &mut buffer);
     let report = watched::watch_plant(&buffer[..got], &mut schedule, &mut table, &mut sheet);

@@ -4,7 +4,7 @@ ghost use mathlib.Core.Bool.{true};
 ghost use Prim.Native.Nat.{_*_, _≤_};
 ghost use lib.ListN.{length, take};
 ghost use Rattle.station.specs.Groups.{isSize};
-ghost use Rattle.station.specs.Table.{tableLength};
+ghost use Rattle.station.specs.Table.{greatestTable, tableLength};
 ghost use Rattle.station.specs.Calls.{freshAfter};
 ghost use Rattle.plant.specs.Entry.{stateOf};
 ghost use Rattle.plant.specs.Run.{outcomeWith, run};
@@ -27,7 +27,7 @@ pub enum Report {
 pub fn watch_plant(
     input: &[u8],
     schedule: &mut [u8; 8192],
-    table: &mut [u8; 4352],
+    table: &mut [u8; cells::GREATEST_TABLE],
     sheet: &mut [u8; 16384],
 ) -> Report
     ensures { λ r. ⌜ watchedWith r (now (sheet .exit)) ≡ watched (now (sheet .entry)) (now (input .entry)) ⌝ }
@@ -47,7 +47,7 @@ fn carry_out(
     table: &mut [u8],
     sheet: &mut [u8],
 ) -> Report
-    requires { ⌜ (2 * entries ≤ length (now schedule)) × (4352 ≤ length (now table)) × (4 * entries ≤ length (now sheet)) ⌝ }
+    requires { ⌜ (2 * entries ≤ length (now schedule)) × (greatestTable ≤ length (now table)) × (4 * entries ≤ length (now sheet)) ⌝ }
     ensures { λ r. ⌜ watchedWith r (now (sheet .exit)) ≡ carriedOut size (take (2 * entries) (now (schedule .entry))) (now (sheet .entry)) ⌝ }
 {
     let used = 2 * entries;
@@ -76,7 +76,7 @@ fn run_fresh(size: usize, schedule: &[u8], table: &mut [u8], sheet: &mut [u8]) -
 
 // The length of the part of the table that a plant of this size has; 0 for what is no size.
 fn table_part(size: usize) -> usize
-    ensures { λ r. ⌜ (isSize size ≡ true → r ≡ tableLength size) × (r ≤ 4352) ⌝ }
+    ensures { λ r. ⌜ (isSize size ≡ true → r ≡ tableLength size) × (r ≤ greatestTable) ⌝ }
 {
     if !groups::is_size(size) {
         return 0;

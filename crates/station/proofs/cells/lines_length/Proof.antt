@@ -1,16 +1,15 @@
--- `cells::lines_length` meets its contract: a product of two bytes, the second at most four more.
+-- `cells::lines_length` meets its contract: a product of two bytes, the second with the head's length added.
 -- Assumes nothing.
 use native.Mathlib.Nat.{mul-le-mul}
 use native.Mathlib.Omega.{arith}
 use Prim.Native.Nat.{ℕ, _+_, _*_, _≤_, _<_}
 use borrow.Author.Needs.{needs}
-use Rattle.station.specs.Table.{lineStart}
+use Rattle.station.specs.Table.{stride, lineStart}
 use Rattle.station.proofs.cells.lines_length.Statement.{statement}
 use Rattle.station.proofs.cells.lines_length.Tie as tie
 
--- the product is at most 255 times 259
-bound : (i n : ℕ) → i < 256 → n < 256 → i * (n + 4) ≤ 255 * 259
-bound i n h k = mul-le-mul {n₁ = i} {m₁ = n + 4} {n₂ = 255} {m₂ = 259} (omega arith) (omega arith)
+bound : (i n : ℕ) → i < 256 → n < 256 → i * stride n ≤ 255 * stride 255
+bound i n h k = mul-le-mul {n₁ = i} {m₁ = stride n} {n₂ = 255} {m₂ = stride 255} (omega arith) (omega arith)
 
 mul-result : tie.Need-mul-result
 mul-result c = omega (arith, bound (c .args .lines) (c .args .n) (omega arith) (omega arith))

@@ -7,14 +7,14 @@ use native.Mathlib.Nat.{mul-le-mul}
 use native.Mathlib.Omega.{arith}
 use borrow.Author.Tests.{not-true, not-false}
 use borrow.Author.Needs.{needs}
-use Rattle.station.specs.Table.{tableLength}
+use Rattle.station.specs.Table.{stride, greatestTable, tableLength}
 use Rattle.station.proofs.Sizes.{size-bounds}
 use Rattle.watch.proofs.watched.table_part.Statement.{statement}
 use Rattle.watch.proofs.watched.table_part.Tie as tie
 
-table-within : (n : ℕ) → n ≤ 64 → tableLength n ≤ 4352
+table-within : (n : ℕ) → n ≤ 64 → tableLength n ≤ greatestTable
 unfolding tableLength
-table-within n h = let e : n + 4 ≤ 68 = omega arith in mul-le-mul h e
+table-within n h = let e : stride n ≤ stride 64 = omega arith in mul-le-mul h e
 
 returns : tie.Need-returns
 returns c = (λ e. absurd (false≢true (sym (not-true _ (c .if1 .taken)) ∙ c .before .is-size .ensures ∙ e)), omega arith)
