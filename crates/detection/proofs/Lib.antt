@@ -1,6 +1,7 @@
 -- The proof of demand 3, a file for each part.
 pub mod Near
 pub mod Spread
+pub mod BoolLaws
 pub mod SumLaws
 pub mod Count
 pub mod DueLaw
