@@ -5,8 +5,10 @@ pub mod BoolLaws
 pub mod SumLaws
 pub mod Count
 pub mod DueLaw
+pub mod TurnHeads
 pub mod TurnEffect
 pub mod TakenLaws
+pub mod Counting
 pub mod Chain
 pub mod Inside
 pub mod Closing

@@ -3,7 +3,7 @@
 use mathlib.Core.Path.{_≡_, refl, sym, _∙_}
 use mathlib.Core.Bool.{Bool, true, false, cond, _&&_, _||_, or-false, or-assoc, and-assoc}
 use mathlib.Core.List.{List, [], _∷_, _++_}
-use Prim.Native.Nat.{ℕ, suc, _+_, _-_, _<_}
+use Prim.Native.Nat.{ℕ, suc, _+_, _-_, _≤_, _<_}
 use native.Mathlib.Numerals.{add-one}
 use native.Mathlib.Omega.{arith}
 use borrow.Author.Tests.{ne-eqb}
@@ -13,12 +13,22 @@ use lib.Seq.{getD-append-seam}
 use Rattle.detection.specs.Sums.{bit}
 use Rattle.detection.specs.Runs.{Taken, isTurnOf, finishes}
 use Rattle.detection.specs.Rounds.{any, all, count, testsIn, testsOfAll, turnsIn, nthTurnFinishes}
+use Rattle.detection.proofs.BoolLaws.{by-bool}
 
 -- whether any entry of the longer list passes q
 pub some-snoc : (q : Taken → Bool) (xs : List Taken) (x : Taken) → any q (xs ++ (x ∷ [])) ≡ (any q xs || q x)
 unfolding any
 some-snoc q [] x = or-false (q x)
 some-snoc q (y ∷ xs) x = rw (some-snoc q xs x) (sym (or-assoc (q y) (any q xs) (q x)))
+
+-- of which at most one passes q: whether any does
+pub any-one : (q : Taken → Bool) (xs : List Taken) → count q xs ≤ 1 → any q xs ≡ eqb (count q xs) 1
+unfolding any count
+any-one q [] h = refl
+any-one q (x ∷ xs) h =
+    by-bool (q x)
+    (λ e. let z : count q xs ≡ 0 = omega (arith, rw e at h) in rw (e, z))
+    (λ e. let z : 0 + count q xs ≡ count q xs = omega arith in rw (e, z) (any-one q xs (omega (arith, rw e at h))))
 
 -- how many entries of the longer list pass q
 pub count-snoc : (q : Taken → Bool) (xs : List Taken) (x : Taken) → count q (xs ++ (x ∷ [])) ≡ count q xs + bit (q x)
