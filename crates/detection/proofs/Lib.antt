@@ -9,12 +9,10 @@ pub mod TurnHeads
 pub mod TurnEffect
 pub mod TakenLaws
 pub mod Counting
-pub mod Chain
-pub mod Inside
+pub mod Knowledge
 pub mod Closing
-pub mod RoundCount
-pub mod Progress
-pub mod TurnedAway
+pub mod Chain
+pub mod Course
 pub mod Demand3
 pub mod FreshStart
 pub mod Witness

@@ -15,13 +15,7 @@ use Rattle.detection.specs.Runs.{Taken, isTurnOf, finishes}
 use Rattle.detection.specs.Rounds.{any, all, count, testsIn, testsOfAll, turnsIn, nthTurnFinishes}
 use Rattle.detection.proofs.BoolLaws.{by-bool}
 
--- whether any entry of the longer list passes q
-pub some-snoc : (q : Taken → Bool) (xs : List Taken) (x : Taken) → any q (xs ++ (x ∷ [])) ≡ (any q xs || q x)
-unfolding any
-some-snoc q [] x = or-false (q x)
-some-snoc q (y ∷ xs) x = rw (some-snoc q xs x) (sym (or-assoc (q y) (any q xs) (q x)))
-
--- of which at most one passes q: whether any does
+-- whether any entry passes q, where at most one does
 pub any-one : (q : Taken → Bool) (xs : List Taken) → count q xs ≤ 1 → any q xs ≡ eqb (count q xs) 1
 unfolding any count
 any-one q [] h = refl
@@ -35,12 +29,6 @@ pub count-snoc : (q : Taken → Bool) (xs : List Taken) (x : Taken) → count q 
 unfolding count
 count-snoc q [] x = omega arith
 count-snoc q (y ∷ xs) x = omega (arith, count-snoc q xs x)
-
--- whether all entries of two lists pass q
-pub all-append : (q : Taken → Bool) (xs ys : List Taken) → all q (xs ++ ys) ≡ (all q xs && all q ys)
-unfolding all
-all-append q [] ys = refl
-all-append q (x ∷ xs) ys = rw (all-append q xs ys) (sym (and-assoc (q x) (all q xs) (all q ys)))
 
 -- a turn of i behind k turns of i is the next one
 pub nth-snoc-turn : (i : ℕ) (xs : List Taken) (x : Taken) → isTurnOf i x ≡ true → nthTurnFinishes i (suc (turnsIn i xs)) (xs ++ (x ∷ [])) ≡ finishes x
@@ -63,19 +51,3 @@ pub nth-snoc-other : (i k : ℕ) (xs : List Taken) (x : Taken) → isTurnOf i x 
 unfolding nthTurnFinishes
 nth-snoc-other i k [] x e = rw e
 nth-snoc-other i k (y ∷ xs) x e = rw (nth-snoc-other i k xs x e, nth-snoc-other i (k - 1) xs x e)
-
--- the tests of one round more
-pub tests-snoc : (rs : List (List Taken)) (r : List Taken) → testsOfAll (rs ++ (r ∷ [])) ≡ testsOfAll rs + testsIn r
-unfolding testsOfAll
-tests-snoc [] r = omega arith
-tests-snoc (s ∷ rs) r = omega (arith, tests-snoc rs r)
-
--- the last round, and those before it
-pub getD-snoc-last : (rs : List (List Taken)) (r : List Taken) → getD (rs ++ (r ∷ [])) (length rs) [] ≡ r
-getD-snoc-last rs r = getD-append-seam rs r [] []
-
-pub getD-snoc-before : (rs : List (List Taken)) (r : List Taken) (k : ℕ) → k < length rs → getD (rs ++ (r ∷ [])) k [] ≡ getD rs k []
-getD-snoc-before rs r k h = List·getD-append rs (r ∷ []) [] k h
-
-pub length-snoc : (rs : List (List Taken)) (r : List Taken) → length (rs ++ (r ∷ [])) ≡ suc (length rs)
-length-snoc rs r = length-append rs (r ∷ []) ∙ add-one (length rs)
