@@ -1,15 +1,15 @@
 -- Where a round closes: the cut by entries is the round rule of the table; what the closed round has done to the rows, and its tests.
 -- Assumes nothing.
 use mathlib.Core.Path.{_≡_, refl, sym, ap, ap₂, _∙_}
-use mathlib.Core.Bool.{Bool, true, false, cond, not, _&&_, _||_}
+use mathlib.Core.Bool.{Bool, true, not, _&&_, _||_}
 use mathlib.Core.List.{List, []}
-use Prim.Native.Nat.{ℕ, _+_, _-_, _*_, _^_, _≤_, _<_}
+use Prim.Native.Nat.{ℕ, _+_, _-_, _^_, _≤_, _<_}
 use native.Mathlib.Omega.{arith}
 use borrow.Author.Tests.{eqb-true}
 use lib.Dec.{eqb}
 use Rattle.station.specs.Search.{every}
 use Rattle.station.specs.Groups.{dimension}
-use Rattle.station.specs.Table.{head, statusColumn, status, nextDistance, finished, testsMade, suspects, live}
+use Rattle.station.specs.Table.{head, statusColumn, nextDistance, finished, testsMade, live}
 use Rattle.station.specs.Rules.{notLive, someLive, finishedIfLive, liveFinished}
 use Rattle.station.proofs.SearchLaws.{both, every-at}
 use Rattle.plant.specs.Turn.{roundOver, resetLines, afterRound}

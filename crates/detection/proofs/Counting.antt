@@ -1,6 +1,6 @@
 -- What bytes 2 and 3 of the lines count: turns and tests since a round's start, or since any table within it. Nobody is trusted here.
 -- Assumes nothing.
-use mathlib.Core.Path.{_≡_, refl, sym, ap, _∙_}
+use mathlib.Core.Path.{_≡_, refl, sym, _∙_}
 use mathlib.Core.Logic.{by-cases}
 use mathlib.Core.Bool.{Bool, true, false, not, _&&_}
 use mathlib.Core.List.{List, [], _∷_, _++_}
@@ -13,7 +13,7 @@ use Rattle.station.specs.Table.{finishedColumn, testsColumn, finished, testsMad
 use Rattle.plant.specs.Turn.{makesTest}
 use Rattle.plant.specs.Entry.{Entry, State, isCrash}
 use Rattle.detection.specs.Sums.{sum, bit}
-use Rattle.detection.specs.Runs.{Taken, isTurnOf, takenTest, finishes}
+use Rattle.detection.specs.Runs.{Taken, isTurnOf, takenTest}
 use Rattle.detection.specs.Rounds.{count, finishesOf, testsIn, turnsIn, nthTurnFinishes}
 use Rattle.detection.proofs.BoolLaws.{by-bool, bit-split}
 use Rattle.detection.proofs.SumLaws.{sum-by, sum-add, sum-single}

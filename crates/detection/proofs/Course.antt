@@ -15,14 +15,14 @@ use Rattle.station.specs.Table.{finished, testsMade, suspects, live}
 use Rattle.station.proofs.SearchLaws.{both}
 use Rattle.station.proofs.Refusals.{Accepted}
 use Rattle.station.proofs.Sizes.{size-pow, size-bounds}
-use Rattle.plant.specs.Turn.{makesTest, nextTest, turn, turnTested, roundOver, resetLines, afterRound}
-use Rattle.plant.specs.Entry.{Entry, State, isCrash, isTest, entryNumber, acted, after, testedOf}
+use Rattle.plant.specs.Turn.{makesTest, nextTest, turnTested, roundOver, resetLines, afterRound}
+use Rattle.plant.specs.Entry.{Entry, State, isCrash, entryNumber, acted, after, testedOf}
 use Rattle.plant.proofs.Kept.{Takes, entry-facts}
 use Rattle.plant.proofs.StepLines.{station-below}
 use Rattle.plant.proofs.NextTest.{test-below}
 use Rattle.detection.specs.Sums.{bit}
 use Rattle.detection.specs.Runs.{Taken, takenTest, crashes, isLate}
-use Rattle.detection.specs.Rounds.{all, count, Rounds, roundBefore, closes, cut, turnsIn, nthTurnFinishes, testsIn, testsOfAll}
+use Rattle.detection.specs.Rounds.{all, count, Rounds, cut, turnsIn, nthTurnFinishes, testsIn, testsOfAll}
 use Rattle.detection.specs.Claim.{demandCount, allRounds}
 use Rattle.detection.proofs.BoolLaws.{by-bool}
 use Rattle.detection.proofs.TakenLaws.{count-snoc}
@@ -42,16 +42,18 @@ turns-ok : (n : ℕ) (L : ℕ → Bool) (t₀ t : List ℕ) (cur : List Taken) �
 turns-ok n L t₀ t cur inv i h =
     let c = inv .counts in
     let line = inv .knows .plain .lines .1 i h in
-    let spent : finished n t i + testsMade n t i ≡ turnsIn i cur = omega (arith, c .turns i h, inv .fresh i h) in
-    (omega arith, λ e.
-    let all : turnsIn i cur ≡ n = omega arith in
-    rw all at (c .lastEnds i h (omega (arith, c .ended i h, inv .fresh i h))))
+    let spent : finished n t i + testsMade n t i ≡ turnsIn i cur = omega (arith, c .turns i h, inv .fresh i h) in (
+      omega arith,
+      λ e.
+          let all : turnsIn i cur ≡ n = omega arith in
+          rw all at (c .lastEnds i h (omega (arith, c .ended i h, inv .fresh i h))),
+    )
 
 -- the rounds r from the one that starts with t₀ on, to the table `end`; T has the live set
 pub record Course (n : ℕ) (T t₀ : List ℕ) (r : Rounds) (end : List ℕ) : Type 0 where
   -- the table at the start of each round
   pub start : ℕ → List ℕ
-  pub first : start 0 ≡ t₀
+  pub begins : start 0 ≡ t₀
   pub steps : (q : ℕ) → q < length (r .closed) → RoundStep n (live n T) (start q) (start (suc q))
   pub last : Knows n (live n T) (start (length (r .closed))) end
   pub turns : (k i : ℕ) → k ≤ length (r .closed) → i < n → TurnsOk n i (getD (allRounds r) k [])
@@ -80,16 +82,16 @@ exact-at n d T t₀ r end c pow q far near i j h g l e =
     }
 
 -- the entries xs from s to s′, behind the entries `cur` of the round that started with t₀
-abbrev Cut : ℕ → List ℕ → List ℕ → List Taken → State → List Taken → State → Type 0
-Cut n T t₀ cur s xs s′ = Course n T t₀ (cut cur xs) (s′ .table) × Tallied cur s (cut cur xs) s′
+abbrev CutFrom : ℕ → List ℕ → List ℕ → List Taken → State → List Taken → State → Type 0
+CutFrom n T t₀ cur s xs s′ = Course n T t₀ (cut cur xs) (s′ .table) × Tallied cur s (cut cur xs) s′
 
 -- no entry more
-cut-done : (n : ℕ) (T t₀ : List ℕ) (cur : List Taken) (s : State) → InRound n (live n T) t₀ cur (s .table) → Cut n T t₀ cur s [] s
+cut-done : (n : ℕ) (T t₀ : List ℕ) (cur : List Taken) (s : State) → InRound n (live n T) t₀ cur (s .table) → CutFrom n T t₀ cur s [] s
 unfolding cut testsOfAll
 cut-done n T t₀ cur s inv = (
   record {
     start = λ q. t₀;
-    first = refl;
+    begins = refl;
     steps = λ q h. absurd (omega arith);
     last = inv .knows;
     turns = λ k i h. let e : k ≡ 0 = omega arith in rw e (turns-ok n (live n T) t₀ (s .table) cur inv i);
@@ -151,37 +153,43 @@ module _ (n : ℕ) (T : List ℕ) (company : Company n (live n T)) (t₀ : List 
 
   -- with it the round closes, or goes on
   cut-more : (xs : List Taken) (s′ : State)
-      → ((t₁ : List ℕ) (now : List Taken) → InRound n L t₁ now (after n s e .table) → Cut n T t₁ now (after n s e) xs s′) → Cut n T t₀ cur s (x ∷ xs) s′
+      → ((t₁ : List ℕ) (now : List Taken) → InRound n L t₁ now (after n s e .table) → CutFrom n T t₁ now (after n s e) xs s′) → CutFrom n T t₀ cur s (x ∷ xs) s′
   unfolding cut after afterRound testsOfAll count
   cut-more xs s′ rest = by-bool (roundOver n t′) closing going
     where
-      closing : roundOver n t′ ≡ true → Cut n T t₀ cur s (x ∷ xs) s′
+      closing : roundOver n t′ ≡ true → CutFrom n T t₀ cur s (x ∷ xs) s′
       closing over =
           let r = rest (resetLines n t′) [] (rw over (restart n L t′ (omega (arith, size-bounds n (ok .size))) (moved .knows .plain))) in
-          rw (closes-is n L t₀ here s e moved ∙ over) (record {
-            start = λ q. elim q [ zero ↦ t₀ | suc q ↦ r .0 .start q ];
-            first = refl;
-            steps = λ q. elim q [ zero ↦ λ h. rw (r .0 .first) (round-step n L t₀ t′ here moved over) | suc q ↦ λ h. r .0 .steps q (omega arith) ];
-            last = r .0 .last;
-            turns = λ k. elim k [ zero ↦ λ i h. turns-ok n L t₀ t′ here moved i | suc k ↦ λ i h. r .0 .turns k i (omega arith) ];
-            counted = λ k. elim k [ zero ↦ λ h. round-count n T t₀ t′ here (size-pow n (ok .size)) moved over | suc k ↦ λ h. r .0 .counted k (omega arith) ];
-          }, record {
-            rounds = omega (arith, rw over at (r .1 .rounds));
-            tests = omega (arith, r .1 .tests, tests-after, count-snoc takenTest cur x);
-          })
+          rw (closes-is n L t₀ here s e moved ∙ over) (
+            record {
+              start = λ q. elim q [ zero ↦ t₀ | suc q ↦ r .0 .start q ];
+              begins = refl;
+              steps = λ q. elim q [ zero ↦ λ h. rw (r .0 .begins) (round-step n L t₀ t′ here moved over) | suc q ↦ λ h. r .0 .steps q (omega arith) ];
+              last = r .0 .last;
+              turns = λ k. elim k [ zero ↦ λ i h. turns-ok n L t₀ t′ here moved i | suc k ↦ λ i h. r .0 .turns k i (omega arith) ];
+              counted = λ k. elim k [ zero ↦ λ h. round-count n T t₀ t′ here (size-pow n (ok .size)) moved over | suc k ↦ λ h. r .0 .counted k (omega arith) ];
+            },
+            record {
+              rounds = omega (arith, rw over at (r .1 .rounds));
+              tests = omega (arith, r .1 .tests, tests-after, count-snoc takenTest cur x);
+            },
+          )
 
-      going : roundOver n t′ ≡ false → Cut n T t₀ cur s (x ∷ xs) s′
+      going : roundOver n t′ ≡ false → CutFrom n T t₀ cur s (x ∷ xs) s′
       going over =
           let r = rest t₀ here (rw over moved) in
-          rw (closes-is n L t₀ here s e moved ∙ over) (r .0, record {
-            rounds = rw over at (r .1 .rounds);
-            tests = omega (arith, r .1 .tests, tests-after, count-snoc takenTest cur x);
-          })
+          rw (closes-is n L t₀ here s e moved ∙ over) (
+            r .0,
+            record {
+              rounds = rw over at (r .1 .rounds);
+              tests = omega (arith, r .1 .tests, tests-after, count-snoc takenTest cur x);
+            },
+          )
 
 -- a chain, cut into rounds
 pub course : (n : ℕ) (T : List ℕ) → Company n (live n T) → {s s′ : State} {xs : List Taken} → Chain n s xs s′
     → all (λ x. not (crashes x)) xs ≡ true → all (λ x. not (isLate x)) xs ≡ true
-    → (t₀ : List ℕ) (cur : List Taken) → InRound n (live n T) t₀ cur (s .table) → Cut n T t₀ cur s xs s′
+    → (t₀ : List ℕ) (cur : List Taken) → InRound n (live n T) t₀ cur (s .table) → CutFrom n T t₀ cur s xs s′
 unfolding all
 course n T company {s} done a b t₀ cur inv = cut-done n T t₀ cur s inv
 course n T company {s} {s′} (more {xs = xs} e ok takes chain) a b t₀ cur inv =

@@ -1,10 +1,10 @@
 -- Demand 3, proved: the chain of taken entries is cut into rounds, and the spread of knowledge bounds the rounds after which all is known.
 -- Assumes nothing.
-use mathlib.Core.Path.{_≡_, refl, sym, ap, subst, _∙_}
+use mathlib.Core.Path.{_≡_, refl, sym, ap, _∙_}
 use mathlib.Core.Logic.{_⊎_, inl, inr, _≢_}
 use mathlib.Core.Bool.{Bool, true, false, not, _&&_}
 use mathlib.Core.List.{List, [], _∷_, _++_}
-use Prim.Native.Nat.{ℕ, zero, suc, _+_, _*_, _^_, _≤_, _<_}
+use Prim.Native.Nat.{ℕ, zero, suc, _+_, _*_, _≤_, _<_}
 use native.Mathlib.Nat.{le-trans}
 use native.Mathlib.Omega.{arith}
 use borrow.Author.Tests.{ltb-true, ltb-false, eqb-true, eqb-false, ne-eqb, not-true}
@@ -12,7 +12,7 @@ use lib.ListN.{length}
 use lib.Dec.{ltb, eqb}
 use Rattle.station.specs.Search.{least, every}
 use Rattle.station.specs.Groups.{isSize, dimension}
-use Rattle.station.specs.Table.{nextDistance, finished, testsMade, suspects, live}
+use Rattle.station.specs.Table.{suspects, live}
 use Rattle.station.specs.Rules.{notLive}
 use Rattle.station.proofs.SearchLaws.{both, every-at, least-passes, least-before}
 use Rattle.station.proofs.Refusals.{Accepted}
@@ -20,15 +20,15 @@ use Rattle.station.proofs.CellLaws.{accepted-line}
 use Rattle.station.proofs.Sizes.{size-pow, size-bounds}
 use Rattle.plant.specs.Entry.{State}
 use Rattle.plant.proofs.StepCells.{Reset}
-use Rattle.detection.specs.Sums.{sum, bit}
+use Rattle.detection.specs.Sums.{bit}
 use Rattle.detection.specs.Runs.{Call, takenAll, afterRun, afterRuns}
-use Rattle.detection.specs.Rounds.{count, cut, testsIn, testsOfAll}
-use Rattle.detection.specs.Claim.{lineAtStart, atStart, liveCount, noLiveSuspicion, noneSuspected, demandCount, roundsOf, Premises, Conclusion, Demand3, Demand3After}
+use Rattle.detection.specs.Rounds.{count, cut, testsOfAll}
+use Rattle.detection.specs.Claim.{lineAtStart, atStart, liveCount, noLiveSuspicion, noneSuspected, roundsOf, Premises, Conclusion, Demand3, Demand3After}
 use Rattle.detection.proofs.BoolLaws.{by-bool}
 use Rattle.detection.proofs.SumLaws.{sum-single}
 use Rattle.detection.proofs.Spread.{bound, bound-le-square}
 use Rattle.detection.proofs.Chain.{chain-all, chain-first}
-use Rattle.detection.proofs.TurnEffect.{Plain, Company}
+use Rattle.detection.proofs.TurnEffect.{Company}
 use Rattle.detection.proofs.Knowledge.{Exact}
 use Rattle.detection.proofs.Closing.{InRound, round-start}
 use Rattle.detection.proofs.Course.{Course, Tallied, exact-at, course}
@@ -83,19 +83,19 @@ module _ (n : ℕ) (s : State) (calls : List Call) (given : Premises n s calls) 
   abbrev L : ℕ → Bool
   L = live n (s .table)
 
-  rounds : Course n (s .table) (s .table) (roundsOf s calls) (afterRuns s calls .table) × Tallied [] s (roundsOf s calls) (afterRuns s calls)
-  rounds =
+  history : Course n (s .table) (s .table) (roundsOf s calls) (afterRuns s calls .table) × Tallied [] s (roundsOf s calls) (afterRuns s calls)
+  history =
       course n (s .table) (company-of n (s .table) (given .twoLive)) (chain-all n s calls (given .long)) (given .noCrash) (given .noLate) (s .table) []
       (first-round n s calls given ok)
 
   -- from so many closed rounds on all rounds start exact
-  exact : (q : ℕ) → bound (dimension n) ≤ q → q ≤ length (roundsOf s calls .closed) → Exact n L (rounds .0 .start q)
-  exact = exact-at n (dimension n) (s .table) (s .table) (roundsOf s calls) (afterRuns s calls .table) (rounds .0) (size-pow n (given .size))
+  exact : (q : ℕ) → bound (dimension n) ≤ q → q ≤ length (roundsOf s calls .closed) → Exact n L (history .0 .start q)
+  exact = exact-at n (dimension n) (s .table) (s .table) (roundsOf s calls) (afterRuns s calls .table) (history .0) (size-pow n (given .size))
 
   known : bound (dimension n) ≤ length (roundsOf s calls .closed)
       → (i j : ℕ) → i < n → j < n → L i ≡ true → suspects n (afterRuns s calls .table) i j ≡ bit (notLive n (s .table) j)
   known far i j h g l =
-      let last = rounds .0 .last in
+      let last = history .0 .last in
       by-bool (L j) (λ e. rw e (last .plain .trusted i j h g l e)) (λ e. rw e (last .grown i j h g (exact _ far (omega arith) i j h g l e)))
 
   square : bound (dimension n) ≤ dimension n * dimension n
@@ -104,12 +104,12 @@ module _ (n : ℕ) (s : State) (calls : List Call) (given : Premises n s calls) 
   demand-3-accepted : Conclusion n s calls (afterRuns s calls)
   unfolding count
   demand-3-accepted = record {
-    sameLive = rounds .0 .last .plain .lives;
-    turns = λ k i h g l. rounds .0 .turns k i h g;
+    sameLive = history .0 .last .plain .lives;
+    turns = λ k i h g l. history .0 .turns k i h g;
     known = λ far. known (le-trans square far);
-    tests = λ k far h. rounds .0 .counted k h (exact k (le-trans square far) (omega arith));
-    roundsTally = rounds .1 .rounds;
-    testsTally = omega (arith, rounds .1 .tests);
+    tests = λ k far h. history .0 .counted k h (exact k (le-trans square far) (omega arith));
+    roundsTally = history .1 .rounds;
+    testsTally = omega (arith, history .1 .tests);
   }
 
 -- no entry is taken, as in a table that they do not let through

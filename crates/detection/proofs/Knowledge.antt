@@ -27,7 +27,7 @@ use Rattle.detection.proofs.TurnHeads.{Heads, passed-dues}
 use Rattle.detection.proofs.TurnEffect.{Plain, Grown, Handed, Turned}
 
 -- all present that stand ahead of i in the group of the station at distance m, at level h + 1, are suspected by i
-abbrev pub Ahead : ℕ → List ℕ → ℕ → ℕ → ℕ → Type 0
+abbrev Ahead : ℕ → List ℕ → ℕ → ℕ → ℕ → Type 0
 Ahead n t i m h = (k : ℕ) → 2 ^ h + k < m → bitXor (bitXor i m) (2 ^ h + k) < n → suspects n t i (bitXor (bitXor i m) (2 ^ h + k)) ≡ 1
 
 -- each live station suspects each station that is not live

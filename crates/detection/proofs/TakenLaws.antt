@@ -1,18 +1,15 @@
--- Laws of the lists of taken entries, and of rounds, at the end of a list.
+-- Laws of the lists of taken entries, at the end of a list.
 -- Assumes nothing.
-use mathlib.Core.Path.{_≡_, refl, sym, _∙_}
-use mathlib.Core.Bool.{Bool, true, false, cond, _&&_, _||_, or-false, or-assoc, and-assoc}
+use mathlib.Core.Path.{_≡_, refl}
+use mathlib.Core.Bool.{Bool, true, false}
 use mathlib.Core.List.{List, [], _∷_, _++_}
-use Prim.Native.Nat.{ℕ, suc, _+_, _-_, _≤_, _<_}
-use native.Mathlib.Numerals.{add-one}
+use Prim.Native.Nat.{ℕ, suc, _+_, _-_, _≤_}
 use native.Mathlib.Omega.{arith}
 use borrow.Author.Tests.{ne-eqb}
 use lib.Dec.{eqb}
-use lib.ListN.{length, getD, length-append, List·getD-append}
-use lib.Seq.{getD-append-seam}
 use Rattle.detection.specs.Sums.{bit}
 use Rattle.detection.specs.Runs.{Taken, isTurnOf, finishes}
-use Rattle.detection.specs.Rounds.{any, all, count, testsIn, testsOfAll, turnsIn, nthTurnFinishes}
+use Rattle.detection.specs.Rounds.{any, count, turnsIn, nthTurnFinishes}
 use Rattle.detection.proofs.BoolLaws.{by-bool}
 
 -- whether any entry passes q, where at most one does
@@ -34,17 +31,11 @@ count-snoc q (y ∷ xs) x = omega (arith, count-snoc q xs x)
 pub nth-snoc-turn : (i : ℕ) (xs : List Taken) (x : Taken) → isTurnOf i x ≡ true → nthTurnFinishes i (suc (turnsIn i xs)) (xs ++ (x ∷ [])) ≡ finishes x
 unfolding nthTurnFinishes count
 nth-snoc-turn i [] x e = rw e
-nth-snoc-turn i (y ∷ xs) x e = go (isTurnOf i y) (nth-snoc-turn i xs x e)
-  where
-    k : ℕ
-    k = turnsIn i xs
-
-    go : (b : Bool) → nthTurnFinishes i (suc k) (xs ++ (x ∷ [])) ≡ finishes x
-        → cond b (cond (eqb (suc (bit b + k)) 1) (finishes y) (nthTurnFinishes i (suc (bit b + k) - 1) (xs ++ (x ∷ [])))) (nthTurnFinishes i (suc (bit b + k)) (xs ++ (x ∷ []))) ≡ finishes x
-    go true rest =
-        let more : suc (1 + k) - 1 ≡ suc k = omega arith in
-        rw (ne-eqb (suc (1 + k)) 1 (λ q. omega arith), more) rest
-    go false rest = let e : 0 + k ≡ k = omega arith in rw e rest
+nth-snoc-turn i (y ∷ xs) x e =
+    let k : ℕ = turnsIn i xs in
+    by-bool (isTurnOf i y)
+    (λ b. let less : suc (1 + k) - 1 ≡ suc k = omega arith in rw (b, ne-eqb (suc (1 + k)) 1 (λ q. omega arith), less) (nth-snoc-turn i xs x e))
+    (λ b. let same : 0 + k ≡ k = omega arith in rw (b, same) (nth-snoc-turn i xs x e))
 
 -- what is no turn of i at the end leaves the turns of i
 pub nth-snoc-other : (i k : ℕ) (xs : List Taken) (x : Taken) → isTurnOf i x ≡ false → nthTurnFinishes i k (xs ++ (x ∷ [])) ≡ nthTurnFinishes i k xs

@@ -89,16 +89,19 @@ module _ (n : ℕ) (L : ℕ → Bool) (t : List ℕ) (i x : ℕ) (p : Plain n L 
       as-before k y hk hy out =
           let e : suspects n t′ k y ≡ suspects n t k y = suspect-other n t i long hi x k (head + y) (omega arith) (λ q r. out q (omega arith)) in
           (omega arith, λ a b. e ∙ p .trusted k y hk hy a b)
+
   -- two live stations exchange their rows
   exchanged : L x ≡ true → Step (exchangeRows n t i x)
   exchanged lx =
       step t′ lines (λ k. exchange-other n t i long hi x hx apart k statusColumn (omega arith) (λ e. omega arith) (λ e. omega arith))
       (λ k y hk hy.
       let v = between k y hy (ℕ-discrete i k) (ℕ-discrete x k) (ℕ-discrete y k) in
-      (v .0, λ a b. omega (arith, v .1, p .trusted k y hk hy a b, p .trusted i y hi hy li b, p .trusted x y hx hy lx b)))
-      (λ q. absurd (true≢false (sym lx ∙ q)), λ q y hy s.
-      let v = exchange-tested n t i long hi x hx apart y hy (λ e. omega (arith, rw e at s, p .trusted i x hi hx li lx)) in
-      omega (arith, v, lines .1 x hx .range y hy))
+      (v .0, λ a b. omega (arith, v .1, p .trusted k y hk hy a b, p .trusted i y hi hy li b, p .trusted x y hx hy lx b))) (
+        λ q. absurd (true≢false (sym lx ∙ q)),
+        λ q y hy s.
+            let v = exchange-tested n t i long hi x hx apart y hy (λ e. omega (arith, rw e at s, p .trusted i x hi hx li lx)) in
+            omega (arith, v, lines .1 x hx .range y hy),
+      )
     where
       t′ : List ℕ
       t′ = exchangeRows n t i x

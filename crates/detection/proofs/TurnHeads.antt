@@ -2,7 +2,7 @@
 -- Assumes nothing.
 use mathlib.Core.Path.{_≡_, refl, _∙_, ap}
 use mathlib.Core.Logic.{_≢_}
-use mathlib.Core.Bool.{Bool, true, false, cond}
+use mathlib.Core.Bool.{Bool, true, cond}
 use mathlib.Core.List.{List}
 use Prim.Native.Nat.{ℕ, _+_, _≤_, _<_}
 use native.Mathlib.Numerals.{add-one}
@@ -12,7 +12,7 @@ use Rattle.station.specs.Groups.{isSize, stationAt}
 use Rattle.station.specs.Table.{head, tableLength, cell, statusColumn, nextColumn, finishedColumn, testsColumn, nextDistance, finished, testsMade, row}
 use Rattle.station.specs.Tests.{due}
 use Rattle.station.proofs.CellLaws.{cell-other, setCell-length}
-use Rattle.plant.specs.Turn.{setStatus, nextTest, makesTest, countTest, replies, isTold, exchangeRows, suspect, afterTest, isAlone, afterAlone, testing, turn}
+use Rattle.plant.specs.Turn.{setStatus, nextTest, makesTest, countTest, replies, isTold, afterTest, isAlone, afterAlone, testing, turn}
 use Rattle.plant.proofs.NextTest.{nextTest-low, not-due-before, test-below, test-due, none-due}
 use Rattle.plant.proofs.StepCells.{finishPass-other, finishPass-next, finishPass-finished, countTest-length, countTest-other, countTest-next, countTest-tests, suspect-length, suspect-other, exchange-length, exchange-other}
 use Rattle.plant.proofs.StepLines.{Lines, station-apart, station-below}
