@@ -29,7 +29,8 @@ chain-append done d = d
 chain-append (more e a z c) d = more e a z (chain-append c d)
 
 -- the table keeps its length
-chain-long : {n : ℕ} {s s′ : State} {xs : List Taken} → Chain n s xs s′ → length (s .table) ≡ tableLength n → length (s′ .table) ≡ tableLength n
+chain-long : {n : ℕ} {s s′ : State} {xs : List Taken} → Chain n s xs s′ → length (s .table) ≡ tableLength n
+    → length (s′ .table) ≡ tableLength n
 chain-long done long = long
 chain-long {n} (more {s} e a z c) long = chain-long c (accepted-kept n s e a z .long)
 
@@ -39,7 +40,8 @@ chain-first done = inl (refl, refl)
 chain-first (more e a z c) = inr a
 
 -- the entries that a run takes
-chain-entries : (n k : ℕ) (s : State) (sheet : List ℕ) (es : List Entry) → Accepted n (s .table) → Chain n s (takenFrom n s es) (goOn n k s sheet es .state)
+chain-entries : (n k : ℕ) (s : State) (sheet : List ℕ) (es : List Entry) → Accepted n (s .table)
+    → Chain n s (takenFrom n s es) (goOn n k s sheet es .state)
 unfolding takenFrom goOn
 chain-entries n k s sheet [] a = done
 chain-entries n k s sheet (e ∷ es) a =
@@ -67,7 +69,8 @@ chain-run n s c long =
     (λ t. rw (afterRun, t) done)
 
 -- the entries of all runs
-pub chain-all : (n : ℕ) (s : State) (calls : List Call) → length (s .table) ≡ tableLength n → Chain n s (takenAll s calls) (afterRuns s calls)
+pub chain-all : (n : ℕ) (s : State) (calls : List Call) → length (s .table) ≡ tableLength n
+    → Chain n s (takenAll s calls) (afterRuns s calls)
 unfolding takenAll afterRuns
 chain-all n s [] long = done
 chain-all n s (c ∷ calls) long =

@@ -39,10 +39,13 @@ round-start n L t p fresh = record { fresh = fresh; counts = counts-start n t; k
 
 -- the table after a round has closed is the start of the next
 pub restart : (n : ℕ) (L : ℕ → Bool) (t : List ℕ) → 1 ≤ n → Plain n L t → InRound n L (resetLines n t) [] (resetLines n t)
-restart n L t pos p = round-start n L (resetLines n t) (same-plain n L t _ (reset-lines n t pos (p .lines)) (reset-other n t) p) (reset-cells n t (p .lines .0))
+restart n L t pos p =
+    round-start n L (resetLines n t) (same-plain n L t _ (reset-lines n t pos (p .lines)) (reset-other n t) p)
+    (reset-cells n t (p .lines .0))
 
 -- a round of entries closes exactly where the table's round does
-pub closes-is : (n : ℕ) (L : ℕ → Bool) (t₀ : List ℕ) (here : List Taken) (s : State) (e : Entry) → InRound n L t₀ here (acted n (s .table) e)
+pub closes-is : (n : ℕ) (L : ℕ → Bool) (t₀ : List ℕ) (here : List Taken) (s : State) (e : Entry)
+    → InRound n L t₀ here (acted n (s .table) e)
     → closes here (record { size = n; before = s; entry = e }) ≡ roundOver n (acted n (s .table) e)
 unfolding closes roundOver someLive liveFinished after afterRound
 closes-is n L t₀ here s e inv =
@@ -57,7 +60,8 @@ closes-is n L t₀ here s e inv =
     t′ = acted n (s .table) e
 
     alike : (k : ℕ) → live n (tableAfter x) k ≡ live n t′ k
-    alike k = choice (λ u. live n u k ≡ live n t′ k) (roundOver n t′) (ap (λ (v : ℕ). eqb v 0) (reset-other n t′ k statusColumn (omega arith) (omega arith))) refl
+    alike k =
+        choice (λ u. live n u k ≡ live n t′ k) (roundOver n t′) (rw (reset-other n t′ k statusColumn (omega arith) (omega arith))) refl
 
     ended : (k : ℕ) → k < n → any (finishesOf k) here ≡ eqb (finished n t′ k) 1
     ended k h =
@@ -74,7 +78,8 @@ module _ (n : ℕ) (L : ℕ → Bool) (t₀ t : List ℕ) (here : List Taken) (i
   at-end : (i : ℕ) → i < n → L i ≡ true → nextDistance n t i ≡ n
   unfolding roundOver liveFinished
   at-end i h l =
-      let ended : finishedIfLive n t i ≡ true = every-at (finishedIfLive n t) n i (both (someLive n t) (every (finishedIfLive n t) n) over .1) h in
+      let all = both (someLive n t) (every (finishedIfLive n t) n) over .1 in
+      let ended : finishedIfLive n t i ≡ true = every-at (finishedIfLive n t) n i all h in
       inv .knows .plain .lines .1 i h .finishedNext (eqb-true (finished n t i) 1 (rw (inv .knows .plain .lives i h ∙ l) at ended))
 
   reset-grows : Grown n t (resetLines n t)
@@ -88,11 +93,13 @@ module _ (n : ℕ) (L : ℕ → Bool) (t₀ t : List ℕ) (here : List Taken) (i
   }
 
 -- the tests of a round that starts exact
-pub round-count : (n : ℕ) (T t₀ t : List ℕ) (here : List Taken) → n ≡ 2 ^ dimension n → InRound n (live n T) t₀ here t → roundOver n t ≡ true
+pub round-count : (n : ℕ) (T t₀ t : List ℕ) (here : List Taken) → n ≡ 2 ^ dimension n → InRound n (live n T) t₀ here t
+    → roundOver n t ≡ true
     → Exact n (live n T) t₀ → testsIn here ≡ demandCount n T
 unfolding deadPairs deadGroup
 round-count n T t₀ t here pow inv over exact =
-    omega (arith, inv .counts .tests, sum-zero n (λ i h. inv .fresh i h .untested), sum-by n made, rw (← pow) at (tests-and-rest (λ j. true) L (dimension n)), sum-const (dimension n) n)
+    let pairs = rw (← pow) at (tests-and-rest (λ j. true) L (dimension n)) in
+    omega (arith, inv .counts .tests, sum-zero n (λ i h. inv .fresh i h .untested), sum-by n made, pairs, sum-const (dimension n) n)
   where
     L : ℕ → Bool
     L = live n T

@@ -32,10 +32,12 @@ leads-zero q i = rw (level-zero, first-zero)
 
 -- only the members of the group are asked
 pub leads-same : (q q′ : ℕ → Bool) (i m : ℕ)
-    → ((k : ℕ) → k < width (level m) → q (member (stationAt i m) (level m) k) ≡ q′ (member (stationAt i m) (level m) k)) → leads q i m ≡ leads q′ i m
+    → ((k : ℕ) → k < width (level m) → q (member (stationAt i m) (level m) k) ≡ q′ (member (stationAt i m) (level m) k))
+    → leads q i m ≡ leads q′ i m
 unfolding first firstPlace
 leads-same q q′ i m same =
-    rw (least-same (λ k. q (member (stationAt i m) (level m) k)) (λ k. q′ (member (stationAt i m) (level m) k)) (width (level m)) 0 (λ k _ l. same k (omega arith)))
+    let x : ℕ → ℕ = member (stationAt i m) (level m) in
+    rw (least-same (λ k. q (x k)) (λ k. q′ (x k)) (width (level m)) 0 (λ k _ l. same k (omega arith)))
 
 -- the place of the first that passes q in the group of j at level s, if any does: it is found, and else none passes
 module _ (q : ℕ → Bool) (j s : ℕ) where
@@ -65,14 +67,16 @@ leads-not q i m fails =
     s = level m
 
 -- one place of a group holds its first station, if there is one
-one-first : (q : ℕ → Bool) (j h : ℕ) → sum (λ k. bit (isStation (member j (suc h) k) (first q j (suc h)))) (width (suc h)) ≡ bit (not (nobody q j h))
+one-first : (q : ℕ → Bool) (j h : ℕ)
+    → sum (λ k. bit (isStation (member j (suc h) k) (first q j (suc h)))) (width (suc h)) ≡ bit (not (nobody q j h))
 unfolding first place member
 one-first q j h =
     by-bool (ltb p w)
     (λ e.
     let f = found q j (suc h) e in
     rw (e, every-not (λ k. not (q (x k))) w p (f .0) (ap not (f .1)))
-    (sum-single (λ k. bit (eqb (x p) (x k))) w p (f .0) (λ k l ne. ap bit (ne-eqb (x p) (x k) (apart k ne))) ∙ ap bit (eq-eqb (x p) (x p) refl)))
+    (sum-single (λ k. bit (eqb (x p) (x k))) w p (f .0) (λ k l ne. ap bit (ne-eqb (x p) (x k) (apart k ne)))
+    ∙ ap bit (eq-eqb (x p) (x p) refl)))
     (λ e. rw (e, every-all (λ k. not (q (x k))) w (λ k l. ap not (none-found q j (suc h) e k l))) (sum-zero w (λ k l. refl)))
   where
     w : ℕ
@@ -89,12 +93,14 @@ one-first q j h =
     apart k ne e = let same : w + p ≡ w + k = cc (xor-cancel j (w + p), xor-cancel j (w + k)) in ne (omega arith)
 
 -- over all distances from j, as many first stations as levels whose group has one
-first-by-level : (q : ℕ → Bool) (j d : ℕ) → sum (λ m. bit (isStation (stationAt j m) (first q j (level m)))) (2 ^ d) ≡ sum (λ h. bit (not (nobody q j h))) d
+first-by-level : (q : ℕ → Bool) (j d : ℕ)
+    → sum (λ m. bit (isStation (stationAt j m) (first q j (level m)))) (2 ^ d) ≡ sum (λ h. bit (not (nobody q j h))) d
 unfolding member width first firstPlace least level
 first-by-level q j d = sum-levels _ d ∙ (zero-add _ ∙ sum-by d (λ h l. sum-by (2 ^ h) (at h) ∙ one-first q j h))
   where
     at : (h k : ℕ) → k < 2 ^ h
-        → bit (isStation (stationAt j (2 ^ h + k)) (first q j (level (2 ^ h + k)))) ≡ bit (isStation (member j (suc h) k) (first q j (suc h)))
+        → bit (isStation (stationAt j (2 ^ h + k)) (first q j (level (2 ^ h + k))))
+        ≡ bit (isStation (member j (suc h) k) (first q j (suc h)))
     at h k l = rw (level-in h k l)
 
 -- a sum over stations and distances, by the station at the distance
@@ -108,10 +114,12 @@ sum-tested f d =
 -- each station makes one test for each distance at which it leads, of a station that passes p; with the pairs of such a station and a level
 -- whose group has nobody that passes q these are all pairs
 pub tests-and-rest : (p q : ℕ → Bool) (d : ℕ)
-    → sum (λ i. sum (λ m. bit (p (stationAt i m) && leads q i m)) (2 ^ d)) (2 ^ d) + sum (λ j. sum (λ h. bit (p j && nobody q j h)) d) (2 ^ d)
+    → sum (λ i. sum (λ m. bit (p (stationAt i m) && leads q i m)) (2 ^ d)) (2 ^ d)
+    + sum (λ j. sum (λ h. bit (p j && nobody q j h)) d) (2 ^ d)
     ≡ sum (λ j. cond (p j) d 0) (2 ^ d)
 tests-and-rest p q d =
-    ap (λ (v : ℕ). v + sum (λ j. sum (λ h. bit (p j && nobody q j h)) d) (2 ^ d)) (sum-tested (λ i j m. bit (p j && isStation i (first q j (level m)))) d)
+    ap (λ (v : ℕ). v + sum (λ j. sum (λ h. bit (p j && nobody q j h)) d) (2 ^ d))
+    (sum-tested (λ i j m. bit (p j && isStation i (first q j (level m)))) d)
     ∙ (sym (sum-add _ _ (2 ^ d)) ∙ sum-by (2 ^ d) (λ j l. by-bool (p j)
     (λ e. rw e (omega (arith, first-by-level q j d, sum-not (nobody q j) d)))
     (λ e. rw e (omega (arith, sum-zero {f = λ m. 0} (2 ^ d) (λ m l. refl), sum-zero {f = λ h. 0} d (λ h l. refl))))))

@@ -29,7 +29,8 @@ pub record Counts (n : ℕ) (t₀ : List ℕ) (cur : List Taken) (t : List ℕ) 
 
 pub counts-start : (n : ℕ) (t : List ℕ) → Counts n t [] t
 unfolding count
-counts-start n t = record { turns = λ i h. omega arith; ended = λ i h. omega arith; lastEnds = λ i h e. absurd (omega arith); tests = omega arith }
+counts-start n t =
+    record { turns = λ i h. omega arith; ended = λ i h. omega arith; lastEnds = λ i h e. absurd (omega arith); tests = omega arith }
 
 -- a taken turn keeps it
 module _ (n : ℕ) (s : State) (e : Entry) (t₀ t′ : List ℕ) (cur : List Taken) (noCrash : isCrash e ≡ false) (below : e .station < n)
@@ -80,7 +81,8 @@ module _ (n : ℕ) (s : State) (e : Entry) (t₀ t′ : List ℕ) (cur : List Ta
       (λ q.
       let more : turnsIn k here ≡ suc (turnsIn k cur) = omega (arith, rw q at (turns-of k)) in
       let none : count (finishesOf k) cur ≡ 0 = let k=i = eqb-true i k q in omega (arith, c .ended k h, rw k=i at unfinished) in
-      rw more (nth-snoc-turn k cur x (turn-of k ∙ q) ∙ by-bool b (λ p. absurd (omega (arith, rw (q, p) at (ends-of k)))) (λ p. rw (noCrash, p))))
+      rw more (nth-snoc-turn k cur x (turn-of k ∙ q)
+      ∙ by-bool b (λ p. absurd (omega (arith, rw (q, p) at (ends-of k)))) (λ p. rw (noCrash, p))))
       (λ q.
       let same : turnsIn k here ≡ turnsIn k cur = omega (arith, rw q at (turns-of k)) in
       rw same (nth-snoc-other k (turnsIn k cur) cur x (turn-of k ∙ q) ∙ c .lastEnds k h (omega (arith, rw q at (ends-of k)))))
@@ -92,7 +94,8 @@ module _ (n : ℕ) (s : State) (e : Entry) (t₀ t′ : List ℕ) (cur : List Ta
     lastEnds = last;
     tests =
         let one : bit (takenTest x) ≡ bit b = rw noCrash in
-        let mine : sum (λ k. bit (eqb i k && b)) n ≡ bit (eqb i i && b) = sum-single (λ k. bit (eqb i k && b)) n i below (λ k h p. rw (ne-eqb i k (λ q. p (sym q)))) in
+        let f : ℕ → ℕ = λ k. bit (eqb i k && b) in
+        let mine : sum f n ≡ f i = sum-single f n i below (λ k h p. rw (ne-eqb i k (λ q. p (sym q)))) in
         let whole : bit (eqb i i && b) ≡ bit b = rw (eq-eqb i i refl) in
-        omega (arith, sum-by n (λ k h. tests-of k), sum-add (testsMade n t) (λ k. bit (eqb i k && b)) n, c .tests, count-snoc takenTest cur x);
+        omega (arith, sum-by n (λ k h. tests-of k), sum-add (testsMade n t) f n, c .tests, count-snoc takenTest cur x);
   }

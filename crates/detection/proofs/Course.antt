@@ -1,7 +1,7 @@
 -- All rounds of a chain of taken entries without crashes and late replies: the table at the start of each, and what each did.
 -- Assumes nothing.
 use mathlib.Core.Path.{_≡_, refl, sym, _∙_}
-use mathlib.Core.Bool.{Bool, true, false, not, _&&_, and-true}
+use mathlib.Core.Bool.{Bool, true, false, not, and-true}
 use mathlib.Core.List.{List, [], _∷_, _++_}
 use Prim.Native.Nat.{ℕ, zero, suc, _+_, _^_, _≤_, _<_}
 use native.Mathlib.Omega.{arith}
@@ -69,9 +69,12 @@ pub record Tallied (cur : List Taken) (s : State) (r : Rounds) (s′ : State) : 
 pub exact-at : (n d : ℕ) (T t₀ : List ℕ) (r : Rounds) (end : List ℕ) (c : Course n T t₀ r end) → n ≡ 2 ^ d
     → (q : ℕ) → spread.bound d ≤ q → q ≤ length (r .closed) → Exact n (live n T) (c .start q)
 exact-at n d T t₀ r end c pow q far near i j h g l e =
-    spread.detected d (live n T) (λ q i j. (j < n) × (suspects n (c .start q) i j ≡ 1)) (length (r .closed)) rounds q far near i j (omega arith) (omega arith) l e .1
+    spread.detected d (live n T) rows (length (r .closed)) rounds q far near i j (omega arith) (omega arith) l e .1
   where
-    rounds : spread.Rounds d (live n T) (λ q i j. (j < n) × (suspects n (c .start q) i j ≡ 1)) (length (r .closed))
+    rows : ℕ → ℕ → ℕ → Type 0
+    rows q i j = (j < n) × (suspects n (c .start q) i j ≡ 1)
+
+    rounds : spread.Rounds d (live n T) rows (length (r .closed))
     rounds = record {
       grows = λ q i j a b l r. (r .0, c .steps q a .grows i j (omega arith) (r .0) (r .1));
       tested = λ q i m h a b l hd lo hu ahead.
@@ -101,9 +104,9 @@ cut-done n T t₀ cur s inv = (
 )
 
 -- one taken entry that is no crash and no late reply
-module _ (n : ℕ) (T : List ℕ) (company : Company n (live n T)) (t₀ : List ℕ) (cur : List Taken) (s : State) (e : Entry) (ok : Accepted n (s .table))
-    (takes : entryNumber n s e ≡ 0) (inv : InRound n (live n T) t₀ cur (s .table)) (noCrash : isCrash e ≡ false)
-    (inTime : isLate (record { size = n; before = s; entry = e }) ≡ false) where
+module _ (n : ℕ) (T : List ℕ) (company : Company n (live n T)) (t₀ : List ℕ) (cur : List Taken) (s : State) (e : Entry)
+    (ok : Accepted n (s .table)) (takes : entryNumber n s e ≡ 0) (inv : InRound n (live n T) t₀ cur (s .table))
+    (noCrash : isCrash e ≡ false) (inTime : isLate (record { size = n; before = s; entry = e }) ≡ false) where
   abbrev L : ℕ → Bool
   L = live n T
 
@@ -130,15 +133,16 @@ module _ (n : ℕ) (T : List ℕ) (company : Company n (live n T)) (t₀ : List 
   unfolding testedOf turnTested
   prompt m l =
       let x<n = station-below n i (nextTest n t i) (ok .size) (facts .below) (test-below n t i m) in
-      let late : (eqb (e .kind) 2 && true && true) ≡ false = rw (noCrash, m, inv .knows .plain .lives _ x<n ∙ l) at inTime in
-      omega (arith, eqb-false (e .kind) 2 (sym (and-true _) ∙ (sym (and-true _) ∙ late)), eqb-false (e .kind) 3 noCrash, facts .kindLow, facts .kindHigh)
+      let late : eqb (e .kind) 2 ≡ false = simp and-true at (rw (noCrash, m, inv .knows .plain .lives _ x<n ∙ l) at inTime) in
+      omega (arith, eqb-false (e .kind) 2 late, eqb-false (e .kind) 3 noCrash, facts .kindLow, facts .kindHigh)
 
   moved : InRound n L t₀ here t′
   unfolding acted
   moved =
       let p = inv .knows .plain in
       let isLive : L i ≡ true = sym (p .lives i (facts .below)) ∙ facts .isLive in
-      let going : finished n t i ≡ 0 = omega (arith, p .lines .1 i (facts .below) .finishedRange, facts .unfinished (eqb-false (e .kind) 3 noCrash)) in
+      let open-pass = facts .unfinished (eqb-false (e .kind) 3 noCrash) in
+      let going : finished n t i ≡ 0 = omega (arith, p .lines .1 i (facts .below) .finishedRange) in
       let heads = turn-heads n t (e .kind) i (ok .size) (p .lines) (facts .below) in
       let turned = turn-effect n L t (e .kind) i (ok .size) p company (facts .below) isLive going prompt in
       rw noCrash (record {
@@ -153,7 +157,8 @@ module _ (n : ℕ) (T : List ℕ) (company : Company n (live n T)) (t₀ : List 
 
   -- with it the round closes, or goes on
   cut-more : (xs : List Taken) (s′ : State)
-      → ((t₁ : List ℕ) (now : List Taken) → InRound n L t₁ now (after n s e .table) → CutFrom n T t₁ now (after n s e) xs s′) → CutFrom n T t₀ cur s (x ∷ xs) s′
+      → ((t₁ : List ℕ) (now : List Taken) → InRound n L t₁ now (after n s e .table) → CutFrom n T t₁ now (after n s e) xs s′)
+      → CutFrom n T t₀ cur s (x ∷ xs) s′
   unfolding cut after afterRound testsOfAll count
   cut-more xs s′ rest = by-bool (roundOver n t′) closing going
     where
@@ -164,10 +169,16 @@ module _ (n : ℕ) (T : List ℕ) (company : Company n (live n T)) (t₀ : List 
             record {
               start = λ q. elim q [ zero ↦ t₀ | suc q ↦ r .0 .start q ];
               begins = refl;
-              steps = λ q. elim q [ zero ↦ λ h. rw (r .0 .begins) (round-step n L t₀ t′ here moved over) | suc q ↦ λ h. r .0 .steps q (omega arith) ];
+              steps = λ q. elim q [
+                | zero ↦ λ h. rw (r .0 .begins) (round-step n L t₀ t′ here moved over)
+                | suc q ↦ λ h. r .0 .steps q (omega arith)
+              ];
               last = r .0 .last;
               turns = λ k. elim k [ zero ↦ λ i h. turns-ok n L t₀ t′ here moved i | suc k ↦ λ i h. r .0 .turns k i (omega arith) ];
-              counted = λ k. elim k [ zero ↦ λ h. round-count n T t₀ t′ here (size-pow n (ok .size)) moved over | suc k ↦ λ h. r .0 .counted k (omega arith) ];
+              counted = λ k. elim k [
+                | zero ↦ λ h. round-count n T t₀ t′ here (size-pow n (ok .size)) moved over
+                | suc k ↦ λ h. r .0 .counted k (omega arith)
+              ];
             },
             record {
               rounds = omega (arith, rw over at (r .1 .rounds));
@@ -194,6 +205,7 @@ unfolding all
 course n T company {s} done a b t₀ cur inv = cut-done n T t₀ cur s inv
 course n T company {s} {s′} (more {xs = xs} e ok takes chain) a b t₀ cur inv =
     let p = both (not (isCrash e)) (all (λ x. not (crashes x)) xs) a in
-    let q = both (not (isLate (record { size = n; before = s; entry = e }))) (all (λ x. not (isLate x)) xs) b in
-    cut-more n T company t₀ cur s e ok takes inv (not-true (isCrash e) (p .0)) (not-true (isLate (record { size = n; before = s; entry = e })) (q .0)) xs s′
+    let late : Bool = isLate (record { size = n; before = s; entry = e }) in
+    let q = both (not late) (all (λ x. not (isLate x)) xs) b in
+    cut-more n T company t₀ cur s e ok takes inv (not-true (isCrash e) (p .0)) (not-true late (q .0)) xs s′
     (λ t₁ now i. course n T company chain (p .1) (q .1) t₁ now i)

@@ -52,11 +52,13 @@ company-of n t two i h l = by-bool (ltb p n) found none
 
     none : ltb p n ≡ false → (j : ℕ) × (j < n) × (i ≢ j) × (live n t j ≡ true)
     none e =
-        let dead : (k : ℕ) → k < n → k ≢ i → live n t k ≡ false = λ k g ne. rw (ne-eqb k i ne) at (least-before other n 0 k (omega arith) (omega (arith, ltb-false p n e))) in
+        let dead : (k : ℕ) → k < n → k ≢ i → live n t k ≡ false = λ k g ne.
+        rw (ne-eqb k i ne) at (least-before other n 0 k (omega arith) (omega (arith, ltb-false p n e))) in
         absurd (omega (arith, sum-single (λ k. bit (live n t k)) n i h (λ k g ne. ap bit (dead k g ne)), ap bit l))
 
 -- the first table, at the start of a round
-first-round : (n : ℕ) (s : State) (calls : List Call) → Premises n s calls → Accepted n (s .table) → InRound n (live n (s .table)) (s .table) [] (s .table)
+first-round : (n : ℕ) (s : State) (calls : List Call) → Premises n s calls → Accepted n (s .table)
+    → InRound n (live n (s .table)) (s .table) [] (s .table)
 unfolding atStart noneSuspected
 first-round n s calls given ok =
     round-start n L t (record { lines = (ok .long, accepted-line n t ok); lives = λ i h. refl; trusted = trusted }) fresh
@@ -69,7 +71,8 @@ first-round n s calls given ok =
 
     trusted : (i j : ℕ) → i < n → j < n → L i ≡ true → L j ≡ true → suspects n t i j ≡ 0
     trusted i j h g a b =
-        let all : noLiveSuspicion n t i j ≡ true = every-at (noLiveSuspicion n t i) n j (every-at (λ k. every (noLiveSuspicion n t k) n) n i (given .trusted) h) g in
+        let mine = every-at (λ k. every (noLiveSuspicion n t k) n) n i (given .trusted) h in
+        let all : noLiveSuspicion n t i j ≡ true = every-at (noLiveSuspicion n t i) n j mine g in
         eqb-true (suspects n t i j) 0 (rw (a, b) at all)
 
     fresh : (i : ℕ) → i < n → Reset n t i
@@ -83,14 +86,16 @@ module _ (n : ℕ) (s : State) (calls : List Call) (given : Premises n s calls) 
   abbrev L : ℕ → Bool
   L = live n (s .table)
 
-  history : Course n (s .table) (s .table) (roundsOf s calls) (afterRuns s calls .table) × Tallied [] s (roundsOf s calls) (afterRuns s calls)
+  history : Course n (s .table) (s .table) (roundsOf s calls) (afterRuns s calls .table)
+      × Tallied [] s (roundsOf s calls) (afterRuns s calls)
   history =
-      course n (s .table) (company-of n (s .table) (given .twoLive)) (chain-all n s calls (given .long)) (given .noCrash) (given .noLate) (s .table) []
-      (first-round n s calls given ok)
+      course n (s .table) (company-of n (s .table) (given .twoLive)) (chain-all n s calls (given .long)) (given .noCrash) (given .noLate)
+      (s .table) [] (first-round n s calls given ok)
 
   -- from so many closed rounds on all rounds start exact
   exact : (q : ℕ) → bound (dimension n) ≤ q → q ≤ length (roundsOf s calls .closed) → Exact n L (history .0 .start q)
-  exact = exact-at n (dimension n) (s .table) (s .table) (roundsOf s calls) (afterRuns s calls .table) (history .0) (size-pow n (given .size))
+  exact =
+      exact-at n (dimension n) (s .table) (s .table) (roundsOf s calls) (afterRuns s calls .table) (history .0) (size-pow n (given .size))
 
   known : bound (dimension n) ≤ length (roundsOf s calls .closed)
       → (i j : ℕ) → i < n → j < n → L i ≡ true → suspects n (afterRuns s calls .table) i j ≡ bit (notLive n (s .table) j)
@@ -113,12 +118,15 @@ module _ (n : ℕ) (s : State) (calls : List Call) (given : Premises n s calls) 
   }
 
 -- no entry is taken, as in a table that they do not let through
-demand-3-none : (n : ℕ) (s : State) (calls : List Call) → isSize n ≡ true → takenAll s calls ≡ [] → afterRuns s calls ≡ s → Conclusion n s calls (afterRuns s calls)
+demand-3-none : (n : ℕ) (s : State) (calls : List Call) → isSize n ≡ true → takenAll s calls ≡ [] → afterRuns s calls ≡ s
+    → Conclusion n s calls (afterRuns s calls)
 unfolding cut count testsOfAll
 demand-3-none n s calls size none stays =
     rw stays (record {
       sameLive = λ i h. refl;
-      turns = λ k i h g l. let first : k ≡ 0 = omega (arith, closed) in rw (first, none) (omega arith, λ e. absurd (omega (arith, size-bounds n size)));
+      turns = λ k i h g l.
+          let first : k ≡ 0 = omega (arith, closed) in
+          rw (first, none) (omega arith, λ e. absurd (omega (arith, size-bounds n size)));
       known = λ far. absurd (some-level (dimension n) refl far);
       tests = λ k far h. absurd (omega (arith, closed));
       roundsTally = omega (arith, closed);

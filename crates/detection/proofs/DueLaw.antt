@@ -23,15 +23,17 @@ pub unsuspected-at : (r : List ℕ) (x : ℕ) → x < length r → unsuspected r
 unfolding unsuspected
 unsuspected-at r x h = rw (getD-within r x 1 0 h)
 
--- where all that stand ahead of i in the group of the station at distance m are suspected by i, or absent, and i does not suspect itself, m is
--- due for i
+-- m is due for i where all that stand ahead of i in the group of the station at distance m are suspected by i, or absent, and i does not
+-- suspect itself
 pub due-holds : (r : List ℕ) (i m h : ℕ) → i < length r → getD r i 0 ≡ 0 → 2 ^ h ≤ m → m < 2 ^ suc h
-    → ((k : ℕ) → 2 ^ h + k < m → bitXor (bitXor i m) (2 ^ h + k) < length r → getD r (bitXor (bitXor i m) (2 ^ h + k)) 0 ≡ 1) → due r i m ≡ true
+    → ((k : ℕ) → 2 ^ h + k < m → bitXor (bitXor i m) (2 ^ h + k) < length r → getD r (bitXor (bitXor i m) (2 ^ h + k)) 0 ≡ 1)
+    → due r i m ≡ true
 unfolding due width unsuspected
 due-holds r i m h hi own lo hu ahead =
     let e : 2 ^ h + (m - 2 ^ h) ≡ m = omega arith in
     let self : unsuspected r i ≡ true = unsuspected-at r i hi ∙ eq-eqb (getD r i 0) 0 own in
-    rw (level-is m h lo hu, first-at (unsuspected r) (bitXor i m) (suc h) (2 ^ h) refl (m - 2 ^ h) (omega arith) (rw (e, xor-undo) self) before, e, xor-undo)
+    let found = first-at (unsuspected r) (bitXor i m) (suc h) (2 ^ h) refl (m - 2 ^ h) (omega arith) (rw (e, xor-undo) self) before in
+    rw (level-is m h lo hu, found, e, xor-undo)
     (eq-eqb i i refl)
   where
     before : (k : ℕ) → k < m - 2 ^ h → unsuspected r (bitXor (bitXor i m) (2 ^ h + k)) ≡ false

@@ -37,7 +37,8 @@ Exact n L t = (i j : ℕ) → i < n → j < n → L i ≡ true → L j ≡ false
 -- what the live i has done at the distances below `reach`: at the present station at distance m, if at t₀ it suspected all ahead of it
 abbrev pub Met : ℕ → (ℕ → Bool) → List ℕ → List ℕ → ℕ → ℕ → Type 0
 Met n L t₀ t i reach =
-    (m h : ℕ) → i < n → L i ≡ true → stationAt i m < n → 2 ^ h ≤ m → m < 2 ^ suc h → m < reach → Ahead n t₀ i m h → Handed n L t₀ t i (stationAt i m)
+    (m h : ℕ) → i < n → L i ≡ true → stationAt i m < n → 2 ^ h ≤ m → m < 2 ^ suc h → m < reach → Ahead n t₀ i m h
+    → Handed n L t₀ t i (stationAt i m)
 
 -- what was handed on is there in a later table
 pub still : (n : ℕ) (L : ℕ → Bool) (t₀ t t′ : List ℕ) (i x : ℕ) → Grown n t t′ → i < n → x < n → Handed n L t₀ t i x → Handed n L t₀ t′ i x
@@ -66,13 +67,14 @@ exact-due : (n d : ℕ) (L : ℕ → Bool) (t : List ℕ) → n ≡ 2 ^ d → Pl
 unfolding due group
 exact-due n d L t pow p exact i m hi hm l = leads-same (unsuspected (row n t i)) L i m same
   where
-    same : (k : ℕ) → k < width (level m) → unsuspected (row n t i) (member (stationAt i m) (level m) k) ≡ L (member (stationAt i m) (level m) k)
+    same : (k : ℕ) → k < width (level m)
+        → unsuspected (row n t i) (member (stationAt i m) (level m) k) ≡ L (member (stationAt i m) (level m) k)
     same k h =
         let j : ℕ = stationAt i m in
         let s : ℕ = level m in
         let x : ℕ = member j s k in
-        let x<n : x < n =
-        omega (arith, members-below d j s x (xor-lt d i m (omega arith) (omega arith)) (level-le m d (omega arith)) (place-mem (member j s) (width s) x k h refl)) in
+        let low = members-below d j s x (xor-lt d i m (omega arith) (omega arith)) (level-le m d (omega arith)) in
+        let x<n : x < n = omega (arith, low (place-mem (member j s) (width s) x k h refl)) in
         unsuspected-at (row n t i) x (omega (arith, row-length n t i (p .lines .0) hi)) ∙ ap (λ (v : ℕ). eqb v 0) (row-at n t i x x<n)
         ∙ by-bool (L x) (λ e. rw (p .trusted i x hi x<n l e, e)) (λ e. rw (exact i x hi x<n l e, e))
 
@@ -98,9 +100,10 @@ module _ (n d : ℕ) (L : ℕ → Bool) (t₀ t t′ : List ℕ) (i : ℕ) (pow 
   own-counted exact =
       let high = p .lines .1 i below .nextHigh in
       let high′ = turned .plain .lines .1 i below .nextHigh in
+      let exactNow : Exact n L t = λ k j g c q e. know .grown k j g c (exact k j g c q e) in
       let dues : (a : ℕ) → a ≤ n → sum (λ m. bit (due (row n t i) i m)) a ≡ sum (λ m. bit (leads L i m)) a =
-      λ a h. sum-by a (λ m l. ap bit (exact-due n d L t pow p (λ k j g c q e. know .grown k j g c (exact k j g c q e)) i m below (omega arith) isLive)) in
-      omega (arith, heads .tests, know .counted exact i below, passed-dues n t t′ i heads high, dues (nextDistance n t i) high, dues (nextDistance n t′ i) high′)
+      λ a h. sum-by a (λ m l. ap bit (exact-due n d L t pow p exactNow i m below (omega arith) isLive)) in
+      omega (arith, heads .tests, know .counted exact i below, passed-dues n t t′ i heads high, dues _ high, dues _ high′)
 
   pub turn-knows : Knows n L t₀ t′
   turn-knows = record {
@@ -108,7 +111,11 @@ module _ (n d : ℕ) (L : ℕ → Bool) (t₀ t t′ : List ℕ) (i : ℕ) (pow 
     grown = λ k j h g s. turned .grows k j h g (know .grown k j h g s);
     met = λ k. by-cases (ℕ-discrete k i) (λ e. rw e own-met)
         (λ e m h hk l hx lo hu q ahead.
-        still n L t₀ t t′ k _ (turned .grows) hk hx (know .met k m h hk l hx lo hu (omega (arith, heads .others k nextColumn e (omega arith) (omega arith))) ahead));
+        let next = heads .others k nextColumn e (omega arith) (omega arith) in
+        still n L t₀ t t′ k _ (turned .grows) hk hx (know .met k m h hk l hx lo hu (omega arith) ahead));
     counted = λ exact k h. by-cases (ℕ-discrete k i) (λ e. rw e (own-counted exact))
-        (λ e. rw (heads .others k testsColumn e (omega arith) (omega arith), heads .others k nextColumn e (omega arith) (omega arith)) (know .counted exact k h));
+        (λ e.
+        let tests = heads .others k testsColumn e (omega arith) (omega arith) in
+        let next = heads .others k nextColumn e (omega arith) (omega arith) in
+        rw (tests, next) (know .counted exact k h));
   }

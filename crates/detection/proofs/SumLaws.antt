@@ -87,8 +87,11 @@ sum-xor f (suc d) m h =
         let halves : (a : ℕ) → sum (λ i. f (bitXor (a * 2 ^ d + i) (c * 2 ^ d + k))) (2 ^ d) ≡ half a c =
         λ a. sum-by (2 ^ d) (λ i g. ap f (xor-block d a c i k g l)) ∙ rest (λ i. f (bitXor a c * 2 ^ d + i)) k l in
         let swapped = simp (zero-mul, zero-add, one-mul) at swap in
-        omega (arith, simp (zero-mul, zero-add, e) at (halves 0), simp (one-mul, e) at (halves 1), swapped, sum-halves f d, sum-halves (λ i. f (bitXor i m)) d)
+        let low = simp (zero-mul, zero-add, e) at (halves 0) in
+        let high = simp (one-mul, e) at (halves 1) in
+        omega (arith, low, high, swapped, sum-halves f d, sum-halves (λ i. f (bitXor i m)) d)
 
 -- tests that pass and tests that fail are all
 pub sum-not : (q : ℕ → Bool) (n : ℕ) → sum (λ k. bit (q k)) n + sum (λ k. bit (not (q k))) n ≡ n
-sum-not q n = sym (sum-add (λ k. bit (q k)) (λ k. bit (not (q k))) n) ∙ (sum-by n (λ i h. bit-split true (q i)) ∙ (sum-const 1 n ∙ mul-one n))
+sum-not q n =
+    sym (sum-add (λ k. bit (q k)) (λ k. bit (not (q k))) n) ∙ (sum-by n (λ i h. bit-split true (q i)) ∙ (sum-const 1 n ∙ mul-one n))

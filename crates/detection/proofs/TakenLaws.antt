@@ -28,17 +28,21 @@ count-snoc q [] x = omega arith
 count-snoc q (y ∷ xs) x = omega (arith, count-snoc q xs x)
 
 -- a turn of i behind k turns of i is the next one
-pub nth-snoc-turn : (i : ℕ) (xs : List Taken) (x : Taken) → isTurnOf i x ≡ true → nthTurnFinishes i (suc (turnsIn i xs)) (xs ++ (x ∷ [])) ≡ finishes x
+pub nth-snoc-turn : (i : ℕ) (xs : List Taken) (x : Taken) → isTurnOf i x ≡ true
+    → nthTurnFinishes i (suc (turnsIn i xs)) (xs ++ (x ∷ [])) ≡ finishes x
 unfolding nthTurnFinishes count
 nth-snoc-turn i [] x e = rw e
 nth-snoc-turn i (y ∷ xs) x e =
     let k : ℕ = turnsIn i xs in
     by-bool (isTurnOf i y)
-    (λ b. let less : suc (1 + k) - 1 ≡ suc k = omega arith in rw (b, ne-eqb (suc (1 + k)) 1 (λ q. omega arith), less) (nth-snoc-turn i xs x e))
+    (λ b.
+    let less : suc (1 + k) - 1 ≡ suc k = omega arith in
+    rw (b, ne-eqb (suc (1 + k)) 1 (λ q. omega arith), less) (nth-snoc-turn i xs x e))
     (λ b. let same : 0 + k ≡ k = omega arith in rw (b, same) (nth-snoc-turn i xs x e))
 
 -- what is no turn of i at the end leaves the turns of i
-pub nth-snoc-other : (i k : ℕ) (xs : List Taken) (x : Taken) → isTurnOf i x ≡ false → nthTurnFinishes i k (xs ++ (x ∷ [])) ≡ nthTurnFinishes i k xs
+pub nth-snoc-other : (i k : ℕ) (xs : List Taken) (x : Taken) → isTurnOf i x ≡ false
+    → nthTurnFinishes i k (xs ++ (x ∷ [])) ≡ nthTurnFinishes i k xs
 unfolding nthTurnFinishes
 nth-snoc-other i k [] x e = rw e
 nth-snoc-other i k (y ∷ xs) x e = rw (nth-snoc-other i k xs x e, nth-snoc-other i (k - 1) xs x e)

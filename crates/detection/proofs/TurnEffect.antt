@@ -71,7 +71,8 @@ module _ (n : ℕ) (L : ℕ → Bool) (t : List ℕ) (i x : ℕ) (p : Plain n L 
   marked f =
       step t′ lines (λ k. suspect-other n t i long hi x k statusColumn (omega arith) (λ e. omega arith))
       (λ k y hk hy. by-cases (ℕ-discrete y x)
-      (λ g. by-cases (ℕ-discrete i k) (λ e. rw (← e, g) (omega (arith, now, p .lines .1 i hi .range x hx), λ a b. absurd (true≢false (sym b ∙ f))))
+      (λ g. by-cases (ℕ-discrete i k)
+      (λ e. rw (← e, g) (omega (arith, now, p .lines .1 i hi .range x hx), λ a b. absurd (true≢false (sym b ∙ f))))
       (λ e. as-before k y hk hy (λ q. absurd (e q))))
       (λ g. as-before k y hk hy (λ q. g)))
       (λ q. now, λ q. absurd (true≢false (sym q ∙ f)))
@@ -85,9 +86,11 @@ module _ (n : ℕ) (L : ℕ → Bool) (t : List ℕ) (i x : ℕ) (p : Plain n L 
       now : suspects n t′ i x ≡ 1
       now = suspect-same n t i long hi x hx
 
-      as-before : (k y : ℕ) → k < n → y < n → (i ≡ k → y ≢ x) → (suspects n t k y ≤ suspects n t′ k y) × (L k ≡ true → L y ≡ true → suspects n t′ k y ≡ 0)
+      as-before : (k y : ℕ) → k < n → y < n → (i ≡ k → y ≢ x)
+          → (suspects n t k y ≤ suspects n t′ k y) × (L k ≡ true → L y ≡ true → suspects n t′ k y ≡ 0)
       as-before k y hk hy out =
-          let e : suspects n t′ k y ≡ suspects n t k y = suspect-other n t i long hi x k (head + y) (omega arith) (λ q r. out q (omega arith)) in
+          let e : suspects n t′ k y ≡ suspects n t k y =
+          suspect-other n t i long hi x k (head + y) (omega arith) (λ q r. out q (omega arith)) in
           (omega arith, λ a b. e ∙ p .trusted k y hk hy a b)
 
   -- two live stations exchange their rows
@@ -111,7 +114,8 @@ module _ (n : ℕ) (L : ℕ → Bool) (t : List ℕ) (i x : ℕ) (p : Plain n L 
 
       -- a byte of a row grows by the bytes of the two rows at most
       between : (k y : ℕ) → y < n → Dec (i ≡ k) → Dec (x ≡ k) → Dec (y ≡ k)
-          → (suspects n t k y ≤ suspects n t′ k y) × (suspects n t′ k y ≤ max (suspects n t k y) (max (suspects n t i y) (suspects n t x y)))
+          → (suspects n t k y ≤ suspects n t′ k y)
+          × (suspects n t′ k y ≤ max (suspects n t k y) (max (suspects n t i y) (suspects n t x y)))
       between k y h (yes e) f (yes g) = rw (g, ← e) (omega (arith, exchange-tester-own n t i long hi x hx apart))
       between k y h (yes e) f (no g) = rw (← e) (omega (arith, exchange-tester n t i long hi x hx apart y h (λ q. g (q ∙ e))))
       between k y h (no e) (yes f) (yes g) = rw (g, ← f) (omega (arith, exchange-tested-own n t i long hi x hx apart))
@@ -123,7 +127,8 @@ module _ (n : ℕ) (L : ℕ → Bool) (t : List ℕ) (i x : ℕ) (p : Plain n L 
   tested : (kind : ℕ) → (L x ≡ true → kind ≡ 1) → Step (afterTest n t kind i x)
   unfolding afterTest replies isTold
   tested kind prompt =
-      by-bool (L x) (λ e. rw (p .lives x hx ∙ e, eq-eqb kind 1 (prompt e), p .trusted x i hx hi e li) (exchanged e)) (λ e. rw (p .lives x hx ∙ e) (marked e))
+      by-bool (L x) (λ e. rw (p .lives x hx ∙ e, eq-eqb kind 1 (prompt e), p .trusted x i hx hi e li) (exchanged e))
+      (λ e. rw (p .lives x hx ∙ e) (marked e))
 
 -- a turn of i: a distance that it passes and that was due was tested
 pub record Turned (n : ℕ) (L : ℕ → Bool) (t t′ : List ℕ) (i : ℕ) : Type 0 where
@@ -140,7 +145,8 @@ not-alone n L t i p company hi li =
     rw (every-not (selfOrSuspected n t i) n (o .0) (o .1) fails, and-false)
 
 -- a turn of a live station, where the reply of a live station is not late
-pub turn-effect : (n : ℕ) (L : ℕ → Bool) (t : List ℕ) (kind i : ℕ) → isSize n ≡ true → Plain n L t → Company n L → i < n → L i ≡ true → finished n t i ≡ 0
+pub turn-effect : (n : ℕ) (L : ℕ → Bool) (t : List ℕ) (kind i : ℕ) → isSize n ≡ true → Plain n L t → Company n L → i < n → L i ≡ true
+    → finished n t i ≡ 0
     → (makesTest n t i ≡ true → L (stationAt i (nextTest n t i)) ≡ true → kind ≡ 1) → Turned n L t (turn n t kind i) i
 unfolding turn testing
 turn-effect n L t kind i size p company hi li going prompt = by-bool (makesTest n t i) makes (λ e. rw e (finishes e))
@@ -150,9 +156,11 @@ turn-effect n L t kind i size p company hi li going prompt = by-bool (makesTest 
 
     finishes : makesTest n t i ≡ false → Turned n L t (finishPass n t i) i
     finishes e = record {
-      plain = same-plain n L t _ (finishPass-lines n t i (p .lines) hi) (λ k c h out. finishPass-other n t i k c h (λ _. (out .0, out .1))) p;
+      plain =
+          same-plain n L t _ (finishPass-lines n t i (p .lines) hi) (λ k c h out. finishPass-other n t i k c h (λ _. (out .0, out .1))) p;
       grows = λ k y hk hy s. finishPass-other n t i k (head + y) (omega arith) (λ _. omega arith) ∙ s;
-      passed = λ m lo below isDue. absurd (true≢false (sym isDue ∙ none-due n t i e (p .lines .1 i hi .nextHigh) m lo (omega (arith, rw e at next))));
+      passed = λ m lo below isDue.
+          absurd (true≢false (sym isDue ∙ none-due n t i e (p .lines .1 i hi .nextHigh) m lo (omega (arith, rw e at next))));
     }
 
     makes : makesTest n t i ≡ true → Turned n L t (turn n t kind i) i
@@ -161,14 +169,19 @@ turn-effect n L t kind i size p company hi li going prompt = by-bool (makesTest 
         let t₁ : List ℕ = countTest n t i m in
         let m<n = test-below n t i e in
         let low = nextTest-low n t i in
-        let plain₁ = same-plain n L t t₁ (countTest-lines n t i (p .lines) hi m (omega arith) low m<n) (λ k c h out. countTest-other n t i m k c h (λ _. (out .0, out .2))) p in
-        let rows : (k y : ℕ) → y < n → suspects n t₁ k y ≡ suspects n t k y = λ k y h. countTest-other n t i m k (head + y) (omega arith) (λ _. omega arith) in
-        let done = tested n L t₁ i (stationAt i m) plain₁ hi (station-below n i m size hi m<n) (station-apart i m (omega (arith, p .lines .1 i hi .nextLow))) li kind (prompt e) in
+        let lines₁ = countTest-lines n t i (p .lines) hi m (omega arith) low m<n in
+        let plain₁ = same-plain n L t t₁ lines₁ (λ k c h out. countTest-other n t i m k c h (λ _. (out .0, out .2))) p in
+        let rows : (k y : ℕ) → y < n → suspects n t₁ k y ≡ suspects n t k y =
+        λ k y h. countTest-other n t i m k (head + y) (omega arith) (λ _. omega arith) in
+        let apart = station-apart i m (omega (arith, p .lines .1 i hi .nextLow)) in
+        let done = tested n L t₁ i (stationAt i m) plain₁ hi (station-below n i m size hi m<n) apart li kind (prompt e) in
         let stays = not-alone n L _ i (done .0) company hi li in
         rw (e, stays) (record {
           plain = done .0;
           grows = λ k y hk hy s. done .1 k y hk hy (rows k y hy ∙ s);
           passed = λ y lo hi′ isDue. by-cases (decLt y m)
               (λ l. absurd (true≢false (sym isDue ∙ not-due-before n t i y lo l)))
-              (λ l. let same : y ≡ m = omega (arith, rw (e, stays) at next) in rw same (done .2 .0, λ q k hk s. done .2 .1 q k hk (rows i k hk ∙ s)));
+              (λ l.
+              let same : y ≡ m = omega (arith, rw (e, stays) at next) in
+              rw same (done .2 .0, λ q k hk s. done .2 .1 q k hk (rows i k hk ∙ s)));
         })

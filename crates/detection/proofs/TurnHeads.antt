@@ -27,7 +27,8 @@ SameCounts n t t′ = (length t′ ≡ length t) × ((k c : ℕ) → statusColum
 -- steps 4 to 6 leave them
 module _ (n : ℕ) (t : List ℕ) (i : ℕ) where
   left-counts : (s : ℕ) → SameCounts n t (setStatus n t i s)
-  left-counts s = (setCell-length n t i statusColumn s, λ k c lo hi. cell-other n t i statusColumn s k c (omega arith) (omega arith) (λ _. omega arith))
+  left-counts s =
+      (setCell-length n t i statusColumn s, λ k c lo hi. cell-other n t i statusColumn s k c (omega arith) (omega arith) (λ _. omega arith))
 
   alone-counts : SameCounts n t (afterAlone n t i)
   unfolding afterAlone
@@ -74,7 +75,9 @@ turn-heads n t kind i size lines h =
         record {
           others = λ k c other lo hi. same k c lo hi ∙ countTest-other n t i m k c (omega arith) (λ p. omega arith);
           next = same i nextColumn (omega arith) (omega arith) ∙ countTest-next n t i (lines .0) h m;
-          finish = same i finishedColumn (omega arith) (omega arith) ∙ countTest-other n t i m i finishedColumn (omega arith) (λ p. omega arith);
+          finish =
+              same i finishedColumn (omega arith) (omega arith)
+              ∙ countTest-other n t i m i finishedColumn (omega arith) (λ p. omega arith);
           tests = same i testsColumn (omega arith) (omega arith) ∙ countTest-tests n t i (lines .0) h m;
         }
 

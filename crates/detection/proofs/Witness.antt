@@ -1,5 +1,5 @@
--- The claim is not empty: four boards, board 3 dead, four runs, of which one is refused at its start and one at an entry. The premises hold,
--- d·d rounds close and one more, and each has the seven tests that the claim counts from the fifth on.
+-- The claim is not empty, an end in itself: four boards, board 3 dead, four runs, of which one is refused at its start and one at an entry.
+-- The premises hold, d·d rounds close and one more, and each has the seven tests that the claim counts from the fifth on.
 -- Assumes nothing.
 use mathlib.Core.Path.{_≡_, refl}
 use mathlib.Core.List.{List, [], _∷_, map}
