@@ -1,56 +1,57 @@
--- Where a round closes: the cut by entries is the round rule of the table, and what the closed round has done to the rows.
+-- Where a round closes: the cut by entries is the round rule of the table; what the closed round has done to the rows, and its tests.
 -- Assumes nothing.
-use mathlib.Core.Path.{_≡_, refl, sym, ap, ap₂, subst, _∙_}
-use mathlib.Core.Bool.{Bool, true, false, cond, not, _&&_, _||_}
-use mathlib.Core.List.{List, [], _∷_, _++_}
-use Prim.Native.Nat.{ℕ, zero, suc, _+_, _^_, _≤_, _<_}
+use mathlib.Core.Path.{_≡_, refl, sym, ap, ap₂, _∙_}
+use mathlib.Core.Bool.{Bool, true, not, _&&_, _||_}
+use mathlib.Core.List.{List, []}
+use Prim.Native.Nat.{ℕ, _+_, _-_, _^_, _≤_, _<_}
 use native.Mathlib.Omega.{arith}
 use borrow.Author.Tests.{eqb-true}
-use lib.ListN.{length}
-use lib.Bits.{bitXor, xor-lt}
 use lib.Dec.{eqb}
-use lib.Pow.{pow-mono}
 use Rattle.station.specs.Search.{every}
-use Rattle.station.specs.Table.{tableLength, head, stride, status, nextDistance, finished, testsMade, suspects, live}
+use Rattle.station.specs.Groups.{dimension}
+use Rattle.station.specs.Table.{head, statusColumn, nextDistance, finished, testsMade, live}
 use Rattle.station.specs.Rules.{notLive, someLive, finishedIfLive, liveFinished}
 use Rattle.station.proofs.SearchLaws.{both, every-at}
-use Rattle.station.proofs.CellLaws.{Line}
 use Rattle.plant.specs.Turn.{roundOver, resetLines, afterRound}
 use Rattle.plant.specs.Entry.{Entry, State, acted, after}
-use Rattle.plant.proofs.StepCells.{reset-length, reset-cells, reset-other}
+use Rattle.plant.proofs.StepCells.{Reset, reset-cells, reset-other}
+use Rattle.plant.proofs.StepLines.{reset-lines}
+use Rattle.detection.specs.Sums.{sum, bit}
 use Rattle.detection.specs.Runs.{Taken, tableAfter}
-use Rattle.detection.specs.Rounds.{any, finishesOf, finishedOrNotLive, closes}
-use Rattle.detection.proofs.Inside.{Ahead, Handed, Plain, Inside, start}
+use Rattle.detection.specs.Rounds.{any, count, finishesOf, finishedOrNotLive, closes, testsIn}
+use Rattle.detection.specs.Claim.{deadGroup, deadPairs, demandCount}
+use Rattle.detection.proofs.BoolLaws.{by-bool, choice, every-same}
+use Rattle.detection.proofs.SumLaws.{sum-by, sum-zero, sum-const}
+use Rattle.detection.proofs.TakenLaws.{any-one}
+use Rattle.detection.proofs.Count.{leads, leads-not, tests-and-rest}
+use Rattle.detection.proofs.Counting.{Counts, counts-start}
+use Rattle.detection.proofs.TurnEffect.{Plain, Grown, same-plain}
+use Rattle.detection.proofs.Knowledge.{Exact, Met, Knows, knows-start, still}
 
--- tests that agree on all numbers below n
-every-same : (q q′ : ℕ → Bool) (n : ℕ) → ((k : ℕ) → k < n → q k ≡ q′ k) → every q n ≡ every q′ n
-unfolding every
-every-same q q′ zero same = refl
-every-same q q′ (suc n) same = ap₂ _&&_ (every-same q q′ n (λ k h. same k (omega arith))) (same n (omega arith))
+-- within a round that started with t₀, after its entries `cur`
+pub record InRound (n : ℕ) (L : ℕ → Bool) (t₀ : List ℕ) (cur : List Taken) (t : List ℕ) : Type 0 where
+  pub fresh : (i : ℕ) → i < n → Reset n t₀ i
+  pub counts : Counts n t₀ cur t
+  pub knows : Knows n L t₀ t
 
--- the round rule changes no status and no row
-pub reset-status : (n : ℕ) (t : List ℕ) (i : ℕ) → status n (resetLines n t) i ≡ status n t i
-reset-status n t i = reset-other n t i 0 (omega arith) (λ e. omega arith, λ e. omega arith, λ e. omega arith)
+pub round-start : (n : ℕ) (L : ℕ → Bool) (t : List ℕ) → Plain n L t → ((i : ℕ) → i < n → Reset n t i) → InRound n L t [] t
+round-start n L t p fresh = record { fresh = fresh; counts = counts-start n t; knows = knows-start n L t p fresh }
 
-pub reset-row : (n : ℕ) (t : List ℕ) (i k : ℕ) → k < n → suspects n (resetLines n t) i k ≡ suspects n t i k
-reset-row n t i k h = reset-other n t i (head + k) (omega arith) (λ e. omega arith, λ e. omega arith, λ e. omega arith)
-
-round-status : (n : ℕ) (t : List ℕ) (i : ℕ) → status n (afterRound n t) i ≡ status n t i
-unfolding afterRound
-round-status n t i = go (roundOver n t)
-  where
-    go : (b : Bool) → status n (cond b (resetLines n t) t) i ≡ status n t i
-    go true = reset-status n t i
-    go false = refl
+-- the table after a round has closed is the start of the next
+pub restart : (n : ℕ) (L : ℕ → Bool) (t : List ℕ) → 1 ≤ n → Plain n L t → InRound n L (resetLines n t) [] (resetLines n t)
+restart n L t pos p =
+    round-start n L (resetLines n t) (same-plain n L t _ (reset-lines n t pos (p .lines)) (reset-other n t) p)
+    (reset-cells n t (p .lines .0))
 
 -- a round of entries closes exactly where the table's round does
-pub closes-is : (n d : ℕ) (L : ℕ → Bool) (t₀ : List ℕ) (here : List Taken) (s : State) (e : Entry) → Inside n d L t₀ here (acted n (s .table) e)
+pub closes-is : (n : ℕ) (L : ℕ → Bool) (t₀ : List ℕ) (here : List Taken) (s : State) (e : Entry)
+    → InRound n L t₀ here (acted n (s .table) e)
     → closes here (record { size = n; before = s; entry = e }) ≡ roundOver n (acted n (s .table) e)
-unfolding closes roundOver someLive liveFinished after
-closes-is n d L t₀ here s e inv =
+unfolding closes roundOver someLive liveFinished after afterRound
+closes-is n L t₀ here s e inv =
     ap₂ _&&_
     (ap not (every-same (notLive n (tableAfter x)) (notLive n t′) n (λ k h. ap not (alike k))))
-    (every-same (finishedOrNotLive here x) (finishedIfLive n t′) n (λ k h. ap₂ _||_ (ap not (alike k)) (inv .ended k h)))
+    (every-same (finishedOrNotLive here x) (finishedIfLive n t′) n (λ k h. ap₂ _||_ (ap not (alike k)) (ended k h)))
   where
     x : Taken
     x = record { size = n; before = s; entry = e }
@@ -59,44 +60,52 @@ closes-is n d L t₀ here s e inv =
     t′ = acted n (s .table) e
 
     alike : (k : ℕ) → live n (tableAfter x) k ≡ live n t′ k
-    alike k = ap (λ (v : ℕ). eqb v 0) (round-status n t′ k)
+    alike k =
+        choice (λ u. live n u k ≡ live n t′ k) (roundOver n t′) (rw (reset-other n t′ k statusColumn (omega arith) (omega arith))) refl
+
+    ended : (k : ℕ) → k < n → any (finishesOf k) here ≡ eqb (finished n t′ k) 1
+    ended k h =
+        let same : finished n t′ k ≡ count (finishesOf k) here = omega (arith, inv .counts .ended k h, inv .fresh k h) in
+        rw same (any-one (finishesOf k) here (omega (arith, inv .knows .plain .lines .1 k h .finishedRange)))
 
 -- what a closed round did from t₀ to t
-pub record RoundStep (n d : ℕ) (L : ℕ → Bool) (t₀ t : List ℕ) : Type 0 where
-  pub grows : (i j : ℕ) → i < n → j < n → suspects n t₀ i j ≡ 1 → suspects n t i j ≡ 1
-  pub tested : (i m h : ℕ) → i < n → L i ≡ true → h < d → 2 ^ h ≤ m → m < 2 ^ suc h → Ahead n t₀ i m h → Handed n L t₀ t i m
+pub record RoundStep (n : ℕ) (L : ℕ → Bool) (t₀ t : List ℕ) : Type 0 where
+  pub grows : Grown n t₀ t
+  pub tested : (i : ℕ) → Met n L t₀ t i n
 
 -- where the round is over every live station has finished, so its next distance is N
-module _ (n d : ℕ) (L : ℕ → Bool) (t₀ t : List ℕ) (here : List Taken) (pow : n ≡ 2 ^ d) (inv : Inside n d L t₀ here t) (over : roundOver n t ≡ true) where
-  pub all-finished : (i : ℕ) → i < n → L i ≡ true → finished n t i ≡ 1
+module _ (n : ℕ) (L : ℕ → Bool) (t₀ t : List ℕ) (here : List Taken) (inv : InRound n L t₀ here t) (over : roundOver n t ≡ true) where
+  at-end : (i : ℕ) → i < n → L i ≡ true → nextDistance n t i ≡ n
   unfolding roundOver liveFinished
-  all-finished i h l = eqb-true (finished n t i) 1 (drop-first (live n t i) (inv .plain .lives i h ∙ l) (every-at (finishedIfLive n t) n i (both (someLive n t) (every (finishedIfLive n t) n) over .1) h))
-    where
-      drop-first : (a : Bool) → a ≡ true → {b : Bool} → (not a || b) ≡ true → b ≡ true
-      drop-first true e f = f
-      drop-first false e f = cc
+  at-end i h l =
+      let all = both (someLive n t) (every (finishedIfLive n t) n) over .1 in
+      let ended : finishedIfLive n t i ≡ true = every-at (finishedIfLive n t) n i all h in
+      inv .knows .plain .lines .1 i h .finishedNext (eqb-true (finished n t i) 1 (rw (inv .knows .plain .lives i h ∙ l) at ended))
 
-  pub at-end : (i : ℕ) → i < n → L i ≡ true → nextDistance n t i ≡ n
-  at-end i h l = inv .plain .lines i h .finishedNext (all-finished i h l)
+  reset-grows : Grown n t (resetLines n t)
+  reset-grows k y hk hy s = reset-other n t k (head + y) (omega arith) (omega arith) ∙ s
 
-  pub round-step : RoundStep n d L t₀ (resetLines n t)
+  pub round-step : RoundStep n L t₀ (resetLines n t)
   round-step = record {
-    grows = λ i j h g s. reset-row n t i j g ∙ inv .grown i j h g s;
-    tested = λ i m h g l a lo hi ahead.
-        let m<n : m < n = omega (arith, pow-mono {i = suc h} {j = d} a) in
-        let w = inv .met i m h g l a lo hi (omega (arith, at-end i g l)) ahead in
-        let x<n : bitXor i m < n = omega (arith, xor-lt d i m (omega arith) (omega arith)) in
-        (λ e. reset-row n t i (bitXor i m) x<n ∙ w .0 e, λ e j c s. reset-row n t (bitXor i m) j c ∙ w .1 e j c s);
+    grows = λ i j h g s. reset-grows i j h g (inv .knows .grown i j h g s);
+    tested = λ i m h hi l hx lo hu below ahead.
+        still n L t₀ t _ i _ reset-grows hi hx (inv .knows .met i m h hi l hx lo hu (omega (arith, at-end i hi l)) ahead);
   }
 
--- the table after a round has closed is the plain start of the next
-pub restart : (n d : ℕ) (L : ℕ → Bool) (t : List ℕ) → Plain n L t → ((i : ℕ) → i < n → Line n (resetLines n t) i) → Inside n d L (resetLines n t) [] (resetLines n t)
-restart n d L t p lines = start n d L (resetLines n t) plain (λ i h. let r = reset-cells n t (p .long) i h in (r .next, r .unfinished, r .untested))
+-- the tests of a round that starts exact
+pub round-count : (n : ℕ) (T t₀ t : List ℕ) (here : List Taken) → n ≡ 2 ^ dimension n → InRound n (live n T) t₀ here t
+    → roundOver n t ≡ true
+    → Exact n (live n T) t₀ → testsIn here ≡ demandCount n T
+unfolding deadPairs deadGroup
+round-count n T t₀ t here pow inv over exact =
+    let pairs = rw (← pow) at (tests-and-rest (λ j. true) L (dimension n)) in
+    omega (arith, inv .counts .tests, sum-zero n (λ i h. inv .fresh i h .untested), sum-by n made, pairs, sum-const (dimension n) n)
   where
-    plain : Plain n L (resetLines n t)
-    plain = record {
-      long = reset-length n t ∙ p .long;
-      lines = lines;
-      lives = λ i h. ap (λ (v : ℕ). eqb v 0) (reset-status n t i) ∙ p .lives i h;
-      trusted = λ i j h g a b. reset-row n t i j g ∙ p .trusted i j h g a b;
-    }
+    L : ℕ → Bool
+    L = live n T
+
+    made : (i : ℕ) → i < n → testsMade n t i ≡ sum (λ m. bit (leads L i m)) n
+    made i h =
+        inv .knows .counted exact i h
+        ∙ by-bool (L i) (λ l. rw (at-end n L t₀ t here inv over i h l))
+        (λ l. sum-zero (nextDistance n t i) (λ m g. ap bit (leads-not L i m l)) ∙ sym (sum-zero n (λ m g. ap bit (leads-not L i m l))))

@@ -1,13 +1,11 @@
--- The count of tests: as many as pairs of a station and a level whose group has a station that passes.
+-- The count of tests: who leads a group, and as many tests as pairs of a station and a level whose group has a leader.
 -- Assumes nothing.
 use mathlib.Core.Path.{_≡_, refl, sym, _∙_, ap}
 use mathlib.Core.Logic.{_≢_}
-use mathlib.Core.Bool.{Bool, true, false, not, cond}
-use mathlib.Core.Option.{Option, none, some}
-use Prim.Native.Nat.{ℕ, suc, _+_, _*_, _-_, _<_, _^_}
+use mathlib.Core.Bool.{Bool, true, false, not, cond, _&&_, true≢false}
+use Prim.Native.Nat.{ℕ, suc, _+_, _<_, _^_}
 use native.Mathlib.Nat.{zero-add}
 use native.Mathlib.Omega.{arith}
-use lib.Bits.{bitXor}
 use lib.Dec.{ltb, eqb}
 use borrow.Author.Tests.{ltb-true, ltb-false, eq-eqb, ne-eqb}
 use Rattle.station.specs.Search.{least, every}
@@ -15,93 +13,113 @@ use Rattle.station.specs.Groups.{level, width, member, stationAt}
 use Rattle.station.specs.Tests.{firstPlace, first, isStation}
 use Rattle.station.proofs.Xor.{xor-cancel, xor-undo}
 use Rattle.station.proofs.SearchLaws.{least-passes, least-before, every-all, every-not}
-use Rattle.station.proofs.Levels.{level-in}
+use Rattle.station.proofs.Levels.{level-zero, level-in}
+use Rattle.station.proofs.DueLaws.{first-zero}
 use Rattle.detection.specs.Sums.{sum, bit}
-use Rattle.detection.proofs.SumLaws.{sum-by, sum-add, sum-const, sum-zero, sum-single, sum-swap, sum-levels, sum-xor, sum-not}
+use Rattle.detection.proofs.BoolLaws.{by-bool, least-same}
+use Rattle.detection.proofs.SumLaws.{sum-by, sum-add, sum-zero, sum-single, sum-swap, sum-levels, sum-xor, sum-not}
 
--- whether a station was found
-abbrev pub isSome : Option ℕ → Bool
-isSome none = false
-isSome (some x) = true
+-- whether i is the first station that passes q in the group, at the level of m, of the station at distance m
+abbrev pub leads : (ℕ → Bool) → ℕ → ℕ → Bool
+leads q i m = isStation i (first q (stationAt i m) (level m))
 
--- two places of a group hold different stations
-member-apart : (j s p k : ℕ) → k ≢ p → member j s p ≢ member j s k
-unfolding member
-member-apart j s p k ne e =
-    let same : width s + p ≡ width s + k = cc (xor-cancel j (width s + p), xor-cancel j (width s + k)) in
-    ne (omega arith)
+-- whether no station passes q in the group of j at level h + 1
+abbrev pub nobody : (ℕ → Bool) → ℕ → ℕ → Bool
+nobody q j h = every (λ k. not (q (member j (suc h) k))) (width (suc h))
+
+pub leads-zero : (q : ℕ → Bool) (i : ℕ) → leads q i 0 ≡ false
+leads-zero q i = rw (level-zero, first-zero)
+
+-- only the members of the group are asked
+pub leads-same : (q q′ : ℕ → Bool) (i m : ℕ)
+    → ((k : ℕ) → k < width (level m) → q (member (stationAt i m) (level m) k) ≡ q′ (member (stationAt i m) (level m) k))
+    → leads q i m ≡ leads q′ i m
+unfolding first firstPlace
+leads-same q q′ i m same =
+    let x : ℕ → ℕ = member (stationAt i m) (level m) in
+    rw (least-same (λ k. q (x k)) (λ k. q′ (x k)) (width (level m)) 0 (λ k _ l. same k (omega arith)))
+
+-- the place of the first that passes q in the group of j at level s, if any does: it is found, and else none passes
+module _ (q : ℕ → Bool) (j s : ℕ) where
+  place : ℕ
+  place = firstPlace q j s
+
+  found : ltb place (width s) ≡ true → (place < width s) × (q (member j s place) ≡ true)
+  unfolding place firstPlace
+  found e = let l = ltb-true place (width s) e in (l, least-passes (λ k. q (member j s k)) (width s) 0 (omega arith))
+
+  none-found : ltb place (width s) ≡ false → (k : ℕ) → k < width s → q (member j s k) ≡ false
+  unfolding place firstPlace
+  none-found e k l = least-before (λ k. q (member j s k)) (width s) 0 k (omega arith) (omega (arith, ltb-false place (width s) e))
+
+-- who leads passes
+pub leads-not : (q : ℕ → Bool) (i m : ℕ) → q i ≡ false → leads q i m ≡ false
+unfolding first place
+leads-not q i m fails =
+    by-bool (ltb (place q j s) (width s))
+    (λ e. rw e (ne-eqb (member j s (place q j s)) i (λ p. true≢false (sym (found q j s e .1) ∙ (ap q p ∙ fails)))))
+    (λ e. rw e)
+  where
+    j : ℕ
+    j = stationAt i m
+
+    s : ℕ
+    s = level m
 
 -- one place of a group holds its first station, if there is one
 one-first : (q : ℕ → Bool) (j h : ℕ)
-    → sum (λ k. bit (isStation (member j (suc h) k) (first q j (suc h)))) (2 ^ h) ≡ bit (isSome (first q j (suc h)))
-unfolding first width
-one-first q j h = go (ltb p (2 ^ h)) refl
-  where
-    p : ℕ
-    p = firstPlace q j (suc h)
-
-    x : ℕ → ℕ
-    x k = member j (suc h) k
-
-    found : Bool → Option ℕ
-    found b = cond b (some (x p)) none
-
-    go : (b : Bool) → ltb p (2 ^ h) ≡ b → sum (λ k. bit (isStation (x k) (found b))) (2 ^ h) ≡ bit (isSome (found b))
-    go true e =
-        sum-single (λ k. bit (eqb (x p) (x k))) (2 ^ h) p (ltb-true p (2 ^ h) e)
-        (λ k l ne. ap bit (ne-eqb (x p) (x k) (member-apart j (suc h) p k ne)))
-        ∙ ap bit (eq-eqb (x p) (x p) refl)
-    go false e = sum-zero (2 ^ h) (λ k l. refl)
-
--- over all distances from j, as many first stations as levels whose group has one
-first-by-level : (q : ℕ → Bool) (j d : ℕ)
-    → sum (λ m. bit (isStation (stationAt j m) (first q j (level m)))) (2 ^ d) ≡ sum (λ h. bit (isSome (first q j (suc h)))) d
-unfolding member width first firstPlace least level
-first-by-level q j d = sum-levels _ d ∙ (zero-add _ ∙ sum-by d (λ h l. sum-by (2 ^ h) (at h) ∙ one-first q j h))
-  where
-    at : (h k : ℕ) → k < 2 ^ h
-        → bit (isStation (stationAt j (2 ^ h + k)) (first q j (level (2 ^ h + k)))) ≡ bit (isStation (member j (suc h) k) (first q j (suc h)))
-    at h k l = rw (level-in h k l)
-
--- each station makes one test for each distance at which it is the first station of the group that passes q;
--- in all there are as many tests as pairs of a station and a level whose group has a station that passes q
-pub tests-are-pairs : (q : ℕ → Bool) (d : ℕ)
-    → sum (λ i. sum (λ m. bit (isStation i (first q (stationAt i m) (level m)))) (2 ^ d)) (2 ^ d)
-    ≡ sum (λ j. sum (λ h. bit (isSome (first q j (suc h)))) d) (2 ^ d)
-tests-are-pairs q d =
-    sum-swap (λ i m. test i (stationAt i m) m) (2 ^ d) (2 ^ d)
-    ∙ (sum-by (2 ^ d) (λ m l. sum-by (2 ^ d) (λ i li. rw (xor-undo i m)) ∙ sum-xor (λ j. test (stationAt j m) j m) d m l)
-    ∙ (sum-swap (λ m j. test (stationAt j m) j m) (2 ^ d) (2 ^ d) ∙ sum-by (2 ^ d) (λ j l. first-by-level q j d)))
-  where
-    -- whether i is the first station that passes in the group of j at the level of m
-    test : ℕ → ℕ → ℕ → ℕ
-    test i j m = bit (isStation i (first q j (level m)))
-
--- the same count as all pairs less those whose group has no station that passes q
-pub tests-are-rest : (q : ℕ → Bool) (d : ℕ)
-    → sum (λ i. sum (λ m. bit (isStation i (first q (stationAt i m) (level m)))) (2 ^ d)) (2 ^ d)
-    ≡ 2 ^ d * d - sum (λ j. sum (λ h. bit (not (isSome (first q j (suc h))))) d) (2 ^ d)
-tests-are-rest q d = omega (arith, tests-are-pairs q d, all)
-  where
-    all : sum (λ j. sum (λ h. bit (isSome (first q j (suc h)))) d) (2 ^ d)
-        + sum (λ j. sum (λ h. bit (not (isSome (first q j (suc h))))) d) (2 ^ d) ≡ 2 ^ d * d
-    all = sym (sum-add _ _ (2 ^ d)) ∙ (sum-by (2 ^ d) (λ j l. sum-not (λ h. isSome (first q j (suc h))) d) ∙ sum-const d (2 ^ d))
-
--- no station of the group passes exactly where none is found
-pub none-passes : (q : ℕ → Bool) (j h : ℕ)
-    → isSome (first q j (suc h)) ≡ not (every (λ k. not (q (member j (suc h) k))) (width (suc h)))
-unfolding first firstPlace
-none-passes q j h = go (ltb p w) refl
+    → sum (λ k. bit (isStation (member j (suc h) k) (first q j (suc h)))) (width (suc h)) ≡ bit (not (nobody q j h))
+unfolding first place member
+one-first q j h =
+    by-bool (ltb p w)
+    (λ e.
+    let f = found q j (suc h) e in
+    rw (e, every-not (λ k. not (q (x k))) w p (f .0) (ap not (f .1)))
+    (sum-single (λ k. bit (eqb (x p) (x k))) w p (f .0) (λ k l ne. ap bit (ne-eqb (x p) (x k) (apart k ne)))
+    ∙ ap bit (eq-eqb (x p) (x p) refl)))
+    (λ e. rw (e, every-all (λ k. not (q (x k))) w (λ k l. ap not (none-found q j (suc h) e k l))) (sum-zero w (λ k l. refl)))
   where
     w : ℕ
     w = width (suc h)
 
-    t : ℕ → Bool
-    t k = q (member j (suc h) k)
-
     p : ℕ
-    p = least t w 0
+    p = place q j (suc h)
 
-    go : (b : Bool) → ltb p w ≡ b → isSome (cond b (some (member j (suc h) p)) none) ≡ not (every (λ k. not (t k)) w)
-    go true e = let l = ltb-true p w e in rw (every-not (λ k. not (t k)) w p l (ap not (least-passes t w 0 (omega arith))))
-    go false e = let l = ltb-false p w e in rw (every-all (λ k. not (t k)) w (λ k lk. ap not (least-before t w 0 k (omega arith) (omega arith))))
+    x : ℕ → ℕ
+    x = member j (suc h)
+
+    -- two places of a group hold different stations
+    apart : (k : ℕ) → k ≢ p → x p ≢ x k
+    apart k ne e = let same : w + p ≡ w + k = cc (xor-cancel j (w + p), xor-cancel j (w + k)) in ne (omega arith)
+
+-- over all distances from j, as many first stations as levels whose group has one
+first-by-level : (q : ℕ → Bool) (j d : ℕ)
+    → sum (λ m. bit (isStation (stationAt j m) (first q j (level m)))) (2 ^ d) ≡ sum (λ h. bit (not (nobody q j h))) d
+unfolding member width first firstPlace least level
+first-by-level q j d = sum-levels _ d ∙ (zero-add _ ∙ sum-by d (λ h l. sum-by (2 ^ h) (at h) ∙ one-first q j h))
+  where
+    at : (h k : ℕ) → k < 2 ^ h
+        → bit (isStation (stationAt j (2 ^ h + k)) (first q j (level (2 ^ h + k))))
+        ≡ bit (isStation (member j (suc h) k) (first q j (suc h)))
+    at h k l = rw (level-in h k l)
+
+-- a sum over stations and distances, by the station at the distance
+sum-tested : (f : ℕ → ℕ → ℕ → ℕ) (d : ℕ)
+    → sum (λ i. sum (λ m. f i (stationAt i m) m) (2 ^ d)) (2 ^ d) ≡ sum (λ j. sum (λ m. f (stationAt j m) j m) (2 ^ d)) (2 ^ d)
+sum-tested f d =
+    sum-swap (λ i m. f i (stationAt i m) m) (2 ^ d) (2 ^ d)
+    ∙ (sum-by (2 ^ d) (λ m l. sum-by (2 ^ d) (λ i li. rw (xor-undo i m)) ∙ sum-xor (λ j. f (stationAt j m) j m) d m l)
+    ∙ sum-swap (λ m j. f (stationAt j m) j m) (2 ^ d) (2 ^ d))
+
+-- each station makes one test for each distance at which it leads, of a station that passes p; with the pairs of such a station and a level
+-- whose group has nobody that passes q these are all pairs
+pub tests-and-rest : (p q : ℕ → Bool) (d : ℕ)
+    → sum (λ i. sum (λ m. bit (p (stationAt i m) && leads q i m)) (2 ^ d)) (2 ^ d)
+    + sum (λ j. sum (λ h. bit (p j && nobody q j h)) d) (2 ^ d)
+    ≡ sum (λ j. cond (p j) d 0) (2 ^ d)
+tests-and-rest p q d =
+    ap (λ (v : ℕ). v + sum (λ j. sum (λ h. bit (p j && nobody q j h)) d) (2 ^ d))
+    (sum-tested (λ i j m. bit (p j && isStation i (first q j (level m)))) d)
+    ∙ (sym (sum-add _ _ (2 ^ d)) ∙ sum-by (2 ^ d) (λ j l. by-bool (p j)
+    (λ e. rw e (omega (arith, first-by-level q j d, sum-not (nobody q j) d)))
+    (λ e. rw e (omega (arith, sum-zero {f = λ m. 0} (2 ^ d) (λ m l. refl), sum-zero {f = λ h. 0} d (λ h l. refl))))))

@@ -1,6 +1,6 @@
 -- A fresh table passes refusals 1 to 4 and stands at the start of a round: an end in itself.
 -- Assumes nothing.
-use mathlib.Core.Path.{_≡_, refl, ap, _∙_}
+use mathlib.Core.Path.{_≡_, _∙_}
 use mathlib.Core.Bool.{true, cond}
 use Prim.Native.Nat.{ℕ, _+_, _%_, _≤_, _<_}
 use native.Mathlib.Nat.{mod-eq-of-lt, mul-add-mod-self-right}
@@ -22,7 +22,8 @@ use Rattle.detection.specs.Claim.{lineAtStart, atStart}
 -- "every line live, next distance 1, all else 0"
 fresh-cell : (n i c : ℕ) → i < n → c < stride n → cell n (freshTable n) i c ≡ cond (eqb c nextColumn) 1 0
 unfolding cell freshTable freshByte lineStart
-fresh-cell n i c h g = listOf-at (freshByte n) (tableLength n) (lineStart n i + c) (omega (arith, line-inside n i h)) ∙ ap (λ (k : ℕ). cond (eqb k nextColumn) 1 0) place
+fresh-cell n i c h g =
+    listOf-at (freshByte n) (tableLength n) (lineStart n i + c) (omega (arith, line-inside n i h)) ∙ rw place
   where
     place : (lineStart n i + c) % stride n ≡ c
     place = mul-add-mod-self-right i (stride n) c ∙ mod-eq-of-lt g

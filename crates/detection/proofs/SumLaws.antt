@@ -1,14 +1,15 @@
 -- Laws of sums over the numbers below a bound.
 -- Assumes nothing.
 use mathlib.Core.Path.{_≡_, refl, sym, _∙_, ap}
-use mathlib.Core.Logic.{_≢_}
-use mathlib.Core.Bool.{Bool, true, false, not}
-use Prim.Native.Nat.{ℕ, zero, suc, _+_, _*_, _-_, _<_, _^_}
+use mathlib.Core.Logic.{_≢_, by-cases}
+use mathlib.Core.Bool.{Bool, true, not}
+use Prim.Native.Nat.{ℕ, zero, suc, _+_, _*_, _-_, _≤_, _<_, _^_}
 use native.Mathlib.Nat.{add-zero, zero-add, add-comm, add-suc, mul-zero, zero-mul, one-mul, mul-one, suc-mul}
 use native.Mathlib.Decide.{decLt}
 use native.Mathlib.Omega.{arith}
 use lib.Bits.{bitXor, xor-block}
 use Rattle.detection.specs.Sums.{sum, bit}
+use Rattle.detection.proofs.BoolLaws.{bit-split}
 
 -- equal terms have equal sums
 pub sum-by : {f g : ℕ → ℕ} (n : ℕ) → ((i : ℕ) → i < n → f i ≡ g i) → sum f n ≡ sum g n
@@ -36,13 +37,9 @@ sum-zero n e = sum-by n e ∙ (sum-const 0 n ∙ mul-zero n)
 pub sum-single : (f : ℕ → ℕ) (n p : ℕ) → p < n → ((i : ℕ) → i < n → i ≢ p → f i ≡ 0) → sum f n ≡ f p
 unfolding sum
 sum-single f zero p l e = omega arith
-sum-single f (suc n) p l e = go (λ l. sum-single f n p l (λ i h. e i (omega arith))) (decLt p n)
-  where
-    go : (p < n → sum f n ≡ f p) → Dec (p < n) → sum f n + f n ≡ f p
-    go s (yes h) = omega (arith, s h, e n (omega arith) (omega arith))
-    go s (no h) =
-        let same : p ≡ n = omega arith in
-        rw same (omega (arith, sum-zero n (λ i h. e i (omega arith) (omega arith))))
+sum-single f (suc n) p l e =
+    by-cases (decLt p n) (λ h. omega (arith, sum-single f n p h (λ i g. e i (omega arith)), e n (omega arith) (omega arith)))
+    (λ h. let same : p ≡ n = omega arith in rw same (omega (arith, sum-zero n (λ i g. e i (omega arith) (omega arith)))))
 
 -- two sums, one inside the other, change places
 pub sum-swap : (f : ℕ → ℕ → ℕ) (n m : ℕ) → sum (λ i. sum (f i) m) n ≡ sum (λ k. sum (λ i. f i k) n) m
@@ -51,13 +48,19 @@ sum-swap f zero m = sym (sum-zero m (λ i h. refl))
 sum-swap f (suc n) m = rw (sum-swap f n m) (sym (sum-add (λ k. sum (λ i. f i k) n) (f n) m))
 
 -- a sum in two parts
-pub sum-split : (f : ℕ → ℕ) (a b : ℕ) → sum f (a + b) ≡ sum f a + sum (λ i. f (a + i)) b
+sum-split : (f : ℕ → ℕ) (a b : ℕ) → sum f (a + b) ≡ sum f a + sum (λ i. f (a + i)) b
 unfolding sum
 sum-split f a zero = rw (add-zero a) (omega arith)
 sum-split f a (suc b) = rw add-suc (let e = sum-split f a b in omega arith)
 
+-- a sum whose terms from a on are 0
+pub sum-stays : (f : ℕ → ℕ) (a b : ℕ) → a ≤ b → ((y : ℕ) → a ≤ y → y < b → f y ≡ 0) → sum f b ≡ sum f a
+sum-stays f a b h z =
+    let e : a + (b - a) ≡ b = omega arith in
+    omega (arith, rw e at (sum-split f a (b - a)), sum-zero {f = λ k. f (a + k)} (b - a) (λ k l. z (a + k) (omega arith) (omega arith)))
+
 -- a sum over a power of two, by halves
-pub sum-halves : (f : ℕ → ℕ) (d : ℕ) → sum f (2 ^ suc d) ≡ sum f (2 ^ d) + sum (λ i. f (2 ^ d + i)) (2 ^ d)
+sum-halves : (f : ℕ → ℕ) (d : ℕ) → sum f (2 ^ suc d) ≡ sum f (2 ^ d) + sum (λ i. f (2 ^ d + i)) (2 ^ d)
 sum-halves f d = let e : 2 ^ suc d ≡ 2 ^ d + 2 ^ d = omega arith in rw e (sum-split f (2 ^ d) (2 ^ d))
 
 -- a sum over a power of two, by the level of the index
@@ -66,51 +69,29 @@ unfolding sum
 sum-levels g zero = omega arith
 sum-levels g (suc d) = let e = sum-levels g d in sum-halves g d ∙ omega arith
 
--- the exclusive or of numbers in the lower and the upper half
-module _ (d i m : ℕ) (hi : i < 2 ^ d) (hm : m < 2 ^ d) where
-  xor-upper-lower : bitXor (2 ^ d + i) m ≡ 2 ^ d + bitXor i m
-  xor-upper-lower = simp (one-mul, zero-mul, zero-add) at (xor-block d 1 0 i m hi hm)
-
-  xor-lower-upper : bitXor i (2 ^ d + m) ≡ 2 ^ d + bitXor i m
-  xor-lower-upper = simp (one-mul, zero-mul, zero-add) at (xor-block d 0 1 i m hi hm)
-
-  xor-upper-upper : bitXor (2 ^ d + i) (2 ^ d + m) ≡ bitXor i m
-  xor-upper-upper = simp (one-mul, zero-mul, zero-add) at (xor-block d 1 1 i m hi hm)
-
--- a step of the law below, for an index in the lower and in the upper half
-module _ (f : ℕ → ℕ) (d k : ℕ) (l : k < 2 ^ d) (s : (g : ℕ → ℕ) → sum (λ i. g (bitXor i k)) (2 ^ d) ≡ sum g (2 ^ d)) where
-  halves-lower : sum (λ i. f (bitXor i k)) (2 ^ suc d) ≡ sum f (2 ^ suc d)
-  halves-lower =
-      let up = sum-by (2 ^ d) (λ i h. ap f (xor-upper-lower d i k h l)) in
-      rw (sum-halves, sum-halves f, up, s f, s (λ i. f (2 ^ d + i)))
-
-  halves-upper : sum (λ i. f (bitXor i (2 ^ d + k))) (2 ^ suc d) ≡ sum f (2 ^ suc d)
-  halves-upper =
-      let low = sum-by (2 ^ d) (λ i h. ap f (xor-lower-upper d i k h l)) in
-      let up = sum-by (2 ^ d) (λ i h. ap f (xor-upper-upper d i k h l)) in
-      rw (sum-halves, sum-halves f, low, up, s f, s (λ i. f (2 ^ d + i))) (add-comm _ _)
-
 -- a sum over all numbers below a power of two does not change when its index is exclusive-ored with one of them
 pub sum-xor : (f : ℕ → ℕ) (d m : ℕ) → m < 2 ^ d → sum (λ i. f (bitXor i m)) (2 ^ d) ≡ sum f (2 ^ d)
 unfolding sum
 sum-xor f zero m h = let e : m ≡ 0 = omega arith in rw e
-sum-xor f (suc d) m h = go (λ g. sum-xor g d) (decLt m (2 ^ d))
+sum-xor f (suc d) m h =
+    by-cases (decLt m (2 ^ d)) (λ l. at (λ g k. sum-xor g d k) 0 m l (omega arith) refl)
+    (λ l. at (λ g k. sum-xor g d k) 1 (m - 2 ^ d) (omega arith) (omega arith) (add-comm _ _))
   where
-    go : ((g : ℕ → ℕ) (k : ℕ) → k < 2 ^ d → sum (λ i. g (bitXor i k)) (2 ^ d) ≡ sum g (2 ^ d)) → Dec (m < 2 ^ d)
-        → sum (λ i. f (bitXor i m)) (2 ^ suc d) ≡ sum f (2 ^ suc d)
-    go s (yes l) = halves-lower f d m l (λ g. s g m l)
-    go s (no n) =
-        let k : ℕ = m - 2 ^ d in
-        let l : k < 2 ^ d = omega arith in
-        let e : 2 ^ d + k ≡ m = omega arith in
-        rw e at (halves-upper f d k l (λ g. s g k l))
+    -- the half of the sum with top digit a, where m has top digit c
+    half : ℕ → ℕ → ℕ
+    half a c = sum (λ i. f (bitXor a c * 2 ^ d + i)) (2 ^ d)
+
+    at : ((g : ℕ → ℕ) (k : ℕ) → k < 2 ^ d → sum (λ i. g (bitXor i k)) (2 ^ d) ≡ sum g (2 ^ d)) → (c k : ℕ) → k < 2 ^ d → c * 2 ^ d + k ≡ m
+        → half 0 c + half 1 c ≡ half 0 0 + half 1 0 → sum (λ i. f (bitXor i m)) (2 ^ suc d) ≡ sum f (2 ^ suc d)
+    at rest c k l e swap =
+        let halves : (a : ℕ) → sum (λ i. f (bitXor (a * 2 ^ d + i) (c * 2 ^ d + k))) (2 ^ d) ≡ half a c =
+        λ a. sum-by (2 ^ d) (λ i g. ap f (xor-block d a c i k g l)) ∙ rest (λ i. f (bitXor a c * 2 ^ d + i)) k l in
+        let swapped = simp (zero-mul, zero-add, one-mul) at swap in
+        let low = simp (zero-mul, zero-add, e) at (halves 0) in
+        let high = simp (one-mul, e) at (halves 1) in
+        omega (arith, low, high, swapped, sum-halves f d, sum-halves (λ i. f (bitXor i m)) d)
 
 -- tests that pass and tests that fail are all
 pub sum-not : (q : ℕ → Bool) (n : ℕ) → sum (λ k. bit (q k)) n + sum (λ k. bit (not (q k))) n ≡ n
 sum-not q n =
-    sym (sum-add (λ k. bit (q k)) (λ k. bit (not (q k))) n)
-    ∙ (sum-by n (λ i h. one (q i)) ∙ (sum-const 1 n ∙ mul-one n))
-  where
-    one : (b : Bool) → bit b + bit (not b) ≡ 1
-    one true = refl
-    one false = refl
+    sym (sum-add (λ k. bit (q k)) (λ k. bit (not (q k))) n) ∙ (sum-by n (λ i h. bit-split true (q i)) ∙ (sum-const 1 n ∙ mul-one n))

@@ -1,24 +1,25 @@
--- Laws of the lists of taken entries, and of rounds, at the end of a list.
+-- Laws of the lists of taken entries, at the end of a list.
 -- Assumes nothing.
-use mathlib.Core.Path.{_≡_, refl, sym, _∙_}
-use mathlib.Core.Bool.{Bool, true, false, cond, _&&_, _||_, or-false, or-assoc, and-assoc}
+use mathlib.Core.Path.{_≡_, refl}
+use mathlib.Core.Bool.{Bool, true, false}
 use mathlib.Core.List.{List, [], _∷_, _++_}
-use Prim.Native.Nat.{ℕ, suc, _+_, _-_, _<_}
-use native.Mathlib.Numerals.{add-one}
+use Prim.Native.Nat.{ℕ, suc, _+_, _-_, _≤_}
 use native.Mathlib.Omega.{arith}
 use borrow.Author.Tests.{ne-eqb}
 use lib.Dec.{eqb}
-use lib.ListN.{length, getD, length-append, List·getD-append}
-use lib.Seq.{getD-append-seam}
 use Rattle.detection.specs.Sums.{bit}
 use Rattle.detection.specs.Runs.{Taken, isTurnOf, finishes}
-use Rattle.detection.specs.Rounds.{any, all, count, testsIn, testsOfAll, turnsIn, nthTurnFinishes}
+use Rattle.detection.specs.Rounds.{any, count, turnsIn, nthTurnFinishes}
+use Rattle.detection.proofs.BoolLaws.{by-bool}
 
--- whether any entry of the longer list passes q
-pub some-snoc : (q : Taken → Bool) (xs : List Taken) (x : Taken) → any q (xs ++ (x ∷ [])) ≡ (any q xs || q x)
-unfolding any
-some-snoc q [] x = or-false (q x)
-some-snoc q (y ∷ xs) x = rw (some-snoc q xs x) (sym (or-assoc (q y) (any q xs) (q x)))
+-- whether any entry passes q, where at most one does
+pub any-one : (q : Taken → Bool) (xs : List Taken) → count q xs ≤ 1 → any q xs ≡ eqb (count q xs) 1
+unfolding any count
+any-one q [] h = refl
+any-one q (x ∷ xs) h =
+    by-bool (q x)
+    (λ e. let z : count q xs ≡ 0 = omega (arith, rw e at h) in rw (e, z))
+    (λ e. let z : 0 + count q xs ≡ count q xs = omega arith in rw (e, z) (any-one q xs (omega (arith, rw e at h))))
 
 -- how many entries of the longer list pass q
 pub count-snoc : (q : Taken → Bool) (xs : List Taken) (x : Taken) → count q (xs ++ (x ∷ [])) ≡ count q xs + bit (q x)
@@ -26,46 +27,22 @@ unfolding count
 count-snoc q [] x = omega arith
 count-snoc q (y ∷ xs) x = omega (arith, count-snoc q xs x)
 
--- whether all entries of two lists pass q
-pub all-append : (q : Taken → Bool) (xs ys : List Taken) → all q (xs ++ ys) ≡ (all q xs && all q ys)
-unfolding all
-all-append q [] ys = refl
-all-append q (x ∷ xs) ys = rw (all-append q xs ys) (sym (and-assoc (q x) (all q xs) (all q ys)))
-
 -- a turn of i behind k turns of i is the next one
-pub nth-snoc-turn : (i : ℕ) (xs : List Taken) (x : Taken) → isTurnOf i x ≡ true → nthTurnFinishes i (suc (turnsIn i xs)) (xs ++ (x ∷ [])) ≡ finishes x
+pub nth-snoc-turn : (i : ℕ) (xs : List Taken) (x : Taken) → isTurnOf i x ≡ true
+    → nthTurnFinishes i (suc (turnsIn i xs)) (xs ++ (x ∷ [])) ≡ finishes x
 unfolding nthTurnFinishes count
 nth-snoc-turn i [] x e = rw e
-nth-snoc-turn i (y ∷ xs) x e = go (isTurnOf i y) (nth-snoc-turn i xs x e)
-  where
-    k : ℕ
-    k = turnsIn i xs
-
-    go : (b : Bool) → nthTurnFinishes i (suc k) (xs ++ (x ∷ [])) ≡ finishes x
-        → cond b (cond (eqb (suc (bit b + k)) 1) (finishes y) (nthTurnFinishes i (suc (bit b + k) - 1) (xs ++ (x ∷ [])))) (nthTurnFinishes i (suc (bit b + k)) (xs ++ (x ∷ []))) ≡ finishes x
-    go true rest =
-        let more : suc (1 + k) - 1 ≡ suc k = omega arith in
-        rw (ne-eqb (suc (1 + k)) 1 (λ q. omega arith), more) rest
-    go false rest = let e : 0 + k ≡ k = omega arith in rw e rest
+nth-snoc-turn i (y ∷ xs) x e =
+    let k : ℕ = turnsIn i xs in
+    by-bool (isTurnOf i y)
+    (λ b.
+    let less : suc (1 + k) - 1 ≡ suc k = omega arith in
+    rw (b, ne-eqb (suc (1 + k)) 1 (λ q. omega arith), less) (nth-snoc-turn i xs x e))
+    (λ b. let same : 0 + k ≡ k = omega arith in rw (b, same) (nth-snoc-turn i xs x e))
 
 -- what is no turn of i at the end leaves the turns of i
-pub nth-snoc-other : (i k : ℕ) (xs : List Taken) (x : Taken) → isTurnOf i x ≡ false → nthTurnFinishes i k (xs ++ (x ∷ [])) ≡ nthTurnFinishes i k xs
+pub nth-snoc-other : (i k : ℕ) (xs : List Taken) (x : Taken) → isTurnOf i x ≡ false
+    → nthTurnFinishes i k (xs ++ (x ∷ [])) ≡ nthTurnFinishes i k xs
 unfolding nthTurnFinishes
 nth-snoc-other i k [] x e = rw e
 nth-snoc-other i k (y ∷ xs) x e = rw (nth-snoc-other i k xs x e, nth-snoc-other i (k - 1) xs x e)
-
--- the tests of one round more
-pub tests-snoc : (rs : List (List Taken)) (r : List Taken) → testsOfAll (rs ++ (r ∷ [])) ≡ testsOfAll rs + testsIn r
-unfolding testsOfAll
-tests-snoc [] r = omega arith
-tests-snoc (s ∷ rs) r = omega (arith, tests-snoc rs r)
-
--- the last round, and those before it
-pub getD-snoc-last : (rs : List (List Taken)) (r : List Taken) → getD (rs ++ (r ∷ [])) (length rs) [] ≡ r
-getD-snoc-last rs r = getD-append-seam rs r [] []
-
-pub getD-snoc-before : (rs : List (List Taken)) (r : List Taken) (k : ℕ) → k < length rs → getD (rs ++ (r ∷ [])) k [] ≡ getD rs k []
-getD-snoc-before rs r k h = List·getD-append rs (r ∷ []) [] k h
-
-pub length-snoc : (rs : List (List Taken)) (r : List Taken) → length (rs ++ (r ∷ [])) ≡ suc (length rs)
-length-snoc rs r = length-append rs (r ∷ []) ∙ add-one (length rs)

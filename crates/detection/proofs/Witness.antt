@@ -1,9 +1,9 @@
--- The claim is not empty: four boards, board 3 dead, four runs, of which one is refused at its start and one at an entry. The premises hold,
--- d·d rounds close and one more, and each has the seven tests that the claim counts from the fifth on.
+-- The claim is not empty, an end in itself: four boards, board 3 dead, four runs, of which one is refused at its start and one at an entry.
+-- The premises hold, d·d rounds close and one more, and each has the seven tests that the claim counts from the fifth on.
 -- Assumes nothing.
 use mathlib.Core.Path.{_≡_, refl}
 use mathlib.Core.List.{List, [], _∷_, map}
-use Prim.Native.Nat.{ℕ, _-_, _*_}
+use Prim.Native.Nat.{ℕ, _*_}
 use native.Mathlib.Omega.{arith}
 use lib.ListN.{length, replicate}
 use Rattle.station.specs.Search.{least, every, listOf}
@@ -18,7 +18,7 @@ use Rattle.plant.specs.Turn.{nextTest, makesTest, finishPass, countTest, replie
 use Rattle.plant.specs.Entry.{State, entryNumber, acted, after, testedOf, outcomeOf, sheetLine}
 use Rattle.plant.specs.Run.{entries, writeLine, goOn, startNumber, run}
 use Rattle.detection.specs.Sums.{sum}
-use Rattle.detection.specs.Runs.{Call, Taken, afterRuns, takenFrom, takenIn, takenAll}
+use Rattle.detection.specs.Runs.{Call, afterRuns, takenFrom, takenIn, takenAll}
 use Rattle.detection.specs.Rounds.{any, all, count, closes, cut, testsIn}
 use Rattle.detection.specs.Claim.{atStart, liveCount, noneSuspected, deadGroup, deadPairs, demandCount, roundsOf, Premises}
 
@@ -31,8 +31,8 @@ unfoldable pub turnsOf : List ℕ → List ℕ
 turnsOf [] = []
 turnsOf (i ∷ is) = 1 ∷ i ∷ turnsOf is
 
-abbrev pub callOf : ℕ → List ℕ → Call
-callOf n schedule = record { size = n; schedule = schedule; sheet = replicate (2 * length schedule) 0 }
+abbrev pub callWith : ℕ → List ℕ → Call
+callWith n schedule = record { size = n; schedule = schedule; sheet = replicate (2 * length schedule) 0 }
 
 -- the turns of one round: two tests each of 0 and 1, three of 2, and one turn of each that finishes
 abbrev pub onePass : List ℕ → List ℕ
@@ -41,10 +41,10 @@ onePass rest = 0 ∷ 1 ∷ 2 ∷ 0 ∷ 1 ∷ 2 ∷ 2 ∷ 0 ∷ 1 ∷ 2 ∷ rest
 -- the second run has another size, and the third a kind that is none, so its last entries are not reached
 unfoldable pub calls : List Call
 calls =
-    callOf 4 (turnsOf (onePass (0 ∷ 1 ∷ [])))
-    ∷ callOf 8 (turnsOf (0 ∷ 1 ∷ []))
-    ∷ callOf 4 (1 ∷ 2 ∷ 9 ∷ 0 ∷ 1 ∷ 0 ∷ [])
-    ∷ callOf 4 (turnsOf (0 ∷ 1 ∷ 2 ∷ 2 ∷ 0 ∷ 1 ∷ 2 ∷ onePass (onePass (onePass (2 ∷ [])))))
+    callWith 4 (turnsOf (onePass (0 ∷ 1 ∷ [])))
+    ∷ callWith 8 (turnsOf (0 ∷ 1 ∷ []))
+    ∷ callWith 4 (1 ∷ 2 ∷ 9 ∷ 0 ∷ 1 ∷ 0 ∷ [])
+    ∷ callWith 4 (turnsOf (0 ∷ 1 ∷ 2 ∷ 2 ∷ 0 ∷ 1 ∷ 2 ∷ onePass (onePass (onePass (2 ∷ [])))))
     ∷ []
 
 -- the premises, the tests of the closed rounds, those of the open one, and the count of the claim

@@ -1,0 +1,101 @@
+-- What bytes 2 and 3 of the lines count: turns and tests since a round's start, or since any table within it. Nobody is trusted here.
+-- Assumes nothing.
+use mathlib.Core.Path.{_≡_, refl, sym, _∙_}
+use mathlib.Core.Logic.{by-cases}
+use mathlib.Core.Bool.{Bool, true, false, not, _&&_}
+use mathlib.Core.List.{List, [], _∷_, _++_}
+use Prim.Native.Nat.{ℕ, suc, _+_, _≤_, _<_}
+use native.Mathlib.Decide.{ℕ-discrete}
+use native.Mathlib.Omega.{arith}
+use borrow.Author.Tests.{eq-eqb, ne-eqb, eqb-true}
+use lib.Dec.{eqb}
+use Rattle.station.specs.Table.{finishedColumn, testsColumn, finished, testsMade}
+use Rattle.plant.specs.Turn.{makesTest}
+use Rattle.plant.specs.Entry.{Entry, State, isCrash}
+use Rattle.detection.specs.Sums.{sum, bit}
+use Rattle.detection.specs.Runs.{Taken, isTurnOf, takenTest}
+use Rattle.detection.specs.Rounds.{count, finishesOf, testsIn, turnsIn, nthTurnFinishes}
+use Rattle.detection.proofs.BoolLaws.{by-bool, bit-split}
+use Rattle.detection.proofs.SumLaws.{sum-by, sum-add, sum-single}
+use Rattle.detection.proofs.TakenLaws.{count-snoc, nth-snoc-turn, nth-snoc-other}
+use Rattle.detection.proofs.TurnHeads.{Heads}
+
+-- from t₀ to t, by the entries `cur`
+pub record Counts (n : ℕ) (t₀ : List ℕ) (cur : List Taken) (t : List ℕ) : Type 0 where
+  pub turns : (i : ℕ) → i < n → testsMade n t i + finished n t i ≡ testsMade n t₀ i + finished n t₀ i + turnsIn i cur
+  pub ended : (i : ℕ) → i < n → finished n t i ≡ finished n t₀ i + count (finishesOf i) cur
+  pub lastEnds : (i : ℕ) → i < n → 1 ≤ count (finishesOf i) cur → nthTurnFinishes i (turnsIn i cur) cur ≡ true
+  pub tests : sum (testsMade n t) n ≡ sum (testsMade n t₀) n + testsIn cur
+
+pub counts-start : (n : ℕ) (t : List ℕ) → Counts n t [] t
+unfolding count
+counts-start n t =
+    record { turns = λ i h. omega arith; ended = λ i h. omega arith; lastEnds = λ i h e. absurd (omega arith); tests = omega arith }
+
+-- a taken turn keeps it
+module _ (n : ℕ) (s : State) (e : Entry) (t₀ t′ : List ℕ) (cur : List Taken) (noCrash : isCrash e ≡ false) (below : e .station < n)
+    (unfinished : finished n (s .table) (e .station) ≡ 0) (heads : Heads n (s .table) t′ (e .station) (makesTest n (s .table) (e .station)))
+    (c : Counts n t₀ cur (s .table)) where
+  abbrev t : List ℕ
+  t = s .table
+
+  abbrev i : ℕ
+  i = e .station
+
+  abbrev b : Bool
+  b = makesTest n t i
+
+  abbrev x : Taken
+  x = record { size = n; before = s; entry = e }
+
+  abbrev here : List Taken
+  here = cur ++ (x ∷ [])
+
+  -- bytes 2 and 3 of any line
+  tests-of : (k : ℕ) → testsMade n t′ k ≡ testsMade n t k + bit (eqb i k && b)
+  tests-of k =
+      by-cases (ℕ-discrete k i) (λ p. rw (p, eq-eqb i i refl) (heads .tests))
+      (λ p. rw (ne-eqb i k (λ q. p (sym q))) (omega (arith, heads .others k testsColumn p (omega arith) (omega arith))))
+
+  finish-of : (k : ℕ) → finished n t′ k ≡ finished n t k + bit (eqb i k && not b)
+  finish-of k =
+      by-cases (ℕ-discrete k i) (λ p. rw (p, eq-eqb i i refl, heads .finish, unfinished) (by-bool b (λ q. rw q) (λ q. rw q)))
+      (λ p. rw (ne-eqb i k (λ q. p (sym q))) (omega (arith, heads .others k finishedColumn p (omega arith) (omega arith))))
+
+  -- what the entry counts
+  turn-of : (k : ℕ) → isTurnOf k x ≡ eqb i k
+  turn-of k = rw noCrash
+
+  end-of : (k : ℕ) → finishesOf k x ≡ (eqb i k && not b)
+  end-of k = rw noCrash
+
+  turns-of : (k : ℕ) → turnsIn k here ≡ turnsIn k cur + bit (eqb i k)
+  turns-of k = count-snoc (isTurnOf k) cur x ∙ rw (turn-of k)
+
+  ends-of : (k : ℕ) → count (finishesOf k) here ≡ count (finishesOf k) cur + bit (eqb i k && not b)
+  ends-of k = count-snoc (finishesOf k) cur x ∙ rw (end-of k)
+
+  last : (k : ℕ) → k < n → 1 ≤ count (finishesOf k) here → nthTurnFinishes k (turnsIn k here) here ≡ true
+  last k h some =
+      by-bool (eqb i k)
+      (λ q.
+      let more : turnsIn k here ≡ suc (turnsIn k cur) = omega (arith, rw q at (turns-of k)) in
+      let none : count (finishesOf k) cur ≡ 0 = let k=i = eqb-true i k q in omega (arith, c .ended k h, rw k=i at unfinished) in
+      rw more (nth-snoc-turn k cur x (turn-of k ∙ q)
+      ∙ by-bool b (λ p. absurd (omega (arith, rw (q, p) at (ends-of k)))) (λ p. rw (noCrash, p))))
+      (λ q.
+      let same : turnsIn k here ≡ turnsIn k cur = omega (arith, rw q at (turns-of k)) in
+      rw same (nth-snoc-other k (turnsIn k cur) cur x (turn-of k ∙ q) ∙ c .lastEnds k h (omega (arith, rw q at (ends-of k)))))
+
+  pub turn-counts : Counts n t₀ here t′
+  turn-counts = record {
+    turns = λ k h. omega (arith, c .turns k h, tests-of k, finish-of k, bit-split (eqb i k) b, turns-of k);
+    ended = λ k h. omega (arith, c .ended k h, finish-of k, ends-of k);
+    lastEnds = last;
+    tests =
+        let one : bit (takenTest x) ≡ bit b = rw noCrash in
+        let f : ℕ → ℕ = λ k. bit (eqb i k && b) in
+        let mine : sum f n ≡ f i = sum-single f n i below (λ k h p. rw (ne-eqb i k (λ q. p (sym q)))) in
+        let whole : bit (eqb i i && b) ≡ bit b = rw (eq-eqb i i refl) in
+        omega (arith, sum-by n (λ k h. tests-of k), sum-add (testsMade n t) f n, c .tests, count-snoc takenTest cur x);
+  }

@@ -1,0 +1,211 @@
+-- All rounds of a chain of taken entries without crashes and late replies: the table at the start of each, and what each did.
+-- Assumes nothing.
+use mathlib.Core.Path.{_≡_, refl, sym, _∙_}
+use mathlib.Core.Bool.{Bool, true, false, not, and-true}
+use mathlib.Core.List.{List, [], _∷_, _++_}
+use Prim.Native.Nat.{ℕ, zero, suc, _+_, _^_, _≤_, _<_}
+use native.Mathlib.Omega.{arith}
+use borrow.Author.Tests.{eqb-false, not-true}
+use lib.ListN.{length, getD}
+use lib.Bits.{xor-lt}
+use lib.Pow.{pow-mono}
+use lib.Dec.{eqb}
+use Rattle.station.specs.Groups.{stationAt, dimension}
+use Rattle.station.specs.Table.{finished, testsMade, suspects, live}
+use Rattle.station.proofs.SearchLaws.{both}
+use Rattle.station.proofs.Refusals.{Accepted}
+use Rattle.station.proofs.Sizes.{size-pow, size-bounds}
+use Rattle.plant.specs.Turn.{makesTest, nextTest, turnTested, roundOver, resetLines, afterRound}
+use Rattle.plant.specs.Entry.{Entry, State, isCrash, entryNumber, acted, after, testedOf}
+use Rattle.plant.proofs.Kept.{Takes, entry-facts}
+use Rattle.plant.proofs.StepLines.{station-below}
+use Rattle.plant.proofs.NextTest.{test-below}
+use Rattle.detection.specs.Sums.{bit}
+use Rattle.detection.specs.Runs.{Taken, takenTest, crashes, isLate}
+use Rattle.detection.specs.Rounds.{all, count, Rounds, cut, turnsIn, nthTurnFinishes, testsIn, testsOfAll}
+use Rattle.detection.specs.Claim.{demandCount, allRounds}
+use Rattle.detection.proofs.BoolLaws.{by-bool}
+use Rattle.detection.proofs.TakenLaws.{count-snoc}
+use Rattle.detection.proofs.Spread as spread
+use Rattle.detection.proofs.Chain.{Chain, done, more}
+use Rattle.detection.proofs.Counting.{turn-counts}
+use Rattle.detection.proofs.TurnHeads.{turn-heads}
+use Rattle.detection.proofs.TurnEffect.{Company, turn-effect}
+use Rattle.detection.proofs.Knowledge.{Exact, Knows, turn-knows}
+use Rattle.detection.proofs.Closing.{InRound, restart, closes-is, RoundStep, round-step, round-count}
+
+-- a round in which station i has at most n turns, the nth of which finished its pass
+abbrev TurnsOk : ℕ → ℕ → List Taken → Type 0
+TurnsOk n i round = (turnsIn i round ≤ n) × (n ≤ turnsIn i round → nthTurnFinishes i n round ≡ true)
+
+turns-ok : (n : ℕ) (L : ℕ → Bool) (t₀ t : List ℕ) (cur : List Taken) → InRound n L t₀ cur t → (i : ℕ) → i < n → TurnsOk n i cur
+turns-ok n L t₀ t cur inv i h =
+    let c = inv .counts in
+    let line = inv .knows .plain .lines .1 i h in
+    let spent : finished n t i + testsMade n t i ≡ turnsIn i cur = omega (arith, c .turns i h, inv .fresh i h) in (
+      omega arith,
+      λ e.
+          let all : turnsIn i cur ≡ n = omega arith in
+          rw all at (c .lastEnds i h (omega (arith, c .ended i h, inv .fresh i h))),
+    )
+
+-- the rounds r from the one that starts with t₀ on, to the table `end`; T has the live set
+pub record Course (n : ℕ) (T t₀ : List ℕ) (r : Rounds) (end : List ℕ) : Type 0 where
+  -- the table at the start of each round
+  pub start : ℕ → List ℕ
+  pub begins : start 0 ≡ t₀
+  pub steps : (q : ℕ) → q < length (r .closed) → RoundStep n (live n T) (start q) (start (suc q))
+  pub last : Knows n (live n T) (start (length (r .closed))) end
+  pub turns : (k i : ℕ) → k ≤ length (r .closed) → i < n → TurnsOk n i (getD (allRounds r) k [])
+  -- a closed round that starts exact has the count of tests
+  pub counted : (k : ℕ) → k < length (r .closed) → Exact n (live n T) (start k) → testsIn (getD (r .closed) k []) ≡ demandCount n T
+
+-- the tally s′ at the end, from the tally s at which the open round had the entries `cur`
+pub record Tallied (cur : List Taken) (s : State) (r : Rounds) (s′ : State) : Type 0 where
+  pub rounds : s′ .rounds ≡ s .rounds + length (r .closed)
+  pub tests : s′ .tests + testsIn cur ≡ s .tests + testsOfAll (allRounds r)
+
+-- after enough closed rounds the rows at a round's start are exact
+pub exact-at : (n d : ℕ) (T t₀ : List ℕ) (r : Rounds) (end : List ℕ) (c : Course n T t₀ r end) → n ≡ 2 ^ d
+    → (q : ℕ) → spread.bound d ≤ q → q ≤ length (r .closed) → Exact n (live n T) (c .start q)
+exact-at n d T t₀ r end c pow q far near i j h g l e =
+    spread.detected d (live n T) rows (length (r .closed)) rounds q far near i j (omega arith) (omega arith) l e .1
+  where
+    rows : ℕ → ℕ → ℕ → Type 0
+    rows q i j = (j < n) × (suspects n (c .start q) i j ≡ 1)
+
+    rounds : spread.Rounds d (live n T) rows (length (r .closed))
+    rounds = record {
+      grows = λ q i j a b l r. (r .0, c .steps q a .grows i j (omega arith) (r .0) (r .1));
+      tested = λ q i m h a b l hd lo hu ahead.
+          let m<n : m < n = omega (arith, pow-mono {i = suc h} {j = d} hd) in
+          let x<n : stationAt i m < n = omega (arith, xor-lt d i m b (omega arith)) in
+          let w = c .steps q a .tested i m h (omega arith) l x<n lo hu m<n (λ k v y. ahead k v .1) in
+          (λ e. (x<n, w .0 e), λ e j r. (r .0, w .1 e j (r .0) (r .1)));
+    }
+
+-- the entries xs from s to s′, behind the entries `cur` of the round that started with t₀
+abbrev CutFrom : ℕ → List ℕ → List ℕ → List Taken → State → List Taken → State → Type 0
+CutFrom n T t₀ cur s xs s′ = Course n T t₀ (cut cur xs) (s′ .table) × Tallied cur s (cut cur xs) s′
+
+-- no entry more
+cut-done : (n : ℕ) (T t₀ : List ℕ) (cur : List Taken) (s : State) → InRound n (live n T) t₀ cur (s .table) → CutFrom n T t₀ cur s [] s
+unfolding cut testsOfAll
+cut-done n T t₀ cur s inv = (
+  record {
+    start = λ q. t₀;
+    begins = refl;
+    steps = λ q h. absurd (omega arith);
+    last = inv .knows;
+    turns = λ k i h. let e : k ≡ 0 = omega arith in rw e (turns-ok n (live n T) t₀ (s .table) cur inv i);
+    counted = λ k h. absurd (omega arith);
+  },
+  omega arith,
+)
+
+-- one taken entry that is no crash and no late reply
+module _ (n : ℕ) (T : List ℕ) (company : Company n (live n T)) (t₀ : List ℕ) (cur : List Taken) (s : State) (e : Entry)
+    (ok : Accepted n (s .table)) (takes : entryNumber n s e ≡ 0) (inv : InRound n (live n T) t₀ cur (s .table))
+    (noCrash : isCrash e ≡ false) (inTime : isLate (record { size = n; before = s; entry = e }) ≡ false) where
+  abbrev L : ℕ → Bool
+  L = live n T
+
+  abbrev t : List ℕ
+  t = s .table
+
+  abbrev i : ℕ
+  i = e .station
+
+  abbrev t′ : List ℕ
+  t′ = acted n t e
+
+  abbrev x : Taken
+  x = record { size = n; before = s; entry = e }
+
+  abbrev here : List Taken
+  here = cur ++ (x ∷ [])
+
+  facts : Takes n s e
+  facts = entry-facts n s e takes
+
+  -- the reply of a live station
+  prompt : makesTest n t i ≡ true → L (stationAt i (nextTest n t i)) ≡ true → e .kind ≡ 1
+  unfolding testedOf turnTested
+  prompt m l =
+      let x<n = station-below n i (nextTest n t i) (ok .size) (facts .below) (test-below n t i m) in
+      let late : eqb (e .kind) 2 ≡ false = simp and-true at (rw (noCrash, m, inv .knows .plain .lives _ x<n ∙ l) at inTime) in
+      omega (arith, eqb-false (e .kind) 2 late, eqb-false (e .kind) 3 noCrash, facts .kindLow, facts .kindHigh)
+
+  moved : InRound n L t₀ here t′
+  unfolding acted
+  moved =
+      let p = inv .knows .plain in
+      let isLive : L i ≡ true = sym (p .lives i (facts .below)) ∙ facts .isLive in
+      let open-pass = facts .unfinished (eqb-false (e .kind) 3 noCrash) in
+      let going : finished n t i ≡ 0 = omega (arith, p .lines .1 i (facts .below) .finishedRange) in
+      let heads = turn-heads n t (e .kind) i (ok .size) (p .lines) (facts .below) in
+      let turned = turn-effect n L t (e .kind) i (ok .size) p company (facts .below) isLive going prompt in
+      rw noCrash (record {
+        fresh = inv .fresh;
+        counts = turn-counts n s e t₀ _ cur noCrash (facts .below) going heads (inv .counts);
+        knows = turn-knows n (dimension n) L t₀ t _ i (size-pow n (ok .size)) (inv .knows) turned heads (facts .below) isLive;
+      })
+
+  tests-after : after n s e .tests ≡ s .tests + bit (takenTest x)
+  unfolding after
+  tests-after = by-bool (takenTest x) (λ q. rw q) (λ q. rw q (omega arith))
+
+  -- with it the round closes, or goes on
+  cut-more : (xs : List Taken) (s′ : State)
+      → ((t₁ : List ℕ) (now : List Taken) → InRound n L t₁ now (after n s e .table) → CutFrom n T t₁ now (after n s e) xs s′)
+      → CutFrom n T t₀ cur s (x ∷ xs) s′
+  unfolding cut after afterRound testsOfAll count
+  cut-more xs s′ rest = by-bool (roundOver n t′) closing going
+    where
+      closing : roundOver n t′ ≡ true → CutFrom n T t₀ cur s (x ∷ xs) s′
+      closing over =
+          let r = rest (resetLines n t′) [] (rw over (restart n L t′ (omega (arith, size-bounds n (ok .size))) (moved .knows .plain))) in
+          rw (closes-is n L t₀ here s e moved ∙ over) (
+            record {
+              start = λ q. elim q [ zero ↦ t₀ | suc q ↦ r .0 .start q ];
+              begins = refl;
+              steps = λ q. elim q [
+                | zero ↦ λ h. rw (r .0 .begins) (round-step n L t₀ t′ here moved over)
+                | suc q ↦ λ h. r .0 .steps q (omega arith)
+              ];
+              last = r .0 .last;
+              turns = λ k. elim k [ zero ↦ λ i h. turns-ok n L t₀ t′ here moved i | suc k ↦ λ i h. r .0 .turns k i (omega arith) ];
+              counted = λ k. elim k [
+                | zero ↦ λ h. round-count n T t₀ t′ here (size-pow n (ok .size)) moved over
+                | suc k ↦ λ h. r .0 .counted k (omega arith)
+              ];
+            },
+            record {
+              rounds = omega (arith, rw over at (r .1 .rounds));
+              tests = omega (arith, r .1 .tests, tests-after, count-snoc takenTest cur x);
+            },
+          )
+
+      going : roundOver n t′ ≡ false → CutFrom n T t₀ cur s (x ∷ xs) s′
+      going over =
+          let r = rest t₀ here (rw over moved) in
+          rw (closes-is n L t₀ here s e moved ∙ over) (
+            r .0,
+            record {
+              rounds = rw over at (r .1 .rounds);
+              tests = omega (arith, r .1 .tests, tests-after, count-snoc takenTest cur x);
+            },
+          )
+
+-- a chain, cut into rounds
+pub course : (n : ℕ) (T : List ℕ) → Company n (live n T) → {s s′ : State} {xs : List Taken} → Chain n s xs s′
+    → all (λ x. not (crashes x)) xs ≡ true → all (λ x. not (isLate x)) xs ≡ true
+    → (t₀ : List ℕ) (cur : List Taken) → InRound n (live n T) t₀ cur (s .table) → CutFrom n T t₀ cur s xs s′
+unfolding all
+course n T company {s} done a b t₀ cur inv = cut-done n T t₀ cur s inv
+course n T company {s} {s′} (more {xs = xs} e ok takes chain) a b t₀ cur inv =
+    let p = both (not (isCrash e)) (all (λ x. not (crashes x)) xs) a in
+    let late : Bool = isLate (record { size = n; before = s; entry = e }) in
+    let q = both (not late) (all (λ x. not (isLate x)) xs) b in
+    cut-more n T company t₀ cur s e ok takes inv (not-true (isCrash e) (p .0)) (not-true late (q .0)) xs s′
+    (λ t₁ now i. course n T company chain (p .1) (q .1) t₁ now i)

@@ -1,0 +1,96 @@
+-- What every turn of any station in an accepted table does to bytes 1 to 3 of the lines, whoever suspects whom and whatever its outcome.
+-- Assumes nothing.
+use mathlib.Core.Path.{_≡_, refl, _∙_, ap}
+use mathlib.Core.Logic.{_≢_}
+use mathlib.Core.Bool.{Bool, true, cond}
+use mathlib.Core.List.{List}
+use Prim.Native.Nat.{ℕ, _+_, _≤_, _<_}
+use native.Mathlib.Numerals.{add-one}
+use native.Mathlib.Omega.{arith}
+use lib.ListN.{length}
+use Rattle.station.specs.Groups.{isSize, stationAt}
+use Rattle.station.specs.Table.{head, tableLength, cell, statusColumn, nextColumn, finishedColumn, testsColumn, nextDistance, finished, testsMade, row}
+use Rattle.station.specs.Tests.{due}
+use Rattle.station.proofs.CellLaws.{cell-other, setCell-length}
+use Rattle.plant.specs.Turn.{setStatus, nextTest, makesTest, countTest, replies, isTold, afterTest, isAlone, afterAlone, testing, turn}
+use Rattle.plant.proofs.NextTest.{nextTest-low, not-due-before, test-below, test-due, none-due}
+use Rattle.plant.proofs.StepCells.{finishPass-other, finishPass-next, finishPass-finished, countTest-length, countTest-other, countTest-next, countTest-tests, suspect-length, suspect-other, exchange-length, exchange-other}
+use Rattle.plant.proofs.StepLines.{Lines, station-apart, station-below}
+use Rattle.detection.specs.Sums.{sum, bit}
+use Rattle.detection.proofs.BoolLaws.{by-bool, choice}
+use Rattle.detection.proofs.SumLaws.{sum-stays}
+
+-- bytes 1 to 3 of all lines are as before
+abbrev SameCounts : ℕ → List ℕ → List ℕ → Type 0
+SameCounts n t t′ = (length t′ ≡ length t) × ((k c : ℕ) → statusColumn < c → c < head → cell n t′ k c ≡ cell n t k c)
+
+-- steps 4 to 6 leave them
+module _ (n : ℕ) (t : List ℕ) (i : ℕ) where
+  left-counts : (s : ℕ) → SameCounts n t (setStatus n t i s)
+  left-counts s =
+      (setCell-length n t i statusColumn s, λ k c lo hi. cell-other n t i statusColumn s k c (omega arith) (omega arith) (λ _. omega arith))
+
+  alone-counts : SameCounts n t (afterAlone n t i)
+  unfolding afterAlone
+  alone-counts = choice (SameCounts n t) (isAlone n t i) (left-counts 3) (refl, λ k c lo hi. refl)
+
+  test-counts : (kind j : ℕ) → length t ≡ tableLength n → i < n → j < n → i ≢ j → SameCounts n t (afterTest n t kind i j)
+  unfolding afterTest
+  test-counts kind j long hi hj apart =
+      choice (SameCounts n t) (replies n t kind j)
+      (choice (SameCounts n t) (isTold n t i j) (left-counts 2)
+      (exchange-length n t i long hi j hj apart, λ k c lo h. exchange-other n t i long hi j hj apart k c (omega arith) (λ _. h) (λ _. h)))
+      (suspect-length n t i long hi j, λ k c lo h. suspect-other n t i long hi j k c (omega arith) (λ _. omega arith))
+
+-- what a turn of i does to them, where b says whether it makes a test
+pub record Heads (n : ℕ) (t t′ : List ℕ) (i : ℕ) (b : Bool) : Type 0 where
+  pub others : (k c : ℕ) → k ≢ i → statusColumn < c → c < head → cell n t′ k c ≡ cell n t k c
+  pub next : nextDistance n t′ i ≡ cond b (nextTest n t i + 1) n
+  pub finish : finished n t′ i ≡ cond b (finished n t i) 1
+  pub tests : testsMade n t′ i ≡ testsMade n t i + bit b
+
+pub turn-heads : (n : ℕ) (t : List ℕ) (kind i : ℕ) → isSize n ≡ true → Lines n t → i < n → Heads n t (turn n t kind i) i (makesTest n t i)
+unfolding turn testing
+turn-heads n t kind i size lines h =
+    by-bool (makesTest n t i) (λ e. rw e (makes e)) (λ e. rw e (record {
+      others = λ k c other lo hi. finishPass-other n t i k c (omega arith) (λ p. omega arith);
+      next = finishPass-next n t i (lines .0) h;
+      finish = finishPass-finished n t i (lines .0) h;
+      tests = omega (arith, finishPass-other n t i i testsColumn (omega arith) (λ p. omega arith));
+    }))
+  where
+    m : ℕ
+    m = nextTest n t i
+
+    t₁ : List ℕ
+    t₁ = countTest n t i m
+
+    makes : makesTest n t i ≡ true → Heads n t (testing n t kind i m) i true
+    makes e =
+        let x<n = station-below n i m size h (test-below n t i e) in
+        let apart = station-apart i m (omega (arith, lines .1 i h .nextLow, nextTest-low n t i)) in
+        let same : (k c : ℕ) → statusColumn < c → c < head → cell n (testing n t kind i m) k c ≡ cell n t₁ k c =
+        λ k c lo hi. alone-counts n (afterTest n t₁ kind i (stationAt i m)) i .1 k c lo hi
+        ∙ test-counts n t₁ i kind (stationAt i m) (countTest-length n t i m ∙ lines .0) h x<n apart .1 k c lo hi in
+        record {
+          others = λ k c other lo hi. same k c lo hi ∙ countTest-other n t i m k c (omega arith) (λ p. omega arith);
+          next = same i nextColumn (omega arith) (omega arith) ∙ countTest-next n t i (lines .0) h m;
+          finish =
+              same i finishedColumn (omega arith) (omega arith)
+              ∙ countTest-other n t i m i finishedColumn (omega arith) (λ p. omega arith);
+          tests = same i testsColumn (omega arith) (omega arith) ∙ countTest-tests n t i (lines .0) h m;
+        }
+
+-- of the distances that a turn passes one is due if it makes a test, and none if it makes none
+module _ (n : ℕ) (t t′ : List ℕ) (i : ℕ) (heads : Heads n t t′ i (makesTest n t i)) (high : nextDistance n t i ≤ n) where
+  abbrev dues : ℕ → ℕ
+  dues m = bit (due (row n t i) i m)
+
+  pub passed-dues : sum dues (nextDistance n t′ i) ≡ sum dues (nextDistance n t i) + bit (makesTest n t i)
+  unfolding sum
+  passed-dues =
+      by-bool (makesTest n t i)
+      (λ e.
+      let stay = sum-stays dues (nextDistance n t i) (nextTest n t i) (nextTest-low n t i) (λ y a b. ap bit (not-due-before n t i y a b)) in
+      rw (heads .next, e, add-one (nextTest n t i)) (omega (arith, stay, ap bit (test-due n t i e))))
+      (λ e. rw (heads .next, e) (omega (arith, sum-stays dues (nextDistance n t i) n high (λ y a b. ap bit (none-due n t i e high y a b)))))
