@@ -66,7 +66,7 @@ closes-is n L t₀ here s e inv =
     ended : (k : ℕ) → k < n → any (finishesOf k) here ≡ eqb (finished n t′ k) 1
     ended k h =
         let same : finished n t′ k ≡ count (finishesOf k) here = omega (arith, inv .counts .ended k h, inv .fresh k h) in
-        rw same (any-one (finishesOf k) here (omega (arith, inv .knows .plain .lines .1 k h .finishedRange)))
+        rw same (any-one (finishesOf k) here (omega (arith, inv .knows .plain .lines .1 k h .pass .finishedRange)))
 
 -- what a closed round did from t₀ to t
 pub record RoundStep (n : ℕ) (L : ℕ → Bool) (t₀ t : List ℕ) : Type 0 where
@@ -80,7 +80,7 @@ module _ (n : ℕ) (L : ℕ → Bool) (t₀ t : List ℕ) (here : List Taken) (i
   at-end i h l =
       let all = both (someLive n t) (every (finishedIfLive n t) n) over .1 in
       let ended : finishedIfLive n t i ≡ true = every-at (finishedIfLive n t) n i all h in
-      inv .knows .plain .lines .1 i h .finishedNext (eqb-true (finished n t i) 1 (rw (inv .knows .plain .lives i h ∙ l) at ended))
+      inv .knows .plain .lines .1 i h .pass .finishedNext (eqb-true (finished n t i) 1 (rw (inv .knows .plain .lives i h ∙ l) at ended))
 
   reset-grows : Grown n t (resetLines n t)
   reset-grows k y hk hy s = reset-other n t k (head + y) (omega arith) (omega arith) ∙ s

@@ -142,7 +142,7 @@ module _ (n : ℕ) (T : List ℕ) (company : Company n (live n T)) (t₀ : List 
       let p = inv .knows .plain in
       let isLive : L i ≡ true = sym (p .lives i (facts .below)) ∙ facts .isLive in
       let open-pass = facts .unfinished (eqb-false (e .kind) 3 noCrash) in
-      let going : finished n t i ≡ 0 = omega (arith, p .lines .1 i (facts .below) .finishedRange) in
+      let going : finished n t i ≡ 0 = omega (arith, p .lines .1 i (facts .below) .pass .finishedRange) in
       let heads = turn-heads n t (e .kind) i (ok .size) (p .lines) (facts .below) in
       let turned = turn-effect n L t (e .kind) i (ok .size) p company (facts .below) isLive going prompt in
       rw noCrash (record {

@@ -8,7 +8,7 @@ use native.Mathlib.Omega.{arith}
 use borrow.Author.Tests.{ne-eqb}
 use lib.Dec.{eqb}
 use Rattle.station.specs.Groups.{isSize}
-use Rattle.station.specs.Table.{head, stride, tableLength, lineStart, cell, nextColumn, suspects}
+use Rattle.station.specs.Table.{head, stride, tableLength, lineStart, cell, statusColumn, nextColumn, finishedColumn, testsColumn, suspects}
 use Rattle.station.specs.Rules.{lineRules, tableNumber}
 use Rattle.station.specs.Calls.{freshByte, freshTable}
 use Rattle.station.proofs.SearchLaws.{every-all, listOf-length, listOf-at}
@@ -30,12 +30,9 @@ fresh-cell n i c h g =
 
 fresh-line : (n i : ℕ) → 2 ≤ n → i < n → Line n (freshTable n) i
 fresh-line n i h g = record {
-  statusRange = omega (arith, fresh-cell n i 0 g (omega arith));
-  nextLow = omega (arith, fresh-cell n i 1 g (omega arith));
-  nextHigh = omega (arith, fresh-cell n i 1 g (omega arith));
-  finishedRange = omega (arith, fresh-cell n i 2 g (omega arith));
-  testsBound = omega (arith, fresh-cell n i 3 g (omega arith));
-  finishedNext = λ e. absurd (omega (arith, fresh-cell n i 2 g (omega arith)));
+  statusRange = omega (arith, fresh-cell n i statusColumn g (omega arith));
+  pass = rw (fresh-cell n i nextColumn g (omega arith), fresh-cell n i finishedColumn g (omega arith), fresh-cell n i testsColumn g (omega arith))
+      (record { nextLow = omega arith; nextHigh = omega arith; finishedRange = omega arith; testsBound = omega arith; finishedNext = λ e. absurd (omega arith) });
   own = row i g;
   range = λ k l. omega (arith, row k l);
 }
@@ -51,12 +48,12 @@ fresh-start n e = (accepted-number n (freshTable n) accepted, every-all (lineAtS
     low = size-bounds n e .0
 
     at-start : (i : ℕ) → i < n → lineAtStart n (freshTable n) i ≡ true
-    at-start i h = rw (fresh-cell n i 1 h (omega arith), fresh-cell n i 2 h (omega arith), fresh-cell n i 3 h (omega arith))
+    at-start i h = rw (fresh-cell n i nextColumn h (omega arith), fresh-cell n i finishedColumn h (omega arith), fresh-cell n i testsColumn h (omega arith))
 
     accepted : Accepted n (freshTable n)
     accepted = record {
       size = e;
       long = listOf-length (freshByte n) (tableLength n);
       lines = every-all (lineRules n (freshTable n)) n (λ i h. line-holds n (freshTable n) i (fresh-line n i low h));
-      unclosed = unfinished-open n (freshTable n) (λ i h. fresh-cell n i 2 h (omega arith));
+      unclosed = unfinished-open n (freshTable n) (λ i h. fresh-cell n i finishedColumn h (omega arith));
     }

@@ -98,8 +98,8 @@ module _ (n d : ℕ) (L : ℕ → Bool) (t₀ t t′ : List ℕ) (i : ℕ) (pow 
   -- in an exact round: t is exact as t₀ was
   own-counted : Exact n L t₀ → testsMade n t′ i ≡ sum (λ m. bit (leads L i m)) (nextDistance n t′ i)
   own-counted exact =
-      let high = p .lines .1 i below .nextHigh in
-      let high′ = turned .plain .lines .1 i below .nextHigh in
+      let high = p .lines .1 i below .pass .nextHigh in
+      let high′ = turned .plain .lines .1 i below .pass .nextHigh in
       let exactNow : Exact n L t = λ k j g c q e. know .grown k j g c (exact k j g c q e) in
       let dues : (a : ℕ) → a ≤ n → sum (λ m. bit (due (row n t i) i m)) a ≡ sum (λ m. bit (leads L i m)) a =
       λ a h. sum-by a (λ m l. ap bit (exact-due n d L t pow p exactNow i m below (omega arith) isLive)) in

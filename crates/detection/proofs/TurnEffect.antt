@@ -13,7 +13,7 @@ use Rattle.station.specs.Groups.{isSize, stationAt}
 use Rattle.station.specs.Table.{head, stride, tableLength, cell, statusColumn, nextColumn, finishedColumn, testsColumn, status, nextDistance, finished, suspects, live, row}
 use Rattle.station.specs.Tests.{due}
 use Rattle.station.proofs.SearchLaws.{every-not}
-use Rattle.plant.specs.Turn.{nextTest, makesTest, finishPass, countTest, replies, isTold, exchangeRows, suspect, afterTest, selfOrSuspected, isAlone, afterAlone, testing, turn}
+use Rattle.plant.specs.Turn.{nextTest, makesTest, finishPass, countTest, replies, isTold, exchangeRows, suspect, testOutcome, afterOutcome, afterTest, selfOrSuspected, isAlone, afterAlone, testing, turn}
 use Rattle.plant.proofs.StepCells.{finishPass-other, countTest-other, suspect-same, suspect-other, exchange-other, exchange-tester, exchange-tested, exchange-tester-own, exchange-tested-own}
 use Rattle.plant.proofs.StepLines.{Lines, finishPass-lines, countTest-lines, suspect-lines, exchange-lines, station-apart, station-below}
 use Rattle.plant.proofs.NextTest.{nextTest-low, not-due-before, test-below, none-due}
@@ -125,7 +125,7 @@ module _ (n : ℕ) (L : ℕ → Bool) (t : List ℕ) (i x : ℕ) (p : Plain n L 
 
   -- the reply of a live station is not late
   tested : (kind : ℕ) → (L x ≡ true → kind ≡ 1) → Step (afterTest n t kind i x)
-  unfolding afterTest replies isTold
+  unfolding afterOutcome testOutcome replies isTold
   tested kind prompt =
       by-bool (L x) (λ e. rw (p .lives x hx ∙ e, eq-eqb kind 1 (prompt e), p .trusted x i hx hi e li) (exchanged e))
       (λ e. rw (p .lives x hx ∙ e) (marked e))
@@ -160,7 +160,7 @@ turn-effect n L t kind i size p company hi li going prompt = by-bool (makesTest 
           same-plain n L t _ (finishPass-lines n t i (p .lines) hi) (λ k c h out. finishPass-other n t i k c h (λ _. (out .0, out .1))) p;
       grows = λ k y hk hy s. finishPass-other n t i k (head + y) (omega arith) (λ _. omega arith) ∙ s;
       passed = λ m lo below isDue.
-          absurd (true≢false (sym isDue ∙ none-due n t i e (p .lines .1 i hi .nextHigh) m lo (omega (arith, rw e at next))));
+          absurd (true≢false (sym isDue ∙ none-due n t i e (p .lines .1 i hi .pass .nextHigh) m lo (omega (arith, rw e at next))));
     }
 
     makes : makesTest n t i ≡ true → Turned n L t (turn n t kind i) i
@@ -173,7 +173,7 @@ turn-effect n L t kind i size p company hi li going prompt = by-bool (makesTest 
         let plain₁ = same-plain n L t t₁ lines₁ (λ k c h out. countTest-other n t i m k c h (λ _. (out .0, out .2))) p in
         let rows : (k y : ℕ) → y < n → suspects n t₁ k y ≡ suspects n t k y =
         λ k y h. countTest-other n t i m k (head + y) (omega arith) (λ _. omega arith) in
-        let apart = station-apart i m (omega (arith, p .lines .1 i hi .nextLow)) in
+        let apart = station-apart i m (omega (arith, p .lines .1 i hi .pass .nextLow)) in
         let done = tested n L t₁ i (stationAt i m) plain₁ hi (station-below n i m size hi m<n) apart li kind (prompt e) in
         let stays = not-alone n L _ i (done .0) company hi li in
         rw (e, stays) (record {

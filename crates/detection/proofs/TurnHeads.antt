@@ -8,11 +8,12 @@ use Prim.Native.Nat.{ℕ, _+_, _≤_, _<_}
 use native.Mathlib.Numerals.{add-one}
 use native.Mathlib.Omega.{arith}
 use lib.ListN.{length}
-use Rattle.station.specs.Groups.{isSize, stationAt}
+use lib.Dec.{eqb}
+use Rattle.station.specs.Groups.{isSize, distances, stationAt}
 use Rattle.station.specs.Table.{head, tableLength, cell, statusColumn, nextColumn, finishedColumn, testsColumn, nextDistance, finished, testsMade, row}
 use Rattle.station.specs.Tests.{due}
 use Rattle.station.proofs.CellLaws.{cell-other, setCell-length}
-use Rattle.plant.specs.Turn.{setStatus, nextTest, makesTest, countTest, replies, isTold, afterTest, isAlone, afterAlone, testing, turn}
+use Rattle.plant.specs.Turn.{outcomeExchanged, outcomeTold, setStatus, nextTest, makesTest, countTest, testOutcome, afterOutcome, afterTest, isAlone, afterAlone, testing, turn}
 use Rattle.plant.proofs.NextTest.{nextTest-low, not-due-before, test-below, test-due, none-due}
 use Rattle.plant.proofs.StepCells.{finishPass-other, finishPass-next, finishPass-finished, countTest-length, countTest-other, countTest-next, countTest-tests, suspect-length, suspect-other, exchange-length, exchange-other}
 use Rattle.plant.proofs.StepLines.{Lines, station-apart, station-below}
@@ -35,17 +36,17 @@ module _ (n : ℕ) (t : List ℕ) (i : ℕ) where
   alone-counts = choice (SameCounts n t) (isAlone n t i) (left-counts 3) (refl, λ k c lo hi. refl)
 
   test-counts : (kind j : ℕ) → length t ≡ tableLength n → i < n → j < n → i ≢ j → SameCounts n t (afterTest n t kind i j)
-  unfolding afterTest
+  unfolding afterOutcome
   test-counts kind j long hi hj apart =
-      choice (SameCounts n t) (replies n t kind j)
-      (choice (SameCounts n t) (isTold n t i j) (left-counts 2)
-      (exchange-length n t i long hi j hj apart, λ k c lo h. exchange-other n t i long hi j hj apart k c (omega arith) (λ _. h) (λ _. h)))
-      (suspect-length n t i long hi j, λ k c lo h. suspect-other n t i long hi j k c (omega arith) (λ _. omega arith))
+      choice (SameCounts n t) (eqb (testOutcome n t kind i j) outcomeTold) (left-counts 2)
+      (choice (SameCounts n t) (eqb (testOutcome n t kind i j) outcomeExchanged)
+      (exchange-length n t i long hi j hj apart, λ k c lo h. exchange-other n t i long hi j hj apart k c (omega arith) (λ _. h) (λ _. h))
+      (suspect-length n t i long hi j, λ k c lo h. suspect-other n t i long hi j k c (omega arith) (λ _. omega arith)))
 
 -- what a turn of i does to them, where b says whether it makes a test
 pub record Heads (n : ℕ) (t t′ : List ℕ) (i : ℕ) (b : Bool) : Type 0 where
   pub others : (k c : ℕ) → k ≢ i → statusColumn < c → c < head → cell n t′ k c ≡ cell n t k c
-  pub next : nextDistance n t′ i ≡ cond b (nextTest n t i + 1) n
+  pub next : nextDistance n t′ i ≡ cond b (nextTest n t i + 1) (distances n)
   pub finish : finished n t′ i ≡ cond b (finished n t i) 1
   pub tests : testsMade n t′ i ≡ testsMade n t i + bit b
 
@@ -68,7 +69,7 @@ turn-heads n t kind i size lines h =
     makes : makesTest n t i ≡ true → Heads n t (testing n t kind i m) i true
     makes e =
         let x<n = station-below n i m size h (test-below n t i e) in
-        let apart = station-apart i m (omega (arith, lines .1 i h .nextLow, nextTest-low n t i)) in
+        let apart = station-apart i m (omega (arith, lines .1 i h .pass .nextLow, nextTest-low n t i)) in
         let same : (k c : ℕ) → statusColumn < c → c < head → cell n (testing n t kind i m) k c ≡ cell n t₁ k c =
         λ k c lo hi. alone-counts n (afterTest n t₁ kind i (stationAt i m)) i .1 k c lo hi
         ∙ test-counts n t₁ i kind (stationAt i m) (countTest-length n t i m ∙ lines .0) h x<n apart .1 k c lo hi in
