@@ -1,5 +1,5 @@
-// Bytes and rows of a table that are known to lie inside it: no test of the place is made. These functions have a `requires`: they are `pub`
-// only for the crate above, which has checked the table.
+// Bytes and rows of a table that are known to lie inside it: no test of the place is made, so these functions have a `requires`. What is
+// `pub` here is so only for the crate above, which has checked the table.
 ghost use mathlib.Core.Path.{_≡_};
 ghost use Prim.Native.Nat.{_<_};
 ghost use lib.ListN.{length};
@@ -17,7 +17,7 @@ pub fn get(n: u8, table: &[u8], i: Station, c: u16) -> u8
 }
 
 // The row of line i, as that part of the table.
-pub fn row(n: u8, table: &[u8], i: Station) -> &[u8]
+pub(crate) fn row(n: u8, table: &[u8], i: Station) -> &[u8]
     requires { ⌜ (length (now table) ≡ tableLength n) × (i .0 < n) ⌝ }
     ensures { λ r. ⌜ now r ≡ row n (now (table .entry)) (i .0) ⌝ }
     ensures { λ r. ⌜ length (now r) ≡ n ⌝ }
