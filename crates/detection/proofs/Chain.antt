@@ -15,7 +15,7 @@ use Rattle.plant.specs.Entry.{Entry, State, entryNumber, after, sheetLine}
 use Rattle.plant.specs.Run.{entries, writeLine, goOn, startNumber, run}
 use Rattle.plant.proofs.Kept.{accepted-kept}
 use Rattle.detection.specs.Runs.{Call, Taken, afterRun, afterRuns, takenFrom, takenIn, takenAll}
-use Rattle.detection.proofs.BoolLaws.{by-bool}
+use Rattle.station.proofs.BoolLaws.{by-bool}
 
 -- entries taken one behind the other at size n, from a state to a state
 pub data Chain (n : ℕ) : State → List Taken → State → Type 0 where

@@ -16,12 +16,12 @@ use Rattle.plant.specs.Turn.{roundOver, resetLines, afterRound}
 use Rattle.plant.specs.Entry.{Entry, State, acted, after}
 use Rattle.plant.proofs.StepCells.{Reset, reset-cells, reset-other}
 use Rattle.plant.proofs.StepLines.{reset-lines}
-use Rattle.detection.specs.Sums.{sum, bit}
+use Rattle.station.specs.Sums.{sum, bit}
 use Rattle.detection.specs.Runs.{Taken, tableAfter}
 use Rattle.detection.specs.Rounds.{any, count, finishesOf, finishedOrNotLive, closes, testsIn}
 use Rattle.detection.specs.Claim.{deadGroup, deadPairs, demandCount}
-use Rattle.detection.proofs.BoolLaws.{by-bool, choice, every-same}
-use Rattle.detection.proofs.SumLaws.{sum-by, sum-zero, sum-const}
+use Rattle.station.proofs.BoolLaws.{by-bool, choice, every-same}
+use Rattle.station.proofs.SumLaws.{sum-by, sum-zero, sum-const}
 use Rattle.detection.proofs.TakenLaws.{any-one}
 use Rattle.detection.proofs.Count.{leads, leads-not, tests-and-rest}
 use Rattle.detection.proofs.Counting.{Counts, counts-start}

@@ -15,9 +15,9 @@ use Rattle.station.proofs.Xor.{xor-cancel, xor-undo}
 use Rattle.station.proofs.SearchLaws.{least-passes, least-before, every-all, every-not}
 use Rattle.station.proofs.Levels.{level-zero, level-in}
 use Rattle.station.proofs.DueLaws.{first-zero}
-use Rattle.detection.specs.Sums.{sum, bit}
-use Rattle.detection.proofs.BoolLaws.{by-bool, least-same}
-use Rattle.detection.proofs.SumLaws.{sum-by, sum-add, sum-zero, sum-single, sum-swap, sum-levels, sum-xor, sum-not}
+use Rattle.station.specs.Sums.{sum, bit}
+use Rattle.station.proofs.BoolLaws.{by-bool, least-same}
+use Rattle.station.proofs.SumLaws.{sum-by, sum-add, sum-zero, sum-single, sum-swap, sum-levels, sum-xor, sum-not}
 
 -- whether i is the first station that passes q in the group, at the level of m, of the station at distance m
 abbrev pub leads : (ℕ → Bool) → ℕ → ℕ → Bool

@@ -12,11 +12,11 @@ use lib.Dec.{eqb}
 use Rattle.station.specs.Table.{finishedColumn, testsColumn, finished, testsMade}
 use Rattle.plant.specs.Turn.{makesTest}
 use Rattle.plant.specs.Entry.{Entry, State, isCrash}
-use Rattle.detection.specs.Sums.{sum, bit}
+use Rattle.station.specs.Sums.{sum, bit}
 use Rattle.detection.specs.Runs.{Taken, isTurnOf, takenTest}
 use Rattle.detection.specs.Rounds.{count, finishesOf, testsIn, turnsIn, nthTurnFinishes}
-use Rattle.detection.proofs.BoolLaws.{by-bool, bit-split}
-use Rattle.detection.proofs.SumLaws.{sum-by, sum-add, sum-single}
+use Rattle.station.proofs.BoolLaws.{by-bool, bit-split}
+use Rattle.station.proofs.SumLaws.{sum-by, sum-add, sum-single}
 use Rattle.detection.proofs.TakenLaws.{count-snoc, nth-snoc-turn, nth-snoc-other}
 use Rattle.detection.proofs.TurnHeads.{Heads}
 

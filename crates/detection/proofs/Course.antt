@@ -20,11 +20,11 @@ use Rattle.plant.specs.Entry.{Entry, State, isCrash, entryNumber, acted, after,
 use Rattle.plant.proofs.Kept.{Takes, entry-facts}
 use Rattle.plant.proofs.StepLines.{station-below}
 use Rattle.plant.proofs.NextTest.{test-below}
-use Rattle.detection.specs.Sums.{bit}
+use Rattle.station.specs.Sums.{bit}
 use Rattle.detection.specs.Runs.{Taken, takenTest, crashes, isLate}
 use Rattle.detection.specs.Rounds.{all, count, Rounds, cut, turnsIn, nthTurnFinishes, testsIn, testsOfAll}
 use Rattle.detection.specs.Claim.{demandCount, allRounds}
-use Rattle.detection.proofs.BoolLaws.{by-bool}
+use Rattle.station.proofs.BoolLaws.{by-bool}
 use Rattle.detection.proofs.TakenLaws.{count-snoc}
 use Rattle.detection.proofs.Spread as spread
 use Rattle.detection.proofs.Chain.{Chain, done, more}

@@ -20,12 +20,12 @@ use Rattle.station.proofs.CellLaws.{accepted-line}
 use Rattle.station.proofs.Sizes.{size-pow, size-bounds}
 use Rattle.plant.specs.Entry.{State}
 use Rattle.plant.proofs.StepCells.{Reset}
-use Rattle.detection.specs.Sums.{bit}
+use Rattle.station.specs.Sums.{bit}
 use Rattle.detection.specs.Runs.{Call, takenAll, afterRun, afterRuns}
 use Rattle.detection.specs.Rounds.{count, cut, testsOfAll}
 use Rattle.detection.specs.Claim.{lineAtStart, atStart, liveCount, noLiveSuspicion, noneSuspected, roundsOf, Premises, Conclusion, Demand3, Demand3After}
-use Rattle.detection.proofs.BoolLaws.{by-bool}
-use Rattle.detection.proofs.SumLaws.{sum-single}
+use Rattle.station.proofs.BoolLaws.{by-bool}
+use Rattle.station.proofs.SumLaws.{sum-single}
 use Rattle.detection.proofs.Spread.{bound, bound-le-square}
 use Rattle.detection.proofs.Chain.{chain-all, chain-first}
 use Rattle.detection.proofs.TurnEffect.{Company}
@@ -141,7 +141,7 @@ demand-3-none n s calls size none stays =
     some-level (suc d) e far = omega (arith, closed)
 
 -- demand 3, an end in itself
-pub demand-3 : Demand3
+demand-3 : Demand3
 demand-3 n s calls given = go (chain-first (chain-all n s calls (given .long)))
   where
     go : ((takenAll s calls ≡ []) × (afterRuns s calls ≡ s)) ⊎ Accepted n (s .table) → Conclusion n s calls (afterRuns s calls)

@@ -18,9 +18,9 @@ use Rattle.station.proofs.GroupLaws.{place-mem, members-below}
 use Rattle.station.proofs.CellLaws.{row-length, row-at}
 use Rattle.plant.specs.Turn.{makesTest}
 use Rattle.plant.proofs.StepCells.{Reset}
-use Rattle.detection.specs.Sums.{sum, bit}
-use Rattle.detection.proofs.BoolLaws.{by-bool}
-use Rattle.detection.proofs.SumLaws.{sum-by, sum-zero}
+use Rattle.station.specs.Sums.{sum, bit}
+use Rattle.station.proofs.BoolLaws.{by-bool}
+use Rattle.station.proofs.SumLaws.{sum-by, sum-zero}
 use Rattle.detection.proofs.Count.{leads, leads-zero, leads-same}
 use Rattle.detection.proofs.DueLaw.{unsuspected-at, due-holds}
 use Rattle.detection.proofs.TurnHeads.{Heads, passed-dues}

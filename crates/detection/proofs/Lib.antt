@@ -1,8 +1,6 @@
 -- The proof of demand 3, a file for each part.
 pub mod Near
 pub mod Spread
-pub mod BoolLaws
-pub mod SumLaws
 pub mod Count
 pub mod DueLaw
 pub mod TurnHeads

@@ -25,7 +25,7 @@ near-zero a b n = sym (div-one a) ∙ n ∙ div-one b
 half : (h a : ℕ) → a / 2 ^ suc h ≡ a / 2 ^ h / 2
 half h a = let e : h + 1 ≡ suc h = omega arith in sym (rw e at (shr-shr a h 1))
 
-pub near-suc : (h a b : ℕ) → Near h a b → Near (suc h) a b
+near-suc : (h a b : ℕ) → Near h a b → Near (suc h) a b
 near-suc h a b n = cc (half h a, half h b)
 
 pub near-le : (h s a b : ℕ) → h ≤ s → Near h a b → Near s a b

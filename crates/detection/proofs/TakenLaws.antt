@@ -7,10 +7,10 @@ use Prim.Native.Nat.{ℕ, suc, _+_, _-_, _≤_}
 use native.Mathlib.Omega.{arith}
 use borrow.Author.Tests.{ne-eqb}
 use lib.Dec.{eqb}
-use Rattle.detection.specs.Sums.{bit}
+use Rattle.station.specs.Sums.{bit}
 use Rattle.detection.specs.Runs.{Taken, isTurnOf, finishes}
 use Rattle.detection.specs.Rounds.{any, count, turnsIn, nthTurnFinishes}
-use Rattle.detection.proofs.BoolLaws.{by-bool}
+use Rattle.station.proofs.BoolLaws.{by-bool}
 
 -- whether any entry passes q, where at most one does
 pub any-one : (q : Taken → Bool) (xs : List Taken) → count q xs ≤ 1 → any q xs ≡ eqb (count q xs) 1

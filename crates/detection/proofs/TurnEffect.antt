@@ -17,7 +17,7 @@ use Rattle.plant.specs.Turn.{nextTest, makesTest, finishPass, countTest, replie
 use Rattle.plant.proofs.StepCells.{finishPass-other, countTest-other, suspect-same, suspect-other, exchange-other, exchange-tester, exchange-tested, exchange-tester-own, exchange-tested-own}
 use Rattle.plant.proofs.StepLines.{Lines, finishPass-lines, countTest-lines, suspect-lines, exchange-lines, station-apart, station-below}
 use Rattle.plant.proofs.NextTest.{nextTest-low, not-due-before, test-below, none-due}
-use Rattle.detection.proofs.BoolLaws.{by-bool}
+use Rattle.station.proofs.BoolLaws.{by-bool}
 use Rattle.detection.proofs.TurnHeads.{turn-heads}
 
 -- a table that obeys the line rules, with live set L, in which no live station suspects a live one

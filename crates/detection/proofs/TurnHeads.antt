@@ -17,9 +17,9 @@ use Rattle.plant.specs.Turn.{outcomeExchanged, outcomeTold, setStatus, nextTest
 use Rattle.plant.proofs.NextTest.{nextTest-low, not-due-before, test-below, test-due, none-due}
 use Rattle.plant.proofs.StepCells.{finishPass-other, finishPass-next, finishPass-finished, countTest-length, countTest-other, countTest-next, countTest-tests, suspect-length, suspect-other, exchange-length, exchange-other}
 use Rattle.plant.proofs.StepLines.{Lines, station-apart, station-below}
-use Rattle.detection.specs.Sums.{sum, bit}
-use Rattle.detection.proofs.BoolLaws.{by-bool, choice}
-use Rattle.detection.proofs.SumLaws.{sum-stays}
+use Rattle.station.specs.Sums.{sum, bit}
+use Rattle.station.proofs.BoolLaws.{by-bool, choice}
+use Rattle.station.proofs.SumLaws.{sum-stays}
 
 -- bytes 1 to 3 of all lines are as before
 abbrev SameCounts : ℕ → List ℕ → List ℕ → Type 0

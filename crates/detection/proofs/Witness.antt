@@ -17,7 +17,7 @@ use Rattle.plant.specs.Iterate.{iterate}
 use Rattle.plant.specs.Turn.{nextTest, makesTest, finishPass, countTest, replies, isTold, exchangeRows, suspect, testOutcome, afterOutcome, selfOrSuspected, isAlone, afterAlone, testing, turn, turnTested, turnOutcome, crash, roundOver, resetLine, resetLines, afterRound}
 use Rattle.plant.specs.Entry.{State, entryNumber, acted, after, testedOf, outcomeOf, sheetLine}
 use Rattle.plant.specs.Run.{entries, writeLine, goOn, startNumber, run}
-use Rattle.detection.specs.Sums.{sum}
+use Rattle.station.specs.Sums.{sum}
 use Rattle.detection.specs.Runs.{Call, afterRuns, takenFrom, takenIn, takenAll}
 use Rattle.detection.specs.Rounds.{any, all, count, closes, cut, testsIn}
 use Rattle.detection.specs.Claim.{atStart, liveCount, noneSuspected, deadGroup, deadPairs, demandCount, roundsOf, Premises}
@@ -27,15 +27,15 @@ unfoldable pub boards : State
 boards = record { table = setCell 4 (freshTable 4) 3 statusColumn 1; rounds = 0; tests = 0 }
 
 -- a schedule of turns of the stations listed
-unfoldable pub turnsOf : List ℕ → List ℕ
+unfoldable turnsOf : List ℕ → List ℕ
 turnsOf [] = []
 turnsOf (i ∷ is) = 1 ∷ i ∷ turnsOf is
 
-abbrev pub callWith : ℕ → List ℕ → Call
+abbrev callWith : ℕ → List ℕ → Call
 callWith n schedule = record { size = n; schedule = schedule; sheet = replicate (2 * length schedule) 0 }
 
 -- the turns of one round: two tests each of 0 and 1, three of 2, and one turn of each that finishes
-abbrev pub onePass : List ℕ → List ℕ
+abbrev onePass : List ℕ → List ℕ
 onePass rest = 0 ∷ 1 ∷ 2 ∷ 0 ∷ 1 ∷ 2 ∷ 2 ∷ 0 ∷ 1 ∷ 2 ∷ rest
 
 -- the second run has another size, and the third a kind that is none, so its last entries are not reached

@@ -11,7 +11,7 @@ use Rattle.station.specs.Groups.{isSize, dimension, width, member}
 use Rattle.station.specs.Table.{tableLength, nextDistance, finished, testsMade, suspects, live}
 use Rattle.station.specs.Rules.{notLive}
 use Rattle.plant.specs.Entry.{State}
-use Rattle.detection.specs.Sums.{sum, bit}
+use Rattle.station.specs.Sums.{sum, bit}
 use Rattle.detection.specs.Runs.{Call, Taken, afterRuns, takenAll, crashes, isLate}
 use Rattle.detection.specs.Rounds.{all, Rounds, cut, testsIn, testsOfAll, turnsIn, nthTurnFinishes}
 

@@ -6,7 +6,7 @@ use mathlib.Core.List.{List, [], _∷_, _++_}
 use lib.Dec.{eqb}
 use Rattle.station.specs.Search.{every}
 use Rattle.station.specs.Rules.{notLive, someLive}
-use Rattle.detection.specs.Sums.{bit}
+use Rattle.station.specs.Sums.{bit}
 use Rattle.detection.specs.Runs.{Taken, tableAfter, isTurnOf, takenTest, finishes}
 
 -- whether any entry of the list passes q, whether all do, and how many do

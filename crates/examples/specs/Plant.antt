@@ -15,7 +15,7 @@ use Rattle.plant.specs.Iterate.{iterate}
 use Rattle.plant.specs.Turn.{nextTest, makesTest, finishPass, countTest, replies, isTold, exchangeRows, suspect, testOutcome, afterOutcome, selfOrSuspected, isAlone, afterAlone, testing, turn, turnTested, turnOutcome, crash, roundOver, resetLine, resetLines, afterRound}
 use Rattle.plant.specs.Entry.{stateOf, entryNumber, acted, after, testedOf, outcomeOf, sheetLine}
 use Rattle.plant.specs.Run.{Outcome, entries, writeLine, goOn, startNumber, run}
-use Rattle.detection.specs.Sums.{sum}
+use Rattle.station.specs.Sums.{sum}
 use Rattle.detection.specs.Claim.{deadGroup, deadPairs, demandCount}
 
 -- one example: what the definitions give, and what the document says

@@ -11,6 +11,7 @@ use lib.ListN.{length}
 use Rattle.station.specs.Search.{every}
 use Rattle.station.specs.Table.{tableLength, finished, live}
 use Rattle.station.specs.Rules.{lineRules, notLive, someLive, finishedIfLive, liveFinished, tableNumber}
+use Rattle.station.proofs.BoolLaws.{neither}
 use Rattle.station.proofs.SearchLaws.{both, every-at, every-all}
 use Rattle.station.proofs.Refusals.{Accepted, else-zero, refuse-zero}
 use Rattle.station.proofs.Sizes.{size-bounds}
@@ -30,10 +31,6 @@ pub record Takes (n : ℕ) (s : State) (e : Entry) : Type 0 where
   pub below : e .station < n
   pub isLive : live n (s .table) (e .station) ≡ true
   pub unfinished : (e .kind ≡ 3 → ⊥) → finished n (s .table) (e .station) ≡ 1 → ⊥
-
-neither : (a b : Bool) → (a || b) ≡ false → (a ≡ false) × (b ≡ false)
-neither true b e = (e, cc)
-neither false b e = (refl, e)
 
 pub entry-facts : (n : ℕ) (s : State) (e : Entry) → entryNumber n s e ≡ 0 → Takes n s e
 unfolding entryNumber
@@ -58,7 +55,7 @@ entry-facts n s e z =
           omega arith;
     }
 
-pub acted-lines : (n : ℕ) (s : State) (e : Entry) → Accepted n (s .table) → entryNumber n s e ≡ 0
+acted-lines : (n : ℕ) (s : State) (e : Entry) → Accepted n (s .table) → entryNumber n s e ≡ 0
     → (length (acted n (s .table) e) ≡ tableLength n) × ((i : ℕ) → i < n → Line n (acted n (s .table) e) i)
 unfolding acted crash
 acted-lines n s e a z = pick (isCrash e) refl

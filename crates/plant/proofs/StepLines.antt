@@ -12,6 +12,7 @@ use lib.Dec.{eqb}
 use lib.ListN.{length}
 use Rattle.station.specs.Groups.{isSize, dimension, distances, stationAt}
 use Rattle.station.specs.Table.{head, stride, tableLength, cell, statusColumn, nextColumn, finishedColumn, testsColumn, status, nextDistance, finished, suspects}
+use Rattle.station.proofs.BoolLaws.{choice}
 use Rattle.station.proofs.Xor.{xor-cancel}
 use Rattle.station.proofs.Sizes.{size-pow}
 use Rattle.station.proofs.CellLaws.{Line, cell-same, cell-other, setCell-length}
@@ -22,10 +23,6 @@ use Rattle.plant.proofs.StepCells.{finishPass-length, finishPass-other,
 -- the table has its length, and each line obeys the rules
 abbrev pub Lines : ℕ → List ℕ → Type 0
 Lines n t = (length t ≡ tableLength n) × ((i : ℕ) → i < n → Line n t i)
-
-choose : (n : ℕ) (b : Bool) (t u : List ℕ) → Lines n t → Lines n u → Lines n (cond b t u)
-choose n true t u a b = a
-choose n false t u a b = b
 
 -- a line whose head is as before
 line-row : (n : ℕ) (t t′ : List ℕ) (k : ℕ) → Line n t k → ((c : ℕ) → c < head → cell n t′ k c ≡ cell n t k c)
@@ -159,11 +156,11 @@ module _ (n : ℕ) (t : List ℕ) (i : ℕ) (lines : Lines n t) (h : i < n) wher
     unfolding afterOutcome
     afterTest-lines kind =
         let o : ℕ = testOutcome n t kind i j in
-        choose n (eqb o outcomeTold) _ _ (leave-lines 2 (omega arith)) (choose n (eqb o outcomeExchanged) _ _ exchange-lines suspect-lines)
+        choice (Lines n) (eqb o outcomeTold) (leave-lines 2 (omega arith)) (choice (Lines n) (eqb o outcomeExchanged) exchange-lines suspect-lines)
 
   pub afterAlone-lines : Lines n (afterAlone n t i)
   unfolding afterAlone
-  afterAlone-lines = choose n (isAlone n t i) _ _ (leave-lines 3 (omega arith)) lines
+  afterAlone-lines = choice (Lines n) (isAlone n t i) (leave-lines 3 (omega arith)) lines
 
 -- no station is at a positive distance from itself
 pub station-apart : (i m : ℕ) → 1 ≤ m → i ≢ stationAt i m

@@ -1,7 +1,9 @@
 -- The laws that the proofs of `station` share, and that the crates above cite.
 pub mod TableRule
 pub mod Xor
+pub mod BoolLaws
 pub mod SearchLaws
+pub mod SumLaws
 pub mod Levels
 pub mod GroupLaws
 pub mod Lists

@@ -14,6 +14,7 @@ use Rattle.station.specs.Groups.{isSize, dimension, distances, width}
 use Rattle.station.specs.Table.{tableLength, live}
 use Rattle.station.specs.Rules.{refuse, _else_, passRule, lineRules, notLive, someLive, finishedIfLive, liveFinished, shapeNumber, tableNumber}
 use Rattle.station.specs.Calls.{unless, rowNumber, groupNumber, assignmentNumber}
+use Rattle.station.proofs.BoolLaws.{neither}
 use Rattle.station.proofs.Loops.{every-stop, every-done}
 
 -- a refusal that is not 0 hides the later ones
@@ -45,10 +46,6 @@ unless-refused r a x y e h = let f = ne-eqb a 0 (λ z. h (e ∙ z)) in rw f
 pub unless-accepted {ℓ} : {A : Type ℓ} (a : ℕ) (x y : A) → a ≡ 0 → y ≡ unless a x y
 unless-accepted a x y e = rw e
 
-or-false : (a b : Bool) → (a || b) ≡ false → (a ≡ false) × (b ≡ false)
-or-false true b e = (e, cc)
-or-false false b e = (refl, e)
-
 -- "byte 3 at most byte 1 less 1": below byte 1, where that is 1 or more
 pub pass-rule-is : (n next f tests : ℕ) → (leb 1 next && leb next (distances n) && leb f 1 && ltb tests next && (eqb f 0 || eqb next (distances n))) ≡ passRule n next f tests
 pass-rule-is n zero f tests = refl
@@ -61,7 +58,7 @@ group-zero n i s len e =
     let p = else-zero _ _ e in
     let q = else-zero _ _ (p .1) in
     let r = else-zero _ _ (q .1) in
-    let l = or-false _ _ (refuse-zero 11 _ (r .0)) in
+    let l = neither _ _ (refuse-zero 11 _ (r .0)) in
     let z : ¬ (s ≡ 0) = eqb-false s 0 (l .0) in (
       not-false _ (refuse-zero 0 _ (p .0)),
       leb-false n i (refuse-zero 8 _ (q .0)),

@@ -1,5 +1,6 @@
 -- What the contracts and theorems of `station` cite, in the order of document 01.
 pub mod Search
+pub mod Sums
 pub mod Groups
 pub mod Equation1
 pub mod Table

@@ -17,7 +17,7 @@ pub fn get(n: u8, table: &[u8], i: Station, c: u16) -> u8
 }
 
 // The row of line i, as that part of the table.
-pub(crate) fn row(n: u8, table: &[u8], i: Station) -> &[u8]
+pub fn row(n: u8, table: &[u8], i: Station) -> &[u8]
     requires { ⌜ (length (now table) ≡ tableLength n) × (i .0 < n) ⌝ }
     ensures { λ r. ⌜ now r ≡ row n (now (table .entry)) (i .0) ⌝ }
     ensures { λ r. ⌜ length (now r) ≡ n ⌝ }

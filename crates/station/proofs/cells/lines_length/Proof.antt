@@ -2,7 +2,7 @@
 -- Assumes nothing.
 use native.Mathlib.Nat.{mul-le-mul}
 use native.Mathlib.Omega.{arith}
-use Prim.Native.Nat.{ℕ, _+_, _*_, _≤_, _<_}
+use Prim.Native.Nat.{ℕ, _*_, _≤_, _<_}
 use borrow.Author.Needs.{needs}
 use Rattle.station.specs.Table.{stride, lineStart}
 use Rattle.station.proofs.cells.lines_length.Statement.{statement}

@@ -1,11 +1,11 @@
 -- Laws of Bools, of searches by a test, and of bits.
 -- Assumes nothing.
 use mathlib.Core.Path.{_≡_, refl, ap₂}
-use mathlib.Core.Bool.{Bool, true, false, cond, not, _&&_}
+use mathlib.Core.Bool.{Bool, true, false, cond, not, _&&_, _||_}
 use Prim.Native.Nat.{ℕ, zero, suc, _+_, _≤_, _<_}
 use native.Mathlib.Omega.{arith}
 use Rattle.station.specs.Search.{least, every}
-use Rattle.detection.specs.Sums.{bit}
+use Rattle.station.specs.Sums.{bit}
 
 -- a Bool is true or false
 pub by-bool : {C : Type 0} (b : Bool) → (b ≡ true → C) → (b ≡ false → C) → C
@@ -16,6 +16,11 @@ by-bool false f g = g refl
 pub choice : {A : Type 0} (P : A → Type 0) (b : Bool) {x y : A} → P x → P y → P (cond b x y)
 choice P true p q = p
 choice P false p q = q
+
+-- neither of two
+pub neither : (a b : Bool) → (a || b) ≡ false → (a ≡ false) × (b ≡ false)
+neither true b e = (e, cc)
+neither false b e = (refl, e)
 
 pub bit-split : (a b : Bool) → bit (a && b) + bit (a && not b) ≡ bit a
 bit-split true true = refl

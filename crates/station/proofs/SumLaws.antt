@@ -8,8 +8,8 @@ use native.Mathlib.Nat.{add-zero, zero-add, add-comm, add-suc, mul-zero, zero-mu
 use native.Mathlib.Decide.{decLt}
 use native.Mathlib.Omega.{arith}
 use lib.Bits.{bitXor, xor-block}
-use Rattle.detection.specs.Sums.{sum, bit}
-use Rattle.detection.proofs.BoolLaws.{bit-split}
+use Rattle.station.specs.Sums.{sum, bit}
+use Rattle.station.proofs.BoolLaws.{bit-split}
 
 -- equal terms have equal sums
 pub sum-by : {f g : ℕ → ℕ} (n : ℕ) → ((i : ℕ) → i < n → f i ≡ g i) → sum f n ≡ sum g n
