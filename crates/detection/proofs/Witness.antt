@@ -27,7 +27,7 @@ unfoldable pub boards : State
 boards = record { table = setCell 4 (freshTable 4) 3 statusColumn 1; rounds = 0; tests = 0 }
 
 -- a schedule of turns of the stations listed
-unfoldable turnsOf : List ℕ → List ℕ
+unfoldable pub turnsOf : List ℕ → List ℕ
 turnsOf [] = []
 turnsOf (i ∷ is) = 1 ∷ i ∷ turnsOf is
 
@@ -35,7 +35,7 @@ abbrev callWith : ℕ → List ℕ → Call
 callWith n schedule = record { size = n; schedule = schedule; sheet = replicate (2 * length schedule) 0 }
 
 -- the turns of one round: two tests each of 0 and 1, three of 2, and one turn of each that finishes
-abbrev onePass : List ℕ → List ℕ
+abbrev pub onePass : List ℕ → List ℕ
 onePass rest = 0 ∷ 1 ∷ 2 ∷ 0 ∷ 1 ∷ 2 ∷ 2 ∷ 0 ∷ 1 ∷ 2 ∷ rest
 
 -- the second run has another size, and the third a kind that is none, so its last entries are not reached
