@@ -1,28 +1,25 @@
--- Where a round closes: the cut by entries is the round rule of the table; what the closed round has done to the rows, and its tests.
+-- What a round, where it closes, has done to the rows, and its tests.
 -- Assumes nothing.
-use mathlib.Core.Path.{_≡_, refl, sym, ap, ap₂, _∙_}
-use mathlib.Core.Bool.{Bool, true, not, _&&_, _||_}
+use mathlib.Core.Path.{_≡_, sym, ap, _∙_}
+use mathlib.Core.Bool.{Bool, true}
 use mathlib.Core.List.{List, []}
 use Prim.Native.Nat.{ℕ, _+_, _-_, _^_, _≤_, _<_}
 use native.Mathlib.Omega.{arith}
 use borrow.Author.Tests.{eqb-true}
-use lib.Dec.{eqb}
 use Rattle.station.specs.Search.{every}
 use Rattle.station.specs.Groups.{dimension}
-use Rattle.station.specs.Table.{head, statusColumn, nextDistance, finished, testsMade, live}
-use Rattle.station.specs.Rules.{notLive, someLive, finishedIfLive, liveFinished}
+use Rattle.station.specs.Table.{head, nextDistance, finished, testsMade, live}
+use Rattle.station.specs.Rules.{someLive, finishedIfLive, liveFinished}
 use Rattle.station.proofs.SearchLaws.{both, every-at}
-use Rattle.plant.specs.Turn.{roundOver, resetLines, afterRound}
-use Rattle.plant.specs.Entry.{Entry, State, acted, after}
+use Rattle.plant.specs.Turn.{roundOver, resetLines}
 use Rattle.plant.proofs.StepCells.{Reset, reset-cells, reset-other}
 use Rattle.plant.proofs.StepLines.{reset-lines}
 use Rattle.detection.specs.Sums.{sum, bit}
-use Rattle.detection.specs.Runs.{Taken, tableAfter}
-use Rattle.detection.specs.Rounds.{any, count, finishesOf, finishedOrNotLive, closes, testsIn}
+use Rattle.detection.specs.Runs.{Taken}
+use Rattle.detection.specs.Rounds.{testsIn}
 use Rattle.detection.specs.Claim.{deadGroup, deadPairs, demandCount}
-use Rattle.detection.proofs.BoolLaws.{by-bool, choice, every-same}
+use Rattle.detection.proofs.BoolLaws.{by-bool}
 use Rattle.detection.proofs.SumLaws.{sum-by, sum-zero, sum-const}
-use Rattle.detection.proofs.TakenLaws.{any-one}
 use Rattle.detection.proofs.Count.{leads, leads-not, tests-and-rest}
 use Rattle.detection.proofs.Counting.{Counts, counts-start}
 use Rattle.detection.proofs.TurnEffect.{Plain, Grown, same-plain}
@@ -42,31 +39,6 @@ pub restart : (n : ℕ) (L : ℕ → Bool) (t : List ℕ) → 1 ≤ n → Plain 
 restart n L t pos p =
     round-start n L (resetLines n t) (same-plain n L t _ (reset-lines n t pos (p .lines)) (reset-other n t) p)
     (reset-cells n t (p .lines .0))
-
--- a round of entries closes exactly where the table's round does
-pub closes-is : (n : ℕ) (L : ℕ → Bool) (t₀ : List ℕ) (here : List Taken) (s : State) (e : Entry)
-    → InRound n L t₀ here (acted n (s .table) e)
-    → closes here (record { size = n; before = s; entry = e }) ≡ roundOver n (acted n (s .table) e)
-unfolding closes roundOver someLive liveFinished after afterRound
-closes-is n L t₀ here s e inv =
-    ap₂ _&&_
-    (ap not (every-same (notLive n (tableAfter x)) (notLive n t′) n (λ k h. ap not (alike k))))
-    (every-same (finishedOrNotLive here x) (finishedIfLive n t′) n (λ k h. ap₂ _||_ (ap not (alike k)) (ended k h)))
-  where
-    x : Taken
-    x = record { size = n; before = s; entry = e }
-
-    t′ : List ℕ
-    t′ = acted n (s .table) e
-
-    alike : (k : ℕ) → live n (tableAfter x) k ≡ live n t′ k
-    alike k =
-        choice (λ u. live n u k ≡ live n t′ k) (roundOver n t′) (rw (reset-other n t′ k statusColumn (omega arith) (omega arith))) refl
-
-    ended : (k : ℕ) → k < n → any (finishesOf k) here ≡ eqb (finished n t′ k) 1
-    ended k h =
-        let same : finished n t′ k ≡ count (finishesOf k) here = omega (arith, inv .counts .ended k h, inv .fresh k h) in
-        rw same (any-one (finishesOf k) here (omega (arith, inv .knows .plain .lines .1 k h .finishedRange)))
 
 -- what a closed round did from t₀ to t
 pub record RoundStep (n : ℕ) (L : ℕ → Bool) (t₀ t : List ℕ) : Type 0 where
