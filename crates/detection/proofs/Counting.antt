@@ -103,11 +103,14 @@ module _ (n : ℕ) (s : State) (e : Entry) (t₀ t′ : List ℕ) (cur : List Ta
         omega (arith, sum-by n (λ k h. tests-of k), sum-add (testsMade n t) f n, c .tests, count-snoc takenTest cur x);
   }
 
+-- a round in which station i has at most n turns, the nth of which finished its pass
+abbrev pub TurnsOk : ℕ → ℕ → List Taken → Type 0
+TurnsOk n i round = (turnsIn i round ≤ n) × (n ≤ turnsIn i round → nthTurnFinishes i n round ≡ true)
+
 -- in a round, from its start on
 module _ (n : ℕ) (t₀ t : List ℕ) (cur : List Taken) (fresh : (i : ℕ) → i < n → Reset n t₀ i) (lines : Lines n t) (c : Counts n t₀ cur t) where
-  -- station i has at most n turns, the nth of which finished its pass
-  pub turns-bound : (i : ℕ) → i < n → (turnsIn i cur ≤ n) × (n ≤ turnsIn i cur → nthTurnFinishes i n cur ≡ true)
-  turns-bound i h =
+  pub turns-ok : (i : ℕ) → i < n → TurnsOk n i cur
+  turns-ok i h =
       let line = lines .1 i h in
       let spent : finished n t i + testsMade n t i ≡ turnsIn i cur = omega (arith, c .turns i h, fresh i h) in (
         omega arith,

@@ -22,21 +22,17 @@ use Rattle.plant.proofs.StepLines.{Lines, station-below}
 use Rattle.plant.proofs.NextTest.{test-below}
 use Rattle.detection.specs.Sums.{bit}
 use Rattle.detection.specs.Runs.{Taken, takenTest, crashes, isLate}
-use Rattle.detection.specs.Rounds.{all, count, Rounds, cut, turnsIn, nthTurnFinishes, testsIn, testsOfAll}
+use Rattle.detection.specs.Rounds.{all, count, Rounds, cut, testsIn, testsOfAll}
 use Rattle.detection.specs.Claim.{demandCount, allRounds}
 use Rattle.detection.proofs.BoolLaws.{by-bool}
 use Rattle.detection.proofs.TakenLaws.{takenAt, count-snoc}
 use Rattle.detection.proofs.Spread as spread
 use Rattle.detection.proofs.Chain.{Chain, done, more}
-use Rattle.detection.proofs.Counting.{turn-counts, turns-bound, closes-is}
+use Rattle.detection.proofs.Counting.{turn-counts, TurnsOk, turns-ok, closes-is}
 use Rattle.detection.proofs.TurnHeads.{turn-heads}
 use Rattle.detection.proofs.TurnEffect.{Company, turn-effect}
 use Rattle.detection.proofs.Knowledge.{Exact, Knows, turn-knows}
 use Rattle.detection.proofs.Closing.{InRound, restart, RoundStep, round-step, round-count}
-
--- a round in which station i has at most n turns, the nth of which finished its pass
-abbrev TurnsOk : ℕ → ℕ → List Taken → Type 0
-TurnsOk n i round = (turnsIn i round ≤ n) × (n ≤ turnsIn i round → nthTurnFinishes i n round ≡ true)
 
 -- the rounds r from the one that starts with t₀ on, to the table `end`; T has the live set
 pub record Course (n : ℕ) (T t₀ : List ℕ) (r : Rounds) (end : List ℕ) : Type 0 where
@@ -86,7 +82,7 @@ cut-done n T t₀ cur s inv = (
     begins = refl;
     steps = λ q h. absurd (omega arith);
     last = inv .knows;
-    turns = λ k i h. let e : k ≡ 0 = omega arith in rw e (turns-bound n t₀ (s .table) cur (inv .fresh) (inv .knows .plain .lines) (inv .counts) i);
+    turns = λ k i h. let e : k ≡ 0 = omega arith in rw e (turns-ok n t₀ (s .table) cur (inv .fresh) (inv .knows .plain .lines) (inv .counts) i);
     counted = λ k h. absurd (omega arith);
   },
   omega arith,
@@ -166,7 +162,7 @@ module _ (n : ℕ) (T : List ℕ) (company : Company n (live n T)) (t₀ : List 
                 | suc q ↦ λ h. r .0 .steps q (omega arith)
               ];
               last = r .0 .last;
-              turns = λ k. elim k [ zero ↦ λ i h. turns-bound n t₀ t′ here (moved .fresh) lines′ (moved .counts) i | suc k ↦ λ i h. r .0 .turns k i (omega arith) ];
+              turns = λ k. elim k [ zero ↦ λ i h. turns-ok n t₀ t′ here (moved .fresh) lines′ (moved .counts) i | suc k ↦ λ i h. r .0 .turns k i (omega arith) ];
               counted = λ k. elim k [
                 | zero ↦ λ h. round-count n T t₀ t′ here (size-pow n (ok .size)) moved over
                 | suc k ↦ λ h. r .0 .counted k (omega arith)

@@ -56,10 +56,12 @@ module _ (n : ℕ) (L : ℕ → Bool) (t : List ℕ) (i x : ℕ) (p : Plain n L 
   abbrev Step : List ℕ → Type 0
   Step t′ = Plain n L t′ × Grown n t t′ × Handed n L t t′ i x
 
-  -- what it is to show of each byte of the rows
+  -- what is to be shown of byte y of the row of k
+  abbrev Byte : List ℕ → ℕ → ℕ → Type 0
+  Byte t′ k y = (suspects n t k y ≤ suspects n t′ k y) × (L k ≡ true → L y ≡ true → suspects n t′ k y ≡ 0)
+
   step : (t′ : List ℕ) → Lines n t′ → ((k : ℕ) → status n t′ k ≡ status n t k)
-      → ((k y : ℕ) → k < n → y < n → (suspects n t k y ≤ suspects n t′ k y) × (L k ≡ true → L y ≡ true → suspects n t′ k y ≡ 0))
-      → Handed n L t t′ i x → Step t′
+      → ((k y : ℕ) → k < n → y < n → Byte t′ k y) → Handed n L t t′ i x → Step t′
   step t′ lines same bytes handed = (
     record { lines = lines; lives = λ k h. rw (same k) (p .lives k h); trusted = λ k y hk hy. bytes k y hk hy .1 },
     λ k y hk hy s. omega (arith, bytes k y hk hy .0, lines .1 k hk .range y hy),
@@ -86,8 +88,7 @@ module _ (n : ℕ) (L : ℕ → Bool) (t : List ℕ) (i x : ℕ) (p : Plain n L 
       now : suspects n t′ i x ≡ 1
       now = suspect-same n t i long hi x hx
 
-      as-before : (k y : ℕ) → k < n → y < n → (i ≡ k → y ≢ x)
-          → (suspects n t k y ≤ suspects n t′ k y) × (L k ≡ true → L y ≡ true → suspects n t′ k y ≡ 0)
+      as-before : (k y : ℕ) → k < n → y < n → (i ≡ k → y ≢ x) → Byte t′ k y
       as-before k y hk hy out =
           let e : suspects n t′ k y ≡ suspects n t k y =
           suspect-other n t i long hi x k (head + y) (omega arith) (λ q r. out q (omega arith)) in
