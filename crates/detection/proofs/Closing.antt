@@ -7,7 +7,7 @@ use Prim.Native.Nat.{ℕ, _+_, _-_, _^_, _≤_, _<_}
 use native.Mathlib.Omega.{arith}
 use borrow.Author.Tests.{eqb-true}
 use Rattle.station.specs.Search.{every}
-use Rattle.station.specs.Groups.{dimension}
+use Rattle.station.specs.Groups.{stationAt, level, dimension}
 use Rattle.station.specs.Table.{head, nextDistance, finished, testsMade, live}
 use Rattle.station.specs.Rules.{someLive, finishedIfLive, liveFinished}
 use Rattle.station.proofs.SearchLaws.{both, every-at}
@@ -20,7 +20,7 @@ use Rattle.detection.specs.Rounds.{testsIn}
 use Rattle.detection.specs.Claim.{deadGroup, deadPairs, demandCount}
 use Rattle.detection.proofs.BoolLaws.{by-bool}
 use Rattle.detection.proofs.SumLaws.{sum-by, sum-zero, sum-const}
-use Rattle.detection.proofs.Count.{leads, leads-not, tests-and-rest}
+use Rattle.detection.proofs.Count.{leads, first-not, tests-and-rest}
 use Rattle.detection.proofs.Counting.{Counts, counts-start}
 use Rattle.detection.proofs.TurnEffect.{Plain, Grown, same-plain}
 use Rattle.detection.proofs.Knowledge.{Exact, Met, Knows, knows-start, still}
@@ -80,4 +80,6 @@ round-count n T t₀ t here pow inv over exact =
     made i h =
         inv .knows .counted exact i h
         ∙ by-bool (L i) (λ l. rw (at-end n L t₀ t here inv over i h l))
-        (λ l. sum-zero (nextDistance n t i) (λ m g. ap bit (leads-not L i m l)) ∙ sym (sum-zero n (λ m g. ap bit (leads-not L i m l))))
+        (λ l.
+        let none : (m : ℕ) → bit (leads L i m) ≡ 0 = λ m. ap bit (first-not L (stationAt i m) (level m) i l) in
+        sum-zero (nextDistance n t i) (λ m g. none m) ∙ sym (sum-zero n (λ m g. none m)))
