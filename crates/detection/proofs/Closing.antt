@@ -3,12 +3,12 @@
 use mathlib.Core.Path.{_≡_, sym, ap, _∙_}
 use mathlib.Core.Bool.{Bool, true}
 use mathlib.Core.List.{List, []}
-use Prim.Native.Nat.{ℕ, _+_, _-_, _^_, _≤_, _<_}
+use Prim.Native.Nat.{ℕ, _-_, _^_, _≤_, _<_}
 use native.Mathlib.Omega.{arith}
 use borrow.Author.Tests.{eqb-true}
 use Rattle.station.specs.Search.{every}
 use Rattle.station.specs.Groups.{stationAt, level, dimension}
-use Rattle.station.specs.Table.{head, nextDistance, finished, testsMade, live}
+use Rattle.station.specs.Table.{nextDistance, finished, testsMade, live}
 use Rattle.station.specs.Rules.{someLive, finishedIfLive, liveFinished}
 use Rattle.station.proofs.SearchLaws.{both, every-at}
 use Rattle.plant.specs.Turn.{roundOver, resetLines}
@@ -22,7 +22,7 @@ use Rattle.detection.proofs.BoolLaws.{by-bool}
 use Rattle.detection.proofs.SumLaws.{sum-by, sum-zero, sum-const}
 use Rattle.detection.proofs.Count.{leads, first-not, tests-and-rest}
 use Rattle.detection.proofs.Counting.{Counts, counts-start}
-use Rattle.detection.proofs.TurnEffect.{Plain, Grown, same-plain}
+use Rattle.detection.proofs.TurnEffect.{Plain, Grown, same-rows}
 use Rattle.detection.proofs.Knowledge.{Exact, Met, Knows, knows-start, still}
 
 -- within a round that started with t₀, after its entries `cur`
@@ -34,11 +34,14 @@ pub record InRound (n : ℕ) (L : ℕ → Bool) (t₀ : List ℕ) (cur : List Ta
 pub round-start : (n : ℕ) (L : ℕ → Bool) (t : List ℕ) → Plain n L t → ((i : ℕ) → i < n → Reset n t i) → InRound n L t [] t
 round-start n L t p fresh = record { fresh = fresh; counts = counts-start n t; knows = knows-start n L t p fresh }
 
+-- the round rule leaves status and rows
+reset-rows : (n : ℕ) (L : ℕ → Bool) (t : List ℕ) → 1 ≤ n → Plain n L t → Plain n L (resetLines n t) × Grown n t (resetLines n t)
+reset-rows n L t pos p = same-rows n L t (resetLines n t) (reset-lines n t pos (p .lines)) (reset-other n t) p
+
 -- the table after a round has closed is the start of the next
 pub restart : (n : ℕ) (L : ℕ → Bool) (t : List ℕ) → 1 ≤ n → Plain n L t → InRound n L (resetLines n t) [] (resetLines n t)
 restart n L t pos p =
-    round-start n L (resetLines n t) (same-plain n L t _ (reset-lines n t pos (p .lines)) (reset-other n t) p)
-    (reset-cells n t (p .lines .0))
+    round-start n L (resetLines n t) (reset-rows n L t pos p .0) (reset-cells n t (p .lines .0))
 
 -- what a closed round did from t₀ to t
 pub record RoundStep (n : ℕ) (L : ℕ → Bool) (t₀ t : List ℕ) : Type 0 where
@@ -55,7 +58,7 @@ module _ (n : ℕ) (L : ℕ → Bool) (t₀ t : List ℕ) (here : List Taken) (i
       inv .knows .plain .lines .1 i h .finishedNext (eqb-true (finished n t i) 1 (rw (inv .knows .plain .lives i h ∙ l) at ended))
 
   reset-grows : Grown n t (resetLines n t)
-  reset-grows k y hk hy s = reset-other n t k (head + y) (omega arith) (omega arith) ∙ s
+  reset-grows k y hk = reset-rows n L t (omega arith) (inv .knows .plain) .1 k y hk
 
   pub round-step : RoundStep n L t₀ (resetLines n t)
   round-step = record {

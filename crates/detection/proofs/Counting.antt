@@ -108,7 +108,8 @@ abbrev pub TurnsOk : ℕ → ℕ → List Taken → Type 0
 TurnsOk n i round = (turnsIn i round ≤ n) × (n ≤ turnsIn i round → nthTurnFinishes i n round ≡ true)
 
 -- in a round, from its start on
-module _ (n : ℕ) (t₀ t : List ℕ) (cur : List Taken) (fresh : (i : ℕ) → i < n → Reset n t₀ i) (lines : Lines n t) (c : Counts n t₀ cur t) where
+module _ (n : ℕ) (t₀ t : List ℕ) (cur : List Taken) (fresh : (i : ℕ) → i < n → Reset n t₀ i) (lines : Lines n t)
+    (c : Counts n t₀ cur t) where
   pub turns-ok : (i : ℕ) → i < n → TurnsOk n i cur
   turns-ok i h =
       let line = lines .1 i h in
@@ -136,4 +137,5 @@ module _ (n : ℕ) (t₀ t : List ℕ) (cur : List Taken) (fresh : (i : ℕ) →
 
       alike : (k : ℕ) → live n (tableAfter x) k ≡ live n t k
       alike k =
-          rw acts (choice (λ u. live n u k ≡ live n t k) (roundOver n t) (rw (reset-other n t k statusColumn (omega arith) (omega arith))) refl)
+          let reset = reset-other n t k statusColumn (omega arith) (omega arith) in
+          rw acts (choice (λ u. live n u k ≡ live n t k) (roundOver n t) (rw reset) refl)

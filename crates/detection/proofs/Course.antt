@@ -15,7 +15,7 @@ use Rattle.station.specs.Table.{finished, suspects, live}
 use Rattle.station.proofs.SearchLaws.{both}
 use Rattle.station.proofs.Refusals.{Accepted}
 use Rattle.station.proofs.Sizes.{size-pow, size-bounds}
-use Rattle.plant.specs.Turn.{makesTest, nextTest, turnTested, roundOver, resetLines, afterRound}
+use Rattle.plant.specs.Turn.{kindTurn, kindLate, kindCrash, makesTest, nextTest, turnTested, roundOver, resetLines, afterRound}
 use Rattle.plant.specs.Entry.{Entry, State, isCrash, entryNumber, acted, after, testedOf}
 use Rattle.plant.proofs.Kept.{Takes, entry-facts}
 use Rattle.plant.proofs.StepLines.{Lines, station-below}
@@ -82,7 +82,9 @@ cut-done n T t₀ cur s inv = (
     begins = refl;
     steps = λ q h. absurd (omega arith);
     last = inv .knows;
-    turns = λ k i h. let e : k ≡ 0 = omega arith in rw e (turns-ok n t₀ (s .table) cur (inv .fresh) (inv .knows .plain .lines) (inv .counts) i);
+    turns = λ k i h.
+        let e : k ≡ 0 = omega arith in
+        rw e (turns-ok n t₀ (s .table) cur (inv .fresh) (inv .knows .plain .lines) (inv .counts) i);
     counted = λ k h. absurd (omega arith);
   },
   omega arith,
@@ -114,19 +116,19 @@ module _ (n : ℕ) (T : List ℕ) (company : Company n (live n T)) (t₀ : List 
   facts = entry-facts n s e takes
 
   -- the reply of a live station
-  prompt : makesTest n t i ≡ true → L (stationAt i (nextTest n t i)) ≡ true → e .kind ≡ 1
+  prompt : makesTest n t i ≡ true → L (stationAt i (nextTest n t i)) ≡ true → e .kind ≡ kindTurn
   unfolding testedOf turnTested
   prompt m l =
       let x<n = station-below n i (nextTest n t i) (ok .size) (facts .below) (test-below n t i m) in
-      let late : eqb (e .kind) 2 ≡ false = simp and-true at (rw (noCrash, m, inv .knows .plain .lives _ x<n ∙ l) at inTime) in
-      omega (arith, eqb-false (e .kind) 2 late, eqb-false (e .kind) 3 noCrash, facts .kindLow, facts .kindHigh)
+      let late : eqb (e .kind) kindLate ≡ false = simp and-true at (rw (noCrash, m, inv .knows .plain .lives _ x<n ∙ l) at inTime) in
+      omega (arith, eqb-false (e .kind) kindLate late, eqb-false (e .kind) kindCrash noCrash, facts .kindLow, facts .kindHigh)
 
   moved : InRound n L t₀ here t′
   unfolding acted
   moved =
       let p = inv .knows .plain in
       let isLive : L i ≡ true = sym (p .lives i (facts .below)) ∙ facts .isLive in
-      let open-pass = facts .unfinished (eqb-false (e .kind) 3 noCrash) in
+      let open-pass = facts .unfinished (eqb-false (e .kind) kindCrash noCrash) in
       let going : finished n t i ≡ 0 = omega (arith, p .lines .1 i (facts .below) .finishedRange) in
       let heads = turn-heads n t (e .kind) i (ok .size) (p .lines) (facts .below) in
       let turned = turn-effect n L t (e .kind) i (ok .size) p company (facts .below) isLive going prompt in
@@ -162,7 +164,10 @@ module _ (n : ℕ) (T : List ℕ) (company : Company n (live n T)) (t₀ : List 
                 | suc q ↦ λ h. r .0 .steps q (omega arith)
               ];
               last = r .0 .last;
-              turns = λ k. elim k [ zero ↦ λ i h. turns-ok n t₀ t′ here (moved .fresh) lines′ (moved .counts) i | suc k ↦ λ i h. r .0 .turns k i (omega arith) ];
+              turns = λ k. elim k [
+                | zero ↦ λ i h. turns-ok n t₀ t′ here (moved .fresh) lines′ (moved .counts) i
+                | suc k ↦ λ i h. r .0 .turns k i (omega arith)
+              ];
               counted = λ k. elim k [
                 | zero ↦ λ h. round-count n T t₀ t′ here (size-pow n (ok .size)) moved over
                 | suc k ↦ λ h. r .0 .counted k (omega arith)

@@ -9,7 +9,7 @@ use native.Mathlib.Omega.{arith}
 use borrow.Author.Tests.{ne-eqb}
 use lib.Dec.{eqb}
 use Rattle.station.specs.Groups.{isSize}
-use Rattle.station.specs.Table.{head, stride, tableLength, lineStart, cell, nextColumn, suspects}
+use Rattle.station.specs.Table.{head, stride, tableLength, lineStart, cell, statusColumn, nextColumn, finishedColumn, testsColumn, suspects}
 use Rattle.station.specs.Rules.{lineRules, tableNumber}
 use Rattle.station.specs.Calls.{freshByte, freshTable}
 use Rattle.station.proofs.SearchLaws.{every-all, listOf-length, listOf-at}
@@ -30,12 +30,12 @@ fresh-cell n i c h g =
 
 fresh-line : (n i : ℕ) → 2 ≤ n → i < n → Line n (freshTable n) i
 fresh-line n i h g = record {
-  statusRange = omega (arith, fresh-cell n i 0 g (omega arith));
-  nextLow = omega (arith, fresh-cell n i 1 g (omega arith));
-  nextHigh = omega (arith, fresh-cell n i 1 g (omega arith));
-  finishedRange = omega (arith, fresh-cell n i 2 g (omega arith));
-  testsBound = omega (arith, fresh-cell n i 3 g (omega arith));
-  finishedNext = λ e. absurd (omega (arith, fresh-cell n i 2 g (omega arith)));
+  statusRange = omega (arith, fresh-cell n i statusColumn g (omega arith));
+  nextLow = omega (arith, fresh-cell n i nextColumn g (omega arith));
+  nextHigh = omega (arith, fresh-cell n i nextColumn g (omega arith));
+  finishedRange = omega (arith, fresh-cell n i finishedColumn g (omega arith));
+  testsBound = omega (arith, fresh-cell n i testsColumn g (omega arith));
+  finishedNext = λ e. absurd (omega (arith, fresh-cell n i finishedColumn g (omega arith)));
   own = row i g;
   range = λ k l. omega (arith, row k l);
 }
@@ -50,9 +50,12 @@ fresh-start n e = (
     size = e;
     long = listOf-length (freshByte n) (tableLength n);
     lines = every-all (lineRules n t) n (λ i h. line-holds n t i (fresh-line n i (size-bounds n e .0) h));
-    unclosed = unfinished-open n t (λ i h. fresh-cell n i 2 h (omega arith));
+    unclosed = unfinished-open n t (λ i h. fresh-cell n i finishedColumn h (omega arith));
   }),
-  every-all (lineAtStart n t) n (λ i h. rw (fresh-cell n i 1 h (omega arith), fresh-cell n i 2 h (omega arith), fresh-cell n i 3 h (omega arith))),
+  every-all (lineAtStart n t) n (λ i h.
+      let next = fresh-cell n i nextColumn h (omega arith) in
+      let finish = fresh-cell n i finishedColumn h (omega arith) in
+      rw (next, finish, fresh-cell n i testsColumn h (omega arith))),
 )
   where
     t : List ℕ
