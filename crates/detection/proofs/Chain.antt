@@ -16,12 +16,13 @@ use Rattle.plant.specs.Run.{entries, writeLine, goOn, startNumber, run}
 use Rattle.plant.proofs.Kept.{accepted-kept}
 use Rattle.detection.specs.Runs.{Call, Taken, afterRun, afterRuns, takenFrom, takenIn, takenAll}
 use Rattle.station.proofs.BoolLaws.{by-bool}
+use Rattle.detection.proofs.TakenLaws.{takenAt}
 
 -- entries taken one behind the other at size n, from a state to a state
 pub data Chain (n : ℕ) : State → List Taken → State → Type 0 where
   done : {s : State} → Chain n s [] s
   more : {s s′ : State} {xs : List Taken} (e : Entry) → Accepted n (s .table) → entryNumber n s e ≡ 0 → Chain n (after n s e) xs s′
-      → Chain n s (record { size = n; before = s; entry = e } ∷ xs) s′
+      → Chain n s (takenAt n s e ∷ xs) s′
 
 -- two chains, one behind the other
 chain-append : {n : ℕ} {s s′ s″ : State} {xs ys : List Taken} → Chain n s xs s′ → Chain n s′ ys s″ → Chain n s (xs ++ ys) s″

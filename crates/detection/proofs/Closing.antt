@@ -1,31 +1,28 @@
--- Where a round closes: the cut by entries is the round rule of the table; what the closed round has done to the rows, and its tests.
+-- What a round, where it closes, has done to the rows, and its tests.
 -- Assumes nothing.
-use mathlib.Core.Path.{_≡_, refl, sym, ap, ap₂, _∙_}
-use mathlib.Core.Bool.{Bool, true, not, _&&_, _||_}
+use mathlib.Core.Path.{_≡_, sym, ap, _∙_}
+use mathlib.Core.Bool.{Bool, true}
 use mathlib.Core.List.{List, []}
-use Prim.Native.Nat.{ℕ, _+_, _-_, _^_, _≤_, _<_}
+use Prim.Native.Nat.{ℕ, _-_, _^_, _≤_, _<_}
 use native.Mathlib.Omega.{arith}
 use borrow.Author.Tests.{eqb-true}
-use lib.Dec.{eqb}
 use Rattle.station.specs.Search.{every}
-use Rattle.station.specs.Groups.{dimension}
-use Rattle.station.specs.Table.{head, statusColumn, nextDistance, finished, testsMade, live}
-use Rattle.station.specs.Rules.{notLive, someLive, finishedIfLive, liveFinished}
+use Rattle.station.specs.Groups.{stationAt, level, dimension}
+use Rattle.station.specs.Table.{nextDistance, finished, testsMade, live}
+use Rattle.station.specs.Rules.{someLive, finishedIfLive, liveFinished}
 use Rattle.station.proofs.SearchLaws.{both, every-at}
-use Rattle.plant.specs.Turn.{roundOver, resetLines, afterRound}
-use Rattle.plant.specs.Entry.{Entry, State, acted, after}
+use Rattle.plant.specs.Turn.{roundOver, resetLines}
 use Rattle.plant.proofs.StepCells.{Reset, reset-cells, reset-other}
 use Rattle.plant.proofs.StepLines.{reset-lines}
 use Rattle.station.specs.Sums.{sum, bit}
-use Rattle.detection.specs.Runs.{Taken, tableAfter}
-use Rattle.detection.specs.Rounds.{any, count, finishesOf, finishedOrNotLive, closes, testsIn}
+use Rattle.detection.specs.Runs.{Taken}
+use Rattle.detection.specs.Rounds.{testsIn}
 use Rattle.detection.specs.Claim.{deadGroup, deadPairs, demandCount}
-use Rattle.station.proofs.BoolLaws.{by-bool, choice, every-same}
+use Rattle.station.proofs.BoolLaws.{by-bool}
 use Rattle.station.proofs.SumLaws.{sum-by, sum-zero, sum-const}
-use Rattle.detection.proofs.TakenLaws.{any-one}
-use Rattle.detection.proofs.Count.{leads, leads-not, tests-and-rest}
+use Rattle.detection.proofs.Count.{leads, first-not, tests-and-rest}
 use Rattle.detection.proofs.Counting.{Counts, counts-start}
-use Rattle.detection.proofs.TurnEffect.{Plain, Grown, same-plain}
+use Rattle.detection.proofs.TurnEffect.{Plain, Grown, same-rows}
 use Rattle.detection.proofs.Knowledge.{Exact, Met, Knows, knows-start, still}
 
 -- within a round that started with t₀, after its entries `cur`
@@ -37,36 +34,14 @@ pub record InRound (n : ℕ) (L : ℕ → Bool) (t₀ : List ℕ) (cur : List Ta
 pub round-start : (n : ℕ) (L : ℕ → Bool) (t : List ℕ) → Plain n L t → ((i : ℕ) → i < n → Reset n t i) → InRound n L t [] t
 round-start n L t p fresh = record { fresh = fresh; counts = counts-start n t; knows = knows-start n L t p fresh }
 
+-- the round rule leaves status and rows
+reset-rows : (n : ℕ) (L : ℕ → Bool) (t : List ℕ) → 1 ≤ n → Plain n L t → Plain n L (resetLines n t) × Grown n t (resetLines n t)
+reset-rows n L t pos p = same-rows n L t (resetLines n t) (reset-lines n t pos (p .lines)) (reset-other n t) p
+
 -- the table after a round has closed is the start of the next
 pub restart : (n : ℕ) (L : ℕ → Bool) (t : List ℕ) → 1 ≤ n → Plain n L t → InRound n L (resetLines n t) [] (resetLines n t)
 restart n L t pos p =
-    round-start n L (resetLines n t) (same-plain n L t _ (reset-lines n t pos (p .lines)) (reset-other n t) p)
-    (reset-cells n t (p .lines .0))
-
--- a round of entries closes exactly where the table's round does
-pub closes-is : (n : ℕ) (L : ℕ → Bool) (t₀ : List ℕ) (here : List Taken) (s : State) (e : Entry)
-    → InRound n L t₀ here (acted n (s .table) e)
-    → closes here (record { size = n; before = s; entry = e }) ≡ roundOver n (acted n (s .table) e)
-unfolding closes roundOver someLive liveFinished after afterRound
-closes-is n L t₀ here s e inv =
-    ap₂ _&&_
-    (ap not (every-same (notLive n (tableAfter x)) (notLive n t′) n (λ k h. ap not (alike k))))
-    (every-same (finishedOrNotLive here x) (finishedIfLive n t′) n (λ k h. ap₂ _||_ (ap not (alike k)) (ended k h)))
-  where
-    x : Taken
-    x = record { size = n; before = s; entry = e }
-
-    t′ : List ℕ
-    t′ = acted n (s .table) e
-
-    alike : (k : ℕ) → live n (tableAfter x) k ≡ live n t′ k
-    alike k =
-        choice (λ u. live n u k ≡ live n t′ k) (roundOver n t′) (rw (reset-other n t′ k statusColumn (omega arith) (omega arith))) refl
-
-    ended : (k : ℕ) → k < n → any (finishesOf k) here ≡ eqb (finished n t′ k) 1
-    ended k h =
-        let same : finished n t′ k ≡ count (finishesOf k) here = omega (arith, inv .counts .ended k h, inv .fresh k h) in
-        rw same (any-one (finishesOf k) here (omega (arith, inv .knows .plain .lines .1 k h .pass .finishedRange)))
+    round-start n L (resetLines n t) (reset-rows n L t pos p .0) (reset-cells n t (p .lines .0))
 
 -- what a closed round did from t₀ to t
 pub record RoundStep (n : ℕ) (L : ℕ → Bool) (t₀ t : List ℕ) : Type 0 where
@@ -83,7 +58,7 @@ module _ (n : ℕ) (L : ℕ → Bool) (t₀ t : List ℕ) (here : List Taken) (i
       inv .knows .plain .lines .1 i h .pass .finishedNext (eqb-true (finished n t i) 1 (rw (inv .knows .plain .lives i h ∙ l) at ended))
 
   reset-grows : Grown n t (resetLines n t)
-  reset-grows k y hk hy s = reset-other n t k (head + y) (omega arith) (omega arith) ∙ s
+  reset-grows k y hk = reset-rows n L t (omega arith) (inv .knows .plain) .1 k y hk
 
   pub round-step : RoundStep n L t₀ (resetLines n t)
   round-step = record {
@@ -108,4 +83,6 @@ round-count n T t₀ t here pow inv over exact =
     made i h =
         inv .knows .counted exact i h
         ∙ by-bool (L i) (λ l. rw (at-end n L t₀ t here inv over i h l))
-        (λ l. sum-zero (nextDistance n t i) (λ m g. ap bit (leads-not L i m l)) ∙ sym (sum-zero n (λ m g. ap bit (leads-not L i m l))))
+        (λ l.
+        let none : (m : ℕ) → bit (leads L i m) ≡ 0 = λ m. ap bit (first-not L (stationAt i m) (level m) i l) in
+        sum-zero (nextDistance n t i) (λ m g. none m) ∙ sym (sum-zero n (λ m g. none m)))

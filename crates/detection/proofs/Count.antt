@@ -23,9 +23,9 @@ use Rattle.station.proofs.SumLaws.{sum-by, sum-add, sum-zero, sum-single, sum-s
 abbrev pub leads : (ℕ → Bool) → ℕ → ℕ → Bool
 leads q i m = isStation i (first q (stationAt i m) (level m))
 
--- whether no station passes q in the group of j at level h + 1
+-- whether no station passes q in the group of j at level s
 abbrev pub nobody : (ℕ → Bool) → ℕ → ℕ → Bool
-nobody q j h = every (λ k. not (q (member j (suc h) k))) (width (suc h))
+nobody q j s = every (λ k. not (q (member j s k))) (width s)
 
 pub leads-zero : (q : ℕ → Bool) (i : ℕ) → leads q i 0 ≡ false
 leads-zero q i = rw (level-zero, first-zero)
@@ -39,64 +39,49 @@ leads-same q q′ i m same =
     let x : ℕ → ℕ = member (stationAt i m) (level m) in
     rw (least-same (λ k. q (x k)) (λ k. q′ (x k)) (width (level m)) 0 (λ k _ l. same k (omega arith)))
 
--- the place of the first that passes q in the group of j at level s, if any does: it is found, and else none passes
+-- the first station of the group of j at level s that passes q
 module _ (q : ℕ → Bool) (j s : ℕ) where
-  place : ℕ
-  place = firstPlace q j s
+  abbrev p : ℕ
+  p = firstPlace q j s
 
-  found : ltb place (width s) ≡ true → (place < width s) × (q (member j s place) ≡ true)
-  unfolding place firstPlace
-  found e = let l = ltb-true place (width s) e in (l, least-passes (λ k. q (member j s k)) (width s) 0 (omega arith))
+  abbrev x : ℕ → ℕ
+  x = member j s
 
-  none-found : ltb place (width s) ≡ false → (k : ℕ) → k < width s → q (member j s k) ≡ false
-  unfolding place firstPlace
-  none-found e k l = least-before (λ k. q (member j s k)) (width s) 0 k (omega arith) (omega (arith, ltb-false place (width s) e))
+  -- it passes, if there is one; if not, none passes
+  found : ltb p (width s) ≡ true → (p < width s) × (q (x p) ≡ true)
+  unfolding firstPlace
+  found e = let l = ltb-true p (width s) e in (l, least-passes (λ k. q (x k)) (width s) 0 (omega arith))
 
--- who leads passes
-pub leads-not : (q : ℕ → Bool) (i m : ℕ) → q i ≡ false → leads q i m ≡ false
-unfolding first place
-leads-not q i m fails =
-    by-bool (ltb (place q j s) (width s))
-    (λ e. rw e (ne-eqb (member j s (place q j s)) i (λ p. true≢false (sym (found q j s e .1) ∙ (ap q p ∙ fails)))))
-    (λ e. rw e)
-  where
-    j : ℕ
-    j = stationAt i m
+  none-found : ltb p (width s) ≡ false → (k : ℕ) → k < width s → q (x k) ≡ false
+  unfolding firstPlace
+  none-found e k l = least-before (λ k. q (x k)) (width s) 0 k (omega arith) (omega (arith, ltb-false p (width s) e))
 
-    s : ℕ
-    s = level m
+  pub first-not : (i : ℕ) → q i ≡ false → isStation i (first q j s) ≡ false
+  unfolding first
+  first-not i fails =
+      by-bool (ltb p (width s)) (λ e. rw e (ne-eqb (x p) i (λ f. true≢false (sym (found e .1) ∙ (ap q f ∙ fails))))) (λ e. rw e)
 
--- one place of a group holds its first station, if there is one
-one-first : (q : ℕ → Bool) (j h : ℕ)
-    → sum (λ k. bit (isStation (member j (suc h) k) (first q j (suc h)))) (width (suc h)) ≡ bit (not (nobody q j h))
-unfolding first place member
-one-first q j h =
-    by-bool (ltb p w)
-    (λ e.
-    let f = found q j (suc h) e in
-    rw (e, every-not (λ k. not (q (x k))) w p (f .0) (ap not (f .1)))
-    (sum-single (λ k. bit (eqb (x p) (x k))) w p (f .0) (λ k l ne. ap bit (ne-eqb (x p) (x k) (apart k ne)))
-    ∙ ap bit (eq-eqb (x p) (x p) refl)))
-    (λ e. rw (e, every-all (λ k. not (q (x k))) w (λ k l. ap not (none-found q j (suc h) e k l))) (sum-zero w (λ k l. refl)))
-  where
-    w : ℕ
-    w = width (suc h)
+  -- two places of a group hold different stations
+  apart : (k : ℕ) → k ≢ p → x p ≢ x k
+  unfolding member
+  apart k ne e = let same : width s + p ≡ width s + k = cc (xor-cancel j (width s + p), xor-cancel j (width s + k)) in ne (omega arith)
 
-    p : ℕ
-    p = place q j (suc h)
-
-    x : ℕ → ℕ
-    x = member j (suc h)
-
-    -- two places of a group hold different stations
-    apart : (k : ℕ) → k ≢ p → x p ≢ x k
-    apart k ne e = let same : w + p ≡ w + k = cc (xor-cancel j (w + p), xor-cancel j (w + k)) in ne (omega arith)
+  -- one place of a group holds its first station, if there is one
+  one-first : sum (λ k. bit (isStation (x k) (first q j s))) (width s) ≡ bit (not (nobody q j s))
+  unfolding first
+  one-first =
+      by-bool (ltb p (width s))
+      (λ e.
+      rw (e, every-not (λ k. not (q (x k))) (width s) p (found e .0) (ap not (found e .1)))
+      (sum-single (λ k. bit (eqb (x p) (x k))) (width s) p (found e .0) (λ k l ne. ap bit (ne-eqb (x p) (x k) (apart k ne)))
+      ∙ ap bit (eq-eqb (x p) (x p) refl)))
+      (λ e. rw (e, every-all (λ k. not (q (x k))) (width s) (λ k l. ap not (none-found e k l))) (sum-zero (width s) (λ k l. refl)))
 
 -- over all distances from j, as many first stations as levels whose group has one
 first-by-level : (q : ℕ → Bool) (j d : ℕ)
-    → sum (λ m. bit (isStation (stationAt j m) (first q j (level m)))) (2 ^ d) ≡ sum (λ h. bit (not (nobody q j h))) d
+    → sum (λ m. bit (isStation (stationAt j m) (first q j (level m)))) (2 ^ d) ≡ sum (λ h. bit (not (nobody q j (suc h)))) d
 unfolding member width first firstPlace least level
-first-by-level q j d = sum-levels _ d ∙ (zero-add _ ∙ sum-by d (λ h l. sum-by (2 ^ h) (at h) ∙ one-first q j h))
+first-by-level q j d = sum-levels _ d ∙ (zero-add _ ∙ sum-by d (λ h l. sum-by (2 ^ h) (at h) ∙ one-first q j (suc h)))
   where
     at : (h k : ℕ) → k < 2 ^ h
         → bit (isStation (stationAt j (2 ^ h + k)) (first q j (level (2 ^ h + k))))
@@ -115,11 +100,11 @@ sum-tested f d =
 -- whose group has nobody that passes q these are all pairs
 pub tests-and-rest : (p q : ℕ → Bool) (d : ℕ)
     → sum (λ i. sum (λ m. bit (p (stationAt i m) && leads q i m)) (2 ^ d)) (2 ^ d)
-    + sum (λ j. sum (λ h. bit (p j && nobody q j h)) d) (2 ^ d)
+    + sum (λ j. sum (λ h. bit (p j && nobody q j (suc h))) d) (2 ^ d)
     ≡ sum (λ j. cond (p j) d 0) (2 ^ d)
 tests-and-rest p q d =
-    ap (λ (v : ℕ). v + sum (λ j. sum (λ h. bit (p j && nobody q j h)) d) (2 ^ d))
+    ap (λ (v : ℕ). v + sum (λ j. sum (λ h. bit (p j && nobody q j (suc h))) d) (2 ^ d))
     (sum-tested (λ i j m. bit (p j && isStation i (first q j (level m)))) d)
     ∙ (sym (sum-add _ _ (2 ^ d)) ∙ sum-by (2 ^ d) (λ j l. by-bool (p j)
-    (λ e. rw e (omega (arith, first-by-level q j d, sum-not (nobody q j) d)))
+    (λ e. rw e (omega (arith, first-by-level q j d, sum-not (λ h. nobody q j (suc h)) d)))
     (λ e. rw e (omega (arith, sum-zero {f = λ m. 0} (2 ^ d) (λ m l. refl), sum-zero {f = λ h. 0} d (λ h l. refl))))))

@@ -1,23 +1,26 @@
 -- What bytes 2 and 3 of the lines count: turns and tests since a round's start, or since any table within it. Nobody is trusted here.
 -- Assumes nothing.
-use mathlib.Core.Path.{_≡_, refl, sym, _∙_}
+use mathlib.Core.Path.{_≡_, refl, sym, ap, ap₂, _∙_}
 use mathlib.Core.Logic.{by-cases}
-use mathlib.Core.Bool.{Bool, true, false, not, _&&_}
+use mathlib.Core.Bool.{Bool, true, false, not, _&&_, _||_}
 use mathlib.Core.List.{List, [], _∷_, _++_}
 use Prim.Native.Nat.{ℕ, suc, _+_, _≤_, _<_}
 use native.Mathlib.Decide.{ℕ-discrete}
 use native.Mathlib.Omega.{arith}
 use borrow.Author.Tests.{eq-eqb, ne-eqb, eqb-true}
 use lib.Dec.{eqb}
-use Rattle.station.specs.Table.{finishedColumn, testsColumn, finished, testsMade}
-use Rattle.plant.specs.Turn.{makesTest}
-use Rattle.plant.specs.Entry.{Entry, State, isCrash}
+use Rattle.station.specs.Table.{statusColumn, finishedColumn, testsColumn, finished, testsMade, live}
+use Rattle.station.specs.Rules.{notLive, someLive, finishedIfLive, liveFinished}
+use Rattle.plant.specs.Turn.{makesTest, roundOver, afterRound}
+use Rattle.plant.specs.Entry.{Entry, State, isCrash, acted, after}
+use Rattle.plant.proofs.StepCells.{Reset, reset-other}
+use Rattle.plant.proofs.StepLines.{Lines}
 use Rattle.station.specs.Sums.{sum, bit}
-use Rattle.detection.specs.Runs.{Taken, isTurnOf, takenTest}
-use Rattle.detection.specs.Rounds.{count, finishesOf, testsIn, turnsIn, nthTurnFinishes}
-use Rattle.station.proofs.BoolLaws.{by-bool, bit-split}
+use Rattle.detection.specs.Runs.{Taken, tableAfter, isTurnOf, takenTest}
+use Rattle.detection.specs.Rounds.{any, count, closes, finishesOf, finishedOrNotLive, testsIn, turnsIn, nthTurnFinishes}
+use Rattle.station.proofs.BoolLaws.{by-bool, choice, bit-split, every-same}
 use Rattle.station.proofs.SumLaws.{sum-by, sum-add, sum-single}
-use Rattle.detection.proofs.TakenLaws.{count-snoc, nth-snoc-turn, nth-snoc-other}
+use Rattle.detection.proofs.TakenLaws.{takenAt, any-one, count-snoc, nth-snoc-turn, nth-snoc-other}
 use Rattle.detection.proofs.TurnHeads.{Heads}
 
 -- from t₀ to t, by the entries `cur`
@@ -46,7 +49,7 @@ module _ (n : ℕ) (s : State) (e : Entry) (t₀ t′ : List ℕ) (cur : List Ta
   b = makesTest n t i
 
   abbrev x : Taken
-  x = record { size = n; before = s; entry = e }
+  x = takenAt n s e
 
   abbrev here : List Taken
   here = cur ++ (x ∷ [])
@@ -99,3 +102,40 @@ module _ (n : ℕ) (s : State) (e : Entry) (t₀ t′ : List ℕ) (cur : List Ta
         let whole : bit (eqb i i && b) ≡ bit b = rw (eq-eqb i i refl) in
         omega (arith, sum-by n (λ k h. tests-of k), sum-add (testsMade n t) f n, c .tests, count-snoc takenTest cur x);
   }
+
+-- a round in which station i has at most n turns, the nth of which finished its pass
+abbrev pub TurnsOk : ℕ → ℕ → List Taken → Type 0
+TurnsOk n i round = (turnsIn i round ≤ n) × (n ≤ turnsIn i round → nthTurnFinishes i n round ≡ true)
+
+-- in a round, from its start on
+module _ (n : ℕ) (t₀ t : List ℕ) (cur : List Taken) (fresh : (i : ℕ) → i < n → Reset n t₀ i) (lines : Lines n t)
+    (c : Counts n t₀ cur t) where
+  pub turns-ok : (i : ℕ) → i < n → TurnsOk n i cur
+  turns-ok i h =
+      let line = lines .1 i h in
+      let spent : finished n t i + testsMade n t i ≡ turnsIn i cur = omega (arith, c .turns i h, fresh i h) in (
+        omega arith,
+        λ e.
+            let all : turnsIn i cur ≡ n = omega arith in
+            rw all at (c .lastEnds i h (omega (arith, c .ended i h, fresh i h))),
+      )
+
+  any-finished : (i : ℕ) → i < n → any (finishesOf i) cur ≡ eqb (finished n t i) 1
+  any-finished i h =
+      let same : finished n t i ≡ count (finishesOf i) cur = omega (arith, c .ended i h, fresh i h) in
+      rw same (any-one (finishesOf i) cur (omega (arith, lines .1 i h .pass .finishedRange)))
+
+  -- a round of entries closes exactly where the table's round does
+  pub closes-is : (s : State) (e : Entry) → acted n (s .table) e ≡ t → closes cur (takenAt n s e) ≡ roundOver n t
+  unfolding closes roundOver someLive liveFinished after afterRound
+  closes-is s e acts =
+      ap₂ _&&_ (ap not (every-same (notLive n (tableAfter x)) (notLive n t) n (λ k h. ap not (alike k))))
+      (every-same (finishedOrNotLive cur x) (finishedIfLive n t) n (λ k h. ap₂ _||_ (ap not (alike k)) (any-finished k h)))
+    where
+      x : Taken
+      x = takenAt n s e
+
+      alike : (k : ℕ) → live n (tableAfter x) k ≡ live n t k
+      alike k =
+          let reset = reset-other n t k statusColumn (omega arith) (omega arith) in
+          rw acts (choice (λ u. live n u k ≡ live n t k) (roundOver n t) (rw reset) refl)

@@ -11,43 +11,28 @@ use lib.Bits.{xor-lt}
 use lib.Pow.{pow-mono}
 use lib.Dec.{eqb}
 use Rattle.station.specs.Groups.{stationAt, dimension}
-use Rattle.station.specs.Table.{finished, testsMade, suspects, live}
+use Rattle.station.specs.Table.{finished, suspects, live}
 use Rattle.station.proofs.SearchLaws.{both}
 use Rattle.station.proofs.Refusals.{Accepted}
 use Rattle.station.proofs.Sizes.{size-pow, size-bounds}
-use Rattle.plant.specs.Turn.{makesTest, nextTest, turnTested, roundOver, resetLines, afterRound}
+use Rattle.plant.specs.Turn.{kindTurn, kindLate, kindCrash, makesTest, nextTest, turnTested, roundOver, resetLines, afterRound}
 use Rattle.plant.specs.Entry.{Entry, State, isCrash, entryNumber, acted, after, testedOf}
 use Rattle.plant.proofs.Kept.{Takes, entry-facts}
-use Rattle.plant.proofs.StepLines.{station-below}
+use Rattle.plant.proofs.StepLines.{Lines, station-below}
 use Rattle.plant.proofs.NextTest.{test-below}
 use Rattle.station.specs.Sums.{bit}
 use Rattle.detection.specs.Runs.{Taken, takenTest, crashes, isLate}
-use Rattle.detection.specs.Rounds.{all, count, Rounds, cut, turnsIn, nthTurnFinishes, testsIn, testsOfAll}
+use Rattle.detection.specs.Rounds.{all, count, Rounds, cut, testsIn, testsOfAll}
 use Rattle.detection.specs.Claim.{demandCount, allRounds}
 use Rattle.station.proofs.BoolLaws.{by-bool}
-use Rattle.detection.proofs.TakenLaws.{count-snoc}
+use Rattle.detection.proofs.TakenLaws.{takenAt, count-snoc}
 use Rattle.detection.proofs.Spread as spread
 use Rattle.detection.proofs.Chain.{Chain, done, more}
-use Rattle.detection.proofs.Counting.{turn-counts}
+use Rattle.detection.proofs.Counting.{turn-counts, TurnsOk, turns-ok, closes-is}
 use Rattle.detection.proofs.TurnHeads.{turn-heads}
 use Rattle.detection.proofs.TurnEffect.{Company, turn-effect}
 use Rattle.detection.proofs.Knowledge.{Exact, Knows, turn-knows}
-use Rattle.detection.proofs.Closing.{InRound, restart, closes-is, RoundStep, round-step, round-count}
-
--- a round in which station i has at most n turns, the nth of which finished its pass
-abbrev TurnsOk : ℕ → ℕ → List Taken → Type 0
-TurnsOk n i round = (turnsIn i round ≤ n) × (n ≤ turnsIn i round → nthTurnFinishes i n round ≡ true)
-
-turns-ok : (n : ℕ) (L : ℕ → Bool) (t₀ t : List ℕ) (cur : List Taken) → InRound n L t₀ cur t → (i : ℕ) → i < n → TurnsOk n i cur
-turns-ok n L t₀ t cur inv i h =
-    let c = inv .counts in
-    let line = inv .knows .plain .lines .1 i h in
-    let spent : finished n t i + testsMade n t i ≡ turnsIn i cur = omega (arith, c .turns i h, inv .fresh i h) in (
-      omega arith,
-      λ e.
-          let all : turnsIn i cur ≡ n = omega arith in
-          rw all at (c .lastEnds i h (omega (arith, c .ended i h, inv .fresh i h))),
-    )
+use Rattle.detection.proofs.Closing.{InRound, restart, RoundStep, round-step, round-count}
 
 -- the rounds r from the one that starts with t₀ on, to the table `end`; T has the live set
 pub record Course (n : ℕ) (T t₀ : List ℕ) (r : Rounds) (end : List ℕ) : Type 0 where
@@ -97,7 +82,9 @@ cut-done n T t₀ cur s inv = (
     begins = refl;
     steps = λ q h. absurd (omega arith);
     last = inv .knows;
-    turns = λ k i h. let e : k ≡ 0 = omega arith in rw e (turns-ok n (live n T) t₀ (s .table) cur inv i);
+    turns = λ k i h.
+        let e : k ≡ 0 = omega arith in
+        rw e (turns-ok n t₀ (s .table) cur (inv .fresh) (inv .knows .plain .lines) (inv .counts) i);
     counted = λ k h. absurd (omega arith);
   },
   omega arith,
@@ -106,7 +93,7 @@ cut-done n T t₀ cur s inv = (
 -- one taken entry that is no crash and no late reply
 module _ (n : ℕ) (T : List ℕ) (company : Company n (live n T)) (t₀ : List ℕ) (cur : List Taken) (s : State) (e : Entry)
     (ok : Accepted n (s .table)) (takes : entryNumber n s e ≡ 0) (inv : InRound n (live n T) t₀ cur (s .table))
-    (noCrash : isCrash e ≡ false) (inTime : isLate (record { size = n; before = s; entry = e }) ≡ false) where
+    (noCrash : isCrash e ≡ false) (inTime : isLate (takenAt n s e) ≡ false) where
   abbrev L : ℕ → Bool
   L = live n T
 
@@ -120,7 +107,7 @@ module _ (n : ℕ) (T : List ℕ) (company : Company n (live n T)) (t₀ : List 
   t′ = acted n t e
 
   abbrev x : Taken
-  x = record { size = n; before = s; entry = e }
+  x = takenAt n s e
 
   abbrev here : List Taken
   here = cur ++ (x ∷ [])
@@ -129,19 +116,19 @@ module _ (n : ℕ) (T : List ℕ) (company : Company n (live n T)) (t₀ : List 
   facts = entry-facts n s e takes
 
   -- the reply of a live station
-  prompt : makesTest n t i ≡ true → L (stationAt i (nextTest n t i)) ≡ true → e .kind ≡ 1
+  prompt : makesTest n t i ≡ true → L (stationAt i (nextTest n t i)) ≡ true → e .kind ≡ kindTurn
   unfolding testedOf turnTested
   prompt m l =
       let x<n = station-below n i (nextTest n t i) (ok .size) (facts .below) (test-below n t i m) in
-      let late : eqb (e .kind) 2 ≡ false = simp and-true at (rw (noCrash, m, inv .knows .plain .lives _ x<n ∙ l) at inTime) in
-      omega (arith, eqb-false (e .kind) 2 late, eqb-false (e .kind) 3 noCrash, facts .kindLow, facts .kindHigh)
+      let late : eqb (e .kind) kindLate ≡ false = simp and-true at (rw (noCrash, m, inv .knows .plain .lives _ x<n ∙ l) at inTime) in
+      omega (arith, eqb-false (e .kind) kindLate late, eqb-false (e .kind) kindCrash noCrash, facts .kindLow, facts .kindHigh)
 
   moved : InRound n L t₀ here t′
   unfolding acted
   moved =
       let p = inv .knows .plain in
       let isLive : L i ≡ true = sym (p .lives i (facts .below)) ∙ facts .isLive in
-      let open-pass = facts .unfinished (eqb-false (e .kind) 3 noCrash) in
+      let open-pass = facts .unfinished (eqb-false (e .kind) kindCrash noCrash) in
       let going : finished n t i ≡ 0 = omega (arith, p .lines .1 i (facts .below) .pass .finishedRange) in
       let heads = turn-heads n t (e .kind) i (ok .size) (p .lines) (facts .below) in
       let turned = turn-effect n L t (e .kind) i (ok .size) p company (facts .below) isLive going prompt in
@@ -150,6 +137,9 @@ module _ (n : ℕ) (T : List ℕ) (company : Company n (live n T)) (t₀ : List 
         counts = turn-counts n s e t₀ _ cur noCrash (facts .below) going heads (inv .counts);
         knows = turn-knows n (dimension n) L t₀ t _ i (size-pow n (ok .size)) (inv .knows) turned heads (facts .below) isLive;
       })
+
+  lines′ : Lines n t′
+  lines′ = moved .knows .plain .lines
 
   tests-after : after n s e .tests ≡ s .tests + bit (takenTest x)
   unfolding after
@@ -165,7 +155,7 @@ module _ (n : ℕ) (T : List ℕ) (company : Company n (live n T)) (t₀ : List 
       closing : roundOver n t′ ≡ true → CutFrom n T t₀ cur s (x ∷ xs) s′
       closing over =
           let r = rest (resetLines n t′) [] (rw over (restart n L t′ (omega (arith, size-bounds n (ok .size))) (moved .knows .plain))) in
-          rw (closes-is n L t₀ here s e moved ∙ over) (
+          rw (closes-is n t₀ t′ here (moved .fresh) lines′ (moved .counts) s e refl ∙ over) (
             record {
               start = λ q. elim q [ zero ↦ t₀ | suc q ↦ r .0 .start q ];
               begins = refl;
@@ -174,7 +164,10 @@ module _ (n : ℕ) (T : List ℕ) (company : Company n (live n T)) (t₀ : List 
                 | suc q ↦ λ h. r .0 .steps q (omega arith)
               ];
               last = r .0 .last;
-              turns = λ k. elim k [ zero ↦ λ i h. turns-ok n L t₀ t′ here moved i | suc k ↦ λ i h. r .0 .turns k i (omega arith) ];
+              turns = λ k. elim k [
+                | zero ↦ λ i h. turns-ok n t₀ t′ here (moved .fresh) lines′ (moved .counts) i
+                | suc k ↦ λ i h. r .0 .turns k i (omega arith)
+              ];
               counted = λ k. elim k [
                 | zero ↦ λ h. round-count n T t₀ t′ here (size-pow n (ok .size)) moved over
                 | suc k ↦ λ h. r .0 .counted k (omega arith)
@@ -189,7 +182,7 @@ module _ (n : ℕ) (T : List ℕ) (company : Company n (live n T)) (t₀ : List 
       going : roundOver n t′ ≡ false → CutFrom n T t₀ cur s (x ∷ xs) s′
       going over =
           let r = rest t₀ here (rw over moved) in
-          rw (closes-is n L t₀ here s e moved ∙ over) (
+          rw (closes-is n t₀ t′ here (moved .fresh) lines′ (moved .counts) s e refl ∙ over) (
             r .0,
             record {
               rounds = rw over at (r .1 .rounds);
@@ -205,7 +198,7 @@ unfolding all
 course n T company {s} done a b t₀ cur inv = cut-done n T t₀ cur s inv
 course n T company {s} {s′} (more {xs = xs} e ok takes chain) a b t₀ cur inv =
     let p = both (not (isCrash e)) (all (λ x. not (crashes x)) xs) a in
-    let late : Bool = isLate (record { size = n; before = s; entry = e }) in
+    let late : Bool = isLate (takenAt n s e) in
     let q = both (not late) (all (λ x. not (isLate x)) xs) b in
     cut-more n T company t₀ cur s e ok takes inv (not-true (isCrash e) (p .0)) (not-true late (q .0)) xs s′
     (λ t₁ now i. course n T company chain (p .1) (q .1) t₁ now i)

@@ -36,25 +36,22 @@ use Rattle.detection.proofs.Course.{Course, Tallied, exact-at, course}
 -- where two stations are live each live one has another
 company-of : (n : ℕ) (t : List ℕ) → 2 ≤ liveCount n t → Company n (live n t)
 unfolding liveCount
-company-of n t two i h l = by-bool (ltb p n) found none
+company-of n t two i h l =
+    by-bool (ltb p n)
+    (λ e.
+    let below = ltb-true p n e in
+    let q = both (not (eqb p i)) (live n t p) (least-passes other n 0 (omega arith)) in
+    (p, below, λ f. eqb-false p i (not-true (eqb p i) (q .0)) (sym f), q .1))
+    (λ e.
+    let dead : (k : ℕ) → k < n → k ≢ i → live n t k ≡ false = λ k g ne.
+    rw (ne-eqb k i ne) at (least-before other n 0 k (omega arith) (omega (arith, ltb-false p n e))) in
+    absurd (omega (arith, sum-single (λ k. bit (live n t k)) n i h (λ k g ne. ap bit (dead k g ne)), ap bit l)))
   where
     other : ℕ → Bool
     other k = not (eqb k i) && live n t k
 
     p : ℕ
     p = least other n 0
-
-    found : ltb p n ≡ true → (j : ℕ) × (j < n) × (i ≢ j) × (live n t j ≡ true)
-    found e =
-        let below = ltb-true p n e in
-        let q = both (not (eqb p i)) (live n t p) (least-passes other n 0 (omega arith)) in
-        (p, below, λ f. eqb-false p i (not-true (eqb p i) (q .0)) (sym f), q .1)
-
-    none : ltb p n ≡ false → (j : ℕ) × (j < n) × (i ≢ j) × (live n t j ≡ true)
-    none e =
-        let dead : (k : ℕ) → k < n → k ≢ i → live n t k ≡ false = λ k g ne.
-        rw (ne-eqb k i ne) at (least-before other n 0 k (omega arith) (omega (arith, ltb-false p n e))) in
-        absurd (omega (arith, sum-single (λ k. bit (live n t k)) n i h (λ k g ne. ap bit (dead k g ne)), ap bit l))
 
 -- the first table, at the start of a round
 first-round : (n : ℕ) (s : State) (calls : List Call) → Premises n s calls → Accepted n (s .table)

@@ -2,6 +2,7 @@
 -- Assumes nothing.
 use mathlib.Core.Path.{_≡_, _∙_}
 use mathlib.Core.Bool.{true, cond}
+use mathlib.Core.List.{List}
 use Prim.Native.Nat.{ℕ, _+_, _%_, _≤_, _<_}
 use native.Mathlib.Nat.{mod-eq-of-lt, mul-add-mod-self-right}
 use native.Mathlib.Omega.{arith}
@@ -13,7 +14,6 @@ use Rattle.station.specs.Rules.{lineRules, tableNumber}
 use Rattle.station.specs.Calls.{freshByte, freshTable}
 use Rattle.station.proofs.SearchLaws.{every-all, listOf-length, listOf-at}
 use Rattle.station.proofs.Sizes.{size-bounds}
-use Rattle.station.proofs.Refusals.{Accepted}
 use Rattle.station.proofs.CellLaws.{line-inside, Line, line-holds}
 use Rattle.plant.proofs.Kept.{unfinished-open}
 use Rattle.plant.proofs.RunLaws.{accepted-number}
@@ -42,18 +42,18 @@ fresh-line n i h g = record {
 
 pub fresh-start : (n : ℕ) → isSize n ≡ true → (tableNumber n (freshTable n) ≡ 0) × (atStart n (freshTable n) ≡ true)
 unfolding atStart freshTable
-fresh-start n e = (accepted-number n (freshTable n) accepted, every-all (lineAtStart n (freshTable n)) n at-start)
+fresh-start n e = (
+  accepted-number n t (record {
+    size = e;
+    long = listOf-length (freshByte n) (tableLength n);
+    lines = every-all (lineRules n t) n (λ i h. line-holds n t i (fresh-line n i (size-bounds n e .0) h));
+    unclosed = unfinished-open n t (λ i h. fresh-cell n i finishedColumn h (omega arith));
+  }),
+  every-all (lineAtStart n t) n (λ i h.
+      let next = fresh-cell n i nextColumn h (omega arith) in
+      let finish = fresh-cell n i finishedColumn h (omega arith) in
+      rw (next, finish, fresh-cell n i testsColumn h (omega arith))),
+)
   where
-    low : 2 ≤ n
-    low = size-bounds n e .0
-
-    at-start : (i : ℕ) → i < n → lineAtStart n (freshTable n) i ≡ true
-    at-start i h = rw (fresh-cell n i nextColumn h (omega arith), fresh-cell n i finishedColumn h (omega arith), fresh-cell n i testsColumn h (omega arith))
-
-    accepted : Accepted n (freshTable n)
-    accepted = record {
-      size = e;
-      long = listOf-length (freshByte n) (tableLength n);
-      lines = every-all (lineRules n (freshTable n)) n (λ i h. line-holds n (freshTable n) i (fresh-line n i low h));
-      unclosed = unfinished-open n (freshTable n) (λ i h. fresh-cell n i finishedColumn h (omega arith));
-    }
+    t : List ℕ
+    t = freshTable n

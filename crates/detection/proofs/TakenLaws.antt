@@ -7,10 +7,15 @@ use Prim.Native.Nat.{ℕ, suc, _+_, _-_, _≤_}
 use native.Mathlib.Omega.{arith}
 use borrow.Author.Tests.{ne-eqb}
 use lib.Dec.{eqb}
+use Rattle.plant.specs.Entry.{Entry, State}
 use Rattle.station.specs.Sums.{bit}
 use Rattle.detection.specs.Runs.{Taken, isTurnOf, finishes}
 use Rattle.detection.specs.Rounds.{any, count, turnsIn, nthTurnFinishes}
 use Rattle.station.proofs.BoolLaws.{by-bool}
+
+-- an entry as it is taken
+abbrev pub takenAt : ℕ → State → Entry → Taken
+takenAt n s e = record { size = n; before = s; entry = e }
 
 -- whether any entry passes q, where at most one does
 pub any-one : (q : Taken → Bool) (xs : List Taken) → count q xs ≤ 1 → any q xs ≡ eqb (count q xs) 1

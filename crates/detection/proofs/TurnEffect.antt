@@ -13,7 +13,7 @@ use Rattle.station.specs.Groups.{isSize, stationAt}
 use Rattle.station.specs.Table.{head, stride, tableLength, cell, statusColumn, nextColumn, finishedColumn, testsColumn, status, nextDistance, finished, suspects, live, row}
 use Rattle.station.specs.Tests.{due}
 use Rattle.station.proofs.SearchLaws.{every-not}
-use Rattle.plant.specs.Turn.{nextTest, makesTest, finishPass, countTest, replies, isTold, exchangeRows, suspect, testOutcome, afterOutcome, afterTest, selfOrSuspected, isAlone, afterAlone, testing, turn}
+use Rattle.plant.specs.Turn.{kindTurn, nextTest, makesTest, finishPass, countTest, replies, isTold, exchangeRows, suspect, testOutcome, afterOutcome, afterTest, selfOrSuspected, isAlone, afterAlone, testing, turn}
 use Rattle.plant.proofs.StepCells.{finishPass-other, countTest-other, suspect-same, suspect-other, exchange-other, exchange-tester, exchange-tested, exchange-tester-own, exchange-tested-own}
 use Rattle.plant.proofs.StepLines.{Lines, finishPass-lines, countTest-lines, suspect-lines, exchange-lines, station-apart, station-below}
 use Rattle.plant.proofs.NextTest.{nextTest-low, not-due-before, test-below, none-due}
@@ -39,14 +39,17 @@ abbrev pub Handed : ℕ → (ℕ → Bool) → List ℕ → List ℕ → ℕ →
 Handed n L t t′ i x = (L x ≡ false → suspects n t′ i x ≡ 1) × (L x ≡ true → (j : ℕ) → j < n → suspects n t i j ≡ 1 → suspects n t′ x j ≡ 1)
 
 -- a table with other bytes 1 to 3 only
-pub same-plain : (n : ℕ) (L : ℕ → Bool) (t t′ : List ℕ) → Lines n t′
+pub same-rows : (n : ℕ) (L : ℕ → Bool) (t t′ : List ℕ) → Lines n t′
     → ((k c : ℕ) → c < stride n → (c ≢ nextColumn) × (c ≢ finishedColumn) × (c ≢ testsColumn) → cell n t′ k c ≡ cell n t k c)
-    → Plain n L t → Plain n L t′
-same-plain n L t t′ lines same p = record {
-  lines = lines;
-  lives = λ i h. rw (same i statusColumn (omega arith) (omega arith)) (p .lives i h);
-  trusted = λ i j h g a b. same i (head + j) (omega arith) (omega arith) ∙ p .trusted i j h g a b;
-}
+    → Plain n L t → Plain n L t′ × Grown n t t′
+same-rows n L t t′ lines same p = (
+  record {
+    lines = lines;
+    lives = λ i h. rw (same i statusColumn (omega arith) (omega arith)) (p .lives i h);
+    trusted = λ i j h g a b. same i (head + j) (omega arith) (omega arith) ∙ p .trusted i j h g a b;
+  },
+  λ k y hk hy s. same k (head + y) (omega arith) (omega arith) ∙ s,
+)
 
 -- the test of x by the live i
 module _ (n : ℕ) (L : ℕ → Bool) (t : List ℕ) (i x : ℕ) (p : Plain n L t) (hi : i < n) (hx : x < n) (apart : i ≢ x) (li : L i ≡ true) where
@@ -56,10 +59,12 @@ module _ (n : ℕ) (L : ℕ → Bool) (t : List ℕ) (i x : ℕ) (p : Plain n L 
   abbrev Step : List ℕ → Type 0
   Step t′ = Plain n L t′ × Grown n t t′ × Handed n L t t′ i x
 
-  -- what it is to show of each byte of the rows
+  -- what is to be shown of byte y of the row of k
+  abbrev Byte : List ℕ → ℕ → ℕ → Type 0
+  Byte t′ k y = (suspects n t k y ≤ suspects n t′ k y) × (L k ≡ true → L y ≡ true → suspects n t′ k y ≡ 0)
+
   step : (t′ : List ℕ) → Lines n t′ → ((k : ℕ) → status n t′ k ≡ status n t k)
-      → ((k y : ℕ) → k < n → y < n → (suspects n t k y ≤ suspects n t′ k y) × (L k ≡ true → L y ≡ true → suspects n t′ k y ≡ 0))
-      → Handed n L t t′ i x → Step t′
+      → ((k y : ℕ) → k < n → y < n → Byte t′ k y) → Handed n L t t′ i x → Step t′
   step t′ lines same bytes handed = (
     record { lines = lines; lives = λ k h. rw (same k) (p .lives k h); trusted = λ k y hk hy. bytes k y hk hy .1 },
     λ k y hk hy s. omega (arith, bytes k y hk hy .0, lines .1 k hk .range y hy),
@@ -86,8 +91,7 @@ module _ (n : ℕ) (L : ℕ → Bool) (t : List ℕ) (i x : ℕ) (p : Plain n L 
       now : suspects n t′ i x ≡ 1
       now = suspect-same n t i long hi x hx
 
-      as-before : (k y : ℕ) → k < n → y < n → (i ≡ k → y ≢ x)
-          → (suspects n t k y ≤ suspects n t′ k y) × (L k ≡ true → L y ≡ true → suspects n t′ k y ≡ 0)
+      as-before : (k y : ℕ) → k < n → y < n → (i ≡ k → y ≢ x) → Byte t′ k y
       as-before k y hk hy out =
           let e : suspects n t′ k y ≡ suspects n t k y =
           suspect-other n t i long hi x k (head + y) (omega arith) (λ q r. out q (omega arith)) in
@@ -124,10 +128,10 @@ module _ (n : ℕ) (L : ℕ → Bool) (t : List ℕ) (i x : ℕ) (p : Plain n L 
           omega (arith, exchange-other n t i long hi x hx apart k (head + y) (omega arith) (λ q. absurd (e q)) (λ q. absurd (f q)))
 
   -- the reply of a live station is not late
-  tested : (kind : ℕ) → (L x ≡ true → kind ≡ 1) → Step (afterTest n t kind i x)
+  tested : (kind : ℕ) → (L x ≡ true → kind ≡ kindTurn) → Step (afterTest n t kind i x)
   unfolding afterOutcome testOutcome replies isTold
   tested kind prompt =
-      by-bool (L x) (λ e. rw (p .lives x hx ∙ e, eq-eqb kind 1 (prompt e), p .trusted x i hx hi e li) (exchanged e))
+      by-bool (L x) (λ e. rw (p .lives x hx ∙ e, eq-eqb kind kindTurn (prompt e), p .trusted x i hx hi e li) (exchanged e))
       (λ e. rw (p .lives x hx ∙ e) (marked e))
 
 -- a turn of i: a distance that it passes and that was due was tested
@@ -147,7 +151,7 @@ not-alone n L t i p company hi li =
 -- a turn of a live station, where the reply of a live station is not late
 pub turn-effect : (n : ℕ) (L : ℕ → Bool) (t : List ℕ) (kind i : ℕ) → isSize n ≡ true → Plain n L t → Company n L → i < n → L i ≡ true
     → finished n t i ≡ 0
-    → (makesTest n t i ≡ true → L (stationAt i (nextTest n t i)) ≡ true → kind ≡ 1) → Turned n L t (turn n t kind i) i
+    → (makesTest n t i ≡ true → L (stationAt i (nextTest n t i)) ≡ true → kind ≡ kindTurn) → Turned n L t (turn n t kind i) i
 unfolding turn testing
 turn-effect n L t kind i size p company hi li going prompt = by-bool (makesTest n t i) makes (λ e. rw e (finishes e))
   where
@@ -155,13 +159,15 @@ turn-effect n L t kind i size p company hi li going prompt = by-bool (makesTest 
     next = turn-heads n t kind i size (p .lines) hi .next
 
     finishes : makesTest n t i ≡ false → Turned n L t (finishPass n t i) i
-    finishes e = record {
-      plain =
-          same-plain n L t _ (finishPass-lines n t i (p .lines) hi) (λ k c h out. finishPass-other n t i k c h (λ _. (out .0, out .1))) p;
-      grows = λ k y hk hy s. finishPass-other n t i k (head + y) (omega arith) (λ _. omega arith) ∙ s;
-      passed = λ m lo below isDue.
-          absurd (true≢false (sym isDue ∙ none-due n t i e (p .lines .1 i hi .pass .nextHigh) m lo (omega (arith, rw e at next))));
-    }
+    finishes e =
+        let lines = finishPass-lines n t i (p .lines) hi in
+        let same = same-rows n L t _ lines (λ k c h out. finishPass-other n t i k c h (λ _. (out .0, out .1))) p in
+        let none = none-due n t i e (p .lines .1 i hi .pass .nextHigh) in
+        record {
+          plain = same .0;
+          grows = same .1;
+          passed = λ m lo below isDue. absurd (true≢false (sym isDue ∙ none m lo (omega (arith, rw e at next))));
+        }
 
     makes : makesTest n t i ≡ true → Turned n L t (turn n t kind i) i
     makes e =
@@ -170,18 +176,16 @@ turn-effect n L t kind i size p company hi li going prompt = by-bool (makesTest 
         let m<n = test-below n t i e in
         let low = nextTest-low n t i in
         let lines₁ = countTest-lines n t i (p .lines) hi m (omega arith) low m<n in
-        let plain₁ = same-plain n L t t₁ lines₁ (λ k c h out. countTest-other n t i m k c h (λ _. (out .0, out .2))) p in
-        let rows : (k y : ℕ) → y < n → suspects n t₁ k y ≡ suspects n t k y =
-        λ k y h. countTest-other n t i m k (head + y) (omega arith) (λ _. omega arith) in
+        let same = same-rows n L t t₁ lines₁ (λ k c h out. countTest-other n t i m k c h (λ _. (out .0, out .2))) p in
         let apart = station-apart i m (omega (arith, p .lines .1 i hi .pass .nextLow)) in
-        let done = tested n L t₁ i (stationAt i m) plain₁ hi (station-below n i m size hi m<n) apart li kind (prompt e) in
+        let done = tested n L t₁ i (stationAt i m) (same .0) hi (station-below n i m size hi m<n) apart li kind (prompt e) in
         let stays = not-alone n L _ i (done .0) company hi li in
         rw (e, stays) (record {
           plain = done .0;
-          grows = λ k y hk hy s. done .1 k y hk hy (rows k y hy ∙ s);
+          grows = λ k y hk hy s. done .1 k y hk hy (same .1 k y hk hy s);
           passed = λ y lo hi′ isDue. by-cases (decLt y m)
               (λ l. absurd (true≢false (sym isDue ∙ not-due-before n t i y lo l)))
               (λ l.
-              let same : y ≡ m = omega (arith, rw (e, stays) at next) in
-              rw same (done .2 .0, λ q k hk s. done .2 .1 q k hk (rows i k hk ∙ s)));
+              let last : y ≡ m = omega (arith, rw (e, stays) at next) in
+              rw last (done .2 .0, λ q k hk s. done .2 .1 q k hk (same .1 i k hi hk s)));
         })

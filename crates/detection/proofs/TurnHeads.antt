@@ -13,7 +13,7 @@ use Rattle.station.specs.Groups.{isSize, distances, stationAt}
 use Rattle.station.specs.Table.{head, tableLength, cell, statusColumn, nextColumn, finishedColumn, testsColumn, nextDistance, finished, testsMade, row}
 use Rattle.station.specs.Tests.{due}
 use Rattle.station.proofs.CellLaws.{cell-other, setCell-length}
-use Rattle.plant.specs.Turn.{outcomeExchanged, outcomeTold, setStatus, nextTest, makesTest, countTest, testOutcome, afterOutcome, afterTest, isAlone, afterAlone, testing, turn}
+use Rattle.plant.specs.Turn.{outcomeExchanged, outcomeTold, statusTold, statusAlone, setStatus, nextTest, makesTest, countTest, testOutcome, afterOutcome, afterTest, isAlone, afterAlone, testing, turn}
 use Rattle.plant.proofs.NextTest.{nextTest-low, not-due-before, test-below, test-due, none-due}
 use Rattle.plant.proofs.StepCells.{finishPass-other, finishPass-next, finishPass-finished, countTest-length, countTest-other, countTest-next, countTest-tests, suspect-length, suspect-other, exchange-length, exchange-other}
 use Rattle.plant.proofs.StepLines.{Lines, station-apart, station-below}
@@ -33,12 +33,12 @@ module _ (n : ℕ) (t : List ℕ) (i : ℕ) where
 
   alone-counts : SameCounts n t (afterAlone n t i)
   unfolding afterAlone
-  alone-counts = choice (SameCounts n t) (isAlone n t i) (left-counts 3) (refl, λ k c lo hi. refl)
+  alone-counts = choice (SameCounts n t) (isAlone n t i) (left-counts statusAlone) (refl, λ k c lo hi. refl)
 
   test-counts : (kind j : ℕ) → length t ≡ tableLength n → i < n → j < n → i ≢ j → SameCounts n t (afterTest n t kind i j)
   unfolding afterOutcome
   test-counts kind j long hi hj apart =
-      choice (SameCounts n t) (eqb (testOutcome n t kind i j) outcomeTold) (left-counts 2)
+      choice (SameCounts n t) (eqb (testOutcome n t kind i j) outcomeTold) (left-counts statusTold)
       (choice (SameCounts n t) (eqb (testOutcome n t kind i j) outcomeExchanged)
       (exchange-length n t i long hi j hj apart, λ k c lo h. exchange-other n t i long hi j hj apart k c (omega arith) (λ _. h) (λ _. h))
       (suspect-length n t i long hi j, λ k c lo h. suspect-other n t i long hi j k c (omega arith) (λ _. omega arith)))
