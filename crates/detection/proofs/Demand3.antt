@@ -138,7 +138,7 @@ demand-3-none n s calls size none stays =
     some-level (suc d) e far = omega (arith, closed)
 
 -- demand 3, an end in itself
-demand-3 : Demand3
+pub demand-3 : Demand3
 demand-3 n s calls given = go (chain-first (chain-all n s calls (given .long)))
   where
     go : ((takenAll s calls ≡ []) × (afterRuns s calls ≡ s)) ⊎ Accepted n (s .table) → Conclusion n s calls (afterRuns s calls)

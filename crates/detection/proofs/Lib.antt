@@ -1,4 +1,4 @@
--- The proof of demand 3, a file for each part.
+-- The proof of demand 3, a file for each part; docs/DEMAND-3.md tells it on a page.
 pub mod Near
 pub mod Spread
 pub mod Count
