@@ -58,14 +58,10 @@ turn-heads n t kind i size lines h =
       tests = omega (arith, finishPass-other n t i i testsColumn (omega arith) (λ p. omega arith));
     }))
   where
-    m : ℕ
-    m = nextTest n t i
-
-    t₁ : List ℕ
-    t₁ = countTest n t i m
-
-    makes : makesTest n t i ≡ true → Heads n t (testing n t kind i m) i true
+    makes : makesTest n t i ≡ true → Heads n t (testing n t kind i (nextTest n t i)) i true
     makes e =
+        let m : ℕ = nextTest n t i in
+        let t₁ : List ℕ = countTest n t i m in
         let x<n = station-below n i m size h (test-below n t i e) in
         let apart = station-apart i m (omega (arith, lines .1 i h .nextLow, nextTest-low n t i)) in
         let same : (k c : ℕ) → statusColumn < c → c < head → cell n (testing n t kind i m) k c ≡ cell n t₁ k c =
