@@ -57,6 +57,9 @@ not-less : (n m : ℕ) → tableLength n ≡ tableLength m → ¬ (n < m)
 unfolding tableLength
 not-less n m e l = let more : stride n ≤ stride m = omega arith in omega (arith, mul-le-mul l more, suc-mul n (stride n))
 
+size-unique : (n m : ℕ) → tableLength n ≡ tableLength m → n ≡ m
+size-unique n m e = omega (arith, not-less n m e, not-less m n (sym e))
+
 -- the entries of one run: a run of another size, or on a table that is not accepted, is turned away, and takes none
 chain-run : (n : ℕ) (s : State) (c : Call) → length (s .table) ≡ tableLength n → Chain n s (takenIn s c) (afterRun s c)
 unfolding takenIn run startNumber
@@ -64,8 +67,7 @@ chain-run n s c long =
     by-bool (eqb (startNumber (c .size) (s .table) (length (c .schedule)) (length (c .sheet))) 0)
     (λ t.
     let fits = accepted (c .size) (s .table) (else-zero _ _ (eqb-true _ 0 t) .0) in
-    let e : tableLength (c .size) ≡ tableLength n = sym (fits .long) ∙ long in
-    let same : c .size ≡ n = omega (arith, not-less (c .size) n e, not-less n (c .size) (sym e)) in
+    let same : c .size ≡ n = size-unique (c .size) n (sym (fits .long) ∙ long) in
     rw (afterRun, t, same) (chain-entries n 0 s (c .sheet) (entries (c .schedule)) (rw same at fits)))
     (λ t. rw (afterRun, t) done)
 

@@ -40,8 +40,7 @@ reset-rows n L t pos p = same-rows n L t (resetLines n t) (reset-lines n t pos (
 
 -- the table after a round has closed is the start of the next
 pub restart : (n : ℕ) (L : ℕ → Bool) (t : List ℕ) → 1 ≤ n → Plain n L t → InRound n L (resetLines n t) [] (resetLines n t)
-restart n L t pos p =
-    round-start n L (resetLines n t) (reset-rows n L t pos p .0) (reset-cells n t (p .lines .0))
+restart n L t pos p = round-start n L (resetLines n t) (reset-rows n L t pos p .0) (reset-cells n t (p .lines .0))
 
 -- what a closed round did from t₀ to t
 pub record RoundStep (n : ℕ) (L : ℕ → Bool) (t₀ t : List ℕ) : Type 0 where
@@ -69,8 +68,7 @@ module _ (n : ℕ) (L : ℕ → Bool) (t₀ t : List ℕ) (here : List Taken) (i
 
 -- the tests of a round that starts exact
 pub round-count : (n : ℕ) (T t₀ t : List ℕ) (here : List Taken) → n ≡ 2 ^ dimension n → InRound n (live n T) t₀ here t
-    → roundOver n t ≡ true
-    → Exact n (live n T) t₀ → testsIn here ≡ demandCount n T
+    → roundOver n t ≡ true → Exact n (live n T) t₀ → testsIn here ≡ demandCount n T
 unfolding deadPairs deadGroup
 round-count n T t₀ t here pow inv over exact =
     let pairs = rw (← pow) at (tests-and-rest (λ j. true) L (dimension n)) in

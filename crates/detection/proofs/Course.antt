@@ -22,7 +22,7 @@ use Rattle.plant.proofs.StepLines.{Lines, station-below}
 use Rattle.plant.proofs.NextTest.{test-below}
 use Rattle.station.specs.Sums.{bit}
 use Rattle.detection.specs.Runs.{Taken, takenTest, crashes, isLate}
-use Rattle.detection.specs.Rounds.{all, count, Rounds, cut, testsIn, testsOfAll}
+use Rattle.detection.specs.Rounds.{all, count, Rounds, closes, cut, testsIn, testsOfAll}
 use Rattle.detection.specs.Claim.{demandCount, allRounds}
 use Rattle.station.proofs.BoolLaws.{by-bool}
 use Rattle.detection.proofs.TakenLaws.{takenAt, count-snoc}
@@ -141,6 +141,9 @@ module _ (n : ℕ) (T : List ℕ) (company : Company n (live n T)) (t₀ : List 
   lines′ : Lines n t′
   lines′ = moved .knows .plain .lines
 
+  closing-is : closes here x ≡ roundOver n t′
+  closing-is = closes-is n t₀ t′ here (moved .fresh) lines′ (moved .counts) s e refl
+
   tests-after : after n s e .tests ≡ s .tests + bit (takenTest x)
   unfolding after
   tests-after = by-bool (takenTest x) (λ q. rw q) (λ q. rw q (omega arith))
@@ -155,7 +158,7 @@ module _ (n : ℕ) (T : List ℕ) (company : Company n (live n T)) (t₀ : List 
       closing : roundOver n t′ ≡ true → CutFrom n T t₀ cur s (x ∷ xs) s′
       closing over =
           let r = rest (resetLines n t′) [] (rw over (restart n L t′ (omega (arith, size-bounds n (ok .size))) (moved .knows .plain))) in
-          rw (closes-is n t₀ t′ here (moved .fresh) lines′ (moved .counts) s e refl ∙ over) (
+          rw (closing-is ∙ over) (
             record {
               start = λ q. elim q [ zero ↦ t₀ | suc q ↦ r .0 .start q ];
               begins = refl;
@@ -173,22 +176,13 @@ module _ (n : ℕ) (T : List ℕ) (company : Company n (live n T)) (t₀ : List 
                 | suc k ↦ λ h. r .0 .counted k (omega arith)
               ];
             },
-            record {
-              rounds = omega (arith, rw over at (r .1 .rounds));
-              tests = omega (arith, r .1 .tests, tests-after, count-snoc takenTest cur x);
-            },
+            omega (arith, rw over at (r .1 .rounds), r .1 .tests, tests-after, count-snoc takenTest cur x),
           )
 
       going : roundOver n t′ ≡ false → CutFrom n T t₀ cur s (x ∷ xs) s′
       going over =
           let r = rest t₀ here (rw over moved) in
-          rw (closes-is n t₀ t′ here (moved .fresh) lines′ (moved .counts) s e refl ∙ over) (
-            r .0,
-            record {
-              rounds = rw over at (r .1 .rounds);
-              tests = omega (arith, r .1 .tests, tests-after, count-snoc takenTest cur x);
-            },
-          )
+          rw (closing-is ∙ over) (r .0, omega (arith, rw over at (r .1 .rounds), r .1 .tests, tests-after, count-snoc takenTest cur x))
 
 -- a chain, cut into rounds
 pub course : (n : ℕ) (T : List ℕ) → Company n (live n T) → {s s′ : State} {xs : List Taken} → Chain n s xs s′

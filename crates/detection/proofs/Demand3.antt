@@ -58,15 +58,12 @@ first-round : (n : ℕ) (s : State) (calls : List Call) → Premises n s calls �
     → InRound n (live n (s .table)) (s .table) [] (s .table)
 unfolding atStart noneSuspected
 first-round n s calls given ok =
-    round-start n L t (record { lines = (ok .long, accepted-line n t ok); lives = λ i h. refl; trusted = trusted }) fresh
+    round-start n (live n t) t (record { lines = (ok .long, accepted-line n t ok); lives = λ i h. refl; trusted = trusted }) fresh
   where
     t : List ℕ
     t = s .table
 
-    L : ℕ → Bool
-    L = live n t
-
-    trusted : (i j : ℕ) → i < n → j < n → L i ≡ true → L j ≡ true → suspects n t i j ≡ 0
+    trusted : (i j : ℕ) → i < n → j < n → live n t i ≡ true → live n t j ≡ true → suspects n t i j ≡ 0
     trusted i j h g a b =
         let mine = every-at (λ k. every (noLiveSuspicion n t k) n) n i (given .trusted) h in
         let all : noLiveSuspicion n t i j ≡ true = every-at (noLiveSuspicion n t i) n j mine g in

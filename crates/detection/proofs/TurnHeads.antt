@@ -12,10 +12,10 @@ use lib.Dec.{eqb}
 use Rattle.station.specs.Groups.{isSize, distances, stationAt}
 use Rattle.station.specs.Table.{head, tableLength, cell, statusColumn, nextColumn, finishedColumn, testsColumn, nextDistance, finished, testsMade, row}
 use Rattle.station.specs.Tests.{due}
-use Rattle.station.proofs.CellLaws.{cell-other, setCell-length}
+use Rattle.station.proofs.CellLaws.{cell-other}
 use Rattle.plant.specs.Turn.{outcomeExchanged, outcomeTold, statusTold, statusAlone, setStatus, nextTest, makesTest, countTest, testOutcome, afterOutcome, afterTest, isAlone, afterAlone, testing, turn}
 use Rattle.plant.proofs.NextTest.{nextTest-low, not-due-before, test-below, test-due, none-due}
-use Rattle.plant.proofs.StepCells.{finishPass-other, finishPass-next, finishPass-finished, countTest-length, countTest-other, countTest-next, countTest-tests, suspect-length, suspect-other, exchange-length, exchange-other}
+use Rattle.plant.proofs.StepCells.{finishPass-other, finishPass-next, finishPass-finished, countTest-length, countTest-other, countTest-next, countTest-tests, suspect-other, exchange-other}
 use Rattle.plant.proofs.StepLines.{Lines, station-apart, station-below}
 use Rattle.station.specs.Sums.{sum, bit}
 use Rattle.station.proofs.BoolLaws.{by-bool, choice}
@@ -23,25 +23,24 @@ use Rattle.station.proofs.SumLaws.{sum-stays}
 
 -- bytes 1 to 3 of all lines are as before
 abbrev SameCounts : ℕ → List ℕ → List ℕ → Type 0
-SameCounts n t t′ = (length t′ ≡ length t) × ((k c : ℕ) → statusColumn < c → c < head → cell n t′ k c ≡ cell n t k c)
+SameCounts n t t′ = (k c : ℕ) → statusColumn < c → c < head → cell n t′ k c ≡ cell n t k c
 
 -- steps 4 to 6 leave them
 module _ (n : ℕ) (t : List ℕ) (i : ℕ) where
   left-counts : (s : ℕ) → SameCounts n t (setStatus n t i s)
-  left-counts s =
-      (setCell-length n t i statusColumn s, λ k c lo hi. cell-other n t i statusColumn s k c (omega arith) (omega arith) (λ _. omega arith))
+  left-counts s k c lo hi = cell-other n t i statusColumn s k c (omega arith) (omega arith) (λ _. omega arith)
 
   alone-counts : SameCounts n t (afterAlone n t i)
   unfolding afterAlone
-  alone-counts = choice (SameCounts n t) (isAlone n t i) (left-counts statusAlone) (refl, λ k c lo hi. refl)
+  alone-counts = choice (SameCounts n t) (isAlone n t i) (left-counts statusAlone) (λ k c lo hi. refl)
 
   test-counts : (kind j : ℕ) → length t ≡ tableLength n → i < n → j < n → i ≢ j → SameCounts n t (afterTest n t kind i j)
   unfolding afterOutcome
   test-counts kind j long hi hj apart =
       choice (SameCounts n t) (eqb (testOutcome n t kind i j) outcomeTold) (left-counts statusTold)
       (choice (SameCounts n t) (eqb (testOutcome n t kind i j) outcomeExchanged)
-      (exchange-length n t i long hi j hj apart, λ k c lo h. exchange-other n t i long hi j hj apart k c (omega arith) (λ _. h) (λ _. h))
-      (suspect-length n t i long hi j, λ k c lo h. suspect-other n t i long hi j k c (omega arith) (λ _. omega arith)))
+      (λ k c lo h. exchange-other n t i long hi j hj apart k c (omega arith) (λ _. h) (λ _. h))
+      (λ k c lo h. suspect-other n t i long hi j k c (omega arith) (λ _. omega arith)))
 
 -- what a turn of i does to them, where b says whether it makes a test
 pub record Heads (n : ℕ) (t t′ : List ℕ) (i : ℕ) (b : Bool) : Type 0 where
@@ -60,19 +59,15 @@ turn-heads n t kind i size lines h =
       tests = omega (arith, finishPass-other n t i i testsColumn (omega arith) (λ p. omega arith));
     }))
   where
-    m : ℕ
-    m = nextTest n t i
-
-    t₁ : List ℕ
-    t₁ = countTest n t i m
-
-    makes : makesTest n t i ≡ true → Heads n t (testing n t kind i m) i true
+    makes : makesTest n t i ≡ true → Heads n t (testing n t kind i (nextTest n t i)) i true
     makes e =
+        let m : ℕ = nextTest n t i in
+        let t₁ : List ℕ = countTest n t i m in
         let x<n = station-below n i m size h (test-below n t i e) in
         let apart = station-apart i m (omega (arith, lines .1 i h .pass .nextLow, nextTest-low n t i)) in
         let same : (k c : ℕ) → statusColumn < c → c < head → cell n (testing n t kind i m) k c ≡ cell n t₁ k c =
-        λ k c lo hi. alone-counts n (afterTest n t₁ kind i (stationAt i m)) i .1 k c lo hi
-        ∙ test-counts n t₁ i kind (stationAt i m) (countTest-length n t i m ∙ lines .0) h x<n apart .1 k c lo hi in
+        λ k c lo hi. alone-counts n (afterTest n t₁ kind i (stationAt i m)) i k c lo hi
+        ∙ test-counts n t₁ i kind (stationAt i m) (countTest-length n t i m ∙ lines .0) h x<n apart k c lo hi in
         record {
           others = λ k c other lo hi. same k c lo hi ∙ countTest-other n t i m k c (omega arith) (λ p. omega arith);
           next = same i nextColumn (omega arith) (omega arith) ∙ countTest-next n t i (lines .0) h m;
