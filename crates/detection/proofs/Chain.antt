@@ -79,3 +79,17 @@ chain-all n s [] long = done
 chain-all n s (c ∷ calls) long =
     let first = chain-run n s c long in
     chain-append first (chain-all n (afterRun s c) calls (chain-long first long))
+
+taken-from : (n k : ℕ) (s : State) (sheet : List ℕ) (es : List Entry) → goOn n k s sheet es .taken ≡ k + length (takenFrom n s es)
+unfolding takenFrom goOn
+taken-from n k s sheet [] = omega arith
+taken-from n k s sheet (e ∷ es) =
+    by-bool (eqb (entryNumber n s e) 0)
+    (λ t. rw t (omega (arith, taken-from n (suc k) (after n s e) (writeLine sheet k (sheetLine n s e)) es))) (λ t. rw t (omega arith))
+
+-- a run takes as many entries as it answers, an end in itself
+pub taken-is : (s : State) (c : Call) → run (c .size) s (c .schedule) (c .sheet) .taken ≡ length (takenIn s c)
+unfolding takenIn run
+taken-is s c =
+    by-bool (eqb (startNumber (c .size) (s .table) (length (c .schedule)) (length (c .sheet))) 0)
+    (λ t. rw t (omega (arith, taken-from (c .size) 0 s (c .sheet) (entries (c .schedule))))) (λ t. rw t)

@@ -9,9 +9,9 @@ use borrow.Author.Tests.{eqb-true}
 use Rattle.station.specs.Search.{every}
 use Rattle.station.specs.Groups.{stationAt, level, dimension}
 use Rattle.station.specs.Table.{nextDistance, finished, testsMade, live}
-use Rattle.station.specs.Rules.{someLive, finishedIfLive, liveFinished}
+use Rattle.station.specs.Rules.{someLive, finishedIfLive, liveFinished, roundOver}
 use Rattle.station.proofs.SearchLaws.{both, every-at}
-use Rattle.plant.specs.Turn.{roundOver, resetLines}
+use Rattle.plant.specs.Turn.{resetLines}
 use Rattle.plant.proofs.StepCells.{Reset, reset-cells, reset-other}
 use Rattle.plant.proofs.StepLines.{reset-lines}
 use Rattle.station.specs.Sums.{sum, bit}
@@ -50,7 +50,7 @@ pub record RoundStep (n : ℕ) (L : ℕ → Bool) (t₀ t : List ℕ) : Type 0 w
 -- where the round is over every live station has finished, so its next distance is N
 module _ (n : ℕ) (L : ℕ → Bool) (t₀ t : List ℕ) (here : List Taken) (inv : InRound n L t₀ here t) (over : roundOver n t ≡ true) where
   at-end : (i : ℕ) → i < n → L i ≡ true → nextDistance n t i ≡ n
-  unfolding roundOver liveFinished
+  unfolding liveFinished
   at-end i h l =
       let all = both (someLive n t) (every (finishedIfLive n t) n) over .1 in
       let ended : finishedIfLive n t i ≡ true = every-at (finishedIfLive n t) n i all h in

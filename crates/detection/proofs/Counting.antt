@@ -10,28 +10,29 @@ use native.Mathlib.Omega.{arith}
 use borrow.Author.Tests.{eq-eqb, ne-eqb, eqb-true}
 use lib.Dec.{eqb}
 use Rattle.station.specs.Table.{statusColumn, finishedColumn, testsColumn, finished, testsMade, live}
-use Rattle.station.specs.Rules.{notLive, someLive, finishedIfLive, liveFinished}
-use Rattle.plant.specs.Turn.{makesTest, roundOver, afterRound}
+use Rattle.station.specs.Rules.{notLive, someLive, finishedIfLive, liveFinished, roundOver}
+use Rattle.plant.specs.Turn.{makesTest, afterRound}
 use Rattle.plant.specs.Entry.{Entry, State, isCrash, acted, after}
 use Rattle.plant.proofs.StepCells.{Reset, reset-other}
 use Rattle.plant.proofs.StepLines.{Lines}
 use Rattle.station.specs.Sums.{sum, bit}
 use Rattle.detection.specs.Runs.{Taken, tableAfter, isTurnOf, takenTest}
-use Rattle.detection.specs.Rounds.{any, count, closes, finishesOf, finishedOrNotLive, testsIn, turnsIn, nthTurnFinishes}
+use Rattle.detection.specs.Rounds.{anyTaken, countTaken, closes, finishesOf, finishedOrNotLive, testsIn, turnsIn, nthTurnFinishes}
 use Rattle.station.proofs.BoolLaws.{by-bool, choice, bit-split, every-same}
 use Rattle.station.proofs.SumLaws.{sum-by, sum-add, sum-single}
+use Rattle.detection.specs.Claim.{TurnsOk}
 use Rattle.detection.proofs.TakenLaws.{takenAt, any-one, count-snoc, nth-snoc-turn, nth-snoc-other}
 use Rattle.detection.proofs.TurnHeads.{Heads}
 
 -- from t₀ to t, by the entries `cur`
 pub record Counts (n : ℕ) (t₀ : List ℕ) (cur : List Taken) (t : List ℕ) : Type 0 where
   pub turns : (i : ℕ) → i < n → testsMade n t i + finished n t i ≡ testsMade n t₀ i + finished n t₀ i + turnsIn i cur
-  pub ended : (i : ℕ) → i < n → finished n t i ≡ finished n t₀ i + count (finishesOf i) cur
-  pub lastEnds : (i : ℕ) → i < n → 1 ≤ count (finishesOf i) cur → nthTurnFinishes i (turnsIn i cur) cur ≡ true
+  pub ended : (i : ℕ) → i < n → finished n t i ≡ finished n t₀ i + countTaken (finishesOf i) cur
+  pub lastEnds : (i : ℕ) → i < n → 1 ≤ countTaken (finishesOf i) cur → nthTurnFinishes i (turnsIn i cur) cur ≡ true
   pub tests : sum (testsMade n t) n ≡ sum (testsMade n t₀) n + testsIn cur
 
 pub counts-start : (n : ℕ) (t : List ℕ) → Counts n t [] t
-unfolding count
+unfolding countTaken
 counts-start n t =
     record { turns = λ i h. omega arith; ended = λ i h. omega arith; lastEnds = λ i h e. absurd (omega arith); tests = omega arith }
 
@@ -75,15 +76,15 @@ module _ (n : ℕ) (s : State) (e : Entry) (t₀ t′ : List ℕ) (cur : List Ta
   turns-of : (k : ℕ) → turnsIn k here ≡ turnsIn k cur + bit (eqb i k)
   turns-of k = count-snoc (isTurnOf k) cur x ∙ rw (turn-of k)
 
-  ends-of : (k : ℕ) → count (finishesOf k) here ≡ count (finishesOf k) cur + bit (eqb i k && not b)
+  ends-of : (k : ℕ) → countTaken (finishesOf k) here ≡ countTaken (finishesOf k) cur + bit (eqb i k && not b)
   ends-of k = count-snoc (finishesOf k) cur x ∙ rw (end-of k)
 
-  last : (k : ℕ) → k < n → 1 ≤ count (finishesOf k) here → nthTurnFinishes k (turnsIn k here) here ≡ true
+  last : (k : ℕ) → k < n → 1 ≤ countTaken (finishesOf k) here → nthTurnFinishes k (turnsIn k here) here ≡ true
   last k h some =
       by-bool (eqb i k)
       (λ q.
       let more : turnsIn k here ≡ suc (turnsIn k cur) = omega (arith, rw q at (turns-of k)) in
-      let none : count (finishesOf k) cur ≡ 0 = let k=i = eqb-true i k q in omega (arith, c .ended k h, rw k=i at unfinished) in
+      let none : countTaken (finishesOf k) cur ≡ 0 = let k=i = eqb-true i k q in omega (arith, c .ended k h, rw k=i at unfinished) in
       rw more (nth-snoc-turn k cur x (turn-of k ∙ q)
       ∙ by-bool b (λ p. absurd (omega (arith, rw (q, p) at (ends-of k)))) (λ p. rw (noCrash, p))))
       (λ q.
@@ -103,10 +104,6 @@ module _ (n : ℕ) (s : State) (e : Entry) (t₀ t′ : List ℕ) (cur : List Ta
         omega (arith, sum-by n (λ k h. tests-of k), sum-add (testsMade n t) f n, c .tests, count-snoc takenTest cur x);
   }
 
--- a round in which station i has at most n turns, the nth of which finished its pass
-abbrev pub TurnsOk : ℕ → ℕ → List Taken → Type 0
-TurnsOk n i round = (turnsIn i round ≤ n) × (n ≤ turnsIn i round → nthTurnFinishes i n round ≡ true)
-
 -- in a round, from its start on
 module _ (n : ℕ) (t₀ t : List ℕ) (cur : List Taken) (fresh : (i : ℕ) → i < n → Reset n t₀ i) (lines : Lines n t)
     (c : Counts n t₀ cur t) where
@@ -120,14 +117,14 @@ module _ (n : ℕ) (t₀ t : List ℕ) (cur : List Taken) (fresh : (i : ℕ) →
             rw all at (c .lastEnds i h (omega (arith, c .ended i h, fresh i h))),
       )
 
-  any-finished : (i : ℕ) → i < n → any (finishesOf i) cur ≡ eqb (finished n t i) 1
+  any-finished : (i : ℕ) → i < n → anyTaken (finishesOf i) cur ≡ eqb (finished n t i) 1
   any-finished i h =
-      let same : finished n t i ≡ count (finishesOf i) cur = omega (arith, c .ended i h, fresh i h) in
+      let same : finished n t i ≡ countTaken (finishesOf i) cur = omega (arith, c .ended i h, fresh i h) in
       rw same (any-one (finishesOf i) cur (omega (arith, lines .1 i h .pass .finishedRange)))
 
   -- a round of entries closes exactly where the table's round does
   pub closes-is : (s : State) (e : Entry) → acted n (s .table) e ≡ t → closes cur (takenAt n s e) ≡ roundOver n t
-  unfolding closes roundOver someLive liveFinished after afterRound
+  unfolding closes someLive liveFinished after afterRound
   closes-is s e acts =
       ap₂ _&&_ (ap not (every-same (notLive n (tableAfter x)) (notLive n t) n (λ k h. ap not (alike k))))
       (every-same (finishedOrNotLive cur x) (finishedIfLive n t) n (λ k h. ap₂ _||_ (ap not (alike k)) (any-finished k h)))

@@ -10,25 +10,26 @@ use lib.ListN.{length, getD}
 use lib.Bits.{xor-lt}
 use lib.Pow.{pow-mono}
 use lib.Dec.{eqb}
+use Rattle.station.specs.Rules.{roundOver}
 use Rattle.station.specs.Groups.{stationAt, dimension}
 use Rattle.station.specs.Table.{finished, suspects, live}
 use Rattle.station.proofs.SearchLaws.{both}
 use Rattle.station.proofs.Refusals.{Accepted}
 use Rattle.station.proofs.Sizes.{size-pow, size-bounds}
-use Rattle.plant.specs.Turn.{kindTurn, kindLate, kindCrash, makesTest, nextTest, turnTested, roundOver, resetLines, afterRound}
+use Rattle.plant.specs.Turn.{kindTurn, kindLate, kindCrash, makesTest, nextTest, turnTested, resetLines, afterRound}
 use Rattle.plant.specs.Entry.{Entry, State, isCrash, entryNumber, acted, after, testedOf}
 use Rattle.plant.proofs.Kept.{Takes, entry-facts}
 use Rattle.plant.proofs.StepLines.{Lines, station-below}
 use Rattle.plant.proofs.NextTest.{test-below}
 use Rattle.station.specs.Sums.{bit}
 use Rattle.detection.specs.Runs.{Taken, takenTest, crashes, isLate}
-use Rattle.detection.specs.Rounds.{all, count, Rounds, closes, cut, testsIn, testsOfAll}
-use Rattle.detection.specs.Claim.{demandCount, allRounds}
+use Rattle.detection.specs.Rounds.{allTaken, countTaken, Rounds, closes, cut, testsIn, testsOfAll}
+use Rattle.detection.specs.Claim.{TurnsOk, demandCount, allRounds}
 use Rattle.station.proofs.BoolLaws.{by-bool}
 use Rattle.detection.proofs.TakenLaws.{takenAt, count-snoc}
 use Rattle.detection.proofs.Spread as spread
 use Rattle.detection.proofs.Chain.{Chain, done, more}
-use Rattle.detection.proofs.Counting.{turn-counts, TurnsOk, turns-ok, closes-is}
+use Rattle.detection.proofs.Counting.{turn-counts, turns-ok, closes-is}
 use Rattle.detection.proofs.TurnHeads.{turn-heads}
 use Rattle.detection.proofs.TurnEffect.{Company, turn-effect}
 use Rattle.detection.proofs.Knowledge.{Exact, Knows, turn-knows}
@@ -152,7 +153,7 @@ module _ (n : ℕ) (T : List ℕ) (company : Company n (live n T)) (t₀ : List 
   cut-more : (xs : List Taken) (s′ : State)
       → ((t₁ : List ℕ) (now : List Taken) → InRound n L t₁ now (after n s e .table) → CutFrom n T t₁ now (after n s e) xs s′)
       → CutFrom n T t₀ cur s (x ∷ xs) s′
-  unfolding cut after afterRound testsOfAll count
+  unfolding cut after afterRound testsOfAll countTaken
   cut-more xs s′ rest = by-bool (roundOver n t′) closing going
     where
       closing : roundOver n t′ ≡ true → CutFrom n T t₀ cur s (x ∷ xs) s′
@@ -186,13 +187,13 @@ module _ (n : ℕ) (T : List ℕ) (company : Company n (live n T)) (t₀ : List 
 
 -- a chain, cut into rounds
 pub course : (n : ℕ) (T : List ℕ) → Company n (live n T) → {s s′ : State} {xs : List Taken} → Chain n s xs s′
-    → all (λ x. not (crashes x)) xs ≡ true → all (λ x. not (isLate x)) xs ≡ true
+    → allTaken (λ x. not (crashes x)) xs ≡ true → allTaken (λ x. not (isLate x)) xs ≡ true
     → (t₀ : List ℕ) (cur : List Taken) → InRound n (live n T) t₀ cur (s .table) → CutFrom n T t₀ cur s xs s′
-unfolding all
+unfolding allTaken
 course n T company {s} done a b t₀ cur inv = cut-done n T t₀ cur s inv
 course n T company {s} {s′} (more {xs = xs} e ok takes chain) a b t₀ cur inv =
-    let p = both (not (isCrash e)) (all (λ x. not (crashes x)) xs) a in
+    let p = both (not (isCrash e)) (allTaken (λ x. not (crashes x)) xs) a in
     let late : Bool = isLate (takenAt n s e) in
-    let q = both (not late) (all (λ x. not (isLate x)) xs) b in
+    let q = both (not late) (allTaken (λ x. not (isLate x)) xs) b in
     cut-more n T company t₀ cur s e ok takes inv (not-true (isCrash e) (p .0)) (not-true late (q .0)) xs s′
     (λ t₁ now i. course n T company chain (p .1) (q .1) t₁ now i)

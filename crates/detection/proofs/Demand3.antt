@@ -4,7 +4,7 @@ use mathlib.Core.Path.{_≡_, refl, sym, ap, _∙_}
 use mathlib.Core.Logic.{_⊎_, inl, inr, _≢_}
 use mathlib.Core.Bool.{Bool, true, false, not, _&&_}
 use mathlib.Core.List.{List, [], _∷_, _++_}
-use Prim.Native.Nat.{ℕ, zero, suc, _+_, _*_, _≤_, _<_}
+use Prim.Native.Nat.{ℕ, zero, suc, _+_, _*_, _≤_, _<_, _-_, _/_}
 use native.Mathlib.Nat.{le-trans}
 use native.Mathlib.Omega.{arith}
 use borrow.Author.Tests.{ltb-true, ltb-false, eqb-true, eqb-false, ne-eqb, not-true}
@@ -22,11 +22,11 @@ use Rattle.plant.specs.Entry.{State}
 use Rattle.plant.proofs.StepCells.{Reset}
 use Rattle.station.specs.Sums.{bit}
 use Rattle.detection.specs.Runs.{Call, takenAll, afterRun, afterRuns}
-use Rattle.detection.specs.Rounds.{count, cut, testsOfAll}
+use Rattle.detection.specs.Rounds.{countTaken, cut, testsOfAll}
 use Rattle.detection.specs.Claim.{lineAtStart, atStart, liveCount, noLiveSuspicion, noneSuspected, roundsOf, Premises, Conclusion, Demand3, Demand3After}
 use Rattle.station.proofs.BoolLaws.{by-bool}
 use Rattle.station.proofs.SumLaws.{sum-single}
-use Rattle.detection.proofs.Spread.{bound, bound-le-square}
+use Rattle.detection.proofs.Spread.{bound, bound-le-square, bound-is}
 use Rattle.detection.proofs.Chain.{chain-all, chain-first}
 use Rattle.detection.proofs.TurnEffect.{Company}
 use Rattle.detection.proofs.Knowledge.{Exact}
@@ -101,7 +101,7 @@ module _ (n : ℕ) (s : State) (calls : List Call) (given : Premises n s calls) 
   square = bound-le-square (dimension n)
 
   demand-3-accepted : Conclusion n s calls (afterRuns s calls)
-  unfolding count
+  unfolding countTaken
   demand-3-accepted = record {
     sameLive = history .0 .last .plain .lives;
     turns = λ k i h g l. history .0 .turns k i h g;
@@ -114,7 +114,7 @@ module _ (n : ℕ) (s : State) (calls : List Call) (given : Premises n s calls) 
 -- no entry is taken, as in a table that they do not let through
 demand-3-none : (n : ℕ) (s : State) (calls : List Call) → isSize n ≡ true → takenAll s calls ≡ [] → afterRuns s calls ≡ s
     → Conclusion n s calls (afterRuns s calls)
-unfolding cut count testsOfAll
+unfolding cut countTaken testsOfAll
 demand-3-none n s calls size none stays =
     rw stays (record {
       sameLive = λ i h. refl;
@@ -141,6 +141,18 @@ demand-3 n s calls given = go (chain-first (chain-all n s calls (given .long)))
     go : ((takenAll s calls ≡ []) × (afterRuns s calls ≡ s)) ⊎ Accepted n (s .table) → Conclusion n s calls (afterRuns s calls)
     go (inl e) = demand-3-none n s calls (given .size) (e .0) (e .1)
     go (inr ok) = demand-3-accepted n s calls given ok
+
+-- after 1 + d(d − 1)/2 closed rounds already each live board suspects exactly the boards that are not live: an end in itself
+pub known-sooner : (n : ℕ) (s : State) (calls : List Call) → Premises n s calls
+    → 1 + dimension n * (dimension n - 1) / 2 ≤ length (roundsOf s calls .closed)
+    → (i j : ℕ) → i < n → j < n → live n (s .table) i ≡ true → suspects n (afterRuns s calls .table) i j ≡ bit (notLive n (s .table) j)
+unfolding cut
+known-sooner n s calls given far = go (chain-first (chain-all n s calls (given .long)))
+  where
+    go : ((takenAll s calls ≡ []) × (afterRuns s calls ≡ s)) ⊎ Accepted n (s .table)
+        → (i j : ℕ) → i < n → j < n → live n (s .table) i ≡ true → suspects n (afterRuns s calls .table) i j ≡ bit (notLive n (s .table) j)
+    go (inl e) = let none : length (roundsOf s calls .closed) ≡ 0 = rw (e .0) in absurd (omega arith)
+    go (inr ok) = known n s calls given ok (le-trans (bound-is (dimension n)) far)
 
 -- the runs of a list and one more
 after-one-more : (s : State) (calls : List Call) (c : Call) → afterRuns s (calls ++ (c ∷ [])) ≡ afterRun (afterRuns s calls) c

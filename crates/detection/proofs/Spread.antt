@@ -36,10 +36,11 @@ bound-le-square zero = omega arith
 bound-le-square (suc zero) = omega arith
 bound-le-square (suc (suc s)) = omega (arith, bound-le-square (suc s), mul-suc (suc (suc s)) (suc s), suc-mul (suc s) (suc s))
 
--- the bound in closed form, an end in itself
-pub bound-is : (s : ℕ) → bound (suc s) ≡ 1 + suc s * s / 2
+-- the bound in closed form
+pub bound-is : (d : ℕ) → bound d ≤ 1 + d * (d - 1) / 2
 unfolding bound
-bound-is s = omega (arith, twice s)
+bound-is zero = omega arith
+bound-is (suc s) = let e : suc s - 1 ≡ s = omega arith in rw e (omega (arith, twice s))
   where
     twice : (s : ℕ) → 2 * bound (suc s) ≡ 2 + suc s * s
     twice zero = refl

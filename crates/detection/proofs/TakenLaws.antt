@@ -10,7 +10,7 @@ use lib.Dec.{eqb}
 use Rattle.plant.specs.Entry.{Entry, State}
 use Rattle.station.specs.Sums.{bit}
 use Rattle.detection.specs.Runs.{Taken, isTurnOf, finishes}
-use Rattle.detection.specs.Rounds.{any, count, turnsIn, nthTurnFinishes}
+use Rattle.detection.specs.Rounds.{anyTaken, countTaken, turnsIn, nthTurnFinishes}
 use Rattle.station.proofs.BoolLaws.{by-bool}
 
 -- an entry as it is taken
@@ -18,24 +18,24 @@ abbrev pub takenAt : ℕ → State → Entry → Taken
 takenAt n s e = record { size = n; before = s; entry = e }
 
 -- whether any entry passes q, where at most one does
-pub any-one : (q : Taken → Bool) (xs : List Taken) → count q xs ≤ 1 → any q xs ≡ eqb (count q xs) 1
-unfolding any count
+pub any-one : (q : Taken → Bool) (xs : List Taken) → countTaken q xs ≤ 1 → anyTaken q xs ≡ eqb (countTaken q xs) 1
+unfolding anyTaken countTaken
 any-one q [] h = refl
 any-one q (x ∷ xs) h =
     by-bool (q x)
-    (λ e. let z : count q xs ≡ 0 = omega (arith, rw e at h) in rw (e, z))
-    (λ e. let z : 0 + count q xs ≡ count q xs = omega arith in rw (e, z) (any-one q xs (omega (arith, rw e at h))))
+    (λ e. let z : countTaken q xs ≡ 0 = omega (arith, rw e at h) in rw (e, z))
+    (λ e. let z : 0 + countTaken q xs ≡ countTaken q xs = omega arith in rw (e, z) (any-one q xs (omega (arith, rw e at h))))
 
 -- how many entries of the longer list pass q
-pub count-snoc : (q : Taken → Bool) (xs : List Taken) (x : Taken) → count q (xs ++ (x ∷ [])) ≡ count q xs + bit (q x)
-unfolding count
+pub count-snoc : (q : Taken → Bool) (xs : List Taken) (x : Taken) → countTaken q (xs ++ (x ∷ [])) ≡ countTaken q xs + bit (q x)
+unfolding countTaken
 count-snoc q [] x = omega arith
 count-snoc q (y ∷ xs) x = omega (arith, count-snoc q xs x)
 
 -- a turn of i behind k turns of i is the next one
 pub nth-snoc-turn : (i : ℕ) (xs : List Taken) (x : Taken) → isTurnOf i x ≡ true
     → nthTurnFinishes i (suc (turnsIn i xs)) (xs ++ (x ∷ [])) ≡ finishes x
-unfolding nthTurnFinishes count
+unfolding nthTurnFinishes countTaken
 nth-snoc-turn i [] x e = rw e
 nth-snoc-turn i (y ∷ xs) x e =
     let k : ℕ = turnsIn i xs in

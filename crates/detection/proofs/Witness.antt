@@ -14,12 +14,12 @@ use Rattle.station.specs.Tests.{unsuspected, firstPlace, first, due}
 use Rattle.station.specs.Rows.{unionByte, union, mark}
 use Rattle.station.specs.Calls.{freshByte, freshTable}
 use Rattle.plant.specs.Iterate.{iterate}
-use Rattle.plant.specs.Turn.{nextTest, makesTest, finishPass, countTest, replies, isTold, exchangeRows, suspect, testOutcome, afterOutcome, selfOrSuspected, isAlone, afterAlone, testing, turn, turnTested, turnOutcome, crash, roundOver, resetLine, resetLines, afterRound}
+use Rattle.plant.specs.Turn.{nextTest, makesTest, finishPass, countTest, replies, isTold, exchangeRows, suspect, testOutcome, afterOutcome, selfOrSuspected, isAlone, afterAlone, testing, turn, turnTested, turnOutcome, crash, resetLine, resetLines, afterRound}
 use Rattle.plant.specs.Entry.{State, entryNumber, acted, after, testedOf, outcomeOf, sheetLine}
 use Rattle.plant.specs.Run.{entries, writeLine, goOn, startNumber, run}
 use Rattle.station.specs.Sums.{sum}
 use Rattle.detection.specs.Runs.{Call, afterRuns, takenFrom, takenIn, takenAll}
-use Rattle.detection.specs.Rounds.{any, all, count, closes, cut, testsIn}
+use Rattle.detection.specs.Rounds.{anyTaken, allTaken, countTaken, closes, cut, testsIn}
 use Rattle.detection.specs.Claim.{atStart, liveCount, noneSuspected, deadGroup, deadPairs, demandCount, roundsOf, Premises}
 
 -- four boards, board 3 dead, nothing suspected
@@ -55,7 +55,7 @@ pub record Computed : Type 0 where
   pub counted : demandCount 4 (boards .table) ≡ 7
 
 pub witness : Computed
-unfolding boards turnsOf calls atStart liveCount noneSuspected deadPairs deadGroup sum afterRuns takenFrom takenIn takenAll any all count closes cut run startNumber tableNumber shapeNumber isSize tableLength every lineRules rowRule someLive liveFinished cell lineStart row setRow setCell freshTable freshByte listOf goOn entries writeLine entryNumber after acted sheetLine testedOf outcomeOf turn turnTested turnOutcome crash roundOver resetLine resetLines afterRound iterate nextTest makesTest finishPass countTest replies isTold exchangeRows suspect testOutcome afterOutcome selfOrSuspected isAlone afterAlone testing due first firstPlace least unsuspected member width level dimension union unionByte mark
+unfolding boards turnsOf calls atStart liveCount noneSuspected deadPairs deadGroup sum afterRuns takenFrom takenIn takenAll anyTaken allTaken countTaken closes cut run startNumber tableNumber shapeNumber isSize tableLength every lineRules rowRule someLive liveFinished cell lineStart row setRow setCell freshTable freshByte listOf goOn entries writeLine entryNumber after acted sheetLine testedOf outcomeOf turn turnTested turnOutcome crash resetLine resetLines afterRound iterate nextTest makesTest finishPass countTest replies isTold exchangeRows suspect testOutcome afterOutcome selfOrSuspected isAlone afterAlone testing due first firstPlace least unsuspected member width level dimension union unionByte mark
 witness = record {
   premises = record { size = refl; long = refl; start = refl; twoLive = omega arith; trusted = refl; noCrash = refl; noLate = refl };
   closedTests = refl;

@@ -13,7 +13,7 @@ use Rattle.station.specs.Rules.{notLive}
 use Rattle.plant.specs.Entry.{State}
 use Rattle.station.specs.Sums.{sum, bit}
 use Rattle.detection.specs.Runs.{Call, Taken, afterRuns, takenAll, crashes, isLate}
-use Rattle.detection.specs.Rounds.{all, Rounds, cut, testsIn, testsOfAll, turnsIn, nthTurnFinishes}
+use Rattle.detection.specs.Rounds.{allTaken, Rounds, cut, testsIn, testsOfAll, turnsIn, nthTurnFinishes}
 
 -- "A table stands at the start of a round when every line has these three": next distance 1, finished 0, tests 0
 abbrev pub lineAtStart : ℕ → List ℕ → ℕ → Bool
@@ -26,17 +26,19 @@ atStart n t = every (lineAtStart n t) n
 unfoldable pub liveCount : ℕ → List ℕ → ℕ
 liveCount n t = sum (λ i. bit (live n t i)) n
 
--- no live station suspects a live one
+-- i and j are not both live, or i does not suspect j
 abbrev pub noLiveSuspicion : ℕ → List ℕ → ℕ → ℕ → Bool
 noLiveSuspicion n t i j = notLive n t i || notLive n t j || eqb (suspects n t i j) 0
 
+-- no live station suspects a live one
 unfoldable pub noneSuspected : ℕ → List ℕ → Bool
 noneSuspected n t = every (λ i. every (noLiveSuspicion n t i) n) n
 
--- the pairs of a station, live or not, and a level from 1 to d whose group has no live board
+-- the group of j at level s has no live board
 unfoldable pub deadGroup : ℕ → List ℕ → ℕ → ℕ → Bool
 deadGroup n t j s = every (λ k. notLive n t (member j s k)) (width s)
 
+-- the pairs of a station, live or not, and a level from 1 to d whose group has no live board
 unfoldable pub deadPairs : ℕ → List ℕ → ℕ
 deadPairs n t = sum (λ j. sum (λ h. bit (deadGroup n t j (suc h))) (dimension n)) n
 
@@ -56,6 +58,10 @@ allRounds r = r .closed ++ (r .openRound ∷ [])
 abbrev pub roundAt : State → List Call → ℕ → List Taken
 roundAt s calls k = getD (allRounds (roundsOf s calls)) k []
 
+-- "at most N turns, and an Nth finished its pass": station i in a round
+abbrev pub TurnsOk : ℕ → ℕ → List Taken → Type 0
+TurnsOk n i round = (turnsIn i round ≤ n) × (n ≤ turnsIn i round → nthTurnFinishes i n round ≡ true)
+
 -- what the claim supposes: a size and a table of its length, at the start of a round, two live boards at least, no live one suspecting a
 -- live one; any tally, any list of runs, without crashes and late replies of live boards
 pub record Premises (n : ℕ) (s : State) (calls : List Call) : Type 0 where
@@ -64,8 +70,8 @@ pub record Premises (n : ℕ) (s : State) (calls : List Call) : Type 0 where
   pub start : atStart n (s .table) ≡ true
   pub twoLive : 2 ≤ liveCount n (s .table)
   pub trusted : noneSuspected n (s .table) ≡ true
-  pub noCrash : all (λ x. not (crashes x)) (takenAll s calls) ≡ true
-  pub noLate : all (λ x. not (isLate x)) (takenAll s calls) ≡ true
+  pub noCrash : allTaken (λ x. not (crashes x)) (takenAll s calls) ≡ true
+  pub noLate : allTaken (λ x. not (isLate x)) (takenAll s calls) ≡ true
 
 -- what the claim says of table and tally after the list
 pub record Conclusion (n : ℕ) (s : State) (calls : List Call) (end : State) : Type 0 where
@@ -73,7 +79,7 @@ pub record Conclusion (n : ℕ) (s : State) (calls : List Call) (end : State) : 
   pub sameLive : (i : ℕ) → i < n → live n (end .table) i ≡ live n (s .table) i
   -- in every round, the open one included, a live board has at most N turns, and an Nth turn finished its pass
   pub turns : (k i : ℕ) → k ≤ length (roundsOf s calls .closed) → i < n → live n (s .table) i ≡ true
-      → (turnsIn i (roundAt s calls k) ≤ n) × (n ≤ turnsIn i (roundAt s calls k) → nthTurnFinishes i n (roundAt s calls k) ≡ true)
+      → TurnsOk n i (roundAt s calls k)
   -- once d·d rounds have closed, each live board suspects exactly the boards that are not live
   pub known : dimension n * dimension n ≤ length (roundsOf s calls .closed)
       → (i j : ℕ) → i < n → j < n → live n (s .table) i ≡ true → suspects n (end .table) i j ≡ bit (notLive n (s .table) j)

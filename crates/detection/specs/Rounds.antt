@@ -10,17 +10,17 @@ use Rattle.station.specs.Sums.{bit}
 use Rattle.detection.specs.Runs.{Taken, tableAfter, isTurnOf, takenTest, finishes}
 
 -- whether any entry of the list passes q, whether all do, and how many do
-unfoldable pub any : (Taken → Bool) → List Taken → Bool
-any q [] = false
-any q (x ∷ xs) = q x || any q xs
+unfoldable pub anyTaken : (Taken → Bool) → List Taken → Bool
+anyTaken q [] = false
+anyTaken q (x ∷ xs) = q x || anyTaken q xs
 
-unfoldable pub all : (Taken → Bool) → List Taken → Bool
-all q [] = true
-all q (x ∷ xs) = q x && all q xs
+unfoldable pub allTaken : (Taken → Bool) → List Taken → Bool
+allTaken q [] = true
+allTaken q (x ∷ xs) = q x && allTaken q xs
 
-unfoldable pub count : (Taken → Bool) → List Taken → ℕ
-count q [] = 0
-count q (x ∷ xs) = bit (q x) + count q xs
+unfoldable pub countTaken : (Taken → Bool) → List Taken → ℕ
+countTaken q [] = 0
+countTaken q (x ∷ xs) = bit (q x) + countTaken q xs
 
 -- whether station i finished its pass with the entry
 abbrev pub finishesOf : ℕ → Taken → Bool
@@ -28,7 +28,7 @@ finishesOf i x = eqb (x .entry .station) i && finishes x
 
 -- "each live one has finished its pass in that round": station i is not live after x, or finished its pass in the round
 abbrev pub finishedOrNotLive : List Taken → Taken → ℕ → Bool
-finishedOrNotLive round x i = notLive (x .size) (tableAfter x) i || any (finishesOf i) round
+finishedOrNotLive round x i = notLive (x .size) (tableAfter x) i || anyTaken (finishesOf i) round
 
 -- "It closes with the taken entry after which a station is live and each live one has finished its pass in that round": x is the last
 -- entry of the round so far
@@ -54,7 +54,7 @@ cut round (x ∷ xs) =
 
 -- "A round's tests are the turns in it that make a test."
 abbrev pub testsIn : List Taken → ℕ
-testsIn round = count takenTest round
+testsIn round = countTaken takenTest round
 
 -- the tests of a list of rounds
 unfoldable pub testsOfAll : List (List Taken) → ℕ
@@ -63,7 +63,7 @@ testsOfAll (round ∷ rounds) = testsIn round + testsOfAll rounds
 
 -- the turns of station i in the round
 abbrev pub turnsIn : ℕ → List Taken → ℕ
-turnsIn i round = count (isTurnOf i) round
+turnsIn i round = countTaken (isTurnOf i) round
 
 -- whether the kth turn of station i in the list, from 1, finishes its pass; where there is no kth, it does not
 unfoldable pub nthTurnFinishes : ℕ → ℕ → List Taken → Bool

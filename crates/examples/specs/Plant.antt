@@ -12,7 +12,7 @@ use Rattle.station.specs.Tests.{unsuspected, firstPlace, first, due, dueDistanc
 use Rattle.station.specs.Rows.{unionByte, union, mark}
 use Rattle.station.specs.Calls.{freshByte, freshTable}
 use Rattle.plant.specs.Iterate.{iterate}
-use Rattle.plant.specs.Turn.{nextTest, makesTest, finishPass, countTest, replies, isTold, exchangeRows, suspect, testOutcome, afterOutcome, selfOrSuspected, isAlone, afterAlone, testing, turn, turnTested, turnOutcome, crash, roundOver, resetLine, resetLines, afterRound}
+use Rattle.plant.specs.Turn.{nextTest, makesTest, finishPass, countTest, replies, isTold, exchangeRows, suspect, testOutcome, afterOutcome, selfOrSuspected, isAlone, afterAlone, testing, turn, turnTested, turnOutcome, crash, resetLine, resetLines, afterRound}
 use Rattle.plant.specs.Entry.{stateOf, entryNumber, acted, after, testedOf, outcomeOf, sheetLine}
 use Rattle.plant.specs.Run.{Outcome, entries, writeLine, goOn, startNumber, run}
 use Rattle.station.specs.Sums.{sum}
@@ -66,6 +66,7 @@ examples =
     ∷ gives (countOf fourDead) (23 ∷ [])
     ∷ gives (countOf fourAndFiveDead) (20 ∷ [])
     -- "0 suspects 1, exchanges with 2, then with 3; 1 tests 0, is told and leaves. 1's row stays empty."
+    ∷ gives (fourBoards .number ∷ fourBoards .taken ∷ []) (0 ∷ 4 ∷ [])
     ∷ gives (fourBoards .sheet) (0 ∷ 1 ∷ 3 ∷ 0 ∷ 0 ∷ 2 ∷ 1 ∷ 0 ∷ 0 ∷ 3 ∷ 1 ∷ 0 ∷ 1 ∷ 0 ∷ 2 ∷ 2 ∷ [])
     ∷ gives (row 4 (fourBoards .state .table) 0) (0 ∷ 1 ∷ 0 ∷ 0 ∷ [])
     ∷ gives (row 4 (fourBoards .state .table) 1) (0 ∷ 0 ∷ 0 ∷ 0 ∷ [])
@@ -75,5 +76,5 @@ examples =
 
 -- each example holds
 pub as-said : map (λ (e : Example). e .given) examples ≡ map (λ (e : Example). e .said) examples
-unfolding examples fourBoards fourDead fourAndFiveDead deadPairs deadGroup sum run startNumber tableNumber shapeNumber isSize tableLength every lineRules rowRule someLive liveFinished cell lineStart row setRow setCell freshTable freshByte listOf goOn entries writeLine entryNumber after acted sheetLine testedOf outcomeOf turn turnTested turnOutcome crash roundOver resetLine resetLines afterRound iterate nextTest makesTest finishPass countTest replies isTold exchangeRows suspect testOutcome afterOutcome selfOrSuspected isAlone afterAlone testing due dueDistances select first firstPlace least unsuspected member width level dimension group union unionByte mark
+unfolding examples fourBoards fourDead fourAndFiveDead deadPairs deadGroup sum run startNumber tableNumber shapeNumber isSize tableLength every lineRules rowRule someLive liveFinished cell lineStart row setRow setCell freshTable freshByte listOf goOn entries writeLine entryNumber after acted sheetLine testedOf outcomeOf turn turnTested turnOutcome crash resetLine resetLines afterRound iterate nextTest makesTest finishPass countTest replies isTold exchangeRows suspect testOutcome afterOutcome selfOrSuspected isAlone afterAlone testing due dueDistances select first firstPlace least unsuspected member width level dimension group union unionByte mark
 as-said = refl

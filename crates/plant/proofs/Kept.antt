@@ -1,4 +1,4 @@
--- A table that obeys the rules obeys them after every taken entry, and after every run; a taken entry's facts.
+-- A table that obeys the rules obeys them after every taken entry, and after every run; a taken entry's facts; the empty run.
 -- Assumes nothing.
 use mathlib.Core.Path.{_≡_, refl, sym, _∙_}
 use mathlib.Core.Bool.{Bool, true, false, cond, not, _&&_, _||_, and-false, or-false}
@@ -10,15 +10,16 @@ use lib.Dec.{eqb}
 use lib.ListN.{length}
 use Rattle.station.specs.Search.{every}
 use Rattle.station.specs.Table.{tableLength, finished, live}
-use Rattle.station.specs.Rules.{lineRules, notLive, someLive, finishedIfLive, liveFinished, tableNumber}
+use Rattle.station.specs.Rules.{lineRules, notLive, someLive, finishedIfLive, liveFinished, tableNumber, roundOver}
 use Rattle.station.proofs.BoolLaws.{neither}
 use Rattle.station.proofs.SearchLaws.{both, every-at, every-all}
-use Rattle.station.proofs.Refusals.{Accepted, else-zero, refuse-zero}
+use Rattle.station.proofs.Refusals.{Accepted, accepted, else-zero, refuse-zero}
 use Rattle.station.proofs.Sizes.{size-bounds}
 use Rattle.station.proofs.CellLaws.{Line, line-holds, accepted-line}
-use Rattle.plant.specs.Turn.{turn, crash, roundOver, resetLines, afterRound}
+use Rattle.plant.specs.Turn.{turn, crash, resetLines, afterRound}
 use Rattle.plant.specs.Entry.{Entry, State, tallyTop, isCrash, entryNumber, acted, after, sheetLine}
 use Rattle.plant.specs.Run.{Outcome, entries, writeLine, goOn, startNumber, run}
+use Rattle.plant.proofs.RunLaws.{accepted-number}
 use Rattle.plant.proofs.StepLines.{Lines, leave-lines, turn-lines, reset-lines}
 use Rattle.plant.proofs.StepCells.{reset-cells}
 
@@ -84,7 +85,7 @@ unfinished-open n t zeros = pick (every (finishedIfLive n t) n) refl
     pick false e = and-false (not (every (notLive n t) n))
 
 pub accepted-kept : (n : ℕ) (s : State) (e : Entry) → Accepted n (s .table) → entryNumber n s e ≡ 0 → Accepted n (after n s e .table)
-unfolding after afterRound roundOver
+unfolding after afterRound
 accepted-kept n s e a z = pick (roundOver n t) refl
   where
     t : List ℕ
@@ -121,8 +122,7 @@ accepted-on n k s sheet (e ∷ es) a =
     pick true c next = next (eqb-true (entryNumber n s e) 0 c)
     pick false c next = a
 
--- the rules are kept by every run, an end in itself
-pub accepted-run : (n : ℕ) (s : State) (schedule sheet : List ℕ) → Accepted n (s .table) → Accepted n (run n s schedule sheet .state .table)
+accepted-run : (n : ℕ) (s : State) (schedule sheet : List ℕ) → Accepted n (s .table) → Accepted n (run n s schedule sheet .state .table)
 unfolding run
 accepted-run n s schedule sheet a = pick (eqb (startNumber n (s .table) (length schedule) (length sheet)) 0)
   where
@@ -133,3 +133,7 @@ accepted-run n s schedule sheet a = pick (eqb (startNumber n (s .table) (length 
         → Accepted n (cond b rest (record { number = startNumber n (s .table) (length schedule) (length sheet); taken = 0; state = s; sheet = sheet }) .state .table)
     pick true = accepted-on n 0 s sheet (entries schedule) a
     pick false = a
+
+-- a table that refusals 1 to 4 let through is let through after every run, an end in itself
+pub run-keeps : (n : ℕ) (s : State) (schedule sheet : List ℕ) → tableNumber n (s .table) ≡ 0 → tableNumber n (run n s schedule sheet .state .table) ≡ 0
+run-keeps n s schedule sheet z = accepted-number n _ (accepted-run n s schedule sheet (accepted n (s .table) z))

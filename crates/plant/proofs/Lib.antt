@@ -2,7 +2,7 @@
 pub mod NextTest
 pub mod StepCells
 pub mod StepLines
-pub mod Kept
 pub mod IterateLaws
 pub mod RowLaws
 pub mod RunLaws
+pub mod Kept

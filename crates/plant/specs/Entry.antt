@@ -5,10 +5,10 @@ use mathlib.Core.Bool.{Bool, cond, not, _&&_, _||_}
 use mathlib.Core.List.{List, [], _∷_}
 use lib.Dec.{leb, eqb}
 use Rattle.station.specs.Table.{status, finished, live}
-use Rattle.station.specs.Rules.{refuse, _else_}
+use Rattle.station.specs.Rules.{refuse, _else_, roundOver}
 use Rattle.station.specs.Calls.{stationRefusal}
 use Rattle.plant.specs.declared.Tally.{Tally}
-use Rattle.plant.specs.Turn.{kindCrash, outcomeCrash, noStation, makesTest, turn, turnTested, turnOutcome, crash, roundOver, afterRound}
+use Rattle.plant.specs.Turn.{kindCrash, outcomeCrash, noStation, makesTest, turn, turnTested, turnOutcome, crash, afterRound}
 
 -- "A schedule entry is two bytes: kind [..] and station i."
 pub record Entry : Type 0 where
@@ -21,7 +21,7 @@ pub record State : Type 0 where
   pub rounds : ℕ
   pub tests : ℕ
 
--- a state and an entry by their parts
+-- a state by its parts
 abbrev pub stateOf : List ℕ → ℕ → ℕ → State
 stateOf t r u = record { table = t; rounds = r; tests = u }
 
@@ -29,6 +29,7 @@ stateOf t r u = record { table = t; rounds = r; tests = u }
 abbrev pub stateWith : List ℕ → Tally → State
 stateWith t tally = stateOf t (tally .rounds) (tally .tests)
 
+-- an entry by its two bytes
 abbrev pub entryOf : ℕ → ℕ → Entry
 entryOf k i = record { kind = k; station = i }
 

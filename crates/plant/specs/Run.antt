@@ -7,13 +7,13 @@ use lib.ListN.{length, take, drop}
 use lib.Dec.{eqb}
 use Rattle.station.specs.Rules.{refuse, _else_, tableNumber}
 use Rattle.plant.specs.declared.Answer.{Answer}
-use Rattle.plant.specs.Entry.{Entry, State, stateWith, entryNumber, after, sheetLine}
+use Rattle.plant.specs.Entry.{Entry, State, stateWith, entryOf, entryNumber, after, sheetLine}
 
 -- the entries of a schedule, two bytes each
 unfoldable pub entries : List ℕ → List Entry
 entries [] = []
 entries (k ∷ []) = []
-entries (k ∷ i ∷ rest) = record { kind = k; station = i } ∷ entries rest
+entries (k ∷ i ∷ rest) = entryOf k i ∷ entries rest
 
 -- what a run answers and leaves: the number (0 or a refusal), how many entries were taken, table and tally, and the sheet
 pub record Outcome : Type 0 where
@@ -41,7 +41,8 @@ goOn n k s sheet (e ∷ es) =
 
 -- refusals 1 to 6: then "The schedule's length is odd." "The sheet's length is not twice the schedule's."
 unfoldable pub startNumber : ℕ → List ℕ → ℕ → ℕ → ℕ
-startNumber n t schedule sheet = tableNumber n t else refuse 5 (eqb (schedule % 2) 1) else refuse 6 (not (eqb sheet (2 * schedule)))
+startNumber n t scheduleLength sheetLength =
+    tableNumber n t else refuse 5 (eqb (scheduleLength % 2) 1) else refuse 6 (not (eqb sheetLength (2 * scheduleLength)))
 
 -- the run of a schedule on a table and a tally with a lent sheet, for all inputs. "A run refused by 1 to 6 gives back the tally handed in."
 unfoldable pub run : ℕ → State → List ℕ → List ℕ → Outcome

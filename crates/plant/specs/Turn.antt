@@ -7,7 +7,7 @@ use lib.Dec.{ltb, eqb}
 use Rattle.station.specs.Search.{least, every}
 use Rattle.station.specs.Groups.{stationAt, distances}
 use Rattle.station.specs.Table.{setCell, statusColumn, nextColumn, finishedColumn, testsColumn, nextDistance, testsMade, suspects, live, row, setRow}
-use Rattle.station.specs.Rules.{someLive, liveFinished}
+use Rattle.station.specs.Rules.{roundOver}
 use Rattle.station.specs.Tests.{due}
 use Rattle.station.specs.Rows.{union, mark}
 use Rattle.plant.specs.Iterate.{iterate}
@@ -132,11 +132,7 @@ turnOutcome n t kind i = cond (makesTest n t i) (testOutcome n (countTest n t i 
 unfoldable pub crash : ℕ → List ℕ → ℕ → List ℕ
 crash n t i = setStatus n t i statusCrashed
 
--- Step 8: "if a station is live and all live ones are finished, the round closes"
-unfoldable pub roundOver : ℕ → List ℕ → Bool
-roundOver n t = someLive n t && liveFinished n t
-
--- "Every line, live or not, gets next distance 1, finished 0, tests 0"
+-- Step 8, where the round is over: "Every line, live or not, gets next distance 1, finished 0, tests 0"
 unfoldable pub resetLine : ℕ → ℕ → List ℕ → List ℕ
 resetLine n i t = setCell n (setCell n (setCell n t i nextColumn 1) i finishedColumn 0) i testsColumn 0
 

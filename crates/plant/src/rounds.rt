@@ -2,8 +2,9 @@
 ghost use mathlib.Core.Path.{_≡_};
 ghost use Prim.Native.Nat.{_<_};
 ghost use lib.ListN.{length};
-ghost use Rattle.station.specs.Table.{tableLength};
-ghost use Rattle.plant.specs.Turn.{roundOver, resetLine, resetLines, afterRound};
+ghost use Rattle.station.specs.Rules.{roundOver};
+ghost use Rattle.station.specs.Table.{HasLine, tableLength};
+ghost use Rattle.plant.specs.Turn.{resetLine, resetLines, afterRound};
 use crate::inside;
 use station::Station;
 use station::cells;
@@ -11,7 +12,7 @@ use station::rules;
 
 // Closes the round if a station is live and all live ones are finished; answers whether it closed. i is the station of the entry.
 pub(crate) fn close_round(n: u8, table: &mut [u8], i: Station) -> bool
-    requires { ⌜ (length (now table) ≡ tableLength n) × (i .0 < n) ⌝ }
+    requires { ⌜ HasLine n (now table) (i .0) ⌝ }
     ensures { λ r. ⌜ r ≡ roundOver n (now (table .entry)) ⌝ }
     ensures { λ _. ⌜ now (table .exit) ≡ afterRound n (now (table .entry)) ⌝ }
 {
@@ -47,7 +48,7 @@ fn reset_lines(n: u8, table: &mut [u8])
 
 // Next distance 1, finished 0, tests 0.
 fn reset_line(n: u8, table: &mut [u8], i: Station)
-    requires { ⌜ (length (now table) ≡ tableLength n) × (i .0 < n) ⌝ }
+    requires { ⌜ HasLine n (now table) (i .0) ⌝ }
     ensures { λ _. ⌜ now (table .exit) ≡ resetLine n (i .0) (now (table .entry)) ⌝ }
 {
     inside::put(n, table, i, cells::NEXT, 1);

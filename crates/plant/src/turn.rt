@@ -3,7 +3,7 @@ ghost use mathlib.Core.Path.{_≡_};
 ghost use Prim.Native.Nat.{_-_, _<_, _≤_};
 ghost use lib.ListN.{length};
 ghost use Rattle.station.specs.Search.{least};
-ghost use Rattle.station.specs.Table.{tableLength, testsMade, row, setRow};
+ghost use Rattle.station.specs.Table.{HasLine, tableLength, testsMade, row, setRow};
 ghost use Rattle.station.specs.Groups.{stationAt};
 ghost use Rattle.station.specs.Rows.{union, sameRows, united};
 ghost use Rattle.station.specs.Rules.{tableNumber};
@@ -50,7 +50,7 @@ pub(crate) fn take_turn(n: u8, table: &mut [u8], kind: u8, i: Station) -> Turned
 
 // Step 2: the least due distance not below the next one; the number of distances where there is none.
 fn next_test(n: u8, table: &[u8], i: Station) -> Distance
-    requires { ⌜ (length (now table) ≡ tableLength n) × (i .0 < n) ⌝ }
+    requires { ⌜ HasLine n (now table) (i .0) ⌝ }
     ensures { λ r. ⌜ r .0 ≡ nextTest n (now (table .entry)) (i .0) ⌝ }
 {
     let next = inside::get(n, table, i, cells::NEXT);
@@ -78,7 +78,7 @@ fn scan(row: &[u8], i: Station, end: u8, from: Distance) -> Distance
 
 // Step 2: no distance is due any more.
 fn finish_pass(n: u8, table: &mut [u8], i: Station)
-    requires { ⌜ (length (now table) ≡ tableLength n) × (i .0 < n) ⌝ }
+    requires { ⌜ HasLine n (now table) (i .0) ⌝ }
     ensures { λ _. ⌜ now (table .exit) ≡ finishPass n (now (table .entry)) (i .0) ⌝ }
 {
     inside::put(n, table, i, cells::NEXT, groups::distances(n));
@@ -141,7 +141,7 @@ fn apply_outcome(n: u8, table: &mut [u8], i: Station, j: Station, outcome: u8)
 
 // Steps 4, 6 and 7: the station leaves with a status.
 pub(crate) fn leave(n: u8, table: &mut [u8], i: Station, status: u8)
-    requires { ⌜ (length (now table) ≡ tableLength n) × (i .0 < n) ⌝ }
+    requires { ⌜ HasLine n (now table) (i .0) ⌝ }
     ensures { λ _. ⌜ now (table .exit) ≡ setStatus n (now (table .entry)) (i .0) status ⌝ }
 {
     inside::put(n, table, i, cells::STATUS, status);
@@ -149,7 +149,7 @@ pub(crate) fn leave(n: u8, table: &mut [u8], i: Station, status: u8)
 
 // Step 4: whether j replies in time.
 fn does_reply(n: u8, table: &[u8], kind: u8, j: Station) -> bool
-    requires { ⌜ (length (now table) ≡ tableLength n) × (j .0 < n) ⌝ }
+    requires { ⌜ HasLine n (now table) (j .0) ⌝ }
     ensures { λ r. ⌜ r ≡ replies n (now (table .entry)) kind (j .0) ⌝ }
 {
     let status = inside::get(n, table, j, cells::STATUS);
@@ -167,7 +167,7 @@ fn is_told(n: u8, table: &[u8], i: Station, j: Station) -> bool
 
 // Step 5: i suspects j. The row is lent as a part of the table.
 fn suspect_station(n: u8, table: &mut [u8], i: Station, j: Station)
-    requires { ⌜ (length (now table) ≡ tableLength n) × (i .0 < n) ⌝ }
+    requires { ⌜ HasLine n (now table) (i .0) ⌝ }
     ensures { λ _. ⌜ now (table .exit) ≡ suspect n (now (table .entry)) (i .0) (j .0) ⌝ }
 {
     let a = cells::row_start(n, i);
@@ -209,7 +209,7 @@ fn unite_rows(n: u8, table: &[u8], i: Station, j: Station, out: &mut [u8])
 
 // Joins another row into the row of station i, lent as a part of the table.
 fn join_into(n: u8, table: &mut [u8], i: Station, other: &[u8])
-    requires { ⌜ (length (now table) ≡ tableLength n) × (i .0 < n) ⌝ }
+    requires { ⌜ HasLine n (now table) (i .0) ⌝ }
     ensures { λ _. ⌜ now (table .exit) ≡ setRow n (now (table .entry)) (i .0) (union (row n (now (table .entry)) (i .0)) (now (other .entry)) (i .0)) ⌝ }
 {
     let a = cells::row_start(n, i);
@@ -219,7 +219,7 @@ fn join_into(n: u8, table: &mut [u8], i: Station, other: &[u8])
 
 // Step 6: i leaves if it is live and suspects all others.
 fn leave_if_alone(n: u8, table: &mut [u8], i: Station)
-    requires { ⌜ (length (now table) ≡ tableLength n) × (i .0 < n) ⌝ }
+    requires { ⌜ HasLine n (now table) (i .0) ⌝ }
     ensures { λ _. ⌜ now (table .exit) ≡ afterAlone n (now (table .entry)) (i .0) ⌝ }
 {
     if suspects_all(n, table, i) {
@@ -229,7 +229,7 @@ fn leave_if_alone(n: u8, table: &mut [u8], i: Station)
 
 // Step 6: whether i is live and suspects all others.
 fn suspects_all(n: u8, table: &[u8], i: Station) -> bool
-    requires { ⌜ (length (now table) ≡ tableLength n) × (i .0 < n) ⌝ }
+    requires { ⌜ HasLine n (now table) (i .0) ⌝ }
     ensures { λ r. ⌜ r ≡ isAlone n (now (table .entry)) (i .0) ⌝ }
 {
     if inside::get(n, table, i, cells::STATUS) != codes::LIVE {

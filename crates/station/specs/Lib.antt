@@ -1,4 +1,4 @@
--- What the contracts and theorems of `station` cite, in the order of document 01.
+-- What the contracts and theorems of `station` cite, in the order of document 01; sums serve the crates above.
 pub mod Search
 pub mod Sums
 pub mod Groups

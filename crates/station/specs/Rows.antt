@@ -1,4 +1,5 @@
--- Document 01, steps 4 and 5: what is done to a row.
+-- Document 01, steps 4 and 5: what is done to a row. `sameByte`, `sameRows` and `united` stand for no sentence: two helpers of the exchange promise
+-- them.
 -- Assumes nothing.
 use Prim.Native.Nat.{ℕ, max}
 use mathlib.Core.Bool.{Bool, cond, _&&_}

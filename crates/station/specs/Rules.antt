@@ -30,19 +30,24 @@ rowRule n t i = eqb (suspects n t i i) 0 && every (suspicionRule n t i) n
 unfoldable pub lineRules : ℕ → List ℕ → ℕ → Bool
 lineRules n t i = statusRule (status n t i) && passRule n (nextDistance n t i) (finished n t i) (testsMade n t i) && rowRule n t i
 
--- "Some station is live"
 abbrev pub notLive : ℕ → List ℕ → ℕ → Bool
 notLive n t i = not (live n t i)
 
+-- "Some station is live"
 unfoldable pub someLive : ℕ → List ℕ → Bool
 someLive n t = not (every (notLive n t) n)
 
--- "every live one is finished"
+-- station i is finished if it is live
 abbrev pub finishedIfLive : ℕ → List ℕ → ℕ → Bool
 finishedIfLive n t i = notLive n t i || eqb (finished n t i) 1
 
+-- "every live one is finished"
 unfoldable pub liveFinished : ℕ → List ℕ → Bool
 liveFinished n t = every (finishedIfLive n t) n
+
+-- refusal 4, and step 8: "if a station is live and all live ones are finished, the round closes"
+abbrev pub roundOver : ℕ → List ℕ → Bool
+roundOver n t = someLive n t && liveFinished n t
 
 -- refusal k where its sentence holds, else 0
 abbrev pub refuse : ℕ → Bool → ℕ
@@ -60,4 +65,4 @@ shapeNumber n len = refuse 1 (not (isSize n)) else refuse 2 (not (eqb len (table
 
 -- refusals 1 to 4: then "A line breaks a line rule." "Some station is live and every live one is finished."
 unfoldable pub tableNumber : ℕ → List ℕ → ℕ
-tableNumber n t = shapeNumber n (length t) else refuse 3 (not (every (lineRules n t) n)) else refuse 4 (someLive n t && liveFinished n t)
+tableNumber n t = shapeNumber n (length t) else refuse 3 (not (every (lineRules n t) n)) else refuse 4 (roundOver n t)

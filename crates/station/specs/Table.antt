@@ -1,9 +1,10 @@
 -- Document 01, "The lent table": N lines of N + 4 bytes, in station order. A byte is read and written by line and column.
 -- Assumes nothing.
-use Prim.Native.Nat.{ℕ, _+_, _*_}
+use mathlib.Core.Path.{_≡_}
+use Prim.Native.Nat.{ℕ, _+_, _*_, _<_}
 use mathlib.Core.Bool.{Bool}
 use mathlib.Core.List.{List, _++_}
-use lib.ListN.{getD, set, take, drop}
+use lib.ListN.{length, getD, set, take, drop}
 use lib.Dec.{eqb}
 
 -- how many bytes of a line stand before its row
@@ -25,6 +26,10 @@ greatestTable = 64 * stride 64
 -- where line i begins
 unfoldable pub lineStart : ℕ → ℕ → ℕ
 lineStart n i = i * stride n
+
+-- a table of n stations' length that has line i: what is asked where a byte or a row is read or written without a test of its place
+abbrev pub HasLine : ℕ → List ℕ → ℕ → Type 0
+HasLine n t i = (length t ≡ tableLength n) × (i < n)
 
 -- byte c of line i
 unfoldable pub cell : ℕ → List ℕ → ℕ → ℕ → ℕ

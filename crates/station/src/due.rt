@@ -17,7 +17,7 @@ use crate::rows;
 use crate::rules;
 
 // Whether the row leaves station x not suspected. Past the row's end a station is absent.
-pub fn is_unsuspected(row: &[u8], x: Station) -> bool
+fn is_unsuspected(row: &[u8], x: Station) -> bool
     ensures { λ r. ⌜ r ≡ unsuspected (now (row .entry)) (x .0) ⌝ }
 {
     let k = x.0 as usize;
@@ -25,7 +25,7 @@ pub fn is_unsuspected(row: &[u8], x: Station) -> bool
 }
 
 // The first station that the row does not suspect in the group of j at the level of distance m.
-pub fn first_unsuspected(row: &[u8], j: Station, m: Distance) -> First
+fn first_unsuspected(row: &[u8], j: Station, m: Distance) -> First
     ensures { λ r. ⌜ firstValue r ≡ first (unsuspected (now (row .entry))) (j .0) (level (m .0)) ⌝ }
 {
     if m.0 == 0 {
@@ -74,7 +74,7 @@ pub fn assignment(n: usize, table: &[u8], i: Station, list: &mut [u8]) -> Assign
 }
 
 // Refusals 1 to 4, 9, 10, 13, or 0.
-pub fn assignment_number(n: usize, table: &[u8], i: Station, len: usize) -> u8
+fn assignment_number(n: usize, table: &[u8], i: Station, len: usize) -> u8
     ensures { λ r. ⌜ r ≡ assignmentNumber n (now (table .entry)) (i .0) len ⌝ }
 {
     let number = rows::row_number(n, table, i);

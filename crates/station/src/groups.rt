@@ -17,7 +17,7 @@ pub fn is_size(n: usize) -> bool
 }
 
 // The level of a distance.
-pub fn level_of(m: Distance) -> Level
+pub(crate) fn level_of(m: Distance) -> Level
     ensures { λ r. ⌜ r .0 ≡ level (m .0) ⌝ }
     ensures { λ r. ⌜ r .0 ≤ 8 ⌝ }
 {
@@ -26,7 +26,7 @@ pub fn level_of(m: Distance) -> Level
 }
 
 // d, the greatest level of a plant of n stations.
-pub fn dimension_of(n: u8) -> Level
+fn dimension_of(n: u8) -> Level
     ensures { λ r. ⌜ r .0 ≡ dimension n ⌝ }
 {
     if n == 0 {

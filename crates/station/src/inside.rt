@@ -3,7 +3,7 @@
 ghost use mathlib.Core.Path.{_≡_};
 ghost use Prim.Native.Nat.{_<_};
 ghost use lib.ListN.{length};
-ghost use Rattle.station.specs.Table.{stride, tableLength, cell, row};
+ghost use Rattle.station.specs.Table.{HasLine, stride, tableLength, cell, row};
 use crate::Station;
 use crate::cells;
 
@@ -18,7 +18,7 @@ pub fn get(n: u8, table: &[u8], i: Station, c: u16) -> u8
 
 // The row of line i, as that part of the table.
 pub fn row(n: u8, table: &[u8], i: Station) -> &[u8]
-    requires { ⌜ (length (now table) ≡ tableLength n) × (i .0 < n) ⌝ }
+    requires { ⌜ HasLine n (now table) (i .0) ⌝ }
     ensures { λ r. ⌜ now r ≡ row n (now (table .entry)) (i .0) ⌝ }
     ensures { λ r. ⌜ length (now r) ≡ n ⌝ }
 {

@@ -1,11 +1,10 @@
 // The line rules and the check of a table: refusals 1 to 4 (document 01, "The lent table" and "Refusal list").
 ghost use mathlib.Core.Path.{_≡_};
 ghost use Prim.Native.Nat.{_<_};
-ghost use mathlib.Core.Bool.{_&&_};
 ghost use lib.ListN.{length};
 ghost use Rattle.station.specs.Search.{every};
-ghost use Rattle.station.specs.Table.{tableLength, nextDistance, finished, testsMade, live};
-ghost use Rattle.station.specs.Rules.{passRule, rowRule, lineRules, someLive, finishedIfLive, liveFinished, shapeNumber, tableNumber};
+ghost use Rattle.station.specs.Table.{HasLine, tableLength, nextDistance, finished, testsMade, live};
+ghost use Rattle.station.specs.Rules.{passRule, rowRule, lineRules, finishedIfLive, roundOver, shapeNumber, tableNumber};
 use crate::Station;
 use crate::cells;
 use crate::groups;
@@ -13,7 +12,7 @@ use crate::inside;
 use crate::rows;
 
 // Refusals 1 and 2, or 0.
-pub fn check_shape(n: usize, len: usize) -> u8
+pub(crate) fn check_shape(n: usize, len: usize) -> u8
     ensures { λ r. ⌜ r ≡ shapeNumber n len ⌝ }
 {
     if !groups::is_size(n) {
@@ -44,7 +43,7 @@ pub fn check_table(n: usize, table: &[u8]) -> u8
 }
 
 // Whether station i is live.
-pub fn is_live(n: u8, table: &[u8], i: Station) -> bool
+pub(crate) fn is_live(n: u8, table: &[u8], i: Station) -> bool
     ensures { λ r. ⌜ r ≡ live n (now (table .entry)) (i .0) ⌝ }
 {
     cells::get_cell(n, table, i, cells::STATUS) == 0
@@ -52,7 +51,7 @@ pub fn is_live(n: u8, table: &[u8], i: Station) -> bool
 
 // Whether some station is live and every live one has finished its pass.
 pub fn is_round_over(n: u8, table: &[u8]) -> bool
-    ensures { λ r. ⌜ r ≡ (someLive n (now (table .entry)) && liveFinished n (now (table .entry))) ⌝ }
+    ensures { λ r. ⌜ r ≡ roundOver n (now (table .entry)) ⌝ }
 {
     let mut some = false;
     let mut i: u8 = 0;
@@ -90,7 +89,7 @@ fn all_lines(n: u8, table: &[u8]) -> bool
 }
 
 fn line_rules(n: u8, table: &[u8], i: Station) -> bool
-    requires { ⌜ (length (now table) ≡ tableLength n) × (i .0 < n) ⌝ }
+    requires { ⌜ HasLine n (now table) (i .0) ⌝ }
     ensures { λ r. ⌜ r ≡ lineRules n (now (table .entry)) (i .0) ⌝ }
 {
     let status = inside::get(n, table, i, cells::STATUS);
@@ -99,7 +98,7 @@ fn line_rules(n: u8, table: &[u8], i: Station) -> bool
 
 // The rules of bytes 1 to 3.
 fn pass_rule(n: u8, table: &[u8], i: Station) -> bool
-    requires { ⌜ (length (now table) ≡ tableLength n) × (i .0 < n) ⌝ }
+    requires { ⌜ HasLine n (now table) (i .0) ⌝ }
     ensures { λ r. ⌜ r ≡ passRule n (nextDistance n (now (table .entry)) (i .0)) (finished n (now (table .entry)) (i .0)) (testsMade n (now (table .entry)) (i .0)) ⌝ }
 {
     let next = inside::get(n, table, i, cells::NEXT);
@@ -116,7 +115,7 @@ fn pass_rule(n: u8, table: &[u8], i: Station) -> bool
 // The rules of the row: the station's byte about itself, and every byte, by the greatest one. The loop has no exit, so that the compiler
 // takes many bytes at a time.
 fn row_rule(n: u8, table: &[u8], i: Station) -> bool
-    requires { ⌜ (length (now table) ≡ tableLength n) × (i .0 < n) ⌝ }
+    requires { ⌜ HasLine n (now table) (i .0) ⌝ }
     ensures { λ r. ⌜ r ≡ rowRule n (now (table .entry)) (i .0) ⌝ }
 {
     let row = inside::row(n, table, i);

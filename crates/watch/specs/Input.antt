@@ -13,7 +13,7 @@ use Rattle.watch.specs.declared.input.Number.the-variants.{Value, NoNumb
 use Rattle.watch.specs.declared.input.Entry.{Entry}
 use Rattle.watch.specs.declared.input.Entry.the-variants.{Bytes, NoEntry}
 
--- what stands where a value was read, and what where none was
+-- `read` of the value, or `other` where there is none
 abbrev pub given {ℓ ℓ′} : {A : Type ℓ} {B : Type ℓ′} → Option A → (A → B) → B → B
 given none read other = other
 given (some a) read other = read a

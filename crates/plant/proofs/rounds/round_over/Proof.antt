@@ -2,16 +2,13 @@
 -- Assumes nothing.
 use borrow.Author.Needs.{needs}
 use Rattle.station.proofs.Refusals.{round-open}
-use Rattle.plant.specs.Turn.{roundOver}
 use Rattle.plant.proofs.rounds.round_over.Statement.{statement}
 use Rattle.plant.proofs.rounds.round_over.Tie as tie
 
 returns : tie.Need-returns
-unfolding roundOver
 returns c = round-open _ _ _ _ (c .before .before .before .pre) (c .before .finished-if-live .ensures) (c .if1 .taken)
 
 returns-2 : tie.Need-returns-2
-unfolding roundOver
 returns-2 c = c .is-round-over .ensures
 
 pub round-over-spec : {M : Type 1} → statement M
