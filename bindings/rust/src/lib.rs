@@ -1,7 +1,8 @@
 //! A safe binding to the vCube watch library (include/vcube.h).
 //!
-//! What each call does, and when it is refused, is said in document 01. Every
-//! call takes any numbers and slices of any length: nothing need be tested
+//! What each call does, and when it is refused, is said in document 01, "The
+//! vCube watch on a gin's plant cable"; the steps of an entry stand as
+//! definitions in crates/plant/specs/Turn.antt and Entry.antt. Every call takes any numbers and slices of any length: nothing need be tested
 //! before calling. A refused call changes nothing; a run that stops at an
 //! entry keeps the work of the entries before it.
 //!
