@@ -4,7 +4,7 @@ use crate::measure::check_equal;
 use crate::work::{table_with_crashed, Work};
 use crate::{plain, slowest};
 use shared::random::Random;
-use shared::table::{unfinished_stations, SIZES};
+use shared::table::{line_length, table_length, unfinished_stations, SIZES};
 use simulator::Answer;
 
 /// Both give the same answer, table and sheet, which are given back.
@@ -140,7 +140,7 @@ fn damaged_tables() {
 fn every_live_one_finished() {
     for n in SIZES {
         let mut table = table_with_crashed(n, &[0]);
-        for line in table.chunks_exact_mut(n + 4) {
+        for line in table.chunks_exact_mut(line_length(n)) {
             line[1] = n as u8;
             line[2] = 1;
         }
@@ -154,7 +154,7 @@ fn sizes_and_lengths() {
     let mut random = Random::new(14);
     for n in 0..130 {
         for _ in 0..50 {
-            let table = vec![1; n * (n + 4) + random.below(3)];
+            let table = vec![1; table_length(n) + random.below(3)];
             let schedule = vec![1; random.below(5)];
             compare(n, &table, (0, 0), &schedule, random.below(12));
         }
