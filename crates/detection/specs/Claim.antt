@@ -58,7 +58,7 @@ allRounds r = r .closed ++ (r .openRound ∷ [])
 abbrev pub roundAt : State → List Call → ℕ → List Taken
 roundAt s calls k = getD (allRounds (roundsOf s calls)) k []
 
--- "at most N turns, and an Nth finished its pass": station i in a round
+-- station i has at most N turns in a round, and an Nth finished its pass
 abbrev pub TurnsOk : ℕ → ℕ → List Taken → Type 0
 TurnsOk n i round = (turnsIn i round ≤ n) × (n ≤ turnsIn i round → nthTurnFinishes i n round ≡ true)
 

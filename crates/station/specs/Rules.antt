@@ -30,6 +30,7 @@ rowRule n t i = eqb (suspects n t i i) 0 && every (suspicionRule n t i) n
 unfoldable pub lineRules : ℕ → List ℕ → ℕ → Bool
 lineRules n t i = statusRule (status n t i) && passRule n (nextDistance n t i) (finished n t i) (testsMade n t i) && rowRule n t i
 
+-- station i is not live
 abbrev pub notLive : ℕ → List ℕ → ℕ → Bool
 notLive n t i = not (live n t i)
 
