@@ -10,7 +10,7 @@ use native.Mathlib.Decide.{decLt}
 use lib.Dec.{ltb}
 use lib.ListN.{length, take, drop, length-take}
 use lib.Seq.{take-take, take-nil}
-use Rattle.watch.specs.Input.{given, isLineFeed, lines, lineLength, sizeOf, entryOf, Reading, readingOf, readEntries, readLines, readUpTo}
+use Rattle.watch.specs.Input.{given, isLineFeed, lines, lineLength, sizeOf, entryBytes, Reading, readingOf, readEntries, readLines, readUpTo}
 use Rattle.watch.specs.Watched.{watched}
 use Rattle.watch.proofs.LineLaws.{line-within, lines-first}
 use Rattle.watch.proofs.NumberLaws.{number-has}
@@ -100,7 +100,7 @@ cut-entry : (room n k m : ℕ) (s : List ℕ) → 4 < m
     → (l : List ℕ) → readEntries room n k s (lines (take m l)) ≡ readEntries room n k s (lines l)
 unfolding readEntries
 cut-entry room n k m s h on =
-    cut-first (λ l. cond (ltb k room) (entryOf l) none) 4 (λ l e t. taken-has k room l e t .1)
+    cut-first (λ l. cond (ltb k room) (entryBytes l) none) 4 (λ l e t. taken-has k room l e t .1)
     m h (λ e. readEntries room n (suc k) (s ++ e)) (readingOf (k + 2) n k s) (readEntries room n k s) (λ l ls. refl)
     (λ l e r i t. on e r i (taken-has k room l e t .0))
 

@@ -12,27 +12,27 @@ use lib.Dec.{ltb, eqb}
 use lib.ListN.{length, getD, set, take, drop, length-set, length-append, length-drop, drop-of-length-le, take-append-drop}
 use lib.Seq.{take-all, drop-drop, drop-set-lt, take-suc-set, length-take-le}
 use Rattle.watch.specs.declared.input.Parsed.{Parsed}
-use Rattle.watch.specs.Input.{given, lines, lineLength, digitsFrom, numberOf, sizeOf, kindOf, entryOf, Reading, readingOf, readEntries, readLines, readUpTo, written, ReadAs}
+use Rattle.watch.specs.Input.{given, lines, lineLength, digitsFrom, numberOf, sizeOf, kindOf, entryBytes, Reading, readingOf, readEntries, readLines, readUpTo, written, ReadAs}
 use Rattle.watch.proofs.LineLaws.{lines-first, drop-min}
 use Rattle.watch.proofs.NumberLaws.{number-has}
 
 -- the entry of a line by the line's bytes
-pub entry-short : (l : List ℕ) → length l < 2 → entryOf l ≡ none
-unfolding entryOf
+pub entry-short : (l : List ℕ) → length l < 2 → entryBytes l ≡ none
+unfolding entryBytes
 entry-short [] h = refl
 entry-short (a ∷ []) h = refl
 entry-short (a ∷ b ∷ l) h = absurd (omega arith)
 
 pub entry-long : (l : List ℕ) → 2 ≤ length l
-    → entryOf l ≡ cond (not (eqb (kindOf (getD l 0 0)) 0) && eqb (getD l 1 0) 32) (given (numberOf 2 (drop 2 l)) (λ station. some (kindOf (getD l 0 0) ∷ station ∷ [])) none) none
-unfolding entryOf
+    → entryBytes l ≡ cond (not (eqb (kindOf (getD l 0 0)) 0) && eqb (getD l 1 0) 32) (given (numberOf 2 (drop 2 l)) (λ station. some (kindOf (getD l 0 0) ∷ station ∷ [])) none) none
+unfolding entryBytes
 entry-long [] h = absurd (omega arith)
 entry-long (a ∷ []) h = absurd (omega arith)
 entry-long (a ∷ b ∷ l) h = refl
 
 -- an entry's line is short, and the entry has two bytes
-entry-has : (l e : List ℕ) → entryOf l ≡ some e → (length l ≤ 4) × (length e ≡ 2)
-unfolding entryOf
+entry-has : (l e : List ℕ) → entryBytes l ≡ some e → (length l ≤ 4) × (length e ≡ 2)
+unfolding entryBytes
 entry-has [] e p = let z : _≡_ {A = ℕ} 0 1 = cc in absurd (omega arith)
 entry-has (a ∷ []) e p = let z : _≡_ {A = ℕ} 0 1 = cc in absurd (omega arith)
 entry-has (a ∷ b ∷ l) e p = go (not (eqb (kindOf a) 0) && eqb b 32) (numberOf 2 l) (number-has 2 l) p
@@ -44,10 +44,10 @@ entry-has (a ∷ b ∷ l) e p = go (not (eqb (kindOf a) 0) && eqb b 32) (numberO
     go false o f p = let z : _≡_ {A = ℕ} 0 1 = cc in absurd (omega arith)
 
 -- so too where it is read only if there is room for one more
-pub taken-has : (k room : ℕ) (l e : List ℕ) → cond (ltb k room) (entryOf l) none ≡ some e → (k < room) × (length l ≤ 4) × (length e ≡ 2)
+pub taken-has : (k room : ℕ) (l e : List ℕ) → cond (ltb k room) (entryBytes l) none ≡ some e → (k < room) × (length l ≤ 4) × (length e ≡ 2)
 taken-has k room l e = go (ltb k room) refl
   where
-    go : (b : Bool) → ltb k room ≡ b → cond b (entryOf l) none ≡ some e → (k < room) × (length l ≤ 4) × (length e ≡ 2)
+    go : (b : Bool) → ltb k room ≡ b → cond b (entryBytes l) none ≡ some e → (k < room) × (length l ≤ 4) × (length e ≡ 2)
     go true t p = let h = entry-has l e p in (ltb-true k room t, h .0, h .1)
     go false t p = let z : _≡_ {A = ℕ} 0 1 = cc in absurd (omega arith)
 
@@ -74,8 +74,8 @@ module _ (room n k : ℕ) (s l : List ℕ) (p : ℕ) where
   read-done h = rw (drop-of-length-le l {i = p} h)
 
   module _ (r e : ℕ) (o : Option (List ℕ)) (h : p < length l) (same : r ≡ room) (ends : e ≡ p + lineLength (drop p l))
-      (told : o ≡ cond (ltb k r) (entryOf (take (e - p) (drop p l))) none) where
-    read-as : cond (ltb k room) (entryOf (take (lineLength (drop p l)) (drop p l))) none ≡ o
+      (told : o ≡ cond (ltb k r) (entryBytes (take (e - p) (drop p l))) none) where
+    read-as : cond (ltb k room) (entryBytes (take (lineLength (drop p l)) (drop p l))) none ≡ o
     read-as = let w : e - p ≡ lineLength (drop p l) = omega arith in rw (← same, ← w) (sym told)
 
     pub read-stop : o ≡ none → readFrom ≡ readingOf (k + 2) n k (take (2 * k) s)
@@ -140,7 +140,7 @@ entries-fit : (room n k : ℕ) (s : List ℕ) (ls : List (List ℕ)) → k ≤ r
 unfolding readEntries
 entries-fit room n k s [] h p = record { within = h; pairs = p }
 entries-fit room n k s (l ∷ ls) h p =
-    go (cond (ltb k room) (entryOf l) none) (taken-has k room l) (λ e. entries-fit room n (suc k) (s ++ e) ls)
+    go (cond (ltb k room) (entryBytes l) none) (taken-has k room l) (λ e. entries-fit room n (suc k) (s ++ e) ls)
   where
     go : (o : Option (List ℕ)) → ((e : List ℕ) → o ≡ some e → (k < room) × (length l ≤ 4) × (length e ≡ 2))
         → ((e : List ℕ) → suc k ≤ room → length (s ++ e) ≡ 2 * suc k → Fits room (readEntries room n (suc k) (s ++ e) ls))

@@ -59,10 +59,10 @@ unfoldable pub kindOf : ℕ → ℕ
 kindOf b = cond (eqb b 84) 1 (cond (eqb b 76) 2 (cond (eqb b 67) 3 0))
 
 -- "then per line T, L or C (kinds 1, 2, 3), a space and one or two digits": the entry's two bytes, kind and station
-unfoldable pub entryOf : List ℕ → Option (List ℕ)
-entryOf [] = none
-entryOf (letter ∷ []) = none
-entryOf (letter ∷ space ∷ digits) =
+unfoldable pub entryBytes : List ℕ → Option (List ℕ)
+entryBytes [] = none
+entryBytes (letter ∷ []) = none
+entryBytes (letter ∷ space ∷ digits) =
     cond (not (eqb (kindOf letter) 0) && eqb space 32)
     (given (numberOf 2 digits) (λ station. some (kindOf letter ∷ station ∷ [])) none)
     none
@@ -83,7 +83,7 @@ readingOf u n k s = record { unread = u; size = n; entries = k; schedule = s }
 unfoldable pub readEntries : ℕ → ℕ → ℕ → List ℕ → List (List ℕ) → Reading
 readEntries room n k s [] = readingOf 0 n k s
 readEntries room n k s (l ∷ ls) =
-    given (cond (ltb k room) (entryOf l) none)
+    given (cond (ltb k room) (entryBytes l) none)
     (λ e. readEntries room n (suc k) (s ++ e) ls)
     (readingOf (k + 2) n k s)
 

@@ -6,7 +6,7 @@ ghost use lib.Dec.{ltb};
 ghost use mathlib.Core.List.{[], _∷_, _++_};
 ghost use Prim.Native.Nat.{_+_, _*_, _≤_, _<_, min};
 ghost use lib.ListN.{length, take, drop};
-ghost use Rattle.watch.specs.Input.{lines, lineLength, numberOf, kindOf, entryOf, readEntries, roomFor, readInto, ReadAs, numberValue, entryValue};
+ghost use Rattle.watch.specs.Input.{lines, lineLength, numberOf, kindOf, entryBytes, readEntries, roomFor, readInto, ReadAs, numberValue, entryValue};
 
 // The answer of `parse`: the number of the first unreadable line, from 1, or 0 where there is none; the size and how many entries were
 // read, all of them or those before that line.
@@ -118,7 +118,7 @@ fn line_after(input: &[u8], e: usize) -> usize
 
 // The entry of a line, where k entries were read and there is room for one more.
 fn entry_with_room(k: usize, room: usize, line: &[u8]) -> Entry
-    ensures { λ r. ⌜ entryValue r ≡ cond (ltb k room) (entryOf (now (line .entry))) none ⌝ }
+    ensures { λ r. ⌜ entryValue r ≡ cond (ltb k room) (entryBytes (now (line .entry))) none ⌝ }
 {
     if k < room {
         read_entry(line)
@@ -129,7 +129,7 @@ fn entry_with_room(k: usize, room: usize, line: &[u8]) -> Entry
 
 // The entry of a line.
 fn read_entry(line: &[u8]) -> Entry
-    ensures { λ r. ⌜ entryValue r ≡ entryOf (now (line .entry)) ⌝ }
+    ensures { λ r. ⌜ entryValue r ≡ entryBytes (now (line .entry)) ⌝ }
 {
     if line.len() < 2 {
         return Entry::NoEntry;
