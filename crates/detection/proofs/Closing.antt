@@ -3,9 +3,10 @@
 use mathlib.Core.Path.{_≡_, sym, ap, _∙_}
 use mathlib.Core.Bool.{Bool, true}
 use mathlib.Core.List.{List, []}
-use Prim.Native.Nat.{ℕ, _-_, _^_, _≤_, _<_}
+use Prim.Native.Nat.{ℕ, _^_, _≤_, _<_}
 use native.Mathlib.Omega.{arith}
 use borrow.Author.Tests.{eqb-true}
+use lib.Bits.{bitXor, xor-lt}
 use Rattle.station.specs.Search.{every}
 use Rattle.station.specs.Groups.{stationAt, level, dimension}
 use Rattle.station.specs.Table.{nextDistance, finished, testsMade, live}
@@ -23,7 +24,8 @@ use Rattle.station.proofs.SumLaws.{sum-by, sum-zero, sum-const}
 use Rattle.detection.proofs.Count.{leads, first-not, tests-and-rest}
 use Rattle.detection.proofs.Counting.{Counts, counts-start}
 use Rattle.detection.proofs.TurnEffect.{Plain, Grown, same-rows}
-use Rattle.detection.proofs.Knowledge.{Exact, Met, Knows, knows-start, still}
+use Rattle.detection.proofs.Pass.{lift, Round}
+use Rattle.detection.proofs.Knowledge.{LiveOf, live-of, RowOf, Known, Exact, Knows, knows-start, known-now}
 
 -- within a round that started with t₀, after its entries `cur`
 pub record InRound (n : ℕ) (L : ℕ → Bool) (t₀ : List ℕ) (cur : List Taken) (t : List ℕ) : Type 0 where
@@ -42,10 +44,9 @@ reset-rows n L t pos p = same-rows n L t (resetLines n t) (reset-lines n t pos (
 pub restart : (n : ℕ) (L : ℕ → Bool) (t : List ℕ) → 1 ≤ n → Plain n L t → InRound n L (resetLines n t) [] (resetLines n t)
 restart n L t pos p = round-start n L (resetLines n t) (reset-rows n L t pos p .0) (reset-cells n t (p .lines .0))
 
--- what a closed round did from t₀ to t
-pub record RoundStep (n : ℕ) (L : ℕ → Bool) (t₀ t : List ℕ) : Type 0 where
-  pub grows : Grown n t₀ t
-  pub tested : (i : ℕ) → Met n L t₀ t i n
+-- what a closed round did to the rows from t₀ to t
+abbrev pub RoundStep : ℕ → (ℕ → Bool) → List ℕ → List ℕ → Type 0
+RoundStep n L t₀ t = Round (LiveOf n L) (RowOf n t₀) (RowOf n t)
 
 -- where the round is over every live station has finished, so its next distance is N
 module _ (n : ℕ) (L : ℕ → Bool) (t₀ t : List ℕ) (here : List Taken) (inv : InRound n L t₀ here t) (over : roundOver n t ≡ true) where
@@ -59,12 +60,22 @@ module _ (n : ℕ) (L : ℕ → Bool) (t₀ t : List ℕ) (here : List Taken) (i
   reset-grows : Grown n t (resetLines n t)
   reset-grows k y hk = reset-rows n L t (omega arith) (inv .knows .plain) .1 k y hk
 
-  pub round-step : RoundStep n L t₀ (resetLines n t)
-  round-step = record {
-    grows = λ i j h g s. reset-grows i j h g (inv .knows .grown i j h g s);
-    tested = λ i m h hi l hx lo hu below ahead.
-        still n L t₀ t _ i _ reset-grows hi hx (inv .knows .met i m h hi l hx lo hu (omega (arith, at-end i hi l)) ahead);
+  pub round-step : n ≡ 2 ^ dimension n → RoundStep n L t₀ (resetLines n t)
+  round-step pow = record {
+    keeps = λ i h j l known hj. let v = live-of n L i l in reset-grows i j (v .0) hj (at-last i (v .0) (v .1) h j known hj);
+    pushes = λ i g h x j low l lx asks known hj.
+        let v = live-of n L i l in
+        let w = live-of n L x lx in
+        let met = inv .knows .met i (v .0) (v .1) h x (w .0) (omega (arith, at-end i (v .0) (v .1), near i x (v .0) (w .0))) asks in
+        reset-grows x j (w .0) hj (met .tells (w .1) j hj (lift g h (omega arith) known));
   }
+    where
+      near : (i x : ℕ) → i < n → x < n → bitXor i x < n
+      near i x a b = omega (arith, xor-lt (dimension n) i x (omega arith) (omega arith))
+
+      at-last : (i : ℕ) → i < n → L i ≡ true → (h j : ℕ) → Known n L t₀ i h j → RowOf n t i j
+      at-last i hi l h j =
+          known-now n L t₀ t (inv .knows) i hi l n (λ m a b. absurd (omega (arith, at-end i hi l))) h j (λ x hx b. near i x hi hx)
 
 -- the tests of a round that starts exact
 pub round-count : (n : ℕ) (T t₀ t : List ℕ) (here : List Taken) → n ≡ 2 ^ dimension n → InRound n (live n T) t₀ here t

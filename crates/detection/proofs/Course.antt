@@ -5,14 +5,12 @@ use mathlib.Core.Bool.{Bool, true, false, not, and-true}
 use mathlib.Core.List.{List, [], _∷_, _++_}
 use Prim.Native.Nat.{ℕ, zero, suc, _+_, _^_, _≤_, _<_}
 use native.Mathlib.Omega.{arith}
-use borrow.Author.Tests.{eqb-false, not-true}
+use borrow.Author.Tests.{lt-ltb, eqb-false, not-true}
 use lib.ListN.{length, getD}
-use lib.Bits.{xor-lt}
-use lib.Pow.{pow-mono}
 use lib.Dec.{eqb}
 use Rattle.station.specs.Rules.{roundOver}
 use Rattle.station.specs.Groups.{stationAt, dimension}
-use Rattle.station.specs.Table.{finished, suspects, live}
+use Rattle.station.specs.Table.{finished, live}
 use Rattle.station.proofs.SearchLaws.{both}
 use Rattle.station.proofs.Refusals.{Accepted}
 use Rattle.station.proofs.Sizes.{size-pow, size-bounds}
@@ -24,15 +22,17 @@ use Rattle.plant.proofs.NextTest.{test-below}
 use Rattle.station.specs.Sums.{bit}
 use Rattle.detection.specs.Runs.{Taken, takenTest, crashes, isLate}
 use Rattle.detection.specs.Rounds.{allTaken, countTaken, Rounds, closes, cut, testsIn, testsOfAll}
-use Rattle.detection.specs.Claim.{TurnsOk, demandCount, allRounds}
+use Rattle.detection.specs.Claim.{TurnsOk, demandCount, allRounds, exactWait}
 use Rattle.station.proofs.BoolLaws.{by-bool}
 use Rattle.detection.proofs.TakenLaws.{takenAt, count-snoc}
-use Rattle.detection.proofs.Spread as spread
+use Rattle.detection.proofs.Near.{near-below}
+use Rattle.detection.proofs.Pass.{Round, wider}
+use Rattle.detection.proofs.Detected.{detected}
 use Rattle.detection.proofs.Chain.{Chain, done, more}
 use Rattle.detection.proofs.Counting.{turn-counts, turns-ok, closes-is}
 use Rattle.detection.proofs.TurnHeads.{turn-heads}
 use Rattle.detection.proofs.TurnEffect.{Company, turn-effect}
-use Rattle.detection.proofs.Knowledge.{Exact, Knows, turn-knows}
+use Rattle.detection.proofs.Knowledge.{LiveOf, RowOf, Exact, Knows, turn-knows}
 use Rattle.detection.proofs.Closing.{InRound, restart, RoundStep, round-step, round-count}
 
 -- the rounds r from the one that starts with t₀ on, to the table `end`; T has the live set
@@ -53,21 +53,23 @@ pub record Tallied (cur : List Taken) (s : State) (r : Rounds) (s′ : State) : 
 
 -- after enough closed rounds the rows at a round's start are exact
 pub exact-at : (n d : ℕ) (T t₀ : List ℕ) (r : Rounds) (end : List ℕ) (c : Course n T t₀ r end) → n ≡ 2 ^ d
-    → (q : ℕ) → spread.bound d ≤ q → q ≤ length (r .closed) → Exact n (live n T) (c .start q)
+    → (q : ℕ) → exactWait d ≤ q → q ≤ length (r .closed) → Exact n (live n T) (c .start q)
 exact-at n d T t₀ r end c pow q far near i j h g l e =
-    spread.detected d (live n T) rows (length (r .closed)) rounds q far near i j (omega arith) (omega arith) l e .1
+    detected d L rows rounds q i j far (rw (lt-ltb i n h, l)) (rw (lt-ltb j n g, e)) (near-below d j i (omega arith) (omega arith)) near g
   where
-    rows : ℕ → ℕ → ℕ → Type 0
-    rows q i j = (j < n) × (suspects n (c .start q) i j ≡ 1)
+    L : ℕ → Bool
+    L = LiveOf n (live n T)
 
-    rounds : spread.Rounds d (live n T) rows (length (r .closed))
-    rounds = record {
-      grows = λ q i j a b l r. (r .0, c .steps q a .grows i j (omega arith) (r .0) (r .1));
-      tested = λ q i m h a b l hd lo hu ahead.
-          let m<n : m < n = omega (arith, pow-mono {i = suc h} {j = d} hd) in
-          let x<n : stationAt i m < n = omega (arith, xor-lt d i m b (omega arith)) in
-          let w = c .steps q a .tested i m h (omega arith) l x<n lo hu m<n (λ k v y. ahead k v .1) in
-          (λ e. (x<n, w .0 e), λ e j r. (r .0, w .1 e j (r .0) (r .1)));
+    -- up to the last closed round
+    rows : ℕ → ℕ → ℕ → Type 0
+    rows q i j = q ≤ length (r .closed) → RowOf n (c .start q) i j
+
+    rounds : (q : ℕ) → Round L (rows q) (rows (suc q))
+    rounds q = record {
+      keeps = λ i h j t known l. c .steps q l .keeps i h j t (wider h (λ x y row. row (omega arith)) known);
+      pushes = λ i g h x j low t u asks known l.
+          c .steps q l .pushes i g h x j low t u (asks .0, λ y a. wider h (λ x y row. row (omega arith)) (asks .1 y a))
+          (wider g (λ x y row. row (omega arith)) known);
     }
 
 -- the entries xs from s to s′, behind the entries `cur` of the round that started with t₀
@@ -164,7 +166,7 @@ module _ (n : ℕ) (T : List ℕ) (company : Company n (live n T)) (t₀ : List 
               start = λ q. elim q [ zero ↦ t₀ | suc q ↦ r .0 .start q ];
               begins = refl;
               steps = λ q. elim q [
-                | zero ↦ λ h. rw (r .0 .begins) (round-step n L t₀ t′ here moved over)
+                | zero ↦ λ h. rw (r .0 .begins) (round-step n L t₀ t′ here moved over (size-pow n (ok .size)))
                 | suc q ↦ λ h. r .0 .steps q (omega arith)
               ];
               last = r .0 .last;

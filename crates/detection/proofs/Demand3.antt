@@ -1,4 +1,5 @@
--- Demand 3, proved: the chain of taken entries is cut into rounds, and the spread of knowledge bounds the rounds after which all is known.
+-- The exact wait and demand 3, proved: the chain of taken entries is cut into rounds, and the spread of knowledge bounds the rounds after
+-- which all is known.
 -- Assumes nothing.
 use mathlib.Core.Path.{_≡_, refl, sym, ap, _∙_}
 use mathlib.Core.Logic.{_⊎_, inl, inr, _≢_}
@@ -23,10 +24,10 @@ use Rattle.plant.proofs.StepCells.{Reset}
 use Rattle.station.specs.Sums.{bit}
 use Rattle.detection.specs.Runs.{Call, takenAll, afterRun, afterRuns}
 use Rattle.detection.specs.Rounds.{countTaken, cut, testsOfAll}
-use Rattle.detection.specs.Claim.{lineAtStart, atStart, liveCount, noLiveSuspicion, noneSuspected, roundsOf, Premises, Conclusion, Demand3, Demand3After}
+use Rattle.detection.specs.Claim.{lineAtStart, atStart, liveCount, noLiveSuspicion, noneSuspected, roundsOf, Premises, Conclusion, Within, WithinAfter, demandWait, Demand3, exactWait}
 use Rattle.station.proofs.BoolLaws.{by-bool}
 use Rattle.station.proofs.SumLaws.{sum-single}
-use Rattle.detection.proofs.Spread.{bound, bound-le-square, bound-is}
+use Rattle.detection.proofs.Wait.{wait-pos, wait-le-pairs, wait-le-square}
 use Rattle.detection.proofs.Chain.{chain-all, chain-first}
 use Rattle.detection.proofs.TurnEffect.{Company}
 use Rattle.detection.proofs.Knowledge.{Exact}
@@ -86,36 +87,33 @@ module _ (n : ℕ) (s : State) (calls : List Call) (given : Premises n s calls) 
       course n (s .table) (company-of n (s .table) (given .twoLive)) (chain-all n s calls (given .long)) (given .noCrash) (given .noLate)
       (s .table) [] (first-round n s calls given ok)
 
-  -- from so many closed rounds on all rounds start exact
-  exact : (q : ℕ) → bound (dimension n) ≤ q → q ≤ length (roundsOf s calls .closed) → Exact n L (history .0 .start q)
+  -- after the exact wait all rounds start exact
+  exact : (q : ℕ) → exactWait (dimension n) ≤ q → q ≤ length (roundsOf s calls .closed) → Exact n L (history .0 .start q)
   exact =
       exact-at n (dimension n) (s .table) (s .table) (roundsOf s calls) (afterRuns s calls .table) (history .0) (size-pow n (given .size))
 
-  known : bound (dimension n) ≤ length (roundsOf s calls .closed)
+  known : exactWait (dimension n) ≤ length (roundsOf s calls .closed)
       → (i j : ℕ) → i < n → j < n → L i ≡ true → suspects n (afterRuns s calls .table) i j ≡ bit (notLive n (s .table) j)
   known far i j h g l =
       let last = history .0 .last in
       by-bool (L j) (λ e. rw e (last .plain .trusted i j h g l e)) (λ e. rw e (last .grown i j h g (exact _ far (omega arith) i j h g l e)))
 
-  square : bound (dimension n) ≤ dimension n * dimension n
-  square = bound-le-square (dimension n)
-
-  demand-3-accepted : Conclusion n s calls (afterRuns s calls)
+  wait-accepted : Conclusion (exactWait (dimension n)) n s calls (afterRuns s calls)
   unfolding countTaken
-  demand-3-accepted = record {
+  wait-accepted = record {
     sameLive = history .0 .last .plain .lives;
     turns = λ k i h g l. history .0 .turns k i h g;
-    known = λ far. known (le-trans square far);
-    tests = λ k far h. history .0 .counted k h (exact k (le-trans square far) (omega arith));
+    known = known;
+    tests = λ k far h. history .0 .counted k h (exact k far (omega arith));
     roundsTally = history .1 .rounds;
     testsTally = omega (arith, history .1 .tests);
   }
 
 -- no entry is taken, as in a table that they do not let through
-demand-3-none : (n : ℕ) (s : State) (calls : List Call) → isSize n ≡ true → takenAll s calls ≡ [] → afterRuns s calls ≡ s
-    → Conclusion n s calls (afterRuns s calls)
+wait-none : (n : ℕ) (s : State) (calls : List Call) → isSize n ≡ true → takenAll s calls ≡ [] → afterRuns s calls ≡ s
+    → Conclusion (exactWait (dimension n)) n s calls (afterRuns s calls)
 unfolding cut countTaken testsOfAll
-demand-3-none n s calls size none stays =
+wait-none n s calls size none stays =
     rw stays (record {
       sameLive = λ i h. refl;
       turns = λ k i h g l.
@@ -130,29 +128,39 @@ demand-3-none n s calls size none stays =
     closed : length (roundsOf s calls .closed) ≡ 0
     closed = rw none
 
-    some-level : (d : ℕ) → dimension n ≡ d → d * d ≤ length (roundsOf s calls .closed) → ⊥
+    some-level : (d : ℕ) → dimension n ≡ d → exactWait d ≤ length (roundsOf s calls .closed) → ⊥
     some-level zero e far = let one : n ≡ 1 = size-pow n size ∙ rw e in omega (arith, size-bounds n size)
-    some-level (suc d) e far = omega (arith, closed)
+    some-level (suc d) e far = omega (arith, closed, wait-pos d)
+
+-- the claim within the exact wait, an end in itself
+pub exact-wait : Within exactWait
+exact-wait n s calls given = go (chain-first (chain-all n s calls (given .long)))
+  where
+    go : ((takenAll s calls ≡ []) × (afterRuns s calls ≡ s)) ⊎ Accepted n (s .table)
+        → Conclusion (exactWait (dimension n)) n s calls (afterRuns s calls)
+    go (inl e) = wait-none n s calls (given .size) (e .0) (e .1)
+    go (inr ok) = wait-accepted n s calls given ok
+
+-- and so within any number of rounds that is not less
+pub within : (rounds : ℕ → ℕ) → ((d : ℕ) → exactWait d ≤ rounds d) → Within rounds
+within rounds enough n s calls given =
+    let c = exact-wait n s calls given in
+    record {
+      sameLive = c .sameLive;
+      turns = c .turns;
+      known = λ far. c .known (le-trans (enough (dimension n)) far);
+      tests = λ k far. c .tests k (le-trans (enough (dimension n)) far);
+      roundsTally = c .roundsTally;
+      testsTally = c .testsTally;
+    }
+
+-- within 1 + d(d − 1)/2 rounds, an end in itself
+pub within-pairs : Within (λ d. 1 + d * (d - 1) / 2)
+within-pairs = within _ wait-le-pairs
 
 -- demand 3, an end in itself
 pub demand-3 : Demand3
-demand-3 n s calls given = go (chain-first (chain-all n s calls (given .long)))
-  where
-    go : ((takenAll s calls ≡ []) × (afterRuns s calls ≡ s)) ⊎ Accepted n (s .table) → Conclusion n s calls (afterRuns s calls)
-    go (inl e) = demand-3-none n s calls (given .size) (e .0) (e .1)
-    go (inr ok) = demand-3-accepted n s calls given ok
-
--- after 1 + d(d − 1)/2 closed rounds already each live board suspects exactly the boards that are not live: an end in itself
-pub known-sooner : (n : ℕ) (s : State) (calls : List Call) → Premises n s calls
-    → 1 + dimension n * (dimension n - 1) / 2 ≤ length (roundsOf s calls .closed)
-    → (i j : ℕ) → i < n → j < n → live n (s .table) i ≡ true → suspects n (afterRuns s calls .table) i j ≡ bit (notLive n (s .table) j)
-unfolding cut
-known-sooner n s calls given far = go (chain-first (chain-all n s calls (given .long)))
-  where
-    go : ((takenAll s calls ≡ []) × (afterRuns s calls ≡ s)) ⊎ Accepted n (s .table)
-        → (i j : ℕ) → i < n → j < n → live n (s .table) i ≡ true → suspects n (afterRuns s calls .table) i j ≡ bit (notLive n (s .table) j)
-    go (inl e) = let none : length (roundsOf s calls .closed) ≡ 0 = rw (e .0) in absurd (omega arith)
-    go (inr ok) = known n s calls given ok (le-trans (bound-is (dimension n)) far)
+demand-3 = within demandWait wait-le-square
 
 -- the runs of a list and one more
 after-one-more : (s : State) (calls : List Call) (c : Call) → afterRuns s (calls ++ (c ∷ [])) ≡ afterRun (afterRuns s calls) c
@@ -160,6 +168,6 @@ unfolding afterRuns
 after-one-more s [] c = refl
 after-one-more s (b ∷ calls) c = after-one-more (afterRun s b) calls c
 
--- demand 3 of the last run of a list
-pub demand-3-after : (c : Call) (before : State) → Demand3After c before (afterRun before c)
-demand-3-after c before n s calls e given = rw (after-one-more s calls c, e) at (demand-3 n s (calls ++ (c ∷ [])) given)
+-- a claim about lists, of the last run of a list
+pub last-run : (rounds : ℕ → ℕ) → Within rounds → (c : Call) (before : State) → WithinAfter rounds c before (afterRun before c)
+last-run rounds claim c before n s calls e given = rw (after-one-more s calls c, e) at (claim n s (calls ++ (c ∷ [])) given)

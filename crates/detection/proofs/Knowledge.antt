@@ -2,17 +2,20 @@
 -- Assumes nothing.
 use mathlib.Core.Path.{_≡_, refl, sym, ap, _∙_}
 use mathlib.Core.Logic.{by-cases}
-use mathlib.Core.Bool.{Bool, true, false}
+use mathlib.Core.Bool.{Bool, true, false, _&&_, true≢false}
 use mathlib.Core.List.{List}
-use Prim.Native.Nat.{ℕ, suc, _+_, _^_, _≤_, _<_}
+use Prim.Native.Nat.{ℕ, _^_, _≤_, _<_}
 use native.Mathlib.Decide.{decLt, ℕ-discrete}
 use native.Mathlib.Omega.{arith}
-use lib.Bits.{bitXor, xor-lt}
-use lib.Dec.{eqb}
+use borrow.Author.Tests.{lt-ltb, ltb-true}
+use lib.Bits.{bitXor, xor-comm, xor-lt}
+use lib.Dec.{eqb, ltb}
 use lib.Pow.{pow-pos}
 use Rattle.station.specs.Groups.{stationAt, level, width, member, group}
 use Rattle.station.specs.Table.{nextColumn, testsColumn, nextDistance, testsMade, suspects, row}
 use Rattle.station.specs.Tests.{unsuspected, due}
+use Rattle.station.proofs.Xor.{xor-cancel}
+use Rattle.station.proofs.SearchLaws.{both}
 use Rattle.station.proofs.Levels.{level-le}
 use Rattle.station.proofs.GroupLaws.{place-mem, members-below}
 use Rattle.station.proofs.CellLaws.{row-length, row-at}
@@ -24,30 +27,45 @@ use Rattle.station.proofs.SumLaws.{sum-by, sum-zero}
 use Rattle.detection.proofs.Count.{leads, leads-zero, leads-same}
 use Rattle.detection.proofs.DueLaw.{unsuspected-at, due-holds}
 use Rattle.detection.proofs.TurnHeads.{Heads, passed-dues}
-use Rattle.detection.proofs.TurnEffect.{Plain, Grown, Handed, Turned}
+use Rattle.detection.proofs.Near.{Member, Ahead, member-distance}
+use Rattle.detection.proofs.Pass.{InPass, had, stays, finds, hears, Tests}
+use Rattle.detection.proofs.TurnEffect.{Plain, Grown, Row, Tested, tested-more, Turned}
 
--- all present that stand ahead of i in the group of the station at distance m, at level h + 1, are suspected by i
-abbrev Ahead : ℕ → List ℕ → ℕ → ℕ → ℕ → Type 0
-Ahead n t i m h = (k : ℕ) → 2 ^ h + k < m → bitXor (bitXor i m) (2 ^ h + k) < n → suspects n t i (bitXor (bitXor i m) (2 ^ h + k)) ≡ 1
+-- the live stations among the N
+abbrev pub LiveOf : ℕ → (ℕ → Bool) → ℕ → Bool
+LiveOf n L i = ltb i n && L i
+
+-- i suspects j, or j is absent
+abbrev pub RowOf : ℕ → List ℕ → ℕ → ℕ → Type 0
+RowOf n t i j = j < n → Row n t i j
+
+pub live-of : (n : ℕ) (L : ℕ → Bool) (i : ℕ) → LiveOf n L i ≡ true → (i < n) × (L i ≡ true)
+live-of n L i l = let v = both (ltb i n) (L i) l in (ltb-true i n (v .0), v .1)
+
+-- what i knows in its pass of the round that started with t₀, and whom it tests
+abbrev pub Known : ℕ → (ℕ → Bool) → List ℕ → ℕ → ℕ → ℕ → Type 0
+Known n L t₀ i h j = InPass (LiveOf n L) (RowOf n t₀) i h j
+
+abbrev Asks : ℕ → (ℕ → Bool) → List ℕ → ℕ → ℕ → ℕ → Type 0
+Asks n L t₀ i h x = Tests (LiveOf n L) (RowOf n t₀) i h x
 
 -- each live station suspects each station that is not live
 abbrev pub Exact : ℕ → (ℕ → Bool) → List ℕ → Type 0
 Exact n L t = (i j : ℕ) → i < n → j < n → L i ≡ true → L j ≡ false → suspects n t i j ≡ 1
 
--- what the live i has done at the distances below `reach`: at the present station at distance m, if at t₀ it suspected all ahead of it
-abbrev pub Met : ℕ → (ℕ → Bool) → List ℕ → List ℕ → ℕ → ℕ → Type 0
+-- what the live i has done at the distances below `reach`: a present station in whose group it knew all ahead of it was tested
+abbrev Met : ℕ → (ℕ → Bool) → List ℕ → List ℕ → ℕ → ℕ → Type 0
 Met n L t₀ t i reach =
-    (m h : ℕ) → i < n → L i ≡ true → stationAt i m < n → 2 ^ h ≤ m → m < 2 ^ suc h → m < reach → Ahead n t₀ i m h
-    → Handed n L t₀ t i (stationAt i m)
+    (h x : ℕ) → x < n → bitXor i x < reach → Asks n L t₀ i h x → Tested n L (Known n L t₀ i h) (Row n t₀ x) t i x
 
--- what was handed on is there in a later table
-pub still : (n : ℕ) (L : ℕ → Bool) (t₀ t t′ : List ℕ) (i x : ℕ) → Grown n t t′ → i < n → x < n → Handed n L t₀ t i x → Handed n L t₀ t′ i x
-still n L t₀ t t′ i x grows h g w = (λ e. grows i x h g (w .0 e), λ e j a s. grows x j g a (w .1 e j a s))
+met-later : (n : ℕ) (L : ℕ → Bool) (t₀ t t′ : List ℕ) (i reach : ℕ) → Grown n t t′ → i < n → Met n L t₀ t i reach → Met n L t₀ t′ i reach
+met-later n L t₀ t t′ i reach grows hi met h x hx below asks =
+    tested-more n L t t′ i x hi hx grows (λ j a s. s) (λ j a s. s) (met h x hx below asks)
 
 pub record Knows (n : ℕ) (L : ℕ → Bool) (t₀ t : List ℕ) : Type 0 where
   pub plain : Plain n L t
   pub grown : Grown n t₀ t
-  pub met : (i : ℕ) → Met n L t₀ t i (nextDistance n t i)
+  pub met : (i : ℕ) → i < n → L i ≡ true → Met n L t₀ t i (nextDistance n t i)
   -- in a round that starts exact byte 3 counts the distances passed at which i leads
   pub counted : Exact n L t₀ → (i : ℕ) → i < n → testsMade n t i ≡ sum (λ m. bit (leads L i m)) (nextDistance n t i)
 
@@ -56,7 +74,8 @@ pub knows-start : (n : ℕ) (L : ℕ → Bool) (t : List ℕ) → Plain n L t �
 knows-start n L t p fresh = record {
   plain = p;
   grown = λ i j a b s. s;
-  met = λ i m h a l x lo hi below. absurd (omega (arith, pow-pos h, fresh i a .next));
+  met = λ i a l h x hx below asks.
+      absurd (omega (arith, pow-pos h, fresh i a .next, xor-comm i x, member-distance h x i .0 (asks .0)));
   counted = λ exact i a.
       rw (fresh i a .untested, fresh i a .next) (sym (sum-zero 1 (λ m l. let e : m ≡ 0 = omega arith in rw (e, leads-zero L i))));
 }
@@ -78,22 +97,61 @@ exact-due n d L t pow p exact i m hi hm l = leads-same (unsuspected (row n t i))
         unsuspected-at (row n t i) x (omega (arith, row-length n t i (p .lines .0) hi)) ∙ ap (λ (v : ℕ). eqb v 0) (row-at n t i x x<n)
         ∙ by-bool (L x) (λ e. rw (p .trusted i x hi x<n l e, e)) (λ e. rw (exact i x hi x<n l e, e))
 
+-- where no distance from i's next one up to M is due, i suspects all present that it knows in its pass below M
+module _ (n : ℕ) (L : ℕ → Bool) (t₀ t : List ℕ) (know : Knows n L t₀ t) (i : ℕ) (hi : i < n) (li : L i ≡ true) (M : ℕ)
+    (undue : (m : ℕ) → nextDistance n t i ≤ m → m < M → due (row n t i) i m ≡ false) where
+  -- where i suspects all present ahead of it the distance is due
+  pub due-now : (h x : ℕ) → Member h x i → ((y : ℕ) → Ahead h x i y → RowOf n t i y) → due (row n t i) i (bitXor i x) ≡ true
+  due-now h x m ahead =
+      let lines = know .plain .lines in
+      let long = row-length n t i (lines .0) hi in
+      due-holds (row n t i) h x i (omega arith) (row-at n t i i hi ∙ lines .1 i hi .own) m
+      (λ y a l. let y<n = rw long at l in row-at n t i y y<n ∙ ahead y a y<n)
+
+  met-now : (h x : ℕ) → x < n → bitXor i x < M → Asks n L t₀ i h x → ((y : ℕ) → Ahead h x i y → RowOf n t i y)
+      → Tested n L (Known n L t₀ i h) (Row n t₀ x) t i x
+  met-now h x hx below asks ahead =
+      by-cases (decLt (bitXor i x) (nextDistance n t i)) (λ l. know .met i hi li h x hx l asks)
+      (λ l. absurd (true≢false (sym (due-now h x (asks .0) ahead) ∙ undue (bitXor i x) (omega arith) below)))
+
+  pub known-now : (h j : ℕ) → ((x : ℕ) → x < n → bitXor i x < 2 ^ h → bitXor i x < M) → Known n L t₀ i h j → RowOf n t i j
+  known-now h j below (had r) = λ l. know .grown i j hi l (r l)
+  known-now h j below (stays k) = known-now _ j (λ x l b. below x l (omega arith)) k
+  known-now h j below (finds m ahead f) = λ l.
+      met-now _ j l (below j l (omega (arith, member-distance _ j i .0 m, xor-comm i j))) (m, ahead)
+      (λ y a. known-now _ y (λ x l b. below x l (omega arith)) (ahead y a)) .finds (rw (lt-ltb j n l) at f)
+  known-now h j below (hears {x = x} m ahead b r) = λ l.
+      let v = live-of n L x b in
+      met-now _ x (v .0) (below x (v .0) (omega (arith, member-distance _ x i .0 m, xor-comm i x))) (m, ahead)
+      (λ y a. known-now _ y (λ x l b. below x l (omega arith)) (ahead y a)) .hears (v .1) j l (r l)
+
 -- a turn of a live station keeps it
 module _ (n d : ℕ) (L : ℕ → Bool) (t₀ t t′ : List ℕ) (i : ℕ) (pow : n ≡ 2 ^ d) (know : Knows n L t₀ t) (turned : Turned n L t t′ i)
     (heads : Heads n t t′ i (makesTest n t i)) (below : i < n) (isLive : L i ≡ true) where
   p : Plain n L t
   p = know .plain
 
-  own-met : Met n L t₀ t′ i (nextDistance n t′ i)
-  own-met m h hi l hx lo hu passed ahead =
-      by-cases (decLt m (nextDistance n t i)) (λ q. still n L t₀ t t′ i _ (turned .grows) hi hx (know .met i m h hi l hx lo hu q ahead))
-      (λ q. let w = turned .passed m (omega arith) passed isDue in (w .0, λ e j a s. w .1 e j a (know .grown i j hi a s)))
+  -- at a distance that the turn passes
+  newly-met : (h x : ℕ) → x < n → nextDistance n t i ≤ bitXor i x → bitXor i x < nextDistance n t′ i → Asks n L t₀ i h x
+      → Tested n L (Known n L t₀ i h) (Row n t₀ x) t′ i x
+  newly-met h x hx lo passed asks =
+      let isDue = due-now n L t₀ t know i below isLive (bitXor i x) undue h x (asks .0) (λ y a. now y (asks .1 y a)) in
+      tested-more n L t′ t′ i x below hx (λ k y a b s. s) (λ j a known. now j known a) (λ j a s. know .grown x j hx a s)
+      (rw xor-cancel at (turned .passed (bitXor i x) lo passed isDue))
     where
-      isDue : due (row n t i) i m ≡ true
-      isDue =
-          let long = row-length n t i (p .lines .0) hi in
-          due-holds (row n t i) i m h (omega arith) (row-at n t i i hi ∙ p .lines .1 i hi .own) lo hu
-          (λ k a y. let y<n = rw long at y in row-at n t i _ y<n ∙ know .grown i _ hi y<n (ahead k a y<n))
+      undue : (m : ℕ) → nextDistance n t i ≤ m → m < bitXor i x → due (row n t i) i m ≡ false
+      undue m a b = turned .undue (bitXor i x) m a b passed
+
+      now : (j : ℕ) → Known n L t₀ i h j → RowOf n t i j
+      now j =
+          known-now n L t₀ t know i below isLive (bitXor i x) undue h j
+          (λ y l b. omega (arith, member-distance h x i .0 (asks .0), xor-comm i x))
+
+  own-met : Met n L t₀ t′ i (nextDistance n t′ i)
+  own-met h x hx passed asks =
+      by-cases (decLt (bitXor i x) (nextDistance n t i))
+      (λ l. met-later n L t₀ t t′ i _ (turned .grows) below (know .met i below isLive) h x hx l asks)
+      (λ l. newly-met h x hx (omega arith) passed asks)
 
   -- in an exact round: t is exact as t₀ was
   own-counted : Exact n L t₀ → testsMade n t′ i ≡ sum (λ m. bit (leads L i m)) (nextDistance n t′ i)
@@ -109,10 +167,10 @@ module _ (n d : ℕ) (L : ℕ → Bool) (t₀ t t′ : List ℕ) (i : ℕ) (pow 
   turn-knows = record {
     plain = turned .plain;
     grown = λ k j h g s. turned .grows k j h g (know .grown k j h g s);
-    met = λ k. by-cases (ℕ-discrete k i) (λ e. rw e own-met)
-        (λ e m h hk l hx lo hu q ahead.
+    met = λ k hk l. by-cases (ℕ-discrete k i) (λ e. rw e own-met)
+        (λ e.
         let next = heads .others k nextColumn e (omega arith) (omega arith) in
-        still n L t₀ t t′ k _ (turned .grows) hk hx (know .met k m h hk l hx lo hu (omega arith) ahead));
+        rw next (met-later n L t₀ t t′ k _ (turned .grows) hk (know .met k hk l)));
     counted = λ exact k h. by-cases (ℕ-discrete k i) (λ e. rw e (own-counted exact))
         (λ e.
         let tests = heads .others k testsColumn e (omega arith) (omega arith) in

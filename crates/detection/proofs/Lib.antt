@@ -1,6 +1,10 @@
 -- The proof of demand 3, a file for each part; docs/DEMAND-3.md tells it on a page.
 pub mod Near
+pub mod Pass
+pub mod Wait
+pub mod Leaders
 pub mod Spread
+pub mod Detected
 pub mod Count
 pub mod DueLaw
 pub mod TurnHeads

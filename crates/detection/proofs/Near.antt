@@ -1,14 +1,14 @@
 -- Nearness of numbers: a and b are near at h when they differ in their last h binary digits at most.
 -- Assumes nothing.
-use mathlib.Core.Path.{_≡_, sym, _∙_, ap}
-use mathlib.Core.Logic.{_↔_}
+use mathlib.Core.Path.{_≡_, sym, _∙_}
+use mathlib.Core.Logic.{_↔_, by-cases}
 use Prim.Native.Nat.{ℕ, zero, suc, _+_, _/_, _^_, _≤_, _<_}
-use native.Mathlib.Nat.{div-one, one-mul, not-le-of-lt}
-use native.Mathlib.Decide.{ℕ-discrete, le-ind}
+use native.Mathlib.Nat.{div-one, le-trans, not-le-of-lt, div-mul-le-self, le-div-iff-mul-le}
+use native.Mathlib.Decide.{ℕ-discrete, decLt, le-ind}
 use native.Mathlib.Omega.{arith}
-use lib.Bits.{bitXor, xor-comm, xor-lt, xor-shifted}
-use lib.Pow.{pow-pos, pow-mono, shr-shr}
-use Rattle.station.proofs.Xor.{xor-cancel, xor-assoc, near-of-xor, xor-of-near}
+use lib.Bits.{bitXor, xor-lt, xor-shr}
+use lib.Pow.{pow-pos, shr-shr}
+use Rattle.station.proofs.Xor.{xor-cancel, near-of-xor, xor-of-near}
 
 -- the digits from place h on are the same
 abbrev pub Near : ℕ → ℕ → ℕ → Type 0
@@ -39,6 +39,9 @@ near-below d a b la lb = near-of-xor d a b (xor-lt d a b la lb)
 abbrev pub Member : ℕ → ℕ → ℕ → Type 0
 Member h x y = Near (suc h) x y × ¬ (Near h x y)
 
+pub member-sym : (h x y : ℕ) → Member h x y → Member h y x
+member-sym h x y m = (sym (m .0), λ e. m .1 (sym e))
+
 -- that is, its distance is one of the level's
 pub member-distance : (h x y : ℕ) → Member h x y ↔ ((2 ^ h ≤ bitXor x y) × (bitXor x y < 2 ^ suc h))
 member-distance h x y = (there, λ b. (near-of-xor (suc h) x y (b .1), λ n. not-le-of-lt (xor-of-near h x y n) (b .0)))
@@ -60,33 +63,43 @@ member-first h x = member-at h x (2 ^ h) (omega arith) (omega (arith, pow-pos h)
 pub members-near : (h x a b : ℕ) → Member h x a → Member h x b → Near h a b
 members-near h x a b ma mb = omega (arith, half h x, half h a, half h b)
 
--- what is near at h ≤ d to a number below 2 ^ d is below it too
-pub below-near : (d h a b : ℕ) → h ≤ d → Near h a b → a < 2 ^ d → b < 2 ^ d
-below-near d h a b l n la = rw xor-cancel at (xor-lt d a (bitXor a b) la (omega (arith, xor-of-near h a b n, pow-mono l)))
-
-pub xor-back : (a b : ℕ) → bitXor a (bitXor b a) ≡ b
-xor-back a b = ap (bitXor a) (xor-comm b a) ∙ xor-cancel a b
-
 -- what is near at h to a member is a member
 pub member-near : (h x a b : ℕ) → Member h x a → Near h a b → Member h x b
 member-near h x a b m n = (m .0 ∙ near-suc h a b n, λ e. m .1 (e ∙ sym n))
 
--- a member's place in the group is its distance from the member at place 0
-pub member-place : (h x y : ℕ) → Member h x y → bitXor x y ≡ 2 ^ h + bitXor (bitXor x (2 ^ h)) y
-member-place h x y m =
-    let near : bitXor (bitXor x (2 ^ h)) y < 2 ^ h = xor-of-near h (bitXor x (2 ^ h)) y (members-near h x (bitXor x (2 ^ h)) y (member-first h x) m) in
-    let sum : bitXor (2 ^ h) (bitXor (bitXor x (2 ^ h)) y) ≡ 2 ^ h + bitXor (bitXor x (2 ^ h)) y = rw one-mul at (xor-shifted 1 h (bitXor (bitXor x (2 ^ h)) y) near) in
-    cc (xor-assoc (2 ^ h) (bitXor x (2 ^ h)) y, xor-back (2 ^ h) x)
+-- y stands ahead of i in the group of x at level h + 1
+abbrev pub Ahead : ℕ → ℕ → ℕ → ℕ → Type 0
+Ahead h x i y = Member h x y × (bitXor x y < bitXor x i)
 
--- two numbers near at s ≤ t are equal, or in each other's groups at a level up to t
+-- the exclusive or with x keeps apart at t what is apart at t
+apart-by : (t x a b : ℕ) → bitXor x a / 2 ^ t ≡ bitXor x b / 2 ^ t → Near t a b
+apart-by t x a b e = cc (xor-shr x a t, xor-shr x b t, xor-cancel (x / 2 ^ t) (a / 2 ^ t), xor-cancel (x / 2 ^ t) (b / 2 ^ t))
+
+div-le : (k a b : ℕ) → a ≤ b → a / 2 ^ k ≤ b / 2 ^ k
+div-le k a b l = le-div-iff-mul-le (pow-pos k) .1 (le-trans (div-mul-le-self a (2 ^ k)) l)
+
+-- with y all that are near at t to it come before i in the order by distance from x, if i is not near at t to it
+pub before-near : (t x i y z : ℕ) → Near t y z → ¬ (Near t y i) → bitXor x y < bitXor x i → bitXor x z < bitXor x i
+before-near t x i y z n far l = by-cases (decLt (bitXor x z) (bitXor x i)) (λ a. a) (λ a. absurd (far (apart-by t x y i (order a))))
+  where
+    order : ¬ (bitXor x z < bitXor x i) → bitXor x y / 2 ^ t ≡ bitXor x i / 2 ^ t
+    order a =
+        let same : bitXor x y / 2 ^ t ≡ bitXor x z / 2 ^ t = cc (xor-shr x y t, xor-shr x z t) in
+        omega (arith, div-le t (bitXor x i) (bitXor x z) (omega arith), div-le t (bitXor x y) (bitXor x i) (omega arith))
+
+-- two numbers near at t are equal, or in each other's groups at a level up to t
 pub data Parting (t a b : ℕ) : Type 0 where
   same : a ≡ b → Parting t a b
   apart : (h : ℕ) → h < t → Member h a b → Parting t a b
 
-pub parting : (s t a b : ℕ) → s ≤ t → Near s a b → Parting t a b
-parting zero t a b l n = same (near-zero a b n)
-parting (suc s) t a b l n = go (near-dec s a b) (parting s t a b (omega arith))
+pub parting : (t a b : ℕ) → Near t a b → Parting t a b
+parting zero a b n = same (near-zero a b n)
+parting (suc t) a b n = go (near-dec t a b) (parting t a b)
   where
-    go : Dec (Near s a b) → (Near s a b → Parting t a b) → Parting t a b
-    go (yes m) below = below m
-    go (no m) below = apart s l (n, m)
+    up : Parting t a b → Parting (suc t) a b
+    up (same e) = same e
+    up (apart h l m) = apart h (omega arith) m
+
+    go : Dec (Near t a b) → (Near t a b → Parting t a b) → Parting (suc t) a b
+    go (yes m) below = up (below m)
+    go (no m) below = apart t (omega arith) (n, m)

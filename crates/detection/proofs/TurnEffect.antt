@@ -34,9 +34,25 @@ Company n L = (i : ℕ) → i < n → L i ≡ true → (j : ℕ) × (j < n) × (
 abbrev pub Grown : ℕ → List ℕ → List ℕ → Type 0
 Grown n t t′ = (k y : ℕ) → k < n → y < n → suspects n t k y ≡ 1 → suspects n t′ k y ≡ 1
 
--- station x, tested by i: if it is not live, i suspects it at t′; if it is live, it has at t′ what i had at t
-abbrev pub Handed : ℕ → (ℕ → Bool) → List ℕ → List ℕ → ℕ → ℕ → Type 0
-Handed n L t t′ i x = (L x ≡ false → suspects n t′ i x ≡ 1) × (L x ≡ true → (j : ℕ) → j < n → suspects n t i j ≡ 1 → suspects n t′ x j ≡ 1)
+-- station x, tested by i, which had `mine` where x had `its`: if x is not live, i suspects it at t; if it is live, each has at t what the
+-- other had
+pub record Tested (n : ℕ) (L : ℕ → Bool) (mine its : ℕ → Type 0) (t : List ℕ) (i x : ℕ) : Type 0 where
+  pub finds : L x ≡ false → suspects n t i x ≡ 1
+  pub tells : L x ≡ true → (j : ℕ) → j < n → mine j → suspects n t x j ≡ 1
+  pub hears : L x ≡ true → (j : ℕ) → j < n → its j → suspects n t i j ≡ 1
+
+-- what i suspects
+abbrev pub Row : ℕ → List ℕ → ℕ → ℕ → Type 0
+Row n t i j = suspects n t i j ≡ 1
+
+-- where they had less, and in a later table
+pub tested-more : (n : ℕ) (L : ℕ → Bool) {mine its mine′ its′ : ℕ → Type 0} (t t′ : List ℕ) (i x : ℕ) → i < n → x < n → Grown n t t′
+    → ((j : ℕ) → j < n → mine′ j → mine j) → ((j : ℕ) → j < n → its′ j → its j) → Tested n L mine its t i x → Tested n L mine′ its′ t′ i x
+tested-more n L t t′ i x hi hx grows m s w = record {
+  finds = λ e. grows i x hi hx (w .finds e);
+  tells = λ e j h k. grows x j hx h (w .tells e j h (m j h k));
+  hears = λ e j h k. grows i j hi h (w .hears e j h (s j h k));
+}
 
 -- a table with other bytes 1 to 3 only
 pub same-rows : (n : ℕ) (L : ℕ → Bool) (t t′ : List ℕ) → Lines n t′
@@ -57,18 +73,18 @@ module _ (n : ℕ) (L : ℕ → Bool) (t : List ℕ) (i x : ℕ) (p : Plain n L 
   long = p .lines .0
 
   abbrev Step : List ℕ → Type 0
-  Step t′ = Plain n L t′ × Grown n t t′ × Handed n L t t′ i x
+  Step t′ = Plain n L t′ × Grown n t t′ × Tested n L (Row n t i) (Row n t x) t′ i x
 
   -- what is to be shown of byte y of the row of k
   abbrev Byte : List ℕ → ℕ → ℕ → Type 0
   Byte t′ k y = (suspects n t k y ≤ suspects n t′ k y) × (L k ≡ true → L y ≡ true → suspects n t′ k y ≡ 0)
 
   step : (t′ : List ℕ) → Lines n t′ → ((k : ℕ) → status n t′ k ≡ status n t k)
-      → ((k y : ℕ) → k < n → y < n → Byte t′ k y) → Handed n L t t′ i x → Step t′
-  step t′ lines same bytes handed = (
+      → ((k y : ℕ) → k < n → y < n → Byte t′ k y) → Tested n L (Row n t i) (Row n t x) t′ i x → Step t′
+  step t′ lines same bytes done = (
     record { lines = lines; lives = λ k h. rw (same k) (p .lives k h); trusted = λ k y hk hy. bytes k y hk hy .1 },
     λ k y hk hy s. omega (arith, bytes k y hk hy .0, lines .1 k hk .range y hy),
-    handed,
+    done,
   )
 
   -- a station that is not live is marked
@@ -80,7 +96,7 @@ module _ (n : ℕ) (L : ℕ → Bool) (t : List ℕ) (i x : ℕ) (p : Plain n L 
       (λ e. rw (← e, g) (omega (arith, now, p .lines .1 i hi .range x hx), λ a b. absurd (true≢false (sym b ∙ f))))
       (λ e. as-before k y hk hy (λ q. absurd (e q))))
       (λ g. as-before k y hk hy (λ q. g)))
-      (λ q. now, λ q. absurd (true≢false (sym q ∙ f)))
+      (record { finds = λ q. now; tells = λ q. absurd (true≢false (sym q ∙ f)); hears = λ q. absurd (true≢false (sym q ∙ f)) })
     where
       t′ : List ℕ
       t′ = suspect n t i x
@@ -103,12 +119,15 @@ module _ (n : ℕ) (L : ℕ → Bool) (t : List ℕ) (i x : ℕ) (p : Plain n L 
       step t′ lines (λ k. exchange-other n t i long hi x hx apart k statusColumn (omega arith) (λ e. omega arith) (λ e. omega arith))
       (λ k y hk hy.
       let v = between k y hy (ℕ-discrete i k) (ℕ-discrete x k) (ℕ-discrete y k) in
-      (v .0, λ a b. omega (arith, v .1, p .trusted k y hk hy a b, p .trusted i y hi hy li b, p .trusted x y hx hy lx b))) (
-        λ q. absurd (true≢false (sym lx ∙ q)),
-        λ q y hy s.
+      (v .0, λ a b. omega (arith, v .1, p .trusted k y hk hy a b, p .trusted i y hi hy li b, p .trusted x y hx hy lx b))) (record {
+        finds = λ q. absurd (true≢false (sym lx ∙ q));
+        tells = λ q y hy s.
             let v = exchange-tested n t i long hi x hx apart y hy (λ e. omega (arith, rw e at s, p .trusted i x hi hx li lx)) in
-            omega (arith, v, lines .1 x hx .range y hy),
-      )
+            omega (arith, v, lines .1 x hx .range y hy);
+        hears = λ q y hy s.
+            let v = exchange-tester n t i long hi x hx apart y hy (λ e. omega (arith, rw e at s, p .trusted x i hx hi lx li)) in
+            omega (arith, v, lines .1 i hi .range y hy);
+      })
     where
       t′ : List ℕ
       t′ = exchangeRows n t i x
@@ -134,11 +153,13 @@ module _ (n : ℕ) (L : ℕ → Bool) (t : List ℕ) (i x : ℕ) (p : Plain n L 
       by-bool (L x) (λ e. rw (p .lives x hx ∙ e, eq-eqb kind kindTurn (prompt e), p .trusted x i hx hi e li) (exchanged e))
       (λ e. rw (p .lives x hx ∙ e) (marked e))
 
--- a turn of i: a distance that it passes and that was due was tested
+-- a turn of i: of the distances that it passes none before the last was due, and at one that was due it tested
 pub record Turned (n : ℕ) (L : ℕ → Bool) (t t′ : List ℕ) (i : ℕ) : Type 0 where
   pub plain : Plain n L t′
   pub grows : Grown n t t′
-  pub passed : (m : ℕ) → nextDistance n t i ≤ m → m < nextDistance n t′ i → due (row n t i) i m ≡ true → Handed n L t t′ i (stationAt i m)
+  pub undue : (m k : ℕ) → nextDistance n t i ≤ k → k < m → m < nextDistance n t′ i → due (row n t i) i k ≡ false
+  pub passed : (m : ℕ) → nextDistance n t i ≤ m → m < nextDistance n t′ i → due (row n t i) i m ≡ true
+      → Tested n L (Row n t i) (Row n t (stationAt i m)) t′ i (stationAt i m)
 
 -- a station with a live one beside it that it does not suspect is not alone
 not-alone : (n : ℕ) (L : ℕ → Bool) (t : List ℕ) (i : ℕ) → Plain n L t → Company n L → i < n → L i ≡ true → afterAlone n t i ≡ t
@@ -166,6 +187,7 @@ turn-effect n L t kind i size p company hi li going prompt = by-bool (makesTest 
         record {
           plain = same .0;
           grows = same .1;
+          undue = λ m k lo l below. none k lo (omega (arith, rw e at next));
           passed = λ m lo below isDue. absurd (true≢false (sym isDue ∙ none m lo (omega (arith, rw e at next))));
         }
 
@@ -178,14 +200,16 @@ turn-effect n L t kind i size p company hi li going prompt = by-bool (makesTest 
         let lines₁ = countTest-lines n t i (p .lines) hi m (omega arith) low m<n in
         let same = same-rows n L t t₁ lines₁ (λ k c h out. countTest-other n t i m k c h (λ _. (out .0, out .2))) p in
         let apart = station-apart i m (omega (arith, p .lines .1 i hi .pass .nextLow)) in
-        let done = tested n L t₁ i (stationAt i m) (same .0) hi (station-below n i m size hi m<n) apart li kind (prompt e) in
+        let x<n = station-below n i m size hi m<n in
+        let done = tested n L t₁ i (stationAt i m) (same .0) hi x<n apart li kind (prompt e) in
         let stays = not-alone n L _ i (done .0) company hi li in
         rw (e, stays) (record {
           plain = done .0;
           grows = λ k y hk hy s. done .1 k y hk hy (same .1 k y hk hy s);
+          undue = λ y k lo l below. not-due-before n t i k lo (omega (arith, rw (e, stays) at next));
           passed = λ y lo hi′ isDue. by-cases (decLt y m)
               (λ l. absurd (true≢false (sym isDue ∙ not-due-before n t i y lo l)))
               (λ l.
               let last : y ≡ m = omega (arith, rw (e, stays) at next) in
-              rw last (done .2 .0, λ q k hk s. done .2 .1 q k hk (same .1 i k hi hk s)));
+              rw last (tested-more n L _ _ i _ hi x<n (λ k y a b s. s) (λ k a. same .1 i k hi a) (λ k a. same .1 _ k x<n a) (done .2)));
         })

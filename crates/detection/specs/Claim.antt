@@ -1,11 +1,11 @@
--- Demand 3: the claim, whole.
+-- Demand 3: the claim, whole, and the same claim within fewer rounds.
 -- Assumes nothing.
-use Prim.Native.Nat.{ℕ, suc, _+_, _-_, _*_, _≤_, _<_}
+use Prim.Native.Nat.{ℕ, suc, _+_, _-_, _*_, _/_, _≤_, _<_}
 use mathlib.Core.Path.{_≡_}
-use mathlib.Core.Bool.{Bool, true, not, _&&_, _||_}
+use mathlib.Core.Bool.{Bool, true, cond, not, _&&_, _||_}
 use mathlib.Core.List.{List, [], _∷_, _++_}
 use lib.ListN.{length, getD}
-use lib.Dec.{eqb}
+use lib.Dec.{eqb, ltb}
 use Rattle.station.specs.Search.{every}
 use Rattle.station.specs.Groups.{isSize, dimension, width, member}
 use Rattle.station.specs.Table.{tableLength, nextDistance, finished, testsMade, suspects, live}
@@ -73,29 +73,46 @@ pub record Premises (n : ℕ) (s : State) (calls : List Call) : Type 0 where
   pub noCrash : allTaken (λ x. not (crashes x)) (takenAll s calls) ≡ true
   pub noLate : allTaken (λ x. not (isLate x)) (takenAll s calls) ≡ true
 
--- what the claim says of table and tally after the list
-pub record Conclusion (n : ℕ) (s : State) (calls : List Call) (end : State) : Type 0 where
+-- what the claim says of table and tally after the list, where so many rounds are enough
+pub record Conclusion (enough : ℕ) (n : ℕ) (s : State) (calls : List Call) (end : State) : Type 0 where
   -- the live boards are the same as at first
   pub sameLive : (i : ℕ) → i < n → live n (end .table) i ≡ live n (s .table) i
   -- in every round, the open one included, a live board has at most N turns, and an Nth turn finished its pass
   pub turns : (k i : ℕ) → k ≤ length (roundsOf s calls .closed) → i < n → live n (s .table) i ≡ true
       → TurnsOk n i (roundAt s calls k)
-  -- once d·d rounds have closed, each live board suspects exactly the boards that are not live
-  pub known : dimension n * dimension n ≤ length (roundsOf s calls .closed)
+  -- once enough rounds have closed, each live board suspects exactly the boards that are not live
+  pub known : enough ≤ length (roundsOf s calls .closed)
       → (i j : ℕ) → i < n → j < n → live n (s .table) i ≡ true → suspects n (end .table) i j ≡ bit (notLive n (s .table) j)
-  -- each closed round from the (d·d + 1)th on has exactly the tests that the demand counts
-  pub tests : (k : ℕ) → dimension n * dimension n ≤ k → k < length (roundsOf s calls .closed)
+  -- each closed round after these has exactly the tests that the demand counts
+  pub tests : (k : ℕ) → enough ≤ k → k < length (roundsOf s calls .closed)
       → testsIn (getD (roundsOf s calls .closed) k []) ≡ demandCount n (s .table)
   -- the tally: the closed rounds are added to its rounds, and the tests of all rounds, the open one included, to its tests
   pub roundsTally : end .rounds ≡ s .rounds + length (roundsOf s calls .closed)
   pub testsTally : end .tests ≡ s .tests + testsOfAll (allRounds (roundsOf s calls))
 
--- demand 3, for all sizes, tables, tallies and lists of runs
-abbrev pub Demand3 : Type 0
-Demand3 = (n : ℕ) (s : State) (calls : List Call) → Premises n s calls → Conclusion n s calls (afterRuns s calls)
+-- the claim for all sizes, tables, tallies and lists of runs, within so many rounds by the dimension
+abbrev pub Within : (ℕ → ℕ) → Type 0
+Within rounds = (n : ℕ) (s : State) (calls : List Call) → Premises n s calls → Conclusion (rounds (dimension n)) n s calls (afterRuns s calls)
 
--- demand 3 of one run, `c`, from `before` to `after`: wherever it stands behind other runs, the claim about the whole list with it holds of the
--- state that it leaves
-abbrev pub Demand3After : Call → State → State → Type 0
-Demand3After c before after =
-    (n : ℕ) (s : State) (calls : List Call) → afterRuns s calls ≡ before → Premises n s (calls ++ (c ∷ [])) → Conclusion n s (calls ++ (c ∷ [])) after
+-- the same of one run, `c`, from `before` to `after`: wherever it stands behind other runs, the claim about the whole list with it holds of
+-- the state that it leaves
+abbrev pub WithinAfter : (ℕ → ℕ) → Call → State → State → Type 0
+WithinAfter rounds c before after =
+    (n : ℕ) (s : State) (calls : List Call) → afterRuns s calls ≡ before → Premises n s (calls ++ (c ∷ []))
+    → Conclusion (rounds (dimension n)) n s (calls ++ (c ∷ [])) after
+
+-- "once d·d rounds have closed"
+abbrev pub demandWait : ℕ → ℕ
+demandWait d = d * d
+
+-- demand 3
+abbrev pub Demand3 : Type 0
+Demand3 = Within demandWait
+
+-- our own: 1, 2, 3, 4, 6, 8 rounds for 2, 4, 8, 16, 32, 64 boards
+unfoldable pub exactWait : ℕ → ℕ
+exactWait d = cond (ltb d 4) d (4 + (d - 3) * (d - 3) / 2)
+
+-- no claim within fewer rounds holds at size n
+abbrev pub NoneSooner : ℕ → Type 0
+NoneSooner n = (rounds : ℕ → ℕ) → Within rounds → exactWait (dimension n) ≤ rounds (dimension n)
