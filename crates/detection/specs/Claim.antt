@@ -74,7 +74,7 @@ pub record Premises (n : ℕ) (s : State) (calls : List Call) : Type 0 where
   pub noLate : allTaken (λ x. not (isLate x)) (takenAll s calls) ≡ true
 
 -- what the claim says of table and tally after the list, where so many rounds are enough
-pub record Conclusion (enough : ℕ) (n : ℕ) (s : State) (calls : List Call) (end : State) : Type 0 where
+pub record Conclusion (enough n : ℕ) (s : State) (calls : List Call) (end : State) : Type 0 where
   -- the live boards are the same as at first
   pub sameLive : (i : ℕ) → i < n → live n (end .table) i ≡ live n (s .table) i
   -- in every round, the open one included, a live board has at most N turns, and an Nth turn finished its pass
@@ -92,7 +92,8 @@ pub record Conclusion (enough : ℕ) (n : ℕ) (s : State) (calls : List Call) (
 
 -- the claim for all sizes, tables, tallies and lists of runs, within so many rounds by the dimension
 abbrev pub Within : (ℕ → ℕ) → Type 0
-Within rounds = (n : ℕ) (s : State) (calls : List Call) → Premises n s calls → Conclusion (rounds (dimension n)) n s calls (afterRuns s calls)
+Within rounds =
+    (n : ℕ) (s : State) (calls : List Call) → Premises n s calls → Conclusion (rounds (dimension n)) n s calls (afterRuns s calls)
 
 -- the same of one run, `c`, from `before` to `after`: wherever it stands behind other runs, the claim about the whole list with it holds of
 -- the state that it leaves
@@ -101,7 +102,7 @@ WithinAfter rounds c before after =
     (n : ℕ) (s : State) (calls : List Call) → afterRuns s calls ≡ before → Premises n s (calls ++ (c ∷ []))
     → Conclusion (rounds (dimension n)) n s (calls ++ (c ∷ [])) after
 
--- "once d·d rounds have closed"
+-- the rounds of demand 3
 abbrev pub demandWait : ℕ → ℕ
 demandWait d = d * d
 
@@ -109,7 +110,7 @@ demandWait d = d * d
 abbrev pub Demand3 : Type 0
 Demand3 = Within demandWait
 
--- our own: 1, 2, 3, 4, 6, 8 rounds for 2, 4, 8, 16, 32, 64 boards
+-- the rounds of our own claim: 1, 2, 3, 4, 6, 8 for 2, 4, 8, 16, 32, 64 boards
 unfoldable pub exactWait : ℕ → ℕ
 exactWait d = cond (ltb d 4) d (4 + (d - 3) * (d - 3) / 2)
 
