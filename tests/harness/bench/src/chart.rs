@@ -8,24 +8,26 @@ pub struct Point {
     pub least: u32,
     pub mean: f64,
     pub greatest: u32,
-    /// The rounds of the slowest plant known, if there is one.
+    /// The rounds of the slowest plant, if there is one.
     pub slowest: Option<u32>,
-    pub shown: u32,
+    pub exact: u32,
+    pub requested: u32,
     pub stated: u32,
 }
 
 const WIDTH: f64 = 760.0;
-const HEIGHT: f64 = 480.0;
+const HEIGHT: f64 = 640.0;
 const LEFT: f64 = 70.0;
 const RIGHT: f64 = 30.0;
 const TOP: f64 = 50.0;
 const BOTTOM: f64 = 60.0;
 
 const GRID_STEP: u32 = 4;
-const MOST_ROUNDS: u32 = 40;
+const MOST_ROUNDS: u32 = 36;
 
 const STATED: &str = "#7a7a7a";
-const SHOWN: &str = "#b8641f";
+const REQUESTED: &str = "#b8641f";
+const EXACT: &str = "#2f7d32";
 const OBSERVED: &str = "#1f5fa8";
 const SLOWEST: &str = "#a8201f";
 
@@ -35,7 +37,10 @@ pub fn draw(points: &[Point]) -> String {
         frame(),
         axes(points),
         bound(points, |point| point.stated, STATED, ""),
-        bound(points, |point| point.shown, SHOWN, "7 4"),
+        numbers(points, |point| point.stated),
+        bound(points, |point| point.requested, REQUESTED, "7 4"),
+        numbers(points, |point| point.requested),
+        bound(points, |point| point.exact, EXACT, ""),
         observed(points),
         slowest(points),
         legend(),
@@ -99,7 +104,7 @@ fn axes(points: &[Point]) -> String {
     text
 }
 
-/// A bound: a line with square marks and its numbers.
+/// A bound: a line with square marks.
 fn bound(points: &[Point], rounds: fn(&Point) -> u32, colour: &str, dashes: &str) -> String {
     let places: Vec<(f64, f64)> = placed(points)
         .map(|(place, point)| (place, y(f64::from(rounds(point)))))
@@ -108,9 +113,18 @@ fn bound(points: &[Point], rounds: fn(&Point) -> u32, colour: &str, dashes: &str
     for pair in places.windows(2) {
         text += &line(pair[0], pair[1], colour, 2.0, dashes);
     }
-    for (point, (place, height)) in points.iter().zip(places) {
+    for (place, height) in places {
         text += &square(place, height, colour);
+    }
+    text
+}
+
+/// The numbers of a bound that are more than 1.
+fn numbers(points: &[Point], rounds: fn(&Point) -> u32) -> String {
+    let mut text = String::new();
+    for (place, point) in placed(points) {
         if rounds(point) > 1 {
+            let height = y(f64::from(rounds(point)));
             let number = rounds(point).to_string();
             text += &label(place - 9.0, height - 6.0, "end", &number);
         }
@@ -146,7 +160,7 @@ fn slowest(points: &[Point]) -> String {
         if let Some(rounds) = point.slowest {
             let height = y(f64::from(rounds));
             text += &diamond(place, height);
-            text += &label(place + 12.0, height + 4.5, "start", &rounds.to_string());
+            text += &label(place + 9.0, height - 6.0, "start", &rounds.to_string());
         }
     }
     text
@@ -162,16 +176,18 @@ fn legend() -> String {
             + &square(left + 15.0, row(k), colour)
     };
     [
-        white(left - 10.0, TOP + 6.0, 380.0, 108.0),
+        white(left - 10.0, TOP + 6.0, 380.0, 132.0),
         sample(0.0, STATED, ""),
         text(0.0, "d·d: stated and proved"),
-        sample(1.0, SHOWN, "7 4"),
-        text(1.0, "1 + d(d − 1)/2: what the proof shows"),
-        bar(left + 15.0, row(2.0) + 8.0, row(2.0) - 8.0),
-        dot(left + 15.0, row(2.0)),
-        text(2.0, "random plants: least, mean and greatest"),
+        sample(1.0, REQUESTED, "7 4"),
+        text(1.0, "1 + d(d − 1)/2: request C-22"),
+        sample(2.0, EXACT, ""),
+        text(2.0, "f(d), the exact wait: what the proof shows"),
         diamond(left + 15.0, row(3.0)),
-        text(3.0, "slowest plant known"),
+        text(3.0, "slowest plant"),
+        bar(left + 15.0, row(4.0) + 8.0, row(4.0) - 8.0),
+        dot(left + 15.0, row(4.0)),
+        text(4.0, "random plants: least, mean and greatest"),
     ]
     .concat()
 }

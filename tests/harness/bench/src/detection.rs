@@ -1,6 +1,7 @@
 //! How many rounds close until every live board suspects exactly the dead
 //! ones. Everything is done by the library, one entry a run.
 
+use crate::bounds::exact;
 use crate::contender::run_library;
 use shared::random::Random;
 use shared::schedule::{Entry, CRASH, TURN};
@@ -30,7 +31,7 @@ pub struct Plant {
 
 /// The closed rounds until every live board suspects exactly the dead ones,
 /// from a fresh table on which the dead boards crash first. Stops the program
-/// if they are more than d·d.
+/// if they are more than the exact wait.
 pub fn rounds_until_known(n: usize, dead: &[usize], order: Order, random: &mut Random) -> u32 {
     let mut plant = Plant::fresh(n);
     for i in dead {
@@ -38,7 +39,7 @@ pub fn rounds_until_known(n: usize, dead: &[usize], order: Order, random: &mut R
     }
     while !plant.dead_are_known() {
         plant.play_round(order, random);
-        assert!(plant.rounds <= n.ilog2().pow(2), "more than d·d rounds");
+        assert!(plant.rounds <= exact(n), "more than the exact wait");
     }
     plant.rounds
 }
@@ -123,11 +124,6 @@ impl Plant {
         let lines = || table::lines(self.n, &self.table);
         let dead: Vec<u8> = lines().map(|line| u8::from(!line.is_live())).collect();
         lines().all(|line| !line.is_live() || line.row() == dead)
-    }
-
-    /// How many boards are not live.
-    pub fn dead(&self) -> usize {
-        self.n - table::live_stations(self.n, &self.table).len()
     }
 }
 

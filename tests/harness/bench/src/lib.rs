@@ -3,6 +3,7 @@
 
 #![forbid(unsafe_code)]
 
+pub mod bounds;
 pub mod chart;
 pub mod contender;
 pub mod detection;

@@ -1,9 +1,12 @@
-//! Plain Rust against the simulator: every byte and every answer.
+//! Plain Rust against the simulator: every byte and every answer. The bounds,
+//! and the slowest plants.
 
 use crate::measure::check_equal;
+use crate::slowest::Slowest;
 use crate::work::{table_with_crashed, Work};
-use crate::{plain, slowest};
+use crate::{bounds, plain, slowest};
 use shared::random::Random;
+use shared::slowest::INPUTS;
 use shared::table::{line_length, table_length, unfinished_stations, SIZES};
 use simulator::Answer;
 
@@ -178,11 +181,22 @@ fn tallies_at_their_end() {
     }
 }
 
-/// The dead boards are those of the files, counted by hand.
+#[test]
+fn bounds_by_size() {
+    assert_eq!(SIZES.map(bounds::exact), [1, 2, 3, 4, 6, 8]);
+    assert_eq!(SIZES.map(bounds::requested), [1, 2, 4, 7, 11, 16]);
+    assert_eq!(SIZES.map(bounds::stated), [1, 4, 9, 16, 25, 36]);
+}
+
+/// The dead boards are those of the files, counted by hand; the rounds are the
+/// exact wait.
 #[test]
 fn slowest_plants() {
-    let folder = concat!(env!("CARGO_MANIFEST_DIR"), "/../../../samples/slowest");
-    let run = |n| slowest::run(folder.as_ref(), n).expect("a plant");
-    let figures = slowest::SIZES.map(|n| (run(n).dead, run(n).rounds));
-    assert_eq!(figures, [(6, 3), (12, 4), (26, 6), (60, 8)]);
+    let figures = INPUTS.map(|input| {
+        let Slowest { n, dead, rounds } = slowest::run(input).expect("a plant");
+        assert_eq!(rounds, bounds::exact(n));
+        (n, dead, rounds)
+    });
+    let expected = [(4, 2, 2), (8, 6, 3), (16, 12, 4), (32, 26, 6), (64, 60, 8)];
+    assert_eq!(figures, expected);
 }

@@ -1,15 +1,23 @@
 //! One input with what must be printed for it.
 
 use shared::random::Random;
+use shared::slowest;
 
 use crate::child::Program;
 use crate::generate;
 use crate::odd::{self, Odd};
+use crate::wait;
+
+/// The exact wait by size: d rounds for d up to 3, from 4 on 4 + (d - 3)²/2,
+/// rounded down.
+const EXACT_WAIT: [(usize, u32); 5] = [(4, 2), (8, 3), (16, 4), (32, 6), (64, 8)];
 
 /// Where an input comes from.
 pub enum Source {
     /// The table of odd inputs, by number from 1.
     Odd { number: u64, name: &'static str },
+    /// The slowest plant of N boards, with its exact wait.
+    Slowest { n: usize, wait: u32 },
     /// The generator.
     Random { seed: u64, number: u64 },
 }
@@ -32,7 +40,8 @@ pub enum By {
     Pieces,
 }
 
-/// What was printed instead of the expected output, or why nothing was.
+/// What was printed instead of the expected output, or why that is not known or
+/// does not show the exact wait.
 pub struct Difference {
     pub by: By,
     pub printed: Result<Vec<u8>, String>,
@@ -41,17 +50,25 @@ pub struct Difference {
 impl Case {
     /// An odd input, which is handed over in pieces too.
     fn odd(number: u64, odd: Odd) -> Case {
-        let length = odd.input.len();
-        let mut cuts = vec![length.min(1), length / 2, length.saturating_sub(1)];
-        cuts.sort_unstable();
         Case {
             source: Source::Odd {
                 number,
                 name: odd.name,
             },
-            cuts,
+            cuts: cuts(odd.input.len()),
             input: odd.input,
             expected: odd.output,
+        }
+    }
+
+    /// A slowest plant, which is handed over in pieces too. The simulator says
+    /// what is expected, and the exact wait says what it must show.
+    fn slowest((n, wait): (usize, u32), input: &str) -> Case {
+        Case {
+            source: Source::Slowest { n, wait },
+            cuts: cuts(input.len()),
+            input: Vec::from(input),
+            expected: simulate(input.as_bytes()),
         }
     }
 
@@ -77,12 +94,27 @@ impl Case {
     pub fn check_simulator(&self) -> Option<Difference> {
         match self.source {
             Source::Odd { .. } => self.compare(By::Simulator, Ok(simulate(&self.input))),
-            Source::Random { .. } => None,
+            Source::Slowest { .. } | Source::Random { .. } => None,
         }
     }
 
     fn check_whole(&self, program: &Program) -> Option<Difference> {
-        self.compare(By::Whole, program.print(&[&self.input]))
+        let printed = program.print(&[&self.input]);
+        self.check_wait(&printed)
+            .or_else(|| self.compare(By::Whole, printed))
+    }
+
+    /// Only a slowest plant has a wait, which the printed lines must show.
+    fn check_wait(&self, printed: &Result<Vec<u8>, String>) -> Option<Difference> {
+        let (Source::Slowest { n, wait }, Ok(printed)) = (&self.source, printed) else {
+            return None;
+        };
+        let [input, printed] = [&self.input, printed].map(|bytes| String::from_utf8_lossy(bytes));
+        let problem = wait::check(*n, *wait, &input, &printed).err()?;
+        Some(Difference {
+            by: By::Whole,
+            printed: Err(problem.to_string()),
+        })
     }
 
     pub fn check_pieces(&self, program: &Program) -> Option<Difference> {
@@ -115,6 +147,19 @@ impl Case {
 pub fn odd_cases() -> impl Iterator<Item = Case> {
     let numbered = odd::all().into_iter().zip(1..);
     numbered.map(|(odd, number)| Case::odd(number, odd))
+}
+
+/// All slowest plants.
+pub fn slowest_cases() -> impl Iterator<Item = Case> {
+    let inputs = EXACT_WAIT.into_iter().zip(slowest::INPUTS);
+    inputs.map(|(wait, input)| Case::slowest(wait, input))
+}
+
+/// Behind the first byte, in the middle and before the last byte.
+fn cuts(length: usize) -> Vec<usize> {
+    let mut cuts = vec![length.min(1), length / 2, length.saturating_sub(1)];
+    cuts.sort_unstable();
+    cuts
 }
 
 fn simulate(input: &[u8]) -> Vec<u8> {

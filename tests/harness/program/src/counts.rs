@@ -6,15 +6,14 @@ use std::fmt;
 use shared::counts::{list, Required};
 
 use crate::case::Case;
+use crate::generate::MOST;
+use crate::printed::Printed;
 
 /// How often each thing must occur at least, if there are enough inputs.
 pub const LEAST: u64 = 3;
 
 /// The line of a 4,097th entry.
-const LINE_TOO_MANY: usize = 4_098;
-
-/// The most entries, as printed.
-const MOST_TEXT: &str = "4096";
+const LINE_TOO_MANY: usize = MOST + 2;
 
 /// The numbers that the run program can print: the other refusals cannot arise
 /// from its input, and 4,096 entries do not fill a tally.
@@ -101,24 +100,22 @@ impl Counts {
         if text.lines().count() == LINE_TOO_MANY - 1 {
             self.full += 1;
         }
-        for line in printed.lines() {
-            let words: Vec<&str> = line.split(' ').collect();
-            match words[..] {
-                ["rounds", rounds, _, _, _, number, _, taken] => {
-                    self.rounds += rounds.parse().unwrap_or(0);
-                    increase(&mut self.numbers, number);
-                    if taken == MOST_TEXT {
-                        self.full_taken += 1;
-                    }
-                }
-                [_, _, outcome, status] => {
-                    increase(&mut self.outcomes, outcome);
-                    increase(&mut self.statuses, status);
-                }
-                _ => {}
-            }
-        }
         self.add_size(text.lines().next().unwrap_or(""));
+        if let Some(printed) = Printed::read(printed) {
+            self.add_printed(&printed);
+        }
+    }
+
+    fn add_printed(&mut self, printed: &Printed) {
+        self.rounds += u64::from(printed.rounds);
+        increase(&mut self.numbers, printed.refused);
+        if printed.taken == MOST {
+            self.full_taken += 1;
+        }
+        for line in &printed.lines {
+            increase(&mut self.outcomes, line.outcome);
+            increase(&mut self.statuses, line.status);
+        }
     }
 
     fn add_size(&mut self, line: &str) {
@@ -176,9 +173,8 @@ impl Counts {
 }
 
 /// Adds one to the count with this number, if there is such a count.
-fn increase(counts: &mut [u64], number: &str) {
-    let index = number.parse().unwrap_or(usize::MAX);
-    if let Some(count) = counts.get_mut(index) {
+fn increase(counts: &mut [u64], number: usize) {
+    if let Some(count) = counts.get_mut(number) {
         *count += 1;
     }
 }

@@ -5,7 +5,7 @@ use shared::schedule::{Entry, Style};
 use shared::table::{self, SIZES};
 
 /// The most entries the run program reads.
-const MOST: usize = 4_096;
+pub const MOST: usize = 4_096;
 
 /// A schedule with more entries is a long one.
 const LONG: usize = 400;

@@ -1,19 +1,23 @@
-//! Runs the run program on odd and random inputs and compares what it prints,
-//! byte for byte, with what must be printed: for odd inputs by a table written
-//! by hand, to which the simulator is held too, and for random ones by the
-//! simulator.
+//! Runs the run program on odd inputs, slowest plants and random inputs and
+//! compares what it prints, byte for byte, with what must be printed: for odd
+//! inputs by a table written by hand, to which the simulator is held too, and
+//! for the others by the simulator. For the slowest plants the printed lines
+//! must show the exact wait too.
 
 #![forbid(unsafe_code)]
 
+mod altered_wait;
 mod case;
 mod child;
 mod counts;
 mod generate;
 mod odd;
 mod options;
+mod printed;
 mod report;
 mod self_test;
 mod stand_in;
+mod wait;
 
 use std::process::ExitCode;
 use std::time::Duration;
@@ -48,6 +52,7 @@ fn work(options: &Options) -> Result<String, String> {
             .map(|noticed| format!("program: self-test: all {noticed} alterations noticed")),
         Task::Only(number) => only(&program(options)?, Case::random(seed, number)),
         Task::Odd(number) => only(&program(options)?, odd_case(number)?),
+        Task::Slowest(n) => only(&program(options)?, slowest_case(n)?),
         Task::Inputs(inputs) => compare(&program(options)?, seed, inputs),
     }
 }
@@ -63,6 +68,12 @@ fn odd_case(number: u64) -> Result<Case, String> {
     found.ok_or_else(|| format!("there is no odd input {number}"))
 }
 
+fn slowest_case(n: usize) -> Result<Case, String> {
+    let wanted = |case: &Case| matches!(case.source, Source::Slowest { n: one, .. } if one == n);
+    let found = case::slowest_cases().find(wanted);
+    found.ok_or_else(|| format!("there is no slowest plant of {n} boards"))
+}
+
 /// Checks one input and prints all of it.
 fn only(program: &Program, case: Case) -> Result<String, String> {
     check(program, &case, usize::MAX)?;
@@ -71,11 +82,8 @@ fn only(program: &Program, case: Case) -> Result<String, String> {
 
 /// Checks the inputs up to the first difference.
 fn compare(program: &Program, seed: u64, inputs: u64) -> Result<String, String> {
-    let mut odd_inputs = 0;
-    for case in case::odd_cases() {
-        check(program, &case, report::CUT)?;
-        odd_inputs += 1;
-    }
+    let odd_inputs = check_all(program, case::odd_cases())?;
+    let plants = check_all(program, case::slowest_cases())?;
     let mut counts = Counts::all(0);
     for number in 1..=inputs {
         let case = Case::random(seed, number);
@@ -84,8 +92,21 @@ fn compare(program: &Program, seed: u64, inputs: u64) -> Result<String, String> 
     }
     shared::counts::check(&counts.missing(), inputs >= ENOUGH_INPUTS)?;
     let odd = format!("{odd_inputs} odd inputs, all in pieces too");
+    let slowest = format!("{plants} slowest plants, which show the exact wait");
     let random = format!("{inputs} random inputs of seed {seed}");
-    Ok(format!("program: {odd}, and {random} agree: {counts}"))
+    Ok(format!(
+        "program: {odd}, {slowest}, and {random} agree: {counts}"
+    ))
+}
+
+/// Gives how many inputs there are.
+fn check_all(program: &Program, cases: impl Iterator<Item = Case>) -> Result<usize, String> {
+    let mut count = 0;
+    for case in cases {
+        check(program, &case, report::CUT)?;
+        count += 1;
+    }
+    Ok(count)
 }
 
 /// If there is a difference, a report in which long texts are cut.

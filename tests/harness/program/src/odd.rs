@@ -1,10 +1,10 @@
 //! Odd inputs and what must be printed for each. The outputs are written by
 //! hand from document 01 and docs/DECISIONS.md, not taken from a program.
 
+use crate::printed::HEADER;
+
 /// How long a line is that is longer than any buffer.
 const LONG: usize = 100_000;
-
-const HEADER: &str = "station tested outcome status\n";
 
 /// A round of a plant of two, and the same with leading zeros.
 const FOUR: &[u8] = b"T 0\nT 0\nT 1\nT 1\n";

@@ -6,7 +6,8 @@ use shared::options::Words;
 
 use crate::stand_in::Fault;
 
-const USAGE: &str = "usage: program BINARY [--seed S] [--inputs N | --only K | --odd K]
+const USAGE: &str =
+    "usage: program BINARY [--seed S] [--inputs N | --only K | --odd K | --slowest N]
        program --self-test [--seed S]";
 
 const DEFAULT_SEED: u64 = 1;
@@ -14,12 +15,15 @@ const DEFAULT_SEED: u64 = 1;
 pub const DEFAULT_INPUTS: u64 = 3_000;
 
 pub enum Task {
-    /// All odd inputs and the random inputs 1 up to this number.
+    /// All odd inputs and slowest plants, and the random inputs 1 up to this
+    /// number.
     Inputs(u64),
     /// Just the random input with this number.
     Only(u64),
     /// Just the odd input with this number.
     Odd(u64),
+    /// Just the slowest plant of so many boards.
+    Slowest(usize),
     SelfTest,
 }
 
@@ -47,6 +51,7 @@ impl Options {
                 Some("--inputs") => options.task = Task::Inputs(words.value()?),
                 Some("--only") => options.task = Task::Only(words.value()?),
                 Some("--odd") => options.task = Task::Odd(words.value()?),
+                Some("--slowest") => options.task = Task::Slowest(words.value()?),
                 Some("--self-test") => options.task = Task::SelfTest,
                 Some("--stand-in") => options.stand_in = Some(words.value()?),
                 Some(text) if text.starts_with("--") => return Err(words.usage()),

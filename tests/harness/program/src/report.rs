@@ -11,7 +11,7 @@ pub fn difference(case: &Case, found: &Difference, cut: usize) -> String {
     let mut text = input(case, cut);
     let expected_by = match case.source {
         Source::Odd { .. } => "the table of odd inputs",
-        Source::Random { .. } => "the simulator",
+        Source::Slowest { .. } | Source::Random { .. } => "the simulator",
     };
     let from = match &found.printed {
         Ok(printed) => first_difference(&case.expected, printed),
@@ -40,6 +40,7 @@ pub fn whole(case: &Case) -> String {
 pub fn command(source: &Source) -> String {
     match source {
         Source::Odd { number, .. } => format!("tests/program --odd {number}"),
+        Source::Slowest { n, .. } => format!("tests/program --slowest {n}"),
         Source::Random { seed, number } => format!("tests/program --seed {seed} --only {number}"),
     }
 }
@@ -47,6 +48,7 @@ pub fn command(source: &Source) -> String {
 fn input(case: &Case, cut: usize) -> String {
     let name = match &case.source {
         Source::Odd { number, name } => format!("odd input {number} ({name})"),
+        Source::Slowest { n, wait } => format!("slowest plant of {n} boards, exact wait {wait}"),
         Source::Random { number, .. } => format!("random input {number}"),
     };
     let bytes = part(&case.input, 0, cut);

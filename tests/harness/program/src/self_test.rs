@@ -5,7 +5,8 @@ use std::time::Duration;
 
 use shared::counts;
 
-use crate::case::{odd_cases, By, Case};
+use crate::altered_wait::alter_runs;
+use crate::case::{odd_cases, slowest_cases, By, Case, Source};
 use crate::child::Program;
 use crate::counts::{Counts, LEAST, NUMBERS};
 use crate::report;
@@ -25,7 +26,10 @@ pub fn self_test(seed: u64) -> Result<usize, String> {
     for number in 1..=INPUTS {
         noticed += alter_outputs(&Case::random(seed, number))?;
     }
-    noticed += alter_table()?;
+    for case in slowest_cases() {
+        noticed += alter_outputs(&case)?;
+    }
+    noticed += alter_table()? + alter_runs()? + alter_waits()?;
     for fault in Fault::ALL {
         noticed += run_with(fault)?;
     }
@@ -85,13 +89,36 @@ fn alter_table() -> Result<usize, String> {
     Ok(count)
 }
 
+/// Alters the exact waits by one; what a right program prints shows another.
+fn alter_waits() -> Result<usize, String> {
+    let program = stand_in(Fault::None)?;
+    let mut count = 0;
+    for mut case in slowest_cases() {
+        let command = report::command(&case.source);
+        let Source::Slowest { n, wait } = case.source else {
+            continue;
+        };
+        for wait in [wait - 1, wait + 1] {
+            case.source = Source::Slowest { n, wait };
+            if case.check(&program).is_none() {
+                return Err(format!(
+                    "the wait was altered to {wait} unnoticed: {command}"
+                ));
+            }
+            count += 1;
+        }
+    }
+    Ok(count)
+}
+
 /// Runs this program in the place of the run program, with a fault. It must
 /// be noticed.
 fn run_with(fault: Fault) -> Result<usize, String> {
     let program = stand_in(fault)?;
     let mut noticed = 0;
     let mut unnoticed = 0;
-    for mut case in odd_cases().step_by(step(fault)) {
+    let cases = odd_cases().step_by(step(fault)).chain(slowest_cases());
+    for mut case in cases {
         // The table is not tested here.
         case.expected = simulator::program::respond(&case.input).into_bytes();
         match case.check(&program) {

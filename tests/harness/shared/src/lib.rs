@@ -1,5 +1,5 @@
 //! What the programs of the harness share: random numbers, a view of a table's
-//! lines, schedules, counts, and the words of a command.
+//! lines, schedules, the slowest plants, counts, and the words of a command.
 
 #![forbid(unsafe_code)]
 
@@ -7,4 +7,5 @@ pub mod counts;
 pub mod options;
 pub mod random;
 pub mod schedule;
+pub mod slowest;
 pub mod table;

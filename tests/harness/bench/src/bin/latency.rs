@@ -1,19 +1,19 @@
-//! How many rounds close until the dead boards are known, beside the two
-//! bounds: d·d, which is stated and proved, and 1 + d(d - 1)/2, which the
-//! proof shows. Random plants, and the slowest plants known.
+//! How many rounds close until the dead boards are known, beside the bounds:
+//! the exact wait, which the proof shows, and two greater ones. Random plants,
+//! and the slowest plants of samples/slowest.
 //!
-//! `latency` reads samples/slowest and writes docs/latency.md and
-//! docs/latency.svg under the current folder, and prints the tables; `--quick`
-//! tries less, and only prints.
+//! `latency` writes docs/latency.md and docs/latency.svg under the current
+//! folder, and prints the tables; `--quick` tries less, and only prints.
 
+use bench::bounds::{exact, requested, stated};
 use bench::chart::{self, Point};
 use bench::detection::{random_dead, rounds_until_known, Order};
 use bench::slowest::{self, Slowest};
 use bench::statistics::Summary;
 use shared::random::Random;
+use shared::slowest::INPUTS;
 use shared::table::SIZES;
 use std::fmt::Write;
-use std::path::Path;
 use std::process::ExitCode;
 use std::{fs, io};
 
@@ -35,15 +35,6 @@ fn trials(n: usize) -> usize {
         32 => 5000,
         _ => 10_000,
     }
-}
-
-/// The bounds of a size: d·d, which is stated, and what the proof shows.
-fn stated(n: usize) -> u32 {
-    n.ilog2().pow(2)
-}
-
-fn shown(n: usize) -> u32 {
-    1 + n.ilog2() * (n.ilog2() - 1) / 2
 }
 
 /// The results of a size, by order.
@@ -78,12 +69,9 @@ fn main() -> ExitCode {
 }
 
 fn work(quick: bool) -> io::Result<()> {
-    let folder = Path::new("samples/slowest");
-    let slowest: io::Result<Vec<Slowest>> = slowest::SIZES
-        .into_iter()
-        .map(|n| slowest::run(folder, n))
-        .collect();
-    let slowest = slowest?;
+    let slowest: Option<Vec<Slowest>> = INPUTS.into_iter().map(slowest::run).collect();
+    let slowest =
+        slowest.ok_or_else(|| io::Error::other("a plant of samples/slowest is unusable"))?;
     let results = SIZES.map(|n| try_size(n, quick));
     print!("{}", tables(&results, &slowest));
     match quick {
@@ -128,7 +116,8 @@ fn point(results: &Results, slowest: &[Slowest]) -> Point {
         mean: results.random().mean,
         greatest: results.random().greatest,
         slowest: slowest.map(|plant| plant.rounds),
-        shown: shown(n),
+        exact: exact(n),
+        requested: requested(n),
         stated: stated(n),
     }
 }
@@ -164,10 +153,14 @@ fn main_table(results: &[Results]) -> String {
 
 At least two boards are live. Their number is drawn from 2 to a power of two that is drawn first from 2 to N, since few live boards take
 the most rounds; then which ones. At least one board is dead, but for N = 2, where there is nothing to find and no round is counted. Each
-turn is taken by any live board that has not finished its pass, at random. Demand 3 states d·d rounds; its proof shows 1 + d(d − 1)/2.
+turn is taken by any live board that has not finished its pass, at random.
 
-| N | d | trials | least | mean | 99th percentile | greatest | 1 + d(d − 1)/2 | d·d |
-|--:|--:|--:|--:|--:|--:|--:|--:|--:|
+Demand 3 states that d·d rounds suffice. The proof ([DEMAND-3.md](DEMAND-3.md)) shows that the exact wait f(d) suffices: d rounds for d ≤ 3,
+and 4 + ⌊(d − 3)²/2⌋ from 4 on. It is exact for 4 to 64 boards; for 2, with both live, there is nothing to find. Request C-22 asks for
+1 + d(d − 1)/2, which is nowhere less.
+
+| N | d | trials | least | mean | 99th percentile | greatest | f(d) | 1 + d(d − 1)/2 | d·d |
+|--:|--:|--:|--:|--:|--:|--:|--:|--:|--:|
 ",
     );
     for row in results {
@@ -178,33 +171,38 @@ turn is taken by any live board that has not finished its pass, at random. Deman
             percentile,
             greatest,
         } = row.random();
-        let (n, d) = (row.n, row.n.ilog2());
-        let (shown, stated) = (shown(n), stated(n));
+        let (n, d, bounds) = (row.n, row.n.ilog2(), bounds(row.n));
         let _ = writeln!(
             text,
-            "| {n} | {d} | {trials} | {least} | {mean:.2} | {percentile} | {greatest} | {shown} | {stated} |"
+            "| {n} | {d} | {trials} | {least} | {mean:.2} | {percentile} | {greatest} | {bounds} |"
         );
     }
     text
 }
 
+/// The bounds of a size, as cells.
+fn bounds(n: usize) -> String {
+    format!("{} | {} | {}", exact(n), requested(n), stated(n))
+}
+
 fn slowest_table(slowest: &[Slowest]) -> String {
     let mut text = String::from(
-        "## The slowest plants known
+        "## The slowest plants
 
 Inputs of the run program in `samples/slowest`, one a size, with many boards dead at once and the turns in an unlucky order: the dead boards
-crash first, then come the turns. With 32 and 64 boards more rounds are needed than log2 N.
+crash first, then come the turns. Each takes the exact wait f(d). They are the slowest there are, since f(d) rounds always suffice
+([DEMAND-3.md](DEMAND-3.md)). With 32 and 64 boards more rounds are needed than log2 N.
 
-| N | dead | rounds until known | log2 N | 1 + d(d − 1)/2 | d·d | input |
-|--:|--:|--:|--:|--:|--:|---|
+| N | dead | rounds until known | log2 N | f(d) | 1 + d(d − 1)/2 | d·d | input |
+|--:|--:|--:|--:|--:|--:|--:|---|
 ",
     );
     for Slowest { n, dead, rounds } in slowest {
-        let (log, shown, stated) = (n.ilog2(), shown(*n), stated(*n));
+        let (log, bounds) = (n.ilog2(), bounds(*n));
         let file = format!("[{n}-boards.txt](../samples/slowest/{n}-boards.txt)");
         let _ = writeln!(
             text,
-            "| {n} | {dead} | {rounds} | {log} | {shown} | {stated} | {file} |"
+            "| {n} | {dead} | {rounds} | {log} | {bounds} | {file} |"
         );
     }
     text
