@@ -17,4 +17,3 @@ pub mod Chain
 pub mod Course
 pub mod Demand3
 pub mod FreshStart
-pub mod Witness

@@ -113,7 +113,3 @@ Demand3 = Within demandWait
 -- the rounds of our own claim: 1, 2, 3, 4, 6, 8 for 2, 4, 8, 16, 32, 64 boards
 unfoldable pub exactWait : ℕ → ℕ
 exactWait d = cond (ltb d 4) d (4 + (d - 3) * (d - 3) / 2)
-
--- no claim within fewer rounds holds at size n
-abbrev pub NoneSooner : ℕ → Type 0
-NoneSooner n = (rounds : ℕ → ℕ) → Within rounds → exactWait (dimension n) ≤ rounds (dimension n)

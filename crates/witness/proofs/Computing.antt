@@ -1,0 +1,34 @@
+-- Lists of runs that compute: the definitions that a run unfolds, under one name, and runs of turns only.
+-- Assumes nothing.
+use mathlib.Core.List.{List, [], _∷_}
+use Prim.Native.Nat.{ℕ, _*_}
+use lib.ListN.{length, replicate}
+use Rattle.station.specs.Search.{least, every, listOf}
+use Rattle.station.specs.Groups.{isSize, level, dimension, width, member}
+use Rattle.station.specs.Table.{tableLength, lineStart, cell, setCell, row, setRow}
+use Rattle.station.specs.Rules.{rowRule, lineRules, someLive, liveFinished, shapeNumber, tableNumber}
+use Rattle.station.specs.Tests.{unsuspected, firstPlace, first, due}
+use Rattle.station.specs.Rows.{unionByte, union, mark}
+use Rattle.station.specs.Calls.{freshByte, freshTable}
+use Rattle.plant.specs.Iterate.{iterate}
+use Rattle.plant.specs.Turn.{nextTest, makesTest, finishPass, countTest, replies, isTold, exchangeRows, suspect, testOutcome, afterOutcome, selfOrSuspected, isAlone, afterAlone, testing, turn, turnTested, turnOutcome, crash, resetLine, resetLines, afterRound}
+use Rattle.plant.specs.Entry.{entryNumber, acted, after, testedOf, outcomeOf, sheetLine}
+use Rattle.plant.specs.Run.{entries, writeLine, goOn, startNumber, run}
+use Rattle.station.specs.Sums.{sum}
+use Rattle.detection.specs.Runs.{Call, afterRuns, takenFrom, takenIn, takenAll}
+use Rattle.detection.specs.Rounds.{anyTaken, allTaken, countTaken, closes, cut}
+use Rattle.detection.specs.Claim.{atStart, liveCount, noneSuspected, deadGroup, deadPairs}
+
+-- who unfolds this name unfolds all the definitions on its line, and a list of runs computes
+unfoldable pub wholeRun : Unit {0}
+unfolding atStart liveCount noneSuspected deadPairs deadGroup sum afterRuns takenFrom takenIn takenAll anyTaken allTaken countTaken closes cut run startNumber tableNumber shapeNumber isSize tableLength every lineRules rowRule someLive liveFinished cell lineStart row setRow setCell freshTable freshByte listOf goOn entries writeLine entryNumber after acted sheetLine testedOf outcomeOf turn turnTested turnOutcome crash resetLine resetLines afterRound iterate nextTest makesTest finishPass countTest replies isTold exchangeRows suspect testOutcome afterOutcome selfOrSuspected isAlone afterAlone testing due first firstPlace least unsuspected member width level dimension union unionByte mark
+wholeRun = tt
+
+-- a schedule of turns of the stations listed
+unfoldable pub turnsOf : List ℕ → List ℕ
+turnsOf [] = []
+turnsOf (i ∷ is) = 1 ∷ i ∷ turnsOf is
+
+-- a run with a sheet of zeros
+abbrev pub callWith : ℕ → List ℕ → Call
+callWith n schedule = record { size = n; schedule = schedule; sheet = replicate (2 * length schedule) 0 }

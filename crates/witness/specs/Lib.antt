@@ -1,0 +1,2 @@
+-- What is shown by computed plants.
+pub mod Sooner
