@@ -25,7 +25,7 @@ use Rattle.detection.proofs.Count.{leads, first-not, tests-and-rest}
 use Rattle.detection.proofs.Counting.{Counts, counts-start}
 use Rattle.detection.proofs.TurnEffect.{Plain, Grown, same-rows}
 use Rattle.detection.proofs.Pass.{lift, Round}
-use Rattle.detection.proofs.Knowledge.{LiveOf, live-of, RowOf, Known, Exact, Knows, knows-start, known-now}
+use Rattle.detection.proofs.Knowledge.{LiveOf, live-of, RowOf, InPassOf, Exact, Knows, knows-start, known-now}
 
 -- within a round that started with t₀, after its entries `cur`
 pub record InRound (n : ℕ) (L : ℕ → Bool) (t₀ : List ℕ) (cur : List Taken) (t : List ℕ) : Type 0 where
@@ -66,16 +66,16 @@ module _ (n : ℕ) (L : ℕ → Bool) (t₀ t : List ℕ) (here : List Taken) (i
     pushes = λ i g h x j low l lx asks known hj.
         let v = live-of n L i l in
         let w = live-of n L x lx in
-        let met = inv .knows .met i (v .0) (v .1) h x (w .0) (omega (arith, at-end i (v .0) (v .1), near i x (v .0) (w .0))) asks in
+        let met = inv .knows .met i (v .0) (v .1) h x (w .0) (omega (arith, at-end i (v .0) (v .1), inside i x (v .0) (w .0))) asks in
         reset-grows x j (w .0) hj (met .tells (w .1) j hj (lift g h (omega arith) known));
   }
     where
-      near : (i x : ℕ) → i < n → x < n → bitXor i x < n
-      near i x a b = omega (arith, xor-lt (dimension n) i x (omega arith) (omega arith))
+      inside : (i x : ℕ) → i < n → x < n → bitXor i x < n
+      inside i x a b = omega (arith, xor-lt (dimension n) i x (omega arith) (omega arith))
 
-      at-last : (i : ℕ) → i < n → L i ≡ true → (h j : ℕ) → Known n L t₀ i h j → RowOf n t i j
+      at-last : (i : ℕ) → i < n → L i ≡ true → (h j : ℕ) → InPassOf n L t₀ i h j → RowOf n t i j
       at-last i hi l h j =
-          known-now n L t₀ t (inv .knows) i hi l n (λ m a b. absurd (omega (arith, at-end i hi l))) h j (λ x hx b. near i x hi hx)
+          known-now n L t₀ t (inv .knows) i hi l n (λ m a b. absurd (omega (arith, at-end i hi l))) h j (λ x hx b. inside i x hi hx)
 
 -- the tests of a round that starts exact
 pub round-count : (n : ℕ) (T t₀ t : List ℕ) (here : List Taken) → n ≡ 2 ^ dimension n → InRound n (live n T) t₀ here t

@@ -54,13 +54,13 @@ pub record Tallied (cur : List Taken) (s : State) (r : Rounds) (s′ : State) : 
 -- after enough closed rounds the rows at a round's start are exact
 pub exact-at : (n d : ℕ) (T t₀ : List ℕ) (r : Rounds) (end : List ℕ) (c : Course n T t₀ r end) → n ≡ 2 ^ d
     → (q : ℕ) → exactWait d ≤ q → q ≤ length (r .closed) → Exact n (live n T) (c .start q)
-exact-at n d T t₀ r end c pow q far near i j h g l e =
-    detected d L rows rounds q i j far (rw (lt-ltb i n h, l)) (rw (lt-ltb j n g, e)) (near-below d j i (omega arith) (omega arith)) near g
+exact-at n d T t₀ r end c pow q far closed i j h g l e =
+    detected d L rows rounds q i j far (rw (lt-ltb i n h, l)) (rw (lt-ltb j n g, e)) (near-below d j i (omega arith) (omega arith)) closed g
   where
     L : ℕ → Bool
     L = LiveOf n (live n T)
 
-    -- up to the last closed round
+    -- after the last closed round a row holds every number
     rows : ℕ → ℕ → ℕ → Type 0
     rows q i j = q ≤ length (r .closed) → RowOf n (c .start q) i j
 

@@ -109,7 +109,7 @@ module _ (n : ℕ) (s : State) (calls : List Call) (given : Premises n s calls) 
     testsTally = omega (arith, history .1 .tests);
   }
 
--- no entry is taken, as in a table that they do not let through
+-- no entry is taken, as on a table that the refusals turn away
 wait-none : (n : ℕ) (s : State) (calls : List Call) → isSize n ≡ true → takenAll s calls ≡ [] → afterRuns s calls ≡ s
     → Conclusion (exactWait (dimension n)) n s calls (afterRuns s calls)
 unfolding cut countTaken testsOfAll
@@ -160,7 +160,7 @@ within-pairs = within _ wait-le-pairs
 
 -- demand 3, an end in itself
 pub demand-3 : Demand3
-demand-3 = within demandWait wait-le-square
+demand-3 = within demandWait (λ d. omega (arith, wait-le-square d))
 
 -- the runs of a list and one more
 after-one-more : (s : State) (calls : List Call) (c : Call) → afterRuns s (calls ++ (c ∷ [])) ≡ afterRun (afterRuns s calls) c

@@ -9,10 +9,10 @@ use native.Mathlib.Decide.{decLt}
 use native.Mathlib.Omega.{arith}
 use Rattle.detection.specs.Claim.{exactWait}
 use Rattle.detection.proofs.Near.{Near, Member, Parting, same, apart, near-dec, near-zero, near-le, member-sym, member-near, members-near, parting}
-use Rattle.detection.proofs.Pass.{find, lift, Round}
+use Rattle.detection.proofs.Pass.{InPass, find, lift, Round}
 use Rattle.detection.proofs.Wait.{spread, ready, ready-enough, wait-enough, wait-grows, wait-pos}
 use Rattle.detection.proofs.Leaders.{Dead, Leads, leader-or-dead, leader, Aware, leader-tests}
-use Rattle.detection.proofs.Spread.{KnowsAt, AllAware, weaker, later, spreads, reaches}
+use Rattle.detection.proofs.Spread.{AllAware, weaker, later, spreads, reaches}
 
 -- a station f and its groups at levels up to s: all are dead; or the one at level p + 1 has the live x, and the u above it are dead
 data Span (live : ℕ → Bool) (f s : ℕ) : Type 0 where
@@ -32,20 +32,20 @@ span live f (suc s) = go (leader-or-dead live s f) (span live f s)
     go (inl top) (wide p u x e m t below) = wide p (suc u) x (omega arith) m t (λ h a l. upto h l top (below h a))
 
 module _ (live : ℕ → Bool) (rows : ℕ → ℕ → ℕ → Type 0) (R : (q : ℕ) → Round live (rows q) (rows (suc q))) where
-  -- the stations near at p to f, from round Q on: the groups of f at levels above p up to s are dead; the live ones among them are aware up
-  -- to p; what one of them knows in its pass all of them know c rounds later
+  -- the stations near at p to f, from round Q on: the groups of f at levels above p up to s are dead. Of these stations the live ones are
+  -- aware up to p, and what one of them knows through a level above p all of them know c rounds later, through the same level
   record Subcube (f s p c Q : ℕ) : Type 0 where
     dead : (h : ℕ) → p ≤ h → h < s → Dead live h f
     aware : (q y : ℕ) → Q ≤ q → live y ≡ true → Near p y f → Aware live (rows q) y p
-    carries : (q h g j : ℕ) → Q ≤ q → p ≤ h → live g ≡ true → Near p g f → KnowsAt live rows q g (suc h) j
-        → (y : ℕ) → live y ≡ true → Near p y f → KnowsAt live rows (q + c) y (suc h) j
+    carries : (q h g j : ℕ) → Q ≤ q → p ≤ h → live g ≡ true → Near p g f → InPass live (rows q) g (suc h) j
+        → (y : ℕ) → live y ≡ true → Near p y f → InPass live (rows (q + c)) y (suc h) j
 
   -- one of them that knows j in its pass of round q, through level s + 1
   record Finder (f s p q j : ℕ) : Type 0 where
     station : ℕ
     alive : live station ≡ true
     near : Near p station f
-    knows : KnowsAt live rows q station (suc s) j
+    knows : InPass live (rows q) station (suc s) j
 
   module _ (f s p c Q : ℕ) (C : Subcube f s p c Q) where
     -- a live station near at h to f is one of them
@@ -77,7 +77,7 @@ module _ (live : ℕ → Bool) (rows : ℕ → ℕ → ℕ → Type 0) (R : (q :
         (λ b. last k j (omega arith) none m (λ z. gains u k (q - c) z (omega arith) (omega arith) (omega arith)))
       where
         last : (k j : ℕ) → p + u ≡ k → Dead live k y → Member k y j
-            → ((z : ℕ) → live z ≡ true → Near p z f → Aware live (rows (q - c)) z k) → KnowsAt live rows q y (suc k) j
+            → ((z : ℕ) → live z ≡ true → Near p z f → Aware live (rows (q - c)) z k) → InPass live (rows q) y (suc k) j
         last k j top none m aware =
             let g = finder k (q - c) y j (omega arith) (omega arith) aware ty n (member-sym k y j m) (none j m) in
             let now : q - c + c ≡ q = omega arith in
@@ -132,8 +132,8 @@ module _ (live : ℕ → Bool) (rows : ℕ → ℕ → ℕ → Type 0) (R : (q :
           gains i s (suc p) _ _ cube u s q i e (omega arith) (omega arith) t refl
 
   -- a live i comes to suspect a j that is not live and has i in its group at level s + 1
-  known : (s i j : ℕ) → live i ≡ true → live j ≡ false → Member s j i → rows (exactWait (suc s)) i j
-  known s i j ti fj m = go (span live i s)
+  suspected : (s i j : ℕ) → live i ≡ true → live j ≡ false → Member s j i → rows (exactWait (suc s)) i j
+  suspected s i j ti fj m = go (span live i s)
     where
       all : (p : ℕ) → AllAware live rows (ready p) p
       all p q y = all-aware (suc p) p q y (omega arith)
@@ -158,4 +158,4 @@ detected d live rows R q i j l ti fj n = go (parting d j i n)
   where
     go : Parting d j i → rows q i j
     go (same e) = absurd (true≢false (sym ti ∙ (rw e at fj)))
-    go (apart s b m) = later live rows R _ q i j (omega (arith, wait-grows (suc s) d b)) ti (known live rows R s i j ti fj m)
+    go (apart s b m) = later live rows R _ q i j (omega (arith, wait-grows (suc s) d b)) ti (suspected live rows R s i j ti fj m)

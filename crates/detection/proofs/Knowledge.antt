@@ -21,6 +21,7 @@ use Rattle.station.proofs.GroupLaws.{place-mem, members-below}
 use Rattle.station.proofs.CellLaws.{row-length, row-at}
 use Rattle.plant.specs.Turn.{makesTest}
 use Rattle.plant.proofs.StepCells.{Reset}
+use Rattle.plant.proofs.StepLines.{Lines}
 use Rattle.station.specs.Sums.{sum, bit}
 use Rattle.station.proofs.BoolLaws.{by-bool}
 use Rattle.station.proofs.SumLaws.{sum-by, sum-zero}
@@ -43,8 +44,8 @@ pub live-of : (n : ℕ) (L : ℕ → Bool) (i : ℕ) → LiveOf n L i ≡ true �
 live-of n L i l = let v = both (ltb i n) (L i) l in (ltb-true i n (v .0), v .1)
 
 -- what i knows in its pass of the round that started with t₀, and whom it tests
-abbrev pub Known : ℕ → (ℕ → Bool) → List ℕ → ℕ → ℕ → ℕ → Type 0
-Known n L t₀ i h j = InPass (LiveOf n L) (RowOf n t₀) i h j
+abbrev pub InPassOf : ℕ → (ℕ → Bool) → List ℕ → ℕ → ℕ → ℕ → Type 0
+InPassOf n L t₀ i h j = InPass (LiveOf n L) (RowOf n t₀) i h j
 
 abbrev Asks : ℕ → (ℕ → Bool) → List ℕ → ℕ → ℕ → ℕ → Type 0
 Asks n L t₀ i h x = Tests (LiveOf n L) (RowOf n t₀) i h x
@@ -56,12 +57,13 @@ Exact n L t = (i j : ℕ) → i < n → j < n → L i ≡ true → L j ≡ false
 -- what the live i has done at the distances below `reach`: a present station in whose group it knew all ahead of it was tested
 abbrev Met : ℕ → (ℕ → Bool) → List ℕ → List ℕ → ℕ → ℕ → Type 0
 Met n L t₀ t i reach =
-    (h x : ℕ) → x < n → bitXor i x < reach → Asks n L t₀ i h x → Tested n L (Known n L t₀ i h) (Row n t₀ x) t i x
+    (h x : ℕ) → x < n → bitXor i x < reach → Asks n L t₀ i h x → Tested n L (InPassOf n L t₀ i h) (Row n t₀ x) t i x
 
 met-later : (n : ℕ) (L : ℕ → Bool) (t₀ t t′ : List ℕ) (i reach : ℕ) → Grown n t t′ → i < n → Met n L t₀ t i reach → Met n L t₀ t′ i reach
 met-later n L t₀ t t′ i reach grows hi met h x hx below asks =
     tested-more n L t t′ i x hi hx grows (λ j a s. s) (λ j a s. s) (met h x hx below asks)
 
+-- the invariant of a round
 pub record Knows (n : ℕ) (L : ℕ → Bool) (t₀ t : List ℕ) : Type 0 where
   pub plain : Plain n L t
   pub grown : Grown n t₀ t
@@ -97,24 +99,26 @@ exact-due n d L t pow p exact i m hi hm l = leads-same (unsuspected (row n t i))
         unsuspected-at (row n t i) x (omega (arith, row-length n t i (p .lines .0) hi)) ∙ ap (λ (v : ℕ). eqb v 0) (row-at n t i x x<n)
         ∙ by-bool (L x) (λ e. rw (p .trusted i x hi x<n l e, e)) (λ e. rw (exact i x hi x<n l e, e))
 
--- where no distance from i's next one up to M is due, i suspects all present that it knows in its pass below M
+-- where i suspects all present ahead of it in the group of x the distance to x is due
+due-now : (n : ℕ) (t : List ℕ) (h x i : ℕ) → Lines n t → i < n → Member h x i → ((y : ℕ) → Ahead h x i y → RowOf n t i y)
+    → due (row n t i) i (bitXor i x) ≡ true
+due-now n t h x i lines hi m ahead =
+    let long = row-length n t i (lines .0) hi in
+    due-holds (row n t i) h x i (omega arith) (row-at n t i i hi ∙ lines .1 i hi .own) m
+    (λ y a l. let y<n = rw long at l in row-at n t i y y<n ∙ ahead y a y<n)
+
+-- where no distance below M, from i's next one on, is due, i suspects all present that it knows in its pass through distances below M
 module _ (n : ℕ) (L : ℕ → Bool) (t₀ t : List ℕ) (know : Knows n L t₀ t) (i : ℕ) (hi : i < n) (li : L i ≡ true) (M : ℕ)
     (undue : (m : ℕ) → nextDistance n t i ≤ m → m < M → due (row n t i) i m ≡ false) where
-  -- where i suspects all present ahead of it the distance is due
-  pub due-now : (h x : ℕ) → Member h x i → ((y : ℕ) → Ahead h x i y → RowOf n t i y) → due (row n t i) i (bitXor i x) ≡ true
-  due-now h x m ahead =
-      let lines = know .plain .lines in
-      let long = row-length n t i (lines .0) hi in
-      due-holds (row n t i) h x i (omega arith) (row-at n t i i hi ∙ lines .1 i hi .own) m
-      (λ y a l. let y<n = rw long at l in row-at n t i y y<n ∙ ahead y a y<n)
-
   met-now : (h x : ℕ) → x < n → bitXor i x < M → Asks n L t₀ i h x → ((y : ℕ) → Ahead h x i y → RowOf n t i y)
-      → Tested n L (Known n L t₀ i h) (Row n t₀ x) t i x
+      → Tested n L (InPassOf n L t₀ i h) (Row n t₀ x) t i x
   met-now h x hx below asks ahead =
       by-cases (decLt (bitXor i x) (nextDistance n t i)) (λ l. know .met i hi li h x hx l asks)
-      (λ l. absurd (true≢false (sym (due-now h x (asks .0) ahead) ∙ undue (bitXor i x) (omega arith) below)))
+      (λ l.
+      let isDue = due-now n t h x i (know .plain .lines) hi (asks .0) ahead in
+      absurd (true≢false (sym isDue ∙ undue (bitXor i x) (omega arith) below)))
 
-  pub known-now : (h j : ℕ) → ((x : ℕ) → x < n → bitXor i x < 2 ^ h → bitXor i x < M) → Known n L t₀ i h j → RowOf n t i j
+  pub known-now : (h j : ℕ) → ((x : ℕ) → x < n → bitXor i x < 2 ^ h → bitXor i x < M) → InPassOf n L t₀ i h j → RowOf n t i j
   known-now h j below (had r) = λ l. know .grown i j hi l (r l)
   known-now h j below (stays k) = known-now _ j (λ x l b. below x l (omega arith)) k
   known-now h j below (finds m ahead f) = λ l.
@@ -133,16 +137,16 @@ module _ (n d : ℕ) (L : ℕ → Bool) (t₀ t t′ : List ℕ) (i : ℕ) (pow 
 
   -- at a distance that the turn passes
   newly-met : (h x : ℕ) → x < n → nextDistance n t i ≤ bitXor i x → bitXor i x < nextDistance n t′ i → Asks n L t₀ i h x
-      → Tested n L (Known n L t₀ i h) (Row n t₀ x) t′ i x
+      → Tested n L (InPassOf n L t₀ i h) (Row n t₀ x) t′ i x
   newly-met h x hx lo passed asks =
-      let isDue = due-now n L t₀ t know i below isLive (bitXor i x) undue h x (asks .0) (λ y a. now y (asks .1 y a)) in
+      let isDue = due-now n t h x i (p .lines) below (asks .0) (λ y a. now y (asks .1 y a)) in
       tested-more n L t′ t′ i x below hx (λ k y a b s. s) (λ j a known. now j known a) (λ j a s. know .grown x j hx a s)
       (rw xor-cancel at (turned .passed (bitXor i x) lo passed isDue))
     where
       undue : (m : ℕ) → nextDistance n t i ≤ m → m < bitXor i x → due (row n t i) i m ≡ false
       undue m a b = turned .undue (bitXor i x) m a b passed
 
-      now : (j : ℕ) → Known n L t₀ i h j → RowOf n t i j
+      now : (j : ℕ) → InPassOf n L t₀ i h j → RowOf n t i j
       now j =
           known-now n L t₀ t know i below isLive (bitXor i x) undue h j
           (λ y l b. omega (arith, member-distance h x i .0 (asks .0), xor-comm i x))

@@ -17,7 +17,7 @@ use Rattle.detection.proofs.Pass.{InPass, Tests, lift}
 abbrev pub Dead : (ℕ → Bool) → ℕ → ℕ → Type 0
 Dead live h x = (y : ℕ) → Member h x y → live y ≡ false
 
--- i leads the group of x at level h + 1: it is its first live station
+-- i leads the group of x at level h + 1: it is its first live station (`Count.leads` says it by distance, as a Bool)
 pub record Leads (live : ℕ → Bool) (h x i : ℕ) : Type 0 where
   pub alive : live i ≡ true
   pub member : Member h x i
@@ -74,7 +74,7 @@ dead-ahead live h x i y lead a = go (parting h i y (members-near h x i y lead.me
 abbrev pub Aware : (ℕ → Bool) → (ℕ → ℕ → Type 0) → ℕ → ℕ → Type 0
 Aware live row i s = (h j : ℕ) → h < s → Dead live h i → Member h i j → InPass live row i (suc h) j
 
--- a leader that is aware up to the level tests
+-- the leader of a group at level h + 1 that is aware up to h tests
 pub leader-tests : (live : ℕ → Bool) (row : ℕ → ℕ → Type 0) (h x i : ℕ) → Leads live h x i → Aware live row i h → Tests live row i h x
 leader-tests live row h x i lead aware = (
   lead.member,

@@ -1,4 +1,4 @@
--- The proof of demand 3, a file for each part; docs/DEMAND-3.md tells it on a page.
+-- The proof of demand 3 and of the exact wait, a file for each part; docs/DEMAND-3.md tells it on a page.
 pub mod Near
 pub mod Pass
 pub mod Wait

@@ -21,7 +21,7 @@ near-dec h a b = ℕ-discrete (a / 2 ^ h) (b / 2 ^ h)
 pub near-zero : (a b : ℕ) → Near 0 a b → a ≡ b
 near-zero a b n = sym (div-one a) ∙ n ∙ div-one b
 
--- one digit more is one half more
+-- to leave off one digit more is to halve once more
 half : (h a : ℕ) → a / 2 ^ suc h ≡ a / 2 ^ h / 2
 half h a = let e : h + 1 ≡ suc h = omega arith in sym (rw e at (shr-shr a h 1))
 
@@ -71,7 +71,7 @@ member-near h x a b m n = (m .0 ∙ near-suc h a b n, λ e. m .1 (e ∙ sym n))
 abbrev pub Ahead : ℕ → ℕ → ℕ → ℕ → Type 0
 Ahead h x i y = Member h x y × (bitXor x y < bitXor x i)
 
--- the exclusive or with x keeps apart at t what is apart at t
+-- if x ⊕ a and x ⊕ b are near at t, so are a and b
 apart-by : (t x a b : ℕ) → bitXor x a / 2 ^ t ≡ bitXor x b / 2 ^ t → Near t a b
 apart-by t x a b e = cc (xor-shr x a t, xor-shr x b t, xor-cancel (x / 2 ^ t) (a / 2 ^ t), xor-cancel (x / 2 ^ t) (b / 2 ^ t))
 

@@ -9,8 +9,8 @@ use native.Mathlib.Omega.{arith}
 use lib.Bits.{bitXor}
 use Rattle.detection.proofs.Near.{Member, Ahead, member-distance}
 
--- `InPass live row i h j`: i knows j in its pass when it is through the distances below 2 ^ h, where `row` has the rows at the round's
--- start. The groups of the stations that i tests are those at level h + 1.
+-- `InPass live row i h j`: i knows j in its pass when it is through the levels up to h, that is, the distances below 2 ^ h. `row` has the
+-- rows at the round's start
 pub data InPass (live : ℕ → Bool) (row : ℕ → ℕ → Type 0) (i : ℕ) : ℕ → ℕ → Type 0 where
   -- i suspected j at the round's start
   had : {j : ℕ} → row i j → InPass live row i zero j

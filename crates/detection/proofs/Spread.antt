@@ -15,18 +15,15 @@ use Rattle.detection.proofs.Wait.{spread}
 use Rattle.detection.proofs.Leaders.{Dead, Leads, leader, dead-ahead, Aware, leader-tests}
 
 module _ (live : ℕ → Bool) (rows : ℕ → ℕ → ℕ → Type 0) where
-  -- what i knows in its pass of round q, through the levels up to h
-  abbrev pub KnowsAt : ℕ → ℕ → ℕ → ℕ → Type 0
-  KnowsAt q i h j = InPass live (rows q) i h j
-
   -- from round q on every live station is aware up to s
   abbrev pub AllAware : ℕ → ℕ → Type 0
   AllAware q s = (r i : ℕ) → q ≤ r → live i ≡ true → Aware live (rows r) i s
 
-  -- each live station near at p to g knows j in its pass of round q, through the levels up to p; it suspects j at the round's start
+  -- each live station near at p to g knows j in its pass of round q, through the levels up to p
   abbrev pub InPasses : ℕ → ℕ → ℕ → ℕ → Type 0
-  InPasses g j q p = (f : ℕ) → live f ≡ true → Near p f g → KnowsAt q f p j
+  InPasses g j q p = (f : ℕ) → live f ≡ true → Near p f g → InPass live (rows q) f p j
 
+  -- each live station near at p to g suspects j at the start of round q
   abbrev pub InRows : ℕ → ℕ → ℕ → ℕ → Type 0
   InRows g j q p = (f : ℕ) → live f ≡ true → Near p f g → rows q f j
 
@@ -59,14 +56,18 @@ module _ (live : ℕ → Bool) (rows : ℕ → ℕ → ℕ → Type 0) where
     start g j q tg r f t n =
         by-cases (near-dec 0 f g) (λ m. let e : f ≡ g = near-zero f g m in lift 0 1 (omega arith) (rw e (had r))) (λ m. asks (n, m))
       where
-        asks : Member 0 f g → KnowsAt q f 1 j
+        asks : Member 0 f g → InPass live (rows q) f 1 j
         asks m =
             let back = member-sym 0 f g m in
             hear (first-tests f 0 g back (omega (arith, member-distance 0 g f .0 back))) tg r
 
+    -- both together: two levels in one round
+    two : (g j q : ℕ) → live g ≡ true → AllAware q 1 → rows q g j → InRows g j (suc q) 2
+    two g j q tg aware r = step g j q 1 tg aware (start g j q tg r)
+
     -- a live y with a dead group at level 1 or 2 leads the group of each live g near at 2 to it, and hears what g suspects
     hears-near : (g j q t y : ℕ) → live g ≡ true → rows q g j → AllAware q 1 → live y ≡ true → Near 2 y g → t < 2 → Dead live t y
-        → KnowsAt q y 2 j
+        → InPass live (rows q) y 2 j
     hears-near g j q t y tg r aware ty n lt dead = go (parting 2 y g n)
       where
         -- the dead group is at another level than g's
@@ -82,7 +83,7 @@ module _ (live : ℕ → Bool) (rows : ℕ → ℕ → ℕ → Type 0) where
             let back = member-sym u y g m in
             record { alive = ty; member = back; first = λ z a. ahead u z l m a (parting u y z (members-near u g y z back (a .0))) }
 
-        go : Parting 2 y g → KnowsAt q y 2 j
+        go : Parting 2 y g → InPass live (rows q) y 2 j
         go (same e) = lift 0 2 (omega arith) (had (rw e r))
         go (apart u l m) =
             let own = weaker q q u 1 (omega arith) (omega arith) aware q y (omega arith) ty in
@@ -91,26 +92,25 @@ module _ (live : ℕ → Bool) (rows : ℕ → ℕ → ℕ → Type 0) where
     -- three levels in two rounds: the leader y of the group of f hears of j and tells f in the first round, or f is the first in the group
     -- of y and hears it in the second
     module _ (g j q : ℕ) (tg : live g ≡ true) (aware : AllAware q 2) (r : rows q g j) (f : ℕ) (t : live f ≡ true) where
-      two : InRows g j (suc q) 2
-      two = step g j q 1 tg (weaker q q 1 2 (omega arith) (omega arith) aware) (start g j q tg r)
+      one : AllAware q 1
+      one = weaker q q 1 2 (omega arith) (omega arith) aware
 
-      tells : (y : ℕ) → Leads live 2 f y → Near 2 y g → 4 < bitXor f y → KnowsAt (suc q) f 3 j
+      tells : (y : ℕ) → Leads live 2 f y → Near 2 y g → 4 < bitXor f y → InPass live (rows (suc q)) f 3 j
       tells y lead n l =
           let d = dead-ahead live 2 f y (bitXor f 4) lead (member-first 2 f, rw xor-cancel l) in
-          let one = weaker q q 1 2 (omega arith) (omega arith) aware in
           let known = hears-near g j q (d .0) y tg r one lead.alive n (d .1) (d .3) in
           let asks = leader-tests live (rows q) 2 f y lead (aware q y (omega arith) lead.alive) in
           lift 0 3 (omega arith) (had (R q .pushes y 2 2 f j (omega arith) lead.alive t asks known))
 
-      asked : (y : ℕ) → Leads live 2 f y → Near 2 y g → ¬ (4 < bitXor f y) → KnowsAt (suc q) f 3 j
+      asked : (y : ℕ) → Leads live 2 f y → Near 2 y g → ¬ (4 < bitXor f y) → InPass live (rows (suc q)) f 3 j
       asked y lead n l =
           let asks = first-tests f 2 y (member-sym 2 f y lead.member) (omega (arith, xor-comm f y)) in
-          hear asks lead.alive (two y lead.alive n)
+          hear asks lead.alive (two g j q tg one r y lead.alive n)
 
-      triple : Near 3 f g → KnowsAt (suc q) f 3 j
-      triple n = by-cases (near-dec 2 f g) (λ m. lift 0 3 (omega arith) (had (two f t m))) (λ m. far (n, m))
+      triple : Near 3 f g → InPass live (rows (suc q)) f 3 j
+      triple n = by-cases (near-dec 2 f g) (λ m. lift 0 3 (omega arith) (had (two g j q tg one r f t m))) (λ m. far (n, m))
         where
-          far : Member 2 f g → KnowsAt (suc q) f 3 j
+          far : Member 2 f g → InPass live (rows (suc q)) f 3 j
           far m =
               let y = leader live 2 f g m tg in
               let near = members-near 2 f (y .0) g (y .1 .member) m in
@@ -123,7 +123,7 @@ module _ (live : ℕ → Bool) (rows : ℕ → ℕ → ℕ → Type 0) where
     spreads g j q (suc zero) s l tg aware r = rw add-zero (start g j q tg r)
     spreads g j q (suc (suc zero)) s l tg aware r =
         let now : suc q ≡ q + 1 = omega arith in
-        rw now at (next g j (suc q) 2 (step g j q 1 tg (weaker q q 1 s (omega arith) (omega arith) aware) (start g j q tg r)))
+        rw now at (next g j (suc q) 2 (two g j q tg (weaker q q 1 s (omega arith) (omega arith) aware) r))
     spreads g j q (suc (suc (suc zero))) s l tg aware r = λ f t.
         let now : suc q ≡ q + 1 = omega arith in
         rw now at (triple g j q tg (weaker q q 2 s (omega arith) (omega arith) aware) r f t)

@@ -1,7 +1,7 @@
 -- The arithmetic of the exact wait: it has time for all that the proof adds up, and is at most 1 + d (d − 1) / 2 and at most d·d.
 -- Assumes nothing.
-use mathlib.Core.Path.{_≡_, refl}
-use mathlib.Core.Bool.{cond}
+use mathlib.Core.Path.{_≡_}
+use mathlib.Core.Bool.{false, cond}
 use Prim.Native.Nat.{ℕ, zero, suc, _+_, _*_, _-_, _/_, _≤_}
 use native.Mathlib.Nat.{add-suc}
 use native.Mathlib.Decide.{le-ind}
@@ -10,7 +10,7 @@ use lib.Dec.{ltb}
 use borrow.Author.Tests.{le-ltb}
 use Rattle.detection.specs.Claim.{exactWait}
 
--- rounds before what one station suspects is heard by each live one near at p to it in its pass
+-- so many rounds later what one station suspects is known to each live one near at p to it in its pass
 unfoldable pub spread : ℕ → ℕ
 spread zero = 0
 spread (suc zero) = 0
@@ -27,10 +27,9 @@ square zero = omega arith
 square (suc zero) = omega arith
 square (suc (suc n)) = omega arith
 
--- the wait and the readiness from 4 on
-from-four : (n d : ℕ) → d ≡ 4 + n → (exactWait d ≡ 4 + suc n * suc n / 2) × (ready d ≡ 4 + suc n * suc n / 2)
-unfolding ready exactWait
-from-four n d e = let f : d - 3 ≡ suc n = omega arith in rw (le-ltb d 4 (omega arith), f) (refl, refl)
+-- the tests and differences of the definitions, from 4 on
+from-four : (n d : ℕ) → d ≡ 4 + n → (ltb d 4 ≡ false) × (d - 3 ≡ suc n)
+from-four n d e = (le-ltb d 4 (omega arith), omega arith)
 
 -- the wait beside s, the readiness, the next wait and s·s
 bounds : (s : ℕ)
@@ -43,7 +42,9 @@ bounds (suc (suc zero)) = omega arith
 bounds (suc (suc (suc zero))) = omega arith
 bounds (suc (suc (suc (suc n)))) =
     let s : ℕ = suc (suc (suc (suc n))) in
-    omega (arith, square (suc n), from-four n s (omega arith), from-four (suc n) (suc s) (omega arith))
+    let a = from-four n s (omega arith) in
+    let b = from-four (suc n) (suc s) (omega arith) in
+    rw (a .0, a .1, b .0, b .1) (omega (arith, square (suc n)))
 
 -- after the readiness at p there is time for u spreads at p + 1, with one round more each, up to the readiness at p + 1 + u
 pub ready-enough : (p u : ℕ) → ready p + u * suc (spread (suc p)) ≤ ready (suc p + u)
@@ -51,11 +52,13 @@ unfolding spread ready exactWait
 ready-enough zero u = omega (arith, bounds (1 + u))
 ready-enough (suc zero) u = omega (arith, bounds (2 + u))
 ready-enough (suc (suc zero)) u = omega (arith, bounds (3 + u))
-ready-enough (suc (suc (suc zero))) u = omega (arith, square u, from-four u (4 + u) (omega arith))
-ready-enough (suc (suc (suc (suc zero)))) u = omega (arith, square u, from-four (suc u) (5 + u) (omega arith))
+ready-enough (suc (suc (suc zero))) u = let a = from-four u (4 + u) (omega arith) in rw (a .0, a .1) (omega (arith, square u))
+ready-enough (suc (suc (suc (suc zero)))) u = let a = from-four (suc u) (5 + u) (omega arith) in rw (a .0, a .1) (omega (arith, square u))
 ready-enough (suc (suc (suc (suc (suc w))))) u =
     let p : ℕ = suc (suc (suc (suc (suc w)))) in
-    omega (arith, square u, from-four (suc w) p (omega arith), from-four (2 + w + u) (suc p + u) (omega arith))
+    let a = from-four (suc w) p (omega arith) in
+    let b = from-four (2 + w + u) (suc p + u) (omega arith) in
+    rw (a .0, a .1, b .0, b .1) (omega (arith, square u))
 
 -- after these there is time for a spread at p, with two rounds more, up to the wait at p + 2 + u
 pub wait-enough : (p u : ℕ) → suc (ready p + u * suc (spread (suc p)) + suc (spread p)) ≤ exactWait (suc (suc p + u))

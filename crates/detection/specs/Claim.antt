@@ -90,10 +90,13 @@ pub record Conclusion (enough n : ℕ) (s : State) (calls : List Call) (end : St
   pub roundsTally : end .rounds ≡ s .rounds + length (roundsOf s calls .closed)
   pub testsTally : end .tests ≡ s .tests + testsOfAll (allRounds (roundsOf s calls))
 
--- the claim for all sizes, tables, tallies and lists of runs, within so many rounds by the dimension
+-- the claim at size n, for all tables, tallies and lists of runs, within so many rounds
+abbrev pub WithinAt : ℕ → ℕ → Type 0
+WithinAt n enough = (s : State) (calls : List Call) → Premises n s calls → Conclusion enough n s calls (afterRuns s calls)
+
+-- the claim at all sizes, within so many rounds by the dimension
 abbrev pub Within : (ℕ → ℕ) → Type 0
-Within rounds =
-    (n : ℕ) (s : State) (calls : List Call) → Premises n s calls → Conclusion (rounds (dimension n)) n s calls (afterRuns s calls)
+Within rounds = (n : ℕ) → WithinAt n (rounds (dimension n))
 
 -- the same of one run, `c`, from `before` to `after`: wherever it stands behind other runs, the claim about the whole list with it holds of
 -- the state that it leaves
@@ -110,6 +113,6 @@ demandWait d = d * d
 abbrev pub Demand3 : Type 0
 Demand3 = Within demandWait
 
--- the rounds of our own claim: 1, 2, 3, 4, 6, 8 for 2, 4, 8, 16, 32, 64 boards
+-- the rounds of our own claim: 1, 2, 3, 4, 6, 8 for 2, 4, 8, 16, 32, 64 boards (for 2 boards, both live, 0 would do)
 unfoldable pub exactWait : ℕ → ℕ
 exactWait d = cond (ltb d 4) d (4 + (d - 3) * (d - 3) / 2)

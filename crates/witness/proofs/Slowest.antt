@@ -68,8 +68,7 @@ module _ (q : Taken → Bool) (turns : (n : ℕ) (s : State) (i : ℕ) → q (re
 -- by a claim within fewer rounds board 0 would suspect the last board
 none-sooner : (n lives : ℕ) (stations : List ℕ) → Described n (firstLive lives n)
     → unseen n (afterRuns (firstLive lives n) (turnsOnly n stations)) ≡ true → NoneSooner n
-none-sooner n lives stations plant left rounds claim =
-    by-cases (decLt (rounds (dimension n)) (exactWait (dimension n))) early (λ l. omega arith)
+none-sooner n lives stations plant left enough claim = by-cases (decLt enough (exactWait (dimension n))) early (λ l. omega arith)
   where
     s : State
     s = firstLive lives n
@@ -88,9 +87,9 @@ none-sooner n lives stations plant left rounds claim =
     end : State
     end = afterRuns s (turnsOnly n stations)
 
-    early : rounds (dimension n) < exactWait (dimension n) → exactWait (dimension n) ≤ rounds (dimension n)
+    early : enough < exactWait (dimension n) → exactWait (dimension n) ≤ enough
     early l =
-        let after = claim n s (turnsOnly n stations) premises in
+        let after = claim s (turnsOnly n stations) premises in
         let seen = both (eqb (suc (end .rounds)) (exactWait (dimension n))) (eqb (suspects n (end .table) 0 (n - 1)) 0) left in
         let closed = eqb-true (suc (end .rounds)) (exactWait (dimension n)) (seen .0) in
         let big = size-bounds n (plant .0) in
