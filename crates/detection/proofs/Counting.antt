@@ -7,11 +7,16 @@ use mathlib.Core.List.{List, [], _∷_, _++_}
 use Prim.Native.Nat.{ℕ, suc, _+_, _≤_, _<_}
 use native.Mathlib.Decide.{ℕ-discrete}
 use native.Mathlib.Omega.{arith}
-use borrow.Author.Tests.{eq-eqb, ne-eqb, eqb-true}
+use native.Mathlib.Numerals.{add-one}
+use borrow.Author.Tests.{eq-eqb, ne-eqb, eqb-true, lt-ltb}
+use lib.Bits.{xor-zero-r}
 use lib.Dec.{eqb}
-use Rattle.station.specs.Table.{statusColumn, finishedColumn, testsColumn, finished, testsMade, live}
+use Rattle.station.specs.Groups.{isSize, distances}
+use Rattle.station.specs.Table.{statusColumn, nextColumn, finishedColumn, testsColumn, nextDistance, finished, testsMade, live}
+use Rattle.station.proofs.Presence.{standing, standing-all, standing-more, standing-grows}
 use Rattle.station.specs.Rules.{notLive, someLive, finishedIfLive, liveFinished, roundOver}
-use Rattle.plant.specs.Turn.{makesTest, afterRound}
+use Rattle.plant.specs.Turn.{nextTest, makesTest, afterRound}
+use Rattle.plant.proofs.NextTest.{nextTest-low, test-station}
 use Rattle.plant.specs.Entry.{Entry, State, isCrash, acted, after}
 use Rattle.plant.proofs.StepCells.{Reset, reset-other}
 use Rattle.plant.proofs.StepLines.{Lines}
@@ -104,12 +109,42 @@ module _ (n : ℕ) (s : State) (e : Entry) (t₀ t′ : List ℕ) (cur : List Ta
         omega (arith, sum-by n (λ k h. tests-of k), sum-add (testsMade n t) f n, c .tests, count-snoc takenTest cur x);
   }
 
+-- fewer tests are made in a round than stations stand at the distances passed, for the station itself stands at 0
+abbrev pub Roomy : ℕ → List ℕ → Type 0
+Roomy n t = (i : ℕ) → i < n → suc (testsMade n t i) ≤ standing n i (nextDistance n t i)
+
+-- where a round starts
+pub roomy-start : (n : ℕ) (t : List ℕ) → ((i : ℕ) → i < n → Reset n t i) → Roomy n t
+unfolding sum
+roomy-start n t fresh i h = rw (fresh i h .untested, fresh i h .next, xor-zero-r i, lt-ltb i n h) (omega arith)
+
+-- a turn keeps it
+pub turn-roomy : (n : ℕ) (t t′ : List ℕ) (i : ℕ) → Lines n t → i < n → Heads n t t′ i (makesTest n t i) → Roomy n t → Roomy n t′
+turn-roomy n t t′ i lines below heads roomy k h = by-cases (ℕ-discrete k i) (λ e. rw e own) other
+  where
+    own : suc (testsMade n t′ i) ≤ standing n i (nextDistance n t′ i)
+    own =
+        by-bool (makesTest n t i)
+        (λ e.
+        let more = standing-more n i (nextTest n t i) (test-station n t i e (lines .0) below) in
+        let up = standing-grows n i (nextDistance n t i) (nextTest n t i) (nextTest-low n t i) in
+        rw (heads .next, heads .tests, e, add-one (nextTest n t i)) (omega (arith, roomy i below)))
+        (λ e.
+        let up = standing-grows n i (nextDistance n t i) (distances n) (lines .1 i below .pass .nextHigh) in
+        rw (heads .next, heads .tests, e) (omega (arith, roomy i below)))
+
+    other : ¬ (k ≡ i) → suc (testsMade n t′ k) ≤ standing n k (nextDistance n t′ k)
+    other e =
+        rw (heads .others k testsColumn e (omega arith) (omega arith), heads .others k nextColumn e (omega arith) (omega arith)) (roomy k h)
+
 -- in a round, from its start on
 module _ (n : ℕ) (t₀ t : List ℕ) (cur : List Taken) (fresh : (i : ℕ) → i < n → Reset n t₀ i) (lines : Lines n t)
     (c : Counts n t₀ cur t) where
-  pub turns-ok : (i : ℕ) → i < n → TurnsOk n i cur
-  turns-ok i h =
+  pub turns-ok : isSize n ≡ true → Roomy n t → (i : ℕ) → i < n → TurnsOk n i cur
+  turns-ok size roomy i h =
       let line = lines .1 i h in
+      let up = standing-grows n i (nextDistance n t i) (distances n) (line .pass .nextHigh) in
+      let room : suc (testsMade n t i) ≤ n = omega (arith, roomy i h, up, standing-all n i size h) in
       let spent : finished n t i + testsMade n t i ≡ turnsIn i cur = omega (arith, c .turns i h, fresh i h) in (
         omega arith,
         λ e.

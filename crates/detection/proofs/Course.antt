@@ -9,16 +9,16 @@ use borrow.Author.Tests.{lt-ltb, eqb-false, not-true}
 use lib.ListN.{length, getD}
 use lib.Dec.{eqb}
 use Rattle.station.specs.Rules.{roundOver}
-use Rattle.station.specs.Groups.{stationAt, dimension}
+use Rattle.station.specs.Groups.{isSize, stationAt, distances}
 use Rattle.station.specs.Table.{finished, live}
 use Rattle.station.proofs.SearchLaws.{both}
 use Rattle.station.proofs.Refusals.{Accepted}
-use Rattle.station.proofs.Sizes.{size-pow, size-bounds}
+use Rattle.station.proofs.Sizes.{size-bounds, size-distances}
 use Rattle.plant.specs.Turn.{kindTurn, kindLate, kindCrash, makesTest, nextTest, turnTested, resetLines, afterRound}
 use Rattle.plant.specs.Entry.{Entry, State, isCrash, entryNumber, acted, after, testedOf}
 use Rattle.plant.proofs.Kept.{Takes, entry-facts}
-use Rattle.plant.proofs.StepLines.{Lines, station-below}
-use Rattle.plant.proofs.NextTest.{test-below}
+use Rattle.plant.proofs.StepLines.{Lines}
+use Rattle.plant.proofs.NextTest.{test-station}
 use Rattle.station.specs.Sums.{bit}
 use Rattle.detection.specs.Runs.{Taken, takenTest, crashes, isLate}
 use Rattle.detection.specs.Rounds.{allTaken, countTaken, Rounds, closes, cut, testsIn, testsOfAll}
@@ -29,7 +29,7 @@ use Rattle.detection.proofs.Near.{near-below}
 use Rattle.detection.proofs.Pass.{Round, wider}
 use Rattle.detection.proofs.Detected.{detected}
 use Rattle.detection.proofs.Chain.{Chain, done, more}
-use Rattle.detection.proofs.Counting.{turn-counts, turns-ok, closes-is}
+use Rattle.detection.proofs.Counting.{turn-counts, turn-roomy, turns-ok, closes-is}
 use Rattle.detection.proofs.TurnHeads.{turn-heads}
 use Rattle.detection.proofs.TurnEffect.{Company, turn-effect}
 use Rattle.detection.proofs.Knowledge.{LiveOf, RowOf, Exact, Knows, turn-knows}
@@ -52,7 +52,7 @@ pub record Tallied (cur : List Taken) (s : State) (r : Rounds) (s′ : State) : 
   pub tests : s′ .tests + testsIn cur ≡ s .tests + testsOfAll (allRounds r)
 
 -- after enough closed rounds the rows at a round's start are exact
-pub exact-at : (n d : ℕ) (T t₀ : List ℕ) (r : Rounds) (end : List ℕ) (c : Course n T t₀ r end) → n ≡ 2 ^ d
+pub exact-at : (n d : ℕ) (T t₀ : List ℕ) (r : Rounds) (end : List ℕ) (c : Course n T t₀ r end) → n ≤ 2 ^ d
     → (q : ℕ) → exactWait d ≤ q → q ≤ length (r .closed) → Exact n (live n T) (c .start q)
 exact-at n d T t₀ r end c pow q far closed i j h g l e =
     detected d L rows rounds q i j far (rw (lt-ltb i n h, l)) (rw (lt-ltb j n g, e)) (near-below d j i (omega arith) (omega arith)) closed g
@@ -77,9 +77,9 @@ abbrev CutFrom : ℕ → List ℕ → List ℕ → List Taken → State → List
 CutFrom n T t₀ cur s xs s′ = Course n T t₀ (cut cur xs) (s′ .table) × Tallied cur s (cut cur xs) s′
 
 -- no entry more
-cut-done : (n : ℕ) (T t₀ : List ℕ) (cur : List Taken) (s : State) → InRound n (live n T) t₀ cur (s .table) → CutFrom n T t₀ cur s [] s
+cut-done : (n : ℕ) (T t₀ : List ℕ) (cur : List Taken) (s : State) → isSize n ≡ true → InRound n (live n T) t₀ cur (s .table) → CutFrom n T t₀ cur s [] s
 unfolding cut testsOfAll
-cut-done n T t₀ cur s inv = (
+cut-done n T t₀ cur s size inv = (
   record {
     start = λ q. t₀;
     begins = refl;
@@ -87,7 +87,7 @@ cut-done n T t₀ cur s inv = (
     last = inv .knows;
     turns = λ k i h.
         let e : k ≡ 0 = omega arith in
-        rw e (turns-ok n t₀ (s .table) cur (inv .fresh) (inv .knows .plain .lines) (inv .counts) i);
+        rw e (turns-ok n t₀ (s .table) cur (inv .fresh) (inv .knows .plain .lines) (inv .counts) size (inv .roomy) i);
     counted = λ k h. absurd (omega arith);
   },
   omega arith,
@@ -122,7 +122,7 @@ module _ (n : ℕ) (T : List ℕ) (company : Company n (live n T)) (t₀ : List 
   prompt : makesTest n t i ≡ true → L (stationAt i (nextTest n t i)) ≡ true → e .kind ≡ kindTurn
   unfolding testedOf turnTested
   prompt m l =
-      let x<n = station-below n i (nextTest n t i) (ok .size) (facts .below) (test-below n t i m) in
+      let x<n = test-station n t i m (ok .long) (facts .below) in
       let late : eqb (e .kind) kindLate ≡ false = simp and-true at (rw (noCrash, m, inv .knows .plain .lives _ x<n ∙ l) at inTime) in
       omega (arith, eqb-false (e .kind) kindLate late, eqb-false (e .kind) kindCrash noCrash, facts .kindLow, facts .kindHigh)
 
@@ -138,7 +138,8 @@ module _ (n : ℕ) (T : List ℕ) (company : Company n (live n T)) (t₀ : List 
       rw noCrash (record {
         fresh = inv .fresh;
         counts = turn-counts n s e t₀ _ cur noCrash (facts .below) going heads (inv .counts);
-        knows = turn-knows n (dimension n) L t₀ t _ i (size-pow n (ok .size)) (inv .knows) turned heads (facts .below) isLive;
+        roomy = turn-roomy n t _ i (p .lines) (facts .below) heads (inv .roomy);
+        knows = turn-knows n L t₀ t _ i (inv .knows) turned heads (facts .below) isLive;
       })
 
   lines′ : Lines n t′
@@ -151,6 +152,9 @@ module _ (n : ℕ) (T : List ℕ) (company : Company n (live n T)) (t₀ : List 
   unfolding after
   tests-after = by-bool (takenTest x) (λ q. rw q) (λ q. rw q (omega arith))
 
+  low : n ≤ distances n
+  low = size-distances n (ok .size) .0
+
   -- with it the round closes, or goes on
   cut-more : (xs : List Taken) (s′ : State)
       → ((t₁ : List ℕ) (now : List Taken) → InRound n L t₁ now (after n s e .table) → CutFrom n T t₁ now (after n s e) xs s′)
@@ -160,22 +164,22 @@ module _ (n : ℕ) (T : List ℕ) (company : Company n (live n T)) (t₀ : List 
     where
       closing : roundOver n t′ ≡ true → CutFrom n T t₀ cur s (x ∷ xs) s′
       closing over =
-          let r = rest (resetLines n t′) [] (rw over (restart n L t′ (omega (arith, size-bounds n (ok .size))) (moved .knows .plain))) in
+          let r = rest (resetLines n t′) [] (rw over (restart n L t′ (omega (arith, size-bounds n (ok .size), low)) (moved .knows .plain))) in
           rw (closing-is ∙ over) (
             record {
               start = λ q. elim q [ zero ↦ t₀ | suc q ↦ r .0 .start q ];
               begins = refl;
               steps = λ q. elim q [
-                | zero ↦ λ h. rw (r .0 .begins) (round-step n L t₀ t′ here moved over (size-pow n (ok .size)))
+                | zero ↦ λ h. rw (r .0 .begins) (round-step n L t₀ t′ here moved over low)
                 | suc q ↦ λ h. r .0 .steps q (omega arith)
               ];
               last = r .0 .last;
               turns = λ k. elim k [
-                | zero ↦ λ i h. turns-ok n t₀ t′ here (moved .fresh) lines′ (moved .counts) i
+                | zero ↦ λ i h. turns-ok n t₀ t′ here (moved .fresh) lines′ (moved .counts) (ok .size) (moved .roomy) i
                 | suc k ↦ λ i h. r .0 .turns k i (omega arith)
               ];
               counted = λ k. elim k [
-                | zero ↦ λ h. round-count n T t₀ t′ here (size-pow n (ok .size)) moved over
+                | zero ↦ λ h. round-count n T t₀ t′ here low moved over
                 | suc k ↦ λ h. r .0 .counted k (omega arith)
               ];
             },
@@ -188,14 +192,14 @@ module _ (n : ℕ) (T : List ℕ) (company : Company n (live n T)) (t₀ : List 
           rw (closing-is ∙ over) (r .0, omega (arith, rw over at (r .1 .rounds), r .1 .tests, tests-after, count-snoc takenTest cur x))
 
 -- a chain, cut into rounds
-pub course : (n : ℕ) (T : List ℕ) → Company n (live n T) → {s s′ : State} {xs : List Taken} → Chain n s xs s′
+pub course : (n : ℕ) (T : List ℕ) → isSize n ≡ true → Company n (live n T) → {s s′ : State} {xs : List Taken} → Chain n s xs s′
     → allTaken (λ x. not (crashes x)) xs ≡ true → allTaken (λ x. not (isLate x)) xs ≡ true
     → (t₀ : List ℕ) (cur : List Taken) → InRound n (live n T) t₀ cur (s .table) → CutFrom n T t₀ cur s xs s′
 unfolding allTaken
-course n T company {s} done a b t₀ cur inv = cut-done n T t₀ cur s inv
-course n T company {s} {s′} (more {xs = xs} e ok takes chain) a b t₀ cur inv =
+course n T size company {s} done a b t₀ cur inv = cut-done n T t₀ cur s size inv
+course n T size company {s} {s′} (more {xs = xs} e ok takes chain) a b t₀ cur inv =
     let p = both (not (isCrash e)) (allTaken (λ x. not (crashes x)) xs) a in
     let late : Bool = isLate (takenAt n s e) in
     let q = both (not late) (allTaken (λ x. not (isLate x)) xs) b in
     cut-more n T company t₀ cur s e ok takes inv (not-true (isCrash e) (p .0)) (not-true late (q .0)) xs s′
-    (λ t₁ now i. course n T company chain (p .1) (q .1) t₁ now i)
+    (λ t₁ now i. course n T size company chain (p .1) (q .1) t₁ now i)

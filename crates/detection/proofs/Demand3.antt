@@ -1,11 +1,11 @@
 -- The exact wait and demand 3, proved: the chain of taken entries is cut into rounds, and the spread of knowledge bounds the rounds after
 -- which all is known.
 -- Assumes nothing.
-use mathlib.Core.Path.{_≡_, refl, sym, ap, _∙_}
+use mathlib.Core.Path.{_≡_, refl, sym, ap}
 use mathlib.Core.Logic.{_⊎_, inl, inr, _≢_}
 use mathlib.Core.Bool.{Bool, true, false, not, _&&_}
 use mathlib.Core.List.{List, [], _∷_, _++_}
-use Prim.Native.Nat.{ℕ, zero, suc, _+_, _*_, _≤_, _<_, _-_, _/_}
+use Prim.Native.Nat.{ℕ, _+_, _*_, _≤_, _<_, _-_, _/_}
 use native.Mathlib.Nat.{le-trans}
 use native.Mathlib.Omega.{arith}
 use borrow.Author.Tests.{ltb-true, ltb-false, eqb-true, eqb-false, ne-eqb, not-true}
@@ -18,7 +18,7 @@ use Rattle.station.specs.Rules.{notLive}
 use Rattle.station.proofs.SearchLaws.{both, every-at, least-passes, least-before}
 use Rattle.station.proofs.Refusals.{Accepted}
 use Rattle.station.proofs.CellLaws.{accepted-line}
-use Rattle.station.proofs.Sizes.{size-pow, size-bounds}
+use Rattle.station.proofs.Sizes.{size-bounds, size-log, size-power}
 use Rattle.plant.specs.Entry.{State}
 use Rattle.plant.proofs.StepCells.{Reset}
 use Rattle.station.specs.Sums.{bit}
@@ -84,13 +84,13 @@ module _ (n : ℕ) (s : State) (calls : List Call) (given : Premises n s calls) 
   history : Course n (s .table) (s .table) (roundsOf s calls) (afterRuns s calls .table)
       × Tallied [] s (roundsOf s calls) (afterRuns s calls)
   history =
-      course n (s .table) (company-of n (s .table) (given .twoLive)) (chain-all n s calls (given .long)) (given .noCrash) (given .noLate)
+      course n (s .table) (given .size) (company-of n (s .table) (given .twoLive)) (chain-all n s calls (given .long)) (given .noCrash) (given .noLate)
       (s .table) [] (first-round n s calls given ok)
 
   -- after the exact wait all rounds start exact
   exact : (q : ℕ) → exactWait (dimension n) ≤ q → q ≤ length (roundsOf s calls .closed) → Exact n L (history .0 .start q)
   exact =
-      exact-at n (dimension n) (s .table) (s .table) (roundsOf s calls) (afterRuns s calls .table) (history .0) (size-pow n (given .size))
+      exact-at n (dimension n) (s .table) (s .table) (roundsOf s calls) (afterRuns s calls .table) (history .0) (size-power n (given .size))
 
   known : exactWait (dimension n) ≤ length (roundsOf s calls .closed)
       → (i j : ℕ) → i < n → j < n → L i ≡ true → suspects n (afterRuns s calls .table) i j ≡ bit (notLive n (s .table) j)
@@ -119,7 +119,7 @@ wait-none n s calls size none stays =
       turns = λ k i h g l.
           let first : k ≡ 0 = omega (arith, closed) in
           rw (first, none) (omega arith, λ e. absurd (omega (arith, size-bounds n size)));
-      known = λ far. absurd (some-level (dimension n) refl far);
+      known = λ far. absurd (some-level far);
       tests = λ k far h. absurd (omega (arith, closed));
       roundsTally = omega (arith, closed);
       testsTally = rw none (omega arith);
@@ -128,9 +128,8 @@ wait-none n s calls size none stays =
     closed : length (roundsOf s calls .closed) ≡ 0
     closed = rw none
 
-    some-level : (d : ℕ) → dimension n ≡ d → exactWait d ≤ length (roundsOf s calls .closed) → ⊥
-    some-level zero e far = let one : n ≡ 1 = size-pow n size ∙ rw e in omega (arith, size-bounds n size)
-    some-level (suc d) e far = omega (arith, closed, wait-pos d)
+    some-level : exactWait (dimension n) ≤ length (roundsOf s calls .closed) → ⊥
+    some-level far = let d = size-log n size in omega (arith, closed, rw (← d .1) at (wait-pos (d .0)))
 
 -- the claim within the exact wait, an end in itself
 pub exact-wait : Within exactWait

@@ -1,23 +1,22 @@
 -- What live stations know within a round, with t₀ the table at its start and t the table now, where no live station suspects a live one.
 -- Assumes nothing.
-use mathlib.Core.Path.{_≡_, refl, sym, ap, _∙_}
+use mathlib.Core.Path.{_≡_, sym, ap, _∙_}
 use mathlib.Core.Logic.{by-cases}
-use mathlib.Core.Bool.{Bool, true, false, _&&_, true≢false}
+use mathlib.Core.Bool.{Bool, true, false, _&&_, and-false, true≢false}
 use mathlib.Core.List.{List}
 use Prim.Native.Nat.{ℕ, _^_, _≤_, _<_}
 use native.Mathlib.Decide.{decLt, ℕ-discrete}
 use native.Mathlib.Omega.{arith}
-use borrow.Author.Tests.{lt-ltb, ltb-true}
-use lib.Bits.{bitXor, xor-comm, xor-lt}
+use borrow.Author.Tests.{lt-ltb, le-ltb, ltb-true}
+use lib.ListN.{length}
+use lib.Bits.{bitXor, xor-comm}
 use lib.Dec.{eqb, ltb}
 use lib.Pow.{pow-pos}
-use Rattle.station.specs.Groups.{stationAt, level, width, member, group}
+use Rattle.station.specs.Groups.{stationAt, level, isPresent, member}
 use Rattle.station.specs.Table.{nextColumn, testsColumn, nextDistance, testsMade, suspects, row}
 use Rattle.station.specs.Tests.{unsuspected, due}
 use Rattle.station.proofs.Xor.{xor-cancel}
 use Rattle.station.proofs.SearchLaws.{both}
-use Rattle.station.proofs.Levels.{level-le}
-use Rattle.station.proofs.GroupLaws.{place-mem, members-below}
 use Rattle.station.proofs.CellLaws.{row-length, row-at}
 use Rattle.plant.specs.Turn.{makesTest}
 use Rattle.plant.proofs.StepCells.{Reset}
@@ -26,7 +25,7 @@ use Rattle.station.specs.Sums.{sum, bit}
 use Rattle.station.proofs.BoolLaws.{by-bool}
 use Rattle.station.proofs.SumLaws.{sum-by, sum-zero}
 use Rattle.detection.proofs.Count.{leads, leads-zero, leads-same}
-use Rattle.detection.proofs.DueLaw.{unsuspected-at, due-holds}
+use Rattle.detection.proofs.DueLaw.{unsuspected-at, unsuspected-absent, due-holds}
 use Rattle.detection.proofs.TurnHeads.{Heads, passed-dues}
 use Rattle.detection.proofs.Near.{Member, Ahead, member-distance}
 use Rattle.detection.proofs.Pass.{InPass, had, stays, finds, hears, Tests}
@@ -63,13 +62,17 @@ met-later : (n : ℕ) (L : ℕ → Bool) (t₀ t t′ : List ℕ) (i reach : ℕ
 met-later n L t₀ t t′ i reach grows hi met h x hx below asks =
     tested-more n L t t′ i x hi hx grows (λ j a s. s) (λ j a s. s) (met h x hx below asks)
 
+-- whether a station stands at distance m from i and i leads its group
+abbrev pub leadsAt : ℕ → (ℕ → Bool) → ℕ → ℕ → Bool
+leadsAt n L i m = isPresent n (stationAt i m) && leads (LiveOf n L) i m
+
 -- the invariant of a round
 pub record Knows (n : ℕ) (L : ℕ → Bool) (t₀ t : List ℕ) : Type 0 where
   pub plain : Plain n L t
   pub grown : Grown n t₀ t
   pub met : (i : ℕ) → i < n → L i ≡ true → Met n L t₀ t i (nextDistance n t i)
-  -- in a round that starts exact byte 3 counts the distances passed at which i leads
-  pub counted : Exact n L t₀ → (i : ℕ) → i < n → testsMade n t i ≡ sum (λ m. bit (leads L i m)) (nextDistance n t i)
+  -- in a round that starts exact byte 3 counts the distances passed at which i leads the group of a station
+  pub counted : Exact n L t₀ → (i : ℕ) → i < n → testsMade n t i ≡ sum (λ m. bit (leadsAt n L i m)) (nextDistance n t i)
 
 -- where a round starts
 pub knows-start : (n : ℕ) (L : ℕ → Bool) (t : List ℕ) → Plain n L t → ((i : ℕ) → i < n → Reset n t i) → Knows n L t t
@@ -79,32 +82,32 @@ knows-start n L t p fresh = record {
   met = λ i a l h x hx below asks.
       absurd (omega (arith, pow-pos h, fresh i a .next, xor-comm i x, member-distance h x i .0 (asks .0)));
   counted = λ exact i a.
-      rw (fresh i a .untested, fresh i a .next) (sym (sum-zero 1 (λ m l. let e : m ≡ 0 = omega arith in rw (e, leads-zero L i))));
+      rw (fresh i a .untested, fresh i a .next) (sym (sum-zero 1 (λ m l. let e : m ≡ 0 = omega arith in rw (e, leads-zero (LiveOf n L) i, and-false))));
 }
 
--- in an exact table a live station's due distances are those at which it leads
-exact-due : (n d : ℕ) (L : ℕ → Bool) (t : List ℕ) → n ≡ 2 ^ d → Plain n L t → Exact n L t → (i m : ℕ) → i < n → m < n → L i ≡ true
-    → due (row n t i) i m ≡ leads L i m
-unfolding due group
-exact-due n d L t pow p exact i m hi hm l = leads-same (unsuspected (row n t i)) L i m same
+-- in an exact table a live station's due distances are those at which it leads the group of a station
+exact-due : (n : ℕ) (L : ℕ → Bool) (t : List ℕ) → Plain n L t → Exact n L t → (i m : ℕ) → i < n → L i ≡ true
+    → due (row n t i) i m ≡ leadsAt n L i m
+unfolding due
+exact-due n L t p exact i m hi l = rw (long, leads-same (unsuspected (row n t i)) (LiveOf n L) i m (λ k h. same (member (stationAt i m) (level m) k)))
   where
-    same : (k : ℕ) → k < width (level m)
-        → unsuspected (row n t i) (member (stationAt i m) (level m) k) ≡ L (member (stationAt i m) (level m) k)
-    same k h =
-        let j : ℕ = stationAt i m in
-        let s : ℕ = level m in
-        let x : ℕ = member j s k in
-        let low = members-below d j s x (xor-lt d i m (omega arith) (omega arith)) (level-le m d (omega arith)) in
-        let x<n : x < n = omega (arith, low (place-mem (member j s) (width s) x k h refl)) in
-        unsuspected-at (row n t i) x (omega (arith, row-length n t i (p .lines .0) hi)) ∙ ap (λ (v : ℕ). eqb v 0) (row-at n t i x x<n)
-        ∙ by-bool (L x) (λ e. rw (p .trusted i x hi x<n l e, e)) (λ e. rw (exact i x hi x<n l e, e))
+    long : length (row n t i) ≡ n
+    long = row-length n t i (p .lines .0) hi
+
+    same : (x : ℕ) → unsuspected (row n t i) x ≡ LiveOf n L x
+    same x =
+        by-cases (decLt x n)
+        (λ h. rw (lt-ltb x n h)
+        (unsuspected-at (row n t i) x (omega (arith, long)) ∙ ap (λ (v : ℕ). eqb v 0) (row-at n t i x h)
+        ∙ by-bool (L x) (λ e. rw (p .trusted i x hi h l e, e)) (λ e. rw (exact i x hi h l e, e))))
+        (λ h. rw (le-ltb x n (omega arith)) (unsuspected-absent (row n t i) x (λ g. h (omega (arith, long)))))
 
 -- where i suspects all present ahead of it in the group of x the distance to x is due
-due-now : (n : ℕ) (t : List ℕ) (h x i : ℕ) → Lines n t → i < n → Member h x i → ((y : ℕ) → Ahead h x i y → RowOf n t i y)
+due-now : (n : ℕ) (t : List ℕ) (h x i : ℕ) → Lines n t → i < n → x < n → Member h x i → ((y : ℕ) → Ahead h x i y → RowOf n t i y)
     → due (row n t i) i (bitXor i x) ≡ true
-due-now n t h x i lines hi m ahead =
+due-now n t h x i lines hi hx m ahead =
     let long = row-length n t i (lines .0) hi in
-    due-holds (row n t i) h x i (omega arith) (row-at n t i i hi ∙ lines .1 i hi .own) m
+    due-holds (row n t i) h x i (omega arith) (omega arith) (row-at n t i i hi ∙ lines .1 i hi .own) m
     (λ y a l. let y<n = rw long at l in row-at n t i y y<n ∙ ahead y a y<n)
 
 -- where no distance below M, from i's next one on, is due, i suspects all present that it knows in its pass through distances below M
@@ -115,7 +118,7 @@ module _ (n : ℕ) (L : ℕ → Bool) (t₀ t : List ℕ) (know : Knows n L t₀
   met-now h x hx below asks ahead =
       by-cases (decLt (bitXor i x) (nextDistance n t i)) (λ l. know .met i hi li h x hx l asks)
       (λ l.
-      let isDue = due-now n t h x i (know .plain .lines) hi (asks .0) ahead in
+      let isDue = due-now n t h x i (know .plain .lines) hi hx (asks .0) ahead in
       absurd (true≢false (sym isDue ∙ undue (bitXor i x) (omega arith) below)))
 
   pub known-now : (h j : ℕ) → ((x : ℕ) → x < n → bitXor i x < 2 ^ h → bitXor i x < M) → InPassOf n L t₀ i h j → RowOf n t i j
@@ -130,7 +133,7 @@ module _ (n : ℕ) (L : ℕ → Bool) (t₀ t : List ℕ) (know : Knows n L t₀
       (λ y a. known-now _ y (λ x l b. below x l (omega arith)) (ahead y a)) .hears (v .1) j l (r l)
 
 -- a turn of a live station keeps it
-module _ (n d : ℕ) (L : ℕ → Bool) (t₀ t t′ : List ℕ) (i : ℕ) (pow : n ≡ 2 ^ d) (know : Knows n L t₀ t) (turned : Turned n L t t′ i)
+module _ (n : ℕ) (L : ℕ → Bool) (t₀ t t′ : List ℕ) (i : ℕ) (know : Knows n L t₀ t) (turned : Turned n L t t′ i)
     (heads : Heads n t t′ i (makesTest n t i)) (below : i < n) (isLive : L i ≡ true) where
   p : Plain n L t
   p = know .plain
@@ -139,7 +142,7 @@ module _ (n d : ℕ) (L : ℕ → Bool) (t₀ t t′ : List ℕ) (i : ℕ) (pow 
   newly-met : (h x : ℕ) → x < n → nextDistance n t i ≤ bitXor i x → bitXor i x < nextDistance n t′ i → Asks n L t₀ i h x
       → Tested n L (InPassOf n L t₀ i h) (Row n t₀ x) t′ i x
   newly-met h x hx lo passed asks =
-      let isDue = due-now n t h x i (p .lines) below (asks .0) (λ y a. now y (asks .1 y a)) in
+      let isDue = due-now n t h x i (p .lines) below hx (asks .0) (λ y a. now y (asks .1 y a)) in
       tested-more n L t′ t′ i x below hx (λ k y a b s. s) (λ j a known. now j known a) (λ j a s. know .grown x j hx a s)
       (rw xor-cancel at (turned .passed (bitXor i x) lo passed isDue))
     where
@@ -158,14 +161,13 @@ module _ (n d : ℕ) (L : ℕ → Bool) (t₀ t t′ : List ℕ) (i : ℕ) (pow 
       (λ l. newly-met h x hx (omega arith) passed asks)
 
   -- in an exact round: t is exact as t₀ was
-  own-counted : Exact n L t₀ → testsMade n t′ i ≡ sum (λ m. bit (leads L i m)) (nextDistance n t′ i)
+  own-counted : Exact n L t₀ → testsMade n t′ i ≡ sum (λ m. bit (leadsAt n L i m)) (nextDistance n t′ i)
   own-counted exact =
-      let high = p .lines .1 i below .pass .nextHigh in
-      let high′ = turned .plain .lines .1 i below .pass .nextHigh in
       let exactNow : Exact n L t = λ k j g c q e. know .grown k j g c (exact k j g c q e) in
-      let dues : (a : ℕ) → a ≤ n → sum (λ m. bit (due (row n t i) i m)) a ≡ sum (λ m. bit (leads L i m)) a =
-      λ a h. sum-by a (λ m l. ap bit (exact-due n d L t pow p exactNow i m below (omega arith) isLive)) in
-      omega (arith, heads .tests, know .counted exact i below, passed-dues n t t′ i heads high, dues _ high, dues _ high′)
+      let dues : (a : ℕ) → sum (λ m. bit (due (row n t i) i m)) a ≡ sum (λ m. bit (leadsAt n L i m)) a =
+      λ a. sum-by a (λ m l. ap bit (exact-due n L t p exactNow i m below isLive)) in
+      let passed = passed-dues n t t′ i heads (p .lines .1 i below .pass .nextHigh) in
+      omega (arith, heads .tests, know .counted exact i below, passed, dues (nextDistance n t i), dues (nextDistance n t′ i))
 
   pub turn-knows : Knows n L t₀ t′
   turn-knows = record {

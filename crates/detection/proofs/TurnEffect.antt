@@ -9,14 +9,14 @@ use native.Mathlib.Decide.{decLt, ℕ-discrete}
 use native.Mathlib.Omega.{arith}
 use borrow.Author.Tests.{eq-eqb, ne-eqb}
 use lib.ListN.{length}
-use Rattle.station.specs.Groups.{isSize, stationAt}
+use Rattle.station.specs.Groups.{isSize, distances, stationAt}
 use Rattle.station.specs.Table.{head, stride, tableLength, cell, statusColumn, nextColumn, finishedColumn, testsColumn, status, nextDistance, finished, suspects, live, row}
 use Rattle.station.specs.Tests.{due}
 use Rattle.station.proofs.SearchLaws.{every-not}
 use Rattle.plant.specs.Turn.{kindTurn, nextTest, makesTest, finishPass, countTest, replies, isTold, exchangeRows, suspect, testOutcome, afterOutcome, afterTest, selfOrSuspected, isAlone, afterAlone, testing, turn}
 use Rattle.plant.proofs.StepCells.{finishPass-other, countTest-other, suspect-same, suspect-other, exchange-other, exchange-tester, exchange-tested, exchange-tester-own, exchange-tested-own}
-use Rattle.plant.proofs.StepLines.{Lines, finishPass-lines, countTest-lines, suspect-lines, exchange-lines, station-apart, station-below}
-use Rattle.plant.proofs.NextTest.{nextTest-low, not-due-before, test-below, none-due}
+use Rattle.plant.proofs.StepLines.{Lines, finishPass-lines, countTest-lines, suspect-lines, exchange-lines, station-apart}
+use Rattle.plant.proofs.NextTest.{nextTest-low, not-due-before, test-below, test-station, none-due}
 use Rattle.station.proofs.BoolLaws.{by-bool}
 use Rattle.detection.proofs.TurnHeads.{turn-heads}
 
@@ -176,7 +176,7 @@ pub turn-effect : (n : ℕ) (L : ℕ → Bool) (t : List ℕ) (kind i : ℕ) →
 unfolding turn testing
 turn-effect n L t kind i size p company hi li going prompt = by-bool (makesTest n t i) makes (λ e. rw e (finishes e))
   where
-    next : nextDistance n (turn n t kind i) i ≡ cond (makesTest n t i) (nextTest n t i + 1) n
+    next : nextDistance n (turn n t kind i) i ≡ cond (makesTest n t i) (nextTest n t i + 1) (distances n)
     next = turn-heads n t kind i size (p .lines) hi .next
 
     finishes : makesTest n t i ≡ false → Turned n L t (finishPass n t i) i
@@ -200,7 +200,7 @@ turn-effect n L t kind i size p company hi li going prompt = by-bool (makesTest 
         let lines₁ = countTest-lines n t i (p .lines) hi m (omega arith) low m<n in
         let same = same-rows n L t t₁ lines₁ (λ k c h out. countTest-other n t i m k c h (λ _. (out .0, out .2))) p in
         let apart = station-apart i m (omega (arith, p .lines .1 i hi .pass .nextLow)) in
-        let x<n = station-below n i m size hi m<n in
+        let x<n = test-station n t i e (p .lines .0) hi in
         let done = tested n L t₁ i (stationAt i m) (same .0) hi x<n apart li kind (prompt e) in
         let stays = not-alone n L _ i (done .0) company hi li in
         rw (e, stays) (record {

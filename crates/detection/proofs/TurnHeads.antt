@@ -14,9 +14,9 @@ use Rattle.station.specs.Table.{head, tableLength, cell, statusColumn, nextColu
 use Rattle.station.specs.Tests.{due}
 use Rattle.station.proofs.CellLaws.{cell-other}
 use Rattle.plant.specs.Turn.{outcomeExchanged, outcomeTold, statusTold, statusAlone, setStatus, nextTest, makesTest, countTest, testOutcome, afterOutcome, afterTest, isAlone, afterAlone, testing, turn}
-use Rattle.plant.proofs.NextTest.{nextTest-low, not-due-before, test-below, test-due, none-due}
+use Rattle.plant.proofs.NextTest.{nextTest-low, not-due-before, test-station, test-due, none-due}
 use Rattle.plant.proofs.StepCells.{finishPass-other, finishPass-next, finishPass-finished, countTest-length, countTest-other, countTest-next, countTest-tests, suspect-other, exchange-other}
-use Rattle.plant.proofs.StepLines.{Lines, station-apart, station-below}
+use Rattle.plant.proofs.StepLines.{Lines, station-apart}
 use Rattle.station.specs.Sums.{sum, bit}
 use Rattle.station.proofs.BoolLaws.{by-bool, choice}
 use Rattle.station.proofs.SumLaws.{sum-stays}
@@ -63,7 +63,7 @@ turn-heads n t kind i size lines h =
     makes e =
         let m : ℕ = nextTest n t i in
         let t₁ : List ℕ = countTest n t i m in
-        let x<n = station-below n i m size h (test-below n t i e) in
+        let x<n = test-station n t i e (lines .0) h in
         let apart = station-apart i m (omega (arith, lines .1 i h .pass .nextLow, nextTest-low n t i)) in
         let same : (k c : ℕ) → statusColumn < c → c < head → cell n (testing n t kind i m) k c ≡ cell n t₁ k c =
         λ k c lo hi. alone-counts n (afterTest n t₁ kind i (stationAt i m)) i k c lo hi
@@ -78,7 +78,7 @@ turn-heads n t kind i size lines h =
         }
 
 -- of the distances that a turn passes one is due if it makes a test, and none if it makes none
-module _ (n : ℕ) (t t′ : List ℕ) (i : ℕ) (heads : Heads n t t′ i (makesTest n t i)) (high : nextDistance n t i ≤ n) where
+module _ (n : ℕ) (t t′ : List ℕ) (i : ℕ) (heads : Heads n t t′ i (makesTest n t i)) (high : nextDistance n t i ≤ distances n) where
   abbrev dues : ℕ → ℕ
   dues m = bit (due (row n t i) i m)
 
@@ -89,4 +89,4 @@ module _ (n : ℕ) (t t′ : List ℕ) (i : ℕ) (heads : Heads n t t′ i (make
       (λ e.
       let stay = sum-stays dues (nextDistance n t i) (nextTest n t i) (nextTest-low n t i) (λ y a b. ap bit (not-due-before n t i y a b)) in
       rw (heads .next, e, add-one (nextTest n t i)) (omega (arith, stay, ap bit (test-due n t i e))))
-      (λ e. rw (heads .next, e) (omega (arith, sum-stays dues (nextDistance n t i) n high (λ y a b. ap bit (none-due n t i e high y a b)))))
+      (λ e. rw (heads .next, e) (omega (arith, sum-stays dues (nextDistance n t i) (distances n) high (λ y a b. ap bit (none-due n t i e high y a b)))))

@@ -7,7 +7,7 @@ use mathlib.Core.List.{List, [], _∷_, _++_}
 use lib.ListN.{length, getD}
 use lib.Dec.{eqb, ltb}
 use Rattle.station.specs.Search.{every}
-use Rattle.station.specs.Groups.{isSize, dimension, width, member}
+use Rattle.station.specs.Groups.{isSize, dimension, isPresent, width, member}
 use Rattle.station.specs.Table.{tableLength, nextDistance, finished, testsMade, suspects, live}
 use Rattle.station.specs.Rules.{notLive}
 use Rattle.plant.specs.Entry.{State}
@@ -34,15 +34,19 @@ noLiveSuspicion n t i j = notLive n t i || notLive n t j || eqb (suspects n t i 
 unfoldable pub noneSuspected : ℕ → List ℕ → Bool
 noneSuspected n t = every (λ i. every (noLiveSuspicion n t i) n) n
 
--- the group of j at level s has no live board
+-- a live board stands at the number x
+abbrev pub liveAt : ℕ → List ℕ → ℕ → Bool
+liveAt n t x = isPresent n x && live n t x
+
+-- the group of j at level s has, "after leaving out", no live board
 unfoldable pub deadGroup : ℕ → List ℕ → ℕ → ℕ → Bool
-deadGroup n t j s = every (λ k. notLive n t (member j s k)) (width s)
+deadGroup n t j s = every (λ k. not (liveAt n t (member j s k))) (width s)
 
 -- the pairs of a station, live or not, and a level from 1 to d whose group has no live board
 unfoldable pub deadPairs : ℕ → List ℕ → ℕ
 deadPairs n t = sum (λ j. sum (λ h. bit (deadGroup n t j (suc h))) (dimension n)) n
 
--- demand 3's count of a round's tests: N·d less these pairs
+-- demand 3's count of a round's tests, by C-11 "n times d less the pairs whose group, after leaving out, has no live board"
 abbrev pub demandCount : ℕ → List ℕ → ℕ
 demandCount n t = n * dimension n - deadPairs n t
 

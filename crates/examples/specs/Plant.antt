@@ -1,11 +1,12 @@
--- The plant examples of document 01 marked [P], in one table: what the definitions give, and what the document says. One statement covers it.
+-- The plant examples of document 01 marked [P], and those of request C-11, in one table: what the definitions give, and what is said. One
+-- statement covers it.
 -- Assumes nothing.
 use mathlib.Core.Path.{_≡_, refl}
 use mathlib.Core.List.{List, [], _∷_, map}
 use Prim.Native.Nat.{ℕ}
 use lib.ListN.{replicate}
-use Rattle.station.specs.Search.{least, every, select, listOf}
-use Rattle.station.specs.Groups.{isSize, level, dimension, width, member, group, stationAt}
+use Rattle.station.specs.Search.{least, every, keep, listOf}
+use Rattle.station.specs.Groups.{isSize, level, dimension, distances, width, member, fullGroup, group, stationAt}
 use Rattle.station.specs.Table.{tableLength, lineStart, cell, setCell, statusColumn, row, setRow}
 use Rattle.station.specs.Rules.{rowRule, lineRules, someLive, liveFinished, shapeNumber, tableNumber}
 use Rattle.station.specs.Tests.{unsuspected, firstPlace, first, due, dueDistances}
@@ -18,7 +19,7 @@ use Rattle.plant.specs.Run.{Outcome, entries, writeLine, goOn, startNumber, run
 use Rattle.station.specs.Sums.{sum}
 use Rattle.detection.specs.Claim.{deadGroup, deadPairs, demandCount}
 
--- one example: what the definitions give, and what the document says
+-- one example: what the definitions give, and what is said
 pub record Example : Type 0 where
   pub given : List ℕ
   pub said : List ℕ
@@ -33,9 +34,9 @@ nobody = replicate 8 0
 abbrev pub onlyFour : List ℕ
 onlyFour = 0 ∷ 0 ∷ 0 ∷ 0 ∷ 1 ∷ 0 ∷ 0 ∷ 0 ∷ []
 
--- demand 3's count for N = 8 and a table
-abbrev pub countOf : List ℕ → List ℕ
-countOf t = demandCount 8 t ∷ []
+-- demand 3's count for n stations and a table
+abbrev pub countOf : ℕ → List ℕ → List ℕ
+countOf n t = demandCount n t ∷ []
 
 -- a table of eight with station 4 dead, and with 4 and 5 dead
 unfoldable pub fourDead : List ℕ
@@ -44,6 +45,10 @@ fourDead = setCell 8 (freshTable 8) 4 statusColumn 1
 unfoldable pub fourAndFiveDead : List ℕ
 fourAndFiveDead = setCell 8 fourDead 5 statusColumn 1
 
+-- a table of eleven with station 4 dead
+unfoldable pub fourDeadOfEleven : List ℕ
+fourDeadOfEleven = setCell 11 (freshTable 11) 4 statusColumn 1
+
 -- N = 4, fresh, entries (2, 0), (1, 0), (1, 0), (1, 1)
 unfoldable pub fourBoards : Outcome
 fourBoards = run 4 (stateOf (freshTable 4) 0 0) (2 ∷ 0 ∷ 1 ∷ 0 ∷ 1 ∷ 0 ∷ 1 ∷ 1 ∷ []) (replicate 16 0)
@@ -51,20 +56,20 @@ fourBoards = run 4 (stateOf (freshTable 4) 0 0) (2 ∷ 0 ∷ 1 ∷ 0 ∷ 1 ∷ 0
 unfoldable pub examples : List Example
 examples =
     -- "(0, level 3) is 4, 5, 6, 7. (3, level 2) is 1, 0. (5, level 1) is 4. (6, level 2) is 4, 5. (7, level 3) is 3, 2, 1, 0."
-    gives (group 0 3) (4 ∷ 5 ∷ 6 ∷ 7 ∷ [])
-    ∷ gives (group 3 2) (1 ∷ 0 ∷ [])
-    ∷ gives (group 5 1) (4 ∷ [])
-    ∷ gives (group 6 2) (4 ∷ 5 ∷ [])
-    ∷ gives (group 7 3) (3 ∷ 2 ∷ 1 ∷ 0 ∷ [])
+    gives (group 8 0 3) (4 ∷ 5 ∷ 6 ∷ 7 ∷ [])
+    ∷ gives (group 8 3 2) (1 ∷ 0 ∷ [])
+    ∷ gives (group 8 5 1) (4 ∷ [])
+    ∷ gives (group 8 6 2) (4 ∷ 5 ∷ [])
+    ∷ gives (group 8 7 3) (3 ∷ 2 ∷ 1 ∷ 0 ∷ [])
     -- "N = 8, nothing suspected: station 5 has 1, 2, 4 due."
     ∷ gives (dueDistances nobody 5 8) (1 ∷ 2 ∷ 4 ∷ [])
     -- "N = 8, station 5 suspects 4: 1, 2, 3, 4, 5 due; 3 and 5 are stations 6 and 0."
     ∷ gives (dueDistances onlyFour 5 8) (1 ∷ 2 ∷ 3 ∷ 4 ∷ 5 ∷ [])
     ∷ gives (stationAt 5 3 ∷ stationAt 5 5 ∷ []) (6 ∷ 0 ∷ [])
     -- "N = 8, demand 3's count: none dead 24; 4 dead 23; 4 and 5 dead 20."
-    ∷ gives (countOf (freshTable 8)) (24 ∷ [])
-    ∷ gives (countOf fourDead) (23 ∷ [])
-    ∷ gives (countOf fourAndFiveDead) (20 ∷ [])
+    ∷ gives (countOf 8 (freshTable 8)) (24 ∷ [])
+    ∷ gives (countOf 8 fourDead) (23 ∷ [])
+    ∷ gives (countOf 8 fourAndFiveDead) (20 ∷ [])
     -- "0 suspects 1, exchanges with 2, then with 3; 1 tests 0, is told and leaves. 1's row stays empty."
     ∷ gives (fourBoards .number ∷ fourBoards .taken ∷ []) (0 ∷ 4 ∷ [])
     ∷ gives (fourBoards .sheet) (0 ∷ 1 ∷ 3 ∷ 0 ∷ 0 ∷ 2 ∷ 1 ∷ 0 ∷ 0 ∷ 3 ∷ 1 ∷ 0 ∷ 1 ∷ 0 ∷ 2 ∷ 2 ∷ [])
@@ -72,9 +77,22 @@ examples =
     ∷ gives (row 4 (fourBoards .state .table) 1) (0 ∷ 0 ∷ 0 ∷ 0 ∷ [])
     ∷ gives (row 4 (fourBoards .state .table) 2) (0 ∷ 1 ∷ 0 ∷ 0 ∷ [])
     ∷ gives (row 4 (fourBoards .state .table) 3) (0 ∷ 1 ∷ 0 ∷ 0 ∷ [])
+    -- C-11, n = 11: groups with the absent numbers left out
+    ∷ gives (group 11 10 1) []
+    ∷ gives (group 11 10 2) (8 ∷ 9 ∷ [])
+    ∷ gives (group 11 2 4) (10 ∷ 8 ∷ 9 ∷ [])
+    -- nothing suspected, station 10 has 2, 3, 8, 9, 12, 13 due, which are stations 8, 9, 2, 3, 6, 7
+    ∷ gives (dueDistances (replicate 11 0) 10 11) (2 ∷ 3 ∷ 8 ∷ 9 ∷ 12 ∷ 13 ∷ [])
+    ∷ gives (map (stationAt 10) (2 ∷ 3 ∷ 8 ∷ 9 ∷ 12 ∷ 13 ∷ [])) (8 ∷ 9 ∷ 2 ∷ 3 ∷ 6 ∷ 7 ∷ [])
+    -- the count of tests: 3 boards, 5, 11, 11 with board 4 dead, and 19 (the program computes 63, too long for this table)
+    ∷ gives (countOf 3 (freshTable 3)) (5 ∷ [])
+    ∷ gives (countOf 5 (freshTable 5)) (13 ∷ [])
+    ∷ gives (countOf 11 (freshTable 11)) (40 ∷ [])
+    ∷ gives (countOf 11 fourDeadOfEleven) (39 ∷ [])
+    ∷ gives (countOf 19 (freshTable 19)) (88 ∷ [])
     ∷ []
 
 -- each example holds
 pub as-said : map (λ (e : Example). e .given) examples ≡ map (λ (e : Example). e .said) examples
-unfolding examples fourBoards fourDead fourAndFiveDead deadPairs deadGroup sum run startNumber tableNumber shapeNumber isSize tableLength every lineRules rowRule someLive liveFinished cell lineStart row setRow setCell freshTable freshByte listOf goOn entries writeLine entryNumber after acted sheetLine testedOf outcomeOf turn turnTested turnOutcome crash resetLine resetLines afterRound iterate nextTest makesTest finishPass countTest replies isTold exchangeRows suspect testOutcome afterOutcome selfOrSuspected isAlone afterAlone testing due dueDistances select first firstPlace least unsuspected member width level dimension group union unionByte mark
+unfolding examples fourBoards fourDead fourAndFiveDead fourDeadOfEleven deadPairs deadGroup sum run startNumber tableNumber shapeNumber isSize tableLength every lineRules rowRule someLive liveFinished cell lineStart row setRow setCell freshTable freshByte listOf goOn entries writeLine entryNumber after acted sheetLine testedOf outcomeOf turn turnTested turnOutcome crash resetLine resetLines afterRound iterate nextTest makesTest finishPass countTest replies isTold exchangeRows suspect testOutcome afterOutcome selfOrSuspected isAlone afterAlone testing due dueDistances keep first firstPlace least unsuspected member width level dimension distances group fullGroup union unionByte mark
 as-said = refl

@@ -1,5 +1,5 @@
-// Computes the examples of document 01 that are not marked [P], a plant of eight boards, all of Table 1 of paper 000, and column vCube of
-// Table 3 of paper 001. What it writes is compared with the file `stdout`, which has what the documents and the papers say.
+// Computes the examples of document 01 that are not marked [P], sizes and tests of request C-11, a plant of eight boards, all of Table 1 of
+// paper 000, and column vCube of Table 3 of paper 001. What it writes is compared with the file `stdout`, which has what the documents and the papers say.
 use plant::Answer;
 use plant::Tally;
 use plant::run;
@@ -18,6 +18,7 @@ fn main() {
     eight_boards();
     top_tally();
     table_3();
+    odd_sizes();
 }
 
 // Table 1 of paper 000: the groups of eight stations. A line for each level, a column for each station.
@@ -81,9 +82,12 @@ fn byte(x: u8) {
     print(x as u64);
 }
 
-// "N = 3 and N = 128: refusal 1. N = 2: table of 12 bytes; 11 and 13 give 2. N = 64: 4,352 bytes."
+// "N = 128: refusal 1. N = 2: table of 12 bytes; 11 and 13 give 2. N = 64: 4,352 bytes." By C-11 size 3 is taken, and 0, 1 and 65 are not.
 fn sizes() {
+    size_line(0, 0);
+    size_line(1, 5);
     size_line(3, 21);
+    size_line(65, 4352);
     size_line(128, 4352);
     size_line(2, 12);
     size_line(2, 11);
@@ -164,6 +168,26 @@ fn messages_line(n: u8, rounds: u8) {
     print(tally.rounds as u64);
     io::write_all(OUT, b" messages ");
     print(2 * tally.tests as u64);
+    line_end();
+}
+
+// C-11: the tests of a round with nobody dead.
+fn odd_sizes() {
+    round_line(3);
+    round_line(5);
+    round_line(11);
+    round_line(19);
+    round_line(63);
+}
+
+fn round_line(n: u8) {
+    let mut space = [0u8; cells::GREATEST_TABLE];
+    let tally = fresh_rounds(n, 1, cells::table_length(n), &mut space);
+    byte(n);
+    io::write_all(OUT, b" boards rounds ");
+    print(tally.rounds as u64);
+    io::write_all(OUT, b" tests ");
+    print(tally.tests as u64);
     line_end();
 }
 

@@ -6,10 +6,13 @@ use mathlib.Core.List.{List}
 use Prim.Native.Nat.{ℕ, _-_, _≤_, _<_}
 use native.Mathlib.Omega.{arith}
 use borrow.Author.Tests.{ltb-true, ltb-false}
-use Rattle.station.specs.Groups.{distances}
-use Rattle.station.specs.Table.{nextDistance, row}
+use lib.ListN.{length}
+use Rattle.station.specs.Groups.{distances, stationAt}
+use Rattle.station.specs.Table.{tableLength, nextDistance, row}
 use Rattle.station.specs.Tests.{due}
 use Rattle.station.proofs.SearchLaws.{least-between, least-passes, least-before}
+use Rattle.station.proofs.CellLaws.{row-length}
+use Rattle.station.proofs.DueLaws.{due-present}
 use Rattle.plant.specs.Turn.{nextTest, makesTest}
 
 module _ (n : ℕ) (t : List ℕ) (i : ℕ) where
@@ -35,6 +38,10 @@ module _ (n : ℕ) (t : List ℕ) (i : ℕ) where
   unfolding nextTest
   test-due e =
       least-passes (due (row n t i) i) (distances n - nextDistance n t i) (nextDistance n t i) (omega (arith, test-below e, nextTest-low))
+
+  -- a station stands there
+  pub test-station : makesTest n t i ≡ true → length t ≡ tableLength n → i < n → stationAt i (nextTest n t i) < n
+  test-station e long h = rw (row-length n t i long h) at (due-present (row n t i) i (nextTest n t i) (test-due e))
 
   -- a turn that makes none
   no-test : makesTest n t i ≡ false → nextDistance n t i ≤ distances n → nextTest n t i ≡ distances n

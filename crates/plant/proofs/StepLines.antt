@@ -4,20 +4,19 @@ use mathlib.Core.Path.{_≡_, refl, sym, _∙_}
 use mathlib.Core.Logic.{_≢_}
 use mathlib.Core.Bool.{Bool, true, false, cond}
 use mathlib.Core.List.{List}
-use Prim.Native.Nat.{ℕ, _+_, _^_, _≤_, _<_}
+use Prim.Native.Nat.{ℕ, _+_, _≤_, _<_}
 use native.Mathlib.Decide.{ℕ-discrete}
 use native.Mathlib.Omega.{arith}
-use lib.Bits.{xor-self, xor-lt}
+use lib.Bits.{xor-self}
 use lib.Dec.{eqb}
 use lib.ListN.{length}
-use Rattle.station.specs.Groups.{isSize, dimension, distances, stationAt}
+use Rattle.station.specs.Groups.{isSize, distances, stationAt}
 use Rattle.station.specs.Table.{head, stride, tableLength, cell, statusColumn, nextColumn, finishedColumn, testsColumn, status, nextDistance, finished, suspects}
 use Rattle.station.proofs.BoolLaws.{choice}
 use Rattle.station.proofs.Xor.{xor-cancel}
-use Rattle.station.proofs.Sizes.{size-pow}
 use Rattle.station.proofs.CellLaws.{Line, cell-same, cell-other, setCell-length}
 use Rattle.plant.specs.Turn.{outcomeExchanged, outcomeTold, setStatus, makesTest, nextTest, finishPass, countTest, exchangeRows, suspect, testOutcome, afterOutcome, afterTest, isAlone, afterAlone, testing, turn, resetLines}
-use Rattle.plant.proofs.NextTest.{nextTest-low, test-below}
+use Rattle.plant.proofs.NextTest.{nextTest-low, test-below, test-station}
 use Rattle.plant.proofs.StepCells.{finishPass-length, finishPass-other, finishPass-next, finishPass-finished, countTest-length, countTest-other, countTest-next, countTest-tests, suspect-length, suspect-same, suspect-other, exchange-length, exchange-other, exchange-tester, exchange-tested, exchange-tester-own, exchange-tested-own, reset-length, reset-cells, reset-other}
 
 -- the table has its length, and each line obeys the rules
@@ -166,12 +165,6 @@ module _ (n : ℕ) (t : List ℕ) (i : ℕ) (lines : Lines n t) (h : i < n) wher
 pub station-apart : (i m : ℕ) → 1 ≤ m → i ≢ stationAt i m
 station-apart i m pos e = let z : 0 ≡ m = cc (xor-self i, xor-cancel i m) in omega arith
 
-pub station-below : (n i m : ℕ) → isSize n ≡ true → i < n → m < distances n → stationAt i m < n
-station-below n i m size hi hm =
-    let e = size-pow n size in
-    let l : stationAt i m < 2 ^ dimension n = xor-lt (dimension n) i m (omega arith) (omega arith) in
-    omega arith
-
 -- Steps 2 to 6
 pub turn-lines : (n : ℕ) (t : List ℕ) (kind i : ℕ) → isSize n ≡ true → Lines n t → i < n → (finished n t i ≡ 1 → ⊥) → Lines n (turn n t kind i)
 unfolding turn testing
@@ -188,7 +181,7 @@ turn-lines n t kind i size lines h going = pick (makesTest n t i) refl
         let hm : m < distances n = test-below n t i e in
         let lo : nextDistance n t i ≤ m = nextTest-low n t i in
         let counted = countTest-lines n t i lines h m going lo hm in
-        let tested = afterTest-lines n (countTest n t i m) i counted h j (station-below n i m size h hm) (station-apart i m (omega (arith, lines .1 i h .pass .nextLow))) kind in
+        let tested = afterTest-lines n (countTest n t i m) i counted h j (test-station n t i e (lines .0) h) (station-apart i m (omega (arith, lines .1 i h .pass .nextLow))) kind in
         afterAlone-lines n (afterTest n (countTest n t i m) kind i j) i tested h
     pick false e = finishPass-lines n t i lines h
 

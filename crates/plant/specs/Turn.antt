@@ -56,7 +56,7 @@ noStation = 255
 abbrev pub setStatus : ℕ → List ℕ → ℕ → ℕ → List ℕ
 setStatus n t i s = setCell n t i statusColumn s
 
--- Step 2: "A turn takes the least due distance not below i's next distance." Where there is none: the number of distances, N
+-- Step 2: "A turn takes the least due distance not below i's next distance." Where there is none: the number of distances
 unfoldable pub nextTest : ℕ → List ℕ → ℕ → ℕ
 nextTest n t i = least (due (row n t i) i) (distances n - nextDistance n t i) (nextDistance n t i)
 
@@ -64,7 +64,7 @@ nextTest n t i = least (due (row n t i) i) (distances n - nextDistance n t i) (n
 unfoldable pub makesTest : ℕ → List ℕ → ℕ → Bool
 makesTest n t i = ltb (nextTest n t i) (distances n)
 
--- "If there is none, next distance becomes N and the pass is finished; no test is made."
+-- "If there is none, next distance becomes N and the pass is finished; no test is made." By C-11 it becomes 2^d
 unfoldable pub finishPass : ℕ → List ℕ → ℕ → List ℕ
 finishPass n t i = setCell n (setCell n t i nextColumn (distances n)) i finishedColumn 1
 

@@ -50,7 +50,7 @@ pub(crate) fn take_turn(n: u8, table: &mut [u8], kind: u8, i: Station) -> Turned
 
 // Step 2: the least due distance not below the next one; the number of distances where there is none.
 fn next_test(n: u8, table: &[u8], i: Station) -> Distance
-    requires { ⌜ HasLine n (now table) (i .0) ⌝ }
+    requires { ⌜ (n ≤ 64) × HasLine n (now table) (i .0) ⌝ }
     ensures { λ r. ⌜ r .0 ≡ nextTest n (now (table .entry)) (i .0) ⌝ }
 {
     let next = inside::get(n, table, i, cells::NEXT);
@@ -78,7 +78,7 @@ fn scan(row: &[u8], i: Station, end: u8, from: Distance) -> Distance
 
 // Step 2: no distance is due any more.
 fn finish_pass(n: u8, table: &mut [u8], i: Station)
-    requires { ⌜ HasLine n (now table) (i .0) ⌝ }
+    requires { ⌜ (n ≤ 64) × HasLine n (now table) (i .0) ⌝ }
     ensures { λ _. ⌜ now (table .exit) ≡ finishPass n (now (table .entry)) (i .0) ⌝ }
 {
     inside::put(n, table, i, cells::NEXT, groups::distances(n));
@@ -87,7 +87,7 @@ fn finish_pass(n: u8, table: &mut [u8], i: Station)
 
 // Steps 3 to 6: station i tests the station at distance m. The answer is the outcome.
 fn make_test(n: u8, table: &mut [u8], kind: u8, i: Station, m: Distance) -> u8
-    requires { ⌜ (tableNumber n (now table) ≡ 0) × (i .0 < n) × (0 < m .0) × (m .0 < n) ⌝ }
+    requires { ⌜ (tableNumber n (now table) ≡ 0) × (i .0 < n) × (0 < m .0) × (m .0 < 64) × (stationAt (i .0) (m .0) < n) ⌝ }
     ensures { λ r. ⌜ r ≡ testOutcome n (countTest n (now (table .entry)) (i .0) (m .0)) kind (i .0) (stationAt (i .0) (m .0)) ⌝ }
     ensures { λ _. ⌜ now (table .exit) ≡ testing n (now (table .entry)) kind (i .0) (m .0) ⌝ }
 {

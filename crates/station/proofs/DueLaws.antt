@@ -1,16 +1,17 @@
 -- Laws of the first station of a group that passes a test, and of the distances due, of specs/Tests.
 -- Assumes nothing.
 use mathlib.Core.Path.{_≡_, refl}
-use mathlib.Core.Bool.{Bool, true, false}
+use mathlib.Core.Bool.{Bool, true, false, and-false}
 use mathlib.Core.List.{List}
 use mathlib.Core.Option.{none, some}
 use Prim.Native.Nat.{ℕ, _+_, _<_}
 use native.Mathlib.Omega.{arith}
-use borrow.Author.Tests.{lt-ltb, le-ltb}
+use borrow.Author.Tests.{lt-ltb, le-ltb, ltb-true}
+use lib.ListN.{length}
 use Rattle.station.specs.Search.{least}
 use Rattle.station.specs.Groups.{stationAt, width, member}
 use Rattle.station.specs.Tests.{firstPlace, first, due}
-use Rattle.station.proofs.SearchLaws.{least-is, least-none}
+use Rattle.station.proofs.SearchLaws.{both, least-is, least-none}
 use Rattle.station.proofs.Levels.{level-zero}
 
 -- level 0 has no group
@@ -35,4 +36,9 @@ module _ (q : ℕ → Bool) (j s w : ℕ) (e : w ≡ width s) where
 -- distance 0 is never due
 pub due-zero : (r : List ℕ) (i : ℕ) → due r i 0 ≡ false
 unfolding due
-due-zero r i = rw (level-zero, first-zero)
+due-zero r i = rw (level-zero, first-zero, and-false)
+
+-- at a distance that is due a station stands
+pub due-present : (r : List ℕ) (i m : ℕ) → due r i m ≡ true → stationAt i m < length r
+unfolding due
+due-present r i m e = ltb-true (stationAt i m) (length r) (both _ _ e .0)

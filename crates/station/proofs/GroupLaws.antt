@@ -8,11 +8,15 @@ use native.Mathlib.Nat.{eq-or-lt-of-le, le-of-suc-le-suc, one-mul, two-pow-succ}
 use native.Mathlib.Omega.{arith}
 use lib.Bits.{xor-self, xor-zero-r, xor-lt, xor-shifted}
 use lib.Pow.{pow-mono}
-use Rattle.station.specs.Search.{listOf}
-use Rattle.station.specs.Groups.{distance, stationAt, level, width, member, group}
-use Rattle.station.specs.Equation1.{groupsTo}
+use borrow.Author.Tests.{ltb-true, lt-ltb}
+use mathlib.Core.Bool.{true}
+use Rattle.station.specs.Search.{listOf, keep}
+use Rattle.station.specs.Groups.{isSize, distance, stationAt, level, dimension, distances, isPresent, width, member, fullGroup, group}
+use Rattle.station.specs.Equation1.{groupsTo, remainingTo}
 use Rattle.station.proofs.Xor.{xor-assoc, xor-cancel, xor-zero-eq}
 use Rattle.station.proofs.SearchLaws.{listOf-same, listOf-append}
+use Rattle.station.proofs.KeepLaws.{keep-append, keep-mem, mem-keep}
+use Rattle.station.proofs.Sizes.{size-distances}
 use Rattle.station.proofs.Levels.{level-zero, level-in, level-le, level-bounds, level-split, level-upper}
 
 -- an element of a list by f is f of a place
@@ -36,48 +40,63 @@ place-mem f (suc n) x k h e = pick (place-mem f n x k) (eq-or-lt-of-le (le-of-su
     pick rest (inl p) = Memᴰ·append-right (listOf f n) (List·Memᴰ·head (cc))
     pick rest (inr l) = Memᴰ·append-left (f n ∷ []) (rest l e)
 
-no-group-zero : (i x : ℕ) → List·Memᴰ x (group i 0) → ⊥
-unfolding group width listOf
+no-group-zero : (i x : ℕ) → List·Memᴰ x (fullGroup i 0) → ⊥
+unfolding fullGroup width listOf
 no-group-zero i x m = List·Memᴰ·not-nil m
 
 -- who is in the group of i at level s has a distance of that level
-members-level : (i s x : ℕ) → List·Memᴰ x (group i s) → level (distance i x) ≡ s
-unfolding group width member
+members-level : (i s x : ℕ) → List·Memᴰ x (fullGroup i s) → level (distance i x) ≡ s
+unfolding fullGroup width member
 members-level i zero x m = absurd (no-group-zero i x m)
 members-level i (suc h) x m =
     let t = mem-place (member i (suc h)) (2 ^ h) x m in
     rw (t .2, xor-cancel) (level-in h (t .0) (t .1))
 
 -- and the other way
-level-members : (i s x : ℕ) → 0 < s → level (distance i x) ≡ s → List·Memᴰ x (group i s)
-unfolding group width member
+level-members : (i s x : ℕ) → 0 < s → level (distance i x) ≡ s → List·Memᴰ x (fullGroup i s)
+unfolding fullGroup width member
 level-members i zero x pos e = absurd (omega arith)
 level-members i (suc h) x pos e =
     let m : ℕ = distance i x in
     let b = level-bounds m h e in
     place-mem (member i (suc h)) (2 ^ h) x (m - 2 ^ h) (omega arith) (sym (xor-cancel i x) ∙ ap (stationAt i) (omega arith))
 
+-- with the absent numbers left out: who is in the group of i at level s is present and has a distance of that level
+pub group-members : (n i s x : ℕ) → List·Memᴰ x (group n i s) → (x < n) × (level (distance i x) ≡ s)
+unfolding group
+group-members n i s x m =
+    let k = keep-mem (isPresent n) (fullGroup i s) x m in
+    (ltb-true x n (k .1), members-level i s x (k .0))
+
+-- and the other way
+pub members-group : (n i s x : ℕ) → 0 < s → x < n → level (distance i x) ≡ s → List·Memᴰ x (group n i s)
+unfolding group
+members-group n i s x pos h e = mem-keep (isPresent n) (fullGroup i s) x (level-members i s x pos e) (lt-ltb x n h)
+
 -- no station is in a group of its own
-pub not-in-own : (i s : ℕ) → List·Memᴰ i (group i s) → ⊥
-not-in-own i zero m = no-group-zero i i m
-not-in-own i (suc h) m = let e : 0 ≡ suc h = cc (members-level i (suc h) i m, xor-self i, level-zero) in omega arith
+pub not-in-own : (n i s : ℕ) → List·Memᴰ i (group n i s) → ⊥
+unfolding group
+not-in-own n i zero m = no-group-zero i i (keep-mem (isPresent n) (fullGroup i 0) i m .0)
+not-in-own n i (suc h) m = let e : 0 ≡ suc h = cc (group-members n i (suc h) i m .1, xor-self i, level-zero) in omega arith
 
 -- each other station is in exactly one group of i, at a level from 1 to d
-pub in-one-group : (d i x : ℕ) → i < 2 ^ d → x < 2 ^ d → (i ≡ x → ⊥)
-    → (s : ℕ) × (0 < s) × (s ≤ d) × List·Memᴰ x (group i s) × ((s′ : ℕ) → List·Memᴰ x (group i s′) → s′ ≡ s)
-in-one-group d i x hi hx other =
+pub in-one-group : (n i x : ℕ) → isSize n ≡ true → i < n → x < n → (i ≡ x → ⊥)
+    → (s : ℕ) × (0 < s) × (s ≤ dimension n) × List·Memᴰ x (group n i s) × ((s′ : ℕ) → List·Memᴰ x (group n i s′) → s′ ≡ s)
+unfolding distances
+in-one-group n i x size hi hx other =
     let m : ℕ = distance i x in
     let not-zero : ¬ (m ≡ 0) = λ e. other (xor-zero-eq i x e) in
-    let t = level-split m (omega arith) in (
+    let t = level-split m (omega arith) in
+    let low = size-distances n size .0 in (
       level m,
       omega arith,
-      level-le m d (xor-lt d i x hi hx),
-      level-members i (level m) x (omega arith) refl,
-      λ s′ mem. sym (members-level i s′ x mem),
+      level-le m (dimension n) (xor-lt (dimension n) i x (omega arith) (omega arith)),
+      members-group n i (level m) x (omega arith) hx refl,
+      λ s′ mem. sym (group-members n i s′ x mem .1),
     )
 
--- the groups of a watch of 2^d stations have no station beyond it
-pub members-below : (d i s x : ℕ) → i < 2 ^ d → s ≤ d → List·Memᴰ x (group i s) → x < 2 ^ d
+-- the full groups of numbers below 2^d have no number beyond it
+pub members-below : (d i s x : ℕ) → i < 2 ^ d → s ≤ d → List·Memᴰ x (fullGroup i s) → x < 2 ^ d
 members-below d i s x hi hs mem =
     let u : distance i x < 2 ^ s = rw (members-level i s x mem) at (level-upper (distance i x)) in
     let l : distance i x < 2 ^ d = omega (arith, pow-mono hs) in
@@ -85,14 +104,28 @@ members-below d i s x hi hs mem =
 
 -- the stations at distances below 2^h from j, in order of distance
 run : (j h : ℕ) → listOf (stationAt j) (2 ^ h) ≡ j ∷ groupsTo j h
-unfolding groupsTo group width member listOf
+unfolding groupsTo fullGroup width member listOf
 run j zero = cc (xor-zero-r j)
 run j (suc h) = rw two-pow-succ (listOf-append (stationAt j) (2 ^ h) (2 ^ h) ∙ rw (run j h))
 
 -- "equation 1": a group is its first station and that station's groups at all lower levels
-pub equation-1 : (i h : ℕ) → group i (suc h) ≡ stationAt i (2 ^ h) ∷ groupsTo (stationAt i (2 ^ h)) h
-unfolding group width member
+pub equation-1 : (i h : ℕ) → fullGroup i (suc h) ≡ stationAt i (2 ^ h) ∷ groupsTo (stationAt i (2 ^ h)) h
+unfolding fullGroup width member
 equation-1 i h = listOf-same (member i (suc h)) (stationAt (stationAt i (2 ^ h))) (2 ^ h) shifted ∙ run (stationAt i (2 ^ h)) h
   where
     shifted : (k : ℕ) → k < 2 ^ h → stationAt i (2 ^ h + k) ≡ stationAt (stationAt i (2 ^ h)) k
     shifted k l = cc (xor-assoc i (2 ^ h) k, xor-shifted 1 h k l, one-mul (2 ^ h))
+
+remaining-is : (n j h : ℕ) → keep (isPresent n) (groupsTo j h) ≡ remainingTo n j h
+unfolding remainingTo groupsTo keep group
+remaining-is n j zero = refl
+remaining-is n j (suc h) = keep-append (isPresent n) (groupsTo j h) (fullGroup j (suc h)) ∙ rw (remaining-is n j h)
+
+-- with the absent numbers left out: its first station, if that is present, and that station's groups at all lower levels
+pub equation-1-remaining : (n i h : ℕ)
+    → group n i (suc h) ≡ keep (isPresent n) (stationAt i (2 ^ h) ∷ []) ++ remainingTo n (stationAt i (2 ^ h)) h
+unfolding group
+equation-1-remaining n i h =
+    let j : ℕ = stationAt i (2 ^ h) in
+    ap (keep (isPresent n)) (equation-1 i h) ∙ keep-append (isPresent n) (j ∷ []) (groupsTo j h)
+    ∙ ap (_++_ (keep (isPresent n) (j ∷ []))) (remaining-is n j h)

@@ -3,8 +3,8 @@
 use mathlib.Core.Path.{_≡_, refl}
 use mathlib.Core.Logic.{_⊎_, inl, inr}
 use mathlib.Core.Bool.{Bool}
-use Prim.Native.Nat.{ℕ, zero, suc, _+_, _-_, _^_, _≤_, _<_}
-use native.Mathlib.Nat.{eq-or-lt-of-le}
+use Prim.Native.Nat.{ℕ, zero, suc, _+_, _*_, _-_, _^_, _%_, _≤_, _<_}
+use native.Mathlib.Nat.{eq-or-lt-of-le, mod-eq-of-lt, one-mul}
 use native.Mathlib.Omega.{arith}
 use lib.Dec.{ltb}
 use lib.Pow.{pow-pos, pow-mono}
@@ -68,3 +68,9 @@ pub dimension-pow : (d : ℕ) → dimension (2 ^ d) ≡ d
 unfolding dimension
 dimension-pow zero = level-zero
 dimension-pow (suc d) = level-is (2 ^ suc d - 1) d (omega (arith, pow-pos d)) (omega (arith, pow-pos d))
+
+-- a 1 shifted by at most 7 places, as a byte
+pub shift-one : (k : ℕ) → k ≤ 7 → (1 * 2 ^ k % 256 ≡ 2 ^ k) × (2 ^ k ≤ 128)
+shift-one k h =
+    let b : 2 ^ k ≤ 2 ^ 7 = pow-mono {i = k} {j = 7} h in
+    (rw one-mul (mod-eq-of-lt (omega arith)), omega arith)

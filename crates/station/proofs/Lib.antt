@@ -5,11 +5,13 @@ pub mod BoolLaws
 pub mod SearchLaws
 pub mod SumLaws
 pub mod Levels
+pub mod Sizes
+pub mod KeepLaws
 pub mod GroupLaws
 pub mod Lists
 pub mod Loops
-pub mod Sizes
 pub mod Refusals
 pub mod CellLaws
+pub mod GroupWalk
 pub mod DueLaws
-pub mod SelectLaws
+pub mod Presence

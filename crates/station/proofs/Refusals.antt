@@ -10,7 +10,7 @@ use borrow.Author.Tests.{eqb-true, eqb-false, eq-eqb, ne-eqb, le-ltb, ltb-false,
 use lib.ListN.{length}
 use lib.Dec.{ltb, leb, eqb, leb·suc-suc}
 use Rattle.station.specs.Search.{every}
-use Rattle.station.specs.Groups.{isSize, dimension, distances, width}
+use Rattle.station.specs.Groups.{isSize, dimension, distances, group}
 use Rattle.station.specs.Table.{tableLength, live}
 use Rattle.station.specs.Rules.{refuse, _else_, passRule, lineRules, notLive, someLive, finishedIfLive, liveFinished, shapeNumber, tableNumber}
 use Rattle.station.specs.Calls.{unless, rowNumber, groupNumber, assignmentNumber}
@@ -52,7 +52,7 @@ pass-rule-is n zero f tests = refl
 pass-rule-is n (suc next) f tests = let p : suc next - 1 ≡ next = omega arith in rw (p, leb·suc-suc tests next)
 
 -- what a group list that is not refused has
-pub group-zero : (n i s len : ℕ) → groupNumber n i s len ≡ 0 → (isSize n ≡ true) × (i < n) × (0 < s) × (s ≤ dimension n) × (len ≡ width s)
+pub group-zero : (n i s len : ℕ) → groupNumber n i s len ≡ 0 → (isSize n ≡ true) × (i < n) × (0 < s) × (s ≤ dimension n) × (len ≡ length (group n i s))
 unfolding groupNumber
 group-zero n i s len e =
     let p = else-zero _ _ e in
@@ -64,11 +64,11 @@ group-zero n i s len e =
       leb-false n i (refuse-zero 8 _ (q .0)),
       omega arith,
       ltb-false (dimension n) s (l .1),
-      eqb-true len (width s) (not-false _ (refuse-zero 12 _ (r .1))),
+      eqb-true len (length (group n i s)) (not-false _ (refuse-zero 12 _ (r .1))),
     )
 
 -- a group list that only its length can still refuse, after the tests that the code makes
-module _ (n i s len d w : ℕ) (b : Bool) (e : b ≡ isSize n) (f : not b ≡ false) (l : i < n) (z : s ≡ 0 → ⊥) (g : d ≡ dimension n) (h : s ≤ d) (v : w ≡ width s) where
+module _ (n i s len d w : ℕ) (b : Bool) (e : b ≡ isSize n) (f : not b ≡ false) (l : i < n) (z : s ≡ 0 → ⊥) (g : d ≡ dimension n) (h : s ≤ d) (v : w ≡ length (group n i s)) where
   group-last : groupNumber n i s len ≡ refuse 13 (not (eqb len w))
   unfolding groupNumber
   group-last = simp (← e, f, lt-leb n i l, ne-eqb s 0 z, ← g, le-ltb d s h, ← v)

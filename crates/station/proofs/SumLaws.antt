@@ -48,7 +48,7 @@ sum-swap f zero m = sym (sum-zero m (λ i h. refl))
 sum-swap f (suc n) m = rw (sum-swap f n m) (sym (sum-add (λ k. sum (λ i. f i k) n) (f n) m))
 
 -- a sum in two parts
-sum-split : (f : ℕ → ℕ) (a b : ℕ) → sum f (a + b) ≡ sum f a + sum (λ i. f (a + i)) b
+pub sum-split : (f : ℕ → ℕ) (a b : ℕ) → sum f (a + b) ≡ sum f a + sum (λ i. f (a + i)) b
 unfolding sum
 sum-split f a zero = rw (add-zero a) (omega arith)
 sum-split f a (suc b) = rw add-suc (let e = sum-split f a b in omega arith)

@@ -7,7 +7,7 @@ use mathlib.Core.Option.{Option, none, some}
 use lib.ListN.{length, replicate}
 use lib.Dec.{ltb, leb, eqb}
 use Rattle.station.specs.Search.{listOf}
-use Rattle.station.specs.Groups.{isSize, dimension, width, group}
+use Rattle.station.specs.Groups.{isSize, dimension, group}
 use Rattle.station.specs.Table.{stride, nextColumn, tableLength, row, live}
 use Rattle.station.specs.Rules.{refuse, _else_, shapeNumber, tableNumber}
 use Rattle.station.specs.Tests.{dueDistances}
@@ -42,13 +42,14 @@ stationRefusal n i = refuse 9 (leb n i)
 abbrev pub lengthRefusal : ℕ → ℕ → ℕ
 lengthRefusal stated len = refuse 13 (not (eqb len stated))
 
--- Group list: refusals 1, 9, 12, 13. 12: "The level is 0 or above d."
+-- Group list: refusals 1, 9, 12, 13. 12: "The level is 0 or above d." C-11: "number 13 uses the group's remaining length"
 unfoldable pub groupNumber : ℕ → ℕ → ℕ → ℕ → ℕ
-groupNumber n i s len = refuse 1 (not (isSize n)) else stationRefusal n i else refuse 12 (eqb s 0 || ltb (dimension n) s) else lengthRefusal (width s) len
+groupNumber n i s len =
+    refuse 1 (not (isSize n)) else stationRefusal n i else refuse 12 (eqb s 0 || ltb (dimension n) s) else lengthRefusal (length (group n i s)) len
 
--- "the 2^(s−1) members in order, into a lent list of just that length"
+-- "the 2^(s−1) members in order, into a lent list of just that length"; C-11: "the members that remain, which may be 0"
 unfoldable pub groupAfter : ℕ → ℕ → ℕ → List ℕ → List ℕ
-groupAfter n i s list = unless (groupNumber n i s (length list)) list (group i s)
+groupAfter n i s list = unless (groupNumber n i s (length list)) list (group n i s)
 
 -- Row: refusals 1 to 4, 9
 unfoldable pub rowNumber : ℕ → List ℕ → ℕ → ℕ

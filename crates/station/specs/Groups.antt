@@ -1,15 +1,15 @@
--- Document 01, "What the watch covers" and "Groups by distance". A group is the papers' cluster.
+-- Document 01, "What the watch covers" and "Groups by distance", with request C-11 of document 02. A group is the papers' cluster.
 -- Assumes nothing.
 use Prim.Native.Nat.{ℕ, zero, suc, _+_, _-_, _^_}
-use mathlib.Core.Bool.{Bool, _||_}
+use mathlib.Core.Bool.{Bool, _&&_}
 use mathlib.Core.List.{List}
 use lib.Bits.{bitXor}
-use lib.Dec.{ltb, eqb}
-use Rattle.station.specs.Search.{least, listOf}
+use lib.Dec.{ltb, leb}
+use Rattle.station.specs.Search.{least, listOf, keep}
 
--- "N is 2, 4, 8, 16, 32 or 64"
+-- C-11: "Sizes 2 to 64 are to be taken."
 unfoldable pub isSize : ℕ → Bool
-isSize n = eqb n 2 || eqb n 4 || eqb n 8 || eqb n 16 || eqb n 32 || eqb n 64
+isSize n = leb 2 n && leb n 64
 
 -- "The distance of two stations is the exclusive or of their numbers."
 abbrev pub distance : ℕ → ℕ → ℕ
@@ -23,15 +23,19 @@ stationAt i m = bitXor i m
 unfoldable pub level : ℕ → ℕ
 level m = least (λ s. ltb m (2 ^ s)) m 0
 
--- "d is its logarithm to base 2": the level of the greatest distance, N − 1
+-- C-11: "With n boards, d is the logarithm rounded up": the level of the greatest number, n − 1
 unfoldable pub dimension : ℕ → ℕ
 dimension n = level (n - 1)
 
--- how many distances there are, 0 included: a turn searches below it, next distance runs from 1 to it, and a finished line has it
-abbrev pub distances : ℕ → ℕ
-distances n = n
+-- how many distances there are, 0 included, 2^d: "distances go to 2^d less 1, next distance to 2^d (a finished line has that)"
+unfoldable pub distances : ℕ → ℕ
+distances n = 2 ^ dimension n
 
--- how many stations a group at level s has, 2^(s−1), which is also its least distance; level 0 has none
+-- whether a station stands at a number: "numbers of n or more are left out"
+abbrev pub isPresent : ℕ → ℕ → Bool
+isPresent n x = ltb x n
+
+-- how many numbers a full group at level s has, 2^(s−1), which is also its least distance; level 0 has none
 unfoldable pub width : ℕ → ℕ
 width zero = 0
 width (suc h) = 2 ^ h
@@ -40,6 +44,10 @@ width (suc h) = 2 ^ h
 unfoldable pub member : ℕ → ℕ → ℕ → ℕ
 member i s k = stationAt i (width s + k)
 
--- the group of station i at level s, listed in order
-unfoldable pub group : ℕ → ℕ → List ℕ
-group i s = listOf (member i s) (width s)
+-- the full group of station i at level s, listed in order
+unfoldable pub fullGroup : ℕ → ℕ → List ℕ
+fullGroup i s = listOf (member i s) (width s)
+
+-- C-11: "numbers of n or more are left out of every group"
+unfoldable pub group : ℕ → ℕ → ℕ → List ℕ
+group n i s = keep (isPresent n) (fullGroup i s)

@@ -13,7 +13,8 @@ use Rattle.station.specs.Table.{tableLength, status, nextDistance, finis
 abbrev pub statusRule : ℕ → Bool
 statusRule status = leb status 3
 
--- next distance, pass finished and tests made: "each byte in its range; byte 3 at most byte 1 less 1; a finished line has next distance N"
+-- next distance, pass finished and tests made: "each byte in its range; byte 3 at most byte 1 less 1; a finished line has next
+-- distance N", which by C-11 is 2^d
 abbrev pub passRule : ℕ → ℕ → ℕ → ℕ → Bool
 passRule n next finished tests =
     leb 1 next && leb next (distances n) && leb finished 1 && leb tests (next - 1) && (eqb finished 0 || eqb next (distances n))
@@ -60,7 +61,7 @@ abbrev pub _else_ : ℕ → ℕ → ℕ
 zero else b = b
 (suc a) else b = suc a
 
--- refusals 1 and 2: "The size N is none of 2, 4, 8, 16, 32, 64." "The table's length is not N times (N + 4)."
+-- refusals 1 and 2: by C-11 "a size outside 2 to 64"; "The table's length is not N times (N + 4)."
 unfoldable pub shapeNumber : ℕ → ℕ → ℕ
 shapeNumber n len = refuse 1 (not (isSize n)) else refuse 2 (not (eqb len (tableLength n)))
 

@@ -14,12 +14,16 @@ unfoldable pub every : (ℕ → Bool) → ℕ → Bool
 every q zero = true
 every q (suc n) = every q n && q n
 
--- the numbers below n that pass q, ascending
-unfoldable pub select : (ℕ → Bool) → ℕ → List ℕ
-select q zero = []
-select q (suc n) = select q n ++ cond (q n) (n ∷ []) []
-
 -- the list f 0, f 1, .., f (n − 1)
 unfoldable pub listOf : (ℕ → ℕ) → ℕ → List ℕ
 listOf f zero = []
 listOf f (suc n) = listOf f n ++ (f n ∷ [])
+
+-- the elements of a list that pass q, in the same order
+unfoldable pub keep : (ℕ → Bool) → List ℕ → List ℕ
+keep q [] = []
+keep q (x ∷ xs) = cond (q x) (x ∷ keep q xs) (keep q xs)
+
+-- the numbers below n that pass q, ascending
+abbrev pub select : (ℕ → Bool) → ℕ → List ℕ
+select q n = keep q (listOf (λ k. k) n)

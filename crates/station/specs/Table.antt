@@ -56,7 +56,7 @@ testsColumn = 3
 abbrev pub status : ℕ → List ℕ → ℕ → ℕ
 status n t i = cell n t i statusColumn
 
--- byte 1, next distance, 1 to N
+-- byte 1, next distance, 1 to N; by C-11 to 2^d
 abbrev pub nextDistance : ℕ → List ℕ → ℕ → ℕ
 nextDistance n t i = cell n t i nextColumn
 

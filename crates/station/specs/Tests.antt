@@ -1,15 +1,15 @@
 -- Document 01, step 1 of "What an entry does": which distances are due.
 -- Assumes nothing.
 use Prim.Native.Nat.{ℕ}
-use mathlib.Core.Bool.{Bool, false, cond}
+use mathlib.Core.Bool.{Bool, false, cond, _&&_}
 use mathlib.Core.List.{List}
 use mathlib.Core.Option.{Option, none, some}
-use lib.ListN.{getD}
+use lib.ListN.{length, getD}
 use lib.Dec.{ltb, eqb}
 use Rattle.station.specs.Search.{least, select}
-use Rattle.station.specs.Groups.{stationAt, level, width, member}
+use Rattle.station.specs.Groups.{stationAt, level, distances, isPresent, width, member}
 
--- whether a row leaves station x not suspected. A station whose number is not below the row's length is absent: never "not suspected"
+-- whether a row leaves station x not suspected. A number that is not below the row's length is absent (C-11): never "not suspected"
 unfoldable pub unsuspected : List ℕ → ℕ → Bool
 unsuspected r x = eqb (getD r x 1) 0
 
@@ -27,10 +27,10 @@ isStation i none = false
 isStation i (some x) = eqb x i
 
 -- "Distance m is due for i if i is the first station not suspected by i in the group of j at level s, where j is at distance m
--- and s is the level of m." r is the row of i
+-- and s is the level of m." r is the row of i. C-11: "numbers of n or more are .. never tested", so j is present
 unfoldable pub due : List ℕ → ℕ → ℕ → Bool
-due r i m = isStation i (first (unsuspected r) (stationAt i m) (level m))
+due r i m = isPresent (length r) (stationAt i m) && isStation i (first (unsuspected r) (stationAt i m) (level m))
 
 -- the distances due for i, ascending. Distance 0 has level 0, whose group is empty: it is never due, and the list counts from 1
 unfoldable pub dueDistances : List ℕ → ℕ → ℕ → List ℕ
-dueDistances r i n = select (due r i) n
+dueDistances r i n = select (due r i) (distances n)

@@ -1,9 +1,9 @@
 // Which distances are due (document 01, step 1), and the assignment.
 ghost use mathlib.Core.Path.{_≡_};
 ghost use Prim.Native.Nat.{_+_, _-_, _<_};
-ghost use mathlib.Core.Bool.{cond};
+ghost use mathlib.Core.Bool.{true, cond};
 ghost use lib.ListN.{length, set, replicate};
-ghost use Rattle.station.specs.Groups.{level};
+ghost use Rattle.station.specs.Groups.{isSize, level};
 ghost use Rattle.station.specs.Tests.{unsuspected, first, due, dueDistances};
 ghost use Rattle.station.specs.Calls.{firstValue, padded, assignmentNumber, assignmentAfter, assignmentCount};
 use crate::Assigned;
@@ -47,7 +47,12 @@ fn first_unsuspected(row: &[u8], j: Station, m: Distance) -> First
 pub fn is_due(row: &[u8], i: Station, m: Distance) -> bool
     ensures { λ r. ⌜ r ≡ due (now (row .entry)) (i .0) (m .0) ⌝ }
 {
-    match first_unsuspected(row, order::lookup(i, m), m) {
+    let j = order::lookup(i, m);
+    let at = j.0 as usize;
+    if row.len() <= at {
+        return false;
+    }
+    match first_unsuspected(row, j, m) {
         First::At(x) => x.0 == i.0,
         First::Nobody => false,
     }
@@ -66,7 +71,7 @@ pub fn assignment(n: usize, table: &[u8], i: Station, list: &mut [u8]) -> Assign
             count: 0,
         };
     }
-    let count = write_due(inside::row(n as u8, table, i), i, list);
+    let count = write_due(n as u8, inside::row(n as u8, table, i), i, list);
     Assigned {
         number: 0,
         count: count,
@@ -90,16 +95,17 @@ fn assignment_number(n: usize, table: &[u8], i: Station, len: usize) -> u8
     0
 }
 
-// Writes the distances due for i, by its row, and zeros behind them; answers how many are due.
-fn write_due(row: &[u8], i: Station, list: &mut [u8]) -> u8
-    requires { ⌜ (length (now row) < 256) × (length (now list) + 1 ≡ length (now row)) ⌝ }
-    ensures { λ r. ⌜ r ≡ length (dueDistances (now (row .entry)) (i .0) (length (now (row .entry)))) ⌝ }
-    ensures { λ _. ⌜ now (list .exit) ≡ padded (length (now (list .entry))) (dueDistances (now (row .entry)) (i .0) (length (now (row .entry)))) ⌝ }
+// Writes the distances due for i of n stations, by its row, and zeros behind them; answers how many are due.
+fn write_due(n: u8, row: &[u8], i: Station, list: &mut [u8]) -> u8
+    requires { ⌜ (isSize n ≡ true) × (length (now row) ≡ n) × (i .0 < n) × (length (now list) + 1 ≡ n) ⌝ }
+    ensures { λ r. ⌜ r ≡ length (dueDistances (now (row .entry)) (i .0) n) ⌝ }
+    ensures { λ _. ⌜ now (list .exit) ≡ padded (length (now (list .entry))) (dueDistances (now (row .entry)) (i .0) n) ⌝ }
 {
     clear(list);
+    let end = groups::distances(n);
     let mut count: u8 = 0;
-    let mut m: u8 = 1;
-    while (m as usize) < row.len() {
+    let mut m: u8 = 0;
+    while m < end {
         count = put_due(row, i, Distance(m), list, count);
         m += 1;
     }

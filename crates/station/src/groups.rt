@@ -1,8 +1,9 @@
-// Sizes, levels and groups (document 01, "Groups by distance").
+// Sizes, levels and groups (document 01, "Groups by distance"; request C-11).
 ghost use mathlib.Core.Path.{_≡_};
-ghost use Prim.Native.Nat.{_<_, _≤_};
-ghost use lib.ListN.{length};
-ghost use Rattle.station.specs.Groups.{isSize, level, dimension, distances, width, group};
+ghost use Prim.Native.Nat.{_+_, _<_, _≤_};
+ghost use mathlib.Core.Bool.{cond};
+ghost use lib.ListN.{length, set};
+ghost use Rattle.station.specs.Groups.{isSize, level, dimension, distances, isPresent, width, group};
 ghost use Rattle.station.specs.Calls.{groupNumber, groupAfter};
 use crate::Distance;
 use crate::Level;
@@ -13,7 +14,7 @@ use crate::order;
 pub fn is_size(n: usize) -> bool
     ensures { λ r. ⌜ r ≡ isSize n ⌝ }
 {
-    (n == 2) | (n == 4) | (n == 8) | (n == 16) | (n == 32) | (n == 64)
+    (2 <= n) & (n <= 64)
 }
 
 // The level of a distance.
@@ -37,12 +38,14 @@ fn dimension_of(n: u8) -> Level
 
 // How many distances there are in a plant of n stations, 0 included.
 pub fn distances(n: u8) -> u8
+    requires { ⌜ n ≤ 128 ⌝ }
     ensures { λ r. ⌜ r ≡ distances n ⌝ }
 {
-    n
+    let d = dimension_of(n);
+    1u8 << d.0
 }
 
-// How many stations a group at level s has, and its least distance.
+// How many numbers a full group at level s has, and its least distance.
 pub(crate) fn width_of(s: Level) -> u8
     requires { ⌜ (0 < s .0) × (s .0 ≤ 8) ⌝ }
     ensures { λ r. ⌜ r ≡ width (s .0) ⌝ }
@@ -59,7 +62,7 @@ pub fn group_list(n: usize, i: Station, s: Level, list: &mut [u8]) -> u8
 {
     let number = group_number(n, i, s, list.len());
     if number == 0 {
-        write_group(i, s, list);
+        write_group(n as u8, i, s, list);
     }
     number
 }
@@ -82,24 +85,64 @@ fn group_number(n: usize, i: Station, s: Level, len: usize) -> u8
     if d.0 < s.0 {
         return 12;
     }
-    let w = width_of(s);
+    let w = group_length(n as u8, i, s);
     if len != w as usize {
         return 13;
     }
     0
 }
 
-// Writes the members of the group of i at level s.
-fn write_group(i: Station, s: Level, list: &mut [u8])
+// How many stations the group of i at level s has among n.
+fn group_length(n: u8, i: Station, s: Level) -> u8
     requires { ⌜ (0 < s .0) × (s .0 ≤ 8) ⌝ }
-    requires { ⌜ length (now list) ≡ width (s .0) ⌝ }
-    ensures { λ _. ⌜ now (list .exit) ≡ group (i .0) (s .0) ⌝ }
+    ensures { λ r. ⌜ r ≡ length (group n (i .0) (s .0)) ⌝ }
 {
     let w = width_of(s);
+    let mut count: u8 = 0;
     let mut k: u8 = 0;
     while k < w {
         let x = order::lookup(i, Distance(w + k));
-        list[k as usize] = x.0;
+        count = count_if(count, x.0 < n);
         k += 1;
     }
+    count
+}
+
+// One more where `more` holds.
+fn count_if(count: u8, more: bool) -> u8
+    requires { ⌜ count < 255 ⌝ }
+    ensures { λ r. ⌜ r ≡ cond more (count + 1) count ⌝ }
+{
+    if more { count + 1 } else { count }
+}
+
+// Writes the members of the group of i at level s among n.
+fn write_group(n: u8, i: Station, s: Level, list: &mut [u8])
+    requires { ⌜ (0 < s .0) × (s .0 ≤ 8) ⌝ }
+    requires { ⌜ length (now list) ≡ length (group n (i .0) (s .0)) ⌝ }
+    ensures { λ _. ⌜ now (list .exit) ≡ group n (i .0) (s .0) ⌝ }
+{
+    let w = width_of(s);
+    let mut count: u8 = 0;
+    let mut k: u8 = 0;
+    while k < w {
+        count = put_member(n, order::lookup(i, Distance(w + k)), list, count);
+        k += 1;
+    }
+}
+
+// Puts station x at place count of the list if it is one of n; answers how many are there now.
+fn put_member(n: u8, x: Station, list: &mut [u8], count: u8) -> u8
+    requires { ⌜ count < 255 ⌝ }
+    ensures { λ r. ⌜ r ≡ cond (isPresent n (x .0)) (count + 1) count ⌝ }
+    ensures { λ _. ⌜ now (list .exit) ≡ cond (isPresent n (x .0)) (set (now (list .entry)) count (x .0)) (now (list .entry)) ⌝ }
+{
+    if n <= x.0 {
+        return count;
+    }
+    let k = count as usize;
+    if k < list.len() {
+        list[k] = x.0;
+    }
+    count + 1
 }

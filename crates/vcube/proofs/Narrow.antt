@@ -11,7 +11,7 @@ use native.Mathlib.Omega.{arith}
 use borrow.Author.Tests.{ne-eqb, lt-ltb, le-leb, not-false}
 use lib.Dec.{ltb, eqb}
 use lib.ListN.{length}
-use Rattle.station.specs.Groups.{isSize, dimension, width, group}
+use Rattle.station.specs.Groups.{isSize, dimension, group}
 use Rattle.station.specs.Rules.{refuse, _else_, tableNumber}
 use Rattle.station.specs.Calls.{unless, stationRefusal, lengthRefusal, groupNumber, groupAfter, rowNumber}
 use Rattle.station.specs.Calls.{assignmentNumber, assignmentAfter, assignmentCount}
@@ -94,7 +94,7 @@ module _ (n : ℕ) where
   unfolding groupNumber
   level-far i len s h = else-same unsized _ _ (λ z. else-same (stationRefusal n i) _ _ (λ y. last (sized n z)))
     where
-      last : isSize n ≡ true → (refuse 12 (eqb s 0 || ltb (dimension n) s) else lengthRefusal (width s) len) ≡ 12
+      last : isSize n ≡ true → (refuse 12 (eqb s 0 || ltb (dimension n) s) else lengthRefusal (length (group n i s)) len) ≡ 12
       last e = rw (ne-eqb s 0 (omega arith), lt-ltb (dimension n) s (omega (arith, size-dimension n e)))
 
   module _ (i s i′ s′ : ℕ) (e : i′ ≡ min i 255) (f : s′ ≡ min s 255) where
@@ -107,5 +107,5 @@ module _ (n : ℕ) where
     group-after-narrow list =
         let h = else-not unsized 9 (λ z. omega arith) in
         let k = else-not unsized _ (else-not (stationRefusal n i) 12 (λ z. omega arith)) in
-        narrow-unless (λ x. groupNumber n x s′ (length list)) _ list (λ x. group x s′) (group-far s′ (length list)) h i i′ e
-        ∙ narrow-unless (λ x. groupNumber n i x (length list)) _ list (group i) (level-far i (length list)) k s s′ f
+        narrow-unless (λ x. groupNumber n x s′ (length list)) _ list (λ x. group n x s′) (group-far s′ (length list)) h i i′ e
+        ∙ narrow-unless (λ x. groupNumber n i x (length list)) _ list (group n i) (level-far i (length list)) k s s′ f

@@ -5,11 +5,11 @@ use native.Mathlib.Omega.{arith}
 use lib.ListN.{length}
 use borrow.Author.Needs.{needs}
 use Rattle.station.proofs.Refusals.{accepted}
-use Rattle.station.proofs.Sizes.{size-bounds}
+use Rattle.station.proofs.Sizes.{size-bounds, size-distances}
 use Rattle.station.proofs.CellLaws.{accepted-line}
 use Rattle.plant.specs.Turn.{testing}
 use Rattle.plant.proofs.StepCells.{countTest-length}
-use Rattle.plant.proofs.StepLines.{station-apart, station-below}
+use Rattle.plant.proofs.StepLines.{station-apart}
 use Rattle.plant.proofs.turn.make_test.Statement.{statement}
 use Rattle.plant.proofs.turn.make_test.Tie as tie
 
@@ -19,8 +19,7 @@ count-test-requires c κs =
     let p = c .before .before .before .pre in
     let t = accepted (a .n) (a .table .now) (p .0) in
     let l = accepted-line (a .n) (a .table .now) t (a .i .0) (p .1) in
-    let b = size-bounds (a .n) (t .size) in
-    (t .long, p .1, omega (arith, b), omega (arith, b, l .pass .testsBound, l .pass .nextHigh))
+    (t .long, p .1, omega arith, omega (arith, size-distances (a .n) (t .size), l .pass .testsBound, l .pass .nextHigh))
 
 test-outcome-requires : tie.Need-test-outcome-requires
 test-outcome-requires c κs =
@@ -29,7 +28,7 @@ test-outcome-requires c κs =
     let t = accepted (a .n) (a .table .now) (p .0) in (
       ap length (c .before .before .before .count-test .ensures) ∙ (countTest-length (a .n) (a .table .now) (a .i .0) (a .m .0) ∙ t .long),
       p .1,
-      rw (c .before .before .before .before .before .lookup .ensures) (station-below (a .n) (a .i .0) (a .m .0) (t .size) (p .1) (p .3)),
+      rw (c .before .before .before .before .before .lookup .ensures) (p .4),
     )
 
 apply-outcome-requires : tie.Need-apply-outcome-requires
@@ -41,7 +40,7 @@ apply-outcome-requires c κs =
       size-bounds (a .n) (t .size) .1,
       ap length (c .before .before .before .before .before .count-test .ensures) ∙ (countTest-length (a .n) (a .table .now) (a .i .0) (a .m .0) ∙ t .long),
       p .1,
-      rw e (station-below (a .n) (a .i .0) (a .m .0) (t .size) (p .1) (p .3)),
+      rw e (p .4),
       λ q. station-apart (a .i .0) (a .m .0) (p .2) (q ∙ e),
     )
 

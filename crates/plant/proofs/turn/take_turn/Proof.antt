@@ -1,13 +1,14 @@
--- `turn::take_turn` meets its contract: the next distance is at least 1, and a test is made where the distance found is below n.
+-- `turn::take_turn` meets its contract: the next distance is at least 1, and a test is made where the distance found is one of the plant's.
 -- Assumes nothing.
 use mathlib.Core.Path.{refl}
 use native.Mathlib.Omega.{arith}
 use borrow.Author.Needs.{needs}
 use borrow.Author.Tests.{lt-ltb, le-ltb}
 use Rattle.station.proofs.Refusals.{accepted}
+use Rattle.station.proofs.Sizes.{size-bounds, size-distances}
 use Rattle.station.proofs.CellLaws.{accepted-line}
 use Rattle.plant.specs.Turn.{makesTest, turn, turnTested, turnOutcome}
-use Rattle.plant.proofs.NextTest.{nextTest-low}
+use Rattle.plant.proofs.NextTest.{nextTest-low, test-station}
 use Rattle.plant.proofs.turn.take_turn.Statement.{statement}
 use Rattle.plant.proofs.turn.take_turn.Tie as tie
 
@@ -15,13 +16,20 @@ next-test-requires : tie.Need-next-test-requires
 next-test-requires c κs =
     let a = c .before .before .args in
     let p = c .before .before .pre in
-    (accepted (a .n) (a .table .now) (p .0) .long, p .1)
+    let t = accepted (a .n) (a .table .now) (p .0) in
+    (size-bounds (a .n) (t .size) .1, (t .long, p .1))
+
+distances-requires : tie.Need-distances-requires
+distances-requires c κs =
+    let a = c .before .before .before .args in
+    omega (arith, size-bounds (a .n) (accepted (a .n) (a .table .now) (c .before .before .before .pre .0) .size))
 
 finish-pass-requires : tie.Need-finish-pass-requires
 finish-pass-requires c κs =
     let a = c .before .before .before .before .before .before .before .args in
     let p = c .before .before .before .before .before .before .before .pre in
-    (accepted (a .n) (a .table .now) (p .0) .long, p .1)
+    let t = accepted (a .n) (a .table .now) (p .0) in
+    (size-bounds (a .n) (t .size) .1, (t .long, p .1))
 
 returns : tie.Need-returns
 unfolding turn turnTested turnOutcome makesTest
@@ -30,11 +38,21 @@ returns c =
     rw (← c .before .before .before .before .before .before .before .next-test .ensures, e) (refl, (refl, c .before .before .finish-pass .ensures))
 
 make-test-requires : tie.Need-make-test-requires
+unfolding makesTest
 make-test-requires c κs =
     let a = c .before .before .before .before .before .before .before .before .args in
     let p = c .before .before .before .before .before .before .before .before .pre in
-    let l = accepted-line (a .n) (a .table .now) (accepted (a .n) (a .table .now) (p .0)) (a .i .0) (p .1) in
-    (p .0, p .1, omega (arith, c .before .before .before .before .before .next-test .ensures, nextTest-low (a .n) (a .table .now) (a .i .0), l .pass .nextLow), omega arith)
+    let t = accepted (a .n) (a .table .now) (p .0) in
+    let l = accepted-line (a .n) (a .table .now) t (a .i .0) (p .1) in
+    let m = c .before .before .before .before .before .next-test .ensures in
+    let end = c .before .before .before .before .distances .ensures in
+    let e = lt-ltb _ _ (rw (end, m) at (c .before .before .if1 .left)) in (
+      p .0,
+      p .1,
+      omega (arith, m, nextTest-low (a .n) (a .table .now) (a .i .0), l .pass .nextLow),
+      omega (arith, end, size-distances (a .n) (t .size)),
+      rw m (test-station (a .n) (a .table .now) (a .i .0) e (t .long) (p .1)),
+    )
 
 returns-2 : tie.Need-returns-2
 unfolding turn turnTested turnOutcome makesTest
@@ -47,7 +65,7 @@ take-turn-spec =
     tie.close
     (tie.spec
     next-test-requires
-    (λ c κs. search needs)
+    distances-requires
     finish-pass-requires
     (λ c. search needs)
     returns

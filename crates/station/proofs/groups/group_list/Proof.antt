@@ -5,9 +5,12 @@ use native.Mathlib.Omega.{arith}
 use borrow.Author.Needs.{needs}
 use Rattle.station.specs.Calls.{groupAfter}
 use Rattle.station.proofs.Refusals.{unless-refused, unless-accepted, group-zero}
-use Rattle.station.proofs.Sizes.{size-dimension}
+use Rattle.station.proofs.Sizes.{size-bounds, size-dimension}
 use Rattle.station.proofs.groups.group_list.Statement.{statement}
 use Rattle.station.proofs.groups.group_list.Tie as tie
+
+cast-write-group : tie.Need-cast-write-group
+cast-write-group c = omega (arith, size-bounds _ (group-zero _ _ _ _ (sym (c .before .group-number .ensures) ∙ c .if1 .taken) .0))
 
 write-group-requires : tie.Need-write-group-requires
 write-group-requires c κs =
@@ -26,4 +29,4 @@ returns-2 c = (c .before .group-number .ensures, unless-refused _ _ _ _ (c .befo
 
 pub group-list-spec : {M : Type 1} → statement M
 group-list-spec =
-    tie.close (tie.spec (λ c κs. search needs) write-group-requires (λ c. search needs) returns returns-2)
+    tie.close (tie.spec (λ c κs. search needs) cast-write-group write-group-requires (λ c. search needs) returns returns-2)

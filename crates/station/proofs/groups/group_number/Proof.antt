@@ -37,9 +37,14 @@ returns-4 c =
       lt-ltb _ _ (c .if4 .taken),
     )
 
-width-of-requires : tie.Need-width-of-requires
-width-of-requires c κs =
-    omega (arith, size-dimension _ (sym (c .before .before .before .before .before .before .before .before .is-size .ensures) ∙ not-false _ (c .before .before .before .before .before .before .before .if1 .left)))
+cast-group-length : tie.Need-cast-group-length
+cast-group-length c =
+    omega (arith, size-bounds _ (sym (c .before .before .before .before .before .before .before .before .is-size .ensures) ∙ not-false _ (c .before .before .before .before .before .before .before .if1 .left)))
+
+group-length-requires : tie.Need-group-length-requires
+group-length-requires c κs =
+    let size = sym (c .before .before .before .before .before .before .before .before .is-size .ensures) ∙ not-false _ (c .before .before .before .before .before .before .before .if1 .left) in
+    omega (arith, size-dimension _ size)
 
 pub group-number-spec : {M : Type 1} → statement M
 group-number-spec =
@@ -53,7 +58,8 @@ group-number-spec =
     cast-dimension-of
     (λ c κs. search needs)
     returns-4
-    width-of-requires
+    cast-group-length
+    group-length-requires
     (λ c. search needs)
     (λ c. search (needs, group-long))
     (λ c. search (needs, group-fits)))

@@ -1,12 +1,11 @@
 -- `groups::width_of` meets its contract: a shift of 1 by at most 7 is a power of two and loses nothing.
 -- Assumes nothing.
-use mathlib.Core.Path.{_≡_}
+use mathlib.Core.Path.{_≡_, refl}
 use Prim.Native.Nat.{ℕ, zero, suc, _-_, _*_, _^_, _%_, _≤_, _<_}
-use native.Mathlib.Nat.{mod-eq-of-lt, one-mul}
 use native.Mathlib.Omega.{arith}
-use lib.Pow.{pow-mono}
 use borrow.Author.Needs.{needs}
 use Rattle.station.specs.Groups.{width}
+use Rattle.station.proofs.Levels.{shift-one}
 use Rattle.station.proofs.groups.width_of.Statement.{statement}
 use Rattle.station.proofs.groups.width_of.Tie as tie
 
@@ -15,9 +14,8 @@ unfolding width
 shifted zero p h = absurd (omega arith)
 shifted (suc k) p h =
     let e : suc k - 1 ≡ k = omega arith in
-    let b : 2 ^ k ≤ 2 ^ 7 = pow-mono {i = k} {j = 7} (omega arith) in
-    let m : 1 * 2 ^ (suc k - 1) % 256 ≡ 2 ^ k = rw (e, one-mul) (mod-eq-of-lt (omega arith)) in
-    (m, omega arith)
+    let b = shift-one k (omega arith) in
+    rw (e, b .0) (refl, b .1)
 
 returns : tie.Need-returns
 returns c = shifted (c .before .args .s .0) (c .before .pre .0) (c .before .pre .1)

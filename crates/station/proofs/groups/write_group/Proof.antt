@@ -1,32 +1,53 @@
--- `groups::write_group` meets its contract: the places passed so far hold the group's members.
+-- `groups::write_group` meets its contract: the stations at the places passed so far stand at the front of the list.
 -- Assumes nothing.
-use mathlib.Core.Path.{_≡_, _∙_, ap}
-use Prim.Native.Nat.{ℕ, _+_, _-_, _≤_}
+use mathlib.Core.Path.{_≡_, refl, sym, _∙_, ap}
+use Prim.Native.Nat.{_-_, _≤_}
 use native.Mathlib.Omega.{arith}
 use lib.ListN.{length}
 use borrow.Author.Needs.{needs}
-use Rattle.station.specs.Search.{listOf}
-use Rattle.station.specs.Groups.{stationAt, member, group}
-use Rattle.station.proofs.Loops.{loops, filled, filled-done}
+use Rattle.station.specs.Search.{keep, listOf}
+use Rattle.station.proofs.KeepLaws.{packed, packed-done}
+use Rattle.station.proofs.GroupWalk.{found, found-all, found-le, found-count, found-put}
 use Rattle.station.proofs.groups.write_group.Statement.{statement}
 use Rattle.station.proofs.groups.write_group.Tie as tie
 
--- member k of the group of i whose least distance is w
-abbrev placed : ℕ → ℕ → ℕ → ℕ
-placed i w k = stationAt i (w + k)
-
 abbrev Inv-loop : tie.InvT-loop
-Inv-loop i list₀ w k₀ list k = (k ≤ w) × (w ≤ 128) × (length list₀ ≡ w) × (length list ≡ length list₀) × (list ≡ filled (placed (i .0) w) k list₀)
+Inv-loop n i list₀ w count₀ k₀ list count k =
+    (k ≤ w) × (w ≤ 128) × (length list₀ ≡ length (found n (i .0) w w)) × (length list ≡ length list₀)
+    × (count ≡ length (found n (i .0) w k)) × (list ≡ packed (found n (i .0) w k) list₀)
 
 abbrev μ-loop : tie.MeasureT-loop
-μ-loop i list₀ w k₀ list k = w - k
+μ-loop n i list₀ w count₀ k₀ list count k = w - k
+
+loop-holds : tie.Need-loop-holds Inv-loop μ-loop
+unfolding found keep listOf
+loop-holds c =
+    let w = c .width-of .ensures in
+    (omega arith, w .1, c .before .before .pre .1 ∙ sym (ap length (found-all _ _ _ _ (w .0))), refl, refl, refl)
+
+put-member-requires : tie.Need-put-member-requires Inv-loop μ-loop
+put-member-requires c κs =
+    let i = c .before .before .before .loop .inv in
+    omega (arith, i, found-le _ _ _ _ _ (i .4))
+
+loop-again : tie.Need-loop-again Inv-loop μ-loop
+loop-again c =
+    let i = c .before .before .before .before .before .before .loop .inv in
+    let p = c .before .before .put-member .ensures in
+    let x = c .before .before .before .before .lookup .ensures in (
+      omega arith,
+      i .1,
+      i .2,
+      omega arith,
+      found-count _ _ _ _ _ x _ _ (i .4) (p .0),
+      found-put _ _ _ _ _ x _ _ _ _ (omega arith) (i .2) (i .5) (i .4) (p .1),
+    )
 
 returns : tie.Need-returns Inv-loop μ-loop
-unfolding group member
 returns c =
     let i = c .before .loop .inv in
-    filled-done (placed (c .before .before .before .before .args .i .0) (c .before .before .width-of .result)) _ _ _ _ (i .4) (i .3) (i .2) (omega arith) (omega arith)
-    ∙ ap (λ (w : ℕ). listOf (placed (c .before .before .before .before .args .i .0) w) w) (c .before .before .width-of .ensures .0)
+    let all : c .before .loop .k ≡ c .before .before .width-of .result = omega arith in
+    rw all at (i .5) ∙ packed-done _ _ (i .2) ∙ found-all _ _ _ _ (c .before .before .width-of .ensures .0)
 
 pub write-group-spec : {M : Type 1} → statement M
 write-group-spec =
@@ -35,13 +56,12 @@ write-group-spec =
     Inv-loop
     μ-loop
     (λ c κs. search needs)
-    (λ c. search (needs, loops))
-    (λ c. search (needs, loops))
-    (λ c κs. search (needs, loops))
-    (λ c. search (needs, loops))
-    (λ c. search (needs, loops))
-    (λ c. search (needs, loops))
-    (λ c. search (needs, loops))
-    (λ c. search (needs, loops))
-    (λ c. search (needs, loops))
+    loop-holds
+    (λ c. search needs)
+    (λ c κs. search needs)
+    put-member-requires
+    (λ c. search needs)
+    (λ c. search needs)
+    loop-again
+    (λ c. search needs)
     returns)
