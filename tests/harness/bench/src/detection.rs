@@ -3,6 +3,7 @@
 
 use crate::bounds::exact;
 use crate::contender::run_library;
+use shared::groups::dimension;
 use shared::random::Random;
 use shared::schedule::{Entry, CRASH, TURN};
 use shared::table;
@@ -48,7 +49,7 @@ pub fn rounds_until_known(n: usize, dead: &[usize], order: Order, random: &mut R
 /// N is 2. The number of live boards is drawn from 2 to a power of two that is
 /// drawn first, since few live boards take the most rounds.
 pub fn random_dead(n: usize, random: &mut Random) -> Vec<usize> {
-    let power = 2 << random.below(n.ilog2() as usize);
+    let power = 2 << random.below(dimension(n) as usize);
     let most = power.min(n - 1).max(2);
     let live = 2 + random.below(most - 1);
     let mut boards = random.order(n);

@@ -7,6 +7,7 @@ use crate::counts::{Counts, LEAST, SIZES};
 use crate::faults::{self, Fault};
 use crate::outcome::{Outcome, Place, Side};
 use crate::report;
+use crate::size_faults;
 use crate::trial::Trial;
 
 /// How many calls are altered.
@@ -37,7 +38,7 @@ pub fn self_test(seed: u64) -> Result<usize, String> {
     }
     all_places_altered(&altered)?;
     let mut noticed = altered.len();
-    for fault in faults::ALL {
+    for fault in faults::ALL.into_iter().chain(size_faults::ALL) {
         noticed += stand_in(seed, fault)?;
     }
     let lowered = lowered_counts();
@@ -197,5 +198,30 @@ fn lowered_counts() -> Vec<Counts> {
     for bytes in 0..4 {
         lower(&|counts| &mut counts.empty[bytes]);
     }
+    lower_absent(&mut lower);
     all
+}
+
+/// Lowers each count of absent numbers and refused sizes in turn.
+fn lower_absent(lower: &mut dyn FnMut(&dyn Fn(&mut Counts) -> &mut u64)) {
+    for size in 0..5 {
+        lower(&|counts| &mut counts.absent.sizes[size]);
+    }
+    for length in 0..=32 {
+        lower(&|counts| &mut counts.absent.groups[length]);
+    }
+    for wrong in 0..4 {
+        lower(&|counts| &mut counts.absent.lengths[wrong]);
+    }
+    for border in 0..4 {
+        for finished in 0..2 {
+            lower(&|counts| &mut counts.absent.borders[finished][border]);
+        }
+    }
+    for due in 0..2 {
+        lower(&|counts| &mut counts.absent.due[due]);
+    }
+    for turn in 0..3 {
+        lower(&|counts| &mut counts.absent.turns[turn]);
+    }
 }
