@@ -188,14 +188,14 @@ fn line_of(n: usize, table: &mut [u8], i: usize) -> &mut [u8] {
     &mut table[i * (n + HEAD)..][..n + HEAD]
 }
 
-/// Step 1: whether a station stands at distance m, and i is the first station
-/// that its row does not suspect in that one's group at the level of m. The row
-/// has a byte for each station.
+/// Step 1: whether i is the first station that its row does not suspect in
+/// the group of the station at distance m, at the level of m, and a station
+/// stands there. The row has a byte for each station.
 fn is_due(row: &[u8], i: usize, m: usize) -> bool {
     let j = i ^ m;
     let width = 1 << m.ilog2();
     let mut group = (width..2 * width).map(|distance| j ^ distance);
-    j < row.len() && group.find(|x| row.get(*x) == Some(&0)) == Some(i)
+    group.find(|x| row.get(*x) == Some(&0)) == Some(i) && j < row.len()
 }
 
 /// Steps 4 and 5: gives the outcome.

@@ -161,67 +161,80 @@ fn all_places_altered(altered: &Altered) -> Result<(), String> {
     Ok(())
 }
 
-/// Counts of which one is too low, for each that must not be low.
+/// Counts of which one is too low.
+struct Lowered(Vec<Counts>);
+
+/// For each count that must not be low, one with this count lowered.
 fn lowered_counts() -> Vec<Counts> {
-    let mut all = Vec::new();
-    let mut lower = |one: &dyn Fn(&mut Counts) -> &mut u64| {
-        let mut counts = Counts::all(LEAST);
-        *one(&mut counts) -= 1;
-        all.push(counts);
-    };
-    for kind in Kind::ALL {
-        for number in kind.possible_numbers() {
-            lower(&|counts| &mut counts.numbers[kind as usize][usize::from(*number)]);
-        }
-        for size in 0..SIZES {
-            lower(&|counts| &mut counts.sizes[kind as usize][size]);
-        }
-    }
-    for size in 0..SIZES {
-        for outcome in 0..5 {
-            lower(&|counts| &mut counts.runs[size].outcomes[outcome]);
-        }
-        for status in 0..4 {
-            lower(&|counts| &mut counts.runs[size].statuses[status]);
-        }
-        lower(&|counts| &mut counts.runs[size].rounds);
-    }
-    for tally in 0..2 {
-        lower(&|counts| &mut counts.full_tallies[tally]);
-    }
-    for status in 1..=3 {
-        lower(&|counts| &mut counts.closed_leaving[status - 1]);
-    }
-    lower(&|counts| &mut counts.late_replies);
-    lower(&|counts| &mut counts.long_runs);
-    lower(&|counts| &mut counts.kept_tallies);
-    for bytes in 0..4 {
-        lower(&|counts| &mut counts.empty[bytes]);
-    }
-    lower_absent(&mut lower);
-    all
+    let mut all = Lowered(Vec::new());
+    all.lower_by_size();
+    all.lower_singly();
+    all.lower_absent();
+    all.0
 }
 
-/// Lowers each count of absent numbers and refused sizes in turn.
-fn lower_absent(lower: &mut dyn FnMut(&dyn Fn(&mut Counts) -> &mut u64)) {
-    for size in 0..5 {
-        lower(&|counts| &mut counts.absent.sizes[size]);
+impl Lowered {
+    fn lower(&mut self, one: impl Fn(&mut Counts) -> &mut u64) {
+        let mut counts = Counts::all(LEAST);
+        *one(&mut counts) -= 1;
+        self.0.push(counts);
     }
-    for length in 0..=32 {
-        lower(&|counts| &mut counts.absent.groups[length]);
-    }
-    for wrong in 0..4 {
-        lower(&|counts| &mut counts.absent.lengths[wrong]);
-    }
-    for border in 0..4 {
-        for finished in 0..2 {
-            lower(&|counts| &mut counts.absent.borders[finished][border]);
+
+    fn lower_by_size(&mut self) {
+        for kind in Kind::ALL {
+            for number in kind.possible_numbers() {
+                self.lower(|counts| &mut counts.numbers[kind as usize][usize::from(*number)]);
+            }
+            for size in 0..SIZES {
+                self.lower(|counts| &mut counts.sizes[kind as usize][size]);
+            }
+        }
+        for size in 0..SIZES {
+            for outcome in 0..5 {
+                self.lower(|counts| &mut counts.runs[size].outcomes[outcome]);
+            }
+            for status in 0..4 {
+                self.lower(|counts| &mut counts.runs[size].statuses[status]);
+            }
+            self.lower(|counts| &mut counts.runs[size].rounds);
         }
     }
-    for due in 0..2 {
-        lower(&|counts| &mut counts.absent.due[due]);
+
+    fn lower_singly(&mut self) {
+        for tally in 0..2 {
+            self.lower(|counts| &mut counts.full_tallies[tally]);
+        }
+        for status in 1..=3 {
+            self.lower(|counts| &mut counts.closed_leaving[status - 1]);
+        }
+        self.lower(|counts| &mut counts.late_replies);
+        self.lower(|counts| &mut counts.long_runs);
+        self.lower(|counts| &mut counts.kept_tallies);
+        for bytes in 0..4 {
+            self.lower(|counts| &mut counts.empty[bytes]);
+        }
     }
-    for turn in 0..3 {
-        lower(&|counts| &mut counts.absent.turns[turn]);
+
+    /// What absent numbers bring with them, and sizes that are refused.
+    fn lower_absent(&mut self) {
+        for size in 0..5 {
+            self.lower(|counts| &mut counts.absent.sizes[size]);
+        }
+        for length in 0..=32 {
+            self.lower(|counts| &mut counts.absent.groups[length]);
+        }
+        for wrong in 0..4 {
+            self.lower(|counts| &mut counts.absent.lengths[wrong]);
+        }
+        for border in 0..4 {
+            self.lower(|counts| &mut counts.absent.borders[0][border]);
+            self.lower(|counts| &mut counts.absent.borders[1][border]);
+        }
+        for due in 0..2 {
+            self.lower(|counts| &mut counts.absent.due[due]);
+        }
+        for turn in 0..3 {
+            self.lower(|counts| &mut counts.absent.turns[turn]);
+        }
     }
 }
