@@ -9,7 +9,7 @@ use crate::call::{Call, Kind, Name};
 use crate::faults::Fault;
 use crate::outcome::Outcome;
 
-pub const ALL: [Fault; 13] = [
+pub const ALL: [Fault; 14] = [
     ("size 1 is taken", |call, outcome| {
         take_size(1, call, outcome)
     }),
@@ -56,20 +56,27 @@ pub const ALL: [Fault; 13] = [
         },
     ),
     ("a list for an empty group is refused", |call, outcome| {
-        if call.kind == Kind::GroupList && call.buffers.get(Name::List).is_empty() {
-            outcome.number = outcome.number.max(13);
+        let is_empty = call.buffers.get(Name::List).is_empty();
+        if (call.kind, outcome.number) == (Kind::GroupList, 0) && is_empty {
+            outcome.number = 13;
         }
     }),
     ("absent numbers are taken for the first", |call, outcome| {
         assign(call, outcome, |row, i, m| {
-            row.get(i ^ m).is_some() && ahead(i, m).all(|k| row.get(k) == Some(&1))
+            i ^ m < row.len() && ahead(i, m).all(|k| row.get(k) == Some(&1))
         });
     }),
     ("absent numbers are tested", |call, outcome| {
-        assign(call, outcome, |row, i, m| {
-            ahead(i, m).all(|k| row.get(k) != Some(&0))
-        });
+        assign(call, outcome, leads);
     }),
+    (
+        "the search for a due distance ends at n",
+        |call, outcome| {
+            assign(call, outcome, |row, i, m| {
+                m < row.len() && i ^ m < row.len() && leads(row, i, m)
+            });
+        },
+    ),
     ("a row has 2^d bytes", |call, outcome| {
         if call.kind == Kind::Row && outcome.number == 0 {
             let length = distances(call.numbers.n);
@@ -121,6 +128,12 @@ fn figure(outcome: &Outcome, name: Name) -> usize {
         [] => 0,
         _ => place.figure(),
     }
+}
+
+/// Whether i suspects each station ahead of it in the group of the number at
+/// distance m.
+fn leads(row: &[u8], i: usize, m: usize) -> bool {
+    ahead(i, m).all(|k| row.get(k) != Some(&0))
 }
 
 /// An accepted assignment by another rule of which distances are due: of a

@@ -155,12 +155,12 @@ fn main_table(results: &[Results]) -> String {
         "## Random plants
 
 d is the logarithm of N to base 2, rounded up. At least two boards are live. Their number is drawn from 2 to a power of two that is drawn
-first from 2 to 2^d, but to N − 1 at most, since few live boards take the most rounds; then which ones. At least one board is dead, but for
-N = 2, where there is nothing to find and no round is counted. Each turn is taken by any live board that has not finished its pass, at random.
+first from 2 to 2^d, since few live boards take the most rounds; then which ones. At least one board is dead, but for N = 2, where there is
+nothing to find and no round is counted. Each turn is taken by any live board that has not finished its pass, at random.
 
 Demand 3 states that d·d rounds suffice. The proof ([DEMAND-3.md](DEMAND-3.md)) shows that the exact wait f(d) suffices: d rounds for d ≤ 3,
-and 4 + ⌊(d − 3)²/2⌋ from 4 on. It is exact for 4, 8, 16, 32 and 64 boards; for 2, with both live, there is nothing to find. For sizes
-between the powers of two it suffices, and fewer rounds may do. Request C-22 asks for 1 + d(d − 1)/2, which is nowhere less.
+and 4 + ⌊(d − 3)²/2⌋ from 4 on. It is exact for 4, 8, 16, 32 and 64 boards, and wherever the greatest below equals it; for 2, with both
+live, there is nothing to find. Request C-22 asks for 1 + d(d − 1)/2, which is nowhere less.
 
 | N | d | trials | least | mean | 99th percentile | greatest | f(d) | 1 + d(d − 1)/2 | d·d |
 |--:|--:|--:|--:|--:|--:|--:|--:|--:|--:|
