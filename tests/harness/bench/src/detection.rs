@@ -2,7 +2,7 @@
 //! ones. Everything is done by the library, one entry a run.
 
 use crate::bounds::exact;
-use crate::contender::run_library;
+use crate::contender::run_entry;
 use shared::groups::dimension;
 use shared::random::Random;
 use shared::schedule::{Entry, CRASH, TURN};
@@ -126,13 +126,6 @@ impl Plant {
         let dead: Vec<u8> = lines().map(|line| u8::from(!line.is_live())).collect();
         lines().all(|line| !line.is_live() || line.row() == dead)
     }
-}
-
-/// Runs one entry, which must be taken; gives the rounds it closed.
-fn run_entry(n: usize, table: &mut [u8], entry: Entry) -> u32 {
-    let answer = run_library(n, table, &entry, &mut [0; 4]);
-    assert_eq!((answer.number, answer.taken), (0, 1));
-    answer.rounds
 }
 
 /// The first board of the order that is ready.
