@@ -1,6 +1,6 @@
-/* The vCube watch for C and C++: the calls of the document "The vCube watch on a gin's plant cable" (document 01). The library behind them
- * (crates/vcube, crates/plant, crates/station) is proved in Rattle to do what its definitions say; this header and the compiler's back end
- * are not part of the proof.
+/* The vCube watch for C and C++: the calls of the document "The vCube watch on a gin's plant cable" (document 01), with the sizes of
+ * request C-11 of document 02. The library behind them (crates/vcube, crates/plant, crates/station) is proved in Rattle to do what its
+ * definitions say; this header and the compiler's back end are not part of the proof.
  *
  * Build the archive with `rt staticlib vcube` and link target/staticlib/libvcube.a (x86-64 Linux), or install it by bindings/c/install.
  *
@@ -10,15 +10,16 @@
  * a call puts its figures, must each point to a variable of that type, not NULL. No two buffers or variables of one call may overlap. The
  * library keeps no state and no pointer: calls may run at once in several threads, if none writes what another uses.
  *
- * Words. The distance of two stations is the exclusive or of their numbers. The group of station i at level s holds, in this order, the
- * stations i ^ (2^(s - 1) + k) for k from 0 to 2^(s - 1) - 1; the level of a distance m is the s with 2^(s - 1) <= m < 2^s. Distance m is
- * due for i if i is the first station that i does not suspect in the group of j at level s, where j is at distance m from i and s is the
- * level of m. A station suspects another by its own row.
+ * Words. A plant has n stations, 2 to 64, numbered from 0; d is n's logarithm to base 2, rounded up. The distance of two stations is the
+ * exclusive or of their numbers, which is below 2^d. The group of station i at level s (1 to d) holds, in this order, those of the numbers
+ * i ^ (2^(s - 1) + k), for k from 0 to 2^(s - 1) - 1, that are below n; it may be empty. The level of a distance m is the s with
+ * 2^(s - 1) <= m < 2^s. Distance m is due for i if a station j is at distance m from i, and i is the first station that i does not suspect
+ * in the group of j at the level of m. A station suspects another by its own row.
  *
  * The table has n lines of n + 4 bytes, in station order. Bytes 0 to 3 of a line are its status (enum vcube_status), its next distance (1
- * to n), whether its pass is finished (0 or 1), and the tests made in this round. Then comes the station's row: byte k is 1 if it suspects
- * station k, else 0. The line rules, for lines that are not live too: each byte in its range; the tests at most the next distance less 1; a
- * finished line has next distance n; a station's byte about itself is 0.
+ * to 2^d), whether its pass is finished (0 or 1), and the tests made in this round. Then comes the station's row: byte k is 1 if it
+ * suspects station k, else 0. The line rules, for lines that are not live too: each byte in its range; the tests at most the next distance
+ * less 1; a finished line has next distance 2^d; a station's byte about itself is 0.
  *
  * Each call returns 0 or the number of its refusal (enum vcube_refusal). A refused call changes no byte of table, list or sheet, except
  * that a run which stops at an entry (7 to 11) keeps the work of the entries before it. What becomes of the figures is said of each call.
@@ -30,9 +31,9 @@
 #include <stdint.h>
 
 #define VCUBE_VERSION_MAJOR 0
-#define VCUBE_VERSION_MINOR 2
+#define VCUBE_VERSION_MINOR 3
 #define VCUBE_VERSION_PATCH 0
-#define VCUBE_VERSION "0.2.0"
+#define VCUBE_VERSION "0.3.0"
 
 #ifdef __cplusplus
 extern "C" {
@@ -41,13 +42,16 @@ extern "C" {
 /* The length of a table of n stations. */
 #define VCUBE_TABLE_LENGTH(n) ((size_t)(n) * ((size_t)(n) + 4))
 
+/* The length of the longest group list. */
+#define VCUBE_LONGEST_GROUP 32
+
 /* Stands in the sheet where no station was tested. */
 #define VCUBE_NO_STATION 255
 
 /* What a call returns, in the order in which refusals are checked. */
 enum vcube_refusal {
     VCUBE_ACCEPTED = 0,
-    VCUBE_REFUSED_SIZE = 1,             /* the size n is none of 2, 4, 8, 16, 32, 64 */
+    VCUBE_REFUSED_SIZE = 1,             /* the size n is not from 2 to 64 */
     VCUBE_REFUSED_TABLE_LENGTH = 2,     /* the table's length is not n * (n + 4) */
     VCUBE_REFUSED_LINE_RULE = 3,        /* a line of the table breaks a line rule */
     VCUBE_REFUSED_ALL_FINISHED = 4,     /* some station is live and every live one is finished */
@@ -58,7 +62,7 @@ enum vcube_refusal {
     VCUBE_REFUSED_STATION = 9,          /* the station number is n or more */
     VCUBE_REFUSED_NOT_LIVE = 10,        /* the station is not live */
     VCUBE_REFUSED_PASS_FINISHED = 11,   /* the kind is 1 or 2 and the station has finished its pass */
-    VCUBE_REFUSED_LEVEL = 12,           /* the level is 0 or above d, n's logarithm to base 2 */
+    VCUBE_REFUSED_LEVEL = 12,           /* the level is 0 or above d */
     VCUBE_REFUSED_LIST_LENGTH = 13      /* the lent list has not the length stated */
 };
 
@@ -90,9 +94,26 @@ enum vcube_outcome {
  * Refusals: 1, 2. */
 uint8_t vcube_fresh_table(size_t n, uint8_t *table, size_t table_length);
 
-/* Group list: the 2^(level - 1) members of the station's group at that level, in order, into a list of just that length.
+/* Group list: the members of the station's group at that level, in order, into a list of just their number, vcube_group_length. A list of
+ * length 0 is accepted where the group is empty.
  * Refusals: 1, 9, 12, 13. */
 uint8_t vcube_group_list(size_t n, size_t station, size_t level, uint8_t *list, size_t list_length);
+
+/* The length of a group list: how many members the station's group at that level has, 0 to 2^(level - 1). It is computed here, not by the
+ * library, and has no meaning where the library refuses the size, the station or the level. */
+static inline size_t vcube_group_length(size_t n, size_t station, size_t level)
+{
+    size_t half, first;
+
+    if (level < 1 || level > 6)
+        return 0;
+    /* The members are those of the numbers from first to first + half - 1 that are below n. */
+    half = (size_t)1 << (level - 1);
+    first = (station ^ half) & ~(half - 1);
+    if (n <= first)
+        return 0;
+    return n - first < half ? n - first : half;
+}
 
 /* Assignment: the distances due for a live station, ascending, into a list of n - 1 bytes, the rest 0; how many into *count, which is 0
  * where the call is refused.

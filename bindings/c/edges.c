@@ -1,4 +1,4 @@
-/* What vcube.h says of NULL with length 0, of figures after a refusal, and of its version. */
+/* What vcube.h says of NULL with length 0, of figures after a refusal, of a group's length, and of its version. */
 
 #include "vcube.h"
 
@@ -26,6 +26,7 @@ static void null_buffers(const uint8_t *table)
 
     expect(vcube_fresh_table(N, NULL, 0) == VCUBE_REFUSED_TABLE_LENGTH, "fresh table: a table of length 0 gets 2");
     expect(vcube_group_list(N, 0, 1, NULL, 0) == VCUBE_REFUSED_LIST_LENGTH, "group list: a list of length 0 gets 13");
+    expect(vcube_group_list(3, 2, 1, NULL, 0) == VCUBE_ACCEPTED, "group list: a list of length 0 is accepted for an empty group");
     expect(vcube_assignment(N, NULL, 0, 0, list, 1, &count) == VCUBE_REFUSED_TABLE_LENGTH, "assignment: a table of length 0 gets 2");
     expect(count == 0, "assignment: the count of a refused call is 0");
     count = ANY;
@@ -34,6 +35,39 @@ static void null_buffers(const uint8_t *table)
     expect(count == 0, "assignment: the count of a refused call is 0");
     expect(vcube_row(N, NULL, 0, 0, &start, &length) == VCUBE_REFUSED_TABLE_LENGTH, "row: a table of length 0 gets 2");
     expect(start == 0 && length == 0, "row: start and length of a refused call are 0");
+}
+
+/* Whether the library accepts a group list of the right length and of no other. */
+static int accepts_only(size_t n, size_t station, size_t level, size_t right)
+{
+    uint8_t list[VCUBE_LONGEST_GROUP + 1];
+
+    for (size_t length = 0; length <= sizeof list; length++) {
+        uint8_t number = vcube_group_list(n, station, level, length == 0 ? NULL : list, length);
+        if (number != (length == right ? VCUBE_ACCEPTED : VCUBE_REFUSED_LIST_LENGTH))
+            return 0;
+    }
+    return 1;
+}
+
+/* vcube_group_length, for every size, station and level. */
+static void group_lengths(void)
+{
+    int wrong = 0, empty = 0, longest = 0;
+
+    for (size_t n = 2; n <= 64; n++)
+        for (size_t station = 0; station < n; station++)
+            for (size_t level = 1; (size_t)1 << (level - 1) < n; level++) {
+                size_t length = vcube_group_length(n, station, level);
+                wrong += !accepts_only(n, station, level, length);
+                empty += length == 0;
+                longest += length == VCUBE_LONGEST_GROUP;
+            }
+    expect(wrong == 0, "group list: a list of vcube_group_length is accepted, and no other");
+    expect(empty > 0, "group length: some groups are empty");
+    expect(longest > 0, "group length: some groups have VCUBE_LONGEST_GROUP members");
+    expect(vcube_group_length(64, 0, 0) == 0, "group length: level 0 has none");
+    expect(vcube_group_length(64, 0, SIZE_MAX) == 0, "group length: any level is taken");
 }
 
 /* A run with this table, schedule and sheet returns the number, takes no entry and leaves the tally as it was. */
@@ -72,5 +106,6 @@ int main(void)
     expect(vcube_fresh_table(N, table, sizeof table) == VCUBE_ACCEPTED, "a fresh table");
     null_buffers(table);
     null_in_runs(table);
+    group_lengths();
     return failures != 0;
 }

@@ -1,4 +1,4 @@
-/* Document 01's example for N = 4, by the C interface of the library. */
+/* Document 01's example for N = 4, by the C interface of the library, and a group in a plant of 11. */
 
 #include "vcube.h"
 
@@ -53,15 +53,16 @@ static void run(void)
     printf("rounds %" PRIu32 " tests %" PRIu32 " refused %d at %zu\n", rounds, tests, number, taken);
 }
 
-/* Prints the group of station 3 at level 2, which has 2 members. */
-static int print_group(void)
+/* Prints a station's group in a plant of n. */
+static int print_group(size_t n, size_t station, size_t level)
 {
-    uint8_t list[2];
+    uint8_t list[VCUBE_LONGEST_GROUP];
+    size_t length = vcube_group_length(n, station, level);
 
-    if (refused("group list", vcube_group_list(N, 3, 2, list, sizeof list)))
+    if (refused("group list", vcube_group_list(n, station, level, list, length)))
         return 1;
-    printf("group of 3 at level 2: ");
-    print_bytes(list, sizeof list);
+    printf("of %zu stations, group of %zu at level %zu: ", n, station, level);
+    print_bytes(list, length);
     return 0;
 }
 
@@ -95,7 +96,7 @@ int main(void)
     if (refused("fresh table", vcube_fresh_table(N, table, sizeof table)))
         return 1;
     run();
-    if (print_group() || print_due())
+    if (print_group(N, 3, 2) || print_group(11, 2, 4) || print_due())
         return 1;
     for (size_t station = 0; station < N; station++)
         if (print_row(station))

@@ -1,4 +1,4 @@
-//! A simulator of the vCube watch, written from document 01 alone.
+//! A simulator of the vCube watch, written from documents 01 and 02 alone.
 //!
 //! Rows are 64-bit sets and lines are structs. They are decoded from the
 //! lent byte table and encoded back into it.

@@ -151,7 +151,7 @@ fn head_in_range(size: Size, bytes: &[u8]) -> bool {
     bytes[0] <= 3 && 1 <= bytes[1] && bytes[1] <= size.end().number() && bytes[2] <= 1
 }
 
-/// Byte 3 is at most byte 1 less 1; a finished line has next distance N.
+/// Byte 3 is at most byte 1 less 1; a finished line has next distance 2^d.
 fn head_agrees(size: Size, bytes: &[u8]) -> bool {
     bytes[3] < bytes[1] && (bytes[2] == 0 || bytes[1] == size.end().number())
 }

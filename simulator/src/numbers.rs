@@ -1,17 +1,17 @@
-//! The size N, and stations, distances and levels as types of their own.
+//! The size n, and stations, distances and levels as types of their own.
 
 use crate::refusal::Refusal;
 
-/// The size N: 2, 4, 8, 16, 32 or 64.
+/// The size n, 2 to 64.
 #[derive(Clone, Copy, Debug, PartialEq, Eq)]
 pub struct Size(u8);
 
-/// A station number.
+/// The number of a station of the plant, below n.
 #[derive(Clone, Copy, Debug, PartialEq, Eq)]
 pub struct Station(u8);
 
 /// A distance: the exclusive or of two station numbers.
-/// As a next distance it can also be N.
+/// As a next distance it can also be 2^d.
 #[derive(Clone, Copy, Debug, PartialEq, Eq, PartialOrd, Ord)]
 pub struct Distance(u8);
 
@@ -22,7 +22,7 @@ pub struct Level(u8);
 impl Size {
     pub fn new(n: usize) -> Result<Size, Refusal> {
         match n {
-            2 | 4 | 8 | 16 | 32 | 64 => Ok(Size(n as u8)),
+            2..=64 => Ok(Size(n as u8)),
             _ => Err(Refusal::Size),
         }
     }
@@ -31,9 +31,14 @@ impl Size {
         usize::from(self.0)
     }
 
-    /// d, the logarithm of N to base 2.
+    /// 2^d, the least power of two that is not below n.
+    fn distances(self) -> u8 {
+        self.0.next_power_of_two()
+    }
+
+    /// d, the logarithm of n to base 2, rounded up.
     fn dimension(self) -> u8 {
-        self.0.trailing_zeros() as u8
+        self.distances().trailing_zeros() as u8
     }
 
     pub fn line_length(self) -> usize {
@@ -56,19 +61,24 @@ impl Size {
         Ok(Level(number))
     }
 
-    /// All stations, 0 to N - 1.
+    /// All stations, 0 to n - 1.
     pub fn stations(self) -> impl Iterator<Item = Station> {
         (0..self.0).map(Station)
     }
 
-    /// The distances not below the given one, up to N - 1.
-    pub fn distances_from(self, next: Distance) -> impl Iterator<Item = Distance> {
-        (next.0..self.0).map(Distance)
+    /// The station at this distance from station i, if one stands there.
+    pub fn station_at(self, i: Station, distance: Distance) -> Option<Station> {
+        self.station(i.0 ^ distance.0).ok()
     }
 
-    /// The next distance of a finished line: N.
+    /// The distances not below the given one, up to 2^d - 1.
+    pub fn distances_from(self, next: Distance) -> impl Iterator<Item = Distance> {
+        (next.0..self.distances()).map(Distance)
+    }
+
+    /// The next distance of a finished line: 2^d.
     pub fn end(self) -> Distance {
-        Distance(self.0)
+        Distance(self.distances())
     }
 }
 
@@ -79,11 +89,6 @@ impl Station {
 
     pub fn index(self) -> usize {
         usize::from(self.0)
-    }
-
-    /// The station at this distance from this one.
-    pub fn at(self, distance: Distance) -> Station {
-        Station(self.0 ^ distance.0)
     }
 }
 
@@ -111,14 +116,9 @@ impl Distance {
 }
 
 impl Level {
-    /// The number of members of a group at this level: 2^(s-1).
-    pub fn members(self) -> usize {
-        1 << (self.0 - 1)
-    }
-
     /// The distances of this level: from 2^(s-1) up to but without 2^s.
     pub fn distances(self) -> impl Iterator<Item = Distance> {
-        let first = self.members() as u8;
-        (0..first).map(move |k| Distance(first + k))
+        let first = 1 << (self.0 - 1);
+        (first..2 * first).map(Distance)
     }
 }

@@ -6,7 +6,7 @@ use crate::{fresh_table, run, Answer};
 /// The most entries the program reads.
 const MOST_ENTRIES: usize = 4096;
 
-/// The length of the table for N = 64.
+/// The length of the table for n = 64.
 const LONGEST_TABLE: usize = 4352;
 
 const HEADER: &str = "station tested outcome status\n";

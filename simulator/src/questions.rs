@@ -24,8 +24,8 @@ fn admit_fresh_table(n: usize, table: &[u8]) -> Result<Size, Refusal> {
 /// Group list: refusals 1, 9, 12, 13.
 pub fn group_list(n: usize, station: u8, level: u8, list: &mut [u8]) -> u8 {
     let admitted = admit_group_list(n, station, level, list.len());
-    if let Ok((i, s)) = admitted {
-        for (place, member) in list.iter_mut().zip(group(i, s)) {
+    if let Ok((size, i, s)) = admitted {
+        for (place, member) in list.iter_mut().zip(group(size, i, s)) {
             *place = member.number();
         }
     }
@@ -37,12 +37,12 @@ fn admit_group_list(
     station: u8,
     level: u8,
     length: usize,
-) -> Result<(Station, Level), Refusal> {
+) -> Result<(Size, Station, Level), Refusal> {
     let size = Size::new(n)?;
     let i = size.station(station)?;
     let s = size.level(level)?;
-    Refusal::ListLength.when(length != s.members())?;
-    Ok((i, s))
+    Refusal::ListLength.when(length != group(size, i, s).count())?;
+    Ok((size, i, s))
 }
 
 /// Assignment: refusals 1 to 4, 9, 10, 13. Gives the number and the count.
@@ -71,7 +71,7 @@ fn write_assignment(plant: &Plant, i: Station, list: &mut [u8]) -> usize {
     let due = due_from(plant.size(), i, plant.line(i).row, Distance::FIRST);
     let mut count = 0;
     list.fill(0);
-    for (place, distance) in list.iter_mut().zip(due) {
+    for (place, (distance, _)) in list.iter_mut().zip(due) {
         *place = distance.number();
         count += 1;
     }

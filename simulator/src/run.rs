@@ -159,13 +159,17 @@ impl Watch {
     /// Step 2, and the test it finds.
     fn turn(&mut self, i: Station, late: bool) -> Effect {
         match self.least_due(i) {
-            Some(m) => self.test(i, m, late),
+            Some((m, j)) => {
+                self.count_test(i, m);
+                (Some(j), self.test(i, j, late))
+            }
             None => self.finish_pass(i),
         }
     }
 
-    /// The least due distance not below the next distance of i.
-    fn least_due(&self, i: Station) -> Option<Distance> {
+    /// The least due distance not below the next distance of i, and the station
+    /// that stands there.
+    fn least_due(&self, i: Station) -> Option<(Distance, Station)> {
         let line = self.plant.line(i);
         due_from(self.plant.size(), i, line.row, line.next).next()
     }
@@ -178,17 +182,15 @@ impl Watch {
         (None, Outcome::PassFinished)
     }
 
-    /// Steps 3 to 6.
-    fn test(&mut self, i: Station, m: Distance, late: bool) -> Effect {
-        let j = i.at(m);
-        self.count_test(i, m);
+    /// Steps 4 to 6.
+    fn test(&mut self, i: Station, j: Station, late: bool) -> Outcome {
         let outcome = if self.plant.line(j).is_live() && !late {
             self.reply(i, j)
         } else {
             self.no_reply(i, j)
         };
         self.leave_if_alone(i);
-        (Some(j), outcome)
+        outcome
     }
 
     /// Step 3.

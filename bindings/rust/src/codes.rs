@@ -90,7 +90,7 @@ numbered! {
 impl fmt::Display for Refusal {
     fn fmt(&self, f: &mut fmt::Formatter<'_>) -> fmt::Result {
         f.write_str(match self {
-            Refusal::Size => "the size is none of 2, 4, 8, 16, 32, 64",
+            Refusal::Size => "the size is not from 2 to 64",
             Refusal::TableLength => "the table's length is not n times (n + 4)",
             Refusal::LineRule => "a line of the table breaks a line rule",
             Refusal::AllFinished => "some station is live and every live one is finished",
@@ -101,7 +101,9 @@ impl fmt::Display for Refusal {
             Refusal::Station => "the station number is n or more",
             Refusal::NotLive => "the station is not live",
             Refusal::PassFinished => "the kind is 1 or 2 and the station has finished its pass",
-            Refusal::Level => "the level is 0 or above d, the size's logarithm to base 2",
+            Refusal::Level => {
+                "the level is 0 or above d, the size's logarithm to base 2, rounded up"
+            }
             Refusal::ListLength => "the lent list has not the length stated",
         })
     }

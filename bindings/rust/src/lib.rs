@@ -2,9 +2,10 @@
 //!
 //! What each call does, and when it is refused, is said in document 01, "The
 //! vCube watch on a gin's plant cable"; the steps of an entry stand as
-//! definitions in crates/plant/specs/Turn.antt and Entry.antt. Every call takes any numbers and slices of any length: nothing need be tested
-//! before calling. A refused call changes nothing; a run that stops at an
-//! entry keeps the work of the entries before it.
+//! definitions in crates/plant/specs/Turn.antt and Entry.antt. Plants have 2 to
+//! 64 stations. Every call takes any numbers and slices of any length: nothing
+//! need be tested before calling. A refused call changes nothing; a run that
+//! stops at an entry keeps the work of the entries before it.
 //!
 //! The example of document 01 for N = 4:
 //!
@@ -59,7 +60,8 @@ pub use entries::{schedule, sheet_lines, Entry, SheetLine};
 #[derive(Clone, Copy, Debug, PartialEq, Eq, Hash, PartialOrd, Ord)]
 pub struct Station(pub usize);
 
-/// A distance: the exclusive or of two station numbers.
+/// A distance: the exclusive or of two station numbers. It is below 2^d, where
+/// d is the logarithm of n to base 2, rounded up.
 #[derive(Clone, Copy, Debug, PartialEq, Eq, Hash, PartialOrd, Ord)]
 pub struct Distance(pub u8);
 
@@ -97,8 +99,32 @@ pub fn fresh_table(n: usize, table: &mut [u8]) -> Result<(), Refusal> {
     accepted(raw::fresh_table(n, table))
 }
 
+/// The highest level of the largest plant.
+const HIGHEST_LEVEL: usize = 6;
+
+/// The length of a group list: how many members the station's group at that
+/// level has, 0 to 2^(level - 1). It is computed here, not by the library, and
+/// has no meaning where the library refuses the size, the station or the level.
+#[must_use]
+pub const fn group_length(n: usize, station: Station, level: Level) -> usize {
+    if level.0 < 1 || level.0 > HIGHEST_LEVEL {
+        return 0;
+    }
+    // The members are those of the numbers from `first` to `first + half - 1`
+    // that are below n.
+    let half = 1 << (level.0 - 1);
+    let first = (station.0 ^ half) & !(half - 1);
+    let below_n = n.saturating_sub(first);
+    if below_n < half {
+        below_n
+    } else {
+        half
+    }
+}
+
 /// Group list: the members of the station's group at that level, in order,
-/// into a list of just that length, 2^(level - 1).
+/// into a list of just their number, [`group_length`]. An empty list is
+/// accepted where the group is empty.
 /// Refusals: 1, 9, 12, 13.
 pub fn group_list(
     n: usize,

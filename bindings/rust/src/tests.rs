@@ -1,4 +1,5 @@
-//! The expected values are those of document 01's plant examples.
+//! The expected values are those of document 01's plant examples, and follow
+//! its rules with the sizes of request C-11.
 
 use crate::*;
 
@@ -10,14 +11,14 @@ fn fresh(n: usize) -> Vec<u8> {
 
 /// The group as bytes; the list has the length stated.
 fn group(n: usize, station: Station, level: Level) -> Vec<u8> {
-    let mut list = vec![9; 1 << (level.0 - 1)];
+    let mut list = vec![9; group_length(n, station, level)];
     assert_eq!(group_list(n, station, level, &mut list), Ok(()));
     list
 }
 
 /// The group as stations.
 fn stations(n: usize, station: Station, level: Level) -> Vec<Station> {
-    let mut list = vec![9; 1 << (level.0 - 1)];
+    let mut list = vec![9; group_length(n, station, level)];
     let stations = group_stations(n, station, level, &mut list);
     stations.expect("accepted").collect()
 }
@@ -43,6 +44,60 @@ fn groups_stand_in_order_of_distance() {
 }
 
 #[test]
+fn numbers_from_n_on_are_in_no_group() {
+    assert_eq!(group(11, Station(10), Level(1)), []);
+    assert_eq!(group(11, Station(10), Level(2)), [8, 9]);
+    assert_eq!(group(11, Station(2), Level(4)), [10, 8, 9]);
+}
+
+/// Every size, station and level.
+fn all_groups() -> impl Iterator<Item = (usize, Station, Level)> {
+    let levels = |n: usize| (1..=6).filter(move |s| 1 << (s - 1) < n);
+    let of_size = move |n| (0..n).flat_map(move |i| levels(n).map(move |s| (n, i, s)));
+    let all = (2..=64).flat_map(of_size);
+    all.map(|(n, i, s)| (n, Station(i), Level(s)))
+}
+
+#[test]
+fn the_library_wants_lists_of_the_group_length() {
+    let refusal = |n, station, level, length| {
+        let mut list = vec![9; length];
+        group_list(n, station, level, &mut list).err()
+    };
+    let mut empty = 0;
+    for (n, station, level) in all_groups() {
+        let length = group_length(n, station, level);
+        assert_eq!(refusal(n, station, level, length), None);
+        for wrong in (0..=33).filter(|wrong| *wrong != length) {
+            assert_eq!(refusal(n, station, level, wrong), Some(Refusal::ListLength));
+        }
+        empty += usize::from(length == 0);
+    }
+    assert!(empty > 0);
+}
+
+#[test]
+fn the_group_length_counts_the_numbers_below_n() {
+    for (n, station, level) in all_groups() {
+        let half = 1 << (level.0 - 1);
+        let members = (half..2 * half).filter(|distance| station.0 ^ distance < n);
+        assert_eq!(group_length(n, station, level), members.count());
+    }
+}
+
+#[test]
+fn the_group_length_takes_any_numbers() {
+    let numbers = [0, 1, 6, 7, 63, 64, 65, usize::MAX - 1, usize::MAX];
+    for n in numbers {
+        for station in numbers.map(Station) {
+            for level in numbers.map(Level) {
+                assert!(group_length(n, station, level) <= 32);
+            }
+        }
+    }
+}
+
+#[test]
 fn group_stations_are_the_group_list() {
     let expected = [3, 2, 1, 0].map(Station);
     assert_eq!(stations(8, Station(7), Level(3)), expected);
@@ -63,10 +118,12 @@ fn group_stations_are_refused_as_the_group_list() {
         assert_eq!(list, vec![9; length]);
         refused
     };
-    assert_eq!(refusal(3, 0, 1, 1), Some(Refusal::Size));
+    assert_eq!(refusal(65, 0, 1, 1), Some(Refusal::Size));
     assert_eq!(refusal(8, 8, 1, 1), Some(Refusal::Station));
     assert_eq!(refusal(8, 0, 4, 8), Some(Refusal::Level));
     assert_eq!(refusal(8, 0, 3, 3), Some(Refusal::ListLength));
+    assert_eq!(refusal(3, 2, 1, 1), Some(Refusal::ListLength));
+    assert_eq!(refusal(3, 2, 1, 0), None);
 }
 
 #[test]
@@ -84,6 +141,12 @@ fn station_5_of_8_that_suspects_4_has_five_due() {
     // 3 and 5 are the second distances of their levels: stations 6 and 0.
     assert_eq!(stations(8, Station(5), Level(2))[1], Station(6));
     assert_eq!(stations(8, Station(5), Level(3))[1], Station(0));
+}
+
+#[test]
+fn station_10_of_11_has_distances_beyond_11_due() {
+    let expected = [2, 3, 8, 9, 12, 13].map(Distance);
+    assert_eq!(due(11, &fresh(11), Station(10)), expected);
 }
 
 #[test]
@@ -115,6 +178,17 @@ fn the_run_example_of_4_changes_the_table_as_stated() {
 }
 
 #[test]
+fn a_pass_of_station_4_of_5_ends_at_next_distance_8() {
+    let mut table = fresh(5);
+    let (mut tally, mut sheet) = (Tally::default(), [9; 20]);
+    let answer = run(5, &mut table, &mut tally, &[1, 4].repeat(5), &mut sheet);
+    assert_eq!((answer.refusal, answer.taken, tally.tests), (None, 5, 4));
+    let tested: Vec<u8> = sheet.chunks(4).map(|line| line[1]).collect();
+    assert_eq!(tested, [0, 1, 2, 3, 255]);
+    assert_eq!(table[4 * 9..][..4], [0, 8, 1, 4]);
+}
+
+#[test]
 fn the_row_is_that_very_part_of_the_table() {
     let table = fresh(4);
     let row = row(4, &table, Station(2)).expect("accepted");
@@ -124,7 +198,7 @@ fn the_row_is_that_very_part_of_the_table() {
 #[test]
 fn a_refused_row_has_its_refusal() {
     let mut table = fresh(4);
-    assert_eq!(row(3, &table, Station(0)), Err(Refusal::Size));
+    assert_eq!(row(65, &table, Station(0)), Err(Refusal::Size));
     assert_eq!(row(4, &table[1..], Station(0)), Err(Refusal::TableLength));
     assert_eq!(row(4, &table, Station(4)), Err(Refusal::Station));
     table[0] = 4;
@@ -229,8 +303,9 @@ fn a_run_refused_at_its_start_leaves_the_tally() {
         assert_eq!((answer.taken, tally), (0, before));
         answer.refusal
     };
-    assert_eq!(refused(3, &[1, 0], 4), Some(Refusal::Size));
-    assert_eq!(refused(4, &[1, 0], 4), Some(Refusal::TableLength));
+    assert_eq!(refused(1, &[1, 0], 4), Some(Refusal::Size));
+    assert_eq!(refused(65, &[1, 0], 4), Some(Refusal::Size));
+    assert_eq!(refused(3, &[1, 0], 4), Some(Refusal::TableLength));
     assert_eq!(refused(2, &[1], 2), Some(Refusal::ScheduleLength));
     assert_eq!(refused(2, &[1, 0], 2), Some(Refusal::SheetLength));
     assert_eq!(refused(2, &[], 0), None);
@@ -238,12 +313,15 @@ fn a_run_refused_at_its_start_leaves_the_tally() {
 
 #[test]
 fn wrong_sizes_and_lengths_are_refused() {
-    assert_eq!(fresh_table(3, &mut [0; 21]), Err(Refusal::Size));
-    assert_eq!(fresh_table(128, &mut [0; 16_896]), Err(Refusal::Size));
+    for n in [0, 1, 65, 66, 128] {
+        let mut table = vec![0; table_length(n)];
+        assert_eq!(fresh_table(n, &mut table), Err(Refusal::Size));
+    }
     assert_eq!(fresh_table(2, &mut [0; 11]), Err(Refusal::TableLength));
     assert_eq!(fresh_table(2, &mut [0; 13]), Err(Refusal::TableLength));
-    assert_eq!(fresh(2).len(), 12);
-    assert_eq!(fresh(64).len(), 4_352);
+    assert_eq!(fresh_table(3, &mut [0; 32]), Err(Refusal::TableLength));
+    let lengths = [2, 3, 11, 63, 64].map(|n| fresh(n).len());
+    assert_eq!(lengths, [12, 21, 165, 4_221, 4_352]);
 }
 
 #[test]

@@ -1,6 +1,8 @@
 //! What an entry does, and the refusals of a run.
 
-use super::{answer, finish, fresh, head, place, row_bytes, run_with, set, suspect, UNWRITTEN};
+use super::{
+    answer, finish, fresh, head, place, row_bytes, run_with, set, sizes, suspect, UNWRITTEN,
+};
 use crate::{check_table, run};
 
 const MOST: u32 = 4_294_967_295;
@@ -37,6 +39,56 @@ fn example_of_4_stations() {
         [0, 1, 0, 0, 0, 1, 0, 0],
     ];
     assert_eq!(table, expected.concat());
+}
+
+#[test]
+fn pass_of_station_10_of_11() {
+    let mut table = fresh(11);
+    let (given, sheet) = run_with(11, &mut table, (0, 0), &[1, 10].repeat(7));
+    assert_eq!(given, answer(0, 7, 0, 6));
+    let mut expected = [8, 9, 2, 3, 6, 7].map(|j| [10, j, 1, 0]).concat();
+    expected.extend([10, 255, 0, 0]);
+    assert_eq!(sheet, expected);
+    assert_eq!(head(11, &table, 10), [0, 16, 1, 6]);
+}
+
+#[test]
+fn round_of_3_stations() {
+    let mut table = fresh(3);
+    let schedule = [0, 0, 0, 1, 1, 2, 2, 2].map(|i| [1, i]).concat();
+    let (given, sheet) = run_with(3, &mut table, (0, 0), &schedule);
+    assert_eq!(given, answer(0, 8, 1, 5));
+    let expected = [
+        [0, 1, 1, 0],
+        [0, 2, 1, 0],
+        [0, 255, 0, 0],
+        [1, 0, 1, 0],
+        [1, 255, 0, 0],
+        [2, 0, 1, 0],
+        [2, 1, 1, 0],
+        [2, 255, 0, 0],
+    ];
+    assert_eq!(sheet, expected.concat());
+    assert_eq!(table, fresh(3));
+}
+
+#[test]
+fn next_distance_behind_the_last_station_is_2_to_the_d() {
+    let mut table = fresh(5);
+    let (_, sheet) = run_with(5, &mut table, (0, 0), &[1, 4].repeat(4));
+    assert_eq!(sheet[12..], [4, 3, 1, 0]);
+    assert_eq!(head(5, &table, 4), [0, 8, 0, 4]);
+    run_with(5, &mut table, (0, 0), &[1, 4]);
+    assert_eq!(head(5, &table, 4), [0, 8, 1, 4]);
+}
+
+#[test]
+fn numbers_from_n_on_need_not_be_suspected_to_be_alone() {
+    let mut table = fresh(3);
+    let (given, sheet) = run_with(3, &mut table, (0, 0), &[2, 0, 2, 0]);
+    assert_eq!(given, answer(0, 2, 0, 2));
+    assert_eq!(sheet, [0, 1, 3, 0, 0, 2, 3, 3]);
+    assert_eq!(row_bytes(3, &table, 0), [0, 1, 1]);
 }
 
 #[test]
@@ -219,8 +271,10 @@ fn empty_schedule_is_accepted_and_changes_nothing() {
 #[test]
 fn refusals_at_the_start() {
     let table = fresh(4);
-    refused_at_start(3, &table, &[1, 0], 4, 1);
-    refused_at_start(128, &table, &[1, 0], 4, 1);
+    for n in [0, 1, 65, 66, 128, 258, usize::MAX] {
+        refused_at_start(n, &table, &[1, 0], 4, 1);
+    }
+    refused_at_start(3, &table, &[1, 0], 4, 2);
     refused_at_start(4, &table[1..], &[1, 0], 4, 2);
     refused_at_start(4, &table, &[1, 0, 1], 6, 5);
     refused_at_start(4, &table, &[1], 2, 5);
@@ -242,7 +296,7 @@ fn refusals_at_the_start_in_order() {
     set(4, &mut table, 0, 1, 0);
     refused_at_start(4, &table, &[9, 9, 9], 7, 3);
     refused_at_start(4, &table[1..], &[9, 9, 9], 7, 2);
-    refused_at_start(5, &table[1..], &[9, 9, 9], 7, 1);
+    refused_at_start(65, &table[1..], &[9, 9, 9], 7, 1);
 }
 
 #[test]
@@ -272,6 +326,19 @@ fn refused_stations() {
         refused_entry(&table, (0, 0), [kind, 255], 9);
         let (given, _) = run_with(4, &mut table.clone(), (0, 0), &[kind, 3]);
         assert_eq!(given.number, 0);
+    }
+}
+
+#[test]
+fn refused_stations_of_every_size() {
+    for (n, _) in sizes() {
+        for kind in 1..4 {
+            let number = |i| run_with(n, &mut fresh(n), (0, 0), &[kind, i]).0.number;
+            assert_eq!(number(n as u8 - 1), 0);
+            for station in n as u8..=65 {
+                assert_eq!(number(station), 9);
+            }
+        }
     }
 }
 

@@ -1,13 +1,21 @@
 //! Groups: the examples, paper 000's Table 1 and paper 001's equation 1.
 
-use super::{SIZES, UNWRITTEN};
+use super::{sizes, UNWRITTEN};
 use crate::group_list;
 
-/// The group of station i at level s in a plant of size n.
+/// The group of station i at level s in a plant of size n: the only list that
+/// is accepted, of all that are not longer than a full group.
 fn listed(n: usize, i: u8, s: u8) -> Vec<u8> {
-    let mut list = vec![UNWRITTEN; 1 << (s - 1)];
-    assert_eq!(group_list(n, i, s, &mut list), 0);
-    list
+    let mut accepted = Vec::new();
+    for length in 0..=1 << (s - 1) {
+        let mut list = vec![UNWRITTEN; length];
+        match group_list(n, i, s, &mut list) {
+            0 => accepted.push(list),
+            number => assert_eq!((number, list), (13, vec![UNWRITTEN; length])),
+        }
+    }
+    assert_eq!(accepted.len(), 1);
+    accepted.remove(0)
 }
 
 /// Paper 000's Table 1: row s, column i holds c(i, s).
@@ -35,7 +43,7 @@ const TABLE_1: [[&[u8]; 8]; 3] = [
     ],
 ];
 
-/// Paper 001's equation 1.
+/// Paper 001's equation 1, which gives the full group.
 fn equation_1(i: u8, s: u8) -> Vec<u8> {
     let first = i ^ (1 << (s - 1));
     let mut list = vec![first];
@@ -64,11 +72,28 @@ fn table_1_of_paper_000() {
 }
 
 #[test]
-fn equation_1_of_paper_001() {
-    for (n, d) in SIZES {
+fn examples_of_11_stations() {
+    assert_eq!(listed(11, 10, 1), []);
+    assert_eq!(listed(11, 10, 2), [8, 9]);
+    assert_eq!(listed(11, 10, 3), []);
+    assert_eq!(listed(11, 10, 4), [2, 3, 0, 1, 6, 7, 4, 5]);
+    assert_eq!(listed(11, 2, 4), [10, 8, 9]);
+}
+
+#[test]
+fn station_4_of_5_has_one_group_with_members() {
+    let groups = [1, 2, 3].map(|s| listed(5, 4, s));
+    assert_eq!(groups, [vec![], vec![], vec![0, 1, 2, 3]]);
+}
+
+#[test]
+fn equation_1_of_paper_001_without_the_numbers_from_n_on() {
+    for (n, d) in sizes() {
         for i in 0..n as u8 {
             for s in 1..=d {
-                assert_eq!(listed(n, i, s), equation_1(i, s));
+                let mut remaining = equation_1(i, s);
+                remaining.retain(|member| usize::from(*member) < n);
+                assert_eq!(listed(n, i, s), remaining);
             }
         }
     }
@@ -87,7 +112,7 @@ fn element_k_is_at_distance_half_plus_k() {
 
 #[test]
 fn every_other_station_is_in_exactly_one_group() {
-    for (n, d) in SIZES {
+    for (n, d) in sizes() {
         for i in 0..n as u8 {
             let mut all: Vec<u8> = (1..=d).flat_map(|s| listed(n, i, s)).collect();
             all.sort_unstable();

@@ -1,6 +1,6 @@
 //! Statements that hold for all runs, checked on many schedules.
 
-use super::{fresh, run_with, Numbers, SIZES, UNWRITTEN};
+use super::{fresh, run_with, sizes, Numbers, UNWRITTEN};
 use crate::check_table;
 
 /// A schedule with mostly turns, some late replies, few crashes and a few
@@ -40,11 +40,9 @@ fn run_each(n: usize, table: &mut [u8], entries: &[u8]) -> (u32, u32) {
 fn runs_keep_the_line_rules() {
     let mut numbers = Numbers::new(2);
     let mut closed = 0;
-    for (n, d) in SIZES {
-        for _ in 0..2 {
-            let entries = schedule(&mut numbers, n, 5 * n * usize::from(d));
-            closed += run_each(n, &mut fresh(n), &entries).0;
-        }
+    for (n, d) in sizes() {
+        let entries = schedule(&mut numbers, n, 5 * n * usize::from(d));
+        closed += run_each(n, &mut fresh(n), &entries).0;
     }
     assert!(closed > 0);
 }
@@ -52,8 +50,8 @@ fn runs_keep_the_line_rules() {
 #[test]
 fn two_runs_do_what_one_run_does() {
     let mut numbers = Numbers::new(3);
-    for (n, _) in SIZES {
-        for _ in 0..20 {
+    for (n, _) in sizes() {
+        for _ in 0..5 {
             let entries = schedule(&mut numbers, n, 40);
             let mut whole = fresh(n);
             let (given, sheet) = run_with(n, &mut whole, (0, 0), &entries);
@@ -75,7 +73,7 @@ fn two_runs_do_what_one_run_does() {
 #[test]
 fn tests_of_the_sheet_are_the_tests_of_the_tally() {
     let mut numbers = Numbers::new(4);
-    for (n, _) in SIZES {
+    for (n, _) in sizes() {
         let entries = schedule(&mut numbers, n, 60);
         let (given, sheet) = run_with(n, &mut fresh(n), (0, 0), &entries);
         let lines = sheet.chunks(4).take(given.taken);

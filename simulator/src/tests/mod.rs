@@ -1,5 +1,6 @@
-//! Tests of the simulator against document 01 and the papers.
+//! Tests of the simulator against documents 01 and 02 and the papers.
 
+mod claim;
 mod due;
 mod entries;
 mod groups;
@@ -9,10 +10,27 @@ mod questions;
 mod rounds;
 mod tables;
 
+use std::ops::RangeInclusive;
+
 use crate::{fresh_table, run, Answer};
 
+/// The sizes with d = 1 to 6.
+const BY_D: [RangeInclusive<usize>; 6] = [2..=2, 3..=4, 5..=8, 9..=16, 17..=32, 33..=64];
+
+/// The sizes that are powers of two, with their d.
+pub const POWERS: [(usize, u8); 6] = [(2, 1), (4, 2), (8, 3), (16, 4), (32, 5), (64, 6)];
+
 /// All sizes with their d.
-pub const SIZES: [(usize, u8); 6] = [(2, 1), (4, 2), (8, 3), (16, 4), (32, 5), (64, 6)];
+pub fn sizes() -> impl Iterator<Item = (usize, u8)> {
+    let with_d = |(sizes, d): (RangeInclusive<usize>, u8)| sizes.map(move |n| (n, d));
+    BY_D.into_iter().zip(1..).flat_map(with_d)
+}
+
+/// 2^d: the next distance of a finished line.
+pub fn end(n: usize) -> u8 {
+    let (_, d) = sizes().find(|(size, _)| *size == n).unwrap();
+    1 << d
+}
 
 /// The value of buffer bytes that nobody has written.
 pub const UNWRITTEN: u8 = 170;
@@ -41,7 +59,7 @@ pub fn suspect(n: usize, table: &mut [u8], station: usize, other: usize) {
 
 /// Makes a line that has finished its pass.
 pub fn finish(n: usize, table: &mut [u8], station: usize) {
-    set(n, table, station, 1, n as u8);
+    set(n, table, station, 1, end(n));
     set(n, table, station, 2, 1);
 }
 

@@ -47,8 +47,9 @@ fn last_line_may_lack_its_line_feed() {
 
 #[test]
 fn no_entries() {
-    for size in ["2", "4", "8", "16", "32", "64"] {
-        assert_eq!(printed(size), "rounds 0 tests 0 refused 0 at 0\n");
+    for size in 2..=64 {
+        let text = printed(&size.to_string());
+        assert_eq!(text, "rounds 0 tests 0 refused 0 at 0\n");
     }
 }
 
@@ -66,16 +67,17 @@ fn late_replies() {
 
 #[test]
 fn refused_sizes() {
-    for size in ["0", "000", "1", "3", "63", "65", "128", "999"] {
+    for size in (0..2).chain(65..1000) {
         let expected = "rounds 0 tests 0 refused 1 at 0\n";
-        assert_eq!(printed(size), expected);
+        assert_eq!(printed(&size.to_string()), expected);
+        assert_eq!(printed(&format!("{size:03}")), expected);
         assert_eq!(printed(&format!("{size}\nT 0\nC 99\n")), expected);
     }
 }
 
 #[test]
 fn unreadable_line_behind_a_refused_size() {
-    unread("3\nT 0\nX 0\n", 3);
+    unread("1\nT 0\nX 0\n", 3);
 }
 
 #[test]
@@ -91,6 +93,14 @@ fn leading_zeros() {
 }
 
 #[test]
+fn round_of_3_stations() {
+    let entries = "T 0\nT 0\nT 0\nT 1\nT 1\nT 2\nT 2\nT 2\n";
+    let lines = "0 1 1 0\n0 2 1 0\n0 - 0 0\n1 0 1 0\n1 - 0 0\n2 0 1 0\n2 1 1 0\n2 - 0 0\n";
+    let expected = format!("{lines}rounds 1 tests 5 refused 0 at 8\n");
+    assert_eq!(printed(&format!("3\n{entries}")), expected);
+}
+
+#[test]
 fn two_digits() {
     assert_eq!(
         printed("64\nC 63\n"),
@@ -98,6 +108,11 @@ fn two_digits() {
     );
     assert_eq!(printed("64\nC 64\n"), "rounds 0 tests 0 refused 9 at 0\n");
     assert_eq!(printed("64\nC 99\n"), "rounds 0 tests 0 refused 9 at 0\n");
+    assert_eq!(
+        printed("11\nC 10\n"),
+        "10 - 4 1\nrounds 0 tests 0 refused 0 at 1\n"
+    );
+    assert_eq!(printed("11\nC 11\n"), "rounds 0 tests 0 refused 9 at 0\n");
 }
 
 #[test]

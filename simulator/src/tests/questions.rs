@@ -1,6 +1,6 @@
 //! Refusals of the questions, at their boundaries and in their order.
 
-use super::{finish, fresh, place, set, suspect, SIZES, UNWRITTEN};
+use super::{finish, fresh, place, set, sizes, suspect, UNWRITTEN};
 use crate::{assignment, check_table, fresh_table, group_list, row, row_number};
 
 /// Asks for a group into a list of this length. A refusal writes nothing.
@@ -27,7 +27,7 @@ fn assignment_number(n: usize, table: &[u8], station: u8, length: usize) -> u8 {
 
 #[test]
 fn fresh_table_has_live_lines_with_next_distance_1() {
-    for (n, _) in SIZES {
+    for (n, _) in sizes() {
         let table = fresh(n);
         for line in table.chunks(n + 4) {
             assert_eq!(line[..2], [0, 1]);
@@ -41,14 +41,23 @@ fn fresh_table_refuses_sizes() {
     let accepted: Vec<usize> = (0..=1000)
         .filter(|n| fresh_table(*n, &mut vec![0; n * (n + 4)]) == 0)
         .collect();
-    assert_eq!(accepted, [2, 4, 8, 16, 32, 64]);
+    assert_eq!(accepted, Vec::from_iter(2..=64));
     assert_eq!(fresh_table(usize::MAX, &mut []), 1);
     assert_eq!(fresh_table(258, &mut [0; 12]), 1);
 }
 
 #[test]
 fn table_lengths() {
-    for (n, length) in [(2, 12), (4, 32), (8, 96), (16, 320), (32, 1152), (64, 4352)] {
+    let of_powers = [(2, 12), (4, 32), (8, 96), (16, 320), (32, 1152), (64, 4352)];
+    let of_others = [
+        (3, 21),
+        (5, 45),
+        (11, 165),
+        (19, 437),
+        (48, 2496),
+        (63, 4221),
+    ];
+    for (n, length) in of_powers.into_iter().chain(of_others) {
         assert_eq!(fresh_table(n, &mut vec![0; length - 1]), 2);
         assert_eq!(fresh_table(n, &mut vec![0; length]), 0);
         assert_eq!(fresh_table(n, &mut vec![0; length + 1]), 2);
@@ -59,7 +68,7 @@ fn table_lengths() {
 
 #[test]
 fn refused_fresh_table_writes_nothing() {
-    for (n, length) in [(3, 21), (128, 16896), (2, 11), (2, 13), (2, 0)] {
+    for (n, length) in [(1, 5), (65, 4485), (128, 16896), (3, 20), (3, 22), (2, 0)] {
         let mut table = vec![UNWRITTEN; length];
         assert_ne!(fresh_table(n, &mut table), 0);
         assert_eq!(table, vec![UNWRITTEN; length]);
@@ -68,32 +77,48 @@ fn refused_fresh_table_writes_nothing() {
 
 #[test]
 fn group_list_boundaries() {
-    for (n, d) in SIZES {
-        assert_eq!(group_number(n, n as u8 - 1, d, n / 2), 0);
-        assert_eq!(group_number(n, n as u8, d, n / 2), 9);
-        assert_eq!(group_number(n, 255, d, n / 2), 9);
-        assert_eq!(group_number(n, 0, 0, n / 2), 12);
-        assert_eq!(group_number(n, 0, d + 1, n), 12);
-        assert_eq!(group_number(n, 0, 255, n), 12);
-        assert_eq!(group_number(n, 0, d, n / 2 - 1), 13);
-        assert_eq!(group_number(n, 0, d, n / 2 + 1), 13);
+    for (n, d) in sizes() {
+        // The group of the last station is full at the highest level; that of
+        // station 0 holds the stations from `half` on.
+        let half = 1 << (d - 1);
+        assert_eq!(group_number(n, n as u8 - 1, d, half), 0);
+        assert_eq!(group_number(n, n as u8, d, half), 9);
+        assert_eq!(group_number(n, 255, d, half), 9);
+        assert_eq!(group_number(n, 0, 0, half), 12);
+        assert_eq!(group_number(n, 0, d + 1, 2 * half), 12);
+        assert_eq!(group_number(n, 0, 255, 2 * half), 12);
+        assert_eq!(group_number(n, 0, d, n - half - 1), 13);
+        assert_eq!(group_number(n, 0, d, n - half), 0);
+        assert_eq!(group_number(n, 0, d, n - half + 1), 13);
         assert_eq!(group_number(n, 0, 1, 0), 13);
     }
 }
 
 #[test]
+fn group_list_of_an_empty_group() {
+    for (n, station, level) in [(3, 2, 1), (5, 4, 1), (5, 4, 2), (11, 10, 1), (11, 10, 3)] {
+        assert_eq!(group_number(n, station, level, 0), 0);
+        for length in 1..=64 {
+            assert_eq!(group_number(n, station, level, length), 13);
+        }
+    }
+}
+
+#[test]
 fn group_list_refuses_in_order() {
-    assert_eq!(group_number(3, 9, 9, 9), 1);
+    assert_eq!(group_number(1, 9, 9, 9), 1);
+    assert_eq!(group_number(65, 0, 1, 1), 1);
     assert_eq!(group_number(128, 0, 1, 1), 1);
     assert_eq!(group_number(8, 8, 0, 9), 9);
     assert_eq!(group_number(8, 7, 0, 9), 12);
     assert_eq!(group_number(8, 7, 4, 8), 12);
     assert_eq!(group_number(8, 7, 3, 8), 13);
+    assert_eq!(group_number(5, 7, 1, 1), 9);
 }
 
 #[test]
 fn assignment_boundaries() {
-    for (n, _) in SIZES {
+    for (n, _) in sizes() {
         let table = fresh(n);
         assert_eq!(assignment_number(n, &table, n as u8 - 1, n - 1), 0);
         assert_eq!(assignment_number(n, &table, n as u8, n - 1), 9);
@@ -105,7 +130,8 @@ fn assignment_boundaries() {
 #[test]
 fn assignment_refuses_in_order() {
     let mut table = fresh(4);
-    assert_eq!(assignment_number(3, &table[1..], 9, 9), 1);
+    assert_eq!(assignment_number(1, &table[1..], 9, 9), 1);
+    assert_eq!(assignment_number(65, &table[1..], 9, 9), 1);
     assert_eq!(assignment_number(4, &table[1..], 9, 9), 2);
     set(4, &mut table, 1, 0, 3);
     assert_eq!(assignment_number(4, &table, 4, 9), 9);
@@ -128,7 +154,7 @@ fn assignment_of_a_finished_station_is_given() {
 
 #[test]
 fn row_is_the_very_part_of_the_table() {
-    for (n, _) in SIZES {
+    for (n, _) in sizes() {
         let table = fresh(n);
         for station in 0..n {
             let part = row(n, &table, station as u8);
@@ -164,7 +190,9 @@ fn refused_row_is_empty() {
         assert!(row(n, table, station).is_empty());
     };
     let mut table = fresh(4);
-    refused(3, &table, 4, 1);
+    refused(1, &table, 4, 1);
+    refused(65, &table, 4, 1);
+    refused(3, &table, 4, 2);
     refused(4, &table[1..], 4, 2);
     refused(4, &table, 4, 9);
     refused(4, &table, 255, 9);

@@ -1,6 +1,6 @@
 //! Rounds: how they close, and the counts of tests in a round.
 
-use super::{answer, finish, fresh, head, run_with, set, suspect, SIZES};
+use super::{answer, finish, fresh, head, run_with, set, sizes, suspect, Numbers, POWERS};
 use crate::check_table;
 
 /// A table at the start of a round in which each of these stations is
@@ -17,32 +17,46 @@ fn with_dead(n: usize, dead: &[usize]) -> Vec<u8> {
 }
 
 /// Gives every live station turns until its pass is finished, in station
-/// order. Gives the tests of the round.
+/// order: at most n. Gives the tests of the round.
 fn tests_of_a_round(n: usize, dead: &[usize]) -> u32 {
     let mut table = with_dead(n, dead);
     let mut tally = (0, 0);
     for i in (0..n).filter(|i| !dead.contains(i)) {
-        let mut outcome = 255;
+        let (mut outcome, mut turns) = (255, 0);
         while outcome != 0 {
             let (given, sheet) = run_with(n, &mut table, tally, &[1, i as u8]);
             assert_eq!(given.number, 0);
             tally = (given.rounds, given.tests);
-            outcome = sheet[2];
+            (outcome, turns) = (sheet[2], turns + 1);
         }
+        assert!(turns <= n);
     }
     assert_eq!(tally.0, 1);
     assert_eq!(table, with_dead(n, dead));
     tally.1
 }
 
-/// The pairs of a station and a level whose group is not all dead.
-fn pairs(n: usize, d: u8, dead: &[usize]) -> u32 {
-    let living = |i: usize, s: u8| {
+/// The pairs of a station and a level: n times d, less those whose group has
+/// no live station below n.
+pub fn pairs(n: usize, d: u8, dead: &[usize]) -> u32 {
+    let is_dead = |k: usize| k >= n || dead.contains(&k);
+    let all_dead = |i: usize, s: u8| {
         let half = 1 << (s - 1);
-        (half..2 * half).any(|m| !dead.contains(&(i ^ m)))
+        (half..2 * half).all(|m| is_dead(i ^ m))
     };
-    let count = |i| (1..=d).filter(|s| living(i, *s)).count() as u32;
-    (0..n).map(count).sum()
+    let without = |i| (1..=d).filter(|s| all_dead(i, *s)).count();
+    let less: usize = (0..n).map(without).sum();
+    (n * usize::from(d) - less) as u32
+}
+
+/// Random dead stations, of which at least two are not.
+pub fn random_dead(n: usize, numbers: &mut Numbers) -> Vec<usize> {
+    let mut stations: Vec<usize> = (0..n).collect();
+    for end in (2..=n).rev() {
+        stations.swap(end - 1, numbers.below(end));
+    }
+    stations.truncate(numbers.below(n - 1));
+    stations
 }
 
 #[test]
@@ -65,18 +79,47 @@ fn count_of_64_stations() {
 }
 
 #[test]
-fn count_of_every_size() {
-    for (n, d) in SIZES {
+fn counts_of_sizes_that_are_no_powers_of_2() {
+    let none_dead = [3, 5, 11, 19, 48, 63].map(|n| tests_of_a_round(n, &[]));
+    assert_eq!(none_dead, [5, 13, 40, 88, 272, 377]);
+    assert_eq!(tests_of_a_round(11, &[4]), 39);
+}
+
+#[test]
+fn pairs_of_sizes_that_are_no_powers_of_2() {
+    let sizes = [(3, 2), (5, 3), (11, 4), (19, 5), (48, 6), (63, 6)];
+    let none_dead = sizes.map(|(n, d)| pairs(n, d, &[]));
+    assert_eq!(none_dead, [5, 13, 40, 88, 272, 377]);
+    assert_eq!(pairs(11, 4, &[4]), 39);
+}
+
+#[test]
+fn count_of_every_power_of_2() {
+    for (n, d) in POWERS {
         assert_eq!(tests_of_a_round(n, &[]), n as u32 * u32::from(d));
     }
 }
 
 #[test]
-fn counts_are_the_pairs_for_every_set_of_dead_of_8_stations() {
-    for set in 0..256_usize {
-        let dead: Vec<usize> = (0..8).filter(|k| set >> k & 1 == 1).collect();
-        if dead.len() < 7 {
-            assert_eq!(tests_of_a_round(8, &dead), pairs(8, 3, &dead));
+fn counts_are_the_pairs_for_every_set_of_dead_of_2_to_8_stations() {
+    for (n, d) in sizes().take_while(|(n, _)| *n <= 8) {
+        for set in 0..1_usize << n {
+            let dead: Vec<usize> = (0..n).filter(|k| set >> k & 1 == 1).collect();
+            if dead.len() + 2 <= n {
+                assert_eq!(tests_of_a_round(n, &dead), pairs(n, d, &dead));
+            }
+        }
+    }
+}
+
+#[test]
+fn counts_are_the_pairs_for_random_dead_of_every_size() {
+    let mut numbers = Numbers::new(5);
+    for (n, d) in sizes() {
+        assert_eq!(tests_of_a_round(n, &[]), pairs(n, d, &[]));
+        for _ in 0..4 {
+            let dead = random_dead(n, &mut numbers);
+            assert_eq!(tests_of_a_round(n, &dead), pairs(n, d, &dead));
         }
     }
 }

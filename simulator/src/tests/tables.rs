@@ -1,6 +1,6 @@
 //! The line rules and refusal 4, byte by byte.
 
-use super::{finish, fresh, place, set, SIZES};
+use super::{end, finish, fresh, place, set, sizes};
 use crate::check_table;
 
 /// The values of one byte with which the table is accepted.
@@ -23,10 +23,10 @@ fn up_to(last: usize) -> Vec<u8> {
 
 #[test]
 fn bytes_of_a_fresh_line() {
-    for (n, _) in SIZES {
+    for (n, _) in sizes() {
         let table = fresh(n);
-        for station in [0, n / 2, n - 1] {
-            let next: Vec<u8> = (1..=n as u8).collect();
+        for station in [0, n - 1] {
+            let next: Vec<u8> = (1..=end(n)).collect();
             assert_eq!(accepted(n, &table, station, 0), up_to(3));
             assert_eq!(accepted(n, &table, station, 1), next);
             assert_eq!(accepted(n, &table, station, 2), [0]);
@@ -37,11 +37,11 @@ fn bytes_of_a_fresh_line() {
 
 #[test]
 fn bytes_of_a_row() {
-    for (n, _) in &SIZES[..4] {
-        let table = fresh(*n);
-        for station in 0..*n {
-            for k in 0..*n {
-                let values = accepted(*n, &table, station, 4 + k);
+    for n in 2..=11 {
+        let table = fresh(n);
+        for station in 0..n {
+            for k in 0..n {
+                let values = accepted(n, &table, station, 4 + k);
                 assert_eq!(values, up_to(usize::from(k != station)));
             }
         }
@@ -58,14 +58,48 @@ fn tests_are_at_most_next_distance_less_1() {
 }
 
 #[test]
-fn finished_line_has_next_distance_n() {
-    for (n, _) in SIZES {
+fn finished_line_has_next_distance_2_to_the_d() {
+    for (n, _) in sizes() {
         let mut table = fresh(n);
         finish(n, &mut table, 1);
-        assert_eq!(accepted(n, &table, 1, 1), [n as u8]);
+        assert_eq!(accepted(n, &table, 1, 1), [end(n)]);
         assert_eq!(accepted(n, &table, 1, 2), [0, 1]);
-        assert_eq!(accepted(n, &table, 1, 3), up_to(n - 1));
+        assert_eq!(accepted(n, &table, 1, 3), up_to(usize::from(end(n)) - 1));
     }
+}
+
+/// The numbers for station 1 with this next distance: unfinished, finished.
+fn numbers_at(n: usize, next: u8) -> [u8; 2] {
+    [0, 1].map(|finished| {
+        let mut table = fresh(n);
+        set(n, &mut table, 1, 1, next);
+        set(n, &mut table, 1, 2, finished);
+        check_table(n, &table)
+    })
+}
+
+#[test]
+fn next_distances_at_the_borders() {
+    for (n, last) in [(3, 4), (5, 8), (11, 16), (19, 32), (48, 64), (63, 64)] {
+        assert_eq!(numbers_at(n, n as u8), [0, 3]);
+        assert_eq!(numbers_at(n, last - 1), [0, 3]);
+        assert_eq!(numbers_at(n, last), [0, 0]);
+        assert_eq!(numbers_at(n, last + 1), [3, 3]);
+    }
+    assert_eq!(numbers_at(5, 6), [0, 3]);
+    assert_eq!(numbers_at(11, 12), [0, 3]);
+    for n in [2, 4, 8, 16, 32, 64] {
+        assert_eq!(numbers_at(n, n as u8 - 1), [0, 3]);
+        assert_eq!(numbers_at(n, n as u8), [0, 0]);
+        assert_eq!(numbers_at(n, n as u8 + 1), [3, 3]);
+    }
+}
+
+#[test]
+fn more_tests_than_other_stations_keep_the_line_rules() {
+    let mut table = fresh(5);
+    set(5, &mut table, 4, 1, 8);
+    assert_eq!(accepted(5, &table, 4, 3), up_to(7));
 }
 
 #[test]
@@ -122,5 +156,6 @@ fn refusals_in_order() {
     set(2, &mut table, 1, 5, 1);
     assert_eq!(check_table(2, &table), 3);
     assert_eq!(check_table(2, &table[1..]), 2);
-    assert_eq!(check_table(3, &table[1..]), 1);
+    assert_eq!(check_table(1, &table[1..]), 1);
+    assert_eq!(check_table(65, &table[1..]), 1);
 }

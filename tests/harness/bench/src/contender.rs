@@ -1,6 +1,7 @@
 //! The three implementations of the run, called the same way.
 
 use crate::plain;
+use shared::schedule::Entry;
 use simulator::Answer;
 use vcube::Tally;
 
@@ -32,6 +33,14 @@ impl Contender {
             Contender::Simulator => simulator::run(n, table, (0, 0), schedule, sheet),
         }
     }
+}
+
+/// Runs one entry by the library, which must take it; gives the rounds it
+/// closed.
+pub fn run_entry(n: usize, table: &mut [u8], entry: Entry) -> u32 {
+    let answer = run_library(n, table, &entry, &mut [0; 4]);
+    assert_eq!((answer.number, answer.taken), (0, 1));
+    answer.rounds
 }
 
 pub fn run_library(n: usize, table: &mut [u8], schedule: &[u8], sheet: &mut [u8]) -> Answer {

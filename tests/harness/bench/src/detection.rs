@@ -2,7 +2,8 @@
 //! ones. Everything is done by the library, one entry a run.
 
 use crate::bounds::exact;
-use crate::contender::run_library;
+use crate::contender::run_entry;
+use shared::groups::dimension;
 use shared::random::Random;
 use shared::schedule::{Entry, CRASH, TURN};
 use shared::table;
@@ -48,7 +49,7 @@ pub fn rounds_until_known(n: usize, dead: &[usize], order: Order, random: &mut R
 /// N is 2. The number of live boards is drawn from 2 to a power of two that is
 /// drawn first, since few live boards take the most rounds.
 pub fn random_dead(n: usize, random: &mut Random) -> Vec<usize> {
-    let power = 2 << random.below(n.ilog2() as usize);
+    let power = 2 << random.below(dimension(n) as usize);
     let most = power.min(n - 1).max(2);
     let live = 2 + random.below(most - 1);
     let mut boards = random.order(n);
@@ -125,13 +126,6 @@ impl Plant {
         let dead: Vec<u8> = lines().map(|line| u8::from(!line.is_live())).collect();
         lines().all(|line| !line.is_live() || line.row() == dead)
     }
-}
-
-/// Runs one entry, which must be taken; gives the rounds it closed.
-fn run_entry(n: usize, table: &mut [u8], entry: Entry) -> u32 {
-    let answer = run_library(n, table, &entry, &mut [0; 4]);
-    assert_eq!((answer.number, answer.taken), (0, 1));
-    answer.rounds
 }
 
 /// The first board of the order that is ready.

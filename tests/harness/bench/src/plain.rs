@@ -1,4 +1,5 @@
-//! The run of document 01 in plain Rust over the lent bytes.
+//! The run of document 01 in plain Rust over the lent bytes, with the sizes of
+//! request C-11.
 //!
 //! Table, schedule and sheet are used as they are lent: nothing is decoded,
 //! and the group order is computed with exclusive or. As the document's steps
@@ -63,14 +64,15 @@ pub fn run(
 
 /// Refusals 1 to 6, or 0.
 fn start_number(n: usize, table: &[u8], schedule: usize, sheet: usize) -> u8 {
-    if !matches!(n, 2 | 4 | 8 | 16 | 32 | 64) {
+    if !(2..=64).contains(&n) {
         return 1;
     }
     if table.len() != n * (n + HEAD) {
         return 2;
     }
+    let end = distances(n);
     let mut lines = table.chunks_exact(n + HEAD).enumerate();
-    if !lines.all(|(i, line)| keeps_line_rules(n, i, line)) {
+    if !lines.all(|(i, line)| keeps_line_rules(end, i, line)) {
         return 3;
     }
     if is_round_over(n, table) {
@@ -85,14 +87,19 @@ fn start_number(n: usize, table: &[u8], schedule: usize, sheet: usize) -> u8 {
     0
 }
 
-fn keeps_line_rules(n: usize, i: usize, line: &[u8]) -> bool {
+/// 2^d: distances are below it, and a finished line has it for its next one.
+fn distances(n: usize) -> usize {
+    n.next_power_of_two()
+}
+
+fn keeps_line_rules(end: usize, i: usize, line: &[u8]) -> bool {
     let (head, row) = line.split_at(HEAD);
     let next = usize::from(head[NEXT]);
     head[STATUS] <= ALONE
-        && (1..=n).contains(&next)
+        && (1..=end).contains(&next)
         && head[FINISHED] <= 1
         && head[TESTS] < head[NEXT]
-        && (head[FINISHED] == 0 || next == n)
+        && (head[FINISHED] == 0 || next == end)
         && row[i] == 0
         && row.iter().all(|byte| *byte <= 1)
 }
@@ -158,9 +165,10 @@ fn take_turn(n: usize, table: &mut [u8], kind: u8, i: usize) -> (u8, u8) {
     let line = line_of(n, table, i);
     let next = usize::from(line[NEXT]);
     let row = &line[HEAD..];
-    match (next..n).find(|m| is_due(row, i, *m)) {
+    let end = distances(n);
+    match (next..end).find(|m| is_due(row, i, *m)) {
         None => {
-            line[NEXT] = n as u8;
+            line[NEXT] = end as u8;
             line[FINISHED] = 1;
             (NO_STATION, PASS_FINISHED)
         }
@@ -181,12 +189,13 @@ fn line_of(n: usize, table: &mut [u8], i: usize) -> &mut [u8] {
 }
 
 /// Step 1: whether i is the first station that its row does not suspect in
-/// the group of the station at distance m, at the level of m.
+/// the group of the station at distance m, at the level of m, and a station
+/// stands there. The row has a byte for each station.
 fn is_due(row: &[u8], i: usize, m: usize) -> bool {
     let j = i ^ m;
     let width = 1 << m.ilog2();
     let mut group = (width..2 * width).map(|distance| j ^ distance);
-    group.find(|x| row[*x] == 0) == Some(i)
+    group.find(|x| row.get(*x) == Some(&0)) == Some(i) && j < row.len()
 }
 
 /// Steps 4 and 5: gives the outcome.

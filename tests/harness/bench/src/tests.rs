@@ -5,9 +5,10 @@ use crate::measure::check_equal;
 use crate::slowest::Slowest;
 use crate::work::{table_with_crashed, Work};
 use crate::{bounds, plain, slowest};
+use shared::groups::{distances, POWERS, SIZES};
 use shared::random::Random;
 use shared::slowest::INPUTS;
-use shared::table::{line_length, table_length, unfinished_stations, SIZES};
+use shared::table::{line_length, table_length, unfinished_stations};
 use simulator::Answer;
 
 /// Both give the same answer, table and sheet, which are given back.
@@ -62,7 +63,7 @@ fn random_schedules() {
     let mut outcomes = [0; 5];
     let mut statuses = [0; 4];
     for n in SIZES {
-        for _ in 0..100 {
+        for _ in 0..8 {
             let mut table = table_with_crashed(n, &[]);
             for _ in 0..5 {
                 let schedule = random_schedule(n, &table, &mut random);
@@ -130,10 +131,10 @@ fn damaged_tables() {
     let mut random = Random::new(13);
     for n in SIZES {
         let work = Work::new(n, 0, 100, &mut random);
-        for _ in 0..500 {
+        for _ in 0..100 {
             let mut table = work.table.clone();
             let place = random.below(table.len());
-            table[place] = random.below(n + 3) as u8;
+            table[place] = random.below(distances(n) + 3) as u8;
             compare(n, &table, (0, 0), &work.schedule, 400);
         }
     }
@@ -144,11 +145,28 @@ fn every_live_one_finished() {
     for n in SIZES {
         let mut table = table_with_crashed(n, &[0]);
         for line in table.chunks_exact_mut(line_length(n)) {
-            line[1] = n as u8;
+            line[1] = distances(n) as u8;
             line[2] = 1;
         }
         let (answer, _, _) = compare(n, &table, (0, 0), &[1, 1], 4);
         assert_eq!(answer.number, 4);
+    }
+}
+
+#[test]
+fn next_distances_at_the_borders() {
+    for n in SIZES {
+        let end = distances(n);
+        for next in [n - 1, n, n + 1, end - 1, end, end + 1] {
+            for finished in [0, 1] {
+                let mut table = table_with_crashed(n, &[]);
+                table[line_length(n) + 1] = next as u8;
+                table[line_length(n) + 2] = finished;
+                let (answer, _, _) = compare(n, &table, (0, 0), &[1, 0], 4);
+                let right = next == end || finished == 0 && next < end;
+                assert_eq!(answer.number, if right { 0 } else { 3 });
+            }
+        }
     }
 }
 
@@ -183,9 +201,13 @@ fn tallies_at_their_end() {
 
 #[test]
 fn bounds_by_size() {
-    assert_eq!(SIZES.map(bounds::exact), [1, 2, 3, 4, 6, 8]);
-    assert_eq!(SIZES.map(bounds::requested), [1, 2, 4, 7, 11, 16]);
-    assert_eq!(SIZES.map(bounds::stated), [1, 4, 9, 16, 25, 36]);
+    assert_eq!(POWERS.map(bounds::exact), [1, 2, 3, 4, 6, 8]);
+    assert_eq!(POWERS.map(bounds::requested), [1, 2, 4, 7, 11, 16]);
+    assert_eq!(POWERS.map(bounds::stated), [1, 4, 9, 16, 25, 36]);
+    let others = [3, 5, 11, 19, 33, 48, 63];
+    assert_eq!(others.map(bounds::exact), [2, 3, 4, 6, 8, 8, 8]);
+    assert_eq!(others.map(bounds::requested), [2, 4, 7, 11, 16, 16, 16]);
+    assert_eq!(others.map(bounds::stated), [4, 9, 16, 25, 36, 36, 36]);
 }
 
 /// The dead boards are those of the files, counted by hand; the rounds are the

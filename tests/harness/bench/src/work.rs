@@ -1,6 +1,6 @@
 //! Start tables and schedules of turns in which every entry is taken.
 
-use crate::contender::run_library;
+use crate::contender::{run_entry, run_library};
 use shared::random::Random;
 use shared::schedule::TURN;
 use shared::table::{self, Line};
@@ -71,7 +71,7 @@ impl Work {
         let ready = table::unfinished_stations(self.n, table);
         let entry = [TURN, random.pick(&ready) as u8];
         self.schedule.extend(entry);
-        run_library(self.n, table, &entry, &mut [0; 4]).rounds
+        run_entry(self.n, table, entry)
     }
 
     pub fn entries(&self) -> usize {

@@ -3,18 +3,20 @@
 use std::fmt;
 
 use shared::counts::{list, Required};
+use shared::groups;
 
+use crate::absent::Absent;
 use crate::call::{Call, Kind, Name};
 use crate::entries::{self, Answer, Entry};
 use crate::outcome::Outcome;
 
 const KINDS: usize = Kind::ALL.len();
 
-/// How many sizes there are; the size 2^d has place d - 1.
-pub const SIZES: usize = 6;
+/// How many sizes there are; the size n has place n - 2.
+pub const SIZES: usize = 63;
 
 /// How often each thing must occur at least, if there are enough calls.
-pub const LEAST: u64 = 100;
+pub const LEAST: u64 = 30;
 
 /// A run that takes so many entries is a long one: one byte cannot count them.
 const LONG_RUN: usize = 256;
@@ -44,6 +46,8 @@ pub struct Counts {
     pub kept_tallies: u64,
     /// Buffers of length 0 (handed over as NULL): those of `BYTES` in turn.
     pub empty: [u64; BYTES.len()],
+    /// What absent numbers bring with them, and sizes that are refused.
+    pub absent: Absent,
 }
 
 /// What occurred in the runs of one size. For each size, 2 included, every
@@ -86,6 +90,7 @@ impl Counts {
             long_runs: count,
             kept_tallies: count,
             empty: [count; BYTES.len()],
+            absent: Absent::all(count),
         }
     }
 
@@ -99,6 +104,7 @@ impl Counts {
             let lent = call.kind.buffers().contains(&name);
             *count += u64::from(lent && call.buffers.get(name).is_empty());
         }
+        self.absent.add(call, outcome);
         if call.kind == Kind::Run {
             self.add_run(call, outcome);
         }
@@ -113,6 +119,7 @@ impl Counts {
         assert_eq!(answer.rounds, rounds, "sheet and tally: rounds closed");
         for entry in &entries {
             self.runs[place(call)].add(entry);
+            self.absent.add_entry(call.numbers.n, entry);
             self.add_entry(entry);
         }
         self.long_runs += u64::from(answer.taken >= LONG_RUN);
@@ -146,10 +153,11 @@ impl Counts {
         for kind in Kind::ALL {
             self.require_kind(kind, &mut required);
         }
-        for (runs, d) in self.runs.iter().zip(1..) {
-            runs.require(1 << d, &mut required);
+        for (runs, size) in self.runs.iter().zip(groups::SIZES) {
+            runs.require(size, &mut required);
         }
         self.require_singly(&mut required);
+        self.absent.require(&mut required);
         required
     }
 
@@ -159,8 +167,8 @@ impl Counts {
             let count = self.numbers[kind as usize][usize::from(*number)];
             required.push((count, format!("{text} with number {number}")));
         }
-        for (count, d) in self.sizes[kind as usize].iter().zip(1..) {
-            required.push((*count, format!("accepted {text} of size {}", 1 << d)));
+        for (count, size) in self.sizes[kind as usize].iter().zip(groups::SIZES) {
+            required.push((*count, format!("accepted {text} of size {size}")));
         }
     }
 
@@ -210,7 +218,7 @@ impl InRuns {
 
 /// The place of the size of a call that was not refused by its size.
 fn place(call: &Call) -> usize {
-    call.numbers.n.trailing_zeros() as usize - 1
+    call.numbers.n - groups::SIZES.start()
 }
 
 impl fmt::Display for Counts {
@@ -237,7 +245,7 @@ impl fmt::Display for Counts {
         write!(f, "tallies kept by a refused run {}; ", self.kept_tallies)?;
         let [table, list, schedule, sheet] = self.empty;
         write!(f, "of length 0: table {table}, list {list}, ")?;
-        write!(f, "schedule {schedule}, sheet {sheet}")?;
+        write!(f, "schedule {schedule}, sheet {sheet}; {}", self.absent)?;
         let rarest = self.required().into_iter().min();
         rarest.map_or(Ok(()), |(count, text)| {
             write!(f, "; rarest: {text}: {count}")

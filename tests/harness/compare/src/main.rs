@@ -3,6 +3,8 @@
 
 #![deny(unsafe_code)]
 
+mod absent;
+mod borders;
 mod by_library;
 mod by_simulator;
 mod by_typed;
@@ -17,6 +19,7 @@ mod options;
 mod outcome;
 mod report;
 mod self_test;
+mod size_faults;
 mod trial;
 
 use std::process::ExitCode;

@@ -7,6 +7,7 @@ use crate::counts::{Counts, LEAST, SIZES};
 use crate::faults::{self, Fault};
 use crate::outcome::{Outcome, Place, Side};
 use crate::report;
+use crate::size_faults;
 use crate::trial::Trial;
 
 /// How many calls are altered.
@@ -37,7 +38,7 @@ pub fn self_test(seed: u64) -> Result<usize, String> {
     }
     all_places_altered(&altered)?;
     let mut noticed = altered.len();
-    for fault in faults::ALL {
+    for fault in faults::ALL.into_iter().chain(size_faults::ALL) {
         noticed += stand_in(seed, fault)?;
     }
     let lowered = lowered_counts();
@@ -160,42 +161,80 @@ fn all_places_altered(altered: &Altered) -> Result<(), String> {
     Ok(())
 }
 
-/// Counts of which one is too low, for each that must not be low.
+/// Counts of which one is too low.
+struct Lowered(Vec<Counts>);
+
+/// For each count that must not be low, one with this count lowered.
 fn lowered_counts() -> Vec<Counts> {
-    let mut all = Vec::new();
-    let mut lower = |one: &dyn Fn(&mut Counts) -> &mut u64| {
+    let mut all = Lowered(Vec::new());
+    all.lower_by_size();
+    all.lower_singly();
+    all.lower_absent();
+    all.0
+}
+
+impl Lowered {
+    fn lower(&mut self, one: impl Fn(&mut Counts) -> &mut u64) {
         let mut counts = Counts::all(LEAST);
         *one(&mut counts) -= 1;
-        all.push(counts);
-    };
-    for kind in Kind::ALL {
-        for number in kind.possible_numbers() {
-            lower(&|counts| &mut counts.numbers[kind as usize][usize::from(*number)]);
+        self.0.push(counts);
+    }
+
+    fn lower_by_size(&mut self) {
+        for kind in Kind::ALL {
+            for number in kind.possible_numbers() {
+                self.lower(|counts| &mut counts.numbers[kind as usize][usize::from(*number)]);
+            }
+            for size in 0..SIZES {
+                self.lower(|counts| &mut counts.sizes[kind as usize][size]);
+            }
         }
         for size in 0..SIZES {
-            lower(&|counts| &mut counts.sizes[kind as usize][size]);
+            for outcome in 0..5 {
+                self.lower(|counts| &mut counts.runs[size].outcomes[outcome]);
+            }
+            for status in 0..4 {
+                self.lower(|counts| &mut counts.runs[size].statuses[status]);
+            }
+            self.lower(|counts| &mut counts.runs[size].rounds);
         }
     }
-    for size in 0..SIZES {
-        for outcome in 0..5 {
-            lower(&|counts| &mut counts.runs[size].outcomes[outcome]);
+
+    fn lower_singly(&mut self) {
+        for tally in 0..2 {
+            self.lower(|counts| &mut counts.full_tallies[tally]);
         }
-        for status in 0..4 {
-            lower(&|counts| &mut counts.runs[size].statuses[status]);
+        for status in 1..=3 {
+            self.lower(|counts| &mut counts.closed_leaving[status - 1]);
         }
-        lower(&|counts| &mut counts.runs[size].rounds);
+        self.lower(|counts| &mut counts.late_replies);
+        self.lower(|counts| &mut counts.long_runs);
+        self.lower(|counts| &mut counts.kept_tallies);
+        for bytes in 0..4 {
+            self.lower(|counts| &mut counts.empty[bytes]);
+        }
     }
-    for tally in 0..2 {
-        lower(&|counts| &mut counts.full_tallies[tally]);
+
+    /// What absent numbers bring with them, and sizes that are refused.
+    fn lower_absent(&mut self) {
+        for size in 0..5 {
+            self.lower(|counts| &mut counts.absent.sizes[size]);
+        }
+        for length in 0..=32 {
+            self.lower(|counts| &mut counts.absent.groups[length]);
+        }
+        for wrong in 0..4 {
+            self.lower(|counts| &mut counts.absent.lengths[wrong]);
+        }
+        for border in 0..4 {
+            self.lower(|counts| &mut counts.absent.borders[0][border]);
+            self.lower(|counts| &mut counts.absent.borders[1][border]);
+        }
+        for due in 0..2 {
+            self.lower(|counts| &mut counts.absent.due[due]);
+        }
+        for turn in 0..3 {
+            self.lower(|counts| &mut counts.absent.turns[turn]);
+        }
     }
-    for status in 1..=3 {
-        lower(&|counts| &mut counts.closed_leaving[status - 1]);
-    }
-    lower(&|counts| &mut counts.late_replies);
-    lower(&|counts| &mut counts.long_runs);
-    lower(&|counts| &mut counts.kept_tallies);
-    for bytes in 0..4 {
-        lower(&|counts| &mut counts.empty[bytes]);
-    }
-    all
 }

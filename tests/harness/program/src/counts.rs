@@ -4,10 +4,11 @@
 use std::fmt;
 
 use shared::counts::{list, Required};
+use shared::groups::{ahead, SIZES};
 
 use crate::case::Case;
-use crate::generate::MOST;
-use crate::printed::Printed;
+use crate::generate::{MOST, REFUSED_SIZES};
+use crate::printed::{Line, Printed};
 
 /// How often each thing must occur at least, if there are enough inputs.
 pub const LEAST: u64 = 3;
@@ -18,6 +19,11 @@ const LINE_TOO_MANY: usize = MOST + 2;
 /// The numbers that the run program can print: the other refusals cannot arise
 /// from its input, and 4,096 entries do not fill a tally.
 pub const NUMBERS: [usize; 5] = [0, 1, 9, 10, 11];
+
+/// Refused sizes are counted one by one next to those of plants, then in two
+/// ranges: those that a byte holds, and the others.
+const BYTE: usize = REFUSED_SIZES.len();
+const BEYOND_BYTE: usize = BYTE + 1;
 
 /// How often each thing occurred.
 #[derive(Clone)]
@@ -30,8 +36,12 @@ pub struct Counts {
     pub unread_last: u64,
     /// Read, by the run's number 0 to 13.
     pub numbers: [u64; 14],
-    /// Read with a plant's size, by d - 1.
-    pub sizes: [u64; 6],
+    /// Read with a plant's size, by n - 2.
+    pub sizes: [u64; 63],
+    /// Read with another size: those of `REFUSED_SIZES`, up to 255, above.
+    pub refused_sizes: [u64; BEYOND_BYTE + 1],
+    /// Tests at a distance of n or more; tests where an absent number is ahead.
+    pub absent: [u64; 2],
     /// The outcomes of entries taken, 0 to 4.
     pub outcomes: [u64; 5],
     /// The statuses after entries taken, 0 to 3.
@@ -56,7 +66,9 @@ impl Counts {
             unread_entry: count,
             unread_last: count,
             numbers: [count; 14],
-            sizes: [count; 6],
+            sizes: [count; 63],
+            refused_sizes: [count; BEYOND_BYTE + 1],
+            absent: [count; 2],
             outcomes: [count; 5],
             statuses: [count; 4],
             rounds: count,
@@ -100,13 +112,14 @@ impl Counts {
         if text.lines().count() == LINE_TOO_MANY - 1 {
             self.full += 1;
         }
-        self.add_size(text.lines().next().unwrap_or(""));
-        if let Some(printed) = Printed::read(printed) {
-            self.add_printed(&printed);
+        let size: Option<usize> = text.lines().next().and_then(|line| line.parse().ok());
+        if let (Some(n), Some(printed)) = (size, Printed::read(printed)) {
+            self.add_size(n);
+            self.add_printed(n, &printed);
         }
     }
 
-    fn add_printed(&mut self, printed: &Printed) {
+    fn add_printed(&mut self, n: usize, printed: &Printed) {
         self.rounds += u64::from(printed.rounds);
         increase(&mut self.numbers, printed.refused);
         if printed.taken == MOST {
@@ -115,16 +128,28 @@ impl Counts {
         for line in &printed.lines {
             increase(&mut self.outcomes, line.outcome);
             increase(&mut self.statuses, line.status);
+            self.add_absent(n, line);
         }
     }
 
-    fn add_size(&mut self, line: &str) {
-        let size: usize = line.parse().unwrap_or(0);
-        for (count, d) in self.sizes.iter_mut().zip(1..) {
-            if size == 1 << d {
-                *count += 1;
-            }
+    fn add_size(&mut self, n: usize) {
+        if SIZES.contains(&n) {
+            self.sizes[n - SIZES.start()] += 1;
+            return;
         }
+        let place = REFUSED_SIZES.iter().position(|size| *size == n);
+        let range = if n <= 255 { BYTE } else { BEYOND_BYTE };
+        self.refused_sizes[place.unwrap_or(range)] += 1;
+    }
+
+    fn add_absent(&mut self, n: usize, line: &Line) {
+        let Some(j) = line.tested else {
+            return;
+        };
+        let distance = line.station ^ j;
+        let behind = ahead(line.station, distance).any(|k| k >= n);
+        self.absent[0] += u64::from(distance >= n);
+        self.absent[1] += u64::from(behind);
     }
 
     fn unread(&self) -> u64 {
@@ -132,9 +157,9 @@ impl Counts {
     }
 
     fn list_sizes(&self) -> String {
-        let pairs = self.sizes.iter().zip(1..);
+        let pairs = self.sizes.iter().zip(SIZES);
         let texts: Vec<String> = pairs
-            .map(|(count, d)| format!("{}: {count}", 1 << d))
+            .map(|(count, size)| format!("{size}: {count}"))
             .collect();
         texts.join(", ")
     }
@@ -154,9 +179,20 @@ impl Counts {
         for number in NUMBERS {
             need(self.numbers[number], format!("refused {number}"));
         }
-        for (count, d) in self.sizes.iter().zip(1..) {
-            need(*count, format!("size {}", 1 << d));
+        for (count, size) in self.sizes.iter().zip(SIZES) {
+            need(*count, format!("size {size}"));
         }
+        for (count, size) in self.refused_sizes.iter().zip(REFUSED_SIZES) {
+            need(*count, format!("size {size}"));
+        }
+        need(self.refused_sizes[BYTE], String::from("size 67 to 255"));
+        need(
+            self.refused_sizes[BEYOND_BYTE],
+            String::from("size 256 to 999"),
+        );
+        let [far, behind] = self.absent;
+        need(far, String::from("test at a distance of n or more"));
+        need(behind, String::from("test where an absent number is ahead"));
         for (count, outcome) in self.outcomes.iter().zip(0..) {
             need(*count, format!("outcome {outcome}"));
         }
@@ -196,13 +232,21 @@ impl fmt::Display for Counts {
         let read: u64 = self.numbers.iter().sum();
         write!(f, "read {read}, refused ({}), ", list(&self.numbers))?;
         write!(f, "by size ({}), ", self.list_sizes())?;
+        let [zero, one, next, second, byte, beyond] = self.refused_sizes;
+        write!(f, "0: {zero}, 1: {one}, 65: {next}, 66: {second}, ")?;
+        write!(f, "67 to 255: {byte}, 256 to 999: {beyond}, ")?;
         write!(f, "with 4096 entries {}, ", self.full)?;
         write!(f, "without the last line feed {}; ", self.unended)?;
         let entries: u64 = self.outcomes.iter().sum();
         write!(f, "entries taken {entries}, ")?;
         write!(f, "all 4096 by {} inputs, ", self.full_taken)?;
         write!(f, "by outcome ({}), ", list(&self.outcomes))?;
-        write!(f, "by status ({}); ", list(&self.statuses))?;
+        write!(f, "by status ({}), ", list(&self.statuses))?;
+        let [far, behind] = self.absent;
+        write!(
+            f,
+            "tests at n or more {far}, behind an absent number {behind}; "
+        )?;
         write!(f, "rounds closed {}; ", self.rounds)?;
         write!(f, "in pieces too {}", self.pieces)
     }

@@ -1,14 +1,18 @@
 //! Random inputs: plants with entries, some of them damaged.
 
+use shared::groups::{random_size, SIZES};
 use shared::random::Random;
 use shared::schedule::{Entry, Style};
-use shared::table::{self, SIZES};
+use shared::table;
 
 /// The most entries the run program reads.
 pub const MOST: usize = 4_096;
 
 /// A schedule with more entries is a long one.
 const LONG: usize = 400;
+
+/// The sizes next to those of plants.
+pub const REFUSED_SIZES: [usize; 4] = [0, 1, 65, 66];
 
 /// Bytes that make a line unreadable or, in some places, do not.
 const BYTES: &[u8] = b"\n\n\n\r\t  \0TLCtlc0123456789+-/:\x0b\x80\xff";
@@ -41,8 +45,8 @@ pub fn input(random: &mut Random) -> Input {
 fn size(random: &mut Random) -> usize {
     match random.below(30) {
         0 => random.below(1_000),
-        1 => random.below(70),
-        _ => random.pick(&SIZES),
+        1 => random.pick(&REFUSED_SIZES),
+        _ => random_size(random),
     }
 }
 

@@ -92,7 +92,7 @@ const UNREAD: &[(&str, &[u8], usize)] = &[
     ("NUL at the end", b"8\nT 1\n\0", 3),
     ("unreadable second entry", b"8\nT 1\nT x\nT 2\n", 3),
     ("two unreadable lines", b"8\nT 1\nx\nT 2\ny\n", 3),
-    ("unreadable behind size 3", b"3\nT x\n", 2),
+    ("unreadable behind size 1", b"1\nT x\n", 2),
     ("unreadable behind size 0", b"0\nT 0\nt 0\n", 3),
     ("empty line behind size 999", b"999\n\n", 2),
     ("unreadable behind refusal 9", b"2\nT 5\nX\n", 3),
@@ -118,12 +118,6 @@ const READ: &[(&str, &[u8], &str, &str)] = &[
         "0 1 1 0\n0 - 0 0\n1 0 1 0\n1 - 0 0\n1 - 4 1\n0 1 3 3\n",
         "rounds 1 tests 3 refused 10 at 6\n",
     ),
-    ("size 2", b"2\n", "", "rounds 0 tests 0 refused 0 at 0\n"),
-    ("size 4", b"4\n", "", "rounds 0 tests 0 refused 0 at 0\n"),
-    ("size 8", b"8\n", "", "rounds 0 tests 0 refused 0 at 0\n"),
-    ("size 16", b"16\n", "", "rounds 0 tests 0 refused 0 at 0\n"),
-    ("size 32", b"32\n", "", "rounds 0 tests 0 refused 0 at 0\n"),
-    ("size 64", b"64\n", "", "rounds 0 tests 0 refused 0 at 0\n"),
     (
         "8, no line feed",
         b"8",
@@ -143,38 +137,9 @@ const READ: &[(&str, &[u8], &str, &str)] = &[
         "",
         "rounds 0 tests 0 refused 0 at 0\n",
     ),
-    ("size 0", b"0\n", "", "rounds 0 tests 0 refused 1 at 0\n"),
     (
         "size 000",
         b"000\n",
-        "",
-        "rounds 0 tests 0 refused 1 at 0\n",
-    ),
-    ("size 1", b"1\n", "", "rounds 0 tests 0 refused 1 at 0\n"),
-    ("size 3", b"3\n", "", "rounds 0 tests 0 refused 1 at 0\n"),
-    ("size 63", b"63\n", "", "rounds 0 tests 0 refused 1 at 0\n"),
-    ("size 65", b"65\n", "", "rounds 0 tests 0 refused 1 at 0\n"),
-    (
-        "size 128",
-        b"128\n",
-        "",
-        "rounds 0 tests 0 refused 1 at 0\n",
-    ),
-    (
-        "size 256",
-        b"256\n",
-        "",
-        "rounds 0 tests 0 refused 1 at 0\n",
-    ),
-    (
-        "size 258",
-        b"258\n",
-        "",
-        "rounds 0 tests 0 refused 1 at 0\n",
-    ),
-    (
-        "size 999",
-        b"999\n",
         "",
         "rounds 0 tests 0 refused 1 at 0\n",
     ),
@@ -185,8 +150,20 @@ const READ: &[(&str, &[u8], &str, &str)] = &[
         "rounds 0 tests 0 refused 1 at 0\n",
     ),
     (
-        "size 3 and entries",
-        b"3\nT 0\nT 99\n",
+        "size 1 and entries",
+        b"1\nT 0\nT 99\n",
+        "",
+        "rounds 0 tests 0 refused 1 at 0\n",
+    ),
+    (
+        "size 65 and entries",
+        b"65\nT 64\nT 0\n",
+        "",
+        "rounds 0 tests 0 refused 1 at 0\n",
+    ),
+    (
+        "size 258 and entries",
+        b"258\nT 0\nT 1\n",
         "",
         "rounds 0 tests 0 refused 1 at 0\n",
     ),
@@ -219,6 +196,30 @@ const READ: &[(&str, &[u8], &str, &str)] = &[
         b"8\nT 8\nT 0\n",
         "",
         "rounds 0 tests 0 refused 9 at 0\n",
+    ),
+    (
+        "T 3 of 3",
+        b"3\nT 3\nT 0\n",
+        "",
+        "rounds 0 tests 0 refused 9 at 0\n",
+    ),
+    (
+        "C 11 of 11",
+        b"11\nC 10\nC 11\n",
+        "10 - 4 1\n",
+        "rounds 0 tests 0 refused 9 at 1\n",
+    ),
+    (
+        "L 15 of 11",
+        b"11\nL 15\n",
+        "",
+        "rounds 0 tests 0 refused 9 at 0\n",
+    ),
+    (
+        "T 63 of 63",
+        b"63\nT 62\nT 63\n",
+        "62 60 1 0\n",
+        "rounds 0 tests 1 refused 9 at 1\n",
     ),
     (
         "T 05 of 8",
@@ -287,6 +288,36 @@ const READ: &[(&str, &[u8], &str, &str)] = &[
          2 3 1 0\n2 0 1 0\n2 - 0 0\n3 2 1 0\n3 1 1 0\n3 - 0 0\n",
         "rounds 1 tests 8 refused 0 at 12\n",
     ),
+    (
+        "a round of 3 stations",
+        b"3\nT 0\nT 0\nT 0\nT 1\nT 1\nT 2\nT 2\nT 2\n",
+        "0 1 1 0\n0 2 1 0\n0 - 0 0\n1 0 1 0\n1 - 0 0\n2 0 1 0\n2 1 1 0\n2 - 0 0\n",
+        "rounds 1 tests 5 refused 0 at 8\n",
+    ),
+    (
+        "late replies of 3",
+        b"3\nL 0\nL 0\nL 0\n",
+        "0 1 3 0\n0 2 3 3\n",
+        "rounds 0 tests 2 refused 10 at 2\n",
+    ),
+    (
+        "the pass of station 4 of 5",
+        b"5\nT 4\nT 4\nT 4\nT 4\nT 4\nT 4\n",
+        "4 0 1 0\n4 1 1 0\n4 2 1 0\n4 3 1 0\n4 - 0 0\n",
+        "rounds 0 tests 4 refused 11 at 5\n",
+    ),
+    (
+        "the pass of station 10 of 11",
+        b"11\nT 10\nT 10\nT 10\nT 10\nT 10\nT 10\nT 10\nL 10\n",
+        "10 8 1 0\n10 9 1 0\n10 2 1 0\n10 3 1 0\n10 6 1 0\n10 7 1 0\n10 - 0 0\n",
+        "rounds 0 tests 6 refused 11 at 7\n",
+    ),
+];
+
+/// Refused sizes behind 66. A byte would cut those from 256 on: 258 and 514 to
+/// 2, 267 to 11, 320 to 64.
+const LARGE_SIZES: [usize; 14] = [
+    99, 100, 127, 128, 129, 254, 255, 256, 257, 258, 267, 320, 514, 999,
 ];
 
 /// All odd inputs.
@@ -295,8 +326,22 @@ pub fn all() -> Vec<Odd> {
     let unread_rows = unread_rows.map(|(name, input, line)| unread(name, &[input], *line));
     let read_rows = READ.iter();
     let read_rows = read_rows.map(|(name, input, sheet, last)| read(name, &[input], sheet, last));
-    let long = [long_lines(), many_entries(), too_many_entries()].concat();
-    unread_rows.chain(read_rows).chain(long).collect()
+    let made = [sizes(), long_lines(), many_entries(), too_many_entries()];
+    unread_rows.chain(read_rows).chain(made.concat()).collect()
+}
+
+/// Each size from 0 to 66 and some larger ones, with no entry.
+fn sizes() -> Vec<Odd> {
+    let taken = "rounds 0 tests 0 refused 0 at 0\n";
+    let refused = "rounds 0 tests 0 refused 1 at 0\n";
+    let one = |n: usize| {
+        let input = format!("{n}\n");
+        match n {
+            2..=64 => read("a size that is taken", &[input.as_bytes()], "", taken),
+            _ => read("a size that is refused", &[input.as_bytes()], "", refused),
+        }
+    };
+    (0..=66).chain(LARGE_SIZES).map(one).collect()
 }
 
 /// Lines longer than any buffer.
@@ -344,7 +389,7 @@ fn many_entries() -> Vec<Odd> {
         read("4,096 entries", &[b"2\n", most], sheet, last),
         read("4,096 entries, no line feed", unended, sheet, last),
         read("the longest readable input", long, sheet, last),
-        read("4,096 entries and size 3", &[b"3\n", most], "", no_size),
+        read("4,096 entries and size 1", &[b"1\n", most], "", no_size),
         unread("unreadable 4,096th entry", unreadable, 4_097),
         unread("unreadable 4,096th and one more", and_one_more, 4_097),
     ]
@@ -358,7 +403,7 @@ fn too_many_entries() -> Vec<Odd> {
     let inputs: [(&'static str, &[&[u8]]); 10] = [
         ("4,097 entries", &[b"2\n", most, b"T 0\n"]),
         ("4,097 entries, no line feed", &[b"2\n", most, b"T 0"]),
-        ("4,097 entries and size 3", &[b"3\n", most, b"T 0\n"]),
+        ("4,097 entries and size 1", &[b"1\n", most, b"T 0\n"]),
         ("4,097 long entries", &[b"002\n", longest, b"T 00\n"]),
         ("unreadable 4,097th entry", &[b"2\n", most, b"t 0\n"]),
         ("empty line behind 4,096 entries", &[b"2\n", most, b"\n"]),

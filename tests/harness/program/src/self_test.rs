@@ -125,25 +125,25 @@ fn run_with(fault: Fault) -> Result<usize, String> {
             Some(_) => noticed += 1,
             None => unnoticed += 1,
         }
-        if fault == Fault::FirstRead && noticed != 0 {
+        if fault.is_seldom() && noticed != 0 {
             break;
         }
     }
     let right = match fault {
         Fault::None => noticed == 0,
-        Fault::FirstRead => noticed != 0,
+        _ if fault.is_seldom() => noticed != 0,
         _ => unnoticed == 0,
     };
     let problem = || format!("fault {fault:?}: noticed {noticed}, unnoticed {unnoticed}");
     right.then_some(noticed).ok_or_else(problem)
 }
 
-/// The step through the odd inputs. An endless program takes long. One that
-/// reads once need not be noticed on every input, so all are tried until it is.
+/// The step through the odd inputs. An endless program takes long. A fault that
+/// is seldom need not be noticed on every input, so all are tried until it is.
 fn step(fault: Fault) -> usize {
     match fault {
         Fault::Endless => 4 * EVERY,
-        Fault::FirstRead => 1,
+        _ if fault.is_seldom() => 1,
         _ => EVERY,
     }
 }
@@ -181,8 +181,14 @@ fn lowered_counts() -> Vec<Counts> {
     for number in NUMBERS {
         lower(&|counts| &mut counts.numbers[number]);
     }
-    for d in 1..=6 {
-        lower(&|counts| &mut counts.sizes[d - 1]);
+    for size in 2..=64 {
+        lower(&|counts| &mut counts.sizes[size - 2]);
+    }
+    for size in 0..6 {
+        lower(&|counts| &mut counts.refused_sizes[size]);
+    }
+    for test in 0..2 {
+        lower(&|counts| &mut counts.absent[test]);
     }
     for outcome in 0..5 {
         lower(&|counts| &mut counts.outcomes[outcome]);

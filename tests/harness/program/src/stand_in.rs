@@ -20,10 +20,16 @@ pub enum Fault {
     FirstRead,
     /// It does not end.
     Endless,
+    /// A size that is no power of two is refused.
+    PowersOnly,
+    /// A size is filled up to a power of two with boards that are live.
+    Dummies,
+    /// A size is cut to a byte.
+    CutSize,
 }
 
 impl Fault {
-    pub const ALL: [Fault; 8] = [
+    pub const ALL: [Fault; 11] = [
         Fault::None,
         Fault::ByteChanged,
         Fault::ByteMissing,
@@ -32,7 +38,29 @@ impl Fault {
         Fault::Fails,
         Fault::FirstRead,
         Fault::Endless,
+        Fault::PowersOnly,
+        Fault::Dummies,
+        Fault::CutSize,
     ];
+
+    /// Whether it shows on some inputs only.
+    pub fn is_seldom(self) -> bool {
+        match self {
+            Fault::FirstRead | Fault::PowersOnly | Fault::Dummies | Fault::CutSize => true,
+            Fault::None | Fault::ByteChanged | Fault::ByteMissing | Fault::ByteMore => false,
+            Fault::Silent | Fault::Fails | Fault::Endless => false,
+        }
+    }
+
+    /// The size that is run in the place of the one read.
+    fn size(self, n: usize) -> usize {
+        match self {
+            Fault::PowersOnly if !n.is_power_of_two() => 0,
+            Fault::Dummies if n <= 64 => n.next_power_of_two(),
+            Fault::CutSize => n % 256,
+            _ => n,
+        }
+    }
 
     pub fn name(self) -> &'static str {
         match self {
@@ -44,6 +72,9 @@ impl Fault {
             Fault::Fails => "fails",
             Fault::FirstRead => "first-read",
             Fault::Endless => "endless",
+            Fault::PowersOnly => "powers-only",
+            Fault::Dummies => "dummies",
+            Fault::CutSize => "cut-size",
         }
     }
 }
@@ -66,7 +97,7 @@ pub fn run(fault: Fault) -> ExitCode {
 }
 
 fn respond(fault: Fault) -> io::Result<()> {
-    let input = read(fault)?;
+    let input = change_size(read(fault)?, fault);
     let mut output = simulator::program::respond(&input).into_bytes();
     match fault {
         Fault::ByteChanged => {
@@ -79,9 +110,22 @@ fn respond(fault: Fault) -> io::Result<()> {
         Fault::Endless => loop {
             thread::sleep(Duration::from_secs(1));
         },
-        Fault::None | Fault::Fails | Fault::FirstRead => {}
+        _ => {}
     }
     io::stdout().lock().write_all(&output)
+}
+
+/// The input with another size, if its first line has one.
+fn change_size(input: Vec<u8>, fault: Fault) -> Vec<u8> {
+    let length = input.iter().take_while(|byte| **byte != b'\n').count();
+    let size = str::from_utf8(&input[..length]).ok();
+    match size.and_then(|size| size.parse().ok()) {
+        Some(n) if length <= 3 && fault.size(n) != n => {
+            let size = fault.size(n).to_string();
+            [size.as_bytes(), &input[length..]].concat()
+        }
+        _ => input,
+    }
 }
 
 fn read(fault: Fault) -> io::Result<Vec<u8>> {

@@ -1,7 +1,5 @@
 //! A view of the lines of a lent table. Any bytes can stand there.
 
-pub const SIZES: [usize; 6] = [2, 4, 8, 16, 32, 64];
-
 /// The bytes of a line before its row.
 pub const HEAD: usize = 4;
 
@@ -12,6 +10,10 @@ pub struct Line<'a>(&'a [u8]);
 impl<'a> Line<'a> {
     pub fn is_live(self) -> bool {
         self.0[0] == 0
+    }
+
+    pub fn next_distance(self) -> usize {
+        usize::from(self.0[1])
     }
 
     pub fn is_finished(self) -> bool {

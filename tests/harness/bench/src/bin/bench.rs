@@ -13,7 +13,7 @@ use std::process::ExitCode;
 
 const SEED: u64 = 1;
 const ENTRIES: usize = 4000;
-const SIZES: [usize; 4] = [8, 16, 32, 64];
+const SIZES: [usize; 8] = [8, 11, 16, 19, 32, 48, 63, 64];
 const REPETITIONS: usize = 301;
 const QUICK_REPETITIONS: usize = 31;
 
@@ -37,7 +37,7 @@ fn main() -> ExitCode {
 
 fn usage() -> ExitCode {
     eprintln!("usage: bench [--quick | --only library|plain|simulator N DEAD]");
-    eprintln!("N is 8, 16, 32 or 64; at least two of N are not dead");
+    eprintln!("N is 8, 11, 16, 19, 32, 48, 63 or 64; at least two of N are not dead");
     ExitCode::from(2)
 }
 

@@ -10,14 +10,17 @@ use bench::chart::{self, Point};
 use bench::detection::{random_dead, rounds_until_known, Order};
 use bench::slowest::{self, Slowest};
 use bench::statistics::Summary;
+use shared::groups::dimension;
 use shared::random::Random;
 use shared::slowest::INPUTS;
-use shared::table::SIZES;
 use std::fmt::Write;
 use std::process::ExitCode;
 use std::{fs, io};
 
 const SEED: u64 = 1;
+
+/// The powers of two, and three sizes between them.
+const SIZES: [usize; 9] = [2, 4, 8, 11, 16, 19, 32, 48, 64];
 
 /// The orders of turns, the first one for the main table.
 const ORDERS: [Order; 5] = [
@@ -31,8 +34,8 @@ const ORDERS: [Order; 5] = [
 /// The trials of a size; of the delaying order a tenth.
 fn trials(n: usize) -> usize {
     match n {
-        64 => 2000,
-        32 => 5000,
+        33.. => 2000,
+        17.. => 5000,
         _ => 10_000,
     }
 }
@@ -151,13 +154,13 @@ fn main_table(results: &[Results]) -> String {
     let mut text = String::from(
         "## Random plants
 
-At least two boards are live. Their number is drawn from 2 to a power of two that is drawn first from 2 to N, since few live boards take
-the most rounds; then which ones. At least one board is dead, but for N = 2, where there is nothing to find and no round is counted. Each
-turn is taken by any live board that has not finished its pass, at random.
+d is the logarithm of N to base 2, rounded up. At least two boards are live. Their number is drawn from 2 to a power of two that is drawn
+first from 2 to 2^d, since few live boards take the most rounds; then which ones. At least one board is dead, but for N = 2, where there is
+nothing to find and no round is counted. Each turn is taken by any live board that has not finished its pass, at random.
 
 Demand 3 states that d·d rounds suffice. The proof ([DEMAND-3.md](DEMAND-3.md)) shows that the exact wait f(d) suffices: d rounds for d ≤ 3,
-and 4 + ⌊(d − 3)²/2⌋ from 4 on. It is exact for 4 to 64 boards; for 2, with both live, there is nothing to find. Request C-22 asks for
-1 + d(d − 1)/2, which is nowhere less.
+and 4 + ⌊(d − 3)²/2⌋ from 4 on. It is exact for 4, 8, 16, 32 and 64 boards, and wherever the greatest below equals it; for 2, with both
+live, there is nothing to find. Request C-22 asks for 1 + d(d − 1)/2, which is nowhere less.
 
 | N | d | trials | least | mean | 99th percentile | greatest | f(d) | 1 + d(d − 1)/2 | d·d |
 |--:|--:|--:|--:|--:|--:|--:|--:|--:|--:|
@@ -171,7 +174,7 @@ and 4 + ⌊(d − 3)²/2⌋ from 4 on. It is exact for 4 to 64 boards; for 2, wi
             percentile,
             greatest,
         } = row.random();
-        let (n, d, bounds) = (row.n, row.n.ilog2(), bounds(row.n));
+        let (n, d, bounds) = (row.n, dimension(row.n), bounds(row.n));
         let _ = writeln!(
             text,
             "| {n} | {d} | {trials} | {least} | {mean:.2} | {percentile} | {greatest} | {bounds} |"
@@ -189,9 +192,9 @@ fn slowest_table(slowest: &[Slowest]) -> String {
     let mut text = String::from(
         "## The slowest plants
 
-Inputs of the run program in `samples/slowest`, one a size, with many boards dead at once and the turns in an unlucky order: the dead boards
-crash first, then come the turns. Each takes the exact wait f(d). They are the slowest there are, since f(d) rounds always suffice
-([DEMAND-3.md](DEMAND-3.md)). With 32 and 64 boards more rounds are needed than log2 N.
+Inputs of the run program in `samples/slowest`, one for each power of two from 4 to 64, with many boards dead at once and the turns in an
+unlucky order: the dead boards crash first, then come the turns. Each takes the exact wait f(d). They are the slowest there are, since f(d)
+rounds always suffice ([DEMAND-3.md](DEMAND-3.md)). With 32 and 64 boards more rounds are needed than log2 N.
 
 | N | dead | rounds until known | log2 N | f(d) | 1 + d(d − 1)/2 | d·d | input |
 |--:|--:|--:|--:|--:|--:|--:|---|

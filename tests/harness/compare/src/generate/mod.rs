@@ -6,6 +6,7 @@ mod numbers;
 mod schedules;
 mod tables;
 
+use shared::groups;
 use shared::random::Random;
 use shared::table::live_stations;
 
@@ -15,7 +16,7 @@ use crate::call::{Buffers, Call, Kind, Name, Numbers};
 type Size = usize;
 
 pub fn call(random: &mut Random) -> Call {
-    let size = numbers::size(random);
+    let size = groups::random_size(random);
     match random.below(20) {
         0..=1 => fresh_table(size, random),
         2..=4 => group_list(size, random),
@@ -39,13 +40,24 @@ fn fresh_table(size: Size, random: &mut Random) -> Call {
 }
 
 fn group_list(size: Size, random: &mut Random) -> Call {
-    let level = random.between(1, size.trailing_zeros() as usize);
-    let length = numbers::length(1 << (level - 1), random);
+    let level = numbers::level(size, random);
+    let station = match random.once_in(4) {
+        // Of all stations it has the most empty groups.
+        true => size - 1,
+        false => numbers::station(size, random),
+    };
+    let right = groups::group_length(size, station, level);
+    let length = match random.below(40) {
+        0 => right + 1,
+        // With the absent numbers.
+        1 => 1 << (level - 1),
+        _ => numbers::length(right, random),
+    };
     Call {
         kind: Kind::GroupList,
         numbers: Numbers {
             n: numbers::given_size(size, random),
-            station: numbers::station(size, random),
+            station,
             level: numbers::given_level(level, size, random),
         },
         buffers: Buffers::of([(Name::List, random.bytes(length))]),

@@ -1,21 +1,14 @@
 //! Sizes, stations, levels, tallies and lengths, right and wrong.
 
+use shared::groups::{dimension, distances};
 use shared::random::Random;
-use shared::table::{self, SIZES};
+use shared::table;
 
 use super::Size;
 
-const WRONG_SIZES: [usize; 20] = [
+const WRONG_SIZES: [usize; 12] = [
     0,
     1,
-    3,
-    5,
-    6,
-    7,
-    9,
-    12,
-    24,
-    63,
     65,
     66,
     127,
@@ -34,18 +27,14 @@ const ALIASES: [usize; 5] = [1 << 8, 1 << 16, 1 << 31, 1 << 32, 1 << 63];
 /// A table longer than this is not made.
 const LONGEST_TABLE: usize = 20_000;
 
-pub fn size(random: &mut Random) -> Size {
-    random.pick(&SIZES)
-}
-
 /// The size handed over: mostly the right one.
 pub fn given_size(size: Size, random: &mut Random) -> usize {
     if !random.once_in(14) {
         return size;
     }
     match random.below(8) {
-        0..=3 => random.pick(&WRONG_SIZES),
-        4 => random.pick(&SIZES),
+        0..=2 => random.pick(&WRONG_SIZES),
+        3 | 4 => random.below(67),
         5 => size + random.pick(&ALIASES),
         6 => random.below(300),
         _ => random.any() as usize,
@@ -90,7 +79,7 @@ pub fn station(size: Size, random: &mut Random) -> usize {
     }
     match random.below(8) {
         0 | 1 => size,
-        2 => size + 1,
+        2 => random.pick(&[size + 1, distances(size) - 1, distances(size)]),
         3 => random.pick(&[63, 64, 65, 127, 128, 254, 255, 256, 257]),
         4 => right + random.pick(&ALIASES),
         5 => usize::MAX - random.below(2),
@@ -99,12 +88,22 @@ pub fn station(size: Size, random: &mut Random) -> usize {
     }
 }
 
+/// A level of the plant, often the highest, at which groups have the most
+/// lengths.
+pub fn level(size: Size, random: &mut Random) -> usize {
+    let last = dimension(size) as usize;
+    match random.once_in(2) {
+        true => last,
+        false => random.between(1, last),
+    }
+}
+
 /// Mostly the right level.
 pub fn given_level(right: usize, size: Size, random: &mut Random) -> usize {
     if !random.once_in(10) {
         return right;
     }
-    let last = size.trailing_zeros() as usize;
+    let last = dimension(size) as usize;
     match random.below(8) {
         0 => 0,
         1 | 2 => last + 1,

@@ -1,6 +1,7 @@
 //! Schedules: ones that a table takes, ones with nonsense among the entries,
 //! and random ones.
 
+use shared::groups::distances;
 use shared::random::Random;
 use shared::schedule::Style;
 
@@ -60,7 +61,10 @@ fn insert_nonsense(schedule: &mut Vec<u8>, size: Size, random: &mut Random) {
         0 => [random.pick(&[0, 4, 5, 128, 255]), station],
         1 => [random.pick(&[0, 4, 129, 131]), random.byte()],
         2 => [kind, size as u8],
-        3 => [kind, random.pick(&[size as u8 + 1, 64, 128, 255])],
+        3 => {
+            let past = [size as u8 + 1, distances(size) as u8 - 1, 64, 128, 255];
+            [kind, random.pick(&past)]
+        }
         4 => [kind, random.byte()],
         _ => [kind, station],
     };

@@ -1,10 +1,12 @@
 //! Tables: valid ones, ones where refusal 4 applies, and damaged ones.
 
+use shared::groups::distances;
 use shared::random::Random;
 use shared::schedule::Style;
 use shared::table::{fresh, line_length, live_stations, unfinished_stations, HEAD};
 
 use super::{numbers, Size};
+use crate::borders;
 
 /// The size handed over and a table; now and then one of them is wrong.
 pub fn given(size: Size, random: &mut Random) -> (usize, Vec<u8>) {
@@ -67,13 +69,12 @@ fn by_the_rules(size: Size, random: &mut Random) -> Vec<u8> {
 fn line(size: Size, own: usize, weights: &Weights, random: &mut Random) -> Vec<u8> {
     let live = random.below(16) < weights.live;
     let status = if live { 0 } else { random.between(1, 3) };
-    let at_end = random.below(16) < weights.at_end;
-    let next = if at_end {
-        size
-    } else {
-        random.between(1, size)
+    let end = distances(size);
+    let next = match random.below(16) < weights.at_end {
+        true => end,
+        false => random.between(1, end),
     };
-    let finished = next == size && random.below(16) < weights.finished;
+    let finished = next == end && random.below(16) < weights.finished;
     let tests = random.below(next);
     let mut line = vec![status as u8, next as u8, u8::from(finished), tests as u8];
     for other in 0..size {
@@ -96,7 +97,7 @@ fn reopen_one(table: &mut [u8], size: Size, random: &mut Random) {
 fn finish_all_live(table: &mut [u8], size: Size) {
     for line in table.chunks_exact_mut(line_length(size)) {
         if line[0] == 0 {
-            line[1] = size as u8;
+            line[1] = distances(size) as u8;
             line[2] = 1;
         }
     }
@@ -112,12 +113,13 @@ fn damage(table: &mut [u8], size: Size, random: &mut Random) {
     }
 }
 
-/// Changes one byte, often to the first value out of its range.
+/// Changes one byte, often to the first value out of its range, or brings the
+/// next distance to a border.
 fn damage_line(line: &mut [u8], own: usize, size: Size, random: &mut Random) {
     let column = HEAD + random.below(size);
-    match random.below(10) {
+    match random.below(12) {
         0 => line[0] = random.pick(&[4, 5, 8, 128, 255]),
-        1 => line[1] = random.pick(&[0, size as u8 + 1, 128, 255]),
+        1 => line[1] = random.pick(&[0, 128, 255]),
         2 => line[2] = random.pick(&[1, 2, 3, 128, 255]),
         3 => line[3] = line[1],
         4 => line[3] = random.byte(),
@@ -125,6 +127,11 @@ fn damage_line(line: &mut [u8], own: usize, size: Size, random: &mut Random) {
         6 => line[HEAD + own] = 1,
         7 => line[column] ^= 1,
         8 => line[random.below(HEAD)] = random.byte(),
+        9 | 10 => {
+            line[1] = random.pick(&borders::of(size)) as u8;
+            line[2] = random.pick(&[0, 1]);
+            line[3] = 0;
+        }
         _ => line[random.below(line_length(size))] = random.byte(),
     }
 }
