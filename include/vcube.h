@@ -63,7 +63,7 @@ enum vcube_refusal {
     VCUBE_REFUSED_NOT_LIVE = 10,        /* the station is not live */
     VCUBE_REFUSED_PASS_FINISHED = 11,   /* the kind is 1 or 2 and the station has finished its pass */
     VCUBE_REFUSED_LEVEL = 12,           /* the level is 0 or above d */
-    VCUBE_REFUSED_LIST_LENGTH = 13      /* the lent list has not the length stated */
+    VCUBE_REFUSED_LIST_LENGTH = 13      /* the lent list has not the length stated (group list: vcube_group_length; assignment: n - 1) */
 };
 
 /* Byte 0 of an entry. */
@@ -116,7 +116,7 @@ static inline size_t vcube_group_length(size_t n, size_t station, size_t level)
 }
 
 /* Assignment: the distances due for a live station, ascending, into a list of n - 1 bytes, the rest 0; how many into *count, which is 0
- * where the call is refused.
+ * where the call is refused. A distance may be n or more, up to 2^d - 1; the station at it, station ^ distance, is below n.
  * Refusals: 1 to 4, 9, 10, 13. */
 uint8_t vcube_assignment(size_t n, const uint8_t *table, size_t table_length, size_t station, uint8_t *list, size_t list_length,
                          size_t *count);

@@ -102,6 +102,9 @@ pub fn fresh_table(n: usize, table: &mut [u8]) -> Result<(), Refusal> {
 /// The highest level of the largest plant.
 const HIGHEST_LEVEL: usize = 6;
 
+/// The length of the longest group list, that of the highest level.
+pub const LONGEST_GROUP: usize = 1 << (HIGHEST_LEVEL - 1);
+
 /// The length of a group list: how many members the station's group at that
 /// level has, 0 to 2^(level - 1). It is computed here, not by the library, and
 /// has no meaning where the library refuses the size, the station or the level.
@@ -135,7 +138,8 @@ pub fn group_list(
     accepted(raw::group_list(n, station.0, level.0, list))
 }
 
-/// The group list as typed stations: the members, in order, read from the list.
+/// The group list as typed stations: the members, in order, read from the list,
+/// which has the length [`group_length`].
 /// Refusals: 1, 9, 12, 13.
 pub fn group_stations(
     n: usize,

@@ -91,7 +91,7 @@ fn the_group_length_takes_any_numbers() {
     for n in numbers {
         for station in numbers.map(Station) {
             for level in numbers.map(Level) {
-                assert!(group_length(n, station, level) <= 32);
+                assert!(group_length(n, station, level) <= LONGEST_GROUP);
             }
         }
     }

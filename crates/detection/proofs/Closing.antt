@@ -39,12 +39,12 @@ round-start n L t p fresh =
     record { fresh = fresh; counts = counts-start n t; roomy = roomy-start n t fresh; knows = knows-start n L t p fresh }
 
 -- the round rule leaves status and rows
-reset-rows : (n : ℕ) (L : ℕ → Bool) (t : List ℕ) → 1 ≤ distances n → Plain n L t → Plain n L (resetLines n t) × Grown n t (resetLines n t)
-reset-rows n L t pos p = same-rows n L t (resetLines n t) (reset-lines n t pos (p .lines)) (reset-other n t) p
+reset-rows : (n : ℕ) (L : ℕ → Bool) (t : List ℕ) → Plain n L t → Plain n L (resetLines n t) × Grown n t (resetLines n t)
+reset-rows n L t p = same-rows n L t (resetLines n t) (reset-lines n t (p .lines)) (reset-other n t) p
 
 -- the table after a round has closed is the start of the next
-pub restart : (n : ℕ) (L : ℕ → Bool) (t : List ℕ) → 1 ≤ distances n → Plain n L t → InRound n L (resetLines n t) [] (resetLines n t)
-restart n L t pos p = round-start n L (resetLines n t) (reset-rows n L t pos p .0) (reset-cells n t (p .lines .0))
+pub restart : (n : ℕ) (L : ℕ → Bool) (t : List ℕ) → Plain n L t → InRound n L (resetLines n t) [] (resetLines n t)
+restart n L t p = round-start n L (resetLines n t) (reset-rows n L t p .0) (reset-cells n t (p .lines .0))
 
 -- two stations are at one of the plant's distances
 distance-below : (n i x : ℕ) → n ≤ distances n → i < n → x < n → bitXor i x < distances n
@@ -75,14 +75,15 @@ module _ (n : ℕ) (L : ℕ → Bool) (t₀ t : List ℕ) (here : List Taken) (i
   }
     where
       reset-grows : Grown n t (resetLines n t)
-      reset-grows k y hk = reset-rows n L t (omega arith) (inv .knows .plain) .1 k y hk
+      reset-grows k y hk = reset-rows n L t (inv .knows .plain) .1 k y hk
 
       inside : (i x : ℕ) → i < n → x < n → bitXor i x < distances n
       inside i x a b = distance-below n i x low a b
 
       at-last : (i : ℕ) → i < n → L i ≡ true → (h j : ℕ) → InPassOf n L t₀ i h j → RowOf n t i j
       at-last i hi l h j =
-          known-now n L t₀ t (inv .knows) i hi l (distances n) (λ m a b. absurd (omega (arith, at-end i hi l))) h j (λ x hx b. inside i x hi hx)
+          known-now n L t₀ t (inv .knows) i hi l (distances n) (λ m a b. absurd (omega (arith, at-end i hi l))) h j
+          (λ x hx b. inside i x hi hx)
 
 -- a sum over all numbers whose terms for the absent ones are 0
 present-sum : (n : ℕ) (f : ℕ → ℕ) → n ≤ distances n → ((i : ℕ) → n ≤ i → f i ≡ 0) → sum f (distances n) ≡ sum f n

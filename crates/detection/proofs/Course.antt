@@ -13,7 +13,7 @@ use Rattle.station.specs.Groups.{isSize, stationAt, distances}
 use Rattle.station.specs.Table.{finished, live}
 use Rattle.station.proofs.SearchLaws.{both}
 use Rattle.station.proofs.Refusals.{Accepted}
-use Rattle.station.proofs.Sizes.{size-bounds, size-distances}
+use Rattle.station.proofs.Sizes.{size-distances}
 use Rattle.plant.specs.Turn.{kindTurn, kindLate, kindCrash, makesTest, nextTest, turnTested, resetLines, afterRound}
 use Rattle.plant.specs.Entry.{Entry, State, isCrash, entryNumber, acted, after, testedOf}
 use Rattle.plant.proofs.Kept.{Takes, entry-facts}
@@ -77,7 +77,8 @@ abbrev CutFrom : ℕ → List ℕ → List ℕ → List Taken → State → List
 CutFrom n T t₀ cur s xs s′ = Course n T t₀ (cut cur xs) (s′ .table) × Tallied cur s (cut cur xs) s′
 
 -- no entry more
-cut-done : (n : ℕ) (T t₀ : List ℕ) (cur : List Taken) (s : State) → isSize n ≡ true → InRound n (live n T) t₀ cur (s .table) → CutFrom n T t₀ cur s [] s
+cut-done : (n : ℕ) (T t₀ : List ℕ) (cur : List Taken) (s : State) → isSize n ≡ true → InRound n (live n T) t₀ cur (s .table)
+    → CutFrom n T t₀ cur s [] s
 unfolding cut testsOfAll
 cut-done n T t₀ cur s size inv = (
   record {
@@ -164,7 +165,7 @@ module _ (n : ℕ) (T : List ℕ) (company : Company n (live n T)) (t₀ : List 
     where
       closing : roundOver n t′ ≡ true → CutFrom n T t₀ cur s (x ∷ xs) s′
       closing over =
-          let r = rest (resetLines n t′) [] (rw over (restart n L t′ (omega (arith, size-bounds n (ok .size), low)) (moved .knows .plain))) in
+          let r = rest (resetLines n t′) [] (rw over (restart n L t′ (moved .knows .plain))) in
           rw (closing-is ∙ over) (
             record {
               start = λ q. elim q [ zero ↦ t₀ | suc q ↦ r .0 .start q ];

@@ -18,7 +18,7 @@ use Rattle.station.specs.Rules.{notLive}
 use Rattle.station.proofs.SearchLaws.{both, every-at, least-passes, least-before}
 use Rattle.station.proofs.Refusals.{Accepted}
 use Rattle.station.proofs.CellLaws.{accepted-line}
-use Rattle.station.proofs.Sizes.{size-bounds, size-log, size-power}
+use Rattle.station.proofs.Sizes.{size-bounds, size-log}
 use Rattle.plant.specs.Entry.{State}
 use Rattle.plant.proofs.StepCells.{Reset}
 use Rattle.station.specs.Sums.{bit}
@@ -84,13 +84,14 @@ module _ (n : ℕ) (s : State) (calls : List Call) (given : Premises n s calls) 
   history : Course n (s .table) (s .table) (roundsOf s calls) (afterRuns s calls .table)
       × Tallied [] s (roundsOf s calls) (afterRuns s calls)
   history =
-      course n (s .table) (given .size) (company-of n (s .table) (given .twoLive)) (chain-all n s calls (given .long)) (given .noCrash) (given .noLate)
+      course n (s .table) (given .size) (company-of n (s .table) (given .twoLive)) (chain-all n s calls (given .long))
+      (given .noCrash) (given .noLate)
       (s .table) [] (first-round n s calls given ok)
 
   -- after the exact wait all rounds start exact
   exact : (q : ℕ) → exactWait (dimension n) ≤ q → q ≤ length (roundsOf s calls .closed) → Exact n L (history .0 .start q)
   exact =
-      exact-at n (dimension n) (s .table) (s .table) (roundsOf s calls) (afterRuns s calls .table) (history .0) (size-power n (given .size))
+      exact-at n (dimension n) (s .table) (s .table) (roundsOf s calls) (afterRuns s calls .table) (history .0) (let d = size-log n (given .size) in rw (d .1) (d .3))
 
   known : exactWait (dimension n) ≤ length (roundsOf s calls .closed)
       → (i j : ℕ) → i < n → j < n → L i ≡ true → suspects n (afterRuns s calls .table) i j ≡ bit (notLive n (s .table) j)

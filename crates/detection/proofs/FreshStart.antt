@@ -3,17 +3,17 @@
 use mathlib.Core.Path.{_≡_, _∙_}
 use mathlib.Core.Bool.{true, cond}
 use mathlib.Core.List.{List}
-use Prim.Native.Nat.{ℕ, _+_, _%_, _≤_, _<_}
+use Prim.Native.Nat.{ℕ, _+_, _%_, _<_}
 use native.Mathlib.Nat.{mod-eq-of-lt, mul-add-mod-self-right}
 use native.Mathlib.Omega.{arith}
 use borrow.Author.Tests.{ne-eqb}
 use lib.Dec.{eqb}
-use Rattle.station.specs.Groups.{isSize, distances}
+use Rattle.station.specs.Groups.{isSize}
 use Rattle.station.specs.Table.{head, stride, tableLength, lineStart, cell, statusColumn, nextColumn, finishedColumn, testsColumn, suspects}
 use Rattle.station.specs.Rules.{lineRules, tableNumber}
 use Rattle.station.specs.Calls.{freshByte, freshTable}
 use Rattle.station.proofs.SearchLaws.{every-all, listOf-length, listOf-at}
-use Rattle.station.proofs.Sizes.{size-bounds, size-distances}
+use Rattle.station.proofs.Sizes.{distances-pos}
 use Rattle.station.proofs.CellLaws.{line-inside, Line, line-holds}
 use Rattle.plant.proofs.Kept.{unfinished-open}
 use Rattle.plant.proofs.RunLaws.{accepted-number}
@@ -28,11 +28,11 @@ fresh-cell n i c h g =
     place : (lineStart n i + c) % stride n ≡ c
     place = mul-add-mod-self-right i (stride n) c ∙ mod-eq-of-lt g
 
-fresh-line : (n i : ℕ) → 1 ≤ distances n → i < n → Line n (freshTable n) i
-fresh-line n i h g = record {
+fresh-line : (n i : ℕ) → i < n → Line n (freshTable n) i
+fresh-line n i g = record {
   statusRange = omega (arith, fresh-cell n i statusColumn g (omega arith));
   pass = rw (fresh-cell n i nextColumn g (omega arith), fresh-cell n i finishedColumn g (omega arith), fresh-cell n i testsColumn g (omega arith))
-      (record { nextLow = omega arith; nextHigh = omega arith; finishedRange = omega arith; testsBound = omega arith; finishedNext = λ e. absurd (omega arith) });
+      (record { nextLow = omega arith; nextHigh = distances-pos n; finishedRange = omega arith; testsBound = omega arith; finishedNext = λ e. absurd (omega arith) });
   own = row i g;
   range = λ k l. omega (arith, row k l);
 }
@@ -46,7 +46,7 @@ fresh-start n e = (
   accepted-number n t (record {
     size = e;
     long = listOf-length (freshByte n) (tableLength n);
-    lines = every-all (lineRules n t) n (λ i h. line-holds n t i (fresh-line n i (omega (arith, size-bounds n e, size-distances n e)) h));
+    lines = every-all (lineRules n t) n (λ i h. line-holds n t i (fresh-line n i h));
     unclosed = unfinished-open n t (λ i h. fresh-cell n i finishedColumn h (omega arith));
   }),
   every-all (lineAtStart n t) n (λ i h.

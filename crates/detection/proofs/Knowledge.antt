@@ -31,9 +31,9 @@ use Rattle.detection.proofs.Near.{Member, Ahead, member-distance}
 use Rattle.detection.proofs.Pass.{InPass, had, stays, finds, hears, Tests}
 use Rattle.detection.proofs.TurnEffect.{Plain, Grown, Row, Tested, tested-more, Turned}
 
--- the live stations among the N
+-- the live stations among the n
 abbrev pub LiveOf : ℕ → (ℕ → Bool) → ℕ → Bool
-LiveOf n L i = ltb i n && L i
+LiveOf n L i = isPresent n i && L i
 
 -- i suspects j, or j is absent
 abbrev pub RowOf : ℕ → List ℕ → ℕ → ℕ → Type 0
@@ -82,14 +82,16 @@ knows-start n L t p fresh = record {
   met = λ i a l h x hx below asks.
       absurd (omega (arith, pow-pos h, fresh i a .next, xor-comm i x, member-distance h x i .0 (asks .0)));
   counted = λ exact i a.
-      rw (fresh i a .untested, fresh i a .next) (sym (sum-zero 1 (λ m l. let e : m ≡ 0 = omega arith in rw (e, leads-zero (LiveOf n L) i, and-false))));
+      rw (fresh i a .untested, fresh i a .next)
+      (sym (sum-zero 1 (λ m l. let e : m ≡ 0 = omega arith in rw (e, leads-zero (LiveOf n L) i, and-false))));
 }
 
 -- in an exact table a live station's due distances are those at which it leads the group of a station
 exact-due : (n : ℕ) (L : ℕ → Bool) (t : List ℕ) → Plain n L t → Exact n L t → (i m : ℕ) → i < n → L i ≡ true
     → due (row n t i) i m ≡ leadsAt n L i m
 unfolding due
-exact-due n L t p exact i m hi l = rw (long, leads-same (unsuspected (row n t i)) (LiveOf n L) i m (λ k h. same (member (stationAt i m) (level m) k)))
+exact-due n L t p exact i m hi l =
+    rw (long, leads-same (unsuspected (row n t i)) (LiveOf n L) i m (λ k h. same (member (stationAt i m) (level m) k)))
   where
     long : length (row n t i) ≡ n
     long = row-length n t i (p .lines .0) hi

@@ -89,4 +89,6 @@ module _ (n : ℕ) (t t′ : List ℕ) (i : ℕ) (heads : Heads n t t′ i (make
       (λ e.
       let stay = sum-stays dues (nextDistance n t i) (nextTest n t i) (nextTest-low n t i) (λ y a b. ap bit (not-due-before n t i y a b)) in
       rw (heads .next, e, add-one (nextTest n t i)) (omega (arith, stay, ap bit (test-due n t i e))))
-      (λ e. rw (heads .next, e) (omega (arith, sum-stays dues (nextDistance n t i) (distances n) high (λ y a b. ap bit (none-due n t i e high y a b)))))
+      (λ e.
+      let stay = sum-stays dues (nextDistance n t i) (distances n) high (λ y a b. ap bit (none-due n t i e high y a b)) in
+      rw (heads .next, e) (omega (arith, stay)))

@@ -42,7 +42,7 @@ liveAt n t x = isPresent n x && live n t x
 unfoldable pub deadGroup : ℕ → List ℕ → ℕ → ℕ → Bool
 deadGroup n t j s = every (λ k. not (liveAt n t (member j s k))) (width s)
 
--- the pairs of a station, live or not, and a level from 1 to d whose group has no live board
+-- the pairs of one of the n stations, live or not, and a level from 1 to d whose group has no live board
 unfoldable pub deadPairs : ℕ → List ℕ → ℕ
 deadPairs n t = sum (λ j. sum (λ h. bit (deadGroup n t j (suc h))) (dimension n)) n
 
@@ -62,7 +62,7 @@ allRounds r = r .closed ++ (r .openRound ∷ [])
 abbrev pub roundAt : State → List Call → ℕ → List Taken
 roundAt s calls k = getD (allRounds (roundsOf s calls)) k []
 
--- station i has at most N turns in a round, and an Nth finished its pass
+-- station i has at most n turns in a round, and an nth finished its pass
 abbrev pub TurnsOk : ℕ → ℕ → List Taken → Type 0
 TurnsOk n i round = (turnsIn i round ≤ n) × (n ≤ turnsIn i round → nthTurnFinishes i n round ≡ true)
 
@@ -81,7 +81,7 @@ pub record Premises (n : ℕ) (s : State) (calls : List Call) : Type 0 where
 pub record Conclusion (enough n : ℕ) (s : State) (calls : List Call) (end : State) : Type 0 where
   -- the live boards are the same as at first
   pub sameLive : (i : ℕ) → i < n → live n (end .table) i ≡ live n (s .table) i
-  -- in every round, the open one included, a live board has at most N turns, and an Nth turn finished its pass
+  -- in every round, the open one included, a live board has at most n turns, and an nth turn finished its pass
   pub turns : (k i : ℕ) → k ≤ length (roundsOf s calls .closed) → i < n → live n (s .table) i ≡ true
       → TurnsOk n i (roundAt s calls k)
   -- once enough rounds have closed, each live board suspects exactly the boards that are not live
@@ -117,6 +117,7 @@ demandWait d = d * d
 abbrev pub Demand3 : Type 0
 Demand3 = Within demandWait
 
--- the rounds of our own claim: 1, 2, 3, 4, 6, 8 for 2, 4, 8, 16, 32, 64 boards (for 2 boards, both live, 0 would do)
+-- the rounds of our own claim: 1, 2, 3, 4, 6, 8 for d = 1 to 6. That fewer do not suffice is shown for 4, 8, 16 and 32 boards (crate
+-- witness); for 2 boards, both live, 0 would do
 unfoldable pub exactWait : ℕ → ℕ
 exactWait d = cond (ltb d 4) d (4 + (d - 3) * (d - 3) / 2)

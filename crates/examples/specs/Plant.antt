@@ -1,5 +1,5 @@
--- The plant examples of document 01 marked [P], and those of request C-11, in one table: what the definitions give, and what is said. One
--- statement covers it.
+-- The plant examples of document 01 marked [P], and examples that follow the rule of request C-11, in one table: what the definitions give,
+-- and what is said. One statement covers it.
 -- Assumes nothing.
 use mathlib.Core.Path.{_≡_, refl}
 use mathlib.Core.List.{List, [], _∷_, map}

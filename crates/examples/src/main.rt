@@ -1,11 +1,13 @@
-// Computes the examples of document 01 that are not marked [P], sizes and tests of request C-11, a plant of eight boards, all of Table 1 of
-// paper 000, and column vCube of Table 3 of paper 001. What it writes is compared with the file `stdout`, which has what the documents and the papers say.
+// Computes the examples of document 01 that are not marked [P], examples that follow the rule of request C-11, a plant of eight boards, all of
+// Table 1 of paper 000, and column vCube of Table 3 of paper 001. What it writes is compared with the file `stdout`, which has what the
+// documents and the papers say, and for C-11 what its rule gives by hand and by the simulator.
 use plant::Answer;
 use plant::Tally;
 use plant::run;
 use station::Level;
 use station::Station;
 use station::cells;
+use station::due;
 use station::fresh;
 use station::groups;
 
@@ -18,6 +20,7 @@ fn main() {
     eight_boards();
     top_tally();
     table_3();
+    eleven_boards();
     odd_sizes();
 }
 
@@ -45,15 +48,15 @@ fn line_end() {
 
 fn group_column(i: Station, s: Level, w: u8) {
     let mut list = [0u8; 4];
-    members(i, s, w as usize, &mut list);
+    members(8, i, s, w as usize, &mut list);
 }
 
-// The w members of the group of i at level s, by way of the front of a list.
-fn members(i: Station, s: Level, w: usize, list: &mut [u8]) {
+// The w members of the group of i at level s among n, by way of the front of a list.
+fn members(n: usize, i: Station, s: Level, w: usize, list: &mut [u8]) {
     if list.len() < w {
         return;
     }
-    let number = groups::group_list(8, i, s, &mut list[0..w]);
+    let number = groups::group_list(n, i, s, &mut list[0..w]);
     if number != 0 {
         return;
     }
@@ -171,6 +174,36 @@ fn messages_line(n: u8, rounds: u8) {
     line_end();
 }
 
+// C-11, eleven boards: groups (10, level 1), (10, level 2) and (2, level 4); the distances due for station 10, nothing suspected; and the
+// tests of a round once all know that board 4 is dead.
+fn eleven_boards() {
+    eleven_line(10, Level(1), 0);
+    eleven_line(10, Level(2), 2);
+    eleven_line(2, Level(4), 3);
+    let mut table = [0u8; 165];
+    fresh::fresh_table(11, &mut table);
+    let mut list = [0u8; 10];
+    due::assignment(11, &table, Station(10), &mut list);
+    io::write_all(OUT, b"10 due");
+    commas(&list);
+    line_end();
+    let crashed = entry_of(11, &mut table, no_tally(), 3, 4);
+    let known = some_rounds(11, 4, &mut table, crashed.tally);
+    let after = one_round(11, &mut table, known, 255);
+    tests_line(known, after);
+}
+
+// The w members of the group of i at level s among eleven.
+fn eleven_line(i: u8, s: Level, w: usize) {
+    let mut list = [0u8; 4];
+    byte(i);
+    io::write_all(OUT, b" level ");
+    byte(s.0);
+    io::write_all(OUT, b":");
+    members(11, Station(i), s, w, &mut list);
+    line_end();
+}
+
 // C-11: the tests of a round with nobody dead.
 fn odd_sizes() {
     round_line(3);
@@ -200,9 +233,14 @@ fn fresh_rounds(n: u8, rounds: u8, len: usize, space: &mut [u8]) -> Tally {
     many_rounds(n, rounds, &mut space[0..len])
 }
 
-// The tally of so many rounds.
+// The tally of so many rounds, from none.
 fn many_rounds(n: u8, rounds: u8, table: &mut [u8]) -> Tally {
-    let mut tally = no_tally();
+    some_rounds(n, rounds, table, no_tally())
+}
+
+// The tally of so many rounds, behind the tally before.
+fn some_rounds(n: u8, rounds: u8, table: &mut [u8], before: Tally) -> Tally {
+    let mut tally = before;
     let mut k: u8 = 0;
     while k < rounds {
         tally = one_round(n, table, tally, 255);

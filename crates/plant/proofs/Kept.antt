@@ -14,7 +14,6 @@ use Rattle.station.specs.Rules.{lineRules, notLive, someLive, finishedIfLive, l
 use Rattle.station.proofs.BoolLaws.{neither}
 use Rattle.station.proofs.SearchLaws.{both, every-at, every-all}
 use Rattle.station.proofs.Refusals.{Accepted, accepted, else-zero, refuse-zero}
-use Rattle.station.proofs.Sizes.{size-bounds, size-distances}
 use Rattle.station.proofs.CellLaws.{Line, line-holds, accepted-line}
 use Rattle.plant.specs.Turn.{turn, crash, resetLines, afterRound}
 use Rattle.plant.specs.Entry.{Entry, State, tallyTop, isCrash, entryNumber, acted, after, sheetLine}
@@ -99,7 +98,7 @@ accepted-kept n s e a z = pick (roundOver n t) refl
 
     pick : (b : Bool) → roundOver n t ≡ b → Accepted n (cond b (resetLines n t) t)
     pick true c =
-        make (resetLines n t) (reset-lines n t (omega (arith, size-bounds n (a .size), size-distances n (a .size))) lines) (unfinished-open n (resetLines n t) (λ i h. reset-cells n t (lines .0) i h .unfinished))
+        make (resetLines n t) (reset-lines n t lines) (unfinished-open n (resetLines n t) (λ i h. reset-cells n t (lines .0) i h .unfinished))
     pick false c = make t lines c
 
 -- "An empty schedule is accepted and changes nothing": on a table that refusals 1 to 4 let through. An end in itself

@@ -14,6 +14,7 @@ use Rattle.station.specs.Groups.{isSize, distances, stationAt}
 use Rattle.station.specs.Table.{head, stride, tableLength, cell, statusColumn, nextColumn, finishedColumn, testsColumn, status, nextDistance, finished, suspects}
 use Rattle.station.proofs.BoolLaws.{choice}
 use Rattle.station.proofs.Xor.{xor-cancel}
+use Rattle.station.proofs.Sizes.{distances-pos}
 use Rattle.station.proofs.CellLaws.{Line, cell-same, cell-other, setCell-length}
 use Rattle.plant.specs.Turn.{outcomeExchanged, outcomeTold, setStatus, makesTest, nextTest, finishPass, countTest, exchangeRows, suspect, testOutcome, afterOutcome, afterTest, isAlone, afterAlone, testing, turn, resetLines}
 use Rattle.plant.proofs.NextTest.{nextTest-low, test-below, test-station}
@@ -186,8 +187,8 @@ turn-lines n t kind i size lines h going = pick (makesTest n t i) refl
     pick false e = finishPass-lines n t i lines h
 
 -- Step 8
-pub reset-lines : (n : ℕ) (t : List ℕ) → 1 ≤ distances n → Lines n t → Lines n (resetLines n t)
-reset-lines n t pos lines = (
+pub reset-lines : (n : ℕ) (t : List ℕ) → Lines n t → Lines n (resetLines n t)
+reset-lines n t lines = (
   reset-length n t ∙ lines .0,
   λ k h.
       let l = lines .1 k h in
@@ -195,7 +196,7 @@ reset-lines n t pos lines = (
       record {
         statusRange = rw (reset-other n t k statusColumn (omega arith) (omega arith)) (l .statusRange);
         pass = rw (r .next, r .unfinished, r .untested)
-            (record { nextLow = omega arith; nextHigh = omega arith; finishedRange = omega arith; testsBound = omega arith; finishedNext = λ p. absurd (omega arith) });
+            (record { nextLow = omega arith; nextHigh = distances-pos n; finishedRange = omega arith; testsBound = omega arith; finishedNext = λ p. absurd (omega arith) });
         own = reset-other n t k (head + k) (omega arith) (omega arith) ∙ l .own;
         range = λ x hx. rw (reset-other n t k (head + x) (omega arith) (omega arith)) (l .range x hx);
       },

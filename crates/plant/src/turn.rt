@@ -33,7 +33,7 @@ pub(crate) fn take_turn(n: u8, table: &mut [u8], kind: u8, i: Station) -> Turned
     ensures { λ _. ⌜ now (table .exit) ≡ turn n (now (table .entry)) kind (i .0) ⌝ }
 {
     let m = next_test(n, table, i);
-    if groups::distances(n) <= m.0 {
+    if groups::distances(n) <= m.0 as u16 {
         finish_pass(n, table, i);
         return Turned {
             tested: codes::NO_STATION,
@@ -54,12 +54,8 @@ fn next_test(n: u8, table: &[u8], i: Station) -> Distance
     ensures { λ r. ⌜ r .0 ≡ nextTest n (now (table .entry)) (i .0) ⌝ }
 {
     let next = inside::get(n, table, i, cells::NEXT);
-    scan(
-        inside::row(n, table, i),
-        i,
-        groups::distances(n),
-        Distance(next),
-    )
+    let end = groups::distances(n) as u8;
+    scan(inside::row(n, table, i), i, end, Distance(next))
 }
 
 // The least distance from `from` on, and below `end`, that is due for i by its row; `end`, or `from` if that is greater, where there is none.
@@ -81,7 +77,7 @@ fn finish_pass(n: u8, table: &mut [u8], i: Station)
     requires { ⌜ (n ≤ 64) × HasLine n (now table) (i .0) ⌝ }
     ensures { λ _. ⌜ now (table .exit) ≡ finishPass n (now (table .entry)) (i .0) ⌝ }
 {
-    inside::put(n, table, i, cells::NEXT, groups::distances(n));
+    inside::put(n, table, i, cells::NEXT, groups::distances(n) as u8);
     inside::put(n, table, i, cells::FINISHED, 1);
 }
 

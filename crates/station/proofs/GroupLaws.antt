@@ -7,7 +7,6 @@ use Prim.Native.Nat.{ℕ, zero, suc, _+_, _-_, _^_, _≤_, _<_}
 use native.Mathlib.Nat.{eq-or-lt-of-le, le-of-suc-le-suc, one-mul, two-pow-succ}
 use native.Mathlib.Omega.{arith}
 use lib.Bits.{xor-self, xor-zero-r, xor-lt, xor-shifted}
-use lib.Pow.{pow-mono}
 use borrow.Author.Tests.{ltb-true, lt-ltb}
 use mathlib.Core.Bool.{true}
 use Rattle.station.specs.Search.{listOf, keep}
@@ -17,7 +16,7 @@ use Rattle.station.proofs.Xor.{xor-assoc, xor-cancel, xor-zero-eq}
 use Rattle.station.proofs.SearchLaws.{listOf-same, listOf-append}
 use Rattle.station.proofs.KeepLaws.{keep-append, keep-mem, mem-keep}
 use Rattle.station.proofs.Sizes.{size-distances}
-use Rattle.station.proofs.Levels.{level-zero, level-in, level-le, level-bounds, level-split, level-upper}
+use Rattle.station.proofs.Levels.{level-zero, level-in, level-le, level-bounds, level-split}
 
 -- an element of a list by f is f of a place
 mem-place : (f : ℕ → ℕ) (n x : ℕ) → List·Memᴰ x (listOf f n) → (k : ℕ) × (k < n) × (x ≡ f k)
@@ -31,7 +30,7 @@ mem-place f (suc n) x m = pick (mem-place f n x) (List·Memᴰ·append-cases (li
     pick rest (inr m′) = (n, omega arith, List·Memᴰ·eq-of-singleton m′)
 
 -- and the other way
-pub place-mem : (f : ℕ → ℕ) (n x k : ℕ) → k < n → x ≡ f k → List·Memᴰ x (listOf f n)
+place-mem : (f : ℕ → ℕ) (n x k : ℕ) → k < n → x ≡ f k → List·Memᴰ x (listOf f n)
 unfolding listOf
 place-mem f zero x k h e = absurd (omega arith)
 place-mem f (suc n) x k h e = pick (place-mem f n x k) (eq-or-lt-of-le (le-of-suc-le-suc h))
@@ -44,7 +43,7 @@ no-group-zero : (i x : ℕ) → List·Memᴰ x (fullGroup i 0) → ⊥
 unfolding fullGroup width listOf
 no-group-zero i x m = List·Memᴰ·not-nil m
 
--- who is in the group of i at level s has a distance of that level
+-- who is in the full group of i at level s has a distance of that level
 members-level : (i s x : ℕ) → List·Memᴰ x (fullGroup i s) → level (distance i x) ≡ s
 unfolding fullGroup width member
 members-level i zero x m = absurd (no-group-zero i x m)
@@ -95,20 +94,13 @@ in-one-group n i x size hi hx other =
       λ s′ mem. sym (group-members n i s′ x mem .1),
     )
 
--- the full groups of numbers below 2^d have no number beyond it
-pub members-below : (d i s x : ℕ) → i < 2 ^ d → s ≤ d → List·Memᴰ x (fullGroup i s) → x < 2 ^ d
-members-below d i s x hi hs mem =
-    let u : distance i x < 2 ^ s = rw (members-level i s x mem) at (level-upper (distance i x)) in
-    let l : distance i x < 2 ^ d = omega (arith, pow-mono hs) in
-    rw xor-cancel at (xor-lt d i (distance i x) hi l)
-
 -- the stations at distances below 2^h from j, in order of distance
 run : (j h : ℕ) → listOf (stationAt j) (2 ^ h) ≡ j ∷ groupsTo j h
 unfolding groupsTo fullGroup width member listOf
 run j zero = cc (xor-zero-r j)
 run j (suc h) = rw two-pow-succ (listOf-append (stationAt j) (2 ^ h) (2 ^ h) ∙ rw (run j h))
 
--- "equation 1": a group is its first station and that station's groups at all lower levels
+-- "equation 1": a full group is its first number and that number's full groups at all lower levels
 pub equation-1 : (i h : ℕ) → fullGroup i (suc h) ≡ stationAt i (2 ^ h) ∷ groupsTo (stationAt i (2 ^ h)) h
 unfolding fullGroup width member
 equation-1 i h = listOf-same (member i (suc h)) (stationAt (stationAt i (2 ^ h))) (2 ^ h) shifted ∙ run (stationAt i (2 ^ h)) h
@@ -121,7 +113,7 @@ unfolding remainingTo groupsTo keep group
 remaining-is n j zero = refl
 remaining-is n j (suc h) = keep-append (isPresent n) (groupsTo j h) (fullGroup j (suc h)) ∙ rw (remaining-is n j h)
 
--- with the absent numbers left out: its first station, if that is present, and that station's groups at all lower levels
+-- with the absent numbers left out: its first number, if that is present, and that number's groups at all lower levels
 pub equation-1-remaining : (n i h : ℕ)
     → group n i (suc h) ≡ keep (isPresent n) (stationAt i (2 ^ h) ∷ []) ++ remainingTo n (stationAt i (2 ^ h)) h
 unfolding group

@@ -3,14 +3,14 @@
 use mathlib.Core.Path.{_≡_, refl}
 use mathlib.Core.Logic.{_⊎_, inl, inr}
 use mathlib.Core.Bool.{Bool}
-use Prim.Native.Nat.{ℕ, zero, suc, _+_, _*_, _-_, _^_, _%_, _≤_, _<_}
+use Prim.Native.Nat.{ℕ, zero, suc, _+_, _*_, _^_, _%_, _≤_, _<_}
 use native.Mathlib.Nat.{eq-or-lt-of-le, mod-eq-of-lt, one-mul}
 use native.Mathlib.Omega.{arith}
 use lib.Dec.{ltb}
-use lib.Pow.{pow-pos, pow-mono}
+use lib.Pow.{pow-mono}
 use borrow.Author.Tests.{ltb-true, lt-ltb}
 use Rattle.station.specs.Search.{least}
-use Rattle.station.specs.Groups.{level, dimension}
+use Rattle.station.specs.Groups.{level}
 use Rattle.station.proofs.SearchLaws.{least-between, least-passes, least-before}
 
 lt-pow : (m : ℕ) → m < 2 ^ m
@@ -64,13 +64,8 @@ level-split m pos = go (level m) refl
 pub level-in : (h k : ℕ) → k < 2 ^ h → level (2 ^ h + k) ≡ suc h
 level-in h k l = level-is (2 ^ h + k) h (omega arith) (omega arith)
 
-pub dimension-pow : (d : ℕ) → dimension (2 ^ d) ≡ d
-unfolding dimension
-dimension-pow zero = level-zero
-dimension-pow (suc d) = level-is (2 ^ suc d - 1) d (omega (arith, pow-pos d)) (omega (arith, pow-pos d))
-
--- a 1 shifted by at most 7 places, as a byte
-pub shift-one : (k : ℕ) → k ≤ 7 → (1 * 2 ^ k % 256 ≡ 2 ^ k) × (2 ^ k ≤ 128)
-shift-one k h =
-    let b : 2 ^ k ≤ 2 ^ 7 = pow-mono {i = k} {j = 7} h in
-    (rw one-mul (mod-eq-of-lt (omega arith)), omega arith)
+-- a 1 shifted by k places, in a type that has room for it
+pub shift-one : (k j m : ℕ) → k ≤ j → 2 ^ j < m → (1 * 2 ^ k % m ≡ 2 ^ k) × (2 ^ k ≤ 2 ^ j)
+shift-one k j m h l =
+    let b : 2 ^ k ≤ 2 ^ j = pow-mono {i = k} {j = j} h in
+    (rw one-mul (mod-eq-of-lt (omega arith)), b)

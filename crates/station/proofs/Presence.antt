@@ -1,15 +1,15 @@
 -- How many stations stand at the distances from a station: those of n stations are n, and fewer distances are due than that.
 -- Assumes nothing.
-use mathlib.Core.Path.{_≡_, refl, ap, _∙_}
+use mathlib.Core.Path.{_≡_, ap, _∙_}
 use mathlib.Core.Bool.{true, cond}
-use mathlib.Core.List.{List}
+use mathlib.Core.List.{List, []}
 use Prim.Native.Nat.{ℕ, zero, suc, _+_, _*_, _-_, _^_, _≤_, _<_}
 use native.Mathlib.Omega.{arith}
 use borrow.Author.Tests.{lt-ltb, le-ltb}
 use lib.Bits.{xor-comm, xor-zero-r}
 use lib.ListN.{length, set, replicate, length-replicate}
 use Rattle.station.specs.Sums.{sum, bit}
-use Rattle.station.specs.Search.{select}
+use Rattle.station.specs.Search.{select, keep, listOf}
 use Rattle.station.specs.Groups.{isSize, stationAt, dimension, distances, isPresent}
 use Rattle.station.specs.Tests.{due, dueDistances}
 use Rattle.station.specs.Calls.{padded}
@@ -56,6 +56,11 @@ dues-below r i (suc m) h =
     by-bool (due r i (suc m))
     (λ e. rw (e, lt-ltb (stationAt i (suc m)) (length r) (due-present r i (suc m) e)) (omega (arith, dues-below r i m h)))
     (λ e. rw e (omega (arith, dues-below r i m h)))
+
+-- distance 0 is not due
+pub due-start : (r : List ℕ) (i : ℕ) → select (due r i) 1 ≡ []
+unfolding keep listOf
+due-start r i = rw (due-zero r i)
 
 -- the distances due for i below m, as a loop that counts up finds them and writes them into a list of one byte for each other station
 module _ (n : ℕ) (r : List ℕ) (i : ℕ) (size : isSize n ≡ true) (long : length r ≡ n) (h : i < n) where

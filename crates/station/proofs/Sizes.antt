@@ -8,7 +8,7 @@ use borrow.Author.Tests.{leb-true}
 use lib.Pow.{pow-mono, pow-pos}
 use Rattle.station.specs.Groups.{isSize, level, dimension, distances}
 use Rattle.station.proofs.SearchLaws.{both}
-use Rattle.station.proofs.Levels.{level-le, level-upper, level-split}
+use Rattle.station.proofs.Levels.{level-le, level-split}
 
 pub size-bounds : (n : ℕ) → isSize n ≡ true → (2 ≤ n) × (n ≤ 64)
 unfolding isSize
@@ -22,18 +22,22 @@ size-log n e =
     let t = level-split (n - 1) (omega arith) in
     (t .0, t .1, omega (arith, t .2), omega (arith, t .3))
 
--- a station's number is below the number of distances
-pub size-distances : (n : ℕ) → isSize n ≡ true → (n ≤ distances n) × (distances n ≤ 64)
-unfolding distances dimension
-size-distances n e =
-    let b = size-bounds n e in
-    let d : level (n - 1) ≤ 6 = level-le (n - 1) 6 (omega arith) in
-    (omega (arith, level-upper (n - 1)), omega (arith, pow-mono {i = level (n - 1)} {j = 6} d))
-
-pub size-power : (n : ℕ) → isSize n ≡ true → n ≤ 2 ^ dimension n
+-- there is a distance
+pub distances-pos : (n : ℕ) → 1 ≤ distances n
 unfolding distances
-size-power n e = size-distances n e .0
+distances-pos n = pow-pos (dimension n)
 
 pub size-dimension : (n : ℕ) → isSize n ≡ true → dimension n ≤ 6
 unfolding dimension
 size-dimension n e = let b = size-bounds n e in level-le (n - 1) 6 (omega arith)
+
+pub distances-top : (n : ℕ) → n ≤ 64 → distances n ≤ 64
+unfolding distances dimension
+distances-top n h = omega (arith, pow-mono {i = level (n - 1)} {j = 6} (level-le (n - 1) 6 (omega arith)))
+
+-- the number of distances is from n to 64
+pub size-distances : (n : ℕ) → isSize n ≡ true → (n ≤ distances n) × (distances n ≤ 64)
+unfolding distances
+size-distances n e =
+    let d = size-log n e in
+    (rw (d .1) (d .3), distances-top n (size-bounds n e .1))

@@ -45,7 +45,8 @@ lengthRefusal stated len = refuse 13 (not (eqb len stated))
 -- Group list: refusals 1, 9, 12, 13. 12: "The level is 0 or above d." C-11: "number 13 uses the group's remaining length"
 unfoldable pub groupNumber : ℕ → ℕ → ℕ → ℕ → ℕ
 groupNumber n i s len =
-    refuse 1 (not (isSize n)) else stationRefusal n i else refuse 12 (eqb s 0 || ltb (dimension n) s) else lengthRefusal (length (group n i s)) len
+    refuse 1 (not (isSize n)) else stationRefusal n i else refuse 12 (eqb s 0 || ltb (dimension n) s)
+    else lengthRefusal (length (group n i s)) len
 
 -- "the 2^(s−1) members in order, into a lent list of just that length"; C-11: "the members that remain, which may be 0"
 unfoldable pub groupAfter : ℕ → ℕ → ℕ → List ℕ → List ℕ

@@ -1,10 +1,10 @@
--- Paper 001, equation 1: its right side but for the first station.
+-- Paper 001, equation 1: its right side but for the first station, of full groups and with the absent numbers left out.
 -- Assumes nothing.
 use Prim.Native.Nat.{ℕ, zero, suc}
 use mathlib.Core.List.{List, [], _++_}
 use Rattle.station.specs.Groups.{fullGroup, group}
 
--- the full groups of station j at levels 1 to h, one behind the other (the right side of equation 1 of paper 001, but for its first station)
+-- the full groups of station j at levels 1 to h, one behind the other
 unfoldable pub groupsTo : ℕ → ℕ → List ℕ
 groupsTo j zero = []
 groupsTo j (suc h) = groupsTo j h ++ fullGroup j (suc h)

@@ -13,11 +13,11 @@ use Rattle.station.specs.Groups.{stationAt, level, distances, isPresent,
 unfoldable pub unsuspected : List ℕ → ℕ → Bool
 unsuspected r x = eqb (getD r x 1) 0
 
--- the least place in the group of j at level s whose station passes q; the group's width where there is none
+-- the least place in the full group of j at level s whose number passes q; the full group's width where there is none
 unfoldable pub firstPlace : (ℕ → Bool) → ℕ → ℕ → ℕ
 firstPlace q j s = least (λ k. q (member j s k)) (width s) 0
 
--- the first station in the group of j at level s that passes q
+-- the first number in the full group of j at level s that passes q
 unfoldable pub first : (ℕ → Bool) → ℕ → ℕ → Option ℕ
 first q j s = cond (ltb (firstPlace q j s) (width s)) (some (member j s (firstPlace q j s))) none
 
@@ -31,6 +31,6 @@ isStation i (some x) = eqb x i
 unfoldable pub due : List ℕ → ℕ → ℕ → Bool
 due r i m = isPresent (length r) (stationAt i m) && isStation i (first (unsuspected r) (stationAt i m) (level m))
 
--- the distances due for i, ascending. Distance 0 has level 0, whose group is empty: it is never due, and the list counts from 1
+-- the distances due for i of n stations, by its row of n bytes, ascending. Distance 0 has level 0, whose group is empty: it is never due, and the list counts from 1
 unfoldable pub dueDistances : List ℕ → ℕ → ℕ → List ℕ
 dueDistances r i n = select (due r i) (distances n)

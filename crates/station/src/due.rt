@@ -104,8 +104,8 @@ fn write_due(n: u8, row: &[u8], i: Station, list: &mut [u8]) -> u8
     clear(list);
     let end = groups::distances(n);
     let mut count: u8 = 0;
-    let mut m: u8 = 0;
-    while m < end {
+    let mut m: u8 = 1;
+    while (m as u16) < end {
         count = put_due(row, i, Distance(m), list, count);
         m += 1;
     }

@@ -37,12 +37,11 @@ fn dimension_of(n: u8) -> Level
 }
 
 // How many distances there are in a plant of n stations, 0 included.
-pub fn distances(n: u8) -> u8
-    requires { ⌜ n ≤ 128 ⌝ }
+pub fn distances(n: u8) -> u16
     ensures { λ r. ⌜ r ≡ distances n ⌝ }
 {
     let d = dimension_of(n);
-    1u8 << d.0
+    1u16 << d.0
 }
 
 // How many numbers a full group at level s has, and its least distance.
@@ -85,8 +84,8 @@ fn group_number(n: usize, i: Station, s: Level, len: usize) -> u8
     if d.0 < s.0 {
         return 12;
     }
-    let w = group_length(n as u8, i, s);
-    if len != w as usize {
+    let length = group_length(n as u8, i, s);
+    if len != length as usize {
         return 13;
     }
     0

@@ -2,7 +2,8 @@
 // The plant run stands above this crate and relies only on what is stated here.
 //
 // The calls of document 01: fresh::fresh_table, groups::group_list, due::assignment, rows::row and rows::row_number.
-// The rest is open for the crates above. No function open to a caller has a `requires`, but for the two of `inside`, which are meant for `plant`.
+// The rest is open for the crates above. No function open to a caller has a `requires`, but for the two of `inside`, which are meant for
+// `plant`.
 pub mod cells;
 pub mod due;
 pub mod fresh;

@@ -1,6 +1,6 @@
 // The line rules and the check of a table: refusals 1 to 4 (document 01, "The lent table" and "Refusal list").
 ghost use mathlib.Core.Path.{_≡_};
-ghost use Prim.Native.Nat.{_<_, _≤_};
+ghost use Prim.Native.Nat.{_<_};
 ghost use lib.ListN.{length};
 ghost use Rattle.station.specs.Search.{every};
 ghost use Rattle.station.specs.Table.{HasLine, tableLength, nextDistance, finished, testsMade, live};
@@ -75,7 +75,7 @@ pub fn finished_if_live(n: u8, table: &[u8], i: Station) -> bool
 
 // Whether every line obeys the line rules.
 fn all_lines(n: u8, table: &[u8]) -> bool
-    requires { ⌜ (n ≤ 64) × (length (now table) ≡ tableLength n) ⌝ }
+    requires { ⌜ length (now table) ≡ tableLength n ⌝ }
     ensures { λ r. ⌜ r ≡ every (lineRules n (now (table .entry))) n ⌝ }
 {
     let mut i: u8 = 0;
@@ -89,7 +89,7 @@ fn all_lines(n: u8, table: &[u8]) -> bool
 }
 
 fn line_rules(n: u8, table: &[u8], i: Station) -> bool
-    requires { ⌜ (n ≤ 64) × HasLine n (now table) (i .0) ⌝ }
+    requires { ⌜ HasLine n (now table) (i .0) ⌝ }
     ensures { λ r. ⌜ r ≡ lineRules n (now (table .entry)) (i .0) ⌝ }
 {
     let status = inside::get(n, table, i, cells::STATUS);
@@ -98,7 +98,7 @@ fn line_rules(n: u8, table: &[u8], i: Station) -> bool
 
 // The rules of bytes 1 to 3.
 fn pass_rule(n: u8, table: &[u8], i: Station) -> bool
-    requires { ⌜ (n ≤ 64) × HasLine n (now table) (i .0) ⌝ }
+    requires { ⌜ HasLine n (now table) (i .0) ⌝ }
     ensures { λ r. ⌜ r ≡ passRule n (nextDistance n (now (table .entry)) (i .0)) (finished n (now (table .entry)) (i .0)) (testsMade n (now (table .entry)) (i .0)) ⌝ }
 {
     let next = inside::get(n, table, i, cells::NEXT);
@@ -106,10 +106,10 @@ fn pass_rule(n: u8, table: &[u8], i: Station) -> bool
     let tests = inside::get(n, table, i, cells::TESTS);
     let last = groups::distances(n);
     (1 <= next)
-        & (next <= last)
+        & (next as u16 <= last)
         & (finished <= 1)
         & (tests < next)
-        & ((finished == 0) | (next == last))
+        & ((finished == 0) | (next as u16 == last))
 }
 
 // The rules of the row: the station's byte about itself, and every byte, by the greatest one. The loop has no exit, so that the compiler

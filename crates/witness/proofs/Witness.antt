@@ -1,5 +1,6 @@
--- The claim is not empty, an end in itself: four boards, board 3 dead, four runs, of which one is refused at its start and one at an entry.
--- The premises hold, d·d rounds close and one more, and each has the seven tests that demand 3 counts from the fifth on.
+-- The claim is not empty, ends in themselves. Four boards, board 3 dead, four runs, of which one is refused at its start and one at an
+-- entry: the premises hold, d·d rounds close and one more, and each has the seven tests that demand 3 counts from the fifth on. And three
+-- boards, a size that is no power of two.
 -- Assumes nothing.
 use mathlib.Core.Path.{_≡_, refl}
 use mathlib.Core.List.{List, [], _∷_, map}
@@ -7,7 +8,7 @@ use Prim.Native.Nat.{ℕ}
 use native.Mathlib.Omega.{arith}
 use Rattle.station.specs.Table.{setCell, statusColumn}
 use Rattle.station.specs.Calls.{freshTable}
-use Rattle.plant.specs.Entry.{State}
+use Rattle.plant.specs.Entry.{State, stateOf}
 use Rattle.detection.specs.Runs.{Call}
 use Rattle.detection.specs.Rounds.{testsIn}
 use Rattle.detection.specs.Claim.{demandCount, roundsOf, Premises}
@@ -31,15 +32,25 @@ calls =
     ∷ []
 
 -- the premises, the tests of the closed rounds, those of the open one, and the count of the claim
-pub record Computed : Type 0 where
-  pub premises : Premises 4 boards calls
-  pub closedTests : map testsIn (roundsOf boards calls .closed) ≡ 7 ∷ 7 ∷ 7 ∷ 7 ∷ 7 ∷ []
-  pub openTests : testsIn (roundsOf boards calls .openRound) ≡ 1
-  pub counted : demandCount 4 (boards .table) ≡ 7
+pub record Computed (n : ℕ) (s : State) (runs : List Call) (closed : List ℕ) (open-tests count : ℕ) : Type 0 where
+  pub premises : Premises n s runs
+  pub closedTests : map testsIn (roundsOf s runs .closed) ≡ closed
+  pub openTests : testsIn (roundsOf s runs .openRound) ≡ open-tests
+  pub counted : demandCount n (s .table) ≡ count
 
-pub witness : Computed
+pub witness : Computed 4 boards calls (7 ∷ 7 ∷ 7 ∷ 7 ∷ 7 ∷ []) 1 7
 unfolding wholeRun boards turnsOf calls
 witness = record {
+  premises = record { size = refl; long = refl; start = refl; twoLive = omega arith; trusted = refl; noCrash = refl; noLate = refl };
+  closedTests = refl;
+  openTests = refl;
+  counted = refl;
+}
+
+-- three boards, none dead: one round of five tests
+pub witness-3 : Computed 3 (stateOf (freshTable 3) 0 0) (callWith 3 (turnsOf (0 ∷ 0 ∷ 0 ∷ 1 ∷ 1 ∷ 2 ∷ 2 ∷ 2 ∷ [])) ∷ []) (5 ∷ []) 0 5
+unfolding wholeRun turnsOf
+witness-3 = record {
   premises = record { size = refl; long = refl; start = refl; twoLive = omega arith; trusted = refl; noCrash = refl; noLate = refl };
   closedTests = refl;
   openTests = refl;

@@ -1,4 +1,4 @@
--- The exact wait cannot be shortened.
+-- What it says that the exact wait cannot be shortened at size n.
 -- Assumes nothing.
 use Prim.Native.Nat.{ℕ, _≤_}
 use Rattle.station.specs.Groups.{dimension}

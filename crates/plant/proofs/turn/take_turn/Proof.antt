@@ -19,11 +19,6 @@ next-test-requires c κs =
     let t = accepted (a .n) (a .table .now) (p .0) in
     (size-bounds (a .n) (t .size) .1, (t .long, p .1))
 
-distances-requires : tie.Need-distances-requires
-distances-requires c κs =
-    let a = c .before .before .before .args in
-    omega (arith, size-bounds (a .n) (accepted (a .n) (a .table .now) (c .before .before .before .pre .0) .size))
-
 finish-pass-requires : tie.Need-finish-pass-requires
 finish-pass-requires c κs =
     let a = c .before .before .before .before .before .before .before .args in
@@ -65,7 +60,8 @@ take-turn-spec =
     tie.close
     (tie.spec
     next-test-requires
-    distances-requires
+    (λ c κs. search needs)
+    (λ c. search needs)
     finish-pass-requires
     (λ c. search needs)
     returns

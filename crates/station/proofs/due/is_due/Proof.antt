@@ -1,6 +1,5 @@
 -- `due::is_due` meets its contract.
 -- Assumes nothing.
-use mathlib.Core.Path.{refl}
 use borrow.Author.Needs.{needs}
 use borrow.Author.Tests.{lt-ltb, le-ltb}
 use Rattle.station.specs.Tests.{due}

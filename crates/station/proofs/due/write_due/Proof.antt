@@ -6,12 +6,12 @@ use Prim.Native.Nat.{_+_, _-_, _≤_, _<_}
 use native.Mathlib.Omega.{arith}
 use lib.ListN.{length, replicate}
 use borrow.Author.Needs.{needs}
-use Rattle.station.specs.Search.{select, keep, listOf}
+use Rattle.station.specs.Search.{select}
 use Rattle.station.specs.Groups.{isSize, distances}
 use Rattle.station.specs.Tests.{due, dueDistances}
-use Rattle.station.proofs.Sizes.{size-bounds, size-distances}
+use Rattle.station.proofs.Sizes.{size-distances, distances-pos}
 use Rattle.station.proofs.KeepLaws.{packed}
-use Rattle.station.proofs.Presence.{due-count, due-next, due-done}
+use Rattle.station.proofs.Presence.{due-start, due-count, due-next, due-done}
 use Rattle.station.proofs.due.write_due.Statement.{statement}
 use Rattle.station.proofs.due.write_due.Tie as tie
 
@@ -23,21 +23,28 @@ Inv-loop n row i list₀ end count₀ m₀ list count m =
 abbrev μ-loop : tie.MeasureT-loop
 μ-loop n row i list₀ end count₀ m₀ list count m = end - m
 
-distances-requires : tie.Need-distances-requires Inv-loop μ-loop
-distances-requires c κs = omega (arith, size-bounds _ (c .before .before .before .before .before .before .pre .0))
-
 loop-holds : tie.Need-loop-holds Inv-loop μ-loop
-unfolding keep listOf
 loop-holds c =
+    let a = c .before .before .before .before .before .before .before .args in
     let p = c .before .before .before .before .before .before .before .pre in
-    let l : length (c .before .before .before .before .before .before .before .args .list .now) ≡ length (c .before .before .before .clear .last .0) = sym (c .before .before .list .given) in
-    (omega arith, c .distances .ensures, (p .0, p .1, p .2, omega arith), refl, refl, rw l at (c .before .before .before .clear .ensures))
+    let l : length (a .list .now) ≡ length (c .before .before .before .clear .last .0) = sym (c .before .before .list .given) in
+    let none = due-start (a .row .now) (a .i .0) in (
+      omega (arith, c .distances .ensures, distances-pos (a .n)),
+      c .distances .ensures,
+      (p .0, p .1, p .2, omega arith),
+      refl,
+      rw none,
+      rw none (rw l at (c .before .before .before .clear .ensures)),
+    )
 
 put-due-requires : tie.Need-put-due-requires Inv-loop μ-loop
 put-due-requires c κs =
     let i = c .before .before .loop .inv in
     let p = i .2 in
     omega (arith, i .0, i .1, size-distances _ (p .0), due-count _ _ _ (p .0) (p .1) (p .2) _ _ (i .4))
+
+add-m : tie.Need-add-m Inv-loop μ-loop
+add-m c = let i = c .before .before .before .before .before .loop .inv in omega (arith, i .1, size-distances _ (i .2 .0))
 
 loop-again : tie.Need-loop-again Inv-loop μ-loop
 loop-again c =
@@ -62,10 +69,11 @@ write-due-spec =
     Inv-loop
     μ-loop
     (λ c κs. search needs)
-    distances-requires
+    (λ c κs. search needs)
     loop-holds
-    put-due-requires
     (λ c. search needs)
+    put-due-requires
+    add-m
     (λ c. search needs)
     loop-again
     (λ c. search needs)

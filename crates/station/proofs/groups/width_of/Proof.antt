@@ -14,7 +14,7 @@ unfolding width
 shifted zero p h = absurd (omega arith)
 shifted (suc k) p h =
     let e : suc k - 1 ≡ k = omega arith in
-    let b = shift-one k (omega arith) in
+    let b = shift-one k 7 256 (omega arith) (omega arith) in
     rw (e, b .0) (refl, b .1)
 
 returns : tie.Need-returns

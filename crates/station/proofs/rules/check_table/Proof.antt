@@ -17,9 +17,7 @@ cast-size : tie.Need-cast-size
 cast-size c = omega (arith, size-bounds _ (shape-zero _ _ (sym (c .before .check-shape .ensures) ∙ c .if1 .left) .0))
 
 all-lines-requires : tie.Need-all-lines-requires
-all-lines-requires c κs =
-    let z = shape-zero _ _ (sym (c .before .check-shape .ensures) ∙ c .if1 .left) in
-    (size-bounds _ (z .0) .1, z .1)
+all-lines-requires c κs = shape-zero _ _ (sym (c .before .check-shape .ensures) ∙ c .if1 .left) .1
 
 returns-2 : tie.Need-returns-2
 unfolding tableNumber
