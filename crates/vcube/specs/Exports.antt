@@ -1,13 +1,18 @@
--- The calls of document 01 as C has them (include/vcube.h), where they differ from those of `station` and `plant`, for all inputs: the row
--- is given by its start and length, and the outcome of a run by its number and what it leaves in the variables and buffers lent to it.
+-- The calls of document 01 and request C-12 as C has them (include/vcube.h), where they differ from those of `station`, `plant` and
+-- `figures`, for all inputs: the row is given by its start and length, the outcome of a run by its number and what it leaves in the variables
+-- and buffers lent to it, and figures and totals are the members of a struct in their order.
 -- A station or level number may be any; the definitions of `station` refuse it as they refuse any that is too high.
 -- Assumes nothing.
 use Prim.Native.Nat.{ℕ}
-use mathlib.Core.List.{List}
+use mathlib.Core.List.{List, [], _∷_}
+use lib.ListN.{getD}
 use Rattle.station.specs.Table.{rowStart}
 use Rattle.station.specs.Calls.{unless, rowNumber}
 use Rattle.plant.specs.Entry.{stateOf}
 use Rattle.plant.specs.Run.{Outcome}
+use Rattle.figures.specs.declared.Figures.{Figures}
+use Rattle.figures.specs.declared.Totals.{Totals}
+use Rattle.figures.specs.declared.Totalled.{Totalled}
 
 -- Row: where the station's row begins in the table, 0 where it is refused
 unfoldable pub startOut : ℕ → List ℕ → ℕ → ℕ
@@ -20,3 +25,30 @@ lengthOut n t i = unless (rowNumber n t i) 0 n
 -- Run: the outcome by its parts: the number, the entries taken, table, rounds and tests, and the sheet
 abbrev pub outcomeOut : ℕ → ℕ → List ℕ → ℕ → ℕ → List ℕ → Outcome
 outcomeOut number taken t rounds tests sheet = record { number = number; taken = taken; state = stateOf t rounds tests; sheet = sheet }
+
+-- C-12: what a call answers: its number, and the members of the struct that it fills, in their order
+pub record Filled : Type 0 where
+  pub number : ℕ
+  pub members : List ℕ
+
+abbrev pub filled : ℕ → List ℕ → Filled
+filled number members = record { number = number; members = members }
+
+-- the seven members of figures
+abbrev pub figuresMembers : Figures → List ℕ
+figuresMembers f =
+    f .count ∷ f .least ∷ f .greatest ∷ f .mean .upper ∷ f .mean .lower ∷ f .variance .upper ∷ f .variance .lower ∷ []
+
+-- the five members of totals
+abbrev pub totalsMembers : Totals → List ℕ
+totalsMembers t = t .count ∷ t .sum ∷ t .squares ∷ t .least ∷ t .greatest ∷ []
+
+-- the totals with these five members
+abbrev pub totalsWith : List ℕ → Totals
+totalsWith m = record { count = getD m 0 0; sum = getD m 1 0; squares = getD m 2 0; least = getD m 3 0; greatest = getD m 4 0 }
+
+abbrev pub figuresOut : Figures → Filled
+figuresOut f = filled (f .number) (figuresMembers f)
+
+abbrev pub totalsOut : Totalled → Filled
+totalsOut t = filled (t .number) (totalsMembers (t .totals))

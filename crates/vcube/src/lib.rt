@@ -1,13 +1,20 @@
-// The calls of document 01 for C and Rust, as include/vcube.h declares them. None has a `requires`: any numbers and buffers are taken. Each
-// returns 0 or the number of its refusal.
+// The calls of document 01 and of request C-12 for C and Rust, as include/vcube.h declares them. None has a `requires`: any numbers and
+// buffers are taken. Each returns 0 or the number of its refusal.
 ghost use mathlib.Core.Path.{_≡_};
 ghost use Prim.Native.Nat.{min};
+ghost use mathlib.Core.List.{_++_};
 ghost use lib.ListN.{length};
 ghost use Rattle.station.specs.Rules.{shapeNumber};
 ghost use Rattle.station.specs.Calls.{freshAfter, groupNumber, groupAfter, rowNumber, assignmentNumber, assignmentAfter, assignmentCount};
 ghost use Rattle.plant.specs.Entry.{stateOf};
 ghost use Rattle.plant.specs.Run.{run};
-ghost use Rattle.vcube.specs.Exports.{startOut, lengthOut, outcomeOut};
+ghost use Rattle.figures.specs.Batch.{figures};
+ghost use Rattle.figures.specs.Totals.{totals, join, figuresOfTotals};
+ghost use Rattle.vcube.specs.Exports.{startOut, lengthOut, outcomeOut, filled, figuresMembers, totalsMembers, totalsWith, figuresOut, totalsOut};
+use figures::Figures;
+use figures::Totals;
+use figures::adding;
+use figures::batch;
 use plant::Tally;
 use plant::run;
 use station::Level;
@@ -106,6 +113,101 @@ pub extern "C" fn vcube_run(
     *tests = after.tests;
     *taken = done.taken;
     done.number
+}
+
+// Figures of one list: count, least, greatest, the upper and lower part of the mean and those of the variance, all 0 where it is refused.
+#[no_mangle]
+pub extern "C" fn vcube_figures_of_list(results: &[u16], answer: &mut [u64; 7]) -> u8
+    ensures { λ r. ⌜ filled r (now (answer .exit)) ≡ figuresOut (figures (now (results .entry))) ⌝ }
+{
+    let of_list = batch::figures(results);
+    *answer = figures_members(of_list);
+    of_list.number
+}
+
+// Figures of two lists: those of the one list that holds both.
+#[no_mangle]
+pub extern "C" fn vcube_figures_of_two_lists(
+    first: &[u16],
+    second: &[u16],
+    answer: &mut [u64; 7],
+) -> u8
+    ensures { λ r. ⌜ filled r (now (answer .exit)) ≡ figuresOut (figures (now (first .entry) ++ now (second .entry))) ⌝ }
+{
+    let of_two = batch::figures_of_two(first, second);
+    *answer = figures_members(of_two);
+    of_two.number
+}
+
+// Totals of a list: count, sum, sum of squares, least, greatest, all 0 where it is refused.
+#[no_mangle]
+pub extern "C" fn vcube_totals_of_list(results: &[u16], answer: &mut [u64; 5]) -> u8
+    ensures { λ r. ⌜ filled r (now (answer .exit)) ≡ totalsOut (totals (now (results .entry))) ⌝ }
+{
+    let summed = adding::totals(results);
+    *answer = totals_members(summed.totals);
+    summed.number
+}
+
+// Join: the totals of the results of both.
+#[no_mangle]
+pub extern "C" fn vcube_join_totals(
+    first: &[u64; 5],
+    second: &[u64; 5],
+    answer: &mut [u64; 5],
+) -> u8
+    ensures { λ r. ⌜ filled r (now (answer .exit)) ≡ totalsOut (join (totalsWith (now (first .entry))) (totalsWith (now (second .entry)))) ⌝ }
+{
+    let joined = adding::join(totals_with(first), totals_with(second));
+    *answer = totals_members(joined.totals);
+    joined.number
+}
+
+// Figures of totals that the caller kept.
+#[no_mangle]
+pub extern "C" fn vcube_figures_of_totals(kept: &[u64; 5], answer: &mut [u64; 7]) -> u8
+    ensures { λ r. ⌜ filled r (now (answer .exit)) ≡ figuresOut (figuresOfTotals (totalsWith (now (kept .entry)))) ⌝ }
+{
+    let of_kept = batch::figures_of_totals(totals_with(kept));
+    *answer = figures_members(of_kept);
+    of_kept.number
+}
+
+// The members of a struct of figures, in their order.
+fn figures_members(f: Figures) -> [u64; 7]
+    ensures { λ r. ⌜ r ≡ figuresMembers f ⌝ }
+{
+    let mean = f.mean;
+    let variance = f.variance;
+    [
+        f.count,
+        f.least,
+        f.greatest,
+        mean.upper,
+        mean.lower,
+        variance.upper,
+        variance.lower,
+    ]
+}
+
+// The members of a struct of totals, in their order.
+fn totals_members(t: Totals) -> [u64; 5]
+    ensures { λ r. ⌜ r ≡ totalsMembers t ⌝ }
+{
+    [t.count, t.sum, t.squares, t.least, t.greatest]
+}
+
+// The totals with these members.
+fn totals_with(members: &[u64; 5]) -> Totals
+    ensures { λ r. ⌜ r ≡ totalsWith (now (members .entry)) ⌝ }
+{
+    Totals {
+        count: members[0],
+        sum: members[1],
+        squares: members[2],
+        least: members[3],
+        greatest: members[4],
+    }
 }
 
 // A number as a byte, 255 for all that are greater. No plant has a station or a level 255, so a greater one is refused as that one is.
