@@ -1,14 +1,17 @@
 /* The vCube watch for C and C++: the calls of the document "The vCube watch on a gin's plant cable" (document 01), with the sizes of
- * request C-11 of document 02. The library behind them (crates/vcube, crates/plant, crates/station) is proved in Rattle to do what its
- * definitions say; this header and the compiler's back end are not part of the proof.
+ * request C-11 of document 02, and the figures over a season's trials, its request C-12. The library behind them (crates/vcube,
+ * crates/plant, crates/station, crates/figures) is proved in Rattle to do what its definitions say; this header and the compiler's back
+ * end are not part of the proof.
  *
  * Build the archive with `rt staticlib vcube` and link target/staticlib/libvcube.a (x86-64 Linux), or install it by bindings/c/install.
  *
  * Numbers and lengths may be anything at all: nothing need be tested before a call. A buffer is a pointer to bytes and their number; the
- * pointer must be valid for that many bytes, at any alignment. Where the number is 0 the pointer may be NULL: nothing is read or written
- * there, and the call gives what it gives for any other buffer of length 0 (tested, not proved). The pointers to size_t and uint32_t, where
- * a call puts its figures, must each point to a variable of that type, not NULL. No two buffers or variables of one call may overlap. The
- * library keeps no state and no pointer: calls may run at once in several threads, if none writes what another uses.
+ * pointer must be valid for that many bytes, at any alignment. A list of results is a pointer to uint16_t and the number of results (not
+ * of bytes); the pointer must be valid for that many and aligned for uint16_t. Where the number is 0 the pointer may be NULL: nothing is
+ * read or written there, and the call gives what it gives for any other buffer or list of length 0 (tested, not proved). The pointers to
+ * size_t, uint32_t and the structs below, where a call finds or puts its figures, must each point to a variable of that type, not NULL. What
+ * a call writes may overlap with nothing else of that call; what it only reads (pointers to const) may overlap with what else it only
+ * reads. The library keeps no state and no pointer: calls may run at once in several threads, if none writes what another uses.
  *
  * Words. A plant has n stations, 2 to 64, numbered from 0; d is n's logarithm to base 2, rounded up. The distance of two stations is the
  * exclusive or of their numbers, which is below 2^d. The group of station i at level s (1 to d) holds, in this order, those of the numbers
@@ -21,8 +24,14 @@
  * suspects station k, else 0. The line rules, for lines that are not live too: each byte in its range; the tests at most the next distance
  * less 1; a finished line has next distance 2^d; a station's byte about itself is 0.
  *
+ * Figures are taken over results, which are numbers of 16 bits: for instance the rounds that each trial took until all dead boards were
+ * known. Totals are what is kept of results so that figures can be had without them, and are joined with the totals of further results. A
+ * zeroed struct vcube_totals is that of no result. Totals handed in may hold anything: they need not be those of any results, and what a
+ * call gives then is said too.
+ *
  * Each call returns 0 or the number of its refusal (enum vcube_refusal). A refused call changes no byte of table, list or sheet, except
- * that a run which stops at an entry (7 to 11) keeps the work of the entries before it. What becomes of the figures is said of each call.
+ * that a run which stops at an entry (7 to 11) keeps the work of the entries before it. What becomes of the figures is said of each call;
+ * in a struct that a refused call fills every member is 0, lower parts of fractions included.
  */
 #ifndef VCUBE_H
 #define VCUBE_H
@@ -31,9 +40,9 @@
 #include <stdint.h>
 
 #define VCUBE_VERSION_MAJOR 0
-#define VCUBE_VERSION_MINOR 3
+#define VCUBE_VERSION_MINOR 4
 #define VCUBE_VERSION_PATCH 0
-#define VCUBE_VERSION "0.3.0"
+#define VCUBE_VERSION "0.4.0"
 
 #ifdef __cplusplus
 extern "C" {
@@ -47,6 +56,9 @@ extern "C" {
 
 /* Stands in the sheet where no station was tested. */
 #define VCUBE_NO_STATION 255
+
+/* The most results that figures are taken over. */
+#define VCUBE_MOST_RESULTS 4096
 
 /* What a call returns, in the order in which refusals are checked. */
 enum vcube_refusal {
@@ -63,7 +75,9 @@ enum vcube_refusal {
     VCUBE_REFUSED_NOT_LIVE = 10,        /* the station is not live */
     VCUBE_REFUSED_PASS_FINISHED = 11,   /* the kind is 1 or 2 and the station has finished its pass */
     VCUBE_REFUSED_LEVEL = 12,           /* the level is 0 or above d */
-    VCUBE_REFUSED_LIST_LENGTH = 13      /* the lent list has not the length stated (group list: vcube_group_length; assignment: n - 1) */
+    VCUBE_REFUSED_LIST_LENGTH = 13,     /* the lent list has not the length stated (group list: vcube_group_length; assignment: n - 1) */
+    VCUBE_REFUSED_NO_RESULT = 14,       /* there is no result at all (in both lists together, where two are given) */
+    VCUBE_REFUSED_TOO_MANY_RESULTS = 15 /* there are more than 4096 results in all, or totals that 4096 results cannot have */
 };
 
 /* Byte 0 of an entry. */
@@ -134,6 +148,57 @@ uint8_t vcube_row(size_t n, const uint8_t *table, size_t table_length, size_t st
  * Refusals: 1 to 6, then 7 to 11 at each entry. */
 uint8_t vcube_run(size_t n, uint8_t *table, size_t table_length, uint32_t *rounds, uint32_t *tests, const uint8_t *schedule,
                   size_t schedule_length, uint8_t *sheet, size_t sheet_length, size_t *taken);
+
+/* A fraction in lowest terms: no number above 1 divides both parts, and the lower part is positive. Zero is 0/1. */
+struct vcube_fraction {
+    uint64_t upper;
+    uint64_t lower;
+};
+
+/* Figures over results. The variance is over the whole batch: the mean of the squared deviations from the mean, which divides by the count
+ * and not by one less. */
+struct vcube_figures {
+    uint64_t count;
+    uint64_t least;
+    uint64_t greatest;
+    struct vcube_fraction mean;
+    struct vcube_fraction variance;
+};
+
+/* Totals of results. Least and greatest of no result are 0. */
+struct vcube_totals {
+    uint64_t count;
+    uint64_t sum;
+    uint64_t squares;                   /* the sum of the squares */
+    uint64_t least;
+    uint64_t greatest;
+};
+
+/* Figures of a list, into *figures.
+ * Refusals: 14 for a list of length 0, then 15 for one of more than 4096 results. */
+uint8_t vcube_figures_of_list(const uint16_t *results, size_t length, struct vcube_figures *figures);
+
+/* Figures of two lists: those of the one list that holds both, into *figures. Either may have length 0.
+ * Refusals: 14 where both have length 0, then 15 for more than 4096 results in all. */
+uint8_t vcube_figures_of_two_lists(const uint16_t *first, size_t first_length, const uint16_t *second, size_t second_length,
+                                   struct vcube_figures *figures);
+
+/* Totals of a list, into *totals. A list of length 0 is accepted: all its totals are 0.
+ * Refusals: 15 for a list of more than 4096 results. */
+uint8_t vcube_totals_of_list(const uint16_t *results, size_t length, struct vcube_totals *totals);
+
+/* Join of totals: those of the results of both, into *joined, which is neither *first nor *second: to add to totals, join into a third
+ * variable and assign it. Counts, sums and squares are added. The least is the lesser of both and the greatest the greater; where one has
+ * count 0 they are those of the other, and where both have it those of *second. Two totals of no result are joined to totals of no result.
+ * Refusals: 15 for joined totals that 4096 results cannot have: a count above 4096, a sum above 4096 * 65535, or squares above
+ * 4096 * 65535 * 65535. Nothing wraps round: the additions are those of whole numbers. */
+uint8_t vcube_join_totals(const struct vcube_totals *first, const struct vcube_totals *second, struct vcube_totals *joined);
+
+/* Figures of totals: those of the results that the totals were taken of, into *figures. Of totals that no results have: count, least and
+ * greatest are those handed in, the mean is sum / count, the variance (count * squares - sum * sum) / (count * count), or 0/1 where that
+ * would be below 0.
+ * Refusals: 14 for a count of 0, whatever else they hold; then 15 for totals that 4096 results cannot have, as in the join. */
+uint8_t vcube_figures_of_totals(const struct vcube_totals *totals, struct vcube_figures *figures);
 
 #ifdef __cplusplus
 }

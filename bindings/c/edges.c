@@ -1,4 +1,5 @@
-/* What vcube.h says of NULL with length 0, of figures after a refusal, of a group's length, and of its version. */
+/* What vcube.h says of NULL with length 0, of figures after a refusal, of a group's length, of the most results and the totals that they
+ * can have, of its structs, and of its version. */
 
 #include "vcube.h"
 
@@ -96,6 +97,206 @@ static void null_in_runs(uint8_t *table)
     run_takes_nothing(table, NULL, 0, NULL, 0, VCUBE_ACCEPTED);
 }
 
+/* One result more than figures are taken over. */
+static uint16_t many[VCUBE_MOST_RESULTS + 1];
+
+/* Sums and squares of at most so many results. */
+static const uint64_t most_sum = (uint64_t)VCUBE_MOST_RESULTS * 65535;
+static const uint64_t most_squares = (uint64_t)VCUBE_MOST_RESULTS * 65535 * 65535;
+
+static struct vcube_totals totals(uint64_t count, uint64_t sum, uint64_t squares, uint64_t least, uint64_t greatest)
+{
+    struct vcube_totals made;
+
+    made.count = count;
+    made.sum = sum;
+    made.squares = squares;
+    made.least = least;
+    made.greatest = greatest;
+    return made;
+}
+
+/* Figures that stand before a call, of which none is 0. */
+static struct vcube_figures any_figures(void)
+{
+    struct vcube_figures any;
+
+    memset(&any, ANY, sizeof any);
+    return any;
+}
+
+/* Whether every byte of a struct is 0. */
+static int all_zero(const void *made, size_t size)
+{
+    const unsigned char *bytes = (const unsigned char *)made;
+
+    for (size_t k = 0; k < size; k++)
+        if (bytes[k] != 0)
+            return 0;
+    return 1;
+}
+
+/* The call gave the number that was expected, and zeroed figures if that is a refusal. */
+static void expect_figures(uint8_t given, int number, const struct vcube_figures *figures, const char *what)
+{
+    expect(given == number, what);
+    expect(all_zero(figures, sizeof *figures) == (number != VCUBE_ACCEPTED), "figures: all are 0 where refused, and only there");
+}
+
+static void figures_of_list(const uint16_t *results, size_t length, int number, const char *what)
+{
+    struct vcube_figures figures = any_figures();
+
+    expect_figures(vcube_figures_of_list(results, length, &figures), number, &figures, what);
+}
+
+static void figures_of_two(const uint16_t *first, size_t first_length, const uint16_t *second, size_t second_length, int number,
+                           const char *what)
+{
+    struct vcube_figures figures = any_figures();
+    uint8_t given = vcube_figures_of_two_lists(first, first_length, second, second_length, &figures);
+
+    expect_figures(given, number, &figures, what);
+    if (number == VCUBE_ACCEPTED)
+        expect(figures.count == first_length + second_length, "figures of two lists: the count is that of both");
+}
+
+/* Lists of no result, of 4,096 results and of one more. */
+static void lengths_of_lists(void)
+{
+    const size_t most = VCUBE_MOST_RESULTS;
+
+    figures_of_list(NULL, 0, VCUBE_REFUSED_NO_RESULT, "figures: a list of length 0 gets 14");
+    figures_of_list(many, 0, VCUBE_REFUSED_NO_RESULT, "figures: a list of length 0 gets 14");
+    figures_of_list(many, most, VCUBE_ACCEPTED, "figures: 4096 results are accepted");
+    figures_of_list(many, most + 1, VCUBE_REFUSED_TOO_MANY_RESULTS, "figures: 4097 results get 15");
+    figures_of_two(NULL, 0, NULL, 0, VCUBE_REFUSED_NO_RESULT, "figures of two lists: two of length 0 get 14");
+    figures_of_two(NULL, 0, many, most, VCUBE_ACCEPTED, "figures of two lists: the first may have length 0");
+    figures_of_two(many, most, NULL, 0, VCUBE_ACCEPTED, "figures of two lists: the second may have length 0");
+    figures_of_two(many, most - 1, many + most, 1, VCUBE_ACCEPTED, "figures of two lists: 4096 in all are accepted");
+    figures_of_two(many, most, many + most, 1, VCUBE_REFUSED_TOO_MANY_RESULTS, "figures of two lists: 4097 in all get 15");
+    figures_of_two(many, 1, many + 1, most, VCUBE_REFUSED_TOO_MANY_RESULTS, "figures of two lists: 4097 in all get 15");
+    figures_of_two(NULL, 0, many, most + 1, VCUBE_REFUSED_TOO_MANY_RESULTS, "figures of two lists: 4097 in one get 15");
+    figures_of_two(many, most + 1, NULL, 0, VCUBE_REFUSED_TOO_MANY_RESULTS, "figures of two lists: 4097 in one get 15");
+    figures_of_two(many, most / 2, many, most / 2, VCUBE_ACCEPTED, "figures of two lists: one list may be handed over twice");
+}
+
+/* Mean and variance of the greatest results. */
+static void greatest_results(void)
+{
+    const uint16_t two[2] = {0, 65535};
+    struct vcube_figures figures = any_figures();
+
+    expect(vcube_figures_of_list(many, VCUBE_MOST_RESULTS, &figures) == VCUBE_ACCEPTED, "figures: 4096 results");
+    expect(figures.count == 4096 && figures.least == 65535 && figures.greatest == 65535, "figures: all results are 65535");
+    expect(figures.mean.upper == 65535 && figures.mean.lower == 1, "figures: the mean is 65535/1");
+    expect(figures.variance.upper == 0 && figures.variance.lower == 1, "figures: no variance is 0/1");
+    figures = any_figures();
+    expect(vcube_figures_of_list(two, 2, &figures) == VCUBE_ACCEPTED, "figures: 0 and 65535");
+    expect(figures.count == 2 && figures.least == 0 && figures.greatest == 65535, "figures: 0 and 65535");
+    expect(figures.mean.upper == 65535 && figures.mean.lower == 2, "figures: the mean is 65535/2");
+    expect(figures.variance.upper == 4294836225 && figures.variance.lower == 4, "figures: the variance is 65535 * 65535 / 4");
+}
+
+static void totals_of_lists(void)
+{
+    struct vcube_totals made = totals(ANY, ANY, ANY, ANY, ANY);
+
+    expect(vcube_totals_of_list(NULL, 0, &made) == VCUBE_ACCEPTED, "totals: a list of length 0 is accepted");
+    expect(all_zero(&made, sizeof made), "totals: those of no result are 0");
+    expect(vcube_totals_of_list(many, VCUBE_MOST_RESULTS, &made) == VCUBE_ACCEPTED, "totals: 4096 results are accepted");
+    expect(made.count == VCUBE_MOST_RESULTS && made.sum == most_sum && made.squares == most_squares, "totals: those of 4096 results");
+    expect(made.least == 65535 && made.greatest == 65535, "totals: least and greatest");
+    expect(vcube_totals_of_list(many, VCUBE_MOST_RESULTS + 1, &made) == VCUBE_REFUSED_TOO_MANY_RESULTS, "totals: 4097 results get 15");
+    expect(all_zero(&made, sizeof made), "totals: all are 0 where refused");
+}
+
+/* The join of the two, either way round, gives the number; its totals are 0 if that is a refusal. */
+static void join(struct vcube_totals first, struct vcube_totals second, int number, const char *what)
+{
+    struct vcube_totals joined = totals(ANY, ANY, ANY, ANY, ANY), other = joined;
+
+    expect(vcube_join_totals(&first, &second, &joined) == number, what);
+    expect(vcube_join_totals(&second, &first, &other) == number, what);
+    expect(memcmp(&joined, &other, sizeof joined) == 0, "join: the same either way round");
+    if (number == VCUBE_ACCEPTED)
+        expect(joined.count == first.count + second.count && joined.sum == first.sum + second.sum &&
+                   joined.squares == first.squares + second.squares && joined.least == 3 && joined.greatest == 8,
+               "join: sums are added, least is the lesser, greatest the greater");
+    else
+        expect(all_zero(&joined, sizeof joined), "join: all totals are 0 where refused");
+}
+
+/* Joins at the bounds, of totals that no results need have: the least of each pair is 3, the greatest 8. */
+static void joins(void)
+{
+    const struct vcube_totals ones = totals(1, 1, 1, 3, 8), none = totals(0, 0, 0, 0, 0);
+    struct vcube_totals joined = totals(ANY, ANY, ANY, ANY, ANY);
+    const int refused = VCUBE_REFUSED_TOO_MANY_RESULTS;
+
+    join(ones, totals(VCUBE_MOST_RESULTS - 1, most_sum - 1, most_squares - 1, 4, 7), VCUBE_ACCEPTED, "join: up to the bounds");
+    join(ones, totals(VCUBE_MOST_RESULTS, 5, 5, 4, 7), refused, "join: a count above 4096 gets 15");
+    join(ones, totals(1, most_sum, 5, 4, 7), refused, "join: a sum above its bound gets 15");
+    join(ones, totals(1, 5, most_squares, 4, 7), refused, "join: squares above their bound get 15");
+    join(ones, totals(UINT64_MAX, 5, 5, 4, 7), refused, "join: a count does not wrap round");
+    join(ones, totals(1, UINT64_MAX, 5, 4, 7), refused, "join: a sum does not wrap round");
+    join(ones, totals(1, 5, UINT64_MAX, 4, 7), refused, "join: squares do not wrap round");
+    join(ones, none, VCUBE_ACCEPTED, "join: totals of no result leave the others as they are");
+    expect(vcube_join_totals(&ones, &ones, &joined) == VCUBE_ACCEPTED && joined.count == 2, "join: one may be handed over twice");
+    expect(vcube_join_totals(&none, &none, &joined) == VCUBE_ACCEPTED, "join: two totals of no result are accepted");
+    expect(all_zero(&joined, sizeof joined), "join: two totals of no result give those of no result");
+}
+
+static void figures_of_totals(struct vcube_totals handed, int number, const char *what)
+{
+    struct vcube_figures figures = any_figures();
+
+    expect_figures(vcube_figures_of_totals(&handed, &figures), number, &figures, what);
+    if (number == VCUBE_ACCEPTED)
+        expect(figures.count == handed.count && figures.least == handed.least && figures.greatest == handed.greatest,
+               "figures of totals: count, least and greatest are those handed in");
+}
+
+static void figures_of_totals_at_bounds(void)
+{
+    const uint64_t most = VCUBE_MOST_RESULTS;
+    const int refused = VCUBE_REFUSED_TOO_MANY_RESULTS;
+
+    figures_of_totals(totals(0, 0, 0, 0, 0), VCUBE_REFUSED_NO_RESULT, "figures of totals: no result gets 14");
+    figures_of_totals(totals(0, UINT64_MAX, 1, 2, 3), VCUBE_REFUSED_NO_RESULT, "figures of totals: 14 comes before 15");
+    figures_of_totals(totals(most, most_sum, most_squares, 9, 5), VCUBE_ACCEPTED, "figures of totals: up to the bounds");
+    figures_of_totals(totals(most + 1, 5, 5, 1, 1), refused, "figures of totals: a count above 4096 gets 15");
+    figures_of_totals(totals(most, most_sum + 1, 5, 1, 1), refused, "figures of totals: a sum above its bound gets 15");
+    figures_of_totals(totals(most, 5, most_squares + 1, 1, 1), refused, "figures of totals: squares above their bound get 15");
+    figures_of_totals(totals(UINT64_MAX, UINT64_MAX, UINT64_MAX, 1, 1), refused, "figures of totals: any members are taken");
+}
+
+/* Totals that no results have: 2 * 4 is below 3 * 3. */
+static void variance_below_0(void)
+{
+    const struct vcube_totals handed = totals(2, 3, 4, 1, 2);
+    struct vcube_figures figures = any_figures();
+
+    expect(vcube_figures_of_totals(&handed, &figures) == VCUBE_ACCEPTED, "figures of totals: any totals below the bounds");
+    expect(figures.mean.upper == 3 && figures.mean.lower == 2, "figures of totals: the mean is 3/2");
+    expect(figures.variance.upper == 0 && figures.variance.lower == 1, "figures of totals: a variance below 0 is given as 0/1");
+}
+
+static void figures_over_results(void)
+{
+    expect(sizeof(struct vcube_fraction) == 16, "a fraction has 16 bytes");
+    expect(sizeof(struct vcube_figures) == 56, "figures have 56 bytes");
+    expect(sizeof(struct vcube_totals) == 40, "totals have 40 bytes");
+    for (size_t k = 0; k <= VCUBE_MOST_RESULTS; k++)
+        many[k] = 65535;
+    lengths_of_lists();
+    greatest_results();
+    totals_of_lists();
+    joins();
+    figures_of_totals_at_bounds();
+    variance_below_0();
+}
+
 int main(void)
 {
     uint8_t table[VCUBE_TABLE_LENGTH(N)];
@@ -107,5 +308,6 @@ int main(void)
     null_buffers(table);
     null_in_runs(table);
     group_lengths();
+    figures_over_results();
     return failures != 0;
 }

@@ -1,9 +1,10 @@
-//! The numbers of document 01 as types: refusals, kinds, statuses, outcomes.
+//! The numbers of document 01 as types: refusals, with those of request C-12,
+//! kinds, statuses, outcomes.
 
 use std::error::Error;
 use std::fmt;
 
-/// An enum whose cases have the numbers of document 01.
+/// An enum whose cases have the numbers of the documents.
 macro_rules! numbered {
     ($(#[$about:meta])* $name:ident { $($(#[$of_case:meta])* $case:ident = $number:literal,)+ }) => {
         $(#[$about])*
@@ -14,7 +15,7 @@ macro_rules! numbered {
         }
 
         impl $name {
-            /// Its number in document 01.
+            /// Its number in the documents.
             #[must_use]
             pub const fn number(self) -> u8 {
                 self as u8
@@ -49,6 +50,8 @@ numbered! {
         PassFinished = 11,
         Level = 12,
         ListLength = 13,
+        NoResult = 14,
+        TooManyResults = 15,
     }
 }
 
@@ -105,6 +108,10 @@ impl fmt::Display for Refusal {
                 "the level is 0 or above d, the size's logarithm to base 2, rounded up"
             }
             Refusal::ListLength => "the lent list has not the length stated",
+            Refusal::NoResult => "there is no result at all",
+            Refusal::TooManyResults => {
+                "there are more than 4096 results in all, or totals that 4096 results cannot have"
+            }
         })
     }
 }

@@ -3,7 +3,8 @@
 //! What each call does, and when it is refused, is said in document 01, "The
 //! vCube watch on a gin's plant cable"; the steps of an entry stand as
 //! definitions in crates/plant/specs/Turn.antt and Entry.antt. Plants have 2 to
-//! 64 stations. Every call takes any numbers and slices of any length: nothing
+//! 64 stations. The figures over a season's trials are those of request C-12 of
+//! document 02. Every call takes any numbers and slices of any length: nothing
 //! need be tested before calling. A refused call changes nothing; a run that
 //! stops at an entry keeps the work of the entries before it.
 //!
@@ -42,11 +43,37 @@
 //! assert!(due.eq([Distance(1), Distance(2), Distance(3)]));
 //! # Ok::<(), vcube::Refusal>(())
 //! ```
+//!
+//! Figures of a list of results, of two lists, and of totals that are kept over
+//! days while the lists are not:
+//!
+//! ```
+//! use vcube::{Fraction, Totals};
+//!
+//! let figures = vcube::figures(&[2, 4, 4, 4, 5, 5, 7, 9])?;
+//! assert_eq!((figures.count, figures.least, figures.greatest), (8, 2, 9));
+//! assert_eq!(figures.mean, Fraction { upper: 5, lower: 1 });
+//! assert_eq!(figures.variance, Fraction { upper: 4, lower: 1 });
+//!
+//! let of_two = vcube::figures_of_two(&[1], &[2])?;
+//! assert_eq!(of_two.mean.to_string(), "3/2");
+//! assert_eq!(of_two.variance.to_string(), "1/4");
+//! assert_eq!(of_two.variance.value(), 0.25);
+//!
+//! let days: [&[u16]; 3] = [&[2, 4, 4], &[], &[4, 5, 5, 7, 9]];
+//! let mut season = Totals::default();
+//! for day in days {
+//!     season = season.join(Totals::of(day)?)?;
+//! }
+//! assert_eq!(season.figures()?, figures);
+//! # Ok::<(), vcube::Refusal>(())
+//! ```
 
 #![deny(unsafe_code)]
 
 mod codes;
 mod entries;
+mod figures;
 #[allow(unsafe_code)]
 mod raw;
 
@@ -55,6 +82,7 @@ mod tests;
 
 pub use codes::{Kind, Outcome, Refusal, Status};
 pub use entries::{schedule, sheet_lines, Entry, SheetLine};
+pub use figures::{figures, figures_of_two, Figures, Fraction, Totals, MOST_RESULTS};
 
 /// A station number. Any number can stand here; the library refuses n or more.
 #[derive(Clone, Copy, Debug, PartialEq, Eq, Hash, PartialOrd, Ord)]

@@ -3,16 +3,22 @@
 //!
 //! Why it is sound:
 //!
-//! - The declarations below are those of include/vcube.h.
-//! - The pointer of a slice is valid for the slice's length, and a `&mut` for
-//!   its number. The library reads and writes only within the lengths handed
-//!   over and at those numbers, and takes any number and any length.
+//! - The declarations below are those of include/vcube.h, and the structs of
+//!   the figures have the layout of its structs (`repr(C)`, the same members).
+//! - The pointer of a slice is valid for the slice's length and aligned for its
+//!   items, and a `&` or `&mut` is valid for its number or struct. The library
+//!   reads and writes only within the lengths handed over and at those numbers
+//!   and structs, and takes any number and any length.
 //! - What is lent for writing is borrowed exclusively, so nothing of a call
 //!   overlaps with what is written, and nobody else uses it meanwhile. A slice
 //!   lent for reading goes in as a `const` pointer.
 //! - The library keeps no pointer after a call and has no state of its own.
 
+use crate::{Figures, Fraction, Totals};
+
 mod c {
+    use crate::{Figures, Totals};
+
     extern "C" {
         pub fn vcube_fresh_table(n: usize, table: *mut u8, table_length: usize) -> u8;
 
@@ -55,6 +61,26 @@ mod c {
             sheet_length: usize,
             taken: &mut usize,
         ) -> u8;
+
+        pub fn vcube_figures_of_list(
+            results: *const u16,
+            length: usize,
+            figures: &mut Figures,
+        ) -> u8;
+
+        pub fn vcube_figures_of_two_lists(
+            first: *const u16,
+            first_length: usize,
+            second: *const u16,
+            second_length: usize,
+            figures: &mut Figures,
+        ) -> u8;
+
+        pub fn vcube_totals_of_list(results: *const u16, length: usize, totals: &mut Totals) -> u8;
+
+        pub fn vcube_join_totals(first: &Totals, second: &Totals, joined: &mut Totals) -> u8;
+
+        pub fn vcube_figures_of_totals(totals: &Totals, figures: &mut Figures) -> u8;
     }
 }
 
@@ -126,4 +152,56 @@ pub fn run(
         )
     };
     (number, taken)
+}
+
+/// What figures hold before a call fills them.
+const UNFILLED: Figures = Figures {
+    count: 0,
+    least: 0,
+    greatest: 0,
+    mean: Fraction { upper: 0, lower: 0 },
+    variance: Fraction { upper: 0, lower: 0 },
+};
+
+/// Gives the number and the figures.
+pub fn figures_of_list(results: &[u16]) -> (u8, Figures) {
+    let mut figures = UNFILLED;
+    let number = unsafe { c::vcube_figures_of_list(results.as_ptr(), results.len(), &mut figures) };
+    (number, figures)
+}
+
+/// Gives the number and the figures.
+pub fn figures_of_two_lists(first: &[u16], second: &[u16]) -> (u8, Figures) {
+    let mut figures = UNFILLED;
+    let number = unsafe {
+        c::vcube_figures_of_two_lists(
+            first.as_ptr(),
+            first.len(),
+            second.as_ptr(),
+            second.len(),
+            &mut figures,
+        )
+    };
+    (number, figures)
+}
+
+/// Gives the number and the totals.
+pub fn totals_of_list(results: &[u16]) -> (u8, Totals) {
+    let mut totals = Totals::default();
+    let number = unsafe { c::vcube_totals_of_list(results.as_ptr(), results.len(), &mut totals) };
+    (number, totals)
+}
+
+/// Gives the number and the joined totals.
+pub fn join_totals(first: &Totals, second: &Totals) -> (u8, Totals) {
+    let mut joined = Totals::default();
+    let number = unsafe { c::vcube_join_totals(first, second, &mut joined) };
+    (number, joined)
+}
+
+/// Gives the number and the figures.
+pub fn figures_of_totals(totals: &Totals) -> (u8, Figures) {
+    let mut figures = UNFILLED;
+    let number = unsafe { c::vcube_figures_of_totals(totals, &mut figures) };
+    (number, figures)
 }

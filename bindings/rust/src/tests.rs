@@ -1,5 +1,6 @@
 //! The expected values are those of document 01's plant examples, and follow
-//! its rules with the sizes of request C-11.
+//! its rules with the sizes of request C-11. Those of the figures (request C-12)
+//! are worked out by hand.
 
 use crate::*;
 
@@ -340,10 +341,10 @@ fn numbers_out_of_range_are_refused() {
 }
 
 #[test]
-fn numbers_are_those_of_document_01() {
+fn numbers_are_those_of_the_documents() {
     let names = |name: fn(u8) -> Option<String>| (0..=255).filter_map(name).collect::<Vec<_>>();
     let refusals = names(|k| Refusal::from_number(k).map(|one| format!("{k} {}", one.number())));
-    assert_eq!((refusals.len(), refusals[12].as_str()), (13, "13 13"));
+    assert_eq!((refusals.len(), refusals[14].as_str()), (15, "15 15"));
     let kinds = names(|k| Kind::from_number(k).map(|one| format!("{} {one:?}", one.number())));
     assert_eq!(kinds, ["1 Turn", "2 LateTurn", "3 Crash"]);
     let statuses = names(|k| Status::from_number(k).map(|one| format!("{k} {one:?}")));
@@ -375,14 +376,223 @@ fn refusals_of_tables_and_entries_have_their_names() {
 
 #[test]
 fn each_refusal_has_a_message_of_its_own() {
-    let refusals = (1..=13).map(|k| Refusal::from_number(k).expect("13 refusals"));
+    let refusals = (1..=15).map(|k| Refusal::from_number(k).expect("15 refusals"));
     let mut messages: Vec<String> = refusals.map(|refusal| refusal.to_string()).collect();
     assert!(messages.iter().all(|message| !message.is_empty()));
     messages.sort();
     messages.dedup();
-    assert_eq!(messages.len(), 13);
+    assert_eq!(messages.len(), 15);
     let error: Box<dyn std::error::Error> = Refusal::NotLive.into();
     assert_eq!(error.to_string(), "the station is not live");
+}
+
+fn fraction(upper: u64, lower: u64) -> Fraction {
+    Fraction { upper, lower }
+}
+
+/// Count, least and greatest, mean and variance.
+fn expected(range: [u64; 3], mean: (u64, u64), variance: (u64, u64)) -> Figures {
+    let [count, least, greatest] = range;
+    Figures {
+        count,
+        least,
+        greatest,
+        mean: fraction(mean.0, mean.1),
+        variance: fraction(variance.0, variance.1),
+    }
+}
+
+#[test]
+fn figures_are_those_worked_out_by_hand() {
+    let eight = expected([8, 2, 9], (5, 1), (4, 1));
+    assert_eq!(figures(&[2, 4, 4, 4, 5, 5, 7, 9]), Ok(eight));
+    assert_eq!(figures(&[1, 2]), Ok(expected([2, 1, 2], (3, 2), (1, 4))));
+    let three = expected([3, 1, 2], (4, 3), (2, 9));
+    assert_eq!(figures(&[1, 2, 1]), Ok(three));
+    assert_eq!(figures(&[7]), Ok(expected([1, 7, 7], (7, 1), (0, 1))));
+}
+
+#[test]
+fn a_figure_of_zero_is_0_over_1() {
+    assert_eq!(figures(&[0]), Ok(expected([1, 0, 0], (0, 1), (0, 1))));
+    let zeros = expected([4096, 0, 0], (0, 1), (0, 1));
+    assert_eq!(figures(&[0; 4096]), Ok(zeros));
+}
+
+#[test]
+fn the_greatest_results_and_the_longest_list_are_taken() {
+    let all_greatest = expected([4096, 65_535, 65_535], (65_535, 1), (0, 1));
+    assert_eq!(figures(&[65_535; 4096]), Ok(all_greatest));
+    // Half of them 0: each deviates by 65535/2 from the mean.
+    let halves = [[0; 2048], [65_535; 2048]].concat();
+    let variance = (65_535 * 65_535, 4);
+    let expected_halves = expected([4096, 0, 65_535], (65_535, 2), variance);
+    assert_eq!(figures(&halves), Ok(expected_halves));
+    // One of them greatest: 65535 is odd, and so is 4095.
+    let mut one = [0; 4096];
+    one[4095] = 65_535;
+    let variance = (4095 * 65_535 * 65_535, 4096 * 4096);
+    let expected_one = expected([4096, 0, 65_535], (65_535, 4096), variance);
+    assert_eq!(figures(&one), Ok(expected_one));
+}
+
+#[test]
+fn figures_of_two_lists_are_those_of_both_together() {
+    let results = [2, 4, 4, 4, 5, 5, 7, 9];
+    for cut in 0..=8 {
+        let (first, second) = results.split_at(cut);
+        let eight = expected([8, 2, 9], (5, 1), (4, 1));
+        assert_eq!(figures_of_two(first, second), Ok(eight));
+        assert_eq!(figures_of_two(second, first), Ok(eight));
+    }
+    let three = expected([3, 1, 2], (4, 3), (2, 9));
+    assert_eq!(figures_of_two(&[1, 1], &[2]), Ok(three));
+}
+
+#[test]
+fn no_result_and_too_many_are_refused() {
+    let many = [1; 4097];
+    assert_eq!(figures(&[]), Err(Refusal::NoResult));
+    assert_eq!(figures(&many), Err(Refusal::TooManyResults));
+    assert_eq!(figures_of_two(&[], &[]), Err(Refusal::NoResult));
+    let ones = Ok(expected([4096, 1, 1], (1, 1), (0, 1)));
+    for first in [0, 1, 2048, 4095, 4096] {
+        let second = 4096 - first;
+        assert_eq!(figures_of_two(&many[..first], &many[..second]), ones);
+        let refused = figures_of_two(&many[..first], &many[..=second]);
+        assert_eq!(refused, Err(Refusal::TooManyResults));
+    }
+    let refused = figures_of_two(&many, &[]);
+    assert_eq!(refused, Err(Refusal::TooManyResults));
+    assert_eq!(Totals::of(&many), Err(Refusal::TooManyResults));
+}
+
+/// Count, sum and squares, least and greatest.
+fn totals(sums: [u64; 3], least: u64, greatest: u64) -> Totals {
+    let [count, sum, squares] = sums;
+    Totals {
+        count,
+        sum,
+        squares,
+        least,
+        greatest,
+    }
+}
+
+/// What 4,096 results have at most.
+const MOST: [u64; 3] = [4096, 4096 * 65_535, 4096 * 65_535 * 65_535];
+
+#[test]
+fn totals_are_count_sum_squares_least_and_greatest() {
+    let eight = totals([8, 40, 232], 2, 9);
+    assert_eq!(Totals::of(&[2, 4, 4, 4, 5, 5, 7, 9]), Ok(eight));
+    assert_eq!(Totals::of(&[]), Ok(Totals::default()));
+    assert_eq!(Totals::default(), totals([0, 0, 0], 0, 0));
+    let greatest = totals(MOST, 65_535, 65_535);
+    assert_eq!(Totals::of(&[65_535; MOST_RESULTS]), Ok(greatest));
+}
+
+#[test]
+fn totals_of_no_result_leave_least_and_greatest_alone() {
+    let (one, two) = (totals([1, 3, 9], 3, 3), totals([2, 12, 74], 5, 7));
+    assert_eq!(one.join(two), Ok(totals([3, 15, 83], 3, 7)));
+    assert_eq!(two.join(one), Ok(totals([3, 15, 83], 3, 7)));
+    let none = Totals::default();
+    assert_eq!(none.join(one), Ok(one));
+    assert_eq!(one.join(none), Ok(one));
+    assert_eq!(none.join(none), Ok(none));
+    // Totals of no results: by the count alone.
+    let (first, second) = (totals([0, 1, 2], 3, 4), totals([0, 5, 6], 1, 9));
+    assert_eq!(first.join(second), Ok(totals([0, 6, 8], 1, 9)));
+    assert_eq!(first.join(one), Ok(totals([1, 4, 11], 3, 3)));
+    assert_eq!(two.join(second), Ok(totals([2, 17, 80], 5, 7)));
+}
+
+#[test]
+fn joined_totals_go_up_to_those_of_the_most_results() {
+    for which in 0..3 {
+        let (mut first, mut second) = ([1; 3], [0; 3]);
+        second[which] = MOST[which] - 1;
+        let join = |first, second| totals(first, 2, 8).join(totals(second, 2, 8));
+        assert!(join(first, second).is_ok_and(|joined| {
+            [joined.count, joined.sum, joined.squares][which] == MOST[which]
+        }));
+        first[which] = 2;
+        let refused = Err(Refusal::TooManyResults);
+        assert_eq!(join(first, second), refused);
+        assert_eq!(join(second, first), refused);
+        // Two to the 64 and more is not taken for 0 and more.
+        second[which] = u64::MAX;
+        assert_eq!(join(first, second), refused);
+        assert_eq!(join(second, second), refused);
+    }
+}
+
+#[test]
+fn figures_of_totals_are_those_of_the_results() {
+    let lists: [&[u16]; 4] = [&[2, 4, 4, 4, 5, 5, 7, 9], &[1, 2], &[0], &[65_535; 4096]];
+    for list in lists {
+        let of_totals = Totals::of(list).and_then(Totals::figures);
+        assert!(of_totals.is_ok());
+        assert_eq!(of_totals, figures(list));
+    }
+}
+
+#[test]
+fn figures_of_totals_are_refused_by_14_and_then_15() {
+    let refusal = |sums| totals(sums, 1, 1).figures().err();
+    assert_eq!(Totals::default().figures(), Err(Refusal::NoResult));
+    assert_eq!(refusal([0, u64::MAX, u64::MAX]), Some(Refusal::NoResult));
+    assert_eq!(refusal(MOST), None);
+    for which in 0..3 {
+        let mut sums = MOST;
+        for more in [MOST[which] + 1, u64::MAX] {
+            sums[which] = more;
+            assert_eq!(refusal(sums), Some(Refusal::TooManyResults));
+        }
+    }
+}
+
+#[test]
+fn figures_of_totals_that_no_results_have() {
+    // 2 * 4 is below 3 * 3.
+    let below = totals([2, 3, 4], 9, 5).figures();
+    assert_eq!(below, Ok(expected([2, 9, 5], (3, 2), (0, 1))));
+    let apart = totals([2, 0, 4], u64::MAX, 0).figures();
+    assert_eq!(apart, Ok(expected([2, u64::MAX, 0], (0, 1), (2, 1))));
+}
+
+#[test]
+fn totals_are_kept_over_days() {
+    let days: [&[u16]; 4] = [&[2, 4, 4, 4], &[], &[5, 5, 7, 9], &[3, 3, 3]];
+    let mut season = Totals::default();
+    for day in days {
+        let joined = Totals::of(day).and_then(|day| season.join(day));
+        season = joined.expect("11 results");
+    }
+    assert_eq!(season, totals([11, 49, 259], 2, 9));
+    let expected_season = expected([11, 2, 9], (49, 11), (448, 121));
+    assert_eq!(season.figures(), Ok(expected_season));
+    assert_eq!(figures(&days.concat()), Ok(expected_season));
+}
+
+#[test]
+fn a_fraction_is_printed_and_has_a_value() {
+    assert_eq!(fraction(3, 2).to_string(), "3/2");
+    assert_eq!(fraction(0, 1).to_string(), "0/1");
+    assert_eq!(fraction(3, 2).value(), 1.5);
+    assert_eq!(fraction(1269, 1024).value(), 1.239_257_812_5);
+}
+
+#[test]
+fn the_structs_are_those_of_the_header() {
+    let sizes = [
+        size_of::<Fraction>(),
+        size_of::<Figures>(),
+        size_of::<Totals>(),
+    ];
+    assert_eq!(sizes, [16, 56, 40]);
+    assert_eq!(MOST_RESULTS, 4096);
 }
 
 #[test]
