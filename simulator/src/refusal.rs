@@ -17,6 +17,8 @@ pub enum Refusal {
     PassFinished = 11,
     Level = 12,
     ListLength = 13,
+    NoResult = 14,
+    TooManyResults = 15,
 }
 
 impl Refusal {

@@ -3,12 +3,14 @@
 mod claim;
 mod due;
 mod entries;
+mod figures;
 mod groups;
 mod laws;
 mod program;
 mod questions;
 mod rounds;
 mod tables;
+mod totals;
 
 use std::ops::RangeInclusive;
 
