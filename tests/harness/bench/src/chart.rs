@@ -1,13 +1,13 @@
 //! The chart of the rounds until the dead boards are known, as SVG.
 
 use std::fmt::Write;
+use vcube::Figures;
 
 /// What is drawn for one size.
 pub struct Point {
     pub n: usize,
-    pub least: u32,
-    pub mean: f64,
-    pub greatest: u32,
+    /// Of the random plants.
+    pub observed: Figures,
     /// The rounds of the slowest plant, if there is one.
     pub slowest: Option<u32>,
     pub exact: u32,
@@ -137,17 +137,17 @@ fn numbers(points: &[Point], rounds: fn(&Point) -> u32) -> String {
 fn observed(points: &[Point]) -> String {
     let mut text = String::new();
     for (place, point) in placed(points) {
-        let (least, greatest) = (y(f64::from(point.least)), y(f64::from(point.greatest)));
-        let mean = y(point.mean);
-        text += &bar(place, least, greatest);
-        text += &dot(place, mean);
-        if point.mean > 0.0 {
-            text += &label(
-                place + 12.0,
-                mean + 4.5,
-                "start",
-                &format!("{:.2}", point.mean),
-            );
+        let Figures {
+            least,
+            greatest,
+            mean,
+            ..
+        } = point.observed;
+        let (mean, height) = (mean.value(), y(mean.value()));
+        text += &bar(place, y(least as f64), y(greatest as f64));
+        text += &dot(place, height);
+        if mean > 0.0 {
+            text += &label(place + 12.0, height + 4.5, "start", &format!("{mean:.2}"));
         }
     }
     text

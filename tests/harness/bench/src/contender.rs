@@ -1,11 +1,12 @@
-//! The three implementations of the run, called the same way.
+//! The three implementations of the run and of the figures, called the same
+//! way.
 
-use crate::plain;
+use crate::{plain, plain_figures};
 use shared::schedule::Entry;
 use simulator::Answer;
-use vcube::Tally;
+use vcube::{Figures, Fraction, Refusal, Tally};
 
-/// An implementation of the run.
+/// An implementation of the run and of the figures.
 #[derive(Clone, Copy, Debug, PartialEq, Eq)]
 pub enum Contender {
     Library,
@@ -33,6 +34,36 @@ impl Contender {
             Contender::Simulator => simulator::run(n, table, (0, 0), schedule, sheet),
         }
     }
+
+    /// Figures of a list.
+    pub fn figures(self, results: &[u16]) -> Result<Figures, Refusal> {
+        match self {
+            Contender::Library => vcube::figures(results),
+            Contender::Plain => plain_figures::figures(results),
+            Contender::Simulator => simulated_figures(results),
+        }
+    }
+}
+
+/// The simulator's figures, or its refusal.
+fn simulated_figures(results: &[u16]) -> Result<Figures, Refusal> {
+    let simulator::Figures {
+        number,
+        count,
+        least,
+        greatest,
+        mean,
+        variance,
+    } = simulator::figures(results);
+    let fraction = |simulator::Fraction { upper, lower }| Fraction { upper, lower };
+    let figures = Figures {
+        count,
+        least,
+        greatest,
+        mean: fraction(mean),
+        variance: fraction(variance),
+    };
+    Refusal::from_number(number).map_or(Ok(figures), Err)
 }
 
 /// Runs one entry by the library, which must take it; gives the rounds it

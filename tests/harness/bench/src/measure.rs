@@ -50,17 +50,37 @@ impl Batch<'_> {
     }
 }
 
-/// The seconds that all runs take together with each implementation: the best
-/// of the repetitions, each of which times one implementation after the other.
+/// The seconds that all runs take together with each implementation.
 pub fn best_times(works: &[Work], repetitions: usize) -> [f64; 3] {
     let mut batch = Batch::new(works);
+    best(repetitions, |contender| batch.time(contender))
+}
+
+/// The seconds that the figures of all lists take together with each
+/// implementation.
+pub fn best_times_of_figures(lists: &[Vec<u16>], repetitions: usize) -> [f64; 3] {
+    best(repetitions, |contender| time_figures(contender, lists))
+}
+
+/// The best of the repetitions, each of which times one implementation after
+/// the other.
+fn best(repetitions: usize, mut time: impl FnMut(Contender) -> f64) -> [f64; 3] {
     let mut best = [f64::INFINITY; 3];
     for _ in 0..repetitions {
         for (best, contender) in best.iter_mut().zip(Contender::ALL) {
-            *best = best.min(batch.time(contender));
+            *best = best.min(time(contender));
         }
     }
     best
+}
+
+fn time_figures(contender: Contender, lists: &[Vec<u16>]) -> f64 {
+    let lists = black_box(lists);
+    let start = Instant::now();
+    for list in lists {
+        let _ = black_box(contender.figures(list));
+    }
+    start.elapsed().as_secs_f64()
 }
 
 /// One run: the answer, the table and the sheet.
@@ -78,4 +98,12 @@ pub fn check_equal(work: &Work) {
     assert_eq!(results[0].0.taken, work.entries());
     assert!(results[0] == results[1], "library and plain Rust differ");
     assert!(results[0] == results[2], "library and simulator differ");
+}
+
+/// Stops unless all three give equal figures of the list, which is taken.
+pub fn check_equal_figures(results: &[u16]) {
+    let figures = Contender::ALL.map(|contender| contender.figures(results));
+    assert!(figures[0].is_ok(), "the list is refused");
+    assert_eq!(figures[0], figures[1], "library and plain Rust differ");
+    assert_eq!(figures[0], figures[2], "library and simulator differ");
 }

@@ -1,27 +1,30 @@
 //! What is said of the rounds that many trials took.
 
-/// Least, mean, 99th percentile and greatest of some numbers.
-#[derive(Clone, Copy, Debug, PartialEq)]
+use vcube::{Figures, Fraction};
+
+/// The library's figures over some trials, and their 99th percentile.
+#[derive(Clone, Copy, Debug, PartialEq, Eq)]
 pub struct Summary {
-    pub trials: usize,
-    pub least: u32,
-    pub mean: f64,
-    pub percentile: u32,
-    pub greatest: u32,
+    pub figures: Figures,
+    /// The least result that at least 99 in 100 do not exceed.
+    pub percentile: u16,
 }
 
 impl Summary {
-    /// Of at least one number.
-    pub fn of(mut numbers: Vec<u32>) -> Summary {
-        numbers.sort_unstable();
-        let trials = numbers.len();
-        let sum: u32 = numbers.iter().sum();
+    /// Of as many results as the library takes: at least one, and not more
+    /// than [`vcube::MOST_RESULTS`].
+    pub fn of(mut results: Vec<u16>) -> Summary {
+        let figures = vcube::figures(&results).expect("a number of results that is taken");
+        results.sort_unstable();
+        let place = (99 * results.len()).div_ceil(100) - 1;
         Summary {
-            trials,
-            least: numbers[0],
-            mean: f64::from(sum) / trials as f64,
-            percentile: numbers[(99 * trials).div_ceil(100) - 1],
-            greatest: numbers[trials - 1],
+            figures,
+            percentile: results[place],
         }
     }
+}
+
+/// A fraction as a decimal, and behind it as it is.
+pub fn decimal(fraction: Fraction) -> String {
+    format!("{:.2} ({fraction})", fraction.value())
 }

@@ -1,15 +1,18 @@
 //! Plain Rust against the simulator: every byte and every answer. The bounds,
-//! and the slowest plants.
+//! the slowest plants, and what is said of the rounds.
 
-use crate::measure::check_equal;
+use crate::contender::Contender;
+use crate::measure::{check_equal, check_equal_figures};
 use crate::slowest::Slowest;
+use crate::statistics::{decimal, Summary};
 use crate::work::{table_with_crashed, Work};
-use crate::{bounds, plain, slowest};
+use crate::{bounds, plain, plain_figures, slowest};
 use shared::groups::{distances, POWERS, SIZES};
 use shared::random::Random;
 use shared::slowest::INPUTS;
 use shared::table::{line_length, table_length, unfinished_stations};
 use simulator::Answer;
+use vcube::{Figures, Fraction, Refusal};
 
 /// Both give the same answer, table and sheet, which are given back.
 fn compare(
@@ -221,4 +224,67 @@ fn slowest_plants() {
     });
     let expected = [(4, 2, 2), (8, 6, 3), (16, 12, 4), (32, 26, 6), (64, 60, 8)];
     assert_eq!(figures, expected);
+}
+
+fn fraction(upper: u64, lower: u64) -> Fraction {
+    Fraction { upper, lower }
+}
+
+#[test]
+fn plain_figures_are_those_worked_out_by_hand() {
+    let expected = Figures {
+        count: 8,
+        least: 2,
+        greatest: 9,
+        mean: fraction(5, 1),
+        variance: fraction(4, 1),
+    };
+    let eight = plain_figures::figures(&[2, 4, 4, 4, 5, 5, 7, 9]);
+    assert_eq!(eight, Ok(expected));
+    let two = plain_figures::figures(&[1, 2]).expect("taken");
+    assert_eq!((two.mean, two.variance), (fraction(3, 2), fraction(1, 4)));
+}
+
+#[test]
+fn all_three_give_the_same_figures() {
+    let mut random = Random::new(18);
+    for length in [1, 2, 3, 64, 4095, 4096] {
+        check_equal_figures(&vec![0; length]);
+        check_equal_figures(&vec![65_535; length]);
+        for bound in [2, 9, 1 << 16] {
+            let list = (0..length).map(|_| random.below(bound) as u16);
+            check_equal_figures(&list.collect::<Vec<u16>>());
+        }
+    }
+}
+
+#[test]
+fn all_three_refuse_the_same_lists() {
+    for contender in Contender::ALL {
+        assert_eq!(contender.figures(&[]), Err(Refusal::NoResult));
+        let too_many = contender.figures(&[0; 4097]);
+        assert_eq!(too_many, Err(Refusal::TooManyResults));
+    }
+}
+
+/// The variance of the numbers 1 to n is (n * n - 1) / 12.
+#[test]
+fn a_summary_has_the_figures_and_the_percentile() {
+    let summary = Summary::of((1..=200).rev().collect());
+    let expected = Figures {
+        count: 200,
+        least: 1,
+        greatest: 200,
+        mean: fraction(201, 2),
+        variance: fraction(13_333, 4),
+    };
+    assert_eq!((summary.figures, summary.percentile), (expected, 198));
+    assert_eq!(Summary::of((1..=201).collect()).percentile, 199);
+    assert_eq!(Summary::of(vec![7]).percentile, 7);
+}
+
+#[test]
+fn a_fraction_stands_behind_its_decimal() {
+    assert_eq!(decimal(fraction(1269, 1024)), "1.24 (1269/1024)");
+    assert_eq!(decimal(fraction(0, 1)), "0.00 (0/1)");
 }

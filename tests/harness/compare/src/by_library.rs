@@ -12,6 +12,7 @@ use crate::call::Numbers;
 use crate::calls::{Assignment, Calls, Row, Run};
 use crate::guarded::Guarded;
 use crate::outcome::Side;
+use crate::words;
 
 extern "C" {
     fn vcube_fresh_table(n: usize, table: *mut u8, table_length: usize) -> u8;
@@ -51,7 +52,22 @@ extern "C" {
         sheet_length: usize,
         taken: *mut usize,
     ) -> u8;
+    fn vcube_figures_of_list(results: *const u16, length: usize, figures: *mut Figures) -> u8;
+    fn vcube_figures_of_two_lists(
+        first: *const u16,
+        first_length: usize,
+        second: *const u16,
+        second_length: usize,
+        figures: *mut Figures,
+    ) -> u8;
+    fn vcube_totals_of_list(results: *const u16, length: usize, totals: *mut Totals) -> u8;
+    fn vcube_join_totals(first: *const Totals, second: *const Totals, joined: *mut Totals) -> u8;
+    fn vcube_figures_of_totals(totals: *const Totals, figures: *mut Figures) -> u8;
 }
+
+/// The header's structs: all their members are of type uint64_t.
+type Figures = [u64; words::FIGURES];
+type Totals = [u64; words::TOTALS];
 
 pub struct Library;
 
@@ -63,7 +79,15 @@ fn bytes(buffer: &mut Guarded) -> (*mut u8, usize) {
     }
 }
 
-/// Where the figure stands.
+/// Where the results stand, and how many they are.
+fn results(buffer: &mut Guarded) -> (*const u16, usize) {
+    let (place, length) = bytes(buffer);
+    let place = place.cast_const().cast::<u16>();
+    assert!(length.is_multiple_of(size_of::<u16>()) && place.is_aligned());
+    (place, length / size_of::<u16>())
+}
+
+/// Where the figure or the struct stands.
 fn figure<T>(buffer: &mut Guarded) -> *mut T {
     let contents = buffer.contents_mut();
     let place = contents.as_mut_ptr().cast::<T>();
@@ -125,5 +149,31 @@ impl Calls for Library {
                 figure(lent.taken),
             )
         }
+    }
+
+    fn figures_of_list([list, figures]: [&mut Guarded; 2]) -> u8 {
+        let (list, length) = results(list);
+        unsafe { vcube_figures_of_list(list, length, figure(figures)) }
+    }
+
+    fn figures_of_two_lists([first, second, figures]: [&mut Guarded; 3]) -> u8 {
+        let (first, first_length) = results(first);
+        let (second, second_length) = results(second);
+        let figures = figure(figures);
+        unsafe { vcube_figures_of_two_lists(first, first_length, second, second_length, figures) }
+    }
+
+    fn totals_of_list([list, totals]: [&mut Guarded; 2]) -> u8 {
+        let (list, length) = results(list);
+        unsafe { vcube_totals_of_list(list, length, figure(totals)) }
+    }
+
+    fn join_totals([first, second, joined]: [&mut Guarded; 3]) -> u8 {
+        let (first, second) = (figure(first), figure(second));
+        unsafe { vcube_join_totals(first, second, figure(joined)) }
+    }
+
+    fn figures_of_totals([totals, figures]: [&mut Guarded; 2]) -> u8 {
+        unsafe { vcube_figures_of_totals(figure(totals), figure(figures)) }
     }
 }

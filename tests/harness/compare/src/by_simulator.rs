@@ -4,10 +4,13 @@
 //! The header adds to document 01: station and level numbers of any width, and
 //! where the figures go. A row is its start in the table and its length.
 
+use simulator::{Figures, Totals};
+
 use crate::call::Numbers;
 use crate::calls::{Assignment, Calls, Row, Run};
 use crate::guarded::Guarded;
 use crate::outcome::Side;
+use crate::words;
 
 pub struct Simulator;
 
@@ -64,4 +67,43 @@ impl Calls for Simulator {
         lent.taken.put_figure(answer.taken);
         answer.number
     }
+
+    fn figures_of_list([list, figures]: [&mut Guarded; 2]) -> u8 {
+        put_figures(figures, &simulator::figures(&results(list)))
+    }
+
+    fn figures_of_two_lists([first, second, figures]: [&mut Guarded; 3]) -> u8 {
+        let given = simulator::figures_of_two(&results(first), &results(second));
+        put_figures(figures, &given)
+    }
+
+    fn totals_of_list([list, totals]: [&mut Guarded; 2]) -> u8 {
+        put_totals(totals, &simulator::totals(&results(list)))
+    }
+
+    fn join_totals([first, second, joined]: [&mut Guarded; 3]) -> u8 {
+        let [first, second] = [first, second].map(|place| words::totals(place.contents()));
+        put_totals(joined, &simulator::join_totals(&first, &second))
+    }
+
+    fn figures_of_totals([totals, figures]: [&mut Guarded; 2]) -> u8 {
+        let totals = words::totals(totals.contents());
+        put_figures(figures, &simulator::figures_of_totals(&totals))
+    }
+}
+
+fn results(buffer: &Guarded) -> Vec<u16> {
+    words::results(buffer.contents())
+}
+
+/// Puts the members there; gives the number.
+fn put_totals(place: &mut Guarded, totals: &Totals) -> u8 {
+    place.put_members(words::of_totals(totals));
+    totals.number
+}
+
+/// Puts the members there; gives the number.
+fn put_figures(place: &mut Guarded, figures: &Figures) -> u8 {
+    place.put_members(words::of_figures(figures));
+    figures.number
 }

@@ -4,12 +4,13 @@
 //! what it reads from a buffer is written there again, and its figures are put
 //! where the library would put them. So a fault of it shows in a buffer.
 
-use vcube::{Entry, Level, Refusal, SheetLine, Station, Tally};
+use vcube::{Entry, Figures, Level, Refusal, SheetLine, Station, Tally, Totals};
 
 use crate::call::Numbers;
 use crate::calls::{Assignment, Calls, Row, Run};
 use crate::guarded::Guarded;
 use crate::outcome::Side;
+use crate::words;
 
 pub struct Typed;
 
@@ -72,6 +73,68 @@ impl Calls for Typed {
         lent.taken.put_figure(lines.len());
         number(&answer.refusal.map_or(Ok(()), Err))
     }
+
+    fn figures_of_list([list, figures]: [&mut Guarded; 2]) -> u8 {
+        put_figures(figures, vcube::figures(&results(list)))
+    }
+
+    fn figures_of_two_lists([first, second, figures]: [&mut Guarded; 3]) -> u8 {
+        let given = vcube::figures_of_two(&results(first), &results(second));
+        put_figures(figures, given)
+    }
+
+    fn totals_of_list([list, totals]: [&mut Guarded; 2]) -> u8 {
+        put_totals(totals, Totals::of(&results(list)))
+    }
+
+    fn join_totals([first, second, joined]: [&mut Guarded; 3]) -> u8 {
+        put_totals(joined, totals(first).join(totals(second)))
+    }
+
+    fn figures_of_totals([handed_in, figures]: [&mut Guarded; 2]) -> u8 {
+        put_figures(figures, totals(handed_in).figures())
+    }
+}
+
+fn results(buffer: &Guarded) -> Vec<u16> {
+    words::results(buffer.contents())
+}
+
+fn totals(buffer: &Guarded) -> Totals {
+    let [count, sum, squares, least, greatest] = words::members(buffer.contents());
+    Totals {
+        count,
+        sum,
+        squares,
+        least,
+        greatest,
+    }
+}
+
+/// Puts the members there, zeros where the call was refused (the typed layer
+/// gives no members then, so that these are not compared); gives the number.
+fn put_totals(place: &mut Guarded, given: Result<Totals, Refusal>) -> u8 {
+    let members = |one: Totals| [one.count, one.sum, one.squares, one.least, one.greatest];
+    place.put_members(given.map_or([0; words::TOTALS], members));
+    number(&given)
+}
+
+/// The same of figures.
+fn put_figures(place: &mut Guarded, given: Result<Figures, Refusal>) -> u8 {
+    let members = |one: Figures| {
+        let (mean, variance) = (one.mean, one.variance);
+        [
+            one.count,
+            one.least,
+            one.greatest,
+            mean.upper,
+            mean.lower,
+            variance.upper,
+            variance.lower,
+        ]
+    };
+    place.put_members(given.map_or([0; words::FIGURES], members));
+    number(&given)
 }
 
 fn byte(station: Station) -> u8 {

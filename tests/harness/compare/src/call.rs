@@ -1,7 +1,9 @@
 //! A call: its kind, its numbers and its buffers.
 //!
 //! A place where a call puts a figure is a buffer too: the bytes of a `usize`,
-//! or of a `u32` for the tally, which is also handed in there.
+//! or of a `u32` for the tally, which is also handed in there. So are a list of
+//! results, the bytes of `u16`, and figures over results and totals, the bytes
+//! of `u64` (module `words`).
 
 #[derive(Clone, Copy, Debug, PartialEq, Eq)]
 pub enum Kind {
@@ -10,6 +12,11 @@ pub enum Kind {
     Assignment,
     Row,
     Run,
+    FiguresOfList,
+    FiguresOfTwoLists,
+    TotalsOfList,
+    JoinTotals,
+    FiguresOfTotals,
 }
 
 /// The numbers of a call. Those that its kind does not take are 0.
@@ -33,6 +40,15 @@ pub enum Name {
     Rounds,
     Tests,
     Taken,
+    /// A list of results, or the first of two.
+    Results,
+    SecondResults,
+    /// Totals handed in, or the first of two.
+    Totals,
+    SecondTotals,
+    /// Totals that a call gives.
+    GivenTotals,
+    Figures,
 }
 
 const NAMES: usize = Name::ALL.len();
@@ -61,7 +77,22 @@ impl Call {
 }
 
 impl Kind {
-    pub const ALL: [Kind; 5] = [
+    pub const ALL: [Kind; 10] = [
+        Kind::FreshTable,
+        Kind::GroupList,
+        Kind::Assignment,
+        Kind::Row,
+        Kind::Run,
+        Kind::FiguresOfList,
+        Kind::FiguresOfTwoLists,
+        Kind::TotalsOfList,
+        Kind::JoinTotals,
+        Kind::FiguresOfTotals,
+    ];
+
+    /// Those about a plant, which take a size: the first ones. The others are
+    /// about results.
+    pub const OF_PLANTS: [Kind; 5] = [
         Kind::FreshTable,
         Kind::GroupList,
         Kind::Assignment,
@@ -76,6 +107,11 @@ impl Kind {
             Kind::Assignment => "assignment",
             Kind::Row => "row",
             Kind::Run => "run",
+            Kind::FiguresOfList => "figures of a list",
+            Kind::FiguresOfTwoLists => "figures of two lists",
+            Kind::TotalsOfList => "totals of a list",
+            Kind::JoinTotals => "join of totals",
+            Kind::FiguresOfTotals => "figures of totals",
         }
     }
 
@@ -94,6 +130,11 @@ impl Kind {
                 Name::Tests,
                 Name::Taken,
             ],
+            Kind::FiguresOfList => &[Name::Results, Name::Figures],
+            Kind::FiguresOfTwoLists => &[Name::Results, Name::SecondResults, Name::Figures],
+            Kind::TotalsOfList => &[Name::Results, Name::GivenTotals],
+            Kind::JoinTotals => &[Name::Totals, Name::SecondTotals, Name::GivenTotals],
+            Kind::FiguresOfTotals => &[Name::Totals, Name::Figures],
         }
     }
 
@@ -105,12 +146,14 @@ impl Kind {
             Kind::Assignment => &[0, 1, 2, 3, 4, 9, 10, 13],
             Kind::Row => &[0, 1, 2, 3, 4, 9],
             Kind::Run => &[0, 1, 2, 3, 4, 5, 6, 7, 8, 9, 10, 11],
+            Kind::FiguresOfList | Kind::FiguresOfTwoLists | Kind::FiguresOfTotals => &[0, 14, 15],
+            Kind::TotalsOfList | Kind::JoinTotals => &[0, 15],
         }
     }
 }
 
 impl Name {
-    pub const ALL: [Name; 10] = [
+    pub const ALL: [Name; 16] = [
         Name::Table,
         Name::List,
         Name::Schedule,
@@ -121,6 +164,12 @@ impl Name {
         Name::Rounds,
         Name::Tests,
         Name::Taken,
+        Name::Results,
+        Name::SecondResults,
+        Name::Totals,
+        Name::SecondTotals,
+        Name::GivenTotals,
+        Name::Figures,
     ];
 
     pub fn text(self) -> &'static str {
@@ -135,15 +184,25 @@ impl Name {
             Name::Rounds => "rounds",
             Name::Tests => "tests",
             Name::Taken => "taken",
+            Name::Results => "results",
+            Name::SecondResults => "second results",
+            Name::Totals => "totals",
+            Name::SecondTotals => "second totals",
+            Name::GivenTotals => "given totals",
+            Name::Figures => "figures",
         }
     }
 
-    /// The width of the figure that stands there; none for bytes.
-    pub fn width(self) -> Option<usize> {
+    /// The width of the numbers that stand there.
+    pub fn width(self) -> usize {
         match self {
-            Name::Table | Name::List | Name::Schedule | Name::Sheet => None,
-            Name::Rounds | Name::Tests => Some(size_of::<u32>()),
-            Name::Count | Name::Start | Name::Length | Name::Taken => Some(size_of::<usize>()),
+            Name::Table | Name::List | Name::Schedule | Name::Sheet => size_of::<u8>(),
+            Name::Rounds | Name::Tests => size_of::<u32>(),
+            Name::Count | Name::Start | Name::Length | Name::Taken => size_of::<usize>(),
+            Name::Results | Name::SecondResults => size_of::<u16>(),
+            Name::Totals | Name::SecondTotals | Name::GivenTotals | Name::Figures => {
+                size_of::<u64>()
+            }
         }
     }
 }

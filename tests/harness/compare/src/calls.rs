@@ -19,6 +19,21 @@ pub trait Calls {
     fn row(numbers: &Numbers, lent: Row) -> u8;
 
     fn run(numbers: &Numbers, lent: Run) -> u8;
+
+    /// Results, figures.
+    fn figures_of_list(lent: [&mut Guarded; 2]) -> u8;
+
+    /// First and second results, figures.
+    fn figures_of_two_lists(lent: [&mut Guarded; 3]) -> u8;
+
+    /// Results, totals.
+    fn totals_of_list(lent: [&mut Guarded; 2]) -> u8;
+
+    /// First and second totals, joined ones.
+    fn join_totals(lent: [&mut Guarded; 3]) -> u8;
+
+    /// Totals, figures.
+    fn figures_of_totals(lent: [&mut Guarded; 2]) -> u8;
 }
 
 pub struct Assignment<'a> {
@@ -51,6 +66,11 @@ pub fn make<By: Calls>(call: &Call, mut buffers: Buffers<Guarded>) -> Outcome {
         Kind::Assignment => By::assignment(numbers, assignment(&mut buffers)),
         Kind::Row => By::row(numbers, row(&mut buffers)),
         Kind::Run => By::run(numbers, run(&mut buffers)),
+        Kind::FiguresOfList => By::figures_of_list(lent(call.kind, &mut buffers)),
+        Kind::FiguresOfTwoLists => By::figures_of_two_lists(lent(call.kind, &mut buffers)),
+        Kind::TotalsOfList => By::totals_of_list(lent(call.kind, &mut buffers)),
+        Kind::JoinTotals => By::join_totals(lent(call.kind, &mut buffers)),
+        Kind::FiguresOfTotals => By::figures_of_totals(lent(call.kind, &mut buffers)),
     };
     Outcome {
         side: By::SIDE,
@@ -87,4 +107,10 @@ fn run(buffers: &mut Buffers<Guarded>) -> Run<'_> {
         tests,
         taken,
     }
+}
+
+/// All buffers of a call about results, in the order of the header.
+fn lent<const N: usize>(kind: Kind, buffers: &mut Buffers<Guarded>) -> [&mut Guarded; N] {
+    let names: &[Name; N] = kind.buffers().try_into().expect("so many buffers");
+    buffers.get_all(*names)
 }

@@ -7,10 +7,15 @@ use shared::groups;
 
 use crate::absent::Absent;
 use crate::call::{Call, Kind, Name};
+use crate::cases::Occurred;
 use crate::entries::{self, Answer, Entry};
 use crate::outcome::Outcome;
 
 const KINDS: usize = Kind::ALL.len();
+const PLANT_KINDS: usize = Kind::OF_PLANTS.len();
+
+/// Refusals have the numbers from 1 up to but without this one.
+const NUMBERS: usize = 16;
 
 /// How many sizes there are; the size n has place n - 2.
 pub const SIZES: usize = 63;
@@ -21,16 +26,26 @@ pub const LEAST: u64 = 30;
 /// A run that takes so many entries is a long one: one byte cannot count them.
 const LONG_RUN: usize = 256;
 
-/// The buffers that are bytes of any length.
-const BYTES: [Name; 4] = [Name::Table, Name::List, Name::Schedule, Name::Sheet];
+/// The buffers of any length.
+const OF_ANY_LENGTH: [Name; 6] = [
+    Name::Table,
+    Name::List,
+    Name::Schedule,
+    Name::Sheet,
+    Name::Results,
+    Name::SecondResults,
+];
+
+/// How many buffers are of any length.
+pub const LENGTHS: usize = OF_ANY_LENGTH.len();
 
 /// How often each thing occurred.
 #[derive(Clone)]
 pub struct Counts {
-    /// The number a call gave, 0 to 13, by kind of call.
-    pub numbers: [[u64; 14]; KINDS],
-    /// The sizes of accepted calls, by kind of call.
-    pub sizes: [[u64; SIZES]; KINDS],
+    /// The number a call gave, by kind of call.
+    pub numbers: [[u64; NUMBERS]; KINDS],
+    /// The sizes of accepted calls, by kind of call about a plant.
+    pub sizes: [[u64; SIZES]; PLANT_KINDS],
     /// What occurred in runs, by size.
     pub runs: [InRuns; SIZES],
     /// Refusals 7 after an entry was taken: the tally of rounds, that of tests.
@@ -44,10 +59,13 @@ pub struct Counts {
     pub long_runs: u64,
     /// Runs refused at their start with a tally of which neither part is 0.
     pub kept_tallies: u64,
-    /// Buffers of length 0 (handed over as NULL): those of `BYTES` in turn.
-    pub empty: [u64; BYTES.len()],
+    /// Buffers of length 0 (handed over as NULL): those of `OF_ANY_LENGTH` in
+    /// turn.
+    pub empty: [u64; LENGTHS],
     /// What absent numbers bring with them, and sizes that are refused.
     pub absent: Absent,
+    /// The cases of calls about results.
+    pub cases: Occurred,
 }
 
 /// What occurred in the runs of one size. For each size, 2 included, every
@@ -81,28 +99,35 @@ impl Counts {
             rounds: count,
         };
         Counts {
-            numbers: [[count; 14]; KINDS],
-            sizes: [[count; SIZES]; KINDS],
+            numbers: [[count; NUMBERS]; KINDS],
+            sizes: [[count; SIZES]; PLANT_KINDS],
             runs: [(); SIZES].map(|()| in_runs.clone()),
             full_tallies: [count; 2],
             closed_leaving: [count; 3],
             late_replies: count,
             long_runs: count,
             kept_tallies: count,
-            empty: [count; BYTES.len()],
+            empty: [count; LENGTHS],
             absent: Absent::all(count),
+            cases: Occurred::all(count),
         }
     }
 
     pub fn add(&mut self, call: &Call, outcome: &Outcome) {
-        let kind = call.kind as usize;
-        self.numbers[kind][usize::from(outcome.number)] += 1;
-        if outcome.number == 0 {
-            self.sizes[kind][place(call)] += 1;
-        }
-        for (count, name) in self.empty.iter_mut().zip(BYTES) {
+        self.numbers[call.kind as usize][usize::from(outcome.number)] += 1;
+        for (count, name) in self.empty.iter_mut().zip(OF_ANY_LENGTH) {
             let lent = call.kind.buffers().contains(&name);
             *count += u64::from(lent && call.buffers.get(name).is_empty());
+        }
+        match Kind::OF_PLANTS.contains(&call.kind) {
+            true => self.add_of_plant(call, outcome),
+            false => self.cases.add(call, outcome),
+        }
+    }
+
+    fn add_of_plant(&mut self, call: &Call, outcome: &Outcome) {
+        if outcome.number == 0 {
+            self.sizes[call.kind as usize][place(call)] += 1;
         }
         self.absent.add(call, outcome);
         if call.kind == Kind::Run {
@@ -151,24 +176,30 @@ impl Counts {
     fn required(&self) -> Vec<Required> {
         let mut required = Vec::new();
         for kind in Kind::ALL {
-            self.require_kind(kind, &mut required);
+            self.require_numbers(kind, &mut required);
+        }
+        for kind in Kind::OF_PLANTS {
+            self.require_sizes(kind, &mut required);
         }
         for (runs, size) in self.runs.iter().zip(groups::SIZES) {
             runs.require(size, &mut required);
         }
         self.require_singly(&mut required);
         self.absent.require(&mut required);
+        self.cases.require(&mut required);
         required
     }
 
-    fn require_kind(&self, kind: Kind, required: &mut Vec<Required>) {
-        let text = kind.text();
+    fn require_numbers(&self, kind: Kind, required: &mut Vec<Required>) {
         for number in kind.possible_numbers() {
             let count = self.numbers[kind as usize][usize::from(*number)];
-            required.push((count, format!("{text} with number {number}")));
+            required.push((count, format!("{} with number {number}", kind.text())));
         }
+    }
+
+    fn require_sizes(&self, kind: Kind, required: &mut Vec<Required>) {
         for (count, size) in self.sizes[kind as usize].iter().zip(groups::SIZES) {
-            required.push((*count, format!("accepted {text} of size {size}")));
+            required.push((*count, format!("accepted {} of size {size}", kind.text())));
         }
     }
 
@@ -186,7 +217,7 @@ impl Counts {
             (self.kept_tallies, "run refused at its start with a tally"),
         ];
         required.extend(counts.map(|(count, text)| (count, String::from(text))));
-        for (count, name) in self.empty.iter().zip(BYTES) {
+        for (count, name) in self.empty.iter().zip(OF_ANY_LENGTH) {
             required.push((*count, format!("{} of length 0", name.text())));
         }
     }
@@ -243,9 +274,12 @@ impl fmt::Display for Counts {
         )?;
         write!(f, "runs of {LONG_RUN} entries or more {}; ", self.long_runs)?;
         write!(f, "tallies kept by a refused run {}; ", self.kept_tallies)?;
-        let [table, list, schedule, sheet] = self.empty;
-        write!(f, "of length 0: table {table}, list {list}, ")?;
-        write!(f, "schedule {schedule}, sheet {sheet}; {}", self.absent)?;
+        f.write_str("of length 0: ")?;
+        for (count, name) in self.empty.iter().zip(OF_ANY_LENGTH) {
+            let comma = if name == OF_ANY_LENGTH[0] { "" } else { ", " };
+            write!(f, "{comma}{} {count}", name.text())?;
+        }
+        write!(f, "; {}; {}", self.absent, self.cases)?;
         let rarest = self.required().into_iter().min();
         rarest.map_or(Ok(()), |(count, text)| {
             write!(f, "; rarest: {text}: {count}")

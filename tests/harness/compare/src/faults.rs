@@ -94,7 +94,7 @@ fn grow(outcome: &mut Outcome, name: Name) {
 }
 
 /// The buffer as it was handed in.
-fn leave(call: &Call, outcome: &mut Outcome, name: Name) {
+pub fn leave(call: &Call, outcome: &mut Outcome, name: Name) {
     let place = outcome.buffers.get_mut(name).contents_mut();
     place.copy_from_slice(call.buffers.get(name));
 }

@@ -6,6 +6,7 @@
 use shared::random::Random;
 
 use crate::call::Name;
+use crate::words;
 
 #[derive(Clone, Debug, PartialEq, Eq)]
 pub struct Guarded {
@@ -19,11 +20,10 @@ pub struct Guarded {
 const LEAST_GUARD: usize = 128;
 
 impl Guarded {
-    /// The contents between guards of random length and contents. A figure
-    /// stands at a multiple of its width, bytes anywhere.
+    /// The contents between guards of random length and contents. Numbers
+    /// stand at a multiple of their width, bytes anywhere.
     pub fn new(name: Name, contents: &[u8], random: &mut Random) -> Guarded {
-        let width = name.width().unwrap_or(1);
-        let before = LEAST_GUARD + width * random.below(32);
+        let before = LEAST_GUARD + name.width() * random.below(32);
         let behind = LEAST_GUARD + random.below(32);
         let mut whole = random.bytes(before);
         whole.extend_from_slice(contents);
@@ -45,10 +45,7 @@ impl Guarded {
 
     /// The figure that stands there, if one does.
     pub fn figure(&self) -> usize {
-        match self.contents() {
-            [a, b, c, d] => u32::from_ne_bytes([*a, *b, *c, *d]) as usize,
-            bytes => usize::from_ne_bytes(bytes.try_into().expect("a figure")),
-        }
+        words::number(self.contents()) as usize
     }
 
     /// Puts a figure there, which fits.
@@ -60,6 +57,11 @@ impl Guarded {
             }
             bytes => bytes.copy_from_slice(&figure.to_ne_bytes()),
         }
+    }
+
+    /// Puts the members of a struct there, which fill the contents.
+    pub fn put_members<const N: usize>(&mut self, members: [u64; N]) {
+        self.contents_mut().copy_from_slice(&words::bytes(members));
     }
 
     pub fn whole(&self) -> &[u8] {

@@ -10,6 +10,7 @@ mod by_simulator;
 mod by_typed;
 mod call;
 mod calls;
+mod cases;
 mod counts;
 mod entries;
 mod faults;
@@ -18,9 +19,11 @@ mod guarded;
 mod options;
 mod outcome;
 mod report;
+mod result_faults;
 mod self_test;
 mod size_faults;
 mod trial;
+mod words;
 
 use std::process::ExitCode;
 

@@ -1,10 +1,11 @@
 //! The text about one call.
 
-use crate::call::{Call, Kind, Numbers};
+use crate::call::{Call, Kind, Name, Numbers};
 use crate::outcome::{Difference, Outcome};
 use crate::trial::Trial;
+use crate::words;
 
-/// How many bytes of a buffer are printed where it is cut.
+/// How many numbers of a buffer are printed where it is cut.
 pub const CUT: usize = 256;
 
 /// The call, the outcomes, the difference and the command that repeats it.
@@ -24,9 +25,9 @@ pub fn command(seed: u64, number: u64) -> String {
 pub fn trial_text(number: u64, trial: &Trial, cut: usize) -> String {
     let call = &trial.call;
     let mut text = format!("call {number}: {}\n", call.kind.text());
-    text += &format!("  {}\n", numbers(call.kind, &call.numbers));
+    text += &numbers(call.kind, &call.numbers);
     for name in call.kind.buffers() {
-        text += &buffer(name.text(), call.buffers.get(*name), cut);
+        text += &buffer(*name, call.buffers.get(*name), cut);
     }
     for given in trial.outcomes() {
         text += &outcome(call, given, cut);
@@ -37,9 +38,10 @@ pub fn trial_text(number: u64, trial: &Trial, cut: usize) -> String {
 fn numbers(kind: Kind, numbers: &Numbers) -> String {
     let Numbers { n, station, level } = numbers;
     match kind {
-        Kind::FreshTable | Kind::Run => format!("n {n}"),
-        Kind::GroupList => format!("n {n}, station {station}, level {level}"),
-        Kind::Assignment | Kind::Row => format!("n {n}, station {station}"),
+        Kind::FreshTable | Kind::Run => format!("  n {n}\n"),
+        Kind::GroupList => format!("  n {n}, station {station}, level {level}\n"),
+        Kind::Assignment | Kind::Row => format!("  n {n}, station {station}\n"),
+        _ => String::new(),
     }
 }
 
@@ -51,18 +53,28 @@ fn outcome(call: &Call, outcome: &Outcome, cut: usize) -> String {
         if after == call.buffers.get(*name) {
             text += &format!("  {}: unchanged\n", name.text());
         } else {
-            text += &buffer(name.text(), after, cut);
+            text += &buffer(*name, after, cut);
         }
     }
     text
 }
 
-fn buffer(name: &str, bytes: &[u8], cut: usize) -> String {
-    let shown = &bytes[..bytes.len().min(cut)];
-    let hex: String = shown.iter().map(|byte| format!(" {byte:02x}")).collect();
-    let rest = match bytes.len() - shown.len() {
+/// How many numbers the buffer holds, and which.
+fn buffer(name: Name, contents: &[u8], cut: usize) -> String {
+    let numbers = contents.chunks_exact(name.width());
+    let length = numbers.len();
+    let shown: String = numbers.take(cut).map(number).collect();
+    let rest = match length.saturating_sub(cut) {
         0 => String::new(),
         more => format!(" and {more} more"),
     };
-    format!("  {name}: {} bytes:{hex}{rest}\n", bytes.len())
+    format!("  {}, length {length}:{shown}{rest}\n", name.text())
+}
+
+/// A byte in hexadecimal, a wider number in decimal.
+fn number(bytes: &[u8]) -> String {
+    match bytes {
+        [byte] => format!(" {byte:02x}"),
+        _ => format!(" {}", words::number(bytes)),
+    }
 }

@@ -3,15 +3,19 @@
 use shared::random::Random;
 
 use crate::call::{Kind, Name};
-use crate::counts::{Counts, LEAST, SIZES};
+use crate::counts::{Counts, LEAST, LENGTHS, SIZES};
 use crate::faults::{self, Fault};
 use crate::outcome::{Outcome, Place, Side};
 use crate::report;
+use crate::result_faults;
 use crate::size_faults;
 use crate::trial::Trial;
 
 /// How many calls are altered.
 const CALLS: u64 = 2_000;
+
+/// How many calls are made by each library with a fault.
+const FAULTY_CALLS: u64 = 10_000;
 
 /// What was altered, and on which side.
 type Altered = Vec<(Side, Place)>;
@@ -37,27 +41,30 @@ pub fn self_test(seed: u64) -> Result<usize, String> {
         subject.alter(Side::Typed, &mut altered)?;
     }
     all_places_altered(&altered)?;
-    let mut noticed = altered.len();
-    for fault in faults::ALL.into_iter().chain(size_faults::ALL) {
-        noticed += stand_in(seed, fault)?;
-    }
+    let noticed = altered.len() + stand_in(seed)?;
     let lowered = lowered_counts();
     let counts = [0, LEAST].map(Counts::all);
     Ok(noticed + shared::counts::check_lowered(counts, &lowered, Counts::missing)?)
 }
 
-/// A library with a fault: it must be noticed wherever it gives something else
-/// than the right outcome, and somewhere. Gives how often it was.
-fn stand_in(seed: u64, (fault, apply): Fault) -> Result<usize, String> {
-    let mut noticed = 0;
-    for number in 1..=CALLS {
+/// Libraries with a fault: each must be noticed wherever it gives something
+/// else than the right outcome, and somewhere. Gives how often they were.
+fn stand_in(seed: u64) -> Result<usize, String> {
+    let of_plants = faults::ALL.into_iter().chain(size_faults::ALL);
+    let faults: Vec<Fault> = of_plants.chain(result_faults::ALL).collect();
+    let mut noticed = vec![0; faults.len()];
+    for number in 1..=FAULTY_CALLS {
         let mut trial = Trial::make_agreeing(seed, number);
-        apply(&trial.call, &mut trial.library);
-        noticed += usize::from(trial.difference().is_some());
+        let right = trial.library.clone();
+        for (count, (_, apply)) in noticed.iter_mut().zip(&faults) {
+            apply(&trial.call, &mut trial.library);
+            *count += usize::from(trial.difference().is_some());
+            trial.library.clone_from(&right);
+        }
     }
-    match noticed {
-        0 => Err(format!("a stand-in was not noticed: {fault}")),
-        _ => Ok(noticed),
+    match noticed.iter().position(|count| *count == 0) {
+        Some(place) => Err(format!("a stand-in was not noticed: {}", faults[place].0)),
+        None => Ok(noticed.iter().sum()),
     }
 }
 
@@ -170,6 +177,7 @@ fn lowered_counts() -> Vec<Counts> {
     all.lower_by_size();
     all.lower_singly();
     all.lower_absent();
+    all.lower_cases();
     all.0
 }
 
@@ -185,6 +193,8 @@ impl Lowered {
             for number in kind.possible_numbers() {
                 self.lower(|counts| &mut counts.numbers[kind as usize][usize::from(*number)]);
             }
+        }
+        for kind in Kind::OF_PLANTS {
             for size in 0..SIZES {
                 self.lower(|counts| &mut counts.sizes[kind as usize][size]);
             }
@@ -210,8 +220,8 @@ impl Lowered {
         self.lower(|counts| &mut counts.late_replies);
         self.lower(|counts| &mut counts.long_runs);
         self.lower(|counts| &mut counts.kept_tallies);
-        for bytes in 0..4 {
-            self.lower(|counts| &mut counts.empty[bytes]);
+        for length in 0..LENGTHS {
+            self.lower(|counts| &mut counts.empty[length]);
         }
     }
 
@@ -235,6 +245,13 @@ impl Lowered {
         }
         for turn in 0..3 {
             self.lower(|counts| &mut counts.absent.turns[turn]);
+        }
+    }
+
+    /// The cases of calls about results.
+    fn lower_cases(&mut self) {
+        for case in 0..Counts::all(0).cases.0.len() {
+            self.lower(|counts| &mut counts.cases.0[case]);
         }
     }
 }

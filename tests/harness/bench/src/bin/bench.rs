@@ -1,5 +1,5 @@
-//! Entries per second of the run: the library, plain Rust over the same
-//! bytes, and the simulator.
+//! Entries per second of the run, and calls per second of the figures: the
+//! library, plain Rust over the same bytes, and the simulator.
 //!
 //! `bench` prints the tables; `--quick` repeats less.
 //! `--only NAME N DEAD` runs one of library, plain and simulator once, for a
@@ -19,6 +19,12 @@ const QUICK_REPETITIONS: usize = 31;
 
 /// How many short runs are timed together.
 const BATCH: usize = 200;
+
+/// The lengths of the lists that figures are taken of.
+const LENGTHS: [usize; 3] = [16, 256, vcube::MOST_RESULTS];
+
+/// How many calls of the figures are timed together.
+const LISTS: usize = 50;
 
 /// By this the repetitions are divided where runs are timed together.
 const BATCH_DIVISOR: usize = 3;
@@ -83,6 +89,7 @@ fn print_tables(repetitions: usize) {
     print_other_rounds(fewer);
     print_one_entry(fewer);
     print_no_entry(fewer);
+    print_figures(fewer);
 }
 
 fn print_many_rounds(repetitions: usize) {
@@ -146,11 +153,36 @@ fn print_no_entry(repetitions: usize) {
     print_table(&works, repetitions);
 }
 
+/// The columns of every table behind those that say what was timed.
+const COLUMNS: &str = "library | plain Rust | simulator | library / plain | library / simulator |";
+
+/// A row for each length.
+fn print_figures(repetitions: usize) {
+    println!("\nFigures of a list\n");
+    println!("Figures of a list of random results from 0 to 65535. Thousands of calls per second,");
+    println!("the best of {repetitions} repetitions; {LISTS} calls are timed together, each on a list of");
+    println!("its own.\n");
+    println!("| results | {COLUMNS}");
+    println!("|--:|--:|--:|--:|--:|--:|");
+    for length in LENGTHS {
+        let lists = random_lists(length);
+        lists
+            .iter()
+            .for_each(|list| measure::check_equal_figures(list));
+        let times = measure::best_times_of_figures(&lists, repetitions);
+        println!("| {length} | {} |", speeds(LISTS, times));
+    }
+}
+
+fn random_lists(length: usize) -> Vec<Vec<u16>> {
+    let mut random = Random::new(SEED);
+    let mut list = || (0..length).map(|_| random.below(1 << 16) as u16).collect();
+    (0..LISTS).map(|_| list()).collect()
+}
+
 /// A row for each batch of runs.
 fn print_table(batches: &[Vec<Work>], repetitions: usize) {
-    println!(
-        "| N | dead | library | plain Rust | simulator | library / plain | library / simulator |"
-    );
+    println!("| N | dead | {COLUMNS}");
     println!("|--:|--:|--:|--:|--:|--:|--:|");
     for works in batches {
         print_row(works, repetitions);
@@ -161,10 +193,15 @@ fn print_row(works: &[Work], repetitions: usize) {
     works.iter().for_each(measure::check_equal);
     // A run of no entry counts as one.
     let entries: usize = works.iter().map(|work| work.entries().max(1)).sum();
-    let thousands = |seconds| entries as f64 / seconds / 1e3;
     let times = measure::best_times(works, repetitions);
+    let (n, dead) = (works[0].n, works[0].dead);
+    println!("| {n} | {dead} | {} |", speeds(entries, times));
+}
+
+/// Thousands a second of each implementation, and the ratios, as cells.
+fn speeds(many: usize, times: [f64; 3]) -> String {
+    let thousands = |seconds| many as f64 / seconds / 1e3;
     let [library, plain, simulator] = times.map(thousands);
     let (by_plain, by_simulator) = (library / plain, library / simulator);
-    let (n, dead) = (works[0].n, works[0].dead);
-    println!("| {n} | {dead} | {library:.0} | {plain:.0} | {simulator:.0} | {by_plain:.2} | {by_simulator:.2} |");
+    format!("{library:.0} | {plain:.0} | {simulator:.0} | {by_plain:.2} | {by_simulator:.2}")
 }

@@ -1,6 +1,7 @@
 //! How many rounds close until the dead boards are known, beside the bounds:
 //! the exact wait, which the proof shows, and two greater ones. Random plants,
-//! and the slowest plants of samples/slowest.
+//! with the library's figures over their rounds, and the slowest plants of
+//! samples/slowest.
 //!
 //! `latency` writes docs/latency.md and docs/latency.svg under the current
 //! folder, and prints the tables; `--quick` tries less, and only prints.
@@ -9,13 +10,14 @@ use bench::bounds::{exact, requested, stated};
 use bench::chart::{self, Point};
 use bench::detection::{random_dead, rounds_until_known, Order};
 use bench::slowest::{self, Slowest};
-use bench::statistics::Summary;
+use bench::statistics::{decimal, Summary};
 use shared::groups::dimension;
 use shared::random::Random;
 use shared::slowest::INPUTS;
 use std::fmt::Write;
 use std::process::ExitCode;
 use std::{fs, io};
+use vcube::{Figures, MOST_RESULTS};
 
 const SEED: u64 = 1;
 
@@ -31,12 +33,12 @@ const ORDERS: [Order; 5] = [
     Order::Delaying,
 ];
 
-/// The trials of a size; of the delaying order a tenth.
+/// The trials of a size, at most as many as the library takes figures over; of
+/// the delaying order an eighth.
 fn trials(n: usize) -> usize {
     match n {
-        33.. => 2000,
-        17.. => 5000,
-        _ => 10_000,
+        33.. => MOST_RESULTS / 2,
+        _ => MOST_RESULTS,
     }
 }
 
@@ -94,12 +96,15 @@ fn try_size(n: usize, quick: bool) -> Results {
 /// The same dead boards for each order, as far as its trials go.
 fn try_order(n: usize, order: Order, trials: usize) -> Summary {
     let trials = match order {
-        Order::Delaying => trials / 10,
+        Order::Delaying => trials / 8,
         _ => trials,
     };
     let mut boards = Random::new(SEED);
     let mut turns = Random::new(SEED + 1);
-    let mut one = || rounds_until_known(n, &random_dead(n, &mut boards), order, &mut turns);
+    let mut one = || {
+        let rounds = rounds_until_known(n, &random_dead(n, &mut boards), order, &mut turns);
+        u16::try_from(rounds).expect("at most the exact wait")
+    };
     Summary::of((0..trials).map(|_| one()).collect())
 }
 
@@ -115,9 +120,7 @@ fn point(results: &Results, slowest: &[Slowest]) -> Point {
     let slowest = slowest.iter().find(|plant| plant.n == n);
     Point {
         n,
-        least: results.random().least,
-        mean: results.random().mean,
-        greatest: results.random().greatest,
+        observed: results.random().figures,
         slowest: slowest.map(|plant| plant.rounds),
         exact: exact(n),
         requested: requested(n),
@@ -150,9 +153,7 @@ fn tables(results: &[Results], slowest: &[Slowest]) -> String {
     tables.join("\n")
 }
 
-fn main_table(results: &[Results]) -> String {
-    let mut text = String::from(
-        "## Random plants
+const MAIN_TEXT: &str = "## Random plants
 
 d is the logarithm of N to base 2, rounded up. At least two boards are live. Their number is drawn from 2 to a power of two that is drawn
 first from 2 to 2^d, since few live boards take the most rounds; then which ones. At least one board is dead, but for N = 2, where there is
@@ -162,25 +163,40 @@ Demand 3 states that d·d rounds suffice. The proof ([DEMAND-3.md](DEMAND-3.md))
 and 4 + ⌊(d − 3)²/2⌋ from 4 on. It is exact for 4, 8, 16, 32 and 64 boards, and wherever the greatest below equals it; for 2, with both
 live, there is nothing to find. Request C-22 asks for 1 + d(d − 1)/2, which is nowhere less.
 
-| N | d | trials | least | mean | 99th percentile | greatest | f(d) | 1 + d(d − 1)/2 | d·d |
-|--:|--:|--:|--:|--:|--:|--:|--:|--:|--:|
-",
-    );
+The count of trials, least, mean, variance and greatest are given by the library (`vcube_figures_of_list`, request C-12). Mean and variance
+are exact: in brackets stands the fraction in lowest terms. The variance is over the whole batch, divided by the count. The library takes at
+most 4,096 results, so that no row has more trials; with more than 32 boards there are half as many. The 99th percentile is not the
+library's: it is the least result that at least 99 in 100 trials did not exceed.
+
+| N | d | trials | least | mean | variance | 99th percentile | greatest | f(d) | 1 + d(d − 1)/2 | d·d |
+|--:|--:|--:|--:|--:|--:|--:|--:|--:|--:|--:|
+";
+
+fn main_table(results: &[Results]) -> String {
+    let mut text = String::from(MAIN_TEXT);
     for row in results {
-        let Summary {
-            trials,
-            least,
-            mean,
-            percentile,
-            greatest,
-        } = row.random();
         let (n, d, bounds) = (row.n, dimension(row.n), bounds(row.n));
-        let _ = writeln!(
-            text,
-            "| {n} | {d} | {trials} | {least} | {mean:.2} | {percentile} | {greatest} | {bounds} |"
-        );
+        let figures = main_figures(row.random());
+        let _ = writeln!(text, "| {n} | {d} | {figures} | {bounds} |");
     }
     text
+}
+
+/// The figures of a size, as cells.
+fn main_figures(summary: &Summary) -> String {
+    let Summary {
+        figures,
+        percentile,
+    } = summary;
+    let Figures {
+        count,
+        least,
+        greatest,
+        mean,
+        variance,
+    } = *figures;
+    let (mean, variance) = (decimal(mean), decimal(variance));
+    format!("{count} | {least} | {mean} | {variance} | {percentile} | {greatest}")
 }
 
 /// The bounds of a size, as cells.
@@ -215,8 +231,9 @@ fn order_table(results: &[Results]) -> String {
     let mut text = String::from(
         "## Other orders of turns
 
-Mean and greatest over random plants. Whole passes: each board takes its pass in one go, in an order drawn anew for each round, or by rising
-or falling number. Delaying: each turn is taken by a board whose turn adds the fewest suspicions to the table (a tenth of the trials).
+Mean, in brackets as the exact fraction, and greatest over random plants. Whole passes: each board takes its pass in one go, in an order
+drawn anew for each round, or by rising or falling number. Delaying: each turn is taken by a board whose turn adds the fewest suspicions to
+the table (an eighth of the trials).
 
 | N | random | whole passes | rising passes | falling passes | delaying |
 |--:|--:|--:|--:|--:|--:|
@@ -224,8 +241,8 @@ or falling number. Delaying: each turn is taken by a board whose turn adds the f
     );
     for row in results {
         let cells = row.by_order.map(|order| {
-            let Summary { mean, greatest, .. } = order;
-            format!("{mean:.2}, {greatest}")
+            let Figures { mean, greatest, .. } = order.figures;
+            format!("{}, {greatest}", decimal(mean))
         });
         let _ = writeln!(text, "| {} | {} |", row.n, cells.join(" | "));
     }

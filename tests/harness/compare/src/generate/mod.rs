@@ -3,8 +3,10 @@
 //! anything before the call.
 
 mod numbers;
+mod results;
 mod schedules;
 mod tables;
+mod totals;
 
 use shared::groups;
 use shared::random::Random;
@@ -16,12 +18,19 @@ use crate::call::{Buffers, Call, Kind, Name, Numbers};
 type Size = usize;
 
 pub fn call(random: &mut Random) -> Call {
+    match random.once_in(6) {
+        true => results::call(random),
+        false => of_plant(random),
+    }
+}
+
+fn of_plant(random: &mut Random) -> Call {
     let size = groups::random_size(random);
     match random.below(20) {
-        0..=1 => fresh_table(size, random),
-        2..=4 => group_list(size, random),
-        5..=8 => assignment(size, random),
-        9..=11 => row(size, random),
+        0 => fresh_table(size, random),
+        1..=4 => group_list(size, random),
+        5..=7 => assignment(size, random),
+        8..=10 => row(size, random),
         _ => run(size, random),
     }
 }
