@@ -1,4 +1,4 @@
--- What is answered of a list that is taken: mean and variance are in lowest terms, and zero is 0/1.
+-- What is answered of a list that is taken: mean and variance are in lowest terms, and zero is 0/1. Ends in themselves.
 -- Assumes nothing.
 use mathlib.Core.Path.{_≡_}
 use mathlib.Core.List.{List}

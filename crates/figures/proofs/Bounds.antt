@@ -3,6 +3,7 @@
 use mathlib.Core.Path.{_≡_, refl, sym, _∙_}
 use mathlib.Core.List.{List, [], _∷_}
 use mathlib.Core.Bool.{Bool, true, false, _||_}
+use mathlib.Core.Logic.{by-cases}
 use Prim.Native.Nat.{ℕ, suc, _*_, _<_, _≤_}
 use native.Mathlib.Nat.{mul-le-mul}
 use native.Mathlib.Decide.{decLe}
@@ -81,14 +82,13 @@ fits-overfull t f = rw (le-ltb _ _ (f .count-fits), le-ltb _ _ (f .sum-fits), le
 -- of results of 16 bits only their count matters
 pub overfull-count : (t : Totals) → OfResults t → overfull t ≡ ltb mostResults (t .count)
 unfolding overfull
-overfull-count t h = by (decLe (t .count) mostResults)
-  where
-    by : Dec (t .count ≤ mostResults) → overfull t ≡ ltb mostResults (t .count)
-    by (yes l) =
-        fits-overfull t
-        (record { count-fits = l; sum-fits = omega (arith, h .sum-most); squares-fit = omega (arith, h .squares-most) })
-        ∙ sym (le-ltb _ _ l)
-    by (no l) = let g : ltb mostResults (t .count) ≡ true = lt-ltb mostResults (t .count) (omega arith) in rw g
+overfull-count t h =
+    by-cases (decLe (t .count) mostResults)
+    (λ l.
+    fits-overfull t
+    (record { count-fits = l; sum-fits = omega (arith, h .sum-most); squares-fit = omega (arith, h .squares-most) })
+    ∙ sym (le-ltb _ _ l))
+    (λ l. let g : ltb mostResults (t .count) ≡ true = lt-ltb mostResults (t .count) (omega arith) in rw g)
 
 pub not-overfull : (t : Totals) → OfResults t → t .count ≤ mostResults → overfull t ≡ false
 not-overfull t h l = overfull-count t h ∙ le-ltb _ _ l

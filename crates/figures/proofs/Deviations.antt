@@ -3,6 +3,7 @@
 -- Assumes nothing.
 use mathlib.Core.Path.{_≡_, refl, sym, _∙_, ap₂}
 use mathlib.Core.List.{List, [], _∷_}
+use mathlib.Core.Logic.{by-cases}
 use Prim.Native.Nat.{ℕ, _+_, _*_, _-_, _<_, _≤_}
 use native.Mathlib.Nat.{mul-sub, mul-assoc, le-of-mul-le-mul-left, le-dest, zero-lt-suc}
 use native.Mathlib.Decide.{decLe}
@@ -13,21 +14,21 @@ use Rattle.figures.specs.Batch.{sumOf, sum, squaredDifference, variance}
 use Rattle.figures.specs.Totals.{totalsOf, varianceOf}
 use Rattle.figures.proofs.LowestTerms.{lowest-scaled}
 
--- (a − b)² and 2·a·b are a² and b²
-difference-up : (a k : ℕ) → squaredDifference a (a + k) + 2 * (a * (a + k)) ≡ a * a + (a + k) * (a + k)
+-- (a − b)² and 2·a·b together are a² and b²
+difference-over : (a k : ℕ) → squaredDifference a (a + k) + 2 * (a * (a + k)) ≡ a * a + (a + k) * (a + k)
 unfolding squaredDifference
-difference-up a k = let e : a - (a + k) + (a + k - a) ≡ k = omega arith in rw e (omega arith)
+difference-over a k = let e : a - (a + k) + (a + k - a) ≡ k = omega arith in rw e (omega arith)
 
-difference-down : (a k : ℕ) → squaredDifference (a + k) a + 2 * ((a + k) * a) ≡ (a + k) * (a + k) + a * a
+difference-le : (a b : ℕ) → a ≤ b → squaredDifference a b + 2 * (a * b) ≡ a * a + b * b
+difference-le a b h = let d = le-dest h in rw (d .1) at (difference-over a (d .0))
+
+difference-swapped : (a b : ℕ) → squaredDifference a b ≡ squaredDifference b a
 unfolding squaredDifference
-difference-down a k = let e : a + k - a + (a - (a + k)) ≡ k = omega arith in rw e (omega arith)
+difference-swapped a b = let e : a - b + (b - a) ≡ b - a + (a - b) = omega arith in rw e
 
 difference-squared : (a b : ℕ) → squaredDifference a b + 2 * (a * b) ≡ a * a + b * b
-difference-squared a b = by (decLe a b)
-  where
-    by : Dec (a ≤ b) → squaredDifference a b + 2 * (a * b) ≡ a * a + b * b
-    by (yes h) = let d = le-dest h in rw (d .1) at (difference-up a (d .0))
-    by (no h) = let d = le-dest {n = b} {m = a} (omega arith) in rw (d .1) at (difference-down b (d .0))
+difference-squared a b =
+    by-cases (decLe a b) (difference-le a b) (λ h. omega (arith, difference-swapped a b, difference-le b a (omega arith)))
 
 -- the squares of c·x − s over a list, for any c and s
 deviations : (c s : ℕ) (xs : List ℕ) →

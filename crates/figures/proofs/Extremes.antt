@@ -1,8 +1,8 @@
--- The least result is one of the results and no result is less; the greatest is one of them and no result is greater.
+-- The least result is one of the results and no result is less; the greatest is one of them and no result is greater. Ends in themselves.
 -- Assumes nothing.
 use mathlib.Core.Path.{_≡_, refl, sym, _∙_}
 use mathlib.Core.List.{List, [], _∷_}
-use mathlib.Core.Logic.{_⊎_, inl, inr, ⊎-elim}
+use mathlib.Core.Logic.{_⊎_, inl, inr, ⊎-elim, by-cases}
 use Prim.Native.Nat.{ℕ, zero, suc, _<_, _≤_, min, max}
 use native.Mathlib.Decide.{decLe}
 use native.Mathlib.Omega.{arith}
@@ -38,18 +38,10 @@ module _ (op : ℕ → ℕ → ℕ) (R : ℕ → ℕ → Type 0) (self : (a : �
       (one x (reduce op (y ∷ ys)))
 
 min-one : (a b : ℕ) → (min a b ≡ a) ⊎ (min a b ≡ b)
-min-one a b = by (decLe a b)
-  where
-    by : Dec (a ≤ b) → (min a b ≡ a) ⊎ (min a b ≡ b)
-    by (yes h) = inl (omega arith)
-    by (no h) = inr (omega arith)
+min-one a b = by-cases (decLe a b) (λ h. inl (omega arith)) (λ h. inr (omega arith))
 
 max-one : (a b : ℕ) → (max a b ≡ a) ⊎ (max a b ≡ b)
-max-one a b = by (decLe a b)
-  where
-    by : Dec (a ≤ b) → (max a b ≡ a) ⊎ (max a b ≡ b)
-    by (yes h) = inr (omega arith)
-    by (no h) = inl (omega arith)
+max-one a b = by-cases (decLe a b) (λ h. inr (omega arith)) (λ h. inl (omega arith))
 
 pub least-extreme : (x : ℕ) (xs : List ℕ) → Extreme (λ m y. m ≤ y) (x ∷ xs) (least (x ∷ xs))
 least-extreme = reduce-extreme min (λ m y. m ≤ y) (λ a. omega arith) (λ a b. omega arith) (λ a b c h. omega arith) min-one

@@ -3,6 +3,7 @@
 use mathlib.Core.Path.{_≡_, refl, sym}
 use mathlib.Core.List.{List, _++_}
 use mathlib.Core.Bool.{Bool, true, false, cond, _||_}
+use mathlib.Core.Logic.{by-cases}
 use Prim.Native.Nat.{ℕ, _<_, _≤_}
 use native.Mathlib.Decide.{decLe}
 use native.Mathlib.Omega.{arith}
@@ -27,7 +28,7 @@ figures-by-totals : (xs : List ℕ) → OfResults (totalsOf xs) → figures xs �
 unfolding figures figuresOfTotals totalsOf mean
 figures-by-totals xs small = rw (overfull-count (totalsOf xs) small, variance-by-totals xs)
 
--- the figures of kept totals are those of the list that they were taken of
+-- the figures of kept totals are those of the list that they were taken of, an end in itself
 pub kept-figures : (xs : List ℕ) → Small xs → figuresOfTotals (totalsOf xs) ≡ figures xs
 kept-figures xs p = sym (figures-by-totals xs (list-of-results xs p))
 
@@ -50,11 +51,10 @@ totals-short xs l = rw (le-ltb mostResults (length xs) l)
 -- the figures of what the totals of a list answer are those of the list
 pub figures-of-totals : (xs : List ℕ) → OfResults (totalsOf xs) → figuresOfAnswer (totals xs) ≡ figures xs
 unfolding figuresOfAnswer
-figures-of-totals xs small = by (decLe (length xs) mostResults)
-  where
-    by : Dec (length xs ≤ mostResults) → figuresOfAnswer (totals xs) ≡ figures xs
-    by (yes l) = rw (totals-short xs l) (sym (figures-by-totals xs small))
-    by (no l) = let m : mostResults < length xs = omega arith in rw (totals-long xs m, too-long xs m)
+figures-of-totals xs small =
+    by-cases (decLe (length xs) mostResults)
+    (λ l. rw (totals-short xs l) (sym (figures-by-totals xs small)))
+    (λ l. let m : mostResults < length xs = omega arith in rw (totals-long xs m, too-long xs m))
 
 joined-count : (xs ys : List ℕ) → (joined (totalsOf xs) (totalsOf ys)) .count ≡ length (xs ++ ys)
 unfolding totalsOf joined
