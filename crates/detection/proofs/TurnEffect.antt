@@ -13,7 +13,7 @@ use Rattle.station.specs.Groups.{isSize, distances, stationAt}
 use Rattle.station.specs.Table.{head, stride, tableLength, cell, statusColumn, nextColumn, finishedColumn, testsColumn, status, nextDistance, finished, suspects, live, row}
 use Rattle.station.specs.Tests.{due}
 use Rattle.station.proofs.SearchLaws.{every-not}
-use Rattle.plant.specs.Turn.{kindTurn, nextTest, makesTest, finishPass, countTest, replies, isTold, exchangeRows, suspect, testOutcome, afterOutcome, afterTest, selfOrSuspected, isAlone, afterAlone, testing, turn}
+use Rattle.plant.specs.Turn.{kindTurn, outcomeExchanged, nextTest, makesTest, finishPass, countTest, replies, isTold, exchangeRows, suspect, replyOutcome, testOutcome, afterOutcome, afterTest, selfOrSuspected, isAlone, afterAlone, testing, turn}
 use Rattle.plant.proofs.StepCells.{finishPass-other, countTest-other, suspect-same, suspect-other, exchange-other, exchange-tester, exchange-tested, exchange-tester-own, exchange-tested-own}
 use Rattle.plant.proofs.StepLines.{Lines, finishPass-lines, countTest-lines, suspect-lines, exchange-lines, station-apart}
 use Rattle.plant.proofs.NextTest.{nextTest-low, not-due-before, test-below, test-station, none-due}
@@ -146,11 +146,16 @@ module _ (n : ℕ) (L : ℕ → Bool) (t : List ℕ) (i x : ℕ) (p : Plain n L 
       between k y h (no e) (no f) g =
           omega (arith, exchange-other n t i long hi x hx apart k (head + y) (omega arith) (λ q. absurd (e q)) (λ q. absurd (f q)))
 
+  -- neither of two live stations suspects the other: a test with a reply tells nobody
+  none-told : L x ≡ true → replyOutcome n t i x ≡ outcomeExchanged
+  unfolding replyOutcome isTold
+  none-told e = rw (p .trusted x i hx hi e li, p .trusted i x hi hx li e)
+
   -- the reply of a live station is not late
   tested : (kind : ℕ) → (L x ≡ true → kind ≡ kindTurn) → Step (afterTest n t kind i x)
-  unfolding afterOutcome testOutcome replies isTold
+  unfolding afterOutcome testOutcome replies
   tested kind prompt =
-      by-bool (L x) (λ e. rw (p .lives x hx ∙ e, eq-eqb kind kindTurn (prompt e), p .trusted x i hx hi e li) (exchanged e))
+      by-bool (L x) (λ e. rw (p .lives x hx ∙ e, eq-eqb kind kindTurn (prompt e), none-told e) (exchanged e))
       (λ e. rw (p .lives x hx ∙ e) (marked e))
 
 -- a turn of i: of the distances that it passes none before the last was due, and at one that was due it tested

@@ -13,7 +13,7 @@ use Rattle.station.specs.Groups.{isSize, distances, stationAt}
 use Rattle.station.specs.Table.{head, tableLength, cell, statusColumn, nextColumn, finishedColumn, testsColumn, nextDistance, finished, testsMade, row}
 use Rattle.station.specs.Tests.{due}
 use Rattle.station.proofs.CellLaws.{cell-other}
-use Rattle.plant.specs.Turn.{outcomeExchanged, outcomeTold, statusTold, statusAlone, setStatus, nextTest, makesTest, countTest, testOutcome, afterOutcome, afterTest, isAlone, afterAlone, testing, turn}
+use Rattle.plant.specs.Turn.{outcomeExchanged, outcomeTold, outcomeTestedTold, statusTold, statusAlone, setStatus, nextTest, makesTest, countTest, testOutcome, afterOutcome, afterTest, isAlone, afterAlone, testing, turn}
 use Rattle.plant.proofs.NextTest.{nextTest-low, not-due-before, test-station, test-due, none-due}
 use Rattle.plant.proofs.StepCells.{finishPass-other, finishPass-next, finishPass-finished, countTest-length, countTest-other, countTest-next, countTest-tests, suspect-other, exchange-other}
 use Rattle.plant.proofs.StepLines.{Lines, station-apart}
@@ -26,21 +26,22 @@ abbrev SameCounts : ℕ → List ℕ → List ℕ → Type 0
 SameCounts n t t′ = (k c : ℕ) → statusColumn < c → c < head → cell n t′ k c ≡ cell n t k c
 
 -- steps 4 to 6 leave them
-module _ (n : ℕ) (t : List ℕ) (i : ℕ) where
-  left-counts : (s : ℕ) → SameCounts n t (setStatus n t i s)
-  left-counts s k c lo hi = cell-other n t i statusColumn s k c (omega arith) (omega arith) (λ _. omega arith)
+left-counts : (n : ℕ) (t : List ℕ) (i s : ℕ) → SameCounts n t (setStatus n t i s)
+left-counts n t i s k c lo hi = cell-other n t i statusColumn s k c (omega arith) (omega arith) (λ _. omega arith)
 
+module _ (n : ℕ) (t : List ℕ) (i : ℕ) where
   alone-counts : SameCounts n t (afterAlone n t i)
   unfolding afterAlone
-  alone-counts = choice (SameCounts n t) (isAlone n t i) (left-counts statusAlone) (λ k c lo hi. refl)
+  alone-counts = choice (SameCounts n t) (isAlone n t i) (left-counts n t i statusAlone) (λ k c lo hi. refl)
 
   test-counts : (kind j : ℕ) → length t ≡ tableLength n → i < n → j < n → i ≢ j → SameCounts n t (afterTest n t kind i j)
   unfolding afterOutcome
   test-counts kind j long hi hj apart =
-      choice (SameCounts n t) (eqb (testOutcome n t kind i j) outcomeTold) (left-counts statusTold)
+      choice (SameCounts n t) (eqb (testOutcome n t kind i j) outcomeTold) (left-counts n t i statusTold)
+      (choice (SameCounts n t) (eqb (testOutcome n t kind i j) outcomeTestedTold) (left-counts n t j statusTold)
       (choice (SameCounts n t) (eqb (testOutcome n t kind i j) outcomeExchanged)
       (λ k c lo h. exchange-other n t i long hi j hj apart k c (omega arith) (λ _. h) (λ _. h))
-      (λ k c lo h. suspect-other n t i long hi j k c (omega arith) (λ _. omega arith)))
+      (λ k c lo h. suspect-other n t i long hi j k c (omega arith) (λ _. omega arith))))
 
 -- what a turn of i does to them, where b says whether it makes a test
 pub record Heads (n : ℕ) (t t′ : List ℕ) (i : ℕ) (b : Bool) : Type 0 where

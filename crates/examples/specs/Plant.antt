@@ -1,19 +1,19 @@
--- The plant examples of document 01 marked [P], and examples that follow the rule of request C-11, in one table: what the definitions give,
--- and what is said. One statement covers it.
+-- The plant examples of document 01 marked [P], and examples that follow the rules of requests C-11 and C-13, in one table: what the
+-- definitions give, and what is said. One statement covers it.
 -- Assumes nothing.
 use mathlib.Core.Path.{_≡_, refl}
 use mathlib.Core.List.{List, [], _∷_, map}
-use Prim.Native.Nat.{ℕ}
+use Prim.Native.Nat.{ℕ, _+_}
 use lib.ListN.{replicate}
 use Rattle.station.specs.Search.{least, every, keep, listOf}
 use Rattle.station.specs.Groups.{isSize, level, dimension, distances, width, member, fullGroup, group, stationAt}
-use Rattle.station.specs.Table.{tableLength, lineStart, cell, setCell, statusColumn, row, setRow}
+use Rattle.station.specs.Table.{head, tableLength, lineStart, cell, setCell, statusColumn, row, setRow}
 use Rattle.station.specs.Rules.{rowRule, lineRules, someLive, liveFinished, shapeNumber, tableNumber}
 use Rattle.station.specs.Tests.{unsuspected, firstPlace, first, due, dueDistances}
 use Rattle.station.specs.Rows.{unionByte, union, mark}
 use Rattle.station.specs.Calls.{freshByte, freshTable}
 use Rattle.plant.specs.Iterate.{iterate}
-use Rattle.plant.specs.Turn.{nextTest, makesTest, finishPass, countTest, replies, isTold, exchangeRows, suspect, testOutcome, afterOutcome, selfOrSuspected, isAlone, afterAlone, testing, turn, turnTested, turnOutcome, crash, resetLine, resetLines, afterRound}
+use Rattle.plant.specs.Turn.{nextTest, makesTest, finishPass, countTest, replies, isTold, exchangeRows, suspect, replyOutcome, testOutcome, afterOutcome, selfOrSuspected, isAlone, afterAlone, testing, turn, turnTested, turnOutcome, crash, resetLine, resetLines, afterRound}
 use Rattle.plant.specs.Entry.{stateOf, entryNumber, acted, after, testedOf, outcomeOf, sheetLine}
 use Rattle.plant.specs.Run.{Outcome, entries, writeLine, goOn, startNumber, run}
 use Rattle.station.specs.Sums.{sum}
@@ -53,6 +53,31 @@ fourDeadOfEleven = setCell 11 (freshTable 11) 4 statusColumn 1
 unfoldable pub fourBoards : Outcome
 fourBoards = run 4 (stateOf (freshTable 4) 0 0) (2 ∷ 0 ∷ 1 ∷ 0 ∷ 1 ∷ 0 ∷ 1 ∷ 1 ∷ []) (replicate 16 0)
 
+-- one entry on a table, from a tally of zeros
+abbrev pub oneEntry : ℕ → List ℕ → ℕ → ℕ → Outcome
+oneEntry n t kind i = run n (stateOf t 0 0) (kind ∷ i ∷ []) (replicate 4 0)
+
+-- the table in which station i also suspects k
+abbrev pub alsoSuspects : ℕ → List ℕ → ℕ → ℕ → List ℕ
+alsoSuspects n t i k = setCell n t i (head + k) 1
+
+-- C-13, N = 4: station 0 suspects 1, and 1 suspects 2
+unfoldable pub zeroSuspectsOne : List ℕ
+zeroSuspectsOne = alsoSuspects 4 (alsoSuspects 4 (freshTable 4) 0 1) 1 2
+
+-- C-13, n = 3: station 0 suspects 1 and 2, and 2 has finished its pass
+unfoldable pub stationTwoFinished : List ℕ
+stationTwoFinished = finishPass 3 (alsoSuspects 3 (alsoSuspects 3 (freshTable 3) 0 1) 0 2) 2
+
+unfoldable pub testedTold : Outcome
+testedTold = oneEntry 4 zeroSuspectsOne 1 0
+
+unfoldable pub aloneOfTwo : Outcome
+aloneOfTwo = oneEntry 2 (alsoSuspects 2 (freshTable 2) 0 1) 1 0
+
+unfoldable pub aloneOfThree : Outcome
+aloneOfThree = oneEntry 3 stationTwoFinished 1 0
+
 unfoldable pub examples : List Example
 examples =
     -- "(0, level 3) is 4, 5, 6, 7. (3, level 2) is 1, 0. (5, level 1) is 4. (6, level 2) is 4, 5. (7, level 3) is 3, 2, 1, 0."
@@ -90,9 +115,30 @@ examples =
     ∷ gives (countOf 11 (freshTable 11)) (40 ∷ [])
     ∷ gives (countOf 11 fourDeadOfEleven) (39 ∷ [])
     ∷ gives (countOf 19 (freshTable 19)) (88 ∷ [])
+    -- C-13: 0 suspects 1 and tests it; 1 leaves, and no row changes
+    ∷ gives (testedTold .sheet) (0 ∷ 1 ∷ 5 ∷ 0 ∷ [])
+    ∷ gives (testedTold .state .table)
+    (0 ∷ 2 ∷ 0 ∷ 1 ∷ 0 ∷ 1 ∷ 0 ∷ 0
+    ∷ 2 ∷ 1 ∷ 0 ∷ 0 ∷ 0 ∷ 0 ∷ 1 ∷ 0
+    ∷ 0 ∷ 1 ∷ 0 ∷ 0 ∷ 0 ∷ 0 ∷ 0 ∷ 0
+    ∷ 0 ∷ 1 ∷ 0 ∷ 0 ∷ 0 ∷ 0 ∷ 0 ∷ 0 ∷ [])
+    -- where the reply is late, or 1 suspects 0 too
+    ∷ gives (oneEntry 4 zeroSuspectsOne 2 0 .sheet) (0 ∷ 1 ∷ 3 ∷ 0 ∷ [])
+    ∷ gives (oneEntry 4 (alsoSuspects 4 zeroSuspectsOne 1 0) 1 0 .sheet) (0 ∷ 1 ∷ 2 ∷ 2 ∷ [])
+    -- of two boards, 0 leaves as alone by the same entry: nobody is live, and no round closes
+    ∷ gives (aloneOfTwo .sheet) (0 ∷ 1 ∷ 5 ∷ 3 ∷ [])
+    ∷ gives (aloneOfTwo .state .table) (3 ∷ 2 ∷ 0 ∷ 1 ∷ 0 ∷ 1 ∷ 2 ∷ 1 ∷ 0 ∷ 0 ∷ 0 ∷ 0 ∷ [])
+    ∷ gives (aloneOfTwo .state .rounds ∷ aloneOfTwo .state .tests ∷ []) (0 ∷ 1 ∷ [])
+    -- of three, 2 is left live and has finished: the round closes
+    ∷ gives (aloneOfThree .sheet) (0 ∷ 1 ∷ 5 ∷ 3 ∷ [])
+    ∷ gives (aloneOfThree .state .table)
+    (3 ∷ 1 ∷ 0 ∷ 0 ∷ 0 ∷ 1 ∷ 1
+    ∷ 2 ∷ 1 ∷ 0 ∷ 0 ∷ 0 ∷ 0 ∷ 0
+    ∷ 0 ∷ 1 ∷ 0 ∷ 0 ∷ 0 ∷ 0 ∷ 0 ∷ [])
+    ∷ gives (aloneOfThree .state .rounds ∷ aloneOfThree .state .tests ∷ []) (1 ∷ 1 ∷ [])
     ∷ []
 
 -- each example holds
 pub as-said : map (λ (e : Example). e .given) examples ≡ map (λ (e : Example). e .said) examples
-unfolding examples fourBoards fourDead fourAndFiveDead fourDeadOfEleven deadPairs deadGroup sum run startNumber tableNumber shapeNumber isSize tableLength every lineRules rowRule someLive liveFinished cell lineStart row setRow setCell freshTable freshByte listOf goOn entries writeLine entryNumber after acted sheetLine testedOf outcomeOf turn turnTested turnOutcome crash resetLine resetLines afterRound iterate nextTest makesTest finishPass countTest replies isTold exchangeRows suspect testOutcome afterOutcome selfOrSuspected isAlone afterAlone testing due dueDistances keep first firstPlace least unsuspected member width level dimension distances group fullGroup union unionByte mark
+unfolding examples fourBoards fourDead fourAndFiveDead fourDeadOfEleven zeroSuspectsOne stationTwoFinished testedTold aloneOfTwo aloneOfThree deadPairs deadGroup sum run startNumber tableNumber shapeNumber isSize tableLength every lineRules rowRule someLive liveFinished cell lineStart row setRow setCell freshTable freshByte listOf goOn entries writeLine entryNumber after acted sheetLine testedOf outcomeOf turn turnTested turnOutcome crash resetLine resetLines afterRound iterate nextTest makesTest finishPass countTest replies isTold exchangeRows suspect replyOutcome testOutcome afterOutcome selfOrSuspected isAlone afterAlone testing due dueDistances keep first firstPlace least unsuspected member width level dimension distances group fullGroup union unionByte mark
 as-said = refl

@@ -1,6 +1,6 @@
-// Computes the examples of document 01 that are not marked [P], examples that follow the rule of request C-11, a plant of eight boards, all of
-// Table 1 of paper 000, and column vCube of Table 3 of paper 001. What it writes is compared with the file `stdout`, which has what the
-// documents and the papers say, and for C-11 what its rule gives by hand and by the simulator.
+// Computes the examples of document 01 that are not marked [P], examples that follow the rules of requests C-11 and C-13, a plant of eight
+// boards, all of Table 1 of paper 000, and column vCube of Table 3 of paper 001. What it writes is compared with the file `stdout`, which has
+// what the documents and the papers say, and for C-11 and C-13 what their rules give by hand and by the simulator.
 use plant::Answer;
 use plant::Tally;
 use plant::run;
@@ -22,6 +22,7 @@ fn main() {
     table_3();
     eleven_boards();
     odd_sizes();
+    late_reply();
 }
 
 // Table 1 of paper 000: the groups of eight stations. A line for each level, a column for each station.
@@ -222,6 +223,26 @@ fn round_line(n: u8) {
     io::write_all(OUT, b" tests ");
     print(tally.tests as u64);
     line_end();
+}
+
+// C-13, four boards: 1, 2 and 3 take their passes. The reply of 1 to 0's first test comes late; 0 tests 2 and 3 and finishes its pass, which
+// closes the round. In the next round 0 tests 1 again: 1 is told and leaves, and its own turn is refused.
+fn late_reply() {
+    let mut table = [0u8; 32];
+    fresh::fresh_table(4, &mut table);
+    let one = one_pass(4, &mut table, no_tally(), 1, false);
+    let two = one_pass(4, &mut table, one, 2, false);
+    let three = one_pass(4, &mut table, two, 3, false);
+    let late = entry_of(4, &mut table, three, 2, 0);
+    let closed = one_pass(4, &mut table, late.tally, 0, true);
+    tests_line(no_tally(), closed);
+    let schedule = [1u8, 0, 1, 1];
+    let mut sheet = [0u8; 8];
+    let answer = run::run(4, &mut table, closed, &schedule, &mut sheet);
+    io::write_all(OUT, b"sheet");
+    commas(&sheet[0..4]);
+    line_end();
+    answer_line(answer);
 }
 
 // The tally of so many rounds on a fresh table in the first len bytes of space; no rounds where space is shorter.

@@ -13,8 +13,9 @@ use lib.Seq.{drop-drop}
 use Rattle.station.specs.Groups.{stationAt}
 use Rattle.station.specs.Rules.{shapeNumber, tableNumber}
 use Rattle.station.specs.Table.{tableLength}
+use Rattle.station.proofs.BoolLaws.{choice}
 use Rattle.station.proofs.Refusals.{Accepted, accepted, else-zero, refuse-zero}
-use Rattle.plant.specs.Turn.{countTest, replies, isTold, testOutcome, makesTest, nextTest, turnOutcome}
+use Rattle.plant.specs.Turn.{countTest, replies, isTold, replyOutcome, testOutcome, makesTest, nextTest, turnOutcome}
 use Rattle.plant.specs.Entry.{Entry, State, entryOf, isCrash, isTest, entryNumber, after, outcomeOf, sheetLine}
 use Rattle.plant.specs.Run.{Outcome, entries, writeLine, goOn, startNumber, run}
 
@@ -46,13 +47,14 @@ entries-at (a ∷ b ∷ rest) (suc k) h =
     cc (entries-at rest k (omega arith), p, q)
 
 -- the outcome tells whether a test was made
-told-or : (b c : Bool) → not (eqb (cond b (cond c 2 1) 3) 0) ≡ true
-told-or true true = refl
-told-or true false = refl
-told-or false c = refl
+some-outcome : (n : ℕ) (t : List ℕ) (kind i j : ℕ) → not (eqb (testOutcome n t kind i j) 0) ≡ true
+unfolding testOutcome replyOutcome
+some-outcome n t kind i j =
+    let P : ℕ → Type 0 = λ o. not (eqb o 0) ≡ true in
+    choice P (replies n t kind j) (choice P (isTold n t i j) refl (choice P (isTold n t j i) refl refl)) refl
 
 pub made-test : (n : ℕ) (t : List ℕ) (e : Entry) → (not (eqb (outcomeOf n t e) 0) && not (eqb (e .kind) 3)) ≡ isTest n t e
-unfolding outcomeOf turnOutcome testOutcome
+unfolding outcomeOf turnOutcome
 made-test n t e = pick (isCrash e) (makesTest n t (e .station))
   where
     u : List ℕ
@@ -64,7 +66,7 @@ made-test n t e = pick (isCrash e) (makesTest n t (e .station))
     pick : (b c : Bool)
         → (not (eqb (cond b 4 (cond c (testOutcome n u (e .kind) (e .station) j) 0)) 0) && not b) ≡ (not b && c)
     pick true c = refl
-    pick false true = rw (told-or (replies n u (e .kind) j) (isTold n u (e .station) j))
+    pick false true = rw (some-outcome n u (e .kind) (e .station) j)
     pick false false = refl
 
 -- four bytes written one by one

@@ -16,7 +16,7 @@ use Rattle.station.proofs.BoolLaws.{choice}
 use Rattle.station.proofs.Xor.{xor-cancel}
 use Rattle.station.proofs.Sizes.{distances-pos}
 use Rattle.station.proofs.CellLaws.{Line, cell-same, cell-other, setCell-length}
-use Rattle.plant.specs.Turn.{outcomeExchanged, outcomeTold, setStatus, makesTest, nextTest, finishPass, countTest, exchangeRows, suspect, testOutcome, afterOutcome, afterTest, isAlone, afterAlone, testing, turn, resetLines}
+use Rattle.plant.specs.Turn.{outcomeExchanged, outcomeTold, outcomeTestedTold, setStatus, makesTest, nextTest, finishPass, countTest, exchangeRows, suspect, testOutcome, afterOutcome, afterTest, isAlone, afterAlone, testing, turn, resetLines}
 use Rattle.plant.proofs.NextTest.{nextTest-low, test-below, test-station}
 use Rattle.plant.proofs.StepCells.{finishPass-length, finishPass-other, finishPass-next, finishPass-finished, countTest-length, countTest-other, countTest-next, countTest-tests, suspect-length, suspect-same, suspect-other, exchange-length, exchange-other, exchange-tester, exchange-tested, exchange-tester-own, exchange-tested-own, reset-length, reset-cells, reset-other}
 
@@ -47,22 +47,22 @@ one-line n t t′ i len same here old = (len ∙ old .0, λ k h. pick k h (ℕ-d
         line-row n t t′ k l (λ c hc. same k c (omega arith) d) (same k (head + k) (omega arith) d ∙ l .own)
         (λ x hx. rw (same k (head + x) (omega arith) d) (l .range x hx))
 
-module _ (n : ℕ) (t : List ℕ) (i : ℕ) (lines : Lines n t) (h : i < n) where
-  -- Steps 4, 6 and 7: the status
-  pub leave-lines : (s : ℕ) → s ≤ 3 → Lines n (setStatus n t i s)
-  leave-lines s hs =
-      let l = lines .1 i h in
-      let e : status n (setStatus n t i s) i ≡ s = cell-same n t i statusColumn s (lines .0) h (omega arith) in
-      let other : (c : ℕ) → c < stride n → 1 ≤ c → cell n (setStatus n t i s) i c ≡ cell n t i c = λ c hc pos. cell-other n t i statusColumn s i c (omega arith) hc (omega arith) in
-      one-line n t (setStatus n t i s) i (setCell-length n t i statusColumn s)
-      (λ k c hc d. cell-other n t i statusColumn s k c (omega arith) hc (λ f. absurd (d f)))
-      (record {
-        statusRange = omega arith;
-        pass = rw (other nextColumn (omega arith) (omega arith), other finishedColumn (omega arith) (omega arith), other testsColumn (omega arith) (omega arith)) (l .pass);
-        own = other (head + i) (omega arith) (omega arith) ∙ l .own;
-        range = λ x hx. rw (other (head + x) (omega arith) (omega arith)) (l .range x hx);
-      }) lines
+-- Steps 4, 6 and 7: the status of a station, the tester or the tested
+pub leave-lines : (n : ℕ) (t : List ℕ) (i : ℕ) → Lines n t → i < n → (s : ℕ) → s ≤ 3 → Lines n (setStatus n t i s)
+leave-lines n t i lines h s hs =
+    let l = lines .1 i h in
+    let e : status n (setStatus n t i s) i ≡ s = cell-same n t i statusColumn s (lines .0) h (omega arith) in
+    let other : (c : ℕ) → c < stride n → 1 ≤ c → cell n (setStatus n t i s) i c ≡ cell n t i c = λ c hc pos. cell-other n t i statusColumn s i c (omega arith) hc (omega arith) in
+    one-line n t (setStatus n t i s) i (setCell-length n t i statusColumn s)
+    (λ k c hc d. cell-other n t i statusColumn s k c (omega arith) hc (λ f. absurd (d f)))
+    (record {
+      statusRange = omega arith;
+      pass = rw (other nextColumn (omega arith) (omega arith), other finishedColumn (omega arith) (omega arith), other testsColumn (omega arith) (omega arith)) (l .pass);
+      own = other (head + i) (omega arith) (omega arith) ∙ l .own;
+      range = λ x hx. rw (other (head + x) (omega arith) (omega arith)) (l .range x hx);
+    }) lines
 
+module _ (n : ℕ) (t : List ℕ) (i : ℕ) (lines : Lines n t) (h : i < n) where
   -- Step 2
   pub finishPass-lines : Lines n (finishPass n t i)
   finishPass-lines =
@@ -156,11 +156,13 @@ module _ (n : ℕ) (t : List ℕ) (i : ℕ) (lines : Lines n t) (h : i < n) wher
     unfolding afterOutcome
     afterTest-lines kind =
         let o : ℕ = testOutcome n t kind i j in
-        choice (Lines n) (eqb o outcomeTold) (leave-lines 2 (omega arith)) (choice (Lines n) (eqb o outcomeExchanged) exchange-lines suspect-lines)
+        choice (Lines n) (eqb o outcomeTold) (leave-lines n t i lines h 2 (omega arith))
+        (choice (Lines n) (eqb o outcomeTestedTold) (leave-lines n t j lines hj 2 (omega arith))
+        (choice (Lines n) (eqb o outcomeExchanged) exchange-lines suspect-lines))
 
   pub afterAlone-lines : Lines n (afterAlone n t i)
   unfolding afterAlone
-  afterAlone-lines = choice (Lines n) (isAlone n t i) (leave-lines 3 (omega arith)) lines
+  afterAlone-lines = choice (Lines n) (isAlone n t i) (leave-lines n t i lines h 3 (omega arith)) lines
 
 -- no station is at a positive distance from itself
 pub station-apart : (i m : ℕ) → 1 ≤ m → i ≢ stationAt i m

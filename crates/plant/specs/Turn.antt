@@ -1,4 +1,5 @@
--- Document 01, steps 2 to 8 of "What an entry does", as functions of the table. Station i is the entry's, kind its kind, j the tested station.
+-- Document 01, steps 2 to 8 of "What an entry does", with step 4 as request C-13 has it, as functions of the table. Station i is the
+-- entry's, kind its kind, j the tested station.
 -- Assumes nothing.
 use Prim.Native.Nat.{ℕ, _+_, _-_}
 use mathlib.Core.Bool.{Bool, cond, _&&_, _||_}
@@ -22,7 +23,7 @@ kindLate = 2
 abbrev pub kindCrash : ℕ
 kindCrash = 3
 
--- the outcomes on the sheet: 0 pass finished, 1 exchanged, 2 told, 3 no reply, 4 crash
+-- the outcomes on the sheet: 0 pass finished, 1 exchanged, 2 told, 3 no reply, 4 crash; by C-13 5, the tested station was told
 abbrev pub outcomeFinished : ℕ
 outcomeFinished = 0
 
@@ -37,6 +38,9 @@ outcomeNoReply = 3
 
 abbrev pub outcomeCrash : ℕ
 outcomeCrash = 4
+
+abbrev pub outcomeTestedTold : ℕ
+outcomeTestedTold = 5
 
 -- the statuses of a station that is not live: 1 crashed, 2 left because told, 3 left because alone
 abbrev pub statusCrashed : ℕ
@@ -76,9 +80,9 @@ countTest n t i m = setCell n (setCell n t i nextColumn (m + 1)) i testsColumn (
 unfoldable pub replies : ℕ → List ℕ → ℕ → ℕ → Bool
 replies n t kind j = live n t j && eqb kind kindTurn
 
--- "If j suspects i"
+-- station a is told by b: b suspects a
 unfoldable pub isTold : ℕ → List ℕ → ℕ → ℕ → Bool
-isTold n t i j = eqb (suspects n t j i) 1
+isTold n t a b = eqb (suspects n t b a) 1
 
 -- "both rows become the union of the two, except that a station never writes the byte about itself"
 unfoldable pub exchangeRows : ℕ → List ℕ → ℕ → ℕ → List ℕ
@@ -88,15 +92,21 @@ exchangeRows n t i j = setRow n (setRow n t i (union (row n t i) (row n t j) i))
 unfoldable pub suspect : ℕ → List ℕ → ℕ → ℕ → List ℕ
 suspect n t i j = setRow n t i (mark (row n t i) j)
 
+-- C-13 in place of step 4, where j replies: "if j suspects i", "Otherwise, if i suspects j", "Where neither suspects the other"
+unfoldable pub replyOutcome : ℕ → List ℕ → ℕ → ℕ → ℕ
+replyOutcome n t i j = cond (isTold n t i j) outcomeTold (cond (isTold n t j i) outcomeTestedTold outcomeExchanged)
+
 -- the outcome of the test of j, by steps 4 and 5
 unfoldable pub testOutcome : ℕ → List ℕ → ℕ → ℕ → ℕ → ℕ
-testOutcome n t kind i j = cond (replies n t kind j) (cond (isTold n t i j) outcomeTold outcomeExchanged) outcomeNoReply
+testOutcome n t kind i j = cond (replies n t kind j) (replyOutcome n t i j) outcomeNoReply
 
--- what steps 4 and 5 do to the table, by the outcome of the test of j
+-- what steps 4 and 5 do to the table, by the outcome of the test of j. C-13: "i leaves as before and j is given nothing", "j leaves with
+-- status 2, no row changes", "both rows become the union as before"; step 5: "i suspects j"
 unfoldable pub afterOutcome : ℕ → List ℕ → ℕ → ℕ → ℕ → List ℕ
 afterOutcome n t i j outcome =
     cond (eqb outcome outcomeTold) (setStatus n t i statusTold)
-    (cond (eqb outcome outcomeExchanged) (exchangeRows n t i j) (suspect n t i j))
+    (cond (eqb outcome outcomeTestedTold) (setStatus n t j statusTold)
+    (cond (eqb outcome outcomeExchanged) (exchangeRows n t i j) (suspect n t i j)))
 
 -- the table after the test of j
 abbrev pub afterTest : ℕ → List ℕ → ℕ → ℕ → ℕ → List ℕ

@@ -1,4 +1,4 @@
-// A turn of one station (document 01, steps 2 to 6).
+// A turn of one station (document 01, steps 2 to 6; step 4 as request C-13 has it).
 ghost use mathlib.Core.Path.{_≡_};
 ghost use Prim.Native.Nat.{_-_, _<_, _≤_};
 ghost use lib.ListN.{length};
@@ -8,7 +8,7 @@ ghost use Rattle.station.specs.Groups.{stationAt};
 ghost use Rattle.station.specs.Rows.{union, sameRows, united};
 ghost use Rattle.station.specs.Rules.{tableNumber};
 ghost use Rattle.station.specs.Tests.{due};
-ghost use Rattle.plant.specs.Turn.{nextTest, finishPass, countTest, replies, isTold, exchangeRows, suspect, setStatus, testOutcome, afterOutcome, selfOrSuspected, isAlone, afterAlone, testing, turn, turnTested, turnOutcome};
+ghost use Rattle.plant.specs.Turn.{nextTest, finishPass, countTest, replies, isTold, exchangeRows, suspect, setStatus, replyOutcome, testOutcome, afterOutcome, selfOrSuspected, isAlone, afterAlone, testing, turn, turnTested, turnOutcome};
 use crate::codes;
 use crate::inside;
 use station::Distance;
@@ -113,8 +113,19 @@ fn test_outcome(n: u8, table: &[u8], kind: u8, i: Station, j: Station) -> u8
     if !does_reply(n, table, kind, j) {
         return codes::NO_REPLY;
     }
+    reply_outcome(n, table, i, j)
+}
+
+// Step 4: the outcome where j replies. The row of j is asked first.
+fn reply_outcome(n: u8, table: &[u8], i: Station, j: Station) -> u8
+    requires { ⌜ (length (now table) ≡ tableLength n) × (i .0 < n) × (j .0 < n) ⌝ }
+    ensures { λ r. ⌜ r ≡ replyOutcome n (now (table .entry)) (i .0) (j .0) ⌝ }
+{
     if is_told(n, table, i, j) {
         return codes::TOLD;
+    }
+    if is_told(n, table, j, i) {
+        return codes::TESTED_TOLD;
     }
     codes::EXCHANGED
 }
@@ -126,6 +137,10 @@ fn apply_outcome(n: u8, table: &mut [u8], i: Station, j: Station, outcome: u8)
 {
     if outcome == codes::TOLD {
         leave(n, table, i, codes::LEFT_TOLD);
+        return;
+    }
+    if outcome == codes::TESTED_TOLD {
+        leave(n, table, j, codes::LEFT_TOLD);
         return;
     }
     if outcome == codes::EXCHANGED {
@@ -152,13 +167,13 @@ fn does_reply(n: u8, table: &[u8], kind: u8, j: Station) -> bool
     (status == codes::LIVE) & (kind == codes::TURN)
 }
 
-// Step 4: whether j suspects i.
-fn is_told(n: u8, table: &[u8], i: Station, j: Station) -> bool
-    requires { ⌜ (length (now table) ≡ tableLength n) × (i .0 < n) × (j .0 < n) ⌝ }
-    ensures { λ r. ⌜ r ≡ isTold n (now (table .entry)) (i .0) (j .0) ⌝ }
+// Step 4: whether a is told by b: b suspects a.
+fn is_told(n: u8, table: &[u8], a: Station, b: Station) -> bool
+    requires { ⌜ (length (now table) ≡ tableLength n) × (a .0 < n) × (b .0 < n) ⌝ }
+    ensures { λ r. ⌜ r ≡ isTold n (now (table .entry)) (a .0) (b .0) ⌝ }
 {
-    let of = i.0;
-    inside::get(n, table, j, cells::HEAD + of as u16) == 1
+    let of = a.0;
+    inside::get(n, table, b, cells::HEAD + of as u16) == 1
 }
 
 // Step 5: i suspects j. The row is lent as a part of the table.

@@ -12,11 +12,7 @@ returns c = rw (← c .before .does-reply .ensures, not-true (c .before .does-re
 
 returns-2 : tie.Need-returns-2
 unfolding testOutcome
-returns-2 c = rw (← c .before .before .before .does-reply .ensures, not-false (c .before .before .before .does-reply .result) (c .before .before .if1 .left), ← c .before .is-told .ensures, c .if2 .taken)
-
-returns-3 : tie.Need-returns-3
-unfolding testOutcome
-returns-3 c = rw (← c .before .before .before .does-reply .ensures, not-false (c .before .before .before .does-reply .result) (c .before .before .if1 .left), ← c .before .is-told .ensures, c .if2 .left)
+returns-2 c = rw (← c .before .before .does-reply .ensures, not-false (c .before .before .does-reply .result) (c .before .if1 .left)) (c .reply-outcome .ensures)
 
 pub test-outcome-spec : {M : Type 1} → statement M
-test-outcome-spec = tie.close (tie.spec (λ c κs. search needs) returns (λ c κs. search needs) returns-2 returns-3)
+test-outcome-spec = tie.close (tie.spec (λ c κs. search needs) returns (λ c κs. search needs) returns-2)

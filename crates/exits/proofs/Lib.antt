@@ -1,0 +1,2 @@
+-- The claim of specs/Exits.antt holds.
+pub mod Told

@@ -1,0 +1,199 @@
+-- The claim of specs/Exits.antt holds.
+-- Assumes nothing.
+use mathlib.Core.Path.{_≡_, refl, sym, _∙_}
+use mathlib.Core.Logic.{_≢_, by-cases}
+use mathlib.Core.Bool.{true, false, not, and-false}
+use mathlib.Core.List.{List}
+use Prim.Native.Nat.{ℕ, _+_, _<_}
+use native.Mathlib.Decide.{ℕ-discrete}
+use native.Mathlib.Omega.{arith}
+use borrow.Author.Tests.{eqb-true, eqb-false, ne-eqb, not-true}
+use lib.Dec.{eqb}
+use Rattle.station.specs.Groups.{stationAt}
+use Rattle.station.specs.Table.{head, stride, cell, statusColumn, nextColumn, finishedColumn, testsColumn, status, suspects, live}
+use Rattle.station.specs.Rules.{roundOver}
+use Rattle.station.proofs.BoolLaws.{choice}
+use Rattle.station.proofs.SearchLaws.{both, every-not}
+use Rattle.station.proofs.Refusals.{Accepted, accepted}
+use Rattle.station.proofs.CellLaws.{cell-same, cell-other, accepted-line}
+use Rattle.plant.specs.Turn.{kindTurn, outcomeExchanged, outcomeTold, outcomeTestedTold, statusTold, statusAlone, setStatus, nextTest, makesTest, countTest, replies, isTold, exchangeRows, replyOutcome, testOutcome, afterOutcome, afterTest, selfOrSuspected, isAlone, afterAlone, testing, turn, turnTested, turnOutcome, afterRound}
+use Rattle.plant.specs.Entry.{Entry, State, isCrash, acted, after, testedOf, outcomeOf}
+use Rattle.plant.proofs.NextTest.{nextTest-low, test-below, test-station}
+use Rattle.plant.proofs.StepCells.{countTest-other, exchange-other, exchange-tester, exchange-tested, reset-other}
+use Rattle.plant.proofs.StepLines.{Lines, countTest-lines, station-apart}
+use Rattle.plant.proofs.Kept.{Takes, entry-facts}
+use Rattle.exits.specs.Exits.{Replied, SameRows, NeitherSuspects, Heard, TestedHears}
+
+-- steps 6 and 8 write bytes 1 to 3, and the status of i if it is alone
+module _ (n i : ℕ) (v : List ℕ) where
+  abbrev later : List ℕ
+  later = afterRound n (afterAlone n v i)
+
+  later-round : (k c : ℕ) → c < stride n → (c ≢ nextColumn) × (c ≢ finishedColumn) × (c ≢ testsColumn) → cell n later k c ≡ cell n (afterAlone n v i) k c
+  unfolding afterRound
+  later-round k c h out =
+      choice (λ (t : List ℕ). cell n t k c ≡ cell n (afterAlone n v i) k c) (roundOver n (afterAlone n v i)) (reset-other n (afterAlone n v i) k c h out) refl
+
+  later-other : (k c : ℕ) → c < stride n → (c ≢ nextColumn) × (c ≢ finishedColumn) × (c ≢ testsColumn) → (i ≡ k → c ≢ statusColumn)
+      → cell n later k c ≡ cell n v k c
+  unfolding afterAlone
+  later-other k c h out own =
+      later-round k c h out
+      ∙ choice (λ (t : List ℕ). cell n t k c ≡ cell n v k c) (isAlone n v i) (cell-other n v i statusColumn statusAlone k c (omega arith) h (λ q r. own q (sym r))) refl
+
+  later-stays : isAlone n v i ≡ false → status n later i ≡ status n v i
+  unfolding afterAlone
+  later-stays e = later-round i statusColumn (omega arith) (omega arith) ∙ rw e
+
+-- a taken turn whose test has a reply: i tests j at distance m, and u is the table with the test counted
+module _ (n : ℕ) (s : State) (e : Entry) (r : Replied n s e) where
+  abbrev t : List ℕ
+  t = s .table
+
+  abbrev i : ℕ
+  i = e .station
+
+  abbrev m : ℕ
+  m = nextTest n t i
+
+  abbrev j : ℕ
+  j = stationAt i m
+
+  abbrev u : List ℕ
+  u = countTest n t i m
+
+  facts : Takes n s e
+  facts = entry-facts n s e (r .taken)
+
+  all : Accepted n t
+  all = accepted n t (r .shape)
+
+  lines₀ : Lines n t
+  lines₀ = (all .long, accepted-line n t all)
+
+  no-crash : isCrash e ≡ false
+  no-crash = not-true (isCrash e) (both (not (isCrash e)) (makesTest n t i) (r .makes) .0)
+
+  tests : makesTest n t i ≡ true
+  tests = both (not (isCrash e)) (makesTest n t i) (r .makes) .1
+
+  hi : i < n
+  hi = facts .below
+
+  hj : j < n
+  hj = test-station n t i tests (all .long) hi
+
+  apart : i ≢ j
+  apart = station-apart i m (omega (arith, nextTest-low n t i, lines₀ .1 i hi .pass .nextLow))
+
+  lines : Lines n u
+  lines = countTest-lines n t i lines₀ hi m (facts .unfinished (eqb-false (e .kind) 3 no-crash)) (nextTest-low n t i) (test-below n t i tests)
+
+  -- the count writes bytes 1 and 3 only
+  counted : (k c : ℕ) → c < stride n → (c ≢ nextColumn) × (c ≢ testsColumn) → cell n u k c ≡ cell n t k c
+  counted k c h out = countTest-other n t i m k c h (λ _. out)
+
+  row-counted : (k x : ℕ) → x < n → suspects n u k x ≡ suspects n t k x
+  row-counted k x h = counted k (head + x) (omega arith) (omega arith)
+
+  tested-is : testedOf n t e ≡ j
+  unfolding testedOf turnTested
+  tested-is = rw (no-crash, tests)
+
+  j-live : status n t j ≡ 0
+  unfolding replies
+  j-live = eqb-true (status n t j) 0 (both (live n t j) (eqb (e .kind) kindTurn) (rw tested-is at (r .reply)) .0)
+
+  -- the outcome is that of a reply, and the table what steps 4, 6 and 8 make of it
+  outcome-is : outcomeOf n t e ≡ replyOutcome n u i j
+  unfolding outcomeOf turnOutcome testOutcome replies
+  outcome-is = rw (no-crash, tests, counted j statusColumn (omega arith) (omega arith), rw tested-is at (r .reply))
+
+  after-is : after n s e .table ≡ later n i (afterOutcome n u i j (outcomeOf n t e))
+  unfolding after acted turn testing outcomeOf turnOutcome
+  after-is = rw (no-crash, tests)
+
+  -- where a station leaves, no row changes
+  left-rows : (k x : ℕ) → SameRows n t (later n i (setStatus n u k x))
+  left-rows k x a b ha hb =
+      later-other n i (setStatus n u k x) a (head + b) (omega arith) (omega arith) (λ _. omega arith)
+      ∙ (cell-other n u k statusColumn x a (head + b) (omega arith) (omega arith) (λ _. omega arith) ∙ row-counted a b hb)
+
+  tester-told : suspects n t j i ≡ 1 → outcomeOf n t e ≡ outcomeTold
+  unfolding replyOutcome isTold
+  tester-told w = outcome-is ∙ rw (row-counted j i hi ∙ w)
+
+  tested-told : suspects n t j i ≡ 0 → suspects n t i j ≡ 1 → outcomeOf n t e ≡ outcomeTestedTold
+  unfolding replyOutcome isTold
+  tested-told w x = outcome-is ∙ rw (row-counted j i hi ∙ w, row-counted i j hj ∙ x)
+
+  none-told : NeitherSuspects n t i j → outcomeOf n t e ≡ outcomeExchanged
+  unfolding replyOutcome isTold
+  none-told w = outcome-is ∙ rw (row-counted j i hi ∙ w .1, row-counted i j hj ∙ w .0)
+
+  -- outcome 2
+  tester-leaves : suspects n t j i ≡ 1
+      → (outcomeOf n t e ≡ outcomeTold) × (status n (after n s e .table) i ≡ statusTold) × (live n (after n s e .table) j ≡ true) × SameRows n t (after n s e .table)
+  unfolding afterOutcome isAlone
+  tester-leaves w =
+      let v : List ℕ = setStatus n u i statusTold in
+      let q = tester-told w in
+      let a : after n s e .table ≡ later n i v = rw q at after-is in
+      let mine : status n v i ≡ statusTold = cell-same n u i statusColumn statusTold (lines .0) hi (omega arith) in
+      let gone : isAlone n v i ≡ false = rw mine in
+      let its : status n (later n i v) j ≡ 0 =
+      later-other n i v j statusColumn (omega arith) (omega arith) (λ p. absurd (apart p))
+      ∙ (cell-other n u i statusColumn statusTold j statusColumn (omega arith) (omega arith) (λ p. absurd (apart p)) ∙ (counted j statusColumn (omega arith) (omega arith) ∙ j-live)) in
+      (q, rw a (later-stays n i v gone ∙ mine), rw (a, its), rw a (left-rows i statusTold))
+
+  -- outcome 5
+  tested-leaves : suspects n t j i ≡ 0 → suspects n t i j ≡ 1
+      → (outcomeOf n t e ≡ outcomeTestedTold) × (status n (after n s e .table) j ≡ statusTold) × SameRows n t (after n s e .table)
+  unfolding afterOutcome
+  tested-leaves w x =
+      let v : List ℕ = setStatus n u j statusTold in
+      let q = tested-told w x in
+      let a : after n s e .table ≡ later n i v = rw q at after-is in
+      let its : status n (later n i v) j ≡ statusTold =
+      later-other n i v j statusColumn (omega arith) (omega arith) (λ p. absurd (apart p)) ∙ cell-same n u j statusColumn statusTold (lines .0) hj (omega arith) in
+      (q, rw a its, rw a (left-rows j statusTold))
+
+  -- outcome 1: i does not suspect j afterwards, and so is not alone
+  both-stay : NeitherSuspects n t i j
+      → (outcomeOf n t e ≡ outcomeExchanged) × (live n (after n s e .table) i ≡ true) × (live n (after n s e .table) j ≡ true) × NeitherSuspects n (after n s e .table) i j
+  unfolding afterOutcome isAlone selfOrSuspected
+  both-stay w =
+      let v : List ℕ = exchangeRows n u i j in
+      let q = none-told w in
+      let a : after n s e .table ≡ later n i v = rw q at after-is in
+      let mine : suspects n v i j ≡ 0 =
+      omega (arith, exchange-tester n u i (lines .0) hi j hj apart j hj (λ p. apart (sym p)), row-counted i j hj, w .0, lines .1 j hj .own) in
+      let its : suspects n v j i ≡ 0 = omega (arith, exchange-tested n u i (lines .0) hi j hj apart i hi apart, row-counted j i hi, w .1, lines .1 i hi .own) in
+      let fails : selfOrSuspected n v i j ≡ false = rw (ne-eqb j i (λ p. apart (sym p)), mine) in
+      let company : isAlone n v i ≡ false = rw (every-not (selfOrSuspected n v i) n j hj fails, and-false) in
+      let same : (k : ℕ) → status n v k ≡ status n t k =
+      λ k. exchange-other n u i (lines .0) hi j hj apart k statusColumn (omega arith) (λ _. omega arith) (λ _. omega arith) ∙ counted k statusColumn (omega arith) (omega arith) in
+      let i-live : status n (later n i v) i ≡ 0 = later-stays n i v company ∙ (same i ∙ eqb-true (status n t i) 0 (facts .isLive)) in
+      let j-stays : status n (later n i v) j ≡ 0 = later-other n i v j statusColumn (omega arith) (omega arith) (λ p. absurd (apart p)) ∙ (same j ∙ j-live) in (
+        q,
+        rw (a, i-live),
+        rw (a, j-stays),
+        rw a (
+          later-other n i v i (head + j) (omega (arith, hj)) (omega arith) (λ _. omega arith) ∙ mine,
+          later-other n i v j (head + i) (omega (arith, hi)) (omega arith) (λ _. omega arith) ∙ its,
+        ),
+      )
+
+  -- a byte of a row is 0 or 1, so that one of the three applies
+  parted : live n (after n s e .table) i ≡ true → live n (after n s e .table) j ≡ true → NeitherSuspects n (after n s e .table) i j
+  parted a b =
+      by-cases (ℕ-discrete (suspects n t j i) 1) (λ w. absurd (omega (arith, eqb-true (status n (after n s e .table) i) 0 a, tester-leaves w .1)))
+      (λ w.
+      let w′ : suspects n t j i ≡ 0 = omega (arith, lines₀ .1 j hj .range i hi) in
+      by-cases (ℕ-discrete (suspects n t i j) 1) (λ x. absurd (omega (arith, eqb-true (status n (after n s e .table) j) 0 b, tested-leaves w′ x .1)))
+      (λ x. both-stay (omega (arith, lines₀ .1 i hi .range j hj), w′) .3))
+
+-- the claim, an end in itself
+pub tested-hears : TestedHears
+tested-hears n s e r =
+    rw (tested-is n s e r) (record { tester = tester-leaves n s e r; tested = tested-leaves n s e r; neither = both-stay n s e r; parted = parted n s e r })

@@ -1,0 +1,2 @@
+-- Who leaves and who stays where a test has a reply.
+pub mod Exits
