@@ -40,9 +40,12 @@ struct Entry {
 enum Outcome {
     PassFinished = 0,
     Exchanged = 1,
+    /// The tested station suspects the tester, which leaves.
     Told = 2,
     NoReply = 3,
     Crash = 4,
+    /// The tester suspects the tested station, which leaves.
+    TestedTold = 5,
 }
 
 /// What an entry did: the tested station, if any, and the outcome.
@@ -201,15 +204,29 @@ impl Watch {
         self.tests += 1;
     }
 
-    /// Step 4.
+    /// Step 4, as C-13 has it: a suspected tester leaves, else a suspected
+    /// tested station; rows are exchanged where neither suspects the other.
     fn reply(&mut self, i: Station, j: Station) -> Outcome {
-        if self.plant.line(j).row.suspects(i) {
-            self.plant.line_mut(i).status = Status::Told;
+        if self.suspects(j, i) {
+            self.leave_told(i);
             Outcome::Told
+        } else if self.suspects(i, j) {
+            self.leave_told(j);
+            Outcome::TestedTold
         } else {
             self.exchange(i, j);
             Outcome::Exchanged
         }
+    }
+
+    /// Whether station i suspects station k, by its own row.
+    fn suspects(&self, i: Station, k: Station) -> bool {
+        self.plant.line(i).row.suspects(k)
+    }
+
+    /// Status 2; nothing else on the line changes.
+    fn leave_told(&mut self, station: Station) {
+        self.plant.line_mut(station).status = Status::Told;
     }
 
     /// Both rows become the union; neither station writes the byte about itself.

@@ -57,7 +57,7 @@ impl Plant {
 
     /// Gives turns to random live stations that have not finished their pass,
     /// until the round closes. None takes more than n, and an nth finishes its
-    /// pass. Gives the tests of the round.
+    /// pass. Nobody leaves. Gives the tests of the round.
     fn close_round(&mut self, numbers: &mut Numbers) -> u32 {
         let before = self.tally;
         let mut turns = vec![0; self.n];
@@ -69,6 +69,7 @@ impl Plant {
             assert_eq!(given.number, 0);
             self.tally = (given.rounds, given.tests);
             turns[i] += 1;
+            assert!(matches!(sheet[2..], [0 | 1 | 3, 0]));
             let finished = sheet[2] == 0;
             assert!(turns[i] < self.n || turns[i] == self.n && finished);
             if finished {

@@ -155,17 +155,6 @@ fn told_station_that_suspects_all_others_has_status_2() {
 }
 
 #[test]
-fn only_the_tester_looks_for_itself() {
-    let mut table = fresh(4);
-    suspect(4, &mut table, 0, 1);
-    let (_, sheet) = run_with(4, &mut table, (0, 0), &[1, 0]);
-    assert_eq!(sheet, [0, 1, 1, 0]);
-    assert_eq!(head(4, &table, 1), [0, 1, 0, 0]);
-    assert_eq!(row_bytes(4, &table, 0), [0, 1, 0, 0]);
-    assert_eq!(row_bytes(4, &table, 1), [0, 0, 0, 0]);
-}
-
-#[test]
 fn status_of_the_tested_decides_not_the_row() {
     for status in 1..4 {
         for kind in 1..3 {
@@ -189,16 +178,22 @@ fn alone_after_no_reply() {
     assert_eq!(table, [3, 2, 0, 1, 0, 1, 0, 1, 0, 0, 0, 0]);
 }
 
+/// An exchange is made only where the tester does not suspect the tested, and
+/// the tested does not suspect itself: so the tester still does not suspect it.
 #[test]
-fn alone_after_an_exchange() {
+fn nobody_is_alone_after_an_exchange() {
     let mut table = fresh(4);
-    suspect(4, &mut table, 0, 1);
-    suspect(4, &mut table, 1, 2);
+    suspect(4, &mut table, 0, 2);
     suspect(4, &mut table, 1, 3);
     let (_, sheet) = run_with(4, &mut table, (0, 0), &[1, 0]);
-    assert_eq!(sheet, [0, 1, 1, 3]);
-    assert_eq!(row_bytes(4, &table, 0), [0, 1, 1, 1]);
-    assert_eq!(row_bytes(4, &table, 1), [0, 0, 1, 1]);
+    assert_eq!(sheet, [0, 1, 1, 0]);
+    let expected = [
+        [0, 2, 0, 1, 0, 0, 1, 1],
+        [0, 1, 0, 0, 0, 0, 1, 1],
+        [0, 1, 0, 0, 0, 0, 0, 0],
+        [0, 1, 0, 0, 0, 0, 0, 0],
+    ];
+    assert_eq!(table, expected.concat());
 }
 
 #[test]

@@ -9,12 +9,14 @@ mod laws;
 mod program;
 mod questions;
 mod rounds;
+mod steps;
 mod tables;
+mod told;
 mod totals;
 
 use std::ops::RangeInclusive;
 
-use crate::{fresh_table, run, Answer};
+use crate::{check_table, fresh_table, run, Answer};
 
 /// The sizes with d = 1 to 6.
 const BY_D: [RangeInclusive<usize>; 6] = [2..=2, 3..=4, 5..=8, 9..=16, 17..=32, 33..=64];
@@ -113,4 +115,43 @@ impl Numbers {
             .wrapping_add(1442695040888963407);
         (self.0 >> 33) as usize % limit
     }
+}
+
+/// A random table that is accepted, with any statuses, heads and rows.
+pub fn random_table(n: usize, numbers: &mut Numbers) -> Vec<u8> {
+    loop {
+        let [live, finished] = [1, 0].map(|least| least + numbers.below(4));
+        let lines = (0..n).map(|own| random_line(n, own, live, finished, numbers));
+        let table = lines.collect::<Vec<_>>().concat();
+        match check_table(n, &table) {
+            0 => return table,
+            number => assert_eq!(number, 4),
+        }
+    }
+}
+
+/// A random line of station `own`: live in so many of 4 cases, and finished in
+/// so many of 4.
+fn random_line(
+    n: usize,
+    own: usize,
+    live: usize,
+    finished: usize,
+    numbers: &mut Numbers,
+) -> Vec<u8> {
+    let mut line = vec![0; n + 4];
+    if numbers.below(4) >= live {
+        line[0] = 1 + numbers.below(3) as u8;
+    }
+    line[2] = u8::from(numbers.below(4) < finished);
+    line[1] = match line[2] {
+        1 => end(n),
+        _ => 1 + numbers.below(usize::from(end(n))) as u8,
+    };
+    line[3] = numbers.below(usize::from(line[1])) as u8;
+    let share = numbers.below(7);
+    for k in (0..n).filter(|k| *k != own) {
+        line[4 + k] = u8::from(numbers.below(6) < share);
+    }
+    line
 }

@@ -66,6 +66,37 @@ fn late_replies() {
 }
 
 #[test]
+fn tested_station_leaves_in_the_round_after_its_late_reply() {
+    let passes = "T 1\nT 1\nT 1\nT 2\nT 2\nT 2\nT 3\nT 3\nT 3\n";
+    let entries = "L 0\nT 0\nT 0\nT 0\nT 0\nT 1\n";
+    let expected = "\
+1 0 1 0
+1 3 1 0
+1 - 0 0
+2 3 1 0
+2 0 1 0
+2 - 0 0
+3 2 1 0
+3 1 1 0
+3 - 0 0
+0 1 3 0
+0 2 1 0
+0 3 1 0
+0 - 0 0
+0 1 5 0
+rounds 1 tests 10 refused 10 at 14
+";
+    assert_eq!(printed(&format!("4\n{passes}{entries}")), expected);
+}
+
+#[test]
+fn tested_station_leaves_by_a_suspicion_from_an_exchange() {
+    let lines = "0 1 3 0\n0 2 1 0\n0 3 1 0\n3 2 1 0\n3 1 5 0\n";
+    let expected = format!("{lines}rounds 0 tests 5 refused 10 at 5\n");
+    assert_eq!(printed("4\nL 0\nT 0\nT 0\nT 3\nT 3\nC 1\n"), expected);
+}
+
+#[test]
 fn refused_sizes() {
     for size in (0..2).chain(65..1000) {
         let expected = "rounds 0 tests 0 refused 1 at 0\n";

@@ -178,6 +178,116 @@ fn round_closes_when_a_station_leaves_alone() {
     assert_eq!(head(2, &table, 1), [0, 1, 0, 0]);
 }
 
+/// Stations 2 and 3 of 4 have finished their pass, and 0 suspects all others.
+fn tester_that_suspects_all() -> Vec<u8> {
+    let mut table = fresh(4);
+    for station in 1..4 {
+        suspect(4, &mut table, 0, station);
+    }
+    for station in 2..4 {
+        finish(4, &mut table, station);
+        set(4, &mut table, station, 3, 2);
+    }
+    table
+}
+
+#[test]
+fn round_closes_when_tested_and_tester_leave() {
+    for finished in [false, true] {
+        let mut table = tester_that_suspects_all();
+        set(4, &mut table, 1, 1, 4);
+        set(4, &mut table, 1, 2, u8::from(finished));
+        set(4, &mut table, 1, 3, 2);
+        let (given, sheet) = run_with(4, &mut table, (3, 9), &[1, 0]);
+        assert_eq!(given, answer(0, 1, 4, 10));
+        assert_eq!(sheet, [0, 1, 5, 3]);
+        let expected = [
+            [3, 1, 0, 0, 0, 1, 1, 1],
+            [2, 1, 0, 0, 0, 0, 0, 0],
+            [0, 1, 0, 0, 0, 0, 0, 0],
+            [0, 1, 0, 0, 0, 0, 0, 0],
+        ];
+        assert_eq!(table, expected.concat());
+    }
+}
+
+#[test]
+fn round_does_not_close_when_both_leave_and_another_is_not_finished() {
+    let mut table = tester_that_suspects_all();
+    set(4, &mut table, 3, 2, 0);
+    let (given, sheet) = run_with(4, &mut table, (3, 9), &[1, 0]);
+    assert_eq!(given, answer(0, 1, 3, 10));
+    assert_eq!(sheet, [0, 1, 5, 3]);
+    let heads = [[3, 2, 0, 1], [2, 1, 0, 0], [0, 4, 1, 2], [0, 4, 0, 2]];
+    for (station, expected) in heads.iter().enumerate() {
+        assert_eq!(head(4, &table, station), expected);
+    }
+}
+
+#[test]
+fn round_does_not_close_when_both_leave_and_nobody_is_live() {
+    let mut table = tester_that_suspects_all();
+    set(4, &mut table, 2, 0, 1);
+    set(4, &mut table, 3, 0, 3);
+    let (given, sheet) = run_with(4, &mut table, (3, 9), &[1, 0]);
+    assert_eq!(given, answer(0, 1, 3, 10));
+    assert_eq!(sheet, [0, 1, 5, 3]);
+    let heads = [[3, 2, 0, 1], [2, 1, 0, 0], [1, 4, 1, 2], [3, 4, 1, 2]];
+    for (station, expected) in heads.iter().enumerate() {
+        assert_eq!(head(4, &table, station), expected);
+    }
+    assert_eq!(check_table(4, &table), 0);
+}
+
+#[test]
+fn round_stays_open_when_the_tested_leaves_and_the_tester_does_not() {
+    let mut table = fresh(4);
+    suspect(4, &mut table, 0, 1);
+    for station in 1..4 {
+        finish(4, &mut table, station);
+    }
+    let (given, sheet) = run_with(4, &mut table, (0, 0), &[1, 0]);
+    assert_eq!(given, answer(0, 1, 0, 1));
+    assert_eq!(sheet, [0, 1, 5, 0]);
+    let heads = [[0, 2, 0, 1], [2, 4, 1, 0], [0, 4, 1, 0], [0, 4, 1, 0]];
+    for (station, expected) in heads.iter().enumerate() {
+        assert_eq!(head(4, &table, station), expected);
+    }
+    let (given, sheet) = run_with(4, &mut table, (0, 1), &[1, 0, 1, 0, 1, 0]);
+    assert_eq!(given, answer(0, 3, 1, 3));
+    assert_eq!(sheet, [0, 2, 1, 0, 0, 3, 1, 0, 0, 255, 0, 0]);
+    let expected = [
+        [0, 1, 0, 0, 0, 1, 0, 0],
+        [2, 1, 0, 0, 0, 0, 0, 0],
+        [0, 1, 0, 0, 0, 1, 0, 0],
+        [0, 1, 0, 0, 0, 1, 0, 0],
+    ];
+    assert_eq!(table, expected.concat());
+}
+
+#[test]
+fn round_stays_open_when_the_tested_leaves_at_the_last_distance() {
+    let mut table = fresh(4);
+    for station in 1..4 {
+        finish(4, &mut table, station);
+    }
+    suspect(4, &mut table, 0, 1);
+    suspect(4, &mut table, 0, 3);
+    set(4, &mut table, 0, 1, 3);
+    set(4, &mut table, 0, 3, 2);
+    let (given, sheet) = run_with(4, &mut table, (0, 0), &[1, 0]);
+    assert_eq!(given, answer(0, 1, 0, 1));
+    assert_eq!(sheet, [0, 3, 5, 0]);
+    assert_eq!(head(4, &table, 0), [0, 4, 0, 3]);
+    let (given, sheet) = run_with(4, &mut table, (0, 1), &[1, 0]);
+    assert_eq!(given, answer(0, 1, 1, 1));
+    assert_eq!(sheet, [0, 255, 0, 0]);
+    for station in 0..4 {
+        let status = if station == 3 { 2 } else { 0 };
+        assert_eq!(head(4, &table, station), [status, 1, 0, 0]);
+    }
+}
+
 #[test]
 fn round_does_not_close_without_a_live_station() {
     let mut table = fresh(2);
