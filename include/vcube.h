@@ -1,7 +1,7 @@
 /* The vCube watch for C and C++: the calls of the document "The vCube watch on a gin's plant cable" (document 01), with the sizes of
- * request C-11 of document 02, and the figures over a season's trials, its request C-12. The library behind them (crates/vcube,
- * crates/plant, crates/station, crates/figures) is proved in Rattle to do what its definitions say; this header and the compiler's back
- * end are not part of the proof.
+ * request C-11 of document 02 and the tested station that hears it too, its request C-13; and the figures over a season's trials, its
+ * request C-12. The library behind them (crates/vcube, crates/plant, crates/station, crates/figures) is proved in Rattle to do what its
+ * definitions say; this header and the compiler's back end are not part of the proof.
  *
  * Build the archive with `rt staticlib vcube` and link target/staticlib/libvcube.a (x86-64 Linux), or install it by bindings/c/install.
  *
@@ -40,9 +40,9 @@
 #include <stdint.h>
 
 #define VCUBE_VERSION_MAJOR 0
-#define VCUBE_VERSION_MINOR 4
+#define VCUBE_VERSION_MINOR 5
 #define VCUBE_VERSION_PATCH 0
-#define VCUBE_VERSION "0.4.0"
+#define VCUBE_VERSION "0.5.0"
 
 #ifdef __cplusplus
 extern "C" {
@@ -87,21 +87,22 @@ enum vcube_kind {
     VCUBE_KIND_CRASH = 3
 };
 
-/* Byte 0 of a line of the table, byte 3 of a line of the sheet. */
+/* Byte 0 of a line of the table; byte 3 of a line of the sheet, where it is that of the station in byte 0 and never of the tested one. */
 enum vcube_status {
     VCUBE_STATUS_LIVE = 0,
     VCUBE_STATUS_CRASHED = 1,
-    VCUBE_STATUS_TOLD = 2,              /* left because told */
-    VCUBE_STATUS_ALONE = 3              /* left because alone */
+    VCUBE_STATUS_TOLD = 2,              /* left because told that it is suspected, by a station that it tested or by one that tested it */
+    VCUBE_STATUS_ALONE = 3              /* left because alone: it suspects all others */
 };
 
-/* Byte 2 of a line of the sheet. */
+/* Byte 2 of a line of the sheet. The tester is the station in byte 0, the tested station that in byte 1. */
 enum vcube_outcome {
-    VCUBE_OUTCOME_PASS_FINISHED = 0,
-    VCUBE_OUTCOME_EXCHANGED = 1,
-    VCUBE_OUTCOME_TOLD = 2,
-    VCUBE_OUTCOME_NO_REPLY = 3,
-    VCUBE_OUTCOME_CRASH = 4
+    VCUBE_OUTCOME_PASS_FINISHED = 0,    /* no test was due any more */
+    VCUBE_OUTCOME_EXCHANGED = 1,        /* neither suspected the other: both rows became the union of the two */
+    VCUBE_OUTCOME_TOLD = 2,             /* the tester was told and left: the tested station suspected it */
+    VCUBE_OUTCOME_NO_REPLY = 3,         /* the tested station is not live, or its reply was late: the tester suspects it */
+    VCUBE_OUTCOME_CRASH = 4,
+    VCUBE_OUTCOME_TESTED_TOLD = 5       /* the tested station was told and left: the tester suspected it, and was not suspected by it */
 };
 
 /* Fresh table: every line live, next distance 1, all else 0.
@@ -141,8 +142,14 @@ uint8_t vcube_assignment(size_t n, const uint8_t *table, size_t table_length, si
 uint8_t vcube_row(size_t n, const uint8_t *table, size_t table_length, size_t station, size_t *start, size_t *length);
 
 /* Run: takes the entries of a schedule in order. An entry is two bytes: kind (enum vcube_kind) and station. What an entry does is steps 1
- * to 8 of document 01, as definitions in crates/plant/specs/Turn.antt and Entry.antt. For each entry taken four bytes of the sheet are
- * written: the station, the station it tested or VCUBE_NO_STATION, the outcome (enum vcube_outcome) and its status after the entry.
+ * to 8 of document 01, with request C-13 in place of step 4, as definitions in crates/plant/specs/Turn.antt and Entry.antt.
+ *
+ * For each entry taken four bytes of the sheet are written: the station, the station it tested or VCUBE_NO_STATION, the outcome (enum
+ * vcube_outcome), and the status after the entry of the station in byte 0 (enum vcube_status). Where the outcome is
+ * VCUBE_OUTCOME_TESTED_TOLD the station in byte 1 has left with status VCUBE_STATUS_TOLD, and byte 3 is still the tester's: live, or alone
+ * if the tester suspects all others. So one entry may make two stations cease to be live: a caller who follows the sheet learns it of the
+ * station in byte 0 from byte 3, and of that in byte 1 from byte 2.
+ *
  * *rounds and *tests are the tally of closed rounds and of tests: handed in there, given back there. *taken is how many entries were taken.
  * A run refused by 1 to 6 leaves the tally as it was, and *taken is 0.
  * Refusals: 1 to 6, then 7 to 11 at each entry. */

@@ -1,5 +1,5 @@
-/* What vcube.h says of NULL with length 0, of figures after a refusal, of a group's length, of the most results and the totals that they
- * can have, of its structs, and of its version. */
+/* What vcube.h says of NULL with length 0, of figures after a refusal, of a group's length, of who leaves at a test, of the most results
+ * and the totals that they can have, of its structs, and of its version. */
 
 #include "vcube.h"
 
@@ -95,6 +95,66 @@ static void null_in_runs(uint8_t *table)
     run_takes_nothing(table, schedule, 2, NULL, 0, VCUBE_REFUSED_SHEET_LENGTH);
     run_takes_nothing(table, NULL, 0, sheet, 4, VCUBE_REFUSED_SHEET_LENGTH);
     run_takes_nothing(table, NULL, 0, NULL, 0, VCUBE_ACCEPTED);
+}
+
+/* A turn of station 0 of 2, which tests 1. */
+struct turn {
+    const char *what;
+    uint8_t kind;
+    uint8_t before[VCUBE_TABLE_LENGTH(N)];
+    uint8_t sheet[4];
+    uint8_t after[VCUBE_TABLE_LENGTH(N)];
+    uint32_t rounds;
+};
+
+/* Worked out by hand from steps 3 to 8 of document 01 and request C-13. */
+static const struct turn turns[] = {
+    {"run: neither suspects the other, both stay live", VCUBE_KIND_TURN,
+     {0, 1, 0, 0, 0, 0, 0, 1, 0, 0, 0, 0}, {0, 1, VCUBE_OUTCOME_EXCHANGED, VCUBE_STATUS_LIVE},
+     {0, 2, 0, 1, 0, 0, 0, 1, 0, 0, 0, 0}, 0},
+    {"run: the tested station suspects the tester, which leaves", VCUBE_KIND_TURN,
+     {0, 1, 0, 0, 0, 0, 0, 1, 0, 0, 1, 0}, {0, 1, VCUBE_OUTCOME_TOLD, VCUBE_STATUS_TOLD},
+     {2, 2, 0, 1, 0, 0, 0, 1, 0, 0, 1, 0}, 0},
+    {"run: each suspects the other, only the tester leaves", VCUBE_KIND_TURN,
+     {0, 1, 0, 0, 0, 1, 0, 1, 0, 0, 1, 0}, {0, 1, VCUBE_OUTCOME_TOLD, VCUBE_STATUS_TOLD},
+     {2, 2, 0, 1, 0, 1, 0, 1, 0, 0, 1, 0}, 0},
+    {"run: the tester leaves, and the round closes as the tested station is finished", VCUBE_KIND_TURN,
+     {0, 1, 0, 0, 0, 1, 0, 2, 1, 1, 1, 0}, {0, 1, VCUBE_OUTCOME_TOLD, VCUBE_STATUS_TOLD},
+     {2, 1, 0, 0, 0, 1, 0, 1, 0, 0, 1, 0}, 1},
+    {"run: the tester suspects the tested station, which leaves, and is alone", VCUBE_KIND_TURN,
+     {0, 1, 0, 0, 0, 1, 0, 1, 0, 0, 0, 0}, {0, 1, VCUBE_OUTCOME_TESTED_TOLD, VCUBE_STATUS_ALONE},
+     {3, 2, 0, 1, 0, 1, 2, 1, 0, 0, 0, 0}, 0},
+    {"run: both leave, and no round closes as nobody is live", VCUBE_KIND_TURN,
+     {0, 1, 0, 0, 0, 1, 0, 2, 1, 1, 0, 0}, {0, 1, VCUBE_OUTCOME_TESTED_TOLD, VCUBE_STATUS_ALONE},
+     {3, 2, 0, 1, 0, 1, 2, 2, 1, 1, 0, 0}, 0},
+    {"run: a suspected station whose reply is late hears nothing", VCUBE_KIND_LATE_TURN,
+     {0, 1, 0, 0, 0, 1, 0, 1, 0, 0, 0, 0}, {0, 1, VCUBE_OUTCOME_NO_REPLY, VCUBE_STATUS_ALONE},
+     {3, 2, 0, 1, 0, 1, 0, 1, 0, 0, 0, 0}, 0},
+    {"run: a suspected station that crashed keeps its status", VCUBE_KIND_TURN,
+     {0, 1, 0, 0, 0, 1, 1, 1, 0, 0, 0, 0}, {0, 1, VCUBE_OUTCOME_NO_REPLY, VCUBE_STATUS_ALONE},
+     {3, 2, 0, 1, 0, 1, 1, 1, 0, 0, 0, 0}, 0},
+};
+
+static void take_turn(const struct turn *turn)
+{
+    const uint8_t schedule[2] = {turn->kind, 0};
+    uint8_t table[VCUBE_TABLE_LENGTH(N)], sheet[4] = {ANY, ANY, ANY, ANY};
+    uint32_t rounds = 0, tests = 0;
+    size_t taken = ANY;
+
+    memcpy(table, turn->before, sizeof table);
+    expect(vcube_run(N, table, sizeof table, &rounds, &tests, schedule, sizeof schedule, sheet, sizeof sheet, &taken) == VCUBE_ACCEPTED,
+           turn->what);
+    expect(taken == 1 && tests == 1 && rounds == turn->rounds, turn->what);
+    expect(memcmp(sheet, turn->sheet, sizeof sheet) == 0, turn->what);
+    expect(memcmp(table, turn->after, sizeof table) == 0, turn->what);
+}
+
+/* Who leaves at a test, and what the sheet says of it. */
+static void who_leaves(void)
+{
+    for (size_t k = 0; k < sizeof turns / sizeof turns[0]; k++)
+        take_turn(&turns[k]);
 }
 
 /* One result more than figures are taken over. */
@@ -308,6 +368,7 @@ int main(void)
     null_buffers(table);
     null_in_runs(table);
     group_lengths();
+    who_leaves();
     figures_over_results();
     return failures != 0;
 }

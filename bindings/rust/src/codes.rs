@@ -1,5 +1,5 @@
 //! The numbers of document 01 as types: refusals, with those of request C-12,
-//! kinds, statuses, outcomes.
+//! kinds, statuses, and outcomes, with that of request C-13.
 
 use std::error::Error;
 use std::fmt;
@@ -70,7 +70,8 @@ numbered! {
     Status {
         Live = 0,
         Crashed = 1,
-        /// It left because it was told that it is suspected.
+        /// It left because it was told that it is suspected: by a station that
+        /// it tested, or by one that tested it.
         Told = 2,
         /// It left because it suspects all others.
         Alone = 3,
@@ -83,10 +84,17 @@ numbered! {
     Outcome {
         /// No test was due any more.
         PassFinished = 0,
+        /// Neither suspected the other: both rows became the union of the two.
         Exchanged = 1,
+        /// The tester was told and left: the tested station suspected it.
         Told = 2,
+        /// The tested station is not live, or its reply was late: the tester
+        /// suspects it.
         NoReply = 3,
         Crash = 4,
+        /// The tested station was told and left: the tester suspected it, and
+        /// was not suspected by it.
+        TestedTold = 5,
     }
 }
 

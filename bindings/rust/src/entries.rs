@@ -35,13 +35,14 @@ pub struct SheetLine {
     /// The station it tested, if any.
     pub tested: Option<Station>,
     pub outcome: Outcome,
-    /// The station's status after the entry.
+    /// The status of `station` after the entry; of the tested one, see
+    /// [`SheetLine::ceased`].
     pub status: Status,
 }
 
 impl SheetLine {
-    /// Reads a line. Gives none where outcome or status have a number that
-    /// document 01 does not know: a run writes no such line.
+    /// Reads a line. Gives none where outcome or status have a number that the
+    /// documents do not know: a run writes no such line.
     #[must_use]
     pub fn from_bytes(bytes: [u8; 4]) -> Option<SheetLine> {
         let [station, tested, outcome, status] = bytes;
@@ -51,6 +52,16 @@ impl SheetLine {
             outcome: Outcome::from_number(outcome)?,
             status: Status::from_number(status)?,
         })
+    }
+
+    /// The stations that were live before the entry and are not after it, each
+    /// with its status now. There may be two: at [`Outcome::TestedTold`] the
+    /// tested station left, and then the tester too if it is alone.
+    pub fn ceased(self) -> impl Iterator<Item = (Station, Status)> {
+        let told = self.tested.filter(|_| self.outcome == Outcome::TestedTold);
+        let tested = told.map(|station| (station, Status::Told));
+        let own = (self.status != Status::Live).then_some((self.station, self.status));
+        tested.into_iter().chain(own)
     }
 }
 

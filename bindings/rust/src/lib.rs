@@ -3,10 +3,12 @@
 //! What each call does, and when it is refused, is said in document 01, "The
 //! vCube watch on a gin's plant cable"; the steps of an entry stand as
 //! definitions in crates/plant/specs/Turn.antt and Entry.antt. Plants have 2 to
-//! 64 stations. The figures over a season's trials are those of request C-12 of
-//! document 02. Every call takes any numbers and slices of any length: nothing
-//! need be tested before calling. A refused call changes nothing; a run that
-//! stops at an entry keeps the work of the entries before it.
+//! 64 stations (request C-11 of document 02), and the tested station hears too
+//! that it is suspected (its request C-13). The figures over a season's trials
+//! are those of its request C-12. Every call takes any numbers and slices of any
+//! length: nothing need be tested before calling. A refused call changes
+//! nothing; a run that stops at an entry keeps the work of the entries before
+//! it.
 //!
 //! The example of document 01 for N = 4:
 //!
@@ -41,6 +43,35 @@
 //! let mut list = [0; 3];
 //! let due = vcube::due_distances(n, &table, Station(0), &mut list)?;
 //! assert!(due.eq([Distance(1), Distance(2), Distance(3)]));
+//! # Ok::<(), vcube::Refusal>(())
+//! ```
+//!
+//! A station that is suspected leaves when it is tested, too. The sheet says so
+//! by its outcome, as the status there is the tester's:
+//!
+//! ```
+//! use vcube::{Entry, Kind, Outcome, Station, Status, Tally};
+//!
+//! let n = 3;
+//! let mut table = [0; vcube::table_length(3)];
+//! vcube::fresh_table(n, &mut table)?;
+//!
+//! let entry = |kind, station| Entry { kind, station: Station(station) };
+//! let schedule = vcube::schedule(&[
+//!     entry(Kind::LateTurn, 0),
+//!     entry(Kind::Turn, 0),
+//!     entry(Kind::Turn, 2),
+//!     entry(Kind::Turn, 2),
+//! ]);
+//! let mut sheet = [0; 16];
+//! let answer = vcube::run(n, &mut table, &mut Tally::default(), &schedule, &mut sheet);
+//!
+//! // 0 suspects 1 and exchanges with 2; 2 exchanges with 0, then tests 1, which leaves.
+//! assert_eq!((answer.refusal, answer.taken), (None, 4));
+//! let last = vcube::sheet_lines(&sheet, 4).last().expect("4 lines");
+//! assert_eq!((last.station, last.tested), (Station(2), Some(Station(1))));
+//! assert_eq!((last.outcome, last.status), (Outcome::TestedTold, Status::Live));
+//! assert!(last.ceased().eq([(Station(1), Status::Told)]));
 //! # Ok::<(), vcube::Refusal>(())
 //! ```
 //!
@@ -212,9 +243,10 @@ pub fn row(n: usize, table: &[u8], station: Station) -> Result<&[u8], Refusal> {
 }
 
 /// Run: takes the entries of a schedule in order; writes four bytes of the
-/// sheet for each entry taken, which [`sheet_lines`] reads. The tally goes in
-/// and comes back in its place. A run that is refused at its start leaves the
-/// tally as it was.
+/// sheet for each entry taken, which [`sheet_lines`] reads. One entry may make
+/// two stations cease to be live, which [`SheetLine::ceased`] gives. The tally
+/// goes in and comes back in its place. A run that is refused at its start
+/// leaves the tally as it was.
 /// Refusals: 1 to 6, then 7 to 11 at each entry.
 pub fn run(
     n: usize,

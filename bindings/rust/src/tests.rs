@@ -1,6 +1,7 @@
 //! The expected values are those of document 01's plant examples, and follow
 //! its rules with the sizes of request C-11. Those of the figures (request C-12)
-//! are worked out by hand.
+//! and of suspected stations that are tested (request C-13) are worked out by
+//! hand.
 
 use crate::*;
 
@@ -189,6 +190,144 @@ fn a_pass_of_station_4_of_5_ends_at_next_distance_8() {
     assert_eq!(table[4 * 9..][..4], [0, 8, 1, 4]);
 }
 
+/// An entry that is taken, on a plant with these lines: the line of the sheet,
+/// the table after it and the tally, which was 0.
+fn after_entry<const N: usize, const WIDTH: usize>(
+    lines: [[u8; WIDTH]; N],
+    entry: [u8; 2],
+) -> ([u8; 4], Vec<u8>, Tally) {
+    let (mut table, mut tally, mut sheet) = (lines.concat(), Tally::default(), [9; 4]);
+    let answer = run(N, &mut table, &mut tally, &entry, &mut sheet);
+    assert_eq!((answer.refusal, answer.taken), (None, 1));
+    (sheet, table, tally)
+}
+
+/// The tally after one test.
+fn one_test(rounds: u32) -> Tally {
+    Tally { rounds, tests: 1 }
+}
+
+/// A plant of 4 at the start of a round: 0 suspects 1, and 1 suspects 3.
+const SUSPECTED_1: [[u8; 8]; 4] = [
+    [0, 1, 0, 0, 0, 1, 0, 0],
+    [0, 1, 0, 0, 0, 0, 0, 1],
+    [0, 1, 0, 0, 0, 0, 0, 0],
+    [0, 1, 0, 0, 0, 0, 0, 0],
+];
+
+#[test]
+fn a_suspected_station_leaves_when_it_is_tested() {
+    let (sheet, table, tally) = after_entry(SUSPECTED_1, [1, 0]);
+    assert_eq!((sheet, tally), ([0, 1, 5, 0], one_test(0)));
+    let mut expected = SUSPECTED_1;
+    expected[0][..4].copy_from_slice(&[0, 2, 0, 1]);
+    expected[1][0] = 2;
+    assert_eq!(table, expected.concat());
+}
+
+#[test]
+fn a_station_that_left_when_it_was_tested_is_not_live() {
+    let mut table = SUSPECTED_1.concat();
+    let schedule = [1, 0, 1, 3, 1, 3, 1, 1];
+    let (mut tally, mut sheet) = (Tally::default(), [9; 16]);
+    let answer = run(4, &mut table, &mut tally, &schedule, &mut sheet);
+    assert_eq!((answer.refusal, answer.taken), (Some(Refusal::NotLive), 3));
+    let lines = [[0, 1, 5, 0], [3, 2, 1, 0], [3, 1, 3, 0], [9, 9, 9, 9]];
+    assert_eq!(sheet, *lines.concat());
+}
+
+#[test]
+fn only_the_tester_leaves_where_each_suspects_the_other() {
+    let mut lines = SUSPECTED_1;
+    lines[1][4] = 1;
+    let (sheet, table, tally) = after_entry(lines, [1, 0]);
+    assert_eq!((sheet, tally), ([0, 1, 2, 2], one_test(0)));
+    lines[0][..4].copy_from_slice(&[2, 2, 0, 1]);
+    assert_eq!(table, lines.concat());
+}
+
+#[test]
+fn a_suspected_station_whose_reply_is_late_hears_nothing() {
+    let mut expected = SUSPECTED_1;
+    expected[0][..4].copy_from_slice(&[0, 2, 0, 1]);
+    let (sheet, table, _) = after_entry(SUSPECTED_1, [2, 0]);
+    assert_eq!((sheet, table), ([0, 1, 3, 0], expected.concat()));
+}
+
+#[test]
+fn a_suspected_station_that_is_not_live_keeps_its_status() {
+    for (kind, status) in [(1, 1), (1, 2), (1, 3), (2, 1), (2, 2), (2, 3)] {
+        let mut lines = SUSPECTED_1;
+        lines[1][0] = status;
+        let (sheet, table, _) = after_entry(lines, [kind, 0]);
+        lines[0][..4].copy_from_slice(&[0, 2, 0, 1]);
+        assert_eq!((sheet, table), ([0, 1, 3, 0], lines.concat()));
+    }
+}
+
+#[test]
+fn tester_and_tested_station_may_leave_at_once() {
+    // Nobody is live after it, so no round closes, be 1 finished or not.
+    for head in [[1, 0, 0], [2, 1, 1]] {
+        let [next, finished, tests] = head;
+        let lines = [[0, 1, 0, 0, 0, 1], [0, next, finished, tests, 0, 0]];
+        let (sheet, table, tally) = after_entry(lines, [1, 0]);
+        assert_eq!((sheet, tally), ([0, 1, 5, 3], one_test(0)));
+        let expected = [[3, 2, 0, 1, 0, 1], [2, next, finished, tests, 0, 0]];
+        assert_eq!(table, expected.concat());
+    }
+}
+
+#[test]
+fn a_round_closes_when_the_two_unfinished_stations_leave_at_once() {
+    let lines = [
+        [0, 1, 0, 0, 0, 1, 1, 1],
+        [0, 3, 0, 2, 0, 0, 0, 0],
+        [0, 4, 1, 2, 0, 0, 0, 0],
+        [0, 4, 1, 2, 0, 0, 0, 0],
+    ];
+    let (sheet, table, tally) = after_entry(lines, [1, 0]);
+    assert_eq!((sheet, tally), ([0, 1, 5, 3], one_test(1)));
+    let expected = [
+        [3, 1, 0, 0, 0, 1, 1, 1],
+        [2, 1, 0, 0, 0, 0, 0, 0],
+        [0, 1, 0, 0, 0, 0, 0, 0],
+        [0, 1, 0, 0, 0, 0, 0, 0],
+    ];
+    assert_eq!(table, expected.concat());
+}
+
+/// A schedule for a fresh plant of 4: stations 1, 2 and 3 finish their passes;
+/// then 1's reply to 0 is late, 0 finishes its pass and tests 1 again.
+fn late_after_passes() -> Vec<u8> {
+    let passes = [1, 2, 3].map(|station| [1, station].repeat(3));
+    [passes.concat(), vec![2, 0], [1, 0].repeat(4)].concat()
+}
+
+#[test]
+fn a_station_whose_reply_was_late_leaves_in_the_next_round() {
+    let (mut table, schedule) = (fresh(4), late_after_passes());
+    let (mut tally, mut sheet) = (Tally::default(), [9; 56]);
+    let answer = run(4, &mut table, &mut tally, &schedule, &mut sheet);
+    assert_eq!((answer.refusal, answer.taken), (None, 14));
+    assert_eq!((tally.rounds, tally.tests), (1, 10));
+    let of_0 = [
+        [0, 1, 3, 0],
+        [0, 2, 1, 0],
+        [0, 3, 1, 0],
+        [0, 255, 0, 0],
+        [0, 1, 5, 0],
+    ];
+    assert_eq!(sheet[36..], *of_0.concat());
+    let expected = [
+        [0, 2, 0, 1, 0, 1, 0, 0],
+        [2, 1, 0, 0, 0, 0, 0, 0],
+        [0, 1, 0, 0, 0, 1, 0, 0],
+        [0, 1, 0, 0, 0, 1, 0, 0],
+    ];
+    assert_eq!(table, expected.concat());
+}
+
 #[test]
 fn the_row_is_that_very_part_of_the_table() {
     let table = fresh(4);
@@ -266,6 +405,52 @@ fn the_sheet_is_read_line_by_line() {
     // The seventh line was not written: 9 is no outcome.
     assert_eq!(sheet_lines(&sheet, 7).count(), 6);
     assert_eq!(sheet_lines(&sheet[..7], 6).count(), 1);
+}
+
+#[test]
+fn a_line_of_the_sheet_has_one_of_six_outcomes() {
+    let outcome = |number| {
+        let line = SheetLine::from_bytes([0, 1, number, 0]);
+        line.map(|line| line.outcome)
+    };
+    assert_eq!(outcome(5), Some(Outcome::TestedTold));
+    let known = (0..=255).filter(|number| outcome(*number).is_some());
+    assert!(known.eq(0..6));
+}
+
+#[test]
+fn a_line_of_the_sheet_says_who_ceased_to_be_live() {
+    let ceased = |bytes| {
+        let line = SheetLine::from_bytes(bytes).expect("a line");
+        let pairs = line.ceased().map(|(station, status)| (station.0, status));
+        pairs.collect::<Vec<_>>()
+    };
+    for bytes in [[0, 255, 0, 0], [0, 1, 1, 0], [0, 1, 3, 0]] {
+        assert_eq!(ceased(bytes), []);
+    }
+    assert_eq!(ceased([1, 0, 2, 2]), [(1, Status::Told)]);
+    assert_eq!(ceased([0, 1, 3, 3]), [(0, Status::Alone)]);
+    assert_eq!(ceased([1, 255, 4, 1]), [(1, Status::Crashed)]);
+    assert_eq!(ceased([0, 1, 5, 0]), [(1, Status::Told)]);
+    let two = [(1, Status::Told), (0, Status::Alone)];
+    assert_eq!(ceased([0, 1, 5, 3]), two);
+}
+
+#[test]
+fn a_caller_who_follows_the_sheet_has_every_status() {
+    // 1 leaves when it is tested; then 3 crashes, and 2 and 0 leave as alone.
+    let more = [[3, 3], [1, 2], [2, 2], [1, 0], [1, 0]];
+    let schedule = [late_after_passes(), more.concat()].concat();
+    let (mut table, mut sheet) = (fresh(4), [9; 76]);
+    let answer = run(4, &mut table, &mut Tally::default(), &schedule, &mut sheet);
+    assert_eq!((answer.refusal, answer.taken), (None, 19));
+    let mut statuses = [Status::Live; 4];
+    for (station, status) in sheet_lines(&sheet, 19).flat_map(SheetLine::ceased) {
+        statuses[station.0] = status;
+    }
+    assert_eq!(statuses.map(Status::number), [3, 2, 3, 1]);
+    let in_table: Vec<u8> = table.chunks(8).map(|line| line[0]).collect();
+    assert_eq!(in_table, [3, 2, 3, 1]);
 }
 
 #[test]
@@ -356,6 +541,7 @@ fn numbers_are_those_of_the_documents() {
         "2 Told",
         "3 NoReply",
         "4 Crash",
+        "5 TestedTold",
     ];
     assert_eq!(outcomes, expected);
 }
