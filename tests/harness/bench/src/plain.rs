@@ -1,5 +1,5 @@
 //! The run of document 01 in plain Rust over the lent bytes, with the sizes of
-//! request C-11.
+//! request C-11 and step 4 of request C-13.
 //!
 //! Table, schedule and sheet are used as they are lent: nothing is decoded,
 //! and the group order is computed with exclusive or. As the document's steps
@@ -32,6 +32,7 @@ const EXCHANGED: u8 = 1;
 const WAS_TOLD: u8 = 2;
 const NO_REPLY: u8 = 3;
 const CRASH_OUTCOME: u8 = 4;
+const TESTED_TOLD: u8 = 5;
 
 /// Run: refusals 1 to 6, then 7 to 11 at each entry.
 /// The tally is (rounds, tests).
@@ -207,6 +208,9 @@ fn test(n: usize, table: &mut [u8], kind: u8, i: usize, j: usize) -> u8 {
     } else if theirs[HEAD + i] == 1 {
         mine[STATUS] = TOLD;
         WAS_TOLD
+    } else if mine[HEAD + j] == 1 {
+        theirs[STATUS] = TOLD;
+        TESTED_TOLD
     } else {
         exchange(&mut mine[HEAD..], &mut theirs[HEAD..], i, j);
         EXCHANGED

@@ -10,7 +10,7 @@ use crate::{bounds, plain, plain_figures, slowest};
 use shared::groups::{distances, POWERS, SIZES};
 use shared::random::Random;
 use shared::slowest::INPUTS;
-use shared::table::{line_length, table_length, unfinished_stations};
+use shared::table::{line_length, lines, table_length, unfinished_stations, Line, HEAD};
 use simulator::Answer;
 use vcube::{Figures, Fraction, Refusal};
 
@@ -30,6 +30,61 @@ fn compare(
     assert_eq!(table_a, table_b);
     assert_eq!(sheet_a, sheet_b);
     (answer, table_a, sheet_a)
+}
+
+/// A fresh table in which these stations are finished, and each of these pairs
+/// is a station and one that it suspects.
+fn table_with(n: usize, finished: &[usize], suspicions: &[(usize, usize)]) -> Vec<u8> {
+    let mut table = table_with_crashed(n, &[]);
+    for i in finished {
+        table[i * line_length(n) + 1] = distances(n) as u8;
+        table[i * line_length(n) + 2] = 1;
+    }
+    for (i, j) in suspicions {
+        table[i * line_length(n) + HEAD + j] = 1;
+    }
+    table
+}
+
+/// One turn of station 0: its line of the sheet, the statuses after it, and the
+/// rounds closed. No row changes.
+fn turn_of_0(n: usize, table: &[u8]) -> ([u8; 4], Vec<u8>, u32) {
+    let rows = |table: &[u8]| lines(n, table).map(Line::row).collect::<Vec<_>>().concat();
+    let (answer, after, sheet) = compare(n, table, (0, 0), &[1, 0], 4);
+    assert_eq!((answer.number, answer.tests), (0, 1));
+    assert_eq!(rows(&after), rows(table));
+    let sheet = sheet.try_into().expect("a line of the sheet");
+    (sheet, statuses(n, &after), answer.rounds)
+}
+
+fn statuses(n: usize, table: &[u8]) -> Vec<u8> {
+    let lines = table.chunks_exact(line_length(n));
+    lines.map(|line| line[0]).collect()
+}
+
+/// Request C-13, worked out by hand.
+#[test]
+fn a_suspected_station_is_told_by_the_test() {
+    let one_way = table_with(4, &[], &[(0, 1), (1, 2), (3, 1)]);
+    let expected = ([0, 1, 5, 0], vec![0, 2, 0, 0], 0);
+    assert_eq!(turn_of_0(4, &one_way), expected);
+    let both_ways = table_with(4, &[], &[(0, 1), (1, 0)]);
+    let expected = ([0, 1, 2, 2], vec![2, 0, 0, 0], 0);
+    assert_eq!(turn_of_0(4, &both_ways), expected);
+}
+
+/// The same where the tester is alone afterwards: nobody is left, or the
+/// others are finished, or one is not.
+#[test]
+fn a_tester_can_be_alone_behind_a_told_one() {
+    let expected = ([0, 1, 5, 3], vec![3, 2], 0);
+    assert_eq!(turn_of_0(2, &table_with(2, &[], &[(0, 1)])), expected);
+    let closes = table_with(3, &[2], &[(0, 1), (0, 2)]);
+    let expected = ([0, 1, 5, 3], vec![3, 2, 0], 1);
+    assert_eq!(turn_of_0(3, &closes), expected);
+    let stays_open = table_with(3, &[], &[(0, 1), (0, 2)]);
+    let expected = ([0, 1, 5, 3], vec![3, 2, 0], 0);
+    assert_eq!(turn_of_0(3, &stays_open), expected);
 }
 
 /// A random entry: mostly a turn that is taken, sometimes late, seldom a
@@ -63,7 +118,7 @@ fn random_schedule(n: usize, table: &[u8], random: &mut Random) -> Vec<u8> {
 #[test]
 fn random_schedules() {
     let mut random = Random::new(11);
-    let mut outcomes = [0; 5];
+    let mut outcomes = [0; 6];
     let mut statuses = [0; 4];
     for n in SIZES {
         for _ in 0..8 {
@@ -91,8 +146,10 @@ fn schedules_of_the_benchmark() {
         for dead in [0, n / 4, n / 2] {
             let work = Work::new(n, dead.min(n - 2), 1000, &mut random);
             let sheet = 2 * work.schedule.len();
-            let (answer, _, _) = compare(n, &work.table, (0, 0), &work.schedule, sheet);
+            let (answer, after, _) = compare(n, &work.table, (0, 0), &work.schedule, sheet);
             assert_eq!((answer.number, answer.taken), (0, 1000));
+            // Nobody leaves: the dead are those of the start.
+            assert_eq!(statuses(n, &after), statuses(n, &work.table));
         }
     }
 }

@@ -123,7 +123,7 @@ impl Absent {
             return;
         };
         let i = entry.station;
-        let tested = entry.tested.map(|j| i ^ j);
+        let tested = entry.test.map(|test| i ^ test.tested);
         let to = tested.unwrap_or(distances(n));
         let found = [
             tested.is_some_and(|m| m >= n),

@@ -10,12 +10,16 @@ use crate::call::{Call, Kind, Name};
 use crate::cases::Occurred;
 use crate::entries::{self, Answer, Entry};
 use crate::outcome::Outcome;
+use crate::told::Told;
 
 const KINDS: usize = Kind::ALL.len();
 const PLANT_KINDS: usize = Kind::OF_PLANTS.len();
 
 /// Refusals have the numbers from 1 up to but without this one.
 const NUMBERS: usize = 16;
+
+/// Outcomes have the numbers from 0 up to but without this one.
+pub const OUTCOMES: usize = 6;
 
 /// How many sizes there are; the size n has place n - 2.
 pub const SIZES: usize = 63;
@@ -50,8 +54,9 @@ pub struct Counts {
     pub runs: [InRuns; SIZES],
     /// Refusals 7 after an entry was taken: the tally of rounds, that of tests.
     pub full_tallies: [u64; 2],
-    /// Rounds closed by an entry after which its station is crashed, has left
-    /// because told, has left because alone.
+    /// Rounds closed by an entry after which its own station is crashed, has
+    /// left because told, has left because alone. (That a tested one leaves
+    /// closes none unless its tester, which is unfinished, leaves too.)
     pub closed_leaving: [u64; 3],
     /// Replies of live stations that came late.
     pub late_replies: u64,
@@ -64,19 +69,21 @@ pub struct Counts {
     pub empty: [u64; LENGTHS],
     /// What absent numbers bring with them, and sizes that are refused.
     pub absent: Absent,
+    /// Tests in which one station suspects the other.
+    pub told: Told,
     /// The cases of calls about results.
     pub cases: Occurred,
 }
 
 /// What occurred in the runs of one size. For each size, 2 included, every
-/// outcome and every status is possible. For 2, outcome 2 needs a table handed
-/// in with a live station that suspects the other: a run makes none, since
-/// such a station leaves as alone.
+/// outcome and every status is possible. For 2, outcomes 2 and 5 need a table
+/// handed in with a live station that suspects the other: a run makes none,
+/// since such a station leaves as alone.
 #[derive(Clone)]
 pub struct InRuns {
-    /// The outcomes of entries taken, 0 to 4.
-    pub outcomes: [u64; 5],
-    /// The statuses after entries taken, 0 to 3.
+    /// The outcomes of entries taken, 0 to 5.
+    pub outcomes: [u64; OUTCOMES],
+    /// The statuses of their stations afterwards, 0 to 3.
     pub statuses: [u64; 4],
     /// Rounds closed.
     pub rounds: u64,
@@ -94,7 +101,7 @@ impl Counts {
     /// Every count the same.
     pub fn all(count: u64) -> Counts {
         let in_runs = InRuns {
-            outcomes: [count; 5],
+            outcomes: [count; OUTCOMES],
             statuses: [count; 4],
             rounds: count,
         };
@@ -109,6 +116,7 @@ impl Counts {
             kept_tallies: count,
             empty: [count; LENGTHS],
             absent: Absent::all(count),
+            told: Told::all(count),
             cases: Occurred::all(count),
         }
     }
@@ -145,6 +153,7 @@ impl Counts {
         for entry in &entries {
             self.runs[place(call)].add(entry);
             self.absent.add_entry(call.numbers.n, entry);
+            self.told.add_entry(entry);
             self.add_entry(entry);
         }
         self.long_runs += u64::from(answer.taken >= LONG_RUN);
@@ -186,6 +195,7 @@ impl Counts {
         }
         self.require_singly(&mut required);
         self.absent.require(&mut required);
+        self.told.require(&mut required);
         self.cases.require(&mut required);
         required
     }
@@ -279,7 +289,7 @@ impl fmt::Display for Counts {
             let comma = if name == OF_ANY_LENGTH[0] { "" } else { ", " };
             write!(f, "{comma}{} {count}", name.text())?;
         }
-        write!(f, "; {}; {}", self.absent, self.cases)?;
+        write!(f, "; {}; {}; {}", self.absent, self.told, self.cases)?;
         let rarest = self.required().into_iter().min();
         rarest.map_or(Ok(()), |(count, text)| {
             write!(f, "; rarest: {text}: {count}")

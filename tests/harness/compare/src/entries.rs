@@ -1,5 +1,6 @@
 //! What a run's sheet tells of the entries taken.
 
+use shared::groups::distances;
 use shared::schedule::{CRASH, LATE_TURN};
 use shared::table;
 
@@ -8,6 +9,18 @@ use crate::outcome::Outcome;
 
 /// Stands in the sheet where no station was tested.
 const NO_STATION: usize = 255;
+
+// Outcomes.
+const FINISHED: u8 = 0;
+pub const EXCHANGED: u8 = 1;
+pub const TOLD: u8 = 2;
+const NO_REPLY: u8 = 3;
+pub const TESTED_TOLD: u8 = 5;
+
+// Statuses.
+pub const LIVE: u8 = 0;
+pub const LEFT_TOLD: u8 = 2;
+pub const LEFT_ALONE: u8 = 3;
 
 /// The figures of a run's answer.
 #[derive(Clone, Copy, Debug)]
@@ -21,7 +34,7 @@ pub struct Answer {
 #[derive(Clone, Copy, Debug)]
 pub struct Entry {
     pub station: usize,
-    pub tested: Option<usize>,
+    pub test: Option<Test>,
     /// The next distance before a turn; none for a crash.
     pub next_distance: Option<usize>,
     pub outcome: u8,
@@ -30,16 +43,51 @@ pub struct Entry {
     pub late: bool,
     /// Whether the entry closed a round.
     pub closes: bool,
+    /// How many stations there are, and how many are live after the entry.
+    pub stations: usize,
+    pub live: usize,
+}
+
+/// The tested station, and how it stood with the tester before the test.
+#[derive(Clone, Copy, Debug)]
+pub struct Test {
+    pub tested: usize,
+    pub live: bool,
+    pub finished: bool,
+    /// Whether the tester suspected it.
+    pub suspected: bool,
+    /// Whether it suspected the tester.
+    pub suspects: bool,
+    /// Whether the union of both rows has something that the tester's row has
+    /// not; that the tested one's has not.
+    pub news: [bool; 2],
 }
 
 /// What of a line the entries are judged by.
+#[derive(Clone, Debug, PartialEq, Eq)]
 struct Line {
     live: bool,
     next_distance: usize,
     finished: bool,
+    /// The stations that it suspects: a bit for each.
+    row: u64,
 }
 
 impl Line {
+    fn of(line: table::Line) -> Line {
+        let bits = line.row().iter().zip(0..);
+        Line {
+            live: line.is_live(),
+            next_distance: line.next_distance(),
+            finished: line.is_finished(),
+            row: bits.fold(0, |row, (byte, k)| row | (u64::from(*byte) << k)),
+        }
+    }
+
+    fn suspects(&self, station: usize) -> bool {
+        (self.row >> station) & 1 == 1
+    }
+
     fn begin_round(&mut self) {
         self.next_distance = 1;
         self.finished = false;
@@ -55,54 +103,91 @@ pub fn answer(outcome: &Outcome) -> Answer {
     }
 }
 
-/// The entries taken. Only the table handed in, the schedule and the sheet are
-/// looked at.
+/// The entries taken. They are judged by the table handed in, the schedule and
+/// the sheet alone; what these tell must be what the table holds afterwards.
 pub fn taken(call: &Call, outcome: &Outcome, answer: &Answer) -> Vec<Entry> {
     if answer.taken == 0 {
         return Vec::new();
     }
-    let mut lines = lines(call.numbers.n, call.buffers.get(Name::Table));
+    let n = call.numbers.n;
+    let mut lines = lines(n, call.buffers.get(Name::Table));
     let schedule = call.buffers.get(Name::Schedule).chunks_exact(2);
     let sheet = outcome.buffers.get(Name::Sheet).contents().chunks_exact(4);
     let pairs = schedule.zip(sheet).take(answer.taken);
-    pairs
+    let entries = pairs
         .map(|(entry, written)| take(&mut lines, entry, written))
-        .collect()
+        .collect();
+    let after = self::lines(n, outcome.buffers.get(Name::Table).contents());
+    assert_eq!(lines, after, "sheet and table: lines after the entries");
+    entries
 }
 
 fn lines(n: usize, table: &[u8]) -> Vec<Line> {
-    let line = |line: table::Line| Line {
-        live: line.is_live(),
-        next_distance: line.next_distance(),
-        finished: line.is_finished(),
-    };
-    table::lines(n, table).map(line).collect()
+    table::lines(n, table).map(Line::of).collect()
 }
 
 /// Judges one entry and brings the lines up to date.
 fn take(lines: &mut [Line], entry: &[u8], written: &[u8]) -> Entry {
     let [station, tested] = [written[0], written[1]].map(usize::from);
     let (outcome, status) = (written[2], written[3]);
-    let tested = (tested != NO_STATION).then_some(tested);
-    let late = entry[0] == LATE_TURN && tested.is_some_and(|j| lines[j].live);
-    let own = &mut lines[station];
-    let next_distance = (entry[0] != CRASH).then_some(own.next_distance);
-    own.live = status == 0;
-    own.finished |= outcome == 0;
-    own.next_distance = tested.map_or(own.next_distance, |j| (station ^ j) + 1);
+    let test = (tested != NO_STATION).then(|| test_of(lines, station, tested));
+    let late = entry[0] == LATE_TURN && test.is_some_and(|test| test.live);
+    let next_distance = (entry[0] != CRASH).then_some(lines[station].next_distance);
+    if test.is_some() {
+        make_test(lines, station, tested, outcome);
+    } else if outcome == FINISHED {
+        finish(lines, station);
+    }
+    lines[station].live = status == LIVE;
     let closes = is_over(lines);
     if closes {
         lines.iter_mut().for_each(Line::begin_round);
     }
     Entry {
         station,
-        tested,
+        test,
         next_distance,
         outcome,
         status,
         late,
         closes,
+        stations: lines.len(),
+        live: lines.iter().filter(|line| line.live).count(),
     }
+}
+
+fn test_of(lines: &[Line], i: usize, j: usize) -> Test {
+    let union = unions(lines, i, j);
+    Test {
+        tested: j,
+        live: lines[j].live,
+        finished: lines[j].finished,
+        suspected: lines[i].suspects(j),
+        suspects: lines[j].suspects(i),
+        news: [union[0] != lines[i].row, union[1] != lines[j].row],
+    }
+}
+
+/// The union of both rows, first without i, then without j.
+fn unions(lines: &[Line], i: usize, j: usize) -> [u64; 2] {
+    let union = lines[i].row | lines[j].row;
+    [i, j].map(|own| union & !(1 << own))
+}
+
+/// What a test does to the lines by its outcome, but for i's status.
+fn make_test(lines: &mut [Line], i: usize, j: usize, outcome: u8) {
+    lines[i].next_distance = (i ^ j) + 1;
+    match outcome {
+        EXCHANGED => [lines[i].row, lines[j].row] = unions(lines, i, j),
+        NO_REPLY => lines[i].row |= 1 << j,
+        TESTED_TOLD => lines[j].live = false,
+        _ => {}
+    }
+}
+
+fn finish(lines: &mut [Line], i: usize) {
+    lines[i].next_distance = distances(lines.len());
+    lines[i].finished = true;
 }
 
 /// Whether a station is live and all live ones are finished.

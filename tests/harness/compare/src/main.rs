@@ -22,6 +22,8 @@ mod report;
 mod result_faults;
 mod self_test;
 mod size_faults;
+mod told;
+mod told_faults;
 mod trial;
 mod words;
 

@@ -3,12 +3,13 @@
 use shared::random::Random;
 
 use crate::call::{Kind, Name};
-use crate::counts::{Counts, LEAST, LENGTHS, SIZES};
+use crate::counts::{Counts, LEAST, LENGTHS, OUTCOMES, SIZES};
 use crate::faults::{self, Fault};
 use crate::outcome::{Outcome, Place, Side};
 use crate::report;
 use crate::result_faults;
 use crate::size_faults;
+use crate::told_faults;
 use crate::trial::Trial;
 
 /// How many calls are altered.
@@ -51,6 +52,7 @@ pub fn self_test(seed: u64) -> Result<usize, String> {
 /// else than the right outcome, and somewhere. Gives how often they were.
 fn stand_in(seed: u64) -> Result<usize, String> {
     let of_plants = faults::ALL.into_iter().chain(size_faults::ALL);
+    let of_plants = of_plants.chain(told_faults::ALL);
     let faults: Vec<Fault> = of_plants.chain(result_faults::ALL).collect();
     let mut noticed = vec![0; faults.len()];
     for number in 1..=FAULTY_CALLS {
@@ -177,6 +179,7 @@ fn lowered_counts() -> Vec<Counts> {
     all.lower_by_size();
     all.lower_singly();
     all.lower_absent();
+    all.lower_told();
     all.lower_cases();
     all.0
 }
@@ -200,7 +203,7 @@ impl Lowered {
             }
         }
         for size in 0..SIZES {
-            for outcome in 0..5 {
+            for outcome in 0..OUTCOMES {
                 self.lower(|counts| &mut counts.runs[size].outcomes[outcome]);
             }
             for status in 0..4 {
@@ -245,6 +248,13 @@ impl Lowered {
         }
         for turn in 0..3 {
             self.lower(|counts| &mut counts.absent.turns[turn]);
+        }
+    }
+
+    /// Tests in which one station suspects the other.
+    fn lower_told(&mut self) {
+        for case in 0..Counts::all(0).told.0.len() {
+            self.lower(|counts| &mut counts.told.0[case]);
         }
     }
 

@@ -11,6 +11,7 @@ const FINISHED: &str = " - 0 0\n";
 const EXCHANGED: &str = " 1 0\n";
 const NO_REPLY: &str = " 3 0\n";
 const CRASHED: &str = " - 4 1\n";
+const TESTED_TOLD: &str = " 5 0\n";
 
 type Alter = fn(&mut Run);
 
@@ -51,6 +52,8 @@ const ALTERATIONS: [(Problem, &[Alter]); 6] = [
             |run| run.edit(NO_REPLY, " 3 3\n"),
             |run| run.edit(EXCHANGED, NO_REPLY),
             |run| run.edit(NO_REPLY, EXCHANGED),
+            |run| run.edit(EXCHANGED, TESTED_TOLD),
+            |run| run.edit(NO_REPLY, TESTED_TOLD),
             Run::wake_dead,
             Run::finish_twice,
         ],

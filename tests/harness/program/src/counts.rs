@@ -42,9 +42,9 @@ pub struct Counts {
     pub refused_sizes: [u64; BEYOND_BYTE + 1],
     /// Tests at a distance of n or more; tests where an absent number is ahead.
     pub absent: [u64; 2],
-    /// The outcomes of entries taken, 0 to 4.
-    pub outcomes: [u64; 5],
-    /// The statuses after entries taken, 0 to 3.
+    /// The outcomes of entries taken, 0 to 5.
+    pub outcomes: [u64; 6],
+    /// The statuses of their stations afterwards, 0 to 3.
     pub statuses: [u64; 4],
     /// Rounds closed.
     pub rounds: u64,
@@ -69,7 +69,7 @@ impl Counts {
             sizes: [count; 63],
             refused_sizes: [count; BEYOND_BYTE + 1],
             absent: [count; 2],
-            outcomes: [count; 5],
+            outcomes: [count; 6],
             statuses: [count; 4],
             rounds: count,
             full: count,

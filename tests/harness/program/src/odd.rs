@@ -1,5 +1,6 @@
 //! Odd inputs and what must be printed for each. The outputs are written by
-//! hand from document 01 and docs/DECISIONS.md, not taken from a program.
+//! hand from document 01, the requests of document 02 and docs/DECISIONS.md, not
+//! taken from a program.
 
 use crate::printed::HEADER;
 
@@ -299,6 +300,48 @@ const READ: &[(&str, &[u8], &str, &str)] = &[
         b"3\nL 0\nL 0\nL 0\n",
         "0 1 3 0\n0 2 3 3\n",
         "rounds 0 tests 2 refused 10 at 2\n",
+    ),
+    (
+        "a suspected board is told by the next test of it",
+        b"4\nT 1\nT 1\nT 1\nT 2\nT 2\nT 2\nT 3\nT 3\nT 3\n\
+          L 0\nT 0\nT 0\nT 0\nT 0\nT 1\n",
+        "1 0 1 0\n1 3 1 0\n1 - 0 0\n2 3 1 0\n2 0 1 0\n2 - 0 0\n3 2 1 0\n3 1 1 0\n3 - 0 0\n\
+         0 1 3 0\n0 2 1 0\n0 3 1 0\n0 - 0 0\n0 1 5 0\n",
+        "rounds 1 tests 10 refused 10 at 14\n",
+    ),
+    (
+        "the same where each suspects the other",
+        b"4\nT 1\nT 1\nT 1\nT 2\nT 2\nT 2\nT 3\nT 3\nT 3\n\
+          L 0\nT 0\nT 0\nT 0\nL 1\nT 0\nT 0\n",
+        "1 0 1 0\n1 3 1 0\n1 - 0 0\n2 3 1 0\n2 0 1 0\n2 - 0 0\n3 2 1 0\n3 1 1 0\n3 - 0 0\n\
+         0 1 3 0\n0 2 1 0\n0 3 1 0\n0 - 0 0\n1 0 3 0\n0 1 2 2\n",
+        "rounds 1 tests 11 refused 10 at 15\n",
+    ),
+    (
+        "a round closes without a board that was told",
+        b"4\nL 0\nT 0\nT 0\nT 0\nT 3\nT 3\nT 3\nT 2\nT 2\nT 2\nT 2\nT 1\n",
+        "0 1 3 0\n0 2 1 0\n0 3 1 0\n0 - 0 0\n3 2 1 0\n3 1 5 0\n3 - 0 0\n\
+         2 3 1 0\n2 0 1 0\n2 - 0 0\n2 3 1 0\n",
+        "rounds 1 tests 8 refused 10 at 11\n",
+    ),
+    (
+        "a board of 3 is told by one that never missed its reply",
+        b"3\nL 0\nT 0\nT 2\nT 2\nT 1\n",
+        "0 1 3 0\n0 2 1 0\n2 0 1 0\n2 1 5 0\n",
+        "rounds 0 tests 4 refused 10 at 4\n",
+    ),
+    (
+        "the same where its reply comes late",
+        b"3\nL 0\nT 0\nT 2\nL 2\nT 1\n",
+        "0 1 3 0\n0 2 1 0\n2 0 1 0\n2 1 3 0\n1 0 2 2\n",
+        "rounds 0 tests 5 refused 0 at 5\n",
+    ),
+    (
+        "a board of 3 is told behind its pass, then tested again",
+        b"3\nT 1\nT 1\nL 0\nT 0\nT 2\nT 2\nT 0\nT 2\nT 2\nT 2\nC 1\n",
+        "1 0 1 0\n1 - 0 0\n0 1 3 0\n0 2 1 0\n2 0 1 0\n2 1 5 0\n0 - 0 0\n2 - 0 0\n\
+         2 0 1 0\n2 1 3 0\n",
+        "rounds 1 tests 7 refused 10 at 10\n",
     ),
     (
         "the pass of station 4 of 5",

@@ -190,7 +190,7 @@ fn lowered_counts() -> Vec<Counts> {
     for test in 0..2 {
         lower(&|counts| &mut counts.absent[test]);
     }
-    for outcome in 0..5 {
+    for outcome in 0..6 {
         lower(&|counts| &mut counts.outcomes[outcome]);
     }
     for status in 0..4 {

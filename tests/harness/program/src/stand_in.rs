@@ -26,10 +26,12 @@ pub enum Fault {
     Dummies,
     /// A size is cut to a byte.
     CutSize,
+    /// Outcome 5 is printed as 1.
+    Untold,
 }
 
 impl Fault {
-    pub const ALL: [Fault; 11] = [
+    pub const ALL: [Fault; 12] = [
         Fault::None,
         Fault::ByteChanged,
         Fault::ByteMissing,
@@ -41,12 +43,14 @@ impl Fault {
         Fault::PowersOnly,
         Fault::Dummies,
         Fault::CutSize,
+        Fault::Untold,
     ];
 
     /// Whether it shows on some inputs only.
     pub fn is_seldom(self) -> bool {
         match self {
-            Fault::FirstRead | Fault::PowersOnly | Fault::Dummies | Fault::CutSize => true,
+            Fault::FirstRead | Fault::PowersOnly | Fault::Dummies => true,
+            Fault::CutSize | Fault::Untold => true,
             Fault::None | Fault::ByteChanged | Fault::ByteMissing | Fault::ByteMore => false,
             Fault::Silent | Fault::Fails | Fault::Endless => false,
         }
@@ -75,6 +79,7 @@ impl Fault {
             Fault::PowersOnly => "powers-only",
             Fault::Dummies => "dummies",
             Fault::CutSize => "cut-size",
+            Fault::Untold => "untold",
         }
     }
 }
@@ -98,7 +103,11 @@ pub fn run(fault: Fault) -> ExitCode {
 
 fn respond(fault: Fault) -> io::Result<()> {
     let input = change_size(read(fault)?, fault);
-    let mut output = simulator::program::respond(&input).into_bytes();
+    let mut output = simulator::program::respond(&input);
+    if fault == Fault::Untold {
+        output = output.replace(" 5 0\n", " 1 0\n");
+    }
+    let mut output = output.into_bytes();
     match fault {
         Fault::ByteChanged => {
             let place = input.len() % output.len();

@@ -63,6 +63,10 @@ fn by_the_rules(size: Size, random: &mut Random) -> Vec<u8> {
         table.extend(line(size, own, &weights, random));
     }
     reopen_one(&mut table, size, random);
+    // More often in a small plant, whose runs end after few tests.
+    if random.once_in(2 + size / 8) {
+        isolate_one(&mut table, size, random);
+    }
     table
 }
 
@@ -93,12 +97,54 @@ fn reopen_one(table: &mut [u8], size: Size, random: &mut Random) {
     }
 }
 
+/// A station that can take a turn comes to suspect all others, so that it
+/// leaves at its next test, whatever the reply. Mostly nobody suspects it.
+/// Often the others are finished, or only the one that it tests is live.
+fn isolate_one(table: &mut [u8], size: Size, random: &mut Random) {
+    let unfinished = unfinished_stations(size, table);
+    if unfinished.is_empty() {
+        return;
+    }
+    let station = random.pick(&unfinished);
+    let next = random.between(1, distances(size) - 1);
+    let tested = first_from(next, size, station);
+    let (unsuspected, others) = (!random.once_in(4), random.below(3));
+    let lines = table.chunks_exact_mut(line_length(size)).enumerate();
+    for (own, line) in lines {
+        match others {
+            _ if own == station => suspect_all(line, next),
+            0 => finish(line, size),
+            1 if Some(own) == tested => line[0] = 0,
+            1 => line[0] = random.between(1, 3) as u8,
+            _ => {}
+        }
+        if own == station || unsuspected {
+            line[HEAD + station] = 0;
+        }
+    }
+}
+
+/// The first station from a distance on. One that suspects all others tests it.
+fn first_from(distance: usize, size: Size, station: usize) -> Option<usize> {
+    let mut others = (distance..distances(size)).map(|m| station ^ m);
+    others.find(|other| *other < size)
+}
+
+fn suspect_all(line: &mut [u8], next: usize) {
+    line[1..HEAD].copy_from_slice(&[next as u8, 0, 0]);
+    line[HEAD..].fill(1);
+}
+
+fn finish(line: &mut [u8], size: Size) {
+    line[1] = distances(size) as u8;
+    line[2] = 1;
+}
+
 /// Every live line becomes finished, so that refusal 4 applies if one is live.
 fn finish_all_live(table: &mut [u8], size: Size) {
     for line in table.chunks_exact_mut(line_length(size)) {
         if line[0] == 0 {
-            line[1] = distances(size) as u8;
-            line[2] = 1;
+            finish(line, size);
         }
     }
 }
