@@ -32,21 +32,6 @@ rounds 1 tests 3 refused 10 at 6
     assert_eq!(simulate(input), expected);
 }
 
-#[test]
-fn tested_station_leaves() {
-    let expected = "\
-station tested outcome status
-0 1 3 0
-0 2 1 0
-0 3 1 0
-3 2 1 0
-3 1 5 0
-rounds 0 tests 5 refused 10 at 5
-";
-    let input = b"4\nL 0\nT 0\nT 0\nT 3\nT 3\nT 1\n";
-    assert_eq!(simulate(input), expected);
-}
-
 /// samples/late-reply.expected was worked out by hand.
 #[test]
 fn late_reply_of_8_stations() {

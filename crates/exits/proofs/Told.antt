@@ -16,13 +16,13 @@ use Rattle.station.proofs.BoolLaws.{choice}
 use Rattle.station.proofs.SearchLaws.{both, every-not}
 use Rattle.station.proofs.Refusals.{Accepted, accepted}
 use Rattle.station.proofs.CellLaws.{cell-same, cell-other, accepted-line}
-use Rattle.plant.specs.Turn.{kindTurn, outcomeExchanged, outcomeTold, outcomeTestedTold, statusTold, statusAlone, setStatus, nextTest, makesTest, countTest, replies, isTold, exchangeRows, replyOutcome, testOutcome, afterOutcome, afterTest, selfOrSuspected, isAlone, afterAlone, testing, turn, turnTested, turnOutcome, afterRound}
+use Rattle.plant.specs.Turn.{kindTurn, outcomeExchanged, outcomeTold, outcomeTestedTold, statusTold, statusAlone, setStatus, nextTest, makesTest, countTest, replies, isTold, exchangeRows, replyOutcome, testOutcome, afterOutcome, selfOrSuspected, isAlone, afterAlone, testing, turn, turnTested, turnOutcome, afterRound}
 use Rattle.plant.specs.Entry.{Entry, State, isCrash, acted, after, testedOf, outcomeOf}
 use Rattle.plant.proofs.NextTest.{nextTest-low, test-below, test-station}
 use Rattle.plant.proofs.StepCells.{countTest-other, exchange-other, exchange-tester, exchange-tested, reset-other}
 use Rattle.plant.proofs.StepLines.{Lines, countTest-lines, station-apart}
 use Rattle.plant.proofs.Kept.{Takes, entry-facts}
-use Rattle.exits.specs.Exits.{Replied, SameRows, NeitherSuspects, Heard, TestedHears}
+use Rattle.exits.specs.Exits.{Replied, SameRows, NeitherSuspects, TestedHears}
 
 -- steps 6 and 8 write bytes 1 to 3, and the status of i if it is alone
 module _ (n i : ℕ) (v : List ℕ) where
