@@ -2,27 +2,29 @@
 -- Assumes nothing.
 use mathlib.Core.Path.{_≡_, refl, sym, _∙_}
 use mathlib.Core.Logic.{_≢_, by-cases}
-use mathlib.Core.Bool.{true, false, not, and-false}
+use mathlib.Core.Bool.{true, false, cond, not, and-false}
 use mathlib.Core.List.{List}
-use Prim.Native.Nat.{ℕ, _+_, _<_}
+use Prim.Native.Nat.{ℕ, _+_, max, _<_}
 use native.Mathlib.Decide.{ℕ-discrete}
 use native.Mathlib.Omega.{arith}
 use borrow.Author.Tests.{eqb-true, eqb-false, ne-eqb, not-true}
 use lib.Dec.{eqb}
+use lib.ListN.{length}
+use Rattle.station.specs.Search.{every}
 use Rattle.station.specs.Groups.{stationAt}
-use Rattle.station.specs.Table.{head, stride, cell, statusColumn, nextColumn, finishedColumn, testsColumn, status, suspects, live}
+use Rattle.station.specs.Table.{head, stride, tableLength, cell, statusColumn, nextColumn, finishedColumn, testsColumn, status, suspects, live}
 use Rattle.station.specs.Rules.{roundOver}
-use Rattle.station.proofs.BoolLaws.{choice}
+use Rattle.station.proofs.BoolLaws.{by-bool, choice, every-same}
 use Rattle.station.proofs.SearchLaws.{both, every-not}
 use Rattle.station.proofs.Refusals.{Accepted, accepted}
-use Rattle.station.proofs.CellLaws.{cell-same, cell-other, accepted-line}
+use Rattle.station.proofs.CellLaws.{cell-same, cell-other, setCell-length, accepted-line}
 use Rattle.plant.specs.Turn.{kindTurn, outcomeExchanged, outcomeTold, outcomeTestedTold, statusTold, statusAlone, setStatus, nextTest, makesTest, countTest, replies, isTold, exchangeRows, replyOutcome, testOutcome, afterOutcome, selfOrSuspected, isAlone, afterAlone, testing, turn, turnTested, turnOutcome, afterRound}
 use Rattle.plant.specs.Entry.{Entry, State, isCrash, acted, after, testedOf, outcomeOf}
 use Rattle.plant.proofs.NextTest.{nextTest-low, test-below, test-station}
-use Rattle.plant.proofs.StepCells.{countTest-other, exchange-other, exchange-tester, exchange-tested, reset-other}
+use Rattle.plant.proofs.StepCells.{countTest-other, exchange-other, exchange-tester, exchange-tested, exchange-tester-own, exchange-tested-own, reset-other}
 use Rattle.plant.proofs.StepLines.{Lines, countTest-lines, station-apart}
 use Rattle.plant.proofs.Kept.{Takes, entry-facts}
-use Rattle.exits.specs.Exits.{Replied, SameRows, NeitherSuspects, TestedHears}
+use Rattle.exits.specs.Exits.{Replied, SameRows, RowsJoined, NeitherSuspects, TestedHears}
 
 -- steps 6 and 8 write bytes 1 to 3, and the status of i if it is alone
 module _ (n i : ℕ) (v : List ℕ) where
@@ -40,6 +42,12 @@ module _ (n i : ℕ) (v : List ℕ) where
   later-other k c h out own =
       later-round k c h out
       ∙ choice (λ (t : List ℕ). cell n t k c ≡ cell n v k c) (isAlone n v i) (cell-other n v i statusColumn statusAlone k c (omega arith) h (λ q r. own q (sym r))) refl
+
+  later-alone : length v ≡ tableLength n → i < n → status n v i ≡ 0 → status n later i ≡ cond (isAlone n v i) statusAlone 0
+  unfolding afterAlone
+  later-alone long hi l =
+      later-round i statusColumn (omega arith) (omega arith)
+      ∙ by-bool (isAlone n v i) (λ e. rw e (cell-same n v i statusColumn statusAlone long hi (omega arith))) (λ e. rw e l)
 
   later-stays : isAlone n v i ≡ false → status n later i ≡ status n v i
   unfolding afterAlone
@@ -100,10 +108,6 @@ module _ (n : ℕ) (s : State) (e : Entry) (r : Replied n s e) where
   unfolding testedOf turnTested
   tested-is = rw (no-crash, tests)
 
-  j-live : status n t j ≡ 0
-  unfolding replies
-  j-live = eqb-true (status n t j) 0 (both (live n t j) (eqb (e .kind) kindTurn) (rw tested-is at (r .reply)) .0)
-
   -- the outcome is that of a reply, and the table what steps 4, 6 and 8 make of it
   outcome-is : outcomeOf n t e ≡ replyOutcome n u i j
   unfolding outcomeOf turnOutcome testOutcome replies
@@ -112,6 +116,13 @@ module _ (n : ℕ) (s : State) (e : Entry) (r : Replied n s e) where
   after-is : after n s e .table ≡ later n i (afterOutcome n u i j (outcomeOf n t e))
   unfolding after acted turn testing outcomeOf turnOutcome
   after-is = rw (no-crash, tests)
+
+  j-live : status n t j ≡ 0
+  unfolding replies
+  j-live = eqb-true (status n t j) 0 (both (live n t j) (eqb (e .kind) kindTurn) (rw tested-is at (r .reply)) .0)
+
+  i-live : status n t i ≡ 0
+  i-live = eqb-true (status n t i) 0 (facts .isLive)
 
   -- where a station leaves, no row changes
   left-rows : (k x : ℕ) → SameRows n t (later n i (setStatus n u k x))
@@ -148,39 +159,63 @@ module _ (n : ℕ) (s : State) (e : Entry) (r : Replied n s e) where
 
   -- outcome 5
   tested-leaves : suspects n t j i ≡ 0 → suspects n t i j ≡ 1
-      → (outcomeOf n t e ≡ outcomeTestedTold) × (status n (after n s e .table) j ≡ statusTold) × SameRows n t (after n s e .table)
-  unfolding afterOutcome
+      → (outcomeOf n t e ≡ outcomeTestedTold)
+      × (status n (after n s e .table) j ≡ statusTold)
+      × SameRows n t (after n s e .table)
+      × (status n (after n s e .table) i ≡ cond (every (selfOrSuspected n t i) n) statusAlone 0)
+  unfolding afterOutcome isAlone selfOrSuspected
   tested-leaves w x =
       let v : List ℕ = setStatus n u j statusTold in
       let q = tested-told w x in
       let a : after n s e .table ≡ later n i v = rw q at after-is in
       let its : status n (later n i v) j ≡ statusTold =
       later-other n i v j statusColumn (omega arith) (omega arith) (λ p. absurd (apart p)) ∙ cell-same n u j statusColumn statusTold (lines .0) hj (omega arith) in
-      (q, rw a its, rw a (left-rows j statusTold))
+      let mine : status n v i ≡ 0 =
+      cell-other n u j statusColumn statusTold i statusColumn (omega arith) (omega arith) (λ p. absurd (apart (sym p))) ∙ (counted i statusColumn (omega arith) (omega arith) ∙ i-live) in
+      let others : every (selfOrSuspected n v i) n ≡ every (selfOrSuspected n t i) n =
+      every-same (selfOrSuspected n v i) (selfOrSuspected n t i) n
+      (λ k h. rw (cell-other n u j statusColumn statusTold i (head + k) (omega arith) (omega arith) (λ _. omega arith) ∙ row-counted i k h)) in
+      let alone : isAlone n v i ≡ every (selfOrSuspected n t i) n = rw (mine, others) in
+      (q, rw a its, rw a (left-rows j statusTold), rw a (later-alone n i v (setCell-length n u j statusColumn statusTold ∙ lines .0) hi mine ∙ rw alone))
+
+  -- where neither suspects the other, the exception for a station's own byte makes no difference to the union
+  joined-tester : NeitherSuspects n t i j → (x : ℕ) → x < n → suspects n (exchangeRows n u i j) i x ≡ max (suspects n t i x) (suspects n t j x)
+  joined-tester w x h =
+      by-cases (ℕ-discrete x i)
+      (λ q. rw q (omega (arith, exchange-tester-own n u i (lines .0) hi j hj apart, lines .1 i hi .own, lines₀ .1 i hi .own, w .1)))
+      (λ d. omega (arith, exchange-tester n u i (lines .0) hi j hj apart x h d, row-counted i x h, row-counted j x h))
+
+  joined-tested : NeitherSuspects n t i j → (x : ℕ) → x < n → suspects n (exchangeRows n u i j) j x ≡ max (suspects n t j x) (suspects n t i x)
+  joined-tested w x h =
+      by-cases (ℕ-discrete x j)
+      (λ q. rw q (omega (arith, exchange-tested-own n u i (lines .0) hi j hj apart, lines .1 j hj .own, lines₀ .1 j hj .own, w .0)))
+      (λ d. omega (arith, exchange-tested n u i (lines .0) hi j hj apart x h d, row-counted i x h, row-counted j x h))
 
   -- outcome 1: i does not suspect j afterwards, and so is not alone
   both-stay : NeitherSuspects n t i j
-      → (outcomeOf n t e ≡ outcomeExchanged) × (live n (after n s e .table) i ≡ true) × (live n (after n s e .table) j ≡ true) × NeitherSuspects n (after n s e .table) i j
+      → (outcomeOf n t e ≡ outcomeExchanged) × (live n (after n s e .table) i ≡ true) × (live n (after n s e .table) j ≡ true) × RowsJoined n t (after n s e .table) i j
   unfolding afterOutcome isAlone selfOrSuspected
   both-stay w =
       let v : List ℕ = exchangeRows n u i j in
       let q = none-told w in
       let a : after n s e .table ≡ later n i v = rw q at after-is in
-      let mine : suspects n v i j ≡ 0 =
-      omega (arith, exchange-tester n u i (lines .0) hi j hj apart j hj (λ p. apart (sym p)), row-counted i j hj, w .0, lines .1 j hj .own) in
-      let its : suspects n v j i ≡ 0 = omega (arith, exchange-tested n u i (lines .0) hi j hj apart i hi apart, row-counted j i hi, w .1, lines .1 i hi .own) in
+      let mine : suspects n v i j ≡ 0 = omega (arith, joined-tester w j hj, w .0, lines₀ .1 j hj .own) in
       let fails : selfOrSuspected n v i j ≡ false = rw (ne-eqb j i (λ p. apart (sym p)), mine) in
       let company : isAlone n v i ≡ false = rw (every-not (selfOrSuspected n v i) n j hj fails, and-false) in
       let same : (k : ℕ) → status n v k ≡ status n t k =
       λ k. exchange-other n u i (lines .0) hi j hj apart k statusColumn (omega arith) (λ _. omega arith) (λ _. omega arith) ∙ counted k statusColumn (omega arith) (omega arith) in
-      let i-live : status n (later n i v) i ≡ 0 = later-stays n i v company ∙ (same i ∙ eqb-true (status n t i) 0 (facts .isLive)) in
-      let j-stays : status n (later n i v) j ≡ 0 = later-other n i v j statusColumn (omega arith) (omega arith) (λ p. absurd (apart p)) ∙ (same j ∙ j-live) in (
+      let i-stays : status n (later n i v) i ≡ 0 = later-stays n i v company ∙ (same i ∙ i-live) in
+      let j-stays : status n (later n i v) j ≡ 0 = later-other n i v j statusColumn (omega arith) (omega arith) (λ p. absurd (apart p)) ∙ (same j ∙ j-live) in
+      let kept : (k x : ℕ) → x < n → suspects n (later n i v) k x ≡ suspects n v k x =
+      λ k x h. later-other n i v k (head + x) (omega arith) (omega arith) (λ _. omega arith) in (
         q,
-        rw (a, i-live),
+        rw (a, i-stays),
         rw (a, j-stays),
         rw a (
-          later-other n i v i (head + j) (omega (arith, hj)) (omega arith) (λ _. omega arith) ∙ mine,
-          later-other n i v j (head + i) (omega (arith, hi)) (omega arith) (λ _. omega arith) ∙ its,
+          λ x h. kept i x h ∙ joined-tester w x h,
+          λ x h. kept j x h ∙ joined-tested w x h,
+          λ k x hk h c d. kept k x h
+              ∙ (exchange-other n u i (lines .0) hi j hj apart k (head + x) (omega arith) (λ p. absurd (c p)) (λ p. absurd (d p)) ∙ row-counted k x h),
         ),
       )
 
@@ -191,7 +226,10 @@ module _ (n : ℕ) (s : State) (e : Entry) (r : Replied n s e) where
       (λ w.
       let w′ : suspects n t j i ≡ 0 = omega (arith, lines₀ .1 j hj .range i hi) in
       by-cases (ℕ-discrete (suspects n t i j) 1) (λ x. absurd (omega (arith, eqb-true (status n (after n s e .table) j) 0 b, tested-leaves w′ x .1)))
-      (λ x. both-stay (omega (arith, lines₀ .1 i hi .range j hj), w′) .3))
+      (λ x.
+      let x′ : suspects n t i j ≡ 0 = omega (arith, lines₀ .1 i hi .range j hj) in
+      let z = both-stay (x′, w′) .3 in
+      (omega (arith, z .0 j hj, lines₀ .1 j hj .own), omega (arith, z .1 i hi, lines₀ .1 i hi .own))))
 
 -- the claim, an end in itself
 pub tested-hears : TestedHears
