@@ -1,5 +1,4 @@
 -- The laws that the proofs of `station` share, and that the crates above cite.
-pub mod TableRule
 pub mod Xor
 pub mod BoolLaws
 pub mod SearchLaws
