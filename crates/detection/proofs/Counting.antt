@@ -27,7 +27,7 @@ use Rattle.station.proofs.BoolLaws.{by-bool, choice, bit-split, every-same}
 use Rattle.station.proofs.SumLaws.{sum-by, sum-add, sum-single}
 use Rattle.detection.specs.Claim.{TurnsOk}
 use Rattle.detection.proofs.TakenLaws.{takenAt, any-one, count-snoc, nth-snoc-turn, nth-snoc-other}
-use Rattle.detection.proofs.TurnHeads.{Heads}
+use Rattle.plant.proofs.TurnHeads.{Heads}
 
 -- from t₀ to t, by the entries `cur`
 pub record Counts (n : ℕ) (t₀ : List ℕ) (cur : List Taken) (t : List ℕ) : Type 0 where

@@ -30,7 +30,7 @@ use Rattle.detection.proofs.Pass.{Round, wider}
 use Rattle.detection.proofs.Detected.{detected}
 use Rattle.detection.proofs.Chain.{Chain, done, more}
 use Rattle.detection.proofs.Counting.{turn-counts, turn-roomy, turns-ok, closes-is}
-use Rattle.detection.proofs.TurnHeads.{turn-heads}
+use Rattle.plant.proofs.TurnHeads.{turn-heads}
 use Rattle.detection.proofs.TurnEffect.{Company, turn-effect}
 use Rattle.detection.proofs.Knowledge.{LiveOf, RowOf, Exact, Knows, turn-knows}
 use Rattle.detection.proofs.Closing.{InRound, restart, RoundStep, round-step, round-count}

@@ -26,7 +26,7 @@ use Rattle.station.proofs.BoolLaws.{by-bool}
 use Rattle.station.proofs.SumLaws.{sum-by, sum-zero}
 use Rattle.detection.proofs.Count.{leads, leads-zero, leads-same}
 use Rattle.detection.proofs.DueLaw.{unsuspected-at, unsuspected-absent, due-holds}
-use Rattle.detection.proofs.TurnHeads.{Heads, passed-dues}
+use Rattle.plant.proofs.TurnHeads.{Heads, passed-dues}
 use Rattle.detection.proofs.Near.{Member, Ahead, member-distance}
 use Rattle.detection.proofs.Pass.{InPass, had, stays, finds, hears, Tests}
 use Rattle.detection.proofs.TurnEffect.{Plain, Grown, Row, Tested, tested-more, Turned}

@@ -7,7 +7,6 @@ pub mod Spread
 pub mod Detected
 pub mod Count
 pub mod DueLaw
-pub mod TurnHeads
 pub mod TurnEffect
 pub mod TakenLaws
 pub mod Counting

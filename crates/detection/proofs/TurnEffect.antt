@@ -18,7 +18,7 @@ use Rattle.plant.proofs.StepCells.{finishPass-other, countTest-other, suspect-s
 use Rattle.plant.proofs.StepLines.{Lines, finishPass-lines, countTest-lines, suspect-lines, exchange-lines, station-apart}
 use Rattle.plant.proofs.NextTest.{nextTest-low, not-due-before, test-below, test-station, none-due}
 use Rattle.station.proofs.BoolLaws.{by-bool}
-use Rattle.detection.proofs.TurnHeads.{turn-heads}
+use Rattle.plant.proofs.TurnHeads.{turn-heads}
 
 -- a table that obeys the line rules, with live set L, in which no live station suspects a live one
 pub record Plain (n : ℕ) (L : ℕ → Bool) (t : List ℕ) : Type 0 where

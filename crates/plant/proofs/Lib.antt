@@ -4,5 +4,6 @@ pub mod StepCells
 pub mod StepLines
 pub mod IterateLaws
 pub mod RowLaws
+pub mod TurnHeads
 pub mod RunLaws
 pub mod Kept

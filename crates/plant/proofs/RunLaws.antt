@@ -104,6 +104,16 @@ module _ (n k : ℕ) (s : State) (sheet schedule : List ℕ) where
   unfolding goOn
   go-done h = rw (drop-of-length-le (entries schedule) {i = k} (omega (arith, entries-length schedule)))
 
+-- a run of one entry, which is taken
+pub start-one : (n : ℕ) (t : List ℕ) → tableNumber n t ≡ 0 → startNumber n t 2 4 ≡ 0
+unfolding startNumber
+start-one n t z = rw z
+
+pub go-one : (n : ℕ) (s : State) (sheet : List ℕ) (k i : ℕ) → entryNumber n s (entryOf k i) ≡ 0
+    → goOn n 0 s sheet (entries (k ∷ i ∷ [])) .state ≡ after n s (entryOf k i)
+unfolding goOn entries
+go-one n s sheet k i z = rw z
+
 -- what a run has that refusals 1 to 6 let through
 pub start-facts : (n : ℕ) (t : List ℕ) (a b : ℕ) → startNumber n t a b ≡ 0 → Accepted n t × (a % 2 ≡ 1 → ⊥) × (b ≡ 2 * a)
 unfolding startNumber

@@ -37,6 +37,10 @@ entryOf k i = record { kind = k; station = i }
 abbrev pub tallyTop : ℕ
 tallyTop = 4294967295
 
+-- refusal 7: "Either tally stands at 4,294,967,295"
+abbrev pub tallyFull : ℕ → ℕ → Bool
+tallyFull rounds tests = eqb rounds tallyTop || eqb tests tallyTop
+
 -- whether the entry is a crash, and whether it is a turn that makes a test
 abbrev pub isCrash : Entry → Bool
 isCrash e = eqb (e .kind) kindCrash
@@ -48,7 +52,7 @@ isTest n t e = not (isCrash e) && makesTest n t (e .station)
 -- N or more." "The station is not live." "The kind is 1 or 2 and the station has finished its pass."
 unfoldable pub entryNumber : ℕ → State → Entry → ℕ
 entryNumber n s e =
-    refuse 7 (eqb (s .rounds) tallyTop || eqb (s .tests) tallyTop) else
+    refuse 7 (tallyFull (s .rounds) (s .tests)) else
     refuse 8 (not (leb 1 (e .kind) && leb (e .kind) 3)) else
     stationRefusal n (e .station) else
     refuse 10 (not (live n (s .table) (e .station))) else

@@ -10,6 +10,7 @@ use crate::Tally;
 use crate::codes;
 use crate::inside;
 use crate::rounds;
+use crate::single;
 use crate::turn;
 use crate::turn::Turned;
 use station::Station;
@@ -20,7 +21,7 @@ pub(crate) fn entry_number(n: u8, table: &[u8], tally: Tally, kind: u8, i: Stati
     requires { ⌜ length (now table) ≡ tableLength n ⌝ }
     ensures { λ r. ⌜ r ≡ entryNumber n (stateWith (now (table .entry)) tally) (entryOf kind (i .0)) ⌝ }
 {
-    if (tally.rounds == codes::TALLY_TOP) | (tally.tests == codes::TALLY_TOP) {
+    if single::is_full(tally) {
         return 7;
     }
     if !((codes::TURN <= kind) & (kind <= codes::CRASH)) {

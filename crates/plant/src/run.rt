@@ -45,8 +45,14 @@ fn start_number(n: usize, table: &[u8], schedule: usize, sheet: usize) -> u8
     0
 }
 
-// Takes the entries in order.
-fn go_on(n: u8, table: &mut [u8], tally: Tally, schedule: &[u8], sheet: &mut [u8]) -> Answer
+// Takes the entries in order. `single` uses it too, so that an entry is taken in one place only, which the compiler then puts in line.
+pub(crate) fn go_on(
+    n: u8,
+    table: &mut [u8],
+    tally: Tally,
+    schedule: &[u8],
+    sheet: &mut [u8],
+) -> Answer
     requires { ⌜ startNumber n (now table) (length (now schedule)) (length (now sheet)) ≡ 0 ⌝ }
     ensures { λ r. ⌜ outcomeWith r (now (table .exit)) (now (sheet .exit)) ≡ goOn n 0 (stateWith (now (table .entry)) tally) (now (sheet .entry)) (entries (now (schedule .entry))) ⌝ }
 {

@@ -43,7 +43,7 @@ pub fn check_table(n: usize, table: &[u8]) -> u8
 }
 
 // Whether station i is live.
-pub(crate) fn is_live(n: u8, table: &[u8], i: Station) -> bool
+pub fn is_live(n: u8, table: &[u8], i: Station) -> bool
     ensures { λ r. ⌜ r ≡ live n (now (table .entry)) (i .0) ⌝ }
 {
     cells::get_cell(n, table, i, cells::STATUS) == 0

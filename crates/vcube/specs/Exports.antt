@@ -1,7 +1,7 @@
--- The calls of document 01 and request C-12 as C has them (include/vcube.h), where they differ from those of `station`, `plant` and
--- `figures`, for all inputs: the row is given by its start and length, the outcome of a run by its number and what it leaves in the variables
--- and buffers lent to it, and figures and totals are the members of a struct in their order.
--- A station or level number may be any; the definitions of `station` refuse it as they refuse any that is too high.
+-- The calls of document 01 and of requests C-12 and C-15 as C has them (include/vcube.h), where they differ from those of `station`, `plant`,
+-- `granter` and `figures`, for all inputs: the row is given by its start and length, the outcome of a run or a drive by its number and what it
+-- leaves in the variables and buffers lent to it, and figures and totals are the members of a struct in their order.
+-- A station, level or last number may be any; the definitions of `station` and `granter` refuse it as they refuse any that is too high.
 -- Assumes nothing.
 use Prim.Native.Nat.{ℕ}
 use mathlib.Core.List.{List, [], _∷_}
@@ -10,6 +10,7 @@ use Rattle.station.specs.Table.{rowStart}
 use Rattle.station.specs.Calls.{unless, rowNumber}
 use Rattle.plant.specs.Entry.{stateOf}
 use Rattle.plant.specs.Run.{Outcome}
+use Rattle.granter.specs.Drive.{DriveOutcome, outcomeOf}
 use Rattle.figures.specs.declared.Figures.{Figures}
 use Rattle.figures.specs.declared.Totals.{Totals}
 use Rattle.figures.specs.declared.Totalled.{Totalled}
@@ -25,6 +26,10 @@ lengthOut n t i = unless (rowNumber n t i) 0 n
 -- Run: the outcome by its parts: the number, the entries taken, table, rounds and tests, and the sheet
 abbrev pub outcomeOut : ℕ → ℕ → List ℕ → ℕ → ℕ → List ℕ → Outcome
 outcomeOut number taken t rounds tests sheet = record { number = number; taken = taken; state = stateOf t rounds tests; sheet = sheet }
+
+-- Drive: the outcome by its parts: the number, table, rounds and tests, the last granted number and the grants made
+abbrev pub driveOut : ℕ → List ℕ → ℕ → ℕ → ℕ → ℕ → DriveOutcome
+driveOut number t rounds tests last grants = outcomeOf number (stateOf t rounds tests) last grants
 
 -- C-12: what a call answers: its number, and the members of the struct that it fills, in their order
 pub record Filled : Type 0 where

@@ -1,5 +1,5 @@
-// The calls of document 01 and of request C-12 for C and Rust, as include/vcube.h declares them. None has a `requires`: any numbers and
-// buffers are taken. Each returns 0 or the number of its refusal.
+// The calls of document 01 and of requests C-12 and C-15 for C and Rust, as include/vcube.h declares them. None has a `requires`: any numbers
+// and buffers are taken. Each returns 0 or the number of its refusal.
 ghost use mathlib.Core.Path.{_≡_};
 ghost use Prim.Native.Nat.{min};
 ghost use mathlib.Core.List.{_++_};
@@ -8,13 +8,17 @@ ghost use Rattle.station.specs.Rules.{shapeNumber};
 ghost use Rattle.station.specs.Calls.{freshAfter, groupNumber, groupAfter, rowNumber, assignmentNumber, assignmentAfter, assignmentCount};
 ghost use Rattle.plant.specs.Entry.{stateOf};
 ghost use Rattle.plant.specs.Run.{run};
+ghost use Rattle.granter.specs.Grant.{grantNumber, grantStation};
+ghost use Rattle.granter.specs.Drive.{drive, StoppedIfTaken};
 ghost use Rattle.figures.specs.Batch.{figures};
 ghost use Rattle.figures.specs.Totals.{totals, join, figuresOfTotals};
-ghost use Rattle.vcube.specs.Exports.{startOut, lengthOut, outcomeOut, filled, figuresMembers, totalsMembers, totalsWith, figuresOut, totalsOut};
+ghost use Rattle.vcube.specs.Exports.{startOut, lengthOut, outcomeOut, driveOut, filled, figuresMembers, totalsMembers, totalsWith, figuresOut, totalsOut};
 use figures::Figures;
 use figures::Totals;
 use figures::adding;
 use figures::batch;
+use granter::drive;
+use granter::grant;
 use plant::Tally;
 use plant::run;
 use station::Level;
@@ -113,6 +117,48 @@ pub extern "C" fn vcube_run(
     *tests = after.tests;
     *taken = done.taken;
     done.number
+}
+
+// Grant: the station that is granted after the last one, 0 where it is refused.
+#[no_mangle]
+pub extern "C" fn vcube_grant(n: usize, table: &[u8], last: usize, station: &mut usize) -> u8
+    ensures { λ r. ⌜ r ≡ grantNumber n (now (table .entry)) last ⌝ }
+    ensures { λ _. ⌜ now (station .exit) ≡ grantStation n (now (table .entry)) last ⌝ }
+{
+    let granted = grant::grant(n, table, last);
+    let to = granted.station;
+    *station = to.0 as usize;
+    granted.number
+}
+
+// Drive: grants and turns on a table and the tally that rounds and tests hold, until a round closes, nobody is left live, or a tally is
+// full. The tally and the last granted number that it gives back are left in rounds, tests and last, and the grants made in grants.
+#[no_mangle]
+pub extern "C" fn vcube_drive(
+    n: usize,
+    table: &mut [u8],
+    rounds: &mut u32,
+    tests: &mut u32,
+    last: &mut usize,
+    grants: &mut usize,
+) -> u8
+    ensures { λ r. ⌜
+        driveOut r (now (table .exit)) (now (rounds .exit)) (now (tests .exit)) (now (last .exit)) (now (grants .exit))
+        ≡ drive n (stateOf (now (table .entry)) (now (rounds .entry)) (now (tests .entry))) (now (last .entry))
+        ⌝ }
+    ensures { λ _. ⌜ StoppedIfTaken n (stateOf (now (table .entry)) (now (rounds .entry)) (now (tests .entry))) (now (last .entry)) (now (grants .exit)) ⌝ }
+{
+    let held = Tally {
+        rounds: *rounds,
+        tests: *tests,
+    };
+    let driven = drive::drive(n, table, held, *last);
+    let left = driven.tally;
+    *rounds = left.rounds;
+    *tests = left.tests;
+    *last = driven.last;
+    *grants = driven.grants;
+    driven.number
 }
 
 // Figures of one list: count, least, greatest, the upper and lower part of the mean and those of the variance, all 0 where it is refused.

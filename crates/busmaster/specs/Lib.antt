@@ -1,0 +1,2 @@
+-- Examples of request C-15.
+pub mod Master

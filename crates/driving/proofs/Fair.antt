@@ -1,0 +1,184 @@
+-- Fairness, proved: with each grant to another a station that waits comes nearer in the going round.
+-- Assumes nothing.
+use mathlib.Core.Path.{_≡_, sym, _∙_}
+use mathlib.Core.Logic.{_⊎_, inl, inr, _≢_, by-cases}
+use mathlib.Core.Bool.{true, false, cond, not, _&&_, and-true}
+use mathlib.Core.List.{List}
+use Prim.Native.Nat.{ℕ, zero, suc, _+_, _-_, _≤_, _<_}
+use native.Mathlib.Decide.{decLt, ℕ-discrete}
+use native.Mathlib.Numerals.{add-one}
+use native.Mathlib.Omega.{arith}
+use borrow.Author.Tests.{ltb-true, ltb-false, lt-ltb, le-ltb, leb-false, lt-leb, eqb-true, ne-eqb}
+use lib.Dec.{ltb, leb, eqb}
+use Rattle.station.specs.Rules.{notLive, someLive, tableNumber}
+use Rattle.station.specs.Calls.{unless}
+use Rattle.station.proofs.BoolLaws.{by-bool}
+use Rattle.station.proofs.SearchLaws.{every-not, least-between, least-before}
+use Rattle.station.proofs.Sizes.{size-bounds}
+use Rattle.station.proofs.Refusals.{Accepted, accepted, refuse-zero}
+use Rattle.granter.specs.Grant.{noGrant, waits, firstFrom, following, granted, lastRefusal, grantNumber, grantStation}
+use Rattle.granter.proofs.GrantLaws.{waits-parts, grantable, grant-zero, station-fits, granted-waits}
+use Rattle.driving.specs.Fairness.{lastBefore, Grants, Fairness}
+
+-- how many stations come before i in the going round that begins at b
+unfoldable ahead : ℕ → ℕ → ℕ → ℕ
+ahead n b i = cond (ltb i b) (i + n - b) (i - b)
+
+ahead-most : (n b i : ℕ) → b ≤ n → i < n → ahead n b i < n
+unfolding ahead
+ahead-most n b i hb hi = by-bool (ltb i b) (λ e. rw e (omega (arith, ltb-true i b e))) (λ e. rw e (omega arith))
+
+-- a grant to g that comes before i in the going round brings i nearer: g stands from b on, and i does not stand between, or both stand
+-- before b, where the round comes later, g first
+nearer-on : (n b g i : ℕ) → g < n → b ≤ g → i ≢ g → (b ≤ i → i < g → ⊥) → ahead n (suc g) i < ahead n b i
+unfolding ahead
+nearer-on n b g i hg le apart none =
+    by-cases (decLt i b)
+    (λ l. rw (lt-ltb i b l, lt-ltb i (suc g) (omega arith)) (omega arith))
+    (λ l.
+    let past : g < i = by-cases (decLt i g) (λ m. absurd (none (omega arith) m)) (λ m. omega arith) in
+    rw (le-ltb i b (omega arith), le-ltb i (suc g) (omega arith)) (omega arith))
+
+nearer-round : (n b g i : ℕ) → b ≤ n → i < b → g < i → ahead n (suc g) i < ahead n b i
+unfolding ahead
+nearer-round n b g i hb hi hg = rw (lt-ltb i b hi, le-ltb i (suc g) (omega arith)) (omega arith)
+
+-- where a last number is let through, the going round begins at n at the most
+following-most : (n last : ℕ) → lastRefusal n last ≡ 0 → following last ≤ n
+unfolding following
+following-most n last fits =
+    by-bool (eqb last noGrant) (λ e. rw e (omega arith))
+    (λ e.
+    let low : (leb n last && not (eqb last noGrant)) ≡ false = refuse-zero 15 _ fits in
+    rw e (omega (arith, leb-false n last (simp and-true at (rw e at low)))))
+
+-- behind a granted station the round begins with the next one
+following-granted : (n g : ℕ) → n ≤ 64 → g < n → following g ≡ suc g
+unfolding following
+following-granted n g top h = rw (ne-eqb g noGrant (omega arith), add-one g)
+
+-- one grant, from a table that refusals 1 to 4 let through and in which i waits
+module _ (n : ℕ) (t : List ℕ) (last i : ℕ) (z : tableNumber n t ≡ 0) (fits : lastRefusal n last ≡ 0) (h : i < n) (w : waits n t i ≡ true) where
+  ok : Accepted n t
+  ok = accepted n t z
+
+  someone : someLive n t ≡ true
+  unfolding someLive
+  someone = let l : notLive n t i ≡ false = rw (waits-parts n t i w .0) in rw (every-not (notLive n t) n i h l)
+
+  made : grantNumber n t last ≡ 0
+  made = grant-zero n t last z fits someone
+
+  found : granted n t last < n
+  found = granted-waits n t ok someone last .0
+
+  -- nobody waits before the first that does
+  passed : (c : ℕ) → c ≤ i → i < firstFrom n t c → ⊥
+  unfolding firstFrom
+  passed c lo hi =
+      let e : true ≡ false = sym w ∙ least-before (waits n t) (n - c) c i lo hi in
+      let y : _≡_ {A = ℕ} 0 1 = cc in
+      omega arith
+
+  first-low : (c : ℕ) → c ≤ firstFrom n t c
+  unfolding firstFrom
+  first-low c = least-between (waits n t) (n - c) c .0
+
+  closer : i ≢ granted n t last → ahead n (suc (granted n t last)) i < ahead n (following last) i
+  unfolding granted
+  closer = by-bool (ltb p n) on round
+    where
+      b : ℕ
+      b = following last
+
+      p : ℕ
+      p = firstFrom n t b
+
+      q : ℕ
+      q = firstFrom n t 0
+
+      on : ltb p n ≡ true → i ≢ granted n t last → ahead n (suc (granted n t last)) i < ahead n b i
+      on e apart =
+          let here : granted n t last ≡ p = rw e in
+          rw here (nearer-on n b p i (ltb-true p n e) (first-low b) (λ f. apart (f ∙ sym here)) (passed b))
+
+      round : ltb p n ≡ false → i ≢ granted n t last → ahead n (suc (granted n t last)) i < ahead n b i
+      round e apart =
+          let here : granted n t last ≡ q = rw e in
+          let far = ltb-false p n e in
+          let before : i < b = by-cases (decLt i b) (λ l. l) (λ l. absurd (passed b (omega arith) (omega arith))) in
+          let other : i ≢ q = λ f. apart (f ∙ sym here) in
+          let later : q < i = by-cases (decLt i q) (λ l. absurd (passed 0 (omega arith) l)) (λ l. omega arith) in
+          rw here (nearer-round n b q i (following-most n last fits) before later)
+
+  nearer : i ≢ granted n t last → ahead n (following (granted n t last)) i < ahead n (following last) i
+  nearer apart = rw (following-granted n (granted n t last) (size-bounds n (ok .size) .1) found) (closer apart)
+
+-- the last numbers between are let through
+module _ (n : ℕ) (tables : ℕ → List ℕ) (last : ℕ) (fits : lastRefusal n last ≡ 0) where
+  last-fits : (k : ℕ) → lastRefusal n (lastBefore n tables last k) ≡ 0
+  unfolding lastBefore
+  last-fits zero = fits
+  last-fits (suc k) = step (lastBefore n tables last k) (last-fits k)
+    where
+      step : (before : ℕ) → lastRefusal n before ≡ 0
+          → lastRefusal n (unless (grantNumber n (tables k) before) before (granted n (tables k) before)) ≡ 0
+      step before f =
+          by-bool (eqb (grantNumber n (tables k) before) 0)
+          (λ e.
+          let g = grantable n (tables k) before (eqb-true _ 0 e) in
+          rw e (station-fits n (granted n (tables k) before) (granted-waits n (tables k) (g .ok) (g .someone) before .0)))
+          (λ e. rw e f)
+
+-- the station waits in n tables one behind the other, from table a on
+module _ (n : ℕ) (tables : ℕ → List ℕ) (last a i : ℕ) (fits : lastRefusal n last ≡ 0) (h : i < n)
+    (w : (k : ℕ) → a ≤ k → k < a + n → (tableNumber n (tables k) ≡ 0) × (waits n (tables k) i ≡ true)) where
+  abbrev from : ℕ → ℕ
+  from k = lastBefore n tables last k
+
+  abbrev Granted : ℕ → Type 0
+  Granted j = (k : ℕ) × (a ≤ k) × (k < a + j) × Grants n tables last k i
+
+  -- after j of them it was granted, or it is j nearer
+  after : (j : ℕ) → j ≤ n → Granted j ⊎ (ahead n (following (from (a + j))) i + j < n)
+  unfolding lastBefore grantStation
+  after zero le =
+      let fits = last-fits n tables last fits (a + 0) in
+      inr (omega (arith, ahead-most n (following (from (a + 0))) i (following-most n (from (a + 0)) fits) h))
+  after (suc j) le = step (after j (omega arith))
+    where
+      k : ℕ
+      k = a + j
+
+      z : tableNumber n (tables k) ≡ 0
+      z = w k (omega arith) (omega arith) .0
+
+      f : lastRefusal n (from k) ≡ 0
+      f = last-fits n tables last fits k
+
+      here : waits n (tables k) i ≡ true
+      here = w k (omega arith) (omega arith) .1
+
+      taken : grantNumber n (tables k) (from k) ≡ 0
+      taken = made n (tables k) (from k) i z f h here
+
+      next : from (suc k) ≡ granted n (tables k) (from k)
+      next = rw taken
+
+      step : Granted j ⊎ (ahead n (following (from k)) i + j < n) → Granted (suc j) ⊎ (ahead n (following (from (a + suc j))) i + suc j < n)
+      step (inl g) = inl (g .0, g .1, omega (arith, g .2), g .3)
+      step (inr near) =
+          by-cases (ℕ-discrete i (granted n (tables k) (from k)))
+          (λ e. inl (k, omega arith, omega arith, (taken, rw taken (sym e))))
+          (λ e.
+          let s : a + suc j ≡ suc k = omega arith in
+          inr (rw (s, next) (omega (arith, near, nearer n (tables k) (from k) i z f h here e))))
+
+-- fairness, an end in itself
+pub fairness : Fairness
+fairness n tables last a i fits h w = pick (after n tables last a i fits h w n (omega arith))
+  where
+    pick : ((k : ℕ) × (a ≤ k) × (k < a + n) × Grants n tables last k i) ⊎ (ahead n (following (lastBefore n tables last (a + n))) i + n < n)
+        → (k : ℕ) × (a ≤ k) × (k < a + n) × Grants n tables last k i
+    pick (inl g) = g
+    pick (inr l) = absurd (omega arith)

@@ -1,0 +1,90 @@
+-- Request C-15: a drive is "the granting rule followed turn by turn", and so demand 3 speaks of plants that are driven.
+-- Assumes nothing.
+use mathlib.Core.Path.{_≡_}
+use mathlib.Core.Bool.{true}
+use mathlib.Core.List.{List, [], _∷_, _++_}
+use Prim.Native.Nat.{ℕ, zero, suc, _+_, _≤_, _<_}
+use lib.Dec.{eqb}
+use lib.ListN.{length}
+use Rattle.station.specs.Sums.{bit}
+use Rattle.station.specs.Groups.{dimension}
+use Rattle.station.specs.Table.{suspects, live}
+use Rattle.station.specs.Rules.{notLive}
+use Rattle.plant.specs.Turn.{kindTurn}
+use Rattle.plant.specs.Entry.{State, entryOf, entryNumber}
+use Rattle.detection.specs.Runs.{Call, callOf, afterRuns, takenAll}
+use Rattle.detection.specs.Claim.{roundsOf, Premises, Conclusion, demandWait}
+use Rattle.granter.specs.Grant.{grantNumber}
+use Rattle.granter.specs.Drive.{Stand, standAt, grantedAt, afterGrants, drive}
+
+-- a run of one entry, (1, i): a turn of station i. What its sheet of four bytes held does not matter
+abbrev pub turnRun : ℕ → ℕ → Call
+turnRun n i = callOf n (kindTurn ∷ i ∷ []) (0 ∷ 0 ∷ 0 ∷ 0 ∷ [])
+
+-- the runs (1, g1), (1, g2), .. of the first k grants
+unfoldable pub runsOf : ℕ → Stand → ℕ → List Call
+runsOf n p zero = []
+runsOf n p (suc k) = runsOf n p k ++ (turnRun n (grantedAt n (afterGrants n p k)) ∷ [])
+
+-- those of a drive, as many as it says that it made
+abbrev pub runsOfDrive : ℕ → State → ℕ → List Call
+runsOfDrive n s last = runsOf n (standAt s last) (drive n s last .grants)
+
+-- its answer and table are those of the list of these runs
+pub record TurnByTurn (n : ℕ) (s : State) (last : ℕ) : Type 0 where
+  -- no grant is refused
+  pub granted : (k : ℕ) → k < drive n s last .grants
+      → grantNumber n (afterGrants n (standAt s last) k .state .table) (afterGrants n (standAt s last) k .last) ≡ 0
+  -- each run takes its entry
+  pub taken : length (takenAll s (runsOfDrive n s last)) ≡ drive n s last .grants
+  -- the same table and tally, and the same last granted number
+  pub left : afterRuns s (runsOfDrive n s last) ≡ drive n s last .state
+  pub lastIs : drive n s last .last ≡ afterGrants n (standAt s last) (drive n s last .grants) .last
+  -- where the drive stops with 7, the next turn would meet it
+  pub seven : grantNumber n (s .table) last ≡ 0 → drive n s last .number ≡ 7
+      → entryNumber n (drive n s last .state) (entryOf kindTurn (grantedAt n (standAt (drive n s last .state) (drive n s last .last)))) ≡ 7
+
+-- for all inputs
+abbrev pub EveryDriveTurnByTurn : Type 0
+EveryDriveTurnByTurn = (n : ℕ) (s : State) (last : ℕ) → TurnByTurn n s last
+
+-- drives of one size, one behind the other, each with any last number (a drive of another size is refused): table and tally after them,
+-- the runs that they are, and how many of them answer 0
+unfoldable pub afterDrives : ℕ → State → List ℕ → State
+afterDrives n s [] = s
+afterDrives n s (last ∷ lasts) = afterDrives n (drive n s last .state) lasts
+
+unfoldable pub runsOfDrives : ℕ → State → List ℕ → List Call
+runsOfDrives n s [] = []
+runsOfDrives n s (last ∷ lasts) = runsOfDrive n s last ++ runsOfDrives n (drive n s last .state) lasts
+
+unfoldable pub ending : ℕ → State → List ℕ → ℕ
+ending n s [] = 0
+ending n s (last ∷ lasts) = bit (eqb (drive n s last .number) 0) + ending n (drive n s last .state) lasts
+
+-- what demand 3 says of driven plants, where so many rounds are enough
+pub record DrivenConclusion (enough n : ℕ) (s : State) (lasts : List ℕ) (end : State) : Type 0 where
+  -- the demand itself, of the list of their runs
+  pub demand : Conclusion enough n s (runsOfDrives n s lasts) end
+  -- each drive that answers 0 closes one round, and no other closes one
+  pub rounds : length (roundsOf s (runsOfDrives n s lasts) .closed) ≡ ending n s lasts
+  -- after enough that answer 0 each live board suspects exactly the boards that are not live
+  pub known : enough ≤ ending n s lasts
+      → (i j : ℕ) → i < n → j < n → live n (s .table) i ≡ true → suspects n (end .table) i j ≡ bit (notLive n (s .table) j)
+
+-- the claim, within so many rounds by the dimension. The premises are demand 3's on the table: those of no run at all. Drives have no crash
+-- and no late reply
+abbrev pub DrivenWithin : (ℕ → ℕ) → Type 0
+DrivenWithin rounds =
+    (n : ℕ) (s : State) (lasts : List ℕ) → Premises n s [] → DrivenConclusion (rounds (dimension n)) n s lasts (afterDrives n s lasts)
+
+-- demand 3 of driven plants
+abbrev pub DrivenDemand3 : Type 0
+DrivenDemand3 = DrivenWithin demandWait
+
+-- the same of one drive, from `before` to `after`: wherever it stands behind other drives, the claim about the whole list with it holds of
+-- the state that it leaves
+abbrev pub DrivenWithinAfter : (ℕ → ℕ) → ℕ → ℕ → State → State → Type 0
+DrivenWithinAfter rounds n last before after =
+    (s : State) (lasts : List ℕ) → afterDrives n s lasts ≡ before → Premises n s []
+    → DrivenConclusion (rounds (dimension n)) n s (lasts ++ (last ∷ [])) after

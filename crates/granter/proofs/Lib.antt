@@ -1,0 +1,4 @@
+-- The laws that the proofs of `granter` share, and that the crates above cite.
+pub mod GrantLaws
+pub mod TurnsLeft
+pub mod DriveLaws
