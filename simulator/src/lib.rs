@@ -1,15 +1,19 @@
 //! A simulator of the vCube watch, written from documents 01 and 02 alone; but
 //! what is given of kept totals follows include/vcube.h, since document 02 does
-//! not say it.
+//! not say it. The arguments and answers of grant and drive (C-15) were fixed
+//! beforehand by those who made the header: document 02 says neither the order
+//! of the arguments nor what station a refused grant gives.
 //!
 //! Rows are 64-bit sets and lines are structs. They are decoded from the
 //! lent byte table and encoded back into it. Figures over results (C-12) are
-//! computed in 128 bits, the variance by the deviations themselves.
+//! computed in 128 bits, the variance by the deviations themselves. A drive
+//! (C-15) decodes the table once and takes its turns as the run does.
 
 #![forbid(unsafe_code)]
 
 mod figures;
 mod fraction;
+mod granter;
 mod groups;
 mod line;
 mod numbers;
@@ -25,6 +29,7 @@ mod tests;
 
 pub use figures::{figures, figures_of_two, Figures};
 pub use fraction::Fraction;
+pub use granter::{drive, grant, Driven};
 pub use questions::{assignment, check_table, fresh_table, group_list, row, row_number};
 pub use run::{run, Answer};
 pub use totals::{figures_of_totals, join_totals, totals, Totals};

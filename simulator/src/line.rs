@@ -109,6 +109,10 @@ impl Line {
         self.status == Status::Live
     }
 
+    pub fn is_live_and_unfinished(&self) -> bool {
+        self.is_live() && !self.finished
+    }
+
     /// Sets the three fields a closed round sets (step 8).
     pub fn begin_round(&mut self) {
         self.next = Distance::FIRST;

@@ -55,10 +55,17 @@ impl Plant {
         &mut self.lines[station.index()]
     }
 
+    fn live(&self) -> impl Iterator<Item = &Line> {
+        self.lines.iter().filter(|line| line.is_live())
+    }
+
+    pub fn none_live(&self) -> bool {
+        self.live().next().is_none()
+    }
+
     /// Some station is live and every live one is finished.
     pub fn all_live_finished(&self) -> bool {
-        let mut live = self.lines.iter().filter(|line| line.is_live()).peekable();
-        live.peek().is_some() && live.all(|line| line.finished)
+        !self.none_live() && self.live().all(|line| line.finished)
     }
 
     /// Every line, live or not, begins a round.

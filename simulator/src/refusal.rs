@@ -19,6 +19,8 @@ pub enum Refusal {
     ListLength = 13,
     NoResult = 14,
     TooManyResults = 15,
+    LastGranted = 16,
+    NoneLive = 17,
 }
 
 impl Refusal {

@@ -54,11 +54,11 @@ type Effect = (Option<Station>, Outcome);
 /// Byte 1 of a line of the sheet when no station was tested.
 const NO_STATION: u8 = 255;
 
-/// The plant and the tally during a run.
-struct Watch {
-    plant: Plant,
-    rounds: u32,
-    tests: u32,
+/// The plant and the tally during a run or a drive.
+pub struct Watch {
+    pub plant: Plant,
+    pub rounds: u32,
+    pub tests: u32,
 }
 
 /// Run: refusals 1 to 6, then 7 to 11 at each entry.
@@ -134,9 +134,14 @@ impl Watch {
         }
     }
 
+    /// Refusal 7.
+    pub fn check_tally(&self) -> Result<(), Refusal> {
+        Refusal::Tally.when(self.rounds == u32::MAX || self.tests == u32::MAX)
+    }
+
     /// Refusals 7 to 11.
     fn admit_entry(&self, bytes: &[u8]) -> Result<Entry, Refusal> {
-        Refusal::Tally.when(self.rounds == u32::MAX || self.tests == u32::MAX)?;
+        self.check_tally()?;
         let kind = Kind::decode(bytes[0])?;
         let station = self.plant.size().station(bytes[1])?;
         self.plant.check_live(station)?;
@@ -157,6 +162,13 @@ impl Watch {
         let tested = tested.map_or(NO_STATION, Station::number);
         let status = self.plant.line(i).status.number();
         [i.number(), tested, outcome as u8, status]
+    }
+
+    /// Carries out an entry of kind 1. Used only where refusals 7 to 11 are
+    /// not met.
+    pub fn take_turn(&mut self, station: Station) {
+        let kind = Kind::Turn;
+        self.take(Entry { kind, station });
     }
 
     /// Step 2, and the test it finds.

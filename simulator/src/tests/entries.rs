@@ -1,11 +1,9 @@
 //! What an entry does, and the refusals of a run.
 
 use super::{
-    answer, finish, fresh, head, place, row_bytes, run_with, set, sizes, suspect, UNWRITTEN,
+    answer, finish, fresh, head, place, row_bytes, run_with, set, sizes, suspect, MOST, UNWRITTEN,
 };
 use crate::{check_table, run};
-
-const MOST: u32 = 4_294_967_295;
 
 /// Runs and checks that the run is refused at its start and changes nothing.
 fn refused_at_start(n: usize, table: &[u8], schedule: &[u8], sheet: usize, number: u8) {

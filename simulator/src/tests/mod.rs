@@ -1,9 +1,11 @@
 //! Tests of the simulator against documents 01 and 02 and the papers.
 
 mod claim;
+mod drive;
 mod due;
 mod entries;
 mod figures;
+mod granter;
 mod groups;
 mod laws;
 mod program;
@@ -16,7 +18,7 @@ mod totals;
 
 use std::ops::RangeInclusive;
 
-use crate::{check_table, fresh_table, run, Answer};
+use crate::{check_table, fresh_table, run, Answer, Driven};
 
 /// The sizes with d = 1 to 6.
 const BY_D: [RangeInclusive<usize>; 6] = [2..=2, 3..=4, 5..=8, 9..=16, 17..=32, 33..=64];
@@ -35,6 +37,9 @@ pub fn end(n: usize) -> u8 {
     let (_, d) = sizes().find(|(size, _)| *size == n).unwrap();
     1 << d
 }
+
+/// The most a tally can hold.
+pub const MOST: u32 = 4_294_967_295;
 
 /// The value of buffer bytes that nobody has written.
 pub const UNWRITTEN: u8 = 170;
@@ -96,6 +101,17 @@ pub fn answer(number: u8, taken: usize, rounds: u32, tests: u32) -> Answer {
         taken,
         rounds,
         tests,
+    }
+}
+
+/// What a drive answers, with all its figures.
+pub fn driven(number: u8, rounds: u32, tests: u32, last: usize, grants: usize) -> Driven {
+    Driven {
+        number,
+        rounds,
+        tests,
+        last,
+        grants,
     }
 }
 

@@ -5,7 +5,7 @@ use crate::check_table;
 
 /// A table at the start of a round in which each of these stations is
 /// crashed and suspected by all others.
-fn with_dead(n: usize, dead: &[usize]) -> Vec<u8> {
+pub fn with_dead(n: usize, dead: &[usize]) -> Vec<u8> {
     let mut table = fresh(n);
     for k in dead {
         set(n, &mut table, *k, 0, 1);

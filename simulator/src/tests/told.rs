@@ -1,12 +1,12 @@
 //! Step 4 as C-13 has it: who leaves on a reply, and that no row then changes.
 
-use super::{answer, finish, fresh, head, row_bytes, run_with, set, sizes, suspect, UNWRITTEN};
+use super::{
+    answer, finish, fresh, head, row_bytes, run_with, set, sizes, suspect, MOST, UNWRITTEN,
+};
 use crate::check_table;
 
-const MOST: u32 = 4_294_967_295;
-
 /// A fresh table but for these pairs: the first suspects the second.
-fn suspecting(n: usize, pairs: &[(usize, usize)]) -> Vec<u8> {
+pub fn suspecting(n: usize, pairs: &[(usize, usize)]) -> Vec<u8> {
     let mut table = fresh(n);
     for (station, other) in pairs {
         suspect(n, &mut table, *station, *other);
