@@ -1,7 +1,8 @@
 /* The vCube watch for C and C++: the calls of the document "The vCube watch on a gin's plant cable" (document 01), with the sizes of
- * request C-11 of document 02 and the tested station that hears it too, its request C-13; and the figures over a season's trials, its
- * request C-12. The library behind them (crates/vcube, crates/plant, crates/station, crates/figures) is proved in Rattle to do what its
- * definitions say; this header and the compiler's back end are not part of the proof.
+ * request C-11 of document 02 and the tested station that hears it too, its request C-13; the bus master that grants the turns, its
+ * request C-15; and the figures over a season's trials, its request C-12. The library behind them (crates/vcube, crates/granter,
+ * crates/plant, crates/station, crates/figures) is proved in Rattle to do what its definitions say; this header and the compiler's back end
+ * are not part of the proof.
  *
  * Build the archive with `rt staticlib vcube` and link target/staticlib/libvcube.a (x86-64 Linux), or install it by bindings/c/install.
  *
@@ -11,7 +12,8 @@
  * read or written there, and the call gives what it gives for any other buffer or list of length 0 (tested, not proved). The pointers to
  * size_t, uint32_t and the structs below, where a call finds or puts its figures, must each point to a variable of that type, not NULL. What
  * a call writes may overlap with nothing else of that call; what it only reads (pointers to const) may overlap with what else it only
- * reads. The library keeps no state and no pointer: calls may run at once in several threads, if none writes what another uses.
+ * reads. The library keeps no state and no pointer: the caller keeps table, tally and last granted number, and calls may run at once in
+ * several threads, if none writes what another uses.
  *
  * Words. A plant has n stations, 2 to 64, numbered from 0; d is n's logarithm to base 2, rounded up. The distance of two stations is the
  * exclusive or of their numbers, which is below 2^d. The group of station i at level s (1 to d) holds, in this order, those of the numbers
@@ -30,8 +32,9 @@
  * call gives then is said too.
  *
  * Each call returns 0 or the number of its refusal (enum vcube_refusal). A refused call changes no byte of table, list or sheet, except
- * that a run which stops at an entry (7 to 11) keeps the work of the entries before it. What becomes of the figures is said of each call;
- * in a struct that a refused call fills every member is 0, lower parts of fractions included.
+ * that a run which stops at an entry (7 to 11) keeps the work of the entries before it, and a drive which stops before a grant (7) that of
+ * the turns before it. What becomes of the figures is said of each call; in a struct that a refused call fills every member is 0, lower
+ * parts of fractions included.
  */
 #ifndef VCUBE_H
 #define VCUBE_H
@@ -40,9 +43,9 @@
 #include <stdint.h>
 
 #define VCUBE_VERSION_MAJOR 0
-#define VCUBE_VERSION_MINOR 5
+#define VCUBE_VERSION_MINOR 6
 #define VCUBE_VERSION_PATCH 0
-#define VCUBE_VERSION "0.5.0"
+#define VCUBE_VERSION "0.6.0"
 
 #ifdef __cplusplus
 extern "C" {
@@ -54,30 +57,32 @@ extern "C" {
 /* The length of the longest group list. */
 #define VCUBE_LONGEST_GROUP 32
 
-/* Stands in the sheet where no station was tested. */
+/* Stands in the sheet where no station was tested, and is the last granted number where none was granted yet. */
 #define VCUBE_NO_STATION 255
 
 /* The most results that figures are taken over. */
 #define VCUBE_MOST_RESULTS 4096
 
-/* What a call returns, in the order in which refusals are checked. */
+/* What a call returns, in the order in which refusals are checked; but a drive looks for 7 after 16 and 17. */
 enum vcube_refusal {
     VCUBE_ACCEPTED = 0,
-    VCUBE_REFUSED_SIZE = 1,             /* the size n is not from 2 to 64 */
-    VCUBE_REFUSED_TABLE_LENGTH = 2,     /* the table's length is not n * (n + 4) */
-    VCUBE_REFUSED_LINE_RULE = 3,        /* a line of the table breaks a line rule */
-    VCUBE_REFUSED_ALL_FINISHED = 4,     /* some station is live and every live one is finished */
-    VCUBE_REFUSED_SCHEDULE_LENGTH = 5,  /* the schedule's length is odd */
-    VCUBE_REFUSED_SHEET_LENGTH = 6,     /* the sheet's length is not twice the schedule's */
-    VCUBE_REFUSED_TALLY = 7,            /* either tally stands at 4294967295 when an entry is reached */
-    VCUBE_REFUSED_KIND = 8,             /* the kind is not 1, 2 or 3 */
-    VCUBE_REFUSED_STATION = 9,          /* the station number is n or more */
-    VCUBE_REFUSED_NOT_LIVE = 10,        /* the station is not live */
-    VCUBE_REFUSED_PASS_FINISHED = 11,   /* the kind is 1 or 2 and the station has finished its pass */
-    VCUBE_REFUSED_LEVEL = 12,           /* the level is 0 or above d */
-    VCUBE_REFUSED_LIST_LENGTH = 13,     /* the lent list has not the length stated (group list: vcube_group_length; assignment: n - 1) */
-    VCUBE_REFUSED_NO_RESULT = 14,       /* there is no result at all (in both lists together, where two are given) */
-    VCUBE_REFUSED_TOO_MANY_RESULTS = 15 /* there are more than 4096 results in all, or totals that 4096 results cannot have */
+    VCUBE_REFUSED_SIZE = 1,              /* the size n is not from 2 to 64 */
+    VCUBE_REFUSED_TABLE_LENGTH = 2,      /* the table's length is not n * (n + 4) */
+    VCUBE_REFUSED_LINE_RULE = 3,         /* a line of the table breaks a line rule */
+    VCUBE_REFUSED_ALL_FINISHED = 4,      /* some station is live and every live one is finished */
+    VCUBE_REFUSED_SCHEDULE_LENGTH = 5,   /* the schedule's length is odd */
+    VCUBE_REFUSED_SHEET_LENGTH = 6,      /* the sheet's length is not twice the schedule's */
+    VCUBE_REFUSED_TALLY = 7,             /* either tally stands at 4294967295 when an entry, or a grant of a drive, is reached */
+    VCUBE_REFUSED_KIND = 8,              /* the kind is not 1, 2 or 3 */
+    VCUBE_REFUSED_STATION = 9,           /* the station number is n or more */
+    VCUBE_REFUSED_NOT_LIVE = 10,         /* the station is not live */
+    VCUBE_REFUSED_PASS_FINISHED = 11,    /* the kind is 1 or 2 and the station has finished its pass */
+    VCUBE_REFUSED_LEVEL = 12,            /* the level is 0 or above d */
+    VCUBE_REFUSED_LIST_LENGTH = 13,      /* the lent list has not the length stated (group list: vcube_group_length; assignment: n - 1) */
+    VCUBE_REFUSED_NO_RESULT = 14,        /* there is no result at all (in both lists together, where two are given) */
+    VCUBE_REFUSED_TOO_MANY_RESULTS = 15, /* there are more than 4096 results in all, or totals that 4096 results cannot have */
+    VCUBE_REFUSED_LAST_GRANTED = 16,     /* the last granted number is n or more and not 255 */
+    VCUBE_REFUSED_NONE_LIVE = 17         /* no station is live */
 };
 
 /* Byte 0 of an entry. */
@@ -155,6 +160,30 @@ uint8_t vcube_row(size_t n, const uint8_t *table, size_t table_length, size_t st
  * Refusals: 1 to 6, then 7 to 11 at each entry. */
 uint8_t vcube_run(size_t n, uint8_t *table, size_t table_length, uint32_t *rounds, uint32_t *tests, const uint8_t *schedule,
                   size_t schedule_length, uint8_t *sheet, size_t sheet_length, size_t *taken);
+
+/* Grant: the station that is to have the next turn, into *station, which is 0 where the call is refused. last is the last granted number:
+ * a station, or VCUBE_NO_STATION, which may be handed in at any time. The granting rule: of the stations last + 1 to n - 1 and then 0 to
+ * last, in this order, the first that is live and has not finished its pass is granted; where last is VCUBE_NO_STATION the order is 0 to
+ * n - 1. So the last granted station comes last: it is granted again if no other one is live and unfinished.
+ *
+ * If each grant is handed the number granted before it, a station that stays live and unfinished is granted after at most n - 1 grants to
+ * others. The call changes no byte: the turn itself is an entry of a run, of kind VCUBE_KIND_TURN.
+ * Refusals: 1 to 4, 16, 17. */
+uint8_t vcube_grant(size_t n, const uint8_t *table, size_t table_length, size_t last, size_t *station);
+
+/* Drive: repeats a grant, by the granting rule of vcube_grant, and the granted station's turn, which does what an entry of kind
+ * VCUBE_KIND_TURN does in a run but writes no sheet. It ends, and returns 0, after the turn that closes the round or leaves no station
+ * live, even if that turn brings a tally to 4294967295. The table may stand in the middle of a round. A drive makes at most n * n grants,
+ * which are 4096 with 64 stations.
+ *
+ * *rounds and *tests are the tally, *last is the last granted number: handed in there, given back there. *grants is how many grants were
+ * made, which is how many turns were; those that only finish a pass count too.
+ *
+ * 1 to 4, 16 and 17 are looked for once, at the start: a drive refused by them leaves tally and *last as they were, and *grants is 0.
+ * Before each grant, the first included, 7 is looked for: a drive stopped by it keeps the turns made, and tally, *last and *grants are
+ * those of these turns.
+ * Refusals: 1 to 4, 16, 17, then 7 before each grant. */
+uint8_t vcube_drive(size_t n, uint8_t *table, size_t table_length, uint32_t *rounds, uint32_t *tests, size_t *last, size_t *grants);
 
 /* A fraction in lowest terms: no number above 1 divides both parts, and the lower part is positive. Zero is 0/1. */
 struct vcube_fraction {

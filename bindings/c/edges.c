@@ -1,5 +1,5 @@
-/* What vcube.h says of NULL with length 0, of figures after a refusal, of a group's length, of who leaves at a test, of the most results
- * and the totals that they can have, of its structs, and of its version. */
+/* What vcube.h says of NULL with length 0, of figures after a refusal, of a group's length, of who leaves at a test, of grants and drives,
+ * of the most results and the totals that they can have, of its structs, and of its version. */
 
 #include "vcube.h"
 
@@ -17,6 +17,17 @@ static void expect(int holds, const char *what)
         printf("not so: %s\n", what);
         failures++;
     }
+}
+
+/* Whether every byte of a buffer or a struct has this value. */
+static int all_are(int value, const void *made, size_t size)
+{
+    const unsigned char *bytes = (const unsigned char *)made;
+
+    for (size_t k = 0; k < size; k++)
+        if (bytes[k] != value)
+            return 0;
+    return 1;
 }
 
 /* NULL with length 0 is a table, list, schedule or sheet of length 0. */
@@ -157,6 +168,213 @@ static void who_leaves(void)
         take_turn(&turns[k]);
 }
 
+/* Tally, last granted number and grants, as they stand before or after a drive. */
+struct driven {
+    uint32_t rounds;
+    uint32_t tests;
+    size_t last;
+    size_t grants;
+};
+
+static struct driven driven(uint32_t rounds, uint32_t tests, size_t last, size_t grants)
+{
+    struct driven made;
+
+    made.rounds = rounds;
+    made.tests = tests;
+    made.last = last;
+    made.grants = grants;
+    return made;
+}
+
+/* The grant gives the number and the station. */
+static void grant(size_t n, const uint8_t *table, size_t table_length, size_t last, int number, size_t station, const char *what)
+{
+    size_t given = ANY;
+
+    expect(vcube_grant(n, table, table_length, last, &given) == number, what);
+    expect(given == station, what);
+}
+
+/* The drive that is handed the first figures gives the number and the second figures. */
+static void drive(size_t n, uint8_t *table, size_t table_length, struct driven figures, int number, struct driven expected,
+                  const char *what)
+{
+    expect(vcube_drive(n, table, table_length, &figures.rounds, &figures.tests, &figures.last, &figures.grants) == number, what);
+    expect(figures.rounds == expected.rounds && figures.tests == expected.tests, what);
+    expect(figures.last == expected.last && figures.grants == expected.grants, what);
+}
+
+/* A fresh table of 2. */
+#define FRESH {0, 1, 0, 0, 0, 0, 0, 1, 0, 0, 0, 0}
+
+/* A plant that grant and drive refuse with the same number. */
+struct refused_plant {
+    const char *what;
+    size_t n;
+    size_t table_length;
+    size_t last;
+    int number;
+    uint8_t table[VCUBE_TABLE_LENGTH(N)];
+};
+
+/* Where later numbers stand in the text, their sentences hold of the plant too. */
+static const struct refused_plant refused_plants[] = {
+    {"grant and drive: size 1 gets 1 before 2", 1, 11, N, VCUBE_REFUSED_SIZE, {4, 1, 0, 0, 0, 0, 1, 1, 0, 0, 0, 0}},
+    {"grant and drive: size 65 gets 1 before 2", 65, 11, N, VCUBE_REFUSED_SIZE, {4, 1, 0, 0, 0, 0, 1, 1, 0, 0, 0, 0}},
+    {"grant and drive: size 258 is not cut to 2", 258, 12, 0, VCUBE_REFUSED_SIZE, FRESH},
+    {"grant and drive: 11 bytes get 2 before 3 and 16", N, 11, N, VCUBE_REFUSED_TABLE_LENGTH, {4, 1, 0, 0, 0, 0, 1, 1, 0, 0, 0, 0}},
+    {"grant and drive: the table of another size gets 2", 3, 12, 0, VCUBE_REFUSED_TABLE_LENGTH, FRESH},
+    {"grant and drive: more tests than distances get 3 before 4 and 16", N, 12, N, VCUBE_REFUSED_LINE_RULE,
+     {0, 2, 1, 0, 0, 0, 0, 2, 1, 2, 0, 0}},
+    {"grant and drive: a row byte of 2 gets 3 before 16 and 17", N, 12, N, VCUBE_REFUSED_LINE_RULE,
+     {1, 1, 0, 0, 0, 0, 1, 1, 0, 0, 2, 0}},
+    {"grant and drive: every live station is finished, 4 before 16", N, 12, N, VCUBE_REFUSED_ALL_FINISHED,
+     {0, 2, 1, 0, 0, 0, 1, 1, 0, 0, 0, 0}},
+    {"grant and drive: 16 comes before 17", N, 12, N, VCUBE_REFUSED_LAST_GRANTED, {1, 1, 0, 0, 0, 0, 1, 1, 0, 0, 0, 0}},
+    {"grant and drive: no station is live", N, 12, VCUBE_NO_STATION, VCUBE_REFUSED_NONE_LIVE, {1, 1, 0, 0, 0, 0, 3, 2, 0, 1, 1, 0}},
+    {"grant and drive: none is live, be they finished or not", N, 12, 1, VCUBE_REFUSED_NONE_LIVE, {2, 2, 1, 1, 0, 0, 1, 1, 0, 0, 0, 0}},
+    {"grant and drive: a last number of n", N, 12, N, VCUBE_REFUSED_LAST_GRANTED, FRESH},
+    {"grant and drive: a last number of 254", N, 12, 254, VCUBE_REFUSED_LAST_GRANTED, FRESH},
+    {"grant and drive: 256 is not cut to 0", N, 12, 256, VCUBE_REFUSED_LAST_GRANTED, FRESH},
+    {"grant and drive: 511 is not cut to 255", N, 12, 511, VCUBE_REFUSED_LAST_GRANTED, FRESH},
+    {"grant and drive: 2^32 + 255 is not cut to 255", N, 12, (size_t)UINT32_MAX + 256, VCUBE_REFUSED_LAST_GRANTED, FRESH},
+    {"grant and drive: the greatest last number", N, 12, SIZE_MAX, VCUBE_REFUSED_LAST_GRANTED, FRESH},
+};
+
+/* The refused drive gives back what was handed in, makes no grant and changes no byte. */
+static void refused_drive(const struct refused_plant *plant, uint32_t rounds, uint32_t tests)
+{
+    uint8_t table[sizeof plant->table];
+
+    memcpy(table, plant->table, sizeof table);
+    drive(plant->n, table, plant->table_length, driven(rounds, tests, plant->last, ANY), plant->number,
+          driven(rounds, tests, plant->last, 0), plant->what);
+    expect(memcmp(table, plant->table, sizeof table) == 0, plant->what);
+}
+
+/* The refusals 1 to 4, 16 and 17, which the drive gives before 7. */
+static void refused_grants(void)
+{
+    for (size_t k = 0; k < sizeof refused_plants / sizeof refused_plants[0]; k++) {
+        const struct refused_plant *plant = &refused_plants[k];
+        grant(plant->n, plant->table, plant->table_length, plant->last, plant->number, 0, plant->what);
+        refused_drive(plant, ANY, ANY + 1);
+        refused_drive(plant, UINT32_MAX, UINT32_MAX);
+    }
+    grant(N, NULL, 0, 0, VCUBE_REFUSED_TABLE_LENGTH, 0, "grant: a table of length 0 gets 2");
+    drive(N, NULL, 0, driven(ANY, ANY + 1, 0, ANY), VCUBE_REFUSED_TABLE_LENGTH, driven(ANY, ANY + 1, 0, 0),
+          "drive: a table of length 0 gets 2");
+}
+
+/* The granting rule on plants of 4 in which 1 is not live and 2 is finished: 3 is granted, and in the first plant 0 too. */
+static void who_is_granted(void)
+{
+    const uint8_t two[VCUBE_TABLE_LENGTH(4)] = {0, 1, 0, 0, 0, 0, 0, 0, 1, 1, 0, 0, 0, 0, 0, 0,
+                                                0, 4, 1, 2, 0, 0, 0, 0, 0, 3, 0, 1, 0, 0, 0, 0};
+    const uint8_t one[VCUBE_TABLE_LENGTH(4)] = {0, 4, 1, 2, 0, 0, 0, 0, 1, 1, 0, 0, 0, 0, 0, 0,
+                                                0, 4, 1, 2, 0, 0, 0, 0, 0, 3, 0, 1, 0, 0, 0, 0};
+    const size_t lasts[] = {VCUBE_NO_STATION, 0, 1, 2, 3};
+    const size_t of_two[] = {0, 3, 3, 3, 0};
+
+    for (size_t k = 0; k < 5; k++) {
+        grant(4, two, sizeof two, lasts[k], VCUBE_ACCEPTED, of_two[k], "grant: the next station, going round, that is live and unfinished");
+        grant(4, one, sizeof one, lasts[k], VCUBE_ACCEPTED, 3, "grant: the only one left, be it the last granted one");
+    }
+}
+
+/* A drive over a plant of 2. */
+struct drive {
+    const char *what;
+    uint8_t before[VCUBE_TABLE_LENGTH(N)];
+    struct driven handed;
+    int number;
+    uint8_t after[VCUBE_TABLE_LENGTH(N)];
+    struct driven given;
+};
+
+/* Worked out by hand from the granting rule and steps 1 to 8 of document 01 with request C-13. */
+static const struct drive drives[] = {
+    {"drive: 0, 1, 0, 1 close a round, in n * n grants",
+     FRESH, {5, 7, VCUBE_NO_STATION, ANY}, VCUBE_ACCEPTED,
+     FRESH, {6, 9, 1, 4}},
+    {"drive: after 0 it is 1, 0, 1, 0",
+     FRESH, {5, 7, 0, ANY}, VCUBE_ACCEPTED,
+     FRESH, {6, 9, 0, 4}},
+    {"drive: in the middle of a round only 1 is left, and it was the last one",
+     {0, 2, 1, 1, 0, 0, 0, 2, 0, 1, 0, 0}, {5, 7, 1, ANY}, VCUBE_ACCEPTED,
+     FRESH, {6, 7, 1, 1}},
+    {"drive: 0 tests 1, which leaves, and is alone: nobody is left live",
+     {0, 1, 0, 0, 0, 1, 0, 1, 0, 0, 0, 0}, {5, 7, VCUBE_NO_STATION, ANY}, VCUBE_ACCEPTED,
+     {3, 2, 0, 1, 0, 1, 2, 1, 0, 0, 0, 0}, {5, 8, 0, 1}},
+    {"drive: 1 is told and leaves; then 0 is alone and leaves",
+     {0, 1, 0, 0, 0, 1, 0, 1, 0, 0, 0, 0}, {5, 7, 0, ANY}, VCUBE_ACCEPTED,
+     {3, 2, 0, 1, 0, 1, 2, 2, 0, 1, 0, 0}, {5, 9, 0, 2}},
+    {"drive: rounds at the top stop it before the first grant",
+     FRESH, {UINT32_MAX, 7, VCUBE_NO_STATION, ANY}, VCUBE_REFUSED_TALLY,
+     FRESH, {UINT32_MAX, 7, VCUBE_NO_STATION, 0}},
+    {"drive: tests at the top stop it before the first grant",
+     {0, 2, 1, 1, 0, 0, 0, 2, 0, 1, 0, 0}, {5, UINT32_MAX, 0, ANY}, VCUBE_REFUSED_TALLY,
+     {0, 2, 1, 1, 0, 0, 0, 2, 0, 1, 0, 0}, {5, UINT32_MAX, 0, 0}},
+    {"drive: tests reach the top with the first turn",
+     FRESH, {5, UINT32_MAX - 1, VCUBE_NO_STATION, ANY}, VCUBE_REFUSED_TALLY,
+     {0, 2, 0, 1, 0, 0, 0, 1, 0, 0, 0, 0}, {5, UINT32_MAX, 0, 1}},
+    {"drive: tests reach the top with the second turn",
+     FRESH, {5, UINT32_MAX - 2, VCUBE_NO_STATION, ANY}, VCUBE_REFUSED_TALLY,
+     {0, 2, 0, 1, 0, 0, 0, 2, 0, 1, 0, 0}, {5, UINT32_MAX, 1, 2}},
+    {"drive: rounds reach the top with the turn that closes the round",
+     FRESH, {UINT32_MAX - 1, 7, VCUBE_NO_STATION, ANY}, VCUBE_ACCEPTED,
+     FRESH, {UINT32_MAX, 9, 1, 4}},
+    {"drive: both reach the top as 0 leaves and so closes the round",
+     {0, 1, 0, 0, 0, 1, 0, 2, 1, 1, 1, 0}, {UINT32_MAX - 1, UINT32_MAX - 1, 1, ANY}, VCUBE_ACCEPTED,
+     {2, 1, 0, 0, 0, 1, 0, 1, 0, 0, 1, 0}, {UINT32_MAX, UINT32_MAX, 0, 1}},
+    {"drive: tests reach the top with the turn that leaves nobody live",
+     {0, 1, 0, 0, 0, 1, 0, 1, 0, 0, 0, 0}, {5, UINT32_MAX - 1, 1, ANY}, VCUBE_ACCEPTED,
+     {3, 2, 0, 1, 0, 1, 2, 1, 0, 0, 0, 0}, {5, UINT32_MAX, 0, 1}},
+};
+
+static void how_drives_end(void)
+{
+    uint8_t table[VCUBE_TABLE_LENGTH(N)];
+
+    for (size_t k = 0; k < sizeof drives / sizeof drives[0]; k++) {
+        memcpy(table, drives[k].before, sizeof table);
+        drive(N, table, sizeof table, drives[k].handed, drives[k].number, drives[k].given, drives[k].what);
+        expect(memcmp(table, drives[k].after, sizeof table) == 0, drives[k].what);
+    }
+}
+
+/* Grants and a drive over a fresh table of 2^d stations that begins at some byte of a buffer. In a round each station makes d tests and
+ * then finishes its pass; as nothing is suspected, the table is fresh again. */
+static void fresh_plant(size_t d, size_t begin)
+{
+    static uint8_t buffer[VCUBE_TABLE_LENGTH(64) + 8], fresh[VCUBE_TABLE_LENGTH(64)];
+    const size_t n = (size_t)1 << d, length = VCUBE_TABLE_LENGTH(n);
+    uint8_t *table = buffer + begin;
+
+    memset(buffer, ANY, sizeof buffer);
+    expect(vcube_fresh_table(n, fresh, length) == VCUBE_ACCEPTED, "a fresh table");
+    memcpy(table, fresh, length);
+    grant(n, table, length, 0, VCUBE_ACCEPTED, 1, "grant: after 0 comes 1");
+    grant(n, table, length, n - 2, VCUBE_ACCEPTED, n - 1, "grant: after n - 2 comes n - 1");
+    grant(n, table, length, n - 1, VCUBE_ACCEPTED, 0, "grant: after n - 1 comes 0");
+    grant(n, table, length, n, VCUBE_REFUSED_LAST_GRANTED, 0, "grant: a last number of n gets 16");
+    drive(n, table, length, driven(0, 0, VCUBE_NO_STATION, ANY), VCUBE_ACCEPTED, driven(1, (uint32_t)(n * d), n - 1, n * (d + 1)),
+          "drive: a round of a fresh plant");
+    expect(memcmp(table, fresh, length) == 0, "drive: where nothing is suspected the round leaves a fresh table");
+    expect(all_are(ANY, buffer, begin) && all_are(ANY, table + length, sizeof buffer - begin - length), "drive: only the table is written");
+}
+
+static void grants_and_drives(void)
+{
+    refused_grants();
+    who_is_granted();
+    how_drives_end();
+    for (size_t d = 1; d <= 6; d++)
+        for (size_t begin = 0; begin < 8; begin++)
+            fresh_plant(d, begin);
+}
+
 /* One result more than figures are taken over. */
 static uint16_t many[VCUBE_MOST_RESULTS + 1];
 
@@ -188,12 +406,7 @@ static struct vcube_figures any_figures(void)
 /* Whether every byte of a struct is 0. */
 static int all_zero(const void *made, size_t size)
 {
-    const unsigned char *bytes = (const unsigned char *)made;
-
-    for (size_t k = 0; k < size; k++)
-        if (bytes[k] != 0)
-            return 0;
-    return 1;
+    return all_are(0, made, size);
 }
 
 /* The call gave the number that was expected, and zeroed figures if that is a refusal. */
@@ -369,6 +582,7 @@ int main(void)
     null_in_runs(table);
     group_lengths();
     who_leaves();
+    grants_and_drives();
     figures_over_results();
     return failures != 0;
 }

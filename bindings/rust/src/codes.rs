@@ -1,5 +1,5 @@
-//! The numbers of document 01 as types: refusals, with those of request C-12,
-//! kinds, statuses, and outcomes, with that of request C-13.
+//! The numbers of document 01 as types: refusals, with those of requests C-12
+//! and C-15, kinds, statuses, and outcomes, with that of request C-13.
 
 use std::error::Error;
 use std::fmt;
@@ -34,7 +34,8 @@ macro_rules! numbered {
 }
 
 numbered! {
-    /// Why a call was refused: the refusal list, in checking order.
+    /// Why a call was refused: the refusal list, in checking order; but a drive
+    /// looks for `Tally` after `LastGranted` and `NoneLive`.
     #[non_exhaustive]
     Refusal {
         Size = 1,
@@ -52,6 +53,8 @@ numbered! {
         ListLength = 13,
         NoResult = 14,
         TooManyResults = 15,
+        LastGranted = 16,
+        NoneLive = 17,
     }
 }
 
@@ -107,7 +110,9 @@ impl fmt::Display for Refusal {
             Refusal::AllFinished => "some station is live and every live one is finished",
             Refusal::ScheduleLength => "the schedule's length is odd",
             Refusal::SheetLength => "the sheet's length is not twice the schedule's",
-            Refusal::Tally => "either tally stands at 4294967295 when an entry is reached",
+            Refusal::Tally => {
+                "either tally stands at 4294967295 when an entry, or a grant of a drive, is reached"
+            }
             Refusal::Kind => "the kind is not 1, 2 or 3",
             Refusal::Station => "the station number is n or more",
             Refusal::NotLive => "the station is not live",
@@ -120,6 +125,8 @@ impl fmt::Display for Refusal {
             Refusal::TooManyResults => {
                 "there are more than 4096 results in all, or totals that 4096 results cannot have"
             }
+            Refusal::LastGranted => "the last granted number is n or more and not 255",
+            Refusal::NoneLive => "no station is live",
         })
     }
 }

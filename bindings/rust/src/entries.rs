@@ -2,8 +2,9 @@
 
 use crate::{Kind, Outcome, Station, Status};
 
-/// Stands in the sheet where no station was tested.
-const NO_STATION: u8 = 255;
+/// Stands in the sheet where no station was tested, and is the last granted
+/// number where none was granted yet.
+pub(crate) const NO_STATION: u8 = 255;
 
 /// An entry of a schedule.
 #[derive(Clone, Copy, Debug, PartialEq, Eq, Hash)]

@@ -4,11 +4,12 @@
 //! vCube watch on a gin's plant cable"; the steps of an entry stand as
 //! definitions in crates/plant/specs/Turn.antt and Entry.antt. Plants have 2 to
 //! 64 stations (request C-11 of document 02), and the tested station hears too
-//! that it is suspected (its request C-13). The figures over a season's trials
-//! are those of its request C-12. Every call takes any numbers and slices of any
-//! length: nothing need be tested before calling. A refused call changes
-//! nothing; a run that stops at an entry keeps the work of the entries before
-//! it.
+//! that it is suspected (its request C-13). The bus master that grants the turns
+//! is that of its request C-15, and the figures over a season's trials are those
+//! of its request C-12. Every call takes any numbers and slices of any length:
+//! nothing need be tested before calling. A refused call changes nothing; a run
+//! that stops at an entry keeps the work of the entries before it, and a drive
+//! that stops before a grant that of the turns before it.
 //!
 //! The example of document 01 for N = 4:
 //!
@@ -75,6 +76,37 @@
 //! # Ok::<(), vcube::Refusal>(())
 //! ```
 //!
+//! A bus master grants the turns, so that boards do not fight for the cable. A
+//! drive makes grants and turns until the round closes:
+//!
+//! ```
+//! use vcube::{Driven, Entry, Kind, Station, Tally};
+//!
+//! let n = 8;
+//! let mut table = [0; vcube::table_length(8)];
+//! vcube::fresh_table(n, &mut table)?;
+//! let (mut tally, mut last) = (Tally::default(), None);
+//! assert_eq!(vcube::grant(n, &table, last)?, Station(0));
+//!
+//! // Each board makes 3 tests and then finishes its pass.
+//! let driven = vcube::drive(n, &mut table, &mut tally, &mut last);
+//! assert_eq!(driven, Driven { refusal: None, grants: 32 });
+//! assert_eq!(tally, Tally { rounds: 1, tests: 24 });
+//! assert_eq!(last, Some(Station(7)));
+//!
+//! let crash = Entry { kind: Kind::Crash, station: Station(5) };
+//! let answer = vcube::run(n, &mut table, &mut tally, &crash.bytes(), &mut [0; 4]);
+//! assert_eq!(answer.refusal, None);
+//!
+//! // 4 finds 5 dead and makes 5 tests, the other boards 3 as before.
+//! let driven = vcube::drive(n, &mut table, &mut tally, &mut last);
+//! assert_eq!(driven, Driven { refusal: None, grants: 30 });
+//! assert_eq!(tally, Tally { rounds: 2, tests: 47 });
+//! assert_eq!(last, Some(Station(4)));
+//! assert_eq!(vcube::row(n, &table, Station(0))?, [0, 0, 0, 0, 0, 1, 0, 0]);
+//! # Ok::<(), vcube::Refusal>(())
+//! ```
+//!
 //! Figures of a list of results, of two lists, and of totals that are kept over
 //! days while the lists are not:
 //!
@@ -105,6 +137,7 @@
 mod codes;
 mod entries;
 mod figures;
+mod granter;
 #[allow(unsafe_code)]
 mod raw;
 
@@ -114,6 +147,7 @@ mod tests;
 pub use codes::{Kind, Outcome, Refusal, Status};
 pub use entries::{schedule, sheet_lines, Entry, SheetLine};
 pub use figures::{figures, figures_of_two, Figures, Fraction, Totals, MOST_RESULTS};
+pub use granter::{drive, grant, Driven};
 
 /// A station number. Any number can stand here; the library refuses n or more.
 #[derive(Clone, Copy, Debug, PartialEq, Eq, Hash, PartialOrd, Ord)]

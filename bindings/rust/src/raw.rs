@@ -62,6 +62,24 @@ mod c {
             taken: &mut usize,
         ) -> u8;
 
+        pub fn vcube_grant(
+            n: usize,
+            table: *const u8,
+            table_length: usize,
+            last: usize,
+            station: &mut usize,
+        ) -> u8;
+
+        pub fn vcube_drive(
+            n: usize,
+            table: *mut u8,
+            table_length: usize,
+            rounds: &mut u32,
+            tests: &mut u32,
+            last: &mut usize,
+            grants: &mut usize,
+        ) -> u8;
+
         pub fn vcube_figures_of_list(
             results: *const u16,
             length: usize,
@@ -152,6 +170,36 @@ pub fn run(
         )
     };
     (number, taken)
+}
+
+/// Gives the number and the station granted.
+pub fn grant(n: usize, table: &[u8], last: usize) -> (u8, usize) {
+    let mut station = 0;
+    let number = unsafe { c::vcube_grant(n, table.as_ptr(), table.len(), last, &mut station) };
+    (number, station)
+}
+
+/// Gives the number and the grants made.
+pub fn drive(
+    n: usize,
+    table: &mut [u8],
+    rounds: &mut u32,
+    tests: &mut u32,
+    last: &mut usize,
+) -> (u8, usize) {
+    let mut grants = 0;
+    let number = unsafe {
+        c::vcube_drive(
+            n,
+            table.as_mut_ptr(),
+            table.len(),
+            rounds,
+            tests,
+            last,
+            &mut grants,
+        )
+    };
+    (number, grants)
 }
 
 /// What figures hold before a call fills them.

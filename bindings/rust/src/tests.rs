@@ -5,6 +5,8 @@
 
 use crate::*;
 
+mod granter;
+
 fn fresh(n: usize) -> Vec<u8> {
     let mut table = vec![9; table_length(n)];
     assert_eq!(fresh_table(n, &mut table), Ok(()));
@@ -529,7 +531,7 @@ fn numbers_out_of_range_are_refused() {
 fn numbers_are_those_of_the_documents() {
     let names = |name: fn(u8) -> Option<String>| (0..=255).filter_map(name).collect::<Vec<_>>();
     let refusals = names(|k| Refusal::from_number(k).map(|one| format!("{k} {}", one.number())));
-    assert_eq!((refusals.len(), refusals[14].as_str()), (15, "15 15"));
+    assert_eq!((refusals.len(), refusals[16].as_str()), (17, "17 17"));
     let kinds = names(|k| Kind::from_number(k).map(|one| format!("{} {one:?}", one.number())));
     assert_eq!(kinds, ["1 Turn", "2 LateTurn", "3 Crash"]);
     let statuses = names(|k| Status::from_number(k).map(|one| format!("{k} {one:?}")));
@@ -562,12 +564,12 @@ fn refusals_of_tables_and_entries_have_their_names() {
 
 #[test]
 fn each_refusal_has_a_message_of_its_own() {
-    let refusals = (1..=15).map(|k| Refusal::from_number(k).expect("15 refusals"));
+    let refusals = (1..=17).map(|k| Refusal::from_number(k).expect("17 refusals"));
     let mut messages: Vec<String> = refusals.map(|refusal| refusal.to_string()).collect();
     assert!(messages.iter().all(|message| !message.is_empty()));
     messages.sort();
     messages.dedup();
-    assert_eq!(messages.len(), 15);
+    assert_eq!(messages.len(), 17);
     let error: Box<dyn std::error::Error> = Refusal::NotLive.into();
     assert_eq!(error.to_string(), "the station is not live");
 }
