@@ -1,12 +1,13 @@
-//! The three implementations of the run and of the figures, called the same
-//! way.
+//! The three implementations of the run, of the drive and of the figures,
+//! called the same way.
 
-use crate::{plain, plain_figures};
+use crate::{plain, plain_drive, plain_figures};
+use shared::grants::NONE_YET;
 use shared::schedule::Entry;
-use simulator::Answer;
+use simulator::{Answer, Driven};
 use vcube::{Figures, Fraction, Refusal, Tally};
 
-/// An implementation of the run and of the figures.
+/// An implementation of the run, of the drive and of the figures.
 #[derive(Clone, Copy, Debug, PartialEq, Eq)]
 pub enum Contender {
     Library,
@@ -32,6 +33,15 @@ impl Contender {
             Contender::Library => run_library(n, table, schedule, sheet),
             Contender::Plain => plain::run(n, table, (0, 0), schedule, sheet),
             Contender::Simulator => simulator::run(n, table, (0, 0), schedule, sheet),
+        }
+    }
+
+    /// Drives with tallies of 0 where no station was granted yet.
+    pub fn drive(self, n: usize, table: &mut [u8]) -> Driven {
+        match self {
+            Contender::Library => drive_library(n, table),
+            Contender::Plain => plain_drive::drive(n, table, (0, 0), NONE_YET),
+            Contender::Simulator => simulator::drive(n, table, (0, 0), NONE_YET),
         }
     }
 
@@ -78,9 +88,26 @@ pub fn run_library(n: usize, table: &mut [u8], schedule: &[u8], sheet: &mut [u8]
     let mut tally = Tally::default();
     let answer = vcube::run(n, table, &mut tally, schedule, sheet);
     Answer {
-        number: answer.refusal.map_or(0, |refusal| refusal.number()),
+        number: number(answer.refusal),
         taken: answer.taken,
         rounds: tally.rounds,
         tests: tally.tests,
     }
+}
+
+fn drive_library(n: usize, table: &mut [u8]) -> Driven {
+    let (mut tally, mut last) = (Tally::default(), None);
+    let driven = vcube::drive(n, table, &mut tally, &mut last);
+    Driven {
+        number: number(driven.refusal),
+        rounds: tally.rounds,
+        tests: tally.tests,
+        last: last.map_or(NONE_YET, |station| station.0),
+        grants: driven.grants,
+    }
+}
+
+/// 0 or the number of the refusal.
+fn number(refusal: Option<Refusal>) -> u8 {
+    refusal.map_or(0, |refusal| refusal.number())
 }

@@ -1,5 +1,6 @@
 //! How many rounds close until every live board suspects exactly the dead
-//! ones. Everything is done by the library, one entry a run.
+//! ones. Everything is done by the library: one entry a run, or one round a
+//! drive.
 
 use crate::bounds::exact;
 use crate::contender::run_entry;
@@ -7,6 +8,7 @@ use shared::groups::dimension;
 use shared::random::Random;
 use shared::schedule::{Entry, CRASH, TURN};
 use shared::table;
+use vcube::{Station, Tally};
 
 /// Which live board that has not finished its pass takes the next turn.
 #[derive(Clone, Copy, Debug, PartialEq, Eq)]
@@ -21,23 +23,24 @@ pub enum Order {
     Falling,
     /// The one whose turn adds the fewest suspicions to the table.
     Delaying,
+    /// The one that the library grants it: each round is one drive.
+    Driven,
 }
 
 /// A plant and its closed rounds.
 pub struct Plant {
     n: usize,
-    table: Vec<u8>,
+    pub table: Vec<u8>,
     pub rounds: u32,
+    /// The last granted board, which one drive hands on to the next.
+    last: Option<Station>,
 }
 
 /// The closed rounds until every live board suspects exactly the dead ones,
 /// from a fresh table on which the dead boards crash first. Stops the program
 /// if they are more than the exact wait.
 pub fn rounds_until_known(n: usize, dead: &[usize], order: Order, random: &mut Random) -> u32 {
-    let mut plant = Plant::fresh(n);
-    for i in dead {
-        plant.take([CRASH, *i as u8]);
-    }
+    let mut plant = Plant::with_dead(n, dead);
     while !plant.dead_are_known() {
         plant.play_round(order, random);
         assert!(plant.rounds <= exact(n), "more than the exact wait");
@@ -63,8 +66,18 @@ impl Plant {
             n,
             table: vec![0; vcube::table_length(n)],
             rounds: 0,
+            last: None,
         };
         vcube::fresh_table(n, &mut plant.table).expect("a size of the list");
+        plant
+    }
+
+    /// A fresh one on which these boards crash.
+    pub fn with_dead(n: usize, dead: &[usize]) -> Plant {
+        let mut plant = Plant::fresh(n);
+        for i in dead {
+            plant.take([CRASH, *i as u8]);
+        }
         plant
     }
 
@@ -76,6 +89,9 @@ impl Plant {
     }
 
     fn play_round(&mut self, order: Order, random: &mut Random) {
+        if order == Order::Driven {
+            return self.drive_round();
+        }
         let passes = self.pass_order(order, random);
         loop {
             let ready = table::unfinished_stations(self.n, &self.table);
@@ -90,13 +106,21 @@ impl Plant {
         }
     }
 
+    /// One drive, which must close a round.
+    fn drive_round(&mut self) {
+        let mut tally = Tally::default();
+        let driven = vcube::drive(self.n, &mut self.table, &mut tally, &mut self.last);
+        assert_eq!((driven.refusal, tally.rounds), (None, 1));
+        self.rounds += tally.rounds;
+    }
+
     /// The order of the whole passes in this round, where the order has one.
     fn pass_order(&self, order: Order, random: &mut Random) -> Vec<usize> {
         match order {
             Order::Passes => random.order(self.n),
             Order::Falling => (0..self.n).rev().collect(),
             Order::Rising => (0..self.n).collect(),
-            Order::Random | Order::Delaying => Vec::new(),
+            Order::Random | Order::Delaying | Order::Driven => Vec::new(),
         }
     }
 

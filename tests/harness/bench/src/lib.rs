@@ -1,5 +1,6 @@
-//! A benchmark of the run of document 01 and of the figures of request C-12,
-//! and an experiment on how many rounds pass until the dead boards are known.
+//! A benchmark of the run of document 01, of the drive of request C-15 and of
+//! the figures of request C-12, and an experiment on how many rounds pass until
+//! the dead boards are known.
 
 #![forbid(unsafe_code)]
 
@@ -9,6 +10,7 @@ pub mod contender;
 pub mod detection;
 pub mod measure;
 pub mod plain;
+pub mod plain_drive;
 pub mod plain_figures;
 pub mod slowest;
 pub mod statistics;

@@ -2,11 +2,12 @@
 
 use crate::contender::Contender;
 use crate::work::Work;
-use simulator::Answer;
+use simulator::{Answer, Driven};
 use std::hint::black_box;
 use std::time::Instant;
 
-/// A batch of runs, each on a table of its own. The sheet is the same for all.
+/// A batch of runs or drives, each on a table of its own. The sheet is the same
+/// for all.
 struct Batch<'a> {
     works: &'a [Work],
     tables: Vec<Vec<u8>>,
@@ -31,8 +32,9 @@ impl Batch<'_> {
         self.sheet.fill(0);
     }
 
-    /// The seconds that all runs take together.
-    fn time(&mut self, contender: Contender) -> f64 {
+    /// The seconds that all calls take together. One is made for a work, on its
+    /// table and a sheet for its schedule.
+    fn time<T>(&mut self, call: impl Fn(&Work, &mut [u8], &mut [u8]) -> T) -> f64 {
         self.prepare();
         let Batch {
             works,
@@ -42,7 +44,7 @@ impl Batch<'_> {
         let start = Instant::now();
         for (work, table) in works.iter().zip(&mut *tables) {
             let sheet = &mut sheet[..2 * work.schedule.len()];
-            black_box(contender.run(work.n, table, &work.schedule, sheet));
+            black_box(call(work, table, sheet));
         }
         let seconds = start.elapsed().as_secs_f64();
         black_box((tables, sheet));
@@ -53,7 +55,18 @@ impl Batch<'_> {
 /// The seconds that all runs take together with each implementation.
 pub fn best_times(works: &[Work], repetitions: usize) -> [f64; 3] {
     let mut batch = Batch::new(works);
-    best(repetitions, |contender| batch.time(contender))
+    best(repetitions, |contender| {
+        batch.time(|work, table, sheet| contender.run(work.n, table, &work.schedule, sheet))
+    })
+}
+
+/// The seconds that drives from all start tables take together with each
+/// implementation.
+pub fn best_times_of_drives(works: &[Work], repetitions: usize) -> [f64; 3] {
+    let mut batch = Batch::new(works);
+    best(repetitions, |contender| {
+        batch.time(|work, table, _| contender.drive(work.n, table))
+    })
 }
 
 /// The seconds that the figures of all lists take together with each
@@ -96,6 +109,22 @@ pub fn run_once(contender: Contender, work: &Work) -> (Answer, Vec<u8>, Vec<u8>)
 pub fn check_equal(work: &Work) {
     let results = Contender::ALL.map(|contender| run_once(contender, work));
     assert_eq!(results[0].0.taken, work.entries());
+    assert!(results[0] == results[1], "library and plain Rust differ");
+    assert!(results[0] == results[2], "library and simulator differ");
+}
+
+/// One drive: what it answers, and the table.
+pub fn drive_once(contender: Contender, work: &Work) -> (Driven, Vec<u8>) {
+    let mut table = work.table.clone();
+    let driven = contender.drive(work.n, &mut table);
+    (driven, table)
+}
+
+/// Stops unless all three give equal tables and answers, and close a round.
+pub fn check_equal_drives(work: &Work) {
+    let results = Contender::ALL.map(|contender| drive_once(contender, work));
+    let driven = results[0].0;
+    assert_eq!((driven.number, driven.rounds), (0, 1));
     assert!(results[0] == results[1], "library and plain Rust differ");
     assert!(results[0] == results[2], "library and simulator differ");
 }

@@ -1,6 +1,9 @@
 //! Plain Rust against the simulator: every byte and every answer. The bounds,
 //! the slowest plants, and what is said of the rounds.
 
+mod detection;
+mod drives;
+
 use crate::contender::Contender;
 use crate::measure::{check_equal, check_equal_figures};
 use crate::slowest::Slowest;

@@ -55,7 +55,7 @@ impl Work {
     }
 
     /// A table with random stations crashed, and no entry yet.
-    fn start(n: usize, dead: usize, random: &mut Random) -> Work {
+    pub fn start(n: usize, dead: usize, random: &mut Random) -> Work {
         let stations = random.order(n);
         Work {
             n,

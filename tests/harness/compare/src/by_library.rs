@@ -52,6 +52,22 @@ extern "C" {
         sheet_length: usize,
         taken: *mut usize,
     ) -> u8;
+    fn vcube_grant(
+        n: usize,
+        table: *const u8,
+        table_length: usize,
+        last: usize,
+        station: *mut usize,
+    ) -> u8;
+    fn vcube_drive(
+        n: usize,
+        table: *mut u8,
+        table_length: usize,
+        rounds: *mut u32,
+        tests: *mut u32,
+        last: *mut usize,
+        grants: *mut usize,
+    ) -> u8;
     fn vcube_figures_of_list(results: *const u16, length: usize, figures: *mut Figures) -> u8;
     fn vcube_figures_of_two_lists(
         first: *const u16,
@@ -149,6 +165,18 @@ impl Calls for Library {
                 figure(lent.taken),
             )
         }
+    }
+
+    fn grant(numbers: &Numbers, [table, station]: [&mut Guarded; 2]) -> u8 {
+        let (table, length) = bytes(table);
+        unsafe { vcube_grant(numbers.n, table, length, numbers.last, figure(station)) }
+    }
+
+    fn drive(numbers: &Numbers, [table, rounds, tests, last, grants]: [&mut Guarded; 5]) -> u8 {
+        let (table, length) = bytes(table);
+        let (rounds, tests) = (figure(rounds), figure(tests));
+        let (last, grants) = (figure(last), figure(grants));
+        unsafe { vcube_drive(numbers.n, table, length, rounds, tests, last, grants) }
     }
 
     fn figures_of_list([list, figures]: [&mut Guarded; 2]) -> u8 {

@@ -54,17 +54,32 @@ impl Calls for Simulator {
     }
 
     fn run(numbers: &Numbers, lent: Run) -> u8 {
-        let tally = [&lent.rounds, &lent.tests].map(|place| place.figure() as u32);
         let answer = simulator::run(
             numbers.n,
             lent.table.contents_mut(),
-            tally.into(),
+            tally(lent.rounds, lent.tests),
             lent.schedule.contents(),
             lent.sheet.contents_mut(),
         );
         lent.rounds.put_figure(answer.rounds as usize);
         lent.tests.put_figure(answer.tests as usize);
         lent.taken.put_figure(answer.taken);
+        answer.number
+    }
+
+    fn grant(numbers: &Numbers, [table, place]: [&mut Guarded; 2]) -> u8 {
+        let (number, station) = simulator::grant(numbers.n, table.contents(), numbers.last);
+        place.put_figure(station.into());
+        number
+    }
+
+    fn drive(numbers: &Numbers, [table, rounds, tests, last, grants]: [&mut Guarded; 5]) -> u8 {
+        let tally = tally(rounds, tests);
+        let answer = simulator::drive(numbers.n, table.contents_mut(), tally, last.figure());
+        rounds.put_figure(answer.rounds as usize);
+        tests.put_figure(answer.tests as usize);
+        last.put_figure(answer.last);
+        grants.put_figure(answer.grants);
         answer.number
     }
 
@@ -90,6 +105,11 @@ impl Calls for Simulator {
         let totals = words::totals(totals.contents());
         put_figures(figures, &simulator::figures_of_totals(&totals))
     }
+}
+
+/// The rounds and the tests handed in.
+fn tally(rounds: &Guarded, tests: &Guarded) -> (u32, u32) {
+    (rounds.figure() as u32, tests.figure() as u32)
 }
 
 fn results(buffer: &Guarded) -> Vec<u16> {

@@ -4,6 +4,7 @@
 //! what it reads from a buffer is written there again, and its figures are put
 //! where the library would put them. So a fault of it shows in a buffer.
 
+use shared::grants::NONE_YET;
 use vcube::{Entry, Figures, Level, Refusal, SheetLine, Station, Tally, Totals};
 
 use crate::call::Numbers;
@@ -57,10 +58,7 @@ impl Calls for Typed {
     }
 
     fn run(numbers: &Numbers, lent: Run) -> u8 {
-        let mut tally = Tally {
-            rounds: lent.rounds.figure() as u32,
-            tests: lent.tests.figure() as u32,
-        };
+        let mut tally = tally(lent.rounds, lent.tests);
         let schedule = typed_schedule(lent.schedule.contents());
         let (table, sheet) = (lent.table.contents_mut(), lent.sheet.contents_mut());
         let answer = vcube::run(numbers.n, table, &mut tally, &schedule, sheet);
@@ -68,10 +66,25 @@ impl Calls for Typed {
         for (place, line) in sheet.chunks_exact_mut(4).zip(&lines) {
             place.copy_from_slice(&line_bytes(line));
         }
-        lent.rounds.put_figure(tally.rounds as usize);
-        lent.tests.put_figure(tally.tests as usize);
+        put_tally(tally, lent.rounds, lent.tests);
         lent.taken.put_figure(lines.len());
         number(&answer.refusal.map_or(Ok(()), Err))
+    }
+
+    fn grant(numbers: &Numbers, [table, place]: [&mut Guarded; 2]) -> u8 {
+        let given = vcube::grant(numbers.n, table.contents(), last_granted(numbers.last));
+        place.put_figure(given.map_or(0, |station| station.0));
+        number(&given)
+    }
+
+    fn drive(numbers: &Numbers, [table, rounds, tests, last, grants]: [&mut Guarded; 5]) -> u8 {
+        let mut tally = tally(rounds, tests);
+        let mut station = last_granted(last.figure());
+        let driven = vcube::drive(numbers.n, table.contents_mut(), &mut tally, &mut station);
+        put_tally(tally, rounds, tests);
+        last.put_figure(station.map_or(NONE_YET, |station| station.0));
+        grants.put_figure(driven.grants);
+        number(&driven.refusal.map_or(Ok(()), Err))
     }
 
     fn figures_of_list([list, figures]: [&mut Guarded; 2]) -> u8 {
@@ -94,6 +107,24 @@ impl Calls for Typed {
     fn figures_of_totals([handed_in, figures]: [&mut Guarded; 2]) -> u8 {
         put_figures(figures, totals(handed_in).figures())
     }
+}
+
+/// The tally handed in.
+fn tally(rounds: &Guarded, tests: &Guarded) -> Tally {
+    Tally {
+        rounds: rounds.figure() as u32,
+        tests: tests.figure() as u32,
+    }
+}
+
+fn put_tally(tally: Tally, rounds: &mut Guarded, tests: &mut Guarded) {
+    rounds.put_figure(tally.rounds as usize);
+    tests.put_figure(tally.tests as usize);
+}
+
+/// The last granted number by its type; none for 255.
+fn last_granted(number: usize) -> Option<Station> {
+    (number != NONE_YET).then_some(Station(number))
 }
 
 fn results(buffer: &Guarded) -> Vec<u16> {

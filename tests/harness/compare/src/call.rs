@@ -1,9 +1,12 @@
 //! A call: its kind, its numbers and its buffers.
 //!
 //! A place where a call puts a figure is a buffer too: the bytes of a `usize`,
-//! or of a `u32` for the tally, which is also handed in there. So are a list of
-//! results, the bytes of `u16`, and figures over results and totals, the bytes
-//! of `u64` (module `words`).
+//! or of a `u32` for the tally. The tally, and the last granted number of a
+//! drive, are also handed in there. Further buffers are a list of results, the
+//! bytes of `u16`, and figures over results and totals, the bytes of `u64`
+//! (module `words`).
+
+use crate::words;
 
 #[derive(Clone, Copy, Debug, PartialEq, Eq)]
 pub enum Kind {
@@ -12,6 +15,8 @@ pub enum Kind {
     Assignment,
     Row,
     Run,
+    Grant,
+    Drive,
     FiguresOfList,
     FiguresOfTwoLists,
     TotalsOfList,
@@ -25,6 +30,8 @@ pub struct Numbers {
     pub n: usize,
     pub station: usize,
     pub level: usize,
+    /// The last granted number that a grant is handed.
+    pub last: usize,
 }
 
 /// The name of a buffer.
@@ -40,6 +47,12 @@ pub enum Name {
     Rounds,
     Tests,
     Taken,
+    /// The station that a grant gives.
+    Station,
+    /// The last granted number that a drive is handed and gives back.
+    Last,
+    /// How many grants a drive made.
+    Grants,
     /// A list of results, or the first of two.
     Results,
     SecondResults,
@@ -66,7 +79,7 @@ pub struct Call {
 }
 
 impl Call {
-    /// The rounds and the tests that a run is handed.
+    /// The rounds and the tests that a run or a drive is handed.
     pub fn tally(&self) -> (u32, u32) {
         let figure = |name| {
             let bytes = self.buffers.get(name)[..].try_into();
@@ -74,15 +87,25 @@ impl Call {
         };
         (figure(Name::Rounds), figure(Name::Tests))
     }
+
+    /// The last granted number that a grant or a drive is handed.
+    pub fn last_granted(&self) -> usize {
+        match self.kind {
+            Kind::Drive => words::number(self.buffers.get(Name::Last)) as usize,
+            _ => self.numbers.last,
+        }
+    }
 }
 
 impl Kind {
-    pub const ALL: [Kind; 10] = [
+    pub const ALL: [Kind; 12] = [
         Kind::FreshTable,
         Kind::GroupList,
         Kind::Assignment,
         Kind::Row,
         Kind::Run,
+        Kind::Grant,
+        Kind::Drive,
         Kind::FiguresOfList,
         Kind::FiguresOfTwoLists,
         Kind::TotalsOfList,
@@ -92,12 +115,14 @@ impl Kind {
 
     /// Those about a plant, which take a size: the first ones. The others are
     /// about results.
-    pub const OF_PLANTS: [Kind; 5] = [
+    pub const OF_PLANTS: [Kind; 7] = [
         Kind::FreshTable,
         Kind::GroupList,
         Kind::Assignment,
         Kind::Row,
         Kind::Run,
+        Kind::Grant,
+        Kind::Drive,
     ];
 
     pub fn text(self) -> &'static str {
@@ -107,6 +132,8 @@ impl Kind {
             Kind::Assignment => "assignment",
             Kind::Row => "row",
             Kind::Run => "run",
+            Kind::Grant => "grant",
+            Kind::Drive => "drive",
             Kind::FiguresOfList => "figures of a list",
             Kind::FiguresOfTwoLists => "figures of two lists",
             Kind::TotalsOfList => "totals of a list",
@@ -130,6 +157,14 @@ impl Kind {
                 Name::Tests,
                 Name::Taken,
             ],
+            Kind::Grant => &[Name::Table, Name::Station],
+            Kind::Drive => &[
+                Name::Table,
+                Name::Rounds,
+                Name::Tests,
+                Name::Last,
+                Name::Grants,
+            ],
             Kind::FiguresOfList => &[Name::Results, Name::Figures],
             Kind::FiguresOfTwoLists => &[Name::Results, Name::SecondResults, Name::Figures],
             Kind::TotalsOfList => &[Name::Results, Name::GivenTotals],
@@ -146,6 +181,8 @@ impl Kind {
             Kind::Assignment => &[0, 1, 2, 3, 4, 9, 10, 13],
             Kind::Row => &[0, 1, 2, 3, 4, 9],
             Kind::Run => &[0, 1, 2, 3, 4, 5, 6, 7, 8, 9, 10, 11],
+            Kind::Grant => &[0, 1, 2, 3, 4, 16, 17],
+            Kind::Drive => &[0, 1, 2, 3, 4, 7, 16, 17],
             Kind::FiguresOfList | Kind::FiguresOfTwoLists | Kind::FiguresOfTotals => &[0, 14, 15],
             Kind::TotalsOfList | Kind::JoinTotals => &[0, 15],
         }
@@ -153,7 +190,7 @@ impl Kind {
 }
 
 impl Name {
-    pub const ALL: [Name; 16] = [
+    pub const ALL: [Name; 19] = [
         Name::Table,
         Name::List,
         Name::Schedule,
@@ -164,6 +201,9 @@ impl Name {
         Name::Rounds,
         Name::Tests,
         Name::Taken,
+        Name::Station,
+        Name::Last,
+        Name::Grants,
         Name::Results,
         Name::SecondResults,
         Name::Totals,
@@ -184,6 +224,9 @@ impl Name {
             Name::Rounds => "rounds",
             Name::Tests => "tests",
             Name::Taken => "taken",
+            Name::Station => "station",
+            Name::Last => "last number",
+            Name::Grants => "grants",
             Name::Results => "results",
             Name::SecondResults => "second results",
             Name::Totals => "totals",
@@ -199,6 +242,7 @@ impl Name {
             Name::Table | Name::List | Name::Schedule | Name::Sheet => size_of::<u8>(),
             Name::Rounds | Name::Tests => size_of::<u32>(),
             Name::Count | Name::Start | Name::Length | Name::Taken => size_of::<usize>(),
+            Name::Station | Name::Last | Name::Grants => size_of::<usize>(),
             Name::Results | Name::SecondResults => size_of::<u16>(),
             Name::Totals | Name::SecondTotals | Name::GivenTotals | Name::Figures => {
                 size_of::<u64>()

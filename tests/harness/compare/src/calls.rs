@@ -20,6 +20,12 @@ pub trait Calls {
 
     fn run(numbers: &Numbers, lent: Run) -> u8;
 
+    /// Table, station.
+    fn grant(numbers: &Numbers, lent: [&mut Guarded; 2]) -> u8;
+
+    /// Table, rounds, tests, last number, grants.
+    fn drive(numbers: &Numbers, lent: [&mut Guarded; 5]) -> u8;
+
     /// Results, figures.
     fn figures_of_list(lent: [&mut Guarded; 2]) -> u8;
 
@@ -66,6 +72,8 @@ pub fn make<By: Calls>(call: &Call, mut buffers: Buffers<Guarded>) -> Outcome {
         Kind::Assignment => By::assignment(numbers, assignment(&mut buffers)),
         Kind::Row => By::row(numbers, row(&mut buffers)),
         Kind::Run => By::run(numbers, run(&mut buffers)),
+        Kind::Grant => By::grant(numbers, lent(call.kind, &mut buffers)),
+        Kind::Drive => By::drive(numbers, lent(call.kind, &mut buffers)),
         Kind::FiguresOfList => By::figures_of_list(lent(call.kind, &mut buffers)),
         Kind::FiguresOfTwoLists => By::figures_of_two_lists(lent(call.kind, &mut buffers)),
         Kind::TotalsOfList => By::totals_of_list(lent(call.kind, &mut buffers)),
@@ -109,7 +117,7 @@ fn run(buffers: &mut Buffers<Guarded>) -> Run<'_> {
     }
 }
 
-/// All buffers of a call about results, in the order of the header.
+/// All buffers of a call, in the order of the header.
 fn lent<const N: usize>(kind: Kind, buffers: &mut Buffers<Guarded>) -> [&mut Guarded; N] {
     let names: &[Name; N] = kind.buffers().try_into().expect("so many buffers");
     buffers.get_all(*names)

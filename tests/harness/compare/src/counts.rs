@@ -7,8 +7,10 @@ use shared::groups;
 
 use crate::absent::Absent;
 use crate::call::{Call, Kind, Name};
-use crate::cases::Occurred;
+use crate::cases;
 use crate::entries::{self, Answer, Entry};
+use crate::granted;
+use crate::occurred::Occurred;
 use crate::outcome::Outcome;
 use crate::told::Told;
 
@@ -16,7 +18,7 @@ const KINDS: usize = Kind::ALL.len();
 const PLANT_KINDS: usize = Kind::OF_PLANTS.len();
 
 /// Refusals have the numbers from 1 up to but without this one.
-const NUMBERS: usize = 16;
+const NUMBERS: usize = 18;
 
 /// Outcomes have the numbers from 0 up to but without this one.
 pub const OUTCOMES: usize = 6;
@@ -71,8 +73,10 @@ pub struct Counts {
     pub absent: Absent,
     /// Tests in which one station suspects the other.
     pub told: Told,
+    /// The cases of grants and drives.
+    pub granted: Occurred<granted::Seen>,
     /// The cases of calls about results.
-    pub cases: Occurred,
+    pub cases: Occurred<cases::Seen>,
 }
 
 /// What occurred in the runs of one size. For each size, 2 included, every
@@ -117,7 +121,8 @@ impl Counts {
             empty: [count; LENGTHS],
             absent: Absent::all(count),
             told: Told::all(count),
-            cases: Occurred::all(count),
+            granted: granted::all(count),
+            cases: cases::all(count),
         }
     }
 
@@ -129,7 +134,7 @@ impl Counts {
         }
         match Kind::OF_PLANTS.contains(&call.kind) {
             true => self.add_of_plant(call, outcome),
-            false => self.cases.add(call, outcome),
+            false => self.cases.add(call.kind, &cases::Seen::new(call, outcome)),
         }
     }
 
@@ -138,8 +143,13 @@ impl Counts {
             self.sizes[call.kind as usize][place(call)] += 1;
         }
         self.absent.add(call, outcome);
-        if call.kind == Kind::Run {
-            self.add_run(call, outcome);
+        match call.kind {
+            Kind::Run => self.add_run(call, outcome),
+            Kind::Grant | Kind::Drive => {
+                let seen = granted::Seen::new(call, outcome);
+                self.granted.add(call.kind, &seen);
+            }
+            _ => {}
         }
     }
 
@@ -196,6 +206,7 @@ impl Counts {
         self.require_singly(&mut required);
         self.absent.require(&mut required);
         self.told.require(&mut required);
+        self.granted.require(&mut required);
         self.cases.require(&mut required);
         required
     }
@@ -289,7 +300,8 @@ impl fmt::Display for Counts {
             let comma = if name == OF_ANY_LENGTH[0] { "" } else { ", " };
             write!(f, "{comma}{} {count}", name.text())?;
         }
-        write!(f, "; {}; {}; {}", self.absent, self.told, self.cases)?;
+        write!(f, "; {}; {}; ", self.absent, self.told)?;
+        write!(f, "{}; {}", self.granted, self.cases)?;
         let rarest = self.required().into_iter().min();
         rarest.map_or(Ok(()), |(count, text)| {
             write!(f, "; rarest: {text}: {count}")

@@ -1,24 +1,27 @@
 //! Libraries with a known fault, which stand in for the library in the
 //! self-test.
 
-use crate::call::{Call, Name};
+use crate::call::{Call, Kind, Name};
 use crate::outcome::Outcome;
 
 /// What is wrong, and what the library then makes of the right outcome.
 pub type Fault = (&'static str, fn(&Call, &mut Outcome));
 
 pub const ALL: [Fault; 12] = [
-    ("a refused run sets the tally to 0", |_, outcome| {
-        if refused_at_start(outcome) {
-            put(outcome, Name::Rounds, 0);
-            put(outcome, Name::Tests, 0);
+    ("a refused run sets the tally to 0", |call, outcome| {
+        if call.kind == Kind::Run && refused_at_start(outcome) {
+            clear_tally(outcome);
         }
     }),
     ("a run does not give the rounds back", |call, outcome| {
-        leave(call, outcome, Name::Rounds);
+        if call.kind == Kind::Run {
+            leave(call, outcome, Name::Rounds);
+        }
     }),
     ("a run does not give the tests back", |call, outcome| {
-        leave(call, outcome, Name::Tests);
+        if call.kind == Kind::Run {
+            leave(call, outcome, Name::Tests);
+        }
     }),
     ("a refused run leaves the entries taken", |call, outcome| {
         if refused_at_start(outcome) {
@@ -61,8 +64,8 @@ pub const ALL: [Fault; 12] = [
         let sheet = outcome.buffers.get_mut(Name::Sheet).contents_mut();
         sheet.iter_mut().skip(taken).for_each(|byte| *byte = 0);
     }),
-    ("the tests are written as 64 bits", |_, outcome| {
-        if figure(outcome, Name::Tests).is_some() {
+    ("the tests are written as 64 bits", |call, outcome| {
+        if call.kind == Kind::Run {
             let tests = outcome.buffers.get_mut(Name::Tests);
             let behind = tests.behind();
             tests.whole_mut()[behind..behind + 4].fill(0);
@@ -81,13 +84,18 @@ fn figure(outcome: &Outcome, name: Name) -> Option<usize> {
     (!place.contents().is_empty()).then(|| place.figure())
 }
 
-fn put(outcome: &mut Outcome, name: Name, value: usize) {
+pub fn clear_tally(outcome: &mut Outcome) {
+    put(outcome, Name::Rounds, 0);
+    put(outcome, Name::Tests, 0);
+}
+
+pub fn put(outcome: &mut Outcome, name: Name, value: usize) {
     if figure(outcome, name).is_some() {
         outcome.buffers.get_mut(name).put_figure(value);
     }
 }
 
-fn grow(outcome: &mut Outcome, name: Name) {
+pub fn grow(outcome: &mut Outcome, name: Name) {
     if let Some(value) = figure(outcome, name) {
         outcome.buffers.get_mut(name).put_figure(value + 1);
     }

@@ -36,9 +36,15 @@ pub fn trial_text(number: u64, trial: &Trial, cut: usize) -> String {
 }
 
 fn numbers(kind: Kind, numbers: &Numbers) -> String {
-    let Numbers { n, station, level } = numbers;
+    let Numbers {
+        n,
+        station,
+        level,
+        last,
+    } = numbers;
     match kind {
-        Kind::FreshTable | Kind::Run => format!("  n {n}\n"),
+        Kind::FreshTable | Kind::Run | Kind::Drive => format!("  n {n}\n"),
+        Kind::Grant => format!("  n {n}, last number {last}\n"),
         Kind::GroupList => format!("  n {n}, station {station}, level {level}\n"),
         Kind::Assignment | Kind::Row => format!("  n {n}, station {station}\n"),
         _ => String::new(),

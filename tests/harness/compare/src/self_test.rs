@@ -5,6 +5,7 @@ use shared::random::Random;
 use crate::call::{Kind, Name};
 use crate::counts::{Counts, LEAST, LENGTHS, OUTCOMES, SIZES};
 use crate::faults::{self, Fault};
+use crate::grant_faults;
 use crate::outcome::{Outcome, Place, Side};
 use crate::report;
 use crate::result_faults;
@@ -48,16 +49,31 @@ pub fn self_test(seed: u64) -> Result<usize, String> {
     Ok(noticed + shared::counts::check_lowered(counts, &lowered, Counts::missing)?)
 }
 
+/// Every library with a fault.
+fn all_faults() -> Vec<Fault> {
+    let of_plants = faults::ALL.into_iter().chain(size_faults::ALL);
+    let of_plants = of_plants.chain(told_faults::ALL);
+    let of_grants = grant_faults::OF_RULE.into_iter();
+    let of_grants = of_grants.chain(grant_faults::OF_REFUSALS);
+    let of_grants = of_grants.chain(grant_faults::OF_ANSWERS);
+    of_plants
+        .chain(of_grants)
+        .chain(result_faults::ALL)
+        .collect()
+}
+
 /// Libraries with a fault: each must be noticed wherever it gives something
 /// else than the right outcome, and somewhere. Gives how often they were.
 fn stand_in(seed: u64) -> Result<usize, String> {
-    let of_plants = faults::ALL.into_iter().chain(size_faults::ALL);
-    let of_plants = of_plants.chain(told_faults::ALL);
-    let faults: Vec<Fault> = of_plants.chain(result_faults::ALL).collect();
+    let faults = all_faults();
     let mut noticed = vec![0; faults.len()];
     for number in 1..=FAULTY_CALLS {
         let mut trial = Trial::make_agreeing(seed, number);
         let right = trial.library.clone();
+        grant_faults::right(&trial.call, &mut trial.library);
+        if let Some(found) = trial.difference() {
+            return Err(format!("the right rule of granting stands in, {found}"));
+        }
         for (count, (_, apply)) in noticed.iter_mut().zip(&faults) {
             apply(&trial.call, &mut trial.library);
             *count += usize::from(trial.difference().is_some());
@@ -180,6 +196,7 @@ fn lowered_counts() -> Vec<Counts> {
     all.lower_singly();
     all.lower_absent();
     all.lower_told();
+    all.lower_granted();
     all.lower_cases();
     all.0
 }
@@ -258,10 +275,17 @@ impl Lowered {
         }
     }
 
+    /// The cases of grants and drives.
+    fn lower_granted(&mut self) {
+        for case in 0..Counts::all(0).granted.counts.len() {
+            self.lower(|counts| &mut counts.granted.counts[case]);
+        }
+    }
+
     /// The cases of calls about results.
     fn lower_cases(&mut self) {
-        for case in 0..Counts::all(0).cases.0.len() {
-            self.lower(|counts| &mut counts.cases.0[case]);
+        for case in 0..Counts::all(0).cases.counts.len() {
+            self.lower(|counts| &mut counts.cases.counts[case]);
         }
     }
 }

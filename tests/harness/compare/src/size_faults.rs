@@ -117,7 +117,10 @@ fn has_absent(call: &Call) -> bool {
 
 /// Whether the call was not refused before its table's lines were judged.
 fn judges_lines(call: &Call, outcome: &Outcome) -> bool {
-    let takes_lines = matches!(call.kind, Kind::Assignment | Kind::Row | Kind::Run);
+    let takes_lines = matches!(
+        call.kind,
+        Kind::Assignment | Kind::Row | Kind::Run | Kind::Grant | Kind::Drive
+    );
     takes_lines && !matches!(outcome.number, 1 | 2)
 }
 

@@ -1,5 +1,5 @@
-//! Entries per second of the run, and calls per second of the figures: the
-//! library, plain Rust over the same bytes, and the simulator.
+//! Entries per second of the run, drives per second, and calls per second of
+//! the figures: the library, plain Rust over the same bytes, and the simulator.
 //!
 //! `bench` prints the tables; `--quick` repeats less.
 //! `--only NAME N DEAD` runs one of library, plain and simulator once, for a
@@ -20,13 +20,16 @@ const QUICK_REPETITIONS: usize = 31;
 /// How many short runs are timed together.
 const BATCH: usize = 200;
 
+/// How many drives are timed together.
+const DRIVES: usize = 50;
+
 /// The lengths of the lists that figures are taken of.
 const LENGTHS: [usize; 3] = [16, 256, vcube::MOST_RESULTS];
 
 /// How many calls of the figures are timed together.
 const LISTS: usize = 50;
 
-/// By this the repetitions are divided where runs are timed together.
+/// By this the repetitions are divided where calls are timed together.
 const BATCH_DIVISOR: usize = 3;
 
 fn main() -> ExitCode {
@@ -89,6 +92,7 @@ fn print_tables(repetitions: usize) {
     print_other_rounds(fewer);
     print_one_entry(fewer);
     print_no_entry(fewer);
+    print_drives(fewer);
     print_figures(fewer);
 }
 
@@ -156,6 +160,34 @@ fn print_no_entry(repetitions: usize) {
 /// The columns of every table behind those that say what was timed.
 const COLUMNS: &str = "library | plain Rust | simulator | library / plain | library / simulator |";
 
+/// A row for each start table.
+fn print_drives(repetitions: usize) {
+    println!("\nDrives\n");
+    println!("A drive from a start table on which no station was granted yet: one round, in which");
+    println!("every live station is granted its turns until it has finished its pass. The column");
+    println!("grants has how many grants this takes. Drives per second, the best of");
+    println!("{repetitions} repetitions; {DRIVES} drives are timed together, each on its own copy of the");
+    println!("same table.\n");
+    println!("| N | dead | grants | {COLUMNS}");
+    println!("|--:|--:|--:|--:|--:|--:|--:|--:|");
+    let starts = SIZES.map(|n| [0, n / 4, n / 2].map(|dead| start(n, dead)));
+    for work in starts.as_flattened() {
+        print_row_of_drives(work, repetitions);
+    }
+}
+
+fn start(n: usize, dead: usize) -> Work {
+    Work::start(n, dead, &mut Random::new(SEED))
+}
+
+fn print_row_of_drives(work: &Work, repetitions: usize) {
+    measure::check_equal_drives(work);
+    let grants = measure::drive_once(Contender::Library, work).0.grants;
+    let times = measure::best_times_of_drives(&vec![work.clone(); DRIVES], repetitions);
+    let (n, dead, speeds) = (work.n, work.dead, speeds(DRIVES as f64, times));
+    println!("| {n} | {dead} | {grants} | {speeds} |");
+}
+
 /// A row for each length.
 fn print_figures(repetitions: usize) {
     println!("\nFigures of a list\n");
@@ -170,7 +202,7 @@ fn print_figures(repetitions: usize) {
             .iter()
             .for_each(|list| measure::check_equal_figures(list));
         let times = measure::best_times_of_figures(&lists, repetitions);
-        println!("| {length} | {} |", speeds(LISTS, times));
+        println!("| {length} | {} |", speeds(thousands(LISTS), times));
     }
 }
 
@@ -195,13 +227,16 @@ fn print_row(works: &[Work], repetitions: usize) {
     let entries: usize = works.iter().map(|work| work.entries().max(1)).sum();
     let times = measure::best_times(works, repetitions);
     let (n, dead) = (works[0].n, works[0].dead);
-    println!("| {n} | {dead} | {} |", speeds(entries, times));
+    println!("| {n} | {dead} | {} |", speeds(thousands(entries), times));
 }
 
-/// Thousands a second of each implementation, and the ratios, as cells.
-fn speeds(many: usize, times: [f64; 3]) -> String {
-    let thousands = |seconds| many as f64 / seconds / 1e3;
-    let [library, plain, simulator] = times.map(thousands);
+fn thousands(many: usize) -> f64 {
+    many as f64 / 1e3
+}
+
+/// How many a second each implementation makes, and the ratios, as cells.
+fn speeds(many: f64, times: [f64; 3]) -> String {
+    let [library, plain, simulator] = times.map(|seconds| many / seconds);
     let (by_plain, by_simulator) = (library / plain, library / simulator);
     format!("{library:.0} | {plain:.0} | {simulator:.0} | {by_plain:.2} | {by_simulator:.2}")
 }

@@ -25,12 +25,13 @@ const SEED: u64 = 1;
 const SIZES: [usize; 9] = [2, 4, 8, 11, 16, 19, 32, 48, 64];
 
 /// The orders of turns, the first one for the main table.
-const ORDERS: [Order; 5] = [
+const ORDERS: [Order; 6] = [
     Order::Random,
     Order::Passes,
     Order::Rising,
     Order::Falling,
     Order::Delaying,
+    Order::Driven,
 ];
 
 /// The trials of a size, at most as many as the library takes figures over; of
@@ -45,7 +46,7 @@ fn trials(n: usize) -> usize {
 /// The results of a size, by order.
 struct Results {
     n: usize,
-    by_order: [Summary; 5],
+    by_order: [Summary; ORDERS.len()],
 }
 
 impl Results {
@@ -132,7 +133,7 @@ fn document(results: &[Results], slowest: &[Slowest]) -> String {
     format!(
         "# How many rounds pass until the dead boards are known
 
-Made by `tests/latency` with seed {SEED}, by runs of the library; the same command gives the same file.
+Made by `tests/latency` with seed {SEED}, by runs and drives of the library; the same command gives the same file.
 
 Counted are the closed rounds: from a fresh table on which the dead boards crash first, the rounds that close after the last crash, up to
 and with the first one at whose end every live board suspects exactly the dead ones. All turns are of kind 1.
@@ -233,10 +234,11 @@ fn order_table(results: &[Results]) -> String {
 
 Mean, in brackets as the exact fraction, and greatest over random plants. Whole passes: each board takes its pass in one go, in an order
 drawn anew for each round, or by rising or falling number. Delaying: each turn is taken by a board whose turn adds the fewest suspicions to
-the table (an eighth of the trials).
+the table (an eighth of the trials). Driven: the library grants the turns (`vcube_drive`, request C-15). Each round is one drive; the first
+begins with last number 255, and each further one with the last number that the one before gave.
 
-| N | random | whole passes | rising passes | falling passes | delaying |
-|--:|--:|--:|--:|--:|--:|
+| N | random | whole passes | rising passes | falling passes | delaying | driven |
+|--:|--:|--:|--:|--:|--:|--:|
 ",
     );
     for row in results {

@@ -2,6 +2,7 @@
 //! then, one or several of its parts are made wrong. The places of figures hold
 //! anything before the call.
 
+mod drives;
 mod numbers;
 mod results;
 mod schedules;
@@ -26,11 +27,13 @@ pub fn call(random: &mut Random) -> Call {
 
 fn of_plant(random: &mut Random) -> Call {
     let size = groups::random_size(random);
-    match random.below(20) {
-        0 => fresh_table(size, random),
-        1..=4 => group_list(size, random),
-        5..=7 => assignment(size, random),
-        8..=10 => row(size, random),
+    match random.below(40) {
+        0 | 1 => fresh_table(size, random),
+        2..=8 => group_list(size, random),
+        9..=11 => assignment(size, random),
+        12..=14 => row(size, random),
+        15..=17 => drives::grant(size, random),
+        18..=21 => drives::drive(size, random),
         _ => run(size, random),
     }
 }
@@ -68,6 +71,7 @@ fn group_list(size: Size, random: &mut Random) -> Call {
             n: numbers::given_size(size, random),
             station,
             level: numbers::given_level(level, size, random),
+            ..Numbers::default()
         },
         buffers: Buffers::of([(Name::List, random.bytes(length))]),
     }

@@ -1,5 +1,7 @@
-//! Sizes, stations, levels, tallies and lengths, right and wrong.
+//! Sizes, stations, last granted numbers, levels, tallies and lengths, right and
+//! wrong.
 
+use shared::grants::NONE_YET;
 use shared::groups::{dimension, distances};
 use shared::random::Random;
 use shared::table;
@@ -82,6 +84,30 @@ pub fn station(size: Size, random: &mut Random) -> usize {
         2 => random.pick(&[size + 1, distances(size) - 1, distances(size)]),
         3 => random.pick(&[63, 64, 65, 127, 128, 254, 255, 256, 257]),
         4 => right + random.pick(&ALIASES),
+        5 => usize::MAX - random.below(2),
+        6 => random.below(300),
+        _ => random.any() as usize,
+    }
+}
+
+/// The last granted number: mostly a station of the plant or 255.
+pub fn last_granted(size: Size, random: &mut Random) -> usize {
+    match random.below(16) {
+        0..=2 => NONE_YET,
+        3 => 0,
+        4 => size - 1,
+        5..=7 => odd_last_granted(size, random),
+        _ => random.below(size),
+    }
+}
+
+/// Often a number that would be right if it were cut.
+fn odd_last_granted(size: Size, random: &mut Random) -> usize {
+    match random.below(8) {
+        0 => size,
+        1 | 2 => random.pick(&[254, 256, 0xFFFF, 0xFFFF_FFFF]),
+        3 => random.below(size) + random.pick(&ALIASES),
+        4 => NONE_YET + random.pick(&ALIASES),
         5 => usize::MAX - random.below(2),
         6 => random.below(300),
         _ => random.any() as usize,

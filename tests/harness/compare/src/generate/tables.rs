@@ -140,6 +140,17 @@ fn finish(line: &mut [u8], size: Size) {
     line[2] = 1;
 }
 
+/// Of the stations that can take a turn all but one become finished.
+pub fn finish_all_but_one(table: &mut [u8], size: Size, random: &mut Random) {
+    let mut others = unfinished_stations(size, table);
+    if !others.is_empty() {
+        others.swap_remove(random.below(others.len()));
+    }
+    for station in others {
+        finish(&mut table[station * line_length(size)..], size);
+    }
+}
+
 /// Every live line becomes finished, so that refusal 4 applies if one is live.
 fn finish_all_live(table: &mut [u8], size: Size) {
     for line in table.chunks_exact_mut(line_length(size)) {
