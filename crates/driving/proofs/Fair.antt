@@ -1,14 +1,15 @@
--- Fairness, proved: with each grant to another a station that waits comes nearer in the going round.
+-- The granted station is the next one going round; and fairness: with each grant to another a station that waits comes nearer in the going
+-- round.
 -- Assumes nothing.
 use mathlib.Core.Path.{_≡_, sym, _∙_}
 use mathlib.Core.Logic.{_⊎_, inl, inr, _≢_, by-cases}
-use mathlib.Core.Bool.{true, false, cond, not, _&&_, and-true}
+use mathlib.Core.Bool.{true, false, not, _&&_, and-true}
 use mathlib.Core.List.{List}
 use Prim.Native.Nat.{ℕ, zero, suc, _+_, _-_, _≤_, _<_}
 use native.Mathlib.Decide.{decLt, ℕ-discrete}
 use native.Mathlib.Numerals.{add-one}
 use native.Mathlib.Omega.{arith}
-use borrow.Author.Tests.{ltb-true, ltb-false, lt-ltb, le-ltb, leb-false, lt-leb, eqb-true, ne-eqb}
+use borrow.Author.Tests.{ltb-true, ltb-false, lt-ltb, le-ltb, leb-false, eqb-true, ne-eqb}
 use lib.Dec.{ltb, leb, eqb}
 use Rattle.station.specs.Rules.{notLive, someLive, tableNumber}
 use Rattle.station.specs.Calls.{unless}
@@ -18,11 +19,60 @@ use Rattle.station.proofs.Sizes.{size-bounds}
 use Rattle.station.proofs.Refusals.{Accepted, accepted, refuse-zero}
 use Rattle.granter.specs.Grant.{noGrant, waits, firstFrom, following, granted, lastRefusal, grantNumber, grantStation}
 use Rattle.granter.proofs.GrantLaws.{waits-parts, grantable, grant-zero, station-fits, granted-waits}
-use Rattle.driving.specs.Fairness.{lastBefore, Grants, Fairness}
+use Rattle.driving.specs.Fairness.{ahead, NextGoingRound, lastBefore, Grants, Fairness}
 
--- how many stations come before i in the going round that begins at b
-unfoldable ahead : ℕ → ℕ → ℕ → ℕ
-ahead n b i = cond (ltb i b) (i + n - b) (i - b)
+-- nobody who waits stands before the first that does
+passed : (n : ℕ) (t : List ℕ) (i : ℕ) → waits n t i ≡ true → (c : ℕ) → c ≤ i → i < firstFrom n t c → ⊥
+unfolding firstFrom
+passed n t i w c lo hi =
+    let e : true ≡ false = sym w ∙ least-before (waits n t) (n - c) c i lo hi in
+    let y : _≡_ {A = ℕ} 0 1 = cc in
+    omega arith
+
+first-low : (n : ℕ) (t : List ℕ) (c : ℕ) → c ≤ firstFrom n t c
+unfolding firstFrom
+first-low n t c = least-between (waits n t) (n - c) c .0
+
+-- the granted station comes first of those that wait
+no-later : (n : ℕ) (t : List ℕ) (last i : ℕ) → granted n t last < n → waits n t (granted n t last) ≡ true → i < n → waits n t i ≡ true
+    → ahead n (following last) (granted n t last) ≤ ahead n (following last) i
+unfolding granted ahead
+no-later n t last i below gw h w = by-bool (ltb p n) on round
+  where
+    b : ℕ
+    b = following last
+
+    p : ℕ
+    p = firstFrom n t b
+
+    q : ℕ
+    q = firstFrom n t 0
+
+    on : ltb p n ≡ true → ahead n b (granted n t last) ≤ ahead n b i
+    on e =
+        let here : granted n t last ≡ p = rw e in
+        by-cases (decLt i b)
+        (λ l. rw (here, le-ltb p b (first-low n t b), lt-ltb i b l) (omega (arith, ltb-true p n e)))
+        (λ l.
+        let past : p ≤ i = by-cases (decLt i p) (λ m. absurd (passed n t i w b (omega arith) m)) (λ m. omega arith) in
+        rw (here, le-ltb p b (first-low n t b), le-ltb i b (omega arith)) (omega arith))
+
+    round : ltb p n ≡ false → ahead n b (granted n t last) ≤ ahead n b i
+    round e =
+        let here : granted n t last ≡ q = rw e in
+        let far = ltb-false p n e in
+        let inside : q < n = rw here at below in
+        let first : q < b = by-cases (decLt q b) (λ l. l) (λ l. absurd (passed n t q (rw here at gw) b (omega arith) (omega arith))) in
+        let later : q ≤ i = by-cases (decLt i q) (λ l. absurd (passed n t i w 0 (omega arith) l)) (λ l. omega arith) in
+        by-cases (decLt i b) (λ l. rw (here, lt-ltb q b first, lt-ltb i b l) (omega arith))
+        (λ l. absurd (passed n t i w b (omega arith) (omega arith)))
+
+-- "the next station after it, going round", an end in itself
+pub next-going-round : NextGoingRound
+next-going-round n t last z =
+    let g = grantable n t last z in
+    let c = granted-waits n t (g .ok) (g .someone) last in
+    (c .0, c .1, λ i h w. no-later n t last i (c .0) (c .1) h w)
 
 ahead-most : (n b i : ℕ) → b ≤ n → i < n → ahead n b i < n
 unfolding ahead
@@ -72,18 +122,6 @@ module _ (n : ℕ) (t : List ℕ) (last i : ℕ) (z : tableNumber n t ≡ 0) (fi
   found : granted n t last < n
   found = granted-waits n t ok someone last .0
 
-  -- nobody waits before the first that does
-  passed : (c : ℕ) → c ≤ i → i < firstFrom n t c → ⊥
-  unfolding firstFrom
-  passed c lo hi =
-      let e : true ≡ false = sym w ∙ least-before (waits n t) (n - c) c i lo hi in
-      let y : _≡_ {A = ℕ} 0 1 = cc in
-      omega arith
-
-  first-low : (c : ℕ) → c ≤ firstFrom n t c
-  unfolding firstFrom
-  first-low c = least-between (waits n t) (n - c) c .0
-
   closer : i ≢ granted n t last → ahead n (suc (granted n t last)) i < ahead n (following last) i
   unfolding granted
   closer = by-bool (ltb p n) on round
@@ -100,15 +138,15 @@ module _ (n : ℕ) (t : List ℕ) (last i : ℕ) (z : tableNumber n t ≡ 0) (fi
       on : ltb p n ≡ true → i ≢ granted n t last → ahead n (suc (granted n t last)) i < ahead n b i
       on e apart =
           let here : granted n t last ≡ p = rw e in
-          rw here (nearer-on n b p i (ltb-true p n e) (first-low b) (λ f. apart (f ∙ sym here)) (passed b))
+          rw here (nearer-on n b p i (ltb-true p n e) (first-low n t b) (λ f. apart (f ∙ sym here)) (passed n t i w b))
 
       round : ltb p n ≡ false → i ≢ granted n t last → ahead n (suc (granted n t last)) i < ahead n b i
       round e apart =
           let here : granted n t last ≡ q = rw e in
           let far = ltb-false p n e in
-          let before : i < b = by-cases (decLt i b) (λ l. l) (λ l. absurd (passed b (omega arith) (omega arith))) in
+          let before : i < b = by-cases (decLt i b) (λ l. l) (λ l. absurd (passed n t i w b (omega arith) (omega arith))) in
           let other : i ≢ q = λ f. apart (f ∙ sym here) in
-          let later : q < i = by-cases (decLt i q) (λ l. absurd (passed 0 (omega arith) l)) (λ l. omega arith) in
+          let later : q < i = by-cases (decLt i q) (λ l. absurd (passed n t i w 0 (omega arith) l)) (λ l. omega arith) in
           rw here (nearer-round n b q i (following-most n last fits) before later)
 
   nearer : i ≢ granted n t last → ahead n (following (granted n t last)) i < ahead n (following last) i

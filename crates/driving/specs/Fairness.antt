@@ -1,12 +1,25 @@
--- Request C-15, fairness: "A station that stays live and unfinished is granted after at most n − 1 grants to others."
+-- Request C-15: the granted station is "the next station after it, going round, that is live and unfinished"; and fairness, "A station that
+-- stays live and unfinished is granted after at most n − 1 grants to others."
 -- Assumes nothing.
 use mathlib.Core.Path.{_≡_}
-use mathlib.Core.Bool.{true}
+use mathlib.Core.Bool.{true, cond}
 use mathlib.Core.List.{List}
-use Prim.Native.Nat.{ℕ, zero, suc, _+_, _≤_, _<_}
+use Prim.Native.Nat.{ℕ, zero, suc, _+_, _-_, _≤_, _<_}
+use lib.Dec.{ltb}
 use Rattle.station.specs.Rules.{tableNumber}
 use Rattle.station.specs.Calls.{unless}
-use Rattle.granter.specs.Grant.{waits, granted, lastRefusal, grantNumber, grantStation}
+use Rattle.granter.specs.Grant.{waits, following, granted, lastRefusal, grantNumber, grantStation}
+
+-- how many stations come before station i in the going round b, b + 1, .., n − 1, 0, 1, .., b − 1
+unfoldable pub ahead : ℕ → ℕ → ℕ → ℕ
+ahead n b i = cond (ltb i b) (i + n - b) (i - b)
+
+-- the granted station is live and unfinished, and no other such station comes before it in the going round that begins behind the last one
+abbrev pub NextGoingRound : Type 0
+NextGoingRound =
+    (n : ℕ) (t : List ℕ) (last : ℕ) → grantNumber n t last ≡ 0
+    → (granted n t last < n) × (waits n t (granted n t last) ≡ true)
+    × ((i : ℕ) → i < n → waits n t i ≡ true → ahead n (following last) (granted n t last) ≤ ahead n (following last) i)
 
 -- grants are made from tables, one after the other, whatever happened between them, each from the last number that the one before left: the
 -- last number before the grant from table k, counted from 0. A refused grant leaves it as it was
