@@ -167,14 +167,16 @@ uint8_t vcube_run(size_t n, uint8_t *table, size_t table_length, uint32_t *round
  * n - 1. So the last granted station comes last: it is granted again if no other one is live and unfinished.
  *
  * If each grant is handed the number granted before it, a station that stays live and unfinished is granted after at most n - 1 grants to
- * others. The call changes no byte: the turn itself is an entry of a run, of kind VCUBE_KIND_TURN.
+ * others. The call changes no byte: the turn itself is an entry of a run, of kind VCUBE_KIND_TURN, or of kind VCUBE_KIND_LATE_TURN where its
+ * reply comes late. Who does by grants and runs what a drive does keeps the granted number only once its turn was taken.
  * Refusals: 1 to 4, 16, 17. */
 uint8_t vcube_grant(size_t n, const uint8_t *table, size_t table_length, size_t last, size_t *station);
 
 /* Drive: repeats a grant, by the granting rule of vcube_grant, and the granted station's turn, which does what an entry of kind
  * VCUBE_KIND_TURN does in a run but writes no sheet. It ends, and returns 0, after the turn that closes the round or leaves no station
- * live, even if that turn brings a tally to 4294967295. The table may stand in the middle of a round. A drive makes at most n * n grants,
- * which are 4096 with 64 stations.
+ * live, even if that turn brings a tally to 4294967295: where *rounds is one more than before, the round closed, and where it is the same,
+ * no station is live. The table may stand in the middle of a round. A drive makes at most n * n grants, which are 4096 with 64 stations. A
+ * crash is no turn: it is an entry of a run, between two drives or two grants.
  *
  * *rounds and *tests are the tally, *last is the last granted number: handed in there, given back there. *grants is how many grants were
  * made, which is how many turns were; those that only finish a pass count too.

@@ -55,8 +55,11 @@ static int grant_turn(struct plant *plant)
         return 1;
     printf(" %zu", station);
     entry[1] = (uint8_t)station;
+    if (run(plant, entry, sizeof entry))
+        return 1;
+    /* Kept only now that the turn was taken, as a drive does. */
     plant->last = station;
-    return run(plant, entry, sizeof entry);
+    return 0;
 }
 
 /* Grants turns until the round closes; how many into *grants. */
