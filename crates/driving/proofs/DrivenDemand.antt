@@ -1,7 +1,7 @@
 -- Demand 3 of driven plants, and the same within the exact wait: the claim about lists of runs, of the runs that the drives are.
 -- Assumes nothing.
 use mathlib.Core.Path.{_≡_, refl, sym, ap, subst, _∙_}
-use mathlib.Core.Bool.{Bool, true, false, cond, not}
+use mathlib.Core.Bool.{Bool, true, false, cond, not, true≢false}
 use mathlib.Core.List.{List, [], _∷_, _++_}
 use Prim.Native.Nat.{ℕ, zero, suc, _+_, _<_}
 use native.Mathlib.Omega.{arith}
@@ -87,12 +87,12 @@ closes-at : (n : ℕ) (s : State) (last : ℕ) → Grantable n (s .table) last �
     → someLive n (afterGrants n (standAt s last) k .state .table) ≡ true → afterGrants n (standAt s last) k .state .rounds ≡ s .rounds + 1
 unfolding afterGrants grantTurn after ended
 closes-at n s last g zero going o lives =
-    let z : true ≡ false = sym o ∙ unended n s (g .someone) in let y : _≡_ {A = ℕ} 0 1 = cc in omega arith
+    absurd (true≢false (sym o ∙ unended n s (g .someone)))
 closes-at n s last g (suc k) going o lives =
     by-bool (roundOver n (acted n (q .table) e)) (λ c. rw c (omega (arith, still)))
     (λ c.
     let same : after n q e .rounds ≡ s .rounds = rw c still in
-    let z : true ≡ false = sym o ∙ open-then same in let y : _≡_ {A = ℕ} 0 1 = cc in omega arith)
+    absurd (true≢false (sym o ∙ open-then same)))
   where
     p : Stand
     p = standAt s last

@@ -3,31 +3,28 @@
 -- Assumes nothing.
 use mathlib.Core.Path.{_≡_, sym, _∙_}
 use mathlib.Core.Logic.{_⊎_, inl, inr, _≢_, by-cases}
-use mathlib.Core.Bool.{true, false, not, _&&_, and-true}
+use mathlib.Core.Bool.{true, false, true≢false}
 use mathlib.Core.List.{List}
 use Prim.Native.Nat.{ℕ, zero, suc, _+_, _-_, _≤_, _<_}
 use native.Mathlib.Decide.{decLt, ℕ-discrete}
 use native.Mathlib.Numerals.{add-one}
 use native.Mathlib.Omega.{arith}
-use borrow.Author.Tests.{ltb-true, ltb-false, lt-ltb, le-ltb, leb-false, eqb-true, ne-eqb}
-use lib.Dec.{ltb, leb, eqb}
+use borrow.Author.Tests.{ltb-true, ltb-false, lt-ltb, le-ltb, eqb-true, ne-eqb}
+use lib.Dec.{ltb, eqb}
 use Rattle.station.specs.Rules.{notLive, someLive, tableNumber}
 use Rattle.station.specs.Calls.{unless}
 use Rattle.station.proofs.BoolLaws.{by-bool}
 use Rattle.station.proofs.SearchLaws.{every-not, least-between, least-before}
 use Rattle.station.proofs.Sizes.{size-bounds}
-use Rattle.station.proofs.Refusals.{Accepted, accepted, refuse-zero}
+use Rattle.station.proofs.Refusals.{Accepted, accepted}
 use Rattle.granter.specs.Grant.{noGrant, waits, firstFrom, following, granted, lastRefusal, grantNumber, grantStation}
-use Rattle.granter.proofs.GrantLaws.{waits-parts, grantable, grant-zero, station-fits, granted-waits}
+use Rattle.granter.proofs.GrantLaws.{waits-parts, grantable, grant-zero, station-fits, last-below, granted-waits}
 use Rattle.driving.specs.Fairness.{ahead, NextGoingRound, lastBefore, Grants, Fairness}
 
 -- nobody who waits stands before the first that does
 passed : (n : ℕ) (t : List ℕ) (i : ℕ) → waits n t i ≡ true → (c : ℕ) → c ≤ i → i < firstFrom n t c → ⊥
 unfolding firstFrom
-passed n t i w c lo hi =
-    let e : true ≡ false = sym w ∙ least-before (waits n t) (n - c) c i lo hi in
-    let y : _≡_ {A = ℕ} 0 1 = cc in
-    omega arith
+passed n t i w c lo hi = true≢false (sym w ∙ least-before (waits n t) (n - c) c i lo hi)
 
 first-low : (n : ℕ) (t : List ℕ) (c : ℕ) → c ≤ firstFrom n t c
 unfolding firstFrom
@@ -97,10 +94,7 @@ nearer-round n b g i hb hi hg = rw (lt-ltb i b hi, le-ltb i (suc g) (omega arith
 following-most : (n last : ℕ) → lastRefusal n last ≡ 0 → following last ≤ n
 unfolding following
 following-most n last fits =
-    by-bool (eqb last noGrant) (λ e. rw e (omega arith))
-    (λ e.
-    let low : (leb n last && not (eqb last noGrant)) ≡ false = refuse-zero 15 _ fits in
-    rw e (omega (arith, leb-false n last (simp and-true at (rw e at low)))))
+    by-bool (eqb last noGrant) (λ e. rw e (omega arith)) (λ e. rw e (omega (arith, last-below n last fits e)))
 
 -- behind a granted station the round begins with the next one
 following-granted : (n g : ℕ) → n ≤ 64 → g < n → following g ≡ suc g

@@ -1,6 +1,6 @@
 -- A drive is the list of runs of its grants, one entry each.
 -- Assumes nothing.
-use mathlib.Core.Path.{_≡_, refl, sym}
+use mathlib.Core.Path.{_≡_, refl, sym, ap, _∙_}
 use mathlib.Core.Bool.{true, false, cond}
 use mathlib.Core.List.{List, [], _∷_, _++_, append-assoc}
 use Prim.Native.Nat.{ℕ, zero, suc, _+_, _<_}
@@ -12,8 +12,8 @@ use Rattle.station.specs.Rules.{tableNumber}
 use Rattle.station.proofs.BoolLaws.{by-bool}
 use Rattle.plant.specs.Turn.{kindTurn}
 use Rattle.plant.specs.Entry.{State, entryOf, entryNumber, after}
-use Rattle.plant.specs.Run.{entries, goOn, startNumber, run}
-use Rattle.plant.proofs.RunLaws.{accepted-number}
+use Rattle.plant.specs.Run.{Outcome, entries, startNumber}
+use Rattle.plant.proofs.RunLaws.{accepted-number, start-one, go-one, run-goes}
 use Rattle.detection.specs.Runs.{Call, afterRun, afterRuns, takenFrom, takenIn, takenAll}
 use Rattle.detection.proofs.TakenLaws.{takenAt}
 use Rattle.granter.specs.Grant.{lastRefusal, grantNumber}
@@ -38,8 +38,9 @@ taken-append s (c ∷ a) b =
 -- a run of one turn that is taken
 module _ (n : ℕ) (s : State) (i : ℕ) (ok : tableNumber n (s .table) ≡ 0) (z : entryNumber n s (entryOf kindTurn i) ≡ 0) where
   one-left : afterRun s (turnRun n i) ≡ after n s (entryOf kindTurn i)
-  unfolding run startNumber goOn entries
-  one-left = rw (afterRun, ok, z)
+  one-left =
+      ap (λ (o : Outcome). o .state) (run-goes n s (turnRun n i .schedule) (turnRun n i .sheet) (start-one n (s .table) ok))
+      ∙ go-one n s (turnRun n i .sheet) kindTurn i z
 
   one-taken : takenIn s (turnRun n i) ≡ takenAt n s (entryOf kindTurn i) ∷ []
   unfolding takenIn startNumber takenFrom entries

@@ -119,7 +119,7 @@ pub stopped-ended : (n : ℕ) (p : Stand) (k : ℕ) → Driving n p k → fullAf
 unfolding stops
 stopped-ended n p k d fits o = record { within = next-within n p k d; stopped = rw o; first = next-before n p k d fits }
 
--- the whole drive
+-- a drive that is refused
 pub drive-refused : (n : ℕ) (s : State) (last r : ℕ) → r ≡ grantNumber n (s .table) last → (r ≡ 0 → ⊥)
     → drive n s last ≡ outcomeOf r s last 0
 unfolding drive
@@ -134,6 +134,12 @@ made-is n p k s =
     (λ l.
     let same : k ≡ n * n = omega (arith, s .within) in
     least-none (stops n p) (n * n) 0 (λ j a b. s .first j (omega arith)) ∙ omega arith)
+
+-- the whole drive
+pub drive-made : (n : ℕ) (s : State) (last k : ℕ) → grantNumber n (s .table) last ≡ 0 → Stopped n (standAt s last) k
+    → outcomeAfter n (standAt s last) k ≡ drive n s last
+unfolding drive
+drive-made n s last k z stop = rw (z, made-is n (standAt s last) k stop)
 
 -- the grants made so far are few
 pub grants-small : (n : ℕ) (p : Stand) (k : ℕ) → Driving n p k → k ≤ 4096
@@ -174,8 +180,3 @@ module _ (n : ℕ) (p : Stand) (k : ℕ) (q : Stand) (at-k : q ≡ afterGrants n
       drives-on o =
           let here : endedAfter n p (k + 1) ≡ false = rw turned-on at o in
           rw (add-one k) (next-driving n p k d (rw at-k at fits) (rw (add-one k) at here))
-
-pub drive-made : (n : ℕ) (s : State) (last k : ℕ) → grantNumber n (s .table) last ≡ 0 → Stopped n (standAt s last) k
-    → outcomeAfter n (standAt s last) k ≡ drive n s last
-unfolding drive
-drive-made n s last k z stop = rw (z, made-is n (standAt s last) k stop)

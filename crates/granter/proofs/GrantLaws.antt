@@ -1,7 +1,7 @@
 -- Laws of the granting rule: who waits, and that the granted station does.
 -- Assumes nothing.
 use mathlib.Core.Path.{_≡_, refl, _∙_}
-use mathlib.Core.Bool.{Bool, true, false, not, _&&_, _||_, and-true}
+use mathlib.Core.Bool.{Bool, true, false, not, _&&_, _||_, and-true, true≢false}
 use mathlib.Core.List.{List}
 use Prim.Native.Nat.{ℕ, _-_, _<_}
 use native.Mathlib.Omega.{arith}
@@ -55,15 +55,18 @@ grant-zero n t last z fits someone = rw (z, fits, someone)
 pub station-fits : (n g : ℕ) → g < n → lastRefusal n g ≡ 0
 station-fits n g h = rw (lt-leb n g h)
 
+-- a last number that is let through and is not 255 is a station
+pub last-below : (n last : ℕ) → lastRefusal n last ≡ 0 → eqb last noGrant ≡ false → last < n
+last-below n last fits e =
+    let low : (leb n last && not (eqb last noGrant)) ≡ false = refuse-zero 15 _ fits in
+    leb-false n last (simp and-true at (rw e at low))
+
 -- size and last number are bytes
 pub fits-byte : (n : ℕ) (t : List ℕ) (last : ℕ) → Grantable n t last → (n < 256) × (last < 256)
 fits-byte n t last g =
     let top = size-bounds n (g .ok .size) .1 in
     by-bool (eqb last noGrant) (λ e. (omega arith, omega (arith, eqb-true last noGrant e)))
-    (λ e.
-    let low : (leb n last && not (eqb last noGrant)) ≡ false = refuse-zero 15 _ (g .lastFits) in
-    let less = leb-false n last (simp and-true at (rw e at low)) in
-    (omega arith, omega arith))
+    (λ e. (omega arith, omega (arith, last-below n last (g .lastFits) e)))
 
 -- in a table that refusals 1 to 4 let through, with a live station
 module _ (n : ℕ) (t : List ℕ) (ok : Accepted n t) (someone : someLive n t ≡ true) where
@@ -81,7 +84,7 @@ module _ (n : ℕ) (t : List ℕ) (ok : Accepted n t) (someone : someLive n t �
           not-false _ (waits-is n t i ∙ none)
 
       closed : every (finishedIfLive n t) n ≡ true → ⊥
-      closed e = let z : true ≡ false = rw (someone, e) at (ok .unclosed) in let y : _≡_ {A = ℕ} 0 1 = cc in omega arith
+      closed e = true≢false (rw (someone, e) at (ok .unclosed))
 
   -- the granted station is one of the plant's and waits
   pub granted-waits : (last : ℕ) → (granted n t last < n) × (waits n t (granted n t last) ≡ true)
