@@ -7,7 +7,7 @@ use Rattle.station.specs.Search.{least, every, listOf}
 use Rattle.station.specs.Groups.{isSize, level, dimension, distances, width, member}
 use Rattle.station.specs.Table.{head, tableLength, lineStart, cell, setCell, statusColumn, row, setRow}
 use Rattle.station.specs.Rules.{rowRule, lineRules, someLive, liveFinished, shapeNumber, tableNumber}
-use Rattle.station.specs.Tests.{unsuspected, firstPlace, first, due}
+use Rattle.station.specs.Tests.{unsuspected, firstPlace, first, answer, due}
 use Rattle.station.specs.Rows.{unionByte, union, mark}
 use Rattle.station.specs.Calls.{freshByte, freshTable}
 use Rattle.plant.specs.Iterate.{iterate}
@@ -80,5 +80,5 @@ examples =
 
 -- each example holds
 pub as-said : map (λ (e : Example). e .given) examples ≡ map (λ (e : Example). e .said) examples
-unfolding examples twoWait oneWaits allDead twoFresh twoSuspecting drive outcomeAfter grantsMade stops ended afterGrants grantTurn grantNumber grantStation granted following firstFrom waits tableNumber shapeNumber isSize tableLength every lineRules rowRule someLive liveFinished cell lineStart row setRow setCell freshTable freshByte listOf after acted turn resetLine resetLines afterRound iterate nextTest makesTest finishPass countTest replies isTold exchangeRows suspect replyOutcome testOutcome afterOutcome selfOrSuspected isAlone afterAlone testing due first firstPlace least unsuspected member width level dimension distances union unionByte mark
+unfolding examples twoWait oneWaits allDead twoFresh twoSuspecting drive outcomeAfter grantsMade stops ended afterGrants grantTurn grantNumber grantStation granted following firstFrom waits tableNumber shapeNumber isSize tableLength every lineRules rowRule someLive liveFinished cell lineStart row setRow setCell freshTable freshByte listOf after acted turn resetLine resetLines afterRound iterate nextTest makesTest finishPass countTest replies isTold exchangeRows suspect replyOutcome testOutcome afterOutcome selfOrSuspected isAlone afterAlone testing answer due first firstPlace least unsuspected member width level dimension distances union unionByte mark
 as-said = refl

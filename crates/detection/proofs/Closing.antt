@@ -12,6 +12,7 @@ use Rattle.station.specs.Groups.{stationAt, level, dimension, distances, isPres
 use Rattle.station.specs.Table.{nextDistance, finished, testsMade, live}
 use Rattle.station.specs.Rules.{someLive, finishedIfLive, liveFinished, roundOver}
 use Rattle.station.proofs.SearchLaws.{both, every-at}
+use Rattle.station.proofs.DueLaws.{first-not}
 use Rattle.plant.specs.Turn.{resetLines}
 use Rattle.plant.proofs.StepCells.{Reset, reset-cells, reset-other}
 use Rattle.plant.proofs.StepLines.{reset-lines}
@@ -21,7 +22,7 @@ use Rattle.detection.specs.Rounds.{testsIn}
 use Rattle.detection.specs.Claim.{deadGroup, deadPairs, demandCount}
 use Rattle.station.proofs.BoolLaws.{by-bool}
 use Rattle.station.proofs.SumLaws.{sum-by, sum-zero, sum-stays, sum-const}
-use Rattle.detection.proofs.Count.{nobody, first-not, tests-and-rest}
+use Rattle.detection.proofs.Count.{nobody, tests-and-rest}
 use Rattle.detection.proofs.Counting.{Counts, counts-start, Roomy, roomy-start}
 use Rattle.detection.proofs.TurnEffect.{Plain, Grown, same-rows}
 use Rattle.detection.proofs.Pass.{lift, Round}

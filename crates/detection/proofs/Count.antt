@@ -2,19 +2,19 @@
 -- Assumes nothing.
 use mathlib.Core.Path.{_≡_, refl, sym, _∙_, ap}
 use mathlib.Core.Logic.{_≢_}
-use mathlib.Core.Bool.{Bool, true, false, not, cond, _&&_, true≢false}
+use mathlib.Core.Bool.{Bool, false, not, cond, _&&_}
 use Prim.Native.Nat.{ℕ, suc, _+_, _<_, _^_}
 use native.Mathlib.Nat.{zero-add}
 use native.Mathlib.Omega.{arith}
 use lib.Dec.{ltb, eqb}
-use borrow.Author.Tests.{ltb-true, ltb-false, eq-eqb, ne-eqb}
+use borrow.Author.Tests.{eq-eqb, ne-eqb}
 use Rattle.station.specs.Search.{least, every}
 use Rattle.station.specs.Groups.{level, width, member, stationAt}
-use Rattle.station.specs.Tests.{firstPlace, first, isStation}
+use Rattle.station.specs.Tests.{firstPlace, first}
 use Rattle.station.proofs.Xor.{xor-cancel, xor-undo}
-use Rattle.station.proofs.SearchLaws.{least-passes, least-before, every-all, every-not}
+use Rattle.station.proofs.SearchLaws.{every-all, every-not}
 use Rattle.station.proofs.Levels.{level-zero, level-in}
-use Rattle.station.proofs.DueLaws.{first-zero}
+use Rattle.station.proofs.DueLaws.{isStation, first-zero, found, none-found}
 use Rattle.station.specs.Sums.{sum, bit}
 use Rattle.station.proofs.BoolLaws.{by-bool, least-same}
 use Rattle.station.proofs.SumLaws.{sum-by, sum-add, sum-zero, sum-single, sum-swap, sum-levels, sum-xor, sum-not}
@@ -47,20 +47,6 @@ module _ (q : ℕ → Bool) (j s : ℕ) where
   abbrev x : ℕ → ℕ
   x = member j s
 
-  -- it passes, if there is one; if not, none passes
-  found : ltb p (width s) ≡ true → (p < width s) × (q (x p) ≡ true)
-  unfolding firstPlace
-  found e = let l = ltb-true p (width s) e in (l, least-passes (λ k. q (x k)) (width s) 0 (omega arith))
-
-  none-found : ltb p (width s) ≡ false → (k : ℕ) → k < width s → q (x k) ≡ false
-  unfolding firstPlace
-  none-found e k l = least-before (λ k. q (x k)) (width s) 0 k (omega arith) (omega (arith, ltb-false p (width s) e))
-
-  pub first-not : (i : ℕ) → q i ≡ false → isStation i (first q j s) ≡ false
-  unfolding first
-  first-not i fails =
-      by-bool (ltb p (width s)) (λ e. rw e (ne-eqb (x p) i (λ f. true≢false (sym (found e .1) ∙ (ap q f ∙ fails))))) (λ e. rw e)
-
   -- two places of a group hold different stations
   apart : (k : ℕ) → k ≢ p → x p ≢ x k
   unfolding member
@@ -72,10 +58,10 @@ module _ (q : ℕ → Bool) (j s : ℕ) where
   one-first =
       by-bool (ltb p (width s))
       (λ e.
-      rw (e, every-not (λ k. not (q (x k))) (width s) p (found e .0) (ap not (found e .1)))
-      (sum-single (λ k. bit (eqb (x p) (x k))) (width s) p (found e .0) (λ k l ne. ap bit (ne-eqb (x p) (x k) (apart k ne)))
+      rw (e, every-not (λ k. not (q (x k))) (width s) p (found q j s e .0) (ap not (found q j s e .1)))
+      (sum-single (λ k. bit (eqb (x p) (x k))) (width s) p (found q j s e .0) (λ k l ne. ap bit (ne-eqb (x p) (x k) (apart k ne)))
       ∙ ap bit (eq-eqb (x p) (x p) refl)))
-      (λ e. rw (e, every-all (λ k. not (q (x k))) (width s) (λ k l. ap not (none-found e k l))) (sum-zero (width s) (λ k l. refl)))
+      (λ e. rw (e, every-all (λ k. not (q (x k))) (width s) (λ k l. ap not (none-found q j s e k l))) (sum-zero (width s) (λ k l. refl)))
 
 -- over all distances from j, as many first stations as levels whose group has one
 first-by-level : (q : ℕ → Bool) (j d : ℕ)

@@ -25,7 +25,8 @@ use Rattle.station.specs.Sums.{sum, bit}
 use Rattle.station.proofs.BoolLaws.{by-bool}
 use Rattle.station.proofs.SumLaws.{sum-by, sum-zero}
 use Rattle.detection.proofs.Count.{leads, leads-zero, leads-same}
-use Rattle.detection.proofs.DueLaw.{unsuspected-at, unsuspected-absent, due-holds}
+use Rattle.station.proofs.DueLaws.{unsuspected-at, unsuspected-absent, due-first}
+use Rattle.detection.proofs.DueLaw.{due-holds}
 use Rattle.plant.proofs.TurnHeads.{Heads, passed-dues}
 use Rattle.detection.proofs.Near.{Member, Ahead, member-distance}
 use Rattle.detection.proofs.Pass.{InPass, had, stays, finds, hears, Tests}
@@ -89,9 +90,8 @@ knows-start n L t p fresh = record {
 -- in an exact table a live station's due distances are those at which it leads the group of a station
 exact-due : (n : ℕ) (L : ℕ → Bool) (t : List ℕ) → Plain n L t → Exact n L t → (i m : ℕ) → i < n → L i ≡ true
     → due (row n t i) i m ≡ leadsAt n L i m
-unfolding due
 exact-due n L t p exact i m hi l =
-    rw (long, leads-same (unsuspected (row n t i)) (LiveOf n L) i m (λ k h. same (member (stationAt i m) (level m) k)))
+    rw (due-first (row n t i) i m, long, leads-same (unsuspected (row n t i)) (LiveOf n L) i m (λ k h. same (member (stationAt i m) (level m) k)))
   where
     long : length (row n t i) ≡ n
     long = row-length n t i (p .lines .0) hi

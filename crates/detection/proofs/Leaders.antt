@@ -8,9 +8,9 @@ use native.Mathlib.Decide.{decLt}
 use native.Mathlib.Omega.{arith}
 use lib.Bits.{bitXor}
 use Rattle.station.specs.Search.{least}
-use Rattle.station.proofs.Xor.{xor-cancel}
+use Rattle.station.proofs.Xor.{near-le, xor-cancel}
 use Rattle.station.proofs.SearchLaws.{least-between, least-passes, least-before}
-use Rattle.detection.proofs.Near.{Member, Ahead, Parting, same, apart, near-le, member-distance, member-at, member-near, members-near, before-near, parting}
+use Rattle.detection.proofs.Near.{Member, Ahead, Parting, same, apart, member-distance, member-at, member-near, members-near, before-near, parting}
 use Rattle.detection.proofs.Pass.{InPass, Tests, lift}
 
 -- the group of x at level h + 1 has no live station

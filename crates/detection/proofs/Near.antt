@@ -2,17 +2,13 @@
 -- Assumes nothing.
 use mathlib.Core.Path.{_≡_, sym, _∙_}
 use mathlib.Core.Logic.{_↔_, by-cases}
-use Prim.Native.Nat.{ℕ, zero, suc, _+_, _/_, _^_, _≤_, _<_}
-use native.Mathlib.Nat.{div-one, le-trans, not-le-of-lt, div-mul-le-self, le-div-iff-mul-le}
-use native.Mathlib.Decide.{ℕ-discrete, decLt, le-ind}
+use Prim.Native.Nat.{ℕ, zero, suc, _/_, _^_, _≤_, _<_}
+use native.Mathlib.Nat.{div-one, not-le-of-lt}
+use native.Mathlib.Decide.{ℕ-discrete, decLt}
 use native.Mathlib.Omega.{arith}
 use lib.Bits.{bitXor, xor-lt, xor-shr}
-use lib.Pow.{pow-pos, shr-shr}
-use Rattle.station.proofs.Xor.{xor-cancel, near-of-xor, xor-of-near}
-
--- the digits from place h on are the same
-abbrev pub Near : ℕ → ℕ → ℕ → Type 0
-Near h a b = a / 2 ^ h ≡ b / 2 ^ h
+use lib.Pow.{pow-pos}
+use Rattle.station.proofs.Xor.{Near, div-le, half, near-suc, xor-cancel, near-of-xor, xor-of-near}
 
 pub near-dec : (h a b : ℕ) → Dec (Near h a b)
 near-dec h a b = ℕ-discrete (a / 2 ^ h) (b / 2 ^ h)
@@ -20,16 +16,6 @@ near-dec h a b = ℕ-discrete (a / 2 ^ h) (b / 2 ^ h)
 -- near at 0 is equal
 pub near-zero : (a b : ℕ) → Near 0 a b → a ≡ b
 near-zero a b n = sym (div-one a) ∙ n ∙ div-one b
-
--- to leave off one digit more is to halve once more
-half : (h a : ℕ) → a / 2 ^ suc h ≡ a / 2 ^ h / 2
-half h a = let e : h + 1 ≡ suc h = omega arith in sym (rw e at (shr-shr a h 1))
-
-near-suc : (h a b : ℕ) → Near h a b → Near (suc h) a b
-near-suc h a b n = cc (half h a, half h b)
-
-pub near-le : (h s a b : ℕ) → h ≤ s → Near h a b → Near s a b
-near-le h s a b l n = le-ind (λ (t : ℕ). Near t a b) n (λ t k m. near-suc t a b m) s l
 
 -- what is below 2 ^ d is near at d
 pub near-below : (d a b : ℕ) → a < 2 ^ d → b < 2 ^ d → Near d a b
@@ -74,9 +60,6 @@ Ahead h x i y = Member h x y × (bitXor x y < bitXor x i)
 -- if x ⊕ a and x ⊕ b are near at t, so are a and b
 apart-by : (t x a b : ℕ) → bitXor x a / 2 ^ t ≡ bitXor x b / 2 ^ t → Near t a b
 apart-by t x a b e = cc (xor-shr x a t, xor-shr x b t, xor-cancel (x / 2 ^ t) (a / 2 ^ t), xor-cancel (x / 2 ^ t) (b / 2 ^ t))
-
-div-le : (k a b : ℕ) → a ≤ b → a / 2 ^ k ≤ b / 2 ^ k
-div-le k a b l = le-div-iff-mul-le (pow-pos k) .1 (le-trans (div-mul-le-self a (2 ^ k)) l)
 
 -- with y all that are near at t to it come before i in the order by distance from x, if i is not near at t to it
 pub before-near : (t x i y z : ℕ) → Near t y z → ¬ (Near t y i) → bitXor x y < bitXor x i → bitXor x z < bitXor x i

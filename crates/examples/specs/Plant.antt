@@ -1,4 +1,4 @@
--- The plant examples of document 01 marked [P], and examples that follow the rules of requests C-11 and C-13, in one table: what the
+-- The plant examples of document 01 marked [P], and examples that follow the rules of requests C-11, C-13 and C-16, in one table: what the
 -- definitions give, and what is said. One statement covers it.
 -- Assumes nothing.
 use mathlib.Core.Path.{_≡_, refl}
@@ -9,9 +9,9 @@ use Rattle.station.specs.Search.{least, every, keep, listOf}
 use Rattle.station.specs.Groups.{isSize, level, dimension, distances, width, member, fullGroup, group, stationAt}
 use Rattle.station.specs.Table.{head, tableLength, lineStart, cell, setCell, statusColumn, row, setRow}
 use Rattle.station.specs.Rules.{rowRule, lineRules, someLive, liveFinished, shapeNumber, tableNumber}
-use Rattle.station.specs.Tests.{unsuspected, firstPlace, first, due, dueDistances}
+use Rattle.station.specs.Tests.{unsuspected, firstPlace, first, answer, due, dueDistances}
 use Rattle.station.specs.Rows.{unionByte, union, mark}
-use Rattle.station.specs.Calls.{freshByte, freshTable}
+use Rattle.station.specs.Calls.{freshByte, freshTable, otherDistances, assignmentEntries}
 use Rattle.plant.specs.Iterate.{iterate}
 use Rattle.plant.specs.Turn.{nextTest, makesTest, finishPass, countTest, replies, isTold, exchangeRows, suspect, replyOutcome, testOutcome, afterOutcome, selfOrSuspected, isAlone, afterAlone, testing, turn, turnTested, turnOutcome, crash, resetLine, resetLines, afterRound}
 use Rattle.plant.specs.Entry.{stateOf, entryNumber, acted, after, testedOf, outcomeOf, sheetLine}
@@ -91,6 +91,11 @@ examples =
     -- "N = 8, station 5 suspects 4: 1, 2, 3, 4, 5 due; 3 and 5 are stations 6 and 0."
     ∷ gives (dueDistances onlyFour 5 8) (1 ∷ 2 ∷ 3 ∷ 4 ∷ 5 ∷ [])
     ∷ gives (stationAt 5 3 ∷ stationAt 5 5 ∷ []) (6 ∷ 0 ∷ [])
+    -- C-16, the assignment of station 5: 3 and 5 are behind station 4, 6 behind 7, 7 behind 6; with 4 suspected, 6 and 7 as before
+    ∷ gives (assignmentEntries nobody 5 (otherDistances 8 5))
+    (1 ∷ 255 ∷ 2 ∷ 255 ∷ 3 ∷ 4 ∷ 4 ∷ 255 ∷ 5 ∷ 4 ∷ 6 ∷ 7 ∷ 7 ∷ 6 ∷ [])
+    ∷ gives (assignmentEntries onlyFour 5 (otherDistances 8 5))
+    (1 ∷ 255 ∷ 2 ∷ 255 ∷ 3 ∷ 255 ∷ 4 ∷ 255 ∷ 5 ∷ 255 ∷ 6 ∷ 7 ∷ 7 ∷ 6 ∷ [])
     -- "N = 8, demand 3's count: none dead 24; 4 dead 23; 4 and 5 dead 20."
     ∷ gives (countOf 8 (freshTable 8)) (24 ∷ [])
     ∷ gives (countOf 8 fourDead) (23 ∷ [])
@@ -109,6 +114,10 @@ examples =
     -- nothing suspected, station 10 has 2, 3, 8, 9, 12, 13 due, which are stations 8, 9, 2, 3, 6, 7
     ∷ gives (dueDistances (replicate 11 0) 10 11) (2 ∷ 3 ∷ 8 ∷ 9 ∷ 12 ∷ 13 ∷ [])
     ∷ gives (map (stationAt 10) (2 ∷ 3 ∷ 8 ∷ 9 ∷ 12 ∷ 13 ∷ [])) (8 ∷ 9 ∷ 2 ∷ 3 ∷ 6 ∷ 7 ∷ [])
+    -- C-16: the others are stations 0, 1, 4 and 5, behind 8 and 9; the entries of station 4 of 5 are at distances 4 to 7
+    ∷ gives (assignmentEntries (replicate 11 0) 10 (otherDistances 11 10))
+    (2 ∷ 255 ∷ 3 ∷ 255 ∷ 8 ∷ 255 ∷ 9 ∷ 255 ∷ 10 ∷ 8 ∷ 11 ∷ 9 ∷ 12 ∷ 255 ∷ 13 ∷ 255 ∷ 14 ∷ 8 ∷ 15 ∷ 9 ∷ [])
+    ∷ gives (assignmentEntries (replicate 5 0) 4 (otherDistances 5 4)) (4 ∷ 255 ∷ 5 ∷ 255 ∷ 6 ∷ 255 ∷ 7 ∷ 255 ∷ [])
     -- the count of tests: 3 boards, 5, 11, 11 with board 4 dead, and 19 (the program computes 63, too long for this table)
     ∷ gives (countOf 3 (freshTable 3)) (5 ∷ [])
     ∷ gives (countOf 5 (freshTable 5)) (13 ∷ [])
@@ -140,5 +149,5 @@ examples =
 
 -- each example holds
 pub as-said : map (λ (e : Example). e .given) examples ≡ map (λ (e : Example). e .said) examples
-unfolding examples fourBoards fourDead fourAndFiveDead fourDeadOfEleven zeroSuspectsOne stationTwoFinished testedTold aloneOfTwo aloneOfThree deadPairs deadGroup sum run startNumber tableNumber shapeNumber isSize tableLength every lineRules rowRule someLive liveFinished cell lineStart row setRow setCell freshTable freshByte listOf goOn entries writeLine entryNumber after acted sheetLine testedOf outcomeOf turn turnTested turnOutcome crash resetLine resetLines afterRound iterate nextTest makesTest finishPass countTest replies isTold exchangeRows suspect replyOutcome testOutcome afterOutcome selfOrSuspected isAlone afterAlone testing due dueDistances keep first firstPlace least unsuspected member width level dimension distances group fullGroup union unionByte mark
+unfolding examples fourBoards fourDead fourAndFiveDead fourDeadOfEleven zeroSuspectsOne stationTwoFinished testedTold aloneOfTwo aloneOfThree deadPairs deadGroup sum run startNumber tableNumber shapeNumber isSize tableLength every lineRules rowRule someLive liveFinished cell lineStart row setRow setCell freshTable freshByte listOf goOn entries writeLine entryNumber after acted sheetLine testedOf outcomeOf turn turnTested turnOutcome crash resetLine resetLines afterRound iterate nextTest makesTest finishPass countTest replies isTold exchangeRows suspect replyOutcome testOutcome afterOutcome selfOrSuspected isAlone afterAlone testing answer due dueDistances otherDistances assignmentEntries keep first firstPlace least unsuspected member width level dimension distances group fullGroup union unionByte mark
 as-said = refl

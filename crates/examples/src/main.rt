@@ -1,6 +1,6 @@
-// Computes the examples of document 01 that are not marked [P], examples that follow the rules of requests C-11 and C-13, a plant of eight
-// boards, all of Table 1 of paper 000, and column vCube of Table 3 of paper 001. What it writes is compared with the file `stdout`, which has
-// what the documents and the papers say, and for C-11 and C-13 what their rules give by hand and by the simulator.
+// Computes the examples of document 01 that are not marked [P], examples that follow the rules of requests C-11, C-13 and C-16, a plant of
+// eight boards, all of Table 1 of paper 000, and column vCube of Table 3 of paper 001. What it writes is compared with the file `stdout`, which has
+// what the documents and the papers say, and for C-11, C-13 and C-16 what their rules give by hand and by the simulator.
 use plant::Answer;
 use plant::Tally;
 use plant::run;
@@ -20,6 +20,7 @@ fn main() {
     eight_boards();
     top_tally();
     table_3();
+    eight_assigned();
     eleven_boards();
     odd_sizes();
     late_reply();
@@ -175,23 +176,41 @@ fn messages_line(n: u8, rounds: u8) {
     line_end();
 }
 
-// C-11, eleven boards: groups (10, level 1), (10, level 2) and (2, level 4); the distances due for station 10, nothing suspected; and the
-// tests of a round once all know that board 4 is dead.
+// C-11, eleven boards: groups (10, level 1), (10, level 2) and (2, level 4); the assignment of station 10, nothing suspected; and the tests
+// of a round once all know that board 4 is dead.
 fn eleven_boards() {
     eleven_line(10, Level(1), 0);
     eleven_line(10, Level(2), 2);
     eleven_line(2, Level(4), 3);
     let mut table = [0u8; 165];
     fresh::fresh_table(11, &mut table);
-    let mut list = [0u8; 10];
-    due::assignment(11, &table, Station(10), &mut list);
-    io::write_all(OUT, b"10 due");
-    commas(&list);
-    line_end();
+    let mut list = [0u8; 20];
+    assignment_line(11, &table, 10, &mut list);
     let crashed = entry_of(11, &mut table, no_tally(), 3, 4);
     let known = some_rounds(11, 4, &mut table, crashed.tally);
     let after = one_round(11, &mut table, known, 255);
     tests_line(known, after);
+}
+
+// C-16, eight boards: the assignment of station 5, nothing suspected, and where it suspects 4.
+fn eight_assigned() {
+    let mut table = [0u8; 96];
+    fresh::fresh_table(8, &mut table);
+    let mut list = [0u8; 14];
+    assignment_line(8, &table, 5, &mut list);
+    table[68] = 1;
+    assignment_line(8, &table, 5, &mut list);
+}
+
+// The entries of an assignment, and how many of them are due.
+fn assignment_line(n: usize, table: &[u8], i: u8, list: &mut [u8]) {
+    let assigned = due::assignment(n, table, Station(i), list);
+    byte(i);
+    io::write_all(OUT, b" assigned");
+    commas(list);
+    io::write_all(OUT, b" due ");
+    byte(assigned.count);
+    line_end();
 }
 
 // The w members of the group of i at level s among eleven.

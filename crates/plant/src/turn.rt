@@ -12,6 +12,7 @@ ghost use Rattle.plant.specs.Turn.{nextTest, finishPass, countTest, repl
 use crate::codes;
 use crate::inside;
 use station::Distance;
+use station::DueOrAhead;
 use station::Station;
 use station::cells;
 use station::due;
@@ -59,17 +60,26 @@ fn next_test(n: u8, table: &[u8], i: Station) -> Distance
 }
 
 // The least distance from `from` on, and below `end`, that is due for i by its row; `end`, or `from` if that is greater, where there is none.
+// Where the answer is not "due", no distance of the block that begins there is due, and the scan goes on behind it (request C-16).
 fn scan(row: &[u8], i: Station, end: u8, from: Distance) -> Distance
     ensures { λ r. ⌜ r .0 ≡ least (due (now (row .entry)) (i .0)) (end - from .0) (from .0) ⌝ }
 {
-    let mut m = from.0;
-    while m < end {
-        if due::is_due(row, i, Distance(m)) {
-            return Distance(m);
+    let mut m = from.0 as u16;
+    while m < end as u16 {
+        let at = Distance(m as u8);
+        if !due::stands(row, i, at) {
+            m += 1;
+            continue;
         }
-        m += 1;
+        let answer = due::due_or_ahead(row, i, at);
+        let DueOrAhead::Due = answer else {
+            let last = due::block_end(at);
+            m = last.0 as u16 + 1;
+            continue;
+        };
+        return at;
     }
-    Distance(m)
+    if from.0 < end { Distance(end) } else { from }
 }
 
 // Step 2: no distance is due any more.

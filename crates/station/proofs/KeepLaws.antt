@@ -1,16 +1,15 @@
 -- Laws of the elements of a list that pass a test, of specs/Search, and of a list that a loop fills with them.
 -- Assumes nothing.
 use mathlib.Core.Path.{_≡_, refl, sym, ap, _∙_}
-use mathlib.Core.Bool.{Bool, true, false, cond}
+use mathlib.Core.Bool.{Bool, true, false, cond, _&&_}
 use mathlib.Core.List.{List, [], _∷_, _++_, append-nil, append-assoc, List·Memᴰ, List·Memᴰ·head, List·Memᴰ·tail, List·Memᴰ·not-nil}
 use Prim.Native.Nat.{ℕ, zero, suc, _+_, _-_, _≤_, _<_}
 use native.Mathlib.Numerals.{add-one}
 use native.Mathlib.Omega.{arith}
-use lib.ListN.{length, getD, set, drop, replicate, length-append, length-replicate, replicate-append-replicate}
-use lib.Seq.{set-at, drop-cons, drop-length, drop-at}
+use lib.ListN.{length, getD, set, drop, length-append}
+use lib.Seq.{set-at, drop-cons, drop-length}
 use Rattle.station.specs.Search.{listOf, keep}
 use Rattle.station.specs.Sums.{sum, bit}
-use Rattle.station.specs.Calls.{padded}
 use Rattle.station.proofs.BoolLaws.{by-bool}
 use Rattle.station.proofs.SumLaws.{sum-split}
 
@@ -28,15 +27,13 @@ packed-more xs l v h =
 pub packed-done : (xs l : List ℕ) → length l ≡ length xs → packed xs l ≡ xs
 packed-done xs l e = rw (← e, drop-length l, append-nil)
 
--- over zeros
-pub packed-zeros : (len : ℕ) (xs : List ℕ) → length xs ≤ len → packed xs (replicate len 0) ≡ padded len xs
-packed-zeros len xs h =
-    let k : ℕ = length xs in
-    let zeros : List ℕ = replicate k 0 in
-    let rest : List ℕ = replicate (len - k) 0 in
-    let whole : k + (len - k) ≡ len = omega arith in
-    let all : zeros ++ rest ≡ replicate len 0 = replicate-append-replicate k (len - k) 0 ∙ ap (λ (m : ℕ). replicate {A = ℕ} m 0) whole in
-    ap (_++_ xs) (ap (drop k) (sym all) ∙ drop-at zeros rest k (length-replicate k 0))
+-- two bytes more
+pub packed-two : (xs l : List ℕ) (a b : ℕ) → suc (length xs) < length l
+    → set (set (packed xs l) (length xs) a) (suc (length xs)) b ≡ packed (xs ++ (a ∷ b ∷ [])) l
+packed-two xs l a b h =
+    let ys : List ℕ = xs ++ (a ∷ []) in
+    let longer : length ys ≡ suc (length xs) = omega (arith, length-append xs (a ∷ [])) in
+    rw (packed-more xs l a (omega arith), ← longer) (packed-more ys l b (omega arith) ∙ ap (λ zs. packed zs l) (append-assoc xs (a ∷ []) (b ∷ [])))
 
 module _ (q : ℕ → Bool) where
   pub keep-append : (xs ys : List ℕ) → keep q (xs ++ ys) ≡ keep q xs ++ keep q ys
@@ -63,12 +60,19 @@ module _ (q : ℕ → Bool) where
   mem-keep (y ∷ xs) x (List·Memᴰ·tail k) t =
       by-bool (q y) (λ e. rw e (List·Memᴰ·tail (mem-keep xs x k t))) (λ e. rw e (mem-keep xs x k t))
 
+  -- those that pass two tests, one after the other
+  pub keep-twice : (q₁ q₂ : ℕ → Bool) → ((x : ℕ) → q x ≡ (q₁ x && q₂ x)) → (xs : List ℕ) → keep q xs ≡ keep q₂ (keep q₁ xs)
+  unfolding keep
+  keep-twice q₁ q₂ same [] = refl
+  keep-twice q₁ q₂ same (x ∷ xs) =
+      rw (same x) (by-bool (q₁ x) (λ e. rw (e, keep-twice q₁ q₂ same xs)) (λ e. rw (e, keep-twice q₁ q₂ same xs)))
+
   -- those of f 0, f 1, .. that pass, as a loop that counts up finds them
   module _ (f : ℕ → ℕ) where
     abbrev pub kept : ℕ → List ℕ
     kept m = keep q (listOf f m)
 
-    kept-suc : (m : ℕ) → kept (suc m) ≡ kept m ++ cond (q (f m)) (f m ∷ []) []
+    pub kept-suc : (m : ℕ) → kept (suc m) ≡ kept m ++ cond (q (f m)) (f m ∷ []) []
     unfolding keep listOf
     kept-suc m = keep-append (listOf f m) (f m ∷ [])
 

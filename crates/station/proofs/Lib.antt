@@ -13,4 +13,6 @@ pub mod Refusals
 pub mod CellLaws
 pub mod GroupWalk
 pub mod DueLaws
+pub mod AheadLaws
 pub mod Presence
+pub mod EntryLaws

@@ -3,7 +3,7 @@
 use mathlib.Core.Path.{_≡_, refl, ap, _∙_}
 use mathlib.Core.Bool.{Bool, true, false, not, _&&_, _||_, and-true, and-false}
 use mathlib.Core.List.{List}
-use Prim.Native.Nat.{ℕ, zero, suc, _-_, _≤_, _<_}
+use Prim.Native.Nat.{ℕ, zero, suc, _*_, _-_, _≤_, _<_}
 use native.Mathlib.Nat.{le-antisymm}
 use native.Mathlib.Omega.{arith}
 use borrow.Author.Tests.{eqb-true, eqb-false, eq-eqb, ne-eqb, le-ltb, ltb-false, not-false, lt-leb, leb-false}
@@ -123,10 +123,10 @@ row-zero n t i e =
     let p = else-zero _ _ e in
     (accepted n t (p .0), leb-false n i (refuse-zero 8 _ (p .1)))
 
-pub assignment-zero : (n : ℕ) (t : List ℕ) (i len : ℕ) → assignmentNumber n t i len ≡ 0 → Accepted n t × (i < n) × (live n t i ≡ true) × (len ≡ n - 1)
+pub assignment-zero : (n : ℕ) (t : List ℕ) (i len : ℕ) → assignmentNumber n t i len ≡ 0 → Accepted n t × (i < n) × (live n t i ≡ true) × (len ≡ 2 * (n - 1))
 unfolding assignmentNumber
 assignment-zero n t i len e =
     let p = else-zero _ _ e in
     let r = row-zero n t i (p .0) in
     let q = else-zero _ _ (p .1) in
-    (r .0, r .1, not-false _ (refuse-zero 9 _ (q .0)), eqb-true len (n - 1) (not-false _ (refuse-zero 12 _ (q .1))))
+    (r .0, r .1, not-false _ (refuse-zero 9 _ (q .0)), eqb-true len (2 * (n - 1)) (not-false _ (refuse-zero 12 _ (q .1))))

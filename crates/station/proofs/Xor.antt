@@ -1,11 +1,12 @@
--- Laws of the exclusive or that lib.Bits does not have.
+-- Laws of the exclusive or that lib.Bits does not have, and of numbers that have the same leading digits.
 -- Assumes nothing.
 use mathlib.Core.Path.{_≡_, refl, sym, ap, _∙_}
-use Prim.Native.Nat.{ℕ, zero, suc, _+_, _*_, _/_, _%_, _^_, _<_}
-use native.Mathlib.Nat.{div-eq-of-lt, lt-div-mul-add}
+use Prim.Native.Nat.{ℕ, zero, suc, _+_, _*_, _/_, _%_, _^_, _≤_, _<_}
+use native.Mathlib.Nat.{div-eq-of-lt, lt-div-mul-add, le-trans, div-mul-le-self, le-div-iff-mul-le}
+use native.Mathlib.Decide.{le-ind}
 use native.Mathlib.Omega.{arith}
 use lib.Arith.{bin-ind}
-use lib.Pow.{pow-pos}
+use lib.Pow.{pow-pos, shr-shr}
 use lib.Bits.{bitXor, differ, xor-step, xor-self, xor-zero-r, xor-shr}
 
 differ-lt : (x y : ℕ) → x < 2 → y < 2 → differ x y < 2
@@ -49,11 +50,28 @@ xor-cancel a b = sym (xor-assoc a a b) ∙ ap (λ (x : ℕ). bitXor x b) (xor-se
 pub xor-zero-eq : (a b : ℕ) → bitXor a b ≡ 0 → a ≡ b
 xor-zero-eq a b e = cc (xor-zero-r a, xor-cancel a b)
 
+-- order is kept by leaving off digits
+pub div-le : (k a b : ℕ) → a ≤ b → a / 2 ^ k ≤ b / 2 ^ k
+div-le k a b l = le-div-iff-mul-le (pow-pos k) .1 (le-trans (div-mul-le-self a (2 ^ k)) l)
+
+-- to leave off one digit more is to halve once more
+pub half : (h a : ℕ) → a / 2 ^ suc h ≡ a / 2 ^ h / 2
+half h a = let e : h + 1 ≡ suc h = omega arith in sym (rw e at (shr-shr a h 1))
+
 -- near: the same digits from place h on
-pub near-of-xor : (h a b : ℕ) → bitXor a b < 2 ^ h → a / 2 ^ h ≡ b / 2 ^ h
+abbrev pub Near : ℕ → ℕ → ℕ → Type 0
+Near h a b = a / 2 ^ h ≡ b / 2 ^ h
+
+pub near-suc : (h a b : ℕ) → Near h a b → Near (suc h) a b
+near-suc h a b n = cc (half h a, half h b)
+
+pub near-le : (h s a b : ℕ) → h ≤ s → Near h a b → Near s a b
+near-le h s a b l n = le-ind (λ (t : ℕ). Near t a b) n (λ t k m. near-suc t a b m) s l
+
+pub near-of-xor : (h a b : ℕ) → bitXor a b < 2 ^ h → Near h a b
 near-of-xor h a b l = xor-zero-eq (a / 2 ^ h) (b / 2 ^ h) (sym (xor-shr a b h) ∙ div-eq-of-lt l)
 
-pub xor-of-near : (h a b : ℕ) → a / 2 ^ h ≡ b / 2 ^ h → bitXor a b < 2 ^ h
+pub xor-of-near : (h a b : ℕ) → Near h a b → bitXor a b < 2 ^ h
 xor-of-near h a b e =
     let z : bitXor a b / 2 ^ h ≡ 0 = cc (xor-shr a b h, xor-self (b / 2 ^ h)) in
     let l : bitXor a b < bitXor a b / 2 ^ h * 2 ^ h + 2 ^ h = lt-div-mul-add (pow-pos h) in

@@ -1,23 +1,31 @@
--- Document 01, "What can be asked", all but the run: the number, the figures and the bytes that each call gives, for all inputs.
+-- Document 01, "What can be asked", all but the run, with requests C-11 and C-16 of document 02: the number, the figures and the bytes that each
+-- call gives, for all inputs.
 -- Assumes nothing.
-use Prim.Native.Nat.{ℕ, _-_, _%_}
-use mathlib.Core.Bool.{cond, not, _||_}
-use mathlib.Core.List.{List, [], _++_}
+use Prim.Native.Nat.{ℕ, _*_, _-_, _%_}
+use mathlib.Core.Bool.{Bool, cond, not, _&&_, _||_}
+use mathlib.Core.List.{List, [], _∷_}
 use mathlib.Core.Option.{Option, none, some}
-use lib.ListN.{length, replicate}
+use lib.ListN.{length}
 use lib.Dec.{ltb, leb, eqb}
-use Rattle.station.specs.Search.{listOf}
-use Rattle.station.specs.Groups.{isSize, dimension, group}
+use Rattle.station.specs.Search.{listOf, select}
+use Rattle.station.specs.Groups.{isSize, dimension, distances, stationAt, isPresent, group}
 use Rattle.station.specs.Table.{stride, nextColumn, tableLength, row, live}
 use Rattle.station.specs.Rules.{refuse, _else_, shapeNumber, tableNumber}
-use Rattle.station.specs.Tests.{dueDistances}
+use Rattle.station.specs.Tests.{DueAnswer, answerDue, answerAhead, answer, dueDistances}
 use Rattle.station.specs.declared.First.{First}
 use Rattle.station.specs.declared.First.the-variants.{At, Nobody}
+use Rattle.station.specs.declared.DueOrAhead.{DueOrAhead}
+use Rattle.station.specs.declared.DueOrAhead.the-variants.{Due, Ahead}
 
--- what the answer First stands for: the station, or none
+-- what the code's First stands for: the station, or none
 abbrev pub firstValue : First → Option ℕ
 firstValue (At x) = some (x .0)
 firstValue Nobody = none
+
+-- C-16: what the code's DueOrAhead stands for
+abbrev pub answerValue : DueOrAhead → DueAnswer
+answerValue Due = answerDue
+answerValue (Ahead x) = answerAhead (x .0)
 
 -- what a refused call (its number is not 0) leaves or answers instead
 abbrev pub unless {ℓ} : {A : Type ℓ} → ℕ → A → A → A
@@ -60,18 +68,33 @@ rowNumber n t i = tableNumber n t else stationRefusal n i
 unfoldable pub rowPart : ℕ → List ℕ → ℕ → List ℕ
 rowPart n t i = unless (rowNumber n t i) [] (row n t i)
 
--- Assignment: refusals 1 to 4, 9, 10, 13. 10: "The station is not live."
+-- Assignment: refusals 1 to 4, 9, 10, 13. 10: "The station is not live." C-16: "number 13 speaks of the new length", two bytes for each entry
 unfoldable pub assignmentNumber : ℕ → List ℕ → ℕ → ℕ → ℕ
-assignmentNumber n t i len = rowNumber n t i else refuse 10 (not (live n t i)) else lengthRefusal (n - 1) len
+assignmentNumber n t i len = rowNumber n t i else refuse 10 (not (live n t i)) else lengthRefusal (2 * (n - 1)) len
 
--- a list followed by zeros, len bytes in all
-abbrev pub padded : ℕ → List ℕ → List ℕ
-padded len xs = xs ++ replicate (len - length xs) 0
+-- C-16: "one for each other station in ascending distance": whether another of n stations stands at distance m from i
+abbrev pub isOther : ℕ → ℕ → ℕ → Bool
+isOther n i m = ltb 0 m && isPresent n (stationAt i m)
 
--- "the distances due for a live station counted from 1, ascending, into a list of N − 1 bytes, the rest 0"
+-- the distances of the other stations, ascending
+unfoldable pub otherDistances : ℕ → ℕ → List ℕ
+otherDistances n i = select (isOther n i) (distances n)
+
+-- "255 if due or else the one ahead"
+abbrev pub answerByte : DueAnswer → ℕ
+answerByte answerDue = 255
+answerByte (answerAhead x) = x
+
+-- "two-byte entries ..: the distance, and 255 if due or else the one ahead", for each of these distances
+unfoldable pub assignmentEntries : List ℕ → ℕ → List ℕ → List ℕ
+assignmentEntries r i [] = []
+assignmentEntries r i (m ∷ ms) = m ∷ answerByte (answer r i m) ∷ assignmentEntries r i ms
+
+-- "The assignment becomes n − 1 two-byte entries"; they fill the list (`NothingLeftOver`)
 unfoldable pub assignmentAfter : ℕ → List ℕ → ℕ → List ℕ → List ℕ
-assignmentAfter n t i list = unless (assignmentNumber n t i (length list)) list (padded (n - 1) (dueDistances (row n t i) i n))
+assignmentAfter n t i list =
+    unless (assignmentNumber n t i (length list)) list (assignmentEntries (row n t i) i (otherDistances n i))
 
--- "and how many"
+-- "The count still counts due ones."
 unfoldable pub assignmentCount : ℕ → List ℕ → ℕ → ℕ → ℕ
 assignmentCount n t i len = unless (assignmentNumber n t i len) 0 (length (dueDistances (row n t i) i n))

@@ -8,3 +8,4 @@ pub mod Rules
 pub mod Tests
 pub mod Rows
 pub mod Calls
+pub mod Ahead

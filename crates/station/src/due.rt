@@ -1,13 +1,16 @@
-// Which distances are due (document 01, step 1), and the assignment.
+// Which distances are due (document 01, step 1), who is first at the others (request C-16), and the assignment.
 ghost use mathlib.Core.Path.{_≡_};
-ghost use Prim.Native.Nat.{_+_, _-_, _<_};
+ghost use Prim.Native.Nat.{_+_, _*_, _<_};
 ghost use mathlib.Core.Bool.{true, cond};
-ghost use lib.ListN.{length, set, replicate};
+ghost use mathlib.Core.Option.{some};
+ghost use lib.ListN.{length, set};
 ghost use Rattle.station.specs.Groups.{isSize, level};
-ghost use Rattle.station.specs.Tests.{unsuspected, first, due, dueDistances};
-ghost use Rattle.station.specs.Calls.{firstValue, padded, assignmentNumber, assignmentAfter, assignmentCount};
+ghost use Rattle.station.specs.Tests.{unsuspected, first, answerOf, answer, saysDue, stands, due, dueDistances};
+ghost use Rattle.station.specs.Ahead.{blockEnd};
+ghost use Rattle.station.specs.Calls.{firstValue, answerValue, answerByte, otherDistances, assignmentEntries, assignmentNumber, assignmentAfter, assignmentCount};
 use crate::Assigned;
 use crate::Distance;
+use crate::DueOrAhead;
 use crate::First;
 use crate::Station;
 use crate::groups;
@@ -43,22 +46,49 @@ fn first_unsuspected(row: &[u8], j: Station, m: Distance) -> First
     First::Nobody
 }
 
-// Whether distance m is due for i, by i's row.
-pub fn is_due(row: &[u8], i: Station, m: Distance) -> bool
-    ensures { λ r. ⌜ r ≡ due (now (row .entry)) (i .0) (m .0) ⌝ }
+// Whether a station stands at distance m from i, by the length of i's row.
+pub fn stands(row: &[u8], i: Station, m: Distance) -> bool
+    ensures { λ r. ⌜ r ≡ stands (now (row .entry)) (i .0) (m .0) ⌝ }
 {
     let j = order::lookup(i, m);
     let at = j.0 as usize;
-    if row.len() <= at {
-        return false;
-    }
+    at < row.len()
+}
+
+// Whether distance m is due for i, by i's row, or who is first instead. Callers ask first whether a station stands at m.
+pub fn due_or_ahead(row: &[u8], i: Station, m: Distance) -> DueOrAhead
+    ensures { λ r. ⌜ answerValue r ≡ answer (now (row .entry)) (i .0) (m .0) ⌝ }
+{
+    let j = order::lookup(i, m);
     match first_unsuspected(row, j, m) {
-        First::At(x) => x.0 == i.0,
-        First::Nobody => false,
+        First::At(x) => answer_of(i, x),
+        First::Nobody => DueOrAhead::Ahead(i),
     }
 }
 
-// The assignment of document 01: the distances due for live station i, ascending, the rest of the list 0, and how many.
+// What is answered to i where x is first.
+fn answer_of(i: Station, x: Station) -> DueOrAhead
+    ensures { λ r. ⌜ answerValue r ≡ answerOf (i .0) (some (x .0)) ⌝ }
+{
+    if x.0 == i.0 {
+        return DueOrAhead::Due;
+    }
+    DueOrAhead::Ahead(x)
+}
+
+// m with its digits below its lowest 1 all 1. Whoever stands before a station in the group at distance m does so at every distance from m to
+// this one.
+pub fn block_end(m: Distance) -> Distance
+    ensures { λ r. ⌜ r .0 ≡ blockEnd (m .0) ⌝ }
+{
+    if m.0 == 0 {
+        return m;
+    }
+    Distance(m.0 | (m.0 - 1))
+}
+
+// The assignment of live station i (request C-16): for each other station, by ascending distance, the distance, and 255 if it is due or else the
+// one ahead; and how many are due.
 pub fn assignment(n: usize, table: &[u8], i: Station, list: &mut [u8]) -> Assigned
     ensures { λ r. ⌜ r .number ≡ assignmentNumber n (now (table .entry)) (i .0) (length (now (list .entry))) ⌝ }
     ensures { λ r. ⌜ r .count ≡ assignmentCount n (now (table .entry)) (i .0) (length (now (list .entry))) ⌝ }
@@ -71,7 +101,7 @@ pub fn assignment(n: usize, table: &[u8], i: Station, list: &mut [u8]) -> Assign
             count: 0,
         };
     }
-    let count = write_due(n as u8, inside::row(n as u8, table, i), i, list);
+    let count = write_entries(n as u8, inside::row(n as u8, table, i), i, list);
     Assigned {
         number: 0,
         count: count,
@@ -89,52 +119,80 @@ fn assignment_number(n: usize, table: &[u8], i: Station, len: usize) -> u8
     if !rules::is_live(n as u8, table, i) {
         return 10;
     }
-    if len != n - 1 {
+    if len != 2 * (n - 1) {
         return 13;
     }
     0
 }
 
-// Writes the distances due for i of n stations, by its row, and zeros behind them; answers how many are due.
-fn write_due(n: u8, row: &[u8], i: Station, list: &mut [u8]) -> u8
-    requires { ⌜ (isSize n ≡ true) × (length (now row) ≡ n) × (i .0 < n) × (length (now list) + 1 ≡ n) ⌝ }
-    ensures { λ r. ⌜ r ≡ length (dueDistances (now (row .entry)) (i .0) n) ⌝ }
-    ensures { λ _. ⌜ now (list .exit) ≡ padded (length (now (list .entry))) (dueDistances (now (row .entry)) (i .0) n) ⌝ }
-{
-    clear(list);
-    let end = groups::distances(n);
-    let mut count: u8 = 0;
-    let mut m: u8 = 1;
-    while (m as u16) < end {
-        count = put_due(row, i, Distance(m), list, count);
-        m += 1;
-    }
-    count
+// How much of an assignment is written: the bytes, and how many entries are due.
+struct Written {
+    bytes: u8,
+    due: u8,
 }
 
-// Puts distance m at place count of the list if it is due; answers how many are there now.
-fn put_due(row: &[u8], i: Station, m: Distance, list: &mut [u8], count: u8) -> u8
-    requires { ⌜ count < 255 ⌝ }
-    ensures { λ r. ⌜ r ≡ cond (due (now (row .entry)) (i .0) (m .0)) (count + 1) count ⌝ }
-    ensures { λ _. ⌜ now (list .exit) ≡ cond (due (now (row .entry)) (i .0) (m .0)) (set (now (list .entry)) count (m .0)) (now (list .entry)) ⌝ }
+// Writes the entries of i of n stations, by its row; answers how many are due.
+fn write_entries(n: u8, row: &[u8], i: Station, list: &mut [u8]) -> u8
+    requires { ⌜ (isSize n ≡ true) × (length (now row) ≡ n) × (i .0 < n) × (length (now list) + 2 ≡ 2 * n) ⌝ }
+    ensures { λ r. ⌜ r ≡ length (dueDistances (now (row .entry)) (i .0) n) ⌝ }
+    ensures { λ _. ⌜ now (list .exit) ≡ assignmentEntries (now (row .entry)) (i .0) (otherDistances n (i .0)) ⌝ }
 {
-    if !is_due(row, i, m) {
+    let end = groups::distances(n);
+    let mut written = Written { bytes: 0, due: 0 };
+    let mut m: u8 = 1;
+    while (m as u16) < end {
+        written = put_entry(row, i, Distance(m), list, written);
+        m += 1;
+    }
+    written.due
+}
+
+// Puts the entry of distance m behind what is written, if a station stands there.
+fn put_entry(row: &[u8], i: Station, m: Distance, list: &mut [u8], written: Written) -> Written
+    requires { ⌜ (written .bytes < 254) × (written .due < 255) ⌝ }
+    ensures { λ r. ⌜ r .bytes ≡ cond (stands (now (row .entry)) (i .0) (m .0)) (written .bytes + 2) (written .bytes) ⌝ }
+    ensures { λ r. ⌜ r .due ≡ cond (due (now (row .entry)) (i .0) (m .0)) (written .due + 1) (written .due) ⌝ }
+    ensures { λ _. ⌜ now (list .exit) ≡ cond (stands (now (row .entry)) (i .0) (m .0)) (set (set (now (list .entry)) (written .bytes) (m .0)) (written .bytes + 1) (answerByte (answer (now (row .entry)) (i .0) (m .0)))) (now (list .entry)) ⌝ }
+{
+    if !stands(row, i, m) {
+        return written;
+    }
+    let answer = due_or_ahead(row, i, m);
+    put(list, written.bytes, m.0);
+    put(list, written.bytes + 1, answer_byte(answer));
+    Written {
+        bytes: written.bytes + 2,
+        due: count_due(answer, written.due),
+    }
+}
+
+// One more where the answer is that the distance is due.
+fn count_due(answer: DueOrAhead, count: u8) -> u8
+    requires { ⌜ count < 255 ⌝ }
+    ensures { λ r. ⌜ r ≡ cond (saysDue (answerValue answer)) (count + 1) count ⌝ }
+{
+    let DueOrAhead::Due = answer else {
         return count;
-    }
-    let k = count as usize;
-    if k < list.len() {
-        list[k] = m.0;
-    }
+    };
     count + 1
 }
 
-// Makes every byte of the list 0.
-fn clear(list: &mut [u8])
-    ensures { λ _. ⌜ now (list .exit) ≡ replicate (length (now (list .entry))) 0 ⌝ }
+// The second byte of an entry: 255 if due or else the one ahead.
+fn answer_byte(answer: DueOrAhead) -> u8
+    ensures { λ r. ⌜ r ≡ answerByte (answerValue answer) ⌝ }
 {
-    let mut k: usize = 0;
-    while k < list.len() {
-        list[k] = 0;
-        k += 1;
+    match answer {
+        DueOrAhead::Due => 255,
+        DueOrAhead::Ahead(x) => x.0,
+    }
+}
+
+// Puts a byte at place k of the list; past its end nothing is written.
+fn put(list: &mut [u8], k: u8, byte: u8)
+    ensures { λ _. ⌜ now (list .exit) ≡ set (now (list .entry)) k byte ⌝ }
+{
+    let at = k as usize;
+    if at < list.len() {
+        list[at] = byte;
     }
 }

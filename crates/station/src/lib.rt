@@ -28,6 +28,13 @@ pub enum First {
     Nobody,
 }
 
+// Request C-16: what the question whether a distance is due answers. Ahead names the station that is first instead; where nobody is first, the
+// one that asks.
+pub enum DueOrAhead {
+    Due,
+    Ahead(Station),
+}
+
 // What the assignment answers: 0 or the refusal, and how many distances are due.
 pub struct Assigned {
     pub number: u8,

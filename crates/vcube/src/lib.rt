@@ -47,7 +47,8 @@ pub extern "C" fn vcube_group_list(n: usize, station: usize, level: usize, list:
     groups::group_list(n, Station(byte_of(station)), Level(byte_of(level)), list)
 }
 
-// Assignment: the distances due for a live station, ascending, the rest of the list 0, and how many into count, 0 where it is refused.
+// Assignment of a live station: for each other station, by ascending distance, the distance, and 255 if it is due or else the one ahead; how many
+// are due into count, 0 where it is refused.
 #[no_mangle]
 pub extern "C" fn vcube_assignment(
     n: usize,

@@ -7,7 +7,7 @@ use Rattle.station.specs.Search.{least, every, listOf}
 use Rattle.station.specs.Groups.{isSize, level, dimension, distances, width, member}
 use Rattle.station.specs.Table.{tableLength, lineStart, cell, setCell, row, setRow}
 use Rattle.station.specs.Rules.{rowRule, lineRules, someLive, liveFinished, shapeNumber, tableNumber}
-use Rattle.station.specs.Tests.{unsuspected, firstPlace, first, due}
+use Rattle.station.specs.Tests.{unsuspected, firstPlace, first, answer, due}
 use Rattle.station.specs.Rows.{unionByte, union, mark}
 use Rattle.station.specs.Calls.{freshByte, freshTable}
 use Rattle.plant.specs.Iterate.{iterate}
@@ -21,7 +21,7 @@ use Rattle.detection.specs.Claim.{atStart, liveCount, noneSuspected, deadGroup,
 
 -- who unfolds this name unfolds all the definitions on its line, and a list of runs computes
 unfoldable pub wholeRun : Unit {0}
-unfolding atStart liveCount noneSuspected deadPairs deadGroup sum afterRuns takenFrom takenIn takenAll anyTaken allTaken countTaken closes cut run startNumber tableNumber shapeNumber isSize tableLength every lineRules rowRule someLive liveFinished cell lineStart row setRow setCell freshTable freshByte listOf goOn entries writeLine entryNumber after acted sheetLine testedOf outcomeOf turn turnTested turnOutcome crash resetLine resetLines afterRound iterate nextTest makesTest finishPass countTest replies isTold exchangeRows suspect replyOutcome testOutcome afterOutcome selfOrSuspected isAlone afterAlone testing due first firstPlace least unsuspected member width level dimension distances union unionByte mark
+unfolding atStart liveCount noneSuspected deadPairs deadGroup sum afterRuns takenFrom takenIn takenAll anyTaken allTaken countTaken closes cut run startNumber tableNumber shapeNumber isSize tableLength every lineRules rowRule someLive liveFinished cell lineStart row setRow setCell freshTable freshByte listOf goOn entries writeLine entryNumber after acted sheetLine testedOf outcomeOf turn turnTested turnOutcome crash resetLine resetLines afterRound iterate nextTest makesTest finishPass countTest replies isTold exchangeRows suspect replyOutcome testOutcome afterOutcome selfOrSuspected isAlone afterAlone testing answer due first firstPlace least unsuspected member width level dimension distances union unionByte mark
 wholeRun = tt
 
 -- a schedule of turns of the stations listed

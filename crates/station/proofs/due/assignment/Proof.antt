@@ -23,11 +23,11 @@ row-requires c κs =
     let z = assignment-zero _ _ _ _ (sym (c .before .assignment-number .ensures) ∙ c .if1 .left) in
     (z .0 .long, z .1)
 
-cast-write-due : tie.Need-cast-write-due
-cast-write-due c = omega (arith, size-bounds _ (assignment-zero _ _ _ _ (sym (c .before .assignment-number .ensures) ∙ c .if1 .left) .0 .size))
+cast-write-entries : tie.Need-cast-write-entries
+cast-write-entries c = omega (arith, size-bounds _ (assignment-zero _ _ _ _ (sym (c .before .assignment-number .ensures) ∙ c .if1 .left) .0 .size))
 
-write-due-requires : tie.Need-write-due-requires
-write-due-requires c κs =
+write-entries-requires : tie.Need-write-entries-requires
+write-entries-requires c κs =
     let z = assignment-zero _ _ _ _ (sym (c .before .before .before .assignment-number .ensures) ∙ c .before .before .if1 .left) in
     (z .0 .size, c .before .row .ensures .1, z .1, omega (arith, size-bounds _ (z .0 .size), z .3))
 
@@ -35,8 +35,7 @@ returns-2 : tie.Need-returns-2
 unfolding assignmentCount assignmentAfter
 returns-2 c =
     let z = sym (c .before .before .before .before .before .before .assignment-number .ensures) ∙ c .before .before .before .before .before .if1 .left in
-    let y = assignment-zero _ _ _ _ z in
-    let e = rw (c .before .before .before .before .row .ensures .0, y .3) at (c .before .before .write-due .ensures) in
+    let e = rw (c .before .before .before .before .row .ensures .0) at (c .before .before .write-entries .ensures) in
     (sym z, (e .0 ∙ unless-accepted _ _ _ z, e .1 ∙ unless-accepted _ _ _ z))
 
 pub assignment-spec : {M : Type 1} → statement M
@@ -45,9 +44,9 @@ assignment-spec =
     (tie.spec
     (λ c κs. search needs)
     returns
-    cast-write-due
+    cast-write-entries
     cast-row
     row-requires
-    write-due-requires
+    write-entries-requires
     (λ c. search needs)
     returns-2)

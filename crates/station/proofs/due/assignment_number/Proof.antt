@@ -24,6 +24,9 @@ returns-2 c = simp (← c .before .before .before .row-number .ensures, c .befor
 sub-if3 : tie.Need-sub-if3
 sub-if3 c = omega (arith, row-zero _ _ _ (sym (c .before .before .before .row-number .ensures) ∙ c .before .before .if1 .left) .1)
 
+mul-if3 : tie.Need-mul-if3
+mul-if3 c = omega (arith, size-bounds _ (row-zero _ _ _ (sym (c .before .before .before .row-number .ensures) ∙ c .before .before .if1 .left) .0 .size))
+
 returns-3 : tie.Need-returns-3
 unfolding assignmentNumber
 returns-3 c = simp (← c .before .before .before .before .row-number .ensures, c .before .before .before .if1 .left, ← c .before .before .is-live .ensures, c .before .if2 .left, ne-eqb _ _ (c .if3 .taken))
@@ -42,5 +45,6 @@ assignment-number-spec =
     (λ c κs. search needs)
     returns-2
     sub-if3
+    mul-if3
     returns-3
     returns-4)

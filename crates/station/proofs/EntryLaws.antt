@@ -1,0 +1,125 @@
+-- The entries of an assignment, as a loop that counts up writes them: their number, and that they fill the list.
+-- Assumes nothing.
+use mathlib.Core.Path.{_≡_, refl, sym, _∙_}
+use mathlib.Core.Logic.{by-cases}
+use mathlib.Core.Bool.{true, false, cond, _&&_, true≢false}
+use mathlib.Core.List.{List, [], _∷_, _++_, append-nil}
+use Prim.Native.Nat.{ℕ, suc, _+_, _*_, _-_, _≤_, _<_}
+use native.Mathlib.Decide.{decLt}
+use native.Mathlib.Numerals.{add-one}
+use native.Mathlib.Omega.{arith}
+use borrow.Author.Tests.{lt-ltb, ne-eqb}
+use lib.Dec.{eqb}
+use lib.ListN.{length, set, length-append}
+use Rattle.station.specs.Search.{select, keep, listOf}
+use Rattle.station.specs.Groups.{isSize, distances}
+use Rattle.station.specs.Tests.{unsuspected, DueAnswer, answerDue, answerAhead, answer, saysDue, stands, due, dueDistances}
+use Rattle.station.specs.Calls.{isOther, otherDistances, answerByte, assignmentEntries}
+use Rattle.station.specs.Ahead.{NothingLeftOver, DueHave255}
+use Rattle.station.proofs.BoolLaws.{by-bool}
+use Rattle.station.proofs.KeepLaws.{keep-twice, packed, packed-two, packed-done, kept-suc, kept-le, kept-room}
+use Rattle.station.proofs.Sizes.{size-bounds}
+use Rattle.station.proofs.DueLaws.{unsuspected-absent, due-zero}
+use Rattle.station.proofs.AheadLaws.{named-stands-before}
+use Rattle.station.proofs.Presence.{others-all}
+
+-- two bytes for each distance
+entries-length : (r : List ℕ) (i : ℕ) (ms : List ℕ) → length (assignmentEntries r i ms) ≡ 2 * length ms
+unfolding assignmentEntries
+entries-length r i [] = refl
+entries-length r i (m ∷ ms) = omega (arith, entries-length r i ms)
+
+pub nothing-left-over : NothingLeftOver
+nothing-left-over n r i size h = omega (arith, entries-length r i (otherDistances n i), others-all n i size h)
+
+-- whom a row does not suspect is below its length
+unsuspected-below : (r : List ℕ) (x : ℕ) → unsuspected r x ≡ true → x < length r
+unsuspected-below r x e = by-cases (decLt x (length r)) (λ l. l) (λ l. absurd (true≢false (sym e ∙ unsuspected-absent r x l)))
+
+-- an entry has 255 just where its distance is due
+due-byte : (r : List ℕ) (i m : ℕ) → length r ≤ 64 → unsuspected r i ≡ true → 0 < m → eqb (answerByte (answer r i m)) 255 ≡ saysDue (answer r i m)
+due-byte r i m few own pos = go (answer r i m) refl
+  where
+    go : (a : DueAnswer) → answer r i m ≡ a → eqb (answerByte a) 255 ≡ saysDue a
+    go answerDue e = refl
+    go (answerAhead x) e =
+        ne-eqb x 255 (omega (arith, unsuspected-below r x (named-stands-before r i m x own pos e .0)))
+
+pub due-have-255 : DueHave255
+unfolding due dueDistances otherDistances
+due-have-255 n r i size long own = keep-twice (due r i) (isOther n i) (λ m. eqb (answerByte (answer r i m)) 255) same (listOf (λ k. k) (distances n))
+  where
+    same : (m : ℕ) → due r i m ≡ (isOther n i m && eqb (answerByte (answer r i m)) 255)
+    same m =
+        by-cases (decLt 0 m)
+        (λ pos. rw (long, lt-ltb 0 m pos, due-byte r i m (omega (arith, size-bounds n size)) own pos))
+        (λ none. let z : m ≡ 0 = omega arith in rw z (due-zero r i))
+
+-- one distance more
+entries-more : (r : List ℕ) (i m : ℕ) (ms : List ℕ)
+    → assignmentEntries r i (ms ++ (m ∷ [])) ≡ assignmentEntries r i ms ++ (m ∷ answerByte (answer r i m) ∷ [])
+unfolding assignmentEntries
+entries-more r i m [] = refl
+entries-more r i m (k ∷ ms) = rw (entries-more r i m ms)
+
+-- below distance 1 there is nothing to write, and nothing is due
+pub entries-start : (n : ℕ) (r : List ℕ) (i : ℕ) → (select (isOther n i) 1 ≡ []) × (assignmentEntries r i (select (isOther n i) 1) ≡ [])
+unfolding keep listOf assignmentEntries
+entries-start n r i = (refl, refl)
+
+pub due-start : (r : List ℕ) (i : ℕ) → select (due r i) 1 ≡ []
+unfolding keep listOf
+due-start r i = rw (due-zero r i)
+
+-- few are due, and few bytes are written
+pub due-count : (r : List ℕ) (i m count : ℕ) → count ≡ length (select (due r i) m) → count ≤ m
+due-count r i m count e = rw e (kept-le (due r i) (λ k. k) m)
+
+pub entry-bytes : (n i m bytes : ℕ) → bytes ≡ 2 * length (select (isOther n i) m) → bytes ≤ 2 * m
+entry-bytes n i m bytes e = omega (arith, kept-le (isOther n i) (λ k. k) m)
+
+-- all is written
+pub entry-done : (n : ℕ) (r : List ℕ) (i : ℕ) → isSize n ≡ true → i < n → (l : List ℕ) → length l + 2 ≡ 2 * n
+    → packed (assignmentEntries r i (otherDistances n i)) l ≡ assignmentEntries r i (otherDistances n i)
+entry-done n r i size h l fits =
+    packed-done (assignmentEntries r i (otherDistances n i)) l (omega (arith, entries-length r i (otherDistances n i), others-all n i size h))
+
+module _ (n : ℕ) (r : List ℕ) (i : ℕ) (size : isSize n ≡ true) (long : length r ≡ n) (h : i < n) where
+  abbrev others : ℕ → List ℕ
+  others m = select (isOther n i) m
+
+  -- another station that stands at m leaves room for its entry
+  room : (m len : ℕ) → m < distances n → isOther n i m ≡ true → len + 2 ≡ 2 * n → suc (2 * length (others m)) < len
+  unfolding otherDistances
+  room m len below other fits =
+      omega (arith, kept-room (isOther n i) (λ k. k) m (distances n) below other, others-all n i size h)
+
+  pub entry-next : (m bytes b : ℕ) (l t u : List ℕ) → 0 < m → m < distances n → length l + 2 ≡ 2 * n
+      → (bytes ≡ 2 * length (others m)) × (t ≡ packed (assignmentEntries r i (others m)) l)
+      → b ≡ cond (stands r i m) (bytes + 2) bytes
+      → u ≡ cond (stands r i m) (set (set t bytes m) (bytes + 1) (answerByte (answer r i m))) t
+      → (b ≡ 2 * length (others (m + 1))) × (u ≡ packed (assignmentEntries r i (others (m + 1))) l)
+  entry-next m bytes b l t u pos below fits e eb eu = by-bool (stands r i m) here absent
+    where
+      xs : List ℕ
+      xs = assignmentEntries r i (others m)
+
+      same : stands r i m ≡ isOther n i m
+      same = rw (long, lt-ltb 0 m pos)
+
+      here : stands r i m ≡ true → (b ≡ 2 * length (others (m + 1))) × (u ≡ packed (assignmentEntries r i (others (m + 1))) l)
+      here p =
+          let other : isOther n i m ≡ true = sym same ∙ p in
+          let more : others (m + 1) ≡ others m ++ (m ∷ []) = rw (add-one, kept-suc (isOther n i) (λ k. k) m, other) in
+          let len : bytes ≡ length xs = e .0 ∙ sym (entries-length r i (others m)) in
+          let fit = room m (length l) below other fits in
+          rw (more, entries-more r i m (others m)) (
+            omega (arith, rw p at eb, e .0, length-append (others m) (m ∷ [])),
+            rw (p, e .1, len, add-one) at eu ∙ packed-two xs l m (answerByte (answer r i m)) (omega (arith, entries-length r i (others m))),
+          )
+
+      absent : stands r i m ≡ false → (b ≡ 2 * length (others (m + 1))) × (u ≡ packed (assignmentEntries r i (others (m + 1))) l)
+      absent p =
+          let other : isOther n i m ≡ false = sym same ∙ p in
+          let stays : others (m + 1) ≡ others m = rw (add-one, kept-suc (isOther n i) (λ k. k) m, other, append-nil) in
+          rw stays (rw p at eb ∙ e .0, rw p at eu ∙ e .1)
