@@ -3,6 +3,10 @@
 //! not say it. The arguments and answers of grant and drive (C-15) were fixed
 //! beforehand by those who made the header: document 02 says neither the order
 //! of the arguments nor what station a refused grant gives.
+//! The readings of C-16 were fixed beforehand, too, by those who made the
+//! library: entries are for the stations that exist, dead and suspected ones
+//! among them, from distance 1 on; the one ahead is the first of the group that
+//! the asking station does not suspect; the count is that of entries with 255.
 //!
 //! Rows are 64-bit sets and lines are structs. They are decoded from the
 //! lent byte table and encoded back into it. Figures over results (C-12) are

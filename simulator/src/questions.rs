@@ -1,6 +1,6 @@
 //! What can be asked, but for the run.
 
-use crate::groups::{due_from, group};
+use crate::groups::{answers_from, group, DueOrAhead};
 use crate::line::row_part;
 use crate::numbers::{Distance, Level, Size, Station};
 use crate::plant::{check_length, Plant};
@@ -62,18 +62,18 @@ fn admit_assignment(
     let plant = Plant::admit(n, table)?;
     let i = plant.size().station(station)?;
     plant.check_live(i)?;
-    Refusal::ListLength.when(length != n - 1)?;
+    Refusal::ListLength.when(length != 2 * (n - 1))?;
     Ok((plant, i))
 }
 
-/// Writes the due distances, then zeros; gives how many are due.
+/// Writes an entry of two bytes for each other station, by ascending distance;
+/// gives how many are due.
 fn write_assignment(plant: &Plant, i: Station, list: &mut [u8]) -> usize {
-    let due = due_from(plant.size(), i, plant.line(i).row, Distance::FIRST);
+    let answers = answers_from(plant.size(), i, plant.line(i).row, Distance::FIRST);
     let mut count = 0;
-    list.fill(0);
-    for (place, (distance, _)) in list.iter_mut().zip(due) {
-        *place = distance.number();
-        count += 1;
+    for (entry, (distance, _, answer)) in list.chunks_exact_mut(2).zip(answers) {
+        entry.copy_from_slice(&[distance.number(), answer.number()]);
+        count += usize::from(answer == DueOrAhead::Due);
     }
     count
 }

@@ -1,6 +1,6 @@
 //! The run: entries, rounds, tally and sheet.
 
-use crate::groups::due_from;
+use crate::groups::{answers_from, DueOrAhead};
 use crate::line::Status;
 use crate::numbers::{Distance, Station};
 use crate::plant::Plant;
@@ -186,7 +186,11 @@ impl Watch {
     /// that stands there.
     fn least_due(&self, i: Station) -> Option<(Distance, Station)> {
         let line = self.plant.line(i);
-        due_from(self.plant.size(), i, line.row, line.next).next()
+        let due = |(m, j, answer)| match answer {
+            DueOrAhead::Due => Some((m, j)),
+            DueOrAhead::Ahead(_) => None,
+        };
+        answers_from(self.plant.size(), i, line.row, line.next).find_map(due)
     }
 
     fn finish_pass(&mut self, i: Station) -> Effect {

@@ -120,10 +120,16 @@ fn group_list_refuses_in_order() {
 fn assignment_boundaries() {
     for (n, _) in sizes() {
         let table = fresh(n);
-        assert_eq!(assignment_number(n, &table, n as u8 - 1, n - 1), 0);
-        assert_eq!(assignment_number(n, &table, n as u8, n - 1), 9);
-        assert_eq!(assignment_number(n, &table, 0, n - 2), 13);
-        assert_eq!(assignment_number(n, &table, 0, n), 13);
+        let length = 2 * (n - 1);
+        for station in 0..n as u8 {
+            assert_eq!(assignment_number(n, &table, station, length), 0);
+        }
+        assert_eq!(assignment_number(n, &table, n as u8, length), 9);
+        assert_eq!(assignment_number(n, &table, 255, length), 9);
+        for wrong in [0, n - 1, length - 1, length + 1, 2 * n] {
+            assert_eq!(assignment_number(n, &table, 0, wrong), 13);
+            assert_eq!(assignment_number(n, &table, n as u8, wrong), 9);
+        }
     }
 }
 
@@ -136,20 +142,24 @@ fn assignment_refuses_in_order() {
     set(4, &mut table, 1, 0, 3);
     assert_eq!(assignment_number(4, &table, 4, 9), 9);
     assert_eq!(assignment_number(4, &table, 1, 9), 10);
+    assert_eq!(assignment_number(4, &table, 1, 6), 10);
     assert_eq!(assignment_number(4, &table, 0, 9), 13);
+    assert_eq!(assignment_number(4, &table, 0, 6), 0);
     for station in 0..4 {
         finish(4, &mut table, station);
     }
     assert_eq!(assignment_number(4, &table, 4, 9), 4);
+    assert_eq!(assignment_number(4, &table, 0, 6), 4);
     set(4, &mut table, 3, 0, 4);
     assert_eq!(assignment_number(4, &table, 4, 9), 3);
+    assert_eq!(assignment_number(4, &table, 0, 6), 3);
 }
 
 #[test]
 fn assignment_of_a_finished_station_is_given() {
     let mut table = fresh(4);
     finish(4, &mut table, 1);
-    assert_eq!(assignment_number(4, &table, 1, 3), 0);
+    assert_eq!(assignment_number(4, &table, 1, 6), 0);
 }
 
 #[test]
