@@ -1,8 +1,8 @@
 /* The vCube watch for C and C++: the calls of the document "The vCube watch on a gin's plant cable" (document 01), with the sizes of
- * request C-11 of document 02 and the tested station that hears it too, its request C-13; the bus master that grants the turns, its
- * request C-15; and the figures over a season's trials, its request C-12. The library behind them (crates/vcube, crates/granter,
- * crates/plant, crates/station, crates/figures) is proved in Rattle to do what its definitions say; this header and the compiler's back end
- * are not part of the proof.
+ * request C-11 of document 02, the tested station that hears it too, its request C-13, and the assignment that says who stands ahead, its
+ * request C-16; the bus master that grants the turns, its request C-15; and the figures over a season's trials, its request C-12. The
+ * library behind them (crates/vcube, crates/granter, crates/plant, crates/station, crates/figures) is proved in Rattle to do what its
+ * definitions say; this header and the compiler's back end are not part of the proof.
  *
  * Build the archive with `rt staticlib vcube` and link target/staticlib/libvcube.a (x86-64 Linux), or install it by bindings/c/install.
  *
@@ -18,8 +18,9 @@
  * Words. A plant has n stations, 2 to 64, numbered from 0; d is n's logarithm to base 2, rounded up. The distance of two stations is the
  * exclusive or of their numbers, which is below 2^d. The group of station i at level s (1 to d) holds, in this order, those of the numbers
  * i ^ (2^(s - 1) + k), for k from 0 to 2^(s - 1) - 1, that are below n; it may be empty. The level of a distance m is the s with
- * 2^(s - 1) <= m < 2^s. Distance m is due for i if a station j is at distance m from i, and i is the first station that i does not suspect
- * in the group of j at the level of m. A station suspects another by its own row.
+ * 2^(s - 1) <= m < 2^s. A station suspects another by its own row, and never itself. If a station j is at distance m from i, then i is in
+ * the group of j at the level of m: m is due for i if i is the first station of that group that i does not suspect, and otherwise that first
+ * station, live or not, is ahead of i at m. If no station is at distance m from i, then m is not due for i.
  *
  * The table has n lines of n + 4 bytes, in station order. Bytes 0 to 3 of a line are its status (enum vcube_status), its next distance (1
  * to 2^d), whether its pass is finished (0 or 1), and the tests made in this round. Then comes the station's row: byte k is 1 if it
@@ -43,9 +44,9 @@
 #include <stdint.h>
 
 #define VCUBE_VERSION_MAJOR 0
-#define VCUBE_VERSION_MINOR 6
+#define VCUBE_VERSION_MINOR 7
 #define VCUBE_VERSION_PATCH 0
-#define VCUBE_VERSION "0.6.0"
+#define VCUBE_VERSION "0.7.0"
 
 #ifdef __cplusplus
 extern "C" {
@@ -56,6 +57,12 @@ extern "C" {
 
 /* The length of the longest group list. */
 #define VCUBE_LONGEST_GROUP 32
+
+/* The length of an assignment's list, for n from 2 to 64. */
+#define VCUBE_ASSIGNMENT_LENGTH(n) (2 * ((size_t)(n) - 1))
+
+/* Stands in an entry of an assignment whose distance is due. */
+#define VCUBE_DUE 255
 
 /* Stands in the sheet where no station was tested, and is the last granted number where none was granted yet. */
 #define VCUBE_NO_STATION 255
@@ -78,14 +85,14 @@ enum vcube_refusal {
     VCUBE_REFUSED_NOT_LIVE = 10,         /* the station is not live */
     VCUBE_REFUSED_PASS_FINISHED = 11,    /* the kind is 1 or 2 and the station has finished its pass */
     VCUBE_REFUSED_LEVEL = 12,            /* the level is 0 or above d */
-    VCUBE_REFUSED_LIST_LENGTH = 13,      /* the lent list has not the length stated (group list: vcube_group_length; assignment: n - 1) */
+    VCUBE_REFUSED_LIST_LENGTH = 13,      /* the lent list has not the length stated (group list: vcube_group_length; assignment: 2 * (n - 1)) */
     VCUBE_REFUSED_NO_RESULT = 14,        /* there is no result at all (in both lists together, where two are given) */
     VCUBE_REFUSED_TOO_MANY_RESULTS = 15, /* there are more than 4096 results in all, or totals that 4096 results cannot have */
     VCUBE_REFUSED_LAST_GRANTED = 16,     /* the last granted number is n or more and not 255 */
     VCUBE_REFUSED_NONE_LIVE = 17         /* no station is live */
 };
 
-/* Byte 0 of an entry. */
+/* Byte 0 of an entry of a schedule. */
 enum vcube_kind {
     VCUBE_KIND_TURN = 1,
     VCUBE_KIND_LATE_TURN = 2,           /* a turn whose reply comes late */
@@ -135,8 +142,11 @@ static inline size_t vcube_group_length(size_t n, size_t station, size_t level)
     return n - first < half ? n - first : half;
 }
 
-/* Assignment: the distances due for a live station, ascending, into a list of n - 1 bytes, the rest 0; how many into *count, which is 0
- * where the call is refused. A distance may be n or more, up to 2^d - 1; the station at it, station ^ distance, is below n.
+/* Assignment: which distances are due for a live station, and who is ahead at the others. The list has VCUBE_ASSIGNMENT_LENGTH(n) bytes, and
+ * all are written: an entry of two bytes for each of the n - 1 other stations, suspected ones and ones that are not live included, by
+ * ascending distance, whatever the station's next distance is. An entry is the distance, and VCUBE_DUE if it is due, or else the station
+ * that is ahead. *count is how many are due, 0 where the call is refused. A distance may be n or more, up to 2^d - 1; the station at it,
+ * station ^ distance, is below n.
  * Refusals: 1 to 4, 9, 10, 13. */
 uint8_t vcube_assignment(size_t n, const uint8_t *table, size_t table_length, size_t station, uint8_t *list, size_t list_length,
                          size_t *count);

@@ -1,5 +1,5 @@
-/* What vcube.h says of NULL with length 0, of figures after a refusal, of a group's length, of who leaves at a test, of grants and drives,
- * of the most results and the totals that they can have, of its structs, and of its version. */
+/* What vcube.h says of NULL with length 0, of figures after a refusal, of a group's length, of who is ahead, of who leaves at a test, of
+ * grants and drives, of the most results and the totals that they can have, of its structs, and of its version. */
 
 #include "vcube.h"
 
@@ -33,13 +33,14 @@ static int all_are(int value, const void *made, size_t size)
 /* NULL with length 0 is a table, list, schedule or sheet of length 0. */
 static void null_buffers(const uint8_t *table)
 {
-    uint8_t list[1];
+    uint8_t list[VCUBE_ASSIGNMENT_LENGTH(N)];
     size_t count = ANY, start = ANY, length = ANY;
 
     expect(vcube_fresh_table(N, NULL, 0) == VCUBE_REFUSED_TABLE_LENGTH, "fresh table: a table of length 0 gets 2");
     expect(vcube_group_list(N, 0, 1, NULL, 0) == VCUBE_REFUSED_LIST_LENGTH, "group list: a list of length 0 gets 13");
     expect(vcube_group_list(3, 2, 1, NULL, 0) == VCUBE_ACCEPTED, "group list: a list of length 0 is accepted for an empty group");
-    expect(vcube_assignment(N, NULL, 0, 0, list, 1, &count) == VCUBE_REFUSED_TABLE_LENGTH, "assignment: a table of length 0 gets 2");
+    expect(vcube_assignment(N, NULL, 0, 0, list, sizeof list, &count) == VCUBE_REFUSED_TABLE_LENGTH,
+           "assignment: a table of length 0 gets 2");
     expect(count == 0, "assignment: the count of a refused call is 0");
     count = ANY;
     expect(vcube_assignment(N, table, VCUBE_TABLE_LENGTH(N), 0, NULL, 0, &count) == VCUBE_REFUSED_LIST_LENGTH,
@@ -80,6 +81,102 @@ static void group_lengths(void)
     expect(longest > 0, "group length: some groups have VCUBE_LONGEST_GROUP members");
     expect(vcube_group_length(64, 0, 0) == 0, "group length: level 0 has none");
     expect(vcube_group_length(64, 0, SIZE_MAX) == 0, "group length: any level is taken");
+}
+
+/* An assignment in a plant that is fresh but for whom the station suspects. */
+struct assignment {
+    const char *what;
+    size_t n;
+    size_t station;
+    unsigned suspected; /* a bit for each station */
+    size_t count;
+    uint8_t list[VCUBE_ASSIGNMENT_LENGTH(11)];
+};
+
+#define BIT(station) (1u << (station))
+#define DUE VCUBE_DUE
+
+/* Worked out by hand from step 1 of document 01 and requests C-11 and C-16. */
+static const struct assignment assignments[] = {
+    {"assignment: station 1 of 2", 2, 1, 0, 1, {1, DUE}},
+    {"assignment: station 5 of 8, 4 is ahead at 3 and 5, 7 at 6, 6 at 7", 8, 5, 0, 3,
+     {1, DUE, 2, DUE, 3, 4, 4, DUE, 5, 4, 6, 7, 7, 6}},
+    {"assignment: station 5 of 8 that suspects 4", 8, 5, BIT(4), 5, {1, DUE, 2, DUE, 3, DUE, 4, DUE, 5, DUE, 6, 7, 7, 6}},
+    {"assignment: station 5 of 8 that suspects 7, so that 6 is ahead at 6", 8, 5, BIT(7), 3,
+     {1, DUE, 2, DUE, 3, 4, 4, DUE, 5, 4, 6, 6, 7, 6}},
+    {"assignment: station 5 of 8 that suspects 6 and 7, so that 4 is ahead at 7", 8, 5, BIT(6) | BIT(7), 4,
+     {1, DUE, 2, DUE, 3, 4, 4, DUE, 5, 4, 6, DUE, 7, 4}},
+    {"assignment: station 1 of 4, station 0 is ahead at 3", 4, 1, 0, 2, {1, DUE, 2, DUE, 3, 0}},
+    {"assignment: station 4 of 5, nobody is at 1, 2 and 3, and absent numbers are ahead of nobody", 5, 4, 0, 4,
+     {4, DUE, 5, DUE, 6, DUE, 7, DUE}},
+    {"assignment: station 10 of 11", 11, 10, 0, 6, {2, DUE, 3, DUE, 8, DUE, 9, DUE, 10, 8, 11, 9, 12, DUE, 13, DUE, 14, 8, 15, 9}},
+};
+
+static void assign(const struct assignment *one)
+{
+    uint8_t table[VCUBE_TABLE_LENGTH(11)], list[sizeof one->list];
+    const size_t table_length = VCUBE_TABLE_LENGTH(one->n), length = VCUBE_ASSIGNMENT_LENGTH(one->n);
+    size_t count = ANY;
+
+    expect(vcube_fresh_table(one->n, table, table_length) == VCUBE_ACCEPTED, one->what);
+    for (size_t k = 0; k < one->n; k++)
+        table[one->station * (one->n + 4) + 4 + k] = (uint8_t)((one->suspected >> k) & 1);
+    memset(list, ANY, sizeof list);
+    expect(vcube_assignment(one->n, table, table_length, one->station, list, length, &count) == VCUBE_ACCEPTED, one->what);
+    expect(count == one->count && memcmp(list, one->list, length) == 0, one->what);
+    expect(all_are(ANY, list + length, sizeof list - length), "assignment: only the list is written");
+}
+
+/* A station that has finished its pass, in a plant of 4 in which 1 and 3 are not live: it does not suspect 1, which is ahead at 3. */
+static void assignment_of_finished(void)
+{
+    const uint8_t table[VCUBE_TABLE_LENGTH(4)] = {0, 4, 1, 2, 0, 0, 0, 0, 1, 1, 0, 0, 0, 0, 0, 0,
+                                                  0, 1, 0, 0, 0, 0, 0, 0, 3, 2, 0, 1, 1, 1, 1, 0};
+    const uint8_t expected[VCUBE_ASSIGNMENT_LENGTH(4)] = {1, DUE, 2, DUE, 3, 1};
+    uint8_t list[sizeof expected];
+    size_t count = ANY;
+
+    expect(vcube_assignment(4, table, sizeof table, 0, list, sizeof list, &count) == VCUBE_ACCEPTED, "assignment: of a finished station");
+    expect(count == 2 && memcmp(list, expected, sizeof list) == 0, "assignment: whoever is live, whatever the next distance is");
+    count = ANY;
+    expect(vcube_assignment(4, table, sizeof table, 1, list, sizeof list, &count) == VCUBE_REFUSED_NOT_LIVE && count == 0,
+           "assignment: a station that is not live gets 10");
+}
+
+/* Whether the library gives this number for a list of this length in a fresh plant, and writes nothing where it refuses. */
+static int gives_for_length(size_t n, const uint8_t *table, size_t length, int number)
+{
+    static uint8_t list[VCUBE_ASSIGNMENT_LENGTH(64) + 2];
+    size_t count = ANY;
+
+    memset(list, ANY, sizeof list);
+    if (vcube_assignment(n, table, VCUBE_TABLE_LENGTH(n), n - 1, length == 0 ? NULL : list, length, &count) != number)
+        return 0;
+    return number == VCUBE_ACCEPTED ? count > 0 : count == 0 && all_are(ANY, list, sizeof list);
+}
+
+/* VCUBE_ASSIGNMENT_LENGTH, for every size. */
+static void assignment_lengths(void)
+{
+    static uint8_t table[VCUBE_TABLE_LENGTH(64)];
+    int wrong = 0;
+
+    for (size_t n = 2; n <= 64; n++) {
+        expect(vcube_fresh_table(n, table, VCUBE_TABLE_LENGTH(n)) == VCUBE_ACCEPTED, "a fresh table");
+        for (size_t length = 0; length <= VCUBE_ASSIGNMENT_LENGTH(64) + 2; length++) {
+            int right = length == VCUBE_ASSIGNMENT_LENGTH(n);
+            wrong += !gives_for_length(n, table, length, right ? VCUBE_ACCEPTED : VCUBE_REFUSED_LIST_LENGTH);
+        }
+    }
+    expect(wrong == 0, "assignment: a list of VCUBE_ASSIGNMENT_LENGTH is accepted, and no other");
+}
+
+static void who_is_ahead(void)
+{
+    for (size_t k = 0; k < sizeof assignments / sizeof assignments[0]; k++)
+        assign(&assignments[k]);
+    assignment_of_finished();
+    assignment_lengths();
 }
 
 /* A run with this table, schedule and sheet returns the number, takes no entry and leaves the tally as it was. */
@@ -581,6 +678,7 @@ int main(void)
     null_buffers(table);
     null_in_runs(table);
     group_lengths();
+    who_is_ahead();
     who_leaves();
     grants_and_drives();
     figures_over_results();

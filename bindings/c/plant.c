@@ -1,5 +1,5 @@
-/* Document 01's example for N = 4, by the C interface of the library, and a group in a plant of 11; then a board that leaves when it is
- * tested (request C-13 of document 02). */
+/* Document 01's example for N = 4, by the C interface of the library, a group in a plant of 11, and which distances are due and who is ahead
+ * at the others (request C-16 of document 02); then a board that leaves when it is tested (its request C-13). */
 
 #include "vcube.h"
 
@@ -97,16 +97,22 @@ static int print_group(size_t n, size_t station, size_t level)
     return 0;
 }
 
-/* Prints the distances due for station 0. */
-static int print_due(void)
+/* Prints the distances due for a station, and of each other distance who is ahead of it. */
+static int print_assignment(size_t station)
 {
-    uint8_t list[N - 1];
+    uint8_t list[VCUBE_ASSIGNMENT_LENGTH(N)];
     size_t count;
 
-    if (refused("assignment", vcube_assignment(N, table, sizeof table, 0, list, sizeof list, &count)))
+    if (refused("assignment", vcube_assignment(N, table, sizeof table, station, list, sizeof list, &count)))
         return 1;
-    printf("due for 0: ");
-    print_bytes(list, count);
+    printf("%zu of %d distances due for %zu:", count, N - 1, station);
+    for (size_t k = 0; k < sizeof list; k += 2)
+        if (list[k + 1] == VCUBE_DUE)
+            printf(" %d", list[k]);
+    for (size_t k = 0; k < sizeof list; k += 2)
+        if (list[k + 1] != VCUBE_DUE)
+            printf("; at %d station %d is ahead", list[k], list[k + 1]);
+    printf("\n");
     return 0;
 }
 
@@ -132,7 +138,8 @@ static int print_lines(void)
 
 int main(void)
 {
-    if (run(example, sizeof example) || print_group(N, 3, 2) || print_group(11, 2, 4) || print_due() || print_lines())
+    if (run(example, sizeof example) || print_group(N, 3, 2) || print_group(11, 2, 4) || print_assignment(0) || print_assignment(2) ||
+        print_assignment(3) || print_lines())
         return 1;
     return run(late_after_passes, sizeof late_after_passes) || print_lines();
 }

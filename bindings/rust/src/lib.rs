@@ -3,18 +3,19 @@
 //! What each call does, and when it is refused, is said in document 01, "The
 //! vCube watch on a gin's plant cable"; the steps of an entry stand as
 //! definitions in crates/plant/specs/Turn.antt and Entry.antt. Plants have 2 to
-//! 64 stations (request C-11 of document 02), and the tested station hears too
-//! that it is suspected (its request C-13). The bus master that grants the turns
-//! is that of its request C-15, and the figures over a season's trials are those
-//! of its request C-12. Every call takes any numbers and slices of any length:
-//! nothing need be tested before calling. A refused call changes nothing; a run
-//! that stops at an entry keeps the work of the entries before it, and a drive
-//! that stops before a grant that of the turns before it.
+//! 64 stations (request C-11 of document 02), the tested station hears too that
+//! it is suspected (its request C-13), and an assignment says who stands ahead
+//! where a distance is not due (its request C-16). The bus master that grants the
+//! turns is that of its request C-15, and the figures over a season's trials are
+//! those of its request C-12. Every call takes any numbers and slices of any
+//! length: nothing need be tested before calling. A refused call changes nothing;
+//! a run that stops at an entry keeps the work of the entries before it, and a
+//! drive that stops before a grant that of the turns before it.
 //!
 //! The example of document 01 for N = 4:
 //!
 //! ```
-//! use vcube::{Answer, Distance, Entry, Kind, Outcome, Station, Status, Tally};
+//! use vcube::{Answer, Distance, DueOrAhead, Entry, Kind, Outcome, Station, Status, Tally};
 //!
 //! let n = 4;
 //! let mut table = [0; vcube::table_length(4)];
@@ -41,9 +42,15 @@
 //! assert_eq!(vcube::row(n, &table, Station(0))?, [0, 1, 0, 0]);
 //! assert_eq!(vcube::row(n, &table, Station(1))?, [0, 0, 0, 0]);
 //!
-//! let mut list = [0; 3];
+//! let mut list = [0; vcube::assignment_length(4)];
 //! let due = vcube::due_distances(n, &table, Station(0), &mut list)?;
 //! assert!(due.eq([Distance(1), Distance(2), Distance(3)]));
+//!
+//! // 3 does not test 0, which is at distance 3, as 2 stands ahead.
+//! let entries = vcube::assignment_entries(n, &table, Station(3), &mut list)?;
+//! let entries: Vec<_> = entries.map(|entry| (entry.distance.0, entry.answer)).collect();
+//! let ahead = DueOrAhead::Ahead(Station(2));
+//! assert_eq!(entries, [(1, DueOrAhead::Due), (2, DueOrAhead::Due), (3, ahead)]);
 //! # Ok::<(), vcube::Refusal>(())
 //! ```
 //!
@@ -134,6 +141,7 @@
 
 #![deny(unsafe_code)]
 
+mod assignment;
 mod codes;
 mod entries;
 mod figures;
@@ -144,6 +152,10 @@ mod raw;
 #[cfg(test)]
 mod tests;
 
+pub use assignment::{
+    assignment, assignment_entries, assignment_length, due_distances, AssignmentEntry, DueOrAhead,
+    DUE,
+};
 pub use codes::{Kind, Outcome, Refusal, Status};
 pub use entries::{schedule, sheet_lines, Entry, SheetLine};
 pub use figures::{figures, figures_of_two, Figures, Fraction, Totals, MOST_RESULTS};
@@ -242,31 +254,6 @@ pub fn group_stations(
 ) -> Result<impl Iterator<Item = Station> + '_, Refusal> {
     group_list(n, station, level, list)?;
     Ok(list.iter().map(|member| Station(usize::from(*member))))
-}
-
-/// Assignment: the distances due for a live station, ascending, into a list of
-/// n - 1 bytes, the rest 0. Gives how many are due.
-/// Refusals: 1 to 4, 9, 10, 13.
-pub fn assignment(
-    n: usize,
-    table: &[u8],
-    station: Station,
-    list: &mut [u8],
-) -> Result<usize, Refusal> {
-    let (number, count) = raw::assignment(n, table, station.0, list);
-    accepted(number).map(|()| count)
-}
-
-/// The assignment as typed distances: those due, ascending, read from the list.
-/// Refusals: 1 to 4, 9, 10, 13.
-pub fn due_distances<'a>(
-    n: usize,
-    table: &[u8],
-    station: Station,
-    list: &'a mut [u8],
-) -> Result<impl Iterator<Item = Distance> + 'a, Refusal> {
-    let many = assignment(n, table, station, list)?;
-    Ok(list[..many].iter().copied().map(Distance))
 }
 
 /// Row: the station's row as that very part of the lent table.

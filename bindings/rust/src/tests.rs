@@ -1,10 +1,11 @@
 //! The expected values are those of document 01's plant examples, and follow
-//! its rules with the sizes of request C-11. Those of the figures (request C-12)
-//! and of suspected stations that are tested (request C-13) are worked out by
-//! hand.
+//! its rules with the sizes of request C-11. Those of the figures (request C-12),
+//! of suspected stations that are tested (request C-13) and of who stands ahead
+//! (request C-16) are worked out by hand.
 
 use crate::*;
 
+mod assignment;
 mod granter;
 
 fn fresh(n: usize) -> Vec<u8> {
@@ -25,12 +26,6 @@ fn stations(n: usize, station: Station, level: Level) -> Vec<Station> {
     let mut list = vec![9; group_length(n, station, level)];
     let stations = group_stations(n, station, level, &mut list);
     stations.expect("accepted").collect()
-}
-
-fn due(n: usize, table: &[u8], station: Station) -> Vec<Distance> {
-    let mut list = vec![9; n - 1];
-    let due = due_distances(n, table, station, &mut list);
-    due.expect("accepted").collect()
 }
 
 #[test]
@@ -128,36 +123,6 @@ fn group_stations_are_refused_as_the_group_list() {
     assert_eq!(refusal(8, 0, 3, 3), Some(Refusal::ListLength));
     assert_eq!(refusal(3, 2, 1, 1), Some(Refusal::ListLength));
     assert_eq!(refusal(3, 2, 1, 0), None);
-}
-
-#[test]
-fn station_5_of_8_has_1_2_4_due() {
-    let expected = [Distance(1), Distance(2), Distance(4)];
-    assert_eq!(due(8, &fresh(8), Station(5)), expected);
-}
-
-#[test]
-fn station_5_of_8_that_suspects_4_has_five_due() {
-    let mut table = fresh(8);
-    table[5 * 12 + 4 + 4] = 1;
-    let expected = [1, 2, 3, 4, 5].map(Distance);
-    assert_eq!(due(8, &table, Station(5)), expected);
-    // 3 and 5 are the second distances of their levels: stations 6 and 0.
-    assert_eq!(stations(8, Station(5), Level(2))[1], Station(6));
-    assert_eq!(stations(8, Station(5), Level(3))[1], Station(0));
-}
-
-#[test]
-fn station_10_of_11_has_distances_beyond_11_due() {
-    let expected = [2, 3, 8, 9, 12, 13].map(Distance);
-    assert_eq!(due(11, &fresh(11), Station(10)), expected);
-}
-
-#[test]
-fn the_assignment_fills_the_rest_of_the_list_with_0() {
-    let mut list = [9; 7];
-    assert_eq!(assignment(8, &fresh(8), Station(5), &mut list), Ok(3));
-    assert_eq!(list, [1, 2, 4, 0, 0, 0, 0]);
 }
 
 #[test]
@@ -515,7 +480,7 @@ fn wrong_sizes_and_lengths_are_refused() {
 #[test]
 fn numbers_out_of_range_are_refused() {
     let table = fresh(4);
-    let mut list = [0; 3];
+    let mut list = [0; assignment_length(4)];
     for station in [4, 255, 256, usize::MAX] {
         let refused = Err(Refusal::Station);
         assert_eq!(assignment(4, &table, Station(station), &mut list), refused);
