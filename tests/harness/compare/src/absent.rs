@@ -4,7 +4,7 @@
 use std::fmt;
 
 use shared::counts::{list, Required};
-use shared::groups::{ahead, distances, group_length};
+use shared::groups::{ahead, group_length};
 
 use crate::borders::{self, BORDERS};
 use crate::call::{Call, Kind, Name};
@@ -28,9 +28,6 @@ pub struct Absent {
     pub lengths: [u64; 4],
     /// Tables with a line at a border, unfinished and finished.
     pub borders: [[u64; BORDERS]; 2],
-    /// Assignments with a due distance of n or more; with one that is due since
-    /// an absent number ahead is left out.
-    pub due: [u64; 2],
     /// Turns that test at a distance of n or more; that test since an absent
     /// number ahead is left out; that pass over an absent number.
     pub turns: [u64; 3],
@@ -43,7 +40,6 @@ const LENGTHS: [&str; 4] = [
     "as long as with the absent numbers",
     "not empty for an empty group",
 ];
-const DUE: [&str; 2] = ["due at n or more", "due behind an absent number"];
 const TURNS: [&str; 3] = [
     "test at n or more",
     "test behind an absent number",
@@ -58,7 +54,6 @@ impl Absent {
             groups: [count; LONGEST_GROUP + 1],
             lengths: [count; 4],
             borders: [[count; BORDERS]; 2],
-            due: [count; 2],
             turns: [count; 3],
         }
     }
@@ -72,9 +67,6 @@ impl Absent {
             (Kind::GroupList, 13) => self.add_length(call),
             (Kind::GroupList, _) => {}
             _ => self.add_borders(call, number),
-        }
-        if (call.kind, number) == (Kind::Assignment, 0) {
-            self.add_assignment(call, outcome);
         }
     }
 
@@ -105,30 +97,13 @@ impl Absent {
         }
     }
 
-    fn add_assignment(&mut self, call: &Call, outcome: &Outcome) {
-        let (n, i) = (call.numbers.n, call.numbers.station);
-        let count = outcome.buffers.get(Name::Count).figure();
-        let due = &outcome.buffers.get(Name::List).contents()[..count];
-        let due = || due.iter().map(|m| usize::from(*m));
-        let found = [
-            due().any(|m| m >= n),
-            due().any(|m| ahead(i, m).any(|k| k >= n)),
-        ];
-        increase(&mut self.due, found);
-    }
-
-    /// Counts an entry of a run with n stations.
-    pub fn add_entry(&mut self, n: usize, entry: &Entry) {
-        let Some(from) = entry.next_distance else {
-            return;
-        };
-        let i = entry.station;
+    pub fn add_entry(&mut self, entry: &Entry) {
+        let (n, i) = (entry.stations, entry.station);
         let tested = entry.test.map(|test| i ^ test.tested);
-        let to = tested.unwrap_or(distances(n));
         let found = [
             tested.is_some_and(|m| m >= n),
             tested.is_some_and(|m| ahead(i, m).any(|k| k >= n)),
-            (from..to).any(|m| i ^ m >= n),
+            entry.passed_over().any(|m| i ^ m >= n),
         ];
         increase(&mut self.turns, found);
     }
@@ -154,7 +129,7 @@ impl Absent {
                 need(count, format!("{line} line with next distance {border}"));
             }
         }
-        for (count, text) in self.due.iter().zip(DUE).chain(self.turns.iter().zip(TURNS)) {
+        for (count, text) in self.turns.iter().zip(TURNS) {
             need(count, String::from(text));
         }
     }
@@ -178,9 +153,6 @@ impl fmt::Display for Absent {
         }
         for (counts, line) in self.borders.iter().zip(["unfinished", "finished"]) {
             write!(f, "{line} lines at the borders {counts:?}, ")?;
-        }
-        for (count, text) in self.due.iter().zip(DUE) {
-            write!(f, "{text} {count}, ")?;
         }
         let [far, behind, over] = self.turns;
         write!(

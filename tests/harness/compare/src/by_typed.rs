@@ -5,8 +5,10 @@
 //! where the library would put them. So a fault of it shows in a buffer.
 
 use shared::grants::NONE_YET;
-use vcube::{Entry, Figures, Level, Refusal, SheetLine, Station, Tally, Totals};
+use vcube::{AssignmentEntry, DueOrAhead, Entry, Figures, Level, Refusal};
+use vcube::{SheetLine, Station, Tally, Totals};
 
+use crate::assigning::DUE;
 use crate::call::Numbers;
 use crate::calls::{Assignment, Calls, Row, Run};
 use crate::guarded::Guarded;
@@ -38,14 +40,24 @@ impl Calls for Typed {
     }
 
     fn assignment(numbers: &Numbers, lent: Assignment) -> u8 {
-        let (table, station) = (lent.table.contents(), Station(numbers.station));
-        let list = lent.list.contents_mut();
-        let given = vcube::due_distances(numbers.n, table, station, list);
-        let given = given.map(|due| due.map(|distance| distance.0).collect::<Vec<u8>>());
-        let due = given.as_deref().unwrap_or(&[]);
-        list[..due.len()].copy_from_slice(due);
-        lent.count.put_figure(due.len());
-        number(&given)
+        let (n, station) = (numbers.n, Station(numbers.station));
+        let (table, list) = (lent.table.contents(), lent.list.contents_mut());
+        let mut copy = list.to_vec();
+        let count = vcube::assignment(n, table, station, &mut copy);
+        let due = vcube::due_distances(n, table, station, &mut copy);
+        let due = due.map(|due| due.map(|distance| distance.0).collect::<Vec<u8>>());
+        let entries = vcube::assignment_entries(n, table, station, list);
+        let entries = entries.map(|entries| entries.collect::<Vec<AssignmentEntry>>());
+        let numbers = [number(&count), number(&due), number(&entries)];
+        let (due, entries) = (due.unwrap_or_default(), entries.unwrap_or_default());
+        for (place, bytes) in list.chunks_exact_mut(2).zip(entry_bytes(&due, &entries)) {
+            place.copy_from_slice(&bytes);
+        }
+        lent.count.put_figure(count.unwrap_or(0));
+        match numbers {
+            [one, other, third] if one == other && one == third => one,
+            _ => u8::MAX,
+        }
     }
 
     fn row(numbers: &Numbers, lent: Row) -> u8 {
@@ -170,6 +182,17 @@ fn put_figures(place: &mut Guarded, given: Result<Figures, Refusal>) -> u8 {
 
 fn byte(station: Station) -> u8 {
     station.0.try_into().expect("a station in a buffer")
+}
+
+/// The bytes of an assignment's entries. Of those that are due the distances
+/// are the ones given alone, so that it shows where these are others.
+fn entry_bytes(due: &[u8], entries: &[AssignmentEntry]) -> Vec<[u8; 2]> {
+    let mut due = due.iter();
+    let bytes = entries.iter().map(|entry| match entry.answer {
+        DueOrAhead::Due => [due.next().copied().unwrap_or(0), DUE],
+        DueOrAhead::Ahead(station) => [entry.distance.0, byte(station)],
+    });
+    bytes.collect()
 }
 
 /// The schedule by typed entries, if all of it is entries of known kinds; else

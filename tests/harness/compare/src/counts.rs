@@ -6,6 +6,7 @@ use shared::counts::{list, Required};
 use shared::groups;
 
 use crate::absent::Absent;
+use crate::assigned;
 use crate::call::{Call, Kind, Name};
 use crate::cases;
 use crate::entries::{self, Answer, Entry};
@@ -60,6 +61,9 @@ pub struct Counts {
     /// left because told, has left because alone. (That a tested one leaves
     /// closes none unless its tester, which is unfinished, leaves too.)
     pub closed_leaving: [u64; 3],
+    /// Turns that pass over a station since another one stands ahead: those that
+    /// then make a test, those that then finish their pass.
+    pub passing_over: [u64; 2],
     /// Replies of live stations that came late.
     pub late_replies: u64,
     /// Runs that took at least `LONG_RUN` entries.
@@ -73,6 +77,8 @@ pub struct Counts {
     pub absent: Absent,
     /// Tests in which one station suspects the other.
     pub told: Told,
+    /// The cases of assignments.
+    pub assigned: Occurred<assigned::Seen>,
     /// The cases of grants and drives.
     pub granted: Occurred<granted::Seen>,
     /// The cases of calls about results.
@@ -115,12 +121,14 @@ impl Counts {
             runs: [(); SIZES].map(|()| in_runs.clone()),
             full_tallies: [count; 2],
             closed_leaving: [count; 3],
+            passing_over: [count; 2],
             late_replies: count,
             long_runs: count,
             kept_tallies: count,
             empty: [count; LENGTHS],
             absent: Absent::all(count),
             told: Told::all(count),
+            assigned: assigned::all(count),
             granted: granted::all(count),
             cases: cases::all(count),
         }
@@ -144,6 +152,10 @@ impl Counts {
         }
         self.absent.add(call, outcome);
         match call.kind {
+            Kind::Assignment => {
+                let seen = assigned::Seen::new(call, outcome);
+                self.assigned.add(call.kind, &seen);
+            }
             Kind::Run => self.add_run(call, outcome),
             Kind::Grant | Kind::Drive => {
                 let seen = granted::Seen::new(call, outcome);
@@ -162,7 +174,7 @@ impl Counts {
         assert_eq!(answer.rounds, rounds, "sheet and tally: rounds closed");
         for entry in &entries {
             self.runs[place(call)].add(entry);
-            self.absent.add_entry(call.numbers.n, entry);
+            self.absent.add_entry(entry);
             self.told.add_entry(entry);
             self.add_entry(entry);
         }
@@ -177,6 +189,9 @@ impl Counts {
     fn add_entry(&mut self, entry: &Entry) {
         if entry.closes && entry.status != 0 {
             self.closed_leaving[usize::from(entry.status) - 1] += 1;
+        }
+        if entry.passes_over_a_station() {
+            self.passing_over[usize::from(entry.test.is_none())] += 1;
         }
         self.late_replies += u64::from(entry.late);
     }
@@ -206,6 +221,7 @@ impl Counts {
         self.require_singly(&mut required);
         self.absent.require(&mut required);
         self.told.require(&mut required);
+        self.assigned.require(&mut required);
         self.granted.require(&mut required);
         self.cases.require(&mut required);
         required
@@ -227,12 +243,15 @@ impl Counts {
     fn require_singly(&self, required: &mut Vec<Required>) {
         let [by_rounds, by_tests] = self.full_tallies;
         let [crashed, told, alone] = self.closed_leaving;
+        let [tests, ends] = self.passing_over;
         let counts = [
             (by_rounds, "tally of rounds full after an entry"),
             (by_tests, "tally of tests full after an entry"),
             (crashed, "round closed by a crash"),
             (told, "round closed by a station that is told"),
             (alone, "round closed by a station that is alone"),
+            (tests, "test past a station that is not due"),
+            (ends, "pass finished past a station that is not due"),
             (self.late_replies, "late reply of a live station"),
             (self.long_runs, "run that took 256 entries or more"),
             (self.kept_tallies, "run refused at its start with a tally"),
@@ -287,6 +306,9 @@ impl fmt::Display for Counts {
         let [crashed, told, alone] = self.closed_leaving;
         write!(f, "of these by a crash {crashed}, by one told {told}, ")?;
         write!(f, "by one alone {alone}; ")?;
+        let [tests, ends] = self.passing_over;
+        write!(f, "past a station that is not due: tests {tests}, ")?;
+        write!(f, "passes finished {ends}; ")?;
         write!(f, "late replies {}; ", self.late_replies)?;
         let [rounds, tests] = self.full_tallies;
         write!(
@@ -301,7 +323,7 @@ impl fmt::Display for Counts {
             write!(f, "{comma}{} {count}", name.text())?;
         }
         write!(f, "; {}; {}; ", self.absent, self.told)?;
-        write!(f, "{}; {}", self.granted, self.cases)?;
+        write!(f, "{}; {}; {}", self.assigned, self.granted, self.cases)?;
         let rarest = self.required().into_iter().min();
         rarest.map_or(Ok(()), |(count, text)| {
             write!(f, "; rarest: {text}: {count}")

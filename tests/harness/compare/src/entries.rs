@@ -1,10 +1,12 @@
 //! What a run's sheet tells of the entries taken.
 
+use std::ops::Range;
+
 use shared::groups::distances;
 use shared::schedule::{CRASH, LATE_TURN};
 use shared::table;
 
-use crate::call::{Call, Name};
+use crate::call::{Call, Kind, Name};
 use crate::outcome::Outcome;
 
 /// Stands in the sheet where no station was tested.
@@ -63,6 +65,30 @@ pub struct Test {
     pub news: [bool; 2],
 }
 
+impl Entry {
+    /// The distance of the test.
+    pub fn distance(&self) -> Option<usize> {
+        self.test.map(|test| self.station ^ test.tested)
+    }
+
+    /// The distances that a turn passes over; none for a crash.
+    pub fn passed_over(&self) -> Range<usize> {
+        let end = self.distance().unwrap_or(distances(self.stations));
+        self.next_distance.unwrap_or(end)..end
+    }
+
+    /// Whether a turn passes over a station, since another one stands ahead.
+    pub fn passes_over_a_station(&self) -> bool {
+        let mut numbers = self.passed_over().map(|m| self.station ^ m);
+        numbers.any(|number| number < self.stations)
+    }
+
+    /// Whether it does so and then makes a test.
+    pub fn tests_past_a_station(&self) -> bool {
+        self.test.is_some() && self.passes_over_a_station()
+    }
+}
+
 /// What of a line the entries are judged by.
 #[derive(Clone, Debug, PartialEq, Eq)]
 struct Line {
@@ -100,6 +126,14 @@ pub fn answer(outcome: &Outcome) -> Answer {
         taken: figure(Name::Taken),
         rounds: figure(Name::Rounds) as u32,
         tests: figure(Name::Tests) as u32,
+    }
+}
+
+/// The entries that a run took; none if the call is another.
+pub fn of_call(call: &Call, outcome: &Outcome) -> Vec<Entry> {
+    match call.kind {
+        Kind::Run => taken(call, outcome, &answer(outcome)),
+        _ => Vec::new(),
     }
 }
 

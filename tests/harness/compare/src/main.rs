@@ -4,6 +4,9 @@
 #![deny(unsafe_code)]
 
 mod absent;
+mod assign_faults;
+mod assigned;
+mod assigning;
 mod borders;
 mod by_library;
 mod by_simulator;

@@ -2,6 +2,7 @@
 
 use shared::random::Random;
 
+use crate::assign_faults;
 use crate::call::{Kind, Name};
 use crate::counts::{Counts, LEAST, LENGTHS, OUTCOMES, SIZES};
 use crate::faults::{self, Fault};
@@ -53,6 +54,8 @@ pub fn self_test(seed: u64) -> Result<usize, String> {
 fn all_faults() -> Vec<Fault> {
     let of_plants = faults::ALL.into_iter().chain(size_faults::ALL);
     let of_plants = of_plants.chain(told_faults::ALL);
+    let of_plants = of_plants.chain(assign_faults::OF_RULE);
+    let of_plants = of_plants.chain(assign_faults::OF_LIST);
     let of_grants = grant_faults::OF_RULE.into_iter();
     let of_grants = of_grants.chain(grant_faults::OF_REFUSALS);
     let of_grants = of_grants.chain(grant_faults::OF_ANSWERS);
@@ -62,6 +65,12 @@ fn all_faults() -> Vec<Fault> {
         .collect()
 }
 
+/// The right rules, which are no fault: what they are of, and what they give.
+const RIGHT: [Fault; 2] = [
+    ("granting", grant_faults::right),
+    ("assigning", assign_faults::right),
+];
+
 /// Libraries with a fault: each must be noticed wherever it gives something
 /// else than the right outcome, and somewhere. Gives how often they were.
 fn stand_in(seed: u64) -> Result<usize, String> {
@@ -70,9 +79,11 @@ fn stand_in(seed: u64) -> Result<usize, String> {
     for number in 1..=FAULTY_CALLS {
         let mut trial = Trial::make_agreeing(seed, number);
         let right = trial.library.clone();
-        grant_faults::right(&trial.call, &mut trial.library);
-        if let Some(found) = trial.difference() {
-            return Err(format!("the right rule of granting stands in, {found}"));
+        for (rule, apply) in RIGHT {
+            apply(&trial.call, &mut trial.library);
+            if let Some(found) = trial.difference() {
+                return Err(format!("the right rule of {rule} stands in, {found}"));
+            }
         }
         for (count, (_, apply)) in noticed.iter_mut().zip(&faults) {
             apply(&trial.call, &mut trial.library);
@@ -196,6 +207,7 @@ fn lowered_counts() -> Vec<Counts> {
     all.lower_singly();
     all.lower_absent();
     all.lower_told();
+    all.lower_assigned();
     all.lower_granted();
     all.lower_cases();
     all.0
@@ -237,6 +249,9 @@ impl Lowered {
         for status in 1..=3 {
             self.lower(|counts| &mut counts.closed_leaving[status - 1]);
         }
+        for past in 0..2 {
+            self.lower(|counts| &mut counts.passing_over[past]);
+        }
         self.lower(|counts| &mut counts.late_replies);
         self.lower(|counts| &mut counts.long_runs);
         self.lower(|counts| &mut counts.kept_tallies);
@@ -260,9 +275,6 @@ impl Lowered {
             self.lower(|counts| &mut counts.absent.borders[0][border]);
             self.lower(|counts| &mut counts.absent.borders[1][border]);
         }
-        for due in 0..2 {
-            self.lower(|counts| &mut counts.absent.due[due]);
-        }
         for turn in 0..3 {
             self.lower(|counts| &mut counts.absent.turns[turn]);
         }
@@ -272,6 +284,13 @@ impl Lowered {
     fn lower_told(&mut self) {
         for case in 0..Counts::all(0).told.0.len() {
             self.lower(|counts| &mut counts.told.0[case]);
+        }
+    }
+
+    /// The cases of assignments.
+    fn lower_assigned(&mut self) {
+        for case in 0..Counts::all(0).assigned.counts.len() {
+            self.lower(|counts| &mut counts.assigned.counts[case]);
         }
     }
 

@@ -1,13 +1,31 @@
 //! Libraries with a fault in the rules for sizes that are no power of two:
 //! n and 2^d are taken for each other, or absent numbers for stations.
 
-use shared::groups::{ahead, distances, SIZES};
+use shared::groups::{ahead, assignment_length, distances, SIZES};
 use shared::table::{line_length, lines};
 
+use crate::assign_faults::{assign_by, want_length};
+use crate::assigning::{Rule, RIGHT};
 use crate::borders;
 use crate::call::{Call, Kind, Name};
 use crate::faults::Fault;
 use crate::outcome::Outcome;
+
+const ABSENT_AHEAD: Rule = Rule {
+    ahead: |asked, m| ahead(asked.station, m).find(|number| !asked.suspects(*number)),
+    ..RIGHT
+};
+
+/// So that the distances 1 to n - 1 have one.
+const ABSENT_LISTED: Rule = Rule {
+    is_listed: |_, _| true,
+    ..RIGHT
+};
+
+const BELOW_N_LISTED: Rule = Rule {
+    is_listed: |asked, m| m < asked.n && asked.at(m) < asked.n,
+    ..RIGHT
+};
 
 pub const ALL: [Fault; 14] = [
     ("size 1 is taken", |call, outcome| {
@@ -61,34 +79,25 @@ pub const ALL: [Fault; 14] = [
             outcome.number = 13;
         }
     }),
-    ("absent numbers are taken for the first", |call, outcome| {
-        assign(call, outcome, |row, i, m| {
-            i ^ m < row.len() && ahead(i, m).all(|k| row.get(k) == Some(&1))
-        });
+    ("an absent number stands ahead", |call, outcome| {
+        assign_by(&ABSENT_AHEAD, call, outcome);
     }),
-    ("absent numbers are tested", |call, outcome| {
-        assign(call, outcome, leads);
+    ("absent numbers have an entry", |call, outcome| {
+        assign_by(&ABSENT_LISTED, call, outcome);
     }),
-    (
-        "the search for a due distance ends at n",
-        |call, outcome| {
-            assign(call, outcome, |row, i, m| {
-                m < row.len() && i ^ m < row.len() && leads(row, i, m)
-            });
-        },
-    ),
+    ("distances from n on have no entry", |call, outcome| {
+        assign_by(&BELOW_N_LISTED, call, outcome);
+    }),
     ("a row has 2^d bytes", |call, outcome| {
         if call.kind == Kind::Row && outcome.number == 0 {
             let length = distances(call.numbers.n);
             outcome.buffers.get_mut(Name::Length).put_figure(length);
         }
     }),
-    ("an assignment wants 2^d - 1 bytes", |call, outcome| {
-        if call.kind == Kind::Assignment && matches!(outcome.number, 0 | 13) {
-            let full = distances(call.numbers.n) - 1;
-            let fits = call.buffers.get(Name::List).len() == full;
-            outcome.number = if fits { 0 } else { 13 };
-        }
+    ("an assignment for absent numbers too", |call, outcome| {
+        want_length(call, outcome, |n, length| {
+            length == assignment_length(distances(n))
+        });
     }),
     ("alone is who suspects 2^d - 1 others", |call, outcome| {
         if has_absent(call) && figure(outcome, Name::Taken) != 0 {
@@ -131,29 +140,4 @@ fn figure(outcome: &Outcome, name: Name) -> usize {
         [] => 0,
         _ => place.figure(),
     }
-}
-
-/// Whether i suspects each station ahead of it in the group of the number at
-/// distance m.
-fn leads(row: &[u8], i: usize, m: usize) -> bool {
-    ahead(i, m).all(|k| row.get(k) != Some(&0))
-}
-
-/// An accepted assignment by another rule of which distances are due: of a
-/// row, a station and a distance.
-fn assign(call: &Call, outcome: &mut Outcome, is_due: fn(&[u8], usize, usize) -> bool) {
-    if (call.kind, outcome.number) != (Kind::Assignment, 0) {
-        return;
-    }
-    let (n, i) = (call.numbers.n, call.numbers.station);
-    let line = lines(n, call.buffers.get(Name::Table)).nth(i);
-    let row = line.expect("an accepted station").row();
-    let due: Vec<u8> = (1..distances(n) as u8)
-        .filter(|m| is_due(row, i, usize::from(*m)))
-        .collect();
-    let list = outcome.buffers.get_mut(Name::List).contents_mut();
-    list.fill(0);
-    let pairs = list.iter_mut().zip(&due);
-    pairs.for_each(|(place, m)| *place = *m);
-    outcome.buffers.get_mut(Name::Count).put_figure(due.len());
 }

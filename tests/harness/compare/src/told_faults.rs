@@ -4,7 +4,7 @@
 
 use shared::table::{line_length, HEAD};
 
-use crate::call::{Call, Kind, Name};
+use crate::call::{Call, Name};
 use crate::entries::{self, Entry, Test};
 use crate::entries::{EXCHANGED, LEFT_ALONE, LEFT_TOLD, LIVE, TESTED_TOLD, TOLD};
 use crate::faults::Fault;
@@ -47,7 +47,7 @@ pub const ALL: [Fault; 14] = [
     (
         "a round is not counted where one is told",
         |call, outcome| {
-            let entries = entries_of(call, outcome).into_iter();
+            let entries = entries::of_call(call, outcome).into_iter();
             let closed = entries.filter(|entry| entry.outcome == TESTED_TOLD && entry.closes);
             take_rounds_back(outcome, closed.count());
         },
@@ -88,14 +88,6 @@ struct Left<'a> {
     sheet: &'a mut [u8],
 }
 
-/// The entries that a run took; none if the call is another.
-fn entries_of(call: &Call, outcome: &Outcome) -> Vec<Entry> {
-    match call.kind {
-        Kind::Run => entries::taken(call, outcome, &entries::answer(outcome)),
-        _ => Vec::new(),
-    }
-}
-
 /// Changes what the last entry left, if it makes a test of this kind.
 fn change(
     call: &Call,
@@ -103,7 +95,7 @@ fn change(
     is_one: fn(&Entry, &Test) -> bool,
     alter: fn(&mut Left),
 ) {
-    let entries = entries_of(call, outcome);
+    let entries = entries::of_call(call, outcome);
     let Some(entry) = entries.last() else {
         return;
     };

@@ -36,6 +36,11 @@ pub fn group_length(n: usize, station: usize, level: usize) -> usize {
     distances.filter(|m| station ^ m < n).count()
 }
 
+/// The length of an assignment's list: two bytes for each other station.
+pub fn assignment_length(n: usize) -> usize {
+    2 * (n - 1)
+}
+
 /// The numbers ahead of station i in the group of the one at distance m, at the
 /// level of m, absent ones included.
 pub fn ahead(i: usize, m: usize) -> impl Iterator<Item = usize> {

@@ -80,7 +80,7 @@ fn group_list(size: Size, random: &mut Random) -> Call {
 fn assignment(size: Size, random: &mut Random) -> Call {
     let (n, table) = tables::given(size, random);
     let station = station_in(&table, size, random);
-    let length = numbers::length(size - 1, random);
+    let length = assignment_length(size, random);
     Call {
         kind: Kind::Assignment,
         numbers: Numbers {
@@ -93,6 +93,23 @@ fn assignment(size: Size, random: &mut Random) -> Call {
             (Name::List, random.bytes(length)),
             (Name::Count, random.bytes(size_of::<usize>())),
         ]),
+    }
+}
+
+/// Mostly the right length.
+fn assignment_length(size: Size, random: &mut Random) -> usize {
+    let right = groups::assignment_length(size);
+    match random.below(60) {
+        0 => 0,
+        1 => right - 1,
+        2 => right + 1,
+        // One byte for each entry.
+        3 => size - 1,
+        // An entry for each station.
+        4 => 2 * size,
+        // With the absent numbers.
+        5 => groups::assignment_length(groups::distances(size)),
+        _ => numbers::length(right, random),
     }
 }
 
