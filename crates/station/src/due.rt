@@ -55,7 +55,7 @@ pub fn stands(row: &[u8], i: Station, m: Distance) -> bool
     at < row.len()
 }
 
-// Whether distance m is due for i, by i's row, or who is first instead. Callers ask first whether a station stands at m.
+// Whether distance m is due for i, by i's row, or who is first instead. Turn and assignment ask it only where a station stands.
 pub fn due_or_ahead(row: &[u8], i: Station, m: Distance) -> DueOrAhead
     ensures { λ r. ⌜ answerValue r ≡ answer (now (row .entry)) (i .0) (m .0) ⌝ }
 {
@@ -158,8 +158,8 @@ fn put_entry(row: &[u8], i: Station, m: Distance, list: &mut [u8], written: Writ
         return written;
     }
     let answer = due_or_ahead(row, i, m);
-    put(list, written.bytes, m.0);
-    put(list, written.bytes + 1, answer_byte(answer));
+    groups::put(list, written.bytes, m.0);
+    groups::put(list, written.bytes + 1, answer_byte(answer));
     Written {
         bytes: written.bytes + 2,
         due: count_due(answer, written.due),
@@ -184,15 +184,5 @@ fn answer_byte(answer: DueOrAhead) -> u8
     match answer {
         DueOrAhead::Due => 255,
         DueOrAhead::Ahead(x) => x.0,
-    }
-}
-
-// Puts a byte at place k of the list; past its end nothing is written.
-fn put(list: &mut [u8], k: u8, byte: u8)
-    ensures { λ _. ⌜ now (list .exit) ≡ set (now (list .entry)) k byte ⌝ }
-{
-    let at = k as usize;
-    if at < list.len() {
-        list[at] = byte;
     }
 }

@@ -139,9 +139,16 @@ fn put_member(n: u8, x: Station, list: &mut [u8], count: u8) -> u8
     if n <= x.0 {
         return count;
     }
-    let k = count as usize;
-    if k < list.len() {
-        list[k] = x.0;
-    }
+    put(list, count, x.0);
     count + 1
+}
+
+// Puts a byte at place k of the list; past its end nothing is written.
+pub(crate) fn put(list: &mut [u8], k: u8, byte: u8)
+    ensures { λ _. ⌜ now (list .exit) ≡ set (now (list .entry)) k byte ⌝ }
+{
+    let at = k as usize;
+    if at < list.len() {
+        list[at] = byte;
+    }
 }

@@ -1,10 +1,10 @@
--- `due::put` meets its contract: a store past the list's end changes nothing.
+-- `groups::put` meets its contract: a store past the list's end changes nothing.
 -- Assumes nothing.
 use mathlib.Core.Path.{sym}
 use lib.Seq.{set-out}
 use borrow.Author.Needs.{needs}
-use Rattle.station.proofs.due.put.Statement.{statement}
-use Rattle.station.proofs.due.put.Tie as tie
+use Rattle.station.proofs.groups.put.Statement.{statement}
+use Rattle.station.proofs.groups.put.Tie as tie
 
 returns-2 : tie.Need-returns-2
 returns-2 c = sym (set-out _ _ _ (c .if1 .left))
