@@ -2,7 +2,7 @@
 -- Assumes nothing.
 use mathlib.Core.Path.{_≡_, sym, ap, _∙_}
 use mathlib.Core.Bool.{Bool, true, false, cond, _&&_, and-false}
-use mathlib.Core.List.{List, []}
+use mathlib.Core.List.{List, [], map}
 use Prim.Native.Nat.{ℕ, suc, _+_, _*_, _≤_, _<_}
 use native.Mathlib.Omega.{arith}
 use borrow.Author.Tests.{eqb-true, lt-ltb, le-ltb}
@@ -20,6 +20,7 @@ use Rattle.station.specs.Sums.{sum, bit}
 use Rattle.detection.specs.Runs.{Taken}
 use Rattle.detection.specs.Rounds.{testsIn}
 use Rattle.detection.specs.Claim.{deadGroup, deadPairs, demandCount}
+use Rattle.detection.specs.Boards.{testedIn}
 use Rattle.station.proofs.BoolLaws.{by-bool}
 use Rattle.station.proofs.SumLaws.{sum-by, sum-zero, sum-stays, sum-const}
 use Rattle.detection.proofs.Count.{nobody, tests-and-rest}
@@ -27,6 +28,7 @@ use Rattle.detection.proofs.Counting.{Counts, counts-start, Roomy, room
 use Rattle.detection.proofs.TurnEffect.{Plain, Grown, same-rows}
 use Rattle.detection.proofs.Pass.{lift, Round}
 use Rattle.detection.proofs.Knowledge.{LiveOf, live-of, RowOf, InPassOf, Exact, leadsAt, Knows, knows-start, known-now}
+use Rattle.detection.proofs.Listing.{ledBelow, Listed, listed-start}
 
 -- within a round that started with t₀, after its entries `cur`
 pub record InRound (n : ℕ) (L : ℕ → Bool) (t₀ : List ℕ) (cur : List Taken) (t : List ℕ) : Type 0 where
@@ -34,10 +36,17 @@ pub record InRound (n : ℕ) (L : ℕ → Bool) (t₀ : List ℕ) (cur : List Ta
   pub counts : Counts n t₀ cur t
   pub roomy : Roomy n t
   pub knows : Knows n L t₀ t
+  pub lists : Listed n L t₀ cur t
 
 pub round-start : (n : ℕ) (L : ℕ → Bool) (t : List ℕ) → Plain n L t → ((i : ℕ) → i < n → Reset n t i) → InRound n L t [] t
 round-start n L t p fresh =
-    record { fresh = fresh; counts = counts-start n t; roomy = roomy-start n t fresh; knows = knows-start n L t p fresh }
+    record {
+      fresh = fresh;
+      counts = counts-start n t;
+      roomy = roomy-start n t fresh;
+      knows = knows-start n L t p fresh;
+      lists = listed-start n L t p fresh;
+    }
 
 -- the round rule leaves status and rows
 reset-rows : (n : ℕ) (L : ℕ → Bool) (t : List ℕ) → Plain n L t → Plain n L (resetLines n t) × Grown n t (resetLines n t)
@@ -64,6 +73,10 @@ module _ (n : ℕ) (L : ℕ → Bool) (t₀ t : List ℕ) (here : List Taken) (i
       let all = both (someLive n t) (every (finishedIfLive n t) n) over .1 in
       let ended : finishedIfLive n t i ≡ true = every-at (finishedIfLive n t) n i all h in
       inv .knows .plain .lines .1 i h .pass .finishedNext (eqb-true (finished n t i) 1 (rw (inv .knows .plain .lives i h ∙ l) at ended))
+
+  -- where it started exact, each live station has tested just the stations whose groups it leads
+  pub round-list : Exact n L t₀ → (i : ℕ) → i < n → L i ≡ true → testedIn i here ≡ map (stationAt i) (ledBelow n L i (distances n))
+  round-list exact i h l = rw (← at-end i h l) (inv .lists .listed exact i h)
 
   pub round-step : n ≤ distances n → RoundStep n L t₀ (resetLines n t)
   round-step low = record {

@@ -2,7 +2,7 @@
 -- Assumes nothing.
 use mathlib.Core.Path.{_≡_, refl, sym, _∙_}
 use mathlib.Core.Bool.{Bool, true, false, not, and-true}
-use mathlib.Core.List.{List, [], _∷_, _++_}
+use mathlib.Core.List.{List, [], _∷_, _++_, map}
 use Prim.Native.Nat.{ℕ, zero, suc, _+_, _^_, _≤_, _<_}
 use native.Mathlib.Omega.{arith}
 use borrow.Author.Tests.{lt-ltb, eqb-false, not-true}
@@ -23,6 +23,7 @@ use Rattle.station.specs.Sums.{bit}
 use Rattle.detection.specs.Runs.{Taken, takenTest, crashes, isLate}
 use Rattle.detection.specs.Rounds.{allTaken, countTaken, Rounds, closes, cut, testsIn, testsOfAll}
 use Rattle.detection.specs.Claim.{TurnsOk, demandCount, allRounds, exactWait}
+use Rattle.detection.specs.Boards.{testedIn, firstTable}
 use Rattle.station.proofs.BoolLaws.{by-bool}
 use Rattle.detection.proofs.TakenLaws.{takenAt, count-snoc}
 use Rattle.detection.proofs.Near.{near-below}
@@ -31,9 +32,10 @@ use Rattle.detection.proofs.Detected.{detected}
 use Rattle.detection.proofs.Chain.{Chain, done, more}
 use Rattle.detection.proofs.Counting.{turn-counts, turn-roomy, turns-ok, closes-is}
 use Rattle.plant.proofs.TurnHeads.{turn-heads}
-use Rattle.detection.proofs.TurnEffect.{Company, turn-effect}
+use Rattle.detection.proofs.TurnEffect.{Plain, Company, turn-effect}
 use Rattle.detection.proofs.Knowledge.{LiveOf, RowOf, Exact, Knows, turn-knows}
-use Rattle.detection.proofs.Closing.{InRound, restart, RoundStep, round-step, round-count}
+use Rattle.detection.proofs.Listing.{ledBelow, turn-listed}
+use Rattle.detection.proofs.Closing.{InRound, restart, RoundStep, round-list, round-step, round-count}
 
 -- the rounds r from the one that starts with t₀ on, to the table `end`; T has the live set
 pub record Course (n : ℕ) (T t₀ : List ℕ) (r : Rounds) (end : List ℕ) : Type 0 where
@@ -45,6 +47,10 @@ pub record Course (n : ℕ) (T t₀ : List ℕ) (r : Rounds) (end : List ℕ) : 
   pub turns : (k i : ℕ) → k ≤ length (r .closed) → i < n → TurnsOk n i (getD (allRounds r) k [])
   -- a closed round that starts exact has the count of tests
   pub counted : (k : ℕ) → k < length (r .closed) → Exact n (live n T) (start k) → testsIn (getD (r .closed) k []) ≡ demandCount n T
+  -- each round begins with its table, and in a closed round that starts exact each live station tests whom it leads
+  pub opened : (k : ℕ) → k < length (r .closed) → (firstTable (getD (r .closed) k []) ≡ start k) × Plain n (live n T) (start k)
+  pub listed : (k : ℕ) → k < length (r .closed) → Exact n (live n T) (start k) → (i : ℕ) → i < n → live n T i ≡ true
+      → testedIn i (getD (r .closed) k []) ≡ map (stationAt i) (ledBelow n (live n T) i (distances n))
 
 -- the tally s′ at the end, from the tally s at which the open round had the entries `cur`
 pub record Tallied (cur : List Taken) (s : State) (r : Rounds) (s′ : State) : Type 0 where
@@ -90,6 +96,8 @@ cut-done n T t₀ cur s size inv = (
         let e : k ≡ 0 = omega arith in
         rw e (turns-ok n t₀ (s .table) cur (inv .fresh) (inv .knows .plain .lines) (inv .counts) size (inv .roomy) i);
     counted = λ k h. absurd (omega arith);
+    opened = λ k h. absurd (omega arith);
+    listed = λ k h. absurd (omega arith);
   },
   omega arith,
 )
@@ -141,6 +149,7 @@ module _ (n : ℕ) (T : List ℕ) (company : Company n (live n T)) (t₀ : List 
         counts = turn-counts n s e t₀ _ cur noCrash (facts .below) going heads (inv .counts);
         roomy = turn-roomy n t _ i (p .lines) (facts .below) heads (inv .roomy);
         knows = turn-knows n L t₀ t _ i (inv .knows) turned heads (facts .below) isLive;
+        lists = turn-listed n L s e t₀ _ cur noCrash (facts .below) isLive heads (inv .knows) (inv .lists);
       })
 
   lines′ : Lines n t′
@@ -182,6 +191,14 @@ module _ (n : ℕ) (T : List ℕ) (company : Company n (live n T)) (t₀ : List 
               counted = λ k. elim k [
                 | zero ↦ λ h. round-count n T t₀ t′ here low moved over
                 | suc k ↦ λ h. r .0 .counted k (omega arith)
+              ];
+              opened = λ k. elim k [
+                | zero ↦ λ h. (inv .lists .opens x refl, inv .lists .opened)
+                | suc k ↦ λ h. r .0 .opened k (omega arith)
+              ];
+              listed = λ k. elim k [
+                | zero ↦ λ h. round-list n L t₀ t′ here moved over
+                | suc k ↦ λ h. r .0 .listed k (omega arith)
               ];
             },
             omega (arith, rw over at (r .1 .rounds), r .1 .tests, tests-after, count-snoc takenTest cur x),

@@ -81,7 +81,7 @@ module _ (n : ℕ) (s : State) (calls : List Call) (given : Premises n s calls) 
   abbrev L : ℕ → Bool
   L = live n (s .table)
 
-  history : Course n (s .table) (s .table) (roundsOf s calls) (afterRuns s calls .table)
+  pub history : Course n (s .table) (s .table) (roundsOf s calls) (afterRuns s calls .table)
       × Tallied [] s (roundsOf s calls) (afterRuns s calls)
   history =
       course n (s .table) (given .size) (company-of n (s .table) (given .twoLive)) (chain-all n s calls (given .long))
@@ -89,7 +89,7 @@ module _ (n : ℕ) (s : State) (calls : List Call) (given : Premises n s calls) 
       (s .table) [] (first-round n s calls given ok)
 
   -- after the exact wait all rounds start exact
-  exact : (q : ℕ) → exactWait (dimension n) ≤ q → q ≤ length (roundsOf s calls .closed) → Exact n L (history .0 .start q)
+  pub exact : (q : ℕ) → exactWait (dimension n) ≤ q → q ≤ length (roundsOf s calls .closed) → Exact n L (history .0 .start q)
   exact =
       exact-at n (dimension n) (s .table) (s .table) (roundsOf s calls) (afterRuns s calls .table) (history .0) (let d = size-log n (given .size) in rw (d .1) (d .3))
 

@@ -2,13 +2,13 @@
 -- Assumes nothing.
 use mathlib.Core.Path.{_≡_, sym, ap, _∙_}
 use mathlib.Core.Logic.{by-cases}
-use mathlib.Core.Bool.{Bool, true, false, _&&_, and-false, true≢false}
+use mathlib.Core.Bool.{Bool, true, false, not, _&&_, and-false, true≢false}
 use mathlib.Core.List.{List}
 use Prim.Native.Nat.{ℕ, _^_, _≤_, _<_}
 use native.Mathlib.Decide.{decLt, ℕ-discrete}
 use native.Mathlib.Omega.{arith}
 use borrow.Author.Tests.{lt-ltb, le-ltb, ltb-true}
-use lib.ListN.{length}
+use lib.ListN.{length, getD}
 use lib.Bits.{bitXor, xor-comm}
 use lib.Dec.{eqb, ltb}
 use lib.Pow.{pow-pos}
@@ -87,22 +87,25 @@ knows-start n L t p fresh = record {
       (sym (sum-zero 1 (λ m l. let e : m ≡ 0 = omega arith in rw (e, leads-zero (LiveOf n L) i, and-false))));
 }
 
--- in an exact table a live station's due distances are those at which it leads the group of a station
-exact-due : (n : ℕ) (L : ℕ → Bool) (t : List ℕ) → Plain n L t → Exact n L t → (i m : ℕ) → i < n → L i ≡ true
-    → due (row n t i) i m ≡ leadsAt n L i m
-exact-due n L t p exact i m hi l =
-    rw (due-first (row n t i) i m, long, leads-same (unsuspected (row n t i)) (LiveOf n L) i m (λ k h. same (member (stationAt i m) (level m) k)))
+-- by a row that suspects exactly the stations that are not live, the distances due are those at which i leads the group of a station
+pub row-due : (n : ℕ) (L : ℕ → Bool) (r : List ℕ) → length r ≡ n → ((x : ℕ) → x < n → getD r x 0 ≡ bit (not (L x))) → (i m : ℕ)
+    → due r i m ≡ leadsAt n L i m
+row-due n L r long bytes i m =
+    rw (due-first r i m, long, leads-same (unsuspected r) (LiveOf n L) i m (λ k h. same (member (stationAt i m) (level m) k)))
   where
-    long : length (row n t i) ≡ n
-    long = row-length n t i (p .lines .0) hi
-
-    same : (x : ℕ) → unsuspected (row n t i) x ≡ LiveOf n L x
+    same : (x : ℕ) → unsuspected r x ≡ LiveOf n L x
     same x =
         by-cases (decLt x n)
         (λ h. rw (lt-ltb x n h)
-        (unsuspected-at (row n t i) x (omega (arith, long)) ∙ ap (λ (v : ℕ). eqb v 0) (row-at n t i x h)
-        ∙ by-bool (L x) (λ e. rw (p .trusted i x hi h l e, e)) (λ e. rw (exact i x hi h l e, e))))
-        (λ h. rw (le-ltb x n (omega arith)) (unsuspected-absent (row n t i) x (λ g. h (omega (arith, long)))))
+        (unsuspected-at r x (omega (arith, long)) ∙ ap (λ (v : ℕ). eqb v 0) (bytes x h) ∙ by-bool (L x) (λ e. rw e) (λ e. rw e)))
+        (λ h. rw (le-ltb x n (omega arith)) (unsuspected-absent r x (λ g. h (omega (arith, long)))))
+
+-- in an exact table that holds of the row of each live station
+pub exact-due : (n : ℕ) (L : ℕ → Bool) (t : List ℕ) → Plain n L t → Exact n L t → (i m : ℕ) → i < n → L i ≡ true
+    → due (row n t i) i m ≡ leadsAt n L i m
+exact-due n L t p exact i m hi l =
+    row-due n L (row n t i) (row-length n t i (p .lines .0) hi)
+    (λ x h. row-at n t i x h ∙ by-bool (L x) (λ e. rw e (p .trusted i x hi h l e)) (λ e. rw e (exact i x hi h l e))) i m
 
 -- where i suspects all present ahead of it in the group of x the distance to x is due
 due-now : (n : ℕ) (t : List ℕ) (h x i : ℕ) → Lines n t → i < n → x < n → Member h x i → ((y : ℕ) → Ahead h x i y → RowOf n t i y)

@@ -11,8 +11,10 @@ pub mod TurnEffect
 pub mod TakenLaws
 pub mod Counting
 pub mod Knowledge
+pub mod Listing
 pub mod Closing
 pub mod Chain
 pub mod Course
 pub mod Demand3
+pub mod BoardLaws
 pub mod FreshStart

@@ -67,6 +67,24 @@ same-rows n L t t′ lines same p = (
   λ k y hk hy s. same k (head + y) (omega arith) (omega arith) ∙ s,
 )
 
+-- where two rows are exchanged, a byte of a row grows by the bytes of the two at most
+module _ (n : ℕ) (t : List ℕ) (i x : ℕ) (long : length t ≡ tableLength n) (hi : i < n) (hx : x < n) (apart : i ≢ x) where
+  abbrev t′ : List ℕ
+  t′ = exchangeRows n t i x
+
+  between : (k y : ℕ) → y < n → Dec (i ≡ k) → Dec (x ≡ k) → Dec (y ≡ k)
+      → (suspects n t k y ≤ suspects n t′ k y) × (suspects n t′ k y ≤ max (suspects n t k y) (max (suspects n t i y) (suspects n t x y)))
+  between k y h (yes e) f (yes g) = rw (g, ← e) (omega (arith, exchange-tester-own n t i long hi x hx apart))
+  between k y h (yes e) f (no g) = rw (← e) (omega (arith, exchange-tester n t i long hi x hx apart y h (λ q. g (q ∙ e))))
+  between k y h (no e) (yes f) (yes g) = rw (g, ← f) (omega (arith, exchange-tested-own n t i long hi x hx apart))
+  between k y h (no e) (yes f) (no g) = rw (← f) (omega (arith, exchange-tested n t i long hi x hx apart y h (λ q. g (q ∙ f))))
+  between k y h (no e) (no f) g =
+      omega (arith, exchange-other n t i long hi x hx apart k (head + y) (omega arith) (λ q. absurd (e q)) (λ q. absurd (f q)))
+
+  pub exchange-between : (k y : ℕ) → y < n
+      → (suspects n t k y ≤ suspects n t′ k y) × (suspects n t′ k y ≤ max (suspects n t k y) (max (suspects n t i y) (suspects n t x y)))
+  exchange-between k y h = between k y h (ℕ-discrete i k) (ℕ-discrete x k) (ℕ-discrete y k)
+
 -- the test of x by the live i
 module _ (n : ℕ) (L : ℕ → Bool) (t : List ℕ) (i x : ℕ) (p : Plain n L t) (hi : i < n) (hx : x < n) (apart : i ≢ x) (li : L i ≡ true) where
   long : length t ≡ tableLength n
@@ -118,7 +136,7 @@ module _ (n : ℕ) (L : ℕ → Bool) (t : List ℕ) (i x : ℕ) (p : Plain n L 
   exchanged lx =
       step t′ lines (λ k. exchange-other n t i long hi x hx apart k statusColumn (omega arith) (λ e. omega arith) (λ e. omega arith))
       (λ k y hk hy.
-      let v = between k y hy (ℕ-discrete i k) (ℕ-discrete x k) (ℕ-discrete y k) in
+      let v = exchange-between n t i x long hi hx apart k y hy in
       (v .0, λ a b. omega (arith, v .1, p .trusted k y hk hy a b, p .trusted i y hi hy li b, p .trusted x y hx hy lx b))) (record {
         finds = λ q. absurd (true≢false (sym lx ∙ q));
         tells = λ q y hy s.
@@ -134,17 +152,6 @@ module _ (n : ℕ) (L : ℕ → Bool) (t : List ℕ) (i x : ℕ) (p : Plain n L 
 
       lines : Lines n t′
       lines = exchange-lines n t i (p .lines) hi x hx apart
-
-      -- a byte of a row grows by the bytes of the two rows at most
-      between : (k y : ℕ) → y < n → Dec (i ≡ k) → Dec (x ≡ k) → Dec (y ≡ k)
-          → (suspects n t k y ≤ suspects n t′ k y)
-          × (suspects n t′ k y ≤ max (suspects n t k y) (max (suspects n t i y) (suspects n t x y)))
-      between k y h (yes e) f (yes g) = rw (g, ← e) (omega (arith, exchange-tester-own n t i long hi x hx apart))
-      between k y h (yes e) f (no g) = rw (← e) (omega (arith, exchange-tester n t i long hi x hx apart y h (λ q. g (q ∙ e))))
-      between k y h (no e) (yes f) (yes g) = rw (g, ← f) (omega (arith, exchange-tested-own n t i long hi x hx apart))
-      between k y h (no e) (yes f) (no g) = rw (← f) (omega (arith, exchange-tested n t i long hi x hx apart y h (λ q. g (q ∙ f))))
-      between k y h (no e) (no f) g =
-          omega (arith, exchange-other n t i long hi x hx apart k (head + y) (omega arith) (λ q. absurd (e q)) (λ q. absurd (f q)))
 
   -- neither of two live stations suspects the other: a test with a reply tells nobody
   none-told : L x ≡ true → replyOutcome n t i x ≡ outcomeExchanged

@@ -2,3 +2,4 @@
 pub mod Runs
 pub mod Rounds
 pub mod Claim
+pub mod Boards

@@ -55,7 +55,7 @@ entry-facts n s e z =
           omega arith;
     }
 
-acted-lines : (n : ℕ) (s : State) (e : Entry) → Accepted n (s .table) → entryNumber n s e ≡ 0
+pub acted-lines : (n : ℕ) (s : State) (e : Entry) → Accepted n (s .table) → entryNumber n s e ≡ 0
     → (length (acted n (s .table) e) ≡ tableLength n) × ((i : ℕ) → i < n → Line n (acted n (s .table) e) i)
 unfolding acted crash
 acted-lines n s e a z = pick (isCrash e) refl

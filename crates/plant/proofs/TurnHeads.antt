@@ -1,14 +1,15 @@
 -- What every turn of any station in an accepted table does to bytes 1 to 3 of the lines, whoever suspects whom and whatever its outcome.
 -- Assumes nothing.
-use mathlib.Core.Path.{_≡_, refl, _∙_, ap}
+use mathlib.Core.Path.{_≡_, refl, sym, _∙_, ap, ap₂}
 use mathlib.Core.Logic.{_≢_}
 use mathlib.Core.Bool.{Bool, true, cond}
-use mathlib.Core.List.{List}
+use mathlib.Core.List.{List, [], _∷_, _++_, append-nil}
 use Prim.Native.Nat.{ℕ, _+_, _≤_, _<_}
 use native.Mathlib.Numerals.{add-one}
 use native.Mathlib.Omega.{arith}
-use lib.ListN.{length}
+use lib.ListN.{length, length-append}
 use lib.Dec.{eqb}
+use Rattle.station.specs.Search.{select}
 use Rattle.station.specs.Groups.{isSize, distances, stationAt}
 use Rattle.station.specs.Table.{head, tableLength, cell, statusColumn, nextColumn, finishedColumn, testsColumn, nextDistance, finished, testsMade, row}
 use Rattle.station.specs.Tests.{due}
@@ -19,7 +20,7 @@ use Rattle.plant.proofs.StepCells.{finishPass-other, finishPass-next, f
 use Rattle.plant.proofs.StepLines.{Lines, station-apart}
 use Rattle.station.specs.Sums.{sum, bit}
 use Rattle.station.proofs.BoolLaws.{by-bool, choice}
-use Rattle.station.proofs.SumLaws.{sum-stays}
+use Rattle.station.proofs.KeepLaws.{kept-suc, kept-stays, kept-sum}
 
 -- bytes 1 to 3 of all lines are as before
 abbrev SameCounts : ℕ → List ℕ → List ℕ → Type 0
@@ -80,16 +81,21 @@ turn-heads n t kind i size lines h =
 
 -- of the distances that a turn passes one is due if it makes a test, and none if it makes none
 module _ (n : ℕ) (t t′ : List ℕ) (i : ℕ) (heads : Heads n t t′ i (makesTest n t i)) (high : nextDistance n t i ≤ distances n) where
-  abbrev dues : ℕ → ℕ
-  dues m = bit (due (row n t i) i m)
+  abbrev q : ℕ → Bool
+  q = due (row n t i) i
 
-  pub passed-dues : sum dues (nextDistance n t′ i) ≡ sum dues (nextDistance n t i) + bit (makesTest n t i)
-  unfolding sum
-  passed-dues =
+  pub passed-list : select q (nextDistance n t′ i) ≡ select q (nextDistance n t i) ++ cond (makesTest n t i) (nextTest n t i ∷ []) []
+  passed-list =
       by-bool (makesTest n t i)
       (λ e.
-      let stay = sum-stays dues (nextDistance n t i) (nextTest n t i) (nextTest-low n t i) (λ y a b. ap bit (not-due-before n t i y a b)) in
-      rw (heads .next, e, add-one (nextTest n t i)) (omega (arith, stay, ap bit (test-due n t i e))))
+      let stay = kept-stays q (λ k. k) (nextDistance n t i) (nextTest n t i) (nextTest-low n t i) (not-due-before n t i) in
+      rw (heads .next, e, add-one (nextTest n t i), kept-suc q (λ k. k) (nextTest n t i), test-due n t i e, stay))
       (λ e.
-      let stay = sum-stays dues (nextDistance n t i) (distances n) high (λ y a b. ap bit (none-due n t i e high y a b)) in
-      rw (heads .next, e) (omega (arith, stay)))
+      let stay = kept-stays q (λ k. k) (nextDistance n t i) (distances n) high (none-due n t i e high) in
+      rw (heads .next, e, append-nil) stay)
+
+  pub passed-dues : sum (λ m. bit (q m)) (nextDistance n t′ i) ≡ sum (λ m. bit (q m)) (nextDistance n t i) + bit (makesTest n t i)
+  passed-dues =
+      sym (kept-sum q (λ k. k) (nextDistance n t′ i))
+      ∙ (ap length passed-list ∙ length-append (select q (nextDistance n t i)) (cond (makesTest n t i) (nextTest n t i ∷ []) []))
+      ∙ ap₂ _+_ (kept-sum q (λ k. k) (nextDistance n t i)) (by-bool (makesTest n t i) (λ e. rw e) (λ e. rw e))

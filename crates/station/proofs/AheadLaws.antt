@@ -26,7 +26,7 @@ use Rattle.station.proofs.CellLaws.{row-length, row-at, accepted-line}
 use Rattle.station.proofs.DueLaws.{unsuspected-at, isStation, answer-first, first-not, first-found, answer-zero, due-not}
 
 -- a level by the highest digit
-level-top : (m g : ℕ) → level m ≡ suc g → m / 2 ^ g ≡ 1
+pub level-top : (m g : ℕ) → level m ≡ suc g → m / 2 ^ g ≡ 1
 level-top m g e =
     let b = level-bounds m g e in
     let low : 1 ≤ m / 2 ^ g = le-div-iff-mul-le (pow-pos g) .1 (omega (arith, b .0)) in

@@ -33,7 +33,7 @@ pub nothing-left-over : NothingLeftOver
 nothing-left-over n r i size h = omega (arith, entries-length r i (otherDistances n i), others-all n i size h)
 
 -- whom a row does not suspect is below its length
-unsuspected-below : (r : List ℕ) (x : ℕ) → unsuspected r x ≡ true → x < length r
+pub unsuspected-below : (r : List ℕ) (x : ℕ) → unsuspected r x ≡ true → x < length r
 unsuspected-below r x e = by-cases (decLt x (length r)) (λ l. l) (λ l. absurd (true≢false (sym e ∙ unsuspected-absent r x l)))
 
 -- an entry has 255 just where its distance is due

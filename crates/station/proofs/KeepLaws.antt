@@ -4,6 +4,7 @@ use mathlib.Core.Path.{_≡_, refl, sym, ap, _∙_}
 use mathlib.Core.Bool.{Bool, true, false, cond, _&&_}
 use mathlib.Core.List.{List, [], _∷_, _++_, append-nil, append-assoc, List·Memᴰ, List·Memᴰ·head, List·Memᴰ·tail, List·Memᴰ·not-nil}
 use Prim.Native.Nat.{ℕ, zero, suc, _+_, _-_, _≤_, _<_}
+use native.Mathlib.Decide.{le-ind}
 use native.Mathlib.Numerals.{add-one}
 use native.Mathlib.Omega.{arith}
 use lib.ListN.{length, getD, set, drop, length-append}
@@ -60,6 +61,12 @@ module _ (q : ℕ → Bool) where
   mem-keep (y ∷ xs) x (List·Memᴰ·tail k) t =
       by-bool (q y) (λ e. rw e (List·Memᴰ·tail (mem-keep xs x k t))) (λ e. rw e (mem-keep xs x k t))
 
+  -- another test that decides alike
+  pub keep-same : (q′ : ℕ → Bool) → ((x : ℕ) → q x ≡ q′ x) → (xs : List ℕ) → keep q xs ≡ keep q′ xs
+  unfolding keep
+  keep-same q′ same [] = refl
+  keep-same q′ same (x ∷ xs) = rw (same x, keep-same q′ same xs)
+
   -- those that pass two tests, one after the other
   pub keep-twice : (q₁ q₂ : ℕ → Bool) → ((x : ℕ) → q x ≡ (q₁ x && q₂ x)) → (xs : List ℕ) → keep q xs ≡ keep q₂ (keep q₁ xs)
   unfolding keep
@@ -75,6 +82,12 @@ module _ (q : ℕ → Bool) where
     pub kept-suc : (m : ℕ) → kept (suc m) ≡ kept m ++ cond (q (f m)) (f m ∷ []) []
     unfolding keep listOf
     kept-suc m = keep-append (listOf f m) (f m ∷ [])
+
+    -- where none passes from a on, they are those below a
+    pub kept-stays : (a b : ℕ) → a ≤ b → ((y : ℕ) → a ≤ y → y < b → q (f y) ≡ false) → kept b ≡ kept a
+    kept-stays a b l =
+        le-ind (λ (t : ℕ). ((y : ℕ) → a ≤ y → y < t → q (f y) ≡ false) → kept t ≡ kept a) (λ none. refl)
+        (λ t h rest none. rw (kept-suc t, none t h (omega arith), append-nil) (rest (λ y lo hi. none y lo (omega arith)))) b l
 
     -- how many they are
     pub kept-sum : (m : ℕ) → length (kept m) ≡ sum (λ k. bit (q (f k))) m

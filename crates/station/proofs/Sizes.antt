@@ -31,9 +31,12 @@ pub size-dimension : (n : ℕ) → isSize n ≡ true → dimension n ≤ 6
 unfolding dimension
 size-dimension n e = let b = size-bounds n e in level-le (n - 1) 6 (omega arith)
 
-pub distances-top : (n : ℕ) → n ≤ 64 → distances n ≤ 64
+pub distances-le : (k n : ℕ) → n ≤ 2 ^ k → distances n ≤ 2 ^ k
 unfolding distances dimension
-distances-top n h = omega (arith, pow-mono {i = level (n - 1)} {j = 6} (level-le (n - 1) 6 (omega arith)))
+distances-le k n h = pow-mono {i = level (n - 1)} {j = k} (level-le (n - 1) k (omega (arith, pow-pos k)))
+
+pub distances-top : (n : ℕ) → n ≤ 64 → distances n ≤ 64
+distances-top n h = distances-le 6 n h
 
 -- the number of distances is from n to 64
 pub size-distances : (n : ℕ) → isSize n ≡ true → (n ≤ distances n) × (distances n ≤ 64)

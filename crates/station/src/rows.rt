@@ -61,7 +61,7 @@ fn join_bytes(row: &mut [u8], other: &[u8])
 }
 
 // The greater of two bytes.
-pub(crate) fn greater(a: u8, b: u8) -> u8
+pub fn greater(a: u8, b: u8) -> u8
     ensures { λ r. ⌜ r ≡ max a b ⌝ }
 {
     if a < b { b } else { a }

@@ -1,0 +1,44 @@
+// Text on standard output. No contract can say what is written; these functions are safe.
+ghost use Prim.Native.Nat.{_≤_};
+use libc::STDOUT_FILENO;
+
+pub fn write(text: &[u8]) {
+    io::write_all(STDOUT_FILENO, text);
+}
+
+pub fn number(x: u8) {
+    io::print_decimal(STDOUT_FILENO, x as u64);
+}
+
+// So many spaces.
+pub fn spaces(count: u16) {
+    let mut k: u16 = 0;
+    while k < count {
+        write(b" ");
+        k += 1;
+    }
+}
+
+// How many digits a number has.
+pub fn digits(x: u8) -> u16
+    ensures { λ r. ⌜ r ≤ 3 ⌝ }
+{
+    if x < 10 {
+        1
+    } else if x < 100 {
+        2
+    } else {
+        3
+    }
+}
+
+// A number at the right end of so many columns.
+pub fn right(x: u8, columns: u16) {
+    spaces(less(columns, digits(x)));
+    number(x);
+}
+
+// a less b; 0 where b is greater.
+pub fn less(a: u16, b: u16) -> u16 {
+    if a < b { 0 } else { a - b }
+}

@@ -1,0 +1,5 @@
+-- The claims of specs/Law.antt hold.
+pub mod DigitLaws
+pub mod Counts
+pub mod OneDead
+pub mod MoreTests

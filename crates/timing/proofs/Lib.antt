@@ -1,0 +1,3 @@
+-- The claims of specs/Timing.antt hold.
+pub mod RowsGrow
+pub mod Within

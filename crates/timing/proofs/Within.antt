@@ -1,0 +1,180 @@
+-- The tests that a board has made are due by its row, as long as the round goes on.
+-- Assumes nothing.
+use mathlib.Core.Path.{_≡_, sym, ap, _∙_}
+use mathlib.Core.Logic.{_≢_, _⊎_, inl, inr, by-cases}
+use mathlib.Core.Bool.{true, false, _&&_, true≢false}
+use mathlib.Core.List.{List}
+use Prim.Native.Nat.{ℕ, _+_, _-_, _≤_, _<_}
+use native.Mathlib.Nat.{le-trans}
+use native.Mathlib.Decide.{ℕ-discrete}
+use native.Mathlib.Omega.{arith}
+use borrow.Author.Tests.{eqb-true, eq-eqb}
+use lib.Dec.{eqb}
+use lib.ListN.{length}
+use Rattle.station.specs.Sums.{sum, bit}
+use Rattle.station.specs.Groups.{distances}
+use Rattle.station.specs.Table.{head, tableLength, statusColumn, nextColumn, testsColumn, cell, nextDistance, finished, testsMade, suspects, row}
+use Rattle.station.specs.Rules.{roundOver}
+use Rattle.station.specs.Tests.{unsuspected, due}
+use Rattle.station.specs.Rows.{mark}
+use Rattle.station.proofs.BoolLaws.{by-bool}
+use Rattle.station.proofs.SearchLaws.{both, every-at}
+use Rattle.station.proofs.SumLaws.{sum-split}
+use Rattle.station.proofs.Refusals.{Accepted, accepted}
+use Rattle.station.proofs.CellLaws.{cell-other, row-length, row-at, mark-length, accepted-line}
+use Rattle.station.proofs.DueLaws.{unsuspected-at}
+use Rattle.station.proofs.EntryLaws.{unsuspected-below}
+use Rattle.plant.specs.Turn.{statusCrashed, makesTest, crash, afterRound}
+use Rattle.plant.specs.Entry.{Entry, State, isCrash, entryNumber, acted, after}
+use Rattle.plant.proofs.Kept.{entry-facts, acted-lines}
+use Rattle.plant.proofs.StepCells.{reset-cells}
+use Rattle.plant.proofs.StepLines.{Lines}
+use Rattle.plant.proofs.TurnHeads.{Heads, turn-heads, passed-dues}
+use Rattle.detection.specs.Runs.{Call, Taken, afterRuns}
+use Rattle.detection.specs.Claim.{lineAtStart, atStart}
+use Rattle.detection.proofs.Chain.{Chain, done, more, chain-all}
+use Rattle.slots.specs.Slots.{testsDue}
+use Rattle.slots.specs.Law.{Wider}
+use Rattle.slots.proofs.MoreTests.{fewer-below, tests-sum, mark-unsuspected, mark-suspected, wider-mark, most-covers}
+use Rattle.timing.specs.Timing.{Takes, left, NoMoreThanDue, SuspectsAtMost, SlotIsEnough}
+use Rattle.timing.proofs.RowsGrow.{Grows, acted-grows}
+
+-- whom the row of line k does not suspect
+row-unsuspected : (n : ℕ) (t : List ℕ) (k x : ℕ) → length t ≡ tableLength n → k < n → x < n → unsuspected (row n t k) x ≡ eqb (suspects n t k x) 0
+row-unsuspected n t k x long hk hx =
+    unsuspected-at (row n t k) x (omega (arith, row-length n t k long hk)) ∙ ap (λ (v : ℕ). eqb v 0) (row-at n t k x hx)
+
+-- a row that has grown
+wider-rows : (n : ℕ) (t t′ : List ℕ) → Lines n t → Lines n t′ → Grows n t t′ → (k : ℕ) → k < n → Wider (row n t k) (row n t′ k) k
+wider-rows n t t′ lines lines′ grows k h = record {
+  long = row-length n t′ k (lines′ .0) h ∙ sym (row-length n t k (lines .0) h);
+  own = row-unsuspected n t′ k k (lines′ .0) h h ∙ eq-eqb (suspects n t′ k k) 0 (lines′ .1 k h .own);
+  more = λ x e.
+      let x<n : x < n = rw (row-length n t′ k (lines′ .0) h) at (unsuspected-below (row n t′ k) x e) in
+      let clear : suspects n t′ k x ≡ 0 = eqb-true (suspects n t′ k x) 0 (sym (row-unsuspected n t′ k x (lines′ .0) h x<n) ∙ e) in
+      row-unsuspected n t k x (lines .0) h x<n ∙ eq-eqb (suspects n t k x) 0 (omega (arith, grows k x h x<n));
+}
+
+-- how many of the distances below the next one are due by the row as it is
+abbrev duesOf : ℕ → List ℕ → ℕ → ℕ → ℕ
+duesOf n t i b = sum (λ m. bit (due (row n t i) i m)) b
+
+-- each line has made no more tests than that
+abbrev Fits : ℕ → List ℕ → Type 0
+Fits n t = (i : ℕ) → i < n → testsMade n t i ≤ duesOf n t i (nextDistance n t i)
+
+-- a taken entry keeps it
+module _ (n : ℕ) (s : State) (e : Entry) (ok : Accepted n (s .table)) (takes : entryNumber n s e ≡ 0) (fits : Fits n (s .table)) where
+  abbrev t : List ℕ
+  t = s .table
+
+  abbrev t′ : List ℕ
+  t′ = acted n t e
+
+  abbrev i : ℕ
+  i = e .station
+
+  below : i < n
+  below = entry-facts n s e takes .below
+
+  lines : Lines n t
+  lines = (ok .long, accepted-line n t ok)
+
+  -- by the row as it is after the entry no fewer are due
+  later : (k : ℕ) → k < n → (b : ℕ) → duesOf n t k b ≤ duesOf n t′ k b
+  later k h =
+      fewer-below (row n t k) (row n t′ k) k
+      (wider-rows n t t′ lines (acted-lines n s e ok takes) (acted-grows n t e lines (below)) k h)
+
+  -- a line whose next distance and tests stay
+  stays : (k : ℕ) → k < n → nextDistance n t′ k ≡ nextDistance n t k → testsMade n t′ k ≡ testsMade n t k
+      → testsMade n t′ k ≤ duesOf n t′ k (nextDistance n t′ k)
+  stays k h next tests = rw (next, tests) (le-trans (fits k h) (later k h (nextDistance n t k)))
+
+  crash-fits : isCrash e ≡ true → Fits n t′
+  unfolding acted crash
+  crash-fits c k h =
+      let same : (b : ℕ) → 0 < b → b < head → cell n t′ k b ≡ cell n t k b =
+      λ b lo hi. rw c (cell-other n t i statusColumn statusCrashed k b (omega arith) (omega arith) (λ _. omega arith)) in
+      stays k h (same nextColumn (omega arith) (omega arith)) (same testsColumn (omega arith) (omega arith))
+
+  turn-fits : isCrash e ≡ false → Fits n t′
+  unfolding acted
+  turn-fits c k h =
+      let heads : Heads n t t′ i (makesTest n t i) = rw c (turn-heads n t (e .kind) i (ok .size) lines (below)) in
+      by-cases (ℕ-discrete k i)
+      (λ q.
+      let passed = passed-dues n t t′ i heads (lines .1 i (below) .pass .nextHigh) in
+      rw q (omega (arith, heads .tests, fits i (below), passed, later i (below) (nextDistance n t′ i))))
+      (λ q. stays k h (heads .others k nextColumn q (omega arith) (omega arith)) (heads .others k testsColumn q (omega arith) (omega arith)))
+
+  pub acted-fits : Fits n t′
+  acted-fits k h = by-bool (isCrash e) (λ c. crash-fits c k h) (λ c. turn-fits c k h)
+
+  entry-fits : Fits n (after n s e .table)
+  unfolding after afterRound
+  entry-fits k h =
+      by-bool (roundOver n t′)
+      (λ o. rw (o, reset-cells n t′ (acted-lines n s e ok takes .0) k h .untested) (omega arith)) (λ o. rw o (acted-fits k h))
+
+-- and so does a chain of them
+chain-fits : {n : ℕ} {s s′ : State} {xs : List Taken} → Chain n s xs s′ → Fits n (s .table) → Fits n (s′ .table)
+chain-fits done fits = fits
+chain-fits {n} (more {s} e ok takes c) fits = chain-fits c (entry-fits n s e ok takes fits)
+
+module _ (n : ℕ) (s : State) (calls : List Call) (e : Entry) (given : Takes n s calls e) where
+  abbrev u : State
+  u = afterRuns s calls
+
+  abbrev end : List ℕ
+  end = left n s calls e
+
+  ok : Accepted n (u .table)
+  ok = accepted n (u .table) (given .shape)
+
+  end-lines : Lines n end
+  end-lines = acted-lines n u e ok (given .taken)
+
+  -- at the start of a round no test is made
+  none-made : Fits n (s .table)
+  unfolding atStart
+  none-made i h =
+      let line = every-at (lineAtStart n (s .table)) n i (given .start) h in
+      let head = eqb (nextDistance n (s .table) i) 1 && eqb (finished n (s .table) i) 0 in
+      omega (arith, eqb-true (testsMade n (s .table) i) 0 (both head (eqb (testsMade n (s .table) i) 0) line .1))
+
+  -- the distances passed are some of all
+  pub within : (i : ℕ) → i < n → testsMade n end i ≤ testsDue n (row n end i) i
+  within i h =
+      let next : ℕ = nextDistance n end i in
+      let whole : next + (distances n - next) ≡ distances n = omega (arith, end-lines .1 i h .pass .nextHigh) in
+      let fits = acted-fits n u e ok (given .taken) (chain-fits (chain-all n s calls (given .long)) none-made) i h in
+      omega (arith, fits, rw whole at (sum-split (λ m. bit (due (row n end i) i m)) next (distances n - next)), tests-sum n (row n end i) i)
+
+  -- a row that suspects no more than r and j
+  wider-mark-row : (r : List ℕ) (i j : ℕ) → i < n → j ≢ i → length r ≡ n → unsuspected r i ≡ true → SuspectsAtMost n end i r j
+      → Wider (row n end i) (mark r j) i
+  wider-mark-row r i j h apart long own few = record {
+    long = mark-length r j ∙ long ∙ sym (row-length n end i (end-lines .0) h);
+    own = mark-unsuspected r j i (λ q. apart (sym q)) ∙ own;
+    more = λ x free.
+        let x<n : x < n = rw (mark-length r j ∙ long) at (unsuspected-below (mark r j) x free) in
+        let clear = wider-mark r i j own apart .more x free in
+        row-unsuspected n end i x (end-lines .0) h x<n ∙ eq-eqb (suspects n end i x) 0 (unset x x<n free clear (ℕ-discrete (suspects n end i x) 1));
+  }
+    where
+      unset : (x : ℕ) → x < n → unsuspected (mark r j) x ≡ true → unsuspected r x ≡ true → Dec (suspects n end i x ≡ 1) → suspects n end i x ≡ 0
+      unset x l free clear (no q) = omega (arith, end-lines .1 i h .range x l)
+      unset x l free clear (yes q) = pick (few x l q)
+        where
+          pick : (unsuspected r x ≡ false) ⊎ (x ≡ j) → suspects n end i x ≡ 0
+          pick (inl f) = absurd (true≢false (sym clear ∙ f))
+          pick (inr f) = absurd (true≢false (sym free ∙ rw f (mark-suspected r j (omega (arith, long, f)))))
+
+pub no-more-than-due : NoMoreThanDue
+no-more-than-due n s calls e i given h = within n s calls e given i h
+
+pub slot-is-enough : SlotIsEnough
+slot-is-enough n s calls e r i j given h l apart long own few =
+    le-trans (within n s calls e given i h)
+    (most-covers n r _ i j l apart (wider-mark-row n s calls e given r i j h apart long own few))
