@@ -7,6 +7,9 @@
 //! library: entries are for the stations that exist, dead and suspected ones
 //! among them, from distance 1 on; the one ahead is the first of the group that
 //! the asking station does not suspect; the count is that of entries with 255.
+//! So was what the sheet program reads and prints: its arguments, the lines for
+//! wrong ones and their order, both layouts, and that the greatest number of
+//! tests is taken over the rows with one more dead board.
 //!
 //! Rows are 64-bit sets and lines are structs. They are decoded from the
 //! lent byte table and encoded back into it. Figures over results (C-12) are
@@ -24,8 +27,10 @@ mod numbers;
 mod plant;
 pub mod program;
 mod questions;
+mod reading;
 mod refusal;
 mod run;
+pub mod sheet;
 mod totals;
 
 #[cfg(test)]

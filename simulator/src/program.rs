@@ -1,6 +1,7 @@
 //! The run program: from the bytes of standard input to the printed text.
 
 use crate::numbers::Size;
+use crate::reading::{read_size, read_station};
 use crate::{fresh_table, run, Answer};
 
 /// The most entries the program reads.
@@ -53,16 +54,11 @@ fn read_input(input: &[u8], schedule: &mut [u8]) -> Result<Read, usize> {
     Ok(Read { n, entries })
 }
 
-/// One to three digits.
-fn read_size(line: &[u8]) -> Option<usize> {
-    read_number(line, 3)
-}
-
-/// T, L or C, a space and one or two digits.
+/// T, L or C, a space and a station.
 fn read_entry(line: &[u8]) -> Option<[u8; 2]> {
     let (letter, rest) = line.split_first()?;
-    let station = read_number(rest.strip_prefix(b" ")?, 2)?;
-    Some([read_kind(*letter)?, station as u8])
+    let station = read_station(rest.strip_prefix(b" ")?)?;
+    Some([read_kind(*letter)?, station])
 }
 
 fn read_kind(letter: u8) -> Option<u8> {
@@ -72,16 +68,6 @@ fn read_kind(letter: u8) -> Option<u8> {
         b'C' => Some(3),
         _ => None,
     }
-}
-
-/// One digit or more, up to `most`; leading zeros are read.
-fn read_number(digits: &[u8], most: usize) -> Option<usize> {
-    let readable = digits.iter().all(u8::is_ascii_digit);
-    if digits.is_empty() || digits.len() > most || !readable {
-        return None;
-    }
-    let append = |number, digit: &u8| 10 * number + usize::from(digit - b'0');
-    Some(digits.iter().fold(0, append))
 }
 
 /// Runs the schedule on a fresh table with zero tallies.

@@ -22,22 +22,22 @@ fn schedule(numbers: &mut Numbers, n: usize, entries: usize) -> Vec<u8> {
 
 /// A taken entry: its kind, its line of the sheet, the tables before and after
 /// it, and how many rounds it closed.
-struct Taken {
-    n: usize,
+pub struct Taken {
+    pub n: usize,
     kind: u8,
     sheet: Vec<u8>,
-    before: Vec<u8>,
-    after: Vec<u8>,
+    pub before: Vec<u8>,
+    pub after: Vec<u8>,
     closed: u32,
 }
 
 impl Taken {
-    fn tester(&self) -> usize {
+    pub fn tester(&self) -> usize {
         usize::from(self.sheet[0])
     }
 
     /// The tested station, if one was tested.
-    fn tested(&self) -> Option<usize> {
+    pub fn tested(&self) -> Option<usize> {
         Some(usize::from(self.sheet[1])).filter(|j| *j != 255)
     }
 
@@ -105,7 +105,7 @@ fn run_each(n: usize, table: &mut [u8], entries: &[u8]) -> Vec<Taken> {
 }
 
 /// The taken entries of a random schedule on a fresh table of each size.
-fn from_fresh_tables(seed: u64) -> impl Iterator<Item = Taken> {
+pub fn from_fresh_tables(seed: u64) -> impl Iterator<Item = Taken> {
     let mut numbers = Numbers::new(seed);
     sizes().flat_map(move |(n, d)| {
         let entries = schedule(&mut numbers, n, 5 * n * usize::from(d));

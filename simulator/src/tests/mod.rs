@@ -11,6 +11,7 @@ mod laws;
 mod program;
 mod questions;
 mod rounds;
+mod sheet;
 mod steps;
 mod tables;
 mod told;
