@@ -1,10 +1,8 @@
 //! The options of the command.
 
-use shared::options::Words;
+use shared::options::{Words, DEFAULT_SEED};
 
 const USAGE: &str = "usage: compare [--seed S] [--calls N | --only K | --self-test] [--trace]";
-
-const DEFAULT_SEED: u64 = 1;
 
 pub const DEFAULT_CALLS: u64 = 200_000;
 

@@ -1,9 +1,10 @@
 //! One input with what must be printed for it.
 
+use shared::child::Program;
 use shared::random::Random;
+use shared::report;
 use shared::slowest;
 
-use crate::child::Program;
 use crate::generate;
 use crate::odd::{self, Odd};
 use crate::wait;
@@ -99,7 +100,7 @@ impl Case {
     }
 
     fn check_whole(&self, program: &Program) -> Option<Difference> {
-        let printed = program.print(&[&self.input]);
+        let printed = print(program, &[&self.input]);
         self.check_wait(&printed)
             .or_else(|| self.compare(By::Whole, printed))
     }
@@ -121,7 +122,7 @@ impl Case {
         if self.cuts.is_empty() {
             return None;
         }
-        self.compare(By::Pieces, program.print(&self.pieces()))
+        self.compare(By::Pieces, print(program, &self.pieces()))
     }
 
     pub fn compare(&self, by: By, printed: Result<Vec<u8>, String>) -> Option<Difference> {
@@ -160,6 +161,20 @@ fn cuts(length: usize) -> Vec<usize> {
     let mut cuts = vec![length.min(1), length / 2, length.saturating_sub(1)];
     cuts.sort_unstable();
     cuts
+}
+
+/// What the run program prints when it is handed these pieces of its input one
+/// after the other, or why that is not known. It must write nothing to standard
+/// error.
+fn print(program: &Program, pieces: &[&[u8]]) -> Result<Vec<u8>, String> {
+    let written = program.run(&[], pieces)?;
+    match written.err.is_empty() {
+        true => Ok(written.out),
+        false => {
+            let said = report::part(&written.err, 0, report::CUT);
+            Err(format!("writes to standard error {said}"))
+        }
+    }
 }
 
 fn simulate(input: &[u8]) -> Vec<u8> {

@@ -3,7 +3,7 @@
 
 use std::fmt;
 
-use shared::counts::{list, Required};
+use shared::counts::{increase, list, list_sizes, Required};
 use shared::groups::{ahead, SIZES};
 
 use crate::case::Case;
@@ -156,14 +156,6 @@ impl Counts {
         self.unread_first + self.unread_entry + self.unread_last
     }
 
-    fn list_sizes(&self) -> String {
-        let pairs = self.sizes.iter().zip(SIZES);
-        let texts: Vec<String> = pairs
-            .map(|(count, size)| format!("{size}: {count}"))
-            .collect();
-        texts.join(", ")
-    }
-
     /// The things that occurred too seldom or not at all.
     pub fn missing(&self) -> Vec<String> {
         shared::counts::missing(self.required(), LEAST)
@@ -208,13 +200,6 @@ impl Counts {
     }
 }
 
-/// Adds one to the count with this number, if there is such a count.
-fn increase(counts: &mut [u64], number: usize) {
-    if let Some(count) = counts.get_mut(number) {
-        *count += 1;
-    }
-}
-
 impl fmt::Display for Counts {
     /// All counts, on one line.
     fn fmt(&self, f: &mut fmt::Formatter<'_>) -> fmt::Result {
@@ -231,7 +216,7 @@ impl fmt::Display for Counts {
         )?;
         let read: u64 = self.numbers.iter().sum();
         write!(f, "read {read}, refused ({}), ", list(&self.numbers))?;
-        write!(f, "by size ({}), ", self.list_sizes())?;
+        write!(f, "by size ({}), ", list_sizes(&self.sizes))?;
         let [zero, one, next, second, byte, beyond] = self.refused_sizes;
         write!(f, "0: {zero}, 1: {one}, 65: {next}, 66: {second}, ")?;
         write!(f, "67 to 255: {byte}, 256 to 999: {beyond}, ")?;

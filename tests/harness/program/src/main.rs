@@ -8,7 +8,6 @@
 
 mod altered_wait;
 mod case;
-mod child;
 mod counts;
 mod generate;
 mod odd;
@@ -22,10 +21,11 @@ mod wait;
 use std::process::ExitCode;
 use std::time::Duration;
 
+use shared::child::Program;
 use shared::options::end;
+use shared::report::CUT;
 
 use case::{Case, Source};
-use child::Program;
 use counts::Counts;
 use options::{Options, Task};
 
@@ -87,7 +87,7 @@ fn compare(program: &Program, seed: u64, inputs: u64) -> Result<String, String> 
     let mut counts = Counts::all(0);
     for number in 1..=inputs {
         let case = Case::random(seed, number);
-        check(program, &case, report::CUT)?;
+        check(program, &case, CUT)?;
         counts.add(&case);
     }
     shared::counts::check(&counts.missing(), inputs >= ENOUGH_INPUTS)?;
@@ -103,7 +103,7 @@ fn compare(program: &Program, seed: u64, inputs: u64) -> Result<String, String> 
 fn check_all(program: &Program, cases: impl Iterator<Item = Case>) -> Result<usize, String> {
     let mut count = 0;
     for case in cases {
-        check(program, &case, report::CUT)?;
+        check(program, &case, CUT)?;
         count += 1;
     }
     Ok(count)

@@ -2,15 +2,13 @@
 
 use std::ffi::OsString;
 
-use shared::options::Words;
+use shared::options::{Words, DEFAULT_SEED};
 
 use crate::stand_in::Fault;
 
 const USAGE: &str =
     "usage: program BINARY [--seed S] [--inputs N | --only K | --odd K | --slowest N]
        program --self-test [--seed S]";
-
-const DEFAULT_SEED: u64 = 1;
 
 pub const DEFAULT_INPUTS: u64 = 3_000;
 

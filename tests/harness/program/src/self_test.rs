@@ -3,11 +3,13 @@
 use std::env;
 use std::time::Duration;
 
+use shared::altered::altered;
+use shared::child::Program;
 use shared::counts;
+use shared::report::CUT;
 
 use crate::altered_wait::alter_runs;
 use crate::case::{odd_cases, slowest_cases, By, Case, Source};
-use crate::child::Program;
 use crate::counts::{Counts, LEAST, NUMBERS};
 use crate::report;
 use crate::stand_in::Fault;
@@ -36,21 +38,6 @@ pub fn self_test(seed: u64) -> Result<usize, String> {
     Ok(noticed + alter_counts()?)
 }
 
-/// The output with one byte less, one more, and one changed at each of some
-/// places, the first and the last among them.
-fn altered(output: &[u8]) -> Vec<Vec<u8>> {
-    let mut all = Vec::new();
-    let last = output.len() - 1;
-    all.push(output[..last].to_vec());
-    all.push([output, b"\n"].concat());
-    for place in (0..last).step_by(1 + last / 40).chain([last]) {
-        let mut changed = output.to_vec();
-        changed[place] ^= 1;
-        all.push(changed);
-    }
-    all
-}
-
 /// Alters what the run program would print.
 fn alter_outputs(case: &Case) -> Result<usize, String> {
     if case.compare(By::Whole, Ok(case.expected.clone())).is_some() {
@@ -61,7 +48,7 @@ fn alter_outputs(case: &Case) -> Result<usize, String> {
         let command = report::command(&case.source);
         let found = case.compare(By::Whole, Ok(output.clone()));
         let found = found.ok_or_else(|| format!("an output was altered unnoticed: {command}"))?;
-        let text = report::difference(case, &found, report::CUT);
+        let text = report::difference(case, &found, CUT);
         if !text.contains(&command) {
             return Err(format!("the report is not complete: {text}"));
         }
@@ -154,8 +141,8 @@ fn stand_in(fault: Fault) -> Result<Program, String> {
         Fault::Endless => Duration::from_millis(50),
         _ => Duration::from_secs(10),
     };
-    let arguments = vec!["--stand-in", fault.name()];
-    Ok(Program::new(path.into_os_string(), arguments, limit))
+    let first = ["--stand-in", fault.name()].map(String::from);
+    Ok(Program::new(path.into_os_string(), first.into(), limit))
 }
 
 /// Lowers each count in turn; the coverage must then miss just that one.

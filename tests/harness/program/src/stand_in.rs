@@ -16,6 +16,8 @@ pub enum Fault {
     Silent,
     /// The output is right, the exit status is not.
     Fails,
+    /// The output is right, but a line is written to standard error, too.
+    Complains,
     /// Only what the first read gives is taken for the input.
     FirstRead,
     /// It does not end.
@@ -31,13 +33,14 @@ pub enum Fault {
 }
 
 impl Fault {
-    pub const ALL: [Fault; 12] = [
+    pub const ALL: [Fault; 13] = [
         Fault::None,
         Fault::ByteChanged,
         Fault::ByteMissing,
         Fault::ByteMore,
         Fault::Silent,
         Fault::Fails,
+        Fault::Complains,
         Fault::FirstRead,
         Fault::Endless,
         Fault::PowersOnly,
@@ -52,7 +55,7 @@ impl Fault {
             Fault::FirstRead | Fault::PowersOnly | Fault::Dummies => true,
             Fault::CutSize | Fault::Untold => true,
             Fault::None | Fault::ByteChanged | Fault::ByteMissing | Fault::ByteMore => false,
-            Fault::Silent | Fault::Fails | Fault::Endless => false,
+            Fault::Silent | Fault::Fails | Fault::Complains | Fault::Endless => false,
         }
     }
 
@@ -74,6 +77,7 @@ impl Fault {
             Fault::ByteMore => "byte-more",
             Fault::Silent => "silent",
             Fault::Fails => "fails",
+            Fault::Complains => "complains",
             Fault::FirstRead => "first-read",
             Fault::Endless => "endless",
             Fault::PowersOnly => "powers-only",
@@ -116,6 +120,7 @@ fn respond(fault: Fault) -> io::Result<()> {
         Fault::ByteMissing => drop(output.pop()),
         Fault::ByteMore => output.push(b'\n'),
         Fault::Silent => output.clear(),
+        Fault::Complains => io::stderr().lock().write_all(b"something\n")?,
         Fault::Endless => loop {
             thread::sleep(Duration::from_secs(1));
         },

@@ -1,5 +1,7 @@
 //! Counts of what occurred, and which of them are too low.
 
+use crate::groups::SIZES;
+
 /// A count that must not be low, and what it counts.
 pub type Required = (u64, String);
 
@@ -16,6 +18,22 @@ pub fn list(counts: &[u64]) -> String {
     let pairs = counts.iter().enumerate().filter(|(_, count)| **count != 0);
     let texts: Vec<String> = pairs.map(|(k, count)| format!("{k}: {count}")).collect();
     texts.join(", ")
+}
+
+/// The count of each size, behind the size.
+pub fn list_sizes(counts: &[u64]) -> String {
+    let pairs = counts.iter().zip(SIZES);
+    let texts: Vec<String> = pairs
+        .map(|(count, size)| format!("{size}: {count}"))
+        .collect();
+    texts.join(", ")
+}
+
+/// Adds one to the count with this number, if there is such a count.
+pub fn increase(counts: &mut [u64], number: usize) {
+    if let Some(count) = counts.get_mut(number) {
+        *count += 1;
+    }
 }
 
 /// What is said of the coverage: nothing if there were too few trials for it,

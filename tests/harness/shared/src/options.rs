@@ -5,6 +5,9 @@ use std::ffi::OsString;
 use std::process::ExitCode;
 use std::str::FromStr;
 
+/// The seed where none is given.
+pub const DEFAULT_SEED: u64 = 1;
+
 /// The words behind the command's name, and what it says when they are wrong.
 pub struct Words {
     words: std::iter::Skip<env::ArgsOs>,
@@ -30,6 +33,11 @@ impl Words {
         let text = word.as_ref().and_then(|word| word.to_str());
         let parsed = text.and_then(|text| text.parse().ok());
         parsed.ok_or_else(|| self.usage())
+    }
+
+    /// All words that are left.
+    pub fn rest(&mut self) -> Vec<OsString> {
+        self.words.by_ref().collect()
     }
 
     pub fn usage(&self) -> String {

@@ -1,8 +1,9 @@
-//! The run program as a child process.
+//! A program as a child process.
 
-use std::ffi::OsString;
+use std::ffi::{OsStr, OsString};
 use std::io::{self, ErrorKind, Read, Write};
-use std::process::{Child, ChildStdin, ChildStdout, Command, ExitStatus, Stdio};
+use std::os::unix::ffi::OsStrExt;
+use std::process::{Child, ChildStderr, ChildStdin, ChildStdout, Command, ExitStatus, Stdio};
 use std::sync::{Arc, Mutex, MutexGuard, PoisonError, Weak};
 use std::thread;
 use std::time::{Duration, Instant};
@@ -13,9 +14,17 @@ const PAUSE: Duration = Duration::from_millis(2);
 /// So many bytes fit into a pipe before anybody reads.
 const FITTING: usize = 4_096;
 
+/// What a program wrote to standard output and to standard error.
+#[derive(Clone, Debug, Default, PartialEq, Eq)]
+pub struct Written {
+    pub out: Vec<u8>,
+    pub err: Vec<u8>,
+}
+
 pub struct Program {
     path: OsString,
-    arguments: Vec<&'static str>,
+    /// The arguments that every call begins with.
+    first: Vec<String>,
     /// How long it may run.
     limit: Duration,
     running: Arc<Mutex<Option<Running>>>,
@@ -28,31 +37,39 @@ struct Running {
     killed: bool,
 }
 
+/// The other ends of its pipes.
+struct Pipes {
+    stdin: ChildStdin,
+    stdout: ChildStdout,
+    stderr: ChildStderr,
+}
+
 /// How a process ended.
 struct Ended {
-    output: Vec<u8>,
+    written: Written,
     status: ExitStatus,
     killed: bool,
 }
 
 impl Program {
-    pub fn new(path: OsString, arguments: Vec<&'static str>, limit: Duration) -> Program {
+    pub fn new(path: OsString, first: Vec<String>, limit: Duration) -> Program {
         let running = Arc::default();
         let watched = Arc::downgrade(&running);
         thread::spawn(move || kill_late(&watched, limit / 10));
         Program {
             path,
-            arguments,
+            first,
             limit,
             running,
         }
     }
 
-    /// What the program prints when it is handed these pieces of its input
-    /// one after the other, or why that is not known.
-    pub fn print(&self, pieces: &[&[u8]]) -> Result<Vec<u8>, String> {
+    /// What the program writes when it is called with these arguments and is
+    /// handed these pieces of its input one after the other, or why that is not
+    /// known.
+    pub fn run(&self, arguments: &[&[u8]], pieces: &[&[u8]]) -> Result<Written, String> {
         let ended = self
-            .run(pieces)
+            .end(arguments, pieces)
             .map_err(|error| format!("could not be run: {error}"))?;
         if ended.killed {
             return Err(format!("did not end in {:?}", self.limit));
@@ -60,36 +77,75 @@ impl Program {
         if !ended.status.success() {
             return Err(format!("ended with {}", ended.status));
         }
-        Ok(ended.output)
+        Ok(ended.written)
     }
 
-    fn run(&self, pieces: &[&[u8]]) -> io::Result<Ended> {
+    fn end(&self, arguments: &[&[u8]], pieces: &[&[u8]]) -> io::Result<Ended> {
         let missing = || io::Error::other("a pipe or the process is missing");
-        let mut child = self.start()?;
-        let stdin = child.stdin.take().ok_or_else(missing)?;
-        let stdout = child.stdout.take().ok_or_else(missing)?;
+        let mut child = self.start(arguments)?;
+        let pipes = Pipes {
+            stdin: child.stdin.take().ok_or_else(missing)?,
+            stdout: child.stdout.take().ok_or_else(missing)?,
+            stderr: child.stderr.take().ok_or_else(missing)?,
+        };
         *lock(&self.running) = Some(Running {
             child,
             until: Instant::now() + self.limit,
             killed: false,
         });
-        let output = exchange(stdin, stdout, pieces);
+        let written = pipes.exchange(pieces);
         let running = lock(&self.running).take();
         let mut running = running.ok_or_else(missing)?;
         Ok(Ended {
             status: running.child.wait()?,
-            output: output?,
+            written: written?,
             killed: running.killed,
         })
     }
 
-    fn start(&self) -> io::Result<Child> {
+    fn start(&self, arguments: &[&[u8]]) -> io::Result<Child> {
+        let arguments = arguments.iter().map(|bytes| OsStr::from_bytes(bytes));
         Command::new(&self.path)
-            .args(&self.arguments)
+            .args(&self.first)
+            .args(arguments)
             .stdin(Stdio::piped())
             .stdout(Stdio::piped())
+            .stderr(Stdio::piped())
             .spawn()
     }
+}
+
+impl Pipes {
+    /// Writes the input and gives what is written. Both happen at the same time,
+    /// unless the input is so short that writing does not wait for the reader.
+    fn exchange(self, pieces: &[&[u8]]) -> io::Result<Written> {
+        let Pipes {
+            stdin,
+            stdout,
+            stderr,
+        } = self;
+        let length: usize = pieces.iter().map(|piece| piece.len()).sum();
+        if length <= FITTING {
+            hand_over(stdin, pieces)?;
+            return read(stdout, stderr);
+        }
+        thread::scope(|scope| {
+            let writer = scope.spawn(|| hand_over(stdin, pieces));
+            let written = read(stdout, stderr)?;
+            let handed_over = writer.join();
+            handed_over.map_err(|_| io::Error::other("the writer panicked"))??;
+            Ok(written)
+        })
+    }
+}
+
+/// Standard error is read when standard output has ended. So a program that
+/// writes more to it than fits into the pipe is killed when its time is over.
+fn read(mut stdout: ChildStdout, mut stderr: ChildStderr) -> io::Result<Written> {
+    let mut written = Written::default();
+    stdout.read_to_end(&mut written.out)?;
+    stderr.read_to_end(&mut written.err)?;
+    Ok(written)
 }
 
 fn lock(running: &Mutex<Option<Running>>) -> MutexGuard<'_, Option<Running>> {
@@ -108,25 +164,6 @@ fn kill_late(watched: &Weak<Mutex<Option<Running>>>, pause: Duration) {
         drop(running);
         thread::sleep(pause);
     }
-}
-
-/// Writes the input and gives the output. Both happen at the same time, unless
-/// the input is so short that writing does not wait for the reader.
-fn exchange(stdin: ChildStdin, mut stdout: ChildStdout, pieces: &[&[u8]]) -> io::Result<Vec<u8>> {
-    let mut output = Vec::new();
-    let length: usize = pieces.iter().map(|piece| piece.len()).sum();
-    if length <= FITTING {
-        hand_over(stdin, pieces)?;
-        stdout.read_to_end(&mut output)?;
-        return Ok(output);
-    }
-    thread::scope(|scope| {
-        let writer = scope.spawn(|| hand_over(stdin, pieces));
-        stdout.read_to_end(&mut output)?;
-        let written = writer.join();
-        written.map_err(|_| io::Error::other("the writer panicked"))??;
-        Ok(output)
-    })
 }
 
 /// Writes the pieces with a pause between them and closes the pipe.
