@@ -1,4 +1,4 @@
--- Examples of how many tests a board makes, in one table: what the definitions give, and what is said. One statement covers it.
+-- Examples of how many tests a board makes: what the definitions give, and what is said, in one table, and one that takes longer to compute.
 -- Assumes nothing.
 use mathlib.Core.Path.{_≡_, refl}
 use mathlib.Core.List.{List, [], _∷_, map}

@@ -108,16 +108,16 @@ module _ (r : List ℕ) (i : ℕ) (own : unsuspected r i ≡ true) where
           due-digits r i h k small .1 (own, b .0, whole)
 
   -- the tests, level by level
-  tests-sum : (n : ℕ) → testsDue n r i ≡ sum (λ h. sum (λ k. bit (due r i (2 ^ h + k))) (2 ^ h)) (dimension n)
+  pub level-sums : (n : ℕ) → testsDue n r i ≡ sum (λ h. sum (λ k. bit (due r i (2 ^ h + k))) (2 ^ h)) (dimension n)
   unfolding testsDue dueDistances distances
-  tests-sum n =
+  level-sums n =
       kept-sum (due r i) (λ k. k) (2 ^ dimension n) ∙ sum-levels (λ m. bit (due r i m)) (dimension n)
       ∙ rw (due-zero r i) (omega arith)
 
   at-most : (n : ℕ) → testsDue n r i ≤ sum (λ h. 2 ^ wholeBelow r i h) (dimension n)
   unfolding wholeBelow
   at-most n =
-      rw (tests-sum n) (sum-le (dimension n) (λ h l.
+      rw (level-sums n) (sum-le (dimension n) (λ h l.
       let each : sum (λ k. bit (due r i (2 ^ h + k))) (2 ^ h) ≤ sum (λ k. bit (allowed W h k)) (2 ^ h) =
       sum-le (2 ^ h) (λ k b. rw (due-allowed h k b) (less (stands r i (2 ^ h + k)) (allowed W h k))) in
       omega (arith, each, allowed-count W h)))
@@ -135,7 +135,7 @@ power-dimension (suc d) = level-is (2 ^ suc d - 1) d (omega (arith, pow-pos d)) 
 pub tests-by-levels : TestsByLevels
 unfolding wholeBelow
 tests-by-levels d r i long own =
-    tests-sum r i own (2 ^ d) ∙ rw (power-dimension d) (sum-by d (λ h l. level-sum h l ∙ allowed-count (W r i own) h))
+    level-sums r i own (2 ^ d) ∙ rw (power-dimension d) (sum-by d (λ h l. level-sum h l ∙ allowed-count (W r i own) h))
   where
     inside : i < 2 ^ d
     inside = rw long at (unsuspected-below r i own)

@@ -2,4 +2,5 @@
 pub mod DigitLaws
 pub mod Counts
 pub mod OneDead
+pub mod LastBoard
 pub mod MoreTests

@@ -68,6 +68,12 @@ abbrev pub OneSuspectedExactly : Type 0
 OneSuspectedExactly =
     (d : ℕ) (r : List ℕ) (i j : ℕ) → SuspectsOne d r i j → testsDue (2 ^ d) r i ≡ cond (eqb (distance i j) 1) (2 * d - 1) d
 
+-- "33 boards, board 32 alone has 32": with 2^d + 1 boards and nobody suspected the last board tests all others
+abbrev pub LastTestsAll : Type 0
+LastTestsAll =
+    (d : ℕ) (r : List ℕ) → length r ≡ suc (2 ^ d) → ((x : ℕ) → x < suc (2 ^ d) → unsuspected r x ≡ true)
+    → testsDue (suc (2 ^ d)) r (2 ^ d) ≡ 2 ^ d
+
 -- row r′ is as long as r and suspects all that r suspects, but not i
 pub record Wider (r r′ : List ℕ) (i : ℕ) : Type 0 where
   pub long : length r′ ≡ length r

@@ -36,7 +36,7 @@ use Rattle.detection.proofs.Chain.{Chain, done, more, chain-all}
 use Rattle.slots.specs.Slots.{testsDue}
 use Rattle.slots.specs.Law.{Wider}
 use Rattle.slots.proofs.MoreTests.{fewer-below, tests-sum, mark-unsuspected, mark-suspected, wider-mark, most-covers}
-use Rattle.timing.specs.Timing.{Takes, left, NoMoreThanDue, SuspectsAtMost, SlotIsEnough}
+use Rattle.timing.specs.Timing.{TakenAfter, left, NoMoreThanDue, SuspectsAtMost, SlotIsEnough}
 use Rattle.timing.proofs.RowsGrow.{Grows, acted-grows}
 
 -- whom the row of line k does not suspect
@@ -122,7 +122,7 @@ chain-fits : {n : ℕ} {s s′ : State} {xs : List Taken} → Chain n s xs s′ 
 chain-fits done fits = fits
 chain-fits {n} (more {s} e ok takes c) fits = chain-fits c (entry-fits n s e ok takes fits)
 
-module _ (n : ℕ) (s : State) (calls : List Call) (e : Entry) (given : Takes n s calls e) where
+module _ (n : ℕ) (s : State) (calls : List Call) (e : Entry) (given : TakenAfter n s calls e) where
   abbrev u : State
   u = afterRuns s calls
 

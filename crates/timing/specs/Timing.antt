@@ -15,7 +15,7 @@ use Rattle.detection.specs.Claim.{atStart}
 use Rattle.slots.specs.Slots.{testsDue, mostTests}
 
 -- a plant of n stations: its table stood at the start of a round at s; any list of runs; then one entry more, which is taken
-pub record Takes (n : ℕ) (s : State) (calls : List Call) (e : Entry) : Type 0 where
+pub record TakenAfter (n : ℕ) (s : State) (calls : List Call) (e : Entry) : Type 0 where
   pub long : length (s .table) ≡ tableLength n
   pub start : atStart n (s .table) ≡ true
   pub shape : tableNumber n (afterRuns s calls .table) ≡ 0
@@ -28,7 +28,7 @@ left n s calls e = acted n (afterRuns s calls .table) e
 -- a board has made no more tests in the round than are due by its row as it now is
 abbrev pub NoMoreThanDue : Type 0
 NoMoreThanDue =
-    (n : ℕ) (s : State) (calls : List Call) (e : Entry) (i : ℕ) → Takes n s calls e → i < n
+    (n : ℕ) (s : State) (calls : List Call) (e : Entry) (i : ℕ) → TakenAfter n s calls e → i < n
     → testsMade n (left n s calls e) i ≤ testsDue n (row n (left n s calls e) i) i
 
 -- board i suspects at table t nobody but those that row r suspects, and j
@@ -39,5 +39,5 @@ SuspectsAtMost n t i r j = (x : ℕ) → x < n → suspects n t i x ≡ 1 → (u
 -- also in the rounds in which it comes to suspect that one
 abbrev pub SlotIsEnough : Type 0
 SlotIsEnough =
-    (n : ℕ) (s : State) (calls : List Call) (e : Entry) (r : List ℕ) (i j : ℕ) → Takes n s calls e → i < n → j < n → j ≢ i → length r ≡ n
+    (n : ℕ) (s : State) (calls : List Call) (e : Entry) (r : List ℕ) (i j : ℕ) → TakenAfter n s calls e → i < n → j < n → j ≢ i → length r ≡ n
     → unsuspected r i ≡ true → SuspectsAtMost n (left n s calls e) i r j → testsMade n (left n s calls e) i ≤ mostTests n r i
