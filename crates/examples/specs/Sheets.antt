@@ -1,14 +1,15 @@
 -- Examples of how many tests a board makes: what the definitions give, and what is said, in one table, and one that takes longer to compute.
 -- Assumes nothing.
 use mathlib.Core.Path.{_≡_, refl}
+use mathlib.Core.Bool.{true, false}
 use mathlib.Core.List.{List, [], _∷_, map}
 use Prim.Native.Nat.{ℕ}
 use Rattle.station.specs.Search.{least, listOf, keep}
-use Rattle.station.specs.Groups.{level, dimension, distances, width, member, stationAt}
+use Rattle.station.specs.Groups.{level, dimension, distances, width, member}
 use Rattle.station.specs.Tests.{unsuspected, firstPlace, first, answer, due, dueDistances}
 use Rattle.station.specs.Rows.{mark}
 use Rattle.examples.specs.Plant.{Example, gives}
-use Rattle.slots.specs.Slots.{testsDue, greatest, testsWith, mostTests}
+use Rattle.slots.specs.Slots.{tested, untestedDistances, untested, ahead, testsDue, greatest, testsWith, mostTests, mostOfBoards}
 
 -- the row of n boards in which nobody is suspected
 unfoldable pub noneSuspected : ℕ → List ℕ
@@ -18,25 +19,32 @@ noneSuspected n = listOf (λ k. 0) n
 abbrev pub testsOfEach : ℕ → List ℕ
 testsOfEach n = listOf (testsDue n (noneSuspected n)) n
 
--- whom board i tests, in order
-abbrev pub testedBy : ℕ → List ℕ → ℕ → List ℕ
-testedBy n r i = map (stationAt i) (dueDistances r i n)
+-- the most of any of n boards, with nobody and with any one dead
+abbrev pub mostAt : ℕ → List ℕ
+mostAt n = mostOfBoards n (noneSuspected n) false ∷ mostOfBoards n (noneSuspected n) true ∷ []
 
 unfoldable pub examples : List Example
 examples =
     -- "with eight boards and board 4 out, board 5 makes five"
-    gives (testedBy 8 (mark (noneSuspected 8) 4) 5) (4 ∷ 7 ∷ 6 ∷ 1 ∷ 0 ∷ [])
-    ∷ gives (testedBy 8 (noneSuspected 8) 5) (4 ∷ 7 ∷ 1 ∷ [])
+    gives (tested 8 (mark (noneSuspected 8) 4) 5) (4 ∷ 7 ∷ 6 ∷ 1 ∷ 0 ∷ [])
+    ∷ gives (tested 8 (noneSuspected 8) 5) (4 ∷ 7 ∷ 1 ∷ [])
+    -- "for those that it does not test, who stands ahead": 7 at board 3, and 6 at board 2
+    ∷ gives (untested 8 (mark (noneSuspected 8) 4) 5) (3 ∷ 2 ∷ [])
+    ∷ gives (ahead 8 (mark (noneSuspected 8) 4) 5) (7 ∷ 6 ∷ [])
     -- "with 2^d boards and nobody suspected each board has exactly d due"; "with one suspected, at most 2d − 1"
     ∷ gives (testsOfEach 8) (3 ∷ 3 ∷ 3 ∷ 3 ∷ 3 ∷ 3 ∷ 3 ∷ 3 ∷ [])
     ∷ gives (mostTests 8 (noneSuspected 8) 5 ∷ mostTests 4 (noneSuspected 4) 0 ∷ mostTests 2 (noneSuspected 2) 0 ∷ []) (5 ∷ 3 ∷ 1 ∷ [])
+    -- "most tests of a board with nobody dead, and with any one dead", at sizes 4, 5 and 6
+    ∷ gives (mostAt 4) (2 ∷ 3 ∷ [])
+    ∷ gives (mostAt 5) (4 ∷ 4 ∷ [])
+    ∷ gives (mostAt 6) (3 ∷ 5 ∷ [])
     -- "11 boards, 6 at most"
     ∷ gives (testsOfEach 11) (4 ∷ 4 ∷ 4 ∷ 3 ∷ 3 ∷ 3 ∷ 3 ∷ 3 ∷ 4 ∷ 3 ∷ 6 ∷ [])
     ∷ []
 
 -- each example holds
 pub as-said : map (λ (e : Example). e .given) examples ≡ map (λ (e : Example). e .said) examples
-unfolding examples noneSuspected testsDue greatest testsWith mostTests dueDistances due answer first firstPlace unsuspected mark member width level dimension distances least listOf keep
+unfolding examples noneSuspected tested untestedDistances untested ahead testsDue greatest testsWith mostTests mostOfBoards dueDistances due answer first firstPlace unsuspected mark member width level dimension distances least listOf keep
 as-said = refl
 
 -- "19 boards, 10", which board 18 has

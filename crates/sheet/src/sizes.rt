@@ -1,7 +1,5 @@
 // The most tests of a board at every size from 2 to 64, with nobody dead and with any one dead: a table of three sizes to a row.
 use crate::text;
-use station::Station;
-use station::rows;
 
 pub fn print_sizes() {
     print_head(b"| boards | nobody dead | one dead ");
@@ -39,26 +37,8 @@ fn print_cells(n: u8, row: &mut [u8]) {
     text::write(b"| ");
     text::number(n);
     text::write(b" | ");
-    text::number(most_of_boards(n, row, false));
+    text::number(commission::most_of_boards(n, row, false));
     text::write(b" | ");
-    text::number(most_of_boards(n, row, true));
+    text::number(commission::most_of_boards(n, row, true));
     text::write(b" ");
-}
-
-// The most tests of any of n boards by the row; where `one_more`, with any one board more dead.
-fn most_of_boards(n: u8, row: &mut [u8], one_more: bool) -> u8 {
-    let mut most: u8 = 0;
-    let mut i: u8 = 0;
-    while i < n {
-        most = rows::greater(most, tests_of(n, row, Station(i), one_more));
-        i += 1;
-    }
-    most
-}
-
-fn tests_of(n: u8, row: &mut [u8], i: Station, one_more: bool) -> u8 {
-    if one_more {
-        return slots::most_tests(n, row, i);
-    }
-    slots::tests(n, row, i)
 }

@@ -18,7 +18,6 @@ use Rattle.station.specs.Tests.{unsuspected, stands, due, dueDistances}
 use Rattle.station.proofs.BoolLaws.{by-bool, every-same}
 use Rattle.station.proofs.SearchLaws.{both, every-at, every-all}
 use Rattle.station.proofs.SumLaws.{sum-by, sum-split, sum-zero, sum-levels}
-use Rattle.station.proofs.Sizes.{distances-pos, distances-le}
 use Rattle.station.proofs.Levels.{level-zero, level-is, level-in}
 use Rattle.station.proofs.KeepLaws.{kept-sum}
 use Rattle.station.proofs.DueLaws.{due-zero}
@@ -33,10 +32,6 @@ pub sum-le : {f g : ℕ → ℕ} (n : ℕ) → ((i : ℕ) → i < n → f i ≤ 
 unfolding sum
 sum-le zero l = omega arith
 sum-le (suc n) l = omega (arith, sum-le n (λ i h. l i (omega arith)), l n (omega arith))
-
--- as the code asks for it, of a size that is a byte: there is a distance, and each is a byte
-pub distance-range : (n end : ℕ) → n < 256 → end ≡ distances n → (1 ≤ end) × (end ≤ 256)
-distance-range n end h e = (omega (arith, distances-pos n), omega (arith, distances-le 8 n (omega arith)))
 
 -- whether each digit of k below place h that is set passes W
 abbrev allowed : (ℕ → Bool) → ℕ → ℕ → Bool

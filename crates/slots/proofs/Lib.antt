@@ -4,3 +4,5 @@ pub mod Counts
 pub mod OneDead
 pub mod LastBoard
 pub mod MoreTests
+pub mod AllBoards
+pub mod Untested

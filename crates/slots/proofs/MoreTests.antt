@@ -1,17 +1,16 @@
 -- Who suspects more makes no fewer tests; the most with one more dead.
 -- Assumes nothing.
-use mathlib.Core.Path.{_≡_, refl, sym, ap, _∙_}
+use mathlib.Core.Path.{_≡_, sym, ap, _∙_}
 use mathlib.Core.Logic.{_≢_, by-cases}
 use mathlib.Core.Bool.{true, false, true≢false}
 use mathlib.Core.List.{List}
-use Prim.Native.Nat.{ℕ, zero, suc, max, _+_, _≤_, _<_}
+use Prim.Native.Nat.{ℕ, zero, suc, _≤_, _<_}
 use native.Mathlib.Nat.{le-trans}
 use native.Mathlib.Decide.{ℕ-discrete, decLt}
-use native.Mathlib.Numerals.{add-one}
 use native.Mathlib.Omega.{arith}
 use borrow.Author.Tests.{eq-eqb, ne-eqb, lt-ltb}
-use lib.ListN.{length, getD, set}
-use lib.Seq.{getD-set-other, set-out, set-set, set-getD}
+use lib.ListN.{length}
+use lib.Seq.{getD-set-other}
 use lib.Dec.{eqb}
 use Rattle.station.specs.Sums.{sum, bit}
 use Rattle.station.specs.Groups.{stationAt, distances}
@@ -49,12 +48,17 @@ tests-sum n r i = kept-sum (due r i) (λ k. k) (distances n)
 pub never-fewer : NeverFewer
 never-fewer n r r′ i w = rw (tests-sum n r i, tests-sum n r′ i) (fewer-below r r′ i w (distances n))
 
--- the greatest is none less
-greatest-le : (f : ℕ → ℕ) (n k : ℕ) → k < n → f k ≤ greatest f n
+-- the greatest is none less, and no more than what none exceeds
+pub greatest-le : (f : ℕ → ℕ) (n k : ℕ) → k < n → f k ≤ greatest f n
 unfolding greatest
 greatest-le f zero k l = absurd (omega arith)
 greatest-le f (suc n) k l =
     by-cases (decLt k n) (λ b. omega (arith, greatest-le f n k b)) (λ b. let e : k ≡ n = omega arith in rw e (omega arith))
+
+pub greatest-most : (f : ℕ → ℕ) (n c : ℕ) → ((k : ℕ) → k < n → f k ≤ c) → greatest f n ≤ c
+unfolding greatest
+greatest-most f zero c l = omega arith
+greatest-most f (suc n) c l = omega (arith, greatest-most f n c (λ k h. l k (omega arith)), l n (omega arith))
 
 -- a marked row suspects one more
 pub mark-unsuspected : (r : List ℕ) (j x : ℕ) → x ≢ j → unsuspected (mark r j) x ≡ unsuspected r x
@@ -83,25 +87,6 @@ with-other n r i j apart = rw (ne-eqb j i apart)
 pub with-self : (n : ℕ) (r : List ℕ) (i j : ℕ) → j ≡ i → testsWith n r i j ≡ 0
 unfolding testsWith
 with-self n r i j e = rw (eq-eqb j i e)
-
--- past the row's end there is nothing to mark
-pub with-beyond : (n : ℕ) (r : List ℕ) (i j : ℕ) → j ≢ i → length r ≤ j → testsWith n r i j ≡ testsDue n r i
-unfolding mark
-with-beyond n r i j apart h = with-other n r i j apart ∙ ap (λ (l : List ℕ). testsDue n l i) (set-out r j 1 h)
-
--- the mark is taken back
-pub mark-back : (r : List ℕ) (j : ℕ) → set (mark r j) j (getD r j 0) ≡ r
-unfolding mark
-mark-back r j = set-set r j 1 (getD r j 0) ∙ set-getD r j 0
-
--- the greatest, as a loop that counts up finds it
-pub greatest-start : (f : ℕ → ℕ) → 0 ≡ greatest f 0
-unfolding greatest
-greatest-start f = refl
-
-pub greatest-next : (f : ℕ → ℕ) (k most v : ℕ) → most ≡ greatest f k → v ≡ f k → max most v ≡ greatest f (k + 1)
-unfolding greatest
-greatest-next f k most v e g = rw (add-one k, e, g)
 
 -- what one other station can make of it is counted
 most-with : (n : ℕ) (r : List ℕ) (i j : ℕ) → j < n → j ≢ i → testsDue n (mark r j) i ≤ mostTests n r i

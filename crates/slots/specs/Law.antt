@@ -2,17 +2,17 @@
 -- Assumes nothing.
 use mathlib.Core.Path.{_≡_}
 use mathlib.Core.Logic.{_↔_, _≢_}
-use mathlib.Core.Bool.{Bool, true, cond, not}
+use mathlib.Core.Bool.{Bool, true, false, cond, not}
 use mathlib.Core.List.{List}
 use Prim.Native.Nat.{ℕ, suc, _+_, _*_, _-_, _/_, _%_, _^_, _≤_, _<_}
 use lib.ListN.{length}
 use lib.Dec.{eqb}
 use Rattle.station.specs.Search.{every}
 use Rattle.station.specs.Sums.{sum, bit}
-use Rattle.station.specs.Groups.{distance, dimension, width, member}
+use Rattle.station.specs.Groups.{isSize, distance, dimension, width, member}
 use Rattle.station.specs.Tests.{unsuspected, stands, due}
 use Rattle.station.specs.Rows.{mark}
-use Rattle.slots.specs.Slots.{testsDue, mostTests}
+use Rattle.slots.specs.Slots.{tested, untested, testsDue, mostTests, mostOfBoards}
 
 -- "i suspects its whole own group (absent numbers aside)", at level t: its row r leaves nobody of the group unsuspected. An absent number is
 -- never "not suspected", so that a group of absent numbers only is suspected whole
@@ -31,6 +31,11 @@ DueByDigits =
     → (due r i (width s + k) ≡ true)
     ↔ ((unsuspected r i ≡ true) × (stands r i (width s + k) ≡ true)
     × ((t : ℕ) → 0 < t → bitSet k (t - 1) ≡ true → suspectsGroup r i t ≡ true))
+
+-- whom i tests and whom it does not test are all other stations
+abbrev pub NobodyLeftOut : Type 0
+NobodyLeftOut =
+    (n : ℕ) (r : List ℕ) (i : ℕ) → isSize n ≡ true → length r ≡ n → i < n → suc (length (tested n r i) + length (untested n r i)) ≡ n
 
 -- how many of i's own groups at levels 1 to h it suspects whole
 unfoldable pub wholeBelow : List ℕ → ℕ → ℕ → ℕ
@@ -67,6 +72,12 @@ OneSuspected = (d : ℕ) (r : List ℕ) (i j : ℕ) → SuspectsOne d r i j → 
 abbrev pub OneSuspectedExactly : Type 0
 OneSuspectedExactly =
     (d : ℕ) (r : List ℕ) (i j : ℕ) → SuspectsOne d r i j → testsDue (2 ^ d) r i ≡ cond (eqb (distance i j) 1) (2 * d - 1) d
+
+-- so the most of any of 2^d boards is d with nobody dead, and 2d − 1 with any one dead
+abbrev pub MostOfPowers : Type 0
+MostOfPowers =
+    (d : ℕ) (r : List ℕ) → 0 < d → length r ≡ 2 ^ d → ((x : ℕ) → x < 2 ^ d → unsuspected r x ≡ true)
+    → (mostOfBoards (2 ^ d) r false ≡ d) × (mostOfBoards (2 ^ d) r true ≡ 2 * d - 1)
 
 -- "33 boards, board 32 alone has 32": with 2^d + 1 boards and nobody suspected the last board tests all others
 abbrev pub LastTestsAll : Type 0

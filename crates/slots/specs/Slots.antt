@@ -1,15 +1,36 @@
--- How many tests a board makes in a round by its row, for which its slot on the cable is timed, and the most that one more dead board can
--- make of them.
+-- Which tests a board makes in a round by its row, who stands ahead at the others, how many tests these are, for which its slot on the cable is
+-- timed, and the most that one more dead board can make of them.
 -- Assumes nothing.
 use Prim.Native.Nat.{ℕ, zero, suc, max}
-use mathlib.Core.Bool.{cond}
-use mathlib.Core.List.{List}
+use mathlib.Core.Bool.{Bool, cond, not, _&&_}
+use mathlib.Core.List.{List, map}
 use lib.ListN.{length}
 use lib.Dec.{eqb}
-use Rattle.station.specs.Tests.{dueDistances}
+use Rattle.station.specs.Search.{select}
+use Rattle.station.specs.Groups.{stationAt, distances}
+use Rattle.station.specs.Tests.{answer, due, dueDistances}
 use Rattle.station.specs.Rows.{mark}
+use Rattle.station.specs.Calls.{isOther, answerByte}
 
--- "how many tests it makes a round": how many distances are due for i of n stations, by its row r
+-- "which boards it tests, in order": those at the distances that are due for i of n stations, by its row r
+unfoldable pub tested : ℕ → List ℕ → ℕ → List ℕ
+tested n r i = map (stationAt i) (dueDistances r i n)
+
+-- "those that it does not test": whether another station stands at distance m and the distance is not due
+abbrev pub isUntested : List ℕ → ℕ → ℕ → Bool
+isUntested r i m = isOther (length r) i m && not (due r i m)
+
+unfoldable pub untestedDistances : ℕ → List ℕ → ℕ → List ℕ
+untestedDistances n r i = select (isUntested r i) (distances n)
+
+unfoldable pub untested : ℕ → List ℕ → ℕ → List ℕ
+untested n r i = map (stationAt i) (untestedDistances n r i)
+
+-- "who stands ahead", for each of those
+unfoldable pub ahead : ℕ → List ℕ → ℕ → List ℕ
+ahead n r i = map (λ m. answerByte (answer r i m)) (untestedDistances n r i)
+
+-- "how many tests it makes a round"
 unfoldable pub testsDue : ℕ → List ℕ → ℕ → ℕ
 testsDue n r i = length (dueDistances r i n)
 
@@ -25,3 +46,8 @@ testsWith n r i j = cond (eqb j i) 0 (testsDue n (mark r j) i)
 -- "the most that any one more dead board can make of it". One that r suspects already changes nothing
 unfoldable pub mostTests : ℕ → List ℕ → ℕ → ℕ
 mostTests n r i = greatest (testsWith n r i) n
+
+-- "most tests of a board with nobody dead, and with any one dead", where r suspects nobody: the most of any of n boards by r; where more, with
+-- one board more dead. A board that r suspects is dead and has none
+unfoldable pub mostOfBoards : ℕ → List ℕ → Bool → ℕ
+mostOfBoards n r more = greatest (cond more (mostTests n r) (testsDue n r)) n

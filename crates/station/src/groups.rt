@@ -144,7 +144,7 @@ fn put_member(n: u8, x: Station, list: &mut [u8], count: u8) -> u8
 }
 
 // Puts a byte at place k of the list; past its end nothing is written.
-pub(crate) fn put(list: &mut [u8], k: u8, byte: u8)
+pub fn put(list: &mut [u8], k: u8, byte: u8)
     ensures { λ _. ⌜ now (list .exit) ≡ set (now (list .entry)) k byte ⌝ }
 {
     let at = k as usize;

@@ -1,3 +1,4 @@
 -- The claims of specs/Timing.antt hold.
+pub mod Kept
 pub mod RowsGrow
 pub mod Within

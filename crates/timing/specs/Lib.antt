@@ -1,2 +1,2 @@
--- However a plant runs, how many tests a board makes in a round.
+-- Whom a board tests, and how many, as a plant runs.
 pub mod Timing

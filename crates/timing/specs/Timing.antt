@@ -1,18 +1,28 @@
--- However a plant runs, with any crashes, late replies and suspicions: how many tests a board makes in a round. By this slots may be timed.
+-- What a plant that runs makes of the commissioning sheet. In rounds that begin with exact rows each board tests whom the sheet says; and however a
+-- plant runs, with any crashes, late replies and suspicions, how many tests a board makes in a round. By this slots may be timed.
 -- Assumes nothing.
 use mathlib.Core.Path.{_≡_}
 use mathlib.Core.Logic.{_≢_, _⊎_}
 use mathlib.Core.Bool.{true, false}
-use mathlib.Core.List.{List}
+use mathlib.Core.List.{List, []}
 use Prim.Native.Nat.{ℕ, _≤_, _<_}
-use lib.ListN.{length}
-use Rattle.station.specs.Table.{tableLength, testsMade, suspects, row}
+use lib.ListN.{length, getD}
+use Rattle.station.specs.Table.{tableLength, testsMade, suspects, row, live}
 use Rattle.station.specs.Rules.{tableNumber}
 use Rattle.station.specs.Tests.{unsuspected}
 use Rattle.plant.specs.Entry.{Entry, State, entryNumber, acted}
 use Rattle.detection.specs.Runs.{Call, afterRuns}
-use Rattle.detection.specs.Claim.{atStart}
-use Rattle.slots.specs.Slots.{testsDue, mostTests}
+use Rattle.detection.specs.Claim.{atStart, roundsOf, Premises}
+use Rattle.detection.specs.Boards.{testedIn, firstTable, exactRow, ExactRows}
+use Rattle.slots.specs.Slots.{tested, testsDue, mostTests}
+
+-- "In a round that begins with exact rows, a board that stays live makes just these tests": it tests, in this order, whom the sheet of the boards
+-- that are not live says (`BoardTests` of detection, in the sheet's words)
+abbrev pub TestsOfTheSheet : Type 0
+TestsOfTheSheet =
+    (n : ℕ) (s : State) (calls : List Call) → Premises n s calls → (k : ℕ) → k < length (roundsOf s calls .closed)
+    → ExactRows n (firstTable (getD (roundsOf s calls .closed) k [])) → (i : ℕ) → i < n → live n (s .table) i ≡ true
+    → testedIn i (getD (roundsOf s calls .closed) k []) ≡ tested n (exactRow n (s .table)) i
 
 -- a plant of n stations: its table stood at the start of a round at s; any list of runs; then one entry more, which is taken
 pub record TakenAfter (n : ℕ) (s : State) (calls : List Call) (e : Entry) : Type 0 where

@@ -1,2 +1,3 @@
-// What slots may be timed by (specs/Timing.antt): however a plant runs, how many tests a board makes in a round, proved of the definitions that
-// the run promises (proofs/Within.antt). There is no function here.
+// What a plant that runs makes of the commissioning sheet, and by what slots may be timed (specs/Timing.antt): whom a board tests in a round that
+// begins with exact rows, and how many tests it makes however a plant runs, proved of the definitions that the run promises (proofs/). There is no
+// function here.

@@ -6,8 +6,8 @@ use borrow.Author.Tests.{not-true, not-false}
 use Rattle.station.specs.Tests.{saysDue}
 use Rattle.station.specs.Calls.{answerValue}
 use Rattle.station.proofs.DueLaws.{due-absent, due-is}
-use Rattle.slots.proofs.is_due.Statement.{statement}
-use Rattle.slots.proofs.is_due.Tie as tie
+use Rattle.commission.proofs.is_due.Statement.{statement}
+use Rattle.commission.proofs.is_due.Tie as tie
 
 returns : tie.Need-returns
 returns c = sym (due-absent _ _ _ (sym (c .before .stands .ensures) ∙ not-true _ (c .if1 .taken)))

@@ -2,9 +2,10 @@
 -- Assumes nothing.
 use mathlib.Core.Path.{refl, sym, _∙_}
 use borrow.Author.Needs.{needs}
-use Rattle.slots.proofs.MoreTests.{with-other, with-self, with-beyond, mark-back}
-use Rattle.slots.proofs.tests_with.Statement.{statement}
-use Rattle.slots.proofs.tests_with.Tie as tie
+use Rattle.slots.proofs.MoreTests.{with-other, with-self}
+use Rattle.commission.proofs.MostLaws.{with-beyond, mark-back}
+use Rattle.commission.proofs.tests_with.Statement.{statement}
+use Rattle.commission.proofs.tests_with.Tie as tie
 
 returns : tie.Need-returns
 returns c = (sym (with-self _ _ _ _ (c .if1 .taken)), refl)

@@ -5,10 +5,10 @@ use Prim.Native.Nat.{_-_, _≤_}
 use native.Mathlib.Omega.{arith}
 use lib.ListN.{length}
 use borrow.Author.Needs.{needs}
 use Rattle.slots.specs.Slots.{greatest, testsWith, mostTests}
-use Rattle.slots.proofs.MoreTests.{greatest-start, greatest-next}
-use Rattle.slots.proofs.most_tests.Statement.{statement}
-use Rattle.slots.proofs.most_tests.Tie as tie
+use Rattle.commission.proofs.MostLaws.{greatest-start, greatest-next}
+use Rattle.commission.proofs.most_tests.Statement.{statement}
+use Rattle.commission.proofs.most_tests.Tie as tie
 
 abbrev Inv-loop : tie.InvT-loop
 Inv-loop n row₀ i most₀ j₀ row most j = (most ≡ greatest (testsWith n row₀ (i .0)) j) × (row ≡ row₀) × (j ≤ n)

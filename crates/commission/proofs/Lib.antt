@@ -1,0 +1,3 @@
+-- Laws for the proofs of the functions.
+mod ListLaws
+mod MostLaws

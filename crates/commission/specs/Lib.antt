@@ -1,0 +1,2 @@
+-- What a function leaves in a lent list.
+pub mod Lists

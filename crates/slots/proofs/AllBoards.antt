@@ -1,0 +1,74 @@
+-- The most tests of any of 2^d boards, with nobody and with one dead.
+-- Assumes nothing.
+use mathlib.Core.Path.{_≡_, sym, _∙_}
+use mathlib.Core.Logic.{_≢_, by-cases}
+use mathlib.Core.Bool.{true}
+use mathlib.Core.List.{List}
+use Prim.Native.Nat.{ℕ, _*_, _-_, _^_, _≤_, _<_}
+use native.Mathlib.Decide.{ℕ-discrete}
+use native.Mathlib.Omega.{arith}
+use borrow.Author.Tests.{eq-eqb, ne-eqb}
+use lib.Bits.{xor-self, xor-lt}
+use lib.ListN.{length}
+use lib.Pow.{pow-pos, pow-mono}
+use Rattle.station.specs.Groups.{distance, stationAt}
+use Rattle.station.specs.Tests.{unsuspected}
+use Rattle.station.specs.Rows.{mark}
+use Rattle.station.proofs.Xor.{xor-cancel}
+use Rattle.station.proofs.CellLaws.{mark-length}
+use Rattle.slots.specs.Slots.{testsDue, greatest, testsWith, mostTests, mostOfBoards}
+use Rattle.slots.specs.Law.{SuspectsOne, MostOfPowers}
+use Rattle.slots.proofs.OneDead.{nobody-suspected, one-suspected, one-suspected-exactly}
+use Rattle.slots.proofs.MoreTests.{greatest-le, greatest-most, mark-unsuspected, mark-suspected, with-other, with-self}
+
+-- the greatest of numbers that all are c
+greatest-same : (f : ℕ → ℕ) (n c : ℕ) → 0 < n → ((k : ℕ) → k < n → f k ≡ c) → greatest f n ≡ c
+greatest-same f n c some all =
+    let first : f 0 ≡ c = all 0 some in
+    omega (arith, greatest-le f n 0 some, greatest-most f n c (λ k l. omega (arith, all k l)))
+
+module _ (d : ℕ) (r : List ℕ) (some : 0 < d) (long : length r ≡ 2 ^ d) (none : (x : ℕ) → x < 2 ^ d → unsuspected r x ≡ true) where
+  -- with j marked the row suspects j alone
+  one-marked : (i j : ℕ) → i < 2 ^ d → j < 2 ^ d → j ≢ i → SuspectsOne d (mark r j) i j
+  one-marked i j here there apart = record {
+    long = mark-length r j ∙ long;
+    here = here;
+    there = there;
+    apart = λ e. apart (sym e);
+    one = λ x l. by-cases (ℕ-discrete x j)
+        (λ e. rw (eq-eqb x j e) (rw e (mark-suspected r j (omega (arith, long)))))
+        (λ e. rw (ne-eqb x j e) (mark-unsuspected r j x e ∙ none x l));
+  }
+
+  -- of any board the most is that with the station at distance 1 marked
+  most-each : (i : ℕ) → i < 2 ^ d → mostTests (2 ^ d) r i ≡ 2 * d - 1
+  unfolding mostTests
+  most-each i here =
+      omega (arith, greatest-le (testsWith (2 ^ d) r i) (2 ^ d) beside there, greatest-most (testsWith (2 ^ d) r i) (2 ^ d) (2 * d - 1) each, has)
+    where
+      beside : ℕ
+      beside = stationAt i 1
+
+      there : beside < 2 ^ d
+      there = xor-lt d i 1 here (omega (arith, pow-mono {i = 1} {j = d} some))
+
+      each : (j : ℕ) → j < 2 ^ d → testsWith (2 ^ d) r i j ≤ 2 * d - 1
+      each j l =
+          by-cases (ℕ-discrete j i) (λ e. rw (with-self (2 ^ d) r i j e) (omega arith))
+          (λ e. rw (with-other (2 ^ d) r i j e) (one-suspected d (mark r j) i j (one-marked i j here l e)))
+
+      apart : beside ≢ i
+      apart e = omega (arith, xor-self i, rw e at (xor-cancel i 1))
+
+      has : testsWith (2 ^ d) r i beside ≡ 2 * d - 1
+      has =
+          with-other (2 ^ d) r i beside apart
+          ∙ one-suspected-exactly d (mark r beside) i beside (one-marked i beside here there apart)
+          ∙ rw (eq-eqb (distance i beside) 1 (xor-cancel i 1))
+
+pub most-of-powers : MostOfPowers
+unfolding mostOfBoards
+most-of-powers d r some long none = (
+  greatest-same (testsDue (2 ^ d) r) (2 ^ d) d (pow-pos d) (λ i l. nobody-suspected d r i long l none),
+  greatest-same (mostTests (2 ^ d) r) (2 ^ d) (2 * d - 1) (pow-pos d) (λ i l. most-each d r some long none i l),
+)
