@@ -1,4 +1,4 @@
-// What the commissioning sheet says of a board, by its row: which boards it tests, whom it does not test and who stands ahead (`ahead`), how many
+// What the commissioning sheet says of a board, by its row: which boards it tests, whom it does not test and who stands ahead (`untested`), how many
 // tests it makes a round, and the most that one more dead board can make of it. The definitions, and the law behind the numbers, stand in crate
 // `slots`.
 ghost use mathlib.Core.Path.{_≡_};
@@ -10,7 +10,7 @@ ghost use Rattle.station.specs.Tests.{due};
 ghost use Rattle.slots.specs.Slots.{tested, testsDue, testsWith, mostTests, mostOfBoards};
 ghost use Rattle.commission.specs.Lists.{written};
 
-pub mod ahead;
+pub mod untested;
 
 use station::Distance;
 use station::DueOrAhead;
@@ -20,7 +20,7 @@ use station::groups;
 use station::order;
 use station::rows;
 
-// Whom i of n stations tests by its row, in order, into a lent list; answers how many these are. Past the list's end nothing is written.
+// Whom i of n stations tests by its row of n bytes, in order, into a lent list; answers how many these are. Past the list's end nothing is written.
 pub fn list_tests(n: u8, row: &[u8], i: Station, list: &mut [u8]) -> u8
     ensures { λ r. ⌜ r ≡ testsDue n (now (row .entry)) (i .0) ⌝ }
     ensures { λ _. ⌜ now (list .exit) ≡ written (now (list .entry)) 0 (tested n (now (row .entry)) (i .0)) ⌝ }
@@ -49,7 +49,7 @@ fn put_test(row: &[u8], i: Station, m: Distance, list: &mut [u8], count: u8) -> 
     count + 1
 }
 
-// How many distances are due for i of n stations, by its row. Of the list nothing is wanted here.
+// How many distances are due for i of n stations, by its row. The list is not used.
 fn tests(n: u8, row: &[u8], i: Station) -> u8
     ensures { λ r. ⌜ r ≡ testsDue n (now (row .entry)) (i .0) ⌝ }
 {
@@ -104,7 +104,7 @@ fn tests_with(n: u8, row: &mut [u8], i: Station, j: Station) -> u8
     count
 }
 
-// The most tests of any of n boards by the row; where `more`, with any one board more dead. The row is as before afterwards.
+// The most tests of any of n boards that all have this row and, if `more`, also suspect any one other board. The row is as before afterwards.
 pub fn most_of_boards(n: u8, row: &mut [u8], more: bool) -> u8
     ensures { λ r. ⌜ r ≡ mostOfBoards n (now (row .entry)) more ⌝ }
     ensures { λ _. ⌜ now (row .exit) ≡ now (row .entry) ⌝ }
@@ -118,7 +118,7 @@ pub fn most_of_boards(n: u8, row: &mut [u8], more: bool) -> u8
     most
 }
 
-// The tests of i by the row; where `more`, the most with one board more dead. The row is as before afterwards.
+// The tests of i by the row or, if `more`, the most where it suspects one station more. The row is as before afterwards.
 fn tests_of(n: u8, row: &mut [u8], i: Station, more: bool) -> u8
     ensures { λ r. ⌜ r ≡ cond more (mostTests n (now (row .entry))) (testsDue n (now (row .entry))) (i .0) ⌝ }
     ensures { λ _. ⌜ now (row .exit) ≡ now (row .entry) ⌝ }

@@ -16,7 +16,7 @@ use Rattle.plant.specs.Entry.{State, testedOf}
 use Rattle.detection.specs.Runs.{Call, Taken, takenTest}
 use Rattle.detection.specs.Claim.{roundsOf, Premises, exactWait}
 
--- the station that the taken entry tests
+-- the station that the taken entry tests; 255 where it makes no test
 abbrev pub stationTested : Taken → ℕ
 stationTested x = testedOf (x .size) (x .before .table) (x .entry)
 
@@ -42,7 +42,7 @@ exactRow n t = listOf (λ j. bit (notLive n t j)) n
 abbrev pub ExactRows : ℕ → List ℕ → Type 0
 ExactRows n t = (i : ℕ) → i < n → live n t i ≡ true → row n t i ≡ exactRow n t
 
--- in the kth closed round each live board tests, in this order, the boards at the distances that are due by that row, and no other
+-- in the kth closed round (from 0) each live board tests, in this order, the boards at the distances that are due by that row, and no other
 abbrev pub TestsJustDue : ℕ → State → List Call → ℕ → Type 0
 TestsJustDue n s calls k =
     (i : ℕ) → i < n → live n (s .table) i ≡ true
@@ -54,7 +54,7 @@ BoardTests =
     (n : ℕ) (s : State) (calls : List Call) → Premises n s calls → (k : ℕ) → k < length (roundsOf s calls .closed)
     → ExactRows n (firstTable (getD (roundsOf s calls .closed) k [])) → TestsJustDue n s calls k
 
--- after the exact wait that is so in every round
+-- after the exact wait that is so in every closed round
 abbrev pub BoardTestsAfterWait : Type 0
 BoardTestsAfterWait =
     (n : ℕ) (s : State) (calls : List Call) → Premises n s calls → (k : ℕ) → exactWait (dimension n) ≤ k → k < length (roundsOf s calls .closed)

@@ -1,4 +1,5 @@
--- Examples of how many tests a board makes: what the definitions give, and what is said, in one table, and one that takes longer to compute.
+-- Examples of which tests a board makes, and how many: what the definitions give, and what is said, in one table, and one that takes longer to
+-- compute.
 -- Assumes nothing.
 use mathlib.Core.Path.{_≡_, refl}
 use mathlib.Core.Bool.{true, false}
@@ -15,11 +16,11 @@ use Rattle.slots.specs.Slots.{tested, untestedDistances, untested, ahead, tests
 unfoldable pub noneSuspected : ℕ → List ℕ
 noneSuspected n = listOf (λ k. 0) n
 
--- the tests of each of n boards
+-- how many tests each of n boards makes with nobody suspected
 abbrev pub testsOfEach : ℕ → List ℕ
 testsOfEach n = listOf (testsDue n (noneSuspected n)) n
 
--- the most of any of n boards, with nobody and with any one dead
+-- the most tests of any of n boards, with nobody and with any one dead
 abbrev pub mostAt : ℕ → List ℕ
 mostAt n = mostOfBoards n (noneSuspected n) false ∷ mostOfBoards n (noneSuspected n) true ∷ []
 

@@ -5,7 +5,7 @@ use station::Station;
 // How wide the head of the list of tests is.
 const HEAD_COLUMNS: u16 = 23;
 
-// The sheet of n boards, by the first n bytes of the row.
+// The sheet of n boards, by the first n bytes of the row. For a shorter row nothing is printed.
 pub fn print_sheet(n: u8, row: &mut [u8]) {
     let end = n as usize;
     if row.len() < end {
@@ -112,7 +112,7 @@ fn print_ahead_of(n: u8, row: &[u8], i: Station) {
     }
     let mut list = [0u8; 256];
     let mut firsts = [0u8; 256];
-    let count = commission::ahead::list_untested(n, row, i, &mut list, &mut firsts);
+    let count = commission::untested::list_untested(n, row, i, &mut list, &mut firsts);
     text::right(i.0, 5);
     text::write(b"  ");
     if count == 0 {

@@ -23,7 +23,7 @@ fn print_head(cells: &[u8]) {
     text::write(b"|\n");
 }
 
-// The three cells of size n, by the first n bytes of a row that suspects nobody.
+// The three cells of size n, by the first n bytes of a row that suspects nobody. For a shorter row nothing is printed.
 fn print_size(n: u8, row: &mut [u8]) {
     let end = n as usize;
     if row.len() < end {

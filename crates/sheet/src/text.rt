@@ -20,7 +20,7 @@ pub fn spaces(count: u16) {
 }
 
 // How many digits a number has.
-pub fn digits(x: u8) -> u16
+fn digits(x: u8) -> u16
     ensures { λ r. ⌜ r ≤ 3 ⌝ }
 {
     if x < 10 {

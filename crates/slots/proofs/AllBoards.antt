@@ -27,7 +27,7 @@ greatest-same f n c some all =
     let first : f 0 ≡ c = all 0 some in
     omega (arith, greatest-le f n 0 some, greatest-most f n c (λ k l. omega (arith, all k l)))
 
-module _ (d : ℕ) (r : List ℕ) (some : 0 < d) (long : length r ≡ 2 ^ d) (none : (x : ℕ) → x < 2 ^ d → unsuspected r x ≡ true) where
+module _ (d : ℕ) (r : List ℕ) (long : length r ≡ 2 ^ d) (none : (x : ℕ) → x < 2 ^ d → unsuspected r x ≡ true) where
   -- with j marked the row suspects j alone
   one-marked : (i j : ℕ) → i < 2 ^ d → j < 2 ^ d → j ≢ i → SuspectsOne d (mark r j) i j
   one-marked i j here there apart = record {
@@ -41,9 +41,9 @@ module _ (d : ℕ) (r : List ℕ) (some : 0 < d) (long : length r ≡ 2 ^ d) (no
   }
 
   -- of any board the most is that with the station at distance 1 marked
-  most-each : (i : ℕ) → i < 2 ^ d → mostTests (2 ^ d) r i ≡ 2 * d - 1
+  most-of : 0 < d → (i : ℕ) → i < 2 ^ d → mostTests (2 ^ d) r i ≡ 2 * d - 1
   unfolding mostTests
-  most-each i here =
+  most-of some i here =
       omega (arith, greatest-le (testsWith (2 ^ d) r i) (2 ^ d) beside there, greatest-most (testsWith (2 ^ d) r i) (2 ^ d) (2 * d - 1) each, has)
     where
       beside : ℕ
@@ -66,9 +66,19 @@ module _ (d : ℕ) (r : List ℕ) (some : 0 < d) (long : length r ≡ 2 ^ d) (no
           ∙ one-suspected-exactly d (mark r beside) i beside (one-marked i beside here there apart)
           ∙ rw (eq-eqb (distance i beside) 1 (xor-cancel i 1))
 
+  -- and one board alone has none to test
+  most-each : (i : ℕ) → i < 2 ^ d → mostTests (2 ^ d) r i ≡ 2 * d - 1
+  unfolding mostTests
+  most-each i here =
+      by-cases (ℕ-discrete d 0)
+      (λ z.
+      let alone : 2 ^ d ≡ 1 = rw z in
+      omega (arith, z, greatest-most (testsWith (2 ^ d) r i) (2 ^ d) 0 (λ j l. omega (arith, with-self (2 ^ d) r i j (omega (arith, alone))))))
+      (λ z. most-of (omega arith) i here)
+
 pub most-of-powers : MostOfPowers
 unfolding mostOfBoards
-most-of-powers d r some long none = (
+most-of-powers d r long none = (
   greatest-same (testsDue (2 ^ d) r) (2 ^ d) d (pow-pos d) (λ i l. nobody-suspected d r i long l none),
-  greatest-same (mostTests (2 ^ d) r) (2 ^ d) (2 * d - 1) (pow-pos d) (λ i l. most-each d r some long none i l),
+  greatest-same (mostTests (2 ^ d) r) (2 ^ d) (2 * d - 1) (pow-pos d) (λ i l. most-each d r long none i l),
 )

@@ -143,4 +143,4 @@ tests-by-levels d r i long own =
         rw (due-allowed r i own h k b, here))
 
 pub tests-at-most : TestsAtMost
-tests-at-most n r i long own = at-most r i own n
+tests-at-most n r i own = at-most r i own n

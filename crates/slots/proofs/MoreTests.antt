@@ -104,7 +104,7 @@ unfolding sum
 alone n r i few = let one : distances n ≡ 1 = omega (arith, distances-pos n, distances-le 0 n few) in rw (tests-sum n r i, one, due-zero r i)
 
 pub most-is-no-less : MostIsNoLess
-most-is-no-less n r i long own = by-cases (decLt 1 n) (λ two. pick two (ℕ-discrete i 0)) (λ few. omega (arith, alone n r i (omega arith)))
+most-is-no-less n r i own = by-cases (decLt 1 n) (λ two. pick two (ℕ-discrete i 0)) (λ few. omega (arith, alone n r i (omega arith)))
   where
     go : (j : ℕ) → j < n → j ≢ i → testsDue n r i ≤ mostTests n r i
     go j l apart = most-covers n r r i j l apart (wider-mark r i j own apart)

@@ -1,9 +1,9 @@
 -- The law of the due distances by binary digits, and what follows from it for the number of tests.
 -- Assumes nothing.
 use mathlib.Core.Path.{_≡_}
-use mathlib.Core.Logic.{_↔_, _≢_}
+use mathlib.Core.Logic.{_↔_, _≢_, _⊎_}
 use mathlib.Core.Bool.{Bool, true, false, cond, not}
-use mathlib.Core.List.{List}
+use mathlib.Core.List.{List, List·Memᴰ}
 use Prim.Native.Nat.{ℕ, suc, _+_, _*_, _-_, _/_, _%_, _^_, _≤_, _<_}
 use lib.ListN.{length}
 use lib.Dec.{eqb}
@@ -12,7 +12,7 @@ use Rattle.station.specs.Sums.{sum, bit}
 use Rattle.station.specs.Groups.{isSize, distance, dimension, width, member}
 use Rattle.station.specs.Tests.{unsuspected, stands, due}
 use Rattle.station.specs.Rows.{mark}
-use Rattle.slots.specs.Slots.{tested, untested, testsDue, mostTests, mostOfBoards}
+use Rattle.slots.specs.Slots.{tested, untestedDistances, untested, ahead, testsDue, mostTests, mostOfBoards}
 
 -- "i suspects its whole own group (absent numbers aside)", at level t: its row r leaves nobody of the group unsuspected. An absent number is
 -- never "not suspected", so that a group of absent numbers only is suspected whole
@@ -32,10 +32,18 @@ DueByDigits =
     ↔ ((unsuspected r i ≡ true) × (stands r i (width s + k) ≡ true)
     × ((t : ℕ) → 0 < t → bitSet k (t - 1) ≡ true → suspectsGroup r i t ≡ true))
 
--- whom i tests and whom it does not test are all other stations
+-- each other station is one that i tests or one that it does not test, and is listed once: the two lists have n − 1 stations
 abbrev pub NobodyLeftOut : Type 0
 NobodyLeftOut =
-    (n : ℕ) (r : List ℕ) (i : ℕ) → isSize n ≡ true → length r ≡ n → i < n → suc (length (tested n r i) + length (untested n r i)) ≡ n
+    (n : ℕ) (r : List ℕ) (i : ℕ) → isSize n ≡ true → length r ≡ n → i < n
+    → ((x : ℕ) → x < n → x ≢ i → List·Memᴰ x (tested n r i) ⊎ List·Memᴰ x (untested n r i))
+    × (suc (length (tested n r i) + length (untested n r i)) ≡ n)
+
+-- the counts are the lengths of the lists
+abbrev pub ListsCounted : Type 0
+ListsCounted =
+    (n : ℕ) (r : List ℕ) (i : ℕ) → (length (tested n r i) ≡ testsDue n r i) × (length (untested n r i) ≡ length (untestedDistances n r i))
+    × (length (ahead n r i) ≡ length (untestedDistances n r i))
 
 -- how many of i's own groups at levels 1 to h it suspects whole
 unfoldable pub wholeBelow : List ℕ → ℕ → ℕ → ℕ
@@ -49,7 +57,7 @@ TestsByLevels =
 -- at any size at most so many: at some of these distances nobody stands
 abbrev pub TestsAtMost : Type 0
 TestsAtMost =
-    (n : ℕ) (r : List ℕ) (i : ℕ) → length r ≡ n → unsuspected r i ≡ true → testsDue n r i ≤ sum (λ h. 2 ^ wholeBelow r i h) (dimension n)
+    (n : ℕ) (r : List ℕ) (i : ℕ) → unsuspected r i ≡ true → testsDue n r i ≤ sum (λ h. 2 ^ wholeBelow r i h) (dimension n)
 
 -- "with 2^d boards and nobody suspected each board has exactly d due"
 abbrev pub NobodySuspected : Type 0
@@ -76,7 +84,7 @@ OneSuspectedExactly =
 -- so the most of any of 2^d boards is d with nobody dead, and 2d − 1 with any one dead
 abbrev pub MostOfPowers : Type 0
 MostOfPowers =
-    (d : ℕ) (r : List ℕ) → 0 < d → length r ≡ 2 ^ d → ((x : ℕ) → x < 2 ^ d → unsuspected r x ≡ true)
+    (d : ℕ) (r : List ℕ) → length r ≡ 2 ^ d → ((x : ℕ) → x < 2 ^ d → unsuspected r x ≡ true)
     → (mostOfBoards (2 ^ d) r false ≡ d) × (mostOfBoards (2 ^ d) r true ≡ 2 * d - 1)
 
 -- "33 boards, board 32 alone has 32": with 2^d + 1 boards and nobody suspected the last board tests all others
@@ -97,8 +105,8 @@ NeverFewer = (n : ℕ) (r r′ : List ℕ) (i : ℕ) → Wider r r′ i → test
 
 -- the most with one more dead is no less than the tests now
 abbrev pub MostIsNoLess : Type 0
-MostIsNoLess = (n : ℕ) (r : List ℕ) (i : ℕ) → length r ≡ n → unsuspected r i ≡ true → testsDue n r i ≤ mostTests n r i
+MostIsNoLess = (n : ℕ) (r : List ℕ) (i : ℕ) → unsuspected r i ≡ true → testsDue n r i ≤ mostTests n r i
 
--- and than the tests of any row that suspects no more than r and one other station
+-- the most with one more dead is no less than the tests by any row that suspects nobody but those that r suspects and one other station
 abbrev pub MostCovers : Type 0
 MostCovers = (n : ℕ) (r r′ : List ℕ) (i j : ℕ) → j < n → j ≢ i → Wider r′ (mark r j) i → testsDue n r′ i ≤ mostTests n r i

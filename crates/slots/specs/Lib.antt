@@ -1,3 +1,3 @@
--- How many tests a board makes in a round.
+-- Which tests a board makes in a round, and how many.
 pub mod Slots
 pub mod Law

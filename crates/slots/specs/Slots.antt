@@ -1,5 +1,5 @@
--- Which tests a board makes in a round by its row, who stands ahead at the others, how many tests these are, for which its slot on the cable is
--- timed, and the most that one more dead board can make of them.
+-- What the commissioning sheet says of a board, by its row: which tests it makes in a round, who stands ahead at the others, how many tests these
+-- are, and the most that one more dead board can make of them. By this last number its slot on the cable is timed.
 -- Assumes nothing.
 use Prim.Native.Nat.{ℕ, zero, suc, max}
 use mathlib.Core.Bool.{Bool, cond, not, _&&_}
@@ -12,7 +12,7 @@ use Rattle.station.specs.Tests.{answer, due, dueDistances}
 use Rattle.station.specs.Rows.{mark}
 use Rattle.station.specs.Calls.{isOther, answerByte}
 
--- "which boards it tests, in order": those at the distances that are due for i of n stations, by its row r
+-- "which boards it tests, in order": those at the distances that are due for i of n stations, by its row r of n bytes
 unfoldable pub tested : ℕ → List ℕ → ℕ → List ℕ
 tested n r i = map (stationAt i) (dueDistances r i n)
 
@@ -26,7 +26,7 @@ untestedDistances n r i = select (isUntested r i) (distances n)
 unfoldable pub untested : ℕ → List ℕ → ℕ → List ℕ
 untested n r i = map (stationAt i) (untestedDistances n r i)
 
--- "who stands ahead", for each of those
+-- "who stands ahead", for each of those. Only a row that suspects its own station i, which refusal 3 turns away, can have i itself here
 unfoldable pub ahead : ℕ → List ℕ → ℕ → List ℕ
 ahead n r i = map (λ m. answerByte (answer r i m)) (untestedDistances n r i)
 
@@ -47,7 +47,7 @@ testsWith n r i j = cond (eqb j i) 0 (testsDue n (mark r j) i)
 unfoldable pub mostTests : ℕ → List ℕ → ℕ → ℕ
 mostTests n r i = greatest (testsWith n r i) n
 
--- "most tests of a board with nobody dead, and with any one dead", where r suspects nobody: the most of any of n boards by r; where more, with
--- one board more dead. A board that r suspects is dead and has none
+-- "most tests of a board with nobody dead, and with any one dead": the greatest number of tests of any of n boards that all have row r, and, if
+-- `more` is true, also suspect any one other board. For the table over all sizes r suspects nobody. A board that r suspects has no tests
 unfoldable pub mostOfBoards : ℕ → List ℕ → Bool → ℕ
 mostOfBoards n r more = greatest (cond more (mostTests n r) (testsDue n r)) n

@@ -30,7 +30,7 @@ mem-place f (suc n) x m = pick (mem-place f n x) (List·Memᴰ·append-cases (li
     pick rest (inr m′) = (n, omega arith, List·Memᴰ·eq-of-singleton m′)
 
 -- and the other way
-place-mem : (f : ℕ → ℕ) (n x k : ℕ) → k < n → x ≡ f k → List·Memᴰ x (listOf f n)
+pub place-mem : (f : ℕ → ℕ) (n x k : ℕ) → k < n → x ≡ f k → List·Memᴰ x (listOf f n)
 unfolding listOf
 place-mem f zero x k h e = absurd (omega arith)
 place-mem f (suc n) x k h e = pick (place-mem f n x k) (eq-or-lt-of-le (le-of-suc-le-suc h))

@@ -36,7 +36,7 @@ use Rattle.detection.proofs.Chain.{Chain, done, more, chain-all}
 use Rattle.slots.specs.Slots.{testsDue}
 use Rattle.slots.specs.Law.{Wider}
 use Rattle.slots.proofs.MoreTests.{fewer-below, tests-sum, mark-unsuspected, mark-suspected, wider-mark, most-covers}
-use Rattle.timing.specs.Timing.{TakenAfter, left, NoMoreThanDue, SuspectsAtMost, SlotIsEnough}
+use Rattle.timing.specs.Timing.{TakenAfter, tableLeft, NoMoreThanDue, SuspectsAtMost, SlotIsEnough}
 use Rattle.timing.proofs.RowsGrow.{Grows, acted-grows}
 
 -- whom the row of line k does not suspect
@@ -127,10 +127,10 @@ module _ (n : ℕ) (s : State) (calls : List Call) (e : Entry) (given : TakenAft
   u = afterRuns s calls
 
   abbrev end : List ℕ
-  end = left n s calls e
+  end = tableLeft n s calls e
 
   ok : Accepted n (u .table)
-  ok = accepted n (u .table) (given .shape)
+  ok = accepted n (u .table) (given .checked)
 
   end-lines : Lines n end
   end-lines = acted-lines n u e ok (given .taken)

@@ -1,5 +1,6 @@
--- What a plant that runs makes of the commissioning sheet. In rounds that begin with exact rows each board tests whom the sheet says; and however a
--- plant runs, with any crashes, late replies and suspicions, how many tests a board makes in a round. By this slots may be timed.
+-- The commissioning sheet and the tests that are made as a plant runs. Under demand 3's premises, in a closed round that begins with exact rows, each
+-- live board tests just whom the sheet says. And in any round, with any crashes, late replies and suspicions: how many tests a board makes at
+-- most, which is what slots are timed by.
 -- Assumes nothing.
 use mathlib.Core.Path.{_≡_}
 use mathlib.Core.Logic.{_≢_, _⊎_}
@@ -16,8 +17,8 @@ use Rattle.detection.specs.Claim.{atStart, roundsOf, Premises}
 use Rattle.detection.specs.Boards.{testedIn, firstTable, exactRow, ExactRows}
 use Rattle.slots.specs.Slots.{tested, testsDue, mostTests}
 
--- "In a round that begins with exact rows, a board that stays live makes just these tests": it tests, in this order, whom the sheet of the boards
--- that are not live says (`BoardTests` of detection, in the sheet's words)
+-- "In a round that begins with exact rows, a board that stays live makes just these tests": in the kth closed round (from 0) a live board tests, in
+-- this order, whom the sheet says, with the boards dead that are not live (`BoardTests` of detection, in the sheet's words)
 abbrev pub TestsOfTheSheet : Type 0
 TestsOfTheSheet =
     (n : ℕ) (s : State) (calls : List Call) → Premises n s calls → (k : ℕ) → k < length (roundsOf s calls .closed)
@@ -28,18 +29,18 @@ TestsOfTheSheet =
 pub record TakenAfter (n : ℕ) (s : State) (calls : List Call) (e : Entry) : Type 0 where
   pub long : length (s .table) ≡ tableLength n
   pub start : atStart n (s .table) ≡ true
-  pub shape : tableNumber n (afterRuns s calls .table) ≡ 0
+  pub checked : tableNumber n (afterRuns s calls .table) ≡ 0
   pub taken : entryNumber n (afterRuns s calls) e ≡ 0
 
 -- the table that the entry leaves, before the round rule: its byte 3 counts a line's tests of the round, the one that closes it among them
-abbrev pub left : ℕ → State → List Call → Entry → List ℕ
-left n s calls e = acted n (afterRuns s calls .table) e
+abbrev pub tableLeft : ℕ → State → List Call → Entry → List ℕ
+tableLeft n s calls e = acted n (afterRuns s calls .table) e
 
 -- a board has made no more tests in the round than are due by its row as it now is
 abbrev pub NoMoreThanDue : Type 0
 NoMoreThanDue =
     (n : ℕ) (s : State) (calls : List Call) (e : Entry) (i : ℕ) → TakenAfter n s calls e → i < n
-    → testsMade n (left n s calls e) i ≤ testsDue n (row n (left n s calls e) i) i
+    → testsMade n (tableLeft n s calls e) i ≤ testsDue n (row n (tableLeft n s calls e) i) i
 
 -- board i suspects at table t nobody but those that row r suspects, and j
 abbrev pub SuspectsAtMost : ℕ → List ℕ → ℕ → List ℕ → ℕ → Type 0
@@ -50,4 +51,4 @@ SuspectsAtMost n t i r j = (x : ℕ) → x < n → suspects n t i x ≡ 1 → (u
 abbrev pub SlotIsEnough : Type 0
 SlotIsEnough =
     (n : ℕ) (s : State) (calls : List Call) (e : Entry) (r : List ℕ) (i j : ℕ) → TakenAfter n s calls e → i < n → j < n → j ≢ i → length r ≡ n
-    → unsuspected r i ≡ true → SuspectsAtMost n (left n s calls e) i r j → testsMade n (left n s calls e) i ≤ mostTests n r i
+    → unsuspected r i ≡ true → SuspectsAtMost n (tableLeft n s calls e) i r j → testsMade n (tableLeft n s calls e) i ≤ mostTests n r i

@@ -1,4 +1,4 @@
--- `ahead::list_untested` meets its contract: what there is to say of the distances below m is written.
+-- `untested::list_untested` meets its contract: what there is to say of the distances below m is written.
 -- Assumes nothing.
 use mathlib.Core.Path.{_≡_, refl}
 use mathlib.Core.List.{map}
@@ -15,8 +15,8 @@ use Rattle.slots.specs.Slots.{isUntested, untestedDistances, untested, ahead}
 use Rattle.commission.specs.Lists.{written}
 use Rattle.slots.proofs.Untested.{untested-start}
 use Rattle.commission.proofs.ListLaws.{distance-range, written-none, written-next, count-below}
-use Rattle.commission.proofs.ahead.list_untested.Statement.{statement}
-use Rattle.commission.proofs.ahead.list_untested.Tie as tie
+use Rattle.commission.proofs.untested.list_untested.Statement.{statement}
+use Rattle.commission.proofs.untested.list_untested.Tie as tie
 
 abbrev Inv-loop : tie.InvT-loop
 Inv-loop n row i list₀ firsts₀ end count₀ m₀ list firsts count m =

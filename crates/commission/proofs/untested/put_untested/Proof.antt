@@ -1,4 +1,4 @@
--- `ahead::put_untested` meets its contract: the answer is taken apart.
+-- `untested::put_untested` meets its contract: the answer is taken apart.
 -- Assumes nothing.
 use mathlib.Core.Path.{refl, sym, ap, _∙_}
 use borrow.Author.Needs.{needs}
@@ -6,8 +6,8 @@ use borrow.Author.Tests.{not-true, not-false}
 use Rattle.station.specs.Tests.{saysDue}
 use Rattle.station.specs.Calls.{answerValue, answerByte}
 use Rattle.slots.proofs.Untested.{untested-absent, untested-due, untested-ahead}
-use Rattle.commission.proofs.ahead.put_untested.Statement.{statement}
-use Rattle.commission.proofs.ahead.put_untested.Tie as tie
+use Rattle.commission.proofs.untested.put_untested.Statement.{statement}
+use Rattle.commission.proofs.untested.put_untested.Tie as tie
 
 returns : tie.Need-returns
 returns c = rw (untested-absent _ _ _ (sym (c .before .stands .ensures) ∙ not-true _ (c .if1 .taken))) (refl, (refl, refl))

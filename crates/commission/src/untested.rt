@@ -15,8 +15,8 @@ use station::due;
 use station::groups;
 use station::order;
 
-// Whom i of n stations does not test by its row, in ascending distance, and who stands ahead of each, into two lent lists; answers how many these
-// are. Past a list's end nothing is written.
+// Whom i of n stations does not test by its row of n bytes, in ascending distance, and who stands ahead of each, into two lent lists; answers how
+// many these are. Past a list's end nothing is written.
 pub fn list_untested(n: u8, row: &[u8], i: Station, list: &mut [u8], firsts: &mut [u8]) -> u8
     ensures { λ r. ⌜ r ≡ length (untestedDistances n (now (row .entry)) (i .0)) ⌝ }
     ensures { λ _. ⌜ now (list .exit) ≡ written (now (list .entry)) 0 (untested n (now (row .entry)) (i .0)) ⌝ }
