@@ -3,15 +3,17 @@
 use mathlib.Core.Path.{_≡_, refl}
 use mathlib.Core.List.{List, [], _∷_, map}
 use Prim.Native.Nat.{ℕ, _+_}
-use Rattle.station.specs.Search.{least, every, listOf}
-use Rattle.station.specs.Groups.{isSize, level, dimension, distances, width, member}
-use Rattle.station.specs.Table.{head, tableLength, lineStart, cell, setCell, statusColumn, row, setRow}
-use Rattle.station.specs.Rules.{rowRule, lineRules, someLive, liveFinished, shapeNumber, tableNumber}
+use Rattle.lists.specs.Search.{least, every, listOf}
+use Rattle.table.specs.Sizes.{isSize, level, dimension, distances}
+use Rattle.station.specs.Groups.{width, member}
+use Rattle.table.specs.Table.{head, tableLength, lineStart, cell, setCell, statusColumn, row, setRow}
+use Rattle.table.specs.Rules.{rowRule, lineRules, someLive, liveFinished, shapeNumber, tableNumber}
 use Rattle.station.specs.Tests.{unsuspected, firstPlace, first, answer, due}
 use Rattle.station.specs.Rows.{unionByte, union, mark}
-use Rattle.station.specs.Calls.{freshByte, freshTable}
-use Rattle.plant.specs.Iterate.{iterate}
-use Rattle.plant.specs.Turn.{nextTest, makesTest, finishPass, countTest, replies, isTold, exchangeRows, suspect, replyOutcome, testOutcome, afterOutcome, selfOrSuspected, isAlone, afterAlone, testing, turn, resetLine, resetLines, afterRound}
+use Rattle.table.specs.Fresh.{freshByte, freshTable}
+use Rattle.lists.specs.Iterate.{iterate}
+use Rattle.turn.specs.Turn.{nextTest, makesTest, finishPass, countTest, replies, isTold, exchangeRows, suspect, replyOutcome, testOutcome, afterOutcome, selfOrSuspected, isAlone, afterAlone, testing, turn}
+use Rattle.plant.specs.Round.{resetLine, resetLines, afterRound}
 use Rattle.plant.specs.Entry.{stateOf, acted, after}
 use Rattle.granter.specs.Grant.{waits, firstFrom, following, granted, grantNumber, grantStation}
 use Rattle.granter.specs.Drive.{DriveOutcome, grantTurn, afterGrants, ended, stops, grantsMade, outcomeAfter, drive}

@@ -5,8 +5,8 @@ use granter::drive;
 use granter::grant;
 use plant::Tally;
 use plant::run;
-use station::fresh;
 use station::rows;
+use table::fresh;
 
 const OUT: i32 = 1;
 

@@ -8,11 +8,11 @@ use native.Mathlib.Nat.{add-zero, zero-add}
 use native.Mathlib.Numerals.{add-one}
 use native.Mathlib.Omega.{arith}
 use lib.ListN.{length, set, length-map}
-use Rattle.station.specs.Search.{select}
-use Rattle.station.specs.Groups.{distances}
-use Rattle.station.proofs.BoolLaws.{by-bool}
-use Rattle.station.proofs.Sizes.{distances-pos, distances-le}
-use Rattle.station.proofs.KeepLaws.{kept-suc}
+use Rattle.lists.specs.Search.{select}
+use Rattle.table.specs.Sizes.{distances}
+use Rattle.lists.proofs.BoolLaws.{by-bool}
+use Rattle.table.proofs.SizeLaws.{distances-pos, distances-le}
+use Rattle.lists.proofs.KeepLaws.{kept-suc}
 use Rattle.commission.specs.Lists.{written}
 
 -- as the code asks for it, of a size that is a byte: there is a distance, and each is a byte

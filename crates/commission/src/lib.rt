@@ -12,20 +12,21 @@ ghost use Rattle.commission.specs.Lists.{written};
 
 pub mod untested;
 
-use station::Distance;
+use lists::bytes;
 use station::DueOrAhead;
-use station::Station;
 use station::due;
-use station::groups;
 use station::order;
 use station::rows;
+use table::Distance;
+use table::Station;
+use table::sizes;
 
 // Whom i of n stations tests by its row of n bytes, in order, into a lent list; answers how many these are. Past the list's end nothing is written.
 pub fn list_tests(n: u8, row: &[u8], i: Station, list: &mut [u8]) -> u8
     ensures { λ r. ⌜ r ≡ testsDue n (now (row .entry)) (i .0) ⌝ }
     ensures { λ _. ⌜ now (list .exit) ≡ written (now (list .entry)) 0 (tested n (now (row .entry)) (i .0)) ⌝ }
 {
-    let end = groups::distances(n);
+    let end = sizes::distances(n);
     let mut count: u8 = 0;
     let mut m: u16 = 1;
     while m < end {
@@ -45,7 +46,7 @@ fn put_test(row: &[u8], i: Station, m: Distance, list: &mut [u8], count: u8) -> 
         return count;
     }
     let j = order::lookup(i, m);
-    groups::put(list, count, j.0);
+    bytes::put(list, count, j.0);
     count + 1
 }
 
@@ -79,7 +80,7 @@ pub fn most_tests(n: u8, row: &mut [u8], i: Station) -> u8
     let mut most: u8 = 0;
     let mut j: u8 = 0;
     while j < n {
-        most = rows::greater(most, tests_with(n, row, i, Station(j)));
+        most = bytes::greater(most, tests_with(n, row, i, Station(j)));
         j += 1;
     }
     most
@@ -112,7 +113,7 @@ pub fn most_of_boards(n: u8, row: &mut [u8], more: bool) -> u8
     let mut most: u8 = 0;
     let mut i: u8 = 0;
     while i < n {
-        most = rows::greater(most, tests_of(n, row, Station(i), more));
+        most = bytes::greater(most, tests_of(n, row, Station(i), more));
         i += 1;
     }
     most

@@ -8,12 +8,13 @@ ghost use Rattle.station.specs.Tests.{answer};
 ghost use Rattle.station.specs.Calls.{answerByte};
 ghost use Rattle.slots.specs.Slots.{isUntested, untestedDistances, untested, ahead};
 ghost use Rattle.commission.specs.Lists.{written};
-use station::Distance;
+use lists::bytes;
 use station::DueOrAhead;
-use station::Station;
 use station::due;
-use station::groups;
 use station::order;
+use table::Distance;
+use table::Station;
+use table::sizes;
 
 // Whom i of n stations does not test by its row of n bytes, in ascending distance, and who stands ahead of each, into two lent lists; answers how
 // many these are. Past a list's end nothing is written.
@@ -22,7 +23,7 @@ pub fn list_untested(n: u8, row: &[u8], i: Station, list: &mut [u8], firsts: &mu
     ensures { λ _. ⌜ now (list .exit) ≡ written (now (list .entry)) 0 (untested n (now (row .entry)) (i .0)) ⌝ }
     ensures { λ _. ⌜ now (firsts .exit) ≡ written (now (firsts .entry)) 0 (ahead n (now (row .entry)) (i .0)) ⌝ }
 {
-    let end = groups::distances(n);
+    let end = sizes::distances(n);
     let mut count: u8 = 0;
     let mut m: u16 = 1;
     while m < end {
@@ -55,7 +56,7 @@ fn put_untested(
         return count;
     };
     let j = order::lookup(i, m);
-    groups::put(list, count, j.0);
-    groups::put(firsts, count, first.0);
+    bytes::put(list, count, j.0);
+    bytes::put(firsts, count, first.0);
     count + 1
 }

@@ -7,21 +7,23 @@ use mathlib.Core.List.{List, [], map}
 use Prim.Native.Nat.{ℕ, _<_}
 use native.Mathlib.Omega.{arith}
 use lib.ListN.{length, getD}
-use Rattle.station.specs.Search.{listOf}
-use Rattle.station.specs.Sums.{bit}
-use Rattle.station.specs.Groups.{stationAt, distances}
-use Rattle.station.specs.Table.{live}
-use Rattle.station.specs.Rules.{notLive}
+use Rattle.lists.specs.Search.{listOf}
+use Rattle.lists.specs.Sums.{bit}
+use Rattle.station.specs.Groups.{stationAt}
+use Rattle.table.specs.Sizes.{distances}
+use Rattle.table.specs.Table.{live}
+use Rattle.table.specs.Rules.{notLive}
 use Rattle.station.specs.Tests.{due, dueDistances}
-use Rattle.station.proofs.SearchLaws.{listOf-length, listOf-at}
-use Rattle.station.proofs.KeepLaws.{keep-same}
-use Rattle.station.proofs.Refusals.{Accepted}
-use Rattle.station.proofs.CellLaws.{row-at}
+use Rattle.lists.proofs.SearchLaws.{listOf-length, listOf-at}
+use Rattle.lists.proofs.KeepLaws.{keep-same}
+use Rattle.table.proofs.Accepting.{Accepted}
+use Rattle.table.proofs.CellLaws.{row-at}
 use Rattle.plant.specs.Entry.{State}
 use Rattle.detection.specs.Runs.{Call, takenAll, afterRuns}
 use Rattle.detection.specs.Rounds.{cut}
 use Rattle.detection.specs.Claim.{roundsOf, Premises}
-use Rattle.detection.specs.Boards.{exactRow, ExactRows, TestsJustDue, BoardTests, BoardTestsAfterWait}
+use Rattle.table.specs.Properties.{exactRow, ExactRows}
+use Rattle.detection.specs.Boards.{TestsJustDue, BoardTests, BoardTestsAfterWait}
 use Rattle.detection.proofs.Chain.{chain-all, chain-first}
 use Rattle.detection.proofs.TurnEffect.{Plain}
 use Rattle.detection.proofs.Knowledge.{Exact, leadsAt, row-due}

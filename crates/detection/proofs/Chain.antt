@@ -9,13 +9,14 @@ use native.Mathlib.Omega.{arith}
 use lib.ListN.{length}
 use lib.Dec.{eqb}
 use borrow.Author.Tests.{eqb-true}
-use Rattle.station.specs.Table.{stride, tableLength}
-use Rattle.station.proofs.Refusals.{Accepted, accepted, else-zero}
+use Rattle.table.specs.Table.{stride, tableLength}
+use Rattle.table.proofs.Accepting.{Accepted, accepted}
+use Rattle.lists.proofs.RefusalLaws.{else-zero}
 use Rattle.plant.specs.Entry.{Entry, State, entryNumber, after, sheetLine}
 use Rattle.plant.specs.Run.{entries, writeLine, goOn, startNumber, run}
 use Rattle.plant.proofs.Kept.{accepted-kept}
 use Rattle.detection.specs.Runs.{Call, Taken, afterRun, afterRuns, takenFrom, takenIn, takenAll}
-use Rattle.station.proofs.BoolLaws.{by-bool}
+use Rattle.lists.proofs.BoolLaws.{by-bool}
 use Rattle.detection.proofs.TakenLaws.{takenAt}
 
 -- entries taken one behind the other at size n, from a state to a state

@@ -7,22 +7,22 @@ use Prim.Native.Nat.{ℕ, suc, _+_, _*_, _≤_, _<_}
 use native.Mathlib.Omega.{arith}
 use borrow.Author.Tests.{eqb-true, lt-ltb, le-ltb}
 use lib.Bits.{bitXor, xor-lt}
-use Rattle.station.specs.Search.{every}
-use Rattle.station.specs.Groups.{stationAt, level, dimension, distances, isPresent}
-use Rattle.station.specs.Table.{nextDistance, finished, testsMade, live}
-use Rattle.station.specs.Rules.{someLive, finishedIfLive, liveFinished, roundOver}
-use Rattle.station.proofs.SearchLaws.{both, every-at}
+use Rattle.lists.specs.Search.{every}
+use Rattle.station.specs.Groups.{stationAt, isPresent}
+use Rattle.table.specs.Sizes.{level, dimension, distances}
+use Rattle.table.specs.Table.{nextDistance, finished, testsMade, live}
+use Rattle.table.specs.Rules.{someLive, finishedIfLive, liveFinished, roundOver}
+use Rattle.lists.proofs.SearchLaws.{both, every-at}
 use Rattle.station.proofs.DueLaws.{first-not}
-use Rattle.plant.specs.Turn.{resetLines}
-use Rattle.plant.proofs.StepCells.{Reset, reset-cells, reset-other}
-use Rattle.plant.proofs.StepLines.{reset-lines}
-use Rattle.station.specs.Sums.{sum, bit}
+use Rattle.plant.specs.Round.{resetLines}
+use Rattle.plant.proofs.RoundLaws.{Reset, reset-cells, reset-other, reset-lines}
+use Rattle.lists.specs.Sums.{sum, bit}
 use Rattle.detection.specs.Runs.{Taken}
 use Rattle.detection.specs.Rounds.{testsIn}
 use Rattle.detection.specs.Claim.{deadGroup, deadPairs, demandCount}
 use Rattle.detection.specs.Boards.{testedIn}
-use Rattle.station.proofs.BoolLaws.{by-bool}
-use Rattle.station.proofs.SumLaws.{sum-by, sum-zero, sum-stays, sum-const}
+use Rattle.lists.proofs.BoolLaws.{by-bool}
+use Rattle.lists.proofs.SumLaws.{sum-by, sum-zero, sum-stays, sum-const}
 use Rattle.detection.proofs.Count.{nobody, tests-and-rest}
 use Rattle.detection.proofs.Counting.{Counts, counts-start, Roomy, roomy-start}
 use Rattle.detection.proofs.TurnEffect.{Plain, Grown, same-rows}

@@ -8,16 +8,17 @@ use native.Mathlib.Nat.{zero-add}
 use native.Mathlib.Omega.{arith}
 use lib.Dec.{ltb, eqb}
 use borrow.Author.Tests.{eq-eqb, ne-eqb}
-use Rattle.station.specs.Search.{least, every}
-use Rattle.station.specs.Groups.{level, width, member, stationAt}
+use Rattle.lists.specs.Search.{least, every}
+use Rattle.table.specs.Sizes.{level}
+use Rattle.station.specs.Groups.{width, member, stationAt}
 use Rattle.station.specs.Tests.{firstPlace, first}
-use Rattle.station.proofs.Xor.{xor-cancel, xor-undo}
-use Rattle.station.proofs.SearchLaws.{every-all, every-not}
-use Rattle.station.proofs.Levels.{level-zero, level-in}
+use Rattle.lists.proofs.Xor.{xor-cancel, xor-undo}
+use Rattle.lists.proofs.SearchLaws.{every-all, every-not}
+use Rattle.table.proofs.Levels.{level-zero, level-in}
 use Rattle.station.proofs.DueLaws.{isStation, first-zero, found, none-found}
-use Rattle.station.specs.Sums.{sum, bit}
-use Rattle.station.proofs.BoolLaws.{by-bool, least-same}
-use Rattle.station.proofs.SumLaws.{sum-by, sum-add, sum-zero, sum-single, sum-swap, sum-levels, sum-xor, sum-not}
+use Rattle.lists.specs.Sums.{sum, bit}
+use Rattle.lists.proofs.BoolLaws.{by-bool, least-same}
+use Rattle.lists.proofs.SumLaws.{sum-by, sum-add, sum-zero, sum-single, sum-swap, sum-levels, sum-xor, sum-not}
 
 -- whether i is the first station that passes q in the group, at the level of m, of the station at distance m
 abbrev pub leads : (ℕ → Bool) → ℕ → ℕ → Bool

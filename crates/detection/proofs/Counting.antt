@@ -11,23 +11,24 @@ use native.Mathlib.Numerals.{add-one}
 use borrow.Author.Tests.{eq-eqb, ne-eqb, eqb-true, lt-ltb}
 use lib.Bits.{xor-zero-r}
 use lib.Dec.{eqb}
-use Rattle.station.specs.Groups.{isSize, distances}
-use Rattle.station.specs.Table.{statusColumn, nextColumn, finishedColumn, testsColumn, nextDistance, finished, testsMade, live}
+use Rattle.table.specs.Sizes.{isSize, distances}
+use Rattle.table.specs.Table.{statusColumn, nextColumn, finishedColumn, testsColumn, nextDistance, finished, testsMade, live}
 use Rattle.station.proofs.Presence.{standing, standing-all, standing-more, standing-grows}
-use Rattle.station.specs.Rules.{notLive, someLive, finishedIfLive, liveFinished, roundOver}
-use Rattle.plant.specs.Turn.{nextTest, makesTest, afterRound}
-use Rattle.plant.proofs.NextTest.{nextTest-low, test-station}
+use Rattle.table.specs.Rules.{notLive, someLive, finishedIfLive, liveFinished, roundOver}
+use Rattle.turn.specs.Turn.{nextTest, makesTest}
+use Rattle.plant.specs.Round.{afterRound}
+use Rattle.turn.proofs.NextTest.{nextTest-low, test-station}
 use Rattle.plant.specs.Entry.{Entry, State, isCrash, acted, after}
-use Rattle.plant.proofs.StepCells.{Reset, reset-other}
-use Rattle.plant.proofs.StepLines.{Lines}
-use Rattle.station.specs.Sums.{sum, bit}
+use Rattle.plant.proofs.RoundLaws.{Reset, reset-other}
+use Rattle.turn.proofs.StepLines.{Lines}
+use Rattle.lists.specs.Sums.{sum, bit}
 use Rattle.detection.specs.Runs.{Taken, tableAfter, isTurnOf, takenTest}
 use Rattle.detection.specs.Rounds.{anyTaken, countTaken, closes, finishesOf, finishedOrNotLive, testsIn, turnsIn, nthTurnFinishes}
-use Rattle.station.proofs.BoolLaws.{by-bool, choice, bit-split, every-same}
-use Rattle.station.proofs.SumLaws.{sum-by, sum-add, sum-single}
+use Rattle.lists.proofs.BoolLaws.{by-bool, choice, bit-split, every-same}
+use Rattle.lists.proofs.SumLaws.{sum-by, sum-add, sum-single}
 use Rattle.detection.specs.Claim.{TurnsOk}
 use Rattle.detection.proofs.TakenLaws.{takenAt, any-one, count-snoc, nth-snoc-turn, nth-snoc-other}
-use Rattle.plant.proofs.TurnHeads.{Heads}
+use Rattle.turn.proofs.TurnHeads.{Heads}
 
 -- from t₀ to t, by the entries `cur`
 pub record Counts (n : ℕ) (t₀ : List ℕ) (cur : List Taken) (t : List ℕ) : Type 0 where

@@ -8,30 +8,32 @@ use native.Mathlib.Omega.{arith}
 use borrow.Author.Tests.{lt-ltb, eqb-false, not-true}
 use lib.ListN.{length, getD}
 use lib.Dec.{eqb}
-use Rattle.station.specs.Rules.{roundOver}
-use Rattle.station.specs.Groups.{isSize, stationAt, distances}
-use Rattle.station.specs.Table.{finished, live}
-use Rattle.station.proofs.SearchLaws.{both}
-use Rattle.station.proofs.Refusals.{Accepted}
-use Rattle.station.proofs.Sizes.{size-distances}
-use Rattle.plant.specs.Turn.{kindTurn, kindLate, kindCrash, makesTest, nextTest, turnTested, resetLines, afterRound}
+use Rattle.table.specs.Rules.{roundOver}
+use Rattle.table.specs.Sizes.{isSize, distances}
+use Rattle.station.specs.Groups.{stationAt}
+use Rattle.table.specs.Table.{finished, live}
+use Rattle.lists.proofs.SearchLaws.{both}
+use Rattle.table.proofs.Accepting.{Accepted}
+use Rattle.table.proofs.SizeLaws.{size-distances}
+use Rattle.turn.specs.Turn.{kindTurn, kindLate, kindCrash, makesTest, nextTest, turnTested}
+use Rattle.plant.specs.Round.{resetLines, afterRound}
 use Rattle.plant.specs.Entry.{Entry, State, isCrash, entryNumber, acted, after, testedOf}
 use Rattle.plant.proofs.Kept.{Takes, entry-facts}
-use Rattle.plant.proofs.StepLines.{Lines}
-use Rattle.plant.proofs.NextTest.{test-station}
-use Rattle.station.specs.Sums.{bit}
+use Rattle.turn.proofs.StepLines.{Lines}
+use Rattle.turn.proofs.NextTest.{test-station}
+use Rattle.lists.specs.Sums.{bit}
 use Rattle.detection.specs.Runs.{Taken, takenTest, crashes, isLate}
 use Rattle.detection.specs.Rounds.{allTaken, countTaken, Rounds, closes, cut, testsIn, testsOfAll}
 use Rattle.detection.specs.Claim.{TurnsOk, demandCount, allRounds, exactWait}
 use Rattle.detection.specs.Boards.{testedIn, firstTable}
-use Rattle.station.proofs.BoolLaws.{by-bool}
+use Rattle.lists.proofs.BoolLaws.{by-bool}
 use Rattle.detection.proofs.TakenLaws.{takenAt, count-snoc}
 use Rattle.detection.proofs.Near.{near-below}
 use Rattle.detection.proofs.Pass.{Round, wider}
 use Rattle.detection.proofs.Detected.{detected}
 use Rattle.detection.proofs.Chain.{Chain, done, more}
 use Rattle.detection.proofs.Counting.{turn-counts, turn-roomy, turns-ok, closes-is}
-use Rattle.plant.proofs.TurnHeads.{turn-heads}
+use Rattle.turn.proofs.TurnHeads.{turn-heads}
 use Rattle.detection.proofs.TurnEffect.{Plain, Company, turn-effect}
 use Rattle.detection.proofs.Knowledge.{LiveOf, RowOf, Exact, Knows, turn-knows}
 use Rattle.detection.proofs.Listing.{ledBelow, turn-listed}

@@ -11,22 +11,23 @@ use native.Mathlib.Omega.{arith}
 use borrow.Author.Tests.{ltb-true, ltb-false, eqb-true, eqb-false, ne-eqb, not-true}
 use lib.ListN.{length}
 use lib.Dec.{ltb, eqb}
-use Rattle.station.specs.Search.{least, every}
-use Rattle.station.specs.Groups.{isSize, dimension}
-use Rattle.station.specs.Table.{suspects, live}
-use Rattle.station.specs.Rules.{notLive}
-use Rattle.station.proofs.SearchLaws.{both, every-at, least-passes, least-before}
-use Rattle.station.proofs.Refusals.{Accepted}
-use Rattle.station.proofs.CellLaws.{accepted-line}
-use Rattle.station.proofs.Sizes.{size-bounds, size-log}
+use Rattle.lists.specs.Search.{least, every}
+use Rattle.table.specs.Sizes.{isSize, dimension}
+use Rattle.table.specs.Table.{suspects, live}
+use Rattle.table.specs.Rules.{notLive}
+use Rattle.lists.proofs.SearchLaws.{both, every-at, least-passes, least-before}
+use Rattle.table.proofs.Accepting.{Accepted}
+use Rattle.table.proofs.CellLaws.{accepted-line}
+use Rattle.table.proofs.SizeLaws.{size-bounds, size-log}
 use Rattle.plant.specs.Entry.{State}
-use Rattle.plant.proofs.StepCells.{Reset}
-use Rattle.station.specs.Sums.{bit}
+use Rattle.plant.proofs.RoundLaws.{Reset}
+use Rattle.lists.specs.Sums.{bit}
 use Rattle.detection.specs.Runs.{Call, takenAll, afterRun, afterRuns}
 use Rattle.detection.specs.Rounds.{countTaken, cut, testsOfAll}
-use Rattle.detection.specs.Claim.{lineAtStart, atStart, liveCount, noLiveSuspicion, noneSuspected, roundsOf, Premises, Conclusion, Within, WithinAfter, demandWait, Demand3, exactWait}
-use Rattle.station.proofs.BoolLaws.{by-bool}
-use Rattle.station.proofs.SumLaws.{sum-single}
+use Rattle.table.specs.Properties.{lineAtStart, atStart, liveCount, noLiveSuspicion, noneSuspected}
+use Rattle.detection.specs.Claim.{roundsOf, Premises, Conclusion, Within, WithinAfter, demandWait, Demand3, exactWait}
+use Rattle.lists.proofs.BoolLaws.{by-bool}
+use Rattle.lists.proofs.SumLaws.{sum-single}
 use Rattle.detection.proofs.Wait.{wait-pos, wait-le-pairs, wait-le-square}
 use Rattle.detection.proofs.Chain.{chain-all, chain-first}
 use Rattle.detection.proofs.TurnEffect.{Company}

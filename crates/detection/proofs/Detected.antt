@@ -8,7 +8,7 @@ use Prim.Native.Nat.{ℕ, zero, suc, _+_, _*_, _-_, _≤_, _<_}
 use native.Mathlib.Decide.{decLt}
 use native.Mathlib.Omega.{arith}
 use Rattle.detection.specs.Claim.{exactWait}
-use Rattle.station.proofs.Xor.{Near, near-le}
+use Rattle.lists.proofs.Xor.{Near, near-le}
 use Rattle.detection.proofs.Near.{Member, Parting, same, apart, near-dec, near-zero, member-sym, member-near, members-near, parting}
 use Rattle.detection.proofs.Pass.{InPass, find, lift, Round}
 use Rattle.detection.proofs.Wait.{spread, ready, ready-enough, wait-enough, wait-grows, wait-pos}

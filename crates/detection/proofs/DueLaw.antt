@@ -12,8 +12,8 @@ use lib.Bits.{bitXor, xor-comm}
 use borrow.Author.Tests.{eq-eqb, ne-eqb, lt-ltb}
 use Rattle.station.specs.Groups.{width}
 use Rattle.station.specs.Tests.{unsuspected, due}
-use Rattle.station.proofs.Xor.{xor-cancel}
-use Rattle.station.proofs.Levels.{level-is}
+use Rattle.lists.proofs.Xor.{xor-cancel}
+use Rattle.table.proofs.Levels.{level-is}
 use Rattle.station.proofs.DueLaws.{unsuspected-at, unsuspected-absent, first-at, due-first}
 use Rattle.detection.proofs.Near.{Member, Ahead, member-distance, member-at}
 

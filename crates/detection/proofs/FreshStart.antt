@@ -8,16 +8,16 @@ use native.Mathlib.Nat.{mod-eq-of-lt, mul-add-mod-self-right}
 use native.Mathlib.Omega.{arith}
 use borrow.Author.Tests.{ne-eqb}
 use lib.Dec.{eqb}
-use Rattle.station.specs.Groups.{isSize}
-use Rattle.station.specs.Table.{head, stride, tableLength, lineStart, cell, statusColumn, nextColumn, finishedColumn, testsColumn, suspects}
-use Rattle.station.specs.Rules.{lineRules, tableNumber}
-use Rattle.station.specs.Calls.{freshByte, freshTable}
-use Rattle.station.proofs.SearchLaws.{every-all, listOf-length, listOf-at}
-use Rattle.station.proofs.Sizes.{distances-pos}
-use Rattle.station.proofs.CellLaws.{line-inside, Line, line-holds}
+use Rattle.table.specs.Sizes.{isSize}
+use Rattle.table.specs.Table.{head, stride, tableLength, lineStart, cell, statusColumn, nextColumn, finishedColumn, testsColumn, suspects}
+use Rattle.table.specs.Rules.{lineRules, tableNumber}
+use Rattle.table.specs.Fresh.{freshByte, freshTable}
+use Rattle.lists.proofs.SearchLaws.{every-all, listOf-length, listOf-at}
+use Rattle.table.proofs.SizeLaws.{distances-pos}
+use Rattle.table.proofs.CellLaws.{line-inside, Line, line-holds}
 use Rattle.plant.proofs.Kept.{unfinished-open}
 use Rattle.plant.proofs.RunLaws.{accepted-number}
-use Rattle.detection.specs.Claim.{lineAtStart, atStart}
+use Rattle.table.specs.Properties.{lineAtStart, atStart}
 
 -- "every line live, next distance 1, all else 0"
 fresh-cell : (n i c : ℕ) → i < n → c < stride n → cell n (freshTable n) i c ≡ cond (eqb c nextColumn) 1 0

@@ -12,22 +12,23 @@ use lib.ListN.{length, getD}
 use lib.Bits.{bitXor, xor-comm}
 use lib.Dec.{eqb, ltb}
 use lib.Pow.{pow-pos}
-use Rattle.station.specs.Groups.{stationAt, level, isPresent, member}
-use Rattle.station.specs.Table.{nextColumn, testsColumn, nextDistance, testsMade, suspects, row}
+use Rattle.station.specs.Groups.{stationAt, isPresent, member}
+use Rattle.table.specs.Sizes.{level}
+use Rattle.table.specs.Table.{nextColumn, testsColumn, nextDistance, testsMade, suspects, row}
 use Rattle.station.specs.Tests.{unsuspected, due}
-use Rattle.station.proofs.Xor.{xor-cancel}
-use Rattle.station.proofs.SearchLaws.{both}
-use Rattle.station.proofs.CellLaws.{row-length, row-at}
-use Rattle.plant.specs.Turn.{makesTest}
-use Rattle.plant.proofs.StepCells.{Reset}
-use Rattle.plant.proofs.StepLines.{Lines}
-use Rattle.station.specs.Sums.{sum, bit}
-use Rattle.station.proofs.BoolLaws.{by-bool}
-use Rattle.station.proofs.SumLaws.{sum-by, sum-zero}
+use Rattle.lists.proofs.Xor.{xor-cancel}
+use Rattle.lists.proofs.SearchLaws.{both}
+use Rattle.table.proofs.CellLaws.{row-length, row-at}
+use Rattle.turn.specs.Turn.{makesTest}
+use Rattle.plant.proofs.RoundLaws.{Reset}
+use Rattle.turn.proofs.StepLines.{Lines}
+use Rattle.lists.specs.Sums.{sum, bit}
+use Rattle.lists.proofs.BoolLaws.{by-bool}
+use Rattle.lists.proofs.SumLaws.{sum-by, sum-zero}
 use Rattle.detection.proofs.Count.{leads, leads-zero, leads-same}
 use Rattle.station.proofs.DueLaws.{unsuspected-at, unsuspected-absent, due-first}
 use Rattle.detection.proofs.DueLaw.{due-holds}
-use Rattle.plant.proofs.TurnHeads.{Heads, passed-dues}
+use Rattle.turn.proofs.TurnHeads.{Heads, passed-dues}
 use Rattle.detection.proofs.Near.{Member, Ahead, member-distance}
 use Rattle.detection.proofs.Pass.{InPass, had, stays, finds, hears, Tests}
 use Rattle.detection.proofs.TurnEffect.{Plain, Grown, Row, Tested, tested-more, Turned}

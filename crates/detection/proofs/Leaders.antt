@@ -7,9 +7,9 @@ use Prim.Native.Nat.{ℕ, suc, _+_, _^_, _<_}
 use native.Mathlib.Decide.{decLt}
 use native.Mathlib.Omega.{arith}
 use lib.Bits.{bitXor}
-use Rattle.station.specs.Search.{least}
-use Rattle.station.proofs.Xor.{near-le, xor-cancel}
-use Rattle.station.proofs.SearchLaws.{least-between, least-passes, least-before}
+use Rattle.lists.specs.Search.{least}
+use Rattle.lists.proofs.Xor.{near-le, xor-cancel}
+use Rattle.lists.proofs.SearchLaws.{least-between, least-passes, least-before}
 use Rattle.detection.proofs.Near.{Member, Ahead, Parting, same, apart, member-distance, member-at, member-near, members-near, before-near, parting}
 use Rattle.detection.proofs.Pass.{InPass, Tests, lift}
 

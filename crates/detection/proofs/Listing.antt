@@ -8,16 +8,16 @@ use Prim.Native.Nat.{ℕ, _<_}
 use native.Mathlib.Decide.{ℕ-discrete}
 use native.Mathlib.Omega.{arith}
 use borrow.Author.Tests.{eq-eqb, ne-eqb}
-use Rattle.station.specs.Search.{select, keep, listOf}
+use Rattle.lists.specs.Search.{select, keep, listOf}
 use Rattle.station.specs.Groups.{stationAt}
-use Rattle.station.specs.Table.{nextColumn, nextDistance, row}
+use Rattle.table.specs.Table.{nextColumn, nextDistance, row}
 use Rattle.station.specs.Tests.{due}
-use Rattle.station.proofs.BoolLaws.{by-bool}
-use Rattle.station.proofs.KeepLaws.{keep-same}
-use Rattle.plant.specs.Turn.{nextTest, makesTest, turnTested}
+use Rattle.lists.proofs.BoolLaws.{by-bool}
+use Rattle.lists.proofs.KeepLaws.{keep-same}
+use Rattle.turn.specs.Turn.{nextTest, makesTest, turnTested}
 use Rattle.plant.specs.Entry.{Entry, State, isCrash, testedOf}
-use Rattle.plant.proofs.StepCells.{Reset}
-use Rattle.plant.proofs.TurnHeads.{Heads, passed-list}
+use Rattle.plant.proofs.RoundLaws.{Reset}
+use Rattle.turn.proofs.TurnHeads.{Heads, passed-list}
 use Rattle.detection.specs.Runs.{Taken}
 use Rattle.detection.specs.Boards.{stationTested, isTestOf, testedIn, firstTable}
 use Rattle.detection.proofs.TakenLaws.{takenAt}

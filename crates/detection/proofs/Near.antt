@@ -8,7 +8,7 @@ use native.Mathlib.Decide.{ℕ-discrete, decLt}
 use native.Mathlib.Omega.{arith}
 use lib.Bits.{bitXor, xor-lt, xor-shr}
 use lib.Pow.{pow-pos}
-use Rattle.station.proofs.Xor.{Near, div-le, half, near-suc, xor-cancel, near-of-xor, xor-of-near}
+use Rattle.lists.proofs.Xor.{Near, div-le, half, near-suc, xor-cancel, near-of-xor, xor-of-near}
 
 pub near-dec : (h a b : ℕ) → Dec (Near h a b)
 near-dec h a b = ℕ-discrete (a / 2 ^ h) (b / 2 ^ h)

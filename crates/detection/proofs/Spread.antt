@@ -8,7 +8,7 @@ use native.Mathlib.Nat.{add-zero, add-suc}
 use native.Mathlib.Decide.{decLt, le-ind}
 use native.Mathlib.Omega.{arith}
 use lib.Bits.{bitXor, xor-comm}
-use Rattle.station.proofs.Xor.{Near, xor-cancel}
+use Rattle.lists.proofs.Xor.{Near, xor-cancel}
 use Rattle.detection.proofs.Near.{Member, Ahead, Parting, same, apart, near-dec, near-zero, member-sym, member-distance, member-first, members-near, parting}
 use Rattle.detection.proofs.Pass.{InPass, had, hear, first-tests, lift, Round}
 use Rattle.detection.proofs.Wait.{spread}

@@ -8,10 +8,10 @@ use native.Mathlib.Omega.{arith}
 use borrow.Author.Tests.{ne-eqb}
 use lib.Dec.{eqb}
 use Rattle.plant.specs.Entry.{Entry, State}
-use Rattle.station.specs.Sums.{bit}
+use Rattle.lists.specs.Sums.{bit}
 use Rattle.detection.specs.Runs.{Taken, isTurnOf, finishes}
 use Rattle.detection.specs.Rounds.{anyTaken, countTaken, turnsIn, nthTurnFinishes}
-use Rattle.station.proofs.BoolLaws.{by-bool}
+use Rattle.lists.proofs.BoolLaws.{by-bool}
 
 -- an entry as it is taken
 abbrev pub takenAt : ℕ → State → Entry → Taken

@@ -9,16 +9,17 @@ use native.Mathlib.Decide.{decLt, ℕ-discrete}
 use native.Mathlib.Omega.{arith}
 use borrow.Author.Tests.{eq-eqb, ne-eqb}
 use lib.ListN.{length}
-use Rattle.station.specs.Groups.{isSize, distances, stationAt}
-use Rattle.station.specs.Table.{head, stride, tableLength, cell, statusColumn, nextColumn, finishedColumn, testsColumn, status, nextDistance, finished, suspects, live, row}
+use Rattle.table.specs.Sizes.{isSize, distances}
+use Rattle.station.specs.Groups.{stationAt}
+use Rattle.table.specs.Table.{head, stride, tableLength, cell, statusColumn, nextColumn, finishedColumn, testsColumn, status, nextDistance, finished, suspects, live, row}
 use Rattle.station.specs.Tests.{due}
-use Rattle.station.proofs.SearchLaws.{every-not}
-use Rattle.plant.specs.Turn.{kindTurn, outcomeExchanged, nextTest, makesTest, finishPass, countTest, replies, isTold, exchangeRows, suspect, replyOutcome, testOutcome, afterOutcome, afterTest, selfOrSuspected, isAlone, afterAlone, testing, turn}
-use Rattle.plant.proofs.StepCells.{finishPass-other, countTest-other, suspect-same, suspect-other, exchange-other, exchange-tester, exchange-tested, exchange-tester-own, exchange-tested-own}
-use Rattle.plant.proofs.StepLines.{Lines, finishPass-lines, countTest-lines, suspect-lines, exchange-lines, station-apart}
-use Rattle.plant.proofs.NextTest.{nextTest-low, not-due-before, test-below, test-station, none-due}
-use Rattle.station.proofs.BoolLaws.{by-bool}
-use Rattle.plant.proofs.TurnHeads.{turn-heads}
+use Rattle.lists.proofs.SearchLaws.{every-not}
+use Rattle.turn.specs.Turn.{kindTurn, outcomeExchanged, nextTest, makesTest, finishPass, countTest, replies, isTold, exchangeRows, suspect, replyOutcome, testOutcome, afterOutcome, afterTest, selfOrSuspected, isAlone, afterAlone, testing, turn}
+use Rattle.turn.proofs.StepCells.{finishPass-other, countTest-other, suspect-same, suspect-other, exchange-other, exchange-tester, exchange-tested, exchange-tester-own, exchange-tested-own}
+use Rattle.turn.proofs.StepLines.{Lines, finishPass-lines, countTest-lines, suspect-lines, exchange-lines, station-apart}
+use Rattle.turn.proofs.NextTest.{nextTest-low, not-due-before, test-below, test-station, none-due}
+use Rattle.lists.proofs.BoolLaws.{by-bool}
+use Rattle.turn.proofs.TurnHeads.{turn-heads}
 
 -- a table that obeys the line rules, with live set L, in which no live station suspects a live one
 pub record Plain (n : ℕ) (L : ℕ → Bool) (t : List ℕ) : Type 0 where

@@ -6,15 +6,14 @@ use mathlib.Core.Bool.{Bool, true, cond, _&&_}
 use mathlib.Core.List.{List, [], _∷_, map}
 use lib.ListN.{length, getD}
 use lib.Dec.{eqb}
-use Rattle.station.specs.Search.{listOf}
-use Rattle.station.specs.Sums.{bit}
-use Rattle.station.specs.Groups.{stationAt, dimension}
-use Rattle.station.specs.Table.{row, live}
-use Rattle.station.specs.Rules.{notLive}
+use Rattle.station.specs.Groups.{stationAt}
+use Rattle.table.specs.Sizes.{dimension}
+use Rattle.table.specs.Table.{live}
 use Rattle.station.specs.Tests.{dueDistances}
 use Rattle.plant.specs.Entry.{State, testedOf}
 use Rattle.detection.specs.Runs.{Call, Taken, takenTest}
 use Rattle.detection.specs.Claim.{roundsOf, Premises, exactWait}
+use Rattle.table.specs.Properties.{exactRow, ExactRows}
 
 -- the station that the taken entry tests; 255 where it makes no test
 abbrev pub stationTested : Taken → ℕ
@@ -33,14 +32,6 @@ testedIn i (x ∷ xs) = cond (isTestOf i x) (stationTested x ∷ testedIn i xs) 
 unfoldable pub firstTable : List Taken → List ℕ
 firstTable [] = []
 firstTable (x ∷ xs) = x .before .table
-
--- the row that suspects exactly the boards that are not live
-unfoldable pub exactRow : ℕ → List ℕ → List ℕ
-exactRow n t = listOf (λ j. bit (notLive n t j)) n
-
--- exact rows: the row of each live board is that one
-abbrev pub ExactRows : ℕ → List ℕ → Type 0
-ExactRows n t = (i : ℕ) → i < n → live n t i ≡ true → row n t i ≡ exactRow n t
 
 -- in the kth closed round (from 0) each live board tests, in this order, the boards at the distances that are due by that row, and no other
 abbrev pub TestsJustDue : ℕ → State → List Call → ℕ → Type 0

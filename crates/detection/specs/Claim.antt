@@ -2,37 +2,20 @@
 -- Assumes nothing.
 use Prim.Native.Nat.{ℕ, suc, _+_, _-_, _*_, _/_, _≤_, _<_}
 use mathlib.Core.Path.{_≡_}
-use mathlib.Core.Bool.{Bool, true, cond, not, _&&_, _||_}
+use mathlib.Core.Bool.{Bool, true, cond, not, _&&_}
 use mathlib.Core.List.{List, [], _∷_, _++_}
 use lib.ListN.{length, getD}
-use lib.Dec.{eqb, ltb}
-use Rattle.station.specs.Search.{every}
-use Rattle.station.specs.Groups.{isSize, dimension, isPresent, width, member}
-use Rattle.station.specs.Table.{tableLength, nextDistance, finished, testsMade, suspects, live}
-use Rattle.station.specs.Rules.{notLive}
+use lib.Dec.{ltb}
+use Rattle.lists.specs.Search.{every}
+use Rattle.table.specs.Sizes.{isSize, dimension}
+use Rattle.station.specs.Groups.{isPresent, width, member}
+use Rattle.table.specs.Table.{tableLength, suspects, live}
+use Rattle.table.specs.Rules.{notLive}
 use Rattle.plant.specs.Entry.{State}
-use Rattle.station.specs.Sums.{sum, bit}
+use Rattle.lists.specs.Sums.{sum, bit}
 use Rattle.detection.specs.Runs.{Call, Taken, afterRuns, takenAll, crashes, isLate}
 use Rattle.detection.specs.Rounds.{allTaken, Rounds, cut, testsIn, testsOfAll, turnsIn, nthTurnFinishes}
-
--- "A table stands at the start of a round when every line has these three": next distance 1, finished 0, tests 0
-abbrev pub lineAtStart : ℕ → List ℕ → ℕ → Bool
-lineAtStart n t i = eqb (nextDistance n t i) 1 && eqb (finished n t i) 0 && eqb (testsMade n t i) 0
-
-unfoldable pub atStart : ℕ → List ℕ → Bool
-atStart n t = every (lineAtStart n t) n
-
--- how many stations are live
-unfoldable pub liveCount : ℕ → List ℕ → ℕ
-liveCount n t = sum (λ i. bit (live n t i)) n
-
--- i and j are not both live, or i does not suspect j
-abbrev pub noLiveSuspicion : ℕ → List ℕ → ℕ → ℕ → Bool
-noLiveSuspicion n t i j = notLive n t i || notLive n t j || eqb (suspects n t i j) 0
-
--- no live station suspects a live one
-unfoldable pub noneSuspected : ℕ → List ℕ → Bool
-noneSuspected n t = every (λ i. every (noLiveSuspicion n t i) n) n
+use Rattle.table.specs.Properties.{atStart, liveCount, noneSuspected}
 
 -- a live board stands at the number x
 abbrev pub liveAt : ℕ → List ℕ → ℕ → Bool

@@ -4,9 +4,9 @@ use Prim.Native.Nat.{ℕ, _+_, _-_}
 use mathlib.Core.Bool.{Bool, true, false, cond, _&&_, _||_}
 use mathlib.Core.List.{List, [], _∷_, _++_}
 use lib.Dec.{eqb}
-use Rattle.station.specs.Search.{every}
-use Rattle.station.specs.Rules.{notLive, someLive}
-use Rattle.station.specs.Sums.{bit}
+use Rattle.lists.specs.Search.{every}
+use Rattle.table.specs.Rules.{notLive, someLive}
+use Rattle.lists.specs.Sums.{bit}
 use Rattle.detection.specs.Runs.{Taken, tableAfter, isTurnOf, takenTest, finishes}
 
 -- whether any entry of the list passes q, whether all do, and how many do

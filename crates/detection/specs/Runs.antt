@@ -5,8 +5,8 @@ use mathlib.Core.Bool.{Bool, cond, not, _&&_}
 use mathlib.Core.List.{List, [], _∷_, _++_}
 use lib.ListN.{length}
 use lib.Dec.{eqb}
-use Rattle.station.specs.Table.{live}
-use Rattle.plant.specs.Turn.{kindLate}
+use Rattle.table.specs.Table.{live}
+use Rattle.turn.specs.Turn.{kindLate}
 use Rattle.plant.specs.Entry.{Entry, State, isCrash, isTest, entryNumber, after, testedOf}
 use Rattle.plant.specs.Run.{entries, startNumber, run}
 

@@ -8,20 +8,21 @@ use native.Mathlib.Omega.{arith}
 use borrow.Author.Tests.{eqb-true, eqb-false, eq-eqb, not-true}
 use lib.Dec.{eqb}
 use lib.ListN.{length}
-use Rattle.station.specs.Search.{every}
-use Rattle.station.specs.Sums.{bit}
-use Rattle.station.specs.Groups.{dimension}
-use Rattle.station.specs.Table.{live}
-use Rattle.station.specs.Rules.{notLive, someLive, roundOver}
-use Rattle.station.proofs.BoolLaws.{by-bool, choice}
-use Rattle.station.proofs.SearchLaws.{both, every-at}
-use Rattle.station.proofs.SumLaws.{sum-zero}
-use Rattle.plant.specs.Turn.{kindTurn}
+use Rattle.lists.specs.Search.{every}
+use Rattle.lists.specs.Sums.{bit}
+use Rattle.table.specs.Sizes.{dimension}
+use Rattle.table.specs.Table.{live}
+use Rattle.table.specs.Rules.{notLive, someLive, roundOver}
+use Rattle.lists.proofs.BoolLaws.{by-bool, choice}
+use Rattle.lists.proofs.SearchLaws.{both, every-at}
+use Rattle.lists.proofs.SumLaws.{sum-zero}
+use Rattle.turn.specs.Turn.{kindTurn}
 use Rattle.plant.specs.Entry.{Entry, State, entryOf, entryNumber, acted, after}
 use Rattle.plant.specs.Run.{entries, startNumber}
 use Rattle.detection.specs.Runs.{Call, Taken, afterRuns, takenFrom, takenIn, takenAll, crashes, isLate}
 use Rattle.detection.specs.Rounds.{allTaken}
-use Rattle.detection.specs.Claim.{liveCount, roundsOf, Premises, Conclusion, Within, demandWait, exactWait}
+use Rattle.table.specs.Properties.{liveCount}
+use Rattle.detection.specs.Claim.{roundsOf, Premises, Conclusion, Within, demandWait, exactWait}
 use Rattle.detection.proofs.TakenLaws.{takenAt}
 use Rattle.detection.proofs.Demand3.{exact-wait, demand-3}
 use Rattle.granter.specs.Grant.{grantNumber}

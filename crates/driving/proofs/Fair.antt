@@ -11,12 +11,12 @@ use native.Mathlib.Numerals.{add-one}
 use native.Mathlib.Omega.{arith}
 use borrow.Author.Tests.{ltb-true, ltb-false, lt-ltb, le-ltb, eqb-true, ne-eqb}
 use lib.Dec.{ltb, eqb}
-use Rattle.station.specs.Rules.{notLive, someLive, tableNumber}
-use Rattle.station.specs.Calls.{unless}
-use Rattle.station.proofs.BoolLaws.{by-bool}
-use Rattle.station.proofs.SearchLaws.{every-not, least-between, least-before}
-use Rattle.station.proofs.Sizes.{size-bounds}
-use Rattle.station.proofs.Refusals.{Accepted, accepted}
+use Rattle.table.specs.Rules.{notLive, someLive, tableNumber}
+use Rattle.lists.specs.Refusal.{unless}
+use Rattle.lists.proofs.BoolLaws.{by-bool}
+use Rattle.lists.proofs.SearchLaws.{every-not, least-between, least-before}
+use Rattle.table.proofs.SizeLaws.{size-bounds}
+use Rattle.table.proofs.Accepting.{Accepted, accepted}
 use Rattle.granter.specs.Grant.{noGrant, waits, firstFrom, following, granted, lastRefusal, grantNumber, grantStation}
 use Rattle.granter.proofs.GrantLaws.{waits-parts, grantable, grant-zero, station-fits, last-below, granted-waits}
 use Rattle.driving.specs.Fairness.{ahead, NextGoingRound, lastBefore, Grants, Fairness}

@@ -3,14 +3,14 @@
 use mathlib.Core.Path.{_≡_, refl, sym, ap, _∙_}
 use mathlib.Core.Bool.{true, false, cond}
 use mathlib.Core.List.{List, [], _∷_, _++_, append-assoc}
-use Prim.Native.Nat.{ℕ, zero, suc, _+_, _<_}
+use Prim.Native.Nat.{ℕ, zero, suc, _<_}
 use native.Mathlib.Omega.{arith}
 use borrow.Author.Tests.{eqb-true, eqb-false}
 use lib.Dec.{eqb}
 use lib.ListN.{length, length-append}
-use Rattle.station.specs.Rules.{tableNumber}
-use Rattle.station.proofs.BoolLaws.{by-bool}
-use Rattle.plant.specs.Turn.{kindTurn}
+use Rattle.table.specs.Rules.{tableNumber}
+use Rattle.lists.proofs.BoolLaws.{by-bool}
+use Rattle.turn.specs.Turn.{kindTurn}
 use Rattle.plant.specs.Entry.{State, entryOf, entryNumber, after}
 use Rattle.plant.specs.Run.{Outcome, entries, startNumber}
 use Rattle.plant.proofs.RunLaws.{accepted-number, start-one, go-one, run-goes}

@@ -2,12 +2,12 @@
 -- Assumes nothing.
 use mathlib.Core.Path.{_≡_}
 use mathlib.Core.Bool.{true, false}
-use Prim.Native.Nat.{ℕ, zero, suc, _+_, _*_, _-_, _≤_}
+use Prim.Native.Nat.{ℕ, zero, suc, _+_, _*_, _≤_}
 use native.Mathlib.Decide.{decLt}
 use mathlib.Core.Logic.{by-cases}
 use native.Mathlib.Omega.{arith}
 use borrow.Author.Tests.{ne-eqb}
-use Rattle.station.proofs.BoolLaws.{by-bool}
+use Rattle.lists.proofs.BoolLaws.{by-bool}
 use Rattle.plant.proofs.Kept.{entry-facts}
 use Rattle.granter.specs.Drive.{Stand, standAt, endedAfter, fullAfter, Stopped}
 use Rattle.granter.proofs.GrantLaws.{grantable}

@@ -6,11 +6,11 @@ use mathlib.Core.List.{List, [], _∷_, _++_}
 use Prim.Native.Nat.{ℕ, zero, suc, _+_, _≤_, _<_}
 use lib.Dec.{eqb}
 use lib.ListN.{length}
-use Rattle.station.specs.Sums.{bit}
-use Rattle.station.specs.Groups.{dimension}
-use Rattle.station.specs.Table.{suspects, live}
-use Rattle.station.specs.Rules.{notLive}
-use Rattle.plant.specs.Turn.{kindTurn}
+use Rattle.lists.specs.Sums.{bit}
+use Rattle.table.specs.Sizes.{dimension}
+use Rattle.table.specs.Table.{suspects, live}
+use Rattle.table.specs.Rules.{notLive}
+use Rattle.turn.specs.Turn.{kindTurn}
 use Rattle.plant.specs.Entry.{State, entryOf, entryNumber}
 use Rattle.detection.specs.Runs.{Call, callOf, afterRuns, takenAll}
 use Rattle.detection.specs.Claim.{roundsOf, Premises, Conclusion, demandWait}

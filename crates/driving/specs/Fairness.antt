@@ -6,8 +6,8 @@ use mathlib.Core.Bool.{true, cond}
 use mathlib.Core.List.{List}
 use Prim.Native.Nat.{ℕ, zero, suc, _+_, _-_, _≤_, _<_}
 use lib.Dec.{ltb}
-use Rattle.station.specs.Rules.{tableNumber}
-use Rattle.station.specs.Calls.{unless}
+use Rattle.table.specs.Rules.{tableNumber}
+use Rattle.lists.specs.Refusal.{unless}
 use Rattle.granter.specs.Grant.{waits, following, granted, lastRefusal, grantNumber, grantStation}
 
 -- how many stations come before station i in the going round b, b + 1, .., n − 1, 0, 1, .., b − 1

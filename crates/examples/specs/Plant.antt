@@ -5,18 +5,21 @@ use mathlib.Core.Path.{_≡_, refl}
 use mathlib.Core.List.{List, [], _∷_, map}
 use Prim.Native.Nat.{ℕ, _+_}
 use lib.ListN.{replicate}
-use Rattle.station.specs.Search.{least, every, keep, listOf}
-use Rattle.station.specs.Groups.{isSize, level, dimension, distances, width, member, fullGroup, group, stationAt}
-use Rattle.station.specs.Table.{head, tableLength, lineStart, cell, setCell, statusColumn, row, setRow}
-use Rattle.station.specs.Rules.{rowRule, lineRules, someLive, liveFinished, shapeNumber, tableNumber}
+use Rattle.lists.specs.Search.{least, every, keep, listOf}
+use Rattle.table.specs.Sizes.{isSize, level, dimension, distances}
+use Rattle.station.specs.Groups.{width, member, fullGroup, group, stationAt}
+use Rattle.table.specs.Table.{head, tableLength, lineStart, cell, setCell, statusColumn, row, setRow}
+use Rattle.table.specs.Rules.{rowRule, lineRules, someLive, liveFinished, shapeNumber, tableNumber}
 use Rattle.station.specs.Tests.{unsuspected, firstPlace, first, answer, due, dueDistances}
 use Rattle.station.specs.Rows.{unionByte, union, mark}
-use Rattle.station.specs.Calls.{freshByte, freshTable, otherDistances, assignmentEntries}
-use Rattle.plant.specs.Iterate.{iterate}
-use Rattle.plant.specs.Turn.{nextTest, makesTest, finishPass, countTest, replies, isTold, exchangeRows, suspect, replyOutcome, testOutcome, afterOutcome, selfOrSuspected, isAlone, afterAlone, testing, turn, turnTested, turnOutcome, crash, resetLine, resetLines, afterRound}
+use Rattle.table.specs.Fresh.{freshByte, freshTable}
+use Rattle.station.specs.Calls.{otherDistances, assignmentEntries}
+use Rattle.lists.specs.Iterate.{iterate}
+use Rattle.turn.specs.Turn.{nextTest, makesTest, finishPass, countTest, replies, isTold, exchangeRows, suspect, replyOutcome, testOutcome, afterOutcome, selfOrSuspected, isAlone, afterAlone, testing, turn, turnTested, turnOutcome, crash}
+use Rattle.plant.specs.Round.{resetLine, resetLines, afterRound}
 use Rattle.plant.specs.Entry.{stateOf, entryNumber, acted, after, testedOf, outcomeOf, sheetLine}
 use Rattle.plant.specs.Run.{Outcome, entries, writeLine, goOn, startNumber, run}
-use Rattle.station.specs.Sums.{sum}
+use Rattle.lists.specs.Sums.{sum}
 use Rattle.detection.specs.Claim.{deadGroup, deadPairs, demandCount}
 
 -- one example: what the definitions give, and what is said

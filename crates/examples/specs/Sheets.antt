@@ -5,8 +5,9 @@ use mathlib.Core.Path.{_≡_, refl}
 use mathlib.Core.Bool.{true, false}
 use mathlib.Core.List.{List, [], _∷_, map}
 use Prim.Native.Nat.{ℕ}
-use Rattle.station.specs.Search.{least, listOf, keep}
-use Rattle.station.specs.Groups.{level, dimension, distances, width, member}
+use Rattle.lists.specs.Search.{least, listOf, keep}
+use Rattle.table.specs.Sizes.{level, dimension, distances}
+use Rattle.station.specs.Groups.{width, member}
 use Rattle.station.specs.Tests.{unsuspected, firstPlace, first, answer, due, dueDistances}
 use Rattle.station.specs.Rows.{mark}
 use Rattle.examples.specs.Plant.{Example, gives}

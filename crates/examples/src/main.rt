@@ -4,12 +4,12 @@
 use plant::Answer;
 use plant::Tally;
 use plant::run;
-use station::Level;
-use station::Station;
-use station::cells;
 use station::due;
-use station::fresh;
 use station::groups;
+use table::Level;
+use table::Station;
+use table::cells;
+use table::fresh;
 
 const OUT: i32 = 1;
 

@@ -10,19 +10,21 @@ use native.Mathlib.Omega.{arith}
 use borrow.Author.Tests.{eqb-true, eqb-false, ne-eqb, not-true}
 use lib.Dec.{eqb}
 use lib.ListN.{length}
-use Rattle.station.specs.Search.{every}
+use Rattle.lists.specs.Search.{every}
 use Rattle.station.specs.Groups.{stationAt}
-use Rattle.station.specs.Table.{head, stride, tableLength, cell, statusColumn, nextColumn, finishedColumn, testsColumn, status, suspects, live}
-use Rattle.station.specs.Rules.{roundOver}
-use Rattle.station.proofs.BoolLaws.{by-bool, choice, every-same}
-use Rattle.station.proofs.SearchLaws.{both, every-not}
-use Rattle.station.proofs.Refusals.{Accepted, accepted}
-use Rattle.station.proofs.CellLaws.{cell-same, cell-other, setCell-length, accepted-line}
-use Rattle.plant.specs.Turn.{kindTurn, outcomeExchanged, outcomeTold, outcomeTestedTold, statusTold, statusAlone, setStatus, nextTest, makesTest, countTest, replies, isTold, exchangeRows, replyOutcome, testOutcome, afterOutcome, selfOrSuspected, isAlone, afterAlone, testing, turn, turnTested, turnOutcome, afterRound}
+use Rattle.table.specs.Table.{head, stride, tableLength, cell, statusColumn, nextColumn, finishedColumn, testsColumn, status, suspects, live, statusTold, statusAlone}
+use Rattle.table.specs.Rules.{roundOver}
+use Rattle.lists.proofs.BoolLaws.{by-bool, choice, every-same}
+use Rattle.lists.proofs.SearchLaws.{both, every-not}
+use Rattle.table.proofs.Accepting.{Accepted, accepted}
+use Rattle.table.proofs.CellLaws.{cell-same, cell-other, setCell-length, accepted-line}
+use Rattle.turn.specs.Turn.{kindTurn, outcomeExchanged, outcomeTold, outcomeTestedTold, setStatus, nextTest, makesTest, countTest, replies, isTold, exchangeRows, replyOutcome, testOutcome, afterOutcome, selfOrSuspected, isAlone, afterAlone, testing, turn, turnTested, turnOutcome}
+use Rattle.plant.specs.Round.{afterRound}
 use Rattle.plant.specs.Entry.{Entry, State, isCrash, acted, after, testedOf, outcomeOf}
-use Rattle.plant.proofs.NextTest.{nextTest-low, test-below, test-station}
-use Rattle.plant.proofs.StepCells.{countTest-other, exchange-other, exchange-tester, exchange-tested, exchange-tester-own, exchange-tested-own, reset-other}
-use Rattle.plant.proofs.StepLines.{Lines, countTest-lines, station-apart}
+use Rattle.turn.proofs.NextTest.{nextTest-low, test-below, test-station}
+use Rattle.turn.proofs.StepCells.{countTest-other, exchange-other, exchange-tester, exchange-tested, exchange-tester-own, exchange-tested-own}
+use Rattle.plant.proofs.RoundLaws.{reset-other}
+use Rattle.turn.proofs.StepLines.{Lines, countTest-lines, station-apart}
 use Rattle.plant.proofs.Kept.{Takes, entry-facts}
 use Rattle.exits.specs.Exits.{Replied, SameRows, RowsJoined, NeitherSuspects, TestedHears}
 

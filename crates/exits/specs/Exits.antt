@@ -6,10 +6,10 @@ use mathlib.Core.Logic.{_≢_}
 use mathlib.Core.Bool.{true, cond}
 use mathlib.Core.List.{List}
 use Prim.Native.Nat.{ℕ, max, _<_}
-use Rattle.station.specs.Search.{every}
-use Rattle.station.specs.Table.{status, suspects, live}
-use Rattle.station.specs.Rules.{tableNumber}
-use Rattle.plant.specs.Turn.{outcomeExchanged, outcomeTold, outcomeTestedTold, statusTold, statusAlone, replies, selfOrSuspected}
+use Rattle.lists.specs.Search.{every}
+use Rattle.table.specs.Table.{status, suspects, live, statusTold, statusAlone}
+use Rattle.table.specs.Rules.{tableNumber}
+use Rattle.turn.specs.Turn.{outcomeExchanged, outcomeTold, outcomeTestedTold, replies, selfOrSuspected}
 use Rattle.plant.specs.Entry.{Entry, State, isTest, entryNumber, after, testedOf, outcomeOf}
 
 -- a taken entry whose test has a reply. At every entry that a run reaches, refusals 1 to 4 let its table through (`accepted-kept` of

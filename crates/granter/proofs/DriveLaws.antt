@@ -10,17 +10,18 @@ use native.Mathlib.Nat.{mul-le-mul}
 use native.Mathlib.Numerals.{add-one}
 use native.Mathlib.Omega.{arith}
 use borrow.Author.Tests.{eqb-true, eqb-false, eq-eqb, ne-eqb, not-false}
-use Rattle.station.specs.Rules.{someLive, roundOver, tableNumber}
-use Rattle.station.proofs.BoolLaws.{by-bool, neither}
-use Rattle.station.proofs.SearchLaws.{least-is, least-none}
-use Rattle.station.proofs.Sizes.{size-bounds}
-use Rattle.station.proofs.Refusals.{Accepted}
-use Rattle.station.proofs.CellLaws.{accepted-line}
-use Rattle.plant.specs.Turn.{kindTurn, turn, afterRound}
+use Rattle.table.specs.Rules.{someLive, roundOver, tableNumber}
+use Rattle.lists.proofs.BoolLaws.{by-bool, neither}
+use Rattle.lists.proofs.SearchLaws.{least-is, least-none}
+use Rattle.table.proofs.SizeLaws.{size-bounds}
+use Rattle.table.proofs.Accepting.{Accepted}
+use Rattle.table.proofs.CellLaws.{accepted-line}
+use Rattle.turn.specs.Turn.{kindTurn, turn}
+use Rattle.plant.specs.Round.{afterRound}
 use Rattle.plant.specs.Entry.{Entry, State, entryOf, tallyFull, entryNumber, acted, after}
 use Rattle.plant.proofs.Kept.{accepted-kept}
 use Rattle.plant.proofs.RunLaws.{accepted-number}
-use Rattle.plant.proofs.StepLines.{Lines}
+use Rattle.turn.proofs.StepLines.{Lines}
 use Rattle.granter.specs.Grant.{waits, grantNumber}
 use Rattle.granter.specs.Drive.{Stand, standAt, grantedAt, grantTurn, afterGrants, ended, endedAfter, fullAfter, stops, grantsMade, outcomeOf, outcomeAfter, drive, Stopped}
 use Rattle.granter.proofs.GrantLaws.{Grantable, granted-waits, waits-parts, turn-taken}

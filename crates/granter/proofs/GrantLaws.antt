@@ -7,14 +7,15 @@ use Prim.Native.Nat.{ℕ, _-_, _<_}
 use native.Mathlib.Omega.{arith}
 use borrow.Author.Tests.{ltb-true, ltb-false, lt-leb, leb-false, eqb-true, not-true, not-false}
 use lib.Dec.{ltb, leb, eqb}
-use Rattle.station.specs.Search.{least, every}
-use Rattle.station.specs.Table.{finished, live}
-use Rattle.station.specs.Rules.{someLive, finishedIfLive, liveFinished, tableNumber}
-use Rattle.station.proofs.BoolLaws.{by-bool}
-use Rattle.station.proofs.SearchLaws.{both, every-all, least-between, least-passes, least-before}
-use Rattle.station.proofs.Sizes.{size-bounds}
-use Rattle.station.proofs.Refusals.{Accepted, accepted, else-zero, refuse-zero}
-use Rattle.plant.specs.Turn.{kindTurn}
+use Rattle.lists.specs.Search.{least, every}
+use Rattle.table.specs.Table.{finished, live}
+use Rattle.table.specs.Rules.{someLive, finishedIfLive, liveFinished, tableNumber}
+use Rattle.lists.proofs.BoolLaws.{by-bool}
+use Rattle.lists.proofs.SearchLaws.{both, every-all, least-between, least-passes, least-before}
+use Rattle.table.proofs.SizeLaws.{size-bounds}
+use Rattle.table.proofs.Accepting.{Accepted, accepted}
+use Rattle.lists.proofs.RefusalLaws.{else-zero, refuse-zero}
+use Rattle.turn.specs.Turn.{kindTurn}
 use Rattle.plant.specs.Entry.{State, entryOf, tallyFull, entryNumber}
 use Rattle.granter.specs.Grant.{noGrant, waits, firstFrom, following, granted, lastRefusal, grantNumber}
 

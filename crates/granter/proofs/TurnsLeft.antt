@@ -12,16 +12,16 @@ use native.Mathlib.Omega.{arith}
 use borrow.Author.Tests.{ne-eqb, lt-ltb}
 use lib.Bits.{xor-zero-r}
 use lib.Dec.{eqb}
-use Rattle.station.specs.Sums.{sum}
-use Rattle.station.specs.Groups.{isSize, distances}
-use Rattle.station.specs.Table.{nextColumn, finishedColumn, nextDistance, finished}
-use Rattle.station.proofs.BoolLaws.{by-bool, choice}
-use Rattle.station.proofs.SumLaws.{sum-by}
+use Rattle.lists.specs.Sums.{sum}
+use Rattle.table.specs.Sizes.{isSize, distances}
+use Rattle.table.specs.Table.{nextColumn, finishedColumn, nextDistance, finished}
+use Rattle.lists.proofs.BoolLaws.{by-bool, choice}
+use Rattle.lists.proofs.SumLaws.{sum-by}
 use Rattle.station.proofs.Presence.{standing, standing-all, standing-more, standing-grows}
-use Rattle.plant.specs.Turn.{nextTest, makesTest, turn}
-use Rattle.plant.proofs.NextTest.{nextTest-low, test-station}
-use Rattle.plant.proofs.StepLines.{Lines}
-use Rattle.plant.proofs.TurnHeads.{Heads, turn-heads}
+use Rattle.turn.specs.Turn.{nextTest, makesTest, turn}
+use Rattle.turn.proofs.NextTest.{nextTest-low, test-station}
+use Rattle.turn.proofs.StepLines.{Lines}
+use Rattle.turn.proofs.TurnHeads.{Heads, turn-heads}
 
 -- a test at each present distance from the next one on, and the turn that finishes: the station itself stands at distance 0
 unfoldable pub turnsLeft : ℕ → List ℕ → ℕ → ℕ

@@ -5,10 +5,10 @@ use Prim.Native.Nat.{ℕ, zero, suc, _*_, _≤_, _<_}
 use mathlib.Core.Bool.{Bool, true, false, cond, not, _||_}
 use mathlib.Core.List.{List}
 use lib.Dec.{eqb}
-use Rattle.station.specs.Search.{least}
-use Rattle.station.specs.Rules.{someLive}
-use Rattle.station.specs.Calls.{unless}
-use Rattle.plant.specs.Turn.{kindTurn}
+use Rattle.lists.specs.Search.{least}
+use Rattle.table.specs.Rules.{someLive}
+use Rattle.lists.specs.Refusal.{unless}
+use Rattle.turn.specs.Turn.{kindTurn}
 use Rattle.plant.specs.Entry.{State, stateWith, entryOf, tallyFull, after}
 use Rattle.granter.specs.declared.Driven.{Driven}
 use Rattle.granter.specs.Grant.{granted, grantNumber}

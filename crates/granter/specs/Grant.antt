@@ -4,10 +4,10 @@ use Prim.Native.Nat.{ℕ, _+_, _-_}
 use mathlib.Core.Bool.{Bool, cond, not, _&&_}
 use mathlib.Core.List.{List}
 use lib.Dec.{ltb, leb, eqb}
-use Rattle.station.specs.Search.{least}
-use Rattle.station.specs.Table.{finished, live}
-use Rattle.station.specs.Rules.{someLive, refuse, _else_, tableNumber}
-use Rattle.station.specs.Calls.{unless}
+use Rattle.lists.specs.Search.{least}
+use Rattle.table.specs.Table.{finished, live}
+use Rattle.table.specs.Rules.{someLive, tableNumber}
+use Rattle.lists.specs.Refusal.{refuse, _else_, unless}
 
 -- the last granted number where none was granted yet: "255 at the start"
 abbrev pub noGrant : ℕ

@@ -1,10 +1,11 @@
 // The grant (request C-15): the next station, going round, that is live and unfinished.
 ghost use mathlib.Core.Path.{_≡_};
-ghost use Rattle.station.specs.Rules.{someLive, _else_};
+ghost use Rattle.table.specs.Rules.{someLive};
+ghost use Rattle.lists.specs.Refusal.{_else_};
 ghost use Rattle.granter.specs.Grant.{firstFrom, following, granted, lastRefusal, liveRefusal, grantNumber, grantStation};
 use crate::Granted;
-use station::Station;
-use station::rules;
+use table::Station;
+use table::rules;
 
 // The last granted number where none was granted yet.
 const NO_GRANT: usize = 255;

@@ -4,7 +4,7 @@ pub mod drive;
 pub mod grant;
 
 use plant::Tally;
-use station::Station;
+use table::Station;
 
 // What a grant answers: 0 or the refusal, and the granted station, 0 where it is refused.
 pub struct Granted {

@@ -8,19 +8,21 @@ use native.Mathlib.Omega.{arith}
 use borrow.Author.Tests.{leb-true, leb-false, eqb-true, eqb-false, eq-eqb, ne-eqb, not-false}
 use lib.Dec.{eqb}
 use lib.ListN.{length}
-use Rattle.station.specs.Search.{every}
-use Rattle.station.specs.Table.{tableLength, finished, live}
-use Rattle.station.specs.Rules.{lineRules, notLive, someLive, finishedIfLive, liveFinished, tableNumber, roundOver}
-use Rattle.station.proofs.BoolLaws.{neither}
-use Rattle.station.proofs.SearchLaws.{both, every-at, every-all}
-use Rattle.station.proofs.Refusals.{Accepted, accepted, else-zero, refuse-zero}
-use Rattle.station.proofs.CellLaws.{Line, line-holds, accepted-line}
-use Rattle.plant.specs.Turn.{turn, crash, resetLines, afterRound}
+use Rattle.lists.specs.Search.{every}
+use Rattle.table.specs.Table.{tableLength, finished, live}
+use Rattle.table.specs.Rules.{lineRules, notLive, someLive, finishedIfLive, liveFinished, tableNumber, roundOver}
+use Rattle.lists.proofs.BoolLaws.{neither}
+use Rattle.lists.proofs.SearchLaws.{both, every-at, every-all}
+use Rattle.table.proofs.Accepting.{Accepted, accepted}
+use Rattle.lists.proofs.RefusalLaws.{else-zero, refuse-zero}
+use Rattle.table.proofs.CellLaws.{Line, line-holds, accepted-line}
+use Rattle.turn.specs.Turn.{turn, crash}
+use Rattle.plant.specs.Round.{resetLines, afterRound}
 use Rattle.plant.specs.Entry.{Entry, State, tallyTop, isCrash, entryNumber, acted, after, sheetLine}
 use Rattle.plant.specs.Run.{Outcome, entries, writeLine, goOn, startNumber, run}
 use Rattle.plant.proofs.RunLaws.{accepted-number}
-use Rattle.plant.proofs.StepLines.{Lines, leave-lines, turn-lines, reset-lines}
-use Rattle.plant.proofs.StepCells.{reset-cells}
+use Rattle.turn.proofs.StepLines.{Lines, leave-lines, turn-lines}
+use Rattle.plant.proofs.RoundLaws.{reset-lines, reset-cells}
 
 -- what an entry has that refusals 7 to 11 let through
 pub record Takes (n : ℕ) (s : State) (e : Entry) : Type 0 where

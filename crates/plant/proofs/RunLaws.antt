@@ -11,11 +11,12 @@ use lib.Dec.{eqb}
 use lib.ListN.{length, getD, set, take, drop, drop-of-length-le}
 use lib.Seq.{drop-drop}
 use Rattle.station.specs.Groups.{stationAt}
-use Rattle.station.specs.Rules.{shapeNumber, tableNumber}
-use Rattle.station.specs.Table.{tableLength}
-use Rattle.station.proofs.BoolLaws.{choice}
-use Rattle.station.proofs.Refusals.{Accepted, accepted, else-zero, refuse-zero}
-use Rattle.plant.specs.Turn.{countTest, replies, isTold, replyOutcome, testOutcome, makesTest, nextTest, turnOutcome}
+use Rattle.table.specs.Rules.{shapeNumber, tableNumber}
+use Rattle.table.specs.Table.{tableLength}
+use Rattle.lists.proofs.BoolLaws.{choice}
+use Rattle.table.proofs.Accepting.{Accepted, accepted}
+use Rattle.lists.proofs.RefusalLaws.{else-zero, refuse-zero}
+use Rattle.turn.specs.Turn.{countTest, replies, isTold, replyOutcome, testOutcome, makesTest, nextTest, turnOutcome}
 use Rattle.plant.specs.Entry.{Entry, State, entryOf, isCrash, isTest, entryNumber, after, outcomeOf, sheetLine}
 use Rattle.plant.specs.Run.{Outcome, entries, writeLine, goOn, startNumber, run}
 

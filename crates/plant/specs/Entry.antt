@@ -4,11 +4,12 @@ use Prim.Native.Nat.{ℕ, _+_}
 use mathlib.Core.Bool.{Bool, cond, not, _&&_, _||_}
 use mathlib.Core.List.{List, [], _∷_}
 use lib.Dec.{leb, eqb}
-use Rattle.station.specs.Table.{status, finished, live}
-use Rattle.station.specs.Rules.{refuse, _else_, roundOver}
-use Rattle.station.specs.Calls.{stationRefusal}
+use Rattle.table.specs.Table.{status, finished, live}
+use Rattle.lists.specs.Refusal.{refuse, _else_}
+use Rattle.table.specs.Rules.{roundOver, stationRefusal}
 use Rattle.plant.specs.declared.Tally.{Tally}
-use Rattle.plant.specs.Turn.{kindCrash, outcomeCrash, noStation, makesTest, turn, turnTested, turnOutcome, crash, afterRound}
+use Rattle.turn.specs.Turn.{kindCrash, outcomeCrash, noStation, makesTest, turn, turnTested, turnOutcome, crash}
+use Rattle.plant.specs.Round.{afterRound}
 
 -- "A schedule entry is two bytes: kind [..] and station i."
 pub record Entry : Type 0 where

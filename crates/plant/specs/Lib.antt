@@ -1,5 +1,4 @@
 -- What the contracts of `plant` cite: document 01, "What an entry does" and the run.
-pub mod Iterate
-pub mod Turn
+pub mod Round
 pub mod Entry
 pub mod Run

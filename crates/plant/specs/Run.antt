@@ -5,7 +5,8 @@ use mathlib.Core.Bool.{cond, not}
 use mathlib.Core.List.{List, [], _∷_, _++_}
 use lib.ListN.{length, take, drop}
 use lib.Dec.{eqb}
-use Rattle.station.specs.Rules.{refuse, _else_, tableNumber}
+use Rattle.lists.specs.Refusal.{refuse, _else_}
+use Rattle.table.specs.Rules.{tableNumber}
 use Rattle.plant.specs.declared.Answer.{Answer}
 use Rattle.plant.specs.Entry.{Entry, State, stateWith, entryOf, entryNumber, after, sheetLine}
 

@@ -3,18 +3,18 @@ ghost use mathlib.Core.Path.{_≡_};
 ghost use Prim.Native.Nat.{_+_, _<_};
 ghost use mathlib.Core.Bool.{cond};
 ghost use lib.ListN.{length};
-ghost use Rattle.station.specs.Table.{tableLength};
-ghost use Rattle.station.specs.Rules.{tableNumber};
+ghost use Rattle.table.specs.Table.{tableLength};
+ghost use Rattle.table.specs.Rules.{tableNumber};
 ghost use Rattle.plant.specs.Entry.{stateWith, entryOf, entryNumber, acted, after, testedOf, outcomeOf, sheetLine};
 use crate::Tally;
-use crate::codes;
-use crate::inside;
 use crate::rounds;
 use crate::single;
-use crate::turn;
-use crate::turn::Turned;
-use station::Station;
-use station::cells;
+use table::Station;
+use table::cells;
+use table::inside;
+use turn::codes;
+use turn::steps::Turned;
+use turn::steps;
 
 // Refusals 7 to 11, or 0.
 pub(crate) fn entry_number(n: u8, table: &[u8], tally: Tally, kind: u8, i: Station) -> u8
@@ -30,7 +30,7 @@ pub(crate) fn entry_number(n: u8, table: &[u8], tally: Tally, kind: u8, i: Stati
     if n <= i.0 {
         return 9;
     }
-    if inside::get(n, table, i, cells::STATUS) != codes::LIVE {
+    if inside::get(n, table, i, cells::STATUS) != cells::LIVE {
         return 10;
     }
     let finished = inside::get(n, table, i, cells::FINISHED);
@@ -74,13 +74,13 @@ fn act(n: u8, table: &mut [u8], kind: u8, i: Station) -> Turned
     ensures { λ _. ⌜ now (table .exit) ≡ acted n (now (table .entry)) (entryOf kind (i .0)) ⌝ }
 {
     if kind == codes::CRASH {
-        turn::leave(n, table, i, codes::CRASHED);
+        steps::leave(n, table, i, cells::CRASHED);
         return Turned {
             tested: codes::NO_STATION,
             outcome: codes::CRASH_MADE,
         };
     }
-    turn::take_turn(n, table, kind, i)
+    steps::take_turn(n, table, kind, i)
 }
 
 // One more where `more` holds.

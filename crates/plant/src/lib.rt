@@ -1,13 +1,10 @@
-// The plant run of the vCube watch (document 01, "What an entry does" and the run): entries, rounds, the tally. It stands above `station`
-// and relies only on what that crate states. The call of document 01 is run::run; single::take_turn, which has a `requires`, is for the crate
+// The plant run of the vCube watch (document 01, "What an entry does" and the run): entries, rounds, the tally. It stands above `turn`
+// and relies only on what the crates below state. The call of document 01 is run::run; single::take_turn, which has a `requires`, is for the crate
 // `granter`.
-mod codes;
 mod entry;
-mod inside;
 mod rounds;
 pub mod run;
 pub mod single;
-mod turn;
 
 // The tally of closed rounds and of tests.
 pub struct Tally {

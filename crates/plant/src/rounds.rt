@@ -2,13 +2,13 @@
 ghost use mathlib.Core.Path.{_≡_};
 ghost use Prim.Native.Nat.{_<_};
 ghost use lib.ListN.{length};
-ghost use Rattle.station.specs.Rules.{roundOver};
-ghost use Rattle.station.specs.Table.{HasLine, tableLength};
-ghost use Rattle.plant.specs.Turn.{resetLine, resetLines, afterRound};
-use crate::inside;
-use station::Station;
-use station::cells;
-use station::rules;
+ghost use Rattle.table.specs.Rules.{roundOver};
+ghost use Rattle.table.specs.Table.{HasLine, tableLength};
+ghost use Rattle.plant.specs.Round.{resetLine, resetLines, afterRound};
+use table::Station;
+use table::cells;
+use table::inside;
+use table::rules;
 
 // Closes the round if a station is live and all live ones are finished; answers whether it closed. i is the station of the entry.
 pub(crate) fn close_round(n: u8, table: &mut [u8], i: Station) -> bool

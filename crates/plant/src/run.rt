@@ -6,8 +6,8 @@ ghost use Rattle.plant.specs.Run.{entries, goOn, startNumber, outcomeWit
 use crate::Answer;
 use crate::Tally;
 use crate::entry;
-use station::Station;
-use station::rules;
+use table::Station;
+use table::rules;
 
 // Carries out a schedule on a table and a tally and fills the sheet, four bytes for each entry taken. A run refused at its start changes
 // no byte; one stopped at an entry keeps the work of the entries before it and no other.

@@ -1,19 +1,22 @@
 // What the crate `granter` uses of an entry. It has checked the table and chosen a station that may take a turn: so `take_turn` has a
 // `requires`.
 ghost use mathlib.Core.Path.{_≡_};
-ghost use Rattle.station.specs.Rules.{tableNumber};
-ghost use Rattle.plant.specs.Turn.{kindTurn};
+ghost use Rattle.table.specs.Rules.{tableNumber};
+ghost use Rattle.turn.specs.Turn.{kindTurn};
 ghost use Rattle.plant.specs.Entry.{stateWith, entryOf, tallyFull, entryNumber, after};
 use crate::Tally;
-use crate::codes;
 use crate::run;
-use station::Station;
+use table::Station;
+use turn::codes;
+
+// Where a tally is full.
+const TALLY_TOP: u32 = 4294967295;
 
 // Whether either tally is full.
 pub fn is_full(tally: Tally) -> bool
     ensures { λ r. ⌜ r ≡ tallyFull (tally .rounds) (tally .tests) ⌝ }
 {
-    (tally.rounds == codes::TALLY_TOP) | (tally.tests == codes::TALLY_TOP)
+    (tally.rounds == TALLY_TOP) | (tally.tests == TALLY_TOP)
 }
 
 // A turn of kind 1 of station i, with no line of a sheet: the rest of a run that has this one entry. The answer is the tally after it.

@@ -2,8 +2,8 @@
 ghost use Prim.Native.Nat.{_≤_};
 ghost use lib.ListN.{length};
 use libc::STDERR_FILENO;
-use station::groups;
 use station::rows;
+use table::sizes;
 
 // The sheet of so many boards, the table over all sizes, or nothing, where an argument is wrong.
 pub enum Asked {
@@ -45,7 +45,7 @@ fn read_sizes(count: usize) -> Asked {
 fn read_sheet(size: u16, count: usize, row: &mut [u8]) -> Asked
     requires { ⌜ 64 ≤ length (now row) ⌝ }
 {
-    if !groups::is_size(size as usize) {
+    if !sizes::is_size(size as usize) {
         complain(b"argument 1 is not a size from 2 to 64");
         return Asked::Nothing;
     }

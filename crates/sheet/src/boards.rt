@@ -1,6 +1,6 @@
 // The sheet of one plant. The row has 1 at each dead board, and is the row of each live one.
 use crate::text;
-use station::Station;
+use table::Station;
 
 // How wide the head of the list of tests is.
 const HEAD_COLUMNS: u16 = 23;

@@ -14,8 +14,8 @@ use lib.Pow.{pow-pos, pow-mono}
 use Rattle.station.specs.Groups.{distance, stationAt}
 use Rattle.station.specs.Tests.{unsuspected}
 use Rattle.station.specs.Rows.{mark}
-use Rattle.station.proofs.Xor.{xor-cancel}
-use Rattle.station.proofs.CellLaws.{mark-length}
+use Rattle.lists.proofs.Xor.{xor-cancel}
+use Rattle.station.proofs.UnionLaws.{mark-length}
 use Rattle.slots.specs.Slots.{testsDue, greatest, testsWith, mostTests, mostOfBoards}
 use Rattle.slots.specs.Law.{SuspectsOne, MostOfPowers}
 use Rattle.slots.proofs.OneDead.{nobody-suspected, one-suspected, one-suspected-exactly}

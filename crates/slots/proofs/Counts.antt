@@ -11,15 +11,16 @@ use borrow.Author.Tests.{lt-ltb}
 use lib.Bits.{xor-lt}
 use lib.ListN.{length}
 use lib.Pow.{pow-pos, pow-mono}
-use Rattle.station.specs.Search.{every}
-use Rattle.station.specs.Sums.{sum, bit}
-use Rattle.station.specs.Groups.{stationAt, dimension, distances}
+use Rattle.lists.specs.Search.{every}
+use Rattle.lists.specs.Sums.{sum, bit}
+use Rattle.station.specs.Groups.{stationAt}
+use Rattle.table.specs.Sizes.{dimension, distances}
 use Rattle.station.specs.Tests.{unsuspected, stands, due, dueDistances}
-use Rattle.station.proofs.BoolLaws.{by-bool, every-same}
-use Rattle.station.proofs.SearchLaws.{both, every-at, every-all}
-use Rattle.station.proofs.SumLaws.{sum-by, sum-split, sum-zero, sum-levels}
-use Rattle.station.proofs.Levels.{level-zero, level-is, level-in}
-use Rattle.station.proofs.KeepLaws.{kept-sum}
+use Rattle.lists.proofs.BoolLaws.{by-bool, every-same}
+use Rattle.lists.proofs.SearchLaws.{both, every-at, every-all}
+use Rattle.lists.proofs.SumLaws.{sum-by, sum-split, sum-zero, sum-levels}
+use Rattle.table.proofs.Levels.{level-zero, level-is, level-in}
+use Rattle.lists.proofs.KeepLaws.{kept-sum}
 use Rattle.station.proofs.DueLaws.{due-zero}
 use Rattle.station.proofs.EntryLaws.{unsuspected-below}
 use Rattle.station.proofs.AheadLaws.{level-top}

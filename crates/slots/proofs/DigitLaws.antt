@@ -10,15 +10,17 @@ use native.Mathlib.Omega.{arith}
 use borrow.Author.Tests.{lt-ltb, eq-eqb, eqb-true, not-true}
 use lib.ListN.{length}
 use lib.Pow.{pow-pos, pow-mono, pow-add}
-use Rattle.station.specs.Groups.{distance, stationAt, level, width, member}
+use Rattle.station.specs.Groups.{distance, stationAt, width, member}
+use Rattle.table.specs.Sizes.{level}
 use Rattle.station.specs.Tests.{unsuspected, answer, saysDue, stands, due}
 use Rattle.station.specs.Ahead.{Before}
-use Rattle.station.proofs.BoolLaws.{by-bool}
-use Rattle.station.proofs.SearchLaws.{every-at, every-all}
-use Rattle.station.proofs.Xor.{xor-cancel}
-use Rattle.station.proofs.Levels.{level-in, level-bounds}
+use Rattle.lists.proofs.BoolLaws.{by-bool}
+use Rattle.lists.proofs.SearchLaws.{every-at, every-all}
+use Rattle.lists.proofs.Xor.{xor-cancel}
+use Rattle.table.proofs.Levels.{level-in, level-bounds}
 use Rattle.station.proofs.DueLaws.{answer-first, first-not, due-zero, due-is, due-not, due-present}
-use Rattle.station.proofs.AheadLaws.{before-by-digits, due-if-nobody-before}
+use Rattle.station.proofs.AheadLaws.{before-by-digits}
+use Rattle.slots.proofs.AnswerLaws.{due-if-nobody-before}
 use Rattle.slots.specs.Law.{suspectsGroup, bitSet, DueByDigits}
 
 -- a digit below the highest one of 2^h + k is that of k

@@ -10,12 +10,13 @@ use borrow.Author.Tests.{lt-ltb, le-ltb}
 use lib.Bits.{bitXor, xor-block, xor-zero-l}
 use lib.ListN.{length}
 use lib.Pow.{pow-pos, pow-mono}
-use Rattle.station.specs.Sums.{sum, bit}
-use Rattle.station.specs.Groups.{stationAt, dimension, width, member}
+use Rattle.lists.specs.Sums.{sum, bit}
+use Rattle.station.specs.Groups.{stationAt, width, member}
+use Rattle.table.specs.Sizes.{dimension}
 use Rattle.station.specs.Tests.{unsuspected, stands, due}
-use Rattle.station.proofs.SearchLaws.{every-all}
-use Rattle.station.proofs.SumLaws.{sum-by, sum-zero, sum-const}
-use Rattle.station.proofs.Levels.{level-in}
+use Rattle.lists.proofs.SearchLaws.{every-all}
+use Rattle.lists.proofs.SumLaws.{sum-by, sum-zero, sum-const}
+use Rattle.table.proofs.Levels.{level-in}
 use Rattle.station.proofs.DueLaws.{unsuspected-absent, due-absent}
 use Rattle.slots.specs.Law.{suspectsGroup, LastTestsAll}
 use Rattle.slots.proofs.DigitLaws.{digit-below, due-digits}

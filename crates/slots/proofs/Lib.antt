@@ -1,4 +1,5 @@
--- The claims of specs/Law.antt hold.
+-- The claims of specs/Law.antt and specs/Answers.antt hold.
+pub mod AnswerLaws
 pub mod DigitLaws
 pub mod Counts
 pub mod OneDead

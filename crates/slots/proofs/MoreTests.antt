@@ -12,17 +12,18 @@ use borrow.Author.Tests.{eq-eqb, ne-eqb, lt-ltb}
 use lib.ListN.{length}
 use lib.Seq.{getD-set-other}
 use lib.Dec.{eqb}
-use Rattle.station.specs.Sums.{sum, bit}
-use Rattle.station.specs.Groups.{stationAt, distances}
+use Rattle.lists.specs.Sums.{sum, bit}
+use Rattle.station.specs.Groups.{stationAt}
+use Rattle.table.specs.Sizes.{distances}
 use Rattle.station.specs.Tests.{unsuspected, stands, due, dueDistances}
 use Rattle.station.specs.Rows.{mark}
-use Rattle.station.proofs.BoolLaws.{by-bool}
-use Rattle.station.proofs.Sizes.{distances-pos, distances-le}
-use Rattle.station.proofs.KeepLaws.{kept-sum}
-use Rattle.station.proofs.CellLaws.{mark-length, mark-same}
+use Rattle.lists.proofs.BoolLaws.{by-bool}
+use Rattle.table.proofs.SizeLaws.{distances-pos, distances-le}
+use Rattle.lists.proofs.KeepLaws.{kept-sum}
+use Rattle.station.proofs.UnionLaws.{mark-length, mark-same}
 use Rattle.station.proofs.DueLaws.{unsuspected-at, due-zero, due-is, due-present}
 use Rattle.station.proofs.EntryLaws.{unsuspected-below}
-use Rattle.station.proofs.AheadLaws.{due-if-nobody-before}
+use Rattle.slots.proofs.AnswerLaws.{due-if-nobody-before}
 use Rattle.slots.specs.Slots.{testsDue, greatest, testsWith, mostTests}
 use Rattle.slots.specs.Law.{Wider, NeverFewer, MostIsNoLess, MostCovers}
 use Rattle.slots.proofs.DigitLaws.{due-nobody}

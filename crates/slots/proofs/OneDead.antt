@@ -12,14 +12,14 @@ use borrow.Author.Tests.{eq-eqb, ne-eqb}
 use lib.Bits.{xor-lt}
 use lib.Dec.{eqb}
 use lib.Pow.{pow-pos, pow-mono}
-use Rattle.station.specs.Search.{every}
-use Rattle.station.specs.Sums.{sum, bit}
+use Rattle.lists.specs.Search.{every}
+use Rattle.lists.specs.Sums.{sum, bit}
 use Rattle.station.specs.Groups.{distance, stationAt, width, member}
 use Rattle.station.specs.Tests.{unsuspected}
-use Rattle.station.proofs.BoolLaws.{by-bool}
-use Rattle.station.proofs.SearchLaws.{every-not}
-use Rattle.station.proofs.SumLaws.{sum-by, sum-split, sum-zero, sum-single, sum-const}
-use Rattle.station.proofs.Xor.{xor-cancel}
+use Rattle.lists.proofs.BoolLaws.{by-bool}
+use Rattle.lists.proofs.SearchLaws.{every-not}
+use Rattle.lists.proofs.SumLaws.{sum-by, sum-split, sum-zero, sum-single, sum-const}
+use Rattle.lists.proofs.Xor.{xor-cancel}
 use Rattle.slots.specs.Slots.{testsDue}
 use Rattle.slots.specs.Law.{suspectsGroup, wholeBelow, NobodySuspected, SuspectsOne, OneSuspected, OneSuspectedExactly}
 use Rattle.slots.proofs.Counts.{tests-by-levels}

@@ -11,17 +11,18 @@ use native.Mathlib.Omega.{arith}
 use borrow.Author.Tests.{lt-ltb}
 use lib.Bits.{xor-lt}
 use lib.ListN.{length, length-map}
-use Rattle.station.specs.Search.{select, keep, listOf}
-use Rattle.station.specs.Sums.{sum, bit}
-use Rattle.station.specs.Groups.{isSize, distance, stationAt, dimension, distances}
+use Rattle.lists.specs.Search.{select, keep, listOf}
+use Rattle.lists.specs.Sums.{sum, bit}
+use Rattle.table.specs.Sizes.{isSize, dimension, distances}
+use Rattle.station.specs.Groups.{distance, stationAt}
 use Rattle.station.specs.Tests.{answer, saysDue, stands, due, dueDistances}
 use Rattle.station.specs.Calls.{isOther, otherDistances, answerByte}
-use Rattle.station.proofs.BoolLaws.{by-bool}
-use Rattle.station.proofs.SumLaws.{sum-by, sum-add}
-use Rattle.station.proofs.KeepLaws.{mem-keep, kept-sum}
+use Rattle.lists.proofs.BoolLaws.{by-bool}
+use Rattle.lists.proofs.SumLaws.{sum-by, sum-add}
+use Rattle.lists.proofs.KeepLaws.{mem-keep, kept-sum}
 use Rattle.station.proofs.GroupLaws.{place-mem}
-use Rattle.station.proofs.Sizes.{size-distances}
-use Rattle.station.proofs.Xor.{xor-cancel, xor-zero-eq}
+use Rattle.table.proofs.SizeLaws.{size-distances}
+use Rattle.lists.proofs.Xor.{xor-cancel, xor-zero-eq}
 use Rattle.station.proofs.DueLaws.{due-is, due-present}
 use Rattle.station.proofs.Presence.{others-all}
 use Rattle.slots.specs.Slots.{tested, isUntested, untestedDistances, untested, ahead, testsDue}

@@ -7,9 +7,10 @@ use mathlib.Core.List.{List, List·Memᴰ}
 use Prim.Native.Nat.{ℕ, suc, _+_, _*_, _-_, _/_, _%_, _^_, _≤_, _<_}
 use lib.ListN.{length}
 use lib.Dec.{eqb}
-use Rattle.station.specs.Search.{every}
-use Rattle.station.specs.Sums.{sum, bit}
-use Rattle.station.specs.Groups.{isSize, distance, dimension, width, member}
+use Rattle.lists.specs.Search.{every}
+use Rattle.lists.specs.Sums.{sum, bit}
+use Rattle.table.specs.Sizes.{isSize, dimension}
+use Rattle.station.specs.Groups.{distance, width, member}
 use Rattle.station.specs.Tests.{unsuspected, stands, due}
 use Rattle.station.specs.Rows.{mark}
 use Rattle.slots.specs.Slots.{tested, untestedDistances, untested, ahead, testsDue, mostTests, mostOfBoards}

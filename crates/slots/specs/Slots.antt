@@ -6,8 +6,9 @@ use mathlib.Core.Bool.{Bool, cond, not, _&&_}
 use mathlib.Core.List.{List, map}
 use lib.ListN.{length}
 use lib.Dec.{eqb}
-use Rattle.station.specs.Search.{select}
-use Rattle.station.specs.Groups.{stationAt, distances}
+use Rattle.lists.specs.Search.{select}
+use Rattle.station.specs.Groups.{stationAt}
+use Rattle.table.specs.Sizes.{distances}
 use Rattle.station.specs.Tests.{answer, due, dueDistances}
 use Rattle.station.specs.Rows.{mark}
 use Rattle.station.specs.Calls.{isOther, answerByte}

@@ -1,29 +1,26 @@
 -- Who stands ahead (specs/Ahead): by binary digits, up to which distance, and that somebody is always first.
 -- Assumes nothing.
-use mathlib.Core.Path.{_≡_, refl, sym, ap, _∙_}
+use mathlib.Core.Path.{_≡_, sym, ap, _∙_}
 use mathlib.Core.Logic.{by-cases}
 use mathlib.Core.Bool.{Bool, true, false, true≢false}
 use mathlib.Core.Option.{some}
 use Prim.Native.Nat.{ℕ, suc, _+_, _*_, _-_, _/_, _%_, _^_, _≤_, _<_}
-use native.Mathlib.Nat.{suc-mul, div-eq-of-lt, div-mul-le-self, le-div-iff-mul-le}
+use native.Mathlib.Nat.{suc-mul, div-mul-le-self, le-div-iff-mul-le}
 use native.Mathlib.Decide.{decLt}
 use native.Mathlib.Omega.{arith}
 use borrow.Author.Tests.{eq-eqb, ne-eqb}
 use lib.Dec.{eqb}
-use lib.ListN.{getD}
 use lib.Pow.{pow-pos, pow-mono}
 use lib.Bits.{bitXor, bitOr, differ, xor-step, xor-comm, xor-zero-r, xor-shr, or-step, or-shr, or-self, or-zero-r, or-add-and, and-le-r}
-use Rattle.station.specs.Groups.{distance, stationAt, level, width}
-use Rattle.station.specs.Tests.{unsuspected, first, DueAnswer, answerDue, answerAhead, answer, saysDue}
+use Rattle.station.specs.Groups.{distance, stationAt}
+use Rattle.table.specs.Sizes.{level}
+use Rattle.station.specs.Tests.{unsuspected, first, answerDue, answerAhead, answer, saysDue}
 use Rattle.station.specs.Calls.{answerByte}
-use Rattle.station.specs.Table.{row}
-use Rattle.station.specs.Ahead.{OwnUnsuspected, SomebodyFirst, Before, NamedStandsBefore, DueIfNobodyBefore, BeforeByDigits, upTo, BeforeUpTo, blockEnd, BeforeInBlock, NoneDueInBlock}
-use Rattle.station.proofs.BoolLaws.{by-bool}
-use Rattle.station.proofs.Xor.{Near, div-le, near-le, near-of-xor, xor-of-near, xor-assoc, xor-cancel, xor-undo}
-use Rattle.station.proofs.Levels.{level-zero, level-upper, level-le, level-is, level-bounds, level-split}
-use Rattle.station.proofs.Refusals.{accepted}
-use Rattle.station.proofs.CellLaws.{row-length, row-at, accepted-line}
-use Rattle.station.proofs.DueLaws.{unsuspected-at, isStation, answer-first, first-not, first-found, answer-zero, due-not}
+use Rattle.station.specs.Ahead.{Before, NamedStandsBefore, BeforeByDigits, blockEnd, BeforeInBlock, NoneDueInBlock}
+use Rattle.lists.proofs.BoolLaws.{by-bool}
+use Rattle.lists.proofs.Xor.{Near, div-le, near-le, near-of-xor, xor-of-near, xor-assoc, xor-cancel, xor-undo}
+use Rattle.table.proofs.Levels.{level-zero, level-upper, level-le, level-is, level-bounds, level-split}
+use Rattle.station.proofs.DueLaws.{isStation, answer-first, first-not, first-found, answer-zero, due-not}
 
 -- a level by the highest digit
 pub level-top : (m g : ℕ) → level m ≡ suc g → m / 2 ^ g ≡ 1
@@ -97,7 +94,7 @@ before-by-digits i m x = (there, back)
         rw (by-own i m x) (top-level (bitXor m e) g top ∙ sym (u .1), digit-less m e (d .0) (d .1) (d .3))
 
 -- who stands before i at distance m does so at all distances up to l, if the digits of l from that of his level on are those of m
-before-until : (i m x y l : ℕ) → Before i m x → m ≤ y → y ≤ l
+pub before-until : (i m x y l : ℕ) → Before i m x → m ≤ y → y ≤ l
     → ((t : ℕ) → level (distance i x) ≡ suc t → m / 2 ^ t % 2 ≡ 1 → l / 2 ^ t ≡ m / 2 ^ t) → Before i y x
 before-until i m x y l b lo hi same =
     let d = before-by-digits i m x .0 b in
@@ -108,15 +105,6 @@ before-until i m x y l b lo hi same =
     let far : Near g m y = near-le t g m y (omega (arith, d .2, u .1)) near in
     let same-level : level y ≡ suc g = top-level y g (sym far ∙ level-top m g (u .1)) in
     before-by-digits i y x .1 (t, d .1, omega (arith, d .2, u .1, same-level), rw near at (d .3))
-
-pub before-up-to : BeforeUpTo
-unfolding upTo width
-before-up-to i m x y b lo hi = before-until i m x y (upTo m (distance i x)) b lo hi same
-  where
-    same : (t : ℕ) → level (distance i x) ≡ suc t → m / 2 ^ t % 2 ≡ 1 → upTo m (distance i x) / 2 ^ t ≡ m / 2 ^ t
-    same t e odd =
-        let ones : (2 ^ t - 1) / 2 ^ t ≡ 0 = div-eq-of-lt (omega (arith, pow-pos t)) in
-        rw e (or-shr m (2 ^ t - 1) t ∙ rw (ones, or-zero-r (m / 2 ^ t)))
 
 -- an odd number has all digits of the one before it
 or-odd : (a b : ℕ) → a % 2 ≡ 1 → a ≡ suc b → bitOr a b ≡ a
@@ -150,17 +138,6 @@ pub block-zero : blockEnd 0 ≡ 0
 unfolding blockEnd
 block-zero = or-zero-r 0
 
-pub own-unsuspected : OwnUnsuspected
-own-unsuspected n t i z h =
-    let a = accepted n t z in
-    let l = accepted-line n t a i h in
-    unsuspected-at (row n t i) i (rw (row-length n t i (a .long) h) h) ∙ eq-eqb (getD (row n t i) i 0) 0 (row-at n t i i h ∙ l .own)
-
-pub somebody-first : SomebodyFirst
-somebody-first r i m own pos =
-    let f = first-found (unsuspected r) (stationAt i m) m pos (rw (xor-undo i m) own) in
-    (stationAt (stationAt i m) (f .0), f .4)
-
 pub named-stands-before : NamedStandsBefore
 unfolding answer
 named-stands-before r i m x own pos e = by-bool (eqb y i) (λ z. absurd (true≢false (ap saysDue (given z)))) named
@@ -184,7 +161,7 @@ named-stands-before r i m x own pos e = by-bool (eqb y i) (λ z. absurd (true≢
         rw (← same, xor-cancel j (f .0)) (f .3, (f .1, omega (arith, f .2)))
 
 -- i is not first where one that stands before it passes
-before-first : (q : ℕ → Bool) (i m x : ℕ) → q x ≡ true → Before i m x → isStation i (first q (stationAt i m) (level m)) ≡ false
+pub before-first : (q : ℕ → Bool) (i m x : ℕ) → q x ≡ true → Before i m x → isStation i (first q (stationAt i m) (level m)) ≡ false
 before-first q i m x passes b =
     let j : ℕ = stationAt i m in
     let a : ℕ = distance j x in
@@ -197,23 +174,6 @@ before-first q i m x passes b =
     omega (arith, b .1, f .2) in
     let none : isStation i (first q j (level a)) ≡ false = rw (f .4) (ne-eqb (stationAt j y) i apart) in
     rw (b .0) at none
-
-pub due-if-nobody-before : DueIfNobodyBefore
-due-if-nobody-before r i m own pos = (there, back)
-  where
-    there : saysDue (answer r i m) ≡ true → (x : ℕ) → Before i m x → unsuspected r x ≡ false
-    there e x b =
-        by-bool (unsuspected r x)
-        (λ p. absurd (true≢false (sym e ∙ (answer-first r i m ∙ before-first (unsuspected r) i m x p b)))) (λ p. p)
-
-    back : ((x : ℕ) → Before i m x → unsuspected r x ≡ false) → saysDue (answer r i m) ≡ true
-    back none = go (answer r i m) refl
-      where
-        go : (a : DueAnswer) → answer r i m ≡ a → saysDue a ≡ true
-        go answerDue e = refl
-        go (answerAhead x) e =
-            let b = named-stands-before r i m x own pos e in
-            absurd (true≢false (sym (b .0) ∙ none x (b .1)))
 
 pub none-due-in-block : NoneDueInBlock
 none-due-in-block r i m x y e lo hi = due-not r i y (by-bool (unsuspected r i) (λ own. pick own (decLt 0 m)) not-own)

@@ -12,13 +12,14 @@ use native.Mathlib.Omega.{arith}
 use borrow.Author.Tests.{lt-ltb, le-ltb, ltb-true, ltb-false, ne-eqb}
 use lib.ListN.{length, getD, List·getD-eq-default}
 use lib.Dec.{ltb, eqb}
-use Rattle.station.specs.Search.{least}
-use Rattle.station.specs.Groups.{stationAt, level, width, member}
+use Rattle.lists.specs.Search.{least}
+use Rattle.station.specs.Groups.{stationAt, width, member}
+use Rattle.table.specs.Sizes.{level}
 use Rattle.station.specs.Tests.{unsuspected, firstPlace, first, answerOf, answer, saysDue, stands, due}
-use Rattle.station.proofs.BoolLaws.{by-bool}
-use Rattle.station.proofs.Lists.{getD-within}
-use Rattle.station.proofs.SearchLaws.{both, least-is, least-none, least-passes, least-before}
-use Rattle.station.proofs.Levels.{level-zero, level-split, level-in}
+use Rattle.lists.proofs.BoolLaws.{by-bool}
+use Rattle.lists.proofs.Lists.{getD-within}
+use Rattle.lists.proofs.SearchLaws.{both, least-is, least-none, least-passes, least-before}
+use Rattle.table.proofs.Levels.{level-zero, level-split, level-in}
 
 -- whom a row does not suspect, for a number within the row
 pub unsuspected-at : (r : List ℕ) (x : ℕ) → x < length r → unsuspected r x ≡ eqb (getD r x 0) 0

@@ -2,58 +2,32 @@
 -- Assumes nothing.
 use mathlib.Core.Path.{_≡_, refl, sym, _∙_}
 use mathlib.Core.Logic.{by-cases}
-use mathlib.Core.Bool.{true, false, cond, _&&_, true≢false}
+use mathlib.Core.Bool.{true, false, cond, true≢false}
 use mathlib.Core.List.{List, [], _∷_, _++_, append-nil}
-use Prim.Native.Nat.{ℕ, suc, _+_, _*_, _-_, _≤_, _<_}
+use Prim.Native.Nat.{ℕ, suc, _+_, _*_, _≤_, _<_}
 use native.Mathlib.Decide.{decLt}
 use native.Mathlib.Numerals.{add-one}
 use native.Mathlib.Omega.{arith}
-use borrow.Author.Tests.{lt-ltb, ne-eqb}
-use lib.Dec.{eqb}
+use borrow.Author.Tests.{lt-ltb}
 use lib.ListN.{length, set, length-append}
-use Rattle.station.specs.Search.{select, keep, listOf}
-use Rattle.station.specs.Groups.{isSize, distances}
-use Rattle.station.specs.Tests.{unsuspected, DueAnswer, answerDue, answerAhead, answer, saysDue, stands, due, dueDistances}
+use Rattle.lists.specs.Search.{select, keep, listOf}
+use Rattle.table.specs.Sizes.{isSize, distances}
+use Rattle.station.specs.Tests.{unsuspected, answer, stands, due}
 use Rattle.station.specs.Calls.{isOther, otherDistances, answerByte, assignmentEntries}
-use Rattle.station.specs.Ahead.{NothingLeftOver, DueHave255}
-use Rattle.station.proofs.BoolLaws.{by-bool}
-use Rattle.station.proofs.KeepLaws.{keep-twice, packed, packed-two, packed-done, kept-suc, kept-le, kept-room}
-use Rattle.station.proofs.Sizes.{size-bounds}
+use Rattle.lists.proofs.BoolLaws.{by-bool}
+use Rattle.lists.proofs.KeepLaws.{packed, packed-two, packed-done, kept-suc, kept-le, kept-room}
 use Rattle.station.proofs.DueLaws.{unsuspected-absent, due-zero}
-use Rattle.station.proofs.AheadLaws.{named-stands-before}
 use Rattle.station.proofs.Presence.{others-all}
 
 -- two bytes for each distance
-entries-length : (r : List ℕ) (i : ℕ) (ms : List ℕ) → length (assignmentEntries r i ms) ≡ 2 * length ms
+pub entries-length : (r : List ℕ) (i : ℕ) (ms : List ℕ) → length (assignmentEntries r i ms) ≡ 2 * length ms
 unfolding assignmentEntries
 entries-length r i [] = refl
 entries-length r i (m ∷ ms) = omega (arith, entries-length r i ms)
 
-pub nothing-left-over : NothingLeftOver
-nothing-left-over n r i size h = omega (arith, entries-length r i (otherDistances n i), others-all n i size h)
-
 -- whom a row does not suspect is below its length
 pub unsuspected-below : (r : List ℕ) (x : ℕ) → unsuspected r x ≡ true → x < length r
 unsuspected-below r x e = by-cases (decLt x (length r)) (λ l. l) (λ l. absurd (true≢false (sym e ∙ unsuspected-absent r x l)))
-
--- an entry has 255 just where its distance is due
-due-byte : (r : List ℕ) (i m : ℕ) → length r ≤ 64 → unsuspected r i ≡ true → 0 < m → eqb (answerByte (answer r i m)) 255 ≡ saysDue (answer r i m)
-due-byte r i m few own pos = go (answer r i m) refl
-  where
-    go : (a : DueAnswer) → answer r i m ≡ a → eqb (answerByte a) 255 ≡ saysDue a
-    go answerDue e = refl
-    go (answerAhead x) e =
-        ne-eqb x 255 (omega (arith, unsuspected-below r x (named-stands-before r i m x own pos e .0)))
-
-pub due-have-255 : DueHave255
-unfolding due dueDistances otherDistances
-due-have-255 n r i size long own = keep-twice (due r i) (isOther n i) (λ m. eqb (answerByte (answer r i m)) 255) same (listOf (λ k. k) (distances n))
-  where
-    same : (m : ℕ) → due r i m ≡ (isOther n i m && eqb (answerByte (answer r i m)) 255)
-    same m =
-        by-cases (decLt 0 m)
-        (λ pos. rw (long, lt-ltb 0 m pos, due-byte r i m (omega (arith, size-bounds n size)) own pos))
-        (λ none. let z : m ≡ 0 = omega arith in rw z (due-zero r i))
 
 -- one distance more
 entries-more : (r : List ℕ) (i m : ℕ) (ms : List ℕ)

@@ -9,14 +9,15 @@ use native.Mathlib.Omega.{arith}
 use lib.Bits.{xor-self, xor-zero-r, xor-lt, xor-shifted}
 use borrow.Author.Tests.{ltb-true, lt-ltb}
 use mathlib.Core.Bool.{true}
-use Rattle.station.specs.Search.{listOf, keep}
-use Rattle.station.specs.Groups.{isSize, distance, stationAt, level, dimension, distances, isPresent, width, member, fullGroup, group}
+use Rattle.lists.specs.Search.{listOf, keep}
+use Rattle.table.specs.Sizes.{isSize, level, dimension, distances}
+use Rattle.station.specs.Groups.{distance, stationAt, isPresent, width, member, fullGroup, group}
 use Rattle.station.specs.Equation1.{groupsTo, remainingTo}
-use Rattle.station.proofs.Xor.{xor-assoc, xor-cancel, xor-zero-eq}
-use Rattle.station.proofs.SearchLaws.{listOf-same, listOf-append}
-use Rattle.station.proofs.KeepLaws.{keep-append, keep-mem, mem-keep}
-use Rattle.station.proofs.Sizes.{size-distances}
-use Rattle.station.proofs.Levels.{level-zero, level-in, level-le, level-bounds, level-split}
+use Rattle.lists.proofs.Xor.{xor-assoc, xor-cancel, xor-zero-eq}
+use Rattle.lists.proofs.SearchLaws.{listOf-same, listOf-append}
+use Rattle.lists.proofs.KeepLaws.{keep-append, keep-mem, mem-keep}
+use Rattle.table.proofs.SizeLaws.{size-distances}
+use Rattle.table.proofs.Levels.{level-zero, level-in, level-le, level-bounds, level-split}
 
 -- an element of a list by f is f of a place
 mem-place : (f : ℕ → ℕ) (n x : ℕ) → List·Memᴰ x (listOf f n) → (k : ℕ) × (k < n) × (x ≡ f k)

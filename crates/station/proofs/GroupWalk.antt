@@ -6,7 +6,7 @@ use mathlib.Core.List.{List}
 use Prim.Native.Nat.{ℕ, _+_, _≤_, _<_}
 use lib.ListN.{length, set}
 use Rattle.station.specs.Groups.{stationAt, isPresent, width, member, fullGroup, group}
-use Rattle.station.proofs.KeepLaws.{packed, kept, kept-le, kept-room, count-next, packed-next}
+use Rattle.lists.proofs.KeepLaws.{packed, kept, kept-le, kept-room, count-next, packed-next}
 
 -- member k of the group of i whose least distance is w
 abbrev pub placed : ℕ → ℕ → ℕ → ℕ

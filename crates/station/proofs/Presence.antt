@@ -7,12 +7,13 @@ use native.Mathlib.Omega.{arith}
 use borrow.Author.Tests.{lt-ltb, le-ltb}
 use lib.Bits.{xor-comm, xor-zero-r}
 use lib.ListN.{length}
-use Rattle.station.specs.Sums.{sum, bit}
-use Rattle.station.specs.Groups.{isSize, stationAt, dimension, distances, isPresent}
+use Rattle.lists.specs.Sums.{sum, bit}
+use Rattle.table.specs.Sizes.{isSize, dimension, distances}
+use Rattle.station.specs.Groups.{stationAt, isPresent}
 use Rattle.station.specs.Calls.{isOther, otherDistances}
-use Rattle.station.proofs.SumLaws.{sum-by, sum-split, sum-zero, sum-const, sum-xor}
-use Rattle.station.proofs.Sizes.{size-distances, distances-pos}
-use Rattle.station.proofs.KeepLaws.{kept-sum}
+use Rattle.lists.proofs.SumLaws.{sum-by, sum-split, sum-zero, sum-const, sum-xor}
+use Rattle.table.proofs.SizeLaws.{size-distances, distances-pos}
+use Rattle.lists.proofs.KeepLaws.{kept-sum}
 
 -- how many of n stations stand at the distances below m from station i
 abbrev pub standing : ℕ → ℕ → ℕ → ℕ

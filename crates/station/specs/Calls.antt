@@ -1,16 +1,18 @@
 -- Document 01, "What can be asked", all but the run, with requests C-11 and C-16 of document 02: the number, the figures and the bytes that each
 -- call gives, for all inputs.
 -- Assumes nothing.
-use Prim.Native.Nat.{ℕ, _*_, _-_, _%_}
-use mathlib.Core.Bool.{Bool, cond, not, _&&_, _||_}
+use Prim.Native.Nat.{ℕ, _*_, _-_}
+use mathlib.Core.Bool.{Bool, not, _&&_, _||_}
 use mathlib.Core.List.{List, [], _∷_}
 use mathlib.Core.Option.{Option, none, some}
 use lib.ListN.{length}
-use lib.Dec.{ltb, leb, eqb}
-use Rattle.station.specs.Search.{listOf, select}
-use Rattle.station.specs.Groups.{isSize, dimension, distances, stationAt, isPresent, group}
-use Rattle.station.specs.Table.{stride, nextColumn, tableLength, row, live}
-use Rattle.station.specs.Rules.{refuse, _else_, shapeNumber, tableNumber}
+use lib.Dec.{ltb, eqb}
+use Rattle.lists.specs.Search.{select}
+use Rattle.table.specs.Sizes.{isSize, dimension, distances}
+use Rattle.station.specs.Groups.{stationAt, isPresent, group}
+use Rattle.table.specs.Table.{row, live}
+use Rattle.lists.specs.Refusal.{refuse, _else_, unless}
+use Rattle.table.specs.Rules.{tableNumber, lengthRefusal, stationRefusal}
 use Rattle.station.specs.Tests.{DueAnswer, answerDue, answerAhead, answer, dueDistances}
 use Rattle.station.specs.declared.First.{First}
 use Rattle.station.specs.declared.First.the-variants.{At, Nobody}
@@ -26,29 +28,6 @@ firstValue Nobody = none
 abbrev pub answerValue : DueOrAhead → DueAnswer
 answerValue Due = answerDue
 answerValue (Ahead x) = answerAhead (x .0)
-
--- what a refused call (its number is not 0) leaves or answers instead
-abbrev pub unless {ℓ} : {A : Type ℓ} → ℕ → A → A → A
-unless number refused accepted = cond (eqb number 0) accepted refused
-
--- Fresh table: "every line live, next distance 1, all else 0"
-unfoldable pub freshByte : ℕ → ℕ → ℕ
-freshByte n p = cond (eqb (p % stride n) nextColumn) 1 0
-
-unfoldable pub freshTable : ℕ → List ℕ
-freshTable n = listOf (freshByte n) (tableLength n)
-
--- the table after the call, given t: refusals 1, 2
-unfoldable pub freshAfter : ℕ → List ℕ → List ℕ
-freshAfter n t = unless (shapeNumber n (length t)) t (freshTable n)
-
--- refusal 9: "The station number is N or more."
-abbrev pub stationRefusal : ℕ → ℕ → ℕ
-stationRefusal n i = refuse 9 (leb n i)
-
--- refusal 13: "The lent list has not the length stated."
-abbrev pub lengthRefusal : ℕ → ℕ → ℕ
-lengthRefusal stated len = refuse 13 (not (eqb len stated))
 
 -- Group list: refusals 1, 9, 12, 13. 12: "The level is 0 or above d." C-11: "number 13 uses the group's remaining length"
 unfoldable pub groupNumber : ℕ → ℕ → ℕ → ℕ → ℕ

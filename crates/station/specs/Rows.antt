@@ -6,7 +6,7 @@ use mathlib.Core.Bool.{Bool, cond, _&&_}
 use mathlib.Core.List.{List, _++_}
 use lib.ListN.{length, getD, set, drop}
 use lib.Dec.{leb, eqb}
-use Rattle.station.specs.Search.{every, listOf}
+use Rattle.lists.specs.Search.{every, listOf}
 
 -- byte k of the union: 1 if either row has 1, and the byte about the row's own station as it was
 unfoldable pub unionByte : List ℕ → List ℕ → ℕ → ℕ → ℕ

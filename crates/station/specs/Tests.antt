@@ -6,8 +6,9 @@ use mathlib.Core.List.{List}
 use mathlib.Core.Option.{Option, none, some}
 use lib.ListN.{length, getD}
 use lib.Dec.{ltb, eqb}
-use Rattle.station.specs.Search.{least, select}
-use Rattle.station.specs.Groups.{stationAt, level, distances, isPresent, width, member}
+use Rattle.lists.specs.Search.{least, select}
+use Rattle.station.specs.Groups.{stationAt, isPresent, width, member}
+use Rattle.table.specs.Sizes.{level, distances}
 
 -- whether a row leaves station x not suspected. A number that is not below the row's length is absent (C-11): never "not suspected"
 unfoldable pub unsuspected : List ℕ → ℕ → Bool

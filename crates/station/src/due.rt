@@ -4,20 +4,22 @@ ghost use Prim.Native.Nat.{_+_, _*_, _<_};
 ghost use mathlib.Core.Bool.{true, cond};
 ghost use mathlib.Core.Option.{some};
 ghost use lib.ListN.{length, set};
-ghost use Rattle.station.specs.Groups.{isSize, level};
+ghost use Rattle.table.specs.Sizes.{isSize, level};
 ghost use Rattle.station.specs.Tests.{unsuspected, first, answerOf, answer, saysDue, stands, due, dueDistances};
 ghost use Rattle.station.specs.Ahead.{blockEnd};
 ghost use Rattle.station.specs.Calls.{firstValue, answerValue, answerByte, otherDistances, assignmentEntries, assignmentNumber, assignmentAfter, assignmentCount};
 use crate::Assigned;
-use crate::Distance;
 use crate::DueOrAhead;
 use crate::First;
-use crate::Station;
 use crate::groups;
-use crate::inside;
 use crate::order;
 use crate::rows;
-use crate::rules;
+use lists::bytes;
+use table::Distance;
+use table::Station;
+use table::inside;
+use table::rules;
+use table::sizes;
 
 // Whether the row leaves station x not suspected. Past the row's end a station is absent.
 fn is_unsuspected(row: &[u8], x: Station) -> bool
@@ -34,7 +36,7 @@ fn first_unsuspected(row: &[u8], j: Station, m: Distance) -> First
     if m.0 == 0 {
         return First::Nobody;
     }
-    let w = groups::width_of(groups::level_of(m));
+    let w = groups::width_of(sizes::level_of(m));
     let mut k: u8 = 0;
     while k < w {
         let x = order::lookup(j, Distance(w + k));
@@ -137,7 +139,7 @@ fn write_entries(n: u8, row: &[u8], i: Station, list: &mut [u8]) -> u8
     ensures { λ r. ⌜ r ≡ length (dueDistances (now (row .entry)) (i .0) n) ⌝ }
     ensures { λ _. ⌜ now (list .exit) ≡ assignmentEntries (now (row .entry)) (i .0) (otherDistances n (i .0)) ⌝ }
 {
-    let end = groups::distances(n);
+    let end = sizes::distances(n);
     let mut written = Written { bytes: 0, due: 0 };
     let mut m: u8 = 1;
     while (m as u16) < end {
@@ -158,8 +160,8 @@ fn put_entry(row: &[u8], i: Station, m: Distance, list: &mut [u8], written: Writ
         return written;
     }
     let answer = due_or_ahead(row, i, m);
-    groups::put(list, written.bytes, m.0);
-    groups::put(list, written.bytes + 1, answer_byte(answer));
+    bytes::put(list, written.bytes, m.0);
+    bytes::put(list, written.bytes + 1, answer_byte(answer));
     Written {
         bytes: written.bytes + 2,
         due: count_due(answer, written.due),

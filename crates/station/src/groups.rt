@@ -3,46 +3,14 @@ ghost use mathlib.Core.Path.{_≡_};
 ghost use Prim.Native.Nat.{_+_, _<_, _≤_};
 ghost use mathlib.Core.Bool.{cond};
 ghost use lib.ListN.{length, set};
-ghost use Rattle.station.specs.Groups.{isSize, level, dimension, distances, isPresent, width, group};
+ghost use Rattle.station.specs.Groups.{isPresent, width, group};
 ghost use Rattle.station.specs.Calls.{groupNumber, groupAfter};
-use crate::Distance;
-use crate::Level;
-use crate::Station;
 use crate::order;
-
-// Whether n is a plant's size.
-pub fn is_size(n: usize) -> bool
-    ensures { λ r. ⌜ r ≡ isSize n ⌝ }
-{
-    (2 <= n) & (n <= 64)
-}
-
-// The level of a distance.
-pub(crate) fn level_of(m: Distance) -> Level
-    ensures { λ r. ⌜ r .0 ≡ level (m .0) ⌝ }
-    ensures { λ r. ⌜ r .0 ≤ 8 ⌝ }
-{
-    let zeros = u8::leading_zeros(m.0);
-    Level((8 - zeros) as u8)
-}
-
-// d, the greatest level of a plant of n stations.
-fn dimension_of(n: u8) -> Level
-    ensures { λ r. ⌜ r .0 ≡ dimension n ⌝ }
-{
-    if n == 0 {
-        return level_of(Distance(0));
-    }
-    level_of(Distance(n - 1))
-}
-
-// How many distances there are in a plant of n stations, 0 included.
-pub fn distances(n: u8) -> u16
-    ensures { λ r. ⌜ r ≡ distances n ⌝ }
-{
-    let d = dimension_of(n);
-    1u16 << d.0
-}
+use lists::bytes;
+use table::Distance;
+use table::Level;
+use table::Station;
+use table::sizes;
 
 // How many numbers a full group at level s has, and its least distance.
 pub(crate) fn width_of(s: Level) -> u8
@@ -70,7 +38,7 @@ pub fn group_list(n: usize, i: Station, s: Level, list: &mut [u8]) -> u8
 fn group_number(n: usize, i: Station, s: Level, len: usize) -> u8
     ensures { λ r. ⌜ r ≡ groupNumber n (i .0) (s .0) len ⌝ }
 {
-    if !is_size(n) {
+    if !sizes::is_size(n) {
         return 1;
     }
     let station = i.0;
@@ -80,7 +48,7 @@ fn group_number(n: usize, i: Station, s: Level, len: usize) -> u8
     if s.0 == 0 {
         return 12;
     }
-    let d = dimension_of(n as u8);
+    let d = sizes::dimension_of(n as u8);
     if d.0 < s.0 {
         return 12;
     }
@@ -139,16 +107,6 @@ fn put_member(n: u8, x: Station, list: &mut [u8], count: u8) -> u8
     if n <= x.0 {
         return count;
     }
-    put(list, count, x.0);
+    bytes::put(list, count, x.0);
     count + 1
-}
-
-// Puts a byte at place k of the list; past its end nothing is written.
-pub fn put(list: &mut [u8], k: u8, byte: u8)
-    ensures { λ _. ⌜ now (list .exit) ≡ set (now (list .entry)) k byte ⌝ }
-{
-    let at = k as usize;
-    if at < list.len() {
-        list[at] = byte;
-    }
 }

@@ -1,12 +1,12 @@
 // Rows: handed back as a part of the lent table, joined and marked (document 01, steps 4 and 5).
 ghost use mathlib.Core.Path.{_≡_};
-ghost use Prim.Native.Nat.{min, max};
 ghost use lib.ListN.{length};
 ghost use Rattle.station.specs.Rows.{union, united, sameRows, mark};
 ghost use Rattle.station.specs.Calls.{rowNumber, rowPart};
-use crate::Station;
-use crate::inside;
-use crate::rules;
+use lists::bytes;
+use table::Station;
+use table::inside;
+use table::rules;
 
 // The row of station i, as that very part of the table; refused: the empty part.
 pub fn row(n: usize, table: &[u8], i: Station) -> &[u8]
@@ -52,26 +52,12 @@ pub fn join_row(row: &mut [u8], other: &[u8], own: Station)
 fn join_bytes(row: &mut [u8], other: &[u8])
     ensures { λ _. ⌜ now (row .exit) ≡ union (now (row .entry)) (now (other .entry)) (length (now (row .entry))) ⌝ }
 {
-    let end = lesser(row.len(), other.len());
+    let end = bytes::lesser(row.len(), other.len());
     let mut k: usize = 0;
     while k < end {
-        row[k] = greater(row[k], other[k]);
+        row[k] = bytes::greater(row[k], other[k]);
         k += 1;
     }
-}
-
-// The greater of two bytes.
-pub fn greater(a: u8, b: u8) -> u8
-    ensures { λ r. ⌜ r ≡ max a b ⌝ }
-{
-    if a < b { b } else { a }
-}
-
-// The lesser of two lengths.
-fn lesser(a: usize, b: usize) -> usize
-    ensures { λ r. ⌜ r ≡ min a b ⌝ }
-{
-    if a < b { a } else { b }
 }
 
 // Whether two rows hold the same bytes.
@@ -84,7 +70,7 @@ pub fn same_rows(row: &[u8], other: &[u8]) -> bool
     let mut apart: u8 = 0;
     let mut k: usize = 0;
     while k < row.len() {
-        apart = greater(apart, row[k] ^ other[k]);
+        apart = bytes::greater(apart, row[k] ^ other[k]);
         k += 1;
     }
     apart == 0
@@ -102,7 +88,7 @@ pub fn unite_rows(row: &[u8], other: &[u8], out: &mut [u8])
     }
     let mut k: usize = 0;
     while k < row.len() {
-        out[k] = greater(row[k], other[k]);
+        out[k] = bytes::greater(row[k], other[k]);
         k += 1;
     }
 }

@@ -10,14 +10,14 @@ use native.Mathlib.Omega.{arith}
 use lib.Dec.{eqb}
 use lib.ListN.{length}
 use Rattle.station.specs.Groups.{stationAt}
-use Rattle.station.specs.Table.{head, tableLength, statusColumn, suspects}
-use Rattle.station.proofs.BoolLaws.{by-bool, choice}
-use Rattle.station.proofs.CellLaws.{cell-other}
-use Rattle.plant.specs.Turn.{outcomeExchanged, outcomeTold, outcomeTestedTold, statusTold, statusAlone, statusCrashed, setStatus, nextTest, makesTest, finishPass, countTest, suspect, testOutcome, afterOutcome, afterTest, isAlone, afterAlone, testing, turn, crash}
+use Rattle.table.specs.Table.{head, tableLength, statusColumn, suspects, statusTold, statusAlone, statusCrashed}
+use Rattle.lists.proofs.BoolLaws.{by-bool, choice}
+use Rattle.table.proofs.CellLaws.{cell-other}
+use Rattle.turn.specs.Turn.{outcomeExchanged, outcomeTold, outcomeTestedTold, setStatus, nextTest, makesTest, finishPass, countTest, suspect, testOutcome, afterOutcome, afterTest, isAlone, afterAlone, testing, turn, crash}
 use Rattle.plant.specs.Entry.{Entry, isCrash, acted}
-use Rattle.plant.proofs.NextTest.{nextTest-low, test-station}
-use Rattle.plant.proofs.StepCells.{finishPass-other, countTest-length, countTest-other, suspect-same, suspect-other}
-use Rattle.plant.proofs.StepLines.{Lines, station-apart}
+use Rattle.turn.proofs.NextTest.{nextTest-low, test-station}
+use Rattle.turn.proofs.StepCells.{finishPass-other, countTest-length, countTest-other, suspect-same, suspect-other}
+use Rattle.turn.proofs.StepLines.{Lines, station-apart}
 use Rattle.detection.proofs.TurnEffect.{exchange-between}
 
 -- each row suspects after it whom it suspected before

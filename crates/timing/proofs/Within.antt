@@ -11,27 +11,29 @@ use native.Mathlib.Omega.{arith}
 use borrow.Author.Tests.{eqb-true, eq-eqb}
 use lib.Dec.{eqb}
 use lib.ListN.{length}
-use Rattle.station.specs.Sums.{sum, bit}
-use Rattle.station.specs.Groups.{distances}
-use Rattle.station.specs.Table.{head, tableLength, statusColumn, nextColumn, testsColumn, cell, nextDistance, finished, testsMade, suspects, row}
-use Rattle.station.specs.Rules.{roundOver}
+use Rattle.lists.specs.Sums.{sum, bit}
+use Rattle.table.specs.Sizes.{distances}
+use Rattle.table.specs.Table.{head, tableLength, statusColumn, nextColumn, testsColumn, cell, nextDistance, finished, testsMade, suspects, row, statusCrashed}
+use Rattle.table.specs.Rules.{roundOver}
 use Rattle.station.specs.Tests.{unsuspected, due}
 use Rattle.station.specs.Rows.{mark}
-use Rattle.station.proofs.BoolLaws.{by-bool}
-use Rattle.station.proofs.SearchLaws.{both, every-at}
-use Rattle.station.proofs.SumLaws.{sum-split}
-use Rattle.station.proofs.Refusals.{Accepted, accepted}
-use Rattle.station.proofs.CellLaws.{cell-other, row-length, row-at, mark-length, accepted-line}
+use Rattle.lists.proofs.BoolLaws.{by-bool}
+use Rattle.lists.proofs.SearchLaws.{both, every-at}
+use Rattle.lists.proofs.SumLaws.{sum-split}
+use Rattle.table.proofs.Accepting.{Accepted, accepted}
+use Rattle.table.proofs.CellLaws.{cell-other, row-length, row-at, accepted-line}
+use Rattle.station.proofs.UnionLaws.{mark-length}
 use Rattle.station.proofs.DueLaws.{unsuspected-at}
 use Rattle.station.proofs.EntryLaws.{unsuspected-below}
-use Rattle.plant.specs.Turn.{statusCrashed, makesTest, crash, afterRound}
+use Rattle.turn.specs.Turn.{makesTest, crash}
+use Rattle.plant.specs.Round.{afterRound}
 use Rattle.plant.specs.Entry.{Entry, State, isCrash, entryNumber, acted, after}
 use Rattle.plant.proofs.Kept.{entry-facts, acted-lines}
-use Rattle.plant.proofs.StepCells.{reset-cells}
-use Rattle.plant.proofs.StepLines.{Lines}
-use Rattle.plant.proofs.TurnHeads.{Heads, turn-heads, passed-dues}
+use Rattle.plant.proofs.RoundLaws.{reset-cells}
+use Rattle.turn.proofs.StepLines.{Lines}
+use Rattle.turn.proofs.TurnHeads.{Heads, turn-heads, passed-dues}
 use Rattle.detection.specs.Runs.{Call, Taken, afterRuns}
-use Rattle.detection.specs.Claim.{lineAtStart, atStart}
+use Rattle.table.specs.Properties.{lineAtStart, atStart}
 use Rattle.detection.proofs.Chain.{Chain, done, more, chain-all}
 use Rattle.slots.specs.Slots.{testsDue}
 use Rattle.slots.specs.Law.{Wider}

@@ -8,13 +8,14 @@ use mathlib.Core.Bool.{true, false}
 use mathlib.Core.List.{List, []}
 use Prim.Native.Nat.{ℕ, _≤_, _<_}
 use lib.ListN.{length, getD}
-use Rattle.station.specs.Table.{tableLength, testsMade, suspects, row, live}
-use Rattle.station.specs.Rules.{tableNumber}
+use Rattle.table.specs.Table.{tableLength, testsMade, suspects, row, live}
+use Rattle.table.specs.Rules.{tableNumber}
 use Rattle.station.specs.Tests.{unsuspected}
 use Rattle.plant.specs.Entry.{Entry, State, entryNumber, acted}
 use Rattle.detection.specs.Runs.{Call, afterRuns}
-use Rattle.detection.specs.Claim.{atStart, roundsOf, Premises}
-use Rattle.detection.specs.Boards.{testedIn, firstTable, exactRow, ExactRows}
+use Rattle.table.specs.Properties.{atStart, exactRow, ExactRows}
+use Rattle.detection.specs.Claim.{roundsOf, Premises}
+use Rattle.detection.specs.Boards.{testedIn, firstTable}
 use Rattle.slots.specs.Slots.{tested, testsDue, mostTests}
 
 -- "In a round that begins with exact rows, a board that stays live makes just these tests": in the kth closed round (from 0) a live board tests, in

@@ -11,12 +11,14 @@ use native.Mathlib.Omega.{arith}
 use borrow.Author.Tests.{ne-eqb, lt-ltb, le-leb, not-false}
 use lib.Dec.{ltb, eqb}
 use lib.ListN.{length}
-use Rattle.station.specs.Groups.{isSize, dimension, group}
-use Rattle.station.specs.Rules.{refuse, _else_, tableNumber}
-use Rattle.station.specs.Calls.{unless, stationRefusal, lengthRefusal, groupNumber, groupAfter, rowNumber}
-use Rattle.station.specs.Calls.{assignmentNumber, assignmentAfter, assignmentCount}
-use Rattle.station.proofs.Refusals.{else-first, else-same, else-not, refuse-zero, unless-refused, accepted}
-use Rattle.station.proofs.Sizes.{size-bounds, size-dimension}
+use Rattle.table.specs.Sizes.{isSize, dimension}
+use Rattle.station.specs.Groups.{group}
+use Rattle.lists.specs.Refusal.{refuse, _else_, unless}
+use Rattle.table.specs.Rules.{tableNumber, stationRefusal, lengthRefusal}
+use Rattle.station.specs.Calls.{groupNumber, groupAfter, rowNumber, assignmentNumber, assignmentAfter, assignmentCount}
+use Rattle.lists.proofs.RefusalLaws.{else-first, else-same, else-not, refuse-zero, unless-refused}
+use Rattle.table.proofs.Accepting.{accepted}
+use Rattle.table.proofs.SizeLaws.{size-bounds, size-dimension}
 use Rattle.vcube.specs.Exports.{startOut, lengthOut}
 
 -- f gives the same of a number and of its byte

@@ -7,7 +7,7 @@ use mathlib.Core.List.{List, []}
 use Prim.Native.Nat.{ℕ}
 use lib.Dec.{eqb}
 use lib.ListN.{take, drop}
-use Rattle.station.specs.Table.{rowStart, row}
+use Rattle.table.specs.Table.{rowStart, row}
 use Rattle.station.specs.Calls.{rowNumber, rowPart}
 use Rattle.vcube.specs.Exports.{startOut, lengthOut}
 

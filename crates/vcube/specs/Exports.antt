@@ -6,8 +6,9 @@
 use Prim.Native.Nat.{ℕ}
 use mathlib.Core.List.{List, [], _∷_}
 use lib.ListN.{getD}
-use Rattle.station.specs.Table.{rowStart}
-use Rattle.station.specs.Calls.{unless, rowNumber}
+use Rattle.table.specs.Table.{rowStart}
+use Rattle.lists.specs.Refusal.{unless}
+use Rattle.station.specs.Calls.{rowNumber}
 use Rattle.plant.specs.Entry.{stateOf}
 use Rattle.plant.specs.Run.{Outcome}
 use Rattle.granter.specs.Drive.{DriveOutcome, outcomeOf}

@@ -4,8 +4,9 @@ ghost use mathlib.Core.Path.{_≡_};
 ghost use Prim.Native.Nat.{min};
 ghost use mathlib.Core.List.{_++_};
 ghost use lib.ListN.{length};
-ghost use Rattle.station.specs.Rules.{shapeNumber};
-ghost use Rattle.station.specs.Calls.{freshAfter, groupNumber, groupAfter, rowNumber, assignmentNumber, assignmentAfter, assignmentCount};
+ghost use Rattle.table.specs.Rules.{shapeNumber};
+ghost use Rattle.table.specs.Fresh.{freshAfter};
+ghost use Rattle.station.specs.Calls.{groupNumber, groupAfter, rowNumber, assignmentNumber, assignmentAfter, assignmentCount};
 ghost use Rattle.plant.specs.Entry.{stateOf};
 ghost use Rattle.plant.specs.Run.{run};
 ghost use Rattle.granter.specs.Grant.{grantNumber, grantStation};
@@ -21,13 +22,13 @@ use granter::drive;
 use granter::grant;
 use plant::Tally;
 use plant::run;
-use station::Level;
-use station::Station;
-use station::cells;
 use station::due;
-use station::fresh;
 use station::groups;
 use station::rows;
+use table::Level;
+use table::Station;
+use table::cells;
+use table::fresh;
 
 // Fresh table: every line live, next distance 1, all else 0.
 #[no_mangle]

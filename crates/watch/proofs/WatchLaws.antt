@@ -8,10 +8,10 @@ use native.Mathlib.Omega.{arith}
 use borrow.Author.Tests.{eq-eqb, ne-eqb}
 use lib.ListN.{length, take, drop, take-append-drop}
 use lib.Seq.{take-at}
-use Rattle.station.specs.Groups.{isSize}
-use Rattle.station.specs.Table.{tableLength}
-use Rattle.station.specs.Rules.{shapeNumber, tableNumber}
-use Rattle.station.specs.Calls.{freshTable, freshAfter}
+use Rattle.table.specs.Sizes.{isSize}
+use Rattle.table.specs.Table.{tableLength}
+use Rattle.table.specs.Rules.{shapeNumber, tableNumber}
+use Rattle.table.specs.Fresh.{freshTable, freshAfter}
 use Rattle.plant.specs.declared.Answer.{Answer}
 use Rattle.plant.specs.Entry.{State, stateOf}
 use Rattle.plant.specs.Run.{Outcome, outcomeWith, startNumber, run}

@@ -5,7 +5,7 @@ use mathlib.Core.Bool.{cond}
 use mathlib.Core.List.{List}
 use lib.ListN.{length, take}
 use lib.Dec.{eqb}
-use Rattle.station.specs.Calls.{freshTable}
+use Rattle.table.specs.Fresh.{freshTable}
 use Rattle.plant.specs.declared.Answer.{Answer}
 use Rattle.plant.specs.Entry.{stateOf}
 use Rattle.plant.specs.Run.{Outcome, run}

@@ -5,7 +5,7 @@ mod print;
 mod watched;
 
 use libc::STDIN_FILENO;
-use station::cells;
+use table::cells;
 
 // The first 20,490 bytes decide every input. A readable line has at most three bytes (the size) or four (an entry) and its line feed, so
 // the size and 4,096 entries have at most 4 + 5 · 4,096 = 20,484. Where those bytes hold an unreadable line whole, or begin a 4,097th

@@ -3,9 +3,9 @@ ghost use mathlib.Core.Path.{_≡_};
 ghost use mathlib.Core.Bool.{true};
 ghost use Prim.Native.Nat.{_*_, _≤_};
 ghost use lib.ListN.{length, take};
-ghost use Rattle.station.specs.Groups.{isSize};
-ghost use Rattle.station.specs.Table.{greatestTable, tableLength};
-ghost use Rattle.station.specs.Calls.{freshAfter};
+ghost use Rattle.table.specs.Sizes.{isSize};
+ghost use Rattle.table.specs.Table.{greatestTable, tableLength};
+ghost use Rattle.table.specs.Fresh.{freshAfter};
 ghost use Rattle.plant.specs.Entry.{stateOf};
 ghost use Rattle.plant.specs.Run.{outcomeWith, run};
 ghost use Rattle.watch.specs.Watched.{watchedWith, carriedOut, watched};
@@ -13,9 +13,9 @@ use crate::input;
 use plant::Answer;
 use plant::Tally;
 use plant::run;
-use station::cells;
-use station::fresh;
-use station::groups;
+use table::cells;
+use table::fresh;
+use table::sizes;
 
 // What is printed: the number of the first unreadable line, or what the run answers.
 pub enum Report {
@@ -78,7 +78,7 @@ fn run_fresh(size: usize, schedule: &[u8], table: &mut [u8], sheet: &mut [u8]) -
 fn table_part(size: usize) -> usize
     ensures { λ r. ⌜ (isSize size ≡ true → r ≡ tableLength size) × (r ≤ greatestTable) ⌝ }
 {
-    if !groups::is_size(size) {
+    if !sizes::is_size(size) {
         return 0;
     }
     cells::table_length(size as u8)

@@ -3,21 +3,24 @@
 use mathlib.Core.List.{List, [], _∷_}
 use Prim.Native.Nat.{ℕ, _*_}
 use lib.ListN.{length, replicate}
-use Rattle.station.specs.Search.{least, every, listOf}
-use Rattle.station.specs.Groups.{isSize, level, dimension, distances, width, member}
-use Rattle.station.specs.Table.{tableLength, lineStart, cell, setCell, row, setRow}
-use Rattle.station.specs.Rules.{rowRule, lineRules, someLive, liveFinished, shapeNumber, tableNumber}
+use Rattle.lists.specs.Search.{least, every, listOf}
+use Rattle.table.specs.Sizes.{isSize, level, dimension, distances}
+use Rattle.station.specs.Groups.{width, member}
+use Rattle.table.specs.Table.{tableLength, lineStart, cell, setCell, row, setRow}
+use Rattle.table.specs.Rules.{rowRule, lineRules, someLive, liveFinished, shapeNumber, tableNumber}
 use Rattle.station.specs.Tests.{unsuspected, firstPlace, first, answer, due}
 use Rattle.station.specs.Rows.{unionByte, union, mark}
-use Rattle.station.specs.Calls.{freshByte, freshTable}
-use Rattle.plant.specs.Iterate.{iterate}
-use Rattle.plant.specs.Turn.{nextTest, makesTest, finishPass, countTest, replies, isTold, exchangeRows, suspect, replyOutcome, testOutcome, afterOutcome, selfOrSuspected, isAlone, afterAlone, testing, turn, turnTested, turnOutcome, crash, resetLine, resetLines, afterRound}
+use Rattle.table.specs.Fresh.{freshByte, freshTable}
+use Rattle.lists.specs.Iterate.{iterate}
+use Rattle.turn.specs.Turn.{nextTest, makesTest, finishPass, countTest, replies, isTold, exchangeRows, suspect, replyOutcome, testOutcome, afterOutcome, selfOrSuspected, isAlone, afterAlone, testing, turn, turnTested, turnOutcome, crash}
+use Rattle.plant.specs.Round.{resetLine, resetLines, afterRound}
 use Rattle.plant.specs.Entry.{entryNumber, acted, after, testedOf, outcomeOf, sheetLine}
 use Rattle.plant.specs.Run.{entries, writeLine, goOn, startNumber, run}
-use Rattle.station.specs.Sums.{sum}
+use Rattle.lists.specs.Sums.{sum}
 use Rattle.detection.specs.Runs.{Call, afterRuns, takenFrom, takenIn, takenAll}
 use Rattle.detection.specs.Rounds.{anyTaken, allTaken, countTaken, closes, cut}
-use Rattle.detection.specs.Claim.{atStart, liveCount, noneSuspected, deadGroup, deadPairs}
+use Rattle.table.specs.Properties.{atStart, liveCount, noneSuspected}
+use Rattle.detection.specs.Claim.{deadGroup, deadPairs}
 
 -- who unfolds this name unfolds all the definitions on its line, and a list of runs computes
 unfoldable pub wholeRun : Unit {0}

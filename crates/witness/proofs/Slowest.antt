@@ -10,21 +10,22 @@ use native.Mathlib.Omega.{arith}
 use borrow.Author.Tests.{eqb-true, ltb-true}
 use lib.Dec.{eqb, ltb}
 use lib.ListN.{length}
-use Rattle.station.proofs.BoolLaws.{by-bool}
-use Rattle.station.proofs.SearchLaws.{both}
-use Rattle.station.proofs.Sizes.{size-bounds}
-use Rattle.station.specs.Sums.{bit}
-use Rattle.station.specs.Groups.{isSize, dimension}
-use Rattle.station.specs.Table.{tableLength, suspects, live}
-use Rattle.station.specs.Rules.{notLive}
-use Rattle.station.specs.Calls.{freshTable}
-use Rattle.plant.specs.Iterate.{iterate}
-use Rattle.plant.specs.Turn.{crash, kindTurn}
+use Rattle.lists.proofs.BoolLaws.{by-bool}
+use Rattle.lists.proofs.SearchLaws.{both}
+use Rattle.table.proofs.SizeLaws.{size-bounds}
+use Rattle.lists.specs.Sums.{bit}
+use Rattle.table.specs.Sizes.{isSize, dimension}
+use Rattle.table.specs.Table.{tableLength, suspects, live}
+use Rattle.table.specs.Rules.{notLive}
+use Rattle.table.specs.Fresh.{freshTable}
+use Rattle.lists.specs.Iterate.{iterate}
+use Rattle.turn.specs.Turn.{crash, kindTurn}
 use Rattle.plant.specs.Entry.{State, stateOf, entryOf, entryNumber, after}
 use Rattle.plant.specs.Run.{entries, startNumber}
 use Rattle.detection.specs.Runs.{Call, Taken, afterRuns, takenFrom, takenIn, takenAll, crashes, isLate}
 use Rattle.detection.specs.Rounds.{allTaken}
-use Rattle.detection.specs.Claim.{atStart, liveCount, noneSuspected, Premises, exactWait}
+use Rattle.table.specs.Properties.{atStart, liveCount, noneSuspected}
+use Rattle.detection.specs.Claim.{Premises, exactWait}
 use Rattle.witness.specs.Sooner.{NoneSooner}
 use Rattle.witness.proofs.Computing.{wholeRun, turnsOf, callWith}
 

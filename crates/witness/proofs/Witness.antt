@@ -6,8 +6,8 @@ use mathlib.Core.Path.{_≡_, refl}
 use mathlib.Core.List.{List, [], _∷_, map}
 use Prim.Native.Nat.{ℕ}
 use native.Mathlib.Omega.{arith}
-use Rattle.station.specs.Table.{setCell, statusColumn}
-use Rattle.station.specs.Calls.{freshTable}
+use Rattle.table.specs.Table.{setCell, statusColumn}
+use Rattle.table.specs.Fresh.{freshTable}
 use Rattle.plant.specs.Entry.{State, stateOf}
 use Rattle.detection.specs.Runs.{Call}
 use Rattle.detection.specs.Rounds.{testsIn}

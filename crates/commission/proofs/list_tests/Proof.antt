@@ -6,10 +6,11 @@ use Prim.Native.Nat.{_-_, _≤_, _<_}
 use native.Mathlib.Omega.{arith}
 use lib.ListN.{length}
 use borrow.Author.Needs.{needs}
-use Rattle.station.specs.Search.{select}
-use Rattle.station.specs.Groups.{stationAt, distances}
+use Rattle.lists.specs.Search.{select}
+use Rattle.station.specs.Groups.{stationAt}
+use Rattle.table.specs.Sizes.{distances}
 use Rattle.station.specs.Tests.{due, dueDistances}
-use Rattle.station.proofs.KeepLaws.{count-next}
+use Rattle.lists.proofs.KeepLaws.{count-next}
 use Rattle.station.proofs.EntryLaws.{due-start}
 use Rattle.slots.specs.Slots.{tested, testsDue}
 use Rattle.commission.specs.Lists.{written}

@@ -3,8 +3,9 @@
 use mathlib.Core.Path.{sym, _∙_}
 use native.Mathlib.Omega.{arith}
 use borrow.Author.Needs.{needs}
-use Rattle.station.proofs.Refusals.{unless-refused, unless-accepted, row-zero}
-use Rattle.station.proofs.Sizes.{size-bounds}
+use Rattle.lists.proofs.RefusalLaws.{unless-refused, unless-accepted}
+use Rattle.station.proofs.Refusals.{row-zero}
+use Rattle.table.proofs.SizeLaws.{size-bounds}
 use Rattle.vcube.specs.Exports.{startOut, lengthOut}
 use Rattle.vcube.proofs.Narrow.{row-number-narrow, row-start-narrow, row-length-narrow}
 use Rattle.vcube.proofs.vcube_row.Statement.{statement}

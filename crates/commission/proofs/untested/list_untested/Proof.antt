@@ -6,11 +6,12 @@ use Prim.Native.Nat.{_-_, _≤_, _<_}
 use native.Mathlib.Omega.{arith}
 use lib.ListN.{length}
 use borrow.Author.Needs.{needs}
-use Rattle.station.specs.Search.{select}
-use Rattle.station.specs.Groups.{stationAt, distances}
+use Rattle.lists.specs.Search.{select}
+use Rattle.station.specs.Groups.{stationAt}
+use Rattle.table.specs.Sizes.{distances}
 use Rattle.station.specs.Tests.{answer}
 use Rattle.station.specs.Calls.{answerByte}
-use Rattle.station.proofs.KeepLaws.{count-next}
+use Rattle.lists.proofs.KeepLaws.{count-next}
 use Rattle.slots.specs.Slots.{isUntested, untestedDistances, untested, ahead}
 use Rattle.commission.specs.Lists.{written}
 use Rattle.slots.proofs.Untested.{untested-start}

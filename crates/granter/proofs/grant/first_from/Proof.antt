@@ -6,7 +6,7 @@ use Prim.Native.Nat.{ℕ, _+_, _-_, _≤_, _<_}
 use native.Mathlib.Omega.{arith}
 use borrow.Author.Count.{below-more}
 use borrow.Author.Needs.{needs}
-use Rattle.station.proofs.SearchLaws.{least-is, least-none}
+use Rattle.lists.proofs.SearchLaws.{least-is, least-none}
 use Rattle.granter.specs.Grant.{waits, firstFrom}
 use Rattle.granter.proofs.GrantLaws.{waits-is}
 use Rattle.granter.proofs.grant.first_from.Statement.{statement}

@@ -1,7 +1,7 @@
 -- `grant::first_of` meets its contract.
 -- Assumes nothing.
 use mathlib.Core.Path.{refl}
-use Rattle.station.proofs.Refusals.{else-first}
+use Rattle.lists.proofs.RefusalLaws.{else-first}
 use Rattle.granter.proofs.grant.first_of.Statement.{statement}
 use Rattle.granter.proofs.grant.first_of.Tie as tie
 

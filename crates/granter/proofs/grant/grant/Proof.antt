@@ -3,7 +3,7 @@
 use mathlib.Core.Path.{sym, _∙_}
 use native.Mathlib.Omega.{arith}
 use borrow.Author.Needs.{needs}
-use Rattle.station.proofs.Refusals.{unless-refused, unless-accepted}
+use Rattle.lists.proofs.RefusalLaws.{unless-refused, unless-accepted}
 use Rattle.granter.specs.Grant.{grantStation}
 use Rattle.granter.proofs.GrantLaws.{grantable, fits-byte}
 use Rattle.granter.proofs.grant.grant.Statement.{statement}

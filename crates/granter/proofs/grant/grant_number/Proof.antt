@@ -3,8 +3,9 @@
 use mathlib.Core.Path.{sym, _∙_}
 use native.Mathlib.Omega.{arith}
 use borrow.Author.Needs.{needs}
-use Rattle.station.proofs.Refusals.{accepted, else-first}
-use Rattle.station.proofs.Sizes.{size-bounds}
+use Rattle.table.proofs.Accepting.{accepted}
+use Rattle.lists.proofs.RefusalLaws.{else-first}
+use Rattle.table.proofs.SizeLaws.{size-bounds}
 use Rattle.granter.specs.Grant.{grantNumber}
 use Rattle.granter.proofs.grant.grant_number.Statement.{statement}
 use Rattle.granter.proofs.grant.grant_number.Tie as tie

@@ -4,9 +4,9 @@ use mathlib.Core.Path.{_≡_, ap}
 use mathlib.Core.Bool.{true, not}
 use Prim.Native.Nat.{_-_, _≤_}
 use borrow.Author.Needs.{needs}
-use Rattle.station.specs.Search.{every}
-use Rattle.station.specs.Rules.{notLive, someLive}
-use Rattle.station.proofs.Loops.{loops, every-next, every-stop, every-done}
+use Rattle.lists.specs.Search.{every}
+use Rattle.table.specs.Rules.{notLive, someLive}
+use Rattle.lists.proofs.Loops.{loops, every-next, every-stop, every-done}
 use Rattle.granter.proofs.grant.some_live.Statement.{statement}
 use Rattle.granter.proofs.grant.some_live.Tie as tie
 

@@ -3,8 +3,8 @@
 use mathlib.Core.Path.{refl}
 use borrow.Author.Needs.{needs}
 use borrow.Author.Tests.{eq-eqb, ne-eqb}
-use Rattle.station.proofs.Refusals.{accepted}
-use Rattle.plant.specs.Turn.{crash}
+use Rattle.table.proofs.Accepting.{accepted}
+use Rattle.turn.specs.Turn.{crash}
 use Rattle.plant.specs.Entry.{acted, testedOf, outcomeOf}
 use Rattle.plant.proofs.entry.act.Statement.{statement}
 use Rattle.plant.proofs.entry.act.Tie as tie

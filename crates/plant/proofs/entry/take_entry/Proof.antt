@@ -4,7 +4,7 @@ use mathlib.Core.Path.{_∙_}
 use native.Mathlib.Omega.{arith}
 use lib.ListN.{length-set}
 use borrow.Author.Needs.{needs}
-use Rattle.station.proofs.Refusals.{accepted}
+use Rattle.table.proofs.Accepting.{accepted}
 use Rattle.plant.specs.Entry.{stateWith, entryOf, after, sheetLine}
 use Rattle.plant.proofs.Kept.{entry-facts}
 use Rattle.plant.proofs.RunLaws.{made-test, line-written}

@@ -2,7 +2,7 @@
 -- Assumes nothing.
 use mathlib.Core.Path.{refl}
 use borrow.Author.Needs.{needs}
-use Rattle.plant.specs.Turn.{afterRound}
+use Rattle.plant.specs.Round.{afterRound}
 use Rattle.plant.proofs.rounds.close_round.Statement.{statement}
 use Rattle.plant.proofs.rounds.close_round.Tie as tie
 

@@ -1,7 +1,7 @@
 -- `rounds::reset_line` meets its contract: each byte is written in its turn.
 -- Assumes nothing.
 use borrow.Author.Needs.{needs}
-use Rattle.plant.specs.Turn.{resetLine}
+use Rattle.plant.specs.Round.{resetLine}
 use Rattle.plant.proofs.rounds.reset_line.Statement.{statement}
 use Rattle.plant.proofs.rounds.reset_line.Tie as tie
 

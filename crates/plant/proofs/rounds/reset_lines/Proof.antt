@@ -4,9 +4,9 @@ use mathlib.Core.Path.{_≡_}
 use Prim.Native.Nat.{_-_, _≤_}
 use lib.ListN.{length}
 use borrow.Author.Needs.{needs}
-use Rattle.plant.specs.Iterate.{iterate}
-use Rattle.plant.specs.Turn.{resetLine, resetLines}
-use Rattle.plant.proofs.IterateLaws.{stepping}
+use Rattle.lists.specs.Iterate.{iterate}
+use Rattle.plant.specs.Round.{resetLine, resetLines}
+use Rattle.lists.proofs.IterateLaws.{stepping}
 use Rattle.plant.proofs.rounds.reset_lines.Statement.{statement}
 use Rattle.plant.proofs.rounds.reset_lines.Tie as tie
 

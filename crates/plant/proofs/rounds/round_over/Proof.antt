@@ -1,7 +1,7 @@
 -- `rounds::round_over` meets its contract: one live station that has not finished keeps the round open.
 -- Assumes nothing.
 use borrow.Author.Needs.{needs}
-use Rattle.station.proofs.Refusals.{round-open}
+use Rattle.table.proofs.Accepting.{round-open}
 use Rattle.plant.proofs.rounds.round_over.Statement.{statement}
 use Rattle.plant.proofs.rounds.round_over.Tie as tie
 

@@ -5,7 +5,7 @@ use Prim.Native.Nat.{_*_, _-_, _/_, _≤_}
 use native.Mathlib.Omega.{arith}
 use lib.ListN.{length, drop, length-take, length-drop}
 use borrow.Author.Needs.{needs}
-use Rattle.station.proofs.Refusals.{Accepted}
+use Rattle.table.proofs.Accepting.{Accepted}
 use Rattle.plant.specs.Entry.{State, stateWith}
 use Rattle.plant.specs.Run.{entries, goOn, writeLine}
 use Rattle.plant.proofs.Kept.{accepted-kept}

@@ -3,7 +3,7 @@
 use mathlib.Core.Path.{sym, _∙_}
 use native.Mathlib.Omega.{arith}
 use borrow.Author.Needs.{needs}
-use Rattle.station.proofs.Sizes.{size-bounds}
+use Rattle.table.proofs.SizeLaws.{size-bounds}
 use Rattle.plant.specs.Entry.{stateWith}
 use Rattle.plant.proofs.RunLaws.{start-facts, run-refused, run-goes}
 use Rattle.plant.proofs.run.run.Statement.{statement}

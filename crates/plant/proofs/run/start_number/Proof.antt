@@ -4,7 +4,7 @@ use Prim.Native.Nat.{_*_}
 use native.Mathlib.Omega.{arith}
 use borrow.Author.Needs.{needs}
 use borrow.Author.Tests.{eq-eqb, ne-eqb}
-use Rattle.station.proofs.Refusals.{else-first}
+use Rattle.lists.proofs.RefusalLaws.{else-first}
 use Rattle.plant.specs.Run.{startNumber}
 use Rattle.plant.proofs.run.start_number.Statement.{statement}
 use Rattle.plant.proofs.run.start_number.Tie as tie

@@ -4,7 +4,7 @@ use mathlib.Core.Path.{sym, _∙_}
 use native.Mathlib.Omega.{arith}
 use borrow.Author.Needs.{needs}
 use borrow.Author.Tests.{not-false}
-use Rattle.station.proofs.Sizes.{size-bounds}
+use Rattle.table.proofs.SizeLaws.{size-bounds}
 use Rattle.sheet.proofs.arguments.read_sheet.Statement.{statement}
 use Rattle.sheet.proofs.arguments.read_sheet.Tie as tie
 

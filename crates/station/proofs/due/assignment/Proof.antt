@@ -4,8 +4,9 @@ use mathlib.Core.Path.{sym, _∙_}
 use native.Mathlib.Omega.{arith}
 use borrow.Author.Needs.{needs}
 use Rattle.station.specs.Calls.{assignmentCount, assignmentAfter}
-use Rattle.station.proofs.Refusals.{unless-refused, unless-accepted, assignment-zero}
-use Rattle.station.proofs.Sizes.{size-bounds}
+use Rattle.lists.proofs.RefusalLaws.{unless-refused, unless-accepted}
+use Rattle.station.proofs.Refusals.{assignment-zero}
+use Rattle.table.proofs.SizeLaws.{size-bounds}
 use Rattle.station.proofs.due.assignment.Statement.{statement}
 use Rattle.station.proofs.due.assignment.Tie as tie
 

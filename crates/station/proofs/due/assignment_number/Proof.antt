@@ -5,8 +5,9 @@ use native.Mathlib.Omega.{arith}
 use borrow.Author.Needs.{needs}
 use borrow.Author.Tests.{eq-eqb, ne-eqb}
 use Rattle.station.specs.Calls.{assignmentNumber}
-use Rattle.station.proofs.Refusals.{else-first, row-zero}
-use Rattle.station.proofs.Sizes.{size-bounds}
+use Rattle.lists.proofs.RefusalLaws.{else-first}
+use Rattle.station.proofs.Refusals.{row-zero}
+use Rattle.table.proofs.SizeLaws.{size-bounds}
 use Rattle.station.proofs.due.assignment_number.Statement.{statement}
 use Rattle.station.proofs.due.assignment_number.Tie as tie
 

@@ -9,7 +9,7 @@ use borrow.Author.Count.{below-none, below-more}
 use borrow.Author.Needs.{needs}
 use Rattle.station.specs.Groups.{stationAt, width}
 use Rattle.station.specs.Tests.{unsuspected}
-use Rattle.station.proofs.Levels.{level-zero, level-split}
+use Rattle.table.proofs.Levels.{level-zero, level-split}
 use Rattle.station.proofs.DueLaws.{first-zero, first-at, first-nobody}
 use Rattle.station.proofs.due.first_unsuspected.Statement.{statement}
 use Rattle.station.proofs.due.first_unsuspected.Tie as tie

@@ -6,12 +6,12 @@ use Prim.Native.Nat.{_+_, _*_, _-_, _≤_, _<_}
 use native.Mathlib.Omega.{arith}
 use lib.ListN.{length}
 use borrow.Author.Needs.{needs}
-use Rattle.station.specs.Search.{select}
-use Rattle.station.specs.Groups.{isSize, distances}
+use Rattle.lists.specs.Search.{select}
+use Rattle.table.specs.Sizes.{isSize, distances}
 use Rattle.station.specs.Tests.{due, dueDistances}
 use Rattle.station.specs.Calls.{isOther, otherDistances, assignmentEntries}
-use Rattle.station.proofs.Sizes.{size-distances, distances-pos}
-use Rattle.station.proofs.KeepLaws.{packed, count-next}
+use Rattle.table.proofs.SizeLaws.{size-distances, distances-pos}
+use Rattle.lists.proofs.KeepLaws.{packed, count-next}
 use Rattle.station.proofs.EntryLaws.{entries-start, due-start, due-count, entry-bytes, entry-next, entry-done}
 use Rattle.station.proofs.due.write_entries.Statement.{statement}
 use Rattle.station.proofs.due.write_entries.Tie as tie

@@ -5,7 +5,7 @@ use Prim.Native.Nat.{_-_, _≤_}
 use native.Mathlib.Omega.{arith}
 use lib.ListN.{length}
 use borrow.Author.Needs.{needs}
-use Rattle.station.specs.Search.{keep, listOf}
+use Rattle.lists.specs.Search.{keep, listOf}
 use Rattle.station.proofs.GroupWalk.{found, found-all, found-le, found-count}
 use Rattle.station.proofs.groups.group_length.Statement.{statement}
 use Rattle.station.proofs.groups.group_length.Tie as tie

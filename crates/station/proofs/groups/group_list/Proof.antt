@@ -4,8 +4,9 @@ use mathlib.Core.Path.{_∙_, sym}
 use native.Mathlib.Omega.{arith}
 use borrow.Author.Needs.{needs}
 use Rattle.station.specs.Calls.{groupAfter}
-use Rattle.station.proofs.Refusals.{unless-refused, unless-accepted, group-zero}
-use Rattle.station.proofs.Sizes.{size-bounds, size-dimension}
+use Rattle.lists.proofs.RefusalLaws.{unless-refused, unless-accepted}
+use Rattle.station.proofs.Refusals.{group-zero}
+use Rattle.table.proofs.SizeLaws.{size-bounds, size-dimension}
 use Rattle.station.proofs.groups.group_list.Statement.{statement}
 use Rattle.station.proofs.groups.group_list.Tie as tie
 

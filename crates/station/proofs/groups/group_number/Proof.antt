@@ -6,7 +6,7 @@ use borrow.Author.Needs.{needs}
 use borrow.Author.Tests.{eq-eqb, ne-eqb, lt-ltb, le-leb, lt-leb, not-false}
 use Rattle.station.specs.Calls.{groupNumber}
 use Rattle.station.proofs.Refusals.{group-long, group-fits}
-use Rattle.station.proofs.Sizes.{size-bounds, size-dimension}
+use Rattle.table.proofs.SizeLaws.{size-bounds, size-dimension}
 use Rattle.station.proofs.groups.group_number.Statement.{statement}
 use Rattle.station.proofs.groups.group_number.Tie as tie
 

@@ -5,7 +5,7 @@ use Prim.Native.Nat.{ℕ, zero, suc, _-_, _*_, _^_, _%_, _≤_, _<_}
 use native.Mathlib.Omega.{arith}
 use borrow.Author.Needs.{needs}
 use Rattle.station.specs.Groups.{width}
-use Rattle.station.proofs.Levels.{shift-one}
+use Rattle.table.proofs.Levels.{shift-one}
 use Rattle.station.proofs.groups.width_of.Statement.{statement}
 use Rattle.station.proofs.groups.width_of.Tie as tie
 

@@ -5,8 +5,8 @@ use Prim.Native.Nat.{_-_, _≤_}
 use native.Mathlib.Omega.{arith}
 use lib.ListN.{length}
 use borrow.Author.Needs.{needs}
-use Rattle.station.specs.Search.{keep, listOf}
-use Rattle.station.proofs.KeepLaws.{packed, packed-done}
+use Rattle.lists.specs.Search.{keep, listOf}
+use Rattle.lists.proofs.KeepLaws.{packed, packed-done}
 use Rattle.station.proofs.GroupWalk.{found, found-all, found-le, found-count, found-put}
 use Rattle.station.proofs.groups.write_group.Statement.{statement}
 use Rattle.station.proofs.groups.write_group.Tie as tie

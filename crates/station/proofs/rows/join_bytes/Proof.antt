@@ -6,8 +6,8 @@ use native.Mathlib.Omega.{arith}
 use lib.ListN.{length}
 use borrow.Author.Needs.{needs}
 use Rattle.station.specs.Rows.{unionByte}
-use Rattle.station.proofs.Loops.{loops, filled, filled-ahead, filled-next}
-use Rattle.station.proofs.CellLaws.{union-byte, union-filled}
+use Rattle.lists.proofs.Loops.{loops, filled, filled-ahead, filled-next}
+use Rattle.station.proofs.UnionLaws.{union-byte, union-filled}
 use Rattle.station.proofs.rows.join_bytes.Statement.{statement}
 use Rattle.station.proofs.rows.join_bytes.Tie as tie
 

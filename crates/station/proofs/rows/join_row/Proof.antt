@@ -1,7 +1,7 @@
 -- `rows::join_row` meets its contract: own's byte is put back.
 -- Assumes nothing.
 use borrow.Author.Needs.{needs}
-use Rattle.station.proofs.CellLaws.{union-kept, union-beyond}
+use Rattle.station.proofs.UnionLaws.{union-kept, union-beyond}
 use Rattle.station.proofs.rows.join_row.Statement.{statement}
 use Rattle.station.proofs.rows.join_row.Tie as tie
 

@@ -4,8 +4,9 @@ use mathlib.Core.Path.{_∙_, sym}
 use native.Mathlib.Omega.{arith}
 use borrow.Author.Needs.{needs}
 use Rattle.station.specs.Calls.{rowPart}
-use Rattle.station.proofs.Refusals.{unless-refused, unless-accepted, row-zero}
-use Rattle.station.proofs.Sizes.{size-bounds}
+use Rattle.lists.proofs.RefusalLaws.{unless-refused, unless-accepted}
+use Rattle.station.proofs.Refusals.{row-zero}
+use Rattle.table.proofs.SizeLaws.{size-bounds}
 use Rattle.station.proofs.rows.row.Statement.{statement}
 use Rattle.station.proofs.rows.row.Tie as tie
 

@@ -3,7 +3,7 @@
 use borrow.Author.Needs.{needs}
 use borrow.Author.Tests.{le-leb, lt-leb}
 use Rattle.station.specs.Calls.{rowNumber}
-use Rattle.station.proofs.Refusals.{else-first}
+use Rattle.lists.proofs.RefusalLaws.{else-first}
 use Rattle.station.proofs.rows.row_number.Statement.{statement}
 use Rattle.station.proofs.rows.row_number.Tie as tie
 

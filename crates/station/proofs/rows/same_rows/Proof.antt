@@ -5,10 +5,10 @@ use Prim.Native.Nat.{_-_, _≤_}
 use lib.Dec.{eqb}
 use lib.ListN.{length}
 use borrow.Author.Needs.{needs}
-use Rattle.station.specs.Search.{every}
+use Rattle.lists.specs.Search.{every}
 use Rattle.station.specs.Rows.{sameByte}
-use Rattle.station.proofs.Loops.{every-start}
-use Rattle.station.proofs.CellLaws.{same-next, same-apart, same-done}
+use Rattle.lists.proofs.Loops.{every-start}
+use Rattle.station.proofs.UnionLaws.{same-next, same-apart, same-done}
 use Rattle.station.proofs.rows.same_rows.Statement.{statement}
 use Rattle.station.proofs.rows.same_rows.Tie as tie
 

@@ -6,8 +6,8 @@ use native.Mathlib.Omega.{arith}
 use lib.ListN.{length}
 use borrow.Author.Needs.{needs}
 use Rattle.station.specs.Rows.{unionByte}
-use Rattle.station.proofs.Loops.{loops, filled, filled-next}
-use Rattle.station.proofs.CellLaws.{union-byte, united-apart, united-short, united-filled}
+use Rattle.lists.proofs.Loops.{loops, filled, filled-next}
+use Rattle.station.proofs.UnionLaws.{union-byte, united-apart, united-short, united-filled}
 use Rattle.station.proofs.rows.unite_rows.Statement.{statement}
 use Rattle.station.proofs.rows.unite_rows.Tie as tie
 

@@ -7,8 +7,8 @@ use native.Mathlib.Nat.{mul-le-mul}
 use native.Mathlib.Omega.{arith}
 use borrow.Author.Tests.{not-true, not-false}
 use borrow.Author.Needs.{needs}
-use Rattle.station.specs.Table.{stride, greatestTable, tableLength}
-use Rattle.station.proofs.Sizes.{size-bounds}
+use Rattle.table.specs.Table.{stride, greatestTable, tableLength}
+use Rattle.table.proofs.SizeLaws.{size-bounds}
 use Rattle.watch.proofs.watched.table_part.Statement.{statement}
 use Rattle.watch.proofs.watched.table_part.Tie as tie
 

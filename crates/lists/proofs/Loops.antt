@@ -1,0 +1,77 @@
+-- The definitions of specs/Search in the shapes in which a loop that counts up asks for them: where it begins, after a turn, where it is left.
+-- `r` is the answer of the call that makes the turn's test, and the loop is left where it is false.
+-- Assumes nothing.
+use mathlib.Core.Path.{_≡_, refl, sym, ap, subst, _∙_}
+use mathlib.Core.Bool.{Bool, true, false, not, _&&_, _||_}
+use mathlib.Core.List.{List, [], _∷_, _++_, append-nil, append-assoc}
+use Prim.Native.Nat.{ℕ, suc, _+_, _-_, _≤_, _<_}
+use native.Mathlib.Nat.{le-antisymm}
+use native.Mathlib.Numerals.{add-one}
+use native.Mathlib.Omega.{arith}
+use borrow.Author.Tests.{not-true, not-false}
+use lib.ListN.{length, getD, set, drop, drop-of-length-le, length-drop}
+use lib.Seq.{set-at, getD-at, drop-cons, getD-drop, ext-getD}
+use Rattle.lists.specs.Search.{every, listOf}
+use Rattle.lists.proofs.SearchLaws.{every-not, listOf-length, listOf-at, listOf-append}
+
+pub every-start : (q : ℕ → Bool) → every q 0 ≡ true
+unfolding every
+every-start q = refl
+
+pub every-next : (q : ℕ → Bool) (k : ℕ) (r : Bool) → every q k ≡ true → r ≡ q k → not r ≡ false → every q (k + 1) ≡ true
+unfolding every
+every-next q k r e s t = let p : q k ≡ true = sym s ∙ not-false r t in rw (add-one, e, p)
+
+pub every-stop : (q : ℕ → Bool) (n k : ℕ) (r : Bool) → k < n → r ≡ q k → not r ≡ true → false ≡ every q n
+every-stop q n k r h s f = sym (every-not q n k h (sym s ∙ not-true r f))
+
+pub every-done : (q : ℕ → Bool) (n k : ℕ) → every q k ≡ true → k ≤ n → n ≤ k → true ≡ every q n
+every-done q n k e a b = subst (λ (x : ℕ). true ≡ every q x) (le-antisymm a b) (sym e)
+
+-- `some` says whether one passed so far fails the test, and l whether this one does
+pub some-next : (q : ℕ → Bool) (k : ℕ) (some l : Bool) → some ≡ not (every q k) → not l ≡ q k → (some || l) ≡ not (every q (k + 1))
+unfolding every
+some-next q k some l e f = rw (e, add-one, ← f) (cases (every q k) l)
+  where
+    cases : (a b : Bool) → (not a || b) ≡ not (a && not b)
+    cases true true = refl
+    cases true false = refl
+    cases false b = refl
+
+-- a list that a loop fills from its front: the first k bytes are written, the rest are as they were
+unfoldable pub filled : (ℕ → ℕ) → ℕ → List ℕ → List ℕ
+filled f k l = listOf f k ++ drop k l
+
+pub filled-start : (f : ℕ → ℕ) (l : List ℕ) → l ≡ filled f 0 l
+unfolding filled listOf
+filled-start f l = refl
+
+-- what is not yet written
+pub filled-ahead : (f : ℕ → ℕ) (k : ℕ) (l t : List ℕ) → t ≡ filled f k l → k < length l → getD t k 0 ≡ getD l k 0
+unfolding filled
+filled-ahead f k l t e h = rw (e, drop-cons l k 0) (getD-at (listOf f k) (getD l k 0) (drop (suc k) l) 0 k (listOf-length f k))
+
+pub filled-next : (f : ℕ → ℕ) (k : ℕ) (l t : List ℕ) (v : ℕ) → t ≡ filled f k l → k < length t → length t ≡ length l → v ≡ f k → set t k v ≡ filled f (k + 1) l
+unfolding filled listOf
+filled-next f k l t v e h s w =
+    let h : k < length l = omega arith in
+    rw (e, add-one, drop-cons l k 0, w) (set-at (listOf f k) (getD l k 0) (drop (suc k) l) (f k) k (listOf-length f k) ∙ sym (append-assoc (listOf f k) (f k ∷ []) (drop (suc k) l)))
+
+pub filled-done : (f : ℕ → ℕ) (k n : ℕ) (l t : List ℕ) → t ≡ filled f k l → length t ≡ length l → length l ≡ n → k ≤ length l → length t ≤ k → t ≡ listOf f n
+unfolding filled
+filled-done f k n l t e s w a b =
+    let d : drop k l ≡ [] = drop-of-length-le l {i = k} (omega arith) in
+    let x : k ≡ n = omega arith in
+    rw (e, d, append-nil) (ap (listOf f) x)
+
+-- a loop that stops early, where what is not yet written is right as it is
+pub filled-rest : (f : ℕ → ℕ) (k : ℕ) (l t : List ℕ) → t ≡ filled f k l → k ≤ length l → ((y : ℕ) → k ≤ y → y < length l → getD l y 0 ≡ f y) → t ≡ listOf f (length l)
+unfolding filled
+filled-rest f k l t e h same =
+    let s : k + (length l - k) ≡ length l = omega arith in
+    let d : drop k l ≡ listOf (λ y. f (k + y)) (length l - k) =
+    ext-getD 0 (drop k l) (listOf (λ y. f (k + y)) (length l - k)) (length-drop k l ∙ sym (listOf-length (λ y. f (k + y)) (length l - k)))
+    (λ y b. let hy : y < length l - k = subst (λ (x : ℕ). y < x) (length-drop k l) b in getD-drop k l y 0 ∙ same (k + y) (omega arith) (omega arith) ∙ sym (listOf-at (λ z. f (k + z)) (length l - k) y hy)) in
+    e ∙ ap (λ x. listOf f k ++ x) d ∙ sym (listOf-append f k (length l - k)) ∙ ap (listOf f) s
+
+pub ruleset loops = (every-start, every-next, every-stop, every-done, filled-start, filled-next, filled-done)

@@ -1,0 +1,2 @@
+// What knows nothing of the watch: searches, sums, kept lists, repeated steps, lists written into a buffer, refusal numbers.
+pub mod bytes;

@@ -1,0 +1,112 @@
+-- What closing a round does to the cells and lines of the table.
+-- Assumes nothing.
+use mathlib.Core.Path.{_≡_, refl, sym, _∙_}
+use mathlib.Core.Logic.{_≢_, _⊎_, inl, inr}
+use mathlib.Core.List.{List}
+use Prim.Native.Nat.{ℕ, zero, suc, _+_, _≤_, _<_}
+use native.Mathlib.Nat.{eq-or-lt-of-le, le-of-suc-le-suc}
+use native.Mathlib.Omega.{arith}
+use lib.ListN.{length}
+use Rattle.table.specs.Table.{head, stride, tableLength, cell, setCell, nextColumn, finishedColumn, testsColumn, nextDistance, finished, testsMade, statusColumn}
+use Rattle.table.proofs.CellLaws.{cell-same, cell-other, setCell-length}
+use Rattle.lists.specs.Iterate.{iterate}
+use Rattle.plant.specs.Round.{resetLine, resetLines}
+use Rattle.table.proofs.SizeLaws.{distances-pos}
+use Rattle.turn.proofs.StepLines.{Lines}
+
+-- the line as the round rule leaves it
+pub record Reset (n : ℕ) (t : List ℕ) (i : ℕ) : Type 0 where
+  pub next : nextDistance n t i ≡ 1
+  pub unfinished : finished n t i ≡ 0
+  pub untested : testsMade n t i ≡ 0
+
+-- Step 8: the three bytes of a line
+module _ (n i : ℕ) (t : List ℕ) where
+  resetLine-length : length (resetLine n i t) ≡ length t
+  unfolding resetLine
+  resetLine-length = simp setCell-length
+
+  resetLine-other : (i′ c : ℕ) → c < stride n → (i ≡ i′ → (c ≢ nextColumn) × (c ≢ finishedColumn) × (c ≢ testsColumn))
+      → cell n (resetLine n i t) i′ c ≡ cell n t i′ c
+  unfolding resetLine
+  resetLine-other i′ c h out =
+      cell-other n _ i testsColumn 0 i′ c (omega arith) h (λ e f. out e .2 (sym f))
+      ∙ (cell-other n _ i finishedColumn 0 i′ c (omega arith) h (λ e f. out e .1 (sym f))
+      ∙ cell-other n t i nextColumn 1 i′ c (omega arith) h (λ e f. out e .0 (sym f)))
+
+resetLine-here : (n i : ℕ) (t : List ℕ) → length t ≡ tableLength n → i < n → Reset n (resetLine n i t) i
+unfolding resetLine
+resetLine-here n i t long h =
+    let t₁ : List ℕ = setCell n t i nextColumn 1 in
+    let t₂ : List ℕ = setCell n t₁ i finishedColumn 0 in
+    let long₁ : length t₁ ≡ tableLength n = setCell-length n t i nextColumn 1 ∙ long in
+    let long₂ : length t₂ ≡ tableLength n = setCell-length n t₁ i finishedColumn 0 ∙ long₁ in
+    record {
+      next =
+          cell-other n t₂ i testsColumn 0 i nextColumn (omega arith) (omega arith) (omega arith)
+          ∙ (cell-other n t₁ i finishedColumn 0 i nextColumn (omega arith) (omega arith) (omega arith)
+          ∙ cell-same n t i nextColumn 1 long h (omega arith));
+      unfinished =
+          cell-other n t₂ i testsColumn 0 i finishedColumn (omega arith) (omega arith) (omega arith)
+          ∙ cell-same n t₁ i finishedColumn 0 long₁ h (omega arith);
+      untested = cell-same n t₂ i testsColumn 0 long₂ h (omega arith);
+    }
+
+resets-length : (n m : ℕ) (t : List ℕ) → length (iterate (resetLine n) m t) ≡ length t
+unfolding iterate
+resets-length n zero t = refl
+resets-length n (suc m) t = resetLine-length n m (iterate (resetLine n) m t) ∙ resets-length n m t
+
+resets-other : (n m : ℕ) (t : List ℕ) (i c : ℕ) → c < stride n → (c ≢ nextColumn) × (c ≢ finishedColumn) × (c ≢ testsColumn)
+    → cell n (iterate (resetLine n) m t) i c ≡ cell n t i c
+unfolding iterate
+resets-other n zero t i c h out = refl
+resets-other n (suc m) t i c h out = resetLine-other n m (iterate (resetLine n) m t) i c h (λ _. out) ∙ resets-other n m t i c h out
+
+resets-here : (n m : ℕ) (t : List ℕ) → length t ≡ tableLength n → m ≤ n → (i : ℕ) → i < m → Reset n (iterate (resetLine n) m t) i
+unfolding iterate
+resets-here n zero t long hm i h = absurd (omega arith)
+resets-here n (suc m) t long hm i h = pick (resets-here n m t long (omega arith) i) (eq-or-lt-of-le (le-of-suc-le-suc h))
+  where
+    s : List ℕ
+    s = iterate (resetLine n) m t
+
+    pick : (i < m → Reset n s i) → (i ≡ m) ⊎ (i < m) → Reset n (resetLine n m s) i
+    pick rest (inl e) = rw e (resetLine-here n m s (resets-length n m t ∙ long) hm)
+    pick rest (inr l) =
+        let r = rest l in
+        record {
+          next = resetLine-other n m s i nextColumn (omega arith) (omega arith) ∙ r .next;
+          unfinished = resetLine-other n m s i finishedColumn (omega arith) (omega arith) ∙ r .unfinished;
+          untested = resetLine-other n m s i testsColumn (omega arith) (omega arith) ∙ r .untested;
+        }
+
+pub reset-length : (n : ℕ) (t : List ℕ) → length (resetLines n t) ≡ length t
+unfolding resetLines
+reset-length n t = resets-length n n t
+
+pub reset-cells : (n : ℕ) (t : List ℕ) → length t ≡ tableLength n → (i : ℕ) → i < n → Reset n (resetLines n t) i
+unfolding resetLines
+reset-cells n t long i h = resets-here n n t long (omega arith) i h
+
+-- status and row bytes, those at other columns, are as before
+pub reset-other : (n : ℕ) (t : List ℕ) (i c : ℕ) → c < stride n → (c ≢ nextColumn) × (c ≢ finishedColumn) × (c ≢ testsColumn)
+    → cell n (resetLines n t) i c ≡ cell n t i c
+unfolding resetLines
+reset-other n t i c h out = resets-other n n t i c h out
+
+-- Step 8
+pub reset-lines : (n : ℕ) (t : List ℕ) → Lines n t → Lines n (resetLines n t)
+reset-lines n t lines = (
+  reset-length n t ∙ lines .0,
+  λ k h.
+      let l = lines .1 k h in
+      let r = reset-cells n t (lines .0) k h in
+      record {
+        statusRange = rw (reset-other n t k statusColumn (omega arith) (omega arith)) (l .statusRange);
+        pass = rw (r .next, r .unfinished, r .untested)
+            (record { nextLow = omega arith; nextHigh = distances-pos n; finishedRange = omega arith; testsBound = omega arith; finishedNext = λ p. absurd (omega arith) });
+        own = reset-other n t k (head + k) (omega arith) (omega arith) ∙ l .own;
+        range = λ x hx. rw (reset-other n t k (head + x) (omega arith) (omega arith)) (l .range x hx);
+      },
+)
