@@ -8,7 +8,7 @@ ghost use lib.ListN.{set};
 ghost use Rattle.station.specs.Groups.{stationAt};
 ghost use Rattle.station.specs.Tests.{due};
 ghost use Rattle.slots.specs.Slots.{tested, testsDue, testsWith, mostTests, mostOfBoards};
-ghost use Rattle.commission.specs.Lists.{written};
+ghost use lib.Seq.{sets};
 
 pub mod untested;
 
@@ -24,7 +24,7 @@ use table::sizes;
 // Whom i of n stations tests by its row of n bytes, in order, into a lent list; answers how many these are. Past the list's end nothing is written.
 pub fn list_tests(n: u8, row: &[u8], i: Station, list: &mut [u8]) -> u8
     ensures { λ r. ⌜ r ≡ testsDue n (now (row .entry)) (i .0) ⌝ }
-    ensures { λ _. ⌜ now (list .exit) ≡ written (now (list .entry)) 0 (tested n (now (row .entry)) (i .0)) ⌝ }
+    ensures { λ _. ⌜ now (list .exit) ≡ sets (now (list .entry)) 0 (tested n (now (row .entry)) (i .0)) ⌝ }
 {
     let end = sizes::distances(n);
     let mut count: u8 = 0;

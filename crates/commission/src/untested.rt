@@ -7,7 +7,7 @@ ghost use Rattle.station.specs.Groups.{stationAt};
 ghost use Rattle.station.specs.Tests.{answer};
 ghost use Rattle.station.specs.Calls.{answerByte};
 ghost use Rattle.slots.specs.Slots.{isUntested, untestedDistances, untested, ahead};
-ghost use Rattle.commission.specs.Lists.{written};
+ghost use lib.Seq.{sets};
 use lists::bytes;
 use station::DueOrAhead;
 use station::due;
@@ -20,8 +20,8 @@ use table::sizes;
 // many these are. Past a list's end nothing is written.
 pub fn list_untested(n: u8, row: &[u8], i: Station, list: &mut [u8], firsts: &mut [u8]) -> u8
     ensures { λ r. ⌜ r ≡ length (untestedDistances n (now (row .entry)) (i .0)) ⌝ }
-    ensures { λ _. ⌜ now (list .exit) ≡ written (now (list .entry)) 0 (untested n (now (row .entry)) (i .0)) ⌝ }
-    ensures { λ _. ⌜ now (firsts .exit) ≡ written (now (firsts .entry)) 0 (ahead n (now (row .entry)) (i .0)) ⌝ }
+    ensures { λ _. ⌜ now (list .exit) ≡ sets (now (list .entry)) 0 (untested n (now (row .entry)) (i .0)) ⌝ }
+    ensures { λ _. ⌜ now (firsts .exit) ≡ sets (now (firsts .entry)) 0 (ahead n (now (row .entry)) (i .0)) ⌝ }
 {
     let end = sizes::distances(n);
     let mut count: u8 = 0;

@@ -1,9 +1,9 @@
 // The grant (request C-15): the next station, going round, that is live and unfinished.
 ghost use mathlib.Core.Path.{_≡_};
 ghost use Rattle.table.specs.Rules.{someLive};
-ghost use Rattle.lists.specs.Refusal.{_else_};
 ghost use Rattle.granter.specs.Grant.{firstFrom, following, granted, lastRefusal, liveRefusal, grantNumber, grantStation};
 use crate::Granted;
+use lists::refusal;
 use table::Station;
 use table::rules;
 
@@ -38,32 +38,21 @@ pub(crate) fn grant_number(n: usize, table: &[u8], last: usize) -> u8
     }
     let sixteen = last_refusal(n, last);
     let seventeen = live_refusal(n as u8, table);
-    first_of(sixteen, seventeen)
+    refusal::first_of(sixteen, seventeen)
 }
 
 // Refusal 16, or 0.
 fn last_refusal(n: usize, last: usize) -> u8
     ensures { λ r. ⌜ r ≡ lastRefusal n last ⌝ }
 {
-    if (n <= last) & (last != NO_GRANT) {
-        16
-    } else {
-        0
-    }
+    refusal::refuse(16, (n <= last) & (last != NO_GRANT))
 }
 
 // Refusal 17, or 0.
 fn live_refusal(n: u8, table: &[u8]) -> u8
     ensures { λ r. ⌜ r ≡ liveRefusal n (now (table .entry)) ⌝ }
 {
-    if some_live(n, table) { 0 } else { 17 }
-}
-
-// The first of two refusals that is not 0.
-fn first_of(a: u8, b: u8) -> u8
-    ensures { λ r. ⌜ r ≡ (a else b) ⌝ }
-{
-    if a != 0 { a } else { b }
+    refusal::refuse(17, !some_live(n, table))
 }
 
 // The next station after the last granted one, going round, that is live and unfinished.

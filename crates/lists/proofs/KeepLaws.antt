@@ -2,39 +2,17 @@
 -- Assumes nothing.
 use mathlib.Core.Path.{_≡_, refl, sym, ap, _∙_}
 use mathlib.Core.Bool.{Bool, true, false, cond, _&&_}
-use mathlib.Core.List.{List, [], _∷_, _++_, append-nil, append-assoc, List·Memᴰ, List·Memᴰ·head, List·Memᴰ·tail, List·Memᴰ·not-nil}
-use Prim.Native.Nat.{ℕ, zero, suc, _+_, _-_, _≤_, _<_}
+use mathlib.Core.List.{List, [], _∷_, _++_, append-nil, List·Memᴰ, List·Memᴰ·head, List·Memᴰ·tail, List·Memᴰ·not-nil, map, map-append}
+use Prim.Native.Nat.{ℕ, zero, suc, _+_, _≤_, _<_}
 use native.Mathlib.Decide.{le-ind}
 use native.Mathlib.Numerals.{add-one}
 use native.Mathlib.Omega.{arith}
-use lib.ListN.{length, getD, set, drop, length-append}
-use lib.Seq.{set-at, drop-cons, drop-length}
+use lib.ListN.{length, set, length-append, length-map}
+use lib.Seq.{sets}
 use Rattle.lists.specs.Search.{listOf, keep}
 use Rattle.lists.specs.Sums.{sum, bit}
 use Rattle.lists.proofs.BoolLaws.{by-bool}
-use Rattle.lists.proofs.SumLaws.{sum-split}
-
--- the list l with xs written over its front
-abbrev pub packed : List ℕ → List ℕ → List ℕ
-packed xs l = xs ++ drop (length xs) l
-
-packed-more : (xs l : List ℕ) (v : ℕ) → length xs < length l → set (packed xs l) (length xs) v ≡ packed (xs ++ (v ∷ [])) l
-packed-more xs l v h =
-    let longer : length (xs ++ (v ∷ [])) ≡ suc (length xs) = omega (arith, length-append xs (v ∷ [])) in
-    rw (longer, drop-cons l (length xs) 0 h)
-    (set-at xs (getD l (length xs) 0) (drop (suc (length xs)) l) v (length xs) refl ∙ sym (append-assoc xs (v ∷ []) (drop (suc (length xs)) l)))
-
--- all is written over
-pub packed-done : (xs l : List ℕ) → length l ≡ length xs → packed xs l ≡ xs
-packed-done xs l e = rw (← e, drop-length l, append-nil)
-
--- two bytes more
-pub packed-two : (xs l : List ℕ) (a b : ℕ) → suc (length xs) < length l
-    → set (set (packed xs l) (length xs) a) (suc (length xs)) b ≡ packed (xs ++ (a ∷ b ∷ [])) l
-packed-two xs l a b h =
-    let ys : List ℕ = xs ++ (a ∷ []) in
-    let longer : length ys ≡ suc (length xs) = omega (arith, length-append xs (a ∷ [])) in
-    rw (packed-more xs l a (omega arith), ← longer) (packed-more ys l b (omega arith) ∙ ap (λ zs. packed zs l) (append-assoc xs (a ∷ []) (b ∷ [])))
+use Rattle.lists.proofs.Writing.{count-if, sets-if}
 
 module _ (q : ℕ → Bool) where
   pub keep-append : (xs ys : List ℕ) → keep q (xs ++ ys) ≡ keep q xs ++ keep q ys
@@ -105,22 +83,18 @@ module _ (q : ℕ → Bool) where
         rw (kept-suc m) (by-bool (q (f m))
         (λ e. rw e (omega (arith, length-append (kept m) (f m ∷ []), kept-le m))) (λ e. rw (e, append-nil) (omega (arith, kept-le m))))
 
-    -- one that passes leaves room for itself
-    pub kept-room : (m w : ℕ) → m < w → q (f m) ≡ true → length (kept m) < length (kept w)
-    unfolding sum
-    kept-room m w l e =
-        let whole : suc m + (w - suc m) ≡ w = omega arith in
-        let split = rw whole at (sum-split (λ k. bit (q (f k))) (suc m) (w - suc m)) in
-        omega (arith, kept-sum m, kept-sum w, split, ap bit e)
-
     pub count-next : (m count r : ℕ) → count ≡ length (kept m) → r ≡ cond (q (f m)) (count + 1) count → r ≡ length (kept (m + 1))
-    count-next m count r e s =
-        rw (add-one, kept-suc m) (by-bool (q (f m))
-        (λ p. rw p (omega (arith, rw p at s, length-append (kept m) (f m ∷ [])))) (λ p. rw (p, append-nil) (omega (arith, rw p at s))))
+    count-next m count r e s = rw (add-one, kept-suc m) (count-if (q (f m)) (kept m) count (f m) r e s)
 
-    pub packed-next : (m count : ℕ) (l t u : List ℕ) → t ≡ packed (kept m) l → count ≡ length (kept m) → (q (f m) ≡ true → count < length l)
-        → u ≡ cond (q (f m)) (set t count (f m)) t → u ≡ packed (kept (m + 1)) l
-    packed-next m count l t u e c room s =
-        by-bool (q (f m))
-        (λ p. rw (add-one, kept-suc m, p) (rw (p, e, c) at s ∙ packed-more (kept m) l (f m) (rw c at (room p))))
-        (λ p. rw (add-one, kept-suc m, p, append-nil) (rw (p, e) at s))
+    -- a list into which count of them are written
+    pub kept-next : (m count : ℕ) (l t u : List ℕ) → t ≡ sets l 0 (kept m) → count ≡ length (kept m)
+        → u ≡ cond (q (f m)) (set t count (f m)) t → u ≡ sets l 0 (kept (m + 1))
+    kept-next m count l t u e c s = rw (add-one, kept-suc m) (sets-if (q (f m)) l (kept m) t u count (f m) c e s)
+
+    -- the same of their values by g
+    pub kept-next-by : (g : ℕ → ℕ) (m count : ℕ) (l t u : List ℕ) → count ≡ length (kept m)
+        → t ≡ sets l 0 (map g (kept m)) → u ≡ cond (q (f m)) (set t count (g (f m))) t → u ≡ sets l 0 (map g (kept (m + 1)))
+    kept-next-by g m count l t u c e s =
+        let len : count ≡ length (map g (kept m)) = c ∙ sym (length-map (kept m) g) in
+        let one : map g (cond (q (f m)) (f m ∷ []) []) ≡ cond (q (f m)) (g (f m) ∷ []) [] = by-bool (q (f m)) (λ p. rw p) (λ p. rw p) in
+        rw (add-one, kept-suc m, map-append g (kept m), one) (sets-if (q (f m)) l (map g (kept m)) t u count (g (f m)) len e s)

@@ -3,8 +3,10 @@ pub mod Xor
 pub mod BoolLaws
 pub mod SearchLaws
 pub mod SumLaws
+pub mod Writing
 pub mod KeepLaws
 pub mod Lists
 pub mod Loops
+pub mod ByteLaws
 pub mod IterateLaws
 pub mod RefusalLaws

@@ -3,15 +3,16 @@
 -- Assumes nothing.
 use mathlib.Core.Path.{_≡_, refl, sym, ap, subst, _∙_}
 use mathlib.Core.Bool.{Bool, true, false, not, _&&_, _||_}
-use mathlib.Core.List.{List, [], _∷_, _++_, append-nil, append-assoc}
-use Prim.Native.Nat.{ℕ, suc, _+_, _-_, _≤_, _<_}
+use mathlib.Core.List.{List, _++_}
+use Prim.Native.Nat.{ℕ, _+_, _-_, _≤_, _<_}
 use native.Mathlib.Nat.{le-antisymm}
 use native.Mathlib.Numerals.{add-one}
 use native.Mathlib.Omega.{arith}
 use borrow.Author.Tests.{not-true, not-false}
-use lib.ListN.{length, getD, set, drop, drop-of-length-le, length-drop}
-use lib.Seq.{set-at, getD-at, drop-cons, getD-drop, ext-getD}
+use lib.ListN.{length, getD, set, drop, length-drop}
+use lib.Seq.{sets, getD-drop, ext-getD}
 use Rattle.lists.specs.Search.{every, listOf}
+use Rattle.lists.proofs.Writing.{sets-next, sets-ahead, sets-front, sets-all}
 use Rattle.lists.proofs.SearchLaws.{every-not, listOf-length, listOf-at, listOf-append}
 
 pub every-start : (q : ℕ → Bool) → every q 0 ≡ true
@@ -38,40 +39,32 @@ some-next q k some l e f = rw (e, add-one, ← f) (cases (every q k) l)
     cases true false = refl
     cases false b = refl
 
--- a list that a loop fills from its front: the first k bytes are written, the rest are as they were
-unfoldable pub filled : (ℕ → ℕ) → ℕ → List ℕ → List ℕ
-filled f k l = listOf f k ++ drop k l
-
-pub filled-start : (f : ℕ → ℕ) (l : List ℕ) → l ≡ filled f 0 l
-unfolding filled listOf
-filled-start f l = refl
+-- a list l that a loop fills from its front: after k turns it is `sets l 0 (listOf f k)`
+pub fill-start : (f : ℕ → ℕ) (l : List ℕ) → l ≡ sets l 0 (listOf f 0)
+unfolding listOf
+fill-start f l = refl
 
 -- what is not yet written
-pub filled-ahead : (f : ℕ → ℕ) (k : ℕ) (l t : List ℕ) → t ≡ filled f k l → k < length l → getD t k 0 ≡ getD l k 0
-unfolding filled
-filled-ahead f k l t e h = rw (e, drop-cons l k 0) (getD-at (listOf f k) (getD l k 0) (drop (suc k) l) 0 k (listOf-length f k))
+pub fill-ahead : (f : ℕ → ℕ) (k : ℕ) (l t : List ℕ) → t ≡ sets l 0 (listOf f k) → getD t k 0 ≡ getD l k 0
+fill-ahead f k l t e = rw e (sets-ahead l (listOf f k) 0 k (omega (arith, listOf-length f k)))
 
-pub filled-next : (f : ℕ → ℕ) (k : ℕ) (l t : List ℕ) (v : ℕ) → t ≡ filled f k l → k < length t → length t ≡ length l → v ≡ f k → set t k v ≡ filled f (k + 1) l
-unfolding filled listOf
-filled-next f k l t v e h s w =
-    let h : k < length l = omega arith in
-    rw (e, add-one, drop-cons l k 0, w) (set-at (listOf f k) (getD l k 0) (drop (suc k) l) (f k) k (listOf-length f k) ∙ sym (append-assoc (listOf f k) (f k ∷ []) (drop (suc k) l)))
+pub fill-next : (f : ℕ → ℕ) (k : ℕ) (l t : List ℕ) (v : ℕ) → t ≡ sets l 0 (listOf f k) → v ≡ f k → set t k v ≡ sets l 0 (listOf f (k + 1))
+unfolding listOf
+fill-next f k l t v e w = rw (add-one, w) (sets-next l (listOf f k) t k (f k) (sym (listOf-length f k)) e)
 
-pub filled-done : (f : ℕ → ℕ) (k n : ℕ) (l t : List ℕ) → t ≡ filled f k l → length t ≡ length l → length l ≡ n → k ≤ length l → length t ≤ k → t ≡ listOf f n
-unfolding filled
-filled-done f k n l t e s w a b =
-    let d : drop k l ≡ [] = drop-of-length-le l {i = k} (omega arith) in
+pub fill-done : (f : ℕ → ℕ) (k n : ℕ) (l t : List ℕ) → t ≡ sets l 0 (listOf f k) → length t ≡ length l → length l ≡ n → k ≤ length l → length t ≤ k → t ≡ listOf f n
+fill-done f k n l t e s w a b =
     let x : k ≡ n = omega arith in
-    rw (e, d, append-nil) (ap (listOf f) x)
+    e ∙ rw x (sets-all l (listOf f n) (w ∙ sym (listOf-length f n)))
 
 -- a loop that stops early, where what is not yet written is right as it is
-pub filled-rest : (f : ℕ → ℕ) (k : ℕ) (l t : List ℕ) → t ≡ filled f k l → k ≤ length l → ((y : ℕ) → k ≤ y → y < length l → getD l y 0 ≡ f y) → t ≡ listOf f (length l)
-unfolding filled
-filled-rest f k l t e h same =
+pub fill-rest : (f : ℕ → ℕ) (k : ℕ) (l t : List ℕ) → t ≡ sets l 0 (listOf f k) → k ≤ length l → ((y : ℕ) → k ≤ y → y < length l → getD l y 0 ≡ f y) → t ≡ listOf f (length l)
+fill-rest f k l t e h same =
     let s : k + (length l - k) ≡ length l = omega arith in
+    let g : sets l 0 (listOf f k) ≡ listOf f k ++ drop k l = sets-front l (listOf f k) (omega (arith, listOf-length f k)) ∙ rw (listOf-length f k) in
     let d : drop k l ≡ listOf (λ y. f (k + y)) (length l - k) =
     ext-getD 0 (drop k l) (listOf (λ y. f (k + y)) (length l - k)) (length-drop k l ∙ sym (listOf-length (λ y. f (k + y)) (length l - k)))
     (λ y b. let hy : y < length l - k = subst (λ (x : ℕ). y < x) (length-drop k l) b in getD-drop k l y 0 ∙ same (k + y) (omega arith) (omega arith) ∙ sym (listOf-at (λ z. f (k + z)) (length l - k) y hy)) in
-    e ∙ ap (λ x. listOf f k ++ x) d ∙ sym (listOf-append f k (length l - k)) ∙ ap (listOf f) s
+    e ∙ g ∙ ap (λ x. listOf f k ++ x) d ∙ sym (listOf-append f k (length l - k)) ∙ ap (listOf f) s
 
-pub ruleset loops = (every-start, every-next, every-stop, every-done, filled-start, filled-next, filled-done)
+pub ruleset loops = (every-start, every-next, every-stop, every-done, fill-start, fill-next, fill-done)

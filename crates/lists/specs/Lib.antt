@@ -2,4 +2,5 @@
 pub mod Search
 pub mod Sums
 pub mod Iterate
+pub mod Bytes
 pub mod Refusal

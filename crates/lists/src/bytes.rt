@@ -1,7 +1,8 @@
-// Single bytes and lengths: the greater and the lesser of two, and a byte put into a list.
+// Bytes: the greater and the lesser of two, a byte put into a list, and two lists place by place.
 ghost use mathlib.Core.Path.{_≡_};
 ghost use Prim.Native.Nat.{min, max};
 ghost use lib.ListN.{set};
+ghost use Rattle.lists.specs.Bytes.{joined, joinedInto, sameBytes};
 
 // The greater of two bytes.
 pub fn greater(a: u8, b: u8) -> u8
@@ -25,4 +26,49 @@ pub fn put(list: &mut [u8], k: u8, byte: u8)
     if at < list.len() {
         list[at] = byte;
     }
+}
+
+// The greater byte at each place of the first list.
+pub fn join(list: &mut [u8], other: &[u8])
+    ensures { λ _. ⌜ now (list .exit) ≡ joined (now (list .entry)) (now (other .entry)) ⌝ }
+{
+    let end = lesser(list.len(), other.len());
+    let mut k: usize = 0;
+    while k < end {
+        list[k] = greater(list[k], other[k]);
+        k += 1;
+    }
+}
+
+// Writes the greater bytes of two lists to the front of a buffer. Lists of two lengths, or a buffer without room: nothing.
+pub fn write_joined(list: &[u8], other: &[u8], out: &mut [u8])
+    ensures { λ _. ⌜ now (out .exit) ≡ joinedInto (now (list .entry)) (now (other .entry)) (now (out .entry)) ⌝ }
+{
+    if list.len() != other.len() {
+        return;
+    }
+    if out.len() < list.len() {
+        return;
+    }
+    let mut k: usize = 0;
+    while k < list.len() {
+        out[k] = greater(list[k], other[k]);
+        k += 1;
+    }
+}
+
+// Whether two lists hold the same bytes.
+pub fn same_bytes(list: &[u8], other: &[u8]) -> bool
+    ensures { λ r. ⌜ r ≡ sameBytes (now (list .entry)) (now (other .entry)) ⌝ }
+{
+    if list.len() != other.len() {
+        return false;
+    }
+    let mut apart: u8 = 0;
+    let mut k: usize = 0;
+    while k < list.len() {
+        apart = greater(apart, list[k] ^ other[k]);
+        k += 1;
+    }
+    apart == 0
 }

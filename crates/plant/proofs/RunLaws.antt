@@ -1,7 +1,9 @@
 -- Laws of the entries of a schedule, of an entry's line of the sheet, and of a run step by step.
 -- Assumes nothing.
-use mathlib.Core.Path.{_≡_, refl, ap}
-use mathlib.Core.Bool.{Bool, true, false, cond, not, _&&_}
+use mathlib.Core.Path.{_≡_, refl, sym, ap}
+use mathlib.Core.Logic.{by-cases}
+use mathlib.Core.Bool.{Bool, true, false, cond, not, _&&_, _||_}
+use native.Mathlib.Decide.{ℕ-discrete}
 use mathlib.Core.List.{List, [], _∷_, _++_, append-assoc}
 use Prim.Native.Nat.{ℕ, zero, suc, _+_, _*_, _-_, _/_, _%_, _≤_, _<_}
 use native.Mathlib.Numerals.{add-one}
@@ -9,7 +11,7 @@ use native.Mathlib.Omega.{arith}
 use borrow.Author.Tests.{eqb-true, eqb-false, eq-eqb, ne-eqb, not-false}
 use lib.Dec.{eqb}
 use lib.ListN.{length, getD, set, take, drop, drop-of-length-le}
-use lib.Seq.{drop-drop}
+use lib.Seq.{drop-drop, sets-eq}
 use Rattle.station.specs.Groups.{stationAt}
 use Rattle.table.specs.Rules.{shapeNumber, tableNumber}
 use Rattle.table.specs.Table.{tableLength}
@@ -79,11 +81,13 @@ line-written (w ∷ x ∷ y ∷ []) a b c d h = absurd (omega arith)
 line-written (w ∷ x ∷ y ∷ z ∷ []) a b c d h = refl
 line-written (w ∷ x ∷ y ∷ z ∷ v ∷ l) a b c d h = absurd (omega arith)
 
--- a line that is lent as a part of the sheet and comes back
-pub line-back : (sheet : List ℕ) (k : ℕ) (line : List ℕ)
-    → take (4 * k) sheet ++ (line ++ drop (4 * k + 4 - 4 * k) (drop (4 * k) sheet)) ≡ writeLine sheet k line
-unfolding writeLine
-line-back sheet k line = let w : 4 * k + 4 - 4 * k ≡ 4 = omega arith in rw (w, drop-drop, append-assoc)
+-- a line that is lent as a part of the sheet and comes back as that of an entry
+pub line-back : (n : ℕ) (s : State) (e : Entry) (sheet : List ℕ) (k : ℕ) (line : List ℕ) → line ≡ sheetLine n s e → 4 * k + 4 ≤ length sheet
+    → take (4 * k) sheet ++ (line ++ drop (4 * k + 4 - 4 * k) (drop (4 * k) sheet)) ≡ writeLine sheet k (sheetLine n s e)
+unfolding sheetLine
+line-back n s e sheet k line same fits =
+    let w : 4 * k + 4 - 4 * k ≡ 4 = omega arith in
+    rw (w, drop-drop, same) (sym (rw append-assoc at (sets-eq (sheetLine n s e) sheet (4 * k) fits)))
 
 -- the run from entry k on
 module _ (n k : ℕ) (s : State) (sheet schedule : List ℕ) where
@@ -114,6 +118,19 @@ pub go-one : (n : ℕ) (s : State) (sheet : List ℕ) (k i : ℕ) → entryNumbe
     → goOn n 0 s sheet (entries (k ∷ i ∷ [])) .state ≡ after n s (entryOf k i)
 unfolding goOn entries
 go-one n s sheet k i z = rw z
+
+-- the sheet's length is twice the schedule's, by halves
+pub halves : (a b : ℕ) → (not (eqb (b / 2) a) || eqb (b % 2) 1) ≡ not (eqb b (2 * a))
+halves a b = by-cases (ℕ-discrete b (2 * a)) same apart
+  where
+    same : b ≡ 2 * a → (not (eqb (b / 2) a) || eqb (b % 2) 1) ≡ not (eqb b (2 * a))
+    same e = rw (eq-eqb b (2 * a) e, eq-eqb (b / 2) a (omega arith), ne-eqb (b % 2) 1 (λ o. omega arith))
+
+    apart : ¬ (b ≡ 2 * a) → (not (eqb (b / 2) a) || eqb (b % 2) 1) ≡ not (eqb b (2 * a))
+    apart d =
+        by-cases (ℕ-discrete (b / 2) a)
+        (λ h. rw (ne-eqb b (2 * a) d, eq-eqb (b / 2) a h, eq-eqb (b % 2) 1 (omega arith)))
+        (λ h. rw (ne-eqb b (2 * a) d, ne-eqb (b / 2) a h))
 
 -- what a run has that refusals 1 to 6 let through
 pub start-facts : (n : ℕ) (t : List ℕ) (a b : ℕ) → startNumber n t a b ≡ 0 → Accepted n t × (a % 2 ≡ 1 → ⊥) × (b ≡ 2 * a)

@@ -2,8 +2,9 @@
 -- Assumes nothing.
 use Prim.Native.Nat.{ℕ, suc, _+_, _*_, _%_}
 use mathlib.Core.Bool.{cond, not}
-use mathlib.Core.List.{List, [], _∷_, _++_}
-use lib.ListN.{length, take, drop}
+use mathlib.Core.List.{List, [], _∷_}
+use lib.ListN.{length}
+use lib.Seq.{sets}
 use lib.Dec.{eqb}
 use Rattle.lists.specs.Refusal.{refuse, _else_}
 use Rattle.table.specs.Rules.{tableNumber}
@@ -27,9 +28,9 @@ pub record Outcome : Type 0 where
 abbrev pub outcomeWith : Answer → List ℕ → List ℕ → Outcome
 outcomeWith a t sheet = record { number = a .number; taken = a .taken; state = stateWith t (a .tally); sheet = sheet }
 
--- the sheet with a line written as the kth, from 0
-unfoldable pub writeLine : List ℕ → ℕ → List ℕ → List ℕ
-writeLine sheet k line = take (4 * k) sheet ++ line ++ drop (4 * k + 4) sheet
+-- the sheet with a line written as the kth, from 0, of four bytes each
+abbrev pub writeLine : List ℕ → ℕ → List ℕ → List ℕ
+writeLine sheet k line = sets sheet (4 * k) line
 
 -- a run that has taken k entries goes on with the rest. "At an entry, the run stops: table, tally and sheet are as the earlier entries left
 -- them, the rest of the sheet unchanged."

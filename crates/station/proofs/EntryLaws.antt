@@ -4,18 +4,20 @@ use mathlib.Core.Path.{_≡_, refl, sym, _∙_}
 use mathlib.Core.Logic.{by-cases}
 use mathlib.Core.Bool.{true, false, cond, true≢false}
 use mathlib.Core.List.{List, [], _∷_, _++_, append-nil}
-use Prim.Native.Nat.{ℕ, suc, _+_, _*_, _≤_, _<_}
+use Prim.Native.Nat.{ℕ, _+_, _*_, _≤_, _<_}
 use native.Mathlib.Decide.{decLt}
 use native.Mathlib.Numerals.{add-one}
 use native.Mathlib.Omega.{arith}
 use borrow.Author.Tests.{lt-ltb}
 use lib.ListN.{length, set, length-append}
+use lib.Seq.{sets}
 use Rattle.lists.specs.Search.{select, keep, listOf}
-use Rattle.table.specs.Sizes.{isSize, distances}
+use Rattle.table.specs.Sizes.{isSize}
 use Rattle.station.specs.Tests.{unsuspected, answer, stands, due}
 use Rattle.station.specs.Calls.{isOther, otherDistances, answerByte, assignmentEntries}
 use Rattle.lists.proofs.BoolLaws.{by-bool}
-use Rattle.lists.proofs.KeepLaws.{packed, packed-two, packed-done, kept-suc, kept-le, kept-room}
+use Rattle.lists.proofs.KeepLaws.{kept-suc, kept-le}
+use Rattle.lists.proofs.Writing.{sets-two, sets-all}
 use Rattle.station.proofs.DueLaws.{unsuspected-absent, due-zero}
 use Rattle.station.proofs.Presence.{others-all}
 
@@ -54,26 +56,20 @@ entry-bytes n i m bytes e = omega (arith, kept-le (isOther n i) (λ k. k) m)
 
 -- all is written
 pub entry-done : (n : ℕ) (r : List ℕ) (i : ℕ) → isSize n ≡ true → i < n → (l : List ℕ) → length l + 2 ≡ 2 * n
-    → packed (assignmentEntries r i (otherDistances n i)) l ≡ assignmentEntries r i (otherDistances n i)
+    → sets l 0 (assignmentEntries r i (otherDistances n i)) ≡ assignmentEntries r i (otherDistances n i)
 entry-done n r i size h l fits =
-    packed-done (assignmentEntries r i (otherDistances n i)) l (omega (arith, entries-length r i (otherDistances n i), others-all n i size h))
+    sets-all l (assignmentEntries r i (otherDistances n i)) (omega (arith, entries-length r i (otherDistances n i), others-all n i size h))
 
-module _ (n : ℕ) (r : List ℕ) (i : ℕ) (size : isSize n ≡ true) (long : length r ≡ n) (h : i < n) where
+module _ (n : ℕ) (r : List ℕ) (i : ℕ) (long : length r ≡ n) where
   abbrev others : ℕ → List ℕ
   others m = select (isOther n i) m
 
-  -- another station that stands at m leaves room for its entry
-  room : (m len : ℕ) → m < distances n → isOther n i m ≡ true → len + 2 ≡ 2 * n → suc (2 * length (others m)) < len
-  unfolding otherDistances
-  room m len below other fits =
-      omega (arith, kept-room (isOther n i) (λ k. k) m (distances n) below other, others-all n i size h)
-
-  pub entry-next : (m bytes b : ℕ) (l t u : List ℕ) → 0 < m → m < distances n → length l + 2 ≡ 2 * n
-      → (bytes ≡ 2 * length (others m)) × (t ≡ packed (assignmentEntries r i (others m)) l)
+  pub entry-next : (m bytes b : ℕ) (l t u : List ℕ) → 0 < m
+      → (bytes ≡ 2 * length (others m)) × (t ≡ sets l 0 (assignmentEntries r i (others m)))
       → b ≡ cond (stands r i m) (bytes + 2) bytes
       → u ≡ cond (stands r i m) (set (set t bytes m) (bytes + 1) (answerByte (answer r i m))) t
-      → (b ≡ 2 * length (others (m + 1))) × (u ≡ packed (assignmentEntries r i (others (m + 1))) l)
-  entry-next m bytes b l t u pos below fits e eb eu = by-bool (stands r i m) here absent
+      → (b ≡ 2 * length (others (m + 1))) × (u ≡ sets l 0 (assignmentEntries r i (others (m + 1))))
+  entry-next m bytes b l t u pos e eb eu = by-bool (stands r i m) here absent
     where
       xs : List ℕ
       xs = assignmentEntries r i (others m)
@@ -81,18 +77,17 @@ module _ (n : ℕ) (r : List ℕ) (i : ℕ) (size : isSize n ≡ true) (long : l
       same : stands r i m ≡ isOther n i m
       same = rw (long, lt-ltb 0 m pos)
 
-      here : stands r i m ≡ true → (b ≡ 2 * length (others (m + 1))) × (u ≡ packed (assignmentEntries r i (others (m + 1))) l)
+      here : stands r i m ≡ true → (b ≡ 2 * length (others (m + 1))) × (u ≡ sets l 0 (assignmentEntries r i (others (m + 1))))
       here p =
           let other : isOther n i m ≡ true = sym same ∙ p in
           let more : others (m + 1) ≡ others m ++ (m ∷ []) = rw (add-one, kept-suc (isOther n i) (λ k. k) m, other) in
           let len : bytes ≡ length xs = e .0 ∙ sym (entries-length r i (others m)) in
-          let fit = room m (length l) below other fits in
           rw (more, entries-more r i m (others m)) (
             omega (arith, rw p at eb, e .0, length-append (others m) (m ∷ [])),
-            rw (p, e .1, len, add-one) at eu ∙ packed-two xs l m (answerByte (answer r i m)) (omega (arith, entries-length r i (others m))),
+            rw p at eu ∙ sets-two l xs t bytes m (answerByte (answer r i m)) len (e .1),
           )
 
-      absent : stands r i m ≡ false → (b ≡ 2 * length (others (m + 1))) × (u ≡ packed (assignmentEntries r i (others (m + 1))) l)
+      absent : stands r i m ≡ false → (b ≡ 2 * length (others (m + 1))) × (u ≡ sets l 0 (assignmentEntries r i (others (m + 1))))
       absent p =
           let other : isOther n i m ≡ false = sym same ∙ p in
           let stays : others (m + 1) ≡ others m = rw (add-one, kept-suc (isOther n i) (λ k. k) m, other, append-nil) in

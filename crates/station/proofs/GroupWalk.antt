@@ -3,10 +3,11 @@
 use mathlib.Core.Path.{_≡_, refl}
 use mathlib.Core.Bool.{cond}
 use mathlib.Core.List.{List}
-use Prim.Native.Nat.{ℕ, _+_, _≤_, _<_}
+use Prim.Native.Nat.{ℕ, _+_, _≤_}
 use lib.ListN.{length, set}
+use lib.Seq.{sets}
 use Rattle.station.specs.Groups.{stationAt, isPresent, width, member, fullGroup, group}
-use Rattle.lists.proofs.KeepLaws.{packed, kept, kept-le, kept-room, count-next, packed-next}
+use Rattle.lists.proofs.KeepLaws.{kept, kept-le, count-next, kept-next}
 
 -- member k of the group of i whose least distance is w
 abbrev pub placed : ℕ → ℕ → ℕ → ℕ
@@ -31,8 +32,7 @@ module _ (n i w : ℕ) where
     unfolding found
     found-count count r e s = count-next (isPresent n) (placed i w) k count r e (rw at at s)
 
-    pub found-put : (count : ℕ) (l t u : List ℕ) → k < w → length l ≡ length (found w) → t ≡ packed (found k) l → count ≡ length (found k)
-        → u ≡ cond (isPresent n x) (set t count x) t → u ≡ packed (found (k + 1)) l
+    pub found-put : (count : ℕ) (l t u : List ℕ) → t ≡ sets l 0 (found k) → count ≡ length (found k)
+        → u ≡ cond (isPresent n x) (set t count x) t → u ≡ sets l 0 (found (k + 1))
     unfolding found
-    found-put count l t u below long e c s =
-        packed-next (isPresent n) (placed i w) k count l t u e c (λ p. rw (c, long) (kept-room (isPresent n) (placed i w) k w below p)) (rw at at s)
+    found-put count l t u e c s = kept-next (isPresent n) (placed i w) k count l t u e c (rw at at s)

@@ -29,11 +29,13 @@ abbrev pub answerValue : DueOrAhead → DueAnswer
 answerValue Due = answerDue
 answerValue (Ahead x) = answerAhead (x .0)
 
--- Group list: refusals 1, 9, 12, 13. 12: "The level is 0 or above d." C-11: "number 13 uses the group's remaining length"
+-- refusals 9 and 12: "The level is 0 or above d."
+unfoldable pub memberNumber : ℕ → ℕ → ℕ → ℕ
+memberNumber n i s = stationRefusal n i else refuse 12 (eqb s 0 || ltb (dimension n) s)
+
+-- Group list: refusals 1, 9, 12, 13. C-11: "number 13 uses the group's remaining length"
 unfoldable pub groupNumber : ℕ → ℕ → ℕ → ℕ → ℕ
-groupNumber n i s len =
-    refuse 1 (not (isSize n)) else stationRefusal n i else refuse 12 (eqb s 0 || ltb (dimension n) s)
-    else lengthRefusal (length (group n i s)) len
+groupNumber n i s len = refuse 1 (not (isSize n)) else memberNumber n i s else lengthRefusal (length (group n i s)) len
 
 -- "the 2^(s−1) members in order, into a lent list of just that length"; C-11: "the members that remain, which may be 0"
 unfoldable pub groupAfter : ℕ → ℕ → ℕ → List ℕ → List ℕ

@@ -15,6 +15,7 @@ use crate::groups;
 use crate::order;
 use crate::rows;
 use lists::bytes;
+use lists::refusal;
 use table::Distance;
 use table::Station;
 use table::inside;
@@ -118,13 +119,9 @@ fn assignment_number(n: usize, table: &[u8], i: Station, len: usize) -> u8
     if number != 0 {
         return number;
     }
-    if !rules::is_live(n as u8, table, i) {
-        return 10;
-    }
-    if len != 2 * (n - 1) {
-        return 13;
-    }
-    0
+    let ten = refusal::refuse(10, !rules::is_live(n as u8, table, i));
+    let thirteen = refusal::refuse(13, len != 2 * (n - 1));
+    refusal::first_of(ten, thirteen)
 }
 
 // How much of an assignment is written: the bytes, and how many entries are due.

@@ -4,9 +4,10 @@ ghost use Prim.Native.Nat.{_+_, _<_, _≤_};
 ghost use mathlib.Core.Bool.{cond};
 ghost use lib.ListN.{length, set};
 ghost use Rattle.station.specs.Groups.{isPresent, width, group};
-ghost use Rattle.station.specs.Calls.{groupNumber, groupAfter};
+ghost use Rattle.station.specs.Calls.{memberNumber, groupNumber, groupAfter};
 use crate::order;
 use lists::bytes;
+use lists::refusal;
 use table::Distance;
 use table::Level;
 use table::Station;
@@ -41,22 +42,22 @@ fn group_number(n: usize, i: Station, s: Level, len: usize) -> u8
     if !sizes::is_size(n) {
         return 1;
     }
-    let station = i.0;
-    if n <= station as usize {
-        return 9;
-    }
-    if s.0 == 0 {
-        return 12;
-    }
-    let d = sizes::dimension_of(n as u8);
-    if d.0 < s.0 {
-        return 12;
+    let number = member_number(n as u8, i, s);
+    if number != 0 {
+        return number;
     }
     let length = group_length(n as u8, i, s);
-    if len != length as usize {
-        return 13;
-    }
-    0
+    refusal::refuse(13, len != length as usize)
+}
+
+// Refusals 9 and 12, or 0.
+fn member_number(n: u8, i: Station, s: Level) -> u8
+    ensures { λ r. ⌜ r ≡ memberNumber n (i .0) (s .0) ⌝ }
+{
+    let nine = refusal::refuse(9, n <= i.0);
+    let d = sizes::dimension_of(n);
+    let twelve = refusal::refuse(12, (s.0 == 0) | (d.0 < s.0));
+    refusal::first_of(nine, twelve)
 }
 
 // How many stations the group of i at level s has among n.

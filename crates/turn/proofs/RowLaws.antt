@@ -11,10 +11,12 @@ use native.Mathlib.Omega.{arith}
 use lib.ListN.{length, getD, take, drop, take-append-drop}
 use lib.Seq.{take-at, ext-getD}
 use Rattle.table.specs.Table.{head, tableLength, rowStart, row, setRow}
-use Rattle.station.specs.Rows.{unionByte, union, sameRows, united}
+use Rattle.station.specs.Rows.{unionByte, union}
 use Rattle.lists.proofs.SearchLaws.{listOf-same}
 use Rattle.table.proofs.CellLaws.{row-length, row-same, setRow-length, setRow-out}
-use Rattle.station.proofs.UnionLaws.{union-length, union-at, union-own, union-others, same-rows, united-fits}
+use Rattle.station.proofs.UnionLaws.{union-length, union-at, union-own, union-others}
+use Rattle.lists.specs.Bytes.{joinedByte, joined, joinedInto, sameBytes}
+use Rattle.lists.proofs.ByteLaws.{joined-length, joined-at, into-fits, same-bytes}
 use Rattle.turn.specs.Turn.{exchangeRows}
 
 -- the table with the row as it comes back
@@ -29,7 +31,7 @@ setRow-same n t i = rw (take-append-drop n (drop (rowStart n i) t), take-append-
 
 -- a row joined with the union of two rows, of which it is the one or the other
 union-twice : (r o u : List ℕ) (n own : ℕ) → length r ≡ n → ((k : ℕ) → k < n → getD u k 0 ≡ max (getD r k 0) (getD o k 0)) → union r u own ≡ union r o own
-unfolding union
+unfolding union joinedByte
 union-twice r o u n own w e = listOf-same _ _ (length r) (λ k h. pick k (omega arith) (ℕ-discrete k own))
   where
     pick : (k : ℕ) → k < n → Dec (k ≡ own) → unionByte r u own k ≡ unionByte r o own k
@@ -39,10 +41,10 @@ union-twice r o u n own w e = listOf-same _ _ (length r) (λ k h. pick k (omega 
         union-others r u own k d ∙ m ∙ sym (union-others r o own k d)
 
 -- rows that are the same are their union already
-pub same-exchange : (n : ℕ) (t : List ℕ) (i j : ℕ) → sameRows (row n t i) (row n t j) ≡ true → t ≡ exchangeRows n t i j
-unfolding exchangeRows
+pub same-exchange : (n : ℕ) (t : List ℕ) (i j : ℕ) → sameBytes (row n t i) (row n t j) ≡ true → t ≡ exchangeRows n t i j
+unfolding exchangeRows joinedByte
 same-exchange n t i j e =
-    let w : row n t i ≡ row n t j = same-rows (row n t i) (row n t j) e in
+    let w : row n t i ≡ row n t j = same-bytes (row n t i) (row n t j) e in
     let s : setRow n t i (union (row n t i) (row n t j) i) ≡ t = ap (setRow n t i) (ap (λ (r : List ℕ). union (row n t i) r i) (sym w) ∙ union-self (row n t i) i) ∙ setRow-same n t i in
     sym (rw s (ap (setRow n t j) (ap (λ (r : List ℕ). union (row n t j) r j) w ∙ union-self (row n t j) j) ∙ setRow-same n t j))
   where
@@ -55,9 +57,9 @@ same-exchange n t i j e =
 
 -- the row of i joined with the union of both rows, then the row of j
 pub exchange-is : (n : ℕ) (t : List ℕ) (i j : ℕ) → length t ≡ tableLength n → i < n → j < n → i ≢ j → (o x t₁ t₂ : List ℕ) → n ≤ length x
-    → o ≡ united (row n t i) (row n t j) x → t₁ ≡ setRow n t i (union (row n t i) (take n o) i)
+    → o ≡ joinedInto (row n t i) (row n t j) x → t₁ ≡ setRow n t i (union (row n t i) (take n o) i)
     → t₂ ≡ setRow n t₁ j (union (row n t₁ j) (take n o) j) → t₂ ≡ exchangeRows n t i j
-unfolding exchangeRows
+unfolding exchangeRows joinedByte
 exchange-is n t i j long hi hj apart o x t₁ t₂ room eo e₁ e₂ =
     let ri : List ℕ = row n t i in
     let rj : List ℕ = row n t j in
@@ -65,10 +67,10 @@ exchange-is n t i j long hi hj apart o x t₁ t₂ room eo e₁ e₂ =
     let lj : length rj ≡ n = row-length n t j long hj in
     let u : List ℕ = union ri rj i in
     let hu : length u ≡ n = union-length ri rj i ∙ li in
-    let to : take n o ≡ union ri rj (length ri) =
-    ap (take n) (eo ∙ united-fits ri rj x (li ∙ sym lj) (omega (arith, li))) ∙ take-at (union ri rj (length ri)) (drop (length ri) x) n (union-length ri rj (length ri) ∙ li) in
+    let to : take n o ≡ joined ri rj =
+    ap (take n) (eo ∙ into-fits ri rj x (li ∙ sym lj) (omega (arith, li))) ∙ take-at (joined ri rj) (drop (length (joined ri rj)) x) n (joined-length ri rj ∙ li) in
     let f : (k : ℕ) → k < n → getD (take n o) k 0 ≡ max (getD ri k 0) (getD rj k 0) =
-    (λ k h. ap (λ (l : List ℕ). getD l k 0) to ∙ union-at ri rj (length ri) k (omega (arith, li)) ∙ union-others ri rj (length ri) k (λ q. omega (arith, li))) in
+    (λ k h. ap (λ (l : List ℕ). getD l k 0) to ∙ joined-at ri rj k (omega (arith, li))) in
     let s : t₁ ≡ setRow n t i u = e₁ ∙ ap (setRow n t i) (union-twice ri rj (take n o) n i li f) in
     let w : row n (setRow n t i u) j ≡ rj =
     row-same n (setRow n t i u) t j (setRow-length n t i u long hi hu ∙ long) long hj

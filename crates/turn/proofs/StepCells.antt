@@ -9,6 +9,7 @@ use native.Mathlib.Omega.{arith}
 use lib.ListN.{length}
 use Rattle.table.specs.Sizes.{distances}
 use Rattle.table.specs.Table.{head, stride, tableLength, cell, nextColumn, finishedColumn, testsColumn, nextDistance, finished, testsMade, suspects, row, setRow}
+use Rattle.lists.specs.Bytes.{joinedByte}
 use Rattle.station.specs.Rows.{unionByte, union, mark}
 use Rattle.table.proofs.CellLaws.{cell-same, cell-other, setCell-length, row-length, row-at, setRow-length, setRow-in, setRow-out}
 use Rattle.station.proofs.UnionLaws.{union-length, union-at, union-own, union-others, mark-length, mark-same, mark-other}
@@ -133,10 +134,12 @@ module _ (n : ℕ) (t : List ℕ) (i : ℕ) where
           setRow-in n (setRow n t i u₁) j u₂ k first-long hj long₂ hk ∙ union-at (row n t j) (row n t i) j k (omega arith)
 
       pub exchange-tester : (k : ℕ) → k < n → k ≢ i → suspects n (exchangeRows n t i j) i k ≡ max (suspects n t i k) (suspects n t j k)
+      unfolding joinedByte
       exchange-tester k hk ne =
           cc (tester-byte k hk, union-others (row n t i) (row n t j) i k ne, row-at n t i k hk, row-at n t j k hk)
 
       pub exchange-tested : (k : ℕ) → k < n → k ≢ j → suspects n (exchangeRows n t i j) j k ≡ max (suspects n t j k) (suspects n t i k)
+      unfolding joinedByte
       exchange-tested k hk ne =
           cc (tested-byte k hk, union-others (row n t j) (row n t i) j k ne, row-at n t i k hk, row-at n t j k hk)
 

@@ -5,11 +5,13 @@ ghost use lib.ListN.{length};
 ghost use Rattle.lists.specs.Search.{least};
 ghost use Rattle.table.specs.Table.{HasLine, tableLength, testsMade, row, setRow};
 ghost use Rattle.station.specs.Groups.{stationAt};
-ghost use Rattle.station.specs.Rows.{union, sameRows, united};
+ghost use Rattle.lists.specs.Bytes.{joinedInto, sameBytes};
+ghost use Rattle.station.specs.Rows.{union};
 ghost use Rattle.table.specs.Rules.{tableNumber};
 ghost use Rattle.station.specs.Tests.{due};
 ghost use Rattle.turn.specs.Turn.{nextTest, finishPass, countTest, replies, isTold, exchangeRows, suspect, setStatus, replyOutcome, testOutcome, afterOutcome, selfOrSuspected, isAlone, afterAlone, testing, turn, turnTested, turnOutcome};
 use crate::codes;
+use lists::bytes;
 use station::DueOrAhead;
 use station::due;
 use station::order;
@@ -197,7 +199,7 @@ fn suspect_station(n: u8, table: &mut [u8], i: Station, j: Station)
 }
 
 // Step 4: both rows become the union of the two. Rows that are the same stay as they are. Otherwise each row is lent in turn as a part of
-// the table, with the union in a buffer.
+// the table, with both joined in a buffer.
 fn exchange_rows(n: u8, table: &mut [u8], i: Station, j: Station)
     requires { ⌜ (n ≤ 64) × (length (now table) ≡ tableLength n) × (i .0 < n) × (j .0 < n) × (i .0 ≡ j .0 → ⊥) ⌝ }
     ensures { λ _. ⌜ now (table .exit) ≡ exchangeRows n (now (table .entry)) (i .0) (j .0) ⌝ }
@@ -207,7 +209,7 @@ fn exchange_rows(n: u8, table: &mut [u8], i: Station, j: Station)
     }
     let size = n as usize;
     let mut both = [0u8; 64];
-    unite_rows(n, table, i, j, &mut both);
+    join_rows(n, table, i, j, &mut both);
     join_into(n, table, i, &both[..size]);
     join_into(n, table, j, &both[..size]);
 }
@@ -215,17 +217,17 @@ fn exchange_rows(n: u8, table: &mut [u8], i: Station, j: Station)
 // Whether the rows of i and j hold the same bytes.
 fn same_rows(n: u8, table: &[u8], i: Station, j: Station) -> bool
     requires { ⌜ (length (now table) ≡ tableLength n) × (i .0 < n) × (j .0 < n) ⌝ }
-    ensures { λ r. ⌜ r ≡ sameRows (row n (now (table .entry)) (i .0)) (row n (now (table .entry)) (j .0)) ⌝ }
+    ensures { λ r. ⌜ r ≡ sameBytes (row n (now (table .entry)) (i .0)) (row n (now (table .entry)) (j .0)) ⌝ }
 {
-    rows::same_rows(inside::row(n, table, i), inside::row(n, table, j))
+    bytes::same_bytes(inside::row(n, table, i), inside::row(n, table, j))
 }
 
-// Writes the union of the rows of i and j to the front of a buffer.
-fn unite_rows(n: u8, table: &[u8], i: Station, j: Station, out: &mut [u8])
+// Writes the rows of i and j, joined, to the front of a buffer.
+fn join_rows(n: u8, table: &[u8], i: Station, j: Station, out: &mut [u8])
     requires { ⌜ (length (now table) ≡ tableLength n) × (i .0 < n) × (j .0 < n) ⌝ }
-    ensures { λ _. ⌜ now (out .exit) ≡ united (row n (now (table .entry)) (i .0)) (row n (now (table .entry)) (j .0)) (now (out .entry)) ⌝ }
+    ensures { λ _. ⌜ now (out .exit) ≡ joinedInto (row n (now (table .entry)) (i .0)) (row n (now (table .entry)) (j .0)) (now (out .entry)) ⌝ }
 {
-    rows::unite_rows(inside::row(n, table, i), inside::row(n, table, j), out);
+    bytes::write_joined(inside::row(n, table, i), inside::row(n, table, j), out);
 }
 
 // Joins another row into the row of station i, lent as a part of the table.

@@ -10,11 +10,12 @@ use native.Mathlib.Omega.{arith}
 use borrow.Author.Tests.{ltb-true}
 use lib.Dec.{ltb, eqb}
 use lib.ListN.{length, getD, set, take, drop, length-set, length-append, length-drop, drop-of-length-le, take-append-drop}
-use lib.Seq.{take-all, drop-drop, drop-set-lt, take-suc-set, length-take-le}
+use lib.Seq.{take-all, drop-drop, drop-set-lt, take-suc-set, length-take-le, sets}
 use Rattle.watch.specs.declared.input.Parsed.{Parsed}
-use Rattle.watch.specs.Input.{given, lines, lineLength, digitsFrom, numberOf, sizeOf, kindOf, entryBytes, Reading, readingOf, readEntries, readLines, readUpTo, written, ReadAs}
+use Rattle.watch.specs.Input.{given, lines, lineLength, digitsFrom, numberOf, sizeOf, kindOf, entryBytes, Reading, readingOf, readEntries, readLines, readUpTo, ReadAs}
 use Rattle.watch.proofs.LineLaws.{lines-first, drop-min}
 use Rattle.watch.proofs.NumberLaws.{number-has}
+use Rattle.lists.proofs.Writing.{sets-front}
 
 -- the entry of a line by the line's bytes
 pub entry-short : (l : List ℕ) → length l < 2 → entryBytes l ≡ none
@@ -161,10 +162,12 @@ read-fits room l = go (lines l)
     go (l ∷ ls) = pick (sizeOf l) ls
 
 -- a schedule whose first k entries are written
-pub written-part : (s s₀ : List ℕ) (a : ℕ) → a ≤ length s → drop a s ≡ drop a s₀ → s ≡ written (take a s) s₀
-written-part s s₀ a h e = rw (length-take-le a s h, ← e) (sym (take-append-drop a s))
+pub written-part : (s s₀ : List ℕ) (a : ℕ) → a ≤ length s → length s ≡ length s₀ → drop a s ≡ drop a s₀ → s ≡ sets s₀ 0 (take a s)
+written-part s s₀ a h long e =
+    let len : length (take a s) ≡ a = length-take-le a s h in
+    rw (sets-front s₀ (take a s) (omega arith), len, ← e) (sym (take-append-drop a s))
 
 -- a reading by its parts
 pub read-as-parts : (r : Reading) (p : Parsed) (s after lent : List ℕ) → r ≡ readingOf (p .unread) (p .size) (p .entries) s
-    → after ≡ written s lent → ReadAs p after lent r
+    → after ≡ sets lent 0 s → ReadAs p after lent r
 read-as-parts r p s after lent e w = rw e (record { unread = refl; size = refl; entries = refl; schedule = w })

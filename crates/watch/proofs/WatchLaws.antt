@@ -1,13 +1,14 @@
 -- Laws of what comes of an input: the table that is made fresh, a refused size, and the reading.
 -- Assumes nothing.
-use mathlib.Core.Path.{_≡_, refl, ap, _∙_}
+use mathlib.Core.Path.{_≡_, refl, ap, _∙_, sym}
 use mathlib.Core.Bool.{Bool, true, false}
 use mathlib.Core.List.{List, [], _∷_, _++_}
 use Prim.Native.Nat.{ℕ, zero, suc, _*_, _≤_}
 use native.Mathlib.Omega.{arith}
 use borrow.Author.Tests.{eq-eqb, ne-eqb}
-use lib.ListN.{length, take, drop, take-append-drop}
-use lib.Seq.{take-at}
+use lib.ListN.{length, take, drop, length-take, take-append-drop}
+use lib.Seq.{take-at, sets}
+use Rattle.lists.proofs.Writing.{sets-front}
 use Rattle.table.specs.Sizes.{isSize}
 use Rattle.table.specs.Table.{tableLength}
 use Rattle.table.specs.Rules.{shapeNumber, tableNumber}
@@ -17,8 +18,8 @@ use Rattle.plant.specs.Entry.{State, stateOf}
 use Rattle.plant.specs.Run.{Outcome, outcomeWith, startNumber, run}
 use Rattle.watch.specs.declared.input.Parsed.{Parsed}
 use Rattle.watch.specs.declared.watched.Report.the-variants.{Unread, Ran}
-use Rattle.watch.specs.Input.{roomFor, readInput, readInto, written, ReadAs}
-use Rattle.watch.specs.Watched.{watchedWith, answerOf, carriedOut, watched}
+use Rattle.watch.specs.Input.{roomFor, readInput, readInto, ReadAs}
+use Rattle.watch.specs.Watched.{watchedWith, runAnswer, carriedOut, watched}
 use Rattle.watch.proofs.ReadLaws.{read-fits}
 
 -- a run of what is no size is refused, whatever the table
@@ -28,10 +29,15 @@ unfolding run startNumber tableNumber shapeNumber
 size-refused n s schedule sheet e = rw e
 
 -- a part that comes back as it was lent
-part-back : (k : ℕ) (l : List ℕ) → written (take k l) l ≡ l
-part-back zero l = refl
-part-back (suc k) [] = refl
-part-back (suc k) (x ∷ l) = ap (λ (r : List ℕ). x ∷ r) (part-back k l)
+part-back : (k : ℕ) (l : List ℕ) → sets l 0 (take k l) ≡ l
+part-back k l =
+    let short : length (take k l) ≤ length l = simp length-take (omega arith) in
+    sets-front l (take k l) short ∙ whole k l
+  where
+    whole : (k : ℕ) (l : List ℕ) → take k l ++ drop (length (take k l)) l ≡ l
+    whole zero l = refl
+    whole (suc k) [] = refl
+    whole (suc k) (x ∷ l) = ap (λ (r : List ℕ). x ∷ r) (whole k l)
 
 -- "A refused size prints the header and the last line": number 1, nothing taken, zero tallies; the sheet is unchanged
 abbrev refused : Answer
@@ -42,20 +48,23 @@ carried-refused n schedule lent e = rw (size-refused n (stateOf (freshTable n) 0
 
 -- a run on the lent table after it was made fresh, with the first k bytes of a lent sheet, answers what a run of a fresh table answers
 pub carried : (n : ℕ) (t schedule lent : List ℕ) (r : Answer) (t′ s′ : List ℕ) (k : ℕ)
-    → (isSize n ≡ true → length t ≡ tableLength n) → k ≡ 2 * length schedule → length s′ ≡ k
+    → (isSize n ≡ true → length t ≡ tableLength n) → k ≡ 2 * length schedule → length s′ ≡ k → k ≤ length lent
     → outcomeWith r t′ s′ ≡ run n (stateOf (freshAfter n t) 0 0) schedule (take k lent)
     → watchedWith (Ran r) (s′ ++ drop k lent) ≡ carriedOut n schedule lent
 unfolding freshAfter shapeNumber
-carried n t schedule lent r t′ s′ k shaped twice long e = pick (isSize n) refl
+carried n t schedule lent r t′ s′ k shaped twice long fits e = pick (isSize n) refl
   where
+    front : sets lent 0 s′ ≡ s′ ++ drop k lent
+    front = rw (← long) (sets-front lent s′ (omega arith))
+
     pick : (b : Bool) → isSize n ≡ b → watchedWith (Ran r) (s′ ++ drop k lent) ≡ carriedOut n schedule lent
     pick true y =
         let f : freshAfter n t ≡ freshTable n = rw (y, eq-eqb (length t) (tableLength n) (shaped y)) in
         let g = rw f at e in
-        rw (← twice, ← g, long)
+        rw (← twice, ← g) (rw (sym front))
     pick false y =
         let g = e ∙ size-refused n (stateOf (freshAfter n t) 0 0) schedule (take k lent) y in
-        let p : r ≡ refused = ap answerOf g in
+        let p : r ≡ refused = ap runAnswer g in
         let q : s′ ≡ take k lent = ap (λ (o : Outcome). o .sheet) g in
         rw (carried-refused n schedule lent y, p, q, take-append-drop)
 
@@ -77,5 +86,5 @@ module _ (lent input schedule₀ schedule : List ℕ) (p : Parsed) (room : lengt
   watched-ran z =
       let s = readInput input .schedule in
       let n : length s ≡ 2 * p .entries = rw (whole .entries) (read-fits 4096 input .pairs) in
-      let t : take (2 * p .entries) schedule ≡ s = rw (whole .schedule) (take-at s _ (2 * p .entries) n) in
+      let t : take (2 * p .entries) schedule ≡ s = rw (whole .schedule, sets-front schedule₀ s (omega (arith, entries-within))) (take-at s _ (2 * p .entries) n) in
       rw (← whole .unread, z, ← whole .size, t)

@@ -6,6 +6,7 @@ use mathlib.Core.Bool.{Bool, cond, not, _&&_}
 use mathlib.Core.List.{List, [], _∷_, _++_}
 use mathlib.Core.Option.{Option, none, some}
 use lib.ListN.{length, drop}
+use lib.Seq.{sets}
 use lib.Dec.{ltb, leb, eqb}
 use Rattle.watch.specs.declared.input.Parsed.{Parsed}
 use Rattle.watch.specs.declared.input.Number.{Number}
@@ -108,16 +109,12 @@ readInput input = readUpTo 4096 input
 abbrev pub readInto : List ℕ → List ℕ → Reading
 readInto lent input = readUpTo (roomFor (length lent)) input
 
--- a lent schedule or sheet after its first bytes are written: the rest is unchanged
-abbrev pub written : List ℕ → List ℕ → List ℕ
-written s lent = s ++ drop (length s) lent
-
 -- the answer p and the lent schedule after a call that read r
 pub record ReadAs (p : Parsed) (after lent : List ℕ) (r : Reading) : Type 0 where
   pub unread : p .unread ≡ r .unread
   pub size : p .size ≡ r .size
   pub entries : p .entries ≡ r .entries
-  pub schedule : after ≡ written (r .schedule) lent
+  pub schedule : after ≡ sets lent 0 (r .schedule)
 
 -- what the answers Number and Entry stand for
 abbrev pub numberValue : Number → Option ℕ

@@ -4,6 +4,7 @@ use Prim.Native.Nat.{ℕ, _*_}
 use mathlib.Core.Bool.{cond}
 use mathlib.Core.List.{List}
 use lib.ListN.{length, take}
+use lib.Seq.{sets}
 use lib.Dec.{eqb}
 use Rattle.table.specs.Fresh.{freshTable}
 use Rattle.plant.specs.declared.Answer.{Answer}
@@ -11,7 +12,7 @@ use Rattle.plant.specs.Entry.{stateOf}
 use Rattle.plant.specs.Run.{Outcome, run}
 use Rattle.watch.specs.declared.watched.Report.{Report}
 use Rattle.watch.specs.declared.watched.Report.the-variants.{Unread, Ran}
-use Rattle.watch.specs.Input.{Reading, readInput, written}
+use Rattle.watch.specs.Input.{Reading, readInput}
 
 -- what comes of an input: the report, which is printed, and the sheet, of which the lines of the entries taken are printed
 pub record Watched : Type 0 where
@@ -22,12 +23,12 @@ abbrev pub watchedWith : Report → List ℕ → Watched
 watchedWith r sheet = record { report = r; sheet = sheet }
 
 -- "answers the number (0 or a refusal), how many entries were taken, and the tally"
-abbrev pub answerOf : Outcome → Answer
-answerOf o = record { number = o .number; taken = o .taken; tally = record { rounds = o .state .rounds; tests = o .state .tests } }
+abbrev pub runAnswer : Outcome → Answer
+runAnswer o = record { number = o .number; taken = o .taken; tally = record { rounds = o .state .rounds; tests = o .state .tests } }
 
 -- an outcome, with the sheet of the run as the first part of the lent one
 abbrev ranOn : List ℕ → Outcome → Watched
-ranOn lent o = watchedWith (Ran (answerOf o)) (written (o .sheet) lent)
+ranOn lent o = watchedWith (Ran (runAnswer o)) (sets lent 0 (o .sheet))
 
 -- "It starts from a fresh table and zero tallies." The run takes a part of the lent sheet, of twice the schedule's length
 abbrev pub carriedOut : ℕ → List ℕ → List ℕ → Watched

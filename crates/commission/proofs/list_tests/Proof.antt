@@ -13,14 +13,15 @@ use Rattle.station.specs.Tests.{due, dueDistances}
 use Rattle.lists.proofs.KeepLaws.{count-next}
 use Rattle.station.proofs.EntryLaws.{due-start}
 use Rattle.slots.specs.Slots.{tested, testsDue}
-use Rattle.commission.specs.Lists.{written}
-use Rattle.commission.proofs.ListLaws.{distance-range, written-none, written-next, count-below}
+use lib.Seq.{sets}
+use Rattle.lists.proofs.KeepLaws.{kept-next-by}
+use Rattle.commission.proofs.ListLaws.{distance-range, count-below}
 use Rattle.commission.proofs.list_tests.Statement.{statement}
 use Rattle.commission.proofs.list_tests.Tie as tie
 
 abbrev Inv-loop : tie.InvT-loop
 Inv-loop n row i list₀ end count₀ m₀ list count m =
-    (count ≡ length (select (due row (i .0)) m)) × (list ≡ written list₀ 0 (map (stationAt (i .0)) (select (due row (i .0)) m)))
+    (count ≡ length (select (due row (i .0)) m)) × (list ≡ sets list₀ 0 (map (stationAt (i .0)) (select (due row (i .0)) m)))
     × (count < m) × (m ≤ end) × (end ≤ 256) × (end ≡ distances n) × (length list ≡ length list₀)
 
 abbrev μ-loop : tie.MeasureT-loop
@@ -31,7 +32,7 @@ loop-holds c =
     let a = c .before .before .before .args in
     let none = due-start (a .row .now) (a .i .0) in
     let r = distance-range (a .n) _ (c .before .before .before .fits .n .fits) (c .distances .ensures) in
-    (rw none, rw none (written-none _), omega arith, r .0, r .1, c .distances .ensures, refl)
+    (rw none, rw none refl, omega arith, r .0, r .1, c .distances .ensures, refl)
 
 loop-again : tie.Need-loop-again Inv-loop μ-loop
 loop-again c =
@@ -39,7 +40,7 @@ loop-again c =
     let p = c .before .before .put-test .ensures in
     let a = c .before .before .before .before .before .before .before .before .before .args in (
       count-next _ (λ k. k) _ _ _ (i .0) (p .0),
-      written-next _ _ _ _ _ _ _ (i .0) (i .1) (p .1),
+      kept-next-by _ (λ k. k) _ _ _ _ _ _ (i .0) (i .1) (p .1),
       count-below (due (a .row .now) (a .i .0)) _ _ _ (i .2) (p .0),
       omega arith,
       i .4,

@@ -13,16 +13,17 @@ use Rattle.station.specs.Tests.{answer}
 use Rattle.station.specs.Calls.{answerByte}
 use Rattle.lists.proofs.KeepLaws.{count-next}
 use Rattle.slots.specs.Slots.{isUntested, untestedDistances, untested, ahead}
-use Rattle.commission.specs.Lists.{written}
+use lib.Seq.{sets}
+use Rattle.lists.proofs.KeepLaws.{kept-next-by}
 use Rattle.slots.proofs.Untested.{untested-start}
-use Rattle.commission.proofs.ListLaws.{distance-range, written-none, written-next, count-below}
+use Rattle.commission.proofs.ListLaws.{distance-range, count-below}
 use Rattle.commission.proofs.untested.list_untested.Statement.{statement}
 use Rattle.commission.proofs.untested.list_untested.Tie as tie
 
 abbrev Inv-loop : tie.InvT-loop
 Inv-loop n row i list₀ firsts₀ end count₀ m₀ list firsts count m =
-    (count ≡ length (select (isUntested row (i .0)) m)) × (list ≡ written list₀ 0 (map (stationAt (i .0)) (select (isUntested row (i .0)) m)))
-    × (firsts ≡ written firsts₀ 0 (map (λ k. answerByte (answer row (i .0) k)) (select (isUntested row (i .0)) m)))
+    (count ≡ length (select (isUntested row (i .0)) m)) × (list ≡ sets list₀ 0 (map (stationAt (i .0)) (select (isUntested row (i .0)) m)))
+    × (firsts ≡ sets firsts₀ 0 (map (λ k. answerByte (answer row (i .0) k)) (select (isUntested row (i .0)) m)))
     × (count < m) × (m ≤ end) × (end ≤ 256) × (end ≡ distances n) × (length list ≡ length list₀) × (length firsts ≡ length firsts₀)
 
 abbrev μ-loop : tie.MeasureT-loop
@@ -33,7 +34,7 @@ loop-holds c =
     let a = c .before .before .before .before .args in
     let none = untested-start (a .row .now) (a .i .0) in
     let r = distance-range (a .n) _ (c .before .before .before .before .fits .n .fits) (c .distances .ensures) in
-    (rw none, rw none (written-none _), rw none (written-none _), omega arith, r .0, r .1, c .distances .ensures, refl, refl)
+    (rw none, rw none refl, rw none refl, omega arith, r .0, r .1, c .distances .ensures, refl, refl)
 
 loop-again : tie.Need-loop-again Inv-loop μ-loop
 loop-again c =
@@ -41,8 +42,8 @@ loop-again c =
     let p = c .before .before .before .before .put-untested .ensures in
     let a = c .before .before .before .before .before .before .before .before .before .before .before .before .before .args in (
       count-next _ (λ k. k) _ _ _ (i .0) (p .0),
-      written-next _ _ _ _ _ _ _ (i .0) (i .1) (p .1 .0),
-      written-next _ _ _ _ _ _ _ (i .0) (i .2) (p .1 .1),
+      kept-next-by _ (λ k. k) _ _ _ _ _ _ (i .0) (i .1) (p .1 .0),
+      kept-next-by _ (λ k. k) _ _ _ _ _ _ (i .0) (i .2) (p .1 .1),
       count-below (isUntested (a .row .now) (a .i .0)) _ _ _ (i .3) (p .0),
       omega arith,
       i .5,

@@ -5,10 +5,7 @@ use Rattle.granter.proofs.grant.live_refusal.Statement.{statement}
 use Rattle.granter.proofs.grant.live_refusal.Tie as tie
 
 returns : tie.Need-returns
-returns c = rw (← c .before .some-live .ensures, c .if1 .taken)
-
-returns-2 : tie.Need-returns-2
-returns-2 c = rw (← c .before .some-live .ensures, c .if1 .left)
+returns c = rw (← c .before .some-live .ensures) (c .refuse .ensures)
 
 pub live-refusal-spec : {M : Type 1} → statement M
-live-refusal-spec = tie.close (tie.spec (λ c κs. search needs) returns returns-2)
+live-refusal-spec = tie.close (tie.spec (λ c κs. search needs) (λ c κs. search needs) returns)

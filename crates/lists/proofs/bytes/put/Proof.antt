@@ -1,4 +1,4 @@
--- `groups::put` meets its contract: a store past the list's end changes nothing.
+-- `bytes::put` meets its contract: a store past the list's end changes nothing.
 -- Assumes nothing.
 use mathlib.Core.Path.{sym}
 use lib.Seq.{set-out}

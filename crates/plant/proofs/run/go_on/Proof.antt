@@ -57,7 +57,7 @@ loop-again c =
     let s = stateWith (l .table) (l .held) in
     let z = sym (c .before .before .before .before .before .before .before .before .entry-number .ensures) ∙ c .before .before .before .before .before .before .before .if1 .left in
     let p = c .before .before .before .before .take-entry .ensures in
-    let w = line-back (l .sheet) (l .k) _ ∙ ap (writeLine (l .sheet) (l .k)) (p .1) in (
+    let w = line-back (a .n) s (entryAt (a .schedule .now) (l .k)) (l .sheet) (l .k) _ (p .1) (omega (arith, i .2, h)) in (
       omega arith,
       omega (arith, c .before .before .before .table .given),
       omega (arith, c .before .sheet .given),

@@ -5,13 +5,14 @@ use mathlib.Core.Bool.{true}
 use Prim.Native.Nat.{_+_, _*_, _-_, _≤_, _<_}
 use native.Mathlib.Omega.{arith}
 use lib.ListN.{length}
+use lib.Seq.{sets}
 use borrow.Author.Needs.{needs}
 use Rattle.lists.specs.Search.{select}
 use Rattle.table.specs.Sizes.{isSize, distances}
 use Rattle.station.specs.Tests.{due, dueDistances}
 use Rattle.station.specs.Calls.{isOther, otherDistances, assignmentEntries}
 use Rattle.table.proofs.SizeLaws.{size-distances, distances-pos}
-use Rattle.lists.proofs.KeepLaws.{packed, count-next}
+use Rattle.lists.proofs.KeepLaws.{count-next}
 use Rattle.station.proofs.EntryLaws.{entries-start, due-start, due-count, entry-bytes, entry-next, entry-done}
 use Rattle.station.proofs.due.write_entries.Statement.{statement}
 use Rattle.station.proofs.due.write_entries.Tie as tie
@@ -21,7 +22,7 @@ Inv-loop n row i list₀ end written₀ m₀ list written m =
     (0 < m) × (m ≤ end) × (end ≡ distances n)
     × ((isSize n ≡ true) × (length row ≡ n) × (i .0 < n) × (length list₀ + 2 ≡ 2 * n)) × (length list ≡ length list₀)
     × (written .due ≡ length (select (due row (i .0)) m))
-    × ((written .bytes ≡ 2 * length (select (isOther n (i .0)) m)) × (list ≡ packed (assignmentEntries row (i .0) (select (isOther n (i .0)) m)) list₀))
+    × ((written .bytes ≡ 2 * length (select (isOther n (i .0)) m)) × (list ≡ sets list₀ 0 (assignmentEntries row (i .0) (select (isOther n (i .0)) m))))
 
 abbrev μ-loop : tie.MeasureT-loop
 μ-loop n row i list₀ end written₀ m₀ list written m = end - m
@@ -62,7 +63,7 @@ loop-again c =
     let i = c .before .before .before .before .before .loop .inv in
     let p = i .3 in
     let s = c .before .before .put-entry .ensures in
-    let e = entry-next _ _ _ (p .0) (p .1) (p .2) _ _ _ _ _ _ (i .0) (omega arith) (p .3) (i .6) (s .0) (s .1 .1) in
+    let e = entry-next _ _ _ (p .1) _ _ _ _ _ _ (i .0) (i .6) (s .0) (s .1 .1) in
     (omega arith, omega arith, i .2, p, omega arith, count-next _ (λ k. k) _ _ _ (i .5) (s .1 .0), e)
 
 returns : tie.Need-returns Inv-loop μ-loop

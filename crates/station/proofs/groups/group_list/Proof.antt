@@ -16,7 +16,7 @@ cast-write-group c = omega (arith, size-bounds _ (group-zero _ _ _ _ (sym (c .be
 write-group-requires : tie.Need-write-group-requires
 write-group-requires c κs =
     let z = group-zero _ _ _ _ (sym (c .before .before .group-number .ensures) ∙ c .before .if1 .taken) in
-    ((z .2, omega (arith, size-dimension _ (z .0))), z .4)
+    ((z .1 .1, omega (arith, z .1 .2, size-dimension _ (z .0))), z .2)
 
 returns : tie.Need-returns
 unfolding groupAfter

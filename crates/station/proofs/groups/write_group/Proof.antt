@@ -4,9 +4,10 @@ use mathlib.Core.Path.{_≡_, refl, sym, _∙_, ap}
 use Prim.Native.Nat.{_-_, _≤_}
 use native.Mathlib.Omega.{arith}
 use lib.ListN.{length}
+use lib.Seq.{sets}
 use borrow.Author.Needs.{needs}
 use Rattle.lists.specs.Search.{keep, listOf}
-use Rattle.lists.proofs.KeepLaws.{packed, packed-done}
+use Rattle.lists.proofs.Writing.{sets-all}
 use Rattle.station.proofs.GroupWalk.{found, found-all, found-le, found-count, found-put}
 use Rattle.station.proofs.groups.write_group.Statement.{statement}
 use Rattle.station.proofs.groups.write_group.Tie as tie
@@ -14,7 +15,7 @@ use Rattle.station.proofs.groups.write_group.Tie as tie
 abbrev Inv-loop : tie.InvT-loop
 Inv-loop n i list₀ w count₀ k₀ list count k =
     (k ≤ w) × (w ≤ 128) × (length list₀ ≡ length (found n (i .0) w w)) × (length list ≡ length list₀)
-    × (count ≡ length (found n (i .0) w k)) × (list ≡ packed (found n (i .0) w k) list₀)
+    × (count ≡ length (found n (i .0) w k)) × (list ≡ sets list₀ 0 (found n (i .0) w k))
 
 abbrev μ-loop : tie.MeasureT-loop
 μ-loop n i list₀ w count₀ k₀ list count k = w - k
@@ -40,14 +41,14 @@ loop-again c =
       i .2,
       omega arith,
       found-count _ _ _ _ _ x _ _ (i .4) (p .0),
-      found-put _ _ _ _ _ x _ _ _ _ (omega arith) (i .2) (i .5) (i .4) (p .1),
+      found-put _ _ _ _ _ x _ _ _ _ (i .5) (i .4) (p .1),
     )
 
 returns : tie.Need-returns Inv-loop μ-loop
 returns c =
     let i = c .before .loop .inv in
     let all : c .before .loop .k ≡ c .before .before .width-of .result = omega arith in
-    rw all at (i .5) ∙ packed-done _ _ (i .2) ∙ found-all _ _ _ _ (c .before .before .width-of .ensures .0)
+    rw all at (i .5) ∙ sets-all _ _ (i .2) ∙ found-all _ _ _ _ (c .before .before .width-of .ensures .0)
 
 pub write-group-spec : {M : Type 1} → statement M
 write-group-spec =

@@ -4,13 +4,15 @@ use mathlib.Core.Path.{_≡_}
 use Prim.Native.Nat.{_-_, _≤_}
 use lib.ListN.{length}
 use borrow.Author.Needs.{needs}
-use Rattle.lists.proofs.Loops.{loops, filled}
+use lib.Seq.{sets}
+use Rattle.lists.specs.Search.{listOf}
+use Rattle.lists.proofs.Loops.{loops}
 use Rattle.table.specs.Fresh.{freshByte, freshTable}
 use Rattle.table.proofs.fresh.write_fresh.Statement.{statement}
 use Rattle.table.proofs.fresh.write_fresh.Tie as tie
 
 abbrev Inv-loop : tie.InvT-loop
-Inv-loop n table₀ p₀ table p = (p ≤ length table₀) × (length table ≡ length table₀) × (table ≡ filled (freshByte n) p table₀)
+Inv-loop n table₀ p₀ table p = (p ≤ length table₀) × (length table ≡ length table₀) × (table ≡ sets table₀ 0 (listOf (freshByte n) p))
 
 abbrev μ-loop : tie.MeasureT-loop
 μ-loop n table₀ p₀ table p = length table₀ - p

@@ -1,4 +1,4 @@
--- `groups::dimension_of` meets its contract.
+-- `sizes::dimension_of` meets its contract.
 -- Assumes nothing.
 use mathlib.Core.Path.{_≡_}
 use borrow.Author.Needs.{needs}

@@ -1,4 +1,4 @@
--- `groups::distances` meets its contract.
+-- `sizes::distances` meets its contract.
 -- Assumes nothing.
 use Prim.Native.Nat.{ℕ, _-_, _≤_, _<_}
 use native.Mathlib.Omega.{arith}

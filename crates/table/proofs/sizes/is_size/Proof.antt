@@ -1,4 +1,4 @@
--- `groups::is_size` meets its contract.
+-- `sizes::is_size` meets its contract.
 -- Assumes nothing.
 use mathlib.Core.Path.{refl}
 use Rattle.table.specs.Sizes.{isSize}

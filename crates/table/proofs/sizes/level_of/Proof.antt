@@ -1,4 +1,4 @@
--- `groups::level_of` meets its contract: a byte's leading zeros and its level make 8.
+-- `sizes::level_of` meets its contract: a byte's leading zeros and its level make 8.
 -- Assumes nothing.
 use mathlib.Core.Path.{_≡_}
 use mathlib.Core.Logic.{_⊎_, inl, inr}

@@ -1,4 +1,4 @@
--- `turn::apply_outcome` meets its contract: each way is the one that the definition takes.
+-- `steps::apply_outcome` meets its contract: each way is the one that the definition takes.
 -- Assumes nothing.
 use borrow.Author.Needs.{needs}
 use borrow.Author.Tests.{ne-eqb}

@@ -1,4 +1,4 @@
--- `turn::count_test` meets its contract: the count is read before the bytes are written.
+-- `steps::count_test` meets its contract: the count is read before the bytes are written.
 -- Assumes nothing.
 use borrow.Author.Needs.{needs}
 use Rattle.turn.specs.Turn.{countTest}

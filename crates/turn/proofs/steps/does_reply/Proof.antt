@@ -1,4 +1,4 @@
--- `turn::does_reply` meets its contract: one byte is read.
+-- `steps::does_reply` meets its contract: one byte is read.
 -- Assumes nothing.
 use borrow.Author.Needs.{needs}
 use Rattle.turn.specs.Turn.{replies}

@@ -1,4 +1,4 @@
--- `turn::finish_pass` meets its contract: each byte is written in its turn.
+-- `steps::finish_pass` meets its contract: each byte is written in its turn.
 -- Assumes nothing.
 use native.Mathlib.Omega.{arith}
 use borrow.Author.Needs.{needs}

@@ -1,4 +1,4 @@
--- `turn::is_told` meets its contract: one byte is read.
+-- `steps::is_told` meets its contract: one byte is read.
 -- Assumes nothing.
 use borrow.Author.Needs.{needs}
 use Rattle.turn.specs.Turn.{isTold}

@@ -1,4 +1,4 @@
--- `turn::join_into` meets its contract: the part of the table that is lent is the station's row.
+-- `steps::join_into` meets its contract: the part of the table that is lent is the station's row.
 -- Assumes nothing.
 use mathlib.Core.Path.{ap, _∙_}
 use mathlib.Core.List.{List}

@@ -1,4 +1,4 @@
--- `turn::leave` meets its contract: the status is written, and no other byte.
+-- `steps::leave` meets its contract: the status is written, and no other byte.
 -- Assumes nothing.
 use borrow.Author.Needs.{needs}
 use Rattle.turn.proofs.steps.leave.Statement.{statement}

@@ -1,4 +1,4 @@
--- `turn::leave_if_alone` meets its contract: each way is the one that the definition takes.
+-- `steps::leave_if_alone` meets its contract: each way is the one that the definition takes.
 -- Assumes nothing.
 use borrow.Author.Needs.{needs}
 use Rattle.turn.specs.Turn.{afterAlone}

@@ -1,4 +1,4 @@
--- `turn::make_test` meets its contract: the station tested is another one of the plant.
+-- `steps::make_test` meets its contract: the station tested is another one of the plant.
 -- Assumes nothing.
 use mathlib.Core.Path.{ap, _∙_}
 use native.Mathlib.Omega.{arith}

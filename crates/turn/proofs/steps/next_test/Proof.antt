@@ -1,4 +1,4 @@
--- `turn::next_test` meets its contract: the part of the table that is lent is the station's row.
+-- `steps::next_test` meets its contract: the part of the table that is lent is the station's row.
 -- Assumes nothing.
 use native.Mathlib.Omega.{arith}
 use borrow.Author.Needs.{needs}

@@ -1,4 +1,4 @@
--- `turn::reply_outcome` meets its contract: each way is the one that the definition takes.
+-- `steps::reply_outcome` meets its contract: each way is the one that the definition takes.
 -- Assumes nothing.
 use borrow.Author.Needs.{needs}
 use Rattle.turn.specs.Turn.{replyOutcome}

@@ -1,4 +1,4 @@
--- `turn::scan` meets its contract: the distances passed so far are not due.
+-- `steps::scan` meets its contract: the distances passed so far are not due.
 -- Assumes nothing.
 use mathlib.Core.Path.{_≡_, sym, ap, _∙_}
 use mathlib.Core.Bool.{false}

@@ -1,4 +1,4 @@
--- `turn::self_or_suspected` meets its contract: one byte is read.
+-- `steps::self_or_suspected` meets its contract: one byte is read.
 -- Assumes nothing.
 use borrow.Author.Needs.{needs}
 use Rattle.turn.specs.Turn.{selfOrSuspected}

@@ -1,4 +1,4 @@
--- `turn::suspects_all` meets its contract: the stations passed so far are suspected, but for the station itself.
+-- `steps::suspects_all` meets its contract: the stations passed so far are suspected, but for the station itself.
 -- Assumes nothing.
 use mathlib.Core.Path.{_≡_}
 use mathlib.Core.Bool.{true}

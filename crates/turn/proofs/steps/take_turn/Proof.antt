@@ -1,4 +1,4 @@
--- `turn::take_turn` meets its contract: the next distance is at least 1, and a test is made where the distance found is one of the plant's.
+-- `steps::take_turn` meets its contract: the next distance is at least 1, and a test is made where the distance found is one of the plant's.
 -- Assumes nothing.
 use mathlib.Core.Path.{refl}
 use native.Mathlib.Omega.{arith}

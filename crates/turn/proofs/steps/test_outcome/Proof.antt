@@ -1,4 +1,4 @@
--- `turn::test_outcome` meets its contract: each way is the one that the definition takes.
+-- `steps::test_outcome` meets its contract: each way is the one that the definition takes.
 -- Assumes nothing.
 use borrow.Author.Needs.{needs}
 use borrow.Author.Tests.{not-true, not-false}

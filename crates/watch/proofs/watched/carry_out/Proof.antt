@@ -27,7 +27,7 @@ returns c =
     let long : length (take (2 * a .entries) (a .schedule .now)) ≡ 2 * a .entries = length-take-le _ _ (omega arith) in
     carried (a .size) _ _ (a .sheet .now) (r .result) _ _ (4 * a .entries)
     (λ e. length-take-le _ _ (omega arith) ∙ p .ensures .0 e) (omega arith)
-    (r .kept .1 .1 .1 .0 ∙ length-take-le _ _ (omega arith)) (r .ensures)
+    (r .kept .1 .1 .1 .0 ∙ length-take-le _ _ (omega arith)) (omega arith) (r .ensures)
 
 pub carry-out-spec : {M : Type 1} → statement M
 carry-out-spec =

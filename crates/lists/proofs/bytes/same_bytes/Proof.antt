@@ -1,22 +1,22 @@
--- `rows::same_rows` meets its contract: as long as no two bytes were apart, all bytes passed are the same.
+-- `bytes::same_bytes` meets its contract: as long as no two bytes were apart, all bytes passed are the same.
 -- Assumes nothing.
 use mathlib.Core.Path.{_≡_, sym}
 use Prim.Native.Nat.{_-_, _≤_}
 use lib.Dec.{eqb}
 use lib.ListN.{length}
 use borrow.Author.Needs.{needs}
 use Rattle.lists.specs.Search.{every}
-use Rattle.station.specs.Rows.{sameByte}
+use Rattle.lists.specs.Bytes.{sameByte}
 use Rattle.lists.proofs.Loops.{every-start}
-use Rattle.station.proofs.UnionLaws.{same-next, same-apart, same-done}
-use Rattle.station.proofs.rows.same_rows.Statement.{statement}
-use Rattle.station.proofs.rows.same_rows.Tie as tie
+use Rattle.lists.proofs.ByteLaws.{same-next, same-apart, same-done}
+use Rattle.lists.proofs.bytes.same_bytes.Statement.{statement}
+use Rattle.lists.proofs.bytes.same_bytes.Tie as tie
 
 abbrev Inv-loop : tie.InvT-loop
-Inv-loop row other apart₀ k₀ apart k = (k ≤ length row) × (length row ≡ length other) × (eqb apart 0 ≡ every (sameByte row other) k)
+Inv-loop list other apart₀ k₀ apart k = (k ≤ length list) × (length list ≡ length other) × (eqb apart 0 ≡ every (sameByte list other) k)
 
 abbrev μ-loop : tie.MeasureT-loop
-μ-loop row other apart₀ k₀ apart k = length row - k
+μ-loop list other apart₀ k₀ apart k = length list - k
 
 returns : tie.Need-returns Inv-loop μ-loop
 returns c = same-apart _ _ (c .if1 .taken)
@@ -32,8 +32,8 @@ returns-2 c =
     let i = c .before .loop .inv in
     same-done _ _ _ _ (i .1) (i .2) (i .0) (c .loop-test .left)
 
-pub same-rows-spec : {M : Type 1} → statement M
-same-rows-spec =
+pub same-bytes-spec : {M : Type 1} → statement M
+same-bytes-spec =
     tie.close
     (tie.spec
     Inv-loop

@@ -1,9 +1,9 @@
--- `grant::first_of` meets its contract.
+-- `refusal::first_of` meets its contract.
 -- Assumes nothing.
 use mathlib.Core.Path.{refl}
 use Rattle.lists.proofs.RefusalLaws.{else-first}
-use Rattle.granter.proofs.grant.first_of.Statement.{statement}
-use Rattle.granter.proofs.grant.first_of.Tie as tie
+use Rattle.lists.proofs.refusal.first_of.Statement.{statement}
+use Rattle.lists.proofs.refusal.first_of.Tie as tie
 
 returns : tie.Need-returns
 returns c = else-first _ _ _ refl (c .if1 .taken)

@@ -1,2 +1,0 @@
--- What a function leaves in a lent list.
-pub mod Lists

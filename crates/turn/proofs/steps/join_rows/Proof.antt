@@ -1,0 +1,11 @@
+-- `steps::join_rows` meets its contract: the parts of the table that are lent are the rows.
+-- Assumes nothing.
+use borrow.Author.Needs.{needs}
+use Rattle.turn.proofs.steps.join_rows.Statement.{statement}
+use Rattle.turn.proofs.steps.join_rows.Tie as tie
+
+returns : tie.Need-returns
+returns c = rw (c .before .before .before .before .before .row .ensures .0, c .before .before .before .before .row2 .ensures .0) at (c .before .before .write-joined .ensures)
+
+pub join-rows-spec : {M : Type 1} → statement M
+join-rows-spec = tie.close (tie.spec (λ c κs. search needs) (λ c κs. search needs) (λ c κs. search needs) (λ c. search needs) returns)
