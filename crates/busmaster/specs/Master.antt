@@ -43,8 +43,8 @@ unfoldable pub allDead : List ℕ
 allDead = setCell 4 (setCell 4 (setCell 4 (setCell 4 (freshTable 4) 0 statusColumn 1) 1 statusColumn 1) 2 statusColumn 1) 3 statusColumn 1
 
 -- what a drive answers
-abbrev pub answerOf : DriveOutcome → List ℕ
-answerOf d = d .number ∷ d .state .rounds ∷ d .state .tests ∷ d .last ∷ d .grants ∷ []
+abbrev pub driveFigures : DriveOutcome → List ℕ
+driveFigures d = d .number ∷ d .state .rounds ∷ d .state .tests ∷ d .last ∷ d .grants ∷ []
 
 -- two boards, fresh, and two that suspect one another
 unfoldable pub twoFresh : DriveOutcome
@@ -66,18 +66,18 @@ examples =
     ∷ gives (map (grantNumber 4 allDead) (3 ∷ 4 ∷ 255 ∷ [])) (17 ∷ 16 ∷ 17 ∷ [])
     ∷ gives (grantStation 4 allDead 3 ∷ grantStation 4 (freshTable 4) 4 ∷ []) (0 ∷ 0 ∷ [])
     -- two boards, fresh: 0 and 1 test one another, then both finish: n times n grants, and the table is fresh again
-    ∷ gives (answerOf twoFresh) (0 ∷ 1 ∷ 2 ∷ 1 ∷ 4 ∷ [])
+    ∷ gives (driveFigures twoFresh) (0 ∷ 1 ∷ 2 ∷ 1 ∷ 4 ∷ [])
     ∷ gives (twoFresh .state .table) (freshTable 2)
     -- one after the other: the second drive begins behind the last granted station
-    ∷ gives (answerOf (drive 2 (twoFresh .state) (twoFresh .last))) (0 ∷ 2 ∷ 4 ∷ 1 ∷ 4 ∷ [])
+    ∷ gives (driveFigures (drive 2 (twoFresh .state) (twoFresh .last))) (0 ∷ 2 ∷ 4 ∷ 1 ∷ 4 ∷ [])
     -- "stops with 7 before a grant whose turn would meet it, keeping the turns made"
-    ∷ gives (answerOf (drive 2 (stateOf (freshTable 2) 0 4294967295) 1)) (7 ∷ 0 ∷ 4294967295 ∷ 1 ∷ 0 ∷ [])
-    ∷ gives (answerOf (drive 2 (stateOf (freshTable 2) 0 4294967294) 0)) (7 ∷ 0 ∷ 4294967295 ∷ 1 ∷ 1 ∷ [])
+    ∷ gives (driveFigures (drive 2 (stateOf (freshTable 2) 0 4294967295) 1)) (7 ∷ 0 ∷ 4294967295 ∷ 1 ∷ 0 ∷ [])
+    ∷ gives (driveFigures (drive 2 (stateOf (freshTable 2) 0 4294967294) 0)) (7 ∷ 0 ∷ 4294967295 ∷ 1 ∷ 1 ∷ [])
     -- the turn that brings the rounds to the top closes the round: 0
-    ∷ gives (answerOf (drive 2 (stateOf (freshTable 2) 4294967294 0) 255)) (0 ∷ 4294967295 ∷ 2 ∷ 1 ∷ 4 ∷ [])
+    ∷ gives (driveFigures (drive 2 (stateOf (freshTable 2) 4294967294 0) 255)) (0 ∷ 4294967295 ∷ 2 ∷ 1 ∷ 4 ∷ [])
     -- 0 tests 1, is told and leaves; 1 tests 0, which is not live, and leaves as alone: nobody is left live, and no round closed
-    ∷ gives (answerOf twoSuspecting) (0 ∷ 0 ∷ 2 ∷ 1 ∷ 2 ∷ [])
-    ∷ gives (answerOf (drive 2 (twoSuspecting .state) (twoSuspecting .last))) (17 ∷ 0 ∷ 2 ∷ 1 ∷ 0 ∷ [])
+    ∷ gives (driveFigures twoSuspecting) (0 ∷ 0 ∷ 2 ∷ 1 ∷ 2 ∷ [])
+    ∷ gives (driveFigures (drive 2 (twoSuspecting .state) (twoSuspecting .last))) (17 ∷ 0 ∷ 2 ∷ 1 ∷ 0 ∷ [])
     ∷ []
 
 -- each example holds

@@ -1,18 +1,12 @@
 -- A lent list that a loop fills with what it finds at the distances that pass a test.
 -- Assumes nothing.
-use mathlib.Core.Path.{_≡_, refl, sym, _∙_}
+use mathlib.Core.Path.{_≡_}
 use mathlib.Core.Bool.{Bool, cond}
-use mathlib.Core.List.{List, [], _∷_, _++_, map, map-append, append-nil}
-use Prim.Native.Nat.{ℕ, suc, _+_, _≤_, _<_}
-use native.Mathlib.Nat.{add-zero, zero-add}
-use native.Mathlib.Numerals.{add-one}
+use Prim.Native.Nat.{ℕ, _+_, _≤_, _<_}
 use native.Mathlib.Omega.{arith}
-use lib.ListN.{length, set, length-map}
-use Rattle.lists.specs.Search.{select}
 use Rattle.table.specs.Sizes.{distances}
 use Rattle.lists.proofs.BoolLaws.{by-bool}
 use Rattle.table.proofs.SizeLaws.{distances-pos, distances-le}
-use Rattle.lists.proofs.KeepLaws.{kept-suc}
 
 -- as the code asks for it, of a size that is a byte: there is a distance, and each is a byte
 pub distance-range : (n end : ℕ) → n < 256 → end ≡ distances n → (1 ≤ end) × (end ≤ 256)

@@ -1,14 +1,13 @@
 -- The greatest number of tests, as a loop that counts up finds it, and the row that is marked and given back.
 -- Assumes nothing.
-use mathlib.Core.Path.{_≡_, refl, ap, _∙_}
+use mathlib.Core.Path.{_≡_, ap, _∙_}
 use mathlib.Core.Logic.{_≢_}
 use mathlib.Core.List.{List}
-use Prim.Native.Nat.{ℕ, max, _+_, _≤_}
-use native.Mathlib.Numerals.{add-one}
+use Prim.Native.Nat.{ℕ, _≤_}
 use lib.ListN.{length, getD, set}
 use lib.Seq.{set-out, set-set, set-getD}
 use Rattle.station.specs.Rows.{mark}
-use Rattle.slots.specs.Slots.{testsDue, greatest, testsWith}
+use Rattle.slots.specs.Slots.{testsDue, testsWith}
 use Rattle.slots.proofs.MoreTests.{with-other}
 
 -- past the row's end there is nothing to mark
@@ -20,12 +19,3 @@ with-beyond n r i j apart h = with-other n r i j apart ∙ ap (λ (l : List ℕ)
 pub mark-back : (r : List ℕ) (j : ℕ) → set (mark r j) j (getD r j 0) ≡ r
 unfolding mark
 mark-back r j = set-set r j 1 (getD r j 0) ∙ set-getD r j 0
-
--- the greatest, as a loop that counts up finds it
-pub greatest-start : (f : ℕ → ℕ) → 0 ≡ greatest f 0
-unfolding greatest
-greatest-start f = refl
-
-pub greatest-next : (f : ℕ → ℕ) (k most v : ℕ) → most ≡ greatest f k → v ≡ f k → max most v ≡ greatest f (k + 1)
-unfolding greatest
-greatest-next f k most v e g = rw (add-one k, e, g)

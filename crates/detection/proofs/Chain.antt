@@ -14,7 +14,7 @@ use Rattle.table.proofs.Accepting.{Accepted, accepted}
 use Rattle.lists.proofs.RefusalLaws.{else-zero}
 use Rattle.plant.specs.Entry.{Entry, State, entryNumber, after, sheetLine}
 use Rattle.plant.specs.Run.{entries, writeLine, goOn, startNumber, run}
-use Rattle.plant.proofs.Kept.{accepted-kept}
+use Rattle.plant.proofs.RulesKept.{accepted-kept}
 use Rattle.detection.specs.Runs.{Call, Taken, afterRun, afterRuns, takenFrom, takenIn, takenAll}
 use Rattle.lists.proofs.BoolLaws.{by-bool}
 use Rattle.detection.proofs.TakenLaws.{takenAt}

@@ -50,7 +50,7 @@ round-start n L t p fresh =
 
 -- the round rule leaves status and rows
 reset-rows : (n : ℕ) (L : ℕ → Bool) (t : List ℕ) → Plain n L t → Plain n L (resetLines n t) × Grown n t (resetLines n t)
-reset-rows n L t p = same-rows n L t (resetLines n t) (reset-lines n t (p .lines)) (reset-other n t) p
+reset-rows n L t p = same-rows n L t (resetLines n t) (reset-lines n t (p .lines)) (λ k c h _ changes. reset-other n t k c h changes) p
 
 -- the table after a round has closed is the start of the next
 pub restart : (n : ℕ) (L : ℕ → Bool) (t : List ℕ) → Plain n L t → InRound n L (resetLines n t) [] (resetLines n t)

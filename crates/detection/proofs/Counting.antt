@@ -65,12 +65,12 @@ module _ (n : ℕ) (s : State) (e : Entry) (t₀ t′ : List ℕ) (cur : List Ta
   tests-of : (k : ℕ) → testsMade n t′ k ≡ testsMade n t k + bit (eqb i k && b)
   tests-of k =
       by-cases (ℕ-discrete k i) (λ p. rw (p, eq-eqb i i refl) (heads .tests))
-      (λ p. rw (ne-eqb i k (λ q. p (sym q))) (omega (arith, heads .others k testsColumn p (omega arith) (omega arith))))
+      (λ p. rw (ne-eqb i k (λ q. p (sym q))) (omega (arith, heads .others k testsColumn p (omega arith))))
 
   finish-of : (k : ℕ) → finished n t′ k ≡ finished n t k + bit (eqb i k && not b)
   finish-of k =
       by-cases (ℕ-discrete k i) (λ p. rw (p, eq-eqb i i refl, heads .finish, unfinished) (by-bool b (λ q. rw q) (λ q. rw q)))
-      (λ p. rw (ne-eqb i k (λ q. p (sym q))) (omega (arith, heads .others k finishedColumn p (omega arith) (omega arith))))
+      (λ p. rw (ne-eqb i k (λ q. p (sym q))) (omega (arith, heads .others k finishedColumn p (omega arith))))
 
   -- what the entry counts
   turn-of : (k : ℕ) → isTurnOf k x ≡ eqb i k
@@ -136,7 +136,7 @@ turn-roomy n t t′ i lines below heads roomy k h = by-cases (ℕ-discrete k i) 
 
     other : ¬ (k ≡ i) → suc (testsMade n t′ k) ≤ standing n k (nextDistance n t′ k)
     other e =
-        rw (heads .others k testsColumn e (omega arith) (omega arith), heads .others k nextColumn e (omega arith) (omega arith)) (roomy k h)
+        rw (heads .others k testsColumn e (omega arith), heads .others k nextColumn e (omega arith)) (roomy k h)
 
 -- in a round, from its start on
 module _ (n : ℕ) (t₀ t : List ℕ) (cur : List Taken) (fresh : (i : ℕ) → i < n → Reset n t₀ i) (lines : Lines n t)
@@ -170,5 +170,5 @@ module _ (n : ℕ) (t₀ t : List ℕ) (cur : List Taken) (fresh : (i : ℕ) →
 
       alike : (k : ℕ) → live n (tableAfter x) k ≡ live n t k
       alike k =
-          let reset = reset-other n t k statusColumn (omega arith) (omega arith) in
+          let reset = reset-other n t k statusColumn (omega arith) (λ p. omega arith) in
           rw acts (choice (λ u. live n u k ≡ live n t k) (roundOver n t) (rw reset) refl)

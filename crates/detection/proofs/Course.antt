@@ -18,7 +18,7 @@ use Rattle.table.proofs.SizeLaws.{size-distances}
 use Rattle.turn.specs.Turn.{kindTurn, kindLate, kindCrash, makesTest, nextTest, turnTested}
 use Rattle.plant.specs.Round.{resetLines, afterRound}
 use Rattle.plant.specs.Entry.{Entry, State, isCrash, entryNumber, acted, after, testedOf}
-use Rattle.plant.proofs.Kept.{Takes, entry-facts}
+use Rattle.plant.proofs.RulesKept.{Takes, entry-facts}
 use Rattle.turn.proofs.StepLines.{Lines}
 use Rattle.turn.proofs.NextTest.{test-station}
 use Rattle.lists.specs.Sums.{bit}

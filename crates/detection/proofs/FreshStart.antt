@@ -15,7 +15,7 @@ use Rattle.table.specs.Fresh.{freshByte, freshTable}
 use Rattle.lists.proofs.SearchLaws.{every-all, listOf-length, listOf-at}
 use Rattle.table.proofs.SizeLaws.{distances-pos}
 use Rattle.table.proofs.CellLaws.{line-inside, Line, line-holds}
-use Rattle.plant.proofs.Kept.{unfinished-open}
+use Rattle.plant.proofs.RulesKept.{unfinished-open}
 use Rattle.plant.proofs.RunLaws.{accepted-number}
 use Rattle.table.specs.Properties.{lineAtStart, atStart}
 

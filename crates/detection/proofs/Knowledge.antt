@@ -31,7 +31,7 @@ use Rattle.detection.proofs.DueLaw.{due-holds}
 use Rattle.turn.proofs.TurnHeads.{Heads, passed-dues}
 use Rattle.detection.proofs.Near.{Member, Ahead, member-distance}
 use Rattle.detection.proofs.Pass.{InPass, had, stays, finds, hears, Tests}
-use Rattle.detection.proofs.TurnEffect.{Plain, Grown, Row, Tested, tested-more, Turned}
+use Rattle.detection.proofs.TurnEffect.{Plain, Grown, Row, Tested, tested-more, TurnKept}
 
 -- the live stations among the n
 abbrev pub LiveOf : ℕ → (ℕ → Bool) → ℕ → Bool
@@ -139,7 +139,7 @@ module _ (n : ℕ) (L : ℕ → Bool) (t₀ t : List ℕ) (know : Knows n L t₀
       (λ y a. known-now _ y (λ x l b. below x l (omega arith)) (ahead y a)) .hears (v .1) j l (r l)
 
 -- a turn of a live station keeps it
-module _ (n : ℕ) (L : ℕ → Bool) (t₀ t t′ : List ℕ) (i : ℕ) (know : Knows n L t₀ t) (turned : Turned n L t t′ i)
+module _ (n : ℕ) (L : ℕ → Bool) (t₀ t t′ : List ℕ) (i : ℕ) (know : Knows n L t₀ t) (turned : TurnKept n L t t′ i)
     (heads : Heads n t t′ i (makesTest n t i)) (below : i < n) (isLive : L i ≡ true) where
   p : Plain n L t
   p = know .plain
@@ -181,11 +181,11 @@ module _ (n : ℕ) (L : ℕ → Bool) (t₀ t t′ : List ℕ) (i : ℕ) (know :
     grown = λ k j h g s. turned .grows k j h g (know .grown k j h g s);
     met = λ k hk l. by-cases (ℕ-discrete k i) (λ e. rw e own-met)
         (λ e.
-        let next = heads .others k nextColumn e (omega arith) (omega arith) in
+        let next = heads .others k nextColumn e (omega arith) in
         rw next (met-later n L t₀ t t′ k _ (turned .grows) hk (know .met k hk l)));
     counted = λ exact k h. by-cases (ℕ-discrete k i) (λ e. rw e (own-counted exact))
         (λ e.
-        let tests = heads .others k testsColumn e (omega arith) (omega arith) in
-        let next = heads .others k nextColumn e (omega arith) (omega arith) in
+        let tests = heads .others k testsColumn e (omega arith) in
+        let next = heads .others k nextColumn e (omega arith) in
         rw (tests, next) (know .counted exact k h));
   }

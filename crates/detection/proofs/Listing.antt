@@ -91,7 +91,7 @@ module _ (n : ℕ) (L : ℕ → Bool) (s : State) (e : Entry) (t₀ t′ : List 
 
   other-listed : (k : ℕ) → k < n → k ≢ i → Exact n L t₀ → testedIn k (cur ++ (x ∷ [])) ≡ map (stationAt k) (ledBelow n L k (nextDistance n t′ k))
   other-listed k h apart exact =
-      let next = heads .others k nextColumn apart (omega arith) (omega arith) in
+      let next = heads .others k nextColumn apart (omega arith) in
       tested-snoc k cur x ∙ rw (ne-eqb i k (λ q. apart (sym q)), append-nil, next) (had .listed exact k h)
 
   pub turn-listed : Listed n L t₀ (cur ++ (x ∷ [])) t′

@@ -11,7 +11,7 @@ use borrow.Author.Tests.{eq-eqb, ne-eqb}
 use lib.ListN.{length}
 use Rattle.table.specs.Sizes.{isSize, distances}
 use Rattle.station.specs.Groups.{stationAt}
-use Rattle.table.specs.Table.{head, stride, tableLength, cell, statusColumn, nextColumn, finishedColumn, testsColumn, status, nextDistance, finished, suspects, live, row}
+use Rattle.table.specs.Table.{head, stride, tableLength, cell, statusColumn, status, nextDistance, finished, suspects, live, row}
 use Rattle.station.specs.Tests.{due}
 use Rattle.lists.proofs.SearchLaws.{every-not}
 use Rattle.turn.specs.Turn.{kindTurn, outcomeExchanged, nextTest, makesTest, finishPass, countTest, replies, isTold, exchangeRows, suspect, replyOutcome, testOutcome, afterOutcome, afterTest, selfOrSuspected, isAlone, afterAlone, testing, turn}
@@ -55,17 +55,17 @@ tested-more n L t t′ i x hi hx grows m s w = record {
   hears = λ e j h k. grows i j hi h (w .hears e j h (s j h k));
 }
 
--- a table with other bytes 1 to 3 only
+-- a table with other bytes only where a turn counts or closing a round changes them
 pub same-rows : (n : ℕ) (L : ℕ → Bool) (t t′ : List ℕ) → Lines n t′
-    → ((k c : ℕ) → c < stride n → (c ≢ nextColumn) × (c ≢ finishedColumn) × (c ≢ testsColumn) → cell n t′ k c ≡ cell n t k c)
+    → ((k c : ℕ) → c < stride n → ¬ (TurnCounts c) → ¬ (ClosingChanges c) → cell n t′ k c ≡ cell n t k c)
     → Plain n L t → Plain n L t′ × Grown n t t′
 same-rows n L t t′ lines same p = (
   record {
     lines = lines;
-    lives = λ i h. rw (same i statusColumn (omega arith) (omega arith)) (p .lives i h);
-    trusted = λ i j h g a b. same i (head + j) (omega arith) (omega arith) ∙ p .trusted i j h g a b;
+    lives = λ i h. rw (same i statusColumn (omega arith) (λ p. omega arith) (λ p. omega arith)) (p .lives i h);
+    trusted = λ i j h g a b. same i (head + j) (omega arith) (λ p. omega arith) (λ p. omega arith) ∙ p .trusted i j h g a b;
   },
-  λ k y hk hy s. same k (head + y) (omega arith) (omega arith) ∙ s,
+  λ k y hk hy s. same k (head + y) (omega arith) (λ p. omega arith) (λ p. omega arith) ∙ s,
 )
 
 -- where two rows are exchanged, a byte of a row grows by the bytes of the two at most
@@ -167,7 +167,7 @@ module _ (n : ℕ) (L : ℕ → Bool) (t : List ℕ) (i x : ℕ) (p : Plain n L 
       (λ e. rw (p .lives x hx ∙ e) (marked e))
 
 -- a turn of i: of the distances that it passes none before the last was due, and at one that was due it tested
-pub record Turned (n : ℕ) (L : ℕ → Bool) (t t′ : List ℕ) (i : ℕ) : Type 0 where
+pub record TurnKept (n : ℕ) (L : ℕ → Bool) (t t′ : List ℕ) (i : ℕ) : Type 0 where
   pub plain : Plain n L t′
   pub grows : Grown n t t′
   pub undue : (m k : ℕ) → nextDistance n t i ≤ k → k < m → m < nextDistance n t′ i → due (row n t i) i k ≡ false
@@ -185,17 +185,17 @@ not-alone n L t i p company hi li =
 -- a turn of a live station, where the reply of a live station is not late
 pub turn-effect : (n : ℕ) (L : ℕ → Bool) (t : List ℕ) (kind i : ℕ) → isSize n ≡ true → Plain n L t → Company n L → i < n → L i ≡ true
     → finished n t i ≡ 0
-    → (makesTest n t i ≡ true → L (stationAt i (nextTest n t i)) ≡ true → kind ≡ kindTurn) → Turned n L t (turn n t kind i) i
+    → (makesTest n t i ≡ true → L (stationAt i (nextTest n t i)) ≡ true → kind ≡ kindTurn) → TurnKept n L t (turn n t kind i) i
 unfolding turn testing
 turn-effect n L t kind i size p company hi li going prompt = by-bool (makesTest n t i) makes (λ e. rw e (finishes e))
   where
     next : nextDistance n (turn n t kind i) i ≡ cond (makesTest n t i) (nextTest n t i + 1) (distances n)
     next = turn-heads n t kind i size (p .lines) hi .next
 
-    finishes : makesTest n t i ≡ false → Turned n L t (finishPass n t i) i
+    finishes : makesTest n t i ≡ false → TurnKept n L t (finishPass n t i) i
     finishes e =
         let lines = finishPass-lines n t i (p .lines) hi in
-        let same = same-rows n L t _ lines (λ k c h out. finishPass-other n t i k c h (λ _. (out .0, out .1))) p in
+        let same = same-rows n L t _ lines (λ k c h counts _. finishPass-other n t i k c h (λ _. (λ e. counts (omega arith), λ e. counts (omega arith)))) p in
         let none = none-due n t i e (p .lines .1 i hi .pass .nextHigh) in
         record {
           plain = same .0;
@@ -204,14 +204,14 @@ turn-effect n L t kind i size p company hi li going prompt = by-bool (makesTest 
           passed = λ m lo below isDue. absurd (true≢false (sym isDue ∙ none m lo (omega (arith, rw e at next))));
         }
 
-    makes : makesTest n t i ≡ true → Turned n L t (turn n t kind i) i
+    makes : makesTest n t i ≡ true → TurnKept n L t (turn n t kind i) i
     makes e =
         let m : ℕ = nextTest n t i in
         let t₁ : List ℕ = countTest n t i m in
         let m<n = test-below n t i e in
         let low = nextTest-low n t i in
         let lines₁ = countTest-lines n t i (p .lines) hi m (omega arith) low m<n in
-        let same = same-rows n L t t₁ lines₁ (λ k c h out. countTest-other n t i m k c h (λ _. (out .0, out .2))) p in
+        let same = same-rows n L t t₁ lines₁ (λ k c h counts _. countTest-other n t i m k c h (λ _. (λ e. counts (omega arith), λ e. counts (omega arith)))) p in
         let apart = station-apart i m (omega (arith, p .lines .1 i hi .pass .nextLow)) in
         let x<n = test-station n t i e (p .lines .0) hi in
         let done = tested n L t₁ i (stationAt i m) (same .0) hi x<n apart li kind (prompt e) in

@@ -31,7 +31,7 @@ use Rattle.granter.proofs.GrantLaws.{Grantable, grantable}
 use Rattle.granter.proofs.DriveLaws.{Driving, not-ended, unended}
 use Rattle.driving.specs.Driven.{turnRun, runsOf, runsOfDrive, afterDrives, runsOfDrives, ending, DrivenConclusion, DrivenWithin, DrivenDemand3, DrivenWithinAfter}
 use Rattle.driving.proofs.Stops.{every-drive-stops}
-use Rattle.driving.proofs.Runs.{after-append, taken-append, driving-at, turn-by-turn}
+use Rattle.driving.proofs.DriveRuns.{after-append, taken-append, driving-at, turn-by-turn}
 
 -- two lists whose entries pass
 all-append : (q : Taken → Bool) (xs ys : List Taken) → allTaken q xs ≡ true → allTaken q ys ≡ true → allTaken q (xs ++ ys) ≡ true

@@ -19,7 +19,7 @@ use Rattle.table.proofs.SizeLaws.{size-bounds}
 use Rattle.table.proofs.Accepting.{Accepted, accepted}
 use Rattle.granter.specs.Grant.{noGrant, waits, firstFrom, following, granted, lastRefusal, grantNumber, grantStation}
 use Rattle.granter.proofs.GrantLaws.{waits-parts, grantable, grant-zero, station-fits, last-below, granted-waits}
-use Rattle.driving.specs.Fairness.{ahead, NextGoingRound, lastBefore, Grants, Fairness}
+use Rattle.driving.specs.Fairness.{stationsBefore, NextGoingRound, lastBefore, Grants, Fairness}
 
 -- nobody who waits stands before the first that does
 passed : (n : ℕ) (t : List ℕ) (i : ℕ) → waits n t i ≡ true → (c : ℕ) → c ≤ i → i < firstFrom n t c → ⊥
@@ -32,8 +32,8 @@ first-low n t c = least-between (waits n t) (n - c) c .0
 
 -- the granted station comes first of those that wait
 no-later : (n : ℕ) (t : List ℕ) (last i : ℕ) → granted n t last < n → waits n t (granted n t last) ≡ true → i < n → waits n t i ≡ true
-    → ahead n (following last) (granted n t last) ≤ ahead n (following last) i
-unfolding granted ahead
+    → stationsBefore n (following last) (granted n t last) ≤ stationsBefore n (following last) i
+unfolding granted stationsBefore
 no-later n t last i below gw h w = by-bool (ltb p n) on round
   where
     b : ℕ
@@ -45,7 +45,7 @@ no-later n t last i below gw h w = by-bool (ltb p n) on round
     q : ℕ
     q = firstFrom n t 0
 
-    on : ltb p n ≡ true → ahead n b (granted n t last) ≤ ahead n b i
+    on : ltb p n ≡ true → stationsBefore n b (granted n t last) ≤ stationsBefore n b i
     on e =
         let here : granted n t last ≡ p = rw e in
         by-cases (decLt i b)
@@ -54,7 +54,7 @@ no-later n t last i below gw h w = by-bool (ltb p n) on round
         let past : p ≤ i = by-cases (decLt i p) (λ m. absurd (passed n t i w b (omega arith) m)) (λ m. omega arith) in
         rw (here, le-ltb p b (first-low n t b), le-ltb i b (omega arith)) (omega arith))
 
-    round : ltb p n ≡ false → ahead n b (granted n t last) ≤ ahead n b i
+    round : ltb p n ≡ false → stationsBefore n b (granted n t last) ≤ stationsBefore n b i
     round e =
         let here : granted n t last ≡ q = rw e in
         let far = ltb-false p n e in
@@ -71,14 +71,14 @@ next-going-round n t last z =
     let c = granted-waits n t (g .ok) (g .someone) last in
     (c .0, c .1, λ i h w. no-later n t last i (c .0) (c .1) h w)
 
-ahead-most : (n b i : ℕ) → b ≤ n → i < n → ahead n b i < n
-unfolding ahead
-ahead-most n b i hb hi = by-bool (ltb i b) (λ e. rw e (omega (arith, ltb-true i b e))) (λ e. rw e (omega arith))
+before-most : (n b i : ℕ) → b ≤ n → i < n → stationsBefore n b i < n
+unfolding stationsBefore
+before-most n b i hb hi = by-bool (ltb i b) (λ e. rw e (omega (arith, ltb-true i b e))) (λ e. rw e (omega arith))
 
 -- a grant to g that comes before i in the going round brings i nearer: g stands from b on, and i does not stand between, or both stand
 -- before b, where the round comes later, g first
-nearer-on : (n b g i : ℕ) → g < n → b ≤ g → i ≢ g → (b ≤ i → i < g → ⊥) → ahead n (suc g) i < ahead n b i
-unfolding ahead
+nearer-on : (n b g i : ℕ) → g < n → b ≤ g → i ≢ g → (b ≤ i → i < g → ⊥) → stationsBefore n (suc g) i < stationsBefore n b i
+unfolding stationsBefore
 nearer-on n b g i hg le apart none =
     by-cases (decLt i b)
     (λ l. rw (lt-ltb i b l, lt-ltb i (suc g) (omega arith)) (omega arith))
@@ -86,8 +86,8 @@ nearer-on n b g i hg le apart none =
     let past : g < i = by-cases (decLt i g) (λ m. absurd (none (omega arith) m)) (λ m. omega arith) in
     rw (le-ltb i b (omega arith), le-ltb i (suc g) (omega arith)) (omega arith))
 
-nearer-round : (n b g i : ℕ) → b ≤ n → i < b → g < i → ahead n (suc g) i < ahead n b i
-unfolding ahead
+nearer-round : (n b g i : ℕ) → b ≤ n → i < b → g < i → stationsBefore n (suc g) i < stationsBefore n b i
+unfolding stationsBefore
 nearer-round n b g i hb hi hg = rw (lt-ltb i b hi, le-ltb i (suc g) (omega arith)) (omega arith)
 
 -- where a last number is let through, the going round begins at n at the most
@@ -116,7 +116,7 @@ module _ (n : ℕ) (t : List ℕ) (last i : ℕ) (z : tableNumber n t ≡ 0) (fi
   found : granted n t last < n
   found = granted-waits n t ok someone last .0
 
-  closer : i ≢ granted n t last → ahead n (suc (granted n t last)) i < ahead n (following last) i
+  closer : i ≢ granted n t last → stationsBefore n (suc (granted n t last)) i < stationsBefore n (following last) i
   unfolding granted
   closer = by-bool (ltb p n) on round
     where
@@ -129,12 +129,12 @@ module _ (n : ℕ) (t : List ℕ) (last i : ℕ) (z : tableNumber n t ≡ 0) (fi
       q : ℕ
       q = firstFrom n t 0
 
-      on : ltb p n ≡ true → i ≢ granted n t last → ahead n (suc (granted n t last)) i < ahead n b i
+      on : ltb p n ≡ true → i ≢ granted n t last → stationsBefore n (suc (granted n t last)) i < stationsBefore n b i
       on e apart =
           let here : granted n t last ≡ p = rw e in
           rw here (nearer-on n b p i (ltb-true p n e) (first-low n t b) (λ f. apart (f ∙ sym here)) (passed n t i w b))
 
-      round : ltb p n ≡ false → i ≢ granted n t last → ahead n (suc (granted n t last)) i < ahead n b i
+      round : ltb p n ≡ false → i ≢ granted n t last → stationsBefore n (suc (granted n t last)) i < stationsBefore n b i
       round e apart =
           let here : granted n t last ≡ q = rw e in
           let far = ltb-false p n e in
@@ -143,7 +143,7 @@ module _ (n : ℕ) (t : List ℕ) (last i : ℕ) (z : tableNumber n t ≡ 0) (fi
           let later : q < i = by-cases (decLt i q) (λ l. absurd (passed n t i w 0 (omega arith) l)) (λ l. omega arith) in
           rw here (nearer-round n b q i (following-most n last fits) before later)
 
-  nearer : i ≢ granted n t last → ahead n (following (granted n t last)) i < ahead n (following last) i
+  nearer : i ≢ granted n t last → stationsBefore n (following (granted n t last)) i < stationsBefore n (following last) i
   nearer apart = rw (following-granted n (granted n t last) (size-bounds n (ok .size) .1) found) (closer apart)
 
 -- the last numbers between are let through
@@ -172,11 +172,11 @@ module _ (n : ℕ) (tables : ℕ → List ℕ) (last a i : ℕ) (fits : lastRefu
   Granted j = (k : ℕ) × (a ≤ k) × (k < a + j) × Grants n tables last k i
 
   -- after j of them it was granted, or it is j nearer
-  after : (j : ℕ) → j ≤ n → Granted j ⊎ (ahead n (following (from (a + j))) i + j < n)
+  after : (j : ℕ) → j ≤ n → Granted j ⊎ (stationsBefore n (following (from (a + j))) i + j < n)
   unfolding lastBefore grantStation
   after zero le =
       let fits = last-fits n tables last fits (a + 0) in
-      inr (omega (arith, ahead-most n (following (from (a + 0))) i (following-most n (from (a + 0)) fits) h))
+      inr (omega (arith, before-most n (following (from (a + 0))) i (following-most n (from (a + 0)) fits) h))
   after (suc j) le = step (after j (omega arith))
     where
       k : ℕ
@@ -197,7 +197,7 @@ module _ (n : ℕ) (tables : ℕ → List ℕ) (last a i : ℕ) (fits : lastRefu
       next : from (suc k) ≡ granted n (tables k) (from k)
       next = rw taken
 
-      step : Granted j ⊎ (ahead n (following (from k)) i + j < n) → Granted (suc j) ⊎ (ahead n (following (from (a + suc j))) i + suc j < n)
+      step : Granted j ⊎ (stationsBefore n (following (from k)) i + j < n) → Granted (suc j) ⊎ (stationsBefore n (following (from (a + suc j))) i + suc j < n)
       step (inl g) = inl (g .0, g .1, omega (arith, g .2), g .3)
       step (inr near) =
           by-cases (ℕ-discrete i (granted n (tables k) (from k)))
@@ -210,7 +210,7 @@ module _ (n : ℕ) (tables : ℕ → List ℕ) (last a i : ℕ) (fits : lastRefu
 pub fairness : Fairness
 fairness n tables last a i fits h w = pick (after n tables last a i fits h w n (omega arith))
   where
-    pick : ((k : ℕ) × (a ≤ k) × (k < a + n) × Grants n tables last k i) ⊎ (ahead n (following (lastBefore n tables last (a + n))) i + n < n)
+    pick : ((k : ℕ) × (a ≤ k) × (k < a + n) × Grants n tables last k i) ⊎ (stationsBefore n (following (lastBefore n tables last (a + n))) i + n < n)
         → (k : ℕ) × (a ≤ k) × (k < a + n) × Grants n tables last k i
     pick (inl g) = g
     pick (inr l) = absurd (omega arith)

@@ -1,5 +1,5 @@
 -- The proofs of what request C-15 claims.
 pub mod Fair
 pub mod Stops
-pub mod Runs
+pub mod DriveRuns
 pub mod DrivenDemand

@@ -8,7 +8,7 @@ use mathlib.Core.Logic.{by-cases}
 use native.Mathlib.Omega.{arith}
 use borrow.Author.Tests.{ne-eqb}
 use Rattle.lists.proofs.BoolLaws.{by-bool}
-use Rattle.plant.proofs.Kept.{entry-facts}
+use Rattle.plant.proofs.RulesKept.{entry-facts}
 use Rattle.granter.specs.Drive.{Stand, standAt, endedAfter, fullAfter, Stopped}
 use Rattle.granter.proofs.GrantLaws.{grantable}
 use Rattle.granter.proofs.DriveLaws.{Driving, not-stopped, driving-start, next-within, next-driving, stopped-full, stopped-ended, made-is}

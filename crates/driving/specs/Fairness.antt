@@ -11,15 +11,15 @@ use Rattle.lists.specs.Refusal.{unless}
 use Rattle.granter.specs.Grant.{waits, following, granted, lastRefusal, grantNumber, grantStation}
 
 -- how many stations come before station i in the going round b, b + 1, .., n − 1, 0, 1, .., b − 1
-unfoldable pub ahead : ℕ → ℕ → ℕ → ℕ
-ahead n b i = cond (ltb i b) (i + n - b) (i - b)
+unfoldable pub stationsBefore : ℕ → ℕ → ℕ → ℕ
+stationsBefore n b i = cond (ltb i b) (i + n - b) (i - b)
 
 -- the granted station is live and unfinished, and no other such station comes before it in the going round that begins behind the last one
 abbrev pub NextGoingRound : Type 0
 NextGoingRound =
     (n : ℕ) (t : List ℕ) (last : ℕ) → grantNumber n t last ≡ 0
     → (granted n t last < n) × (waits n t (granted n t last) ≡ true)
-    × ((i : ℕ) → i < n → waits n t i ≡ true → ahead n (following last) (granted n t last) ≤ ahead n (following last) i)
+    × ((i : ℕ) → i < n → waits n t i ≡ true → stationsBefore n (following last) (granted n t last) ≤ stationsBefore n (following last) i)
 
 -- grants are made from tables, one after the other, whatever happened between them, each from the last number that the one before left: the
 -- last number before the grant from table k, counted from 0. A refused grant leaves it as it was

@@ -12,7 +12,7 @@ use lib.Dec.{eqb}
 use lib.ListN.{length}
 use Rattle.lists.specs.Search.{every}
 use Rattle.station.specs.Groups.{stationAt}
-use Rattle.table.specs.Table.{head, stride, tableLength, cell, statusColumn, nextColumn, finishedColumn, testsColumn, status, suspects, live, statusTold, statusAlone}
+use Rattle.table.specs.Table.{head, stride, tableLength, cell, statusColumn, nextColumn, testsColumn, status, suspects, live, statusTold, statusAlone}
 use Rattle.table.specs.Rules.{roundOver}
 use Rattle.lists.proofs.BoolLaws.{by-bool, choice, every-same}
 use Rattle.lists.proofs.SearchLaws.{both, every-not}
@@ -25,7 +25,7 @@ use Rattle.turn.proofs.NextTest.{nextTest-low, test-below, test-station}
 use Rattle.turn.proofs.StepCells.{countTest-other, exchange-other, exchange-tester, exchange-tested, exchange-tester-own, exchange-tested-own}
 use Rattle.plant.proofs.RoundLaws.{reset-other}
 use Rattle.turn.proofs.StepLines.{Lines, countTest-lines, station-apart}
-use Rattle.plant.proofs.Kept.{Takes, entry-facts}
+use Rattle.plant.proofs.RulesKept.{Takes, entry-facts}
 use Rattle.exits.specs.Exits.{Replied, SameRows, RowsJoined, NeitherSuspects, TestedHears}
 
 -- steps 6 and 8 write bytes 1 to 3, and the status of i if it is alone
@@ -33,12 +33,12 @@ module _ (n i : ℕ) (v : List ℕ) where
   abbrev later : List ℕ
   later = afterRound n (afterAlone n v i)
 
-  later-round : (k c : ℕ) → c < stride n → (c ≢ nextColumn) × (c ≢ finishedColumn) × (c ≢ testsColumn) → cell n later k c ≡ cell n (afterAlone n v i) k c
+  later-round : (k c : ℕ) → c < stride n → ¬ (ClosingChanges c) → cell n later k c ≡ cell n (afterAlone n v i) k c
   unfolding afterRound
   later-round k c h out =
       choice (λ (t : List ℕ). cell n t k c ≡ cell n (afterAlone n v i) k c) (roundOver n (afterAlone n v i)) (reset-other n (afterAlone n v i) k c h out) refl
 
-  later-other : (k c : ℕ) → c < stride n → (c ≢ nextColumn) × (c ≢ finishedColumn) × (c ≢ testsColumn) → (i ≡ k → c ≢ statusColumn)
+  later-other : (k c : ℕ) → c < stride n → ¬ (ClosingChanges c) → (i ≡ k → c ≢ statusColumn)
       → cell n later k c ≡ cell n v k c
   unfolding afterAlone
   later-other k c h out own =
@@ -48,12 +48,12 @@ module _ (n i : ℕ) (v : List ℕ) where
   later-alone : length v ≡ tableLength n → i < n → status n v i ≡ 0 → status n later i ≡ cond (isAlone n v i) statusAlone 0
   unfolding afterAlone
   later-alone long hi l =
-      later-round i statusColumn (omega arith) (omega arith)
+      later-round i statusColumn (omega arith) (λ p. omega arith)
       ∙ by-bool (isAlone n v i) (λ e. rw e (cell-same n v i statusColumn statusAlone long hi (omega arith))) (λ e. rw e l)
 
   later-stays : isAlone n v i ≡ false → status n later i ≡ status n v i
   unfolding afterAlone
-  later-stays e = later-round i statusColumn (omega arith) (omega arith) ∙ rw e
+  later-stays e = later-round i statusColumn (omega arith) (λ p. omega arith) ∙ rw e
 
 -- a taken turn whose test has a reply: i tests j at distance m, and u is the table with the test counted
 module _ (n : ℕ) (s : State) (e : Entry) (r : Replied n s e) where
@@ -129,7 +129,7 @@ module _ (n : ℕ) (s : State) (e : Entry) (r : Replied n s e) where
   -- where a station leaves, no row changes
   left-rows : (k x : ℕ) → SameRows n t (later n i (setStatus n u k x))
   left-rows k x a b ha hb =
-      later-other n i (setStatus n u k x) a (head + b) (omega arith) (omega arith) (λ _. omega arith)
+      later-other n i (setStatus n u k x) a (head + b) (omega arith) (λ p. omega arith) (λ _. omega arith)
       ∙ (cell-other n u k statusColumn x a (head + b) (omega arith) (omega arith) (λ _. omega arith) ∙ row-counted a b hb)
 
   tester-told : suspects n t j i ≡ 1 → outcomeOf n t e ≡ outcomeTold
@@ -155,7 +155,7 @@ module _ (n : ℕ) (s : State) (e : Entry) (r : Replied n s e) where
       let mine : status n v i ≡ statusTold = cell-same n u i statusColumn statusTold (lines .0) hi (omega arith) in
       let gone : isAlone n v i ≡ false = rw mine in
       let its : status n (later n i v) j ≡ 0 =
-      later-other n i v j statusColumn (omega arith) (omega arith) (λ p. absurd (apart p))
+      later-other n i v j statusColumn (omega arith) (λ p. omega arith) (λ p. absurd (apart p))
       ∙ (cell-other n u i statusColumn statusTold j statusColumn (omega arith) (omega arith) (λ p. absurd (apart p)) ∙ (counted j statusColumn (omega arith) (omega arith) ∙ j-live)) in
       (q, rw a (later-stays n i v gone ∙ mine), rw (a, its), rw a (left-rows i statusTold))
 
@@ -171,7 +171,7 @@ module _ (n : ℕ) (s : State) (e : Entry) (r : Replied n s e) where
       let q = tested-told w x in
       let a : after n s e .table ≡ later n i v = rw q at after-is in
       let its : status n (later n i v) j ≡ statusTold =
-      later-other n i v j statusColumn (omega arith) (omega arith) (λ p. absurd (apart p)) ∙ cell-same n u j statusColumn statusTold (lines .0) hj (omega arith) in
+      later-other n i v j statusColumn (omega arith) (λ p. omega arith) (λ p. absurd (apart p)) ∙ cell-same n u j statusColumn statusTold (lines .0) hj (omega arith) in
       let mine : status n v i ≡ 0 =
       cell-other n u j statusColumn statusTold i statusColumn (omega arith) (omega arith) (λ p. absurd (apart (sym p))) ∙ (counted i statusColumn (omega arith) (omega arith) ∙ i-live) in
       let others : every (selfOrSuspected n v i) n ≡ every (selfOrSuspected n t i) n =
@@ -207,9 +207,9 @@ module _ (n : ℕ) (s : State) (e : Entry) (r : Replied n s e) where
       let same : (k : ℕ) → status n v k ≡ status n t k =
       λ k. exchange-other n u i (lines .0) hi j hj apart k statusColumn (omega arith) (λ _. omega arith) (λ _. omega arith) ∙ counted k statusColumn (omega arith) (omega arith) in
       let i-stays : status n (later n i v) i ≡ 0 = later-stays n i v company ∙ (same i ∙ i-live) in
-      let j-stays : status n (later n i v) j ≡ 0 = later-other n i v j statusColumn (omega arith) (omega arith) (λ p. absurd (apart p)) ∙ (same j ∙ j-live) in
+      let j-stays : status n (later n i v) j ≡ 0 = later-other n i v j statusColumn (omega arith) (λ p. omega arith) (λ p. absurd (apart p)) ∙ (same j ∙ j-live) in
       let kept : (k x : ℕ) → x < n → suspects n (later n i v) k x ≡ suspects n v k x =
-      λ k x h. later-other n i v k (head + x) (omega arith) (omega arith) (λ _. omega arith) in (
+      λ k x h. later-other n i v k (head + x) (omega arith) (λ p. omega arith) (λ _. omega arith) in (
         q,
         rw (a, i-stays),
         rw (a, j-stays),

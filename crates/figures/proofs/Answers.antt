@@ -7,17 +7,17 @@ use native.Mathlib.Nat.{mul-pos, le-of-dvd, pos-of-dvd-of-pos}
 use native.Mathlib.Omega.{arith}
 use lib.ListN.{length}
 use Rattle.figures.specs.Fractions.{lowest, LowestTerms}
-use Rattle.figures.specs.Batch.{sumOf, sum, squaredDifference, mean, variance}
+use Rattle.figures.specs.Batch.{sumOf, sumOfResults, squaredDifference, mean, variance}
 use Rattle.figures.proofs.LowestTerms.{lowest-terms, lowest-unique}
 
 -- the mean of at least one result
-pub mean-lowest : (xs : List ℕ) → 0 < length xs → LowestTerms (sum xs) (length xs) (mean xs)
+pub mean-lowest : (xs : List ℕ) → 0 < length xs → LowestTerms (sumOfResults xs) (length xs) (mean xs)
 unfolding mean
-mean-lowest xs pos = lowest-terms (sum xs) (length xs) pos
+mean-lowest xs pos = lowest-terms (sumOfResults xs) (length xs) pos
 
 -- the variance of at least one result
 pub variance-lowest : (xs : List ℕ) → 0 < length xs →
-    LowestTerms (sumOf (λ x. squaredDifference (length xs * x) (sum xs)) xs) (length xs * length xs * length xs) (variance xs)
+    LowestTerms (sumOf (λ x. squaredDifference (length xs * x) (sumOfResults xs)) xs) (length xs * length xs * length xs) (variance xs)
 unfolding variance
 variance-lowest xs pos = lowest-terms _ _ (mul-pos (mul-pos pos pos) pos)
 

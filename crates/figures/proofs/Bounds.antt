@@ -55,7 +55,7 @@ joined-of-results a b p q =
     record { sum-most = omega (arith, p .sum-most, q .sum-most); squares-most = omega (arith, p .squares-most, q .squares-most) }
 
 -- what "not overfull" says
-pub record Fits (t : Totals) : Type 0 where
+pub record TotalsFit (t : Totals) : Type 0 where
   pub count-fits : t .count ≤ mostResults
   pub sum-fits : t .sum ≤ mostResults * greatestResult
   pub squares-fit : t .squares ≤ mostResults * (greatestResult * greatestResult)
@@ -65,7 +65,7 @@ pub neither : (a b : Bool) → (a || b) ≡ false → (a ≡ false) × (b ≡ fa
 neither true b e = (e, cc)
 neither false b e = (refl, e)
 
-pub overfull-fits : (t : Totals) → overfull t ≡ false → Fits t
+pub overfull-fits : (t : Totals) → overfull t ≡ false → TotalsFit t
 unfolding overfull
 overfull-fits t e =
     let count = ltb mostResults (t .count) in
@@ -75,7 +75,7 @@ overfull-fits t e =
     let g = neither count sum (f .0) in
     record { count-fits = ltb-false _ _ (g .0); sum-fits = ltb-false _ _ (g .1); squares-fit = ltb-false _ _ (f .1) }
 
-fits-overfull : (t : Totals) → Fits t → overfull t ≡ false
+fits-overfull : (t : Totals) → TotalsFit t → overfull t ≡ false
 unfolding overfull
 fits-overfull t f = rw (le-ltb _ _ (f .count-fits), le-ltb _ _ (f .sum-fits), le-ltb _ _ (f .squares-fit))
 

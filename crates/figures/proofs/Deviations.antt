@@ -10,7 +10,7 @@ use native.Mathlib.Decide.{decLe}
 use native.Mathlib.Omega.{arith}
 use lib.ListN.{length}
 use Rattle.figures.specs.Fractions.{lowest}
-use Rattle.figures.specs.Batch.{sumOf, sum, squaredDifference, variance}
+use Rattle.figures.specs.Batch.{sumOf, sumOfResults, squaredDifference, variance}
 use Rattle.figures.specs.Totals.{totalsOf, varianceOf}
 use Rattle.figures.proofs.LowestTerms.{lowest-scaled}
 
@@ -32,24 +32,24 @@ difference-squared a b =
 
 -- the squares of c·x − s over a list, for any c and s
 deviations : (c s : ℕ) (xs : List ℕ) →
-    sumOf (λ x. squaredDifference (c * x) s) xs + 2 * (c * s * sum xs) ≡ c * c * sumOf (λ x. x * x) xs + length xs * (s * s)
+    sumOf (λ x. squaredDifference (c * x) s) xs + 2 * (c * s * sumOfResults xs) ≡ c * c * sumOf (λ x. x * x) xs + length xs * (s * s)
 unfolding sumOf
 deviations c s [] = omega arith
 deviations c s (x ∷ xs) = omega (arith, deviations c s xs, difference-squared (c * x) s)
 
 module _ (xs : List ℕ) where
   -- with s and q for the sums of the results and of their squares: c·(s·s) and the squared deviations are c·(c·q)
-  deviations-sum : sumOf (λ x. squaredDifference (length xs * x) (sum xs)) xs + length xs * (sum xs * sum xs)
+  deviations-sum : sumOf (λ x. squaredDifference (length xs * x) (sumOfResults xs)) xs + length xs * (sumOfResults xs * sumOfResults xs)
       ≡ length xs * (length xs * sumOf (λ x. x * x) xs)
-  deviations-sum = omega (arith, deviations (length xs) (sum xs) xs)
+  deviations-sum = omega (arith, deviations (length xs) (sumOfResults xs) xs)
 
   -- "c·Q − S·S is not negative"
-  pub not-negative : 0 < length xs → sum xs * sum xs ≤ length xs * sumOf (λ x. x * x) xs
+  pub not-negative : 0 < length xs → sumOfResults xs * sumOfResults xs ≤ length xs * sumOf (λ x. x * x) xs
   not-negative pos = le-of-mul-le-mul-left {k = length xs} (omega (arith, deviations-sum)) pos
 
   -- "c·(c·Q − S·S) is the sum of the squares of c·x − S"
-  pub deviations-upper : length xs * (length xs * sumOf (λ x. x * x) xs - sum xs * sum xs)
-      ≡ sumOf (λ x. squaredDifference (length xs * x) (sum xs)) xs
+  pub deviations-upper : length xs * (length xs * sumOf (λ x. x * x) xs - sumOfResults xs * sumOfResults xs)
+      ≡ sumOf (λ x. squaredDifference (length xs * x) (sumOfResults xs)) xs
   deviations-upper = mul-sub (length xs) _ _ ∙ omega (arith, deviations-sum)
 
 -- the variance of the definition is that by totals

@@ -15,8 +15,8 @@ sumOf f [] = 0
 sumOf f (x ∷ xs) = f x + sumOf f xs
 
 -- the sum of the results
-abbrev pub sum : List ℕ → ℕ
-sum xs = sumOf (λ x. x) xs
+abbrev pub sumOfResults : List ℕ → ℕ
+sumOfResults xs = sumOf (λ x. x) xs
 
 -- the elements of a list put together by an operation, from the last on; 0 for none
 unfoldable pub reduce : (ℕ → ℕ → ℕ) → List ℕ → ℕ
@@ -25,16 +25,16 @@ reduce op (x ∷ []) = x
 reduce op (x ∷ y ∷ ys) = op x (reduce op (y ∷ ys))
 
 -- the least result
-abbrev pub least : List ℕ → ℕ
-least xs = reduce min xs
+abbrev pub leastResult : List ℕ → ℕ
+leastResult xs = reduce min xs
 
 -- the greatest result
-abbrev pub greatest : List ℕ → ℕ
-greatest xs = reduce max xs
+abbrev pub greatestResult : List ℕ → ℕ
+greatestResult xs = reduce max xs
 
 -- the mean: the sum by the count
 unfoldable pub mean : List ℕ → Fraction
-mean xs = lowest (sum xs) (length xs)
+mean xs = lowest (sumOfResults xs) (length xs)
 
 -- the square of the difference of two numbers; one of a − b and b − a is 0
 unfoldable pub squaredDifference : ℕ → ℕ → ℕ
@@ -44,7 +44,7 @@ squaredDifference a b = (a - b + (b - a)) * (a - b + (b - a))
 -- s / c by (c·x − s) / c, so that its squared deviation is (c·x − s)² / (c·c); the sum of these is divided by c.
 unfoldable pub variance : List ℕ → Fraction
 variance xs =
-    lowest (sumOf (λ x. squaredDifference (length xs * x) (sum xs)) xs) (length xs * length xs * length xs)
+    lowest (sumOf (λ x. squaredDifference (length xs * x) (sumOfResults xs)) xs) (length xs * length xs * length xs)
 
 -- how many results are taken at most
 abbrev pub mostResults : ℕ
@@ -77,8 +77,8 @@ figures xs =
     (record {
       number = 0;
       count = length xs;
-      least = least xs;
-      greatest = greatest xs;
+      least = leastResult xs;
+      greatest = greatestResult xs;
       mean = mean xs;
       variance = variance xs;
     })

@@ -19,11 +19,11 @@ use Rattle.table.proofs.CellLaws.{accepted-line}
 use Rattle.turn.specs.Turn.{kindTurn, turn}
 use Rattle.plant.specs.Round.{afterRound}
 use Rattle.plant.specs.Entry.{Entry, State, entryOf, tallyFull, entryNumber, acted, after}
-use Rattle.plant.proofs.Kept.{accepted-kept}
+use Rattle.plant.proofs.RulesKept.{accepted-kept}
 use Rattle.plant.proofs.RunLaws.{accepted-number}
 use Rattle.turn.proofs.StepLines.{Lines}
 use Rattle.granter.specs.Grant.{waits, grantNumber}
-use Rattle.granter.specs.Drive.{Stand, standAt, grantedAt, grantTurn, afterGrants, ended, endedAfter, fullAfter, stops, grantsMade, outcomeOf, outcomeAfter, drive, Stopped}
+use Rattle.granter.specs.Drive.{Stand, standAt, grantedAt, grantTurn, afterGrants, ended, endedAfter, fullAfter, stops, grantsMade, driveOutcome, outcomeAfter, drive, Stopped}
 use Rattle.granter.proofs.GrantLaws.{Grantable, granted-waits, waits-parts, turn-taken}
 use Rattle.granter.proofs.TurnsLeft.{allLeft, all-left-most, turn-left}
 
@@ -122,7 +122,7 @@ stopped-ended n p k d fits o = record { within = next-within n p k d; stopped = 
 
 -- a drive that is refused
 pub drive-refused : (n : ℕ) (s : State) (last r : ℕ) → r ≡ grantNumber n (s .table) last → (r ≡ 0 → ⊥)
-    → drive n s last ≡ outcomeOf r s last 0
+    → drive n s last ≡ driveOutcome r s last 0
 unfolding drive
 drive-refused n s last r e z = rw (← e, ne-eqb r 0 z)
 
@@ -157,7 +157,7 @@ turned-is n q s i e f = rw (f, e)
 -- a drive as the code finds it: q is where it stands after k grants
 module _ (n : ℕ) (p : Stand) (k : ℕ) (q : Stand) (at-k : q ≡ afterGrants n p k) (d : Driving n p k) where
   -- a tally is full: it stops here
-  pub full-stop : tallyFull (q .state .rounds) (q .state .tests) ≡ true → (outcomeOf 7 (q .state) (q .last) k ≡ outcomeAfter n p k) × Stopped n p k
+  pub full-stop : tallyFull (q .state .rounds) (q .state .tests) ≡ true → (driveOutcome 7 (q .state) (q .last) k ≡ outcomeAfter n p k) × Stopped n p k
   unfolding outcomeAfter
   full-stop full = (rw (at-k, d .open-still), stopped-full n p k d (rw at-k at full))
 
@@ -171,7 +171,7 @@ module _ (n : ℕ) (p : Stand) (k : ℕ) (q : Stand) (at-k : q ≡ afterGrants n
       unfolding afterGrants
       turned-on = rw (add-one k) (turned ∙ ap (grantTurn n) at-k)
 
-      pub end-stop : ended n (p .state .rounds) (q′ .state) ≡ true → (outcomeOf 0 (q′ .state) (q′ .last) (k + 1) ≡ outcomeAfter n p (k + 1)) × Stopped n p (k + 1)
+      pub end-stop : ended n (p .state .rounds) (q′ .state) ≡ true → (driveOutcome 0 (q′ .state) (q′ .last) (k + 1) ≡ outcomeAfter n p (k + 1)) × Stopped n p (k + 1)
       unfolding outcomeAfter
       end-stop o =
           let here : endedAfter n p (k + 1) ≡ true = rw turned-on at o in

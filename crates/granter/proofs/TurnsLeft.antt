@@ -89,7 +89,7 @@ module _ (n : ℕ) (t : List ℕ) (size : isSize n ≡ true) (lines : Lines n t)
     left-other : (k : ℕ) → k < n → k ≢ i → turnsLeft n t′ k ≡ turnsLeft n t k
     unfolding turnsLeft
     left-other k b other =
-        rw (heads .others k finishedColumn other (omega arith) (omega arith), heads .others k nextColumn other (omega arith) (omega arith))
+        rw (heads .others k finishedColumn other (omega arith), heads .others k nextColumn other (omega arith))
 
     pub turn-left : allLeft n t′ < allLeft n t
     unfolding allLeft

@@ -63,21 +63,21 @@ pub record DriveOutcome : Type 0 where
   pub grants : ℕ
 
 -- an outcome by its parts
-abbrev pub outcomeOf : ℕ → State → ℕ → ℕ → DriveOutcome
-outcomeOf number s last grants = record { number = number; state = s; last = last; grants = grants }
+abbrev pub driveOutcome : ℕ → State → ℕ → ℕ → DriveOutcome
+driveOutcome number s last grants = record { number = number; state = s; last = last; grants = grants }
 
 -- the outcome of a call: its answer, and the table as it left it
-abbrev pub outcomeWith : Driven → List ℕ → DriveOutcome
-outcomeWith d t = outcomeOf (d .number) (stateWith t (d .tally)) (d .last) (d .grants)
+abbrev pub driveOutcomeWith : Driven → List ℕ → DriveOutcome
+driveOutcomeWith d t = driveOutcome (d .number) (stateWith t (d .tally)) (d .last) (d .grants)
 
 -- the outcome after k grants: 0 where the drive ended, and otherwise 7, "keeping the turns made"
 unfoldable pub outcomeAfter : ℕ → Stand → ℕ → DriveOutcome
-outcomeAfter n p k = outcomeOf (cond (endedAfter n p k) 0 7) (afterGrants n p k .state) (afterGrants n p k .last) k
+outcomeAfter n p k = driveOutcome (cond (endedAfter n p k) 0 7) (afterGrants n p k .state) (afterGrants n p k .last) k
 
 -- the drive, for all inputs: refused by 1 to 4, 16 and 17 it "gives back the tally and last number handed in, and 0 grants"
 unfoldable pub drive : ℕ → State → ℕ → DriveOutcome
 drive n s last =
-    unless (grantNumber n (s .table) last) (outcomeOf (grantNumber n (s .table) last) s last 0)
+    unless (grantNumber n (s .table) last) (driveOutcome (grantNumber n (s .table) last) s last 0)
     (outcomeAfter n (standAt s last) (grantsMade n (standAt s last)))
 
 -- a drive that is not refused at its start makes n·n grants at the most, stopped for one of the three reasons, and none of them held

@@ -2,7 +2,7 @@
 ghost use mathlib.Core.Path.{_≡_};
 ghost use Rattle.plant.specs.Entry.{stateWith};
 ghost use Rattle.granter.specs.Grant.{grantNumber};
-ghost use Rattle.granter.specs.Drive.{standAt, ended, outcomeWith, outcomeAfter, drive, Stopped, StoppedIfTaken};
+ghost use Rattle.granter.specs.Drive.{standAt, ended, driveOutcomeWith, outcomeAfter, drive, Stopped, StoppedIfTaken};
 use crate::Driven;
 use crate::grant;
 use plant::Tally;
@@ -10,7 +10,7 @@ use plant::single;
 
 // Grants and turns of kind 1 until a round closes, nobody is left live, or a tally is full. A drive refused at its start changes no byte.
 pub fn drive(n: usize, table: &mut [u8], tally: Tally, last: usize) -> Driven
-    ensures { λ r. ⌜ outcomeWith r (now (table .exit)) ≡ drive n (stateWith (now (table .entry)) tally) last ⌝ }
+    ensures { λ r. ⌜ driveOutcomeWith r (now (table .exit)) ≡ drive n (stateWith (now (table .entry)) tally) last ⌝ }
     ensures { λ r. ⌜ StoppedIfTaken n (stateWith (now (table .entry)) tally) last (r .grants) ⌝ }
 {
     let number = grant::grant_number(n, table, last);
@@ -28,7 +28,7 @@ pub fn drive(n: usize, table: &mut [u8], tally: Tally, last: usize) -> Driven
 // A drive that is not refused at its start: grant and turn until it stops.
 fn go_on(n: u8, table: &mut [u8], tally: Tally, last: u8) -> Driven
     requires { ⌜ grantNumber n (now table) last ≡ 0 ⌝ }
-    ensures { λ r. ⌜ outcomeWith r (now (table .exit)) ≡ outcomeAfter n (standAt (stateWith (now (table .entry)) tally) last) (r .grants) ⌝ }
+    ensures { λ r. ⌜ driveOutcomeWith r (now (table .exit)) ≡ outcomeAfter n (standAt (stateWith (now (table .entry)) tally) last) (r .grants) ⌝ }
     ensures { λ r. ⌜ Stopped n (standAt (stateWith (now (table .entry)) tally) last) (r .grants) ⌝ }
 {
     let mut held = tally;

@@ -5,7 +5,6 @@ pub mod SearchLaws
 pub mod SumLaws
 pub mod Writing
 pub mod KeepLaws
-pub mod Lists
 pub mod Loops
 pub mod ByteLaws
 pub mod IterateLaws

@@ -4,14 +4,14 @@
 use mathlib.Core.Path.{_≡_, refl, sym, ap, subst, _∙_}
 use mathlib.Core.Bool.{Bool, true, false, not, _&&_, _||_}
 use mathlib.Core.List.{List, _++_}
-use Prim.Native.Nat.{ℕ, _+_, _-_, _≤_, _<_}
+use Prim.Native.Nat.{ℕ, _+_, _-_, _≤_, _<_, max}
 use native.Mathlib.Nat.{le-antisymm}
 use native.Mathlib.Numerals.{add-one}
 use native.Mathlib.Omega.{arith}
 use borrow.Author.Tests.{not-true, not-false}
 use lib.ListN.{length, getD, set, drop, length-drop}
 use lib.Seq.{sets, getD-drop, ext-getD}
-use Rattle.lists.specs.Search.{every, listOf}
+use Rattle.lists.specs.Search.{every, listOf, greatest}
 use Rattle.lists.proofs.Writing.{sets-next, sets-ahead, sets-front, sets-all}
 use Rattle.lists.proofs.SearchLaws.{every-not, listOf-length, listOf-at, listOf-append}
 
@@ -38,6 +38,15 @@ some-next q k some l e f = rw (e, add-one, ← f) (cases (every q k) l)
     cases true true = refl
     cases true false = refl
     cases false b = refl
+
+-- the greatest, as a loop that counts up finds it
+pub greatest-start : (f : ℕ → ℕ) → 0 ≡ greatest f 0
+unfolding greatest
+greatest-start f = refl
+
+pub greatest-next : (f : ℕ → ℕ) (k most v : ℕ) → most ≡ greatest f k → v ≡ f k → max most v ≡ greatest f (k + 1)
+unfolding greatest
+greatest-next f k most v e g = rw (add-one k, e, g)
 
 -- a list l that a loop fills from its front: after k turns it is `sets l 0 (listOf f k)`
 pub fill-start : (f : ℕ → ℕ) (l : List ℕ) → l ≡ sets l 0 (listOf f 0)

@@ -1,15 +1,16 @@
 -- Laws of the searches and lists of specs/Search.
 -- Assumes nothing.
 use mathlib.Core.Path.{_≡_, refl, _∙_}
-use mathlib.Core.Logic.{_⊎_, inl, inr}
+use mathlib.Core.Logic.{_⊎_, inl, inr, by-cases}
 use mathlib.Core.Bool.{Bool, true, false, cond, _&&_}
-use mathlib.Core.List.{[], _∷_, _++_, append-nil, append-assoc}
+use mathlib.Core.List.{[], _∷_, _++_, append-nil, append-assoc, List}
 use Prim.Native.Nat.{ℕ, zero, suc, _+_, _≤_, _<_}
-use native.Mathlib.Nat.{eq-or-lt-of-le, le-of-suc-le-suc, add-zero, add-suc}
+use native.Mathlib.Nat.{eq-or-lt-of-le, le-of-suc-le-suc, add-zero, add-suc, not-suc-le-zero}
+use native.Mathlib.Decide.{decLt}
 use native.Mathlib.Omega.{arith}
 use lib.ListN.{length, getD, length-append, List·getD-append}
 use lib.Seq.{getD-at}
-use Rattle.lists.specs.Search.{least, every, listOf}
+use Rattle.lists.specs.Search.{least, every, listOf, greatest}
 
 pub least-between : (q : ℕ → Bool) (n k : ℕ) → (k ≤ least q n k) × (least q n k ≤ k + n)
 unfolding least
@@ -111,3 +112,21 @@ pub listOf-append : (f : ℕ → ℕ) (a b : ℕ) → listOf f (a + b) ≡ listO
 unfolding listOf
 listOf-append f a zero = rw (add-zero, append-nil)
 listOf-append f a (suc b) = rw (add-suc, listOf-append f a b, append-assoc)
+
+-- the greatest is none less, and no more than what none exceeds
+pub greatest-le : (f : ℕ → ℕ) (n k : ℕ) → k < n → f k ≤ greatest f n
+unfolding greatest
+greatest-le f zero k l = absurd (omega arith)
+greatest-le f (suc n) k l =
+    by-cases (decLt k n) (λ b. omega (arith, greatest-le f n k b)) (λ b. let e : k ≡ n = omega arith in rw e (omega arith))
+
+pub greatest-most : (f : ℕ → ℕ) (n c : ℕ) → ((k : ℕ) → k < n → f k ≤ c) → greatest f n ≤ c
+unfolding greatest
+greatest-most f zero c l = omega arith
+greatest-most f (suc n) c l = omega (arith, greatest-most f n c (λ k h. l k (omega arith)), l n (omega arith))
+
+-- within a list the default is not read
+pub getD-within : (l : List ℕ) (k a b : ℕ) → k < length l → getD l k a ≡ getD l k b
+getD-within [] k a b h = absurd (not-suc-le-zero h)
+getD-within (x ∷ l) zero a b h = refl
+getD-within (x ∷ l) (suc k) a b h = getD-within l k a b (le-of-suc-le-suc h)

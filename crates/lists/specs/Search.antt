@@ -1,6 +1,6 @@
 -- Searches and lists over numbers, by which the other definitions are stated.
 -- Assumes nothing.
-use Prim.Native.Nat.{ℕ, zero, suc}
+use Prim.Native.Nat.{ℕ, zero, suc, max}
 use mathlib.Core.Bool.{Bool, true, cond, _&&_}
 use mathlib.Core.List.{List, [], _∷_, _++_}
 
@@ -27,3 +27,8 @@ keep q (x ∷ xs) = cond (q x) (x ∷ keep q xs) (keep q xs)
 -- the numbers below n that pass q, ascending
 abbrev pub select : (ℕ → Bool) → ℕ → List ℕ
 select q n = keep q (listOf (λ k. k) n)
+
+-- the greatest of f 0, f 1, .., f (n − 1); 0 where n is 0
+unfoldable pub greatest : (ℕ → ℕ) → ℕ → ℕ
+greatest f zero = 0
+greatest f (suc n) = max (greatest f n) (f n)

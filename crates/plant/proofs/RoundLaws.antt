@@ -1,14 +1,14 @@
 -- What closing a round does to the cells and lines of the table.
 -- Assumes nothing.
-use mathlib.Core.Path.{_≡_, refl, sym, _∙_}
-use mathlib.Core.Logic.{_≢_, _⊎_, inl, inr}
+use mathlib.Core.Path.{_≡_, refl, _∙_}
+use mathlib.Core.Logic.{_⊎_, inl, inr}
 use mathlib.Core.List.{List}
 use Prim.Native.Nat.{ℕ, zero, suc, _+_, _≤_, _<_}
 use native.Mathlib.Nat.{eq-or-lt-of-le, le-of-suc-le-suc}
 use native.Mathlib.Omega.{arith}
 use lib.ListN.{length}
 use Rattle.table.specs.Table.{head, stride, tableLength, cell, setCell, nextColumn, finishedColumn, testsColumn, nextDistance, finished, testsMade, statusColumn}
-use Rattle.table.proofs.CellLaws.{cell-same, cell-other, setCell-length}
+use Rattle.table.proofs.CellLaws.{cell-same, cell-other, setCell-length, ClosingChanges}
 use Rattle.lists.specs.Iterate.{iterate}
 use Rattle.plant.specs.Round.{resetLine, resetLines}
 use Rattle.table.proofs.SizeLaws.{distances-pos}
@@ -26,13 +26,13 @@ module _ (n i : ℕ) (t : List ℕ) where
   unfolding resetLine
   resetLine-length = simp setCell-length
 
-  resetLine-other : (i′ c : ℕ) → c < stride n → (i ≡ i′ → (c ≢ nextColumn) × (c ≢ finishedColumn) × (c ≢ testsColumn))
+  resetLine-other : (i′ c : ℕ) → c < stride n → (i ≡ i′ → ¬ (ClosingChanges c))
       → cell n (resetLine n i t) i′ c ≡ cell n t i′ c
   unfolding resetLine
   resetLine-other i′ c h out =
-      cell-other n _ i testsColumn 0 i′ c (omega arith) h (λ e f. out e .2 (sym f))
-      ∙ (cell-other n _ i finishedColumn 0 i′ c (omega arith) h (λ e f. out e .1 (sym f))
-      ∙ cell-other n t i nextColumn 1 i′ c (omega arith) h (λ e f. out e .0 (sym f)))
+      cell-other n _ i testsColumn 0 i′ c (omega arith) h (λ e f. out e (omega arith))
+      ∙ (cell-other n _ i finishedColumn 0 i′ c (omega arith) h (λ e f. out e (omega arith))
+      ∙ cell-other n t i nextColumn 1 i′ c (omega arith) h (λ e f. out e (omega arith)))
 
 resetLine-here : (n i : ℕ) (t : List ℕ) → length t ≡ tableLength n → i < n → Reset n (resetLine n i t) i
 unfolding resetLine
@@ -57,7 +57,7 @@ unfolding iterate
 resets-length n zero t = refl
 resets-length n (suc m) t = resetLine-length n m (iterate (resetLine n) m t) ∙ resets-length n m t
 
-resets-other : (n m : ℕ) (t : List ℕ) (i c : ℕ) → c < stride n → (c ≢ nextColumn) × (c ≢ finishedColumn) × (c ≢ testsColumn)
+resets-other : (n m : ℕ) (t : List ℕ) (i c : ℕ) → c < stride n → ¬ (ClosingChanges c)
     → cell n (iterate (resetLine n) m t) i c ≡ cell n t i c
 unfolding iterate
 resets-other n zero t i c h out = refl
@@ -76,9 +76,9 @@ resets-here n (suc m) t long hm i h = pick (resets-here n m t long (omega arith)
     pick rest (inr l) =
         let r = rest l in
         record {
-          next = resetLine-other n m s i nextColumn (omega arith) (omega arith) ∙ r .next;
-          unfinished = resetLine-other n m s i finishedColumn (omega arith) (omega arith) ∙ r .unfinished;
-          untested = resetLine-other n m s i testsColumn (omega arith) (omega arith) ∙ r .untested;
+          next = resetLine-other n m s i nextColumn (omega arith) (λ e. absurd (omega arith)) ∙ r .next;
+          unfinished = resetLine-other n m s i finishedColumn (omega arith) (λ e. absurd (omega arith)) ∙ r .unfinished;
+          untested = resetLine-other n m s i testsColumn (omega arith) (λ e. absurd (omega arith)) ∙ r .untested;
         }
 
 pub reset-length : (n : ℕ) (t : List ℕ) → length (resetLines n t) ≡ length t
@@ -90,7 +90,7 @@ unfolding resetLines
 reset-cells n t long i h = resets-here n n t long (omega arith) i h
 
 -- status and row bytes, those at other columns, are as before
-pub reset-other : (n : ℕ) (t : List ℕ) (i c : ℕ) → c < stride n → (c ≢ nextColumn) × (c ≢ finishedColumn) × (c ≢ testsColumn)
+pub reset-other : (n : ℕ) (t : List ℕ) (i c : ℕ) → c < stride n → ¬ (ClosingChanges c)
     → cell n (resetLines n t) i c ≡ cell n t i c
 unfolding resetLines
 reset-other n t i c h out = resets-other n n t i c h out
@@ -103,10 +103,10 @@ reset-lines n t lines = (
       let l = lines .1 k h in
       let r = reset-cells n t (lines .0) k h in
       record {
-        statusRange = rw (reset-other n t k statusColumn (omega arith) (omega arith)) (l .statusRange);
+        statusRange = rw (reset-other n t k statusColumn (omega arith) (λ p. omega arith)) (l .statusRange);
         pass = rw (r .next, r .unfinished, r .untested)
             (record { nextLow = omega arith; nextHigh = distances-pos n; finishedRange = omega arith; testsBound = omega arith; finishedNext = λ p. absurd (omega arith) });
-        own = reset-other n t k (head + k) (omega arith) (omega arith) ∙ l .own;
-        range = λ x hx. rw (reset-other n t k (head + x) (omega arith) (omega arith)) (l .range x hx);
+        own = reset-other n t k (head + k) (omega arith) (λ p. omega arith) ∙ l .own;
+        range = λ x hx. rw (reset-other n t k (head + x) (omega arith) (λ p. omega arith)) (l .range x hx);
       },
 )

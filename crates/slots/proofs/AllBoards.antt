@@ -16,10 +16,12 @@ use Rattle.station.specs.Tests.{unsuspected}
 use Rattle.station.specs.Rows.{mark}
 use Rattle.lists.proofs.Xor.{xor-cancel}
 use Rattle.station.proofs.UnionLaws.{mark-length}
-use Rattle.slots.specs.Slots.{testsDue, greatest, testsWith, mostTests, mostOfBoards}
+use Rattle.slots.specs.Slots.{testsDue, testsWith, mostTests, mostOfBoards}
+use Rattle.lists.specs.Search.{greatest}
 use Rattle.slots.specs.Law.{SuspectsOne, MostOfPowers}
 use Rattle.slots.proofs.OneDead.{nobody-suspected, one-suspected, one-suspected-exactly}
-use Rattle.slots.proofs.MoreTests.{greatest-le, greatest-most, mark-unsuspected, mark-suspected, with-other, with-self}
+use Rattle.lists.proofs.SearchLaws.{greatest-le, greatest-most}
+use Rattle.slots.proofs.MoreTests.{mark-unsuspected, mark-suspected, with-other, with-self}
 
 -- the greatest of numbers that all are c
 greatest-same : (f : ℕ → ℕ) (n c : ℕ) → 0 < n → ((k : ℕ) → k < n → f k ≡ c) → greatest f n ≡ c

@@ -19,8 +19,7 @@ use Rattle.lists.proofs.SearchLaws.{every-at, every-all}
 use Rattle.lists.proofs.Xor.{xor-cancel}
 use Rattle.table.proofs.Levels.{level-in, level-bounds}
 use Rattle.station.proofs.DueLaws.{answer-first, first-not, due-zero, due-is, due-not, due-present}
-use Rattle.station.proofs.AheadLaws.{before-by-digits}
-use Rattle.slots.proofs.AnswerLaws.{due-if-nobody-before}
+use Rattle.station.proofs.AheadLaws.{before-by-digits, due-if-nobody-before}
 use Rattle.slots.specs.Law.{suspectsGroup, bitSet, DueByDigits}
 
 -- a digit below the highest one of 2^h + k is that of k

@@ -1,5 +1,5 @@
--- The claims of specs/Law.antt and specs/Answers.antt hold.
-pub mod AnswerLaws
+-- The claims of specs/Law.antt and specs/Assignments.antt hold.
+pub mod AssignmentLaws
 pub mod DigitLaws
 pub mod Counts
 pub mod OneDead

@@ -4,7 +4,7 @@ use mathlib.Core.Path.{_≡_, sym, ap, _∙_}
 use mathlib.Core.Logic.{_≢_, by-cases}
 use mathlib.Core.Bool.{true, false, true≢false}
 use mathlib.Core.List.{List}
-use Prim.Native.Nat.{ℕ, zero, suc, _≤_, _<_}
+use Prim.Native.Nat.{ℕ, _≤_, _<_}
 use native.Mathlib.Nat.{le-trans}
 use native.Mathlib.Decide.{ℕ-discrete, decLt}
 use native.Mathlib.Omega.{arith}
@@ -23,8 +23,8 @@ use Rattle.lists.proofs.KeepLaws.{kept-sum}
 use Rattle.station.proofs.UnionLaws.{mark-length, mark-same}
 use Rattle.station.proofs.DueLaws.{unsuspected-at, due-zero, due-is, due-present}
 use Rattle.station.proofs.EntryLaws.{unsuspected-below}
-use Rattle.slots.proofs.AnswerLaws.{due-if-nobody-before}
-use Rattle.slots.specs.Slots.{testsDue, greatest, testsWith, mostTests}
+use Rattle.station.proofs.AheadLaws.{due-if-nobody-before}
+use Rattle.slots.specs.Slots.{testsDue, testsWith, mostTests}
 use Rattle.slots.specs.Law.{Wider, NeverFewer, MostIsNoLess, MostCovers}
 use Rattle.slots.proofs.DigitLaws.{due-nobody}
 use Rattle.slots.proofs.Counts.{sum-le}
@@ -48,18 +48,6 @@ tests-sum n r i = kept-sum (due r i) (λ k. k) (distances n)
 
 pub never-fewer : NeverFewer
 never-fewer n r r′ i w = rw (tests-sum n r i, tests-sum n r′ i) (fewer-below r r′ i w (distances n))
-
--- the greatest is none less, and no more than what none exceeds
-pub greatest-le : (f : ℕ → ℕ) (n k : ℕ) → k < n → f k ≤ greatest f n
-unfolding greatest
-greatest-le f zero k l = absurd (omega arith)
-greatest-le f (suc n) k l =
-    by-cases (decLt k n) (λ b. omega (arith, greatest-le f n k b)) (λ b. let e : k ≡ n = omega arith in rw e (omega arith))
-
-pub greatest-most : (f : ℕ → ℕ) (n c : ℕ) → ((k : ℕ) → k < n → f k ≤ c) → greatest f n ≤ c
-unfolding greatest
-greatest-most f zero c l = omega arith
-greatest-most f (suc n) c l = omega (arith, greatest-most f n c (λ k h. l k (omega arith)), l n (omega arith))
 
 -- a marked row suspects one more
 pub mark-unsuspected : (r : List ℕ) (j x : ℕ) → x ≢ j → unsuspected (mark r j) x ≡ unsuspected r x

@@ -1,7 +1,7 @@
 -- What the commissioning sheet says of a board, by its row: which tests it makes in a round, who stands ahead at the others, how many tests these
 -- are, and the most that one more dead board can make of them. By this last number its slot on the cable is timed.
 -- Assumes nothing.
-use Prim.Native.Nat.{ℕ, zero, suc, max}
+use Prim.Native.Nat.{ℕ}
 use mathlib.Core.Bool.{Bool, cond, not, _&&_}
 use mathlib.Core.List.{List, map}
 use lib.ListN.{length}
@@ -34,11 +34,6 @@ ahead n r i = map (λ m. answerByte (answer r i m)) (untestedDistances n r i)
 -- "how many tests it makes a round"
 unfoldable pub testsDue : ℕ → List ℕ → ℕ → ℕ
 testsDue n r i = length (dueDistances r i n)
-
--- the greatest of f 0, f 1, .., f (n − 1); 0 where n is 0
-unfoldable pub greatest : (ℕ → ℕ) → ℕ → ℕ
-greatest f zero = 0
-greatest f (suc n) = max (greatest f n) (f n)
 
 -- the tests of i where its row suspects j too; i itself is not one that can be dead
 unfoldable pub testsWith : ℕ → List ℕ → ℕ → ℕ → ℕ

@@ -1,6 +1,6 @@
 -- Who stands ahead (specs/Ahead): by binary digits, up to which distance, and that somebody is always first.
 -- Assumes nothing.
-use mathlib.Core.Path.{_≡_, sym, ap, _∙_}
+use mathlib.Core.Path.{_≡_, sym, ap, _∙_, refl}
 use mathlib.Core.Logic.{by-cases}
 use mathlib.Core.Bool.{Bool, true, false, true≢false}
 use mathlib.Core.Option.{some}
@@ -14,9 +14,9 @@ use lib.Pow.{pow-pos, pow-mono}
 use lib.Bits.{bitXor, bitOr, differ, xor-step, xor-comm, xor-zero-r, xor-shr, or-step, or-shr, or-self, or-zero-r, or-add-and, and-le-r}
 use Rattle.station.specs.Groups.{distance, stationAt}
 use Rattle.table.specs.Sizes.{level}
-use Rattle.station.specs.Tests.{unsuspected, first, answerDue, answerAhead, answer, saysDue}
+use Rattle.station.specs.Tests.{unsuspected, first, answerDue, answerAhead, answer, saysDue, DueAnswer}
 use Rattle.station.specs.Calls.{answerByte}
-use Rattle.station.specs.Ahead.{Before, NamedStandsBefore, BeforeByDigits, blockEnd, BeforeInBlock, NoneDueInBlock}
+use Rattle.station.specs.Ahead.{Before, NamedStandsBefore, BeforeByDigits, blockEnd, BeforeInBlock, NoneDueInBlock, DueIfNobodyBefore}
 use Rattle.lists.proofs.BoolLaws.{by-bool}
 use Rattle.lists.proofs.Xor.{Near, div-le, near-le, near-of-xor, xor-of-near, xor-assoc, xor-cancel, xor-undo}
 use Rattle.table.proofs.Levels.{level-zero, level-upper, level-le, level-is, level-bounds, level-split}
@@ -161,7 +161,7 @@ named-stands-before r i m x own pos e = by-bool (eqb y i) (λ z. absurd (true≢
         rw (← same, xor-cancel j (f .0)) (f .3, (f .1, omega (arith, f .2)))
 
 -- i is not first where one that stands before it passes
-pub before-first : (q : ℕ → Bool) (i m x : ℕ) → q x ≡ true → Before i m x → isStation i (first q (stationAt i m) (level m)) ≡ false
+before-first : (q : ℕ → Bool) (i m x : ℕ) → q x ≡ true → Before i m x → isStation i (first q (stationAt i m) (level m)) ≡ false
 before-first q i m x passes b =
     let j : ℕ = stationAt i m in
     let a : ℕ = distance j x in
@@ -174,6 +174,23 @@ before-first q i m x passes b =
     omega (arith, b .1, f .2) in
     let none : isStation i (first q j (level a)) ≡ false = rw (f .4) (ne-eqb (stationAt j y) i apart) in
     rw (b .0) at none
+
+pub due-if-nobody-before : DueIfNobodyBefore
+due-if-nobody-before r i m own pos = (there, back)
+  where
+    there : saysDue (answer r i m) ≡ true → (x : ℕ) → Before i m x → unsuspected r x ≡ false
+    there e x b =
+        by-bool (unsuspected r x)
+        (λ p. absurd (true≢false (sym e ∙ (answer-first r i m ∙ before-first (unsuspected r) i m x p b)))) (λ p. p)
+
+    back : ((x : ℕ) → Before i m x → unsuspected r x ≡ false) → saysDue (answer r i m) ≡ true
+    back none = go (answer r i m) refl
+      where
+        go : (a : DueAnswer) → answer r i m ≡ a → saysDue a ≡ true
+        go answerDue e = refl
+        go (answerAhead x) e =
+            let b = named-stands-before r i m x own pos e in
+            absurd (true≢false (sym (b .0) ∙ none x (b .1)))
 
 pub none-due-in-block : NoneDueInBlock
 none-due-in-block r i m x y e lo hi = due-not r i y (by-bool (unsuspected r i) (λ own. pick own (decLt 0 m)) not-own)

@@ -17,8 +17,7 @@ use Rattle.station.specs.Groups.{stationAt, width, member}
 use Rattle.table.specs.Sizes.{level}
 use Rattle.station.specs.Tests.{unsuspected, firstPlace, first, answerOf, answer, saysDue, stands, due}
 use Rattle.lists.proofs.BoolLaws.{by-bool}
-use Rattle.lists.proofs.Lists.{getD-within}
-use Rattle.lists.proofs.SearchLaws.{both, least-is, least-none, least-passes, least-before}
+use Rattle.lists.proofs.SearchLaws.{getD-within, both, least-is, least-none, least-passes, least-before}
 use Rattle.table.proofs.Levels.{level-zero, level-split, level-in}
 
 -- whom a row does not suspect, for a number within the row

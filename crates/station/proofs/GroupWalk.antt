@@ -15,24 +15,24 @@ placed i w k = stationAt i (w + k)
 
 module _ (n i w : ℕ) where
   -- the stations among n at the first k places
-  unfoldable pub found : ℕ → List ℕ
-  found k = kept (isPresent n) (placed i w) k
+  unfoldable pub passed : ℕ → List ℕ
+  passed k = kept (isPresent n) (placed i w) k
 
-  pub found-all : (s : ℕ) → w ≡ width s → found w ≡ group n i s
-  unfolding found group fullGroup member
-  found-all s e = rw e refl
+  pub passed-all : (s : ℕ) → w ≡ width s → passed w ≡ group n i s
+  unfolding passed group fullGroup member
+  passed-all s e = rw e refl
 
-  pub found-le : (k count : ℕ) → count ≡ length (found k) → count ≤ k
-  unfolding found
-  found-le k count e = rw e (kept-le (isPresent n) (placed i w) k)
+  pub passed-le : (k count : ℕ) → count ≡ length (passed k) → count ≤ k
+  unfolding passed
+  passed-le k count e = rw e (kept-le (isPresent n) (placed i w) k)
 
   -- x stands at place k: what is counted and written with it
   module _ (k x : ℕ) (at : x ≡ placed i w k) where
-    pub found-count : (count r : ℕ) → count ≡ length (found k) → r ≡ cond (isPresent n x) (count + 1) count → r ≡ length (found (k + 1))
-    unfolding found
-    found-count count r e s = count-next (isPresent n) (placed i w) k count r e (rw at at s)
+    pub passed-count : (count r : ℕ) → count ≡ length (passed k) → r ≡ cond (isPresent n x) (count + 1) count → r ≡ length (passed (k + 1))
+    unfolding passed
+    passed-count count r e s = count-next (isPresent n) (placed i w) k count r e (rw at at s)
 
-    pub found-put : (count : ℕ) (l t u : List ℕ) → t ≡ sets l 0 (found k) → count ≡ length (found k)
-        → u ≡ cond (isPresent n x) (set t count x) t → u ≡ sets l 0 (found (k + 1))
-    unfolding found
-    found-put count l t u e c s = kept-next (isPresent n) (placed i w) k count l t u e c (rw at at s)
+    pub passed-put : (count : ℕ) (l t u : List ℕ) → t ≡ sets l 0 (passed k) → count ≡ length (passed k)
+        → u ≡ cond (isPresent n x) (set t count x) t → u ≡ sets l 0 (passed (k + 1))
+    unfolding passed
+    passed-put count l t u e c s = kept-next (isPresent n) (placed i w) k count l t u e c (rw at at s)

@@ -1,4 +1,4 @@
--- What is claimed of the answer of request C-16 and of its assignment.
+-- What is claimed of the answer of request C-16: who stands before a station in a group. The scan of a turn goes by it; slots claims more.
 -- Assumes nothing.
 use mathlib.Core.Path.{_≡_}
 use mathlib.Core.Logic.{_↔_}
@@ -8,17 +8,23 @@ use Prim.Native.Nat.{ℕ, suc, _-_, _/_, _%_, _^_, _≤_, _<_}
 use lib.Bits.{bitOr}
 use Rattle.table.specs.Sizes.{level}
 use Rattle.station.specs.Groups.{distance, stationAt}
-use Rattle.station.specs.Tests.{unsuspected, answerAhead, answer, due}
+use Rattle.station.specs.Tests.{unsuspected, answerAhead, answer, due, saysDue}
 
 -- number x, present or absent, stands before i in the full group, at the level of m, of the station at distance m from i: its distance from that
 -- station has the same level, and is less than that of i, which is m
 abbrev pub Before : ℕ → ℕ → ℕ → Type 0
 Before i m x = (level (distance (stationAt i m) x) ≡ level m) × (distance (stationAt i m) x < m)
 
--- for such a row, whom the answer names is not suspected and stands before i
+-- for a row that does not suspect its own station, whom the answer names is not suspected and stands before i
 abbrev pub NamedStandsBefore : Type 0
 NamedStandsBefore =
     (r : List ℕ) (i m x : ℕ) → unsuspected r i ≡ true → 0 < m → answer r i m ≡ answerAhead x → (unsuspected r x ≡ true) × Before i m x
+
+-- and the answer is "due" just where the row leaves nobody unsuspected that stands before i
+abbrev pub DueIfNobodyBefore : Type 0
+DueIfNobodyBefore =
+    (r : List ℕ) (i m : ℕ) → unsuspected r i ≡ true → 0 < m
+    → (saysDue (answer r i m) ≡ true) ↔ ((x : ℕ) → Before i m x → unsuspected r x ≡ false)
 
 -- who stands before i goes by binary digits: with m = 2^(s−1) + k, those before i are its own groups at the levels h + 1 for which digit h
 -- of k is 1, whatever s is. Digit h of k is that of m, since h + 1 < s

@@ -1,4 +1,4 @@
--- Laws of the cells and rows of a lent table, of specs/Table, of what is done to a row, of specs/Rows, and the line rules of specs/Rules as facts.
+-- Laws of the cells and rows of a lent table, of specs/Table, and the line rules of specs/Rules as facts.
 -- Assumes nothing.
 use mathlib.Core.Path.{_≡_, refl, sym, ap, _∙_}
 use mathlib.Core.Bool.{Bool, true, false, _&&_, _||_}
@@ -14,11 +14,19 @@ use lib.Dec.{leb, eqb}
 use lib.ListN.{length, getD, take, drop, length-append, length-take, length-drop, length-set, List·getD-append}
 use lib.Seq.{length-take-le, getD-append-add, getD-take, getD-drop, getD-set-same, getD-set-other, ext-getD}
 use Rattle.table.specs.Sizes.{distances}
-use Rattle.table.specs.Table.{head, stride, tableLength, lineStart, cell, setCell, status, nextDistance, finished, testsMade, suspects, rowStart, row, setRow}
+use Rattle.table.specs.Table.{head, stride, tableLength, lineStart, cell, setCell, status, nextDistance, finished, testsMade, suspects, rowStart, row, setRow, nextColumn, testsColumn}
 use Rattle.table.specs.Rules.{passRule, suspicionRule, rowRule, lineRules}
 use Rattle.lists.specs.Search.{every}
 use Rattle.lists.proofs.SearchLaws.{both, every-at, every-all}
 use Rattle.table.proofs.Accepting.{Accepted}
+
+-- a column that a turn counts in: next distance, pass finished, tests made
+abbrev pub TurnCounts : ℕ → Type 0
+TurnCounts c = (nextColumn ≤ c) × (c ≤ testsColumn)
+
+-- a column that closing a round changes
+abbrev pub ClosingChanges : ℕ → Type 0
+ClosingChanges c = (nextColumn ≤ c) × (c ≤ testsColumn)
 
 -- two places are one only where line and column are
 place-same : (n i c i′ c′ : ℕ) → c < stride n → c′ < stride n → lineStart n i + c ≡ lineStart n i′ + c′ → (i ≡ i′) × (c ≡ c′)

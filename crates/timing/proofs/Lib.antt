@@ -1,4 +1,4 @@
 -- The claims of specs/Timing.antt hold.
-pub mod Kept
+pub mod SheetTests
 pub mod RowsGrow
-pub mod Within
+pub mod TestsDue

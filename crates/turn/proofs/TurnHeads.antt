@@ -12,9 +12,9 @@ use lib.Dec.{eqb}
 use Rattle.lists.specs.Search.{select}
 use Rattle.table.specs.Sizes.{isSize, distances}
 use Rattle.station.specs.Groups.{stationAt}
-use Rattle.table.specs.Table.{head, tableLength, cell, statusColumn, nextColumn, finishedColumn, testsColumn, nextDistance, finished, testsMade, row, statusTold, statusAlone}
+use Rattle.table.specs.Table.{tableLength, cell, statusColumn, nextColumn, finishedColumn, testsColumn, nextDistance, finished, testsMade, row, statusTold, statusAlone}
 use Rattle.station.specs.Tests.{due}
-use Rattle.table.proofs.CellLaws.{cell-other}
+use Rattle.table.proofs.CellLaws.{TurnCounts, cell-other}
 use Rattle.turn.specs.Turn.{outcomeExchanged, outcomeTold, outcomeTestedTold, setStatus, nextTest, makesTest, countTest, testOutcome, afterOutcome, afterTest, isAlone, afterAlone, testing, turn}
 use Rattle.turn.proofs.NextTest.{nextTest-low, not-due-before, test-station, test-due, none-due}
 use Rattle.turn.proofs.StepCells.{finishPass-other, finishPass-next, finishPass-finished, countTest-length, countTest-other, countTest-next, countTest-tests, suspect-other, exchange-other}
@@ -25,16 +25,16 @@ use Rattle.lists.proofs.KeepLaws.{kept-suc, kept-stays, kept-sum}
 
 -- bytes 1 to 3 of all lines are as before
 abbrev SameCounts : ℕ → List ℕ → List ℕ → Type 0
-SameCounts n t t′ = (k c : ℕ) → statusColumn < c → c < head → cell n t′ k c ≡ cell n t k c
+SameCounts n t t′ = (k c : ℕ) → TurnCounts c → cell n t′ k c ≡ cell n t k c
 
 -- steps 4 to 6 leave them
 left-counts : (n : ℕ) (t : List ℕ) (i s : ℕ) → SameCounts n t (setStatus n t i s)
-left-counts n t i s k c lo hi = cell-other n t i statusColumn s k c (omega arith) (omega arith) (λ _. omega arith)
+left-counts n t i s k c counts = cell-other n t i statusColumn s k c (omega arith) (omega arith) (λ _. omega arith)
 
 module _ (n : ℕ) (t : List ℕ) (i : ℕ) where
   alone-counts : SameCounts n t (afterAlone n t i)
   unfolding afterAlone
-  alone-counts = choice (SameCounts n t) (isAlone n t i) (left-counts n t i statusAlone) (λ k c lo hi. refl)
+  alone-counts = choice (SameCounts n t) (isAlone n t i) (left-counts n t i statusAlone) (λ k c counts. refl)
 
   test-counts : (kind j : ℕ) → length t ≡ tableLength n → i < n → j < n → i ≢ j → SameCounts n t (afterTest n t kind i j)
   unfolding afterOutcome
@@ -42,12 +42,12 @@ module _ (n : ℕ) (t : List ℕ) (i : ℕ) where
       choice (SameCounts n t) (eqb (testOutcome n t kind i j) outcomeTold) (left-counts n t i statusTold)
       (choice (SameCounts n t) (eqb (testOutcome n t kind i j) outcomeTestedTold) (left-counts n t j statusTold)
       (choice (SameCounts n t) (eqb (testOutcome n t kind i j) outcomeExchanged)
-      (λ k c lo h. exchange-other n t i long hi j hj apart k c (omega arith) (λ _. h) (λ _. h))
-      (λ k c lo h. suspect-other n t i long hi j k c (omega arith) (λ _. omega arith))))
+      (λ k c counts. exchange-other n t i long hi j hj apart k c (omega arith) (λ _. omega arith) (λ _. omega arith))
+      (λ k c counts. suspect-other n t i long hi j k c (omega arith) (λ _. omega arith))))
 
 -- what a turn of i does to them, where b says whether it makes a test
 pub record Heads (n : ℕ) (t t′ : List ℕ) (i : ℕ) (b : Bool) : Type 0 where
-  pub others : (k c : ℕ) → k ≢ i → statusColumn < c → c < head → cell n t′ k c ≡ cell n t k c
+  pub others : (k c : ℕ) → k ≢ i → TurnCounts c → cell n t′ k c ≡ cell n t k c
   pub next : nextDistance n t′ i ≡ cond b (nextTest n t i + 1) (distances n)
   pub finish : finished n t′ i ≡ cond b (finished n t i) 1
   pub tests : testsMade n t′ i ≡ testsMade n t i + bit b
@@ -56,7 +56,7 @@ pub turn-heads : (n : ℕ) (t : List ℕ) (kind i : ℕ) → isSize n ≡ true �
 unfolding turn testing
 turn-heads n t kind i size lines h =
     by-bool (makesTest n t i) (λ e. rw e (makes e)) (λ e. rw e (record {
-      others = λ k c other lo hi. finishPass-other n t i k c (omega arith) (λ p. omega arith);
+      others = λ k c other counts. finishPass-other n t i k c (omega arith) (λ p. omega arith);
       next = finishPass-next n t i (lines .0) h;
       finish = finishPass-finished n t i (lines .0) h;
       tests = omega (arith, finishPass-other n t i i testsColumn (omega arith) (λ p. omega arith));
@@ -68,16 +68,16 @@ turn-heads n t kind i size lines h =
         let t₁ : List ℕ = countTest n t i m in
         let x<n = test-station n t i e (lines .0) h in
         let apart = station-apart i m (omega (arith, lines .1 i h .pass .nextLow, nextTest-low n t i)) in
-        let same : (k c : ℕ) → statusColumn < c → c < head → cell n (testing n t kind i m) k c ≡ cell n t₁ k c =
-        λ k c lo hi. alone-counts n (afterTest n t₁ kind i (stationAt i m)) i k c lo hi
-        ∙ test-counts n t₁ i kind (stationAt i m) (countTest-length n t i m ∙ lines .0) h x<n apart k c lo hi in
+        let same : (k c : ℕ) → TurnCounts c → cell n (testing n t kind i m) k c ≡ cell n t₁ k c =
+        λ k c counts. alone-counts n (afterTest n t₁ kind i (stationAt i m)) i k c counts
+        ∙ test-counts n t₁ i kind (stationAt i m) (countTest-length n t i m ∙ lines .0) h x<n apart k c counts in
         record {
-          others = λ k c other lo hi. same k c lo hi ∙ countTest-other n t i m k c (omega arith) (λ p. omega arith);
-          next = same i nextColumn (omega arith) (omega arith) ∙ countTest-next n t i (lines .0) h m;
+          others = λ k c other counts. same k c counts ∙ countTest-other n t i m k c (omega arith) (λ p. omega arith);
+          next = same i nextColumn (omega arith) ∙ countTest-next n t i (lines .0) h m;
           finish =
-              same i finishedColumn (omega arith) (omega arith)
+              same i finishedColumn (omega arith)
               ∙ countTest-other n t i m i finishedColumn (omega arith) (λ p. omega arith);
-          tests = same i testsColumn (omega arith) (omega arith) ∙ countTest-tests n t i (lines .0) h m;
+          tests = same i testsColumn (omega arith) ∙ countTest-tests n t i (lines .0) h m;
         }
 
 -- of the distances that a turn passes one is due if it makes a test, and none if it makes none

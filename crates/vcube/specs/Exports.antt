@@ -11,7 +11,7 @@ use Rattle.lists.specs.Refusal.{unless}
 use Rattle.station.specs.Calls.{rowNumber}
 use Rattle.plant.specs.Entry.{stateOf}
 use Rattle.plant.specs.Run.{Outcome}
-use Rattle.granter.specs.Drive.{DriveOutcome, outcomeOf}
+use Rattle.granter.specs.Drive.{DriveOutcome, driveOutcome}
 use Rattle.figures.specs.declared.Figures.{Figures}
 use Rattle.figures.specs.declared.Totals.{Totals}
 use Rattle.figures.specs.declared.Totalled.{Totalled}
@@ -30,7 +30,7 @@ outcomeOut number taken t rounds tests sheet = record { number = number; taken =
 
 -- Drive: the outcome by its parts: the number, table, rounds and tests, the last granted number and the grants made
 abbrev pub driveOut : ℕ → List ℕ → ℕ → ℕ → ℕ → ℕ → DriveOutcome
-driveOut number t rounds tests last grants = outcomeOf number (stateOf t rounds tests) last grants
+driveOut number t rounds tests last grants = driveOutcome number (stateOf t rounds tests) last grants
 
 -- C-12: what a call answers: its number, and the members of the struct that it fills, in their order
 pub record Filled : Type 0 where

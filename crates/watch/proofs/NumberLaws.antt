@@ -1,4 +1,4 @@
--- Laws of numbers in digits, by position, and of their greatest values.
+-- Laws of numbers in digits, by position, and of their allNines values.
 -- Assumes nothing.
 use mathlib.Core.Path.{_≡_, refl}
 use mathlib.Core.Bool.{Bool, true, false, cond, _&&_}
@@ -44,34 +44,34 @@ pub number-digits : (most : ℕ) (l : List ℕ) → 1 ≤ length l → length l 
 unfolding numberOf
 number-digits most l a b = rw (le-leb 1 (length l) a, le-leb (length l) most b)
 
--- the greatest number of k digits
-unfoldable pub greatest : ℕ → ℕ
-greatest zero = 0
-greatest (suc k) = 10 * greatest k + 9
+-- the allNines number of k digits
+unfoldable pub allNines : ℕ → ℕ
+allNines zero = 0
+allNines (suc k) = 10 * allNines k + 9
 
-pub greatest-next : (k : ℕ) → greatest (k + 1) ≡ 10 * greatest k + 9
-unfolding greatest
-greatest-next k = rw add-one
+pub nines-next : (k : ℕ) → allNines (k + 1) ≡ 10 * allNines k + 9
+unfolding allNines
+nines-next k = rw add-one
 
-pub greatest-two : (k : ℕ) → k ≤ 2 → greatest k ≤ 99
-unfolding greatest
-greatest-two zero h = omega arith
-greatest-two (suc zero) h = omega arith
-greatest-two (suc (suc zero)) h = omega arith
-greatest-two (suc (suc (suc k))) h = absurd (omega arith)
+pub nines-two : (k : ℕ) → k ≤ 2 → allNines k ≤ 99
+unfolding allNines
+nines-two zero h = omega arith
+nines-two (suc zero) h = omega arith
+nines-two (suc (suc zero)) h = omega arith
+nines-two (suc (suc (suc k))) h = absurd (omega arith)
 
 both-true : (a b : Bool) → (a && b) ≡ true → b ≡ true
 both-true true b e = e
 both-true false b e = cc
 
-digits-small : (l : List ℕ) (k v w : ℕ) → v ≤ greatest k → digitsFrom v l ≡ some w → w ≤ greatest (k + length l)
-unfolding digitsFrom greatest
+digits-small : (l : List ℕ) (k v w : ℕ) → v ≤ allNines k → digitsFrom v l ≡ some w → w ≤ allNines (k + length l)
+unfolding digitsFrom allNines
 digits-small [] k v w h e = let x : k + 0 ≡ k = omega arith in let y : v ≡ w = cc in rw (x, ← y) h
 digits-small (b ∷ rest) k v w h e = go (isDigit b) refl e (digits-small rest (suc k) (10 * v + (b - 48)) w)
   where
     go : (x : Bool) → isDigit b ≡ x → cond x (digitsFrom (10 * v + (b - 48)) rest) none ≡ some w
-        → (10 * v + (b - 48) ≤ 10 * greatest k + 9 → digitsFrom (10 * v + (b - 48)) rest ≡ some w → w ≤ greatest (suc k + length rest))
-        → w ≤ greatest (k + suc (length rest))
+        → (10 * v + (b - 48) ≤ 10 * allNines k + 9 → digitsFrom (10 * v + (b - 48)) rest ≡ some w → w ≤ allNines (suc k + length rest))
+        → w ≤ allNines (k + suc (length rest))
     go true p e f =
         let y : k + suc (length rest) ≡ suc k + length rest = omega arith in
         rw y (f (omega (arith, leb-true b 57 (both-true (leb 48 b) (leb b 57) p))) e)
@@ -92,4 +92,4 @@ number-has most l v = go (leb 1 (length l)) (leb (length l) most) refl
 pub number-two : (l : List ℕ) (w : ℕ) → numberOf 2 l ≡ some w → w ≤ 99
 number-two l w e =
     let h = number-has 2 l w e in
-    omega (arith, digits-small l 0 0 w (omega arith) (h .1), greatest-two (0 + length l) (omega arith))
+    omega (arith, digits-small l 0 0 w (omega arith) (h .1), nines-two (0 + length l) (omega arith))

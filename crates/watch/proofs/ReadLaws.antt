@@ -133,31 +133,31 @@ module _ (room e : ℕ) (l : List ℕ) (o : Option ℕ) (ends : e ≡ 0 + lineLe
       first-sized room n l (size-as ∙ z) ∙ ap (λ (d : List ℕ). readEntries room n 0 [] (lines d)) (ap (λ (k : ℕ). drop (suc k) l) (sym w) ∙ sym (drop-min l q e next))
 
 -- there are no more entries than there is room for, and each has two bytes
-pub record Fits (room : ℕ) (r : Reading) : Type 0 where
+pub record ReadFits (room : ℕ) (r : Reading) : Type 0 where
   pub within : r .entries ≤ room
   pub pairs : length (r .schedule) ≡ 2 * r .entries
 
-entries-fit : (room n k : ℕ) (s : List ℕ) (ls : List (List ℕ)) → k ≤ room → length s ≡ 2 * k → Fits room (readEntries room n k s ls)
+entries-fit : (room n k : ℕ) (s : List ℕ) (ls : List (List ℕ)) → k ≤ room → length s ≡ 2 * k → ReadFits room (readEntries room n k s ls)
 unfolding readEntries
 entries-fit room n k s [] h p = record { within = h; pairs = p }
 entries-fit room n k s (l ∷ ls) h p =
     go (cond (ltb k room) (entryBytes l) none) (taken-has k room l) (λ e. entries-fit room n (suc k) (s ++ e) ls)
   where
     go : (o : Option (List ℕ)) → ((e : List ℕ) → o ≡ some e → (k < room) × (length l ≤ 4) × (length e ≡ 2))
-        → ((e : List ℕ) → suc k ≤ room → length (s ++ e) ≡ 2 * suc k → Fits room (readEntries room n (suc k) (s ++ e) ls))
-        → Fits room (given o (λ e. readEntries room n (suc k) (s ++ e) ls) (readingOf (k + 2) n k s))
+        → ((e : List ℕ) → suc k ≤ room → length (s ++ e) ≡ 2 * suc k → ReadFits room (readEntries room n (suc k) (s ++ e) ls))
+        → ReadFits room (given o (λ e. readEntries room n (suc k) (s ++ e) ls) (readingOf (k + 2) n k s))
     go none f on = record { within = h; pairs = p }
     go (some e) f on = let g = f e refl in on e (omega arith) (simp length-append (omega arith))
 
-pub read-fits : (room : ℕ) (l : List ℕ) → Fits room (readUpTo room l)
+pub read-fits : (room : ℕ) (l : List ℕ) → ReadFits room (readUpTo room l)
 unfolding readUpTo readLines
 read-fits room l = go (lines l)
   where
-    pick : (o : Option ℕ) (ls : List (List ℕ)) → Fits room (given o (λ n. readEntries room n 0 [] ls) (readingOf 1 0 0 []))
+    pick : (o : Option ℕ) (ls : List (List ℕ)) → ReadFits room (given o (λ n. readEntries room n 0 [] ls) (readingOf 1 0 0 []))
     pick none ls = record { within = omega arith; pairs = refl }
     pick (some n) ls = entries-fit room n 0 [] ls (omega arith) refl
 
-    go : (ls : List (List ℕ)) → Fits room (readLines room ls)
+    go : (ls : List (List ℕ)) → ReadFits room (readLines room ls)
     go [] = record { within = omega arith; pairs = refl }
     go (l ∷ ls) = pick (sizeOf l) ls
 

@@ -10,11 +10,10 @@ use Rattle.lists.specs.Search.{select}
 use Rattle.station.specs.Groups.{stationAt}
 use Rattle.table.specs.Sizes.{distances}
 use Rattle.station.specs.Tests.{due, dueDistances}
-use Rattle.lists.proofs.KeepLaws.{count-next}
+use Rattle.lists.proofs.KeepLaws.{count-next, kept-next-by}
 use Rattle.station.proofs.EntryLaws.{due-start}
 use Rattle.slots.specs.Slots.{tested, testsDue}
 use lib.Seq.{sets}
-use Rattle.lists.proofs.KeepLaws.{kept-next-by}
 use Rattle.commission.proofs.ListLaws.{distance-range, count-below}
 use Rattle.commission.proofs.list_tests.Statement.{statement}
 use Rattle.commission.proofs.list_tests.Tie as tie

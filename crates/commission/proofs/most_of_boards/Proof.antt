@@ -6,8 +6,9 @@ use Prim.Native.Nat.{_-_, _≤_}
 use native.Mathlib.Omega.{arith}
 use lib.ListN.{length}
 use borrow.Author.Needs.{needs}
-use Rattle.slots.specs.Slots.{testsDue, greatest, mostTests, mostOfBoards}
-use Rattle.commission.proofs.MostLaws.{greatest-start, greatest-next}
+use Rattle.slots.specs.Slots.{testsDue, mostTests, mostOfBoards}
+use Rattle.lists.specs.Search.{greatest}
+use Rattle.lists.proofs.Loops.{greatest-start, greatest-next}
 use Rattle.commission.proofs.most_of_boards.Statement.{statement}
 use Rattle.commission.proofs.most_of_boards.Tie as tie
 

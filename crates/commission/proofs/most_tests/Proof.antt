@@ -5,8 +5,9 @@ use Prim.Native.Nat.{_-_, _≤_}
 use native.Mathlib.Omega.{arith}
 use lib.ListN.{length}
 use borrow.Author.Needs.{needs}
-use Rattle.slots.specs.Slots.{greatest, testsWith, mostTests}
-use Rattle.commission.proofs.MostLaws.{greatest-start, greatest-next}
+use Rattle.lists.specs.Search.{greatest}
+use Rattle.slots.specs.Slots.{testsWith, mostTests}
+use Rattle.lists.proofs.Loops.{greatest-start, greatest-next}
 use Rattle.commission.proofs.most_tests.Statement.{statement}
 use Rattle.commission.proofs.most_tests.Tie as tie
 

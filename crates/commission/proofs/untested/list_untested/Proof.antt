@@ -11,10 +11,9 @@ use Rattle.station.specs.Groups.{stationAt}
 use Rattle.table.specs.Sizes.{distances}
 use Rattle.station.specs.Tests.{answer}
 use Rattle.station.specs.Calls.{answerByte}
-use Rattle.lists.proofs.KeepLaws.{count-next}
+use Rattle.lists.proofs.KeepLaws.{count-next, kept-next-by}
 use Rattle.slots.specs.Slots.{isUntested, untestedDistances, untested, ahead}
 use lib.Seq.{sets}
-use Rattle.lists.proofs.KeepLaws.{kept-next-by}
 use Rattle.slots.proofs.Untested.{untested-start}
 use Rattle.commission.proofs.ListLaws.{distance-range, count-below}
 use Rattle.commission.proofs.untested.list_untested.Statement.{statement}

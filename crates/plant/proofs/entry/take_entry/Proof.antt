@@ -6,7 +6,7 @@ use lib.ListN.{length-set}
 use borrow.Author.Needs.{needs}
 use Rattle.table.proofs.Accepting.{accepted}
 use Rattle.plant.specs.Entry.{stateWith, entryOf, after, sheetLine}
-use Rattle.plant.proofs.Kept.{entry-facts}
+use Rattle.plant.proofs.RulesKept.{entry-facts}
 use Rattle.plant.proofs.RunLaws.{made-test, line-written}
 use Rattle.plant.proofs.entry.take_entry.Statement.{statement}
 use Rattle.plant.proofs.entry.take_entry.Tie as tie

@@ -7,8 +7,8 @@ use lib.ListN.{length, drop, length-take, length-drop}
 use borrow.Author.Needs.{needs}
 use Rattle.table.proofs.Accepting.{Accepted}
 use Rattle.plant.specs.Entry.{State, stateWith}
-use Rattle.plant.specs.Run.{entries, goOn, writeLine}
-use Rattle.plant.proofs.Kept.{accepted-kept}
+use Rattle.plant.specs.Run.{entries, goOn}
+use Rattle.plant.proofs.RulesKept.{accepted-kept}
 use Rattle.plant.proofs.RunLaws.{accepted-number, entryAt, line-back, go-taken, go-stopped, go-done, start-facts}
 use Rattle.plant.proofs.run.go_on.Statement.{statement}
 use Rattle.plant.proofs.run.go_on.Tie as tie

@@ -6,13 +6,13 @@ use native.Mathlib.Omega.{arith}
 use borrow.Author.Needs.{needs}
 use lib.ListN.{length, drop}
 use Rattle.watch.specs.Input.{digitsFrom, numberOf}
-use Rattle.watch.proofs.NumberLaws.{digits-next, digits-low, digits-high, digits-done, number-empty, number-long, number-digits, greatest, greatest-next, greatest-two}
+use Rattle.watch.proofs.NumberLaws.{digits-next, digits-low, digits-high, digits-done, number-empty, number-long, number-digits, allNines, nines-next, nines-two}
 use Rattle.watch.proofs.input.read_number.Statement.{statement}
 use Rattle.watch.proofs.input.read_number.Tie as tie
 
 abbrev Inv-loop : tie.InvT-loop
 Inv-loop digits most value₀ i₀ value i =
-    (i ≤ length digits) × (length digits ≤ 3) × (value ≤ greatest i) × (numberOf most digits ≡ digitsFrom value (drop i digits))
+    (i ≤ length digits) × (length digits ≤ 3) × (value ≤ allNines i) × (numberOf most digits ≡ digitsFrom value (drop i digits))
 
 abbrev μ-loop : tie.MeasureT-loop
 μ-loop digits most value₀ i₀ value i = length digits - i
@@ -33,16 +33,16 @@ returns-4 : tie.Need-returns-4 Inv-loop μ-loop
 returns-4 c = let l = c .before .before .before .before .loop in sym (l .inv .3 ∙ digits-high _ (l .i) (l .value) (c .before .before .before .loop-test .taken) (c .if4 .taken))
 
 mul-value : tie.Need-mul-value Inv-loop μ-loop
-mul-value c = omega (arith, greatest-two (c .before .before .before .before .loop .i) (omega arith))
+mul-value c = omega (arith, nines-two (c .before .before .before .before .loop .i) (omega arith))
 
 add-value : tie.Need-add-value Inv-loop μ-loop
-add-value c = omega (arith, greatest-two (c .before .before .before .before .loop .i) (omega arith))
+add-value c = omega (arith, nines-two (c .before .before .before .before .loop .i) (omega arith))
 
 loop-again : tie.Need-loop-again Inv-loop μ-loop
 loop-again c =
     let l = c .before .before .before .before .loop in
     let h = c .before .before .before .loop-test .taken in
-    (omega arith, l .inv .1, omega (arith, greatest-next (l .i)), l .inv .3 ∙ digits-next _ (l .i) (l .value) h (c .before .if3 .left) (c .if4 .left))
+    (omega arith, l .inv .1, omega (arith, nines-next (l .i)), l .inv .3 ∙ digits-next _ (l .i) (l .value) h (c .before .if3 .left) (c .if4 .left))
 
 returns-5 : tie.Need-returns-5 Inv-loop μ-loop
 returns-5 c = let l = c .before .loop in sym (l .inv .3 ∙ digits-done _ (l .i) (l .value) (c .loop-test .left))

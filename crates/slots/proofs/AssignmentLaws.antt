@@ -1,8 +1,8 @@
--- The claims of specs/Answers.antt hold.
+-- The claims of specs/Assignments.antt hold.
 -- Assumes nothing.
-use mathlib.Core.Path.{_≡_, refl, sym, _∙_}
+use mathlib.Core.Path.{_≡_, refl, _∙_}
 use mathlib.Core.Logic.{by-cases}
-use mathlib.Core.Bool.{true, false, _&&_, true≢false}
+use mathlib.Core.Bool.{true, _&&_}
 use mathlib.Core.List.{List}
 use Prim.Native.Nat.{ℕ, suc, _-_, _/_, _%_, _^_, _≤_, _<_}
 use native.Mathlib.Nat.{div-eq-of-lt}
@@ -18,22 +18,17 @@ use Rattle.table.specs.Sizes.{level, distances}
 use Rattle.station.specs.Tests.{unsuspected, DueAnswer, answerDue, answerAhead, answer, saysDue, due, dueDistances}
 use Rattle.station.specs.Calls.{answerByte, isOther, otherDistances}
 use Rattle.table.specs.Table.{row}
-use Rattle.slots.specs.Answers.{OwnUnsuspected, SomebodyFirst, DueIfNobodyBefore, upTo, BeforeUpTo}
-use Rattle.station.specs.Ahead.{Before}
-use Rattle.lists.proofs.BoolLaws.{by-bool}
+use Rattle.slots.specs.Assignments.{OwnUnsuspected, SomebodyFirst, upTo, BeforeUpTo, DueHave255, NothingLeftOver}
 use Rattle.lists.proofs.Xor.{xor-undo}
 use Rattle.table.proofs.Accepting.{accepted}
 use Rattle.table.proofs.CellLaws.{row-length, row-at, accepted-line}
-use Rattle.station.proofs.DueLaws.{unsuspected-at, answer-first, first-found, due-zero}
+use Rattle.station.proofs.DueLaws.{unsuspected-at, first-found, due-zero}
 use Rattle.lists.specs.Search.{listOf}
 use Rattle.lists.proofs.KeepLaws.{keep-twice}
 use Rattle.table.proofs.SizeLaws.{size-bounds}
-use Rattle.station.proofs.AheadLaws.{named-stands-before}
+use Rattle.station.proofs.AheadLaws.{named-stands-before, before-until}
 use Rattle.station.proofs.Presence.{others-all}
-use Rattle.station.proofs.EntryLaws.{unsuspected-below}
-use Rattle.station.proofs.AheadLaws.{before-first, before-until}
-use Rattle.station.proofs.EntryLaws.{entries-length}
-use Rattle.slots.specs.Answers.{DueHave255, NothingLeftOver}
+use Rattle.station.proofs.EntryLaws.{unsuspected-below, entries-length}
 
 pub before-up-to : BeforeUpTo
 unfolding upTo width
@@ -54,23 +49,6 @@ pub somebody-first : SomebodyFirst
 somebody-first r i m own pos =
     let f = first-found (unsuspected r) (stationAt i m) m pos (rw (xor-undo i m) own) in
     (stationAt (stationAt i m) (f .0), f .4)
-
-pub due-if-nobody-before : DueIfNobodyBefore
-due-if-nobody-before r i m own pos = (there, back)
-  where
-    there : saysDue (answer r i m) ≡ true → (x : ℕ) → Before i m x → unsuspected r x ≡ false
-    there e x b =
-        by-bool (unsuspected r x)
-        (λ p. absurd (true≢false (sym e ∙ (answer-first r i m ∙ before-first (unsuspected r) i m x p b)))) (λ p. p)
-
-    back : ((x : ℕ) → Before i m x → unsuspected r x ≡ false) → saysDue (answer r i m) ≡ true
-    back none = go (answer r i m) refl
-      where
-        go : (a : DueAnswer) → answer r i m ≡ a → saysDue a ≡ true
-        go answerDue e = refl
-        go (answerAhead x) e =
-            let b = named-stands-before r i m x own pos e in
-            absurd (true≢false (sym (b .0) ∙ none x (b .1)))
 
 pub nothing-left-over : NothingLeftOver
 nothing-left-over n r i size h = omega (arith, entries-length r i (otherDistances n i), others-all n i size h)

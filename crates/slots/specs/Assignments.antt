@@ -1,8 +1,7 @@
 -- What is claimed besides of the answer of request C-16 and of its assignment: the run does not need it.
 -- Assumes nothing.
 use mathlib.Core.Path.{_≡_}
-use mathlib.Core.Logic.{_↔_}
-use mathlib.Core.Bool.{true, false}
+use mathlib.Core.Bool.{true}
 use mathlib.Core.List.{List}
 use mathlib.Core.Option.{some}
 use Prim.Native.Nat.{ℕ, _*_, _-_, _≤_, _<_}
@@ -14,7 +13,7 @@ use Rattle.table.specs.Sizes.{isSize, level}
 use Rattle.station.specs.Groups.{distance, stationAt, width}
 use Rattle.table.specs.Table.{row}
 use Rattle.table.specs.Rules.{tableNumber}
-use Rattle.station.specs.Tests.{unsuspected, first, answer, saysDue, dueDistances}
+use Rattle.station.specs.Tests.{unsuspected, first, answer, dueDistances}
 use Rattle.station.specs.Calls.{otherDistances, answerByte, assignmentEntries}
 use Rattle.station.specs.Ahead.{Before}
 
@@ -26,12 +25,6 @@ OwnUnsuspected = (n : ℕ) (t : List ℕ) (i : ℕ) → tableNumber n t ≡ 0 �
 abbrev pub SomebodyFirst : Type 0
 SomebodyFirst =
     (r : List ℕ) (i m : ℕ) → unsuspected r i ≡ true → 0 < m → (x : ℕ) × (first (unsuspected r) (stationAt i m) (level m) ≡ some x)
-
--- and the answer is "due" just where the row leaves nobody unsuspected that stands before i
-abbrev pub DueIfNobodyBefore : Type 0
-DueIfNobodyBefore =
-    (r : List ℕ) (i m : ℕ) → unsuspected r i ≡ true → 0 < m
-    → (saysDue (answer r i m) ≡ true) ↔ ((x : ℕ) → Before i m x → unsuspected r x ≡ false)
 
 -- so who stands before i at distance m does so at all distances up to m with its digits below the highest one of e all 1, where e is its distance
 -- from i. This is shown, and not used by the code

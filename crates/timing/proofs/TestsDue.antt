@@ -28,7 +28,7 @@ use Rattle.station.proofs.EntryLaws.{unsuspected-below}
 use Rattle.turn.specs.Turn.{makesTest, crash}
 use Rattle.plant.specs.Round.{afterRound}
 use Rattle.plant.specs.Entry.{Entry, State, isCrash, entryNumber, acted, after}
-use Rattle.plant.proofs.Kept.{entry-facts, acted-lines}
+use Rattle.plant.proofs.RulesKept.{entry-facts, acted-lines}
 use Rattle.plant.proofs.RoundLaws.{reset-cells}
 use Rattle.turn.proofs.StepLines.{Lines}
 use Rattle.turn.proofs.TurnHeads.{Heads, turn-heads, passed-dues}
@@ -62,11 +62,11 @@ abbrev duesOf : ℕ → List ℕ → ℕ → ℕ → ℕ
 duesOf n t i b = sum (λ m. bit (due (row n t i) i m)) b
 
 -- each line has made no more tests than that
-abbrev Fits : ℕ → List ℕ → Type 0
-Fits n t = (i : ℕ) → i < n → testsMade n t i ≤ duesOf n t i (nextDistance n t i)
+abbrev TestsAreDue : ℕ → List ℕ → Type 0
+TestsAreDue n t = (i : ℕ) → i < n → testsMade n t i ≤ duesOf n t i (nextDistance n t i)
 
 -- a taken entry keeps it
-module _ (n : ℕ) (s : State) (e : Entry) (ok : Accepted n (s .table)) (takes : entryNumber n s e ≡ 0) (fits : Fits n (s .table)) where
+module _ (n : ℕ) (s : State) (e : Entry) (ok : Accepted n (s .table)) (takes : entryNumber n s e ≡ 0) (fits : TestsAreDue n (s .table)) where
   abbrev t : List ℕ
   t = s .table
 
@@ -93,14 +93,14 @@ module _ (n : ℕ) (s : State) (e : Entry) (ok : Accepted n (s .table)) (takes :
       → testsMade n t′ k ≤ duesOf n t′ k (nextDistance n t′ k)
   stays k h next tests = rw (next, tests) (le-trans (fits k h) (later k h (nextDistance n t k)))
 
-  crash-fits : isCrash e ≡ true → Fits n t′
+  crash-fits : isCrash e ≡ true → TestsAreDue n t′
   unfolding acted crash
   crash-fits c k h =
-      let same : (b : ℕ) → 0 < b → b < head → cell n t′ k b ≡ cell n t k b =
-      λ b lo hi. rw c (cell-other n t i statusColumn statusCrashed k b (omega arith) (omega arith) (λ _. omega arith)) in
-      stays k h (same nextColumn (omega arith) (omega arith)) (same testsColumn (omega arith) (omega arith))
+      let same : (b : ℕ) → TurnCounts b → cell n t′ k b ≡ cell n t k b =
+      λ b counts. rw c (cell-other n t i statusColumn statusCrashed k b (omega arith) (omega arith) (λ _. omega arith)) in
+      stays k h (same nextColumn (omega arith)) (same testsColumn (omega arith))
 
-  turn-fits : isCrash e ≡ false → Fits n t′
+  turn-fits : isCrash e ≡ false → TestsAreDue n t′
   unfolding acted
   turn-fits c k h =
       let heads : Heads n t t′ i (makesTest n t i) = rw c (turn-heads n t (e .kind) i (ok .size) lines (below)) in
@@ -108,19 +108,19 @@ module _ (n : ℕ) (s : State) (e : Entry) (ok : Accepted n (s .table)) (takes :
       (λ q.
       let passed = passed-dues n t t′ i heads (lines .1 i (below) .pass .nextHigh) in
       rw q (omega (arith, heads .tests, fits i (below), passed, later i (below) (nextDistance n t′ i))))
-      (λ q. stays k h (heads .others k nextColumn q (omega arith) (omega arith)) (heads .others k testsColumn q (omega arith) (omega arith)))
+      (λ q. stays k h (heads .others k nextColumn q (omega arith)) (heads .others k testsColumn q (omega arith)))
 
-  pub acted-fits : Fits n t′
+  pub acted-fits : TestsAreDue n t′
   acted-fits k h = by-bool (isCrash e) (λ c. crash-fits c k h) (λ c. turn-fits c k h)
 
-  entry-fits : Fits n (after n s e .table)
+  entry-fits : TestsAreDue n (after n s e .table)
   unfolding after afterRound
   entry-fits k h =
       by-bool (roundOver n t′)
       (λ o. rw (o, reset-cells n t′ (acted-lines n s e ok takes .0) k h .untested) (omega arith)) (λ o. rw o (acted-fits k h))
 
 -- and so does a chain of them
-chain-fits : {n : ℕ} {s s′ : State} {xs : List Taken} → Chain n s xs s′ → Fits n (s .table) → Fits n (s′ .table)
+chain-fits : {n : ℕ} {s s′ : State} {xs : List Taken} → Chain n s xs s′ → TestsAreDue n (s .table) → TestsAreDue n (s′ .table)
 chain-fits done fits = fits
 chain-fits {n} (more {s} e ok takes c) fits = chain-fits c (entry-fits n s e ok takes fits)
 
@@ -138,7 +138,7 @@ module _ (n : ℕ) (s : State) (calls : List Call) (e : Entry) (given : TakenAft
   end-lines = acted-lines n u e ok (given .taken)
 
   -- at the start of a round no test is made
-  none-made : Fits n (s .table)
+  none-made : TestsAreDue n (s .table)
   unfolding atStart
   none-made i h =
       let line = every-at (lineAtStart n (s .table)) n i (given .start) h in
