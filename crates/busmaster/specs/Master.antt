@@ -17,6 +17,7 @@ use Rattle.plant.specs.Round.{resetLine, resetLines, afterRound}
 use Rattle.plant.specs.Entry.{stateOf, acted, after}
 use Rattle.granter.specs.Grant.{waits, firstFrom, following, granted, grantNumber, grantStation}
 use Rattle.granter.specs.Drive.{DriveOutcome, grantTurn, afterGrants, ended, stops, grantsMade, outcomeAfter, drive}
+use Rattle.lists.specs.Bytes.{joinedByte}
 
 -- one example: what the definitions give, and what is said
 pub record Example : Type 0 where
@@ -82,5 +83,5 @@ examples =
 
 -- each example holds
 pub as-said : map (λ (e : Example). e .given) examples ≡ map (λ (e : Example). e .said) examples
-unfolding examples twoWait oneWaits allDead twoFresh twoSuspecting drive outcomeAfter grantsMade stops ended afterGrants grantTurn grantNumber grantStation granted following firstFrom waits tableNumber shapeNumber isSize tableLength every lineRules rowRule someLive liveFinished cell lineStart row setRow setCell freshTable freshByte listOf after acted turn resetLine resetLines afterRound iterate nextTest makesTest finishPass countTest replies isTold exchangeRows suspect replyOutcome testOutcome afterOutcome selfOrSuspected isAlone afterAlone testing answer due first firstPlace least unsuspected member width level dimension distances union unionByte mark
+unfolding examples twoWait oneWaits allDead twoFresh twoSuspecting drive outcomeAfter grantsMade stops ended afterGrants grantTurn grantNumber grantStation granted following firstFrom waits tableNumber shapeNumber isSize tableLength every lineRules rowRule someLive liveFinished cell lineStart row setRow setCell freshTable freshByte listOf after acted turn resetLine resetLines afterRound iterate nextTest makesTest finishPass countTest replies isTold exchangeRows suspect replyOutcome testOutcome afterOutcome selfOrSuspected isAlone afterAlone testing answer due first firstPlace least unsuspected member width level dimension distances union unionByte joinedByte mark
 as-said = refl

@@ -3,9 +3,9 @@
 use granter::Driven;
 use granter::drive;
 use granter::grant;
+use lists::bytes;
 use plant::Tally;
 use plant::run;
-use station::rows;
 use table::fresh;
 
 const OUT: i32 = 1;
@@ -57,7 +57,7 @@ fn tally_line(tally: Tally) {
 
 // Whether two tables hold the same bytes.
 fn tables_line(first: &[u8], second: &[u8]) {
-    if rows::same_rows(first, second) {
+    if bytes::same_bytes(first, second) {
         io::write_all(OUT, b"the same table\n");
     }
 }

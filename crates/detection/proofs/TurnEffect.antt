@@ -20,6 +20,7 @@ use Rattle.turn.proofs.StepLines.{Lines, finishPass-lines, countTest-lines, sus
 use Rattle.turn.proofs.NextTest.{nextTest-low, not-due-before, test-below, test-station, none-due}
 use Rattle.lists.proofs.BoolLaws.{by-bool}
 use Rattle.turn.proofs.TurnHeads.{turn-heads}
+use Rattle.table.proofs.CellLaws.{TurnCounts, ClosingChanges}
 
 -- a table that obeys the line rules, with live set L, in which no live station suspects a live one
 pub record Plain (n : ℕ) (L : ℕ → Bool) (t : List ℕ) : Type 0 where

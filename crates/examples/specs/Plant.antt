@@ -18,9 +18,10 @@ use Rattle.lists.specs.Iterate.{iterate}
 use Rattle.turn.specs.Turn.{nextTest, makesTest, finishPass, countTest, replies, isTold, exchangeRows, suspect, replyOutcome, testOutcome, afterOutcome, selfOrSuspected, isAlone, afterAlone, testing, turn, turnTested, turnOutcome, crash}
 use Rattle.plant.specs.Round.{resetLine, resetLines, afterRound}
 use Rattle.plant.specs.Entry.{stateOf, entryNumber, acted, after, testedOf, outcomeOf, sheetLine}
-use Rattle.plant.specs.Run.{Outcome, entries, writeLine, goOn, startNumber, run}
+use Rattle.plant.specs.Run.{Outcome, entries, goOn, startNumber, run}
 use Rattle.lists.specs.Sums.{sum}
 use Rattle.detection.specs.Claim.{deadGroup, deadPairs, demandCount}
+use Rattle.lists.specs.Bytes.{joinedByte}
 
 -- one example: what the definitions give, and what is said
 pub record Example : Type 0 where
@@ -152,5 +153,5 @@ examples =
 
 -- each example holds
 pub as-said : map (λ (e : Example). e .given) examples ≡ map (λ (e : Example). e .said) examples
-unfolding examples fourBoards fourDead fourAndFiveDead fourDeadOfEleven zeroSuspectsOne stationTwoFinished testedTold aloneOfTwo aloneOfThree deadPairs deadGroup sum run startNumber tableNumber shapeNumber isSize tableLength every lineRules rowRule someLive liveFinished cell lineStart row setRow setCell freshTable freshByte listOf goOn entries writeLine entryNumber after acted sheetLine testedOf outcomeOf turn turnTested turnOutcome crash resetLine resetLines afterRound iterate nextTest makesTest finishPass countTest replies isTold exchangeRows suspect replyOutcome testOutcome afterOutcome selfOrSuspected isAlone afterAlone testing answer due dueDistances otherDistances assignmentEntries keep first firstPlace least unsuspected member width level dimension distances group fullGroup union unionByte mark
+unfolding examples fourBoards fourDead fourAndFiveDead fourDeadOfEleven zeroSuspectsOne stationTwoFinished testedTold aloneOfTwo aloneOfThree deadPairs deadGroup sum run startNumber tableNumber shapeNumber isSize tableLength every lineRules rowRule someLive liveFinished cell lineStart row setRow setCell freshTable freshByte listOf goOn entries entryNumber after acted sheetLine testedOf outcomeOf turn turnTested turnOutcome crash resetLine resetLines afterRound iterate nextTest makesTest finishPass countTest replies isTold exchangeRows suspect replyOutcome testOutcome afterOutcome selfOrSuspected isAlone afterAlone testing answer due dueDistances otherDistances assignmentEntries keep first firstPlace least unsuspected member width level dimension distances group fullGroup union unionByte joinedByte mark
 as-said = refl

@@ -17,7 +17,7 @@ use Rattle.table.specs.Rules.{roundOver}
 use Rattle.lists.proofs.BoolLaws.{by-bool, choice, every-same}
 use Rattle.lists.proofs.SearchLaws.{both, every-not}
 use Rattle.table.proofs.Accepting.{Accepted, accepted}
-use Rattle.table.proofs.CellLaws.{cell-same, cell-other, setCell-length, accepted-line}
+use Rattle.table.proofs.CellLaws.{cell-same, cell-other, setCell-length, accepted-line, ClosingChanges}
 use Rattle.turn.specs.Turn.{kindTurn, outcomeExchanged, outcomeTold, outcomeTestedTold, setStatus, nextTest, makesTest, countTest, replies, isTold, exchangeRows, replyOutcome, testOutcome, afterOutcome, selfOrSuspected, isAlone, afterAlone, testing, turn, turnTested, turnOutcome}
 use Rattle.plant.specs.Round.{afterRound}
 use Rattle.plant.specs.Entry.{Entry, State, isCrash, acted, after, testedOf, outcomeOf}

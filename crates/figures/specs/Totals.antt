@@ -17,10 +17,10 @@ unfoldable pub totalsOf : List ℕ → Totals
 totalsOf xs =
     record {
       count = length xs;
-      sum = batch.sum xs;
+      sum = batch.sumOfResults xs;
       squares = batch.sumOf (λ x. x * x) xs;
-      least = batch.least xs;
-      greatest = batch.greatest xs;
+      least = batch.leastResult xs;
+      greatest = batch.greatestResult xs;
     }
 
 -- the least or the greatest of two batches, of which one has m results and the value a, the other n and b: `both` is what a and b give

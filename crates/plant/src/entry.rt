@@ -13,8 +13,8 @@ use table::Station;
 use table::cells;
 use table::inside;
 use turn::codes;
-use turn::steps::Turned;
 use turn::steps;
+use turn::steps::Turned;
 
 // Refusals 7 to 11, or 0.
 pub(crate) fn entry_number(n: u8, table: &[u8], tally: Tally, kind: u8, i: Station) -> u8

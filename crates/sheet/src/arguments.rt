@@ -2,7 +2,7 @@
 ghost use Prim.Native.Nat.{_≤_};
 ghost use lib.ListN.{length};
 use libc::STDERR_FILENO;
-use station::rows;
+use lists::bytes;
 use table::sizes;
 
 // The sheet of so many boards, the table over all sizes, or nothing, where an argument is wrong.
@@ -26,7 +26,7 @@ pub fn read(row: &mut [u8]) -> Asked
     }
     let mut word = [0u8; 8];
     let length = os::arg(1, &mut word);
-    if rows::same_rows(&word[..length], b"--sizes") {
+    if bytes::same_bytes(&word[..length], b"--sizes") {
         return read_sizes(count);
     }
     read_sheet(number(&word[..length], 3), count, row)

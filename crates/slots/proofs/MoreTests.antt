@@ -28,6 +28,7 @@ use Rattle.slots.specs.Slots.{testsDue, testsWith, mostTests}
 use Rattle.slots.specs.Law.{Wider, NeverFewer, MostIsNoLess, MostCovers}
 use Rattle.slots.proofs.DigitLaws.{due-nobody}
 use Rattle.slots.proofs.Counts.{sum-le}
+use Rattle.lists.proofs.SearchLaws.{greatest-le}
 
 -- what is due stays due
 due-more : (r r′ : List ℕ) (i m : ℕ) → Wider r r′ i → due r i m ≡ true → due r′ i m ≡ true

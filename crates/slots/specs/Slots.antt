@@ -6,7 +6,7 @@ use mathlib.Core.Bool.{Bool, cond, not, _&&_}
 use mathlib.Core.List.{List, map}
 use lib.ListN.{length}
 use lib.Dec.{eqb}
-use Rattle.lists.specs.Search.{select}
+use Rattle.lists.specs.Search.{select, greatest}
 use Rattle.station.specs.Groups.{stationAt}
 use Rattle.table.specs.Sizes.{distances}
 use Rattle.station.specs.Tests.{answer, due, dueDistances}

@@ -21,7 +21,7 @@ use Rattle.lists.proofs.BoolLaws.{by-bool}
 use Rattle.lists.proofs.SearchLaws.{both, every-at}
 use Rattle.lists.proofs.SumLaws.{sum-split}
 use Rattle.table.proofs.Accepting.{Accepted, accepted}
-use Rattle.table.proofs.CellLaws.{cell-other, row-length, row-at, accepted-line}
+use Rattle.table.proofs.CellLaws.{cell-other, row-length, row-at, accepted-line, TurnCounts}
 use Rattle.station.proofs.UnionLaws.{mark-length}
 use Rattle.station.proofs.DueLaws.{unsuspected-at}
 use Rattle.station.proofs.EntryLaws.{unsuspected-below}

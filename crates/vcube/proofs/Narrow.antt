@@ -2,7 +2,7 @@
 -- byte: a plant has at most 64 stations and 6 levels, so that station 255 and all above meet refusal 9, and such a level 12, or an
 -- earlier one.
 -- Assumes nothing.
-use mathlib.Core.Path.{_≡_, sym, ap, _∙_}
+use mathlib.Core.Path.{_≡_, sym, ap, _∙_, refl}
 use mathlib.Core.Bool.{true, not, _||_}
 use mathlib.Core.List.{List}
 use Prim.Native.Nat.{ℕ, min, _≤_, _<_}
@@ -15,7 +15,7 @@ use Rattle.table.specs.Sizes.{isSize, dimension}
 use Rattle.station.specs.Groups.{group}
 use Rattle.lists.specs.Refusal.{refuse, _else_, unless}
 use Rattle.table.specs.Rules.{tableNumber, stationRefusal, lengthRefusal}
-use Rattle.station.specs.Calls.{groupNumber, groupAfter, rowNumber, assignmentNumber, assignmentAfter, assignmentCount}
+use Rattle.station.specs.Calls.{groupNumber, groupAfter, rowNumber, assignmentNumber, assignmentAfter, assignmentCount, memberNumber}
 use Rattle.lists.proofs.RefusalLaws.{else-first, else-same, else-not, refuse-zero, unless-refused}
 use Rattle.table.proofs.Accepting.{accepted}
 use Rattle.table.proofs.SizeLaws.{size-bounds, size-dimension}
@@ -89,15 +89,18 @@ module _ (n : ℕ) where
   unsized = refuse 1 (not (isSize n))
 
   group-far : (s len x : ℕ) → 255 ≤ x → groupNumber n x s len ≡ (unsized else 9)
-  unfolding groupNumber
+  unfolding groupNumber memberNumber
   group-far s len x h = else-same _ _ _ (λ z. rw (station-far n x (sized n z) h))
 
   level-far : (i len s : ℕ) → 255 ≤ s → groupNumber n i s len ≡ (unsized else stationRefusal n i else 12)
-  unfolding groupNumber
-  level-far i len s h = else-same unsized _ _ (λ z. else-same (stationRefusal n i) _ _ (λ y. last (sized n z)))
+  unfolding groupNumber memberNumber
+  level-far i len s h = else-same unsized _ _ (λ z. rw (twelve (sized n z)) (sym (else-first _ _ (lengthRefusal (length (group n i s)) len) refl met)))
     where
-      last : isSize n ≡ true → (refuse 12 (eqb s 0 || ltb (dimension n) s) else lengthRefusal (length (group n i s)) len) ≡ 12
-      last e = rw (ne-eqb s 0 (omega arith), lt-ltb (dimension n) s (omega (arith, size-dimension n e)))
+      twelve : isSize n ≡ true → refuse 12 (eqb s 0 || ltb (dimension n) s) ≡ 12
+      twelve e = rw (ne-eqb s 0 (omega arith), lt-ltb (dimension n) s (omega (arith, size-dimension n e)))
+
+      met : ¬ ((stationRefusal n i else 12) ≡ 0)
+      met = else-not (stationRefusal n i) 12 (λ z. omega arith)
 
   module _ (i s i′ s′ : ℕ) (e : i′ ≡ min i 255) (f : s′ ≡ min s 255) where
     pub group-number-narrow : (len : ℕ) → groupNumber n i′ s′ len ≡ groupNumber n i s len

@@ -15,16 +15,17 @@ use Rattle.lists.specs.Iterate.{iterate}
 use Rattle.turn.specs.Turn.{nextTest, makesTest, finishPass, countTest, replies, isTold, exchangeRows, suspect, replyOutcome, testOutcome, afterOutcome, selfOrSuspected, isAlone, afterAlone, testing, turn, turnTested, turnOutcome, crash}
 use Rattle.plant.specs.Round.{resetLine, resetLines, afterRound}
 use Rattle.plant.specs.Entry.{entryNumber, acted, after, testedOf, outcomeOf, sheetLine}
-use Rattle.plant.specs.Run.{entries, writeLine, goOn, startNumber, run}
+use Rattle.plant.specs.Run.{entries, goOn, startNumber, run}
 use Rattle.lists.specs.Sums.{sum}
 use Rattle.detection.specs.Runs.{Call, afterRuns, takenFrom, takenIn, takenAll}
 use Rattle.detection.specs.Rounds.{anyTaken, allTaken, countTaken, closes, cut}
 use Rattle.table.specs.Properties.{atStart, liveCount, noneSuspected}
 use Rattle.detection.specs.Claim.{deadGroup, deadPairs}
+use Rattle.lists.specs.Bytes.{joinedByte}
 
 -- who unfolds this name unfolds all the definitions on its line, and a list of runs computes
 unfoldable pub wholeRun : Unit {0}
-unfolding atStart liveCount noneSuspected deadPairs deadGroup sum afterRuns takenFrom takenIn takenAll anyTaken allTaken countTaken closes cut run startNumber tableNumber shapeNumber isSize tableLength every lineRules rowRule someLive liveFinished cell lineStart row setRow setCell freshTable freshByte listOf goOn entries writeLine entryNumber after acted sheetLine testedOf outcomeOf turn turnTested turnOutcome crash resetLine resetLines afterRound iterate nextTest makesTest finishPass countTest replies isTold exchangeRows suspect replyOutcome testOutcome afterOutcome selfOrSuspected isAlone afterAlone testing answer due first firstPlace least unsuspected member width level dimension distances union unionByte mark
+unfolding atStart liveCount noneSuspected deadPairs deadGroup sum afterRuns takenFrom takenIn takenAll anyTaken allTaken countTaken closes cut run startNumber tableNumber shapeNumber isSize tableLength every lineRules rowRule someLive liveFinished cell lineStart row setRow setCell freshTable freshByte listOf goOn entries entryNumber after acted sheetLine testedOf outcomeOf turn turnTested turnOutcome crash resetLine resetLines afterRound iterate nextTest makesTest finishPass countTest replies isTold exchangeRows suspect replyOutcome testOutcome afterOutcome selfOrSuspected isAlone afterAlone testing answer due first firstPlace least unsuspected member width level dimension distances union unionByte joinedByte mark
 wholeRun = tt
 
 -- a schedule of turns of the stations listed

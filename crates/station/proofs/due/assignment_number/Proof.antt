@@ -30,7 +30,7 @@ returns-2 c =
     (cc)
 
 pub assignment-number-spec : {M : Type 1} → statement M
-assignment-number-spec = 
+assignment-number-spec =
     tie.close
     (tie.spec
     (λ c κs. search needs)
