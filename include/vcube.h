@@ -1,8 +1,7 @@
 /* The vCube watch for C and C++: the calls of the document "The vCube watch on a gin's plant cable" (document 01), with the sizes of
  * request C-11 of document 02, the tested station that hears it too, its request C-13, and the assignment that says who stands ahead, its
  * request C-16; the bus master that grants the turns, its request C-15; and the figures over a season's trials, its request C-12. The
- * library behind them (crates/vcube, crates/granter, crates/plant, crates/station, crates/figures) is proved in Rattle to do what its
- * definitions say; this header and the compiler's back end are not part of the proof.
+ * library behind them (crates/vcube and the crates that it uses, docs/LAYERS.md) is proved in Rattle to do what its definitions say; this header and the compiler's back end are not part of the proof.
  *
  * Build the archive with `rt staticlib vcube` and link target/staticlib/libvcube.a (x86-64 Linux), or install it by bindings/c/install.
  *
@@ -157,7 +156,7 @@ uint8_t vcube_assignment(size_t n, const uint8_t *table, size_t table_length, si
 uint8_t vcube_row(size_t n, const uint8_t *table, size_t table_length, size_t station, size_t *start, size_t *length);
 
 /* Run: takes the entries of a schedule in order. An entry is two bytes: kind (enum vcube_kind) and station. What an entry does is steps 1
- * to 8 of document 01, with request C-13 in place of step 4, as definitions in crates/plant/specs/Turn.antt and Entry.antt.
+ * to 8 of document 01, with request C-13 in place of step 4, as definitions in crates/turn/specs/Turn.antt and crates/plant/specs.
  *
  * For each entry taken four bytes of the sheet are written: the station, the station it tested or VCUBE_NO_STATION, the outcome (enum
  * vcube_outcome), and the status after the entry of the station in byte 0 (enum vcube_status). Where the outcome is

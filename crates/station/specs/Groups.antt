@@ -1,4 +1,4 @@
--- Document 01, "What the watch covers" and "Groups by distance", with request C-11 of document 02. A group is the papers' cluster.
+-- Document 01, "Groups by distance", with request C-11 of document 02. A group is the papers' cluster.
 -- Assumes nothing.
 use Prim.Native.Nat.{ℕ, zero, suc, _+_, _^_}
 use mathlib.Core.Bool.{Bool}

@@ -1,6 +1,5 @@
 // Rows: handed back as a part of the lent table, joined and marked (document 01, steps 4 and 5).
 ghost use mathlib.Core.Path.{_≡_};
-ghost use lib.ListN.{length};
 ghost use Rattle.station.specs.Rows.{union, mark};
 ghost use Rattle.station.specs.Calls.{rowNumber, rowPart};
 use lists::bytes;

@@ -1,4 +1,4 @@
--- Laws of the level of a distance, the width of a group and the dimension, of specs/Groups.
+-- Laws of the level of a distance and of d, of specs/Sizes, and of a 1 shifted by some places.
 -- Assumes nothing.
 use mathlib.Core.Path.{_≡_, refl}
 use mathlib.Core.Logic.{_⊎_, inl, inr}

@@ -1,4 +1,4 @@
--- Document 01, the line rules of "The lent table", and refusals 1 to 4 of the refusal list.
+-- Document 01, the line rules of "The lent table", and refusals 1 to 4 of the refusal list; 9 and 13, which several calls have.
 -- Assumes nothing.
 use Prim.Native.Nat.{ℕ, _-_}
 use mathlib.Core.Bool.{Bool, not, _&&_, _||_}

@@ -56,7 +56,7 @@ testsColumn = 3
 abbrev pub status : ℕ → List ℕ → ℕ → ℕ
 status n t i = cell n t i statusColumn
 
--- the statuses of a station that is not live: 1 crashed, 2 left because told, 3 left because alone
+-- these statuses by name; 0 is asked by `live`
 abbrev pub statusCrashed : ℕ
 statusCrashed = 1
 

@@ -1,5 +1,5 @@
 // Bytes and rows of a table that are known to lie inside it: no test of the place is made, so these functions have a `requires`. They
-// are meant for this crate and `plant`, which has checked the table.
+// are meant for callers that have checked the table.
 ghost use mathlib.Core.Path.{_≡_};
 ghost use Prim.Native.Nat.{_<_};
 ghost use lib.ListN.{length};

@@ -1,4 +1,4 @@
--- What each cell of the table is after each step of document 01, steps 2 to 8.
+-- What each cell of the table is after each of steps 2 to 5 of document 01.
 -- Assumes nothing.
 use mathlib.Core.Path.{_≡_, sym, _∙_}
 use mathlib.Core.Logic.{_≢_}

@@ -1,4 +1,4 @@
--- Each step of document 01, steps 2 to 8, keeps the line rules of every line.
+-- Each of steps 2 to 6 of document 01 keeps the line rules of every line.
 -- Assumes nothing.
 use mathlib.Core.Path.{_≡_, refl, sym, _∙_}
 use mathlib.Core.Logic.{_≢_}

@@ -1,4 +1,4 @@
--- Document 01, steps 2 to 8 of "What an entry does", with step 4 as request C-13 has it, as functions of the table. Station i is the
+-- Document 01, steps 2 to 7 of "What an entry does", with step 4 as request C-13 has it, as functions of the table. Station i is the
 -- entry's, kind its kind, j the tested station.
 -- Assumes nothing.
 use Prim.Native.Nat.{ℕ, _+_, _-_}
