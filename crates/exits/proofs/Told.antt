@@ -28,7 +28,7 @@ use Rattle.turn.proofs.StepLines.{Lines, countTest-lines, station-apart}
 use Rattle.plant.proofs.RulesKept.{Takes, entry-facts}
 use Rattle.exits.specs.Exits.{Replied, SameRows, RowsJoined, NeitherSuspects, TestedHears}
 
--- steps 6 and 8 write bytes 1 to 3, and the status of i if it is alone
+-- step 6 writes the status of i if it is alone, step 8 the columns that closing a round changes
 module _ (n i : ℕ) (v : List ℕ) where
   abbrev later : List ℕ
   later = afterRound n (afterAlone n v i)

@@ -25,13 +25,13 @@ abbrev pub Grows : ℕ → List ℕ → List ℕ → Type 0
 Grows n t t′ = (k y : ℕ) → k < n → y < n → suspects n t k y ≤ suspects n t′ k y
 
 -- where no row changes
-abbrev SameRows : ℕ → List ℕ → List ℕ → Type 0
-SameRows n t t′ = (k y : ℕ) → y < n → suspects n t′ k y ≡ suspects n t k y
+abbrev RowsStay : ℕ → List ℕ → List ℕ → Type 0
+RowsStay n t t′ = (k y : ℕ) → y < n → suspects n t′ k y ≡ suspects n t k y
 
-left-rows : (n : ℕ) (t : List ℕ) (i s : ℕ) → SameRows n t (setStatus n t i s)
+left-rows : (n : ℕ) (t : List ℕ) (i s : ℕ) → RowsStay n t (setStatus n t i s)
 left-rows n t i s k y h = cell-other n t i statusColumn s k (head + y) (omega arith) (omega arith) (λ _. omega arith)
 
-same-grows : (n : ℕ) (t t′ : List ℕ) → SameRows n t t′ → Grows n t t′
+same-grows : (n : ℕ) (t t′ : List ℕ) → RowsStay n t t′ → Grows n t t′
 same-grows n t t′ same k y hk hy = omega (arith, same k y hy)
 
 -- the test of j; a row has bytes of at most 1
@@ -64,7 +64,7 @@ turn-grows n t kind i lines h =
     t₁ : List ℕ
     t₁ = countTest n t i m
 
-    counted : SameRows n t t₁
+    counted : RowsStay n t t₁
     counted k y hy = countTest-other n t i m k (head + y) (omega arith) (λ q. omega arith)
 
     tests : makesTest n t i ≡ true → Grows n t (testing n t kind i m)

@@ -1,4 +1,4 @@
--- What every turn of any station in an accepted table does to bytes 1 to 3 of the lines, whoever suspects whom and whatever its outcome.
+-- What every turn of any station in an accepted table does to the columns that it counts in, whoever suspects whom and whatever its outcome.
 -- Assumes nothing.
 use mathlib.Core.Path.{_≡_, refl, sym, _∙_, ap, ap₂}
 use mathlib.Core.Logic.{_≢_}
@@ -23,7 +23,7 @@ use Rattle.lists.specs.Sums.{sum, bit}
 use Rattle.lists.proofs.BoolLaws.{by-bool, choice}
 use Rattle.lists.proofs.KeepLaws.{kept-suc, kept-stays, kept-sum}
 
--- bytes 1 to 3 of all lines are as before
+-- the columns that a turn counts in are as before, in all lines
 abbrev SameCounts : ℕ → List ℕ → List ℕ → Type 0
 SameCounts n t t′ = (k c : ℕ) → TurnCounts c → cell n t′ k c ≡ cell n t k c
 
