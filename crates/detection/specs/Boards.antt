@@ -33,7 +33,8 @@ unfoldable pub firstTable : List Taken → List ℕ
 firstTable [] = []
 firstTable (x ∷ xs) = x .before .table
 
--- in the kth closed round (from 0) each live board tests, in this order, the boards at the distances that are due by that row, and no other
+-- in the kth closed round (from 0) each live board tests, in this order, the boards at the distances that are due by the row
+-- that suspects exactly the boards that are not live, and no other
 abbrev pub TestsJustDue : ℕ → State → List Call → ℕ → Type 0
 TestsJustDue n s calls k =
     (i : ℕ) → i < n → live n (s .table) i ≡ true

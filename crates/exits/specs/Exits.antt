@@ -13,7 +13,7 @@ use Rattle.turn.specs.Turn.{outcomeExchanged, outcomeTold, outcomeTestedTold, r
 use Rattle.plant.specs.Entry.{Entry, State, isTest, entryNumber, after, testedOf, outcomeOf}
 
 -- a taken entry whose test has a reply. At every entry that a run reaches, refusals 1 to 4 let its table through (`accepted-kept` of
--- plant's proofs/Kept.antt)
+-- plant's proofs/RulesKept.antt)
 pub record Replied (n : ℕ) (s : State) (e : Entry) : Type 0 where
   pub shape : tableNumber n (s .table) ≡ 0
   pub taken : entryNumber n s e ≡ 0

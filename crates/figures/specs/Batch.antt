@@ -25,12 +25,12 @@ reduce op (x ∷ []) = x
 reduce op (x ∷ y ∷ ys) = op x (reduce op (y ∷ ys))
 
 -- the least result
-abbrev pub leastResult : List ℕ → ℕ
-leastResult xs = reduce min xs
+abbrev pub leastOfResults : List ℕ → ℕ
+leastOfResults xs = reduce min xs
 
 -- the greatest result
-abbrev pub greatestResult : List ℕ → ℕ
-greatestResult xs = reduce max xs
+abbrev pub greatestOfResults : List ℕ → ℕ
+greatestOfResults xs = reduce max xs
 
 -- the mean: the sum by the count
 unfoldable pub mean : List ℕ → Fraction
@@ -77,8 +77,8 @@ figures xs =
     (record {
       number = 0;
       count = length xs;
-      least = leastResult xs;
-      greatest = greatestResult xs;
+      least = leastOfResults xs;
+      greatest = greatestOfResults xs;
       mean = mean xs;
       variance = variance xs;
     })

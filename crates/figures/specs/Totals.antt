@@ -19,8 +19,8 @@ totalsOf xs =
       count = length xs;
       sum = batch.sumOfResults xs;
       squares = batch.sumOf (λ x. x * x) xs;
-      least = batch.leastResult xs;
-      greatest = batch.greatestResult xs;
+      least = batch.leastOfResults xs;
+      greatest = batch.greatestOfResults xs;
     }
 
 -- the least or the greatest of two batches, of which one has m results and the value a, the other n and b: `both` is what a and b give

@@ -14,18 +14,18 @@ use lib.Dec.{eqb}
 use lib.ListN.{length, getD, drop, List·getD-eq-default}
 use lib.Seq.{sets, ext-getD}
 use Rattle.lists.specs.Search.{every, listOf}
-use Rattle.lists.specs.Bytes.{joinedByte, joined, joinedInto, sameByte, sameBytes}
+use Rattle.lists.specs.Bytes.{joinedByte, joinedBytes, withJoined, sameByte, sameBytes}
 use Rattle.lists.proofs.SearchLaws.{both, every-at, listOf-length, listOf-at}
 use Rattle.lists.proofs.Xor.{xor-zero-eq}
 use Rattle.lists.proofs.Writing.{sets-front}
 use Rattle.lists.proofs.Loops.{fill-rest}
 
-pub joined-length : (a b : List ℕ) → length (joined a b) ≡ length a
-unfolding joined
+pub joined-length : (a b : List ℕ) → length (joinedBytes a b) ≡ length a
+unfolding joinedBytes
 joined-length a b = listOf-length (joinedByte a b) (length a)
 
-pub joined-at : (a b : List ℕ) (k : ℕ) → k < length a → getD (joined a b) k 0 ≡ joinedByte a b k
-unfolding joined
+pub joined-at : (a b : List ℕ) (k : ℕ) → k < length a → getD (joinedBytes a b) k 0 ≡ joinedByte a b k
+unfolding joinedBytes
 joined-at a b k h = listOf-at (joinedByte a b) (length a) k h
 
 -- the greater byte, where x is the byte of the first list
@@ -34,31 +34,31 @@ unfolding joinedByte
 joined-byte a b k x v e f = rw e at f
 
 -- past the other list's end the bytes stay as they are
-pub joined-filled : (a b : List ℕ) (k : ℕ) (t : List ℕ) → t ≡ sets a 0 (listOf (joinedByte a b) k) → k ≡ min (length a) (length b) → t ≡ joined a b
-unfolding joined joinedByte
+pub joined-filled : (a b : List ℕ) (k : ℕ) (t : List ℕ) → t ≡ sets a 0 (listOf (joinedByte a b) k) → k ≡ min (length a) (length b) → t ≡ joinedBytes a b
+unfolding joinedBytes joinedByte
 joined-filled a b k t e m =
     fill-rest (joinedByte a b) k a t e (omega arith)
     (λ y lo hi. let z : getD b y 0 ≡ 0 = List·getD-eq-default b 0 (omega arith) in omega arith)
 
 -- both into a buffer
-pub into-apart : (a b out : List ℕ) → (length a ≡ length b → ⊥) → out ≡ joinedInto a b out
-unfolding joinedInto
+pub into-apart : (a b out : List ℕ) → (length a ≡ length b → ⊥) → out ≡ withJoined a b out
+unfolding withJoined
 into-apart a b out h = rw (ne-eqb (length a) (length b) h)
 
-pub into-short : (a b out : List ℕ) → length a ≡ length b → length out < length a → out ≡ joinedInto a b out
-unfolding joinedInto
+pub into-short : (a b out : List ℕ) → length a ≡ length b → length out < length a → out ≡ withJoined a b out
+unfolding withJoined
 into-short a b out e h = rw (eq-eqb (length a) (length b) e, lt-leb (length a) (length out) h)
 
-into-is : (a b out : List ℕ) → length a ≡ length b → length a ≤ length out → joinedInto a b out ≡ sets out 0 (joined a b)
-unfolding joinedInto
+into-is : (a b out : List ℕ) → length a ≡ length b → length a ≤ length out → withJoined a b out ≡ sets out 0 (joinedBytes a b)
+unfolding withJoined
 into-is a b out e h = rw (eq-eqb (length a) (length b) e, le-leb (length a) (length out) h)
 
-pub into-fits : (a b out : List ℕ) → length a ≡ length b → length a ≤ length out → joinedInto a b out ≡ joined a b ++ drop (length (joined a b)) out
-into-fits a b out e h = into-is a b out e h ∙ sets-front out (joined a b) (omega (arith, joined-length a b))
+pub into-fits : (a b out : List ℕ) → length a ≡ length b → length a ≤ length out → withJoined a b out ≡ joinedBytes a b ++ drop (length (joinedBytes a b)) out
+into-fits a b out e h = into-is a b out e h ∙ sets-front out (joinedBytes a b) (omega (arith, joined-length a b))
 
 pub into-filled : (a b out : List ℕ) (k : ℕ) (t : List ℕ) → length a ≡ length b → length a ≤ length out → t ≡ sets out 0 (listOf (joinedByte a b) k)
-    → k ≤ length a → length a ≤ k → t ≡ joinedInto a b out
-unfolding joined
+    → k ≤ length a → length a ≤ k → t ≡ withJoined a b out
+unfolding joinedBytes
 into-filled a b out k t e h f l m = let x : k ≡ length a = omega arith in f ∙ rw x (sym (into-is a b out e h))
 
 -- the greatest exclusive or of two bytes so far is 0 as long as all were the same

@@ -13,12 +13,12 @@ unfoldable pub joinedByte : List ℕ → List ℕ → ℕ → ℕ
 joinedByte a b k = max (getD a k 0) (getD b k 0)
 
 -- list a with the greater byte at each of its places
-unfoldable pub joined : List ℕ → List ℕ → List ℕ
-joined a b = listOf (joinedByte a b) (length a)
+unfoldable pub joinedBytes : List ℕ → List ℕ → List ℕ
+joinedBytes a b = listOf (joinedByte a b) (length a)
 
 -- the same at the front of a buffer, for two lists of one length and a buffer with room for them; otherwise the buffer as it was
-unfoldable pub joinedInto : List ℕ → List ℕ → List ℕ → List ℕ
-joinedInto a b out = cond (eqb (length a) (length b) && leb (length a) (length out)) (sets out 0 (joined a b)) out
+unfoldable pub withJoined : List ℕ → List ℕ → List ℕ → List ℕ
+withJoined a b out = cond (eqb (length a) (length b) && leb (length a) (length out)) (sets out 0 (joinedBytes a b)) out
 
 -- whether two lists hold the same byte at place k
 unfoldable pub sameByte : List ℕ → List ℕ → ℕ → Bool

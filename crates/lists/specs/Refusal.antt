@@ -1,4 +1,4 @@
--- Document 01's refusals as numbers: the first that applies, and what a refused call leaves or answers instead.
+-- Refusals as numbers, 0 for none: the first that applies, and what a refused call leaves or answers instead.
 -- Assumes nothing.
 use Prim.Native.Nat.{ℕ, zero, suc}
 use mathlib.Core.Bool.{Bool, cond}

@@ -1,8 +1,8 @@
-// Bytes: the greater and the lesser of two, a byte put into a list, and two lists place by place.
+// Bytes: the greater of two, a byte put into a list, and two lists place by place.
 ghost use mathlib.Core.Path.{_≡_};
 ghost use Prim.Native.Nat.{min, max};
 ghost use lib.ListN.{set};
-ghost use Rattle.lists.specs.Bytes.{joined, joinedInto, sameBytes};
+ghost use Rattle.lists.specs.Bytes.{joinedBytes, withJoined, sameBytes};
 
 // The greater of two bytes.
 pub fn greater(a: u8, b: u8) -> u8
@@ -12,7 +12,7 @@ pub fn greater(a: u8, b: u8) -> u8
 }
 
 // The lesser of two lengths.
-pub fn lesser(a: usize, b: usize) -> usize
+fn lesser(a: usize, b: usize) -> usize
     ensures { λ r. ⌜ r ≡ min a b ⌝ }
 {
     if a < b { a } else { b }
@@ -29,8 +29,8 @@ pub fn put(list: &mut [u8], k: u8, byte: u8)
 }
 
 // The greater byte at each place of the first list.
-pub fn join(list: &mut [u8], other: &[u8])
-    ensures { λ _. ⌜ now (list .exit) ≡ joined (now (list .entry)) (now (other .entry)) ⌝ }
+pub fn join_bytes(list: &mut [u8], other: &[u8])
+    ensures { λ _. ⌜ now (list .exit) ≡ joinedBytes (now (list .entry)) (now (other .entry)) ⌝ }
 {
     let end = lesser(list.len(), other.len());
     let mut k: usize = 0;
@@ -42,7 +42,7 @@ pub fn join(list: &mut [u8], other: &[u8])
 
 // Writes the greater bytes of two lists to the front of a buffer. Lists of two lengths, or a buffer without room: nothing.
 pub fn write_joined(list: &[u8], other: &[u8], out: &mut [u8])
-    ensures { λ _. ⌜ now (out .exit) ≡ joinedInto (now (list .entry)) (now (other .entry)) (now (out .entry)) ⌝ }
+    ensures { λ _. ⌜ now (out .exit) ≡ withJoined (now (list .entry)) (now (other .entry)) (now (out .entry)) ⌝ }
 {
     if list.len() != other.len() {
         return;

@@ -26,8 +26,8 @@ abbrev pub SomebodyFirst : Type 0
 SomebodyFirst =
     (r : List ℕ) (i m : ℕ) → unsuspected r i ≡ true → 0 < m → (x : ℕ) × (first (unsuspected r) (stationAt i m) (level m) ≡ some x)
 
--- so who stands before i at distance m does so at all distances up to m with its digits below the highest one of e all 1, where e is its distance
--- from i. This is shown, and not used by the code
+-- who stands before i at distance m does so (by `BeforeByDigits`) at all distances up to m with its digits below the highest one of e all 1, where e
+-- is its distance from i. This is shown, and not used by the code
 unfoldable pub upTo : ℕ → ℕ → ℕ
 upTo m e = bitOr m (width (level e) - 1)
 

@@ -1,4 +1,4 @@
--- Who stands ahead (specs/Ahead): by binary digits, up to which distance, and that somebody is always first.
+-- Who stands before a station in a group (specs/Ahead): by binary digits, up to which distance, and when a distance is due.
 -- Assumes nothing.
 use mathlib.Core.Path.{_≡_, sym, ap, _∙_, refl}
 use mathlib.Core.Logic.{by-cases}

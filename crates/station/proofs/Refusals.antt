@@ -1,4 +1,4 @@
--- Laws of the refusal numbers: what a number of 0 says, and which number stands where a test fails.
+-- What a group list, a row or an assignment has that is not refused.
 -- Assumes nothing.
 use mathlib.Core.Path.{_≡_}
 use mathlib.Core.Bool.{true}
@@ -10,15 +10,15 @@ use lib.ListN.{length}
 use Rattle.table.specs.Sizes.{isSize, dimension}
 use Rattle.station.specs.Groups.{group}
 use Rattle.table.specs.Table.{live}
-use Rattle.station.specs.Calls.{rowNumber, memberNumber, groupNumber, assignmentNumber}
+use Rattle.station.specs.Calls.{rowNumber, rangeNumber, groupNumber, assignmentNumber}
 use Rattle.lists.proofs.BoolLaws.{neither}
 use Rattle.lists.proofs.RefusalLaws.{else-zero, refuse-zero}
 use Rattle.table.proofs.Accepting.{Accepted, accepted}
 
 -- what a group list has that its station and level do not refuse
-pub member-zero : (n i s : ℕ) → memberNumber n i s ≡ 0 → (i < n) × (0 < s) × (s ≤ dimension n)
-unfolding memberNumber
-member-zero n i s e =
+pub range-zero : (n i s : ℕ) → rangeNumber n i s ≡ 0 → (i < n) × (0 < s) × (s ≤ dimension n)
+unfolding rangeNumber
+range-zero n i s e =
     let q = else-zero _ _ e in
     let l = neither _ _ (refuse-zero 11 _ (q .1)) in
     let z : ¬ (s ≡ 0) = eqb-false s 0 (l .0) in
@@ -31,7 +31,7 @@ unfolding groupNumber
 group-zero n i s len e =
     let p = else-zero _ _ e in
     let q = else-zero _ _ (p .1) in
-    (not-false _ (refuse-zero 0 _ (p .0)), member-zero n i s (q .0), eqb-true len (length (group n i s)) (not-false _ (refuse-zero 12 _ (q .1))))
+    (not-false _ (refuse-zero 0 _ (p .0)), range-zero n i s (q .0), eqb-true len (length (group n i s)) (not-false _ (refuse-zero 12 _ (q .1))))
 
 pub row-zero : (n : ℕ) (t : List ℕ) (i : ℕ) → rowNumber n t i ≡ 0 → Accepted n t × (i < n)
 unfolding rowNumber

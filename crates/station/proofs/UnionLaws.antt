@@ -9,7 +9,7 @@ use native.Mathlib.Omega.{arith}
 use borrow.Author.Tests.{eq-eqb, ne-eqb}
 use lib.ListN.{length, getD, set, length-set}
 use lib.Seq.{getD-set-same, getD-set-other, ext-getD}
-use Rattle.lists.specs.Bytes.{joinedByte, joined}
+use Rattle.lists.specs.Bytes.{joinedByte, joinedBytes}
 use Rattle.lists.proofs.SearchLaws.{listOf-length, listOf-at, listOf-same}
 use Rattle.lists.proofs.ByteLaws.{joined-length, joined-at}
 use Rattle.station.specs.Rows.{unionByte, union, mark}
@@ -32,7 +32,7 @@ unfolding unionByte
 union-others r o own k apart = rw (ne-eqb k own apart)
 
 -- all bytes joined, and the byte of the row's own station put back
-pub union-kept : (r o t : List ℕ) (own : ℕ) → t ≡ joined r o → own < length r → set t own (getD r own 0) ≡ union r o own
+pub union-kept : (r o t : List ℕ) (own : ℕ) → t ≡ joinedBytes r o → own < length r → set t own (getD r own 0) ≡ union r o own
 union-kept r o t own e h =
     ext-getD 0 (set t own (getD r own 0)) (union r o own) (length-set t own (getD r own 0) ∙ long ∙ sym (union-length r o own))
     (λ k l. let hk : k < length r = subst (λ (x : ℕ). k < x) (length-set t own (getD r own 0) ∙ long) l in at k hk (ℕ-discrete k own) ∙ sym (union-at r o own k hk))
@@ -46,8 +46,8 @@ union-kept r o t own e h =
         getD-set-other t own k (getD r own 0) 0 d ∙ ap (λ (x : List ℕ). getD x k 0) e ∙ joined-at r o k hk ∙ sym (union-others r o own k d)
 
 -- a station whose own byte is not in the row
-pub union-beyond : (r o t : List ℕ) (own : ℕ) → t ≡ joined r o → length r ≤ own → t ≡ union r o own
-unfolding union joined
+pub union-beyond : (r o t : List ℕ) (own : ℕ) → t ≡ joinedBytes r o → length r ≤ own → t ≡ union r o own
+unfolding union joinedBytes
 union-beyond r o t own e h = e ∙ listOf-same _ _ (length r) (λ k l. sym (union-others r o own k (λ q. omega arith)))
 
 pub mark-length : (r : List ℕ) (j : ℕ) → length (mark r j) ≡ length r

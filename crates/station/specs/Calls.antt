@@ -1,4 +1,4 @@
--- Document 01, "What can be asked", all but the run, with requests C-11 and C-16 of document 02: the number, the figures and the bytes that each
+-- Document 01, "What can be asked", all but the fresh table and the run, with requests C-11 and C-16 of document 02: the number, the figures and the bytes that each
 -- call gives, for all inputs.
 -- Assumes nothing.
 use Prim.Native.Nat.{ℕ, _*_, _-_}
@@ -29,13 +29,13 @@ abbrev pub answerValue : DueOrAhead → DueAnswer
 answerValue Due = answerDue
 answerValue (Ahead x) = answerAhead (x .0)
 
--- refusals 9 and 12: "The level is 0 or above d."
-unfoldable pub memberNumber : ℕ → ℕ → ℕ → ℕ
-memberNumber n i s = stationRefusal n i else refuse 12 (eqb s 0 || ltb (dimension n) s)
+-- refusals 9 and 12, station and level in their ranges: "The level is 0 or above d."
+unfoldable pub rangeNumber : ℕ → ℕ → ℕ → ℕ
+rangeNumber n i s = stationRefusal n i else refuse 12 (eqb s 0 || ltb (dimension n) s)
 
 -- Group list: refusals 1, 9, 12, 13. C-11: "number 13 uses the group's remaining length"
 unfoldable pub groupNumber : ℕ → ℕ → ℕ → ℕ → ℕ
-groupNumber n i s len = refuse 1 (not (isSize n)) else memberNumber n i s else lengthRefusal (length (group n i s)) len
+groupNumber n i s len = refuse 1 (not (isSize n)) else rangeNumber n i s else lengthRefusal (length (group n i s)) len
 
 -- "the 2^(s−1) members in order, into a lent list of just that length"; C-11: "the members that remain, which may be 0"
 unfoldable pub groupAfter : ℕ → ℕ → ℕ → List ℕ → List ℕ

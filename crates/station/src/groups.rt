@@ -1,10 +1,10 @@
-// Sizes, levels and groups (document 01, "Groups by distance"; request C-11).
+// Groups (document 01, "Groups by distance"; request C-11).
 ghost use mathlib.Core.Path.{_≡_};
 ghost use Prim.Native.Nat.{_+_, _<_, _≤_};
 ghost use mathlib.Core.Bool.{cond};
 ghost use lib.ListN.{length, set};
 ghost use Rattle.station.specs.Groups.{isPresent, width, group};
-ghost use Rattle.station.specs.Calls.{memberNumber, groupNumber, groupAfter};
+ghost use Rattle.station.specs.Calls.{rangeNumber, groupNumber, groupAfter};
 use crate::order;
 use lists::bytes;
 use lists::refusal;
@@ -42,7 +42,7 @@ fn group_number(n: usize, i: Station, s: Level, len: usize) -> u8
     if !sizes::is_size(n) {
         return 1;
     }
-    let number = member_number(n as u8, i, s);
+    let number = range_number(n as u8, i, s);
     if number != 0 {
         return number;
     }
@@ -51,8 +51,8 @@ fn group_number(n: usize, i: Station, s: Level, len: usize) -> u8
 }
 
 // Refusals 9 and 12, or 0.
-fn member_number(n: u8, i: Station, s: Level) -> u8
-    ensures { λ r. ⌜ r ≡ memberNumber n (i .0) (s .0) ⌝ }
+fn range_number(n: u8, i: Station, s: Level) -> u8
+    ensures { λ r. ⌜ r ≡ rangeNumber n (i .0) (s .0) ⌝ }
 {
     let nine = refusal::refuse(9, n <= i.0);
     let d = sizes::dimension_of(n);

@@ -35,11 +35,11 @@ pub fn join_row(row: &mut [u8], other: &[u8], own: Station)
 {
     let of = own.0 as usize;
     if row.len() <= of {
-        bytes::join(row, other);
+        bytes::join_bytes(row, other);
         return;
     }
     let kept = row[of];
-    bytes::join(row, other);
+    bytes::join_bytes(row, other);
     row[of] = kept;
 }
 

@@ -60,7 +60,7 @@ pub fn row_start(n: u8, i: Station) -> usize
 }
 
 // Byte c of line i; 0 past the table's end.
-pub fn get_cell(n: u8, table: &[u8], i: Station, c: u16) -> u8
+pub(crate) fn get_cell(n: u8, table: &[u8], i: Station, c: u16) -> u8
     ensures { λ r. ⌜ r ≡ cell n (now (table .entry)) (i .0) c ⌝ }
 {
     let at = line_start(n, i) + c as usize;

@@ -13,7 +13,7 @@ use lists::bytes;
 use lists::refusal;
 
 // Refusals 1 and 2, or 0.
-pub fn check_shape(n: usize, len: usize) -> u8
+pub(crate) fn check_shape(n: usize, len: usize) -> u8
     ensures { λ r. ⌜ r ≡ shapeNumber n len ⌝ }
 {
     if !sizes::is_size(n) {

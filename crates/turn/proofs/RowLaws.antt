@@ -15,7 +15,7 @@ use Rattle.station.specs.Rows.{unionByte, union}
 use Rattle.lists.proofs.SearchLaws.{listOf-same}
 use Rattle.table.proofs.CellLaws.{row-length, row-same, setRow-length, setRow-out}
 use Rattle.station.proofs.UnionLaws.{union-length, union-at, union-own, union-others}
-use Rattle.lists.specs.Bytes.{joinedByte, joined, joinedInto, sameBytes}
+use Rattle.lists.specs.Bytes.{joinedByte, joinedBytes, withJoined, sameBytes}
 use Rattle.lists.proofs.ByteLaws.{joined-length, joined-at, into-fits, same-bytes}
 use Rattle.turn.specs.Turn.{exchangeRows}
 
@@ -57,7 +57,7 @@ same-exchange n t i j e =
 
 -- the row of i joined with the union of both rows, then the row of j
 pub exchange-is : (n : ℕ) (t : List ℕ) (i j : ℕ) → length t ≡ tableLength n → i < n → j < n → i ≢ j → (o x t₁ t₂ : List ℕ) → n ≤ length x
-    → o ≡ joinedInto (row n t i) (row n t j) x → t₁ ≡ setRow n t i (union (row n t i) (take n o) i)
+    → o ≡ withJoined (row n t i) (row n t j) x → t₁ ≡ setRow n t i (union (row n t i) (take n o) i)
     → t₂ ≡ setRow n t₁ j (union (row n t₁ j) (take n o) j) → t₂ ≡ exchangeRows n t i j
 unfolding exchangeRows joinedByte
 exchange-is n t i j long hi hj apart o x t₁ t₂ room eo e₁ e₂ =
@@ -67,8 +67,8 @@ exchange-is n t i j long hi hj apart o x t₁ t₂ room eo e₁ e₂ =
     let lj : length rj ≡ n = row-length n t j long hj in
     let u : List ℕ = union ri rj i in
     let hu : length u ≡ n = union-length ri rj i ∙ li in
-    let to : take n o ≡ joined ri rj =
-    ap (take n) (eo ∙ into-fits ri rj x (li ∙ sym lj) (omega (arith, li))) ∙ take-at (joined ri rj) (drop (length (joined ri rj)) x) n (joined-length ri rj ∙ li) in
+    let to : take n o ≡ joinedBytes ri rj =
+    ap (take n) (eo ∙ into-fits ri rj x (li ∙ sym lj) (omega (arith, li))) ∙ take-at (joinedBytes ri rj) (drop (length (joinedBytes ri rj)) x) n (joined-length ri rj ∙ li) in
     let f : (k : ℕ) → k < n → getD (take n o) k 0 ≡ max (getD ri k 0) (getD rj k 0) =
     (λ k h. ap (λ (l : List ℕ). getD l k 0) to ∙ joined-at ri rj k (omega (arith, li))) in
     let s : t₁ ≡ setRow n t i u = e₁ ∙ ap (setRow n t i) (union-twice ri rj (take n o) n i li f) in

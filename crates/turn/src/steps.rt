@@ -5,7 +5,7 @@ ghost use lib.ListN.{length};
 ghost use Rattle.lists.specs.Search.{least};
 ghost use Rattle.table.specs.Table.{HasLine, tableLength, testsMade, row, setRow};
 ghost use Rattle.station.specs.Groups.{stationAt};
-ghost use Rattle.lists.specs.Bytes.{joinedInto, sameBytes};
+ghost use Rattle.lists.specs.Bytes.{withJoined, sameBytes};
 ghost use Rattle.station.specs.Rows.{union};
 ghost use Rattle.table.specs.Rules.{tableNumber};
 ghost use Rattle.station.specs.Tests.{due};
@@ -209,7 +209,7 @@ fn exchange_rows(n: u8, table: &mut [u8], i: Station, j: Station)
     }
     let size = n as usize;
     let mut both = [0u8; 64];
-    join_rows(n, table, i, j, &mut both);
+    write_joined(n, table, i, j, &mut both);
     join_into(n, table, i, &both[..size]);
     join_into(n, table, j, &both[..size]);
 }
@@ -223,9 +223,9 @@ fn same_rows(n: u8, table: &[u8], i: Station, j: Station) -> bool
 }
 
 // Writes the rows of i and j, joined, to the front of a buffer.
-fn join_rows(n: u8, table: &[u8], i: Station, j: Station, out: &mut [u8])
+fn write_joined(n: u8, table: &[u8], i: Station, j: Station, out: &mut [u8])
     requires { ⌜ (length (now table) ≡ tableLength n) × (i .0 < n) × (j .0 < n) ⌝ }
-    ensures { λ _. ⌜ now (out .exit) ≡ joinedInto (row n (now (table .entry)) (i .0)) (row n (now (table .entry)) (j .0)) (now (out .entry)) ⌝ }
+    ensures { λ _. ⌜ now (out .exit) ≡ withJoined (row n (now (table .entry)) (i .0)) (row n (now (table .entry)) (j .0)) (now (out .entry)) ⌝ }
 {
     bytes::write_joined(inside::row(n, table, i), inside::row(n, table, j), out);
 }

@@ -15,7 +15,7 @@ use Rattle.table.specs.Sizes.{isSize, dimension}
 use Rattle.station.specs.Groups.{group}
 use Rattle.lists.specs.Refusal.{refuse, _else_, unless}
 use Rattle.table.specs.Rules.{tableNumber, stationRefusal, lengthRefusal}
-use Rattle.station.specs.Calls.{groupNumber, groupAfter, rowNumber, assignmentNumber, assignmentAfter, assignmentCount, memberNumber}
+use Rattle.station.specs.Calls.{groupNumber, groupAfter, rowNumber, assignmentNumber, assignmentAfter, assignmentCount, rangeNumber}
 use Rattle.lists.proofs.RefusalLaws.{else-first, else-same, else-not, refuse-zero, unless-refused}
 use Rattle.table.proofs.Accepting.{accepted}
 use Rattle.table.proofs.SizeLaws.{size-bounds, size-dimension}
@@ -89,11 +89,11 @@ module _ (n : ℕ) where
   unsized = refuse 1 (not (isSize n))
 
   group-far : (s len x : ℕ) → 255 ≤ x → groupNumber n x s len ≡ (unsized else 9)
-  unfolding groupNumber memberNumber
+  unfolding groupNumber rangeNumber
   group-far s len x h = else-same _ _ _ (λ z. rw (station-far n x (sized n z) h))
 
   level-far : (i len s : ℕ) → 255 ≤ s → groupNumber n i s len ≡ (unsized else stationRefusal n i else 12)
-  unfolding groupNumber memberNumber
+  unfolding groupNumber rangeNumber
   level-far i len s h = else-same unsized _ _ (λ z. rw (twelve (sized n z)) (sym (else-first _ _ (lengthRefusal (length (group n i s)) len) refl met)))
     where
       twelve : isSize n ≡ true → refuse 12 (eqb s 0 || ltb (dimension n) s) ≡ 12

@@ -1,4 +1,4 @@
--- Laws of numbers in digits, by position, and of their allNines values.
+-- Laws of numbers in digits, by position, and of their greatest values.
 -- Assumes nothing.
 use mathlib.Core.Path.{_≡_, refl}
 use mathlib.Core.Bool.{Bool, true, false, cond, _&&_}
@@ -44,7 +44,7 @@ pub number-digits : (most : ℕ) (l : List ℕ) → 1 ≤ length l → length l 
 unfolding numberOf
 number-digits most l a b = rw (le-leb 1 (length l) a, le-leb (length l) most b)
 
--- the allNines number of k digits
+-- the greatest number of k digits
 unfoldable pub allNines : ℕ → ℕ
 allNines zero = 0
 allNines (suc k) = 10 * allNines k + 9

@@ -162,8 +162,8 @@ read-fits room l = go (lines l)
     go (l ∷ ls) = pick (sizeOf l) ls
 
 -- a schedule whose first k entries are written
-pub written-part : (s s₀ : List ℕ) (a : ℕ) → a ≤ length s → length s ≡ length s₀ → drop a s ≡ drop a s₀ → s ≡ sets s₀ 0 (take a s)
-written-part s s₀ a h long e =
+pub sets-part : (s s₀ : List ℕ) (a : ℕ) → a ≤ length s → length s ≡ length s₀ → drop a s ≡ drop a s₀ → s ≡ sets s₀ 0 (take a s)
+sets-part s s₀ a h long e =
     let len : length (take a s) ≡ a = length-take-le a s h in
     rw (sets-front s₀ (take a s) (omega arith), len, ← e) (sym (take-append-drop a s))
 

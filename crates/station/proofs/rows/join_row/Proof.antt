@@ -6,10 +6,10 @@ use Rattle.station.proofs.rows.join_row.Statement.{statement}
 use Rattle.station.proofs.rows.join_row.Tie as tie
 
 returns : tie.Need-returns
-returns c = union-beyond _ _ _ _ (c .before .before .join .ensures) (search needs)
+returns c = union-beyond _ _ _ _ (c .before .before .join-bytes .ensures) (search needs)
 
 returns-2 : tie.Need-returns-2
-returns-2 c = union-kept _ _ _ _ (c .before .before .join2 .ensures) (search needs)
+returns-2 c = union-kept _ _ _ _ (c .before .before .join-bytes2 .ensures) (search needs)
 
 pub join-row-spec : {M : Type 1} → statement M
 join-row-spec =

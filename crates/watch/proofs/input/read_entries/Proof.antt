@@ -8,7 +8,7 @@ use native.Mathlib.Omega.{arith}
 use borrow.Author.Needs.{needs}
 use lib.ListN.{length, take, drop}
 use Rattle.watch.specs.Input.{lines, roomFor, readEntries, entryValue}
-use Rattle.watch.proofs.ReadLaws.{read-done, read-stop, read-next, has-room, rest-kept, written-part, read-as-parts}
+use Rattle.watch.proofs.ReadLaws.{read-done, read-stop, read-next, has-room, rest-kept, sets-part, read-as-parts}
 use Rattle.watch.proofs.input.read_entries.Statement.{statement}
 use Rattle.watch.proofs.input.read_entries.Tie as tie
 
@@ -28,7 +28,7 @@ returns c =
     let l = c .before .before .before .before .before .before .loop in
     let z = ap entryValue (c .enum-told .given .1) in
     let e = read-stop _ _ (l .k) (l .schedule) _ (l .p) _ _ _ (c .before .before .before .before .before .loop-test .taken) (l .inv .2) (c .before .before .before .before .line-end .ensures .0) (c .before .before .entry-with-room .ensures) z in
-    read-as-parts _ _ _ _ _ (sym (l .inv .5) ∙ e) (written-part (l .schedule) _ (2 * l .k) (omega arith) (l .inv .3) (l .inv .4))
+    read-as-parts _ _ _ _ _ (sym (l .inv .5) ∙ e) (sets-part (l .schedule) _ (2 * l .k) (omega arith) (l .inv .3) (l .inv .4))
 
 put-entry-requires : tie.Need-put-entry-requires Inv-loop μ-loop
 put-entry-requires c κs =
@@ -59,7 +59,7 @@ returns-2 : tie.Need-returns-2 Inv-loop μ-loop
 returns-2 c =
     let l = c .before .loop in
     let e = read-done _ _ (l .k) (l .schedule) _ (l .p) (c .loop-test .left) in
-    read-as-parts _ _ _ _ _ (sym (l .inv .5) ∙ e) (written-part (l .schedule) _ (2 * l .k) (omega arith) (l .inv .3) (l .inv .4))
+    read-as-parts _ _ _ _ _ (sym (l .inv .5) ∙ e) (sets-part (l .schedule) _ (2 * l .k) (omega arith) (l .inv .3) (l .inv .4))
 
 pub read-entries-spec : {M : Type 1} → statement M
 read-entries-spec =

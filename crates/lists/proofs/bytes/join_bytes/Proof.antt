@@ -1,4 +1,4 @@
--- `bytes::join` meets its contract: the bytes passed so far are the greater ones, the others are as they were.
+-- `bytes::join_bytes` meets its contract: the bytes passed so far are the greater ones, the others are as they were.
 -- Assumes nothing.
 use mathlib.Core.Path.{_≡_}
 use Prim.Native.Nat.{_-_, _≤_, min}
@@ -10,8 +10,8 @@ use Rattle.lists.specs.Search.{listOf}
 use Rattle.lists.specs.Bytes.{joinedByte}
 use Rattle.lists.proofs.Loops.{loops, fill-ahead, fill-next}
 use Rattle.lists.proofs.ByteLaws.{joined-byte, joined-filled}
-use Rattle.lists.proofs.bytes.join.Statement.{statement}
-use Rattle.lists.proofs.bytes.join.Tie as tie
+use Rattle.lists.proofs.bytes.join_bytes.Statement.{statement}
+use Rattle.lists.proofs.bytes.join_bytes.Tie as tie
 
 abbrev Inv-loop : tie.InvT-loop
 Inv-loop list₀ other end k₀ list k =
@@ -30,8 +30,8 @@ returns c =
     let i = c .before .loop .inv in
     joined-filled _ _ _ _ (i .3) (omega arith)
 
-pub join-spec : {M : Type 1} → statement M
-join-spec =
+pub join-bytes-spec : {M : Type 1} → statement M
+join-bytes-spec =
     tie.close
     (tie.spec
     Inv-loop
