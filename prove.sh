@@ -1,6 +1,7 @@
 # What ./watch and ./sheet share: to prove and build a program of this repository, as far as something changed since it was last proved.
 # This file is sourced; $program names the program, which is its crate too, and $root the folder of this repository.
-# shellcheck shell=bash disable=SC2154
+# shellcheck shell=bash
+: "${program:?}" "${root:?}"
 
 refuse() { # MESSAGE
     printf '%s: %s\n' "$program" "$1" >&2

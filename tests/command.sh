@@ -1,5 +1,6 @@
 # What tests/watch-command and tests/sheet-command share. This file is sourced; $tested names the command, ./watch or ./sheet.
-# shellcheck shell=bash disable=SC2154,SC2034
+# shellcheck shell=bash
+: "${tested:?}"
 
 cd "$(dirname "${BASH_SOURCE[0]}")/.." || exit
 made=$(mktemp -d)
@@ -21,7 +22,7 @@ called=$tested
 call() { # STATUS FILE WORDS...
     local status=0 want=$1 output=$2
     shift 2
-    asked="$tested $*"
+    asked="$called $*"
     "$called" "$@" >"$made/out" 2>"$made/err" || status=$?
     ((status == want)) || fail "$asked: status $status, not $want"
     cmp -s "$made/out" "$output" || fail "$asked: standard output is not what it must be"
@@ -37,6 +38,11 @@ said() { # PATTERN
     grep -q -e "$1" "$made/err" || fail "$asked: standard error does not say: $1"
 }
 
+# The last call must have said on standard error just these lines, in this order. N stands for the seconds of a proof.
+said_just() { # LINES...
+    sed 's/([0-9]* s)$/(N s)/' "$made/err" | cmp -s - <(printf '%s\n' "$@") || fail "$asked: standard error is not: $(printf '\n%s' "$@")"
+}
+
 # A stand-in for rt, by which nothing is proved: it notes that it was called.
 mkdir "$made/stand-in"
 cat >"$made/stand-in/rt" <<EOF
@@ -47,6 +53,8 @@ exit 1
 EOF
 chmod +x "$made/stand-in/rt"
 path=$PATH
+use_stand_in() { PATH=$made/stand-in:$path; }
+use_rt() { PATH=$path; }
 
 # The command prints its usage, and the same by -h.
 prints_help() {
@@ -62,8 +70,32 @@ prints_help() {
 rt_unused() { [[ ! -e $made/called ]] || fail "rt was called where there is nothing to prove"; }
 rt_used() { [[ -e $made/called ]] || fail "rt was not called"; }
 
-# The last call had to prove and build the program.
-built() {
-    said "^proving ${tested#./} (\([0-9]*\) of \1) \.\.$"
-    said "^${tested#./} proved ([0-9]* s)$"
+# The command in a repository of its own, with a program that rt proves in two seconds. What there is to prove is proved and built, and said:
+# all of it in a fresh clone, nothing if nothing is left to do, the program alone if it is missing. Then a library is changed so that its
+# proof fails.
+proves_what_is_left() { # WORDS...
+    local name=${tested#./} small=$made/small
+    local stdout=$small/crates/$name/stdout
+    mkdir -p "$small/crates/"{low,between,"$name"}/src
+    cp "$tested" prove.sh "$small"
+    printf '%s\n' 'low: # used by both others' 'between: low' "$name: between low libc" >"$small/crates.txt"
+    echo 'pub fn half(x: u8) -> u8 { x / 2 }' >"$small/crates/low/src/lib.rt"
+    echo 'pub fn quarter(x: u8) -> u8 { low::half(low::half(x)) }' >"$small/crates/between/src/lib.rt"
+    printf '%s\n' 'fn main() { libc::write(1, b"built\n"); }' >"$small/crates/$name/src/main.rt"
+    echo built >"$stdout"
+    called=$small/$name
+
+    call 0 "$stdout" "$@"
+    said_just 'proving low (1 of 3) ..' 'low proved (N s)' 'proving between (2 of 3) ..' 'between proved (N s)' \
+        "proving $name (3 of 3) .." "$name proved (N s)"
+    call 0 "$stdout" "$@"
+    silent
+    rm "$small/target/bin/$name"
+    call 0 "$stdout" "$@"
+    said_just "proving $name (3 of 3) .." "$name proved (N s)"
+    echo 'pub fn half(x: u8) -> u8 { x + 2 }' >"$small/crates/low/src/lib.rt"
+    call 1 "$made/empty" "$@"
+    said '^proving low (1 of 3) \.\.$'
+    said '^rt: low NOT PROVED (exit 1, [0-9]* s)$'
+    called=$tested
 }
