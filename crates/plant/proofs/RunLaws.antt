@@ -1,9 +1,7 @@
 -- Laws of the entries of a schedule, of an entry's line of the sheet, and of a run step by step.
 -- Assumes nothing.
 use mathlib.Core.Path.{_≡_, refl, sym, ap}
-use mathlib.Core.Logic.{by-cases}
-use mathlib.Core.Bool.{Bool, true, false, cond, not, _&&_, _||_}
-use native.Mathlib.Decide.{ℕ-discrete}
+use mathlib.Core.Bool.{Bool, true, false, cond, not, _&&_}
 use mathlib.Core.List.{List, [], _∷_, _++_, append-assoc}
 use Prim.Native.Nat.{ℕ, zero, suc, _+_, _*_, _-_, _/_, _%_, _≤_, _<_}
 use native.Mathlib.Numerals.{add-one}
@@ -118,19 +116,6 @@ pub go-one : (n : ℕ) (s : State) (sheet : List ℕ) (k i : ℕ) → entryNumbe
     → goOn n 0 s sheet (entries (k ∷ i ∷ [])) .state ≡ after n s (entryOf k i)
 unfolding goOn entries
 go-one n s sheet k i z = rw z
-
--- the sheet's length is twice the schedule's, by halves
-pub halves : (a b : ℕ) → (not (eqb (b / 2) a) || eqb (b % 2) 1) ≡ not (eqb b (2 * a))
-halves a b = by-cases (ℕ-discrete b (2 * a)) same apart
-  where
-    same : b ≡ 2 * a → (not (eqb (b / 2) a) || eqb (b % 2) 1) ≡ not (eqb b (2 * a))
-    same e = rw (eq-eqb b (2 * a) e, eq-eqb (b / 2) a (omega arith), ne-eqb (b % 2) 1 (λ o. omega arith))
-
-    apart : ¬ (b ≡ 2 * a) → (not (eqb (b / 2) a) || eqb (b % 2) 1) ≡ not (eqb b (2 * a))
-    apart d =
-        by-cases (ℕ-discrete (b / 2) a)
-        (λ h. rw (ne-eqb b (2 * a) d, eq-eqb (b / 2) a h, eq-eqb (b % 2) 1 (omega arith)))
-        (λ h. rw (ne-eqb b (2 * a) d, ne-eqb (b / 2) a h))
 
 -- what a run has that refusals 1 to 6 let through
 pub start-facts : (n : ℕ) (t : List ℕ) (a b : ℕ) → startNumber n t a b ≡ 0 → Accepted n t × (a % 2 ≡ 1 → ⊥) × (b ≡ 2 * a)

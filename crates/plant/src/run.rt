@@ -6,7 +6,6 @@ ghost use Rattle.plant.specs.Run.{entries, goOn, startNumber, outcomeWit
 use crate::Answer;
 use crate::Tally;
 use crate::entry;
-use lists::refusal;
 use table::Station;
 use table::rules;
 
@@ -31,9 +30,19 @@ fn start_number(n: usize, table: &[u8], schedule: usize, sheet: usize) -> u8
     ensures { λ r. ⌜ r ≡ startNumber n (now (table .entry)) schedule sheet ⌝ }
 {
     let number = rules::check_table(n, table);
-    let five = refusal::refuse(5, schedule % 2 == 1);
-    let six = refusal::refuse(6, (sheet / 2 != schedule) | (sheet % 2 == 1));
-    refusal::first_of(number, refusal::first_of(five, six))
+    if number != 0 {
+        return number;
+    }
+    if schedule % 2 == 1 {
+        return 5;
+    }
+    if sheet / 2 != schedule {
+        return 6;
+    }
+    if sheet % 2 == 1 {
+        return 6;
+    }
+    0
 }
 
 // Takes the entries in order. `single` uses it too, so that an entry is taken in one place only, which the compiler then puts in line.

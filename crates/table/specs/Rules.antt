@@ -56,13 +56,9 @@ roundOver n t = someLive n t && liveFinished n t
 unfoldable pub shapeNumber : ℕ → ℕ → ℕ
 shapeNumber n len = refuse 1 (not (isSize n)) else refuse 2 (not (eqb len (tableLength n)))
 
--- refusals 3 and 4: "A line breaks a line rule." "Some station is live and every live one is finished."
-abbrev pub linesNumber : ℕ → List ℕ → ℕ
-linesNumber n t = refuse 3 (not (every (lineRules n t) n)) else refuse 4 (roundOver n t)
-
--- refusals 1 to 4
+-- refusals 1 to 4: then "A line breaks a line rule." "Some station is live and every live one is finished."
 unfoldable pub tableNumber : ℕ → List ℕ → ℕ
-tableNumber n t = shapeNumber n (length t) else linesNumber n t
+tableNumber n t = shapeNumber n (length t) else refuse 3 (not (every (lineRules n t) n)) else refuse 4 (roundOver n t)
 
 -- refusal 9: "The station number is N or more."
 abbrev pub stationRefusal : ℕ → ℕ → ℕ

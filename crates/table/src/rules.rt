@@ -4,13 +4,12 @@ ghost use Prim.Native.Nat.{_<_};
 ghost use lib.ListN.{length};
 ghost use Rattle.lists.specs.Search.{every};
 ghost use Rattle.table.specs.Table.{HasLine, tableLength, nextDistance, finished, testsMade, live};
-ghost use Rattle.table.specs.Rules.{passRule, rowRule, lineRules, finishedIfLive, roundOver, shapeNumber, linesNumber, tableNumber};
+ghost use Rattle.table.specs.Rules.{passRule, rowRule, lineRules, finishedIfLive, roundOver, shapeNumber, tableNumber};
 use crate::Station;
 use crate::cells;
 use crate::inside;
 use crate::sizes;
 use lists::bytes;
-use lists::refusal;
 
 // Refusals 1 and 2, or 0.
 pub(crate) fn check_shape(n: usize, len: usize) -> u8
@@ -19,7 +18,10 @@ pub(crate) fn check_shape(n: usize, len: usize) -> u8
     if !sizes::is_size(n) {
         return 1;
     }
-    refusal::refuse(2, len != cells::table_length(n as u8))
+    if len != cells::table_length(n as u8) {
+        return 2;
+    }
+    0
 }
 
 // Refusals 1 to 4, or 0.
@@ -30,17 +32,14 @@ pub fn check_table(n: usize, table: &[u8]) -> u8
     if shape != 0 {
         return shape;
     }
-    lines_number(n as u8, table)
-}
-
-// Refusals 3 and 4, or 0, of a table of the right length.
-fn lines_number(n: u8, table: &[u8]) -> u8
-    requires { ⌜ length (now table) ≡ tableLength n ⌝ }
-    ensures { λ r. ⌜ r ≡ linesNumber n (now (table .entry)) ⌝ }
-{
-    let three = refusal::refuse(3, !all_lines(n, table));
-    let four = refusal::refuse(4, is_round_over(n, table));
-    refusal::first_of(three, four)
+    let size = n as u8;
+    if !all_lines(size, table) {
+        return 3;
+    }
+    if is_round_over(size, table) {
+        return 4;
+    }
+    0
 }
 
 // Whether station i is live.

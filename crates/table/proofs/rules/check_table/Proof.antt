@@ -14,15 +14,33 @@ returns : tie.Need-returns
 unfolding tableNumber
 returns c = else-first _ _ _ (c .before .check-shape .ensures) (c .if1 .taken)
 
-cast-lines-number : tie.Need-cast-lines-number
-cast-lines-number c = omega (arith, size-bounds _ (shape-zero _ _ (sym (c .before .check-shape .ensures) ∙ c .if1 .left) .0))
+cast-size : tie.Need-cast-size
+cast-size c = omega (arith, size-bounds _ (shape-zero _ _ (sym (c .before .check-shape .ensures) ∙ c .if1 .left) .0))
 
-lines-number-requires : tie.Need-lines-number-requires
-lines-number-requires c κs = shape-zero _ _ (sym (c .before .check-shape .ensures) ∙ c .if1 .left) .1
+all-lines-requires : tie.Need-all-lines-requires
+all-lines-requires c κs = shape-zero _ _ (sym (c .before .check-shape .ensures) ∙ c .if1 .left) .1
 
 returns-2 : tie.Need-returns-2
 unfolding tableNumber
-returns-2 c = rw (← c .before .before .check-shape .ensures, c .before .if1 .left) (c .lines-number .ensures)
+returns-2 c = simp (← c .before .before .before .check-shape .ensures, c .before .before .if1 .left, ← c .before .all-lines .ensures, c .if2 .taken)
+
+returns-3 : tie.Need-returns-3
+unfolding tableNumber
+returns-3 c = simp (← c .before .before .before .before .before .check-shape .ensures, c .before .before .before .before .if1 .left, ← c .before .before .before .all-lines .ensures, c .before .before .if2 .left, ← c .before .is-round-over .ensures, c .if3 .taken)
+
+returns-4 : tie.Need-returns-4
+unfolding tableNumber
+returns-4 c = simp (← c .before .before .before .before .before .check-shape .ensures, c .before .before .before .before .if1 .left, ← c .before .before .before .all-lines .ensures, c .before .before .if2 .left, ← c .before .is-round-over .ensures, c .if3 .left)
 
 pub check-table-spec : {M : Type 1} → statement M
-check-table-spec = tie.close (tie.spec (λ c κs. search needs) returns cast-lines-number lines-number-requires returns-2)
+check-table-spec =
+    tie.close
+    (tie.spec
+    (λ c κs. search needs)
+    returns
+    cast-size
+    all-lines-requires
+    returns-2
+    (λ c κs. search needs)
+    returns-3
+    returns-4)
