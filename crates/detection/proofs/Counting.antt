@@ -2,7 +2,7 @@
 -- Assumes nothing.
 use mathlib.Core.Path.{_≡_, refl, sym, ap, ap₂, _∙_}
 use mathlib.Core.Logic.{by-cases}
-use mathlib.Core.Bool.{Bool, true, false, not, _&&_, _||_}
+use mathlib.Core.Bool.{Bool, true, false, not, _&&_, _||_, and-false}
 use mathlib.Core.List.{List, [], _∷_, _++_}
 use Prim.Native.Nat.{ℕ, suc, _+_, _≤_, _<_}
 use native.Mathlib.Decide.{ℕ-discrete}
@@ -12,13 +12,14 @@ use borrow.Author.Tests.{eq-eqb, ne-eqb, eqb-true, lt-ltb}
 use lib.Bits.{xor-zero-r}
 use lib.Dec.{eqb}
 use Rattle.table.specs.Sizes.{isSize, distances}
-use Rattle.table.specs.Table.{statusColumn, nextColumn, finishedColumn, testsColumn, nextDistance, finished, testsMade, live}
+use Rattle.table.specs.Table.{cell, statusColumn, nextColumn, finishedColumn, testsColumn, nextDistance, finished, testsMade, live}
 use Rattle.station.proofs.Presence.{standing, standing-all, standing-more, standing-grows}
 use Rattle.table.specs.Rules.{notLive, someLive, finishedIfLive, liveFinished, roundOver}
 use Rattle.turn.specs.Turn.{nextTest, makesTest}
 use Rattle.plant.specs.Round.{afterRound}
 use Rattle.turn.proofs.NextTest.{nextTest-low, test-station}
 use Rattle.plant.specs.Entry.{Entry, State, isCrash, acted, after}
+use Rattle.table.proofs.CellLaws.{TurnCounts}
 use Rattle.plant.proofs.RoundLaws.{Reset, reset-other}
 use Rattle.turn.proofs.StepLines.{Lines}
 use Rattle.lists.specs.Sums.{sum, bit}
@@ -27,6 +28,7 @@ use Rattle.detection.specs.Rounds.{anyTaken, countTaken, closes, finishe
 use Rattle.lists.proofs.BoolLaws.{by-bool, choice, bit-split, every-same}
 use Rattle.lists.proofs.SumLaws.{sum-by, sum-add, sum-single}
 use Rattle.detection.specs.Claim.{TurnsOk}
+use Rattle.detection.specs.Boards.{isTestOf}
 use Rattle.detection.proofs.TakenLaws.{takenAt, any-one, count-snoc, nth-snoc-turn, nth-snoc-other}
 use Rattle.turn.proofs.TurnHeads.{Heads}
 
@@ -109,6 +111,46 @@ module _ (n : ℕ) (s : State) (e : Entry) (t₀ t′ : List ℕ) (cur : List Ta
         let whole : bit (eqb i i && b) ≡ bit b = rw (eq-eqb i i refl) in
         omega (arith, sum-by n (λ k h. tests-of k), sum-add (testsMade n t) f n, c .tests, count-snoc takenTest cur x);
   }
+
+-- and so does a crash, which is no turn and leaves bytes 2 and 3
+pub crash-counts : (n : ℕ) (s : State) (e : Entry) (t₀ t′ : List ℕ) (cur : List Taken) → isCrash e ≡ true
+    → ((k c : ℕ) → TurnCounts c → cell n t′ k c ≡ cell n (s .table) k c) → Counts n t₀ cur (s .table) → Counts n t₀ (cur ++ (takenAt n s e ∷ [])) t′
+crash-counts n s e t₀ t′ cur crashed same c = record {
+  turns = λ k h. omega (arith, tests-same k, finish-same k, c .turns k h, no-turn k);
+  ended = λ k h. omega (arith, finish-same k, c .ended k h, no-end k);
+  lastEnds = λ k h some.
+      rw (no-turn k) (nth-snoc-other k (turnsIn k cur) cur x (rw crashed) ∙ c .lastEnds k h (omega (arith, no-end k)));
+  tests = omega (arith, sum-by n (λ k h. tests-same k), c .tests, count-snoc takenTest cur x, rw crashed at (count-snoc takenTest cur x));
+}
+  where
+    x : Taken
+    x = takenAt n s e
+
+    tests-same : (k : ℕ) → testsMade n t′ k ≡ testsMade n (s .table) k
+    tests-same k = same k testsColumn (omega arith)
+
+    finish-same : (k : ℕ) → finished n t′ k ≡ finished n (s .table) k
+    finish-same k = same k finishedColumn (omega arith)
+
+    no-turn : (k : ℕ) → turnsIn k (cur ++ (x ∷ [])) ≡ turnsIn k cur
+    no-turn k = omega (arith, rw crashed at (count-snoc (isTurnOf k) cur x))
+
+    no-end : (k : ℕ) → countTaken (finishesOf k) (cur ++ (x ∷ [])) ≡ countTaken (finishesOf k) cur
+    no-end k = omega (arith, rw (crashed, and-false) at (count-snoc (finishesOf k) cur x))
+
+-- a turn makes a test or finishes the pass
+pub turns-split : (i : ℕ) (xs : List Taken) → turnsIn i xs ≡ countTaken (isTestOf i) xs + countTaken (finishesOf i) xs
+unfolding countTaken
+turns-split i [] = omega arith
+turns-split i (x ∷ xs) =
+    omega (arith, turns-split i xs, bits (eqb (x .entry .station) i) (isCrash (x .entry)) (makesTest (x .size) (x .before .table) (x .entry .station)))
+  where
+    bits : (own crashed tests : Bool)
+        → bit (not crashed && own) ≡ bit (own && (not crashed && tests)) + bit (own && (not crashed && not (not crashed && tests)))
+    bits own true tests = rw and-false
+    bits true false true = refl
+    bits true false false = refl
+    bits false false tests = refl
 
 -- fewer tests are made in a round than stations stand at the distances passed, for the station itself stands at 0
 abbrev pub Roomy : ℕ → List ℕ → Type 0

@@ -11,7 +11,8 @@ use Rattle.table.specs.Sizes.{isSize, dimension}
 use Rattle.station.specs.Groups.{isPresent, width, member}
 use Rattle.table.specs.Table.{tableLength, suspects, live}
 use Rattle.table.specs.Rules.{notLive}
-use Rattle.plant.specs.Entry.{State}
+use Rattle.table.specs.Fresh.{freshTable}
+use Rattle.plant.specs.Entry.{State, stateOf}
 use Rattle.lists.specs.Sums.{sum, bit}
 use Rattle.detection.specs.Runs.{Call, Taken, afterRuns, takenAll, crashes, isLate}
 use Rattle.detection.specs.Rounds.{allTaken, Rounds, cut, testsIn, testsOfAll, turnsIn, nthTurnFinishes}
@@ -60,6 +61,10 @@ pub record Premises (n : ℕ) (s : State) (calls : List Call) : Type 0 where
   pub noCrash : allTaken (λ x. not (crashes x)) (takenAll s calls) ≡ true
   pub noLate : allTaken (λ x. not (isLate x)) (takenAll s calls) ≡ true
 
+-- a fresh table, with any tally, meets what is supposed of table and size, at every size: the claim is empty at none
+abbrev pub FreshMeetsPremises : Type 0
+FreshMeetsPremises = (n rounds tests : ℕ) → isSize n ≡ true → Premises n (stateOf (freshTable n) rounds tests) []
+
 -- what the claim says of table and tally after the list, where so many rounds are enough
 pub record Conclusion (enough n : ℕ) (s : State) (calls : List Call) (end : State) : Type 0 where
   -- the live boards are the same as at first
@@ -100,7 +105,7 @@ demandWait d = d * d
 abbrev pub Demand3 : Type 0
 Demand3 = Within demandWait
 
--- the rounds of our own claim: 1, 2, 3, 4, 6, 8 for d = 1 to 6. That fewer do not suffice is shown for 4, 8, 16 and 32 boards (crate
--- witness); for 2 boards, both live, 0 would do
+-- the rounds of our own claim: 1, 2, 3, 4, 6, 8 for d = 1 to 6. Crate witness shows at which sizes fewer do not suffice; for 2 boards, both
+-- live, 0 would do
 unfoldable pub exactWait : ℕ → ℕ
 exactWait d = cond (ltb d 4) d (4 + (d - 3) * (d - 3) / 2)

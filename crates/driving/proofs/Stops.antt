@@ -71,7 +71,7 @@ module _ (n : ℕ) (kinds : ℕ → ℕ) (p : Stand) (turns : TurnKinds kinds) (
 
 -- a round closes, or nobody is left live, an end in itself
 pub ends-within : EndsWithin
-unfolding afterTurns
+unfolding afterTurns afterGrants
 ends-within n kinds s last turns z taken =
     let d = driving-start n s last (grantable n (s .table) last z) in
     ending-on n kinds (standAt s last) turns taken (n * n) 0 (omega arith) (record {

@@ -2,3 +2,4 @@
 pub mod SheetTests
 pub mod RowsGrow
 pub mod TestsDue
+pub mod RoundTests

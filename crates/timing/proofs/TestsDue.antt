@@ -1,4 +1,4 @@
--- The tests that a board has made are due by its row, as long as the round goes on.
+-- The tests that a board has made by byte 3 are due by its row: every taken entry keeps that.
 -- Assumes nothing.
 use mathlib.Core.Path.{_≡_, sym, ap, _∙_}
 use mathlib.Core.Logic.{_≢_, _⊎_, inl, inr, by-cases}
@@ -38,11 +38,10 @@ use Rattle.detection.proofs.Chain.{Chain, done, more, chain-all}
 use Rattle.slots.specs.Slots.{testsDue}
 use Rattle.slots.specs.Law.{Wider}
 use Rattle.slots.proofs.MoreTests.{fewer-below, tests-sum, mark-unsuspected, mark-suspected, wider-mark, most-covers}
-use Rattle.timing.specs.Timing.{TakenAfter, tableLeft, NoMoreThanDue, SuspectsAtMost, SlotIsEnough}
 use Rattle.timing.proofs.RowsGrow.{Grows, acted-grows}
 
 -- whom the row of line k does not suspect
-row-unsuspected : (n : ℕ) (t : List ℕ) (k x : ℕ) → length t ≡ tableLength n → k < n → x < n → unsuspected (row n t k) x ≡ eqb (suspects n t k x) 0
+pub row-unsuspected : (n : ℕ) (t : List ℕ) (k x : ℕ) → length t ≡ tableLength n → k < n → x < n → unsuspected (row n t k) x ≡ eqb (suspects n t k x) 0
 row-unsuspected n t k x long hk hx =
     unsuspected-at (row n t k) x (omega (arith, row-length n t k long hk)) ∙ ap (λ (v : ℕ). eqb v 0) (row-at n t k x hx)
 
@@ -58,11 +57,11 @@ wider-rows n t t′ lines lines′ grows k h = record {
 }
 
 -- how many of the distances below the next one are due by the row as it is
-abbrev duesOf : ℕ → List ℕ → ℕ → ℕ → ℕ
+abbrev pub duesOf : ℕ → List ℕ → ℕ → ℕ → ℕ
 duesOf n t i b = sum (λ m. bit (due (row n t i) i m)) b
 
 -- each line has made no more tests than that
-abbrev TestsAreDue : ℕ → List ℕ → Type 0
+abbrev pub TestsAreDue : ℕ → List ℕ → Type 0
 TestsAreDue n t = (i : ℕ) → i < n → testsMade n t i ≤ duesOf n t i (nextDistance n t i)
 
 -- a taken entry keeps it
@@ -112,71 +111,3 @@ module _ (n : ℕ) (s : State) (e : Entry) (ok : Accepted n (s .table)) (takes :
 
   pub acted-fits : TestsAreDue n t′
   acted-fits k h = by-bool (isCrash e) (λ c. crash-fits c k h) (λ c. turn-fits c k h)
-
-  entry-fits : TestsAreDue n (after n s e .table)
-  unfolding after afterRound
-  entry-fits k h =
-      by-bool (roundOver n t′)
-      (λ o. rw (o, reset-cells n t′ (acted-lines n s e ok takes .0) k h .untested) (omega arith)) (λ o. rw o (acted-fits k h))
-
--- and so does a chain of them
-chain-fits : {n : ℕ} {s s′ : State} {xs : List Taken} → Chain n s xs s′ → TestsAreDue n (s .table) → TestsAreDue n (s′ .table)
-chain-fits done fits = fits
-chain-fits {n} (more {s} e ok takes c) fits = chain-fits c (entry-fits n s e ok takes fits)
-
-module _ (n : ℕ) (s : State) (calls : List Call) (e : Entry) (given : TakenAfter n s calls e) where
-  abbrev u : State
-  u = afterRuns s calls
-
-  abbrev end : List ℕ
-  end = tableLeft n s calls e
-
-  ok : Accepted n (u .table)
-  ok = accepted n (u .table) (given .checked)
-
-  end-lines : Lines n end
-  end-lines = acted-lines n u e ok (given .taken)
-
-  -- at the start of a round no test is made
-  none-made : TestsAreDue n (s .table)
-  unfolding atStart
-  none-made i h =
-      let line = every-at (lineAtStart n (s .table)) n i (given .start) h in
-      let head = eqb (nextDistance n (s .table) i) 1 && eqb (finished n (s .table) i) 0 in
-      omega (arith, eqb-true (testsMade n (s .table) i) 0 (both head (eqb (testsMade n (s .table) i) 0) line .1))
-
-  -- the distances passed are some of all
-  pub within : (i : ℕ) → i < n → testsMade n end i ≤ testsDue n (row n end i) i
-  within i h =
-      let next : ℕ = nextDistance n end i in
-      let whole : next + (distances n - next) ≡ distances n = omega (arith, end-lines .1 i h .pass .nextHigh) in
-      let fits = acted-fits n u e ok (given .taken) (chain-fits (chain-all n s calls (given .long)) none-made) i h in
-      omega (arith, fits, rw whole at (sum-split (λ m. bit (due (row n end i) i m)) next (distances n - next)), tests-sum n (row n end i) i)
-
-  -- a row that suspects no more than r and j
-  wider-mark-row : (r : List ℕ) (i j : ℕ) → i < n → j ≢ i → length r ≡ n → unsuspected r i ≡ true → SuspectsAtMost n end i r j
-      → Wider (row n end i) (mark r j) i
-  wider-mark-row r i j h apart long own few = record {
-    long = mark-length r j ∙ long ∙ sym (row-length n end i (end-lines .0) h);
-    own = mark-unsuspected r j i (λ q. apart (sym q)) ∙ own;
-    more = λ x free.
-        let x<n : x < n = rw (mark-length r j ∙ long) at (unsuspected-below (mark r j) x free) in
-        let clear = wider-mark r i j own apart .more x free in
-        row-unsuspected n end i x (end-lines .0) h x<n ∙ eq-eqb (suspects n end i x) 0 (unset x x<n free clear (ℕ-discrete (suspects n end i x) 1));
-  }
-    where
-      unset : (x : ℕ) → x < n → unsuspected (mark r j) x ≡ true → unsuspected r x ≡ true → Dec (suspects n end i x ≡ 1) → suspects n end i x ≡ 0
-      unset x l free clear (no q) = omega (arith, end-lines .1 i h .range x l)
-      unset x l free clear (yes q) = pick (few x l q)
-        where
-          pick : (unsuspected r x ≡ false) ⊎ (x ≡ j) → suspects n end i x ≡ 0
-          pick (inl f) = absurd (true≢false (sym clear ∙ f))
-          pick (inr f) = absurd (true≢false (sym free ∙ rw f (mark-suspected r j (omega (arith, long, f)))))
-
-pub no-more-than-due : NoMoreThanDue
-no-more-than-due n s calls e i given h = within n s calls e given i h
-
-pub slot-is-enough : SlotIsEnough
-slot-is-enough n s calls e r i j given h l apart long own few =
-    le-trans (within n s calls e given i h)
-    (most-covers n r _ i j l apart (wider-mark-row n s calls e given r i j h apart long own few))

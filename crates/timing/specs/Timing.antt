@@ -5,17 +5,17 @@
 use mathlib.Core.Path.{_≡_}
 use mathlib.Core.Logic.{_≢_, _⊎_}
 use mathlib.Core.Bool.{true, false}
-use mathlib.Core.List.{List, []}
+use mathlib.Core.List.{List, [], _∷_}
 use Prim.Native.Nat.{ℕ, _≤_, _<_}
 use lib.ListN.{length, getD}
 use Rattle.table.specs.Table.{tableLength, testsMade, suspects, row, live}
-use Rattle.table.specs.Rules.{tableNumber}
 use Rattle.station.specs.Tests.{unsuspected}
-use Rattle.plant.specs.Entry.{Entry, State, entryNumber, acted}
-use Rattle.detection.specs.Runs.{Call, afterRuns}
+use Rattle.plant.specs.Entry.{State}
+use Rattle.detection.specs.Runs.{Call, Taken, afterRuns, tableAfter}
+use Rattle.detection.specs.Rounds.{countTaken}
 use Rattle.table.specs.Properties.{atStart, exactRow, ExactRows}
-use Rattle.detection.specs.Claim.{roundsOf, Premises}
-use Rattle.detection.specs.Boards.{testedIn, firstTable}
+use Rattle.detection.specs.Claim.{roundsOf, roundAt, Premises}
+use Rattle.detection.specs.Boards.{isTestOf, testedIn, firstTable}
 use Rattle.slots.specs.Slots.{tested, testsDue, mostTests}
 
 -- "In a round that begins with exact rows, a board that stays live makes just these tests": in the kth closed round (from 0) a live board tests, in
@@ -26,22 +26,33 @@ TestsOfTheSheet =
     → ExactRows n (firstTable (getD (roundsOf s calls .closed) k [])) → (i : ℕ) → i < n → live n (s .table) i ≡ true
     → testedIn i (getD (roundsOf s calls .closed) k []) ≡ tested n (exactRow n (s .table)) i
 
--- a plant of n stations: its table stood at the start of a round at s; any list of runs; then one entry more, which is taken
-pub record TakenAfter (n : ℕ) (s : State) (calls : List Call) (e : Entry) : Type 0 where
-  pub long : length (s .table) ≡ tableLength n
-  pub start : atStart n (s .table) ≡ true
-  pub checked : tableNumber n (afterRuns s calls .table) ≡ 0
-  pub taken : entryNumber n (afterRuns s calls) e ≡ 0
+-- the tests that board i makes in a round: its testing entries
+abbrev pub testsBy : ℕ → List Taken → ℕ
+testsBy i round = countTaken (isTestOf i) round
 
--- the table that the entry leaves, before the round rule: its byte 3 counts a line's tests of the round, the one that closes it among them
-abbrev pub tableLeft : ℕ → State → List Call → Entry → List ℕ
-tableLeft n s calls e = acted n (afterRuns s calls .table) e
+-- byte 3, "tests made in this round": after any list of runs from the start of a round on, whatever crashes or comes late, it is the number of
+-- the board's testing entries in the round that is then open
+abbrev pub ByteThree : Type 0
+ByteThree =
+    (n : ℕ) (s : State) (calls : List Call) (i : ℕ) → length (s .table) ≡ tableLength n → atStart n (s .table) ≡ true → i < n
+    → testsMade n (afterRuns s calls .table) i ≡ testsBy i (roundsOf s calls .openRound)
 
--- a board has made no more tests in the round than are due by its row as it now is
+-- the table as the last of the entries leaves it; t where there is none
+unfoldable pub tableLeft : List ℕ → List Taken → List ℕ
+tableLeft t [] = t
+tableLeft t (x ∷ xs) = tableLeft (tableAfter x) xs
+
+-- the kth round of a list of runs (from 0; the open one is the last), and the table as its last entry leaves it: the closing of a round leaves
+-- all rows as they are
+abbrev pub endOf : State → List Call → ℕ → List ℕ
+endOf s calls k = tableLeft (s .table) (roundAt s calls k)
+
+-- in every round of any list of runs from the start of a round on, a board makes no more tests than are due by its row as the round leaves it;
+-- the list may end anywhere, so that this holds at every moment of a round
 abbrev pub NoMoreThanDue : Type 0
 NoMoreThanDue =
-    (n : ℕ) (s : State) (calls : List Call) (e : Entry) (i : ℕ) → TakenAfter n s calls e → i < n
-    → testsMade n (tableLeft n s calls e) i ≤ testsDue n (row n (tableLeft n s calls e) i) i
+    (n : ℕ) (s : State) (calls : List Call) (k i : ℕ) → length (s .table) ≡ tableLength n → atStart n (s .table) ≡ true
+    → k ≤ length (roundsOf s calls .closed) → i < n → testsBy i (roundAt s calls k) ≤ testsDue n (row n (endOf s calls k) i) i
 
 -- board i suspects at table t nobody but those that row r suspects, and j
 abbrev pub SuspectsAtMost : ℕ → List ℕ → ℕ → List ℕ → ℕ → Type 0
@@ -51,5 +62,6 @@ SuspectsAtMost n t i r j = (x : ℕ) → x < n → suspects n t i x ≡ 1 → (u
 -- also in the rounds in which it comes to suspect that one
 abbrev pub SlotIsEnough : Type 0
 SlotIsEnough =
-    (n : ℕ) (s : State) (calls : List Call) (e : Entry) (r : List ℕ) (i j : ℕ) → TakenAfter n s calls e → i < n → j < n → j ≢ i → length r ≡ n
-    → unsuspected r i ≡ true → SuspectsAtMost n (tableLeft n s calls e) i r j → testsMade n (tableLeft n s calls e) i ≤ mostTests n r i
+    (n : ℕ) (s : State) (calls : List Call) (k : ℕ) (r : List ℕ) (i j : ℕ) → length (s .table) ≡ tableLength n → atStart n (s .table) ≡ true
+    → k ≤ length (roundsOf s calls .closed) → i < n → j < n → j ≢ i → length r ≡ n → unsuspected r i ≡ true
+    → SuspectsAtMost n (endOf s calls k) i r j → testsBy i (roundAt s calls k) ≤ mostTests n r i
