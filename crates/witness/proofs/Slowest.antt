@@ -1,134 +1,290 @@
--- The exact wait cannot be shortened: in a computed plant of 4, 8, 16 and 32 boards one round less leaves a dead board unsuspected.
+-- The exact wait cannot be shortened at the sizes listed: a computed plant of each.
 -- Assumes nothing.
-use mathlib.Core.Path.{_≡_, refl, ap}
-use mathlib.Core.Logic.{by-cases}
-use mathlib.Core.Bool.{Bool, true, not, _&&_}
-use mathlib.Core.List.{List, [], _∷_, append-nil}
-use Prim.Native.Nat.{ℕ, suc, _+_, _-_, _≤_, _<_}
-use native.Mathlib.Decide.{decLt}
-use native.Mathlib.Omega.{arith}
-use borrow.Author.Tests.{eqb-true, ltb-true}
-use lib.Dec.{eqb, ltb}
-use lib.ListN.{length}
-use Rattle.lists.proofs.BoolLaws.{by-bool}
-use Rattle.lists.proofs.SearchLaws.{both}
-use Rattle.table.proofs.SizeLaws.{size-bounds}
-use Rattle.lists.specs.Sums.{bit}
-use Rattle.table.specs.Sizes.{isSize, dimension}
-use Rattle.table.specs.Table.{tableLength, suspects, live}
-use Rattle.table.specs.Rules.{notLive}
-use Rattle.table.specs.Fresh.{freshTable}
-use Rattle.lists.specs.Iterate.{iterate}
-use Rattle.turn.specs.Turn.{crash, kindTurn}
-use Rattle.plant.specs.Entry.{State, stateOf, entryOf, entryNumber, after}
-use Rattle.plant.specs.Run.{entries, startNumber}
-use Rattle.detection.specs.Runs.{Call, Taken, afterRuns, takenFrom, takenIn, takenAll, crashes, isLate}
-use Rattle.detection.specs.Rounds.{allTaken}
-use Rattle.table.specs.Properties.{atStart, liveCount, noneSuspected}
-use Rattle.detection.specs.Claim.{Premises, exactWait}
-use Rattle.witness.specs.Sooner.{NoneSooner}
-use Rattle.witness.proofs.Computing.{wholeRun, turnsOf, callWith}
+use mathlib.Core.Path.{refl}
+use mathlib.Core.List.{List, [], _∷_}
+use Rattle.detection.specs.Claim.{exactWait}
+use Rattle.witness.specs.Sooner.{NoneSooner, NoneSoonerAtEach, shownSizes}
+use Rattle.witness.proofs.Computing.{wholeRun, turnsOf}
+use Rattle.witness.proofs.Sooner.{crashed, turned, shows, none-sooner}
 
--- the first `lives` boards live, the others crashed, nothing suspected
-unfoldable boards : ℕ → ℕ → List ℕ
-boards lives n = iterate (λ k t. crash n t (k + lives)) (n - lives) (freshTable n)
+-- who unfolds this name computes whether a plant shows it
+unfoldable computes : Unit {0}
+unfolding wholeRun turnsOf exactWait crashed turned shows
+computes = tt
 
-abbrev firstLive : ℕ → ℕ → State
-firstLive lives n = stateOf (boards lives n) 0 0
+-- the plants of samples/slowest.txt without their last round: the size, the dead boards, the turns, a live board and a dead one that it does
+-- not suspect then
+none-sooner-3 : NoneSooner 3
+unfolding computes
+none-sooner-3 =
+    none-sooner 3 (2 ∷ [])
+    (1 ∷ 1 ∷ 0 ∷ 0 ∷ 0 ∷ [])
+    1 2 refl
 
--- one run of turns
-abbrev turnsOnly : ℕ → List ℕ → List Call
-turnsOnly n stations = callWith n (turnsOf stations) ∷ []
+none-sooner-4 : NoneSooner 4
+unfolding computes
+none-sooner-4 =
+    none-sooner 4 (2 ∷ 3 ∷ [])
+    (1 ∷ 0 ∷ 1 ∷ 1 ∷ 0 ∷ 0 ∷ [])
+    0 3 refl
 
--- the table is one of those that the claim describes; board 0 is live and the last board is not
-abbrev Described : ℕ → State → Type 0
-Described n s =
-    (isSize n ≡ true) × (length (s .table) ≡ tableLength n) × (atStart n (s .table) ≡ true) × (ltb 1 (liveCount n (s .table)) ≡ true)
-    × (noneSuspected n (s .table) ≡ true) × (live n (s .table) 0 ≡ true) × (notLive n (s .table) (n - 1) ≡ true)
+none-sooner-5 : NoneSooner 5
+unfolding computes
+none-sooner-5 =
+    none-sooner 5 (0 ∷ 1 ∷ 4 ∷ [])
+    (3 ∷ 2 ∷ 3 ∷ 3 ∷ 2 ∷ 2 ∷ 3 ∷ 3 ∷ 3 ∷ 2 ∷ 2 ∷ 2 ∷ 2 ∷ [])
+    3 4 refl
 
--- one round less than the exact wait has closed, and board 0 does not suspect the last board
-abbrev unseen : ℕ → State → Bool
-unseen n end = eqb (suc (end .rounds)) (exactWait (dimension n)) && eqb (suspects n (end .table) 0 (n - 1)) 0
+none-sooner-6 : NoneSooner 6
+unfolding computes
+none-sooner-6 =
+    none-sooner 6 (0 ∷ 1 ∷ 4 ∷ 5 ∷ [])
+    (2 ∷ 3 ∷ 2 ∷ 2 ∷ 3 ∷ 3 ∷ 3 ∷ 3 ∷ 2 ∷ 2 ∷ 3 ∷ 3 ∷ 2 ∷ 2 ∷ [])
+    2 5 refl
 
--- turns are neither crashes nor late replies
-module _ (q : Taken → Bool) (turns : (n : ℕ) (s : State) (i : ℕ) → q (record { size = n; before = s; entry = entryOf kindTurn i }) ≡ true) where
-  turns-from : (n : ℕ) (s : State) (stations : List ℕ) → allTaken q (takenFrom n s (entries (turnsOf stations))) ≡ true
-  unfolding allTaken takenFrom entries turnsOf
-  turns-from n s [] = refl
-  turns-from n s (i ∷ is) =
-      let e = entryOf kindTurn i in
-      by-bool (eqb (entryNumber n s e) 0) (λ b. rw (b, turns n s i) (turns-from n (after n s e) is)) (λ b. rw b)
+none-sooner-7 : NoneSooner 7
+unfolding computes
+none-sooner-7 =
+    none-sooner 7 (0 ∷ 1 ∷ 4 ∷ 5 ∷ 6 ∷ [])
+    (3 ∷ 2 ∷ 3 ∷ 2 ∷ 3 ∷ 2 ∷ 2 ∷ 2 ∷ 2 ∷ 2 ∷ 3 ∷ 3 ∷ 2 ∷ 2 ∷ 3 ∷ 3 ∷ [])
+    2 5 refl
 
-  all-turns : (n : ℕ) (s : State) (stations : List ℕ) → allTaken q (takenAll s (turnsOnly n stations)) ≡ true
-  unfolding allTaken takenAll takenIn
-  all-turns n s stations =
-      let c = callWith n (turnsOf stations) in
-      rw (append-nil (takenIn s c))
-      (by-bool (eqb (startNumber n (s .table) (length (c .schedule)) (length (c .sheet))) 0) (λ b. rw b (turns-from n s stations)) (λ b. rw b))
+none-sooner-8 : NoneSooner 8
+unfolding computes
+none-sooner-8 =
+    none-sooner 8 (0 ∷ 1 ∷ 2 ∷ 3 ∷ 4 ∷ 5 ∷ [])
+    (7 ∷ 6 ∷ 7 ∷ 7 ∷ 7 ∷ 6 ∷ 6 ∷ 6 ∷ 7 ∷ 6 ∷ 6 ∷ 7 ∷ 6 ∷ 6 ∷ 7 ∷ 7 ∷ 6 ∷ 7 ∷ [])
+    6 1 refl
 
--- by a claim within fewer rounds board 0 would suspect the last board
-none-sooner : (n lives : ℕ) (stations : List ℕ) → Described n (firstLive lives n)
-    → unseen n (afterRuns (firstLive lives n) (turnsOnly n stations)) ≡ true → NoneSooner n
-none-sooner n lives stations plant left enough claim = by-cases (decLt enough (exactWait (dimension n))) early (λ l. omega arith)
-  where
-    s : State
-    s = firstLive lives n
+none-sooner-9 : NoneSooner 9
+unfolding computes
+none-sooner-9 =
+    none-sooner 9 (0 ∷ 1 ∷ 2 ∷ 3 ∷ 8 ∷ [])
+    (5 ∷ 5 ∷ 6 ∷ 6 ∷ 4 ∷ 4 ∷ 7 ∷ 7 ∷ 5 ∷ 5 ∷ 6 ∷ 6 ∷ 4 ∷ 4 ∷ 7 ∷ 7 ∷ 4 ∷ 4 ∷ 4 ∷ 5 ∷ 6 ∷ 5 ∷ 4 ∷ 5 ∷ 7 ∷ 5 ∷ 6 ∷ 7 ∷ 7 ∷ 6 ∷ 7 ∷ 6 ∷ 5 ∷ 5 ∷ 5 ∷
+    5 ∷ 6 ∷ 6 ∷ 6 ∷ 6 ∷ 4 ∷ 4 ∷ 4 ∷ 7 ∷ 7 ∷ 7 ∷ 7 ∷ 4 ∷ 4 ∷ [])
+    5 8 refl
 
-    premises : Premises n s (turnsOnly n stations)
-    premises = record {
-      size = plant .0;
-      long = plant .1;
-      start = plant .2;
-      twoLive = ltb-true 1 (liveCount n (s .table)) (plant .3);
-      trusted = plant .4;
-      noCrash = all-turns (λ x. not (crashes x)) (λ n s i. refl) n s stations;
-      noLate = all-turns (λ x. not (isLate x)) (λ n s i. refl) n s stations;
-    }
+none-sooner-10 : NoneSooner 10
+unfolding computes
+none-sooner-10 =
+    none-sooner 10 (0 ∷ 1 ∷ 2 ∷ 3 ∷ 4 ∷ 5 ∷ 8 ∷ 9 ∷ [])
+    (6 ∷ 7 ∷ 6 ∷ 7 ∷ 6 ∷ 7 ∷ 7 ∷ 6 ∷ 7 ∷ 7 ∷ 7 ∷ 6 ∷ 6 ∷ 6 ∷ 7 ∷ 7 ∷ 6 ∷ 6 ∷ 6 ∷ 6 ∷ 7 ∷ 6 ∷ 6 ∷ 6 ∷ 7 ∷ 6 ∷ 7 ∷ 7 ∷ 7 ∷ 7 ∷ [])
+    6 9 refl
 
-    end : State
-    end = afterRuns s (turnsOnly n stations)
+none-sooner-11 : NoneSooner 11
+unfolding computes
+none-sooner-11 =
+    none-sooner 11 (0 ∷ 1 ∷ 2 ∷ 3 ∷ 8 ∷ 9 ∷ 10 ∷ [])
+    (6 ∷ 6 ∷ 7 ∷ 7 ∷ 4 ∷ 4 ∷ 5 ∷ 5 ∷ 6 ∷ 6 ∷ 7 ∷ 7 ∷ 4 ∷ 4 ∷ 5 ∷ 5 ∷ 5 ∷ 5 ∷ 5 ∷ 7 ∷ 6 ∷ 5 ∷ 4 ∷ 7 ∷ 4 ∷ 6 ∷ 4 ∷ 6 ∷ 6 ∷ 7 ∷ 6 ∷ 4 ∷ 4 ∷ 7 ∷ 7 ∷
+    6 ∷ 7 ∷ 7 ∷ 7 ∷ 4 ∷ 5 ∷ 4 ∷ 4 ∷ 4 ∷ 4 ∷ 6 ∷ 6 ∷ 6 ∷ 6 ∷ 5 ∷ 5 ∷ 5 ∷ 5 ∷ [])
+    4 9 refl
 
-    early : enough < exactWait (dimension n) → exactWait (dimension n) ≤ enough
-    early l =
-        let after = claim s (turnsOnly n stations) premises in
-        let seen = both (eqb (suc (end .rounds)) (exactWait (dimension n))) (eqb (suspects n (end .table) 0 (n - 1)) 0) left in
-        let closed = eqb-true (suc (end .rounds)) (exactWait (dimension n)) (seen .0) in
-        let big = size-bounds n (plant .0) in
-        let known = after .known (omega (arith, after .roundsTally, closed)) 0 (n - 1) (omega arith) (omega arith) (plant .5) in
-        absurd (omega (arith, known, eqb-true (suspects n (end .table) 0 (n - 1)) 0 (seen .1), ap bit (plant .6)))
+none-sooner-12 : NoneSooner 12
+unfolding computes
+none-sooner-12 =
+    none-sooner 12 (0 ∷ 1 ∷ 2 ∷ 3 ∷ 7 ∷ 8 ∷ 9 ∷ 10 ∷ 11 ∷ [])
+    (6 ∷ 4 ∷ 5 ∷ 6 ∷ 4 ∷ 6 ∷ 6 ∷ 5 ∷ 6 ∷ 5 ∷ 4 ∷ 6 ∷ 5 ∷ 4 ∷ 6 ∷ 5 ∷ 5 ∷ 5 ∷ 5 ∷ 4 ∷ 4 ∷ 4 ∷ 6 ∷ 4 ∷ 4 ∷ 6 ∷ 6 ∷ 6 ∷ 6 ∷ 6 ∷ 6 ∷ 5 ∷ 4 ∷ 4 ∷ 6 ∷
+    4 ∷ 4 ∷ 5 ∷ 6 ∷ 4 ∷ 6 ∷ 6 ∷ 5 ∷ 6 ∷ 6 ∷ 6 ∷ 5 ∷ 5 ∷ 6 ∷ [])
+    4 9 refl
 
--- the first round of samples/slowest/4-boards.txt
-pub none-sooner-4 : NoneSooner 4
-unfolding wholeRun turnsOf boards exactWait
-none-sooner-4 = none-sooner 4 2 (0 ∷ 0 ∷ 0 ∷ 1 ∷ 1 ∷ 1 ∷ []) (refl, refl, refl, refl, refl, refl, refl) refl
+none-sooner-13 : NoneSooner 13
+unfolding computes
+none-sooner-13 =
+    none-sooner 13 (0 ∷ 1 ∷ 2 ∷ 3 ∷ 8 ∷ 9 ∷ 10 ∷ 11 ∷ 12 ∷ [])
+    (6 ∷ 6 ∷ 5 ∷ 5 ∷ 4 ∷ 4 ∷ 7 ∷ 7 ∷ 6 ∷ 6 ∷ 5 ∷ 5 ∷ 4 ∷ 4 ∷ 4 ∷ 7 ∷ 7 ∷ 6 ∷ 7 ∷ 7 ∷ 7 ∷ 7 ∷ 6 ∷ 6 ∷ 6 ∷ 5 ∷ 4 ∷ 4 ∷ 4 ∷ 4 ∷ 4 ∷ 4 ∷ 5 ∷ 5 ∷ 5 ∷
+    5 ∷ 4 ∷ 4 ∷ 6 ∷ 6 ∷ 5 ∷ 5 ∷ 5 ∷ 7 ∷ 5 ∷ 7 ∷ 4 ∷ 6 ∷ 7 ∷ 7 ∷ 6 ∷ 5 ∷ 4 ∷ 7 ∷ 4 ∷ 4 ∷ 6 ∷ [])
+    4 10 refl
 
--- the first two rounds of samples/slowest/8-boards.txt
-pub none-sooner-8 : NoneSooner 8
-unfolding wholeRun turnsOf boards exactWait
-none-sooner-8 = none-sooner 8 2 (
-    1 ∷ 0 ∷ 1 ∷ 1 ∷ 1 ∷ 0 ∷ 0 ∷ 0
-    ∷ 0 ∷ 1 ∷ 0 ∷ 0 ∷ 1 ∷ 1 ∷ 0 ∷ 0 ∷ 1 ∷ 1
-    ∷ []
-    ) (refl, refl, refl, refl, refl, refl, refl) refl
+none-sooner-14 : NoneSooner 14
+unfolding computes
+none-sooner-14 =
+    none-sooner 14 (2 ∷ 3 ∷ 4 ∷ 5 ∷ 6 ∷ 7 ∷ 8 ∷ 9 ∷ 10 ∷ 11 ∷ 12 ∷ 13 ∷ [])
+    (0 ∷ 1 ∷ 0 ∷ 0 ∷ 1 ∷ 1 ∷ 1 ∷ 1 ∷ 0 ∷ 0 ∷ 0 ∷ 1 ∷ 1 ∷ 0 ∷ 0 ∷ 0 ∷ 0 ∷ 0 ∷ 0 ∷ 1 ∷ 1 ∷ 1 ∷ 1 ∷ 1 ∷ 0 ∷ 0 ∷ 1 ∷ 0 ∷ 0 ∷ 0 ∷ 0 ∷ 1 ∷ 1 ∷ 1 ∷ 0 ∷
+    1 ∷ 0 ∷ 1 ∷ 1 ∷ 1 ∷ [])
+    0 13 refl
 
--- three rounds of two live boards; samples/slowest/16-boards.txt has four, and more turns
-pub none-sooner-16 : NoneSooner 16
-unfolding wholeRun turnsOf boards exactWait
-none-sooner-16 = none-sooner 16 2 (
-    0 ∷ 1 ∷ 0 ∷ 0 ∷ 0 ∷ 0 ∷ 1 ∷ 1 ∷ 1 ∷ 1
-    ∷ 0 ∷ 0 ∷ 0 ∷ 1 ∷ 0 ∷ 0 ∷ 0 ∷ 0 ∷ 1 ∷ 1 ∷ 1 ∷ 1 ∷ 1 ∷ 1
-    ∷ 0 ∷ 0 ∷ 0 ∷ 0 ∷ 0 ∷ 0 ∷ 0 ∷ 0 ∷ 0 ∷ 1 ∷ 1 ∷ 1 ∷ 1 ∷ 1 ∷ 1 ∷ 1 ∷ 1 ∷ 1
-    ∷ []
-    ) (refl, refl, refl, refl, refl, refl, refl) refl
+none-sooner-15 : NoneSooner 15
+unfolding computes
+none-sooner-15 =
+    none-sooner 15 (0 ∷ 1 ∷ 2 ∷ 3 ∷ 6 ∷ 7 ∷ 8 ∷ 9 ∷ 10 ∷ 11 ∷ 12 ∷ 13 ∷ 14 ∷ [])
+    (5 ∷ 4 ∷ 4 ∷ 4 ∷ 5 ∷ 5 ∷ 5 ∷ 4 ∷ 5 ∷ 4 ∷ 5 ∷ 5 ∷ 5 ∷ 4 ∷ 4 ∷ 4 ∷ 5 ∷ 5 ∷ 5 ∷ 4 ∷ 4 ∷ 4 ∷ 4 ∷ 4 ∷ 4 ∷ 4 ∷ 4 ∷ 4 ∷ 4 ∷ 5 ∷ 5 ∷ 5 ∷ 5 ∷ 5 ∷ 4 ∷
+    4 ∷ 4 ∷ 5 ∷ 5 ∷ 5 ∷ [])
+    4 9 refl
 
--- five rounds of four live boards; samples/slowest/32-boards.txt has six, and more turns
-pub none-sooner-32 : NoneSooner 32
-unfolding wholeRun turnsOf boards exactWait
-none-sooner-32 = none-sooner 32 4 (
-    0 ∷ 0 ∷ 1 ∷ 2 ∷ 2 ∷ 3 ∷ 2 ∷ 2 ∷ 3 ∷ 2 ∷ 2 ∷ 1 ∷ 3 ∷ 3 ∷ 3 ∷ 3 ∷ 0 ∷ 0 ∷ 0 ∷ 0 ∷ 1 ∷ 1 ∷ 1 ∷ 1 ∷ 0 ∷ 1 ∷ 1 ∷ 1 ∷ 1 ∷ 1 ∷ 1 ∷ 0
-    ∷ 0 ∷ 0 ∷ 0 ∷ 0 ∷ 2 ∷ 2 ∷ 2 ∷ 2 ∷ 3 ∷ 2 ∷ 2 ∷ 3 ∷ 3 ∷ 3 ∷ 3 ∷ 3 ∷ 3 ∷ 2 ∷ 2 ∷ 3 ∷ 3 ∷ 3 ∷ 3 ∷ 3 ∷ 2 ∷ 2 ∷ 2 ∷ 0 ∷ 0 ∷ 0 ∷ 1 ∷ 3
-    ∷ 3 ∷ 1 ∷ 1 ∷ 1 ∷ 0 ∷ 3 ∷ 2 ∷ 2 ∷ 3 ∷ 2 ∷ 0 ∷ 0 ∷ 0 ∷ 0 ∷ 1 ∷ 1 ∷ 1 ∷ 1 ∷ 2 ∷ 2 ∷ 2 ∷ 3 ∷ 3 ∷ 3 ∷ 3 ∷ 3 ∷ 2 ∷ 2 ∷ 3 ∷ 2 ∷ 2 ∷ 2
-    ∷ 3 ∷ 3 ∷ 2 ∷ 0 ∷ 1 ∷ 2 ∷ 1 ∷ 1 ∷ 1 ∷ 0 ∷ 0 ∷ 1 ∷ 0 ∷ 0 ∷ 0 ∷ 0 ∷ 1 ∷ 0 ∷ 0 ∷ 0 ∷ 1 ∷ 1 ∷ 1 ∷ 1 ∷ 0 ∷ 2 ∷ 3 ∷ 0 ∷ 0 ∷ 0 ∷ 0 ∷ 0
-    ∷ 0 ∷ 1 ∷ 0 ∷ 2 ∷ 1 ∷ 1 ∷ 3 ∷ 2 ∷ 3 ∷ 3 ∷ 2 ∷ 3 ∷ 1 ∷ 3 ∷ 0 ∷ 0 ∷ 2 ∷ 1 ∷ 1 ∷ 1 ∷ 1 ∷ 1 ∷ 1 ∷ 2 ∷ 2 ∷ 2 ∷ 2 ∷ 2 ∷ 3 ∷ 3 ∷ 3 ∷ 3
-    ∷ []
-    ) (refl, refl, refl, refl, refl, refl, refl) refl
+none-sooner-16 : NoneSooner 16
+unfolding computes
+none-sooner-16 =
+    none-sooner 16 (4 ∷ 5 ∷ 6 ∷ 7 ∷ 8 ∷ 9 ∷ 10 ∷ 11 ∷ 12 ∷ 13 ∷ 14 ∷ 15 ∷ [])
+    (0 ∷ 0 ∷ 2 ∷ 2 ∷ 3 ∷ 3 ∷ 1 ∷ 1 ∷ 0 ∷ 0 ∷ 0 ∷ 2 ∷ 2 ∷ 2 ∷ 3 ∷ 3 ∷ 3 ∷ 1 ∷ 1 ∷ 1 ∷ 3 ∷ 3 ∷ 2 ∷ 2 ∷ 1 ∷ 2 ∷ 0 ∷ 3 ∷ 3 ∷ 0 ∷ 2 ∷ 3 ∷ 1 ∷ 2 ∷ 2 ∷
+    1 ∷ 0 ∷ 1 ∷ 1 ∷ 0 ∷ 1 ∷ 0 ∷ 0 ∷ 3 ∷ 0 ∷ 2 ∷ 1 ∷ 0 ∷ 3 ∷ 3 ∷ 0 ∷ 2 ∷ 0 ∷ 0 ∷ 1 ∷ 1 ∷ 1 ∷ 3 ∷ 0 ∷ 3 ∷ 2 ∷ 3 ∷ 1 ∷ 1 ∷ 2 ∷ 2 ∷ 2 ∷ [])
+    0 15 refl
+
+none-sooner-17 : NoneSooner 17
+unfolding computes
+none-sooner-17 =
+    none-sooner 17 (0 ∷ 1 ∷ 2 ∷ 3 ∷ 4 ∷ 5 ∷ 6 ∷ 7 ∷ 12 ∷ 13 ∷ 14 ∷ 15 ∷ 16 ∷ [])
+    (10 ∷ 10 ∷ 9 ∷ 9 ∷ 8 ∷ 8 ∷ 11 ∷ 11 ∷ 10 ∷ 10 ∷ 10 ∷ 9 ∷ 9 ∷ 9 ∷ 8 ∷ 8 ∷ 8 ∷ 11 ∷ 11 ∷ 11 ∷ 11 ∷ 10 ∷ 11 ∷ 9 ∷ 11 ∷ 11 ∷ 8 ∷ 11 ∷ 10 ∷ 10 ∷
+    8 ∷ 9 ∷ 9 ∷ 10 ∷ 8 ∷ 9 ∷ 10 ∷ 10 ∷ 9 ∷ 8 ∷ 8 ∷ 8 ∷ 9 ∷ 11 ∷ 10 ∷ 9 ∷ 8 ∷ 9 ∷ 9 ∷ 9 ∷ 9 ∷ 9 ∷ 11 ∷ 11 ∷ 11 ∷ 11 ∷ 11 ∷ 8 ∷ 8 ∷ 8 ∷ 8 ∷ 8 ∷
+    10 ∷ 10 ∷ 10 ∷ 10 ∷ 10 ∷ 8 ∷ 8 ∷ 8 ∷ 8 ∷ 8 ∷ 8 ∷ 9 ∷ 10 ∷ 11 ∷ 10 ∷ 10 ∷ 10 ∷ 10 ∷ 10 ∷ 9 ∷ 9 ∷ 9 ∷ 9 ∷ 9 ∷ 11 ∷ 11 ∷ 11 ∷ 11 ∷ 11 ∷ 9 ∷ 9 ∷
+    9 ∷ 9 ∷ 9 ∷ 9 ∷ 10 ∷ 10 ∷ 10 ∷ 10 ∷ 10 ∷ 10 ∷ 8 ∷ 8 ∷ 8 ∷ 8 ∷ 8 ∷ 11 ∷ 11 ∷ 11 ∷ 11 ∷ 11 ∷ 11 ∷ 8 ∷ 8 ∷ [])
+    9 16 refl
+
+none-sooner-18 : NoneSooner 18
+unfolding computes
+none-sooner-18 =
+    none-sooner 18 (0 ∷ 1 ∷ 2 ∷ 3 ∷ 4 ∷ 5 ∷ 6 ∷ 7 ∷ 12 ∷ 13 ∷ 14 ∷ 15 ∷ 16 ∷ 17 ∷ [])
+    (9 ∷ 9 ∷ 8 ∷ 8 ∷ 11 ∷ 11 ∷ 10 ∷ 10 ∷ 9 ∷ 9 ∷ 9 ∷ 8 ∷ 8 ∷ 8 ∷ 11 ∷ 11 ∷ 11 ∷ 10 ∷ 10 ∷ 10 ∷ 10 ∷ 11 ∷ 11 ∷ 10 ∷ 11 ∷ 11 ∷ 8 ∷ 8 ∷ 8 ∷ 11 ∷
+    10 ∷ 9 ∷ 9 ∷ 8 ∷ 8 ∷ 10 ∷ 10 ∷ 8 ∷ 10 ∷ 9 ∷ 9 ∷ 9 ∷ 9 ∷ 11 ∷ 9 ∷ 8 ∷ 11 ∷ 8 ∷ 9 ∷ 11 ∷ 8 ∷ 10 ∷ 8 ∷ 9 ∷ 8 ∷ 8 ∷ 10 ∷ 11 ∷ 9 ∷ 11 ∷ 10 ∷ 10 ∷
+    10 ∷ 9 ∷ 11 ∷ 9 ∷ 10 ∷ 8 ∷ 8 ∷ 8 ∷ 8 ∷ 8 ∷ 8 ∷ 9 ∷ 11 ∷ 10 ∷ 11 ∷ 11 ∷ 11 ∷ 11 ∷ 11 ∷ 9 ∷ 9 ∷ 9 ∷ 9 ∷ 9 ∷ 9 ∷ 10 ∷ 10 ∷ 10 ∷ 10 ∷ 10 ∷ 10 ∷
+    10 ∷ 10 ∷ 11 ∷ 11 ∷ 10 ∷ 9 ∷ 10 ∷ 11 ∷ 10 ∷ 11 ∷ 11 ∷ 8 ∷ 8 ∷ 8 ∷ 9 ∷ 11 ∷ 8 ∷ 8 ∷ 9 ∷ 9 ∷ 9 ∷ 9 ∷ 9 ∷ 8 ∷ 8 ∷ [])
+    9 16 refl
+
+none-sooner-19 : NoneSooner 19
+unfolding computes
+none-sooner-19 =
+    none-sooner 19 (0 ∷ 1 ∷ 2 ∷ 3 ∷ 4 ∷ 5 ∷ 6 ∷ 7 ∷ 8 ∷ 9 ∷ 10 ∷ 11 ∷ 16 ∷ 17 ∷ 18 ∷ [])
+    (15 ∷ 15 ∷ 14 ∷ 14 ∷ 13 ∷ 13 ∷ 12 ∷ 12 ∷ 15 ∷ 15 ∷ 15 ∷ 14 ∷ 14 ∷ 14 ∷ 13 ∷ 13 ∷ 13 ∷ 12 ∷ 12 ∷ 12 ∷ 15 ∷ 14 ∷ 15 ∷ 14 ∷ 13 ∷ 12 ∷ 14 ∷ 14 ∷
+    15 ∷ 14 ∷ 13 ∷ 12 ∷ 15 ∷ 15 ∷ 13 ∷ 12 ∷ 13 ∷ 12 ∷ 15 ∷ 13 ∷ 13 ∷ 12 ∷ 12 ∷ 15 ∷ 14 ∷ 12 ∷ 13 ∷ 12 ∷ 12 ∷ 12 ∷ 12 ∷ 12 ∷ 14 ∷ 14 ∷ 14 ∷ 14 ∷
+    14 ∷ 14 ∷ 13 ∷ 13 ∷ 13 ∷ 13 ∷ 13 ∷ 15 ∷ 15 ∷ 15 ∷ 15 ∷ 15 ∷ 12 ∷ 13 ∷ 13 ∷ 13 ∷ 13 ∷ 13 ∷ 13 ∷ 14 ∷ 15 ∷ 14 ∷ 14 ∷ 14 ∷ 14 ∷ 14 ∷ 14 ∷ 12 ∷
+    12 ∷ 12 ∷ 12 ∷ 12 ∷ 12 ∷ 15 ∷ 15 ∷ 15 ∷ 15 ∷ 15 ∷ 14 ∷ 15 ∷ 15 ∷ 15 ∷ 15 ∷ 15 ∷ 15 ∷ 13 ∷ 12 ∷ 13 ∷ 13 ∷ 13 ∷ 13 ∷ 13 ∷ 13 ∷ 14 ∷ 14 ∷ 14 ∷
+    14 ∷ 14 ∷ 14 ∷ 12 ∷ 12 ∷ 12 ∷ 12 ∷ 12 ∷ 12 ∷ [])
+    12 17 refl
+
+none-sooner-20 : NoneSooner 20
+unfolding computes
+none-sooner-20 =
+    none-sooner 20 (0 ∷ 1 ∷ 2 ∷ 3 ∷ 4 ∷ 5 ∷ 6 ∷ 7 ∷ 12 ∷ 13 ∷ 14 ∷ 15 ∷ 16 ∷ 17 ∷ 18 ∷ 19 ∷ [])
+    (11 ∷ 11 ∷ 10 ∷ 10 ∷ 8 ∷ 8 ∷ 9 ∷ 9 ∷ 11 ∷ 11 ∷ 11 ∷ 10 ∷ 10 ∷ 10 ∷ 8 ∷ 8 ∷ 8 ∷ 9 ∷ 9 ∷ 9 ∷ 10 ∷ 10 ∷ 10 ∷ 10 ∷ 11 ∷ 9 ∷ 8 ∷ 10 ∷ 8 ∷ 8 ∷ 9 ∷
+    9 ∷ 8 ∷ 9 ∷ 11 ∷ 11 ∷ 8 ∷ 8 ∷ 11 ∷ 11 ∷ 9 ∷ 9 ∷ 11 ∷ 8 ∷ 10 ∷ 9 ∷ 8 ∷ 11 ∷ 10 ∷ 10 ∷ 9 ∷ 10 ∷ 11 ∷ 10 ∷ 10 ∷ 8 ∷ 9 ∷ 10 ∷ 11 ∷ 11 ∷ 8 ∷ 8 ∷
+    11 ∷ 9 ∷ 8 ∷ 11 ∷ 9 ∷ 9 ∷ 9 ∷ 9 ∷ 9 ∷ 9 ∷ 9 ∷ 9 ∷ 8 ∷ 10 ∷ 11 ∷ 10 ∷ 10 ∷ 10 ∷ 10 ∷ 10 ∷ 10 ∷ 8 ∷ 8 ∷ 8 ∷ 8 ∷ 8 ∷ 8 ∷ 11 ∷ 11 ∷ 11 ∷ 11 ∷
+    11 ∷ 11 ∷ 8 ∷ 11 ∷ 11 ∷ 10 ∷ 10 ∷ 11 ∷ 8 ∷ 10 ∷ 10 ∷ 9 ∷ 9 ∷ 8 ∷ 9 ∷ 10 ∷ 11 ∷ 11 ∷ 9 ∷ 9 ∷ 10 ∷ 8 ∷ 8 ∷ 9 ∷ 10 ∷ 11 ∷ 8 ∷ 9 ∷ 11 ∷ 8 ∷ [])
+    8 17 refl
+
+none-sooner-21 : NoneSooner 21
+unfolding computes
+none-sooner-21 =
+    none-sooner 21 (0 ∷ 1 ∷ 2 ∷ 3 ∷ 4 ∷ 5 ∷ 6 ∷ 7 ∷ 8 ∷ 9 ∷ 10 ∷ 11 ∷ 16 ∷ 17 ∷ 18 ∷ 19 ∷ 20 ∷ [])
+    (14 ∷ 14 ∷ 15 ∷ 15 ∷ 13 ∷ 13 ∷ 12 ∷ 12 ∷ 14 ∷ 14 ∷ 14 ∷ 15 ∷ 15 ∷ 15 ∷ 13 ∷ 13 ∷ 13 ∷ 12 ∷ 12 ∷ 12 ∷ 14 ∷ 15 ∷ 14 ∷ 15 ∷ 13 ∷ 13 ∷ 13 ∷ 13 ∷
+    14 ∷ 15 ∷ 12 ∷ 14 ∷ 13 ∷ 13 ∷ 14 ∷ 15 ∷ 15 ∷ 12 ∷ 15 ∷ 12 ∷ 12 ∷ 12 ∷ 12 ∷ 15 ∷ 15 ∷ 15 ∷ 15 ∷ 15 ∷ 15 ∷ 12 ∷ 12 ∷ 12 ∷ 12 ∷ 12 ∷ 12 ∷ 14 ∷
+    14 ∷ 14 ∷ 14 ∷ 14 ∷ 14 ∷ 14 ∷ 13 ∷ 13 ∷ 13 ∷ 13 ∷ 13 ∷ 13 ∷ 13 ∷ 13 ∷ 13 ∷ 13 ∷ 13 ∷ 13 ∷ 12 ∷ 15 ∷ 14 ∷ 15 ∷ 15 ∷ 15 ∷ 15 ∷ 15 ∷ 15 ∷ 12 ∷
+    12 ∷ 12 ∷ 12 ∷ 14 ∷ 14 ∷ 14 ∷ 14 ∷ 14 ∷ 14 ∷ 12 ∷ 12 ∷ 12 ∷ 15 ∷ 14 ∷ 15 ∷ 15 ∷ 15 ∷ 15 ∷ 15 ∷ 15 ∷ 12 ∷ 13 ∷ 12 ∷ 12 ∷ 12 ∷ 12 ∷ 12 ∷ 12 ∷
+    12 ∷ 14 ∷ 14 ∷ 14 ∷ 14 ∷ 14 ∷ 14 ∷ 13 ∷ 13 ∷ 13 ∷ 13 ∷ 13 ∷ 13 ∷ [])
+    12 17 refl
+
+none-sooner-22 : NoneSooner 22
+unfolding computes
+none-sooner-22 =
+    none-sooner 22 (0 ∷ 1 ∷ 2 ∷ 3 ∷ 4 ∷ 5 ∷ 6 ∷ 7 ∷ 8 ∷ 9 ∷ 10 ∷ 11 ∷ 16 ∷ 17 ∷ 18 ∷ 19 ∷ 20 ∷ 21 ∷ [])
+    (13 ∷ 13 ∷ 12 ∷ 12 ∷ 15 ∷ 15 ∷ 14 ∷ 14 ∷ 13 ∷ 13 ∷ 13 ∷ 12 ∷ 12 ∷ 12 ∷ 15 ∷ 15 ∷ 15 ∷ 14 ∷ 14 ∷ 14 ∷ 12 ∷ 13 ∷ 12 ∷ 13 ∷ 15 ∷ 13 ∷ 13 ∷ 13 ∷
+    12 ∷ 12 ∷ 14 ∷ 14 ∷ 12 ∷ 14 ∷ 15 ∷ 15 ∷ 15 ∷ 14 ∷ 14 ∷ 15 ∷ 15 ∷ 12 ∷ 14 ∷ 13 ∷ 12 ∷ 14 ∷ 15 ∷ 14 ∷ 14 ∷ 14 ∷ 14 ∷ 14 ∷ 12 ∷ 12 ∷ 12 ∷ 12 ∷
+    12 ∷ 15 ∷ 15 ∷ 15 ∷ 15 ∷ 15 ∷ 13 ∷ 13 ∷ 13 ∷ 13 ∷ 13 ∷ 13 ∷ 13 ∷ 14 ∷ 14 ∷ 14 ∷ 14 ∷ 14 ∷ 14 ∷ 13 ∷ 13 ∷ 13 ∷ 13 ∷ 13 ∷ 13 ∷ 13 ∷ 13 ∷ 15 ∷
+    15 ∷ 15 ∷ 15 ∷ 15 ∷ 15 ∷ 15 ∷ 12 ∷ 12 ∷ 12 ∷ 12 ∷ 12 ∷ 12 ∷ 12 ∷ 12 ∷ 15 ∷ 14 ∷ 15 ∷ 15 ∷ 15 ∷ 15 ∷ 15 ∷ 15 ∷ 13 ∷ 12 ∷ 13 ∷ 13 ∷ 13 ∷ 13 ∷
+    13 ∷ 13 ∷ 13 ∷ 14 ∷ 14 ∷ 14 ∷ 14 ∷ 12 ∷ 12 ∷ 12 ∷ 12 ∷ 12 ∷ 12 ∷ 12 ∷ 14 ∷ 14 ∷ [])
+    12 18 refl
+
+none-sooner-23 : NoneSooner 23
+unfolding computes
+none-sooner-23 =
+    none-sooner 23 (0 ∷ 1 ∷ 2 ∷ 3 ∷ 4 ∷ 5 ∷ 6 ∷ 7 ∷ 8 ∷ 9 ∷ 10 ∷ 11 ∷ 16 ∷ 17 ∷ 18 ∷ 19 ∷ 20 ∷ 21 ∷ 22 ∷ [])
+    (14 ∷ 14 ∷ 15 ∷ 15 ∷ 13 ∷ 13 ∷ 12 ∷ 12 ∷ 14 ∷ 14 ∷ 14 ∷ 15 ∷ 15 ∷ 15 ∷ 13 ∷ 13 ∷ 13 ∷ 12 ∷ 12 ∷ 12 ∷ 14 ∷ 14 ∷ 14 ∷ 15 ∷ 14 ∷ 14 ∷ 13 ∷ 12 ∷
+    12 ∷ 12 ∷ 13 ∷ 15 ∷ 12 ∷ 15 ∷ 13 ∷ 15 ∷ 13 ∷ 15 ∷ 12 ∷ 12 ∷ 15 ∷ 13 ∷ 13 ∷ 12 ∷ 12 ∷ 12 ∷ 12 ∷ 12 ∷ 12 ∷ 15 ∷ 15 ∷ 15 ∷ 15 ∷ 15 ∷ 15 ∷ 14 ∷
+    14 ∷ 14 ∷ 14 ∷ 14 ∷ 14 ∷ 14 ∷ 14 ∷ 13 ∷ 13 ∷ 13 ∷ 13 ∷ 13 ∷ 13 ∷ 12 ∷ 13 ∷ 13 ∷ 13 ∷ 13 ∷ 13 ∷ 13 ∷ 15 ∷ 14 ∷ 15 ∷ 15 ∷ 15 ∷ 15 ∷ 15 ∷ 15 ∷
+    12 ∷ 12 ∷ 12 ∷ 12 ∷ 14 ∷ 14 ∷ 14 ∷ 14 ∷ 14 ∷ 14 ∷ 14 ∷ 12 ∷ 12 ∷ 12 ∷ 15 ∷ 14 ∷ 15 ∷ 15 ∷ 15 ∷ 15 ∷ 15 ∷ 15 ∷ 14 ∷ 14 ∷ 14 ∷ 14 ∷ 14 ∷ 14 ∷
+    14 ∷ 13 ∷ 12 ∷ 12 ∷ 12 ∷ 12 ∷ 12 ∷ 12 ∷ 12 ∷ 12 ∷ 13 ∷ 13 ∷ 13 ∷ 13 ∷ 13 ∷ 13 ∷ 13 ∷ [])
+    12 17 refl
+
+none-sooner-24 : NoneSooner 24
+unfolding computes
+none-sooner-24 =
+    none-sooner 24 (0 ∷ 1 ∷ 2 ∷ 3 ∷ 4 ∷ 5 ∷ 6 ∷ 7 ∷ 8 ∷ 9 ∷ 10 ∷ 11 ∷ 16 ∷ 17 ∷ 18 ∷ 19 ∷ 20 ∷ 21 ∷ 22 ∷ 23 ∷ [])
+    (15 ∷ 15 ∷ 14 ∷ 14 ∷ 13 ∷ 13 ∷ 12 ∷ 12 ∷ 15 ∷ 15 ∷ 15 ∷ 14 ∷ 14 ∷ 14 ∷ 13 ∷ 13 ∷ 13 ∷ 12 ∷ 12 ∷ 12 ∷ 14 ∷ 15 ∷ 15 ∷ 13 ∷ 12 ∷ 15 ∷ 15 ∷ 12 ∷
+    12 ∷ 14 ∷ 12 ∷ 15 ∷ 12 ∷ 14 ∷ 12 ∷ 13 ∷ 13 ∷ 14 ∷ 13 ∷ 13 ∷ 13 ∷ 14 ∷ 14 ∷ 13 ∷ 14 ∷ 12 ∷ 14 ∷ 14 ∷ 15 ∷ 13 ∷ 12 ∷ 14 ∷ 12 ∷ 14 ∷ 15 ∷ 12 ∷
+    15 ∷ 13 ∷ 14 ∷ 12 ∷ 15 ∷ 13 ∷ 12 ∷ 15 ∷ 13 ∷ 15 ∷ 13 ∷ 15 ∷ 15 ∷ 12 ∷ 12 ∷ 13 ∷ 15 ∷ 12 ∷ 15 ∷ 12 ∷ 14 ∷ 13 ∷ 12 ∷ 13 ∷ 12 ∷ 13 ∷ 15 ∷ 15 ∷
+    15 ∷ 14 ∷ 14 ∷ 15 ∷ 13 ∷ 15 ∷ 14 ∷ 13 ∷ 14 ∷ 14 ∷ 13 ∷ 15 ∷ 14 ∷ 13 ∷ 14 ∷ 15 ∷ 15 ∷ 15 ∷ 15 ∷ 15 ∷ 15 ∷ 15 ∷ 15 ∷ 14 ∷ 14 ∷ 14 ∷ 14 ∷ 14 ∷
+    14 ∷ 14 ∷ 14 ∷ 13 ∷ 13 ∷ 13 ∷ 13 ∷ 13 ∷ 13 ∷ 13 ∷ 13 ∷ 12 ∷ 12 ∷ 12 ∷ 12 ∷ 12 ∷ 12 ∷ 12 ∷ 12 ∷ [])
+    13 16 refl
+
+-- five rounds of the boards 0 to 3; that of the file computes more slowly, since its live boards have high numbers
+none-sooner-32 : NoneSooner 32
+unfolding computes
+none-sooner-32 =
+    none-sooner 32 (4 ∷ 5 ∷ 6 ∷ 7 ∷ 8 ∷ 9 ∷ 10 ∷ 11 ∷ 12 ∷ 13 ∷ 14 ∷ 15 ∷ 16 ∷ 17 ∷ 18 ∷ 19 ∷ 20 ∷ 21 ∷ 22 ∷ 23 ∷ 24 ∷ 25 ∷ 26 ∷ 27 ∷ 28 ∷ 29 ∷ 30 ∷ 31 ∷ [])
+    (0 ∷ 0 ∷ 1 ∷ 2 ∷ 2 ∷ 3 ∷ 2 ∷ 2 ∷ 3 ∷ 2 ∷ 2 ∷ 1 ∷ 3 ∷ 3 ∷ 3 ∷ 3 ∷ 0 ∷ 0 ∷ 0 ∷ 0 ∷ 1 ∷ 1 ∷ 1 ∷ 1 ∷ 0 ∷ 1 ∷ 1 ∷ 1 ∷ 1 ∷ 1 ∷ 1 ∷ 0 ∷ 0 ∷ 0 ∷ 0 ∷
+    0 ∷ 2 ∷ 2 ∷ 2 ∷ 2 ∷ 3 ∷ 2 ∷ 2 ∷ 3 ∷ 3 ∷ 3 ∷ 3 ∷ 3 ∷ 3 ∷ 2 ∷ 2 ∷ 3 ∷ 3 ∷ 3 ∷ 3 ∷ 3 ∷ 2 ∷ 2 ∷ 2 ∷ 0 ∷ 0 ∷ 0 ∷ 1 ∷ 3 ∷ 3 ∷ 1 ∷ 1 ∷ 1 ∷ 0 ∷ 3 ∷
+    2 ∷ 2 ∷ 3 ∷ 2 ∷ 0 ∷ 0 ∷ 0 ∷ 0 ∷ 1 ∷ 1 ∷ 1 ∷ 1 ∷ 2 ∷ 2 ∷ 2 ∷ 3 ∷ 3 ∷ 3 ∷ 3 ∷ 3 ∷ 2 ∷ 2 ∷ 3 ∷ 2 ∷ 2 ∷ 2 ∷ 3 ∷ 3 ∷ 2 ∷ 0 ∷ 1 ∷ 2 ∷ 1 ∷ 1 ∷ 1 ∷
+    0 ∷ 0 ∷ 1 ∷ 0 ∷ 0 ∷ 0 ∷ 0 ∷ 1 ∷ 0 ∷ 0 ∷ 0 ∷ 1 ∷ 1 ∷ 1 ∷ 1 ∷ 0 ∷ 2 ∷ 3 ∷ 0 ∷ 0 ∷ 0 ∷ 0 ∷ 0 ∷ 0 ∷ 1 ∷ 0 ∷ 2 ∷ 1 ∷ 1 ∷ 3 ∷ 2 ∷ 3 ∷ 3 ∷ 2 ∷ 3 ∷
+    1 ∷ 3 ∷ 0 ∷ 0 ∷ 2 ∷ 1 ∷ 1 ∷ 1 ∷ 1 ∷ 1 ∷ 1 ∷ 2 ∷ 2 ∷ 2 ∷ 2 ∷ 2 ∷ 3 ∷ 3 ∷ 3 ∷ 3 ∷ [])
+    0 31 refl
+
+-- an end in itself
+pub none-sooner-at-each : NoneSoonerAtEach shownSizes
+none-sooner-at-each = (
+  none-sooner-3,
+  (
+    none-sooner-4,
+    (
+      none-sooner-5,
+      (
+        none-sooner-6,
+        (
+          none-sooner-7,
+          (
+            none-sooner-8,
+            (
+              none-sooner-9,
+              (
+                none-sooner-10,
+                (
+                  none-sooner-11,
+                  (
+                    none-sooner-12,
+                    (
+                      none-sooner-13,
+                      (
+                        none-sooner-14,
+                        (
+                          none-sooner-15,
+                          (
+                            none-sooner-16,
+                            (
+                              none-sooner-17,
+                              (
+                                none-sooner-18,
+                                (
+                                  none-sooner-19,
+                                  (
+                                    none-sooner-20,
+                                    (
+                                      none-sooner-21,
+                                      (
+                                        none-sooner-22,
+                                        (
+                                          none-sooner-23,
+                                          (
+                                            none-sooner-24,
+                                            (
+                                              none-sooner-32,
+                                              tt,
+                                            ),
+                                          ),
+                                        ),
+                                      ),
+                                    ),
+                                  ),
+                                ),
+                              ),
+                            ),
+                          ),
+                        ),
+                      ),
+                    ),
+                  ),
+                ),
+              ),
+            ),
+          ),
+        ),
+      ),
+    ),
+  ),
+)
