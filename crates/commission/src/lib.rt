@@ -62,9 +62,6 @@ fn tests(n: u8, row: &[u8], i: Station) -> u8
 fn is_due(row: &[u8], i: Station, m: Distance) -> bool
     ensures { λ r. ⌜ r ≡ due (now (row .entry)) (i .0) (m .0) ⌝ }
 {
-    if !due::stands(row, i, m) {
-        return false;
-    }
     let answer = due::due_or_ahead(row, i, m);
     let DueOrAhead::Due = answer else {
         return false;

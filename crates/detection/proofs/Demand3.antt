@@ -69,7 +69,8 @@ first-round n s calls given ok =
     trusted i j h g a b =
         let mine = every-at (λ k. every (noLiveSuspicion n t k) n) n i (given .trusted) h in
         let all : noLiveSuspicion n t i j ≡ true = every-at (noLiveSuspicion n t i) n j mine g in
-        eqb-true (suspects n t i j) 0 (rw (a, b) at all)
+        let notOne = eqb-false (suspects n t i j) 1 (not-true _ (rw (a, b) at all)) in
+        omega (arith, accepted-line n t ok i h .range j g)
 
     fresh : (i : ℕ) → i < n → Reset n t i
     fresh i h =

@@ -17,7 +17,7 @@ use Rattle.table.proofs.Levels.{level-is, level-bounds}
 use Rattle.station.specs.Groups.{distance}
 use Rattle.station.specs.Tests.{unsuspected, due}
 use Rattle.station.specs.Ahead.{Before}
-use Rattle.station.proofs.DueLaws.{unsuspected-at, unsuspected-absent, due-is}
+use Rattle.station.proofs.DueLaws.{unsuspected-at, unsuspected-absent}
 use Rattle.station.proofs.AheadLaws.{due-if-nobody-before}
 use Rattle.detection.proofs.Near.{Member, Ahead, member-distance}
 
@@ -47,7 +47,7 @@ pub due-holds : (r : List ℕ) (h x i : ℕ) → i < length r → x < length r �
 due-holds r h x i hi hx own member ahead =
     let pos : 0 < bitXor i x = omega (arith, member-distance h x i .0 member, xor-comm i x, pow-pos h) in
     let self : unsuspected r i ≡ true = unsuspected-at r i hi ∙ eq-eqb (getD r i 0) 0 own in
-    due-is r i (bitXor i x) (rw (xor-cancel i x) (lt-ltb x (length r) hx)) ∙ due-if-nobody-before r i (bitXor i x) self pos .1 before
+    due-if-nobody-before r i (bitXor i x) self pos .1 (rw (xor-cancel i x) (lt-ltb x (length r) hx), before)
   where
     before : (y : ℕ) → Before i (bitXor i x) y → unsuspected r y ≡ false
     before y b =

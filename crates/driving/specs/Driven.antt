@@ -2,7 +2,7 @@
 -- Assumes nothing.
 use mathlib.Core.Path.{_≡_}
 use mathlib.Core.Bool.{true}
-use mathlib.Core.List.{List, [], _∷_, _++_}
+use mathlib.Core.List.{List, [], _∷_, _++_, map}
 use Prim.Native.Nat.{ℕ, zero, suc, _+_, _≤_, _<_}
 use lib.Dec.{eqb}
 use lib.ListN.{length}
@@ -12,7 +12,7 @@ use Rattle.table.specs.Table.{suspects, live}
 use Rattle.table.specs.Rules.{notLive}
 use Rattle.turn.specs.Turn.{kindTurn}
 use Rattle.plant.specs.Entry.{State, entryOf, entryNumber}
-use Rattle.detection.specs.Runs.{Call, callOf, afterRuns, takenAll}
+use Rattle.detection.specs.Runs.{Call, callOf, afterRun, afterRuns, takenAll}
 use Rattle.detection.specs.Claim.{roundsOf, Premises, Conclusion, demandWait}
 use Rattle.granter.specs.Grant.{grantNumber}
 use Rattle.granter.specs.Drive.{Stand, standAt, grantedAt, afterGrants, drive}
@@ -48,15 +48,42 @@ pub record TurnByTurn (n : ℕ) (s : State) (last : ℕ) : Type 0 where
 abbrev pub EveryDriveTurnByTurn : Type 0
 EveryDriveTurnByTurn = (n : ℕ) (s : State) (last : ℕ) → TurnByTurn n s last
 
--- drives of one size, one behind the other, each with any last number (a drive of another size is refused): table and tally after them,
--- the runs that they are, and how many of them answer 0
-unfoldable pub afterDrives : ℕ → State → List ℕ → State
-afterDrives n s [] = s
-afterDrives n s (last ∷ lasts) = afterDrives n (drive n s last .state) lasts
+-- a list that mixes runs and drives; a drive has any size and any last number
+pub data Step : Type 0 where
+  runStep : Call → Step
+  driveStep : ℕ → ℕ → Step
 
-unfoldable pub runsOfDrives : ℕ → State → List ℕ → List Call
-runsOfDrives n s [] = []
-runsOfDrives n s (last ∷ lasts) = runsOfDrive n s last ++ runsOfDrives n (drive n s last .state) lasts
+-- table and tally after a step, and the runs that it is
+abbrev pub afterStep : State → Step → State
+afterStep s (runStep c) = afterRun s c
+afterStep s (driveStep n last) = drive n s last .state
+
+abbrev pub runsOfStep : State → Step → List Call
+runsOfStep s (runStep c) = c ∷ []
+runsOfStep s (driveStep n last) = runsOfDrive n s last
+
+-- steps one behind the other, each with the table and tally that the one before left
+unfoldable pub afterSteps : State → List Step → State
+afterSteps s [] = s
+afterSteps s (x ∷ xs) = afterSteps (afterStep s x) xs
+
+unfoldable pub runsOfSteps : State → List Step → List Call
+runsOfSteps s [] = []
+runsOfSteps s (x ∷ xs) = runsOfStep s x ++ runsOfSteps (afterStep s x) xs
+
+-- demand 3 of such a list, within so many rounds by the dimension: the demand itself, of the runs that its steps are
+abbrev pub MixedWithin : (ℕ → ℕ) → Type 0
+MixedWithin rounds =
+    (n : ℕ) (s : State) (steps : List Step) → Premises n s (runsOfSteps s steps)
+    → Conclusion (rounds (dimension n)) n s (runsOfSteps s steps) (afterSteps s steps)
+
+-- drives of one size, each with any last number (a drive of another size is refused): table and tally after them, the runs that they are, and
+-- how many of them answer 0
+abbrev pub afterDrives : ℕ → State → List ℕ → State
+afterDrives n s lasts = afterSteps s (map (driveStep n) lasts)
+
+abbrev pub runsOfDrives : ℕ → State → List ℕ → List Call
+runsOfDrives n s lasts = runsOfSteps s (map (driveStep n) lasts)
 
 unfoldable pub ending : ℕ → State → List ℕ → ℕ
 ending n s [] = 0

@@ -10,19 +10,20 @@ use native.Mathlib.Nat.{mul-le-mul}
 use native.Mathlib.Numerals.{add-one}
 use native.Mathlib.Omega.{arith}
 use borrow.Author.Tests.{eqb-true, eqb-false, eq-eqb, ne-eqb, not-false}
+use lib.Dec.{eqb}
 use Rattle.table.specs.Rules.{someLive, roundOver, tableNumber}
 use Rattle.lists.proofs.BoolLaws.{by-bool, neither}
 use Rattle.lists.proofs.SearchLaws.{least-is, least-none}
 use Rattle.table.proofs.SizeLaws.{size-bounds}
 use Rattle.table.proofs.Accepting.{Accepted}
 use Rattle.table.proofs.CellLaws.{accepted-line}
-use Rattle.turn.specs.Turn.{kindTurn, turn}
+use Rattle.turn.specs.Turn.{kindTurn, kindCrash}
 use Rattle.plant.specs.Round.{afterRound}
 use Rattle.plant.specs.Entry.{Entry, State, entryOf, tallyFull, entryNumber, acted, after}
 use Rattle.plant.proofs.RulesKept.{accepted-kept}
 use Rattle.plant.proofs.RunLaws.{accepted-number}
 use Rattle.turn.proofs.StepLines.{Lines}
-use Rattle.granter.specs.Grant.{waits, grantNumber}
+use Rattle.granter.specs.Grant.{waits, granted, grantNumber}
 use Rattle.granter.specs.Drive.{Stand, standAt, grantedAt, grantTurn, afterGrants, ended, endedAfter, fullAfter, stops, grantsMade, driveOutcome, outcomeAfter, drive, Stopped}
 use Rattle.granter.proofs.GrantLaws.{Grantable, granted-waits, waits-parts, turn-taken}
 use Rattle.granter.proofs.TurnsLeft.{allLeft, all-left-most, turn-left}
@@ -62,6 +63,28 @@ driving-start n s last g = record {
   before = λ j h. absurd (omega arith);
 }
 
+-- a grant and its turn, of any kind but a crash
+module _ (n : ℕ) (s : State) (last kind : ℕ) (ok : Accepted n (s .table)) (someone : someLive n (s .table) ≡ true)
+    (noCrash : eqb kind kindCrash ≡ false) where
+  abbrev station : ℕ
+  station = granted n (s .table) last
+
+  abbrev entry : Entry
+  entry = entryOf kind station
+
+  -- fewer turns are left
+  pub turn-fewer : allLeft n (acted n (s .table) entry) < allLeft n (s .table)
+  unfolding acted
+  turn-fewer =
+      let w = granted-waits n (s .table) ok someone last in
+      rw noCrash (turn-left n (s .table) (ok .size) (lines-of n (s .table) ok) kind station (w .0) (eqb-false _ _ (waits-parts n (s .table) station (w .1) .1)))
+
+  -- also in the table that is left, if the round does not close
+  pub fewer-after : after n s entry .rounds ≡ s .rounds → allLeft n (after n s entry .table) < allLeft n (s .table)
+  unfolding after afterRound
+  fewer-after same =
+      by-bool (roundOver n (acted n (s .table) entry)) (λ over. absurd (omega (arith, rw over at same))) (λ over. rw over turn-fewer)
+
 -- the next grant
 module _ (n : ℕ) (p : Stand) (k : ℕ) (d : Driving n p k) where
   abbrev s : State
@@ -79,11 +102,8 @@ module _ (n : ℕ) (p : Stand) (k : ℕ) (d : Driving n p k) where
   pub chosen : (i < n) × (waits n (s .table) i ≡ true)
   chosen = granted-waits n (s .table) (d .ok) (still .1) (afterGrants n p k .last)
 
-  fewer : allLeft n (turn n (s .table) kindTurn i) < allLeft n (s .table)
-  fewer = turn-left n (s .table) (d .ok .size) (lines-of n (s .table) (d .ok)) kindTurn i (chosen .0) (eqb-false _ _ (waits-parts n (s .table) i (chosen .1) .1))
-
   pub next-within : suc k ≤ n * n
-  next-within = omega (arith, fewer, d .room)
+  next-within = omega (arith, turn-fewer n s (afterGrants n p k .last) kindTurn (d .ok) (still .1) refl, d .room)
 
   -- where no tally is full
   module _ (fits : fullAfter n p k ≡ false) where
@@ -95,11 +115,6 @@ module _ (n : ℕ) (p : Stand) (k : ℕ) (d : Driving n p k) where
     next-before j h =
         by-cases (decLt j k) (d .before j) (λ l. let same : j ≡ k = omega arith in rw (same, d .open-still, fits))
 
-    -- the round did not close with it: its table is that after the turn
-    unclosed : after n s e .rounds ≡ s .rounds → after n s e .table ≡ turn n (s .table) kindTurn i
-    unfolding after afterRound acted
-    unclosed same = by-bool (roundOver n (turn n (s .table) kindTurn i)) (λ o. absurd (omega (arith, rw o at same))) (λ o. rw o)
-
     pub next-driving : endedAfter n p (suc k) ≡ false → Driving n p (suc k)
     unfolding afterGrants grantTurn
     next-driving o =
@@ -107,7 +122,7 @@ module _ (n : ℕ) (p : Stand) (k : ℕ) (d : Driving n p k) where
         record {
           ok = accepted-kept n s e (d .ok) next-taken;
           open-still = o;
-          room = rw (unclosed same) (omega (arith, fewer, d .room));
+          room = omega (arith, fewer-after n s (afterGrants n p k .last) kindTurn (d .ok) (still .1) refl same, d .room);
           before = next-before;
         }
 

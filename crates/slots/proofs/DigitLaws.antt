@@ -12,13 +12,13 @@ use lib.ListN.{length}
 use lib.Pow.{pow-pos, pow-mono, pow-add}
 use Rattle.station.specs.Groups.{distance, stationAt, width, member}
 use Rattle.table.specs.Sizes.{level}
-use Rattle.station.specs.Tests.{unsuspected, answer, saysDue, stands, due}
+use Rattle.station.specs.Tests.{unsuspected, stands, due}
 use Rattle.station.specs.Ahead.{Before}
 use Rattle.lists.proofs.BoolLaws.{by-bool}
 use Rattle.lists.proofs.SearchLaws.{every-at, every-all}
 use Rattle.lists.proofs.Xor.{xor-cancel}
 use Rattle.table.proofs.Levels.{level-in, level-bounds}
-use Rattle.station.proofs.DueLaws.{answer-first, first-not, due-zero, due-is, due-not, due-present}
+use Rattle.station.proofs.DueLaws.{first-not, due-zero, due-not, due-stands}
 use Rattle.station.proofs.AheadLaws.{before-by-digits, due-if-nobody-before}
 use Rattle.slots.specs.Law.{suspectsGroup, bitSet, DueByDigits}
 
@@ -46,14 +46,12 @@ digit-below h g k small s =
 due-own : (r : List ℕ) (i m : ℕ) → due r i m ≡ true → unsuspected r i ≡ true
 due-own r i m isDue =
     by-bool (unsuspected r i) (λ e. e)
-    (λ e. absurd (true≢false (sym isDue ∙ due-not r i m (answer-first r i m ∙ first-not (unsuspected r) (stationAt i m) (level m) i e))))
+    (λ e. absurd (true≢false (sym isDue ∙ due-not r i m (first-not (unsuspected r) (stationAt i m) (level m) i e))))
 
 pub due-nobody : (r : List ℕ) (i m : ℕ) → due r i m ≡ true → (0 < m) × ((x : ℕ) → Before i m x → unsuspected r x ≡ false)
 due-nobody r i m isDue =
     let apart : ¬ (m ≡ 0) = λ z. true≢false (sym isDue ∙ rw z (due-zero r i)) in
-    let says : saysDue (answer r i m) ≡ true =
-    by-bool (saysDue (answer r i m)) (λ e. e) (λ e. absurd (true≢false (sym isDue ∙ due-not r i m e))) in
-    (omega arith, due-if-nobody-before r i m (due-own r i m isDue) (omega arith) .0 says)
+    (omega arith, due-if-nobody-before r i m (due-own r i m isDue) (omega arith) .0 isDue .1)
 
 -- i suspects whole the own group of each digit of k that is set: what the law says, by digits and not by levels
 abbrev pub Whole : List ℕ → ℕ → ℕ → Type 0
@@ -92,9 +90,8 @@ module _ (r : List ℕ) (i h k : ℕ) (small : k < 2 ^ h) where
 
   pub due-digits : (due r i m ≡ true) ↔ ((unsuspected r i ≡ true) × (stands r i m ≡ true) × Whole r i k)
   due-digits = (
-    λ isDue. (due-own r i m isDue, lt-ltb (stationAt i m) (length r) (due-present r i m isDue), whole-if-due isDue),
-    λ given. due-is r i m (given .1)
-        ∙ due-if-nobody-before r i m (given .0) (omega (arith, pow-pos h)) .1 (nobody-before (given .2)),
+    λ isDue. (due-own r i m isDue, due-stands r i m isDue, whole-if-due isDue),
+    λ given. due-if-nobody-before r i m (given .0) (omega (arith, pow-pos h)) .1 (given .1, nobody-before (given .2)),
   )
 
 pub due-by-digits : DueByDigits

@@ -21,7 +21,7 @@ use Rattle.lists.proofs.BoolLaws.{by-bool}
 use Rattle.table.proofs.SizeLaws.{distances-pos, distances-le}
 use Rattle.lists.proofs.KeepLaws.{kept-sum}
 use Rattle.station.proofs.UnionLaws.{mark-length, mark-same}
-use Rattle.station.proofs.DueLaws.{unsuspected-at, due-zero, due-is, due-present}
+use Rattle.station.proofs.DueLaws.{unsuspected-at, due-zero, due-present}
 use Rattle.station.proofs.EntryLaws.{unsuspected-below}
 use Rattle.station.proofs.AheadLaws.{due-if-nobody-before}
 use Rattle.slots.specs.Slots.{testsDue, testsWith, mostTests}
@@ -35,8 +35,8 @@ due-more : (r r′ : List ℕ) (i m : ℕ) → Wider r r′ i → due r i m ≡ 
 due-more r r′ i m w isDue =
     let d = due-nobody r i m isDue in
     let here : stands r′ i m ≡ true = lt-ltb (stationAt i m) (length r′) (rw (w .long) (due-present r i m isDue)) in
-    due-is r′ i m here ∙ due-if-nobody-before r′ i m (w .own) (d .0) .1
-    (λ x b. by-bool (unsuspected r′ x) (λ e. absurd (true≢false (sym (w .more x e) ∙ d .1 x b))) (λ e. e))
+    due-if-nobody-before r′ i m (w .own) (d .0) .1
+    (here, λ x b. by-bool (unsuspected r′ x) (λ e. absurd (true≢false (sym (w .more x e) ∙ d .1 x b))) (λ e. e))
 
 -- also of the distances below any one
 pub fewer-below : (r r′ : List ℕ) (i : ℕ) → Wider r r′ i → (b : ℕ) → sum (λ m. bit (due r i m)) b ≤ sum (λ m. bit (due r′ i m)) b

@@ -33,11 +33,11 @@ use Rattle.slots.proofs.DigitLaws.{due-nobody}
 pub untested-absent : (r : List ℕ) (i m : ℕ) → stands r i m ≡ false → isUntested r i m ≡ false
 untested-absent r i m absent = rw (absent, and-false)
 
-pub untested-due : (r : List ℕ) (i m : ℕ) → stands r i m ≡ true → saysDue (answer r i m) ≡ true → isUntested r i m ≡ false
-untested-due r i m here says = rw (due-is r i m here, says, and-false)
+pub untested-due : (r : List ℕ) (i m : ℕ) → saysDue (answer r i m) ≡ true → isUntested r i m ≡ false
+untested-due r i m says = rw (due-is r i m, says, and-false)
 
 pub untested-ahead : (r : List ℕ) (i m : ℕ) → 0 < m → stands r i m ≡ true → saysDue (answer r i m) ≡ false → isUntested r i m ≡ true
-untested-ahead r i m pos here says = rw (due-is r i m here, says, lt-ltb 0 m pos, here)
+untested-ahead r i m pos here says = rw (due-is r i m, says, lt-ltb 0 m pos, here)
 
 -- below distance 1 there is nobody
 pub untested-start : (r : List ℕ) (i : ℕ) → select (isUntested r i) 1 ≡ []

@@ -3,24 +3,25 @@
 use mathlib.Core.Path.{_≡_, sym, ap, _∙_, refl}
 use mathlib.Core.Logic.{by-cases}
 use mathlib.Core.Bool.{Bool, true, false, true≢false}
+use mathlib.Core.List.{List}
 use mathlib.Core.Option.{some}
 use Prim.Native.Nat.{ℕ, suc, _+_, _*_, _-_, _/_, _%_, _^_, _≤_, _<_}
 use native.Mathlib.Nat.{suc-mul, div-mul-le-self, le-div-iff-mul-le}
 use native.Mathlib.Decide.{decLt}
 use native.Mathlib.Omega.{arith}
-use borrow.Author.Tests.{eq-eqb, ne-eqb}
+use borrow.Author.Tests.{eq-eqb, ne-eqb, eqb-false}
 use lib.Dec.{eqb}
 use lib.Pow.{pow-pos, pow-mono}
 use lib.Bits.{bitXor, bitOr, differ, xor-step, xor-comm, xor-zero-r, xor-shr, or-step, or-shr, or-self, or-zero-r, or-add-and, and-le-r}
 use Rattle.station.specs.Groups.{distance, stationAt}
 use Rattle.table.specs.Sizes.{level}
-use Rattle.station.specs.Tests.{unsuspected, first, answerDue, answerAhead, answer, saysDue, DueAnswer}
+use Rattle.station.specs.Tests.{unsuspected, first, DueAnswer, answerDue, answerAhead, answer, saysDue, stands, due}
 use Rattle.station.specs.Calls.{answerByte}
-use Rattle.station.specs.Ahead.{Before, NamedStandsBefore, BeforeByDigits, blockEnd, BeforeInBlock, NoneDueInBlock, DueIfNobodyBefore}
+use Rattle.station.specs.Ahead.{Before, NamedStandsBefore, BeforeByDigits, blockEnd, BeforeInBlock, lastPassed, NoneDuePassed, DueIfNobodyBefore}
 use Rattle.lists.proofs.BoolLaws.{by-bool}
 use Rattle.lists.proofs.Xor.{Near, div-le, near-le, near-of-xor, xor-of-near, xor-assoc, xor-cancel, xor-undo}
 use Rattle.table.proofs.Levels.{level-zero, level-upper, level-le, level-is, level-bounds, level-split}
-use Rattle.station.proofs.DueLaws.{isStation, answer-first, first-not, first-found, answer-zero, due-not}
+use Rattle.station.proofs.DueLaws.{isStation, first-not, first-found, answer-absent, answer-here, answer-zero, due-is, due-not, due-stands}
 
 -- a level by the highest digit
 pub level-top : (m g : ℕ) → level m ≡ suc g → m / 2 ^ g ≡ 1
@@ -129,18 +130,24 @@ block-near m t odd =
 pub before-in-block : BeforeInBlock
 before-in-block i m x y b lo hi = before-until i m x y (blockEnd m) b lo hi (λ t e odd. block-near m t odd)
 
--- as the code asks for it: the block begins with m, and that of distance 0 ends with it
-pub block-low : (m l : ℕ) → l ≡ blockEnd m → m ≤ l
+-- a block begins with its distance
+block-low : (m : ℕ) → m ≤ blockEnd m
 unfolding blockEnd
-block-low m l e = omega (arith, or-add-and m (m - 1), and-le-r m (m - 1))
+block-low m = omega (arith, or-add-and m (m - 1), and-le-r m (m - 1))
 
+-- that of distance 0 ends with it
 pub block-zero : blockEnd 0 ≡ 0
 unfolding blockEnd
 block-zero = or-zero-r 0
 
+-- as the code asks for it: a search goes past the distance itself
+pub passed-low : (a : DueAnswer) (i m l : ℕ) → l ≡ lastPassed a i m → m ≤ l
+unfolding lastPassed
+passed-low answerDue i m l e = omega arith
+passed-low (answerAhead x) i m l e = by-bool (eqb x i) (λ same. omega (arith, rw same at e)) (λ apart. omega (arith, rw apart at e, block-low m))
+
 pub named-stands-before : NamedStandsBefore
-unfolding answer
-named-stands-before r i m x own pos e = by-bool (eqb y i) (λ z. absurd (true≢false (ap saysDue (given z)))) named
+named-stands-before r i m x own pos here e = by-bool (eqb y i) (λ z. absurd (true≢false (ap saysDue (given z)))) named
   where
     j : ℕ
     j = stationAt i m
@@ -152,11 +159,11 @@ named-stands-before r i m x own pos e = by-bool (eqb y i) (λ z. absurd (true≢
     y = stationAt j (f .0)
 
     given : eqb y i ≡ true → answerDue ≡ answerAhead x
-    given z = rw (f .4, z) at e
+    given z = rw (f .4, z) at (sym (answer-here r i m here) ∙ e)
 
     named : eqb y i ≡ false → (unsuspected r x ≡ true) × Before i m x
     named z =
-        let same : y ≡ x = ap answerByte (rw (f .4, z) at e) in
+        let same : y ≡ x = ap answerByte (rw (f .4, z) at (sym (answer-here r i m here) ∙ e)) in
         let apart : ¬ (f .0 ≡ m) = λ a. true≢false (sym (eq-eqb y i (ap (stationAt j) a ∙ xor-undo i m)) ∙ z) in
         rw (← same, xor-cancel j (f .0)) (f .3, (f .1, omega (arith, f .2)))
 
@@ -175,34 +182,47 @@ before-first q i m x passes b =
     let none : isStation i (first q j (level a)) ≡ false = rw (f .4) (ne-eqb (stationAt j y) i apart) in
     rw (b .0) at none
 
+-- nor then is the distance due
+not-due-before : (r : List ℕ) (i m x : ℕ) → unsuspected r x ≡ true → Before i m x → due r i m ≡ false
+not-due-before r i m x passes b = due-not r i m (before-first (unsuspected r) i m x passes b)
+
 pub due-if-nobody-before : DueIfNobodyBefore
-due-if-nobody-before r i m own pos = (there, back)
+due-if-nobody-before r i m own pos = (λ e. (due-stands r i m e, there e), λ given. due-is r i m ∙ back (given .0) (given .1) (answer r i m) refl)
   where
-    there : saysDue (answer r i m) ≡ true → (x : ℕ) → Before i m x → unsuspected r x ≡ false
-    there e x b =
-        by-bool (unsuspected r x)
-        (λ p. absurd (true≢false (sym e ∙ (answer-first r i m ∙ before-first (unsuspected r) i m x p b)))) (λ p. p)
+    there : due r i m ≡ true → (x : ℕ) → Before i m x → unsuspected r x ≡ false
+    there e x b = by-bool (unsuspected r x) (λ p. absurd (true≢false (sym e ∙ not-due-before r i m x p b))) (λ p. p)
 
-    back : ((x : ℕ) → Before i m x → unsuspected r x ≡ false) → saysDue (answer r i m) ≡ true
-    back none = go (answer r i m) refl
+    back : stands r i m ≡ true → ((x : ℕ) → Before i m x → unsuspected r x ≡ false) → (a : DueAnswer) → answer r i m ≡ a → saysDue (answer r i m) ≡ true
+    back here none answerDue e = rw e
+    back here none (answerAhead x) e =
+        let b = named-stands-before r i m x own pos here e in
+        absurd (true≢false (sym (b .0) ∙ none x (b .1)))
+
+-- whom the answer names, if it is another, stands before i and is not suspected
+named-other : (r : List ℕ) (i m x : ℕ) → unsuspected r i ≡ true → answer r i m ≡ answerAhead x → ¬ (x ≡ i) → (unsuspected r x ≡ true) × Before i m x
+named-other r i m x own e apart = by-bool (stands r i m) (λ here. by-cases (decLt 0 m) (λ pos. named-stands-before r i m x own pos here e) none) absent
+  where
+    none : ¬ (0 < m) → (unsuspected r x ≡ true) × Before i m x
+    none l = let z : m ≡ 0 = omega arith in absurd (apart (ap answerByte (sym (rw z at e) ∙ answer-zero r i)))
+
+    absent : stands r i m ≡ false → (unsuspected r x ≡ true) × Before i m x
+    absent z = absurd (apart (ap answerByte (sym e ∙ answer-absent r i m z)))
+
+pub none-due-passed : NoneDuePassed
+unfolding lastPassed
+none-due-passed r i m y e lo hi = go (answer r i m) refl
+  where
+    here : y ≤ m → due r i y ≡ false
+    here l = let same : y ≡ m = omega arith in rw same e
+
+    go : (a : DueAnswer) → answer r i m ≡ a → due r i y ≡ false
+    go answerDue f = absurd (true≢false (sym (due-is r i m ∙ ap saysDue f) ∙ e))
+    go (answerAhead x) f = by-bool (eqb x i) (λ same. here (rw (f, same) at hi)) (λ apart. by-bool (unsuspected r i) (named apart) not-own)
       where
-        go : (a : DueAnswer) → answer r i m ≡ a → saysDue a ≡ true
-        go answerDue e = refl
-        go (answerAhead x) e =
-            let b = named-stands-before r i m x own pos e in
-            absurd (true≢false (sym (b .0) ∙ none x (b .1)))
+        named : eqb x i ≡ false → unsuspected r i ≡ true → due r i y ≡ false
+        named apart own =
+            let b = named-other r i m x own f (eqb-false x i apart) in
+            not-due-before r i y x (b .0) (before-in-block i m x y (b .1) lo (rw (f, apart) at hi))
 
-pub none-due-in-block : NoneDueInBlock
-none-due-in-block r i m x y e lo hi = due-not r i y (by-bool (unsuspected r i) (λ own. pick own (decLt 0 m)) not-own)
-  where
-    not-own : unsuspected r i ≡ false → saysDue (answer r i y) ≡ false
-    not-own fails = answer-first r i y ∙ first-not (unsuspected r) (stationAt i y) (level y) i fails
-
-    pick : unsuspected r i ≡ true → Dec (0 < m) → saysDue (answer r i y) ≡ false
-    pick own (yes pos) =
-        let b = named-stands-before r i m x own pos e in
-        answer-first r i y ∙ before-first (unsuspected r) i y x (b .0) (before-in-block i m x y (b .1) lo hi)
-    pick own (no none) =
-        let zero-m : m ≡ 0 = omega arith in
-        let flat : y ≡ 0 = omega (arith, block-zero, rw zero-m at hi) in
-        rw flat (answer-zero r i)
+        not-own : unsuspected r i ≡ false → due r i y ≡ false
+        not-own fails = due-not r i y (first-not (unsuspected r) (stationAt i y) (level y) i fails)

@@ -15,7 +15,7 @@ use lib.Dec.{ltb, eqb}
 use Rattle.lists.specs.Search.{least}
 use Rattle.station.specs.Groups.{stationAt, width, member}
 use Rattle.table.specs.Sizes.{level}
-use Rattle.station.specs.Tests.{unsuspected, firstPlace, first, answerOf, answer, saysDue, stands, due}
+use Rattle.station.specs.Tests.{unsuspected, firstPlace, first, answerAhead, answerOf, answer, saysDue, stands, due}
 use Rattle.lists.proofs.BoolLaws.{by-bool}
 use Rattle.lists.proofs.SearchLaws.{getD-within, both, least-is, least-none, least-passes, least-before}
 use Rattle.table.proofs.Levels.{level-zero, level-split, level-in}
@@ -105,41 +105,48 @@ first-found q j m pos passes =
       rw (t .1, lt-ltb p (2 ^ h) l),
     )
 
--- the answer by who is first
-pub answer-first : (r : List ℕ) (i m : ℕ) → saysDue (answer r i m) ≡ isStation i (first (unsuspected r) (stationAt i m) (level m))
+-- the answer where no station stands, and where one does
+pub answer-absent : (r : List ℕ) (i m : ℕ) → stands r i m ≡ false → answer r i m ≡ answerAhead i
 unfolding answer
-answer-first r i m = says-due i (first (unsuspected r) (stationAt i m) (level m))
+answer-absent r i m absent = rw absent
 
--- distance 0: the station itself is named
-pub answer-zero : (r : List ℕ) (i : ℕ) → saysDue (answer r i 0) ≡ false
+pub answer-here : (r : List ℕ) (i m : ℕ) → stands r i m ≡ true → answer r i m ≡ answerOf i (first (unsuspected r) (stationAt i m) (level m))
 unfolding answer
-answer-zero r i = rw (level-zero, first-zero)
+answer-here r i m here = rw here
 
--- a distance is not due where no station stands, or where the answer is not "due"
+-- at distance 0 it names i
+pub answer-zero : (r : List ℕ) (i : ℕ) → answer r i 0 ≡ answerAhead i
+unfolding answer
+answer-zero r i = by-bool (stands r i 0) (λ here. rw (here, level-zero, first-zero)) (λ absent. rw absent)
+
+-- due by the answer
+pub due-is : (r : List ℕ) (i m : ℕ) → due r i m ≡ saysDue (answer r i m)
+unfolding due
+due-is r i m = refl
+
+-- where no station stands a distance is not due
 pub due-absent : (r : List ℕ) (i m : ℕ) → stands r i m ≡ false → due r i m ≡ false
-unfolding due
-due-absent r i m e = rw e
-
-pub due-not : (r : List ℕ) (i m : ℕ) → saysDue (answer r i m) ≡ false → due r i m ≡ false
-unfolding due
-due-not r i m e = rw (e, and-false)
-
--- where both are there it is due
-pub due-is : (r : List ℕ) (i m : ℕ) → stands r i m ≡ true → due r i m ≡ saysDue (answer r i m)
-unfolding due
-due-is r i m e = rw e
+due-absent r i m absent = due-is r i m ∙ ap saysDue (answer-absent r i m absent)
 
 -- due by who is first
 pub due-first : (r : List ℕ) (i m : ℕ)
     → due r i m ≡ (stands r i m && isStation i (first (unsuspected r) (stationAt i m) (level m)))
-unfolding due
-due-first r i m = rw (answer-first r i m)
+due-first r i m = by-bool (stands r i m) here (λ absent. rw absent (due-absent r i m absent))
+  where
+    here : stands r i m ≡ true → due r i m ≡ (stands r i m && isStation i (first (unsuspected r) (stationAt i m) (level m)))
+    here e = due-is r i m ∙ (ap saysDue (answer-here r i m e) ∙ rw e (says-due i (first (unsuspected r) (stationAt i m) (level m))))
+
+-- i is not due where it is not first
+pub due-not : (r : List ℕ) (i m : ℕ) → isStation i (first (unsuspected r) (stationAt i m) (level m)) ≡ false → due r i m ≡ false
+due-not r i m e = due-first r i m ∙ rw (e, and-false)
 
 -- distance 0 is never due
 pub due-zero : (r : List ℕ) (i : ℕ) → due r i 0 ≡ false
-due-zero r i = due-not r i 0 (answer-zero r i)
+due-zero r i = due-is r i 0 ∙ ap saysDue (answer-zero r i)
 
 -- at a distance that is due a station stands
+pub due-stands : (r : List ℕ) (i m : ℕ) → due r i m ≡ true → stands r i m ≡ true
+due-stands r i m e = both _ _ (sym (due-first r i m) ∙ e) .0
+
 pub due-present : (r : List ℕ) (i m : ℕ) → due r i m ≡ true → stationAt i m < length r
-unfolding due
-due-present r i m e = ltb-true (stationAt i m) (length r) (both _ _ e .0)
+due-present r i m e = ltb-true (stationAt i m) (length r) (due-stands r i m e)

@@ -2,29 +2,31 @@
 -- Assumes nothing.
 use mathlib.Core.Path.{_≡_}
 use mathlib.Core.Logic.{_↔_}
-use mathlib.Core.Bool.{true, false}
+use mathlib.Core.Bool.{true, false, cond}
 use mathlib.Core.List.{List}
 use Prim.Native.Nat.{ℕ, suc, _-_, _/_, _%_, _^_, _≤_, _<_}
 use lib.Bits.{bitOr}
+use lib.Dec.{eqb}
 use Rattle.table.specs.Sizes.{level}
 use Rattle.station.specs.Groups.{distance, stationAt}
-use Rattle.station.specs.Tests.{unsuspected, answerAhead, answer, due, saysDue}
+use Rattle.station.specs.Tests.{unsuspected, DueAnswer, answerDue, answerAhead, answer, stands, due}
 
 -- number x, present or absent, stands before i in the full group, at the level of m, of the station at distance m from i: its distance from that
 -- station has the same level, and is less than that of i, which is m
 abbrev pub Before : ℕ → ℕ → ℕ → Type 0
 Before i m x = (level (distance (stationAt i m) x) ≡ level m) × (distance (stationAt i m) x < m)
 
--- for a row that does not suspect its own station, whom the answer names is not suspected and stands before i
+-- for a row that does not suspect its own station, whom the answer names where a station stands is not suspected and stands before i
 abbrev pub NamedStandsBefore : Type 0
 NamedStandsBefore =
-    (r : List ℕ) (i m x : ℕ) → unsuspected r i ≡ true → 0 < m → answer r i m ≡ answerAhead x → (unsuspected r x ≡ true) × Before i m x
+    (r : List ℕ) (i m x : ℕ) → unsuspected r i ≡ true → 0 < m → stands r i m ≡ true → answer r i m ≡ answerAhead x
+    → (unsuspected r x ≡ true) × Before i m x
 
--- and the answer is "due" just where the row leaves nobody unsuspected that stands before i
+-- and the answer is "due" just where a station stands and the row leaves nobody unsuspected that stands before i
 abbrev pub DueIfNobodyBefore : Type 0
 DueIfNobodyBefore =
     (r : List ℕ) (i m : ℕ) → unsuspected r i ≡ true → 0 < m
-    → (saysDue (answer r i m) ≡ true) ↔ ((x : ℕ) → Before i m x → unsuspected r x ≡ false)
+    → (due r i m ≡ true) ↔ ((stands r i m ≡ true) × ((x : ℕ) → Before i m x → unsuspected r x ≡ false))
 
 -- who stands before i goes by binary digits: with m = 2^(s−1) + k, those before i are its own groups at the levels h + 1 for which digit h
 -- of k is 1, whatever s is. Digit h of k is that of m, since h + 1 < s
@@ -41,6 +43,11 @@ blockEnd m = bitOr m (m - 1)
 abbrev pub BeforeInBlock : Type 0
 BeforeInBlock = (i m x y : ℕ) → Before i m x → m ≤ y → y ≤ blockEnd m → Before i y x
 
--- so where the answer is not "due", no distance of the block is due, whatever the row
-abbrev pub NoneDueInBlock : Type 0
-NoneDueInBlock = (r : List ℕ) (i m x y : ℕ) → answer r i m ≡ answerAhead x → m ≤ y → y ≤ blockEnd m → due r i y ≡ false
+-- the last distance that a search goes past by the answer to i at distance m: that of the block where another station is ahead, else m
+unfoldable pub lastPassed : DueAnswer → ℕ → ℕ → ℕ
+lastPassed answerDue i m = m
+lastPassed (answerAhead x) i m = cond (eqb x i) m (blockEnd m)
+
+-- so where the answer is not "due", none of the distances gone past is due, whatever the row
+abbrev pub NoneDuePassed : Type 0
+NoneDuePassed = (r : List ℕ) (i m y : ℕ) → due r i m ≡ false → m ≤ y → y ≤ lastPassed (answer r i m) i m → due r i y ≡ false

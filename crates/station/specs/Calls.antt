@@ -10,7 +10,7 @@ use lib.Dec.{ltb, eqb}
 use Rattle.lists.specs.Search.{select}
 use Rattle.table.specs.Sizes.{isSize, dimension, distances}
 use Rattle.station.specs.Groups.{stationAt, isPresent, group}
-use Rattle.table.specs.Table.{row, live}
+use Rattle.table.specs.Table.{rowStart, row, live}
 use Rattle.lists.specs.Refusal.{refuse, _else_, unless}
 use Rattle.table.specs.Rules.{tableNumber, lengthRefusal, stationRefusal}
 use Rattle.station.specs.Tests.{DueAnswer, answerDue, answerAhead, answer, dueDistances}
@@ -48,6 +48,10 @@ rowNumber n t i = tableNumber n t else stationRefusal n i
 -- "the station's row handed back as that very part of the lent table"; "a refused row is the empty part"
 unfoldable pub rowPart : ℕ → List ℕ → ℕ → List ℕ
 rowPart n t i = unless (rowNumber n t i) [] (row n t i)
+
+-- where that part begins, counted from the table's first byte; the empty part of a refusal begins where the table does
+unfoldable pub rowOffset : ℕ → List ℕ → ℕ → ℕ
+rowOffset n t i = unless (rowNumber n t i) 0 (rowStart n i)
 
 -- Assignment: refusals 1 to 4, 9, 10, 13. 10: "The station is not live." C-16: "number 13 speaks of the new length", two bytes for each entry
 unfoldable pub assignmentNumber : ℕ → List ℕ → ℕ → ℕ → ℕ

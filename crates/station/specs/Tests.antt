@@ -1,7 +1,7 @@
 -- Document 01, step 1 of "What an entry does", with request C-16 of document 02: which distances are due, and who is first at the others.
 -- Assumes nothing.
 use Prim.Native.Nat.{ℕ}
-use mathlib.Core.Bool.{Bool, true, false, cond, _&&_}
+use mathlib.Core.Bool.{Bool, true, false, cond}
 use mathlib.Core.List.{List}
 use mathlib.Core.Option.{Option, none, some}
 use lib.ListN.{length, getD}
@@ -33,24 +33,25 @@ abbrev pub answerOf : ℕ → Option ℕ → DueAnswer
 answerOf i none = answerAhead i
 answerOf i (some x) = cond (eqb x i) answerDue (answerAhead x)
 
+-- whether a station stands at distance m from i, whose row is r
+abbrev pub stands : List ℕ → ℕ → ℕ → Bool
+stands r i m = isPresent (length r) (stationAt i m)
+
 -- "the first station not suspected by i in the group of j at level s, where j is at distance m and s is the level of m": i, or who is first
--- instead. r is the row of i
+-- instead. r is the row of i. C-11: "numbers of n or more are .. never tested": where no station stands at distance m it names i itself, as where
+-- nobody is first
 unfoldable pub answer : List ℕ → ℕ → ℕ → DueAnswer
-answer r i m = answerOf i (first (unsuspected r) (stationAt i m) (level m))
+answer r i m = cond (stands r i m) (answerOf i (first (unsuspected r) (stationAt i m) (level m))) (answerAhead i)
 
 -- C-16: "a caller that only wants due tests takes the answer apart"
 abbrev pub saysDue : DueAnswer → Bool
 saysDue answerDue = true
 saysDue (answerAhead x) = false
 
--- whether a station stands at distance m from i, whose row is r
-abbrev pub stands : List ℕ → ℕ → ℕ → Bool
-stands r i m = isPresent (length r) (stationAt i m)
-
 -- "Distance m is due for i if i is the first station not suspected by i in the group of j at level s, where j is at distance m
--- and s is the level of m." C-11: "numbers of n or more are .. never tested", so j is present
+-- and s is the level of m."
 unfoldable pub due : List ℕ → ℕ → ℕ → Bool
-due r i m = stands r i m && saysDue (answer r i m)
+due r i m = saysDue (answer r i m)
 
 -- the distances due for i of n stations, by its row of n bytes, ascending. Distance 0 has level 0, whose group is empty: it is never due, and
 -- the list counts from 1

@@ -6,7 +6,7 @@ ghost use mathlib.Core.Option.{some};
 ghost use lib.ListN.{length, set};
 ghost use Rattle.table.specs.Sizes.{isSize, level};
 ghost use Rattle.station.specs.Tests.{unsuspected, first, answerOf, answer, saysDue, stands, due, dueDistances};
-ghost use Rattle.station.specs.Ahead.{blockEnd};
+ghost use Rattle.station.specs.Ahead.{blockEnd, lastPassed};
 ghost use Rattle.station.specs.Calls.{firstValue, answerValue, answerByte, otherDistances, assignmentEntries, assignmentNumber, assignmentAfter, assignmentCount};
 use crate::Assigned;
 use crate::DueOrAhead;
@@ -58,10 +58,13 @@ pub fn stands(row: &[u8], i: Station, m: Distance) -> bool
     at < row.len()
 }
 
-// Whether distance m is due for i, by i's row, or who is first instead. Turn and assignment ask it only where a station stands.
+// Whether distance m is due for i, by i's row, or who is first instead; i itself where nobody stands or nobody is first.
 pub fn due_or_ahead(row: &[u8], i: Station, m: Distance) -> DueOrAhead
     ensures { λ r. ⌜ answerValue r ≡ answer (now (row .entry)) (i .0) (m .0) ⌝ }
 {
+    if !stands(row, i, m) {
+        return DueOrAhead::Ahead(i);
+    }
     let j = order::lookup(i, m);
     match first_unsuspected(row, j, m) {
         First::At(x) => answer_of(i, x),
@@ -79,9 +82,19 @@ fn answer_of(i: Station, x: Station) -> DueOrAhead
     DueOrAhead::Ahead(x)
 }
 
+// The last distance that a search goes past by the answer to i at distance m: where another station is ahead, the end of the block.
+pub fn last_passed(answer: DueOrAhead, i: Station, m: Distance) -> Distance
+    ensures { λ r. ⌜ r .0 ≡ lastPassed (answerValue answer) (i .0) (m .0) ⌝ }
+{
+    let DueOrAhead::Ahead(x) = answer else {
+        return m;
+    };
+    if x.0 == i.0 { m } else { block_end(m) }
+}
+
 // m with its digits below its lowest 1 all 1. Whoever stands before a station in the group at distance m does so at every distance from m to
 // this one.
-pub fn block_end(m: Distance) -> Distance
+fn block_end(m: Distance) -> Distance
     ensures { λ r. ⌜ r .0 ≡ blockEnd (m .0) ⌝ }
 {
     if m.0 == 0 {

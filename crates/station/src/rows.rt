@@ -1,16 +1,18 @@
 // Rows: handed back as a part of the lent table, joined and marked (document 01, steps 4 and 5).
 ghost use mathlib.Core.Path.{_≡_};
+ghost use Prim.Native.Nat.{_+_};
 ghost use Rattle.station.specs.Rows.{union, mark};
-ghost use Rattle.station.specs.Calls.{rowNumber, rowPart};
+ghost use Rattle.station.specs.Calls.{rowNumber, rowPart, rowOffset};
 use lists::bytes;
 use lists::refusal;
 use table::Station;
 use table::inside;
 use table::rules;
 
-// The row of station i, as that very part of the table; refused: the empty part.
+// The row of station i, as that very part of the table: its bytes, and its place in the lent memory. Refused: the empty part.
 pub fn row(n: usize, table: &[u8], i: Station) -> &[u8]
     ensures { λ r. ⌜ now r ≡ rowPart n (now (table .entry)) (i .0) ⌝ }
+    ensures { λ r. ⌜ (r .ptr .0 ≡ table .entry .ptr .0) × (r .ptr .1 ≡ table .entry .ptr .1 + rowOffset n (now (table .entry)) (i .0)) ⌝ }
 {
     let number = row_number(n, table, i);
     if number != 0 {

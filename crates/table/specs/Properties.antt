@@ -2,7 +2,7 @@
 -- Assumes nothing.
 use Prim.Native.Nat.{ℕ, _<_}
 use mathlib.Core.Path.{_≡_}
-use mathlib.Core.Bool.{Bool, true, _&&_, _||_}
+use mathlib.Core.Bool.{Bool, true, not, _&&_, _||_}
 use mathlib.Core.List.{List}
 use lib.Dec.{eqb}
 use Rattle.lists.specs.Search.{every, listOf}
@@ -21,9 +21,9 @@ atStart n t = every (lineAtStart n t) n
 unfoldable pub liveCount : ℕ → List ℕ → ℕ
 liveCount n t = sum (λ i. bit (live n t i)) n
 
--- i and j are not both live, or i does not suspect j
+-- i and j are not both live, or i does not suspect j: byte j of its row is not 1
 abbrev pub noLiveSuspicion : ℕ → List ℕ → ℕ → ℕ → Bool
-noLiveSuspicion n t i j = notLive n t i || notLive n t j || eqb (suspects n t i j) 0
+noLiveSuspicion n t i j = notLive n t i || notLive n t j || not (eqb (suspects n t i j) 1)
 
 -- no live station suspects a live one
 unfoldable pub noneSuspected : ℕ → List ℕ → Bool

@@ -1,35 +1,18 @@
--- `is_due` meets its contract: a station stands there, and the answer is "due".
+-- `is_due` meets its contract: the answer is taken apart.
 -- Assumes nothing.
 use mathlib.Core.Path.{sym, ap, _∙_}
 use borrow.Author.Needs.{needs}
-use borrow.Author.Tests.{not-true, not-false}
 use Rattle.station.specs.Tests.{saysDue}
 use Rattle.station.specs.Calls.{answerValue}
-use Rattle.station.proofs.DueLaws.{due-absent, due-is}
+use Rattle.station.proofs.DueLaws.{due-is}
 use Rattle.commission.proofs.is_due.Statement.{statement}
 use Rattle.commission.proofs.is_due.Tie as tie
 
 returns : tie.Need-returns
-returns c = sym (due-absent _ _ _ (sym (c .before .stands .ensures) ∙ not-true _ (c .if1 .taken)))
+returns c = sym (due-is _ _ _ ∙ ap saysDue (sym (c .before .before .due-or-ahead .ensures) ∙ ap answerValue (c .enum-told2 .given .1)))
 
 returns-2 : tie.Need-returns-2
-returns-2 c =
-    sym (due-is _ _ _ (sym (c .before .before .before .before .stands .ensures) ∙ not-false _ (c .before .before .before .if1 .left))
-    ∙ ap saysDue (sym (c .before .before .due-or-ahead .ensures) ∙ ap answerValue (c .enum-told2 .given .1)))
-
-returns-3 : tie.Need-returns-3
-returns-3 c =
-    sym (due-is _ _ _ (sym (c .before .before .before .before .stands .ensures) ∙ not-false _ (c .before .before .before .if1 .left))
-    ∙ ap saysDue (sym (c .before .before .due-or-ahead .ensures) ∙ ap answerValue (c .enum-told .given .1)))
+returns-2 c = sym (due-is _ _ _ ∙ ap saysDue (sym (c .before .before .due-or-ahead .ensures) ∙ ap answerValue (c .enum-told .given .1)))
 
 pub is-due-spec : {M : Type 1} → statement M
-is-due-spec =
-    tie.close
-    (tie.spec
-    (λ c κs. search needs)
-    returns
-    (λ c κs. search needs)
-    (λ c. search needs)
-    (λ c. search needs)
-    returns-2
-    returns-3)
+is-due-spec = tie.close (tie.spec (λ c κs. search needs) (λ c. search needs) (λ c. search needs) returns returns-2)

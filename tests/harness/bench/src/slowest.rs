@@ -12,10 +12,21 @@ pub struct Slowest {
     pub rounds: u32,
 }
 
-/// Runs the plant of an input, up to the first round at whose end the dead are
-/// known. None if that does not come, or if the input is no such plant.
-pub fn run(input: &str) -> Option<Slowest> {
-    let slowest::Plant { n, dead, entries } = slowest::read(input)?;
+/// Runs all slowest plants, or says in which the dead do not become known.
+pub fn run_all() -> Result<Vec<Slowest>, String> {
+    let unknown = |n| format!("the slowest plant of {n} boards ends before the dead are known");
+    let run = |plant: &slowest::Plant| run(plant).ok_or_else(|| unknown(plant.n));
+    slowest::plants()?.iter().map(run).collect()
+}
+
+/// Runs a plant up to the first round at whose end the dead are known. None if
+/// that does not come.
+fn run(plant: &slowest::Plant) -> Option<Slowest> {
+    let slowest::Plant {
+        n,
+        dead,
+        ref entries,
+    } = *plant;
     let mut plant = Plant::fresh(n);
     let (crashes, turns) = entries.split_at(dead);
     for crash in crashes {

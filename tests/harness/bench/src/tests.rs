@@ -6,13 +6,11 @@ mod drives;
 
 use crate::contender::Contender;
 use crate::measure::{check_equal, check_equal_figures};
-use crate::slowest::Slowest;
 use crate::statistics::{decimal, Summary};
 use crate::work::{table_with_crashed, Work};
 use crate::{bounds, plain, plain_figures, slowest};
 use shared::groups::{distances, POWERS, SIZES};
 use shared::random::Random;
-use shared::slowest::INPUTS;
 use shared::table::{line_length, lines, table_length, unfinished_stations, Line, HEAD};
 use simulator::Answer;
 use vcube::{Figures, Fraction, Refusal};
@@ -273,17 +271,15 @@ fn bounds_by_size() {
     assert_eq!(others.map(bounds::stated), [4, 9, 16, 25, 36, 36, 36]);
 }
 
-/// The dead boards are those of the files, counted by hand; the rounds are the
-/// exact wait.
+/// At every size the slowest plant takes the exact wait. Of some, the dead
+/// boards were counted by hand.
 #[test]
 fn slowest_plants() {
-    let figures = INPUTS.map(|input| {
-        let Slowest { n, dead, rounds } = slowest::run(input).expect("a plant");
-        assert_eq!(rounds, bounds::exact(n));
-        (n, dead, rounds)
-    });
-    let expected = [(4, 2, 2), (8, 6, 3), (16, 12, 4), (32, 26, 6), (64, 60, 8)];
-    assert_eq!(figures, expected);
+    let plants = slowest::run_all().expect("all are known");
+    let rounds = plants.iter().map(|plant| (plant.n, plant.rounds));
+    assert!(rounds.eq((3..=64).map(|n| (n, bounds::exact(n)))));
+    let dead = [3, 9, 16, 25].map(|n| plants[n - 3].dead);
+    assert_eq!(dead, [1, 5, 12, 20]);
 }
 
 fn fraction(upper: u64, lower: u64) -> Fraction {

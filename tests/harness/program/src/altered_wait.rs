@@ -1,7 +1,10 @@
-//! Slowest plants and what is printed for them, altered so that they no longer
-//! show the exact wait. Each alteration must be noticed as what it is.
+//! What is printed for the slowest plants, altered so that it no longer shows the
+//! exact wait. Each alteration must be noticed as what it is.
 
 use std::mem::discriminant;
+
+use shared::schedule::{Entry, TURN};
+use shared::slowest::Plant;
 
 use crate::case::{slowest_cases, Case, Source};
 use crate::wait::{self, Problem};
@@ -16,19 +19,9 @@ const TESTED_TOLD: &str = " 5 0\n";
 type Alter = fn(&mut Run);
 
 /// Alterations by the kind of their problem.
-const ALTERATIONS: [(Problem, &[Alter]); 6] = [
+const ALTERATIONS: [(Problem, &[Alter]); 5] = [
     (Problem::Early(0), &[Run::add_exchanges]),
     (Problem::Late(0), &[Run::drop_exchanges, Run::leave_open]),
-    (
-        Problem::Input,
-        &[
-            |run| run.n *= 2,
-            |run| run.input.truncate(0),
-            |run| edit_last(&mut run.input, "T", "L"),
-            |run| edit_last(&mut run.input, "T", "C"),
-            Run::leave_one_live,
-        ],
-    ),
     (
         Problem::Output,
         &[
@@ -37,7 +30,7 @@ const ALTERATIONS: [(Problem, &[Alter]); 6] = [
             |run| drop(run.printed.remove(0)),
             |run| drop(run.printed.remove(1)),
             |run| drop(run.printed.pop()),
-            |run| drop(run.input.pop()),
+            |run| run.plant.entries.truncate(1),
         ],
     ),
     (
@@ -64,22 +57,23 @@ const ALTERATIONS: [(Problem, &[Alter]); 6] = [
     ),
 ];
 
-/// A slowest plant and what is printed for it, by lines with their line feeds.
-/// The line of an entry has the same place in both.
+/// A slowest plant and what is printed for it.
 #[derive(Clone)]
 struct Run {
-    n: usize,
+    plant: Plant,
     wait: u32,
-    input: Vec<String>,
+    /// With line feeds. The line of an entry, counted from 1, has its number as
+    /// its place.
     printed: Vec<String>,
 }
 
 /// Gives how many alterations were noticed, or what was not noticed.
 pub fn alter_runs() -> Result<usize, String> {
     let mut noticed = 0;
-    for run in slowest_cases().filter_map(|case| Run::of(&case)) {
+    for run in slowest_cases()?.filter_map(Run::of) {
         if let Err(problem) = run.check() {
-            return Err(format!("{} boards, nothing altered: {problem}", run.n));
+            let n = run.plant.n;
+            return Err(format!("{n} boards, nothing altered: {problem}"));
         }
         for (problem, alterations) in ALTERATIONS {
             for alter in alterations {
@@ -92,20 +86,15 @@ pub fn alter_runs() -> Result<usize, String> {
 }
 
 impl Run {
-    fn of(case: &Case) -> Option<Run> {
-        let Source::Slowest { n, wait } = case.source else {
+    fn of(case: Case) -> Option<Run> {
+        let Source::Slowest { plant, wait } = case.source else {
             return None;
         };
-        let lines = |bytes| {
-            let text = String::from_utf8_lossy(bytes);
-            text.split_inclusive('\n').map(String::from).collect()
-        };
-        let [input, printed] = [&case.input, &case.expected].map(|bytes| lines(bytes));
+        let text = String::from_utf8_lossy(&case.expected);
         Some(Run {
-            n,
+            plant,
             wait,
-            input,
-            printed,
+            printed: text.split_inclusive('\n').map(String::from).collect(),
         })
     }
 
@@ -117,14 +106,23 @@ impl Run {
             Err(found) if discriminant(&found) == discriminant(&problem) => Ok(()),
             found => Err(format!(
                 "{} boards, {problem:?} expected: {found:?}",
-                self.n
+                self.plant.n
             )),
         }
     }
 
     fn check(&self) -> Result<(), Problem> {
-        let [input, printed] = [&self.input, &self.printed].map(|lines| lines.concat());
-        wait::check(self.n, self.wait, &input, &printed)
+        wait::check(&self.plant, self.wait, &self.printed.concat())
+    }
+
+    fn insert(&mut self, number: usize, entry: Entry, line: String) {
+        self.plant.entries.insert(number - 1, entry);
+        self.printed.insert(number, line);
+    }
+
+    fn remove(&mut self, number: usize) {
+        self.plant.entries.remove(number - 1);
+        self.printed.remove(number);
     }
 
     /// Edits the first printed line with this end.
@@ -135,48 +133,41 @@ impl Run {
         }
     }
 
-    /// The boards 0 to N - 2 crash.
-    fn leave_one_live(&mut self) {
-        self.input.truncate(1);
-        let crashes = (0..self.n - 1).map(|i| format!("C {i}\n"));
-        self.input.extend(crashes);
-    }
-
     /// The last turn is printed as a crash.
     fn crash_last(&mut self) {
-        let entries = &mut self.printed[..self.input.len()];
-        edit_last(entries, FINISHED, CRASHED);
+        let last = self.plant.entries.len();
+        edit_last(&mut self.printed[..=last], FINISHED, CRASHED);
     }
 
     /// The last turn becomes one of the first board that crashed.
     fn wake_dead(&mut self) {
-        let last = self.input.len() - 1;
-        self.input[last] = self.input[1].replace('C', "T");
-        self.printed[last] = self.printed[1].replace(CRASHED, FINISHED);
+        let [_, dead] = self.plant.entries[0];
+        let line = self.printed[1].replace(CRASHED, FINISHED);
+        let last = self.plant.entries.len();
+        self.remove(last);
+        self.insert(last, [TURN, dead], line);
     }
 
     /// The first turn that finishes a pass comes twice.
     fn finish_twice(&mut self) {
         let finishes = |line: &String| line.ends_with(FINISHED);
-        let place = self.printed.iter().position(finishes).unwrap_or(0);
-        self.input.insert(place, self.input[place].clone());
-        self.printed.insert(place, self.printed[place].clone());
+        let number = self.printed.iter().position(finishes).unwrap_or(1);
+        let entry = self.plant.entries[number - 1];
+        self.insert(number, entry, self.printed[number].clone());
     }
 
     /// Takes the last entry away, with the round that it closed.
     fn leave_open(&mut self) {
-        self.input.pop();
-        self.printed.remove(self.input.len());
+        self.remove(self.plant.entries.len());
         let [old, new] = [self.wait, self.wait - 1].map(|rounds| format!("rounds {rounds}"));
         edit_last(&mut self.printed, &old, &new);
     }
 
     /// Drops the exchanges of the last round.
     fn drop_exchanges(&mut self) {
-        for place in (self.closing()..self.printed.len()).rev() {
-            if self.printed[place].ends_with(EXCHANGED) {
-                self.input.remove(place);
-                self.printed.remove(place);
+        for number in (self.closing()..self.printed.len()).rev() {
+            if self.printed[number].ends_with(EXCHANGED) {
+                self.remove(number);
             }
         }
     }
@@ -184,36 +175,33 @@ impl Run {
     /// In the round before the last, the last board exchanges with each other
     /// live one, twice, so that all get what one of them has.
     fn add_exchanges(&mut self) {
-        let place = self.closing();
-        let turn = self.input[place].clone();
-        let tester = self.printed[place].replace(FINISHED, "");
+        let number = self.closing();
+        let entry = self.plant.entries[number - 1];
+        let tester = self.printed[number].replace(FINISHED, "");
         let mut others = self.live();
         others.retain(|other| *other != tester);
         for other in [&others[..], &others].concat() {
-            self.input.insert(place, turn.clone());
-            self.printed
-                .insert(place, format!("{tester} {other}{EXCHANGED}"));
+            self.insert(number, entry, format!("{tester} {other}{EXCHANGED}"));
         }
     }
 
     /// The live boards, in the order in which they finish their first pass.
     fn live(&self) -> Vec<String> {
-        let crashes = self.input.iter().filter(|line| line.starts_with('C'));
-        let live = self.n - crashes.count();
         let finished = self
             .printed
             .iter()
             .filter_map(|line| line.strip_suffix(FINISHED));
+        let live = self.plant.n - self.plant.dead;
         finished.take(live).map(String::from).collect()
     }
 
-    /// The place of the entry that closes the round before the last: each live
+    /// The number of the entry that closes the round before the last: each live
     /// board finishes its pass once a round.
     fn closing(&self) -> usize {
         let numbered = self.printed.iter().enumerate();
         let finished = numbered.filter(|(_, line)| line.ends_with(FINISHED));
-        let places: Vec<usize> = finished.map(|(place, _)| place).collect();
-        places[places.len() - self.live().len() - 1]
+        let numbers: Vec<usize> = finished.map(|(number, _)| number).collect();
+        numbers[numbers.len() - self.live().len() - 1]
     }
 }
 

@@ -1,24 +1,25 @@
 //! One input with what must be printed for it.
 
 use shared::child::Program;
+use shared::groups::dimension;
 use shared::random::Random;
 use shared::report;
-use shared::slowest;
+use shared::slowest::{self, Plant};
 
 use crate::generate;
 use crate::odd::{self, Odd};
 use crate::wait;
 
-/// The exact wait by size: d rounds for d up to 3, from 4 on 4 + (d - 3)²/2,
-/// rounded down.
-const EXACT_WAIT: [(usize, u32); 5] = [(4, 2), (8, 3), (16, 4), (32, 6), (64, 8)];
+/// The exact wait by d from 1 on, which is the logarithm of the size to base 2,
+/// rounded up.
+const EXACT_WAIT: [u32; 6] = [1, 2, 3, 4, 6, 8];
 
 /// Where an input comes from.
 pub enum Source {
     /// The table of odd inputs, by number from 1.
     Odd { number: u64, name: &'static str },
-    /// The slowest plant of N boards, with its exact wait.
-    Slowest { n: usize, wait: u32 },
+    /// A slowest plant, with its exact wait.
+    Slowest { plant: Plant, wait: u32 },
     /// The generator.
     Random { seed: u64, number: u64 },
 }
@@ -64,12 +65,14 @@ impl Case {
 
     /// A slowest plant, which is handed over in pieces too. The simulator says
     /// what is expected, and the exact wait says what it must show.
-    fn slowest((n, wait): (usize, u32), input: &str) -> Case {
+    pub fn slowest(plant: Plant) -> Case {
+        let input = plant.input().into_bytes();
+        let wait = EXACT_WAIT[dimension(plant.n) as usize - 1];
         Case {
-            source: Source::Slowest { n, wait },
+            source: Source::Slowest { plant, wait },
             cuts: cuts(input.len()),
-            input: Vec::from(input),
-            expected: simulate(input.as_bytes()),
+            expected: simulate(&input),
+            input,
         }
     }
 
@@ -106,12 +109,11 @@ impl Case {
     }
 
     /// Only a slowest plant has a wait, which the printed lines must show.
-    fn check_wait(&self, printed: &Result<Vec<u8>, String>) -> Option<Difference> {
-        let (Source::Slowest { n, wait }, Ok(printed)) = (&self.source, printed) else {
+    pub fn check_wait(&self, printed: &Result<Vec<u8>, String>) -> Option<Difference> {
+        let (Source::Slowest { plant, wait }, Ok(printed)) = (&self.source, printed) else {
             return None;
         };
-        let [input, printed] = [&self.input, printed].map(|bytes| String::from_utf8_lossy(bytes));
-        let problem = wait::check(*n, *wait, &input, &printed).err()?;
+        let problem = wait::check(plant, *wait, &String::from_utf8_lossy(printed)).err()?;
         Some(Difference {
             by: By::Whole,
             printed: Err(problem.to_string()),
@@ -151,9 +153,8 @@ pub fn odd_cases() -> impl Iterator<Item = Case> {
 }
 
 /// All slowest plants.
-pub fn slowest_cases() -> impl Iterator<Item = Case> {
-    let inputs = EXACT_WAIT.into_iter().zip(slowest::INPUTS);
-    inputs.map(|(wait, input)| Case::slowest(wait, input))
+pub fn slowest_cases() -> Result<impl Iterator<Item = Case>, String> {
+    Ok(slowest::plants()?.into_iter().map(Case::slowest))
 }
 
 /// Behind the first byte, in the middle and before the last byte.

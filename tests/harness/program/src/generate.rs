@@ -2,7 +2,7 @@
 
 use shared::groups::{random_size, SIZES};
 use shared::random::Random;
-use shared::schedule::{Entry, Style};
+use shared::schedule::{letter, Entry, Style};
 use shared::table;
 
 /// The most entries the run program reads.
@@ -92,7 +92,7 @@ fn text(size: usize, entries: &[Entry], random: &mut Random) -> Vec<u8> {
     };
     let zeros = random.pick(&[0, 0, 0, 1, 4]);
     for [kind, station] in entries {
-        let letter = [' ', 'T', 'L', 'C'][usize::from(*kind)];
+        let letter = letter(*kind);
         if zeros != 0 && random.once_in(zeros) {
             text += &format!("{letter} {station:02}\n");
         } else {

@@ -6,6 +6,7 @@
 
 #![forbid(unsafe_code)]
 
+mod altered_plants;
 mod altered_wait;
 mod case;
 mod counts;
@@ -69,8 +70,9 @@ fn odd_case(number: u64) -> Result<Case, String> {
 }
 
 fn slowest_case(n: usize) -> Result<Case, String> {
-    let wanted = |case: &Case| matches!(case.source, Source::Slowest { n: one, .. } if one == n);
-    let found = case::slowest_cases().find(wanted);
+    let wanted =
+        |case: &Case| matches!(&case.source, Source::Slowest { plant, .. } if plant.n == n);
+    let found = case::slowest_cases()?.find(wanted);
     found.ok_or_else(|| format!("there is no slowest plant of {n} boards"))
 }
 
@@ -83,7 +85,7 @@ fn only(program: &Program, case: Case) -> Result<String, String> {
 /// Checks the inputs up to the first difference.
 fn compare(program: &Program, seed: u64, inputs: u64) -> Result<String, String> {
     let odd_inputs = check_all(program, case::odd_cases())?;
-    let plants = check_all(program, case::slowest_cases())?;
+    let plants = check_all(program, case::slowest_cases()?)?;
     let mut counts = Counts::all(0);
     for number in 1..=inputs {
         let case = Case::random(seed, number);

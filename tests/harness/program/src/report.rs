@@ -36,7 +36,7 @@ pub fn whole(case: &Case) -> String {
 pub fn command(source: &Source) -> String {
     match source {
         Source::Odd { number, .. } => format!("tests/program --odd {number}"),
-        Source::Slowest { n, .. } => format!("tests/program --slowest {n}"),
+        Source::Slowest { plant, .. } => format!("tests/program --slowest {}", plant.n),
         Source::Random { seed, number } => format!("tests/program --seed {seed} --only {number}"),
     }
 }
@@ -44,7 +44,9 @@ pub fn command(source: &Source) -> String {
 fn input(case: &Case, cut: usize) -> String {
     let name = match &case.source {
         Source::Odd { number, name } => format!("odd input {number} ({name})"),
-        Source::Slowest { n, wait } => format!("slowest plant of {n} boards, exact wait {wait}"),
+        Source::Slowest { plant, wait } => {
+            format!("slowest plant of {} boards, exact wait {wait}", plant.n)
+        }
         Source::Random { number, .. } => format!("random input {number}"),
     };
     let bytes = report::part(&case.input, 0, cut);

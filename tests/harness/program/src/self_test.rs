@@ -8,6 +8,7 @@ use shared::child::Program;
 use shared::counts;
 use shared::report::CUT;
 
+use crate::altered_plants::{alter_lines, leave_out_turns};
 use crate::altered_wait::alter_runs;
 use crate::case::{odd_cases, slowest_cases, By, Case, Source};
 use crate::counts::{Counts, LEAST, NUMBERS};
@@ -17,7 +18,8 @@ use crate::stand_in::Fault;
 /// How many random inputs are used for altered outputs.
 const INPUTS: u64 = 200;
 
-/// Every so many odd inputs, one is given to the programs with a fault.
+/// Every so many odd inputs and slowest plants, one is given to the programs with
+/// a fault.
 const EVERY: usize = 16;
 
 /// Gives how many alterations were noticed, or what was not noticed. The run
@@ -28,9 +30,10 @@ pub fn self_test(seed: u64) -> Result<usize, String> {
     for number in 1..=INPUTS {
         noticed += alter_outputs(&Case::random(seed, number))?;
     }
-    for case in slowest_cases() {
+    for case in slowest_cases()? {
         noticed += alter_outputs(&case)?;
     }
+    noticed += alter_lines()? + leave_out_turns()?;
     noticed += alter_table()? + alter_runs()? + alter_waits()?;
     for fault in Fault::ALL {
         noticed += run_with(fault)?;
@@ -80,13 +83,14 @@ fn alter_table() -> Result<usize, String> {
 fn alter_waits() -> Result<usize, String> {
     let program = stand_in(Fault::None)?;
     let mut count = 0;
-    for mut case in slowest_cases() {
+    for mut case in slowest_cases()? {
         let command = report::command(&case.source);
-        let Source::Slowest { n, wait } = case.source else {
+        let Source::Slowest { plant, wait } = case.source else {
             continue;
         };
         for wait in [wait - 1, wait + 1] {
-            case.source = Source::Slowest { n, wait };
+            let plant = plant.clone();
+            case.source = Source::Slowest { plant, wait };
             if case.check(&program).is_none() {
                 return Err(format!(
                     "the wait was altered to {wait} unnoticed: {command}"
@@ -104,8 +108,9 @@ fn run_with(fault: Fault) -> Result<usize, String> {
     let program = stand_in(fault)?;
     let mut noticed = 0;
     let mut unnoticed = 0;
-    let cases = odd_cases().step_by(step(fault)).chain(slowest_cases());
-    for mut case in cases {
+    let odd = odd_cases().step_by(step(fault));
+    let slowest = slowest_cases()?.step_by(step(fault));
+    for mut case in odd.chain(slowest) {
         // The table is not tested here.
         case.expected = simulator::program::respond(&case.input).into_bytes();
         match case.check(&program) {
@@ -125,8 +130,9 @@ fn run_with(fault: Fault) -> Result<usize, String> {
     right.then_some(noticed).ok_or_else(problem)
 }
 
-/// The step through the odd inputs. An endless program takes long. A fault that
-/// is seldom need not be noticed on every input, so all are tried until it is.
+/// The step through odd inputs and slowest plants. An endless program takes
+/// long. A fault that is seldom need not be noticed on every input, so all are
+/// tried until it is.
 fn step(fault: Fault) -> usize {
     match fault {
         Fault::Endless => 4 * EVERY,

@@ -7,7 +7,7 @@ use std::collections::BTreeSet;
 use std::fmt;
 
 use shared::schedule::{Entry, CRASH};
-use shared::slowest;
+use shared::slowest::Plant;
 
 use crate::printed::{Line, Printed};
 
@@ -17,11 +17,9 @@ const EXCHANGED: usize = 1;
 const NO_REPLY: usize = 3;
 const CRASHED: usize = 4;
 
-/// Why an input and what was printed for it do not show the exact wait.
+/// Why what was printed for a plant does not show the exact wait.
 #[derive(Clone, Copy, Debug, PartialEq, Eq)]
 pub enum Problem {
-    /// The input is no slowest plant of this size.
-    Input,
     /// Not every entry was taken, or something has another form.
     Output,
     /// The printed line of this entry, counted from 1, cannot be.
@@ -37,10 +35,6 @@ pub enum Problem {
 impl fmt::Display for Problem {
     fn fmt(&self, f: &mut fmt::Formatter<'_>) -> fmt::Result {
         match self {
-            Problem::Input => write!(
-                f,
-                "got an input that is not crashes and then turns of kind 1, two or more boards live, of this size"
-            ),
             Problem::Output => write!(f, "does not print a line for each entry, and refusal 0"),
             Problem::Line(number) => write!(f, "prints for entry {number} what cannot be"),
             Problem::Rounds => write!(f, "prints other rounds than its lines close"),
@@ -56,16 +50,15 @@ impl fmt::Display for Problem {
     }
 }
 
-/// Checks that the printed lines show this wait for a plant of N boards.
-pub fn check(n: usize, wait: u32, input: &str, printed: &str) -> Result<(), Problem> {
-    let plant = slowest::read(input).filter(|plant| plant.n == n);
-    let entries = plant.ok_or(Problem::Input)?.entries;
+/// Checks that the lines printed for the plant show this wait.
+pub fn check(plant: &Plant, wait: u32, printed: &str) -> Result<(), Problem> {
+    let Plant { n, entries, .. } = plant;
     let taken_all =
         |printed: &Printed| printed.refused == 0 && printed.lines.len() == entries.len();
     let printed = Printed::read(printed).filter(taken_all);
     let printed = printed.ok_or(Problem::Output)?;
-    let mut boards = Boards::fresh(n);
-    for ((line, entry), number) in printed.lines.iter().zip(&entries).zip(1..) {
+    let mut boards = Boards::fresh(*n);
+    for ((line, entry), number) in printed.lines.iter().zip(entries).zip(1..) {
         let taken = boards.take(line, *entry);
         if taken.ok_or(Problem::Line(number))? {
             boards.check_wait(wait)?;

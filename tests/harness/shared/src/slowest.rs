@@ -1,43 +1,56 @@
-//! The slowest plants: inputs of the run program in samples/slowest. The dead
-//! boards crash first; the rest are turns.
+//! The slowest plants, one of each size from 3 to 64. A line of
+//! samples/slowest.txt has the size, `dead`, the boards that crash first,
+//! `turns`, and the boards that then take a turn of kind 1, in order.
 
-use crate::schedule::{Entry, CRASH, TURN};
+use crate::schedule::{letter, Entry, CRASH, TURN};
 
-/// The inputs for 4, 8, 16, 32 and 64 boards.
-pub const INPUTS: [&str; 5] = [
-    include_str!("../../../../samples/slowest/4-boards.txt"),
-    include_str!("../../../../samples/slowest/8-boards.txt"),
-    include_str!("../../../../samples/slowest/16-boards.txt"),
-    include_str!("../../../../samples/slowest/32-boards.txt"),
-    include_str!("../../../../samples/slowest/64-boards.txt"),
-];
+pub const LINES: &str = include_str!("../../../../samples/slowest.txt");
 
-/// What such an input says.
+#[derive(Clone)]
 pub struct Plant {
     pub n: usize,
     /// How many boards crash.
     pub dead: usize,
-    /// The crashes, then turns of kind 1.
+    /// The crashes, then the turns.
     pub entries: Vec<Entry>,
 }
 
-/// Reads an input. None if a line is neither a crash nor a turn of kind 1, if a
-/// crash stands behind a turn, or if fewer than two boards stay live.
-pub fn read(input: &str) -> Option<Plant> {
-    let (size, rest) = input.split_once('\n')?;
-    let entries: Option<Vec<Entry>> = rest.lines().map(read_entry).collect();
-    let (n, entries) = (size.parse().ok()?, entries?);
-    let dead = entries.iter().filter(|[kind, _]| *kind == CRASH).count();
-    let first = entries.iter().take(dead).all(|[kind, _]| *kind == CRASH);
-    (first && dead + 2 <= n).then_some(Plant { n, dead, entries })
+/// All plants, in ascending order of their sizes.
+pub fn plants() -> Result<Vec<Plant>, String> {
+    let problem = "samples/slowest.txt does not have a line for each size from 3 to 64, in order";
+    read(LINES).ok_or_else(|| String::from(problem))
 }
 
-fn read_entry(line: &str) -> Option<Entry> {
-    let (letter, station) = line.split_once(' ')?;
-    let kind = match letter {
-        "T" => TURN,
-        "C" => CRASH,
-        _ => return None,
-    };
-    Some([kind, station.parse().ok()?])
+/// None if a line has another form, or if there is not one line of each size, in
+/// ascending order.
+pub fn read(lines: &str) -> Option<Vec<Plant>> {
+    let plants: Option<Vec<Plant>> = lines.lines().map(Plant::read).collect();
+    plants.filter(|plants| plants.iter().map(|plant| plant.n).eq(3..=64))
+}
+
+impl Plant {
+    /// None if the line has another form, or if fewer than two boards stay live.
+    fn read(line: &str) -> Option<Plant> {
+        let (n, rest) = line.split_once(" dead ")?;
+        let (dead, turns) = rest.split_once(" turns ")?;
+        let [crashes, turns] = [entries(CRASH, dead)?, entries(TURN, turns)?];
+        let (n, dead) = (n.parse().ok()?, crashes.len());
+        let entries = [crashes, turns].concat();
+        (dead + 2 <= n).then_some(Plant { n, dead, entries })
+    }
+
+    /// The plant as an input of the run program.
+    pub fn input(&self) -> String {
+        let mut input = format!("{}\n", self.n);
+        for [kind, station] in &self.entries {
+            input += &format!("{} {station}\n", letter(*kind));
+        }
+        input
+    }
+}
+
+/// Entries of one kind, by their stations.
+fn entries(kind: u8, stations: &str) -> Option<Vec<Entry>> {
+    let entry = |station: &str| Some([kind, station.parse().ok()?]);
+    stations.split(' ').map(entry).collect()
 }

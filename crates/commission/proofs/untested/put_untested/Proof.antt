@@ -14,9 +14,8 @@ returns c = rw (untested-absent _ _ _ (sym (c .before .stands .ensures) ∙ not-
 
 returns-2 : tie.Need-returns-2
 returns-2 c =
-    let here = sym (c .before .before .before .before .stands .ensures) ∙ not-false _ (c .before .before .before .if1 .left) in
     let says = ap saysDue (sym (c .before .before .due-or-ahead .ensures) ∙ ap answerValue (c .enum-told .given .1)) in
-    rw (untested-due _ _ _ here says) (refl, (refl, refl))
+    rw (untested-due _ _ _ says) (refl, (refl, refl))
 
 returns-3 : tie.Need-returns-3
 returns-3 c =

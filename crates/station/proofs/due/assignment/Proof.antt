@@ -30,7 +30,7 @@ cast-write-entries c = omega (arith, size-bounds _ (assignment-zero _ _ _ _ (sym
 write-entries-requires : tie.Need-write-entries-requires
 write-entries-requires c κs =
     let z = assignment-zero _ _ _ _ (sym (c .before .before .before .assignment-number .ensures) ∙ c .before .before .if1 .left) in
-    (z .0 .size, c .before .row .ensures .1, z .1, omega (arith, size-bounds _ (z .0 .size), z .3))
+    (z .0 .size, c .before .row .ensures .1 .0, z .1, omega (arith, size-bounds _ (z .0 .size), z .3))
 
 returns-2 : tie.Need-returns-2
 unfolding assignmentCount assignmentAfter

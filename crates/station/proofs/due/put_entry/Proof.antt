@@ -16,7 +16,7 @@ returns-2 : tie.Need-returns-2
 returns-2 c =
     let here = sym (c .before .before .before .before .before .before .before .before .before .before .before .before .before .before .stands .ensures) ∙ not-false _ (c .before .before .before .before .before .before .before .before .before .before .before .before .before .if1 .left) in
     let written = rw (c .before .before .before .before .before .before .before .before .before .before .put .ensures, c .before .before .before .before .before .answer-byte .ensures) at (c .before .before .before .before .put2 .ensures) in
-    rw (here, due-is _ _ _ here, ← c .before .before .before .before .before .before .before .before .before .before .before .before .due-or-ahead .ensures) (refl, (c .count-due .ensures, written))
+    rw (here, due-is, ← c .before .before .before .before .before .before .before .before .before .before .before .before .due-or-ahead .ensures) (refl, (c .count-due .ensures, written))
 
 pub put-entry-spec : {M : Type 1} → statement M
 put-entry-spec =

@@ -1,5 +1,6 @@
 -- `inside::row` meets its contract: the row lies inside the table.
 -- Assumes nothing.
+use mathlib.Core.Path.{refl}
 use native.Mathlib.Omega.{arith}
 use borrow.Author.Needs.{needs}
 use Rattle.table.proofs.CellLaws.{row-inside, row-length, row-part}
@@ -17,7 +18,7 @@ returns c =
     let a = c .before .before .before .args in
     let p = c .before .before .before .pre in
     let e = row-part (a .n) (a .table .now) (a .i .0) _ (c .before .row-start .ensures .0) in
-    (e, rw e (row-length (a .n) (a .table .now) (a .i .0) (p .0) (p .1)))
+    (e, (rw e (row-length (a .n) (a .table .now) (a .i .0) (p .0) (p .1)), (refl, omega (arith, c .before .row-start .ensures .0))))
 
 pub row-spec : {M : Type 1} → statement M
 row-spec =

@@ -1,7 +1,7 @@
 //! How many rounds close until the dead boards are known, beside the bounds:
 //! the exact wait, which the proof shows, and two greater ones. Random plants,
 //! with the library's figures over their rounds, and the slowest plants of
-//! samples/slowest.
+//! samples/slowest.txt.
 //!
 //! `latency` writes docs/latency.md and docs/latency.svg under the current
 //! folder, and prints the tables; `--quick` tries less, and only prints.
@@ -13,7 +13,6 @@ use bench::slowest::{self, Slowest};
 use bench::statistics::{decimal, Summary};
 use shared::groups::dimension;
 use shared::random::Random;
-use shared::slowest::INPUTS;
 use std::fmt::Write;
 use std::process::ExitCode;
 use std::{fs, io};
@@ -75,9 +74,7 @@ fn main() -> ExitCode {
 }
 
 fn work(quick: bool) -> io::Result<()> {
-    let slowest: Option<Vec<Slowest>> = INPUTS.into_iter().map(slowest::run).collect();
-    let slowest =
-        slowest.ok_or_else(|| io::Error::other("a plant of samples/slowest is unusable"))?;
+    let slowest = slowest::run_all().map_err(io::Error::other)?;
     let results = SIZES.map(|n| try_size(n, quick));
     print!("{}", tables(&results, &slowest));
     match quick {
@@ -161,8 +158,8 @@ first from 2 to 2^d, since few live boards take the most rounds; then which ones
 nothing to find and no round is counted. Each turn is taken by any live board that has not finished its pass, at random.
 
 Demand 3 states that d·d rounds suffice. The proof ([DEMAND-3.md](DEMAND-3.md)) shows that the exact wait f(d) suffices: d rounds for d ≤ 3,
-and 4 + ⌊(d − 3)²/2⌋ from 4 on. It is exact for 4, 8, 16, 32 and 64 boards, and wherever the greatest below equals it; for 2, with both
-live, there is nothing to find. Request C-22 asks for 1 + d(d − 1)/2, which is nowhere less.
+and 4 + ⌊(d − 3)²/2⌋ from 4 on. It is exact at every size from 3 on, as the slowest plants below show; for 2, with both live, there is
+nothing to find. Request C-22 asks for 1 + d(d − 1)/2, which is nowhere less.
 
 The count of trials, least, mean, variance and greatest are given by the library (`vcube_figures_of_list`, request C-12). Mean and variance
 are exact: in brackets stands the fraction in lowest terms. The variance is over the whole batch, divided by the count. The library takes at
@@ -205,27 +202,36 @@ fn bounds(n: usize) -> String {
     format!("{} | {} | {}", exact(n), requested(n), stated(n))
 }
 
+const SLOWEST_TEXT: &str = "## The slowest plants
+
+A plant of each size from 3 to 64 in `samples/slowest.txt`, with many boards dead at once and the turns in an unlucky order: the dead boards
+crash first, then come the turns. Each takes the exact wait f(d). They are the slowest there are, since f(d) rounds always suffice
+([DEMAND-3.md](DEMAND-3.md)). From 17 boards on more rounds are needed than d. `samples/slowest 11 | ./watch` runs the plant of 11 boards.
+
+| N | live | rounds until known | d | f(d) | 1 + d(d − 1)/2 | d·d |
+|--:|--:|--:|--:|--:|--:|--:|
+";
+
+/// A row for neighbouring sizes with the same d and the same rounds.
 fn slowest_table(slowest: &[Slowest]) -> String {
-    let mut text = String::from(
-        "## The slowest plants
-
-Inputs of the run program in `samples/slowest`, one for each power of two from 4 to 64, with many boards dead at once and the turns in an
-unlucky order: the dead boards crash first, then come the turns. Each takes the exact wait f(d). They are the slowest there are, since f(d)
-rounds always suffice ([DEMAND-3.md](DEMAND-3.md)). With 32 and 64 boards more rounds are needed than log2 N.
-
-| N | dead | rounds until known | log2 N | f(d) | 1 + d(d − 1)/2 | d·d | input |
-|--:|--:|--:|--:|--:|--:|--:|---|
-",
-    );
-    for Slowest { n, dead, rounds } in slowest {
-        let (log, bounds) = (n.ilog2(), bounds(*n));
-        let file = format!("[{n}-boards.txt](../samples/slowest/{n}-boards.txt)");
-        let _ = writeln!(
-            text,
-            "| {n} | {dead} | {rounds} | {log} | {bounds} | {file} |"
-        );
+    let mut text = String::from(SLOWEST_TEXT);
+    let key = |plant: &Slowest| (dimension(plant.n), plant.rounds);
+    for plants in slowest.chunk_by(|one, next| key(one) == key(next)) {
+        let sizes = range(plants.iter().map(|plant| plant.n));
+        let live = range(plants.iter().map(|plant| plant.n - plant.dead));
+        let ((d, rounds), bounds) = (key(&plants[0]), bounds(plants[0].n));
+        let _ = writeln!(text, "| {sizes} | {live} | {rounds} | {d} | {bounds} |");
     }
     text
+}
+
+/// The least and the greatest of a row's numbers.
+fn range(numbers: impl Iterator<Item = usize>) -> String {
+    let wider = |(least, greatest): (usize, usize), k| (least.min(k), greatest.max(k));
+    match numbers.fold((usize::MAX, 0), wider) {
+        (least, greatest) if least == greatest => least.to_string(),
+        (least, greatest) => format!("{least} to {greatest}"),
+    }
 }
 
 fn order_table(results: &[Results]) -> String {
