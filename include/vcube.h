@@ -1,7 +1,7 @@
 /* The vCube watch for C and C++: the calls of the document "The vCube watch on a gin's plant cable" (document 01), with the sizes of
  * request C-11 of document 02, the tested station that hears it too, its request C-13, and the assignment that says who stands ahead, its
  * request C-16; the bus master that grants the turns, its request C-15; and the figures over a season's trials, its request C-12. The
- * library behind them (crates/vcube and the crates that it uses, docs/LAYERS.md) is proved in Rattle to do what its definitions say; this
+ * library behind them (crates/vcube and the crates that it uses, docs/MAP.md) is proved in Rattle to do what its definitions say; this
  * header and the compiler's back end are not part of the proof.
  *
  * Build the archive with `rt staticlib vcube` and link target/staticlib/libvcube.a (x86-64 Linux), or install it by bindings/c/install.
