@@ -1,4 +1,5 @@
-# What ./watch and ./sheet share: to prove and build a program of this repository, as far as something changed since it was last proved.
+# What ./watch and ./sheet share: to prove and build a program of this repository, as far as something changed since it was last proved, and
+# to write what it printed.
 # This file is sourced; $program names the program, which is its crate too, and $root the folder of this repository.
 # shellcheck shell=bash
 : "${program:?}" "${root:?}"
@@ -6,6 +7,16 @@
 refuse() { # MESSAGE
     printf '%s: %s\n' "$program" "$1" >&2
     exit 2
+}
+
+# Prints the text, or says that it cannot. It is no failure if the reader of a pipe stops reading: cat then ends with 128 + 13.
+write_out() { # TEXT
+    local status=0
+    cat 2>/dev/null < <(printf '%s\n' "$1") || status=$?
+    if ((status != 0 && status != 141)); then
+        echo "$program: standard output cannot be written" >&2
+        exit 1
+    fi
 }
 
 # The crates of this repository that NAME needs, as crates.txt lists them, and NAME behind them.

@@ -66,6 +66,17 @@ prints_help() {
     silent
 }
 
+# On a full disk the command says so and ends with 1. If the reader of a pipe is gone it ends with 0, as with any other reader.
+needs_output() { # WORDS...
+    local status=0
+    asked="$called $* >/dev/full"
+    "$called" "$@" >/dev/full 2>"$made/err" || status=$?
+    ((status == 1)) || fail "$asked: status $status, not 1"
+    said_just "${tested#./}: standard output cannot be written"
+    asked="$called $* | true"
+    (sleep 0.5 && env --default-signal=PIPE "$called" "$@" 2>"$made/err") | true || fail "$asked: a status that is not 0"
+}
+
 # By the calls so far, rt was not called; was called.
 rt_unused() { [[ ! -e $made/called ]] || fail "rt was called where there is nothing to prove"; }
 rt_used() { [[ -e $made/called ]] || fail "rt was not called"; }
@@ -77,7 +88,7 @@ proves_what_is_left() { # WORDS...
     local name=${tested#./} small=$made/small
     local stdout=$small/crates/$name/stdout
     mkdir -p "$small/crates/"{low,between,"$name"}/src
-    cp "$tested" prove.sh "$small"
+    cp "$tested" ./*.sh "$small"
     printf '%s\n' 'low: # used by both others' 'between: low' "$name: between low libc" >"$small/crates.txt"
     echo 'pub fn half(x: u8) -> u8 { x / 2 }' >"$small/crates/low/src/lib.rt"
     echo 'pub fn quarter(x: u8) -> u8 { low::half(low::half(x)) }' >"$small/crates/between/src/lib.rt"
