@@ -15,11 +15,10 @@ use Rattle.table.specs.Sizes.{isSize, dimension}
 use Rattle.station.specs.Groups.{group}
 use Rattle.lists.specs.Refusal.{refuse, _else_, unless}
 use Rattle.table.specs.Rules.{tableNumber, stationRefusal, lengthRefusal}
-use Rattle.station.specs.Calls.{groupNumber, groupAfter, rowNumber, assignmentNumber, assignmentAfter, assignmentCount, rangeNumber}
+use Rattle.station.specs.Calls.{groupNumber, groupAfter, rowNumber, rowPart, rowOffset, assignmentNumber, assignmentAfter, assignmentCount, rangeNumber}
 use Rattle.lists.proofs.RefusalLaws.{else-first, else-same, else-not, refuse-zero, unless-refused}
 use Rattle.table.proofs.Accepting.{accepted}
 use Rattle.table.proofs.SizeLaws.{size-bounds, size-dimension}
-use Rattle.vcube.specs.Exports.{startOut, lengthOut}
 
 -- f gives the same of a number and of its byte
 abbrev pub Narrow {ℓ} : {A : Type ℓ} → (ℕ → A) → Type ℓ
@@ -59,13 +58,13 @@ module _ (n : ℕ) (t : List ℕ) where
   pub row-number-narrow : Narrow (rowNumber n t)
   row-number-narrow = narrow (rowNumber n t) row-refused row-far
 
-  pub row-start-narrow : Narrow (startOut n t)
-  unfolding startOut
-  row-start-narrow = narrow-unless (rowNumber n t) row-refused _ _ row-far refused
+  pub row-offset-narrow : Narrow (rowOffset n t)
+  unfolding rowOffset
+  row-offset-narrow = narrow-unless (rowNumber n t) row-refused _ _ row-far refused
 
-  pub row-length-narrow : Narrow (lengthOut n t)
-  unfolding lengthOut
-  row-length-narrow = narrow-unless (rowNumber n t) row-refused _ _ row-far refused
+  pub row-part-narrow : Narrow (rowPart n t)
+  unfolding rowPart
+  row-part-narrow = narrow-unless (rowNumber n t) row-refused _ _ row-far refused
 
   assignment-far : (len x : ℕ) → 255 ≤ x → assignmentNumber n t x len ≡ row-refused
   unfolding assignmentNumber

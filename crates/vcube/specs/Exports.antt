@@ -1,28 +1,17 @@
 -- The calls of document 01 and of requests C-12 and C-15 as C has them (include/vcube.h), where they differ from those of `station`, `plant`,
--- `granter` and `figures`, for all inputs: the row is given by its start and length, the outcome of a run or a drive by its number and what it
+-- `granter` and `figures`, for all inputs: the outcome of a run or a drive is given by its number and what it
 -- leaves in the variables and buffers lent to it, and figures and totals are the members of a struct in their order.
 -- A station, level or last number may be any; the definitions of `station` and `granter` refuse it as they refuse any that is too high.
 -- Assumes nothing.
 use Prim.Native.Nat.{ℕ}
 use mathlib.Core.List.{List, [], _∷_}
 use lib.ListN.{getD}
-use Rattle.table.specs.Table.{rowStart}
-use Rattle.lists.specs.Refusal.{unless}
-use Rattle.station.specs.Calls.{rowNumber}
 use Rattle.plant.specs.Entry.{stateOf}
 use Rattle.plant.specs.Run.{Outcome}
 use Rattle.granter.specs.Drive.{DriveOutcome, driveOutcome}
 use Rattle.figures.specs.declared.Figures.{Figures}
 use Rattle.figures.specs.declared.Totals.{Totals}
 use Rattle.figures.specs.declared.Totalled.{Totalled}
-
--- Row: where the station's row begins in the table, 0 where it is refused
-unfoldable pub startOut : ℕ → List ℕ → ℕ → ℕ
-startOut n t i = unless (rowNumber n t i) 0 (rowStart n i)
-
--- how many bytes it has, n, and 0 where it is refused
-unfoldable pub lengthOut : ℕ → List ℕ → ℕ → ℕ
-lengthOut n t i = unless (rowNumber n t i) 0 n
 
 -- Run: the outcome by its parts: the number, the entries taken, table, rounds and tests, and the sheet
 abbrev pub outcomeOut : ℕ → ℕ → List ℕ → ℕ → ℕ → List ℕ → Outcome

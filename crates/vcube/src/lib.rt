@@ -6,14 +6,14 @@ ghost use mathlib.Core.List.{_++_};
 ghost use lib.ListN.{length};
 ghost use Rattle.table.specs.Rules.{shapeNumber};
 ghost use Rattle.table.specs.Fresh.{freshAfter};
-ghost use Rattle.station.specs.Calls.{groupNumber, groupAfter, rowNumber, assignmentNumber, assignmentAfter, assignmentCount};
+ghost use Rattle.station.specs.Calls.{groupNumber, groupAfter, rowNumber, rowPart, rowOffset, assignmentNumber, assignmentAfter, assignmentCount};
 ghost use Rattle.plant.specs.Entry.{stateOf};
 ghost use Rattle.plant.specs.Run.{run};
 ghost use Rattle.granter.specs.Grant.{grantNumber, grantStation};
 ghost use Rattle.granter.specs.Drive.{drive, StoppedIfTaken};
 ghost use Rattle.figures.specs.Batch.{figures};
 ghost use Rattle.figures.specs.Totals.{totals, join, figuresOfTotals};
-ghost use Rattle.vcube.specs.Exports.{startOut, lengthOut, outcomeOut, driveOut, filled, figuresMembers, totalsMembers, totalsWith, figuresOut, totalsOut};
+ghost use Rattle.vcube.specs.Exports.{outcomeOut, driveOut, filled, figuresMembers, totalsMembers, totalsWith, figuresOut, totalsOut};
 use figures::Figures;
 use figures::Totals;
 use figures::adding;
@@ -74,21 +74,21 @@ pub extern "C" fn vcube_row(
     table: &[u8],
     station: usize,
     start: &mut usize,
-    length: &mut usize,
+    bytes: &mut usize,
 ) -> u8
     ensures { λ r. ⌜ r ≡ rowNumber n (now (table .entry)) station ⌝ }
-    ensures { λ _. ⌜ now (start .exit) ≡ startOut n (now (table .entry)) station ⌝ }
-    ensures { λ _. ⌜ now (length .exit) ≡ lengthOut n (now (table .entry)) station ⌝ }
+    ensures { λ _. ⌜ now (start .exit) ≡ rowOffset n (now (table .entry)) station ⌝ }
+    ensures { λ _. ⌜ now (bytes .exit) ≡ length (rowPart n (now (table .entry)) station) ⌝ }
 {
     let i = Station(byte_of(station));
     let number = rows::row_number(n, table, i);
     if number != 0 {
         *start = 0;
-        *length = 0;
+        *bytes = 0;
         return number;
     }
     *start = cells::row_start(n as u8, i);
-    *length = n;
+    *bytes = n;
     0
 }
 

@@ -3,7 +3,7 @@
 use mathlib.Core.Path.{refl}
 use mathlib.Core.List.{List, [], _∷_}
 use Rattle.detection.specs.Claim.{exactWait}
-use Rattle.witness.specs.Sooner.{NoneSooner, NoneSoonerAtEach, shownSizes}
+use Rattle.witness.specs.Sooner.{NoneSooner, NoneSoonerShown}
 use Rattle.witness.proofs.Computing.{wholeRun, turnsOf}
 use Rattle.witness.proofs.Sooner.{crashed, turned, shows, none-sooner}
 
@@ -217,74 +217,29 @@ none-sooner-32 =
     0 31 refl
 
 -- an end in itself
-pub none-sooner-at-each : NoneSoonerAtEach shownSizes
-none-sooner-at-each = (
+pub none-sooner-shown : NoneSoonerShown
+none-sooner-shown = (
   none-sooner-3,
-  (
-    none-sooner-4,
-    (
-      none-sooner-5,
-      (
-        none-sooner-6,
-        (
-          none-sooner-7,
-          (
-            none-sooner-8,
-            (
-              none-sooner-9,
-              (
-                none-sooner-10,
-                (
-                  none-sooner-11,
-                  (
-                    none-sooner-12,
-                    (
-                      none-sooner-13,
-                      (
-                        none-sooner-14,
-                        (
-                          none-sooner-15,
-                          (
-                            none-sooner-16,
-                            (
-                              none-sooner-17,
-                              (
-                                none-sooner-18,
-                                (
-                                  none-sooner-19,
-                                  (
-                                    none-sooner-20,
-                                    (
-                                      none-sooner-21,
-                                      (
-                                        none-sooner-22,
-                                        (
-                                          none-sooner-23,
-                                          (
-                                            none-sooner-24,
-                                            (
-                                              none-sooner-32,
-                                              tt,
-                                            ),
-                                          ),
-                                        ),
-                                      ),
-                                    ),
-                                  ),
-                                ),
-                              ),
-                            ),
-                          ),
-                        ),
-                      ),
-                    ),
-                  ),
-                ),
-              ),
-            ),
-          ),
-        ),
-      ),
-    ),
-  ),
+  none-sooner-4,
+  none-sooner-5,
+  none-sooner-6,
+  none-sooner-7,
+  none-sooner-8,
+  none-sooner-9,
+  none-sooner-10,
+  none-sooner-11,
+  none-sooner-12,
+  none-sooner-13,
+  none-sooner-14,
+  none-sooner-15,
+  none-sooner-16,
+  none-sooner-17,
+  none-sooner-18,
+  none-sooner-19,
+  none-sooner-20,
+  none-sooner-21,
+  none-sooner-22,
+  none-sooner-23,
+  none-sooner-24,
+  none-sooner-32,
 )

@@ -1,6 +1,5 @@
 -- What it says that the exact wait cannot be shortened at size n.
 -- Assumes nothing.
-use mathlib.Core.List.{List, [], _∷_}
 use Prim.Native.Nat.{ℕ, _≤_}
 use Rattle.table.specs.Sizes.{dimension}
 use Rattle.detection.specs.Claim.{WithinAt, exactWait}
@@ -9,13 +8,9 @@ use Rattle.detection.specs.Claim.{WithinAt, exactWait}
 abbrev pub NoneSooner : ℕ → Type 0
 NoneSooner n = (enough : ℕ) → WithinAt n enough → exactWait (dimension n) ≤ enough
 
--- at each of these sizes
-abbrev pub NoneSoonerAtEach : List ℕ → Type 0
-NoneSoonerAtEach [] = Unit
-NoneSoonerAtEach (n ∷ ns) = NoneSooner n × NoneSoonerAtEach ns
-
--- the sizes at which it is shown
-abbrev pub shownSizes : List ℕ
-shownSizes =
-    3 ∷ 4 ∷ 5 ∷ 6 ∷ 7 ∷ 8 ∷ 9 ∷ 10 ∷ 11 ∷ 12 ∷ 13 ∷ 14 ∷ 15 ∷ 16
-    ∷ 17 ∷ 18 ∷ 19 ∷ 20 ∷ 21 ∷ 22 ∷ 23 ∷ 24 ∷ 32 ∷ []
+-- the sizes at which this is shown by a computed plant
+abbrev pub NoneSoonerShown : Type 0
+NoneSoonerShown =
+    NoneSooner 3 × NoneSooner 4 × NoneSooner 5 × NoneSooner 6 × NoneSooner 7 × NoneSooner 8 × NoneSooner 9 × NoneSooner 10
+    × NoneSooner 11 × NoneSooner 12 × NoneSooner 13 × NoneSooner 14 × NoneSooner 15 × NoneSooner 16 × NoneSooner 17 × NoneSooner 18
+    × NoneSooner 19 × NoneSooner 20 × NoneSooner 21 × NoneSooner 22 × NoneSooner 23 × NoneSooner 24 × NoneSooner 32
