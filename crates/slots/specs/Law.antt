@@ -88,7 +88,7 @@ MostOfPowers =
     (d : ℕ) (r : List ℕ) → length r ≡ 2 ^ d → ((x : ℕ) → x < 2 ^ d → unsuspected r x ≡ true)
     → (mostOfBoards (2 ^ d) r false ≡ d) × (mostOfBoards (2 ^ d) r true ≡ 2 * d - 1)
 
--- "33 boards, board 32 alone has 32": with 2^d + 1 boards and nobody suspected the last board tests all others
+-- of "33 boards, board 32 alone has 32": with 2^d + 1 boards and nobody suspected the last board tests all others
 abbrev pub LastTestsAll : Type 0
 LastTestsAll =
     (d : ℕ) (r : List ℕ) → length r ≡ suc (2 ^ d) → ((x : ℕ) → x < suc (2 ^ d) → unsuspected r x ≡ true)
