@@ -49,7 +49,7 @@ round-start n L t p fresh =
     }
 
 -- the round rule leaves status and rows
-reset-rows : (n : ℕ) (L : ℕ → Bool) (t : List ℕ) → Plain n L t → Plain n L (resetLines n t) × Grown n t (resetLines n t)
+pub reset-rows : (n : ℕ) (L : ℕ → Bool) (t : List ℕ) → Plain n L t → Plain n L (resetLines n t) × Grown n t (resetLines n t)
 reset-rows n L t p = same-rows n L t (resetLines n t) (reset-lines n t (p .lines)) (λ k c h _ changes. reset-other n t k c h changes) p
 
 -- the table after a round has closed is the start of the next

@@ -35,8 +35,18 @@ use Rattle.detection.proofs.Knowledge.{Exact}
 use Rattle.detection.proofs.Closing.{InRound, round-start}
 use Rattle.detection.proofs.Course.{Course, Tallied, exact-at, course}
 
+-- no live station suspects a live one: the byte is 0, where rows hold 0 and 1 only
+pub trusts : (n : ℕ) (t : List ℕ) → Accepted n t → noneSuspected n t ≡ true → (i j : ℕ) → i < n → j < n → live n t i ≡ true → live n t j ≡ true
+    → suspects n t i j ≡ 0
+unfolding noneSuspected
+trusts n t ok none i j h g a b =
+    let mine = every-at (λ k. every (noLiveSuspicion n t k) n) n i none h in
+    let all : noLiveSuspicion n t i j ≡ true = every-at (noLiveSuspicion n t i) n j mine g in
+    let notOne = eqb-false (suspects n t i j) 1 (not-true _ (rw (a, b) at all)) in
+    omega (arith, accepted-line n t ok i h .range j g)
+
 -- where two stations are live each live one has another
-company-of : (n : ℕ) (t : List ℕ) → 2 ≤ liveCount n t → Company n (live n t)
+pub company-of : (n : ℕ) (t : List ℕ) → 2 ≤ liveCount n t → Company n (live n t)
 unfolding liveCount
 company-of n t two i h l =
     by-bool (ltb p n)
@@ -58,19 +68,12 @@ company-of n t two i h l =
 -- the first table, at the start of a round
 first-round : (n : ℕ) (s : State) (calls : List Call) → Premises n s calls → Accepted n (s .table)
     → InRound n (live n (s .table)) (s .table) [] (s .table)
-unfolding atStart noneSuspected
+unfolding atStart
 first-round n s calls given ok =
-    round-start n (live n t) t (record { lines = (ok .long, accepted-line n t ok); lives = λ i h. refl; trusted = trusted }) fresh
+    round-start n (live n t) t (record { lines = (ok .long, accepted-line n t ok); lives = λ i h. refl; trusted = trusts n t ok (given .trusted) }) fresh
   where
     t : List ℕ
     t = s .table
-
-    trusted : (i j : ℕ) → i < n → j < n → live n t i ≡ true → live n t j ≡ true → suspects n t i j ≡ 0
-    trusted i j h g a b =
-        let mine = every-at (λ k. every (noLiveSuspicion n t k) n) n i (given .trusted) h in
-        let all : noLiveSuspicion n t i j ≡ true = every-at (noLiveSuspicion n t i) n j mine g in
-        let notOne = eqb-false (suspects n t i j) 1 (not-true _ (rw (a, b) at all)) in
-        omega (arith, accepted-line n t ok i h .range j g)
 
     fresh : (i : ℕ) → i < n → Reset n t i
     fresh i h =

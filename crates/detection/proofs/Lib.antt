@@ -17,4 +17,5 @@ pub mod Chain
 pub mod Course
 pub mod Demand3
 pub mod BoardLaws
+pub mod OneTurn
 pub mod FreshStart

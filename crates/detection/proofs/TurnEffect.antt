@@ -156,12 +156,12 @@ module _ (n : ℕ) (L : ℕ → Bool) (t : List ℕ) (i x : ℕ) (p : Plain n L 
       lines = exchange-lines n t i (p .lines) hi x hx apart
 
   -- neither of two live stations suspects the other: a test with a reply tells nobody
-  none-told : L x ≡ true → replyOutcome n t i x ≡ outcomeExchanged
+  pub none-told : L x ≡ true → replyOutcome n t i x ≡ outcomeExchanged
   unfolding replyOutcome isTold
   none-told e = rw (p .trusted x i hx hi e li, p .trusted i x hi hx li e)
 
   -- the reply of a live station is not late
-  tested : (kind : ℕ) → (L x ≡ true → kind ≡ kindTurn) → Step (afterTest n t kind i x)
+  pub tested : (kind : ℕ) → (L x ≡ true → kind ≡ kindTurn) → Step (afterTest n t kind i x)
   unfolding afterOutcome testOutcome replies
   tested kind prompt =
       by-bool (L x) (λ e. rw (p .lives x hx ∙ e, eq-eqb kind kindTurn (prompt e), none-told e) (exchanged e))
@@ -176,7 +176,7 @@ pub record TurnKept (n : ℕ) (L : ℕ → Bool) (t t′ : List ℕ) (i : ℕ) :
       → Tested n L (Row n t i) (Row n t (stationAt i m)) t′ i (stationAt i m)
 
 -- a station with a live one beside it that it does not suspect is not alone
-not-alone : (n : ℕ) (L : ℕ → Bool) (t : List ℕ) (i : ℕ) → Plain n L t → Company n L → i < n → L i ≡ true → afterAlone n t i ≡ t
+pub not-alone : (n : ℕ) (L : ℕ → Bool) (t : List ℕ) (i : ℕ) → Plain n L t → Company n L → i < n → L i ≡ true → afterAlone n t i ≡ t
 unfolding afterAlone isAlone selfOrSuspected
 not-alone n L t i p company hi li =
     let o = company i hi li in

@@ -6,7 +6,7 @@ use mathlib.Core.List.{List, [], _∷_, _++_}
 use lib.ListN.{length}
 use lib.Dec.{eqb}
 use Rattle.table.specs.Table.{live}
-use Rattle.turn.specs.Turn.{kindLate}
+use Rattle.turn.specs.Turn.{kindTurn, kindLate}
 use Rattle.plant.specs.Entry.{Entry, State, isCrash, isTest, entryNumber, after, testedOf}
 use Rattle.plant.specs.Run.{entries, startNumber, run}
 
@@ -19,6 +19,10 @@ pub record Call : Type 0 where
 -- a run's own inputs by their parts
 abbrev pub callOf : ℕ → List ℕ → List ℕ → Call
 callOf n schedule sheet = record { size = n; schedule = schedule; sheet = sheet }
+
+-- a run of one entry, (1, i): a turn of station i. What its sheet of four bytes held does not matter
+abbrev pub turnRun : ℕ → ℕ → Call
+turnRun n i = callOf n (kindTurn ∷ i ∷ []) (0 ∷ 0 ∷ 0 ∷ 0 ∷ [])
 
 -- table and tally as a run leaves them
 abbrev pub afterRun : State → Call → State

@@ -14,37 +14,15 @@ use Rattle.turn.specs.Turn.{kindTurn}
 use Rattle.plant.specs.Entry.{State, entryOf, entryNumber, after}
 use Rattle.plant.specs.Run.{Outcome, entries, startNumber}
 use Rattle.plant.proofs.RunLaws.{accepted-number, start-one, go-one, run-goes}
-use Rattle.detection.specs.Runs.{Call, afterRun, afterRuns, takenFrom, takenIn, takenAll}
+use Rattle.detection.specs.Runs.{Call, turnRun, afterRun, afterRuns, takenFrom, takenIn, takenAll}
+use Rattle.detection.proofs.OneTurn.{after-append, taken-append, one-left, one-taken}
 use Rattle.detection.proofs.TakenLaws.{takenAt}
 use Rattle.granter.specs.Grant.{lastRefusal, grantNumber}
 use Rattle.granter.specs.Drive.{Stand, standAt, grantedAt, grantTurn, afterGrants, endedAfter, fullAfter, stops, grantsMade, outcomeAfter, drive}
 use Rattle.granter.proofs.GrantLaws.{Grantable, grantable, grant-zero, station-fits}
 use Rattle.granter.proofs.DriveLaws.{Driving, not-stopped, driving-start, still, chosen, next-taken, next-driving}
-use Rattle.driving.specs.Driven.{turnRun, runsOf, EveryDriveTurnByTurn}
+use Rattle.driving.specs.Driven.{runsOf, EveryDriveTurnByTurn}
 use Rattle.driving.proofs.Stops.{every-drive-stops}
-
--- two lists of runs, one behind the other
-pub after-append : (s : State) (a b : List Call) → afterRuns s (a ++ b) ≡ afterRuns (afterRuns s a) b
-unfolding afterRuns
-after-append s [] b = refl
-after-append s (c ∷ a) b = after-append (afterRun s c) a b
-
-pub taken-append : (s : State) (a b : List Call) → takenAll s (a ++ b) ≡ takenAll s a ++ takenAll (afterRuns s a) b
-unfolding takenAll afterRuns
-taken-append s [] b = refl
-taken-append s (c ∷ a) b =
-    rw (taken-append (afterRun s c) a b) (sym (append-assoc (takenIn s c) (takenAll (afterRun s c) a) (takenAll (afterRuns (afterRun s c) a) b)))
-
--- a run of one turn that is taken
-module _ (n : ℕ) (s : State) (i : ℕ) (ok : tableNumber n (s .table) ≡ 0) (z : entryNumber n s (entryOf kindTurn i) ≡ 0) where
-  one-left : afterRun s (turnRun n i) ≡ after n s (entryOf kindTurn i)
-  one-left =
-      ap (λ (o : Outcome). o .state) (run-goes n s (turnRun n i .schedule) (turnRun n i .sheet) (start-one n (s .table) ok))
-      ∙ go-one n s (turnRun n i .sheet) kindTurn i z
-
-  one-taken : takenIn s (turnRun n i) ≡ takenAt n s (entryOf kindTurn i) ∷ []
-  unfolding takenIn startNumber takenFrom entries
-  one-taken = rw (ok, z)
 
 -- as long as a drive does not stop
 pub driving-at : (n : ℕ) (s : State) (last : ℕ) → Grantable n (s .table) last → (k : ℕ)

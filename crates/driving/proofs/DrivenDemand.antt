@@ -20,46 +20,29 @@ use Rattle.lists.proofs.SumLaws.{sum-zero}
 use Rattle.turn.specs.Turn.{kindTurn}
 use Rattle.plant.specs.Entry.{Entry, State, entryOf, entryNumber, acted, after}
 use Rattle.plant.specs.Run.{entries, startNumber}
-use Rattle.detection.specs.Runs.{Call, Taken, afterRuns, takenFrom, takenIn, takenAll, crashes, isLate}
+use Rattle.detection.specs.Runs.{Call, Taken, turnRun, afterRuns, takenFrom, takenIn, takenAll, crashes, isLate}
 use Rattle.detection.specs.Rounds.{allTaken}
 use Rattle.table.specs.Properties.{liveCount}
 use Rattle.detection.specs.Claim.{roundsOf, Premises, Conclusion, Within, demandWait, exactWait}
+use Rattle.detection.proofs.OneTurn.{after-append, runs-append, one-passes}
 use Rattle.detection.proofs.TakenLaws.{takenAt}
 use Rattle.detection.proofs.Demand3.{exact-wait, demand-3}
 use Rattle.granter.specs.Grant.{grantNumber}
 use Rattle.granter.specs.Drive.{Stand, standAt, grantedAt, grantTurn, afterGrants, ended, endedAfter, stops, grantsMade, outcomeAfter, drive}
 use Rattle.granter.proofs.GrantLaws.{Grantable, grantable}
 use Rattle.granter.proofs.DriveLaws.{Driving, not-ended, unended}
-use Rattle.driving.specs.Driven.{turnRun, runsOf, runsOfDrive, Step, runStep, driveStep, afterStep, runsOfStep, afterSteps, runsOfSteps, MixedWithin, afterDrives, runsOfDrives, ending, DrivenConclusion, DrivenWithin, DrivenDemand3, DrivenWithinAfter}
+use Rattle.driving.specs.Driven.{runsOf, runsOfDrive, Step, runStep, driveStep, afterStep, runsOfStep, afterSteps, runsOfSteps, MixedWithin, afterDrives, runsOfDrives, ending, DrivenConclusion, DrivenWithin, DrivenDemand3, DrivenWithinAfter}
 use Rattle.driving.proofs.Stops.{every-drive-stops}
-use Rattle.driving.proofs.DriveRuns.{after-append, taken-append, driving-at, turn-by-turn}
-
--- two lists whose entries pass
-all-append : (q : Taken → Bool) (xs ys : List Taken) → allTaken q xs ≡ true → allTaken q ys ≡ true → allTaken q (xs ++ ys) ≡ true
-unfolding allTaken
-all-append q [] ys a b = b
-all-append q (x ∷ xs) ys a b = let p = both (q x) (allTaken q xs) a in rw (p .0, all-append q xs ys (p .1) b)
-
--- two lists of runs
-runs-append : (q : Taken → Bool) (s : State) (a b : List Call) → allTaken q (takenAll s a) ≡ true → allTaken q (takenAll (afterRuns s a) b) ≡ true
-    → allTaken q (takenAll s (a ++ b)) ≡ true
-runs-append q s a b x y = rw (taken-append s a b) (all-append q (takenAll s a) (takenAll (afterRuns s a) b) x y)
+use Rattle.driving.proofs.DriveRuns.{driving-at, turn-by-turn}
 
 -- what turns pass, all entries pass that drives take
 module _ (q : Taken → Bool) (turns : (n : ℕ) (s : State) (i : ℕ) → q (takenAt n s (entryOf kindTurn i)) ≡ true) where
-  one-passes : (n : ℕ) (s : State) (i : ℕ) → allTaken q (takenAll s (turnRun n i ∷ [])) ≡ true
-  unfolding takenAll takenIn takenFrom entries allTaken
-  one-passes n s i =
-      let passes : allTaken q (takenAt n s (entryOf kindTurn i) ∷ []) ≡ true = rw (turns n s i) in
-      all-append q (takenIn s (turnRun n i)) [] (choice (λ xs. allTaken q xs ≡ true) (eqb (startNumber n (s .table) 2 4) 0)
-      (choice (λ xs. allTaken q xs ≡ true) (eqb (entryNumber n s (entryOf kindTurn i)) 0) passes refl) refl) refl
-
   grants-pass : (n : ℕ) (s : State) (p : Stand) (k : ℕ) → allTaken q (takenAll s (runsOf n p k)) ≡ true
   unfolding runsOf takenAll allTaken
   grants-pass n s p zero = refl
   grants-pass n s p (suc k) =
       runs-append q s (runsOf n p k) (turnRun n (grantedAt n (afterGrants n p k)) ∷ []) (grants-pass n s p k)
-      (one-passes n (afterRuns s (runsOf n p k)) (grantedAt n (afterGrants n p k)))
+      (one-passes q turns n (afterRuns s (runsOf n p k)) (grantedAt n (afterGrants n p k)))
 
   drives-pass : (n : ℕ) (s : State) (lasts : List ℕ) → allTaken q (takenAll s (runsOfDrives n s lasts)) ≡ true
   unfolding runsOfSteps takenAll allTaken

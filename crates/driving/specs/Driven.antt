@@ -12,14 +12,10 @@ use Rattle.table.specs.Table.{suspects, live}
 use Rattle.table.specs.Rules.{notLive}
 use Rattle.turn.specs.Turn.{kindTurn}
 use Rattle.plant.specs.Entry.{State, entryOf, entryNumber}
-use Rattle.detection.specs.Runs.{Call, callOf, afterRun, afterRuns, takenAll}
+use Rattle.detection.specs.Runs.{Call, turnRun, afterRun, afterRuns, takenAll}
 use Rattle.detection.specs.Claim.{roundsOf, Premises, Conclusion, demandWait}
 use Rattle.granter.specs.Grant.{grantNumber}
 use Rattle.granter.specs.Drive.{Stand, standAt, grantedAt, afterGrants, drive}
-
--- a run of one entry, (1, i): a turn of station i. What its sheet of four bytes held does not matter
-abbrev pub turnRun : ℕ → ℕ → Call
-turnRun n i = callOf n (kindTurn ∷ i ∷ []) (0 ∷ 0 ∷ 0 ∷ 0 ∷ [])
 
 -- the runs (1, g1), (1, g2), .. of the first k grants
 unfoldable pub runsOf : ℕ → Stand → ℕ → List Call

@@ -1,6 +1,6 @@
 -- What a group list, a row or an assignment has that is not refused.
 -- Assumes nothing.
-use mathlib.Core.Path.{_≡_}
+use mathlib.Core.Path.{_≡_, sym}
 use mathlib.Core.Bool.{true}
 use mathlib.Core.List.{List}
 use Prim.Native.Nat.{ℕ, _*_, _-_, _≤_, _<_}
@@ -9,10 +9,10 @@ use borrow.Author.Tests.{eqb-true, eqb-false, ltb-false, not-false, leb-false}
 use lib.ListN.{length}
 use Rattle.table.specs.Sizes.{isSize, dimension}
 use Rattle.station.specs.Groups.{group}
-use Rattle.table.specs.Table.{live}
-use Rattle.station.specs.Calls.{rowNumber, rangeNumber, groupNumber, assignmentNumber}
+use Rattle.table.specs.Table.{live, rowStart}
+use Rattle.station.specs.Calls.{rowNumber, rangeNumber, groupNumber, assignmentNumber, rowOffset}
 use Rattle.lists.proofs.BoolLaws.{neither}
-use Rattle.lists.proofs.RefusalLaws.{else-zero, refuse-zero}
+use Rattle.lists.proofs.RefusalLaws.{else-zero, refuse-zero, unless-refused, unless-accepted}
 use Rattle.table.proofs.Accepting.{Accepted, accepted}
 
 -- what a group list has that its station and level do not refuse
@@ -46,3 +46,12 @@ assignment-zero n t i len e =
     let r = row-zero n t i (p .0) in
     let q = else-zero _ _ (p .1) in
     (r .0, r .1, not-false _ (refuse-zero 9 _ (q .0)), eqb-true len (2 * (n - 1)) (not-false _ (refuse-zero 12 _ (q .1))))
+
+-- where the row's part begins
+pub offset-refused : (n : ℕ) (t : List ℕ) (i r : ℕ) → r ≡ rowNumber n t i → (r ≡ 0 → ⊥) → rowOffset n t i ≡ 0
+unfolding rowOffset
+offset-refused n t i r e h = sym (unless-refused r _ _ _ e h)
+
+pub offset-accepted : (n : ℕ) (t : List ℕ) (i : ℕ) → rowNumber n t i ≡ 0 → rowOffset n t i ≡ rowStart n i
+unfolding rowOffset
+offset-accepted n t i z = sym (unless-accepted _ _ _ z)

@@ -1,245 +1,201 @@
--- The exact wait cannot be shortened at the sizes listed: a computed plant of each.
+-- The exact wait cannot be shortened at any size from 3 on: a computed plant of 3, 5, 9, 17 and 33 boards, and the law for greater sizes.
 -- Assumes nothing.
-use mathlib.Core.Path.{refl}
-use mathlib.Core.List.{List, [], _∷_}
+use mathlib.Core.Path.{_≡_, refl, sym}
+use mathlib.Core.Bool.{true}
+use mathlib.Core.List.{List, [], _∷_, _++_}
+use Prim.Native.Nat.{ℕ, zero, suc, _^_, _≤_, _<_}
+use native.Mathlib.Omega.{arith}
+use Rattle.table.specs.Sizes.{isSize, dimension}
+use Rattle.table.proofs.SizeLaws.{size-log, size-dimension}
 use Rattle.detection.specs.Claim.{exactWait}
-use Rattle.witness.specs.Sooner.{NoneSooner, NoneSoonerShown}
-use Rattle.witness.proofs.Computing.{wholeRun, turnsOf}
-use Rattle.witness.proofs.Sooner.{crashed, turned, shows, none-sooner}
+use Rattle.plant.specs.Entry.{State, stateOf}
+use Rattle.table.specs.Fresh.{freshTable}
+use Rattle.witness.proofs.Computing.{wholeRun}
+use Rattle.witness.specs.Sooner.{NoneSooner, NoneSoonerFromThree}
+use Rattle.witness.proofs.Slow.{Goes, goes-append, slow-none-sooner}
+use Rattle.witness.proofs.Plants.{crashed, firstState, arrives, Arrival, arrival, begins, unseen, Computed, slow-plant, marked, sameList, sameState, part, behind}
+use Rattle.witness.proofs.Greater.{greater}
 
--- who unfolds this name computes whether a plant shows it
+-- who unfolds this name computes whether turns arrive
 unfoldable computes : Unit {0}
-unfolding wholeRun turnsOf exactWait crashed turned shows
+unfolding wholeRun exactWait crashed arrives begins unseen marked sameState sameList
 computes = tt
 
--- the plants of samples/slowest.txt without their last round: the size, the dead boards, the turns, a live board and a dead one that it does
--- not suspect then
-none-sooner-3 : NoneSooner 3
+-- the plants of samples/slowest.txt without their last round: the dead boards, a live board and a dead one that it does not suspect then, and
+-- the turns
+slow-3 : Computed 3
 unfolding computes
-none-sooner-3 =
-    none-sooner 3 (2 ∷ [])
+slow-3 =
+    slow-plant 3 (2 ∷ []) 1 2 refl
     (1 ∷ 1 ∷ 0 ∷ 0 ∷ 0 ∷ [])
-    1 2 refl
+    refl (arrival _ _ _ _ refl)
 
-none-sooner-4 : NoneSooner 4
+slow-5 : Computed 5
 unfolding computes
-none-sooner-4 =
-    none-sooner 4 (2 ∷ 3 ∷ [])
-    (1 ∷ 0 ∷ 1 ∷ 1 ∷ 0 ∷ 0 ∷ [])
-    0 3 refl
-
-none-sooner-5 : NoneSooner 5
-unfolding computes
-none-sooner-5 =
-    none-sooner 5 (0 ∷ 1 ∷ 4 ∷ [])
+slow-5 =
+    slow-plant 5 (0 ∷ 1 ∷ 4 ∷ []) 3 4 refl
     (3 ∷ 2 ∷ 3 ∷ 3 ∷ 2 ∷ 2 ∷ 3 ∷ 3 ∷ 3 ∷ 2 ∷ 2 ∷ 2 ∷ 2 ∷ [])
-    3 4 refl
+    refl (arrival _ _ _ _ refl)
 
-none-sooner-6 : NoneSooner 6
+slow-9 : Computed 9
 unfolding computes
-none-sooner-6 =
-    none-sooner 6 (0 ∷ 1 ∷ 4 ∷ 5 ∷ [])
-    (2 ∷ 3 ∷ 2 ∷ 2 ∷ 3 ∷ 3 ∷ 3 ∷ 3 ∷ 2 ∷ 2 ∷ 3 ∷ 3 ∷ 2 ∷ 2 ∷ [])
-    2 5 refl
+slow-9 =
+    slow-plant 9 (0 ∷ 1 ∷ 2 ∷ 3 ∷ 8 ∷ []) 5 8 refl
+    (5 ∷ 5 ∷ 6 ∷ 6 ∷ 4 ∷ 4 ∷ 7 ∷ 7 ∷ 5 ∷ 5 ∷ 6 ∷ 6 ∷ 4 ∷ 4 ∷ 7 ∷ 7 ∷ 4 ∷ 4 ∷ 4 ∷ 5 ∷ 6 ∷ 5 ∷ 4 ∷ 5 ∷ 7 ∷ 5 ∷ 6 ∷ 7 ∷ 7 ∷ 6 ∷ 7 ∷ 6 ∷ 5 ∷
+    5 ∷ 5 ∷ 5 ∷ 6 ∷ 6 ∷ 6 ∷ 6 ∷ 4 ∷ 4 ∷ 4 ∷ 7 ∷ 7 ∷ 7 ∷ 7 ∷ 4 ∷ 4 ∷ [])
+    refl (arrival _ _ _ _ refl)
 
-none-sooner-7 : NoneSooner 7
+slow-17 : Computed 17
 unfolding computes
-none-sooner-7 =
-    none-sooner 7 (0 ∷ 1 ∷ 4 ∷ 5 ∷ 6 ∷ [])
-    (3 ∷ 2 ∷ 3 ∷ 2 ∷ 3 ∷ 2 ∷ 2 ∷ 2 ∷ 2 ∷ 2 ∷ 3 ∷ 3 ∷ 2 ∷ 2 ∷ 3 ∷ 3 ∷ [])
-    2 5 refl
+slow-17 =
+    slow-plant 17 (0 ∷ 1 ∷ 2 ∷ 3 ∷ 4 ∷ 5 ∷ 6 ∷ 7 ∷ 12 ∷ 13 ∷ 14 ∷ 15 ∷ 16 ∷ []) 9 16 refl
+    (10 ∷ 10 ∷ 9 ∷ 9 ∷ 8 ∷ 8 ∷ 11 ∷ 11 ∷ 10 ∷ 10 ∷ 10 ∷ 9 ∷ 9 ∷ 9 ∷ 8 ∷ 8 ∷ 8 ∷ 11 ∷ 11 ∷ 11 ∷ 11 ∷ 10 ∷ 11 ∷ 9 ∷ 11 ∷ 11 ∷ 8 ∷ 11 ∷ 10 ∷
+    10 ∷ 8 ∷ 9 ∷ 9 ∷ 10 ∷ 8 ∷ 9 ∷ 10 ∷ 10 ∷ 9 ∷ 8 ∷ 8 ∷ 8 ∷ 9 ∷ 11 ∷ 10 ∷ 9 ∷ 8 ∷ 9 ∷ 9 ∷ 9 ∷ 9 ∷ 9 ∷ 11 ∷ 11 ∷ 11 ∷ 11 ∷ 11 ∷ 8 ∷ 8 ∷ 8 ∷
+    8 ∷ 8 ∷ 10 ∷ 10 ∷ 10 ∷ 10 ∷ 10 ∷ 8 ∷ 8 ∷ 8 ∷ 8 ∷ 8 ∷ 8 ∷ 9 ∷ 10 ∷ 11 ∷ 10 ∷ 10 ∷ 10 ∷ 10 ∷ 10 ∷ 9 ∷ 9 ∷ 9 ∷ 9 ∷ 9 ∷ 11 ∷ 11 ∷ 11 ∷
+    11 ∷ 11 ∷ 9 ∷ 9 ∷ 9 ∷ 9 ∷ 9 ∷ 9 ∷ 10 ∷ 10 ∷ 10 ∷ 10 ∷ 10 ∷ 10 ∷ 8 ∷ 8 ∷ 8 ∷ 8 ∷ 8 ∷ 11 ∷ 11 ∷ 11 ∷ 11 ∷ 11 ∷ 11 ∷ 8 ∷ 8 ∷ [])
+    refl (arrival _ _ _ _ refl)
 
-none-sooner-8 : NoneSooner 8
-unfolding computes
-none-sooner-8 =
-    none-sooner 8 (0 ∷ 1 ∷ 2 ∷ 3 ∷ 4 ∷ 5 ∷ [])
-    (7 ∷ 6 ∷ 7 ∷ 7 ∷ 7 ∷ 6 ∷ 6 ∷ 6 ∷ 7 ∷ 6 ∷ 6 ∷ 7 ∷ 6 ∷ 6 ∷ 7 ∷ 7 ∷ 6 ∷ 7 ∷ [])
-    6 1 refl
+-- that of 33 boards round by round: who suspects whom at the start of a round
+abbrev dead-33 : List ℕ
+dead-33 = (0 ∷ 1 ∷ 2 ∷ 3 ∷ 4 ∷ 5 ∷ 6 ∷ 7 ∷ 8 ∷ 9 ∷ 10 ∷ 11 ∷ 12 ∷ 13 ∷ 14 ∷ 15 ∷ 16 ∷ 17 ∷ 18 ∷ 19 ∷ 24 ∷ 25 ∷ 26 ∷ 27 ∷ 28 ∷ 29 ∷ 30 ∷ 31 ∷ 32 ∷ [])
 
-none-sooner-9 : NoneSooner 9
-unfolding computes
-none-sooner-9 =
-    none-sooner 9 (0 ∷ 1 ∷ 2 ∷ 3 ∷ 8 ∷ [])
-    (5 ∷ 5 ∷ 6 ∷ 6 ∷ 4 ∷ 4 ∷ 7 ∷ 7 ∷ 5 ∷ 5 ∷ 6 ∷ 6 ∷ 4 ∷ 4 ∷ 7 ∷ 7 ∷ 4 ∷ 4 ∷ 4 ∷ 5 ∷ 6 ∷ 5 ∷ 4 ∷ 5 ∷ 7 ∷ 5 ∷ 6 ∷ 7 ∷ 7 ∷ 6 ∷ 7 ∷ 6 ∷ 5 ∷ 5 ∷ 5 ∷
-    5 ∷ 6 ∷ 6 ∷ 6 ∷ 6 ∷ 4 ∷ 4 ∷ 4 ∷ 7 ∷ 7 ∷ 7 ∷ 7 ∷ 4 ∷ 4 ∷ [])
-    5 8 refl
+abbrev state-33 : List (ℕ × ℕ) → ℕ → ℕ → State
+state-33 suspicions rounds tests = stateOf (marked 33 (crashed 33 (freshTable 33) dead-33) suspicions) rounds tests
 
-none-sooner-10 : NoneSooner 10
-unfolding computes
-none-sooner-10 =
-    none-sooner 10 (0 ∷ 1 ∷ 2 ∷ 3 ∷ 4 ∷ 5 ∷ 8 ∷ 9 ∷ [])
-    (6 ∷ 7 ∷ 6 ∷ 7 ∷ 6 ∷ 7 ∷ 7 ∷ 6 ∷ 7 ∷ 7 ∷ 7 ∷ 6 ∷ 6 ∷ 6 ∷ 7 ∷ 7 ∷ 6 ∷ 6 ∷ 6 ∷ 6 ∷ 7 ∷ 6 ∷ 6 ∷ 6 ∷ 7 ∷ 6 ∷ 7 ∷ 7 ∷ 7 ∷ 7 ∷ [])
-    6 9 refl
+abbrev suspicions-1 : List (ℕ × ℕ)
+suspicions-1 = ((20, 4) ∷ (20, 16) ∷ (20, 28) ∷ (21, 5) ∷ (21, 17) ∷ (21, 29) ∷ (22, 6) ∷ (22, 18) ∷ (22, 30) ∷ (23, 7) ∷ (23, 19) ∷ (23, 31) ∷ [])
 
-none-sooner-11 : NoneSooner 11
-unfolding computes
-none-sooner-11 =
-    none-sooner 11 (0 ∷ 1 ∷ 2 ∷ 3 ∷ 8 ∷ 9 ∷ 10 ∷ [])
-    (6 ∷ 6 ∷ 7 ∷ 7 ∷ 4 ∷ 4 ∷ 5 ∷ 5 ∷ 6 ∷ 6 ∷ 7 ∷ 7 ∷ 4 ∷ 4 ∷ 5 ∷ 5 ∷ 5 ∷ 5 ∷ 5 ∷ 7 ∷ 6 ∷ 5 ∷ 4 ∷ 7 ∷ 4 ∷ 6 ∷ 4 ∷ 6 ∷ 6 ∷ 7 ∷ 6 ∷ 4 ∷ 4 ∷ 7 ∷ 7 ∷
-    6 ∷ 7 ∷ 7 ∷ 7 ∷ 4 ∷ 5 ∷ 4 ∷ 4 ∷ 4 ∷ 4 ∷ 6 ∷ 6 ∷ 6 ∷ 6 ∷ 5 ∷ 5 ∷ 5 ∷ 5 ∷ [])
-    4 9 refl
+abbrev suspicions-2 : List (ℕ × ℕ)
+suspicions-2 = ((20, 4) ∷ (20, 5) ∷ (20, 6) ∷ (20, 7) ∷ (20, 16) ∷ (20, 17) ∷ (20, 18) ∷ (20, 19) ∷ (20, 28) ∷ (20, 29) ∷ (20, 30) ∷ (20, 31) ∷
+    (21, 1) ∷ (21, 4) ∷ (21, 5) ∷ (21, 6) ∷ (21, 7) ∷ (21, 16) ∷ (21, 17) ∷ (21, 18) ∷ (21, 19) ∷ (21, 25) ∷ (21, 28) ∷ (21, 29) ∷
+    (21, 30) ∷ (21, 31) ∷ (22, 2) ∷ (22, 4) ∷ (22, 5) ∷ (22, 6) ∷ (22, 7) ∷ (22, 16) ∷ (22, 17) ∷ (22, 18) ∷ (22, 19) ∷ (22, 26) ∷
+    (22, 28) ∷ (22, 29) ∷ (22, 30) ∷ (22, 31) ∷ (23, 3) ∷ (23, 4) ∷ (23, 5) ∷ (23, 6) ∷ (23, 7) ∷ (23, 16) ∷ (23, 17) ∷ (23, 18) ∷
+    (23, 19) ∷ (23, 27) ∷ (23, 28) ∷ (23, 29) ∷ (23, 30) ∷ (23, 31) ∷ [])
 
-none-sooner-12 : NoneSooner 12
-unfolding computes
-none-sooner-12 =
-    none-sooner 12 (0 ∷ 1 ∷ 2 ∷ 3 ∷ 7 ∷ 8 ∷ 9 ∷ 10 ∷ 11 ∷ [])
-    (6 ∷ 4 ∷ 5 ∷ 6 ∷ 4 ∷ 6 ∷ 6 ∷ 5 ∷ 6 ∷ 5 ∷ 4 ∷ 6 ∷ 5 ∷ 4 ∷ 6 ∷ 5 ∷ 5 ∷ 5 ∷ 5 ∷ 4 ∷ 4 ∷ 4 ∷ 6 ∷ 4 ∷ 4 ∷ 6 ∷ 6 ∷ 6 ∷ 6 ∷ 6 ∷ 6 ∷ 5 ∷ 4 ∷ 4 ∷ 6 ∷
-    4 ∷ 4 ∷ 5 ∷ 6 ∷ 4 ∷ 6 ∷ 6 ∷ 5 ∷ 6 ∷ 6 ∷ 6 ∷ 5 ∷ 5 ∷ 6 ∷ [])
-    4 9 refl
+abbrev suspicions-3 : List (ℕ × ℕ)
+suspicions-3 = ((20, 0) ∷ (20, 1) ∷ (20, 2) ∷ (20, 3) ∷ (20, 4) ∷ (20, 5) ∷ (20, 6) ∷ (20, 7) ∷ (20, 8) ∷ (20, 12) ∷ (20, 16) ∷ (20, 17) ∷ (20, 18) ∷
+    (20, 19) ∷ (20, 24) ∷ (20, 25) ∷ (20, 26) ∷ (20, 27) ∷ (20, 28) ∷ (20, 29) ∷ (20, 30) ∷ (20, 31) ∷ (21, 1) ∷ (21, 2) ∷ (21, 3) ∷
+    (21, 4) ∷ (21, 5) ∷ (21, 6) ∷ (21, 7) ∷ (21, 16) ∷ (21, 17) ∷ (21, 18) ∷ (21, 19) ∷ (21, 25) ∷ (21, 26) ∷ (21, 27) ∷ (21, 28) ∷
+    (21, 29) ∷ (21, 30) ∷ (21, 31) ∷ (22, 1) ∷ (22, 2) ∷ (22, 3) ∷ (22, 4) ∷ (22, 5) ∷ (22, 6) ∷ (22, 7) ∷ (22, 16) ∷ (22, 17) ∷
+    (22, 18) ∷ (22, 19) ∷ (22, 25) ∷ (22, 26) ∷ (22, 27) ∷ (22, 28) ∷ (22, 29) ∷ (22, 30) ∷ (22, 31) ∷ (23, 1) ∷ (23, 2) ∷ (23, 3) ∷
+    (23, 4) ∷ (23, 5) ∷ (23, 6) ∷ (23, 7) ∷ (23, 16) ∷ (23, 17) ∷ (23, 18) ∷ (23, 19) ∷ (23, 25) ∷ (23, 26) ∷ (23, 27) ∷ (23, 28) ∷
+    (23, 29) ∷ (23, 30) ∷ (23, 31) ∷ [])
 
-none-sooner-13 : NoneSooner 13
-unfolding computes
-none-sooner-13 =
-    none-sooner 13 (0 ∷ 1 ∷ 2 ∷ 3 ∷ 8 ∷ 9 ∷ 10 ∷ 11 ∷ 12 ∷ [])
-    (6 ∷ 6 ∷ 5 ∷ 5 ∷ 4 ∷ 4 ∷ 7 ∷ 7 ∷ 6 ∷ 6 ∷ 5 ∷ 5 ∷ 4 ∷ 4 ∷ 4 ∷ 7 ∷ 7 ∷ 6 ∷ 7 ∷ 7 ∷ 7 ∷ 7 ∷ 6 ∷ 6 ∷ 6 ∷ 5 ∷ 4 ∷ 4 ∷ 4 ∷ 4 ∷ 4 ∷ 4 ∷ 5 ∷ 5 ∷ 5 ∷
-    5 ∷ 4 ∷ 4 ∷ 6 ∷ 6 ∷ 5 ∷ 5 ∷ 5 ∷ 7 ∷ 5 ∷ 7 ∷ 4 ∷ 6 ∷ 7 ∷ 7 ∷ 6 ∷ 5 ∷ 4 ∷ 7 ∷ 4 ∷ 4 ∷ 6 ∷ [])
-    4 10 refl
+abbrev suspicions-4 : List (ℕ × ℕ)
+suspicions-4 = ((20, 0) ∷ (20, 1) ∷ (20, 2) ∷ (20, 3) ∷ (20, 4) ∷ (20, 5) ∷ (20, 6) ∷ (20, 7) ∷ (20, 8) ∷ (20, 12) ∷ (20, 16) ∷ (20, 17) ∷ (20, 18) ∷
+    (20, 19) ∷ (20, 24) ∷ (20, 25) ∷ (20, 26) ∷ (20, 27) ∷ (20, 28) ∷ (20, 29) ∷ (20, 30) ∷ (20, 31) ∷ (21, 0) ∷ (21, 1) ∷ (21, 2) ∷
+    (21, 3) ∷ (21, 4) ∷ (21, 5) ∷ (21, 6) ∷ (21, 7) ∷ (21, 8) ∷ (21, 9) ∷ (21, 12) ∷ (21, 13) ∷ (21, 16) ∷ (21, 17) ∷ (21, 18) ∷
+    (21, 19) ∷ (21, 24) ∷ (21, 25) ∷ (21, 26) ∷ (21, 27) ∷ (21, 28) ∷ (21, 29) ∷ (21, 30) ∷ (21, 31) ∷ (22, 0) ∷ (22, 1) ∷ (22, 2) ∷
+    (22, 3) ∷ (22, 4) ∷ (22, 5) ∷ (22, 6) ∷ (22, 7) ∷ (22, 8) ∷ (22, 10) ∷ (22, 12) ∷ (22, 14) ∷ (22, 16) ∷ (22, 17) ∷ (22, 18) ∷
+    (22, 19) ∷ (22, 24) ∷ (22, 25) ∷ (22, 26) ∷ (22, 27) ∷ (22, 28) ∷ (22, 29) ∷ (22, 30) ∷ (22, 31) ∷ (23, 0) ∷ (23, 1) ∷ (23, 2) ∷
+    (23, 3) ∷ (23, 4) ∷ (23, 5) ∷ (23, 6) ∷ (23, 7) ∷ (23, 8) ∷ (23, 12) ∷ (23, 16) ∷ (23, 17) ∷ (23, 18) ∷ (23, 19) ∷ (23, 24) ∷
+    (23, 25) ∷ (23, 26) ∷ (23, 27) ∷ (23, 28) ∷ (23, 29) ∷ (23, 30) ∷ (23, 31) ∷ [])
 
-none-sooner-14 : NoneSooner 14
-unfolding computes
-none-sooner-14 =
-    none-sooner 14 (2 ∷ 3 ∷ 4 ∷ 5 ∷ 6 ∷ 7 ∷ 8 ∷ 9 ∷ 10 ∷ 11 ∷ 12 ∷ 13 ∷ [])
-    (0 ∷ 1 ∷ 0 ∷ 0 ∷ 1 ∷ 1 ∷ 1 ∷ 1 ∷ 0 ∷ 0 ∷ 0 ∷ 1 ∷ 1 ∷ 0 ∷ 0 ∷ 0 ∷ 0 ∷ 0 ∷ 0 ∷ 1 ∷ 1 ∷ 1 ∷ 1 ∷ 1 ∷ 0 ∷ 0 ∷ 1 ∷ 0 ∷ 0 ∷ 0 ∷ 0 ∷ 1 ∷ 1 ∷ 1 ∷ 0 ∷
-    1 ∷ 0 ∷ 1 ∷ 1 ∷ 1 ∷ [])
-    0 13 refl
+abbrev suspicions-5 : List (ℕ × ℕ)
+suspicions-5 = ((20, 0) ∷ (20, 1) ∷ (20, 2) ∷ (20, 3) ∷ (20, 4) ∷ (20, 5) ∷ (20, 6) ∷ (20, 7) ∷ (20, 8) ∷ (20, 9) ∷ (20, 10) ∷ (20, 12) ∷ (20, 13) ∷
+    (20, 14) ∷ (20, 16) ∷ (20, 17) ∷ (20, 18) ∷ (20, 19) ∷ (20, 24) ∷ (20, 25) ∷ (20, 26) ∷ (20, 27) ∷ (20, 28) ∷ (20, 29) ∷ (20, 30) ∷
+    (20, 31) ∷ (21, 0) ∷ (21, 1) ∷ (21, 2) ∷ (21, 3) ∷ (21, 4) ∷ (21, 5) ∷ (21, 6) ∷ (21, 7) ∷ (21, 8) ∷ (21, 9) ∷ (21, 10) ∷ (21, 12) ∷
+    (21, 13) ∷ (21, 14) ∷ (21, 16) ∷ (21, 17) ∷ (21, 18) ∷ (21, 19) ∷ (21, 24) ∷ (21, 25) ∷ (21, 26) ∷ (21, 27) ∷ (21, 28) ∷ (21, 29) ∷
+    (21, 30) ∷ (21, 31) ∷ (22, 0) ∷ (22, 1) ∷ (22, 2) ∷ (22, 3) ∷ (22, 4) ∷ (22, 5) ∷ (22, 6) ∷ (22, 7) ∷ (22, 8) ∷ (22, 9) ∷ (22, 10) ∷
+    (22, 12) ∷ (22, 13) ∷ (22, 14) ∷ (22, 16) ∷ (22, 17) ∷ (22, 18) ∷ (22, 19) ∷ (22, 24) ∷ (22, 25) ∷ (22, 26) ∷ (22, 27) ∷ (22, 28) ∷
+    (22, 29) ∷ (22, 30) ∷ (22, 31) ∷ (23, 0) ∷ (23, 1) ∷ (23, 2) ∷ (23, 3) ∷ (23, 4) ∷ (23, 5) ∷ (23, 6) ∷ (23, 7) ∷ (23, 8) ∷ (23, 9) ∷
+    (23, 10) ∷ (23, 11) ∷ (23, 12) ∷ (23, 13) ∷ (23, 14) ∷ (23, 15) ∷ (23, 16) ∷ (23, 17) ∷ (23, 18) ∷ (23, 19) ∷ (23, 24) ∷ (23, 25) ∷
+    (23, 26) ∷ (23, 27) ∷ (23, 28) ∷ (23, 29) ∷ (23, 30) ∷ (23, 31) ∷ [])
 
-none-sooner-15 : NoneSooner 15
-unfolding computes
-none-sooner-15 =
-    none-sooner 15 (0 ∷ 1 ∷ 2 ∷ 3 ∷ 6 ∷ 7 ∷ 8 ∷ 9 ∷ 10 ∷ 11 ∷ 12 ∷ 13 ∷ 14 ∷ [])
-    (5 ∷ 4 ∷ 4 ∷ 4 ∷ 5 ∷ 5 ∷ 5 ∷ 4 ∷ 5 ∷ 4 ∷ 5 ∷ 5 ∷ 5 ∷ 4 ∷ 4 ∷ 4 ∷ 5 ∷ 5 ∷ 5 ∷ 4 ∷ 4 ∷ 4 ∷ 4 ∷ 4 ∷ 4 ∷ 4 ∷ 4 ∷ 4 ∷ 4 ∷ 5 ∷ 5 ∷ 5 ∷ 5 ∷ 5 ∷ 4 ∷
-    4 ∷ 4 ∷ 5 ∷ 5 ∷ 5 ∷ [])
-    4 9 refl
+abbrev suspicions-6 : List (ℕ × ℕ)
+suspicions-6 = ((20, 0) ∷ (20, 1) ∷ (20, 2) ∷ (20, 3) ∷ (20, 4) ∷ (20, 5) ∷ (20, 6) ∷ (20, 7) ∷ (20, 8) ∷ (20, 9) ∷ (20, 10) ∷ (20, 11) ∷ (20, 12) ∷
+    (20, 13) ∷ (20, 14) ∷ (20, 15) ∷ (20, 16) ∷ (20, 17) ∷ (20, 18) ∷ (20, 19) ∷ (20, 24) ∷ (20, 25) ∷ (20, 26) ∷ (20, 27) ∷ (20, 28) ∷
+    (20, 29) ∷ (20, 30) ∷ (20, 31) ∷ (21, 0) ∷ (21, 1) ∷ (21, 2) ∷ (21, 3) ∷ (21, 4) ∷ (21, 5) ∷ (21, 6) ∷ (21, 7) ∷ (21, 8) ∷ (21, 9) ∷
+    (21, 10) ∷ (21, 11) ∷ (21, 12) ∷ (21, 13) ∷ (21, 14) ∷ (21, 15) ∷ (21, 16) ∷ (21, 17) ∷ (21, 18) ∷ (21, 19) ∷ (21, 24) ∷ (21, 25) ∷
+    (21, 26) ∷ (21, 27) ∷ (21, 28) ∷ (21, 29) ∷ (21, 30) ∷ (21, 31) ∷ (22, 0) ∷ (22, 1) ∷ (22, 2) ∷ (22, 3) ∷ (22, 4) ∷ (22, 5) ∷
+    (22, 6) ∷ (22, 7) ∷ (22, 8) ∷ (22, 9) ∷ (22, 10) ∷ (22, 11) ∷ (22, 12) ∷ (22, 13) ∷ (22, 14) ∷ (22, 15) ∷ (22, 16) ∷ (22, 17) ∷
+    (22, 18) ∷ (22, 19) ∷ (22, 24) ∷ (22, 25) ∷ (22, 26) ∷ (22, 27) ∷ (22, 28) ∷ (22, 29) ∷ (22, 30) ∷ (22, 31) ∷ (23, 0) ∷ (23, 1) ∷
+    (23, 2) ∷ (23, 3) ∷ (23, 4) ∷ (23, 5) ∷ (23, 6) ∷ (23, 7) ∷ (23, 8) ∷ (23, 9) ∷ (23, 10) ∷ (23, 11) ∷ (23, 12) ∷ (23, 13) ∷ (23, 14) ∷
+    (23, 15) ∷ (23, 16) ∷ (23, 17) ∷ (23, 18) ∷ (23, 19) ∷ (23, 24) ∷ (23, 25) ∷ (23, 26) ∷ (23, 27) ∷ (23, 28) ∷ (23, 29) ∷ (23, 30) ∷
+    (23, 31) ∷ [])
 
-none-sooner-16 : NoneSooner 16
-unfolding computes
-none-sooner-16 =
-    none-sooner 16 (4 ∷ 5 ∷ 6 ∷ 7 ∷ 8 ∷ 9 ∷ 10 ∷ 11 ∷ 12 ∷ 13 ∷ 14 ∷ 15 ∷ [])
-    (0 ∷ 0 ∷ 2 ∷ 2 ∷ 3 ∷ 3 ∷ 1 ∷ 1 ∷ 0 ∷ 0 ∷ 0 ∷ 2 ∷ 2 ∷ 2 ∷ 3 ∷ 3 ∷ 3 ∷ 1 ∷ 1 ∷ 1 ∷ 3 ∷ 3 ∷ 2 ∷ 2 ∷ 1 ∷ 2 ∷ 0 ∷ 3 ∷ 3 ∷ 0 ∷ 2 ∷ 3 ∷ 1 ∷ 2 ∷ 2 ∷
-    1 ∷ 0 ∷ 1 ∷ 1 ∷ 0 ∷ 1 ∷ 0 ∷ 0 ∷ 3 ∷ 0 ∷ 2 ∷ 1 ∷ 0 ∷ 3 ∷ 3 ∷ 0 ∷ 2 ∷ 0 ∷ 0 ∷ 1 ∷ 1 ∷ 1 ∷ 3 ∷ 0 ∷ 3 ∷ 2 ∷ 3 ∷ 1 ∷ 1 ∷ 2 ∷ 2 ∷ 2 ∷ [])
-    0 15 refl
+abbrev turns-0 : List ℕ
+turns-0 = (22 ∷ 22 ∷ 21 ∷ 21 ∷ 20 ∷ 20 ∷ 23 ∷ 23 ∷ 22 ∷ 22 ∷ 22 ∷ 22 ∷ 21 ∷ 21 ∷ 21 ∷ 21 ∷ 20 ∷ 20 ∷ 20 ∷ 20 ∷ 23 ∷ 23 ∷ 23 ∷ 23 ∷ [])
 
-none-sooner-17 : NoneSooner 17
-unfolding computes
-none-sooner-17 =
-    none-sooner 17 (0 ∷ 1 ∷ 2 ∷ 3 ∷ 4 ∷ 5 ∷ 6 ∷ 7 ∷ 12 ∷ 13 ∷ 14 ∷ 15 ∷ 16 ∷ [])
-    (10 ∷ 10 ∷ 9 ∷ 9 ∷ 8 ∷ 8 ∷ 11 ∷ 11 ∷ 10 ∷ 10 ∷ 10 ∷ 9 ∷ 9 ∷ 9 ∷ 8 ∷ 8 ∷ 8 ∷ 11 ∷ 11 ∷ 11 ∷ 11 ∷ 10 ∷ 11 ∷ 9 ∷ 11 ∷ 11 ∷ 8 ∷ 11 ∷ 10 ∷ 10 ∷
-    8 ∷ 9 ∷ 9 ∷ 10 ∷ 8 ∷ 9 ∷ 10 ∷ 10 ∷ 9 ∷ 8 ∷ 8 ∷ 8 ∷ 9 ∷ 11 ∷ 10 ∷ 9 ∷ 8 ∷ 9 ∷ 9 ∷ 9 ∷ 9 ∷ 9 ∷ 11 ∷ 11 ∷ 11 ∷ 11 ∷ 11 ∷ 8 ∷ 8 ∷ 8 ∷ 8 ∷ 8 ∷
-    10 ∷ 10 ∷ 10 ∷ 10 ∷ 10 ∷ 8 ∷ 8 ∷ 8 ∷ 8 ∷ 8 ∷ 8 ∷ 9 ∷ 10 ∷ 11 ∷ 10 ∷ 10 ∷ 10 ∷ 10 ∷ 10 ∷ 9 ∷ 9 ∷ 9 ∷ 9 ∷ 9 ∷ 11 ∷ 11 ∷ 11 ∷ 11 ∷ 11 ∷ 9 ∷ 9 ∷
-    9 ∷ 9 ∷ 9 ∷ 9 ∷ 10 ∷ 10 ∷ 10 ∷ 10 ∷ 10 ∷ 10 ∷ 8 ∷ 8 ∷ 8 ∷ 8 ∷ 8 ∷ 11 ∷ 11 ∷ 11 ∷ 11 ∷ 11 ∷ 11 ∷ 8 ∷ 8 ∷ [])
-    9 16 refl
+abbrev turns-1 : List ℕ
+turns-1 = (20 ∷ 21 ∷ 20 ∷ 23 ∷ 23 ∷ 21 ∷ 23 ∷ 21 ∷ 20 ∷ 20 ∷ 21 ∷ 22 ∷ 23 ∷ 20 ∷ 21 ∷ 21 ∷ 23 ∷ 21 ∷ 20 ∷ 23 ∷ 23 ∷ 21 ∷ 23 ∷ 22 ∷ 22 ∷ 22 ∷ 22 ∷
+    22 ∷ 22 ∷ 22 ∷ [])
 
-none-sooner-18 : NoneSooner 18
-unfolding computes
-none-sooner-18 =
-    none-sooner 18 (0 ∷ 1 ∷ 2 ∷ 3 ∷ 4 ∷ 5 ∷ 6 ∷ 7 ∷ 12 ∷ 13 ∷ 14 ∷ 15 ∷ 16 ∷ 17 ∷ [])
-    (9 ∷ 9 ∷ 8 ∷ 8 ∷ 11 ∷ 11 ∷ 10 ∷ 10 ∷ 9 ∷ 9 ∷ 9 ∷ 8 ∷ 8 ∷ 8 ∷ 11 ∷ 11 ∷ 11 ∷ 10 ∷ 10 ∷ 10 ∷ 10 ∷ 11 ∷ 11 ∷ 10 ∷ 11 ∷ 11 ∷ 8 ∷ 8 ∷ 8 ∷ 11 ∷
-    10 ∷ 9 ∷ 9 ∷ 8 ∷ 8 ∷ 10 ∷ 10 ∷ 8 ∷ 10 ∷ 9 ∷ 9 ∷ 9 ∷ 9 ∷ 11 ∷ 9 ∷ 8 ∷ 11 ∷ 8 ∷ 9 ∷ 11 ∷ 8 ∷ 10 ∷ 8 ∷ 9 ∷ 8 ∷ 8 ∷ 10 ∷ 11 ∷ 9 ∷ 11 ∷ 10 ∷ 10 ∷
-    10 ∷ 9 ∷ 11 ∷ 9 ∷ 10 ∷ 8 ∷ 8 ∷ 8 ∷ 8 ∷ 8 ∷ 8 ∷ 9 ∷ 11 ∷ 10 ∷ 11 ∷ 11 ∷ 11 ∷ 11 ∷ 11 ∷ 9 ∷ 9 ∷ 9 ∷ 9 ∷ 9 ∷ 9 ∷ 10 ∷ 10 ∷ 10 ∷ 10 ∷ 10 ∷ 10 ∷
-    10 ∷ 10 ∷ 11 ∷ 11 ∷ 10 ∷ 9 ∷ 10 ∷ 11 ∷ 10 ∷ 11 ∷ 11 ∷ 8 ∷ 8 ∷ 8 ∷ 9 ∷ 11 ∷ 8 ∷ 8 ∷ 9 ∷ 9 ∷ 9 ∷ 9 ∷ 9 ∷ 8 ∷ 8 ∷ [])
-    9 16 refl
+abbrev turns-2 : List ℕ
+turns-2 = (20 ∷ 21 ∷ 22 ∷ 23 ∷ 22 ∷ 22 ∷ 22 ∷ 22 ∷ 22 ∷ 22 ∷ 22 ∷ 20 ∷ 20 ∷ 20 ∷ 20 ∷ 20 ∷ 20 ∷ 20 ∷ 20 ∷ 20 ∷ 21 ∷ 21 ∷ 21 ∷ 21 ∷ 21 ∷ 21 ∷ 21 ∷
+    23 ∷ 23 ∷ 23 ∷ 23 ∷ 23 ∷ 23 ∷ 23 ∷ [])
 
-none-sooner-19 : NoneSooner 19
-unfolding computes
-none-sooner-19 =
-    none-sooner 19 (0 ∷ 1 ∷ 2 ∷ 3 ∷ 4 ∷ 5 ∷ 6 ∷ 7 ∷ 8 ∷ 9 ∷ 10 ∷ 11 ∷ 16 ∷ 17 ∷ 18 ∷ [])
-    (15 ∷ 15 ∷ 14 ∷ 14 ∷ 13 ∷ 13 ∷ 12 ∷ 12 ∷ 15 ∷ 15 ∷ 15 ∷ 14 ∷ 14 ∷ 14 ∷ 13 ∷ 13 ∷ 13 ∷ 12 ∷ 12 ∷ 12 ∷ 15 ∷ 14 ∷ 15 ∷ 14 ∷ 13 ∷ 12 ∷ 14 ∷ 14 ∷
-    15 ∷ 14 ∷ 13 ∷ 12 ∷ 15 ∷ 15 ∷ 13 ∷ 12 ∷ 13 ∷ 12 ∷ 15 ∷ 13 ∷ 13 ∷ 12 ∷ 12 ∷ 15 ∷ 14 ∷ 12 ∷ 13 ∷ 12 ∷ 12 ∷ 12 ∷ 12 ∷ 12 ∷ 14 ∷ 14 ∷ 14 ∷ 14 ∷
-    14 ∷ 14 ∷ 13 ∷ 13 ∷ 13 ∷ 13 ∷ 13 ∷ 15 ∷ 15 ∷ 15 ∷ 15 ∷ 15 ∷ 12 ∷ 13 ∷ 13 ∷ 13 ∷ 13 ∷ 13 ∷ 13 ∷ 14 ∷ 15 ∷ 14 ∷ 14 ∷ 14 ∷ 14 ∷ 14 ∷ 14 ∷ 12 ∷
-    12 ∷ 12 ∷ 12 ∷ 12 ∷ 12 ∷ 15 ∷ 15 ∷ 15 ∷ 15 ∷ 15 ∷ 14 ∷ 15 ∷ 15 ∷ 15 ∷ 15 ∷ 15 ∷ 15 ∷ 13 ∷ 12 ∷ 13 ∷ 13 ∷ 13 ∷ 13 ∷ 13 ∷ 13 ∷ 14 ∷ 14 ∷ 14 ∷
-    14 ∷ 14 ∷ 14 ∷ 12 ∷ 12 ∷ 12 ∷ 12 ∷ 12 ∷ 12 ∷ [])
-    12 17 refl
+abbrev turns-3 : List ℕ
+turns-3 = (23 ∷ 23 ∷ 23 ∷ 23 ∷ 23 ∷ 23 ∷ 23 ∷ 23 ∷ 20 ∷ 20 ∷ 20 ∷ 20 ∷ 20 ∷ 20 ∷ 20 ∷ 20 ∷ 20 ∷ 20 ∷ 22 ∷ 22 ∷ 22 ∷ 22 ∷ 22 ∷ 22 ∷ 22 ∷ 22 ∷ 22 ∷
+    22 ∷ 21 ∷ 21 ∷ 21 ∷ 21 ∷ 21 ∷ 21 ∷ 21 ∷ 21 ∷ 21 ∷ 21 ∷ [])
 
-none-sooner-20 : NoneSooner 20
-unfolding computes
-none-sooner-20 =
-    none-sooner 20 (0 ∷ 1 ∷ 2 ∷ 3 ∷ 4 ∷ 5 ∷ 6 ∷ 7 ∷ 12 ∷ 13 ∷ 14 ∷ 15 ∷ 16 ∷ 17 ∷ 18 ∷ 19 ∷ [])
-    (11 ∷ 11 ∷ 10 ∷ 10 ∷ 8 ∷ 8 ∷ 9 ∷ 9 ∷ 11 ∷ 11 ∷ 11 ∷ 10 ∷ 10 ∷ 10 ∷ 8 ∷ 8 ∷ 8 ∷ 9 ∷ 9 ∷ 9 ∷ 10 ∷ 10 ∷ 10 ∷ 10 ∷ 11 ∷ 9 ∷ 8 ∷ 10 ∷ 8 ∷ 8 ∷ 9 ∷
-    9 ∷ 8 ∷ 9 ∷ 11 ∷ 11 ∷ 8 ∷ 8 ∷ 11 ∷ 11 ∷ 9 ∷ 9 ∷ 11 ∷ 8 ∷ 10 ∷ 9 ∷ 8 ∷ 11 ∷ 10 ∷ 10 ∷ 9 ∷ 10 ∷ 11 ∷ 10 ∷ 10 ∷ 8 ∷ 9 ∷ 10 ∷ 11 ∷ 11 ∷ 8 ∷ 8 ∷
-    11 ∷ 9 ∷ 8 ∷ 11 ∷ 9 ∷ 9 ∷ 9 ∷ 9 ∷ 9 ∷ 9 ∷ 9 ∷ 9 ∷ 8 ∷ 10 ∷ 11 ∷ 10 ∷ 10 ∷ 10 ∷ 10 ∷ 10 ∷ 10 ∷ 8 ∷ 8 ∷ 8 ∷ 8 ∷ 8 ∷ 8 ∷ 11 ∷ 11 ∷ 11 ∷ 11 ∷
-    11 ∷ 11 ∷ 8 ∷ 11 ∷ 11 ∷ 10 ∷ 10 ∷ 11 ∷ 8 ∷ 10 ∷ 10 ∷ 9 ∷ 9 ∷ 8 ∷ 9 ∷ 10 ∷ 11 ∷ 11 ∷ 9 ∷ 9 ∷ 10 ∷ 8 ∷ 8 ∷ 9 ∷ 10 ∷ 11 ∷ 8 ∷ 9 ∷ 11 ∷ 8 ∷ [])
-    8 17 refl
+abbrev turns-4 : List ℕ
+turns-4 = (22 ∷ 22 ∷ 22 ∷ 22 ∷ 22 ∷ 22 ∷ 22 ∷ 22 ∷ 22 ∷ 22 ∷ 21 ∷ 21 ∷ 21 ∷ 21 ∷ 21 ∷ 21 ∷ 21 ∷ 21 ∷ 21 ∷ 21 ∷ 23 ∷ 23 ∷ 23 ∷ 23 ∷ 23 ∷ 23 ∷ 23 ∷
+    23 ∷ 23 ∷ 23 ∷ 20 ∷ 20 ∷ 20 ∷ 20 ∷ 20 ∷ 20 ∷ 20 ∷ 20 ∷ 20 ∷ 20 ∷ [])
 
-none-sooner-21 : NoneSooner 21
-unfolding computes
-none-sooner-21 =
-    none-sooner 21 (0 ∷ 1 ∷ 2 ∷ 3 ∷ 4 ∷ 5 ∷ 6 ∷ 7 ∷ 8 ∷ 9 ∷ 10 ∷ 11 ∷ 16 ∷ 17 ∷ 18 ∷ 19 ∷ 20 ∷ [])
-    (14 ∷ 14 ∷ 15 ∷ 15 ∷ 13 ∷ 13 ∷ 12 ∷ 12 ∷ 14 ∷ 14 ∷ 14 ∷ 15 ∷ 15 ∷ 15 ∷ 13 ∷ 13 ∷ 13 ∷ 12 ∷ 12 ∷ 12 ∷ 14 ∷ 15 ∷ 14 ∷ 15 ∷ 13 ∷ 13 ∷ 13 ∷ 13 ∷
-    14 ∷ 15 ∷ 12 ∷ 14 ∷ 13 ∷ 13 ∷ 14 ∷ 15 ∷ 15 ∷ 12 ∷ 15 ∷ 12 ∷ 12 ∷ 12 ∷ 12 ∷ 15 ∷ 15 ∷ 15 ∷ 15 ∷ 15 ∷ 15 ∷ 12 ∷ 12 ∷ 12 ∷ 12 ∷ 12 ∷ 12 ∷ 14 ∷
-    14 ∷ 14 ∷ 14 ∷ 14 ∷ 14 ∷ 14 ∷ 13 ∷ 13 ∷ 13 ∷ 13 ∷ 13 ∷ 13 ∷ 13 ∷ 13 ∷ 13 ∷ 13 ∷ 13 ∷ 13 ∷ 12 ∷ 15 ∷ 14 ∷ 15 ∷ 15 ∷ 15 ∷ 15 ∷ 15 ∷ 15 ∷ 12 ∷
-    12 ∷ 12 ∷ 12 ∷ 14 ∷ 14 ∷ 14 ∷ 14 ∷ 14 ∷ 14 ∷ 12 ∷ 12 ∷ 12 ∷ 15 ∷ 14 ∷ 15 ∷ 15 ∷ 15 ∷ 15 ∷ 15 ∷ 15 ∷ 12 ∷ 13 ∷ 12 ∷ 12 ∷ 12 ∷ 12 ∷ 12 ∷ 12 ∷
-    12 ∷ 14 ∷ 14 ∷ 14 ∷ 14 ∷ 14 ∷ 14 ∷ 13 ∷ 13 ∷ 13 ∷ 13 ∷ 13 ∷ 13 ∷ [])
-    12 17 refl
+abbrev turns-5 : List ℕ
+turns-5 = (20 ∷ 20 ∷ 20 ∷ 20 ∷ 20 ∷ 20 ∷ 20 ∷ 20 ∷ 20 ∷ 20 ∷ 23 ∷ 23 ∷ 23 ∷ 23 ∷ 23 ∷ 23 ∷ 23 ∷ 23 ∷ 23 ∷ 23 ∷ 22 ∷ 22 ∷ 22 ∷ 22 ∷ 22 ∷ 22 ∷ 22 ∷
+    22 ∷ 22 ∷ 22 ∷ 21 ∷ 21 ∷ 21 ∷ 21 ∷ 21 ∷ 21 ∷ 21 ∷ 21 ∷ 21 ∷ 21 ∷ [])
 
-none-sooner-22 : NoneSooner 22
-unfolding computes
-none-sooner-22 =
-    none-sooner 22 (0 ∷ 1 ∷ 2 ∷ 3 ∷ 4 ∷ 5 ∷ 6 ∷ 7 ∷ 8 ∷ 9 ∷ 10 ∷ 11 ∷ 16 ∷ 17 ∷ 18 ∷ 19 ∷ 20 ∷ 21 ∷ [])
-    (13 ∷ 13 ∷ 12 ∷ 12 ∷ 15 ∷ 15 ∷ 14 ∷ 14 ∷ 13 ∷ 13 ∷ 13 ∷ 12 ∷ 12 ∷ 12 ∷ 15 ∷ 15 ∷ 15 ∷ 14 ∷ 14 ∷ 14 ∷ 12 ∷ 13 ∷ 12 ∷ 13 ∷ 15 ∷ 13 ∷ 13 ∷ 13 ∷
-    12 ∷ 12 ∷ 14 ∷ 14 ∷ 12 ∷ 14 ∷ 15 ∷ 15 ∷ 15 ∷ 14 ∷ 14 ∷ 15 ∷ 15 ∷ 12 ∷ 14 ∷ 13 ∷ 12 ∷ 14 ∷ 15 ∷ 14 ∷ 14 ∷ 14 ∷ 14 ∷ 14 ∷ 12 ∷ 12 ∷ 12 ∷ 12 ∷
-    12 ∷ 15 ∷ 15 ∷ 15 ∷ 15 ∷ 15 ∷ 13 ∷ 13 ∷ 13 ∷ 13 ∷ 13 ∷ 13 ∷ 13 ∷ 14 ∷ 14 ∷ 14 ∷ 14 ∷ 14 ∷ 14 ∷ 13 ∷ 13 ∷ 13 ∷ 13 ∷ 13 ∷ 13 ∷ 13 ∷ 13 ∷ 15 ∷
-    15 ∷ 15 ∷ 15 ∷ 15 ∷ 15 ∷ 15 ∷ 12 ∷ 12 ∷ 12 ∷ 12 ∷ 12 ∷ 12 ∷ 12 ∷ 12 ∷ 15 ∷ 14 ∷ 15 ∷ 15 ∷ 15 ∷ 15 ∷ 15 ∷ 15 ∷ 13 ∷ 12 ∷ 13 ∷ 13 ∷ 13 ∷ 13 ∷
-    13 ∷ 13 ∷ 13 ∷ 14 ∷ 14 ∷ 14 ∷ 14 ∷ 12 ∷ 12 ∷ 12 ∷ 12 ∷ 12 ∷ 12 ∷ 12 ∷ 14 ∷ 14 ∷ [])
-    12 18 refl
+abbrev turns-6 : List ℕ
+turns-6 = (21 ∷ 21 ∷ 21 ∷ 22 ∷ 20 ∷ 21 ∷ 21 ∷ 21 ∷ 21 ∷ 23 ∷ 21 ∷ 21 ∷ 23 ∷ 21 ∷ 23 ∷ 22 ∷ 22 ∷ 23 ∷ 23 ∷ 23 ∷ 20 ∷ 20 ∷ 23 ∷ 20 ∷ 23 ∷ 23 ∷ 20 ∷
+    23 ∷ 20 ∷ 22 ∷ 20 ∷ 22 ∷ 22 ∷ 20 ∷ 20 ∷ 20 ∷ 20 ∷ 22 ∷ 22 ∷ 22 ∷ 22 ∷ [])
 
-none-sooner-23 : NoneSooner 23
+round-0 : Goes 33 (firstState 33 dead-33) turns-0 (state-33 suspicions-1 1 20)
 unfolding computes
-none-sooner-23 =
-    none-sooner 23 (0 ∷ 1 ∷ 2 ∷ 3 ∷ 4 ∷ 5 ∷ 6 ∷ 7 ∷ 8 ∷ 9 ∷ 10 ∷ 11 ∷ 16 ∷ 17 ∷ 18 ∷ 19 ∷ 20 ∷ 21 ∷ 22 ∷ [])
-    (14 ∷ 14 ∷ 15 ∷ 15 ∷ 13 ∷ 13 ∷ 12 ∷ 12 ∷ 14 ∷ 14 ∷ 14 ∷ 15 ∷ 15 ∷ 15 ∷ 13 ∷ 13 ∷ 13 ∷ 12 ∷ 12 ∷ 12 ∷ 14 ∷ 14 ∷ 14 ∷ 15 ∷ 14 ∷ 14 ∷ 13 ∷ 12 ∷
-    12 ∷ 12 ∷ 13 ∷ 15 ∷ 12 ∷ 15 ∷ 13 ∷ 15 ∷ 13 ∷ 15 ∷ 12 ∷ 12 ∷ 15 ∷ 13 ∷ 13 ∷ 12 ∷ 12 ∷ 12 ∷ 12 ∷ 12 ∷ 12 ∷ 15 ∷ 15 ∷ 15 ∷ 15 ∷ 15 ∷ 15 ∷ 14 ∷
-    14 ∷ 14 ∷ 14 ∷ 14 ∷ 14 ∷ 14 ∷ 14 ∷ 13 ∷ 13 ∷ 13 ∷ 13 ∷ 13 ∷ 13 ∷ 12 ∷ 13 ∷ 13 ∷ 13 ∷ 13 ∷ 13 ∷ 13 ∷ 15 ∷ 14 ∷ 15 ∷ 15 ∷ 15 ∷ 15 ∷ 15 ∷ 15 ∷
-    12 ∷ 12 ∷ 12 ∷ 12 ∷ 14 ∷ 14 ∷ 14 ∷ 14 ∷ 14 ∷ 14 ∷ 14 ∷ 12 ∷ 12 ∷ 12 ∷ 15 ∷ 14 ∷ 15 ∷ 15 ∷ 15 ∷ 15 ∷ 15 ∷ 15 ∷ 14 ∷ 14 ∷ 14 ∷ 14 ∷ 14 ∷ 14 ∷
-    14 ∷ 13 ∷ 12 ∷ 12 ∷ 12 ∷ 12 ∷ 12 ∷ 12 ∷ 12 ∷ 12 ∷ 13 ∷ 13 ∷ 13 ∷ 13 ∷ 13 ∷ 13 ∷ 13 ∷ [])
-    12 17 refl
+round-0 = part 33 (firstState 33 dead-33) turns-0 (state-33 suspicions-1 1 20) refl
 
-none-sooner-24 : NoneSooner 24
+round-1 : Goes 33 (state-33 suspicions-1 1 20) turns-1 (state-33 suspicions-2 2 46)
 unfolding computes
-none-sooner-24 =
-    none-sooner 24 (0 ∷ 1 ∷ 2 ∷ 3 ∷ 4 ∷ 5 ∷ 6 ∷ 7 ∷ 8 ∷ 9 ∷ 10 ∷ 11 ∷ 16 ∷ 17 ∷ 18 ∷ 19 ∷ 20 ∷ 21 ∷ 22 ∷ 23 ∷ [])
-    (15 ∷ 15 ∷ 14 ∷ 14 ∷ 13 ∷ 13 ∷ 12 ∷ 12 ∷ 15 ∷ 15 ∷ 15 ∷ 14 ∷ 14 ∷ 14 ∷ 13 ∷ 13 ∷ 13 ∷ 12 ∷ 12 ∷ 12 ∷ 14 ∷ 15 ∷ 15 ∷ 13 ∷ 12 ∷ 15 ∷ 15 ∷ 12 ∷
-    12 ∷ 14 ∷ 12 ∷ 15 ∷ 12 ∷ 14 ∷ 12 ∷ 13 ∷ 13 ∷ 14 ∷ 13 ∷ 13 ∷ 13 ∷ 14 ∷ 14 ∷ 13 ∷ 14 ∷ 12 ∷ 14 ∷ 14 ∷ 15 ∷ 13 ∷ 12 ∷ 14 ∷ 12 ∷ 14 ∷ 15 ∷ 12 ∷
-    15 ∷ 13 ∷ 14 ∷ 12 ∷ 15 ∷ 13 ∷ 12 ∷ 15 ∷ 13 ∷ 15 ∷ 13 ∷ 15 ∷ 15 ∷ 12 ∷ 12 ∷ 13 ∷ 15 ∷ 12 ∷ 15 ∷ 12 ∷ 14 ∷ 13 ∷ 12 ∷ 13 ∷ 12 ∷ 13 ∷ 15 ∷ 15 ∷
-    15 ∷ 14 ∷ 14 ∷ 15 ∷ 13 ∷ 15 ∷ 14 ∷ 13 ∷ 14 ∷ 14 ∷ 13 ∷ 15 ∷ 14 ∷ 13 ∷ 14 ∷ 15 ∷ 15 ∷ 15 ∷ 15 ∷ 15 ∷ 15 ∷ 15 ∷ 15 ∷ 14 ∷ 14 ∷ 14 ∷ 14 ∷ 14 ∷
-    14 ∷ 14 ∷ 14 ∷ 13 ∷ 13 ∷ 13 ∷ 13 ∷ 13 ∷ 13 ∷ 13 ∷ 13 ∷ 12 ∷ 12 ∷ 12 ∷ 12 ∷ 12 ∷ 12 ∷ 12 ∷ 12 ∷ [])
-    13 16 refl
+round-1 = part 33 (state-33 suspicions-1 1 20) turns-1 (state-33 suspicions-2 2 46) refl
 
--- five rounds of the boards 0 to 3; that of the file computes more slowly, since its live boards have high numbers
-none-sooner-32 : NoneSooner 32
+round-2 : Goes 33 (state-33 suspicions-2 2 46) turns-2 (state-33 suspicions-3 3 76)
 unfolding computes
-none-sooner-32 =
-    none-sooner 32 (4 ∷ 5 ∷ 6 ∷ 7 ∷ 8 ∷ 9 ∷ 10 ∷ 11 ∷ 12 ∷ 13 ∷ 14 ∷ 15 ∷ 16 ∷ 17 ∷ 18 ∷ 19 ∷ 20 ∷ 21 ∷ 22 ∷ 23 ∷ 24 ∷ 25 ∷ 26 ∷ 27 ∷ 28 ∷ 29 ∷ 30 ∷ 31 ∷ [])
-    (0 ∷ 0 ∷ 1 ∷ 2 ∷ 2 ∷ 3 ∷ 2 ∷ 2 ∷ 3 ∷ 2 ∷ 2 ∷ 1 ∷ 3 ∷ 3 ∷ 3 ∷ 3 ∷ 0 ∷ 0 ∷ 0 ∷ 0 ∷ 1 ∷ 1 ∷ 1 ∷ 1 ∷ 0 ∷ 1 ∷ 1 ∷ 1 ∷ 1 ∷ 1 ∷ 1 ∷ 0 ∷ 0 ∷ 0 ∷ 0 ∷
-    0 ∷ 2 ∷ 2 ∷ 2 ∷ 2 ∷ 3 ∷ 2 ∷ 2 ∷ 3 ∷ 3 ∷ 3 ∷ 3 ∷ 3 ∷ 3 ∷ 2 ∷ 2 ∷ 3 ∷ 3 ∷ 3 ∷ 3 ∷ 3 ∷ 2 ∷ 2 ∷ 2 ∷ 0 ∷ 0 ∷ 0 ∷ 1 ∷ 3 ∷ 3 ∷ 1 ∷ 1 ∷ 1 ∷ 0 ∷ 3 ∷
-    2 ∷ 2 ∷ 3 ∷ 2 ∷ 0 ∷ 0 ∷ 0 ∷ 0 ∷ 1 ∷ 1 ∷ 1 ∷ 1 ∷ 2 ∷ 2 ∷ 2 ∷ 3 ∷ 3 ∷ 3 ∷ 3 ∷ 3 ∷ 2 ∷ 2 ∷ 3 ∷ 2 ∷ 2 ∷ 2 ∷ 3 ∷ 3 ∷ 2 ∷ 0 ∷ 1 ∷ 2 ∷ 1 ∷ 1 ∷ 1 ∷
-    0 ∷ 0 ∷ 1 ∷ 0 ∷ 0 ∷ 0 ∷ 0 ∷ 1 ∷ 0 ∷ 0 ∷ 0 ∷ 1 ∷ 1 ∷ 1 ∷ 1 ∷ 0 ∷ 2 ∷ 3 ∷ 0 ∷ 0 ∷ 0 ∷ 0 ∷ 0 ∷ 0 ∷ 1 ∷ 0 ∷ 2 ∷ 1 ∷ 1 ∷ 3 ∷ 2 ∷ 3 ∷ 3 ∷ 2 ∷ 3 ∷
-    1 ∷ 3 ∷ 0 ∷ 0 ∷ 2 ∷ 1 ∷ 1 ∷ 1 ∷ 1 ∷ 1 ∷ 1 ∷ 2 ∷ 2 ∷ 2 ∷ 2 ∷ 2 ∷ 3 ∷ 3 ∷ 3 ∷ 3 ∷ [])
-    0 31 refl
+round-2 = part 33 (state-33 suspicions-2 2 46) turns-2 (state-33 suspicions-3 3 76) refl
+
+round-3 : Goes 33 (state-33 suspicions-3 3 76) turns-3 (state-33 suspicions-4 4 110)
+unfolding computes
+round-3 = part 33 (state-33 suspicions-3 3 76) turns-3 (state-33 suspicions-4 4 110) refl
+
+round-4 : Goes 33 (state-33 suspicions-4 4 110) turns-4 (state-33 suspicions-5 5 146)
+unfolding computes
+round-4 = part 33 (state-33 suspicions-4 4 110) turns-4 (state-33 suspicions-5 5 146) refl
+
+round-5 : Goes 33 (state-33 suspicions-5 5 146) turns-5 (state-33 suspicions-6 6 182)
+unfolding computes
+round-5 = part 33 (state-33 suspicions-5 5 146) turns-5 (state-33 suspicions-6 6 182) refl
+
+last-round : Arrival 33 (state-33 suspicions-6 6 182) turns-6 (unseen 33 21 32)
+unfolding computes
+last-round = arrival 33 (state-33 suspicions-6 6 182) turns-6 (unseen 33 21 32) refl
+
+begins-33 : begins 33 dead-33 21 32 ≡ true
+unfolding computes
+begins-33 = refl
+
+abbrev turns-33 : List ℕ
+turns-33 = (turns-0 ++ (turns-1 ++ (turns-2 ++ (turns-3 ++ (turns-4 ++ (turns-5)))))) ++ turns-6
+
+slow-33 : Computed 33
+slow-33 =
+    slow-plant 33 dead-33 21 32 begins-33 turns-33 refl
+    (behind 33 (firstState 33 dead-33) (state-33 suspicions-6 6 182) (turns-0 ++ (turns-1 ++ (turns-2 ++ (turns-3 ++ (turns-4 ++ (turns-5)))))) turns-6 (unseen 33 21 32)
+    (goes-append round-0 (goes-append round-1 (goes-append round-2 (goes-append round-3 (goes-append round-4 (round-5)))))) last-round)
+
+-- a size with as many levels as a computed one
+from-computed : (b n : ℕ) → Computed b → isSize n ≡ true → b ≤ n → dimension b ≡ dimension n → NoneSooner n
+from-computed b n c size low levels = slow-none-sooner n (greater b n (c .0) size low levels (c .1))
 
 -- an end in itself
-pub none-sooner-shown : NoneSoonerShown
-none-sooner-shown = (
-  none-sooner-3,
-  none-sooner-4,
-  none-sooner-5,
-  none-sooner-6,
-  none-sooner-7,
-  none-sooner-8,
-  none-sooner-9,
-  none-sooner-10,
-  none-sooner-11,
-  none-sooner-12,
-  none-sooner-13,
-  none-sooner-14,
-  none-sooner-15,
-  none-sooner-16,
-  none-sooner-17,
-  none-sooner-18,
-  none-sooner-19,
-  none-sooner-20,
-  none-sooner-21,
-  none-sooner-22,
-  none-sooner-23,
-  none-sooner-24,
-  none-sooner-32,
-)
+pub none-sooner-from-three : NoneSoonerFromThree
+unfolding wholeRun
+none-sooner-from-three n size three = go (size-log n size)
+  where
+    go : (h : ℕ) × (dimension n ≡ suc h) × (2 ^ h < n) × (n ≤ 2 ^ suc h) → NoneSooner n
+    go (zero, d, low, high) = absurd (omega arith)
+    go (suc zero, d, low, high) = from-computed 3 n slow-3 size (omega arith) (sym d)
+    go (suc (suc zero), d, low, high) = from-computed 5 n slow-5 size (omega arith) (sym d)
+    go (suc (suc (suc zero)), d, low, high) = from-computed 9 n slow-9 size (omega arith) (sym d)
+    go (suc (suc (suc (suc zero))), d, low, high) = from-computed 17 n slow-17 size (omega arith) (sym d)
+    go (suc (suc (suc (suc (suc zero)))), d, low, high) = from-computed 33 n slow-33 size (omega arith) (sym d)
+    go (suc (suc (suc (suc (suc (suc h))))), d, low, high) = absurd (omega (arith, size-dimension n size))
