@@ -1,8 +1,8 @@
 -- A drive is the list of runs of its grants, one entry each.
 -- Assumes nothing.
-use mathlib.Core.Path.{_≡_, refl, sym, ap, _∙_}
+use mathlib.Core.Path.{_≡_, refl}
 use mathlib.Core.Bool.{true, false, cond}
-use mathlib.Core.List.{List, [], _∷_, _++_, append-assoc}
+use mathlib.Core.List.{[], _∷_, _++_}
 use Prim.Native.Nat.{ℕ, zero, suc, _<_}
 use native.Mathlib.Omega.{arith}
 use borrow.Author.Tests.{eqb-true, eqb-false}
@@ -11,10 +11,9 @@ use lib.ListN.{length, length-append}
 use Rattle.table.specs.Rules.{tableNumber}
 use Rattle.lists.proofs.BoolLaws.{by-bool}
 use Rattle.turn.specs.Turn.{kindTurn}
-use Rattle.plant.specs.Entry.{State, entryOf, entryNumber, after}
-use Rattle.plant.specs.Run.{Outcome, entries, startNumber}
-use Rattle.plant.proofs.RunLaws.{accepted-number, start-one, go-one, run-goes}
-use Rattle.detection.specs.Runs.{Call, turnRun, afterRun, afterRuns, takenFrom, takenIn, takenAll}
+use Rattle.plant.specs.Entry.{State, entryOf, entryNumber}
+use Rattle.plant.proofs.RunLaws.{accepted-number}
+use Rattle.detection.specs.Runs.{turnRun, afterRuns, takenAll}
 use Rattle.detection.proofs.OneTurn.{after-append, taken-append, one-left, one-taken}
 use Rattle.detection.proofs.TakenLaws.{takenAt}
 use Rattle.granter.specs.Grant.{lastRefusal, grantNumber}

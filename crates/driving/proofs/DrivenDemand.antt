@@ -14,13 +14,13 @@ use Rattle.lists.specs.Sums.{bit}
 use Rattle.table.specs.Sizes.{dimension}
 use Rattle.table.specs.Table.{live}
 use Rattle.table.specs.Rules.{notLive, someLive, roundOver}
-use Rattle.lists.proofs.BoolLaws.{by-bool, choice}
-use Rattle.lists.proofs.SearchLaws.{both, every-at}
+use Rattle.lists.proofs.BoolLaws.{by-bool}
+use Rattle.lists.proofs.SearchLaws.{every-at}
 use Rattle.lists.proofs.SumLaws.{sum-zero}
 use Rattle.turn.specs.Turn.{kindTurn}
-use Rattle.plant.specs.Entry.{Entry, State, entryOf, entryNumber, acted, after}
-use Rattle.plant.specs.Run.{entries, startNumber}
-use Rattle.detection.specs.Runs.{Call, Taken, turnRun, afterRuns, takenFrom, takenIn, takenAll, crashes, isLate}
+use Rattle.plant.specs.Entry.{Entry, State, entryOf, acted, after}
+use Rattle.plant.specs.Run.{entries}
+use Rattle.detection.specs.Runs.{Taken, turnRun, afterRuns, takenAll, crashes, isLate}
 use Rattle.detection.specs.Rounds.{allTaken}
 use Rattle.table.specs.Properties.{liveCount}
 use Rattle.detection.specs.Claim.{roundsOf, Premises, Conclusion, Within, demandWait, exactWait}

@@ -1,6 +1,6 @@
 -- The rounds of a list of runs: byte 3 counts the testing entries, and the tests that a board makes are due by its row.
 -- Assumes nothing.
-use mathlib.Core.Path.{_≡_, refl, sym, ap, _∙_}
+use mathlib.Core.Path.{_≡_, refl, sym, _∙_}
 use mathlib.Core.Logic.{_≢_, _⊎_, inl, inr}
 use mathlib.Core.Bool.{true, false, true≢false}
 use mathlib.Core.List.{List, [], _∷_, _++_}
@@ -10,10 +10,9 @@ use native.Mathlib.Decide.{ℕ-discrete}
 use native.Mathlib.Omega.{arith}
 use borrow.Author.Tests.{eqb-true, eqb-false, eq-eqb}
 use lib.ListN.{length, getD}
-use lib.Dec.{eqb}
 use Rattle.lists.specs.Sums.{bit}
 use Rattle.table.specs.Sizes.{distances}
-use Rattle.table.specs.Table.{head, tableLength, cell, statusColumn, nextDistance, finished, testsMade, suspects, row, statusCrashed}
+use Rattle.table.specs.Table.{head, tableLength, statusColumn, nextDistance, finished, testsMade, suspects, row, statusCrashed}
 use Rattle.table.specs.Rules.{roundOver}
 use Rattle.table.specs.Properties.{lineAtStart, atStart}
 use Rattle.station.specs.Tests.{unsuspected, due}
@@ -22,10 +21,10 @@ use Rattle.lists.proofs.BoolLaws.{by-bool}
 use Rattle.lists.proofs.SearchLaws.{both, every-at}
 use Rattle.lists.proofs.SumLaws.{sum-split}
 use Rattle.table.proofs.Accepting.{Accepted}
-use Rattle.table.proofs.CellLaws.{cell-other, row-length, row-same, accepted-line, TurnCounts}
+use Rattle.table.proofs.CellLaws.{cell-other, row-length, row-same, accepted-line}
 use Rattle.station.proofs.UnionLaws.{mark-length}
 use Rattle.station.proofs.EntryLaws.{unsuspected-below}
-use Rattle.turn.specs.Turn.{makesTest, kindCrash, crash}
+use Rattle.turn.specs.Turn.{kindCrash, crash}
 use Rattle.turn.proofs.StepLines.{Lines}
 use Rattle.turn.proofs.TurnHeads.{turn-heads}
 use Rattle.plant.specs.Round.{resetLines, afterRound}
@@ -42,7 +41,7 @@ use Rattle.slots.specs.Slots.{testsDue, mostTests}
 use Rattle.slots.specs.Law.{Wider}
 use Rattle.slots.proofs.MoreTests.{tests-sum, mark-unsuspected, mark-suspected, wider-mark, most-covers}
 use Rattle.timing.specs.Timing.{testsBy, ByteThree, tableLeft, endOf, NoMoreThanDue, SuspectsAtMost, SlotIsEnough}
-use Rattle.timing.proofs.TestsDue.{row-unsuspected, duesOf, TestsAreDue, acted-fits}
+use Rattle.timing.proofs.TestsDue.{row-unsuspected, TestsAreDue, acted-fits}
 
 -- byte 3 of each line is the number of its testing entries since t₀, the start of the round
 tests-counted : (n : ℕ) (t₀ : List ℕ) (cur : List Taken) (t : List ℕ) → ((i : ℕ) → i < n → Reset n t₀ i) → Counts n t₀ cur t

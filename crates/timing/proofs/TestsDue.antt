@@ -1,10 +1,10 @@
 -- The tests that a board has made by byte 3 are due by its row: every taken entry keeps that.
 -- Assumes nothing.
 use mathlib.Core.Path.{_≡_, sym, ap, _∙_}
-use mathlib.Core.Logic.{_≢_, _⊎_, inl, inr, by-cases}
-use mathlib.Core.Bool.{true, false, _&&_, true≢false}
+use mathlib.Core.Logic.{by-cases}
+use mathlib.Core.Bool.{true, false}
 use mathlib.Core.List.{List}
-use Prim.Native.Nat.{ℕ, _+_, _-_, _≤_, _<_}
+use Prim.Native.Nat.{ℕ, _-_, _≤_, _<_}
 use native.Mathlib.Nat.{le-trans}
 use native.Mathlib.Decide.{ℕ-discrete}
 use native.Mathlib.Omega.{arith}
@@ -13,31 +13,20 @@ use lib.Dec.{eqb}
 use lib.ListN.{length}
 use Rattle.lists.specs.Sums.{sum, bit}
 use Rattle.table.specs.Sizes.{distances}
-use Rattle.table.specs.Table.{head, tableLength, statusColumn, nextColumn, testsColumn, cell, nextDistance, finished, testsMade, suspects, row, statusCrashed}
-use Rattle.table.specs.Rules.{roundOver}
+use Rattle.table.specs.Table.{tableLength, statusColumn, nextColumn, testsColumn, cell, nextDistance, testsMade, suspects, row, statusCrashed}
 use Rattle.station.specs.Tests.{unsuspected, due}
-use Rattle.station.specs.Rows.{mark}
 use Rattle.lists.proofs.BoolLaws.{by-bool}
-use Rattle.lists.proofs.SearchLaws.{both, every-at}
-use Rattle.lists.proofs.SumLaws.{sum-split}
-use Rattle.table.proofs.Accepting.{Accepted, accepted}
+use Rattle.table.proofs.Accepting.{Accepted}
 use Rattle.table.proofs.CellLaws.{cell-other, row-length, row-at, accepted-line, TurnCounts}
-use Rattle.station.proofs.UnionLaws.{mark-length}
 use Rattle.station.proofs.DueLaws.{unsuspected-at}
 use Rattle.station.proofs.EntryLaws.{unsuspected-below}
 use Rattle.turn.specs.Turn.{makesTest, crash}
-use Rattle.plant.specs.Round.{afterRound}
 use Rattle.plant.specs.Entry.{Entry, State, isCrash, entryNumber, acted, after}
 use Rattle.plant.proofs.RulesKept.{entry-facts, acted-lines}
-use Rattle.plant.proofs.RoundLaws.{reset-cells}
 use Rattle.turn.proofs.StepLines.{Lines}
 use Rattle.turn.proofs.TurnHeads.{Heads, turn-heads, passed-dues}
-use Rattle.detection.specs.Runs.{Call, Taken, afterRuns}
-use Rattle.table.specs.Properties.{lineAtStart, atStart}
-use Rattle.detection.proofs.Chain.{Chain, done, more, chain-all}
-use Rattle.slots.specs.Slots.{testsDue}
 use Rattle.slots.specs.Law.{Wider}
-use Rattle.slots.proofs.MoreTests.{fewer-below, tests-sum, mark-unsuspected, mark-suspected, wider-mark, most-covers}
+use Rattle.slots.proofs.MoreTests.{fewer-below}
 use Rattle.timing.proofs.RowsGrow.{Grows, acted-grows}
 
 -- whom the row of line k does not suspect

@@ -1,8 +1,7 @@
 -- A theorem that is an end in itself: the part of the table that begins at the row's offset and has the row's length, as `vcube_row` gives them,
 -- is the row of document 01, the empty part where it is refused.
 -- Assumes nothing.
-use mathlib.Core.Path.{_≡_, refl, sym, _∙_}
-use mathlib.Core.Bool.{true, false}
+use mathlib.Core.Path.{_≡_}
 use mathlib.Core.List.{List}
 use Prim.Native.Nat.{ℕ}
 use borrow.Author.Tests.{eqb-true}

@@ -1,20 +1,19 @@
 -- A plant of n boards within one of N with the same levels: what the turns of the first do, turns of the second do as well.
 -- Assumes nothing.
-use mathlib.Core.Path.{_≡_, refl, sym, ap, _∙_}
+use mathlib.Core.Path.{_≡_, sym, ap, _∙_}
 use mathlib.Core.Logic.{_≢_, by-cases}
-use mathlib.Core.Bool.{Bool, true, false, cond, not, _&&_, _||_, true≢false}
+use mathlib.Core.Bool.{Bool, true, false, not, true≢false}
 use mathlib.Core.List.{List, [], _∷_, _++_}
 use Prim.Native.Nat.{ℕ, zero, suc, _+_, _-_, _*_, _≤_, _<_}
 use native.Mathlib.Decide.{decLt, ℕ-discrete}
 use native.Mathlib.Omega.{arith}
-use borrow.Author.Tests.{eq-eqb, ne-eqb, lt-ltb, le-ltb, lt-leb, eqb-true}
+use borrow.Author.Tests.{ne-eqb, lt-ltb, le-ltb, lt-leb}
 use lib.ListN.{length}
-use lib.Dec.{eqb, ltb, leb}
 use Rattle.lists.proofs.BoolLaws.{by-bool}
 use Rattle.lists.proofs.SearchLaws.{both, every-at, every-all, every-not, least-is, least-none}
 use Rattle.lists.specs.Search.{every}
 use Rattle.table.specs.Sizes.{isSize, distances}
-use Rattle.table.specs.Table.{head, statusColumn, nextColumn, finishedColumn, nextDistance, finished, suspects, live, row}
+use Rattle.table.specs.Table.{head, nextColumn, nextDistance, finished, live, row}
 use Rattle.table.specs.Rules.{notLive, someLive, finishedIfLive, liveFinished, roundOver}
 use Rattle.table.proofs.Accepting.{Accepted}
 use Rattle.table.proofs.CellLaws.{accepted-line}
@@ -28,9 +27,9 @@ use Rattle.plant.specs.Round.{resetLines, afterRound}
 use Rattle.plant.specs.Entry.{Entry, State, entryOf, tallyTop, tallyFull, isTest, entryNumber, acted, after}
 use Rattle.plant.proofs.RulesKept.{Takes, entry-facts, accepted-kept}
 use Rattle.plant.proofs.RoundLaws.{reset-cells, reset-other}
-use Rattle.detection.proofs.TurnEffect.{Plain, Company}
+use Rattle.detection.proofs.TurnEffect.{Company}
 use Rattle.detection.proofs.Closing.{reset-rows}
-use Rattle.witness.proofs.Moves.{Like, live-below, due-same, due-none, big-company, Heads-of, extra, both-finish, finish-next, both-test, test-next}
+use Rattle.witness.proofs.Moves.{Like, live-below, due-same, due-none, Heads-of, extra, both-finish, finish-next, both-test, test-next}
 use Rattle.witness.proofs.Slow.{Goes, stop, go, goes-append}
 
 -- a round that is over in one table is over in another, if each live board of the other is one of the first, as far with its pass

@@ -2,14 +2,12 @@
 -- are dead, and every live board suspects them from the start.
 -- Assumes nothing.
 use mathlib.Core.Path.{_≡_, refl, sym, ap, _∙_}
-use mathlib.Core.Logic.{_≢_, by-cases}
-use mathlib.Core.Bool.{Bool, true, false, cond, not, _&&_, _||_, true≢false, and-true, and-false}
+use mathlib.Core.Bool.{Bool, true, false, cond, _&&_}
 use mathlib.Core.List.{List, []}
 use Prim.Native.Nat.{ℕ, suc, _+_, _-_, _*_, _/_, _%_, _^_, _≤_, _<_}
 use native.Mathlib.Nat.{mod-eq-of-lt, mul-add-mod-self-right, div-eq-of-lt, add-mul-div-right, add-comm}
-use native.Mathlib.Decide.{decLt}
 use native.Mathlib.Omega.{arith}
-use borrow.Author.Tests.{eqb-true, eq-eqb, ne-eqb, lt-ltb, le-ltb, ltb-true, not-true}
+use borrow.Author.Tests.{eqb-true, lt-ltb, le-ltb, ltb-true}
 use lib.ListN.{length}
 use lib.Dec.{eqb, ltb}
 use Rattle.lists.specs.Search.{listOf}
@@ -24,13 +22,13 @@ use Rattle.table.specs.Properties.{lineAtStart, atStart, liveCount, noLiveSuspi
 use Rattle.table.proofs.Accepting.{Accepted, accepted}
 use Rattle.table.proofs.CellLaws.{line-inside, Line, line-holds, accepted-line}
 use Rattle.table.proofs.SizeLaws.{distances-pos}
-use Rattle.plant.specs.Entry.{State, stateOf, tallyTop}
+use Rattle.plant.specs.Entry.{State, stateOf}
 use Rattle.plant.proofs.RulesKept.{unfinished-open}
 use Rattle.plant.proofs.RunLaws.{accepted-number}
 use Rattle.detection.specs.Runs.{takenAll}
 use Rattle.detection.specs.Rounds.{allTaken}
 use Rattle.detection.specs.Claim.{Premises, exactWait}
-use Rattle.detection.proofs.TurnEffect.{Plain, Company}
+use Rattle.detection.proofs.TurnEffect.{Company}
 use Rattle.detection.proofs.Demand3.{trusts, company-of}
 use Rattle.witness.proofs.Slow.{Slow}
 use Rattle.witness.proofs.Moves.{Like}

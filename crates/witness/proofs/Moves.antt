@@ -8,21 +8,21 @@ use mathlib.Core.List.{List}
 use Prim.Native.Nat.{ℕ, _+_, _-_, max, _≤_, _<_}
 use native.Mathlib.Decide.{decLt, ℕ-discrete}
 use native.Mathlib.Omega.{arith}
-use borrow.Author.Tests.{eqb-true, eq-eqb, ne-eqb, lt-ltb, le-ltb, ltb-true}
-use lib.ListN.{length, getD}
-use lib.Dec.{eqb, ltb}
+use borrow.Author.Tests.{eqb-true, eq-eqb, ne-eqb, lt-ltb, le-ltb}
+use lib.ListN.{length}
+use lib.Dec.{eqb}
 use Rattle.lists.proofs.BoolLaws.{by-bool}
-use Rattle.lists.proofs.SearchLaws.{both, least-is, least-none}
-use Rattle.table.specs.Sizes.{isSize, level, distances}
-use Rattle.table.specs.Table.{head, stride, tableLength, cell, statusColumn, nextColumn, finishedColumn, status, nextDistance, finished, suspects, live, row}
-use Rattle.table.proofs.CellLaws.{TurnCounts, row-length, row-at}
-use Rattle.station.specs.Groups.{stationAt, member}
-use Rattle.station.specs.Tests.{unsuspected, stands, due}
+use Rattle.lists.proofs.SearchLaws.{both}
+use Rattle.table.specs.Sizes.{isSize, distances}
+use Rattle.table.specs.Table.{head, tableLength, finishedColumn, nextDistance, finished, suspects, live, row}
+use Rattle.table.proofs.CellLaws.{row-length, row-at}
+use Rattle.station.specs.Groups.{stationAt}
+use Rattle.station.specs.Tests.{unsuspected, due}
 use Rattle.station.proofs.DueLaws.{unsuspected-at, unsuspected-absent, due-first, due-absent}
-use Rattle.turn.specs.Turn.{kindTurn, nextTest, makesTest, finishPass, countTest, exchangeRows, suspect, replies, testOutcome, afterOutcome, afterTest, testing, turn}
+use Rattle.turn.specs.Turn.{kindTurn, nextTest, makesTest, countTest, exchangeRows, suspect, replies, testOutcome, afterOutcome, afterTest, testing, turn}
 use Rattle.turn.proofs.StepCells.{finishPass-other, countTest-other, countTest-length, suspect-same, suspect-other, exchange-other, exchange-tester, exchange-tested, exchange-tester-own, exchange-tested-own}
-use Rattle.turn.proofs.StepLines.{Lines, countTest-lines, station-apart}
-use Rattle.turn.proofs.NextTest.{nextTest-low, not-due-before, test-below, test-due, test-station, none-due}
+use Rattle.turn.proofs.StepLines.{countTest-lines, station-apart}
+use Rattle.turn.proofs.NextTest.{nextTest-low, test-below, test-station}
 use Rattle.turn.proofs.TurnHeads.{Heads, turn-heads}
 use Rattle.detection.proofs.Count.{leads-same}
 use Rattle.detection.proofs.TurnEffect.{Plain, Company, same-rows, none-told, tested, not-alone, turn-effect}

@@ -1,9 +1,9 @@
 -- Plants that compute: turns that are all taken, checked by computing, whole or round by round.
 -- Assumes nothing.
-use mathlib.Core.Path.{_≡_, refl, sym, ap, subst, _∙_}
+use mathlib.Core.Path.{_≡_, refl, sym, subst, _∙_}
 use mathlib.Core.Bool.{Bool, true, false, cond, _&&_, true≢false}
 use mathlib.Core.List.{List, [], _∷_, _++_}
-use Prim.Native.Nat.{ℕ, suc, _+_, _≤_, _<_}
+use Prim.Native.Nat.{ℕ, suc, _+_, _≤_}
 use native.Mathlib.Nat.{zero-add}
 use borrow.Author.Tests.{eqb-true, ltb-true, leb-true}
 use lib.Dec.{eqb, ltb, leb}
@@ -19,7 +19,7 @@ use Rattle.turn.specs.Turn.{crash, kindTurn}
 use Rattle.plant.specs.Entry.{State, stateOf, entryOf, entryNumber, after}
 use Rattle.detection.specs.Runs.{takenAll}
 use Rattle.detection.specs.Rounds.{allTaken}
-use Rattle.detection.specs.Claim.{Premises, exactWait}
+use Rattle.detection.specs.Claim.{exactWait}
 use Rattle.witness.proofs.Slow.{Goes, stop, go, goes-append, Slow}
 
 -- a table with these boards crashed
