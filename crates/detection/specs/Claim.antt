@@ -61,7 +61,7 @@ pub record Premises (n : ℕ) (s : State) (calls : List Call) : Type 0 where
   pub noCrash : allTaken (λ x. not (crashes x)) (takenAll s calls) ≡ true
   pub noLate : allTaken (λ x. not (isLate x)) (takenAll s calls) ≡ true
 
--- a fresh table, with any tally, meets what is supposed of table and size, at every size: the claim is empty at none
+-- a fresh table, with any tally, meets at every size what is supposed of size and table. Drives need no more (`DrivenWithin` of driving)
 abbrev pub FreshMeetsPremises : Type 0
 FreshMeetsPremises = (n rounds tests : ℕ) → isSize n ≡ true → Premises n (stateOf (freshTable n) rounds tests) []
 
@@ -105,7 +105,6 @@ demandWait d = d * d
 abbrev pub Demand3 : Type 0
 Demand3 = Within demandWait
 
--- the rounds of our own claim: 1, 2, 3, 4, 6, 8 for d = 1 to 6. Crate witness shows at which sizes fewer do not suffice; for 2 boards, both
--- live, 0 would do
+-- the rounds of our own claim: 1, 2, 3, 4, 6, 8 for d = 1 to 6. From 3 boards on fewer do not suffice (crate witness)
 unfoldable pub exactWait : ℕ → ℕ
 exactWait d = cond (ltb d 4) d (4 + (d - 3) * (d - 3) / 2)

@@ -31,9 +31,34 @@ use Rattle.granter.specs.Grant.{grantNumber}
 use Rattle.granter.specs.Drive.{Stand, standAt, grantedAt, grantTurn, afterGrants, ended, endedAfter, stops, grantsMade, outcomeAfter, drive}
 use Rattle.granter.proofs.GrantLaws.{Grantable, grantable}
 use Rattle.granter.proofs.DriveLaws.{Driving, not-ended, unended}
-use Rattle.driving.specs.Driven.{runsOf, runsOfDrive, Step, runStep, driveStep, afterStep, runsOfStep, afterSteps, runsOfSteps, MixedWithin, afterDrives, runsOfDrives, ending, DrivenConclusion, DrivenWithin, DrivenDemand3, DrivenWithinAfter}
+use Rattle.driving.specs.Driven.{runsOf, runsOfDrive, RunOrDrive, aRun, aDrive, afterOne, runsOfOne, afterMixed, runsOfMixed, MixedWithin, afterDrives, runsOfDrives, ending, DrivenConclusion, DrivenWithin, DrivenDemand3, DrivenWithinAfter}
 use Rattle.driving.proofs.Stops.{every-drive-stops}
 use Rattle.driving.proofs.DriveRuns.{driving-at, turn-by-turn}
+
+-- the runs of a run or a drive leave what it leaves
+one-mixed-left : (s : State) (x : RunOrDrive) → afterRuns s (runsOfOne s x) ≡ afterOne s x
+unfolding afterRuns
+one-mixed-left s (aRun c) = refl
+one-mixed-left s (aDrive n last) = turn-by-turn n s last .left
+
+-- and so do those of a list
+mixed-left : (s : State) (xs : List RunOrDrive) → afterRuns s (runsOfMixed s xs) ≡ afterMixed s xs
+unfolding runsOfMixed afterMixed afterRuns
+mixed-left s [] = refl
+mixed-left s (x ∷ xs) =
+    rw (after-append s (runsOfOne s x) (runsOfMixed (afterOne s x) xs), one-mixed-left s x) (mixed-left (afterOne s x) xs)
+
+-- a claim about lists of runs, of lists that mix runs and drives
+mixed-within : (rounds : ℕ → ℕ) → Within rounds → MixedWithin rounds
+mixed-within rounds claim n s xs given =
+    subst (Conclusion (rounds (dimension n)) n s (runsOfMixed s xs)) (mixed-left s xs) (claim n s (runsOfMixed s xs) given)
+
+-- demand 3 of such lists, and the same within the exact wait, ends in themselves
+pub mixed-demand-3 : MixedWithin demandWait
+mixed-demand-3 = mixed-within demandWait demand-3
+
+pub mixed-exact-wait : MixedWithin exactWait
+mixed-exact-wait = mixed-within exactWait exact-wait
 
 -- what turns pass, all entries pass that drives take
 module _ (q : Taken → Bool) (turns : (n : ℕ) (s : State) (i : ℕ) → q (takenAt n s (entryOf kindTurn i)) ≡ true) where
@@ -45,41 +70,16 @@ module _ (q : Taken → Bool) (turns : (n : ℕ) (s : State) (i : ℕ) → q (ta
       (one-passes q turns n (afterRuns s (runsOf n p k)) (grantedAt n (afterGrants n p k)))
 
   drives-pass : (n : ℕ) (s : State) (lasts : List ℕ) → allTaken q (takenAll s (runsOfDrives n s lasts)) ≡ true
-  unfolding runsOfSteps takenAll allTaken
+  unfolding runsOfMixed takenAll allTaken
   drives-pass n s [] = refl
   drives-pass n s (last ∷ lasts) =
       runs-append q s (runsOfDrive n s last) (runsOfDrives n (drive n s last .state) lasts)
       (grants-pass n s (standAt s last) (drive n s last .grants))
       (rw (turn-by-turn n s last .left) (drives-pass n (drive n s last .state) lasts))
 
--- the runs of a step leave what the step leaves
-step-left : (s : State) (x : Step) → afterRuns s (runsOfStep s x) ≡ afterStep s x
-unfolding afterRuns
-step-left s (runStep c) = refl
-step-left s (driveStep n last) = turn-by-turn n s last .left
-
--- and so do those of a list
-steps-left : (s : State) (xs : List Step) → afterRuns s (runsOfSteps s xs) ≡ afterSteps s xs
-unfolding runsOfSteps afterSteps afterRuns
-steps-left s [] = refl
-steps-left s (x ∷ xs) =
-    rw (after-append s (runsOfStep s x) (runsOfSteps (afterStep s x) xs), step-left s x) (steps-left (afterStep s x) xs)
-
--- a claim about lists of runs, of lists that mix runs and drives
-mixed-within : (rounds : ℕ → ℕ) → Within rounds → MixedWithin rounds
-mixed-within rounds claim n s xs given =
-    subst (Conclusion (rounds (dimension n)) n s (runsOfSteps s xs)) (steps-left s xs) (claim n s (runsOfSteps s xs) given)
-
--- demand 3 of such lists, and the same within the exact wait, ends in themselves
-pub mixed-demand-3 : MixedWithin demandWait
-mixed-demand-3 = mixed-within demandWait demand-3
-
-pub mixed-exact-wait : MixedWithin exactWait
-mixed-exact-wait = mixed-within exactWait exact-wait
-
 -- drives and one more
 after-one-more : (n : ℕ) (s : State) (lasts : List ℕ) (last : ℕ) → afterDrives n s (lasts ++ (last ∷ [])) ≡ drive n (afterDrives n s lasts) last .state
-unfolding afterSteps
+unfolding afterMixed
 after-one-more n s [] last = refl
 after-one-more n s (first ∷ lasts) last = after-one-more n (drive n s first .state) lasts last
 
@@ -168,7 +168,7 @@ module _ (rounds : ℕ → ℕ) (claim : Within rounds) (n : ℕ) (s : State) (g
   }
 
   concluded : (lasts : List ℕ) → Conclusion (rounds (dimension n)) n s (runsOfDrives n s lasts) (afterDrives n s lasts)
-  concluded lasts = mixed-within rounds claim n s (map (driveStep n) lasts) (premises lasts)
+  concluded lasts = mixed-within rounds claim n s (map (aDrive n) lasts) (premises lasts)
 
   -- somebody is live after every drive
   lives-after : (lasts : List ℕ) → someLive n (afterDrives n s lasts .table) ≡ true
@@ -184,7 +184,7 @@ module _ (rounds : ℕ → ℕ) (claim : Within rounds) (n : ℕ) (s : State) (g
   -- the rounds of the tally are those of the drives that answer 0
   grows : (done rest : List ℕ)
       → afterDrives n (afterDrives n s done) rest .rounds ≡ afterDrives n s done .rounds + ending n (afterDrives n s done) rest
-  unfolding afterSteps ending
+  unfolding afterMixed ending
   grows done [] = omega arith
   grows done (last ∷ rest) =
       let one = after-one-more n s done last in
@@ -192,7 +192,7 @@ module _ (rounds : ℕ → ℕ) (claim : Within rounds) (n : ℕ) (s : State) (g
       omega (arith, added, rw one at (grows (done ++ (last ∷ [])) rest))
 
   driven : (lasts : List ℕ) → DrivenConclusion (rounds (dimension n)) n s lasts (afterDrives n s lasts)
-  unfolding afterSteps
+  unfolding afterMixed
   driven lasts =
       let c = concluded lasts in
       let count : length (roundsOf s (runsOfDrives n s lasts) .closed) ≡ ending n s lasts = omega (arith, grows [] lasts, c .roundsTally) in

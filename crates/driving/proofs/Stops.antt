@@ -1,6 +1,6 @@
 -- Grants with their turns, of any kinds, and every drive that is not refused at its start, end within n·n grants.
 -- Assumes nothing.
-use mathlib.Core.Path.{_≡_, sym, _∙_}
+use mathlib.Core.Path.{_≡_, refl, sym, _∙_}
 use mathlib.Core.Bool.{true, false}
 use Prim.Native.Nat.{ℕ, zero, suc, _+_, _*_, _≤_}
 use native.Mathlib.Decide.{decLt}
@@ -13,11 +13,11 @@ use Rattle.table.proofs.Accepting.{Accepted}
 use Rattle.turn.specs.Turn.{kindTurn, kindLate, kindCrash}
 use Rattle.plant.specs.Entry.{State}
 use Rattle.plant.proofs.RulesKept.{accepted-kept}
-use Rattle.granter.specs.Drive.{Stand, standAt, afterGrants, endedAfter, fullAfter, Stopped}
+use Rattle.granter.specs.Drive.{Stand, standAt, grantTurn, afterGrants, endedAfter, fullAfter, Stopped}
 use Rattle.granter.proofs.GrantLaws.{grantable}
 use Rattle.granter.proofs.TurnsLeft.{allLeft}
 use Rattle.granter.proofs.DriveLaws.{Driving, not-ended, driving-start, turn-fewer, fewer-after, next-within, next-driving, stopped-full, stopped-ended, made-is}
-use Rattle.driving.specs.Within.{TurnKinds, afterTurns, overAfter, NoneRefused, EndsWithin, EveryDriveStops}
+use Rattle.driving.specs.Within.{TurnKinds, afterTurns, overAfter, NoneRefused, EndsWithin, KindOneIsDriven, EveryDriveStops}
 
 -- from k grants on, with so many grants left to n·n
 search-on : (n : ℕ) (p : Stand) (left k : ℕ) → k + left ≡ n * n → Driving n p k → (g : ℕ) × Stopped n p g
@@ -79,6 +79,12 @@ ends-within n kinds s last turns z taken =
       going = λ j h. let e : j ≡ 0 = omega arith in rw e (d .open-still);
       room = d .room;
     })
+
+-- turns of kind 1 are the drive's, an end in itself
+pub kind-one-is-driven : KindOneIsDriven
+unfolding afterTurns afterGrants grantTurn
+kind-one-is-driven n p zero = refl
+kind-one-is-driven n p (suc k) = rw (kind-one-is-driven n p k)
 
 -- every drive stops, an end in itself
 pub every-drive-stops : EveryDriveStops

@@ -45,41 +45,41 @@ abbrev pub EveryDriveTurnByTurn : Type 0
 EveryDriveTurnByTurn = (n : ℕ) (s : State) (last : ℕ) → TurnByTurn n s last
 
 -- a list that mixes runs and drives; a drive has any size and any last number
-pub data Step : Type 0 where
-  runStep : Call → Step
-  driveStep : ℕ → ℕ → Step
+pub data RunOrDrive : Type 0 where
+  aRun : Call → RunOrDrive
+  aDrive : ℕ → ℕ → RunOrDrive
 
--- table and tally after a step, and the runs that it is
-abbrev pub afterStep : State → Step → State
-afterStep s (runStep c) = afterRun s c
-afterStep s (driveStep n last) = drive n s last .state
+-- table and tally after one of them, and the runs that it is
+abbrev pub afterOne : State → RunOrDrive → State
+afterOne s (aRun c) = afterRun s c
+afterOne s (aDrive n last) = drive n s last .state
 
-abbrev pub runsOfStep : State → Step → List Call
-runsOfStep s (runStep c) = c ∷ []
-runsOfStep s (driveStep n last) = runsOfDrive n s last
+abbrev pub runsOfOne : State → RunOrDrive → List Call
+runsOfOne s (aRun c) = c ∷ []
+runsOfOne s (aDrive n last) = runsOfDrive n s last
 
--- steps one behind the other, each with the table and tally that the one before left
-unfoldable pub afterSteps : State → List Step → State
-afterSteps s [] = s
-afterSteps s (x ∷ xs) = afterSteps (afterStep s x) xs
+-- and of the list, each with the table and tally that the one before left
+unfoldable pub afterMixed : State → List RunOrDrive → State
+afterMixed s [] = s
+afterMixed s (x ∷ xs) = afterMixed (afterOne s x) xs
 
-unfoldable pub runsOfSteps : State → List Step → List Call
-runsOfSteps s [] = []
-runsOfSteps s (x ∷ xs) = runsOfStep s x ++ runsOfSteps (afterStep s x) xs
+unfoldable pub runsOfMixed : State → List RunOrDrive → List Call
+runsOfMixed s [] = []
+runsOfMixed s (x ∷ xs) = runsOfOne s x ++ runsOfMixed (afterOne s x) xs
 
--- demand 3 of such a list, within so many rounds by the dimension: the demand itself, of the runs that its steps are
+-- demand 3 of such a list, within so many rounds by the dimension: the demand itself, of the runs that it is
 abbrev pub MixedWithin : (ℕ → ℕ) → Type 0
 MixedWithin rounds =
-    (n : ℕ) (s : State) (steps : List Step) → Premises n s (runsOfSteps s steps)
-    → Conclusion (rounds (dimension n)) n s (runsOfSteps s steps) (afterSteps s steps)
+    (n : ℕ) (s : State) (xs : List RunOrDrive) → Premises n s (runsOfMixed s xs)
+    → Conclusion (rounds (dimension n)) n s (runsOfMixed s xs) (afterMixed s xs)
 
 -- drives of one size, each with any last number (a drive of another size is refused): table and tally after them, the runs that they are, and
 -- how many of them answer 0
 abbrev pub afterDrives : ℕ → State → List ℕ → State
-afterDrives n s lasts = afterSteps s (map (driveStep n) lasts)
+afterDrives n s lasts = afterMixed s (map (aDrive n) lasts)
 
 abbrev pub runsOfDrives : ℕ → State → List ℕ → List Call
-runsOfDrives n s lasts = runsOfSteps s (map (driveStep n) lasts)
+runsOfDrives n s lasts = runsOfMixed s (map (aDrive n) lasts)
 
 unfoldable pub ending : ℕ → State → List ℕ → ℕ
 ending n s [] = 0

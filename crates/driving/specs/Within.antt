@@ -8,7 +8,7 @@ use Prim.Native.Nat.{ℕ, zero, suc, _*_, _≤_, _<_}
 use Rattle.turn.specs.Turn.{kindTurn, kindLate}
 use Rattle.plant.specs.Entry.{State, entryOf, entryNumber, after}
 use Rattle.granter.specs.Grant.{grantNumber}
-use Rattle.granter.specs.Drive.{Stand, standAt, grantedAt, ended, grantsMade, Stopped}
+use Rattle.granter.specs.Drive.{Stand, standAt, grantedAt, afterGrants, ended, grantsMade, Stopped}
 
 -- "its turn": document 01's turn, of kind 1, or of kind 2, whose reply comes late. These are the kinds of the turns, counted from 0
 abbrev pub TurnKinds : (ℕ → ℕ) → Type 0
@@ -25,7 +25,7 @@ afterTurns n kinds p (suc k) =
 abbrev pub overAfter : ℕ → (ℕ → ℕ) → Stand → ℕ → Bool
 overAfter n kinds p k = ended n (p .state .rounds) (afterTurns n kinds p k .state)
 
--- "none is refused": no turn is, as long as no round has closed and somebody is live. That no grant is then follows (`TurnByTurn`)
+-- "none is refused": no turn is, as long as no round has closed and somebody is live. Of the grants only the first is asked not to be (below)
 abbrev pub NoneRefused : ℕ → (ℕ → ℕ) → Stand → Type 0
 NoneRefused n kinds p =
     (k : ℕ) → k < n * n → ((j : ℕ) → j ≤ k → overAfter n kinds p j ≡ false)
@@ -37,7 +37,11 @@ EndsWithin =
     (n : ℕ) (kinds : ℕ → ℕ) (s : State) (last : ℕ) → TurnKinds kinds → grantNumber n (s .table) last ≡ 0 → NoneRefused n kinds (standAt s last)
     → (k : ℕ) × (k ≤ n * n) × (overAfter n kinds (standAt s last) k ≡ true)
 
--- so every drive that is not refused at its start stops, for one of the three reasons
+-- with turns of kind 1 only, grants and turns are those of the drive
+abbrev pub KindOneIsDriven : Type 0
+KindOneIsDriven = (n : ℕ) (p : Stand) (k : ℕ) → afterTurns n (λ _. kindTurn) p k ≡ afterGrants n p k
+
+-- every drive that is not refused at its start stops, for one of the three reasons
 abbrev pub EveryDriveStops : Type 0
 EveryDriveStops =
     (n : ℕ) (s : State) (last : ℕ) → grantNumber n (s .table) last ≡ 0 → Stopped n (standAt s last) (grantsMade n (standAt s last))

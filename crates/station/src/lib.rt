@@ -16,8 +16,8 @@ pub enum First {
     Nobody,
 }
 
-// Request C-16: what the question whether a distance is due answers. Ahead names the station that is first instead; where nobody is first, the
-// one that asks.
+// Request C-16: what the question whether a distance is due answers. Ahead names the station that is first instead; where nobody is first, or
+// nobody stands at the distance, the one that asks.
 pub enum DueOrAhead {
     Due,
     Ahead(Station),

@@ -42,8 +42,8 @@ unfoldable pub tableLeft : List ℕ → List Taken → List ℕ
 tableLeft t [] = t
 tableLeft t (x ∷ xs) = tableLeft (tableAfter x) xs
 
--- the kth round of a list of runs (from 0; the open one is the last), and the table as its last entry leaves it: the closing of a round leaves
--- all rows as they are
+-- the table as the last entry of the kth round of a list of runs leaves it (from 0; the open round is the last one), step 8 included, which
+-- leaves all rows as they are. An open round without entries has no tests, and then it is the first table
 abbrev pub endOf : State → List Call → ℕ → List ℕ
 endOf s calls k = tableLeft (s .table) (roundAt s calls k)
 
