@@ -9,7 +9,7 @@ use Prim.Native.Nat.{ℕ, suc, _+_, _*_, _-_, _/_, _%_, _^_, _≤_, _<_}
 use native.Mathlib.Nat.{suc-mul, div-mul-le-self, le-div-iff-mul-le}
 use native.Mathlib.Decide.{decLt}
 use native.Mathlib.Omega.{arith}
-use borrow.Author.Tests.{eq-eqb, ne-eqb, eqb-false}
+use borrow.Author.Tests.{eq-eqb, ne-eqb}
 use lib.Dec.{eqb}
 use lib.Pow.{pow-pos, pow-mono}
 use lib.Bits.{bitXor, bitOr, differ, xor-step, xor-comm, xor-zero-r, xor-shr, or-step, or-shr, or-self, or-zero-r, or-add-and, and-le-r}
@@ -17,11 +17,11 @@ use Rattle.station.specs.Groups.{distance, stationAt}
 use Rattle.table.specs.Sizes.{level}
 use Rattle.station.specs.Tests.{unsuspected, first, DueAnswer, answerDue, answerAhead, answer, saysDue, stands, due}
 use Rattle.station.specs.Calls.{answerByte}
-use Rattle.station.specs.Ahead.{Before, NamedStandsBefore, BeforeByDigits, blockEnd, BeforeInBlock, lastPassed, NoneDuePassed, DueIfNobodyBefore}
+use Rattle.station.specs.Ahead.{Before, NamedStandsBefore, BeforeByDigits, blockEnd, BeforeInBlock, NoneDueInBlock, DueIfNobodyBefore}
 use Rattle.lists.proofs.BoolLaws.{by-bool}
 use Rattle.lists.proofs.Xor.{Near, div-le, near-le, near-of-xor, xor-of-near, xor-assoc, xor-cancel, xor-undo}
 use Rattle.table.proofs.Levels.{level-zero, level-upper, level-le, level-is, level-bounds, level-split}
-use Rattle.station.proofs.DueLaws.{isStation, first-not, first-found, answer-absent, answer-here, answer-zero, due-is, due-not, due-stands}
+use Rattle.station.proofs.DueLaws.{isStation, first-not, first-found, answer-here, due-is, due-not, due-zero, due-stands}
 
 -- a level by the highest digit
 pub level-top : (m g : ℕ) → level m ≡ suc g → m / 2 ^ g ≡ 1
@@ -130,21 +130,14 @@ block-near m t odd =
 pub before-in-block : BeforeInBlock
 before-in-block i m x y b lo hi = before-until i m x y (blockEnd m) b lo hi (λ t e odd. block-near m t odd)
 
--- a block begins with its distance
-block-low : (m : ℕ) → m ≤ blockEnd m
+-- as the code asks for it: the block begins with m, and that of distance 0 ends with it
+pub block-low : (m l : ℕ) → l ≡ blockEnd m → m ≤ l
 unfolding blockEnd
-block-low m = omega (arith, or-add-and m (m - 1), and-le-r m (m - 1))
+block-low m l e = omega (arith, or-add-and m (m - 1), and-le-r m (m - 1))
 
--- that of distance 0 ends with it
 pub block-zero : blockEnd 0 ≡ 0
 unfolding blockEnd
 block-zero = or-zero-r 0
-
--- as the code asks for it: a search goes past the distance itself
-pub passed-low : (a : DueAnswer) (i m l : ℕ) → l ≡ lastPassed a i m → m ≤ l
-unfolding lastPassed
-passed-low answerDue i m l e = omega arith
-passed-low (answerAhead x) i m l e = by-bool (eqb x i) (λ same. omega (arith, rw same at e)) (λ apart. omega (arith, rw apart at e, block-low m))
 
 pub named-stands-before : NamedStandsBefore
 named-stands-before r i m x own pos here e = by-bool (eqb y i) (λ z. absurd (true≢false (ap saysDue (given z)))) named
@@ -198,31 +191,17 @@ due-if-nobody-before r i m own pos = (λ e. (due-stands r i m e, there e), λ gi
         let b = named-stands-before r i m x own pos here e in
         absurd (true≢false (sym (b .0) ∙ none x (b .1)))
 
--- whom the answer names, if it is another, stands before i and is not suspected
-named-other : (r : List ℕ) (i m x : ℕ) → unsuspected r i ≡ true → answer r i m ≡ answerAhead x → ¬ (x ≡ i) → (unsuspected r x ≡ true) × Before i m x
-named-other r i m x own e apart = by-bool (stands r i m) (λ here. by-cases (decLt 0 m) (λ pos. named-stands-before r i m x own pos here e) none) absent
+pub none-due-in-block : NoneDueInBlock
+none-due-in-block r i m x y here e lo hi = by-bool (unsuspected r i) (λ own. pick own (decLt 0 m)) not-own
   where
-    none : ¬ (0 < m) → (unsuspected r x ≡ true) × Before i m x
-    none l = let z : m ≡ 0 = omega arith in absurd (apart (ap answerByte (sym (rw z at e) ∙ answer-zero r i)))
+    not-own : unsuspected r i ≡ false → due r i y ≡ false
+    not-own fails = due-not r i y (first-not (unsuspected r) (stationAt i y) (level y) i fails)
 
-    absent : stands r i m ≡ false → (unsuspected r x ≡ true) × Before i m x
-    absent z = absurd (apart (ap answerByte (sym e ∙ answer-absent r i m z)))
-
-pub none-due-passed : NoneDuePassed
-unfolding lastPassed
-none-due-passed r i m y e lo hi = go (answer r i m) refl
-  where
-    here : y ≤ m → due r i y ≡ false
-    here l = let same : y ≡ m = omega arith in rw same e
-
-    go : (a : DueAnswer) → answer r i m ≡ a → due r i y ≡ false
-    go answerDue f = absurd (true≢false (sym (due-is r i m ∙ ap saysDue f) ∙ e))
-    go (answerAhead x) f = by-bool (eqb x i) (λ same. here (rw (f, same) at hi)) (λ apart. by-bool (unsuspected r i) (named apart) not-own)
-      where
-        named : eqb x i ≡ false → unsuspected r i ≡ true → due r i y ≡ false
-        named apart own =
-            let b = named-other r i m x own f (eqb-false x i apart) in
-            not-due-before r i y x (b .0) (before-in-block i m x y (b .1) lo (rw (f, apart) at hi))
-
-        not-own : unsuspected r i ≡ false → due r i y ≡ false
-        not-own fails = due-not r i y (first-not (unsuspected r) (stationAt i y) (level y) i fails)
+    pick : unsuspected r i ≡ true → Dec (0 < m) → due r i y ≡ false
+    pick own (yes pos) =
+        let b = named-stands-before r i m x own pos here e in
+        not-due-before r i y x (b .0) (before-in-block i m x y (b .1) lo hi)
+    pick own (no none) =
+        let zero-m : m ≡ 0 = omega arith in
+        let flat : y ≡ 0 = omega (arith, block-zero, rw zero-m at hi) in
+        rw flat (due-zero r i)

@@ -2,14 +2,13 @@
 -- Assumes nothing.
 use mathlib.Core.Path.{_≡_}
 use mathlib.Core.Logic.{_↔_}
-use mathlib.Core.Bool.{true, false, cond}
+use mathlib.Core.Bool.{true, false}
 use mathlib.Core.List.{List}
 use Prim.Native.Nat.{ℕ, suc, _-_, _/_, _%_, _^_, _≤_, _<_}
 use lib.Bits.{bitOr}
-use lib.Dec.{eqb}
 use Rattle.table.specs.Sizes.{level}
 use Rattle.station.specs.Groups.{distance, stationAt}
-use Rattle.station.specs.Tests.{unsuspected, DueAnswer, answerDue, answerAhead, answer, stands, due}
+use Rattle.station.specs.Tests.{unsuspected, answerAhead, answer, stands, due}
 
 -- number x, present or absent, stands before i in the full group, at the level of m, of the station at distance m from i: its distance from that
 -- station has the same level, and is less than that of i, which is m
@@ -43,11 +42,7 @@ blockEnd m = bitOr m (m - 1)
 abbrev pub BeforeInBlock : Type 0
 BeforeInBlock = (i m x y : ℕ) → Before i m x → m ≤ y → y ≤ blockEnd m → Before i y x
 
--- the last distance that a search goes past by the answer to i at distance m: that of the block where another station is ahead, else m
-unfoldable pub lastPassed : DueAnswer → ℕ → ℕ → ℕ
-lastPassed answerDue i m = m
-lastPassed (answerAhead x) i m = cond (eqb x i) m (blockEnd m)
-
--- so where the answer is not "due", none of the distances gone past is due, whatever the row
-abbrev pub NoneDuePassed : Type 0
-NoneDuePassed = (r : List ℕ) (i m y : ℕ) → due r i m ≡ false → m ≤ y → y ≤ lastPassed (answer r i m) i m → due r i y ≡ false
+-- so where a station stands at distance m and the answer is not "due", no distance of the block is due, whatever the row
+abbrev pub NoneDueInBlock : Type 0
+NoneDueInBlock =
+    (r : List ℕ) (i m x y : ℕ) → stands r i m ≡ true → answer r i m ≡ answerAhead x → m ≤ y → y ≤ blockEnd m → due r i y ≡ false

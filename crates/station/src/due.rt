@@ -6,7 +6,7 @@ ghost use mathlib.Core.Option.{some};
 ghost use lib.ListN.{length, set};
 ghost use Rattle.table.specs.Sizes.{isSize, level};
 ghost use Rattle.station.specs.Tests.{unsuspected, first, answerOf, answer, saysDue, stands, due, dueDistances};
-ghost use Rattle.station.specs.Ahead.{blockEnd, lastPassed};
+ghost use Rattle.station.specs.Ahead.{blockEnd};
 ghost use Rattle.station.specs.Calls.{firstValue, answerValue, answerByte, otherDistances, assignmentEntries, assignmentNumber, assignmentAfter, assignmentCount};
 use crate::Assigned;
 use crate::DueOrAhead;
@@ -62,10 +62,10 @@ pub fn stands(row: &[u8], i: Station, m: Distance) -> bool
 pub fn due_or_ahead(row: &[u8], i: Station, m: Distance) -> DueOrAhead
     ensures { λ r. ⌜ answerValue r ≡ answer (now (row .entry)) (i .0) (m .0) ⌝ }
 {
-    if !stands(row, i, m) {
+    let j = order::lookup(i, m);
+    if row.len() <= j.0 as usize {
         return DueOrAhead::Ahead(i);
     }
-    let j = order::lookup(i, m);
     match first_unsuspected(row, j, m) {
         First::At(x) => answer_of(i, x),
         First::Nobody => DueOrAhead::Ahead(i),
@@ -82,19 +82,9 @@ fn answer_of(i: Station, x: Station) -> DueOrAhead
     DueOrAhead::Ahead(x)
 }
 
-// The last distance that a search goes past by the answer to i at distance m: where another station is ahead, the end of the block.
-pub fn last_passed(answer: DueOrAhead, i: Station, m: Distance) -> Distance
-    ensures { λ r. ⌜ r .0 ≡ lastPassed (answerValue answer) (i .0) (m .0) ⌝ }
-{
-    let DueOrAhead::Ahead(x) = answer else {
-        return m;
-    };
-    if x.0 == i.0 { m } else { block_end(m) }
-}
-
 // m with its digits below its lowest 1 all 1. Whoever stands before a station in the group at distance m does so at every distance from m to
 // this one.
-fn block_end(m: Distance) -> Distance
+pub fn block_end(m: Distance) -> Distance
     ensures { λ r. ⌜ r .0 ≡ blockEnd (m .0) ⌝ }
 {
     if m.0 == 0 {

@@ -62,16 +62,20 @@ fn next_test(n: u8, table: &[u8], i: Station) -> Distance
 }
 
 // The least distance from `from` on, and below `end`, that is due for i by its row; `end`, or `from` if that is greater, where there is none.
-// Where another station is ahead, no distance of the block that begins there is due, and the scan goes on behind it (request C-16).
+// Where the answer is not "due", no distance of the block that begins there is due, and the scan goes on behind it (request C-16).
 fn scan(row: &[u8], i: Station, end: u8, from: Distance) -> Distance
     ensures { λ r. ⌜ r .0 ≡ least (due (now (row .entry)) (i .0)) (end - from .0) (from .0) ⌝ }
 {
     let mut m = from.0 as u16;
     while m < end as u16 {
         let at = Distance(m as u8);
+        if !due::stands(row, i, at) {
+            m += 1;
+            continue;
+        }
         let answer = due::due_or_ahead(row, i, at);
         let DueOrAhead::Due = answer else {
-            let last = due::last_passed(answer, i, at);
+            let last = due::block_end(at);
             m = last.0 as u16 + 1;
             continue;
         };
