@@ -4,12 +4,14 @@
 # shellcheck shell=bash
 : "${program:?}" "${root:?}"
 
+# Words that cannot be written to standard error do not change the status, here and in both commands.
 refuse() { # MESSAGE
-    printf '%s: %s\n' "$program" "$1" >&2
+    printf '%s: %s\n' "$program" "$1" >&2 || true
     exit 2
 }
 
-# Prints the text, or says that it cannot. It is no failure if the reader of a pipe stops reading: cat then ends with 128 + 13.
+# Prints the text, or says that it cannot. It is no failure if the reader of a pipe stops reading: SIGPIPE then ends cat with 128 + 13. Where
+# the caller has SIGPIPE ignored, cat ends with 1, as on a full disk.
 write_out() { # TEXT
     local status=0
     cat 2>/dev/null < <(printf '%s\n' "$1") || status=$?
@@ -49,7 +51,7 @@ prove() { # NAME PLACE
         cat "$log" >&2
         exit 1
     fi
-    sed -n "s/^rt: \($1 proved ([0-9]* s)\)$/\1/p" "$log" >&2
+    sed -n "s/^rt: \($1 proved ([0-9]* s)\)$/\1/p" "$log" >&2 || true
 }
 
 # Proves and builds the program, and first what it needs. Stays in the folder of this repository.

@@ -17,13 +17,14 @@ fail() { # WHAT
     exit 1
 }
 
-# Calls the command by the path $called with the words given. It must end with STATUS and print on standard output what FILE holds.
-called=$tested
+# Calls the command by the path $called with the words given, and standard error to $errors if that is not empty. It must end with STATUS
+# and print on standard output what FILE holds.
+called=$tested errors=
 call() { # STATUS FILE WORDS...
     local status=0 want=$1 output=$2
     shift 2
-    asked="$called $*"
-    "$called" "$@" >"$made/out" 2>"$made/err" || status=$?
+    asked="$called $*${errors:+ 2>$errors}"
+    "$called" "$@" >"$made/out" 2>"${errors:-$made/err}" || status=$?
     ((status == want)) || fail "$asked: status $status, not $want"
     cmp -s "$made/out" "$output" || fail "$asked: standard output is not what it must be"
 }
@@ -66,15 +67,29 @@ prints_help() {
     silent
 }
 
-# On a full disk the command says so and ends with 1. If the reader of a pipe is gone it ends with 0, as with any other reader.
-needs_output() { # WORDS...
+# This call must say that standard output cannot be written, and end with 1.
+says_unwritten() { # WORDS...
     local status=0
-    asked="$called $* >/dev/full"
-    "$called" "$@" >/dev/full 2>"$made/err" || status=$?
+    "$@" 2>"$made/err" || status=$?
     ((status == 1)) || fail "$asked: status $status, not 1"
     said_just "${tested#./}: standard output cannot be written"
+}
+
+# On a full disk the command says so and ends with 1. If the reader of a pipe is gone it ends with 0, as with any other reader; but where
+# SIGPIPE is ignored, as on a full disk.
+needs_output() { # WORDS...
+    asked="$called $* >/dev/full"
+    says_unwritten "$called" "$@" >/dev/full
+    asked="$called $* | true, with SIGPIPE ignored"
+    (sleep 0.5 && says_unwritten env --ignore-signal=PIPE "$called" "$@") | true
     asked="$called $* | true"
     (sleep 0.5 && env --default-signal=PIPE "$called" "$@" 2>"$made/err") | true || fail "$asked: a status that is not 0"
+}
+
+# As call, where standard error cannot be written.
+needs_no_words() { # STATUS FILE WORDS...
+    : >"$made/err"
+    errors=/dev/full call "$@"
 }
 
 # By the calls so far, rt was not called; was called.
