@@ -1,14 +1,17 @@
--- The calls of document 01 and of requests C-12 and C-15 as C has them (include/vcube.h), where they differ from those of `station`, `plant`,
--- `granter` and `figures`, for all inputs: the outcome of a run or a drive is given by its number and what it
+-- The calls of document 01 and of requests C-12, C-15 and C-17 as C has them (include/vcube.h), where they differ from those of `station`,
+-- `plant`, `granter`, `saved` and `figures`, for all inputs: the outcome of a run or a drive is given by its number and what it
 -- leaves in the variables and buffers lent to it, and figures and totals are the members of a struct in their order.
 -- A station, level or last number may be any; the definitions of `station` and `granter` refuse it as they refuse any that is too high.
 -- Assumes nothing.
 use Prim.Native.Nat.{ℕ}
 use mathlib.Core.List.{List, [], _∷_}
 use lib.ListN.{getD}
+use Rattle.plant.specs.declared.Tally.{Tally}
 use Rattle.plant.specs.Entry.{stateOf}
 use Rattle.plant.specs.Run.{Outcome}
 use Rattle.granter.specs.Drive.{DriveOutcome, driveOutcome}
+use Rattle.saved.specs.declared.Loaded.{Loaded}
+use Rattle.saved.specs.declared.SavedSize.{SavedSize}
 use Rattle.figures.specs.declared.Figures.{Figures}
 use Rattle.figures.specs.declared.Totals.{Totals}
 use Rattle.figures.specs.declared.Totalled.{Totalled}
@@ -20,6 +23,18 @@ outcomeOut number taken t rounds tests sheet = record { number = number; taken =
 -- Drive: the outcome by its parts: the number, table, rounds and tests, the last granted number and the grants made
 abbrev pub driveOut : ℕ → List ℕ → ℕ → ℕ → ℕ → ℕ → DriveOutcome
 driveOut number t rounds tests last grants = driveOutcome number (stateOf t rounds tests) last grants
+
+-- Save: the tally by its parts
+abbrev pub tallyOf : ℕ → ℕ → Tally
+tallyOf rounds tests = record { rounds = rounds; tests = tests }
+
+-- Load: the answer by its parts: the number, the size, rounds and tests
+abbrev pub loadedOut : ℕ → ℕ → ℕ → ℕ → Loaded
+loadedOut number n rounds tests = record { number = number; size = n; tally = tallyOf rounds tests }
+
+-- the size of a saved plant: the number and the size
+abbrev pub sizeOut : ℕ → ℕ → SavedSize
+sizeOut number n = record { number = number; size = n }
 
 -- C-12: what a call answers: its number, and the members of the struct that it fills, in their order
 pub record Filled : Type 0 where

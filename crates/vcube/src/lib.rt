@@ -1,4 +1,4 @@
-// The calls of document 01 and of requests C-12 and C-15 for C and Rust, as include/vcube.h declares them. None has a `requires`: any numbers
+// The calls of document 01 and of requests C-12, C-15 and C-17 for C and Rust, as include/vcube.h declares them. None has a `requires`: any numbers
 // and buffers are taken. Each returns 0 or the number of its refusal.
 ghost use mathlib.Core.Path.{_≡_};
 ghost use Prim.Native.Nat.{min};
@@ -11,9 +11,11 @@ ghost use Rattle.plant.specs.Entry.{stateOf};
 ghost use Rattle.plant.specs.Run.{run};
 ghost use Rattle.granter.specs.Grant.{grantNumber, grantStation};
 ghost use Rattle.granter.specs.Drive.{drive, StoppedIfTaken};
+ghost use Rattle.saved.specs.Load.{savedSize, loadAnswer, loadAfter};
+ghost use Rattle.saved.specs.Save.{saveNumber, saveAfter};
 ghost use Rattle.figures.specs.Batch.{figures};
 ghost use Rattle.figures.specs.Totals.{totals, join, figuresOfTotals};
-ghost use Rattle.vcube.specs.Exports.{outcomeOut, driveOut, filled, figuresMembers, totalsMembers, totalsWith, figuresOut, totalsOut};
+ghost use Rattle.vcube.specs.Exports.{outcomeOut, driveOut, tallyOf, loadedOut, sizeOut, filled, figuresMembers, totalsMembers, totalsWith, figuresOut, totalsOut};
 use figures::Figures;
 use figures::Totals;
 use figures::adding;
@@ -22,6 +24,8 @@ use granter::drive;
 use granter::grant;
 use plant::Tally;
 use plant::run;
+use saved::load;
+use saved::save;
 use station::due;
 use station::groups;
 use station::rows;
@@ -161,6 +165,51 @@ pub extern "C" fn vcube_drive(
     *last = driven.last;
     *grants = driven.grants;
     driven.number
+}
+
+// Save: the table and the tally as a saved plant, into a buffer of just its length.
+#[no_mangle]
+pub extern "C" fn vcube_save(
+    n: usize,
+    table: &[u8],
+    rounds: u32,
+    tests: u32,
+    buffer: &mut [u8],
+) -> u8
+    ensures { λ r. ⌜ r ≡ saveNumber n (now (table .entry)) (tallyOf rounds tests) (length (now (buffer .entry))) ⌝ }
+    ensures { λ _. ⌜ now (buffer .exit) ≡ saveAfter n (now (table .entry)) (tallyOf rounds tests) (now (buffer .entry)) ⌝ }
+{
+    save::save(n, table, Tally { rounds, tests }, buffer)
+}
+
+// Load: a saved plant's table, into a buffer of just its length; its size and tally into n, rounds and tests, 0 where it is refused.
+#[no_mangle]
+pub extern "C" fn vcube_load(
+    file: &[u8],
+    table: &mut [u8],
+    n: &mut usize,
+    rounds: &mut u32,
+    tests: &mut u32,
+) -> u8
+    ensures { λ r. ⌜ loadedOut r (now (n .exit)) (now (rounds .exit)) (now (tests .exit)) ≡ loadAnswer (now (file .entry)) (length (now (table .entry))) ⌝ }
+    ensures { λ _. ⌜ now (table .exit) ≡ loadAfter (now (file .entry)) (now (table .entry)) ⌝ }
+{
+    let loaded = load::load(file, table);
+    let tally = loaded.tally;
+    *n = loaded.size as usize;
+    *rounds = tally.rounds;
+    *tests = tally.tests;
+    loaded.number
+}
+
+// The size of a saved plant into n, 0 where it is refused.
+#[no_mangle]
+pub extern "C" fn vcube_saved_size(file: &[u8], n: &mut usize) -> u8
+    ensures { λ r. ⌜ sizeOut r (now (n .exit)) ≡ savedSize (now (file .entry)) ⌝ }
+{
+    let asked = load::saved_size(file);
+    *n = asked.size as usize;
+    asked.number
 }
 
 // Figures of one list: count, least, greatest, the upper and lower part of the mean and those of the variance, all 0 where it is refused.
