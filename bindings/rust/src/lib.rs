@@ -148,6 +148,7 @@ mod figures;
 mod granter;
 #[allow(unsafe_code)]
 mod raw;
+mod saved;
 
 #[cfg(test)]
 mod tests;
@@ -160,6 +161,7 @@ pub use codes::{Kind, Outcome, Refusal, Status};
 pub use entries::{schedule, sheet_lines, Entry, SheetLine};
 pub use figures::{figures, figures_of_two, Figures, Fraction, Totals, MOST_RESULTS};
 pub use granter::{drive, grant, Driven};
+pub use saved::{load, save, saved_length, saved_size, Loaded};
 
 /// A station number. Any number can stand here; the library refuses n or more.
 #[derive(Clone, Copy, Debug, PartialEq, Eq, Hash, PartialOrd, Ord)]
