@@ -12,6 +12,7 @@ pub mod measure;
 pub mod plain;
 pub mod plain_drive;
 pub mod plain_figures;
+pub mod plain_saved;
 pub mod slowest;
 pub mod statistics;
 pub mod work;
