@@ -4,7 +4,7 @@
 use super::fresh;
 use crate::*;
 
-/// Of 2 stations 0 tested 1, which crashed.
+/// Of 2 stations 0 is live and suspects 1, which crashed.
 const TABLE: [u8; 12] = [0, 2, 0, 1, 0, 1, 1, 1, 0, 0, 0, 0];
 
 const TALLY: Tally = Tally {
