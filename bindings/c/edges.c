@@ -578,6 +578,10 @@ static void accepted_loads(void)
     LOAD(VCUBE_ACCEPTED, "load: tags 0, 4 and 255, even twice, and with no contents",
          0, 0, 0, 4, 0, 1, 2, SIZE_2, 4, 0, 1, 2, TALLY, 255, 0, 3, 1, 2, 3, LINE_0, LINE_1, 0, 0, 0);
     LOAD(VCUBE_ACCEPTED, "load: contents of another tag that look like fields", 9, 0, 14, SIZE_2, LINE_0, SIZE_2, TALLY, LINE_0, LINE_1);
+    for (unsigned tag = 4; tag <= 256; tag++) {
+        const uint8_t saved[] = {(uint8_t)tag, 0, 1, 2, SIZE_2, TALLY, LINE_0, LINE_1};
+        load(saved, sizeof saved, sizeof saved_table, VCUBE_ACCEPTED, "load: tags 4 to 255 and 0");
+    }
     memcpy(longest, saved_bytes, sizeof saved_bytes);
     memset(longest + sizeof saved_bytes, 255, sizeof longest - sizeof saved_bytes);
     load(longest, sizeof longest, 12, VCUBE_ACCEPTED, "load: another tag with the most contents");
