@@ -6,11 +6,12 @@
 //! 64 stations (request C-11 of document 02), the tested station hears too that
 //! it is suspected (its request C-13), and an assignment says who stands ahead
 //! where a distance is not due (its request C-16). The bus master that grants the
-//! turns is that of its request C-15, and the figures over a season's trials are
-//! those of its request C-12. Every call takes any numbers and slices of any
-//! length: nothing need be tested before calling. A refused call changes nothing;
-//! a run that stops at an entry keeps the work of the entries before it, and a
-//! drive that stops before a grant that of the turns before it.
+//! turns is that of its request C-15, saving a plant to the panel is its request
+//! C-17, and the figures over a season's trials are those of its request C-12.
+//! Every call takes any numbers and slices of any length: nothing need be tested
+//! before calling. A refused call changes nothing; a run that stops at an entry
+//! keeps the work of the entries before it, and a drive that stops before a grant
+//! that of the turns before it.
 //!
 //! The example of document 01 for N = 4:
 //!
@@ -111,6 +112,30 @@
 //! assert_eq!(tally, Tally { rounds: 2, tests: 47 });
 //! assert_eq!(last, Some(Station(4)));
 //! assert_eq!(vcube::row(n, &table, Station(0))?, [0, 0, 0, 0, 0, 1, 0, 0]);
+//! # Ok::<(), vcube::Refusal>(())
+//! ```
+//!
+//! A plant is saved to the panel as tagged fields, and loaded again. The saved
+//! plant says how long the table must be that is lent for it:
+//!
+//! ```
+//! use vcube::{Loaded, Tally};
+//!
+//! let n = 2;
+//! let mut table = [0; vcube::table_length(2)];
+//! vcube::fresh_table(n, &mut table)?;
+//! let tally = Tally { rounds: 128, tests: 256 };
+//!
+//! let mut saved = [0; vcube::saved_length(2)];
+//! vcube::save(n, &table, tally, &mut saved)?;
+//! assert_eq!(saved[..4], [1, 0, 1, 2]);
+//! assert_eq!(saved[4..15], [2, 0, 8, 0, 0, 0, 128, 0, 0, 1, 0]);
+//! assert_eq!(saved[15..25], [3, 0, 7, 0, 0, 1, 0, 0, 0, 0]);
+//! assert_eq!(saved[25..], [3, 0, 7, 1, 0, 1, 0, 0, 0, 0]);
+//!
+//! let mut restored = vec![0; vcube::table_length(vcube::saved_size(&saved)?)];
+//! assert_eq!(vcube::load(&saved, &mut restored)?, Loaded { n, tally });
+//! assert_eq!(restored, table);
 //! # Ok::<(), vcube::Refusal>(())
 //! ```
 //!

@@ -7,6 +7,7 @@ use crate::*;
 
 mod assignment;
 mod granter;
+mod saved;
 
 fn fresh(n: usize) -> Vec<u8> {
     let mut table = vec![9; table_length(n)];
