@@ -4,9 +4,9 @@
 //! A load goes over the file once and keeps where each line stands. It judges
 //! the lines there, and copies them when all is found right.
 
-use simulator::Loaded;
-
 use crate::plain::{distances, keeps_line_rules, table_number, FINISHED, HEAD, LIVE, STATUS};
+use simulator::Loaded;
+use std::mem::replace;
 
 /// The tags.
 const SIZE: u8 = 1;
@@ -62,18 +62,18 @@ fn write_front(n: usize, (rounds, tests): (u32, u32), front: &mut [u8]) {
 
 /// Load: refusals 18, 19, 1, 20, 2, 3, 4, in this order.
 pub fn load(saved: &[u8], table: &mut [u8]) -> Loaded {
-    let plant = match read(saved, table.len()) {
-        Ok(plant) => plant,
+    let mut fields = Fields::default();
+    let (size, rounds, tests) = match judge(saved, table.len(), &mut fields) {
+        Ok(front) => front,
         Err(number) => return answer(number, (0, 0, 0)),
     };
-    let places = table.chunks_exact_mut(plant.n + HEAD);
-    for (place, line) in places.zip(plant.lines) {
+    for (place, line) in table.chunks_exact_mut(size + HEAD).zip(fields.lines) {
         place.copy_from_slice(line);
     }
-    answer(0, (plant.n, plant.rounds, plant.tests))
+    answer(0, (size, rounds, tests))
 }
 
-fn answer(number: u8, (size, rounds, tests): (usize, u32, u32)) -> Loaded {
+fn answer(number: u8, (size, rounds, tests): Front) -> Loaded {
     Loaded {
         number,
         size,
@@ -84,39 +84,34 @@ fn answer(number: u8, (size, rounds, tests): (usize, u32, u32)) -> Loaded {
 
 /// Size: refusals 18, 19, 1, in this order. Gives the number and the size.
 pub fn saved_size(saved: &[u8]) -> (u8, usize) {
-    let front = Fields::of(saved).and_then(|fields| fields.front());
+    let mut fields = Fields::default();
+    let front = fields.gather(saved).and_then(|()| fields.front());
     front.map_or_else(|number| (number, 0), |(n, _, _)| (0, n))
 }
 
-/// A saved plant that is taken: its first n lines stand in the file.
-struct Plant<'a> {
-    n: usize,
-    rounds: u32,
-    tests: u32,
-    lines: [&'a [u8]; MOST],
-}
-
-fn read(saved: &[u8], table: usize) -> Result<Plant<'_>, u8> {
-    let fields = Fields::of(saved)?;
+/// Gathers the fields and judges all of them, for a table of this length.
+fn judge<'a>(saved: &'a [u8], table: usize, fields: &mut Fields<'a>) -> Result<Front, u8> {
+    fields.gather(saved)?;
     let (n, rounds, tests) = fields.front()?;
-    let lines = fields.lines_of(n)?;
+    let (lines, behind) = fields.lines.split_at(n);
+    let is_right = |line: &&[u8]| line.len() == n + HEAD;
+    if fields.wrong_line
+        || !lines.iter().all(is_right)
+        || !behind.iter().all(|line| line.is_empty())
+    {
+        return Err(20);
+    }
     if table != n * (n + HEAD) {
         return Err(2);
     }
-    let end = distances(n);
-    let mut numbered = lines[..n].iter().enumerate();
+    let (end, mut numbered) = (distances(n), lines.iter().enumerate());
     if !numbered.all(|(i, line)| keeps_line_rules(end, i, line)) {
         return Err(3);
     }
-    if is_round_over(&lines[..n]) {
+    if is_round_over(lines) {
         return Err(4);
     }
-    Ok(Plant {
-        n,
-        rounds,
-        tests,
-        lines,
-    })
+    Ok((n, rounds, tests))
 }
 
 /// Whether a station is live and all live ones are finished.
@@ -125,53 +120,63 @@ fn is_round_over(lines: &[&[u8]]) -> bool {
     live.peek().is_some() && live.all(|line| line[FINISHED] == 1)
 }
 
+/// The size, the rounds and the tests.
+type Front = (usize, u32, u32);
+
 /// The fields of a file by their tags.
 struct Fields<'a> {
     size: Option<&'a [u8]>,
     tally: Option<&'a [u8]>,
     /// Whether the size field or the tally field is there twice.
     front_twice: bool,
-    /// The lines by station.
-    lines: [Option<&'a [u8]>; MOST],
-    /// Whether a line has no station, or one that is too high for every size,
-    /// or one that is there twice.
+    /// The lines by station, empty where there is none.
+    lines: [&'a [u8]; MOST],
+    /// Whether a line is empty, or has a station that is too high for every
+    /// size, or one that is there twice.
     wrong_line: bool,
+}
+
+impl Default for Fields<'_> {
+    fn default() -> Self {
+        Fields {
+            size: None,
+            tally: None,
+            front_twice: false,
+            lines: [&[]; MOST],
+            wrong_line: false,
+        }
+    }
 }
 
 impl<'a> Fields<'a> {
     /// Refusal 18.
-    fn of(saved: &'a [u8]) -> Result<Fields<'a>, u8> {
-        let mut fields = Fields {
-            size: None,
-            tally: None,
-            front_twice: false,
-            lines: [None; MOST],
-            wrong_line: false,
-        };
+    fn gather(&mut self, saved: &'a [u8]) -> Result<(), u8> {
         let mut rest = saved;
         while !rest.is_empty() {
             let (tag, contents) = next_field(&mut rest).ok_or(18)?;
             match tag {
-                SIZE => fields.front_twice |= fields.size.replace(contents).is_some(),
-                TALLY => fields.front_twice |= fields.tally.replace(contents).is_some(),
-                LINE => fields.wrong_line |= !fields.add_line(contents),
+                SIZE => self.front_twice |= self.size.replace(contents).is_some(),
+                TALLY => self.front_twice |= self.tally.replace(contents).is_some(),
+                LINE => self.wrong_line |= !self.add_line(contents),
                 _ => {}
             }
         }
-        Ok(fields)
+        Ok(())
     }
 
     /// Whether the line could be kept.
     fn add_line(&mut self, contents: &'a [u8]) -> bool {
-        let Some((station, line)) = contents.split_first() else {
-            return false;
-        };
-        let place = self.lines.get_mut(usize::from(*station));
-        place.is_some_and(|place| place.replace(line).is_none())
+        match contents.split_first() {
+            Some((station, line)) if !line.is_empty() => {
+                let place = self.lines.get_mut(usize::from(*station));
+                place.is_some_and(|place| replace(place, line).is_empty())
+            }
+            _ => false,
+        }
     }
 
-    /// The size, the rounds and the tests. Refusals 19 and 1.
-    fn front(&self) -> Result<(usize, u32, u32), u8> {
+    /// Refusals 19 and 1.
+    fn front(&self) -> Result<Front, u8> {
         let (Some([n]), Some(tally), false) = (self.size, self.tally, self.front_twice) else {
             return Err(19);
         };
@@ -184,19 +189,6 @@ impl<'a> Fields<'a> {
         }
         let tally = u64::from_be_bytes(tally);
         Ok((n, (tally >> 32) as u32, tally as u32))
-    }
-
-    /// The lines of n stations. Refusal 20.
-    fn lines_of(&self, n: usize) -> Result<[&'a [u8]; MOST], u8> {
-        let (present, absent) = self.lines.split_at(n);
-        if self.wrong_line || absent.iter().any(Option::is_some) {
-            return Err(20);
-        }
-        let mut lines: [&[u8]; MOST] = [&[]; MOST];
-        for (place, line) in lines.iter_mut().zip(present) {
-            *place = line.filter(|line| line.len() == n + HEAD).ok_or(20)?;
-        }
-        Ok(lines)
     }
 }
 
