@@ -61,17 +61,9 @@ fn all_faults() -> Vec<(&'static [Kind], Fault)> {
     let of_grants = grant_faults::OF_RULE.into_iter();
     let of_grants = of_grants.chain(grant_faults::OF_REFUSALS);
     let of_grants = of_grants.chain(grant_faults::OF_ANSWERS);
-    let of_saves = save_faults::OF_WRITER.into_iter();
-    let of_saves = of_saves.chain(save_faults::OF_SAVES);
-    let of_saves = of_saves.chain(save_faults::OF_FIELDS);
-    let of_saves = of_saves.chain(save_faults::OF_ORDER);
-    let of_saves = of_saves.chain(save_faults::OF_FRONT);
-    let of_saves = of_saves.chain(save_faults::OF_LINES);
-    let of_saves = of_saves.chain(save_faults::OF_LOADS);
-    let of_saves = of_saves.chain(save_faults::OF_SIZES);
     let others = of_plants.chain(of_grants).chain(result_faults::ALL);
     let others = others.map(|fault| (&Kind::ALL[..], fault));
-    let of_saves = of_saves.map(|fault| (&SAVING[..], fault));
+    let of_saves = save_faults::all().map(|fault| (&SAVING[..], fault));
     others.chain(of_saves).collect()
 }
 
