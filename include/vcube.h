@@ -1,8 +1,8 @@
 /* The vCube watch for C and C++: the calls of the document "The vCube watch on a gin's plant cable" (document 01), with the sizes of
  * request C-11 of document 02, the tested station that hears it too, its request C-13, and the assignment that says who stands ahead, its
- * request C-16; the bus master that grants the turns, its request C-15; and the figures over a season's trials, its request C-12. The
- * library behind them (crates/vcube and the crates that it uses, docs/MAP.md) is proved in Rattle to do what its definitions say; this
- * header and the compiler's back end are not part of the proof.
+ * request C-16; the bus master that grants the turns, its request C-15; saving the plant to the panel, its request C-17; and the figures
+ * over a season's trials, its request C-12. The library behind them (crates/vcube and the crates that it uses, docs/MAP.md) is proved in
+ * Rattle to do what its definitions say; this header and the compiler's back end are not part of the proof.
  *
  * Build the archive with `rt staticlib vcube` and link target/staticlib/libvcube.a (x86-64 Linux), or install it by bindings/c/install.
  *
@@ -27,15 +27,20 @@
  * suspects station k, else 0. The line rules, for lines that are not live too: each byte in its range; the tests at most the next distance
  * less 1; a finished line has next distance 2^d; a station's byte about itself is 0.
  *
+ * A saved plant holds size, tally and table as fields, one behind the other. A field is a tag of one byte (enum vcube_tag), the length of
+ * its contents in two bytes, high byte first, and the contents. Those of the size field are n, in one byte; those of the tally field are
+ * rounds and tests, in four bytes each, high byte first; those of a line field are a station number, in one byte, and the n + 4 bytes of
+ * that station's line. There is one size field, one tally field, and one line field for each station.
+ *
  * Figures are taken over results, which are numbers of 16 bits: for instance the rounds that each trial took until all dead boards were
  * known. Totals are what is kept of results so that figures can be had without them, and are joined with the totals of further results. A
  * zeroed struct vcube_totals is that of no result. Totals handed in may hold anything: they need not be those of any results, and what a
  * call gives then is said too.
  *
- * Each call returns 0 or the number of its refusal (enum vcube_refusal). A refused call changes no byte of table, list or sheet, except
- * that a run which stops at an entry (7 to 11) keeps the work of the entries before it, and a drive which stops before a grant (7) that of
- * the turns before it. What becomes of the figures is said of each call; in a struct that a refused call fills every member is 0, lower
- * parts of fractions included.
+ * Each call returns 0 or the number of its refusal (enum vcube_refusal). A refused call changes no byte of table, list, sheet or saved
+ * plant, except that a run which stops at an entry (7 to 11) keeps the work of the entries before it, and a drive which stops before a grant
+ * (7) that of the turns before it. What becomes of the figures is said of each call; in a struct that a refused call fills every member is
+ * 0, lower parts of fractions included.
  */
 #ifndef VCUBE_H
 #define VCUBE_H
@@ -44,9 +49,9 @@
 #include <stdint.h>
 
 #define VCUBE_VERSION_MAJOR 0
-#define VCUBE_VERSION_MINOR 7
+#define VCUBE_VERSION_MINOR 8
 #define VCUBE_VERSION_PATCH 0
-#define VCUBE_VERSION "0.7.0"
+#define VCUBE_VERSION "0.8.0"
 
 #ifdef __cplusplus
 extern "C" {
@@ -54,6 +59,9 @@ extern "C" {
 
 /* The length of a table of n stations. */
 #define VCUBE_TABLE_LENGTH(n) ((size_t)(n) * ((size_t)(n) + 4))
+
+/* The length of a saved plant of n stations, as vcube_save writes it: 15 bytes for size and tally, and n line fields of n + 8 bytes. */
+#define VCUBE_SAVED_LENGTH(n) (15 + (size_t)(n) * ((size_t)(n) + 8))
 
 /* The length of the longest group list. */
 #define VCUBE_LONGEST_GROUP 32
@@ -70,26 +78,31 @@ extern "C" {
 /* The most results that figures are taken over. */
 #define VCUBE_MOST_RESULTS 4096
 
-/* What a call returns, in the order in which refusals are checked; but a drive looks for 7 after 16 and 17. */
+/* What a call returns, in the order in which refusals are checked; but a drive looks for 7 after 16 and 17, and a load looks for 18, 19, 1,
+ * 20, 2, 3 and 4, in this order. */
 enum vcube_refusal {
     VCUBE_ACCEPTED = 0,
-    VCUBE_REFUSED_SIZE = 1,              /* the size n is not from 2 to 64 */
-    VCUBE_REFUSED_TABLE_LENGTH = 2,      /* the table's length is not n * (n + 4) */
-    VCUBE_REFUSED_LINE_RULE = 3,         /* a line of the table breaks a line rule */
-    VCUBE_REFUSED_ALL_FINISHED = 4,      /* some station is live and every live one is finished */
-    VCUBE_REFUSED_SCHEDULE_LENGTH = 5,   /* the schedule's length is odd */
-    VCUBE_REFUSED_SHEET_LENGTH = 6,      /* the sheet's length is not twice the schedule's */
-    VCUBE_REFUSED_TALLY = 7,             /* either tally stands at 4294967295 when an entry, or a grant of a drive, is reached */
-    VCUBE_REFUSED_KIND = 8,              /* the kind is not 1, 2 or 3 */
-    VCUBE_REFUSED_STATION = 9,           /* the station number is n or more */
-    VCUBE_REFUSED_NOT_LIVE = 10,         /* the station is not live */
-    VCUBE_REFUSED_PASS_FINISHED = 11,    /* the kind is 1 or 2 and the station has finished its pass */
-    VCUBE_REFUSED_LEVEL = 12,            /* the level is 0 or above d */
-    VCUBE_REFUSED_LIST_LENGTH = 13,      /* the lent list has not the length stated (group list: vcube_group_length; assignment: 2 * (n - 1)) */
-    VCUBE_REFUSED_NO_RESULT = 14,        /* there is no result at all (in both lists together, where two are given) */
-    VCUBE_REFUSED_TOO_MANY_RESULTS = 15, /* there are more than 4096 results in all, or totals that 4096 results cannot have */
-    VCUBE_REFUSED_LAST_GRANTED = 16,     /* the last granted number is n or more and not 255 */
-    VCUBE_REFUSED_NONE_LIVE = 17         /* no station is live */
+    VCUBE_REFUSED_SIZE = 1,                 /* the size n is not from 2 to 64 */
+    VCUBE_REFUSED_TABLE_LENGTH = 2,         /* the table's length is not n * (n + 4) */
+    VCUBE_REFUSED_LINE_RULE = 3,            /* a line of the table breaks a line rule */
+    VCUBE_REFUSED_ALL_FINISHED = 4,         /* some station is live and every live one is finished */
+    VCUBE_REFUSED_SCHEDULE_LENGTH = 5,      /* the schedule's length is odd */
+    VCUBE_REFUSED_SHEET_LENGTH = 6,         /* the sheet's length is not twice the schedule's */
+    VCUBE_REFUSED_TALLY = 7,                /* either tally stands at 4294967295 when an entry, or a grant of a drive, is reached */
+    VCUBE_REFUSED_KIND = 8,                 /* the kind is not 1, 2 or 3 */
+    VCUBE_REFUSED_STATION = 9,              /* the station number is n or more */
+    VCUBE_REFUSED_NOT_LIVE = 10,            /* the station is not live */
+    VCUBE_REFUSED_PASS_FINISHED = 11,       /* the kind is 1 or 2 and the station has finished its pass */
+    VCUBE_REFUSED_LEVEL = 12,               /* the level is 0 or above d */
+    VCUBE_REFUSED_LIST_LENGTH = 13,         /* the lent list, or buffer to save into, has not the length stated (group list:
+                                             * vcube_group_length; assignment: 2 * (n - 1); saved plant: 15 + n * (n + 8)) */
+    VCUBE_REFUSED_NO_RESULT = 14,           /* there is no result at all (in both lists together, where two are given) */
+    VCUBE_REFUSED_TOO_MANY_RESULTS = 15,    /* there are more than 4096 results in all, or totals that 4096 results cannot have */
+    VCUBE_REFUSED_LAST_GRANTED = 16,        /* the last granted number is n or more and not 255 */
+    VCUBE_REFUSED_NONE_LIVE = 17,           /* no station is live */
+    VCUBE_REFUSED_FIELD_PAST_END = 18,      /* a field of the saved plant, or its head (tag and length), runs past the end */
+    VCUBE_REFUSED_SIZE_OR_TALLY_FIELD = 19, /* the size field or the tally field is absent, twice or of wrong length */
+    VCUBE_REFUSED_LINE_FIELD = 20           /* a line field has the wrong length, or a station is absent, twice or too high (n or more) */
 };
 
 /* Byte 0 of an entry of a schedule. */
@@ -115,6 +128,13 @@ enum vcube_outcome {
     VCUBE_OUTCOME_NO_REPLY = 3,         /* the tested station is not live, or its reply was late: the tester suspects it */
     VCUBE_OUTCOME_CRASH = 4,
     VCUBE_OUTCOME_TESTED_TOLD = 5       /* the tested station was told and left: the tester suspected it, and was not suspected by it */
+};
+
+/* The tag of a field of a saved plant. */
+enum vcube_tag {
+    VCUBE_TAG_SIZE = 1,
+    VCUBE_TAG_TALLY = 2,
+    VCUBE_TAG_LINE = 3
 };
 
 /* Fresh table: every line live, next distance 1, all else 0.
@@ -196,6 +216,33 @@ uint8_t vcube_grant(size_t n, const uint8_t *table, size_t table_length, size_t 
  * those of these turns.
  * Refusals: 1 to 4, 16, 17, then 7 before each grant. */
 uint8_t vcube_drive(size_t n, uint8_t *table, size_t table_length, uint32_t *rounds, uint32_t *tests, size_t *last, size_t *grants);
+
+/* Save: writes size, tally and table as a saved plant into a buffer of VCUBE_SAVED_LENGTH(n) bytes: the size field, the tally field, then
+ * the line fields by ascending station. Every byte of the buffer is written. Tallies at 4294967295 are saved like others. The last granted
+ * number of a bus master is not saved.
+ * Refusals: 1 to 4, 13. */
+uint8_t vcube_save(size_t n, const uint8_t *table, size_t table_length, uint32_t rounds, uint32_t tests, uint8_t *saved,
+                   size_t saved_length);
+
+/* Load: reads a saved plant; its size into *n, its tally into *rounds and *tests, and its lines into the table, which has
+ * VCUBE_TABLE_LENGTH(*n) bytes, all of them written (vcube_saved_size gives the size beforehand). The fields may stand in any order. Fields
+ * of other tags, 0 included, are passed over: there may be any number of them, with any contents. *n, *rounds and *tests are 0 where the
+ * call is refused.
+ *
+ * A refusal is that of the whole saved plant, wherever in it the fault stands: 18 is looked for in all fields first, then 19, and so on. 20
+ * is judged by the size in the size field, which may stand behind the line fields. 3 and 4 are judged on the lines of the saved plant, 2 on
+ * the table's length.
+ *
+ * Loading what was saved gives size, table and tally as they were; saving what was loaded gives the form that vcube_save writes, with no
+ * field of another tag.
+ * Refusals: 18, 19, 1, 20, 2, 3, 4, in this order. */
+uint8_t vcube_load(const uint8_t *saved, size_t saved_length, uint8_t *table, size_t table_length, size_t *n, uint32_t *rounds,
+                   uint32_t *tests);
+
+/* Size of a saved plant: that of its size field, into *n, so that a table of just the right length can be lent to vcube_load. *n is 0 where
+ * the call is refused. What the line fields hold is not looked at, so a load may still be refused.
+ * Refusals: 18, 19, 1, in this order. */
+uint8_t vcube_saved_size(const uint8_t *saved, size_t saved_length, size_t *n);
 
 /* A fraction in lowest terms: no number above 1 divides both parts, and the lower part is positive. Zero is 0/1. */
 struct vcube_fraction {

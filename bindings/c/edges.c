@@ -1,5 +1,5 @@
 /* What vcube.h says of NULL with length 0, of figures after a refusal, of a group's length, of who is ahead, of who leaves at a test, of
- * grants and drives, of the most results and the totals that they can have, of its structs, and of its version. */
+ * grants and drives, of saved plants, of the most results and the totals that they can have, of its structs, and of its version. */
 
 #include "vcube.h"
 
@@ -472,6 +472,272 @@ static void grants_and_drives(void)
             fresh_plant(d, begin);
 }
 
+/* The fields of a plant of 2: 0 is live and suspects 1, which crashed. */
+#define SIZE_2 1, 0, 1, 2
+#define TALLY 2, 0, 8, 1, 2, 3, 4, 245, 246, 247, 248
+#define LINE_0 3, 0, 7, 0, 0, 2, 0, 1, 0, 1
+#define LINE_1 3, 0, 7, 1, 1, 1, 0, 0, 0, 0
+
+/* The plant itself. */
+static const uint8_t saved_table[VCUBE_TABLE_LENGTH(N)] = {0, 2, 0, 1, 0, 1, 1, 1, 0, 0, 0, 0};
+static const uint32_t saved_rounds = 0x01020304, saved_tests = 0xf5f6f7f8;
+
+/* As the writer puts it. */
+static const uint8_t saved_bytes[VCUBE_SAVED_LENGTH(N)] = {SIZE_2, TALLY, LINE_0, LINE_1};
+
+/* The save with this buffer's length gives the number; refused, it changes no byte of the buffer. */
+static void save(size_t n, const uint8_t *table, size_t table_length, size_t saved_length, int number, const char *what)
+{
+    static uint8_t saved[VCUBE_SAVED_LENGTH(64) + 256];
+    const size_t written = number == VCUBE_ACCEPTED ? saved_length : 0;
+
+    memset(saved, ANY, sizeof saved);
+    expect(vcube_save(n, table, table_length, saved_rounds, saved_tests, saved_length == 0 ? NULL : saved, saved_length) == number,
+           what);
+    expect(all_are(ANY, saved + written, sizeof saved - written), "save: only the buffer is written, and not where refused");
+}
+
+/* Where later numbers stand in the text, their sentences hold too. */
+static void refused_saves(void)
+{
+    const uint8_t broken[VCUBE_TABLE_LENGTH(N)] = {0, 2, 1, 2, 0, 1, 1, 1, 0, 0, 0, 0};
+    const uint8_t finished[VCUBE_TABLE_LENGTH(N)] = {0, 2, 1, 1, 0, 1, 1, 1, 0, 0, 0, 0};
+    const size_t sizes[] = {0, 1, 65, 255, 258, SIZE_MAX};
+
+    for (size_t k = 0; k < sizeof sizes / sizeof sizes[0]; k++)
+        save(sizes[k], broken, 11, 34, VCUBE_REFUSED_SIZE, "save: a size that is not from 2 to 64 gets 1 before 2 and 13");
+    save(N, broken, 11, 34, VCUBE_REFUSED_TABLE_LENGTH, "save: 11 bytes get 2 before 3 and 13");
+    save(N, NULL, 0, 35, VCUBE_REFUSED_TABLE_LENGTH, "save: a table of length 0 gets 2");
+    save(N, broken, 12, 34, VCUBE_REFUSED_LINE_RULE, "save: more tests than distances get 3 before 4 and 13");
+    save(N, finished, 12, 34, VCUBE_REFUSED_ALL_FINISHED, "save: every live station is finished, 4 before 13");
+    save(N, saved_table, 12, 0, VCUBE_REFUSED_LIST_LENGTH, "save: a buffer of length 0 gets 13");
+    save(N, saved_table, 12, 35, VCUBE_ACCEPTED, "save: 35 bytes are accepted");
+}
+
+/* VCUBE_SAVED_LENGTH, for every size. */
+static void saved_lengths(void)
+{
+    static uint8_t table[VCUBE_TABLE_LENGTH(64)];
+
+    expect(VCUBE_SAVED_LENGTH(2) == 35 && VCUBE_SAVED_LENGTH(64) == 4623, "the length of a saved plant");
+    for (size_t n = 2; n <= 64; n++) {
+        const size_t right = VCUBE_SAVED_LENGTH(n), wrong[] = {0, 1, right - 1, right + 1, right + 256};
+        expect(vcube_fresh_table(n, table, VCUBE_TABLE_LENGTH(n)) == VCUBE_ACCEPTED, "a fresh table");
+        save(n, table, VCUBE_TABLE_LENGTH(n), right, VCUBE_ACCEPTED, "save: a buffer of VCUBE_SAVED_LENGTH is accepted");
+        for (size_t k = 0; k < sizeof wrong / sizeof wrong[0]; k++)
+            save(n, table, VCUBE_TABLE_LENGTH(n), wrong[k], VCUBE_REFUSED_LIST_LENGTH, "save: a buffer of another length gets 13");
+    }
+}
+
+/* The size is given, or refused with the number where that is one of its refusals. */
+static void size_of_saved(const uint8_t *saved, size_t saved_length, size_t n, int number, const char *what)
+{
+    const int of_fields = number == VCUBE_REFUSED_FIELD_PAST_END || number == VCUBE_REFUSED_SIZE_OR_TALLY_FIELD;
+    const int refused = of_fields || number == VCUBE_REFUSED_SIZE;
+    size_t given = ANY;
+
+    expect(vcube_saved_size(saved, saved_length, &given) == (refused ? number : VCUBE_ACCEPTED), what);
+    expect(given == (refused ? 0 : n), "saved size: the size, which is 0 where refused");
+}
+
+/* The load into a table of this length gives the number. Accepted, it gives the plant above; refused, it gives zeros and changes no
+ * byte. */
+static void load(const uint8_t *saved, size_t saved_length, size_t table_length, int number, const char *what)
+{
+    const int accepted = number == VCUBE_ACCEPTED;
+    uint8_t table[VCUBE_TABLE_LENGTH(3)];
+    const size_t written = accepted ? table_length : 0;
+    size_t n = ANY;
+    uint32_t rounds = ANY, tests = ANY;
+
+    size_of_saved(saved, saved_length, N, number, what);
+    memset(table, ANY, sizeof table);
+    expect(vcube_load(saved, saved_length, table_length == 0 ? NULL : table, table_length, &n, &rounds, &tests) == number, what);
+    expect(n == (accepted ? N : 0), what);
+    expect(rounds == (accepted ? saved_rounds : 0) && tests == (accepted ? saved_tests : 0), what);
+    expect(memcmp(table, saved_table, written) == 0, what);
+    expect(all_are(ANY, table + written, sizeof table - written), "load: only the table is written, and not where refused");
+}
+
+/* The load of these bytes into a table of 12. */
+#define LOAD(number, what, ...)                                      \
+    do {                                                             \
+        static const uint8_t bytes[] = {__VA_ARGS__};                \
+        load(bytes, sizeof bytes, sizeof saved_table, number, what); \
+    } while (0)
+
+/* Fields in another order, and fields of other tags. */
+static void accepted_loads(void)
+{
+    static uint8_t longest[sizeof saved_bytes + 3 + 65535];
+
+    LOAD(VCUBE_ACCEPTED, "load: as it was saved", SIZE_2, TALLY, LINE_0, LINE_1);
+    LOAD(VCUBE_ACCEPTED, "load: lines descending", SIZE_2, TALLY, LINE_1, LINE_0);
+    LOAD(VCUBE_ACCEPTED, "load: the size last", LINE_1, TALLY, LINE_0, SIZE_2);
+    LOAD(VCUBE_ACCEPTED, "load: the tally last", LINE_0, LINE_1, SIZE_2, TALLY);
+    LOAD(VCUBE_ACCEPTED, "load: tags 0, 4 and 255, even twice, and with no contents",
+         0, 0, 0, 4, 0, 1, 2, SIZE_2, 4, 0, 1, 2, TALLY, 255, 0, 3, 1, 2, 3, LINE_0, LINE_1, 0, 0, 0);
+    LOAD(VCUBE_ACCEPTED, "load: contents of another tag that look like fields", 9, 0, 14, SIZE_2, LINE_0, SIZE_2, TALLY, LINE_0, LINE_1);
+    for (unsigned tag = 4; tag <= 256; tag++) {
+        const uint8_t saved[] = {(uint8_t)tag, 0, 1, 2, SIZE_2, TALLY, LINE_0, LINE_1};
+        load(saved, sizeof saved, sizeof saved_table, VCUBE_ACCEPTED, "load: tags 4 to 255 and 0");
+    }
+    memcpy(longest, saved_bytes, sizeof saved_bytes);
+    memset(longest + sizeof saved_bytes, 255, sizeof longest - sizeof saved_bytes);
+    load(longest, sizeof longest, 12, VCUBE_ACCEPTED, "load: another tag with the most contents");
+    load(longest, sizeof longest - 1, 12, VCUBE_REFUSED_FIELD_PAST_END, "load: one byte of them is absent");
+}
+
+static void fields_past_end(void)
+{
+    const int past_end = VCUBE_REFUSED_FIELD_PAST_END;
+
+    for (size_t length = 0; length < sizeof saved_bytes; length++) {
+        const int in_field = length != 0 && length != 4 && length != 15 && length != 25;
+        const int absent = length < 15 ? VCUBE_REFUSED_SIZE_OR_TALLY_FIELD : VCUBE_REFUSED_LINE_FIELD;
+        load(saved_bytes, length, 12, in_field ? past_end : absent, "load: 18 where a field is cut off, else 19 or 20");
+    }
+    LOAD(past_end, "load: one stray byte", SIZE_2, TALLY, LINE_0, LINE_1, 0);
+    LOAD(past_end, "load: two stray bytes", SIZE_2, TALLY, LINE_0, LINE_1, 4, 0);
+    LOAD(past_end, "load: a head with no contents, of which there is to be one byte", SIZE_2, TALLY, LINE_0, LINE_1, 4, 0, 1);
+    LOAD(past_end, "load: the length's high byte comes first", SIZE_2, TALLY, LINE_0, LINE_1, 4, 1, 0, 7);
+    LOAD(past_end, "load: 18 comes before all others", 1, 0, 1, 0, TALLY, TALLY, 3, 0, 0, 9);
+}
+
+static void size_and_tally_fields(void)
+{
+    const int wrong = VCUBE_REFUSED_SIZE_OR_TALLY_FIELD;
+    const uint8_t sizes[] = {0, 1, 65, 66, 255};
+
+    load(NULL, 0, 12, wrong, "load: a saved plant of length 0 gets 19");
+    LOAD(wrong, "load: no size field", TALLY, LINE_0, LINE_1);
+    LOAD(wrong, "load: no tally field", SIZE_2, LINE_0, LINE_1);
+    LOAD(wrong, "load: the size field twice", SIZE_2, TALLY, LINE_0, LINE_1, SIZE_2);
+    LOAD(wrong, "load: the tally field twice", SIZE_2, TALLY, TALLY, LINE_0, LINE_1);
+    LOAD(wrong, "load: an empty size field", 1, 0, 0, TALLY, LINE_0, LINE_1);
+    LOAD(wrong, "load: a size field of two bytes", 1, 0, 2, 0, 2, TALLY, LINE_0, LINE_1);
+    LOAD(wrong, "load: a tally field of 7 bytes", SIZE_2, 2, 0, 7, 1, 2, 3, 4, 5, 6, 7, LINE_0, LINE_1);
+    LOAD(wrong, "load: a tally field of 9 bytes", SIZE_2, 2, 0, 9, 1, 2, 3, 4, 5, 6, 7, 8, 9, LINE_0, LINE_1);
+    LOAD(wrong, "load: a second size field is one too many, be it empty", 1, 0, 0, SIZE_2, TALLY, LINE_0, LINE_1);
+    LOAD(wrong, "load: 19 for the tally comes before 1 for the size", 1, 0, 1, 65, LINE_0, LINE_1);
+    for (size_t k = 0; k < sizeof sizes; k++) {
+        const uint8_t saved[] = {1, 0, 1, sizes[k], TALLY, LINE_0, LINE_0};
+        load(saved, sizeof saved, 11, VCUBE_REFUSED_SIZE, "load: a size that is not from 2 to 64 gets 1 before 20 and 2");
+    }
+}
+
+static void line_fields(void)
+{
+    const int wrong = VCUBE_REFUSED_LINE_FIELD;
+    static uint8_t longer[sizeof saved_bytes + 256];
+
+    LOAD(wrong, "load: no line field", SIZE_2, TALLY);
+    LOAD(wrong, "load: station 0 is absent", SIZE_2, TALLY, LINE_1);
+    LOAD(wrong, "load: station 1 is absent", SIZE_2, TALLY, LINE_0);
+    LOAD(wrong, "load: station 0 is there twice", SIZE_2, TALLY, LINE_0, LINE_0, LINE_1);
+    LOAD(wrong, "load: station 0 is there in place of 1", SIZE_2, TALLY, LINE_0, LINE_0);
+    LOAD(wrong, "load: station 2 is too high", SIZE_2, TALLY, LINE_0, LINE_1, 3, 0, 7, 2, 1, 1, 0, 0, 0, 0);
+    LOAD(wrong, "load: station 255 is too high", SIZE_2, TALLY, LINE_0, LINE_1, 3, 0, 7, 255, 1, 1, 0, 0, 0, 0);
+    LOAD(wrong, "load: an empty line field", SIZE_2, TALLY, LINE_0, LINE_1, 3, 0, 0);
+    LOAD(wrong, "load: a line field of 6 bytes", SIZE_2, TALLY, LINE_0, 3, 0, 6, 1, 1, 1, 0, 0, 0);
+    LOAD(wrong, "load: a line field of 8 bytes", SIZE_2, TALLY, LINE_0, 3, 0, 8, 1, 1, 1, 0, 0, 0, 0, 0);
+    memcpy(longer, saved_bytes, sizeof saved_bytes);
+    longer[26] = 1;
+    load(longer, sizeof longer, 12, wrong, "load: a length of 256 + 7 bytes is not cut to 7");
+    load(longer, sizeof longer, 11, wrong, "load: 20 comes before 2");
+}
+
+/* The lent table's length and what the lines hold. */
+static void table_and_rules(void)
+{
+    const uint8_t broken[] = {SIZE_2, TALLY, 3, 0, 7, 0, 0, 2, 1, 2, 0, 1, LINE_1};
+    const size_t lengths[] = {0, 11, 13, 21};
+
+    for (size_t k = 0; k < sizeof lengths / sizeof lengths[0]; k++) {
+        load(saved_bytes, sizeof saved_bytes, lengths[k], VCUBE_REFUSED_TABLE_LENGTH, "load: a table of another length gets 2");
+        load(broken, sizeof broken, lengths[k], VCUBE_REFUSED_TABLE_LENGTH, "load: 2 comes before 3");
+    }
+    load(broken, sizeof broken, 12, VCUBE_REFUSED_LINE_RULE, "load: more tests than distances get 3 before 4");
+    LOAD(VCUBE_REFUSED_LINE_RULE, "load: a row byte of 2", SIZE_2, TALLY, 3, 0, 7, 0, 0, 2, 0, 1, 0, 2, LINE_1);
+    LOAD(VCUBE_REFUSED_LINE_RULE, "load: a station that suspects itself", SIZE_2, TALLY, LINE_0, 3, 0, 7, 1, 1, 1, 0, 0, 0, 1);
+    LOAD(VCUBE_REFUSED_ALL_FINISHED, "load: every live station is finished", SIZE_2, TALLY, 3, 0, 7, 0, 0, 2, 1, 1, 0, 1, LINE_1);
+}
+
+/* What is to be saved of a table. */
+static void expected_saved(size_t n, const uint8_t *table, uint8_t *saved)
+{
+    const uint8_t head[] = {VCUBE_TAG_SIZE, 0, 1, (uint8_t)n, TALLY};
+
+    memcpy(saved, head, sizeof head);
+    for (size_t station = 0; station < n; station++) {
+        const uint8_t line_head[] = {VCUBE_TAG_LINE, 0, (uint8_t)(n + 5), (uint8_t)station};
+        uint8_t *field = saved + sizeof head + station * (n + 8);
+        memcpy(field, line_head, sizeof line_head);
+        memcpy(field + sizeof line_head, table + station * (n + 4), n + 4);
+    }
+}
+
+/* A plant of n whose lines differ is saved and loaded, by tables and buffers that begin at some byte. */
+static void save_and_load(size_t n, size_t begin)
+{
+    static uint8_t tables[VCUBE_TABLE_LENGTH(64) + 8], buffer[VCUBE_SAVED_LENGTH(64) + 8], expected[VCUBE_SAVED_LENGTH(64)];
+    static uint8_t again[VCUBE_TABLE_LENGTH(64) + 8];
+    const size_t table_length = VCUBE_TABLE_LENGTH(n), saved_length = VCUBE_SAVED_LENGTH(n);
+    uint8_t *table = tables + begin, *saved = buffer + begin, *loaded = again + begin;
+    size_t size = ANY;
+    uint32_t rounds = ANY, tests = ANY;
+
+    expect(vcube_fresh_table(n, table, table_length) == VCUBE_ACCEPTED, "a fresh table");
+    for (size_t station = 0; station < n; station++) {
+        table[station * (n + 4)] = (uint8_t)(station % 4);
+        table[station * (n + 4) + 4 + (station + 1) % n] = 1;
+    }
+    expected_saved(n, table, expected);
+    memset(buffer, ANY, sizeof buffer);
+    memset(again, ANY, sizeof again);
+    expect(vcube_save(n, table, table_length, saved_rounds, saved_tests, saved, saved_length) == VCUBE_ACCEPTED, "save: every size");
+    expect(memcmp(saved, expected, saved_length) == 0, "save: size, tally, then the lines");
+    expect(all_are(ANY, buffer, begin) && all_are(ANY, saved + saved_length, sizeof buffer - begin - saved_length),
+           "save: only the buffer is written");
+    size_of_saved(saved, saved_length, n, VCUBE_ACCEPTED, "saved size: every size");
+    expect(vcube_load(saved, saved_length, loaded, table_length, &size, &rounds, &tests) == VCUBE_ACCEPTED, "load: every size");
+    expect(size == n && rounds == saved_rounds && tests == saved_tests, "load: size and tally");
+    expect(memcmp(loaded, table, table_length) == 0, "load: the table");
+    expect(all_are(ANY, again, begin) && all_are(ANY, loaded + table_length, sizeof again - begin - table_length),
+           "load: only the table is written");
+    expect(memcmp(saved, expected, saved_length) == 0, "load: the saved plant is only read");
+}
+
+/* Tallies at the top are no reason to refuse. */
+static void greatest_tallies(void)
+{
+    uint8_t saved[VCUBE_SAVED_LENGTH(N)], table[VCUBE_TABLE_LENGTH(N)];
+    size_t n = ANY;
+    uint32_t rounds = ANY, tests = ANY;
+
+    expect(vcube_save(N, saved_table, sizeof saved_table, UINT32_MAX, UINT32_MAX, saved, sizeof saved) == VCUBE_ACCEPTED,
+           "save: tallies at the top");
+    expect(all_are(255, saved + 7, 8), "save: tallies at the top");
+    expect(vcube_load(saved, sizeof saved, table, sizeof table, &n, &rounds, &tests) == VCUBE_ACCEPTED, "load: tallies at the top");
+    expect(n == N && rounds == UINT32_MAX && tests == UINT32_MAX, "load: tallies at the top");
+}
+
+static void saved_plants(void)
+{
+    expect(VCUBE_TAG_SIZE == 1 && VCUBE_TAG_TALLY == 2 && VCUBE_TAG_LINE == 3, "the tags are those of the document");
+    refused_saves();
+    saved_lengths();
+    accepted_loads();
+    fields_past_end();
+    size_and_tally_fields();
+    line_fields();
+    table_and_rules();
+    for (size_t n = 2; n <= 64; n++)
+        for (size_t begin = 0; begin < 8; begin++)
+            save_and_load(n, begin);
+    greatest_tallies();
+}
+
 /* One result more than figures are taken over. */
 static uint16_t many[VCUBE_MOST_RESULTS + 1];
 
@@ -681,6 +947,7 @@ int main(void)
     who_is_ahead();
     who_leaves();
     grants_and_drives();
+    saved_plants();
     figures_over_results();
     return failures != 0;
 }

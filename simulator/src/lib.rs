@@ -10,11 +10,17 @@
 //! So was what the sheet program reads and prints: its arguments, the lines for
 //! wrong ones and their order, both layouts, and that the greatest number of
 //! tests is taken over the rows with one more dead board.
+//! And so were the readings of C-17: a file is judged for refusal 18 as a whole
+//! first, and for 19 by both fields before 1; two fields of one kind are refused
+//! even if they are the same; a line field has 1 + n + 4 bytes with the file's
+//! n, wherever that stands; a load answers number, size, rounds and tests; and
+//! the size of a saved plant can be asked for, with refusals 18, 19 and 1.
 //!
 //! Rows are 64-bit sets and lines are structs. They are decoded from the
 //! lent byte table and encoded back into it. Figures over results (C-12) are
 //! computed in 128 bits, the variance by the deviations themselves. A drive
-//! (C-15) decodes the table once and takes its turns as the run does.
+//! (C-15) decodes the table once and takes its turns as the run does. A saved
+//! plant (C-17) is split into a list of fields before anything is read from it.
 
 #![forbid(unsafe_code)]
 
@@ -30,6 +36,7 @@ mod questions;
 mod reading;
 mod refusal;
 mod run;
+mod saved;
 pub mod sheet;
 mod totals;
 
@@ -41,4 +48,5 @@ pub use fraction::Fraction;
 pub use granter::{drive, grant, Driven};
 pub use questions::{assignment, check_table, fresh_table, group_list, row, row_number};
 pub use run::{run, Answer};
+pub use saved::{load, save, saved_size, Loaded};
 pub use totals::{figures_of_totals, join_totals, totals, Totals};

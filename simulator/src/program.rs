@@ -2,6 +2,7 @@
 
 use crate::numbers::Size;
 use crate::reading::{read_size, read_station};
+use crate::saved::saved_plant;
 use crate::{fresh_table, run, Answer};
 
 /// The most entries the program reads.
@@ -25,16 +26,41 @@ struct Read {
     entries: usize,
 }
 
+/// What the run gave: its answer, and the parts of the buffers that it was lent.
+struct Ran<'a> {
+    answer: Answer,
+    table: &'a [u8],
+    sheet: &'a [u8],
+}
+
 /// What the program prints for this input.
 pub fn respond(input: &[u8]) -> String {
-    let mut buffers = Buffers {
-        table: [0; LONGEST_TABLE],
-        schedule: [0; 2 * MOST_ENTRIES],
-        sheet: [0; 4 * MOST_ENTRIES],
-    };
+    let mut buffers = Buffers::zeros();
     match read_input(input, &mut buffers.schedule) {
-        Ok(read) => run_and_print(read, &mut buffers),
-        Err(line) => format!("unread {line}\n"),
+        Ok(read) => print(&run_from_fresh(&read, &mut buffers)),
+        Err(line) => print_unread(line),
+    }
+}
+
+/// The saved plant (C-17) after the run of this input. Where a line cannot be
+/// read or the run is refused: the last line that the program prints.
+pub fn saved_after_run(input: &[u8]) -> Result<Vec<u8>, String> {
+    let mut buffers = Buffers::zeros();
+    let read = read_input(input, &mut buffers.schedule).map_err(print_unread)?;
+    let Ran { answer, table, .. } = run_from_fresh(&read, &mut buffers);
+    match saved_plant(read.n, table, (answer.rounds, answer.tests)) {
+        Ok(file) if answer.number == 0 => Ok(file),
+        _ => Err(print_last_line(&answer)),
+    }
+}
+
+impl Buffers {
+    fn zeros() -> Buffers {
+        Buffers {
+            table: [0; LONGEST_TABLE],
+            schedule: [0; 2 * MOST_ENTRIES],
+            sheet: [0; 4 * MOST_ENTRIES],
+        }
     }
 }
 
@@ -71,23 +97,31 @@ fn read_kind(letter: u8) -> Option<u8> {
 }
 
 /// Runs the schedule on a fresh table with zero tallies.
-fn run_and_print(read: Read, buffers: &mut Buffers) -> String {
+fn run_from_fresh<'a>(read: &Read, buffers: &'a mut Buffers) -> Ran<'a> {
     let length = Size::new(read.n).map_or(0, Size::table_length);
     let table = &mut buffers.table[..length];
     let schedule = &buffers.schedule[..2 * read.entries];
     let sheet = &mut buffers.sheet[..4 * read.entries];
     fresh_table(read.n, table);
     let answer = run(read.n, table, (0, 0), schedule, sheet);
-    print(&answer, sheet)
+    Ran {
+        answer,
+        table,
+        sheet,
+    }
+}
+
+fn print_unread(line: usize) -> String {
+    format!("unread {line}\n")
 }
 
 /// The header, a line for each entry taken, and the last line.
-fn print(answer: &Answer, sheet: &[u8]) -> String {
+fn print(ran: &Ran) -> String {
     let mut text = String::from(HEADER);
-    for line in sheet.chunks_exact(4).take(answer.taken) {
+    for line in ran.sheet.chunks_exact(4).take(ran.answer.taken) {
         text.push_str(&print_sheet_line(line));
     }
-    text.push_str(&print_last_line(answer));
+    text.push_str(&print_last_line(&ran.answer));
     text
 }
 

@@ -21,6 +21,9 @@ pub enum Refusal {
     TooManyResults = 15,
     LastGranted = 16,
     NoneLive = 17,
+    FieldPastEnd = 18,
+    SizeOrTallyField = 19,
+    LineField = 20,
 }
 
 impl Refusal {

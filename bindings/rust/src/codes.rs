@@ -1,5 +1,5 @@
-//! The numbers of document 01 as types: refusals, with those of requests C-12
-//! and C-15, kinds, statuses, and outcomes, with that of request C-13.
+//! The numbers of document 01 as types: refusals, with those of requests C-12,
+//! C-15 and C-17, kinds, statuses, and outcomes, with that of request C-13.
 
 use std::error::Error;
 use std::fmt;
@@ -35,7 +35,9 @@ macro_rules! numbered {
 
 numbered! {
     /// Why a call was refused: the refusal list, in checking order; but a drive
-    /// looks for `Tally` after `LastGranted` and `NoneLive`.
+    /// looks for `Tally` after `LastGranted` and `NoneLive`, and a load for
+    /// `FieldPastEnd`, `SizeOrTallyField`, `Size`, `LineField`, `TableLength`,
+    /// `LineRule` and `AllFinished` in this order.
     #[non_exhaustive]
     Refusal {
         Size = 1,
@@ -55,6 +57,9 @@ numbered! {
         TooManyResults = 15,
         LastGranted = 16,
         NoneLive = 17,
+        FieldPastEnd = 18,
+        SizeOrTallyField = 19,
+        LineField = 20,
     }
 }
 
@@ -120,13 +125,22 @@ impl fmt::Display for Refusal {
             Refusal::Level => {
                 "the level is 0 or above d, the size's logarithm to base 2, rounded up"
             }
-            Refusal::ListLength => "the lent list has not the length stated",
+            Refusal::ListLength => {
+                "the lent list, or the buffer for a saved plant, has not the length stated"
+            }
             Refusal::NoResult => "there is no result at all",
             Refusal::TooManyResults => {
                 "there are more than 4096 results in all, or totals that 4096 results cannot have"
             }
             Refusal::LastGranted => "the last granted number is n or more and not 255",
             Refusal::NoneLive => "no station is live",
+            Refusal::FieldPastEnd => "a field of the saved plant, or its head, runs past the end",
+            Refusal::SizeOrTallyField => {
+                "the size or tally field of the saved plant is absent, twice or of wrong length"
+            }
+            Refusal::LineField => {
+                "a line field of the saved plant has the wrong length, or a station is absent, twice or too high"
+            }
         })
     }
 }

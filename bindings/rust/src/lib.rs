@@ -6,11 +6,12 @@
 //! 64 stations (request C-11 of document 02), the tested station hears too that
 //! it is suspected (its request C-13), and an assignment says who stands ahead
 //! where a distance is not due (its request C-16). The bus master that grants the
-//! turns is that of its request C-15, and the figures over a season's trials are
-//! those of its request C-12. Every call takes any numbers and slices of any
-//! length: nothing need be tested before calling. A refused call changes nothing;
-//! a run that stops at an entry keeps the work of the entries before it, and a
-//! drive that stops before a grant that of the turns before it.
+//! turns is that of its request C-15, saving a plant to the panel is its request
+//! C-17, and the figures over a season's trials are those of its request C-12.
+//! Every call takes any numbers and slices of any length: nothing need be tested
+//! before calling. A refused call changes nothing; a run that stops at an entry
+//! keeps the work of the entries before it, and a drive that stops before a grant
+//! that of the turns before it.
 //!
 //! The example of document 01 for N = 4:
 //!
@@ -114,6 +115,30 @@
 //! # Ok::<(), vcube::Refusal>(())
 //! ```
 //!
+//! A plant is saved to the panel as tagged fields, and loaded again. The saved
+//! plant says how long the table must be that is lent for it:
+//!
+//! ```
+//! use vcube::{Loaded, Tally};
+//!
+//! let n = 2;
+//! let mut table = [0; vcube::table_length(2)];
+//! vcube::fresh_table(n, &mut table)?;
+//! let tally = Tally { rounds: 128, tests: 256 };
+//!
+//! let mut saved = [0; vcube::saved_length(2)];
+//! vcube::save(n, &table, tally, &mut saved)?;
+//! assert_eq!(saved[..4], [1, 0, 1, 2]);
+//! assert_eq!(saved[4..15], [2, 0, 8, 0, 0, 0, 128, 0, 0, 1, 0]);
+//! assert_eq!(saved[15..25], [3, 0, 7, 0, 0, 1, 0, 0, 0, 0]);
+//! assert_eq!(saved[25..], [3, 0, 7, 1, 0, 1, 0, 0, 0, 0]);
+//!
+//! let mut restored = vec![0; vcube::table_length(vcube::saved_size(&saved)?)];
+//! assert_eq!(vcube::load(&saved, &mut restored)?, Loaded { n, tally });
+//! assert_eq!(restored, table);
+//! # Ok::<(), vcube::Refusal>(())
+//! ```
+//!
 //! Figures of a list of results, of two lists, and of totals that are kept over
 //! days while the lists are not:
 //!
@@ -148,6 +173,7 @@ mod figures;
 mod granter;
 #[allow(unsafe_code)]
 mod raw;
+mod saved;
 
 #[cfg(test)]
 mod tests;
@@ -160,6 +186,7 @@ pub use codes::{Kind, Outcome, Refusal, Status};
 pub use entries::{schedule, sheet_lines, Entry, SheetLine};
 pub use figures::{figures, figures_of_two, Figures, Fraction, Totals, MOST_RESULTS};
 pub use granter::{drive, grant, Driven};
+pub use saved::{load, save, saved_length, saved_size, Loaded};
 
 /// A station number. Any number can stand here; the library refuses n or more.
 #[derive(Clone, Copy, Debug, PartialEq, Eq, Hash, PartialOrd, Ord)]

@@ -80,6 +80,28 @@ mod c {
             grants: &mut usize,
         ) -> u8;
 
+        pub fn vcube_save(
+            n: usize,
+            table: *const u8,
+            table_length: usize,
+            rounds: u32,
+            tests: u32,
+            saved: *mut u8,
+            saved_length: usize,
+        ) -> u8;
+
+        pub fn vcube_load(
+            saved: *const u8,
+            saved_length: usize,
+            table: *mut u8,
+            table_length: usize,
+            n: &mut usize,
+            rounds: &mut u32,
+            tests: &mut u32,
+        ) -> u8;
+
+        pub fn vcube_saved_size(saved: *const u8, saved_length: usize, n: &mut usize) -> u8;
+
         pub fn vcube_figures_of_list(
             results: *const u16,
             length: usize,
@@ -200,6 +222,45 @@ pub fn drive(
         )
     };
     (number, grants)
+}
+
+/// Gives the number.
+pub fn save(n: usize, table: &[u8], rounds: u32, tests: u32, saved: &mut [u8]) -> u8 {
+    unsafe {
+        c::vcube_save(
+            n,
+            table.as_ptr(),
+            table.len(),
+            rounds,
+            tests,
+            saved.as_mut_ptr(),
+            saved.len(),
+        )
+    }
+}
+
+/// Gives the number, the size, the rounds and the tests.
+pub fn load(saved: &[u8], table: &mut [u8]) -> (u8, usize, u32, u32) {
+    let (mut n, mut rounds, mut tests) = (0, 0, 0);
+    let number = unsafe {
+        c::vcube_load(
+            saved.as_ptr(),
+            saved.len(),
+            table.as_mut_ptr(),
+            table.len(),
+            &mut n,
+            &mut rounds,
+            &mut tests,
+        )
+    };
+    (number, n, rounds, tests)
+}
+
+/// Gives the number and the size.
+pub fn saved_size(saved: &[u8]) -> (u8, usize) {
+    let mut n = 0;
+    let number = unsafe { c::vcube_saved_size(saved.as_ptr(), saved.len(), &mut n) };
+    (number, n)
 }
 
 /// What figures hold before a call fills them.

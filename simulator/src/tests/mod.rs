@@ -11,6 +11,8 @@ mod laws;
 mod program;
 mod questions;
 mod rounds;
+mod saved;
+mod saved_refused;
 mod sheet;
 mod steps;
 mod tables;

@@ -1,13 +1,14 @@
-//! The three implementations of the run, of the drive and of the figures,
-//! called the same way.
+//! The three implementations of the run, of the drive, of the figures and of
+//! saving and loading, called the same way.
 
-use crate::{plain, plain_drive, plain_figures};
+use crate::{plain, plain_drive, plain_figures, plain_saved};
 use shared::grants::NONE_YET;
 use shared::schedule::Entry;
-use simulator::{Answer, Driven};
+use simulator::{Answer, Driven, Loaded};
 use vcube::{Figures, Fraction, Refusal, Tally};
 
-/// An implementation of the run, of the drive and of the figures.
+/// An implementation of the run, of the drive, of the figures and of saving and
+/// loading.
 #[derive(Clone, Copy, Debug, PartialEq, Eq)]
 pub enum Contender {
     Library,
@@ -51,6 +52,24 @@ impl Contender {
             Contender::Library => vcube::figures(results),
             Contender::Plain => plain_figures::figures(results),
             Contender::Simulator => simulated_figures(results),
+        }
+    }
+
+    /// Saves a plant; gives the number. The tally is (rounds, tests).
+    pub fn save(self, n: usize, table: &[u8], tally: (u32, u32), saved: &mut [u8]) -> u8 {
+        match self {
+            Contender::Library => save_library(n, table, tally, saved),
+            Contender::Plain => plain_saved::save(n, table, tally, saved),
+            Contender::Simulator => simulator::save(n, table, tally, saved),
+        }
+    }
+
+    /// Loads a saved plant.
+    pub fn load(self, file: &[u8], table: &mut [u8]) -> Loaded {
+        match self {
+            Contender::Library => load_library(file, table),
+            Contender::Plain => plain_saved::load(file, table),
+            Contender::Simulator => simulator::load(file, table),
         }
     }
 }
@@ -104,6 +123,22 @@ fn drive_library(n: usize, table: &mut [u8]) -> Driven {
         tests: tally.tests,
         last: last.map_or(NONE_YET, |station| station.0),
         grants: driven.grants,
+    }
+}
+
+fn save_library(n: usize, table: &[u8], tally: (u32, u32), saved: &mut [u8]) -> u8 {
+    let (rounds, tests) = tally;
+    number(vcube::save(n, table, Tally { rounds, tests }, saved).err())
+}
+
+fn load_library(file: &[u8], table: &mut [u8]) -> Loaded {
+    let loaded = vcube::load(file, table);
+    let tally = loaded.map_or(Tally::default(), |loaded| loaded.tally);
+    Loaded {
+        number: number(loaded.err()),
+        size: loaded.map_or(0, |loaded| loaded.n),
+        rounds: tally.rounds,
+        tests: tally.tests,
     }
 }
 

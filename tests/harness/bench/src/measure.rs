@@ -1,8 +1,9 @@
 //! Times the three implementations on the same work.
 
 use crate::contender::Contender;
+use crate::saved_work::SavedWork;
 use crate::work::Work;
-use simulator::{Answer, Driven};
+use simulator::{Answer, Driven, Loaded};
 use std::hint::black_box;
 use std::time::Instant;
 
@@ -75,6 +76,50 @@ pub fn best_times_of_figures(lists: &[Vec<u16>], repetitions: usize) -> [f64; 3]
     best(repetitions, |contender| time_figures(contender, lists))
 }
 
+/// The seconds that saves of all plants take together with each implementation,
+/// each into a buffer of its own.
+pub fn best_times_of_saves(works: &[SavedWork], repetitions: usize) -> [f64; 3] {
+    let mut buffers: Vec<Vec<u8>> = works.iter().map(|work| work.file.clone()).collect();
+    best(repetitions, |contender| {
+        time_into(&mut buffers, works, |work, saved| {
+            contender.save(work.n, &work.table, work.tally, saved)
+        })
+    })
+}
+
+/// The same of loads from the files that are picked of the plants, each into a
+/// table of its own.
+pub fn best_times_of_loads(
+    works: &[SavedWork],
+    file: fn(&SavedWork) -> &[u8],
+    repetitions: usize,
+) -> [f64; 3] {
+    let mut tables: Vec<Vec<u8>> = works.iter().map(|work| work.table.clone()).collect();
+    best(repetitions, |contender| {
+        time_into(&mut tables, works, |work, table| {
+            contender.load(file(work), table)
+        })
+    })
+}
+
+/// The seconds that a call for each plant takes, all together. Its buffer is
+/// cleared before, untimed.
+fn time_into<T>(
+    buffers: &mut [Vec<u8>],
+    works: &[SavedWork],
+    call: impl Fn(&SavedWork, &mut [u8]) -> T,
+) -> f64 {
+    buffers.iter_mut().for_each(|buffer| buffer.fill(0));
+    let (buffers, works) = black_box((buffers, works));
+    let start = Instant::now();
+    for (work, buffer) in works.iter().zip(&mut *buffers) {
+        black_box(call(work, buffer));
+    }
+    let seconds = start.elapsed().as_secs_f64();
+    black_box(buffers);
+    seconds
+}
+
 /// The best of the repetitions, each of which times one implementation after
 /// the other.
 fn best(repetitions: usize, mut time: impl FnMut(Contender) -> f64) -> [f64; 3] {
@@ -135,4 +180,28 @@ pub fn check_equal_figures(results: &[u16]) {
     assert!(figures[0].is_ok(), "the list is refused");
     assert_eq!(figures[0], figures[1], "library and plain Rust differ");
     assert_eq!(figures[0], figures[2], "library and simulator differ");
+}
+
+/// Stops unless all three save the plant as its file, and load it from either
+/// file.
+pub fn check_equal_saved(work: &SavedWork) {
+    for contender in Contender::ALL {
+        let mut saved = vec![0; work.file.len()];
+        let number = contender.save(work.n, &work.table, work.tally, &mut saved);
+        assert_eq!(number, 0, "{contender:?}: the save is refused");
+        assert!(saved == work.file, "{contender:?}: another file");
+        for file in [&work.file, &work.shuffled] {
+            let mut table = vec![0; work.table.len()];
+            let loaded = contender.load(file, &mut table);
+            let (rounds, tests) = work.tally;
+            let expected = Loaded {
+                number: 0,
+                size: work.n,
+                rounds,
+                tests,
+            };
+            assert_eq!(loaded, expected, "{contender:?}: another answer");
+            assert!(table == work.table, "{contender:?}: another table");
+        }
+    }
 }

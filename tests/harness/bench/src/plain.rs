@@ -98,11 +98,11 @@ pub fn table_number(n: usize, table: &[u8]) -> u8 {
 }
 
 /// 2^d: distances are below it, and a finished line has it for its next one.
-fn distances(n: usize) -> usize {
+pub fn distances(n: usize) -> usize {
     n.next_power_of_two()
 }
 
-fn keeps_line_rules(end: usize, i: usize, line: &[u8]) -> bool {
+pub fn keeps_line_rules(end: usize, i: usize, line: &[u8]) -> bool {
     let (head, row) = line.split_at(HEAD);
     let next = usize::from(head[NEXT]);
     head[STATUS] <= ALONE

@@ -3,6 +3,7 @@
 
 mod detection;
 mod drives;
+mod saves;
 
 use crate::contender::Contender;
 use crate::measure::{check_equal, check_equal_figures};

@@ -61,6 +61,8 @@ impl Absent {
     pub fn add(&mut self, call: &Call, outcome: &Outcome) {
         let number = outcome.number;
         match (call.kind, number) {
+            // Their size and their table stand in the file.
+            (Kind::Load | Kind::SavedSize, _) => {}
             (_, 1) => self.add_size(call.numbers.n),
             (_, 2) | (Kind::FreshTable, _) => {}
             (Kind::GroupList, 0) => self.groups[call.buffers.get(Name::List).len()] += 1,

@@ -68,6 +68,25 @@ extern "C" {
         last: *mut usize,
         grants: *mut usize,
     ) -> u8;
+    fn vcube_save(
+        n: usize,
+        table: *const u8,
+        table_length: usize,
+        rounds: u32,
+        tests: u32,
+        saved: *mut u8,
+        saved_length: usize,
+    ) -> u8;
+    fn vcube_load(
+        saved: *const u8,
+        saved_length: usize,
+        table: *mut u8,
+        table_length: usize,
+        n: *mut usize,
+        rounds: *mut u32,
+        tests: *mut u32,
+    ) -> u8;
+    fn vcube_saved_size(saved: *const u8, saved_length: usize, n: *mut usize) -> u8;
     fn vcube_figures_of_list(results: *const u16, length: usize, figures: *mut Figures) -> u8;
     fn vcube_figures_of_two_lists(
         first: *const u16,
@@ -177,6 +196,37 @@ impl Calls for Library {
         let (rounds, tests) = (figure(rounds), figure(tests));
         let (last, grants) = (figure(last), figure(grants));
         unsafe { vcube_drive(numbers.n, table, length, rounds, tests, last, grants) }
+    }
+
+    fn save(numbers: &Numbers, [table, saved]: [&mut Guarded; 2]) -> u8 {
+        let (table, table_length) = bytes(table);
+        let (saved, saved_length) = bytes(saved);
+        let Numbers {
+            n, rounds, tests, ..
+        } = *numbers;
+        unsafe { vcube_save(n, table, table_length, rounds, tests, saved, saved_length) }
+    }
+
+    fn load([saved, table, size, rounds, tests]: [&mut Guarded; 5]) -> u8 {
+        let (saved, saved_length) = bytes(saved);
+        let (table, table_length) = bytes(table);
+        let (size, rounds, tests) = (figure(size), figure(rounds), figure(tests));
+        unsafe {
+            vcube_load(
+                saved,
+                saved_length,
+                table,
+                table_length,
+                size,
+                rounds,
+                tests,
+            )
+        }
+    }
+
+    fn saved_size([saved, size]: [&mut Guarded; 2]) -> u8 {
+        let (saved, length) = bytes(saved);
+        unsafe { vcube_saved_size(saved, length, figure(size)) }
     }
 
     fn figures_of_list([list, figures]: [&mut Guarded; 2]) -> u8 {

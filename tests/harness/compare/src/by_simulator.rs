@@ -83,6 +83,28 @@ impl Calls for Simulator {
         answer.number
     }
 
+    fn save(numbers: &Numbers, [table, saved]: [&mut Guarded; 2]) -> u8 {
+        let Numbers {
+            n, rounds, tests, ..
+        } = *numbers;
+        let (table, saved) = (table.contents(), saved.contents_mut());
+        simulator::save(n, table, (rounds, tests), saved)
+    }
+
+    fn load([saved, table, size, rounds, tests]: [&mut Guarded; 5]) -> u8 {
+        let loaded = simulator::load(saved.contents(), table.contents_mut());
+        size.put_figure(loaded.size);
+        rounds.put_figure(loaded.rounds as usize);
+        tests.put_figure(loaded.tests as usize);
+        loaded.number
+    }
+
+    fn saved_size([saved, size]: [&mut Guarded; 2]) -> u8 {
+        let (number, n) = simulator::saved_size(saved.contents());
+        size.put_figure(n);
+        number
+    }
+
     fn figures_of_list([list, figures]: [&mut Guarded; 2]) -> u8 {
         put_figures(figures, &simulator::figures(&results(list)))
     }

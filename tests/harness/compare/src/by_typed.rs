@@ -99,6 +99,34 @@ impl Calls for Typed {
         number(&driven.refusal.map_or(Ok(()), Err))
     }
 
+    fn save(numbers: &Numbers, [table, saved]: [&mut Guarded; 2]) -> u8 {
+        let Numbers {
+            n, rounds, tests, ..
+        } = *numbers;
+        let tally = Tally { rounds, tests };
+        number(&vcube::save(
+            n,
+            table.contents(),
+            tally,
+            saved.contents_mut(),
+        ))
+    }
+
+    fn load([saved, table, size, rounds, tests]: [&mut Guarded; 5]) -> u8 {
+        let given = vcube::load(saved.contents(), table.contents_mut());
+        let loaded = given.ok();
+        size.put_figure(loaded.map_or(0, |loaded| loaded.n));
+        let tally = loaded.map_or(Tally::default(), |loaded| loaded.tally);
+        put_tally(tally, rounds, tests);
+        number(&given)
+    }
+
+    fn saved_size([saved, size]: [&mut Guarded; 2]) -> u8 {
+        let given = vcube::saved_size(saved.contents());
+        size.put_figure(given.unwrap_or(0));
+        number(&given)
+    }
+
     fn figures_of_list([list, figures]: [&mut Guarded; 2]) -> u8 {
         put_figures(figures, vcube::figures(&results(list)))
     }

@@ -1,10 +1,10 @@
 //! A call: its kind, its numbers and its buffers.
 //!
 //! A place where a call puts a figure is a buffer too: the bytes of a `usize`,
-//! or of a `u32` for the tally. The tally, and the last granted number of a
-//! drive, are also handed in there. Further buffers are a list of results, the
-//! bytes of `u16`, and figures over results and totals, the bytes of `u64`
-//! (module `words`).
+//! or of a `u32` for the tally. The tally of a run or a drive, and the last
+//! granted number of a drive, are also handed in there. Further buffers are a
+//! list of results, the bytes of `u16`, and figures over results and totals, the
+//! bytes of `u64` (module `words`).
 
 use crate::words;
 
@@ -17,6 +17,9 @@ pub enum Kind {
     Run,
     Grant,
     Drive,
+    Save,
+    Load,
+    SavedSize,
     FiguresOfList,
     FiguresOfTwoLists,
     TotalsOfList,
@@ -32,6 +35,9 @@ pub struct Numbers {
     pub level: usize,
     /// The last granted number that a grant is handed.
     pub last: usize,
+    /// The tally that a save is handed.
+    pub rounds: u32,
+    pub tests: u32,
 }
 
 /// The name of a buffer.
@@ -53,6 +59,10 @@ pub enum Name {
     Last,
     /// How many grants a drive made.
     Grants,
+    /// A saved plant: the file.
+    Saved,
+    /// The size of a saved plant.
+    Size,
     /// A list of results, or the first of two.
     Results,
     SecondResults,
@@ -79,13 +89,16 @@ pub struct Call {
 }
 
 impl Call {
-    /// The rounds and the tests that a run or a drive is handed.
+    /// The rounds and the tests that a run, a drive or a save is handed.
     pub fn tally(&self) -> (u32, u32) {
         let figure = |name| {
             let bytes = self.buffers.get(name)[..].try_into();
             u32::from_ne_bytes(bytes.expect("a figure of the tally"))
         };
-        (figure(Name::Rounds), figure(Name::Tests))
+        match self.kind {
+            Kind::Save => (self.numbers.rounds, self.numbers.tests),
+            _ => (figure(Name::Rounds), figure(Name::Tests)),
+        }
     }
 
     /// The last granted number that a grant or a drive is handed.
@@ -98,7 +111,7 @@ impl Call {
 }
 
 impl Kind {
-    pub const ALL: [Kind; 12] = [
+    pub const ALL: [Kind; 15] = [
         Kind::FreshTable,
         Kind::GroupList,
         Kind::Assignment,
@@ -106,6 +119,9 @@ impl Kind {
         Kind::Run,
         Kind::Grant,
         Kind::Drive,
+        Kind::Save,
+        Kind::Load,
+        Kind::SavedSize,
         Kind::FiguresOfList,
         Kind::FiguresOfTwoLists,
         Kind::TotalsOfList,
@@ -113,9 +129,9 @@ impl Kind {
         Kind::FiguresOfTotals,
     ];
 
-    /// Those about a plant, which take a size: the first ones. The others are
-    /// about results.
-    pub const OF_PLANTS: [Kind; 7] = [
+    /// Those about a plant, which take a size or give the size of a saved one:
+    /// the first ones. The others are about results.
+    pub const OF_PLANTS: [Kind; 10] = [
         Kind::FreshTable,
         Kind::GroupList,
         Kind::Assignment,
@@ -123,6 +139,9 @@ impl Kind {
         Kind::Run,
         Kind::Grant,
         Kind::Drive,
+        Kind::Save,
+        Kind::Load,
+        Kind::SavedSize,
     ];
 
     pub fn text(self) -> &'static str {
@@ -134,6 +153,9 @@ impl Kind {
             Kind::Run => "run",
             Kind::Grant => "grant",
             Kind::Drive => "drive",
+            Kind::Save => "save",
+            Kind::Load => "load",
+            Kind::SavedSize => "size of a saved plant",
             Kind::FiguresOfList => "figures of a list",
             Kind::FiguresOfTwoLists => "figures of two lists",
             Kind::TotalsOfList => "totals of a list",
@@ -165,6 +187,15 @@ impl Kind {
                 Name::Last,
                 Name::Grants,
             ],
+            Kind::Save => &[Name::Table, Name::Saved],
+            Kind::Load => &[
+                Name::Saved,
+                Name::Table,
+                Name::Size,
+                Name::Rounds,
+                Name::Tests,
+            ],
+            Kind::SavedSize => &[Name::Saved, Name::Size],
             Kind::FiguresOfList => &[Name::Results, Name::Figures],
             Kind::FiguresOfTwoLists => &[Name::Results, Name::SecondResults, Name::Figures],
             Kind::TotalsOfList => &[Name::Results, Name::GivenTotals],
@@ -183,6 +214,9 @@ impl Kind {
             Kind::Run => &[0, 1, 2, 3, 4, 5, 6, 7, 8, 9, 10, 11],
             Kind::Grant => &[0, 1, 2, 3, 4, 16, 17],
             Kind::Drive => &[0, 1, 2, 3, 4, 7, 16, 17],
+            Kind::Save => &[0, 1, 2, 3, 4, 13],
+            Kind::Load => &[0, 1, 2, 3, 4, 18, 19, 20],
+            Kind::SavedSize => &[0, 1, 18, 19],
             Kind::FiguresOfList | Kind::FiguresOfTwoLists | Kind::FiguresOfTotals => &[0, 14, 15],
             Kind::TotalsOfList | Kind::JoinTotals => &[0, 15],
         }
@@ -190,7 +224,7 @@ impl Kind {
 }
 
 impl Name {
-    pub const ALL: [Name; 19] = [
+    pub const ALL: [Name; 21] = [
         Name::Table,
         Name::List,
         Name::Schedule,
@@ -204,6 +238,8 @@ impl Name {
         Name::Station,
         Name::Last,
         Name::Grants,
+        Name::Saved,
+        Name::Size,
         Name::Results,
         Name::SecondResults,
         Name::Totals,
@@ -227,6 +263,8 @@ impl Name {
             Name::Station => "station",
             Name::Last => "last number",
             Name::Grants => "grants",
+            Name::Saved => "saved plant",
+            Name::Size => "size",
             Name::Results => "results",
             Name::SecondResults => "second results",
             Name::Totals => "totals",
@@ -240,9 +278,10 @@ impl Name {
     pub fn width(self) -> usize {
         match self {
             Name::Table | Name::List | Name::Schedule | Name::Sheet => size_of::<u8>(),
+            Name::Saved => size_of::<u8>(),
             Name::Rounds | Name::Tests => size_of::<u32>(),
             Name::Count | Name::Start | Name::Length | Name::Taken => size_of::<usize>(),
-            Name::Station | Name::Last | Name::Grants => size_of::<usize>(),
+            Name::Station | Name::Last | Name::Grants | Name::Size => size_of::<usize>(),
             Name::Results | Name::SecondResults => size_of::<u16>(),
             Name::Totals | Name::SecondTotals | Name::GivenTotals | Name::Figures => {
                 size_of::<u64>()

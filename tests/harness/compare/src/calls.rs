@@ -26,6 +26,15 @@ pub trait Calls {
     /// Table, rounds, tests, last number, grants.
     fn drive(numbers: &Numbers, lent: [&mut Guarded; 5]) -> u8;
 
+    /// Table, saved plant.
+    fn save(numbers: &Numbers, lent: [&mut Guarded; 2]) -> u8;
+
+    /// Saved plant, table, size, rounds, tests.
+    fn load(lent: [&mut Guarded; 5]) -> u8;
+
+    /// Saved plant, size.
+    fn saved_size(lent: [&mut Guarded; 2]) -> u8;
+
     /// Results, figures.
     fn figures_of_list(lent: [&mut Guarded; 2]) -> u8;
 
@@ -74,6 +83,9 @@ pub fn make<By: Calls>(call: &Call, mut buffers: Buffers<Guarded>) -> Outcome {
         Kind::Run => By::run(numbers, run(&mut buffers)),
         Kind::Grant => By::grant(numbers, lent(call.kind, &mut buffers)),
         Kind::Drive => By::drive(numbers, lent(call.kind, &mut buffers)),
+        Kind::Save => By::save(numbers, lent(call.kind, &mut buffers)),
+        Kind::Load => By::load(lent(call.kind, &mut buffers)),
+        Kind::SavedSize => By::saved_size(lent(call.kind, &mut buffers)),
         Kind::FiguresOfList => By::figures_of_list(lent(call.kind, &mut buffers)),
         Kind::FiguresOfTwoLists => By::figures_of_two_lists(lent(call.kind, &mut buffers)),
         Kind::TotalsOfList => By::totals_of_list(lent(call.kind, &mut buffers)),

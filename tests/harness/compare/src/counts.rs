@@ -9,17 +9,20 @@ use crate::absent::Absent;
 use crate::assigned;
 use crate::call::{Call, Kind, Name};
 use crate::cases;
+use crate::cuts::Cuts;
 use crate::entries::{self, Answer, Entry};
 use crate::granted;
 use crate::occurred::Occurred;
 use crate::outcome::Outcome;
+use crate::saved;
 use crate::told::Told;
+use crate::ways_back::WaysBack;
 
 const KINDS: usize = Kind::ALL.len();
 const PLANT_KINDS: usize = Kind::OF_PLANTS.len();
 
 /// Refusals have the numbers from 1 up to but without this one.
-const NUMBERS: usize = 18;
+const NUMBERS: usize = 21;
 
 /// Outcomes have the numbers from 0 up to but without this one.
 pub const OUTCOMES: usize = 6;
@@ -34,11 +37,12 @@ pub const LEAST: u64 = 30;
 const LONG_RUN: usize = 256;
 
 /// The buffers of any length.
-const OF_ANY_LENGTH: [Name; 6] = [
+const OF_ANY_LENGTH: [Name; 7] = [
     Name::Table,
     Name::List,
     Name::Schedule,
     Name::Sheet,
+    Name::Saved,
     Name::Results,
     Name::SecondResults,
 ];
@@ -81,6 +85,12 @@ pub struct Counts {
     pub assigned: Occurred<assigned::Seen>,
     /// The cases of grants and drives.
     pub granted: Occurred<granted::Seen>,
+    /// The cases of saves, loads and questions for the size of a saved plant.
+    pub saved: Occurred<saved::Seen>,
+    /// Loads of files that are cut.
+    pub cuts: Cuts,
+    /// What was saved and loaded, or loaded and saved.
+    pub ways_back: WaysBack,
     /// The cases of calls about results.
     pub cases: Occurred<cases::Seen>,
 }
@@ -130,6 +140,9 @@ impl Counts {
             told: Told::all(count),
             assigned: assigned::all(count),
             granted: granted::all(count),
+            saved: saved::all(count),
+            cuts: Cuts::all(count),
+            ways_back: WaysBack::all(count),
             cases: cases::all(count),
         }
     }
@@ -148,7 +161,8 @@ impl Counts {
 
     fn add_of_plant(&mut self, call: &Call, outcome: &Outcome) {
         if outcome.number == 0 {
-            self.sizes[call.kind as usize][place(call)] += 1;
+            let size = size(call, outcome);
+            self.sizes[call.kind as usize][place(size)] += 1;
         }
         self.absent.add(call, outcome);
         match call.kind {
@@ -160,6 +174,11 @@ impl Counts {
             Kind::Grant | Kind::Drive => {
                 let seen = granted::Seen::new(call, outcome);
                 self.granted.add(call.kind, &seen);
+            }
+            Kind::Save | Kind::Load | Kind::SavedSize => {
+                let seen = saved::Seen::new(call, outcome);
+                self.saved.add(call.kind, &seen);
+                self.cuts.add(call);
             }
             _ => {}
         }
@@ -173,7 +192,7 @@ impl Counts {
         let rounds = call.tally().0 + closed as u32;
         assert_eq!(answer.rounds, rounds, "sheet and tally: rounds closed");
         for entry in &entries {
-            self.runs[place(call)].add(entry);
+            self.runs[place(call.numbers.n)].add(entry);
             self.absent.add_entry(entry);
             self.told.add_entry(entry);
             self.add_entry(entry);
@@ -223,6 +242,9 @@ impl Counts {
         self.told.require(&mut required);
         self.assigned.require(&mut required);
         self.granted.require(&mut required);
+        self.saved.require(&mut required);
+        self.cuts.require(&mut required);
+        self.ways_back.require(&mut required);
         self.cases.require(&mut required);
         required
     }
@@ -287,9 +309,17 @@ impl InRuns {
     }
 }
 
-/// The place of the size of a call that was not refused by its size.
-fn place(call: &Call) -> usize {
-    call.numbers.n - groups::SIZES.start()
+/// The place of a size that is not refused.
+fn place(size: usize) -> usize {
+    size - groups::SIZES.start()
+}
+
+/// The size of an accepted call: the one handed in, or that of a saved plant.
+fn size(call: &Call, outcome: &Outcome) -> usize {
+    match call.kind {
+        Kind::Load | Kind::SavedSize => outcome.buffers.get(Name::Size).figure(),
+        _ => call.numbers.n,
+    }
 }
 
 impl fmt::Display for Counts {
@@ -323,7 +353,8 @@ impl fmt::Display for Counts {
             write!(f, "{comma}{} {count}", name.text())?;
         }
         write!(f, "; {}; {}; ", self.absent, self.told)?;
-        write!(f, "{}; {}; {}", self.assigned, self.granted, self.cases)?;
+        write!(f, "{}; {}; {}; ", self.assigned, self.granted, self.saved)?;
+        write!(f, "{}; {}; {}", self.cuts, self.ways_back, self.cases)?;
         let rarest = self.required().into_iter().min();
         rarest.map_or(Ok(()), |(count, text)| {
             write!(f, "; rarest: {text}: {count}")

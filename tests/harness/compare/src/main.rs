@@ -15,6 +15,7 @@ mod call;
 mod calls;
 mod cases;
 mod counts;
+mod cuts;
 mod entries;
 mod faults;
 mod generate;
@@ -27,11 +28,15 @@ mod options;
 mod outcome;
 mod report;
 mod result_faults;
+mod save_faults;
+mod saved;
+mod saving;
 mod self_test;
 mod size_faults;
 mod told;
 mod told_faults;
 mod trial;
+mod ways_back;
 mod words;
 
 use std::process::ExitCode;
@@ -60,8 +65,13 @@ fn work(options: &Options) -> Result<String, String> {
 /// Makes one call and prints all of it.
 fn only(seed: u64, number: u64) -> Result<String, String> {
     let trial = Trial::make(seed, number);
-    let text = report::trial_text(number, &trial, usize::MAX);
-    match trial.difference() {
+    let mut text = report::trial_text(number, &trial, usize::MAX);
+    let mut found = trial.difference();
+    if let Some(back) = trial.way_back() {
+        text += &report::trial_text(number, &back, usize::MAX);
+        found = found.or_else(|| back.difference());
+    }
+    match found {
         None => Ok(text + "no difference"),
         Some(found) => Err(format!("{text}difference: {found}")),
     }
@@ -79,6 +89,14 @@ fn compare(seed: u64, calls: u64, trace: bool) -> Result<String, String> {
             return Err(report::difference(seed, number, &trial, &found));
         }
         counts.add(&trial.call, &trial.simulator);
+        if let Some(back) = trial.way_back() {
+            if let Some(found) = back.difference() {
+                return Err(report::difference(seed, number, &back, &found));
+            }
+            let (there, back) = (trial.made(), back.made());
+            ways_back::check(there, back).map_err(|text| report::failed(seed, number, &text))?;
+            counts.ways_back.add(there, back);
+        }
     }
     shared::counts::check(&counts.missing(), calls >= ENOUGH_CALLS)?;
     Ok(format!(

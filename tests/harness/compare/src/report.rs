@@ -16,6 +16,14 @@ pub fn difference(seed: u64, number: u64, trial: &Trial, found: &Difference) -> 
     text
 }
 
+/// What was not right with a call, and the command that repeats it.
+pub fn failed(seed: u64, number: u64, text: &str) -> String {
+    format!(
+        "call {number}: {text}\nrepeat it with: {}\n",
+        command(seed, number)
+    )
+}
+
 /// The command that repeats just this call.
 pub fn command(seed: u64, number: u64) -> String {
     format!("tests/compare --seed {seed} --only {number}")
@@ -41,10 +49,13 @@ fn numbers(kind: Kind, numbers: &Numbers) -> String {
         station,
         level,
         last,
+        rounds,
+        tests,
     } = numbers;
     match kind {
         Kind::FreshTable | Kind::Run | Kind::Drive => format!("  n {n}\n"),
         Kind::Grant => format!("  n {n}, last number {last}\n"),
+        Kind::Save => format!("  n {n}, rounds {rounds}, tests {tests}\n"),
         Kind::GroupList => format!("  n {n}, station {station}, level {level}\n"),
         Kind::Assignment | Kind::Row => format!("  n {n}, station {station}\n"),
         _ => String::new(),

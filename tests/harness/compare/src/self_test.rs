@@ -10,15 +10,17 @@ use crate::grant_faults;
 use crate::outcome::{Outcome, Place, Side};
 use crate::report;
 use crate::result_faults;
+use crate::save_faults;
 use crate::size_faults;
 use crate::told_faults;
 use crate::trial::Trial;
+use crate::ways_back;
 
 /// How many calls are altered.
 const CALLS: u64 = 2_000;
 
 /// How many calls are made by each library with a fault.
-const FAULTY_CALLS: u64 = 10_000;
+const FAULTY_CALLS: u64 = 12_000;
 
 /// What was altered, and on which side.
 type Altered = Vec<(Side, Place)>;
@@ -44,14 +46,14 @@ pub fn self_test(seed: u64) -> Result<usize, String> {
         subject.alter(Side::Typed, &mut altered)?;
     }
     all_places_altered(&altered)?;
-    let noticed = altered.len() + stand_in(seed)?;
+    let noticed = altered.len() + stand_in(seed)? + alter_ways_back(seed)?;
     let lowered = lowered_counts();
     let counts = [0, LEAST].map(Counts::all);
     Ok(noticed + shared::counts::check_lowered(counts, &lowered, Counts::missing)?)
 }
 
-/// Every library with a fault.
-fn all_faults() -> Vec<Fault> {
+/// Every library with a fault, and in calls of which kinds it can show.
+fn all_faults() -> Vec<(&'static [Kind], Fault)> {
     let of_plants = faults::ALL.into_iter().chain(size_faults::ALL);
     let of_plants = of_plants.chain(told_faults::ALL);
     let of_plants = of_plants.chain(assign_faults::OF_RULE);
@@ -59,16 +61,20 @@ fn all_faults() -> Vec<Fault> {
     let of_grants = grant_faults::OF_RULE.into_iter();
     let of_grants = of_grants.chain(grant_faults::OF_REFUSALS);
     let of_grants = of_grants.chain(grant_faults::OF_ANSWERS);
-    of_plants
-        .chain(of_grants)
-        .chain(result_faults::ALL)
-        .collect()
+    let others = of_plants.chain(of_grants).chain(result_faults::ALL);
+    let others = others.map(|fault| (&Kind::ALL[..], fault));
+    let of_saves = save_faults::all().map(|fault| (&SAVING[..], fault));
+    others.chain(of_saves).collect()
 }
 
+/// The calls about saved plants.
+const SAVING: [Kind; 3] = [Kind::Save, Kind::Load, Kind::SavedSize];
+
 /// The right rules, which are no fault: what they are of, and what they give.
-const RIGHT: [Fault; 2] = [
+const RIGHT: [Fault; 3] = [
     ("granting", grant_faults::right),
     ("assigning", assign_faults::right),
+    ("saving", save_faults::right),
 ];
 
 /// Libraries with a fault: each must be noticed wherever it gives something
@@ -85,15 +91,60 @@ fn stand_in(seed: u64) -> Result<usize, String> {
                 return Err(format!("the right rule of {rule} stands in, {found}"));
             }
         }
-        for (count, (_, apply)) in noticed.iter_mut().zip(&faults) {
+        for (count, (kinds, (_, apply))) in noticed.iter_mut().zip(&faults) {
+            if !kinds.contains(&trial.call.kind) {
+                continue;
+            }
             apply(&trial.call, &mut trial.library);
             *count += usize::from(trial.difference().is_some());
             trial.library.clone_from(&right);
         }
     }
     match noticed.iter().position(|count| *count == 0) {
-        Some(place) => Err(format!("a stand-in was not noticed: {}", faults[place].0)),
+        Some(place) => Err(format!(
+            "a stand-in was not noticed: {}",
+            faults[place].1 .0
+        )),
         None => Ok(noticed.iter().sum()),
+    }
+}
+
+/// Ways back that hold until something is altered: each alteration must be
+/// noticed. Gives how many there were.
+fn alter_ways_back(seed: u64) -> Result<usize, String> {
+    let mut altered = Vec::new();
+    for number in 1..=CALLS {
+        let there = Trial::make_agreeing(seed, number);
+        let Some(mut back) = there.way_back_agreeing() else {
+            continue;
+        };
+        ways_back::check(there.made(), back.made())?;
+        for name in given(back.call.kind) {
+            alter_first(&mut back, *name);
+            if ways_back::check(there.made(), back.made()).is_ok() {
+                return Err(format!("{name:?} of a way back: altered unnoticed"));
+            }
+            alter_first(&mut back, *name);
+            altered.push(*name);
+        }
+    }
+    match altered.contains(&Name::Table) && altered.contains(&Name::Saved) {
+        true => Ok(altered.len()),
+        false => Err(String::from("a way back was never altered")),
+    }
+}
+
+/// Changes the first byte of a buffer, or changes it back.
+fn alter_first(trial: &mut Trial, name: Name) {
+    let buffer = trial.simulator.buffers.get_mut(name);
+    buffer.contents_mut()[0] ^= 1;
+}
+
+/// The buffers that a load or a save fills.
+fn given(kind: Kind) -> &'static [Name] {
+    match kind {
+        Kind::Save => &[Name::Saved],
+        _ => &[Name::Table, Name::Size, Name::Rounds, Name::Tests],
     }
 }
 
@@ -209,6 +260,7 @@ fn lowered_counts() -> Vec<Counts> {
     all.lower_told();
     all.lower_assigned();
     all.lower_granted();
+    all.lower_saved();
     all.lower_cases();
     all.0
 }
@@ -298,6 +350,20 @@ impl Lowered {
     fn lower_granted(&mut self) {
         for case in 0..Counts::all(0).granted.counts.len() {
             self.lower(|counts| &mut counts.granted.counts[case]);
+        }
+    }
+
+    /// The cases of saves, loads and questions for the size; cut files; ways
+    /// back.
+    fn lower_saved(&mut self) {
+        for case in 0..Counts::all(0).saved.counts.len() {
+            self.lower(|counts| &mut counts.saved.counts[case]);
+        }
+        for length in 0..Counts::all(0).cuts.0.len() {
+            self.lower(|counts| &mut counts.cuts.0[length]);
+        }
+        for way in 0..Counts::all(0).ways_back.0.len() {
+            self.lower(|counts| &mut counts.ways_back.0[way]);
         }
     }
 

@@ -128,7 +128,7 @@ fn has_absent(call: &Call) -> bool {
 fn judges_lines(call: &Call, outcome: &Outcome) -> bool {
     let takes_lines = matches!(
         call.kind,
-        Kind::Assignment | Kind::Row | Kind::Run | Kind::Grant | Kind::Drive
+        Kind::Assignment | Kind::Row | Kind::Run | Kind::Grant | Kind::Drive | Kind::Save
     );
     takes_lines && !matches!(outcome.number, 1 | 2)
 }

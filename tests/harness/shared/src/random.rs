@@ -1,6 +1,7 @@
 //! A small generator of pseudo-random numbers (splitmix64), so that everything
 //! drawn can be repeated.
 
+#[derive(Clone)]
 pub struct Random(u64);
 
 const STEP: u64 = 0x9E37_79B9_7F4A_7C15;

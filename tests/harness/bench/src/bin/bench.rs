@@ -1,5 +1,6 @@
 //! Entries per second of the run, drives per second, and calls per second of
-//! the figures: the library, plain Rust over the same bytes, and the simulator.
+//! the figures, of saves and of loads: the library, plain Rust over the same
+//! bytes, and the simulator.
 //!
 //! `bench` prints the tables; `--quick` repeats less.
 //! `--only NAME N DEAD` runs one of library, plain and simulator once, for a
@@ -7,6 +8,7 @@
 
 use bench::contender::Contender;
 use bench::measure;
+use bench::saved_work::SavedWork;
 use bench::work::Work;
 use shared::random::Random;
 use std::process::ExitCode;
@@ -28,6 +30,12 @@ const LENGTHS: [usize; 3] = [16, 256, vcube::MOST_RESULTS];
 
 /// How many calls of the figures are timed together.
 const LISTS: usize = 50;
+
+/// The sizes of the plants that are saved and loaded.
+const SAVED_SIZES: [usize; 3] = [8, 19, 64];
+
+/// How many saves or loads are timed together.
+const SAVES: usize = 50;
 
 /// By this the repetitions are divided where calls are timed together.
 const BATCH_DIVISOR: usize = 3;
@@ -94,6 +102,8 @@ fn print_tables(repetitions: usize) {
     print_no_entry(fewer);
     print_drives(fewer);
     print_figures(fewer);
+    print_saves(fewer);
+    print_loads(fewer);
 }
 
 fn print_many_rounds(repetitions: usize) {
@@ -210,6 +220,49 @@ fn random_lists(length: usize) -> Vec<Vec<u16>> {
     let mut random = Random::new(SEED);
     let mut list = || (0..length).map(|_| random.below(1 << 16) as u16).collect();
     (0..LISTS).map(|_| list()).collect()
+}
+
+/// Plants with other dead stations and other turns each.
+fn plants(n: usize) -> Vec<SavedWork> {
+    let mut random = Random::new(SEED);
+    let plants: Vec<_> = (0..SAVES).map(|_| SavedWork::new(n, &mut random)).collect();
+    plants.iter().for_each(measure::check_equal_saved);
+    plants
+}
+
+fn print_saves(repetitions: usize) {
+    println!("\nSaves\n");
+    println!(
+        "A save of a plant with a quarter of the stations dead. Thousands of calls per second,"
+    );
+    println!("the best of {repetitions} repetitions; {SAVES} calls are timed together, each of a plant of");
+    println!("its own.\n");
+    print_table_of_saved(|works| measure::best_times_of_saves(works, repetitions));
+}
+
+fn print_loads(repetitions: usize) {
+    println!("\nLoads\n");
+    println!("A load of what these saves write. Thousands of calls per second, the best of");
+    println!("{repetitions} repetitions; {SAVES} calls are timed together, each into a table of its own.\n");
+    print_table_of_saved(|works| {
+        measure::best_times_of_loads(works, |work| &work.file, repetitions)
+    });
+    println!("\nLoads in another order\n");
+    println!("As before, but the fields stand in any order, with a field of another tag before");
+    println!("every fourth one.\n");
+    print_table_of_saved(|works| {
+        measure::best_times_of_loads(works, |work| &work.shuffled, repetitions)
+    });
+}
+
+/// A row for each size of plants that are saved or loaded.
+fn print_table_of_saved(times: impl Fn(&[SavedWork]) -> [f64; 3]) {
+    println!("| N | {COLUMNS}");
+    println!("|--:|--:|--:|--:|--:|--:|");
+    for n in SAVED_SIZES {
+        let times = times(&plants(n));
+        println!("| {n} | {} |", speeds(thousands(SAVES), times));
+    }
 }
 
 /// A row for each batch of runs.

@@ -5,6 +5,7 @@
 mod drives;
 mod numbers;
 mod results;
+mod saves;
 mod schedules;
 mod tables;
 mod totals;
@@ -15,13 +16,25 @@ use shared::table::live_stations;
 
 use crate::call::{Buffers, Call, Kind, Name, Numbers};
 
+pub use saves::way_back;
+
 /// The size of the plant that a call is made for.
 type Size = usize;
 
 pub fn call(random: &mut Random) -> Call {
-    match random.once_in(6) {
-        true => results::call(random),
-        false => of_plant(random),
+    match random.below(30) {
+        0..=3 => results::call(random),
+        4..=9 => of_saved_plant(random),
+        _ => of_plant(random),
+    }
+}
+
+fn of_saved_plant(random: &mut Random) -> Call {
+    let size = groups::random_size(random);
+    match random.below(4) {
+        0 => saves::save(size, random),
+        1 => saves::saved_size(size, random),
+        _ => saves::load(size, random),
     }
 }
 

@@ -11,6 +11,14 @@ use crate::borders;
 /// The size handed over and a table; now and then one of them is wrong.
 pub fn given(size: Size, random: &mut Random) -> (usize, Vec<u8>) {
     let n = numbers::given_size(size, random);
+    let mut table = any(size, random);
+    let length = numbers::table_length(n, size, random);
+    resize(&mut table, length, random);
+    (n, table)
+}
+
+/// A table of the right length. Mostly refusals 3 and 4 do not meet it.
+pub fn any(size: Size, random: &mut Random) -> Vec<u8> {
     let mut table = valid(size, random);
     if random.once_in(14) {
         finish_all_live(&mut table, size);
@@ -18,9 +26,7 @@ pub fn given(size: Size, random: &mut Random) -> (usize, Vec<u8>) {
     if random.once_in(8) {
         damage(&mut table, size, random);
     }
-    let length = numbers::table_length(n, size, random);
-    resize(&mut table, length, random);
-    (n, table)
+    table
 }
 
 /// A table that refusals 1 to 4 do not meet.
