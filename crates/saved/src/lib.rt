@@ -2,7 +2,7 @@
 //
 // The calls are save::save, load::load and load::saved_size. None has a `requires`.
 mod bytes;
-pub mod fields;
+mod fields;
 mod lines;
 pub mod load;
 mod opening;

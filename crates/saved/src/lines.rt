@@ -48,7 +48,7 @@ fn take_field(n: u8, tag: u8, contents: &[u8], table: &mut [u8], seen: &mut [u8]
     ensures { λ r. ⌜ built r (now (table .exit)) (now (seen .exit)) ≡ builtIf n (field tag (now (contents .entry))) (now (table .entry)) (now (seen .entry)) ⌝ }
 {
     if tag != LINE {
-        return true;
+        return true; // passed over
     }
     take_line(n, contents, table, seen)
 }

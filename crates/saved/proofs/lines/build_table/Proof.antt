@@ -15,10 +15,9 @@ use Rattle.saved.proofs.lines.build_table.Tie as tie
 returns : tie.Need-returns
 returns c =
     let a = c .before .before .before .before .before .before .before .before .before .args in
-    let s = size-bounds _ (c .before .before .before .before .before .before .before .before .before .pre .0) in
-    (
+    let s = size-bounds _ (c .before .before .before .before .before .before .before .before .before .pre .0) in (
       ends-not (a .n) (fieldsOf (a .file .now)) (a .table .now) (replicate 64 0) (s .1) (λ i h. getD-replicate {A = ℕ} 64 i 0 0 (omega arith))
-      _ _ _ (c .before .before .before .before .take-fields .ensures) (not-true _ (c .if1 .taken)),
+          _ _ _ (c .before .before .before .before .take-fields .ensures) (not-true _ (c .if1 .taken)),
       (λ e. let z : _≡_ {A = ℕ} 0 1 = cc in absurd (omega arith), search needs),
     )
 

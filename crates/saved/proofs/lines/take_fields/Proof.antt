@@ -66,8 +66,7 @@ loop-again c =
     let t = told _ _ _ _ (c .before .before .before .before .before .before .before .before .before .before .before .before .read .ensures) (g .1) in
     let f = field (g .0 .0) (take (g .0 .1 .1 .0) (drop (g .0 .1 .0) file)) in
     let rest = fields (drop (g .0 .1 .1 .1 .0 .at) file) in
-    let took = rw add-sub-cancel-left at (c .before .before .before .before .before .take-field .ensures) in
-    (
+    let took = rw add-sub-cancel-left at (c .before .before .before .before .before .take-field .ensures) in (
       search needs,
       search needs,
       whole-rest n f _ rest (i .table) (i .seen) _ _ _ (t .0) (i .inv .2) took,
