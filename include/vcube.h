@@ -30,7 +30,8 @@
  * A saved plant holds size, tally and table as fields, one behind the other. A field is a tag of one byte (enum vcube_tag), the length of
  * its contents in two bytes, high byte first, and the contents. Those of the size field are n, in one byte; those of the tally field are
  * rounds and tests, in four bytes each, high byte first; those of a line field are a station number, in one byte, and the n + 4 bytes of
- * that station's line. There is one size field, one tally field, and one line field for each station.
+ * that station's line. There is one size field, one tally field, and one line
+ * field for each station; fields of other tags may stand among them.
  *
  * Figures are taken over results, which are numbers of 16 bits: for instance the rounds that each trial took until all dead boards were
  * known. Totals are what is kept of results so that figures can be had without them, and are joined with the totals of further results. A
@@ -78,8 +79,8 @@ extern "C" {
 /* The most results that figures are taken over. */
 #define VCUBE_MOST_RESULTS 4096
 
-/* What a call returns, in the order in which refusals are checked; but a drive looks for 7 after 16 and 17, and a load looks for 18, 19, 1,
- * 20, 2, 3 and 4, in this order. */
+/* What a call returns, in the order in which refusals are checked; but a drive looks for 7 after 16 and 17, a load looks for 18, 19, 1, 20,
+ * 2, 3 and 4, in this order, and the size of a saved plant for 18, 19 and 1. */
 enum vcube_refusal {
     VCUBE_ACCEPTED = 0,
     VCUBE_REFUSED_SIZE = 1,                 /* the size n is not from 2 to 64 */
@@ -225,9 +226,9 @@ uint8_t vcube_save(size_t n, const uint8_t *table, size_t table_length, uint32_t
                    size_t saved_length);
 
 /* Load: reads a saved plant; its size into *n, its tally into *rounds and *tests, and its lines into the table, which has
- * VCUBE_TABLE_LENGTH(*n) bytes, all of them written (vcube_saved_size gives the size beforehand). The fields may stand in any order. Fields
- * of other tags, 0 included, are passed over: there may be any number of them, with any contents. *n, *rounds and *tests are 0 where the
- * call is refused.
+ * n * (n + 4) bytes for the saved plant's n, all of them written (vcube_saved_size gives n beforehand). The fields may stand in any order.
+ * Fields of other tags, 0 included, are passed over: there may be any number of them, with any contents. *n, *rounds and *tests are 0 where
+ * the call is refused.
  *
  * A refusal is that of the whole saved plant, wherever in it the fault stands: 18 is looked for in all fields first, then 19, and so on. 20
  * is judged by the size in the size field, which may stand behind the line fields. 3 and 4 are judged on the lines of the saved plant, 2 on

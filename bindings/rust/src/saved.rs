@@ -19,7 +19,8 @@ pub const fn saved_length(n: usize) -> usize {
 }
 
 /// Save: writes the size, the tally and then the lines, ascending, as fields
-/// into a buffer of the length [`saved_length`].
+/// into a buffer of the length [`saved_length`]. The last granted number of a
+/// bus master is not saved.
 /// Refusals: 1 to 4, 13.
 pub fn save(n: usize, table: &[u8], tally: Tally, saved: &mut [u8]) -> Result<(), Refusal> {
     let Tally { rounds, tests } = tally;

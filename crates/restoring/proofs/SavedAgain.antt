@@ -20,7 +20,7 @@ use Rattle.table.specs.Rules.{tableNumber}
 use Rattle.plant.specs.declared.Tally.{Tally}
 use Rattle.saved.specs.Bytes.{numberOf, bytesOf, concatOf}
 use Rattle.saved.specs.Fields.{Field, field, fieldBytes, infront, lengthIn, extent, fieldsUpTo, fields}
-use Rattle.saved.specs.Fields.{runsPast, orNone, fieldsOf, tagged, single, firstOf}
+use Rattle.saved.specs.Fields.{runsPast, orEmpty, fieldsOf, tagged, single, firstOf}
 use Rattle.saved.specs.Plant.{sizeTag, sizeBytes, tallyTag, lineTag, lineBytes, sizeIn, roundsIn, testsIn, sizeAndTally}
 use Rattle.saved.specs.Plant.{stationIn, lineIn, ofStation, allFit, linesRight, tableIn}
 use Rattle.saved.specs.Load.{fileSize, fileLines, fileTable, sizeNumber, restNumber, loadNumber, answerOf, loadAnswer, loadAfter}
@@ -42,7 +42,7 @@ take-bytes (suc k) (x ∷ l) small zero = small 0
 take-bytes (suc k) (x ∷ l) small (suc i) = take-bytes k l (λ j. small (suc j)) i
 
 -- the first contents with a tag, of a file of bytes, are bytes
-first-upTo : (k most : ℕ) (file : List ℕ) → AreBytes file → AreBytes (firstOf (tagged k (orNone (fieldsUpTo most file))))
+first-upTo : (k most : ℕ) (file : List ℕ) → AreBytes file → AreBytes (firstOf (tagged k (orEmpty (fieldsUpTo most file))))
 unfolding fieldsUpTo tagged
 first-upTo k zero file small = λ i. omega arith
 first-upTo k (suc most) file small =
@@ -53,7 +53,7 @@ first-upTo k (suc most) file small =
     first = field (getD file 0 0) (take (lengthIn file) (drop 3 file))
 
     Fine : Option (List Field) → Type 0
-    Fine o = AreBytes (firstOf (tagged k (orNone o)))
+    Fine o = AreBytes (firstOf (tagged k (orEmpty o)))
 
     pick : (a b : Bool) (o : Option (List Field)) → Fine o → Fine (cond a (some []) (cond b none (infront first o)))
     pick true b o rest = λ i. omega arith

@@ -1,2 +1,3 @@
-// What is claimed of saved plants besides what the calls of `saved` promise (specs/): that loading restores what was saved, that saving what was
-// loaded gives the writer's form, and that the order of the fields does not matter. There is no function here.
+// What is claimed of saved plants besides what the calls of `saved` promise (specs/): that a file has fields exactly where it is their
+// bytes; that loading restores what was saved; that saving what was loaded gives the writer's form; that the order of the fields does not matter;
+// and the length of a saved plant. There is no function here.

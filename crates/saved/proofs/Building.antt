@@ -10,7 +10,7 @@ use borrow.Author.Tests.{eq-eqb, ne-eqb, lt-ltb, le-ltb}
 use lib.ListN.{length, getD, set, take, drop, length-drop}
 use lib.Seq.{sets, take-all}
 use Rattle.table.specs.Table.{stride, lineStart}
-use Rattle.saved.specs.Fields.{Field, infront, isNone, orNone}
+use Rattle.saved.specs.Fields.{Field, infront, isNone, orEmpty}
 use Rattle.saved.specs.Plant.{lineBytes, stationIn, lineIn}
 use Rattle.saved.specs.Passes.{built, builtWith, builtIf, build}
 
@@ -53,16 +53,16 @@ module _ (n : ℕ) (f : Field) (all rest : Option (List Field)) (t seen t′ see
       go none e = e
       go (some fs) e = refl
 
-  both-ways : (fs : List Field) → rest ≡ some fs → build n (orNone all) (built true t seen) ≡ cond r (build n fs (built r t′ seen′)) (built r t′ seen′)
+  both-ways : (fs : List Field) → rest ≡ some fs → build n (orEmpty all) (built true t seen) ≡ cond r (build n fs (built r t′ seen′)) (built r t′ seen′)
   unfolding build
   both-ways fs e = rw (split, e, ← took)
 
-  some-rest : (rest : Option (List Field)) → isNone rest ≡ false → rest ≡ some (orNone rest)
+  some-rest : (rest : Option (List Field)) → isNone rest ≡ false → rest ≡ some (orEmpty rest)
   some-rest none e = cc
   some-rest (some fs) e = refl
 
-  pub build-next : r ≡ true → build n (orNone rest) (built true t′ seen′) ≡ build n (orNone all) (built true t seen)
-  build-next e = sym (both-ways (orNone rest) (some-rest rest whole-rest) ∙ rw e)
+  pub build-next : r ≡ true → build n (orEmpty rest) (built true t′ seen′) ≡ build n (orEmpty all) (built true t seen)
+  build-next e = sym (both-ways (orEmpty rest) (some-rest rest whole-rest) ∙ rw e)
 
-  pub build-stops : r ≡ false → built false t′ seen′ ≡ build n (orNone all) (built true t seen)
-  build-stops e = sym (both-ways (orNone rest) (some-rest rest whole-rest) ∙ rw e)
+  pub build-stops : r ≡ false → built false t′ seen′ ≡ build n (orEmpty all) (built true t seen)
+  build-stops e = sym (both-ways (orEmpty rest) (some-rest rest whole-rest) ∙ rw e)

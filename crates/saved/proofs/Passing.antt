@@ -1,4 +1,4 @@
--- Laws of the two passes over a file's fields, of specs/Passes.
+-- Laws of the first pass over a file's fields, of specs/Passes: what it finds of size and tally.
 -- Assumes nothing.
 use mathlib.Core.Path.{_≡_, refl, sym, ap, ap₂, subst, _∙_}
 use mathlib.Core.Bool.{true, false}
@@ -9,7 +9,7 @@ use lib.ListN.{length, take, drop}
 use lib.Dec.{eqb}
 use Rattle.lists.proofs.BoolLaws.{by-bool}
 use Rattle.saved.specs.Bytes.{numberOf}
-use Rattle.saved.specs.Fields.{Field, infront, isNone, orNone, tagged, single, firstOf}
+use Rattle.saved.specs.Fields.{Field, infront, isNone, orEmpty, tagged, single, firstOf}
 use Rattle.saved.specs.Plant.{sizeTag, tallyTag}
 use Rattle.saved.specs.Passes.{foundWith, foundIf, openingWith, scan, nothingFound}
 use Rattle.saved.specs.declared.opening.Found.{Found}
@@ -69,7 +69,7 @@ found-tells upper lower (c ∷ d ∷ cs) =
 abbrev pub ScanTells : Option (List Field) → Scan → Type 0
 ScanTells fs Cut = isNone fs ≡ true
 ScanTells fs (Whole o) =
-    (isNone fs ≡ false) × FoundTells 0 1 (tagged sizeTag (orNone fs)) (o .size) × FoundTells 4 4 (tagged tallyTag (orNone fs)) (o .tally)
+    (isNone fs ≡ false) × FoundTells 0 1 (tagged sizeTag (orEmpty fs)) (o .size) × FoundTells 4 4 (tagged tallyTag (orEmpty fs)) (o .tally)
 
 scan-tells : (fs : Option (List Field)) → ScanTells fs (scan nothingFound fs)
 unfolding scan

@@ -33,7 +33,8 @@ lengthIn file = numberOf (getD file 1 0 ∷ getD file 2 0 ∷ [])
 abbrev pub extent : List ℕ → ℕ
 extent file = 3 + lengthIn file
 
--- the fields of a file that has at most so many; none where "a field or its head runs past the end"
+-- the fields of a file that has at most so many; none where "a field or its head runs past the end". The bound is for the recursion only: from
+-- the file's length on it does not matter (`fields-more` of proofs/FieldLaws.antt)
 unfoldable pub fieldsUpTo : ℕ → List ℕ → Option (List Field)
 fieldsUpTo zero file = some []
 fieldsUpTo (suc most) file =
@@ -45,21 +46,23 @@ fieldsUpTo (suc most) file =
 unfoldable pub fields : List ℕ → Option (List Field)
 fields file = fieldsUpTo (length file) file
 
--- 18: "when a field or its head runs past the end"
+-- whether there are none
 abbrev pub isNone : Option (List Field) → Bool
 isNone none = true
 isNone (some fs) = false
 
+-- 18: "when a field or its head runs past the end"
 unfoldable pub runsPast : List ℕ → Bool
 runsPast file = isNone (fields file)
 
--- the fields of a file that is not refused by that
-abbrev pub orNone : Option (List Field) → List Field
-orNone none = []
-orNone (some fs) = fs
+-- the fields, where there are
+abbrev pub orEmpty : Option (List Field) → List Field
+orEmpty none = []
+orEmpty (some fs) = fs
 
+-- the fields of a file that is not refused by 18
 unfoldable pub fieldsOf : List ℕ → List Field
-fieldsOf file = orNone (fields file)
+fieldsOf file = orEmpty (fields file)
 
 -- the contents of the fields with a tag, in the file's order; the reader "takes any order and passes over other tags"
 unfoldable pub tagged : ℕ → List Field → List (List ℕ)

@@ -1,5 +1,5 @@
 -- What the code of the reader answers on its way: what stands at a place of a file; what the first pass finds of size and tally; what the second
--- makes of the lines. The promises of the three calls do not cite these, but for the laws that join them (proofs/).
+-- makes of the lines. The promises of the three calls do not cite these; laws in proofs/ join them with the definitions that those cite.
 -- Assumes nothing.
 use Prim.Native.Nat.{ℕ, _+_, _-_}
 use mathlib.Core.Bool.{Bool, true, false, cond, _&&_}

@@ -64,7 +64,8 @@ unfoldable pub allFit : ℕ → List (List ℕ) → Bool
 allFit n [] = true
 allFit n (c ∷ cs) = fits n c && allFit n cs
 
--- not "20 when a line field has the wrong length or a station is absent, twice or too high", of the contents with tag 3
+-- not "20 when a line field has the wrong length or a station is absent, twice or too high", of the contents with tag 3: all fit, and there is
+-- one for each station
 unfoldable pub linesRight : ℕ → List (List ℕ) → Bool
 linesRight n cs = allFit n cs && every (λ i. single (lineBytes n) (ofStation i cs)) n
 

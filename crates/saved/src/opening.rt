@@ -16,7 +16,7 @@ use table::sizes;
 // What is found of a field that is to stand in the file once.
 pub enum Found {
     Absent,
-    // The two numbers that its contents hold; the size is the second, after none.
+    // The two numbers that its contents hold. Of the size field the first has no bytes and is 0.
     Numbers(u32, u32),
     // It is there twice or of wrong length.
     Wrong,

@@ -22,6 +22,9 @@ use table::rules;
 // The bytes of the size field and the tally field.
 const OPENING: usize = 15;
 
+// The bytes of a line field besides the row: the field's head, the station and the line's head.
+const BESIDE_ROW: usize = 3 + 1 + cells::HEAD as usize;
+
 // Writes the saved plant into the buffer, which has just its length. The answer is 0 or a refusal.
 pub fn save(n: usize, table: &[u8], tally: Tally, buffer: &mut [u8]) -> u8
     ensures { λ r. ⌜ r ≡ saveNumber n (now (table .entry)) tally (length (now (buffer .entry))) ⌝ }
@@ -31,7 +34,7 @@ pub fn save(n: usize, table: &[u8], tally: Tally, buffer: &mut [u8]) -> u8
     if number != 0 {
         return number;
     }
-    if buffer.len() != OPENING + n * (n + 8) {
+    if buffer.len() != OPENING + n * (n + BESIDE_ROW) {
         return 13;
     }
     let size = n as u8;
@@ -70,7 +73,7 @@ fn write_line(n: u8, table: &[u8], i: Station, buffer: &mut [u8])
     ensures { λ _. ⌜ now (buffer .exit) ≡ sets (now (buffer .entry)) (15 + i .0 * (n + 8)) (fieldBytes (lineField n (now (table .entry)) (i .0))) ⌝ }
 {
     let stride = n as u16 + cells::HEAD;
-    let at = OPENING + i.0 as usize * (n as usize + 8);
+    let at = OPENING + i.0 as usize * (n as usize + BESIDE_ROW);
     put_head(buffer, at, LINE, stride + 1);
     buffer[at + 3] = i.0;
     let start = cells::line_start(n, i);

@@ -8,7 +8,7 @@ use native.Mathlib.Omega.{arith}
 use lib.ListN.{length, take, drop}
 use borrow.Author.Needs.{needs}
 use borrow.Author.Tests.{not-true, not-false}
-use Rattle.saved.specs.Fields.{field, fields, isNone, orNone, runsPast, fieldsOf}
+use Rattle.saved.specs.Fields.{field, fields, isNone, orEmpty, runsPast, fieldsOf}
 use Rattle.saved.specs.Passes.{built, build}
 use Rattle.saved.proofs.Reading.{told}
 use Rattle.saved.proofs.Building.{whole-rest, build-next, build-stops}
@@ -20,7 +20,7 @@ Inv-loop n file table₀ seen₀ cursor₀ table seen cursor =
     (length table ≡ length table₀)
     × (length seen ≡ length seen₀)
     × (isNone (fields (drop (cursor .at) file)) ≡ false)
-    × (build n (orNone (fields (drop (cursor .at) file))) (built true table seen) ≡ build n (orNone (fields file)) (built true table₀ seen₀))
+    × (build n (orEmpty (fields (drop (cursor .at) file))) (built true table seen) ≡ build n (orEmpty (fields file)) (built true table₀ seen₀))
 
 abbrev μ-loop : tie.MeasureT-loop
 μ-loop n file table₀ seen₀ cursor₀ table seen cursor = length file - cursor .at
@@ -86,7 +86,7 @@ unfolding fieldsOf build
 returns-3 c =
     let i = c .before .before .before .loop in
     let t = told _ _ _ _ (c .before .before .read .ensures) (c .enum-told2 .given .1) in
-    sym (ap (λ fs. build (c .before .before .before .before .before .before .before .before .args .n) (orNone fs) (built true (i .table) (i .seen))) t) ∙ i .inv .3
+    sym (ap (λ fs. build (c .before .before .before .before .before .before .before .before .args .n) (orEmpty fs) (built true (i .table) (i .seen))) t) ∙ i .inv .3
 
 pub take-fields-spec : {M : Type 1} → statement M
 take-fields-spec =
