@@ -4,13 +4,14 @@ use mathlib.Core.Path.{_≡_, refl, ap, sym, _∙_}
 use mathlib.Core.Logic.{_⊎_, inl, inr, by-cases}
 use mathlib.Core.List.{List, [], _∷_, _++_, List·Memᴰ, List·Memᴰ·head, List·Memᴰ·tail, List·Memᴰ·cases-cons, List·Memᴰ·not-nil}
 use mathlib.Core.Option.{Option, none, some}
-use Prim.Native.Nat.{ℕ, _+_, _/_, _%_, _^_, _≤_, _<_}
+use Prim.Native.Nat.{ℕ, zero, suc, _+_, _^_, _≤_, _<_}
 use native.Mathlib.Decide.{decLt}
 use native.Mathlib.Omega.{arith}
 use lib.ListN.{length, getD, take, drop, take-append-drop, length-drop}
 use lib.Seq.{length-take-le, getD-drop, drop-drop}
 use Rattle.saved.specs.Bytes.{numberOf, bytesOf}
 use Rattle.saved.specs.Fields.{Field, field, fieldBytes, infront, lengthIn, extent, fields}
+use Rattle.saved.proofs.NumberLaws.{bytes-number}
 use Rattle.saved.proofs.FieldLaws.{fields-nil, fields-cut, fields-cons, fields-first}
 use Rattle.restoring.specs.Files.{fieldsBytes, AreBytes, Short, FieldsOfBytes, BytesOfFields}
 
@@ -30,11 +31,12 @@ unfolding numberOf
 length-short file bytes = omega (arith, bytes 1, bytes 2)
 
 two-bytes : (b c : ℕ) → b < 256 → c < 256 → bytesOf 2 (numberOf (b ∷ c ∷ [])) ≡ b ∷ c ∷ []
-unfolding numberOf bytesOf
-two-bytes b c hb hc =
-    let v : ℕ = numberOf (b ∷ c ∷ []) in
-    let high : v / 256 % 256 ≡ b = omega arith in
-    let low : v % 256 ≡ c = omega arith in rw (high, low)
+two-bytes b c hb hc = bytes-number (b ∷ c ∷ []) small
+  where
+    small : (k : ℕ) → k < 2 → getD (b ∷ c ∷ []) k 0 < 256
+    small zero h = hb
+    small (suc zero) h = hc
+    small (suc (suc k)) h = absurd (omega arith)
 
 -- a file is the bytes of its first field and the rest
 first-bytes : (file : List ℕ) → AreBytes file → extent file ≤ length file → fieldBytes (first file) ++ drop (extent file) file ≡ file

@@ -3,18 +3,17 @@
 use mathlib.Core.Path.{_≡_, refl, ap, ap₂, sym, _∙_}
 use mathlib.Core.Bool.{Bool, true, false, cond, _&&_, _||_}
 use mathlib.Core.List.{List, [], _∷_, List·Permᴰ, List·Permᴰ·nil, List·Permᴰ·cons, List·Permᴰ·swap, List·Permᴰ·trans}
-use Prim.Native.Nat.{ℕ, zero, suc, _<_}
-use native.Mathlib.Omega.{arith}
+use Prim.Native.Nat.{ℕ}
 use lib.Dec.{eqb}
 use Rattle.lists.specs.Search.{every}
 use Rattle.lists.proofs.BoolLaws.{by-bool, neither, every-same}
 use Rattle.lists.proofs.SearchLaws.{both, every-at}
 use Rattle.table.specs.Sizes.{isSize}
-use Rattle.saved.specs.Bytes.{concatOf}
 use Rattle.saved.specs.Fields.{Field, fieldsOf, tagged, single, firstOf}
-use Rattle.saved.specs.Plant.{sizeTag, sizeBytes, tallyTag, tallyBytes, lineTag, lineBytes, sizeIn, roundsIn, testsIn, sizeAndTally, stationIn, lineIn, ofStation, fits, allFit, linesRight, tableIn}
+use Rattle.saved.specs.Plant.{sizeTag, sizeLength, tallyTag, tallyLength, lineTag, lineFieldLength, sizeIn, roundsIn, testsIn, sizeAndTally, stationIn, lineIn, ofStation, fits, allFit, linesRight, tableIn}
 use Rattle.saved.specs.Load.{fileLines, sizeNumber, restNumber, loadNumber, savedSize, answerOf, loadAnswer, loadAfter}
-use Rattle.restoring.specs.Restoring.{known, AnyOrder}
+use Rattle.saved.proofs.ConcatLaws.{concat-same}
+use Rattle.restoring.specs.Restoring.{isKnown, known, AnyOrder}
 
 -- an answer about a list that does not depend on the order of its elements
 record Blind {A B : Type 0} (F : List A → B) : Type 0 where
@@ -102,10 +101,6 @@ module _ (len : ℕ) (cs cs′ : List (List ℕ)) (same : once cs ≡ once cs′
   first-same : single len cs ≡ true → firstOf cs ≡ firstOf cs′
   first-same e = cc (first-once len cs e, first-once len cs′ (sym single-same ∙ e))
 
--- whether a tag is one of the three
-abbrev isKnown : ℕ → Bool
-isKnown tag = eqb tag sizeTag || eqb tag tallyTag || eqb tag lineTag
-
 -- k is one of the three: no other tag is k
 abbrev Known : ℕ → Type 0
 Known k = (tag : ℕ) → isKnown tag ≡ false → eqb tag k ≡ false
@@ -126,11 +121,6 @@ tagged-known k is-known (f ∷ fs) =
     let rest = tagged-known k is-known fs in
     by-bool (isKnown (f .tag)) (λ e. rw (e, rest)) (λ e. rw (e, is-known (f .tag) e, rest))
 
-concat-same : (f g : ℕ → List ℕ) (n : ℕ) → ((i : ℕ) → i < n → f i ≡ g i) → concatOf f n ≡ concatOf g n
-unfolding concatOf
-concat-same f g zero same = refl
-concat-same f g (suc n) same = rw (concat-same f g n (λ i h. same i (omega arith)), same n (omega arith))
-
 -- two lists of fields, whose known fields are the same in some order
 module _ (fs fs′ : List Field) (perm : List·Permᴰ (known fs) (known fs′)) where
   tagged-same : (k : ℕ) → Known k → {B : Type 0} (F : List (List ℕ) → B) → Blind F → F (tagged k fs) ≡ F (tagged k fs′)
@@ -150,20 +140,20 @@ module _ (fs fs′ : List Field) (perm : List·Permᴰ (known fs) (known fs′))
   right-same : sizeAndTally fs ≡ sizeAndTally fs′
   unfolding sizeAndTally
   right-same =
-      ap₂ _&&_ (single-same sizeBytes (tagged sizeTag fs) (tagged sizeTag fs′) size-once)
-      (single-same tallyBytes (tagged tallyTag fs) (tagged tallyTag fs′) tally-once)
+      ap₂ _&&_ (single-same sizeLength (tagged sizeTag fs) (tagged sizeTag fs′) size-once)
+      (single-same tallyLength (tagged tallyTag fs) (tagged tallyTag fs′) tally-once)
 
   module _ (right : sizeAndTally fs ≡ true) where
-    parts : (single sizeBytes (tagged sizeTag fs) ≡ true) × (single tallyBytes (tagged tallyTag fs) ≡ true)
+    parts : (single sizeLength (tagged sizeTag fs) ≡ true) × (single tallyLength (tagged tallyTag fs) ≡ true)
     unfolding sizeAndTally
-    parts = both (single sizeBytes (tagged sizeTag fs)) (single tallyBytes (tagged tallyTag fs)) right
+    parts = both (single sizeLength (tagged sizeTag fs)) (single tallyLength (tagged tallyTag fs)) right
 
     size-same : sizeIn fs ≡ sizeIn fs′
     unfolding sizeIn
-    size-same = rw (first-same sizeBytes (tagged sizeTag fs) (tagged sizeTag fs′) size-once (parts .0))
+    size-same = rw (first-same sizeLength (tagged sizeTag fs) (tagged sizeTag fs′) size-once (parts .0))
 
     tally-same : firstOf (tagged tallyTag fs) ≡ firstOf (tagged tallyTag fs′)
-    tally-same = first-same tallyBytes (tagged tallyTag fs) (tagged tallyTag fs′) tally-once (parts .1)
+    tally-same = first-same tallyLength (tagged tallyTag fs) (tagged tallyTag fs′) tally-once (parts .1)
 
   -- the lines: where they are right, the table is the same
   module _ (n : ℕ) where
@@ -175,20 +165,20 @@ module _ (fs fs′ : List Field) (perm : List·Permᴰ (known fs) (known fs′))
 
     -- whether there is one line of station i
     abbrev has : List (List ℕ) → ℕ → Bool
-    has ds i = single (lineBytes n) (ofStation i ds)
+    has ds i = single (lineFieldLength n) (ofStation i ds)
 
     lines-same : linesRight n cs ≡ linesRight n cs′
     unfolding linesRight
     lines-same =
         ap₂ _&&_ (tagged-same lineTag (all-known .2) (allFit n) (blind-fits n))
-        (every-same (has cs) (has cs′) n (λ i h. single-same (lineBytes n) (ofStation i cs) (ofStation i cs′) (station-once i)))
+        (every-same (has cs) (has cs′) n (λ i h. single-same (lineFieldLength n) (ofStation i cs) (ofStation i cs′) (station-once i)))
 
     table-same : linesRight n cs ≡ true → tableIn n cs ≡ tableIn n cs′
     unfolding linesRight tableIn
     table-same e =
         let all = both (allFit n cs) (every (has cs) n) e .1 in
         concat-same _ _ n
-        (λ i h. ap lineIn (first-same (lineBytes n) (ofStation i cs) (ofStation i cs′) (station-once i) (every-at (has cs) n i all h)))
+        (λ i h. ap lineIn (first-same (lineFieldLength n) (ofStation i cs) (ofStation i cs′) (station-once i) (every-at (has cs) n i all h)))
 
 -- the claim, an end in itself: the files are both read, or refused by 2 to 4, by 20, by 1, or by 19
 pub any-order : AnyOrder

@@ -20,7 +20,7 @@ use Rattle.table.proofs.SizeLaws.{size-bounds}
 use Rattle.plant.specs.declared.Tally.{Tally}
 use Rattle.saved.specs.Bytes.{numberOf, bytesOf, concatOf}
 use Rattle.saved.specs.Fields.{Field, fieldBytes, fields, runsPast, fieldsOf, tagged, single, firstOf}
-use Rattle.saved.specs.Plant.{sizeTag, tallyTag, lineTag, lineBytes, sizeIn, roundsIn, testsIn, sizeAndTally}
+use Rattle.saved.specs.Plant.{sizeTag, tallyTag, lineTag, lineFieldLength, sizeIn, roundsIn, testsIn, sizeAndTally}
 use Rattle.saved.specs.Plant.{ofStation, lineIn, allFit, linesRight, tableIn}
 use Rattle.saved.specs.Load.{sizeNumber, restNumber, loadNumber, savedSize, answerOf, loadAnswer, loadAfter}
 use Rattle.saved.specs.Save.{lineOf, sizeField, tallyField, lineField, savedLines, saved}
@@ -90,7 +90,7 @@ module _ (n : ℕ) (t : List ℕ) (long : length t ≡ tableLength n) where
   lines-fit zero cs h e = e
   lines-fit (suc k) cs h e =
       lines-fit k (line n t k ∷ cs) (omega arith)
-      (rw (eq-eqb (length (line n t k)) (lineBytes n) (omega (arith, line-length n t long k h)), lt-ltb k n h, e))
+      (rw (eq-eqb (length (line n t k)) (lineFieldLength n) (omega (arith, line-length n t long k h)), lt-ltb k n h, e))
 
   lines-station : (i : ℕ) → i < n → ofStation i (lines n t) ≡ line n t i ∷ []
   unfolding ofStation
@@ -100,8 +100,8 @@ module _ (n : ℕ) (t : List ℕ) (long : length t ≡ tableLength n) where
   unfolding linesRight allFit
   lines-right =
       rw (lines-fit n [] (omega arith) refl)
-      (every-all (λ i. single (lineBytes n) (ofStation i (lines n t))) n
-      (λ i h. rw (lines-station i h) (eq-eqb (length (line n t i)) (lineBytes n) (omega (arith, line-length n t long i h)))))
+      (every-all (λ i. single (lineFieldLength n) (ofStation i (lines n t))) n
+      (λ i h. rw (lines-station i h) (eq-eqb (length (line n t i)) (lineFieldLength n) (omega (arith, line-length n t long i h)))))
 
   lines-table : tableIn n (lines n t) ≡ t
   unfolding tableIn lineOf lineStart tableLength

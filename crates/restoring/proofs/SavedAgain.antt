@@ -21,7 +21,7 @@ use Rattle.plant.specs.declared.Tally.{Tally}
 use Rattle.saved.specs.Bytes.{numberOf, bytesOf, concatOf}
 use Rattle.saved.specs.Fields.{Field, field, fieldBytes, infront, lengthIn, extent, fieldsUpTo, fields}
 use Rattle.saved.specs.Fields.{runsPast, orEmpty, fieldsOf, tagged, single, firstOf}
-use Rattle.saved.specs.Plant.{sizeTag, sizeBytes, tallyTag, lineTag, lineBytes, sizeIn, roundsIn, testsIn, sizeAndTally}
+use Rattle.saved.specs.Plant.{sizeTag, sizeLength, tallyTag, lineTag, lineFieldLength, sizeIn, roundsIn, testsIn, sizeAndTally}
 use Rattle.saved.specs.Plant.{stationIn, lineIn, ofStation, allFit, linesRight, tableIn}
 use Rattle.saved.specs.Load.{fileSize, fileLines, fileTable, sizeNumber, restNumber, loadNumber, answerOf, loadAnswer, loadAfter}
 use Rattle.saved.specs.Save.{lineOf, lineField, savedLines, saved, saveNumber, saveAfter}
@@ -63,9 +63,9 @@ first-upTo k (suc most) file small =
         let c = take-bytes (lengthIn file) (drop 3 file) (drop-bytes 3 file small) in
         by-bool (eqb (first .tag) k) (λ e. rw e c) (λ e. rw e rest)
 
-first-bytes : (k : ℕ) (file : List ℕ) → AreBytes file → AreBytes (firstOf (tagged k (fieldsOf file)))
+first-are-bytes : (k : ℕ) (file : List ℕ) → AreBytes file → AreBytes (firstOf (tagged k (fieldsOf file)))
 unfolding fieldsOf fields
-first-bytes k file small = first-upTo k (length file) file small
+first-are-bytes k file small = first-upTo k (length file) file small
 
 -- one that is the only one
 single-length : (len : ℕ) (cs : List (List ℕ)) → single len cs ≡ true → length (firstOf cs) ≡ len
@@ -119,8 +119,8 @@ opened file len z =
     }
 
 -- the tally it says
-abbrev tallyOf : List ℕ → Tally
-tallyOf file = record { rounds = roundsIn (fieldsOf file); tests = testsIn (fieldsOf file) }
+abbrev fileTally : List ℕ → Tally
+fileTally file = record { rounds = roundsIn (fieldsOf file); tests = testsIn (fieldsOf file) }
 
 -- its fields are those that are written of it
 module _ (file : List ℕ) (o : Opened file) where
@@ -134,22 +134,22 @@ module _ (file : List ℕ) (o : Opened file) where
       → bytesOf 4 (roundsIn (fieldsOf file)) ++ bytesOf 4 (testsIn (fieldsOf file)) ≡ firstOf (tagged tallyTag (fieldsOf file))
   unfolding sizeAndTally roundsIn testsIn
   tally-again small =
-      let b = both (single sizeBytes (tagged sizeTag (fieldsOf file))) _ (o .singles) in
-      eight-bytes (firstOf (tagged tallyTag (fieldsOf file))) (first-bytes tallyTag file small)
+      let b = both (single sizeLength (tagged sizeTag (fieldsOf file))) _ (o .singles) in
+      eight-bytes (firstOf (tagged tallyTag (fieldsOf file))) (first-are-bytes tallyTag file small)
       (single-length 8 (tagged tallyTag (fieldsOf file)) (b .1))
 
   -- the contents of station i
   abbrev its : ℕ → List ℕ
   its i = firstOf (ofStation i (fileLines file))
 
-  only : (i : ℕ) → i < fileSize file → single (lineBytes (fileSize file)) (ofStation i (fileLines file)) ≡ true
+  only : (i : ℕ) → i < fileSize file → single (lineFieldLength (fileSize file)) (ofStation i (fileLines file)) ≡ true
   unfolding linesRight
   only i h =
       let b = both (allFit (fileSize file) (fileLines file)) _ (o .right) in
-      every-at (λ j. single (lineBytes (fileSize file)) (ofStation j (fileLines file))) (fileSize file) i (b .1) h
+      every-at (λ j. single (lineFieldLength (fileSize file)) (ofStation j (fileLines file))) (fileSize file) i (b .1) h
 
   its-length : (i : ℕ) → i < fileSize file → length (its i) ≡ 1 + stride (fileSize file)
-  its-length i h = single-length (lineBytes (fileSize file)) (ofStation i (fileLines file)) (only i h)
+  its-length i h = single-length (lineFieldLength (fileSize file)) (ofStation i (fileLines file)) (only i h)
 
   its-line : (i : ℕ) → i < fileSize file → length (lineIn (its i)) ≡ stride (fileSize file)
   its-line i h = omega (arith, length-drop 1 (its i), its-length i h)
@@ -157,7 +157,7 @@ module _ (file : List ℕ) (o : Opened file) where
   line-again : (i : ℕ) → i < fileSize file → i ∷ lineOf (fileSize file) (fileTable file) i ≡ its i
   unfolding lineOf lineStart tableIn
   line-again i h =
-      let s = single-station i (lineBytes (fileSize file)) (fileLines file) (only i h) in
+      let s = single-station i (lineFieldLength (fileSize file)) (fileLines file) (only i h) in
       rw (concat-at (λ j. lineIn (its j)) (stride (fileSize file)) (fileSize file) i its-line h)
       (station-line (its i) i (stride (fileSize file)) (its-length i h) s)
 
@@ -167,7 +167,7 @@ module _ (file : List ℕ) (o : Opened file) where
       concat-same (λ i. fieldBytes (lineField (fileSize file) (fileTable file) i)) (λ i. fieldBytes (field lineTag (its i))) (fileSize file)
       (λ i h. rw (line-again i h))
 
-  form : AreBytes file → saved (fileSize file) (fileTable file) (tallyOf file) ≡ writersForm (fieldsOf file)
+  form : AreBytes file → saved (fileSize file) (fileTable file) (fileTally file) ≡ writersForm (fieldsOf file)
   unfolding saved writersForm
   form small = rw (size-again, tally-again small, lines-again)
 
@@ -176,7 +176,7 @@ table-read : (file b : List ℕ) → loadNumber file (length b) ≡ 0 → loadAf
 unfolding loadAfter
 table-read file b z = rw z
 
-tally-read : (file : List ℕ) (len : ℕ) → loadNumber file len ≡ 0 → loadAnswer file len .tally ≡ tallyOf file
+tally-read : (file : List ℕ) (len : ℕ) → loadNumber file len ≡ 0 → loadAnswer file len .tally ≡ fileTally file
 unfolding loadAnswer answerOf
 tally-read file len z = rw z
 
@@ -186,8 +186,8 @@ saved-again file b b′ small z long =
     let o = opened file (length b) z in
     let n : ℕ = fileSize file in
     let t : List ℕ = fileTable file in
-    let l = saved-length n t (tallyOf file) (o .sound) in
-    let e : eqb (length b′) (length (saved n t (tallyOf file))) ≡ true = eq-eqb _ _ (long ∙ sym l) in
+    let l = saved-length n t (fileTally file) (o .sound) in
+    let e : eqb (length b′) (length (saved n t (fileTally file))) ≡ true = eq-eqb _ _ (long ∙ sym l) in
     let f = table-read file b z in
     let r = tally-read file (length b) z in
     (rw (f, r, o .sound, e), rw (f, r, o .sound, e) (form file o small))

@@ -2,7 +2,7 @@
 -- passes over other tags."
 -- Assumes nothing.
 use mathlib.Core.Path.{_≡_}
-use mathlib.Core.Bool.{false, cond, _||_}
+use mathlib.Core.Bool.{Bool, false, cond, _||_}
 use mathlib.Core.List.{List, [], _∷_, _++_, List·Permᴰ}
 use Prim.Native.Nat.{ℕ, _+_, _*_, _^_, _<_}
 use lib.ListN.{length}
@@ -49,13 +49,17 @@ SavedAgain =
     → (saveNumber (fileSize file) (loadAfter file b) (loadAnswer file (length b) .tally) (length b′) ≡ 0)
     × (saveAfter (fileSize file) (loadAfter file b) (loadAnswer file (length b) .tally) b′ ≡ writersForm (fieldsOf file))
 
--- the fields with one of the three tags
+-- one of the three tags
+abbrev pub isKnown : ℕ → Bool
+isKnown k = eqb k sizeTag || eqb k tallyTag || eqb k lineTag
+
+-- the fields with one of them
 unfoldable pub known : List Field → List Field
 known [] = []
-known (f ∷ fs) = cond (eqb (f .tag) sizeTag || eqb (f .tag) tallyTag || eqb (f .tag) lineTag) (f ∷ known fs) (known fs)
+known (f ∷ fs) = cond (isKnown (f .tag)) (f ∷ known fs) (known fs)
 
--- "takes any order and passes over other tags": two files whose fields with the three tags are the same in some order, whatever stands between
--- them, are read alike, refused ones too
+-- "takes any order and passes over other tags": two files in which no field runs past the end, and whose fields with the three tags are the same in
+-- some order, whatever other fields stand between them, are read alike, refused ones too
 abbrev pub AnyOrder : Type 0
 AnyOrder =
     (file file′ : List ℕ) → runsPast file ≡ false → runsPast file′ ≡ false → List·Permᴰ (known (fieldsOf file)) (known (fieldsOf file′)) → (t : List ℕ)

@@ -11,28 +11,28 @@ use lib.ListN.{length, getD, set, take, drop, length-drop}
 use lib.Seq.{sets, take-all}
 use Rattle.table.specs.Table.{stride, lineStart}
 use Rattle.saved.specs.Fields.{Field, infront, isNone, orEmpty}
-use Rattle.saved.specs.Plant.{lineBytes, stationIn, lineIn}
+use Rattle.saved.specs.Plant.{lineFieldLength, stationIn, lineIn}
 use Rattle.saved.specs.Passes.{built, builtWith, builtIf, build}
 
 -- one line more: not taken, by its length, its station, or since the station was seen
 module _ (n : ℕ) (c t seen : List ℕ) where
   pub wrong-length : (length c ≡ stride n + 1 → ⊥) → built false t seen ≡ builtWith n c t seen
   unfolding builtWith
-  wrong-length h = rw (ne-eqb (length c) (lineBytes n) (λ e. h (e ∙ omega arith)))
+  wrong-length h = rw (ne-eqb (length c) (lineFieldLength n) (λ e. h (e ∙ omega arith)))
 
   module _ (long : length c ≡ stride n + 1) where
-    right : length c ≡ lineBytes n
+    right : length c ≡ lineFieldLength n
     right = long ∙ omega arith
 
     pub too-high : n ≤ stationIn c → built false t seen ≡ builtWith n c t seen
     unfolding builtWith
-    too-high h = rw (eq-eqb (length c) (lineBytes n) right, le-ltb (stationIn c) n h)
+    too-high h = rw (eq-eqb (length c) (lineFieldLength n) right, le-ltb (stationIn c) n h)
 
     module _ (low : stationIn c < n) where
       pub seen-before : (getD seen (stationIn c) 0 ≡ 0 → ⊥) → built false t seen ≡ builtWith n c t seen
       unfolding builtWith
       seen-before h =
-          rw (eq-eqb (length c) (lineBytes n) right, lt-ltb (stationIn c) n low, ne-eqb (getD seen (stationIn c) 0) 0 h)
+          rw (eq-eqb (length c) (lineFieldLength n) right, lt-ltb (stationIn c) n low, ne-eqb (getD seen (stationIn c) 0) 0 h)
 
       -- taken: the line as the code takes it from the contents
       pub line-taken : (t′ : List ℕ) (start : ℕ) → getD seen (stationIn c) 0 ≡ 0 → start ≡ lineStart n (stationIn c)
@@ -40,7 +40,7 @@ module _ (n : ℕ) (c t seen : List ℕ) where
       unfolding builtWith
       line-taken t′ start h s e =
           let d : take (length c - 1) (lineIn c) ≡ lineIn c = take-all (length c - 1) (lineIn c) (omega (arith, length-drop 1 c)) in
-          rw (eq-eqb (length c) (lineBytes n) right, lt-ltb (stationIn c) n low, eq-eqb (getD seen (stationIn c) 0) 0 h)
+          rw (eq-eqb (length c) (lineFieldLength n) right, lt-ltb (stationIn c) n low, eq-eqb (getD seen (stationIn c) 0) 0 h)
           (rw (e, d, s))
 
 -- the second pass, one field more

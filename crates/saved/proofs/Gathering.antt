@@ -1,13 +1,13 @@
 -- Laws of the second pass over all fields: it goes well exactly where the lines are right, and builds the file's table.
 -- Assumes nothing.
-use mathlib.Core.Path.{_≡_, refl, sym, ap, ap₂, _∙_}
+use mathlib.Core.Path.{_≡_, refl, sym, ap, _∙_}
 use mathlib.Core.Logic.{by-cases}
-use mathlib.Core.Bool.{Bool, true, false, cond, _&&_, and-true, and-false, and-assoc}
+use mathlib.Core.Bool.{Bool, true, false, cond, _&&_, and-true, and-false}
 use mathlib.Core.List.{List, [], _∷_}
 use Prim.Native.Nat.{ℕ, _≤_, _<_}
 use native.Mathlib.Decide.{ℕ-discrete}
 use native.Mathlib.Omega.{arith}
-use borrow.Author.Tests.{eqb-true, eqb-false, eq-eqb, ne-eqb, ltb-true}
+use borrow.Author.Tests.{eqb-true, eq-eqb, ne-eqb, ltb-true}
 use lib.ListN.{length, getD, set, take, replicate, getD-replicate, length-set, length-drop}
 use lib.Seq.{sets, length-take-le, getD-take, getD-set-same, getD-set-other}
 use lib.Dec.{eqb}
@@ -16,23 +16,22 @@ use Rattle.lists.specs.Bytes.{sameByte, sameBytes}
 use Rattle.lists.proofs.BoolLaws.{by-bool, every-same}
 use Rattle.lists.proofs.SearchLaws.{both, every-at, every-not}
 use Rattle.table.specs.Table.{stride, tableLength, lineStart}
-use Rattle.saved.specs.Bytes.{concatOf}
 use Rattle.saved.specs.Fields.{Field, tagged, single, firstOf}
-use Rattle.saved.specs.Plant.{lineTag, lineBytes, stationIn, lineIn, ofStation, fits, allFit, linesRight, tableIn}
+use Rattle.saved.specs.Plant.{lineTag, lineFieldLength, stationIn, lineIn, ofStation, fits, allFit, linesRight, tableIn}
 use Rattle.saved.specs.Save.{lineOf}
 use Rattle.saved.specs.Passes.{Built, built, isNew, builtWith, builtIf, build}
 use Rattle.saved.proofs.ConcatLaws.{concat-same}
 use Rattle.saved.proofs.TableLines.{written-long, line-same, line-other, own-lines}
 
 -- there is none
-abbrev none : List (List ℕ) → Bool
-none [] = true
-none (c ∷ cs) = false
+abbrev isEmpty : List (List ℕ) → Bool
+isEmpty [] = true
+isEmpty (c ∷ cs) = false
 
 -- what the rest of the lines must be, by whether station i was seen: one of it, or none
 abbrev wanted : ℕ → List ℕ → List (List ℕ) → ℕ → Bool
 wanted n seen cs i =
-    cond (eqb (getD seen i 0) 0) (single (lineBytes n) (ofStation i cs)) (none (ofStation i cs) && eqb (getD seen i 0) 1)
+    cond (eqb (getD seen i 0) 0) (single (lineFieldLength n) (ofStation i cs)) (isEmpty (ofStation i cs) && eqb (getD seen i 0) 1)
 
 -- all went well, and every station was seen
 abbrev allSeen : ℕ → Built → Bool
@@ -52,16 +51,16 @@ gather-fields n (f ∷ fs) t seen =
     (λ e. rw e (gather-fields n fs t seen))
 
 -- one more of a station that was not seen
-single-more : (len : ℕ) (c : List ℕ) (cs : List (List ℕ)) → length c ≡ len → single len (c ∷ cs) ≡ none cs
+single-more : (len : ℕ) (c : List ℕ) (cs : List (List ℕ)) → length c ≡ len → single len (c ∷ cs) ≡ isEmpty cs
 single-more len c [] e = eq-eqb (length c) len e
 single-more len c (d ∷ cs) e = refl
 
 -- what a line that is new says
 new-facts : (n : ℕ) (c seen : List ℕ) → isNew n c seen ≡ true
-    → (fits n c ≡ true) × (length c ≡ lineBytes n) × (stationIn c < n) × (getD seen (stationIn c) 0 ≡ 0)
+    → (fits n c ≡ true) × (length c ≡ lineFieldLength n) × (stationIn c < n) × (getD seen (stationIn c) 0 ≡ 0)
 new-facts n c seen e =
     let p = both (fits n c) _ e in
-    let q = both (eqb (length c) (lineBytes n)) _ (p .0) in
+    let q = both (eqb (length c) (lineFieldLength n)) _ (p .0) in
     (p .0, eqb-true _ _ (q .0), ltb-true _ _ (q .1), eqb-true _ _ (p .1))
 
 -- the lines that are left to be wanted, after a line that is new
@@ -70,14 +69,14 @@ wanted-next : (n : ℕ) (c : List ℕ) (cs : List (List ℕ)) (seen : List ℕ) 
 unfolding ofStation
 wanted-next n c cs seen e h i g = by-cases (ℕ-discrete (stationIn c) i) here there
   where
-    f : (fits n c ≡ true) × (length c ≡ lineBytes n) × (stationIn c < n) × (getD seen (stationIn c) 0 ≡ 0)
+    f : (fits n c ≡ true) × (length c ≡ lineFieldLength n) × (stationIn c < n) × (getD seen (stationIn c) 0 ≡ 0)
     f = new-facts n c seen e
 
     here : stationIn c ≡ i → wanted n (set seen (stationIn c) 1) cs i ≡ wanted n seen (c ∷ cs) i
     here q =
         let s : getD (set seen (stationIn c) 1) i 0 ≡ 1 = rw (← q) (getD-set-same seen (stationIn c) 1 0 (omega (arith, f .2))) in
         let z : getD seen i 0 ≡ 0 = rw (← q) (f .3) in
-        rw (s, z, eq-eqb (stationIn c) i q, and-true, single-more (lineBytes n) c (ofStation i cs) (f .1))
+        rw (s, z, eq-eqb (stationIn c) i q, and-true, single-more (lineFieldLength n) c (ofStation i cs) (f .1))
 
     there : (stationIn c ≡ i → ⊥) → wanted n (set seen (stationIn c) 1) cs i ≡ wanted n seen (c ∷ cs) i
     there d = rw (getD-set-other seen (stationIn c) i 1 0 (λ q. d (sym q)), ne-eqb (stationIn c) i d)
@@ -91,7 +90,7 @@ wanted-not n c cs seen e = by-bool (fits n c) fitting (λ f. rw f)
     fitting : fits n c ≡ true → (allFit n (c ∷ cs) && every (wanted n seen (c ∷ cs)) n) ≡ false
     fitting f =
         let z : eqb (getD seen (stationIn c) 0) 0 ≡ false = rw f at e in
-        let l = ltb-true (stationIn c) n (both (eqb (length c) (lineBytes n)) _ f .1) in
+        let l = ltb-true (stationIn c) n (both (eqb (length c) (lineFieldLength n)) _ f .1) in
         rw (every-not (wanted n seen (c ∷ cs)) n (stationIn c) l (rw (z, eq-eqb (stationIn c) (stationIn c) refl)), and-false)
 
 module _ (n : ℕ) where
@@ -110,7 +109,7 @@ module _ (n : ℕ) where
 
   -- where it goes well, a station that was seen is not there again
   seen-once : (cs : List (List ℕ)) (t seen : List ℕ) (i : ℕ) → gather n cs (built true t seen) .well ≡ true → (getD seen i 0 ≡ 0 → ⊥)
-      → none (ofStation i cs) ≡ true
+      → isEmpty (ofStation i cs) ≡ true
   unfolding gather ofStation builtWith
   seen-once [] t seen i w d = refl
   seen-once (c ∷ cs) t seen i w d =
@@ -124,7 +123,7 @@ module _ (n : ℕ) where
   table-has : (cs : List (List ℕ)) (t seen : List ℕ) → n ≤ length seen → length t ≡ tableLength n → gather n cs (built true t seen) .well ≡ true
       → (length (gather n cs (built true t seen) .table) ≡ tableLength n)
       × ((i : ℕ) → i < n
-      → lineOf n (gather n cs (built true t seen) .table) i ≡ cond (none (ofStation i cs)) (lineOf n t i) (lineIn (firstOf (ofStation i cs))))
+      → lineOf n (gather n cs (built true t seen) .table) i ≡ cond (isEmpty (ofStation i cs)) (lineOf n t i) (lineIn (firstOf (ofStation i cs))))
   unfolding gather ofStation builtWith
   table-has [] t seen h long w = (long, λ i g. refl)
   table-has (c ∷ cs) t seen h long w =
@@ -144,33 +143,33 @@ module _ (n : ℕ) where
 
       more : isNew n c seen ≡ true
           → (length (left .table) ≡ tableLength n)
-          × ((i : ℕ) → i < n → lineOf n (left .table) i ≡ cond (none (ofStation i cs)) (lineOf n taken i) (lineIn (firstOf (ofStation i cs))))
+          × ((i : ℕ) → i < n → lineOf n (left .table) i ≡ cond (isEmpty (ofStation i cs)) (lineOf n taken i) (lineIn (firstOf (ofStation i cs))))
           → (length (left .table) ≡ tableLength n)
           × ((i : ℕ) → i < n
-          → lineOf n (left .table) i ≡ cond (none (ofStation i (c ∷ cs))) (lineOf n t i) (lineIn (firstOf (ofStation i (c ∷ cs)))))
+          → lineOf n (left .table) i ≡ cond (isEmpty (ofStation i (c ∷ cs))) (lineOf n t i) (lineIn (firstOf (ofStation i (c ∷ cs)))))
       more e r = (r .0, λ i g. r .1 i g ∙ by-cases (ℕ-discrete (stationIn c) i) (here i) (there i g))
         where
-          f : (fits n c ≡ true) × (length c ≡ lineBytes n) × (stationIn c < n) × (getD seen (stationIn c) 0 ≡ 0)
+          f : (fits n c ≡ true) × (length c ≡ lineFieldLength n) × (stationIn c < n) × (getD seen (stationIn c) 0 ≡ 0)
           f = new-facts n c seen e
 
           here : (i : ℕ) → stationIn c ≡ i
-              → cond (none (ofStation i cs)) (lineOf n taken i) (lineIn (firstOf (ofStation i cs)))
-              ≡ cond (none (ofStation i (c ∷ cs))) (lineOf n t i) (lineIn (firstOf (ofStation i (c ∷ cs))))
+              → cond (isEmpty (ofStation i cs)) (lineOf n taken i) (lineIn (firstOf (ofStation i cs)))
+              ≡ cond (isEmpty (ofStation i (c ∷ cs))) (lineOf n t i) (lineIn (firstOf (ofStation i (c ∷ cs))))
           here i q =
               let s : getD (set seen (stationIn c) 1) i 0 ≡ 1 = rw (← q) (getD-set-same seen (stationIn c) 1 0 (omega (arith, f .2))) in
               let o = seen-once cs taken (set seen (stationIn c) 1) i (rw e at w) (λ z. omega arith) in
               rw (o, eq-eqb (stationIn c) i q, ← q) (line-same n t (lineIn c) (stationIn c) long (f .2) (line-long e))
 
           there : (i : ℕ) → i < n → (stationIn c ≡ i → ⊥)
-              → cond (none (ofStation i cs)) (lineOf n taken i) (lineIn (firstOf (ofStation i cs)))
-              ≡ cond (none (ofStation i (c ∷ cs))) (lineOf n t i) (lineIn (firstOf (ofStation i (c ∷ cs))))
+              → cond (isEmpty (ofStation i cs)) (lineOf n taken i) (lineIn (firstOf (ofStation i cs)))
+              ≡ cond (isEmpty (ofStation i (c ∷ cs))) (lineOf n t i) (lineIn (firstOf (ofStation i (c ∷ cs))))
           there i g d =
               rw (ne-eqb (stationIn c) i d, line-other n t (lineIn c) (stationIn c) long (f .2) (line-long e) i g (λ q. d (sym q)))
 
--- one contents of that length: there is one, and it is not none
-not-none : (len : ℕ) (cs : List (List ℕ)) → single len cs ≡ true → none cs ≡ false
-not-none len [] e = sym e
-not-none len (c ∷ cs) e = refl
+-- one contents of that length: there is one, and it is not empty
+not-empty : (len : ℕ) (cs : List (List ℕ)) → single len cs ≡ true → isEmpty cs ≡ false
+not-empty len [] e = sym e
+not-empty len (c ∷ cs) e = refl
 
 -- from a list in which no station was seen
 module _ (n : ℕ) (fs : List Field) (t seen : List ℕ) (h : n ≤ length seen) (fresh : (i : ℕ) → i < n → getD seen i 0 ≡ 0) where
@@ -193,7 +192,7 @@ module _ (n : ℕ) (fs : List Field) (t seen : List ℕ) (h : n ≤ length seen)
       let g = table-has n cs t seen h long w in
       ap (λ b. b .table) (gather-fields n fs t seen)
       ∙ (sym (own-lines n (gather n cs (built true t seen) .table) (g .0))
-      ∙ concat-same _ _ n (λ i l. g .1 i l ∙ rw (not-none (lineBytes n) (ofStation i cs) (every-at _ n i s l))))
+      ∙ concat-same _ _ n (λ i l. g .1 i l ∙ rw (not-empty (lineFieldLength n) (ofStation i cs) (every-at _ n i s l))))
 
   -- by what the code has of it: r, the table t′ and the list seen′, and m, whether all are marked there
   module _ (r : Bool) (t′ seen′ : List ℕ) (took : built r t′ seen′ ≡ ended) where

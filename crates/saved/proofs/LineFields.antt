@@ -54,5 +54,5 @@ pub lines-next : (b r s t : List ℕ) (n k : ℕ) → length t ≡ tableLength n
 unfolding savedLines concatOf
 lines-next b r s t n k long h e f =
     let l : length (savedLines n t k) ≡ k * (n + 8) =
-    concat-length (λ i. fieldBytes (lineField n t i)) (n + 8) k (λ i g. field-of n t long i (omega arith)) in
+    concat-length _ (n + 8) k (λ i g. field-of n t long _ (omega arith)) in
     f ∙ rw (e, add-one, ← l) (sets-then b (savedLines n t k) (fieldBytes (lineField n t k)) 15)

@@ -19,7 +19,6 @@ use Rattle.saved.specs.Fields.{Field, runsPast, fieldsOf}
 use Rattle.saved.specs.Plant.{sizeIn, sizeAndTally, linesRight, tableIn}
 use Rattle.saved.specs.Load.{fileSize, fileLines, fileTable, sizeNumber, restNumber, loadNumber, savedSize, refusedBy, answerOf, loadAnswer, loadAfter}
 use Rattle.saved.specs.declared.Loaded.{Loaded}
-use Rattle.saved.specs.declared.SavedSize.{SavedSize}
 use Rattle.saved.proofs.Numbers.{answer-refused}
 
 -- the number and the size of an answer

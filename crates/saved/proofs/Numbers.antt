@@ -8,9 +8,8 @@ use Rattle.lists.specs.Refusal.{refuse}
 use Rattle.lists.proofs.RefusalLaws.{unless-refused, unless-accepted}
 use Rattle.table.specs.Sizes.{isSize}
 use Rattle.saved.specs.Fields.{Field, runsPast, fieldsOf, tagged, single}
-use Rattle.saved.specs.Plant.{sizeTag, sizeBytes, tallyTag, tallyBytes, sizeIn, roundsIn, testsIn, sizeAndTally}
+use Rattle.saved.specs.Plant.{sizeTag, sizeLength, tallyTag, tallyLength, sizeIn, roundsIn, testsIn, sizeAndTally}
 use Rattle.saved.specs.Load.{fileSize, sizeNumber, refusedBy, answerOf}
-use Rattle.saved.specs.declared.Loaded.{Loaded}
 
 -- a refused answer, by its number
 pub answer-refused : (number x : ℕ) (fs : List Field) → number ≡ x → (x ≡ 0 → ⊥) → refusedBy x ≡ answerOf number fs
@@ -29,16 +28,16 @@ module _ (file : List ℕ) where
   cut-short e = rw e
 
   module _ (whole : runsPast file ≡ false) where
-    pub no-size : single sizeBytes (tagged sizeTag (fieldsOf file)) ≡ false → sizeNumber file ≡ 19
+    pub no-size : single sizeLength (tagged sizeTag (fieldsOf file)) ≡ false → sizeNumber file ≡ 19
     unfolding sizeNumber sizeAndTally
     no-size e = rw (whole, e)
 
-    pub no-tally : single tallyBytes (tagged tallyTag (fieldsOf file)) ≡ false → sizeNumber file ≡ 19
+    pub no-tally : single tallyLength (tagged tallyTag (fieldsOf file)) ≡ false → sizeNumber file ≡ 19
     unfolding sizeNumber sizeAndTally
     no-tally e = rw (whole, e, and-false)
 
     -- both are there, and v is the size
-    pub by-size : (v : ℕ) (b : Bool) → single sizeBytes (tagged sizeTag (fieldsOf file)) ≡ true → single tallyBytes (tagged tallyTag (fieldsOf file)) ≡ true
+    pub by-size : (v : ℕ) (b : Bool) → single sizeLength (tagged sizeTag (fieldsOf file)) ≡ true → single tallyLength (tagged tallyTag (fieldsOf file)) ≡ true
         → v ≡ fileSize file → b ≡ isSize v → sizeNumber file ≡ refuse 1 (not b)
     unfolding sizeNumber sizeAndTally
     by-size v b size tally e f = rw (whole, size, tally, f, e)

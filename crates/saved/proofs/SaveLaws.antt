@@ -35,7 +35,7 @@ module _ (n : ℕ) (t : List ℕ) (long : length t ≡ tableLength n) where
 
   pub lines-length : length (savedLines n t n) ≡ n * (n + 8)
   unfolding savedLines
-  lines-length = concat-length (λ i. fieldBytes (lineField n t i)) (n + 8) n field-of
+  lines-length = concat-length _ (n + 8) n (λ i h. field-of _ (omega arith))
 
   pub length-saved : (tally : Tally) → length (saved n t tally) ≡ 15 + n * (n + 8)
   unfolding saved

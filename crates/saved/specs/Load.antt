@@ -28,8 +28,8 @@ fileTable file = tableIn (fileSize file) (fileLines file)
 unfoldable pub sizeNumber : List ℕ → ℕ
 sizeNumber file = refuse 18 (runsPast file) else refuse 19 (not (sizeAndTally (fieldsOf file))) else refuse 1 (not (isSize (fileSize file)))
 
--- of a file of that size with those contents of tag 3, for a table buffer of length len: 20, 2, 3, 4. Size and length of the file's own table
--- are right, so that of its refusals 3 and 4 are left
+-- of a file of that size with those contents of tag 3, for a table buffer of length len: 20, 2, 3, 4. The file's own table has that size and the
+-- right length, so that of tableNumber's refusals only 3 and 4 are left
 unfoldable pub restNumber : ℕ → List (List ℕ) → ℕ → ℕ
 restNumber n cs len =
     refuse 20 (not (linesRight n cs)) else refuse 2 (not (eqb len (tableLength n))) else tableNumber n (tableIn n cs)

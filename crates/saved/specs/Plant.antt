@@ -14,8 +14,8 @@ use Rattle.saved.specs.Fields.{Field, tagged, single, firstOf}
 abbrev pub sizeTag : ℕ
 sizeTag = 1
 
-abbrev pub sizeBytes : ℕ
-sizeBytes = 1
+abbrev pub sizeLength : ℕ
+sizeLength = 1
 
 unfoldable pub sizeIn : List Field → ℕ
 sizeIn fs = numberOf (firstOf (tagged sizeTag fs))
@@ -24,8 +24,8 @@ sizeIn fs = numberOf (firstOf (tagged sizeTag fs))
 abbrev pub tallyTag : ℕ
 tallyTag = 2
 
-abbrev pub tallyBytes : ℕ
-tallyBytes = 8
+abbrev pub tallyLength : ℕ
+tallyLength = 8
 
 unfoldable pub roundsIn : List Field → ℕ
 roundsIn fs = numberOf (take 4 (firstOf (tagged tallyTag fs)))
@@ -35,14 +35,14 @@ testsIn fs = numberOf (drop 4 (firstOf (tagged tallyTag fs)))
 
 -- not "19 when the size or tally field is absent, twice or of wrong length"
 unfoldable pub sizeAndTally : List Field → Bool
-sizeAndTally fs = single sizeBytes (tagged sizeTag fs) && single tallyBytes (tagged tallyTag fs)
+sizeAndTally fs = single sizeLength (tagged sizeTag fs) && single tallyLength (tagged tallyTag fs)
 
 -- "Tag 3: station number and its line."
 abbrev pub lineTag : ℕ
 lineTag = 3
 
-abbrev pub lineBytes : ℕ → ℕ
-lineBytes n = 1 + stride n
+abbrev pub lineFieldLength : ℕ → ℕ
+lineFieldLength n = 1 + stride n
 
 -- contents with tag 3: the station, and its line
 abbrev pub stationIn : List ℕ → ℕ
@@ -58,7 +58,7 @@ ofStation i (c ∷ cs) = cond (eqb (stationIn c) i) (c ∷ ofStation i cs) (ofSt
 
 -- not "a line field has the wrong length", and no station is "too high"
 abbrev pub fits : ℕ → List ℕ → Bool
-fits n c = eqb (length c) (lineBytes n) && ltb (stationIn c) n
+fits n c = eqb (length c) (lineFieldLength n) && ltb (stationIn c) n
 
 unfoldable pub allFit : ℕ → List (List ℕ) → Bool
 allFit n [] = true
@@ -67,7 +67,7 @@ allFit n (c ∷ cs) = fits n c && allFit n cs
 -- not "20 when a line field has the wrong length or a station is absent, twice or too high", of the contents with tag 3: all fit, and there is
 -- one for each station
 unfoldable pub linesRight : ℕ → List (List ℕ) → Bool
-linesRight n cs = allFit n cs && every (λ i. single (lineBytes n) (ofStation i cs)) n
+linesRight n cs = allFit n cs && every (λ i. single (lineFieldLength n) (ofStation i cs)) n
 
 -- the table: each station's line, ascending
 unfoldable pub tableIn : ℕ → List (List ℕ) → List ℕ

@@ -82,7 +82,7 @@ fn take_fields(n: u8, file: &[u8], table: &mut [u8], seen: &mut [u8]) -> bool
     }
 }
 
-// Builds the file's table, where every line has the right length and there is one for each station; else false.
+// Builds the file's table, where every line has the right length and there is just one for each station and none for another; else false.
 pub(crate) fn build_table(n: u8, file: &[u8], table: &mut [u8]) -> bool
     requires { ⌜ (isSize n ≡ true) × (length (now table) ≡ tableLength n) × (runsPast (now file) ≡ false) ⌝ }
     ensures { λ r. ⌜ r ≡ linesRight n (fileLines (now (file .entry))) ⌝ }

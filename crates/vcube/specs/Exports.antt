@@ -1,6 +1,7 @@
 -- The calls of document 01 and of requests C-12, C-15 and C-17 as C has them (include/vcube.h), where they differ from those of `station`,
--- `plant`, `granter`, `saved` and `figures`, for all inputs: the outcome of a run or a drive is given by its number and what it
--- leaves in the variables and buffers lent to it, and figures and totals are the members of a struct in their order.
+-- `plant`, `granter`, `saved` and `figures`, for all inputs: the outcome of a run, a drive or a load, and the size of a saved plant, are given by
+-- the number and what the call leaves in the variables and buffers lent to it, a tally is handed in by its parts, and figures and totals are the
+-- members of a struct in their order.
 -- A station, level or last number may be any; the definitions of `station` and `granter` refuse it as they refuse any that is too high.
 -- Assumes nothing.
 use Prim.Native.Nat.{ℕ}

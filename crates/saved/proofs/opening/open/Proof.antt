@@ -1,8 +1,8 @@
 -- `opening::open` meets its contract: what the first pass finds settles 18, 19 and 1, and size and tally.
 -- Assumes nothing.
-use mathlib.Core.Path.{_≡_, refl, sym, ap, subst, _∙_}
+use mathlib.Core.Path.{_≡_, sym, subst, _∙_}
 use mathlib.Core.Logic.{_⊎_, inl, inr}
-use mathlib.Core.Bool.{true, false, and-false}
+use mathlib.Core.Bool.{true, false}
 use mathlib.Core.List.{List}
 use Prim.Native.Nat.{ℕ, _+_}
 use native.Mathlib.Omega.{arith}
@@ -10,7 +10,7 @@ use denote.Enum.Declared
 use borrow.Author.Needs.{needs}
 use borrow.Author.Tests.{not-true, not-false}
 use Rattle.table.proofs.SizeLaws.{size-bounds}
-use Rattle.saved.specs.Fields.{fields, runsPast, fieldsOf, tagged, single}
+use Rattle.saved.specs.Fields.{runsPast, fieldsOf, tagged, single}
 use Rattle.saved.specs.Plant.{sizeTag, tallyTag, sizeIn, roundsIn, testsIn}
 use Rattle.saved.specs.declared.opening.Found.{Found}
 use Rattle.saved.specs.declared.opening.Found.the-variants.{Absent, Numbers, Wrong}
