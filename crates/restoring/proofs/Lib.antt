@@ -4,3 +4,4 @@ pub mod Length
 pub mod Restored
 pub mod SavedAgain
 pub mod Order
+pub mod Examples
