@@ -367,3 +367,23 @@ fn loads_are_refused_by_18_19_1_20_2_3_and_4_in_this_order() {
     fields[0] = LINE_0;
     gives_the_plant(&fields.concat());
 }
+
+/// The sample: eight stations, of which 4 crashed and all others know it, at the
+/// start of a round.
+#[test]
+fn sample_of_eight_stations() {
+    let sample = include_bytes!("../../../../samples/eight-boards-4-out.saved");
+    let mut lines = [[0, 1, 0, 0, 0, 0, 0, 0, 1, 0, 0, 0]; 8];
+    lines[4] = [1, 1, 0, 0, 0, 0, 0, 0, 0, 0, 0, 0];
+    let tally = Tally {
+        rounds: 1,
+        tests: 23,
+    };
+    assert_eq!(saved_size(sample), Ok(8));
+    let (answer, table) = loaded(sample, table_length(8));
+    assert_eq!(answer, Loaded { n: 8, tally });
+    assert_eq!(table, lines.concat());
+    let mut again = vec![9; saved_length(8)];
+    assert_eq!(save(8, &table, tally, &mut again), Ok(()));
+    assert_eq!(again, sample);
+}
