@@ -1,4 +1,5 @@
--- Examples of C-17, worked out by hand from its sentences: the saved form of two fresh boards (docs/PANEL.md), and the reader's number for some files.
+-- Examples of C-17, worked out by hand from its sentences: the saved form of two fresh boards (docs/PANEL.md), and the reader's number for
+-- some files.
 -- Assumes nothing.
 use Prim.Native.Nat.{ℕ}
 use mathlib.Core.Path.{_≡_}

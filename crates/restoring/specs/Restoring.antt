@@ -62,7 +62,8 @@ known (f ∷ fs) = cond (isKnown (f .tag)) (f ∷ known fs) (known fs)
 -- some order, whatever other fields stand between them, are read alike, refused ones too
 abbrev pub AnyOrder : Type 0
 AnyOrder =
-    (file file′ : List ℕ) → runsPast file ≡ false → runsPast file′ ≡ false → List·Permᴰ (known (fieldsOf file)) (known (fieldsOf file′)) → (t : List ℕ)
+    (file file′ : List ℕ) → runsPast file ≡ false → runsPast file′ ≡ false
+    → List·Permᴰ (known (fieldsOf file)) (known (fieldsOf file′)) → (t : List ℕ)
     → (savedSize file ≡ savedSize file′)
     × (loadAnswer file (length t) ≡ loadAnswer file′ (length t))
     × (loadAfter file t ≡ loadAfter file′ t)

@@ -44,8 +44,8 @@ module _ (n : ℕ) (c t seen : List ℕ) where
           (rw (e, d, s))
 
 -- the second pass, one field more
-module _ (n : ℕ) (f : Field) (all rest : Option (List Field)) (t seen t′ seen′ : List ℕ) (r : Bool) (split : all ≡ infront f rest) (whole : isNone all ≡ false)
-    (took : built r t′ seen′ ≡ builtIf n f t seen) where
+module _ (n : ℕ) (f : Field) (all rest : Option (List Field)) (t seen t′ seen′ : List ℕ) (r : Bool)
+    (split : all ≡ infront f rest) (whole : isNone all ≡ false) (took : built r t′ seen′ ≡ builtIf n f t seen) where
   pub whole-rest : isNone rest ≡ false
   whole-rest = go rest (ap isNone (sym split) ∙ whole)
     where
@@ -53,7 +53,8 @@ module _ (n : ℕ) (f : Field) (all rest : Option (List Field)) (t seen t′ see
       go none e = e
       go (some fs) e = refl
 
-  both-ways : (fs : List Field) → rest ≡ some fs → build n (orEmpty all) (built true t seen) ≡ cond r (build n fs (built r t′ seen′)) (built r t′ seen′)
+  both-ways : (fs : List Field) → rest ≡ some fs
+      → build n (orEmpty all) (built true t seen) ≡ cond r (build n fs (built r t′ seen′)) (built r t′ seen′)
   unfolding build
   both-ways fs e = rw (split, e, ← took)
 

@@ -40,7 +40,8 @@ allSeen n b = b .well && every (λ i. eqb (getD (b .seen) i 0) 1) n
 -- the second pass over contents with tag 3
 gather : ℕ → List (List ℕ) → Built → Built
 gather n [] b = b
-gather n (c ∷ cs) b = cond (builtWith n c (b .table) (b .seen) .well) (gather n cs (builtWith n c (b .table) (b .seen))) (builtWith n c (b .table) (b .seen))
+gather n (c ∷ cs) b =
+    cond (builtWith n c (b .table) (b .seen) .well) (gather n cs (builtWith n c (b .table) (b .seen))) (builtWith n c (b .table) (b .seen))
 
 gather-fields : (n : ℕ) (fs : List Field) (t seen : List ℕ) → build n fs (built true t seen) ≡ gather n (tagged lineTag fs) (built true t seen)
 unfolding build builtIf builtWith tagged gather

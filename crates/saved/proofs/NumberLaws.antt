@@ -63,4 +63,5 @@ number-next l k v h e = rw (add-one, take-suc l k 0 h, number-append (take k l) 
 pub number-fits : (l : List ℕ) (k : ℕ) → ((k : ℕ) → k < length l → getD l k 0 < 256) → length l ≤ 4 → k ≤ length l → numberOf (take k l) < 2 ^ 32
 number-fits l k small h m =
     let s = length-take k l in
-    lt-of-lt-of-le (number-lt (take k l) (λ j g. rw (getD-take k l j 0 (omega arith)) (small j (omega arith)))) (pow-le-pow-right {n = 256} (omega arith) {i = length (take k l)} {j = 4} (omega arith))
+    let w = number-lt (take k l) (λ j g. rw (getD-take k l j 0 (omega arith)) (small j (omega arith))) in
+    lt-of-lt-of-le w (pow-le-pow-right {n = 256} (omega arith) {i = length (take k l)} {j = 4} (omega arith))

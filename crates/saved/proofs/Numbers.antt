@@ -37,7 +37,7 @@ module _ (file : List ℕ) where
     no-tally e = rw (whole, e, and-false)
 
     -- both are there, and v is the size
-    pub by-size : (v : ℕ) (b : Bool) → single sizeLength (tagged sizeTag (fieldsOf file)) ≡ true → single tallyLength (tagged tallyTag (fieldsOf file)) ≡ true
-        → v ≡ fileSize file → b ≡ isSize v → sizeNumber file ≡ refuse 1 (not b)
+    pub by-size : (v : ℕ) (b : Bool) → single sizeLength (tagged sizeTag (fieldsOf file)) ≡ true
+        → single tallyLength (tagged tallyTag (fieldsOf file)) ≡ true → v ≡ fileSize file → b ≡ isSize v → sizeNumber file ≡ refuse 1 (not b)
     unfolding sizeNumber sizeAndTally
     by-size v b size tally e f = rw (whole, size, tally, f, e)

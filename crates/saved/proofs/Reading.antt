@@ -45,7 +45,8 @@ module _ (file : List ℕ) (at : ℕ) (inside : at < length file) where
   unfolding readAt
   at-field m h =
       let s : at + 3 + said ≡ at + extent (drop at file) = omega (arith, length-said file at) in
-      rw (lt-leb (length file) at inside, le-ltb (length file - at) (extent (drop at file)) (omega (arith, length-said file at)), s, ← length-said file at)
+      let w = le-ltb (length file - at) (extent (drop at file)) (omega (arith, length-said file at)) in
+      rw (lt-leb (length file) at inside, w, s, ← length-said file at)
 
 -- what reading at a place tells of the fields from there on
 abbrev pub Tells : List ℕ → ℕ → Read → Type 0
@@ -73,10 +74,15 @@ tells file at = pick (decLt at (length file)) (decLt (length file - at) (extent 
 
     pick : Dec (at < length file) → Dec (length file - at < extent rest) → Tells file at (readAt file at)
     pick (no h) d = rw (le-leb (length file) at (omega arith), empty rest (omega (arith, long))) fields-nil
-    pick (yes h) (yes l) = rw (lt-leb (length file) at h, lt-ltb (length file - at) (extent rest) l) (fields-cut rest (omega (arith, long)) (omega (arith, long)))
+    pick (yes h) (yes l) =
+        rw (lt-leb (length file) at h, lt-ltb (length file - at) (extent rest) l) (fields-cut rest (omega (arith, long)) (omega (arith, long)))
     pick (yes h) (no l) =
-        rw (lt-leb (length file) at h, le-ltb (length file - at) (extent rest) (omega arith))
-        (fields-cons rest (omega (arith, long)) (omega (arith, long)) ∙ rw (drop-drop, drop-drop, getD-drop, add-zero), omega arith, omega arith, omega arith)
+        rw (lt-leb (length file) at h, le-ltb (length file - at) (extent rest) (omega arith)) (
+          fields-cons rest (omega (arith, long)) (omega (arith, long)) ∙ rw (drop-drop, drop-drop, getD-drop, add-zero),
+          omega arith,
+          omega arith,
+          omega arith,
+        )
 
 -- the same, by the answer of the call
 pub told : (file : List ℕ) (at : ℕ) (r s : Read) → r ≡ readAt file at → r ≡ s → Tells file at s

@@ -45,7 +45,10 @@ fn take_line(n: u8, contents: &[u8], table: &mut [u8], seen: &mut [u8]) -> bool
 // One field more: a line is taken, a field with another tag passed over.
 fn take_field(n: u8, tag: u8, contents: &[u8], table: &mut [u8], seen: &mut [u8]) -> bool
     requires { ⌜ (isSize n ≡ true) × (length (now table) ≡ tableLength n) × (length (now seen) ≡ 64) ⌝ }
-    ensures { λ r. ⌜ built r (now (table .exit)) (now (seen .exit)) ≡ builtIf n (field tag (now (contents .entry))) (now (table .entry)) (now (seen .entry)) ⌝ }
+    ensures { λ r. ⌜
+        built r (now (table .exit)) (now (seen .exit))
+        ≡ builtIf n (field tag (now (contents .entry))) (now (table .entry)) (now (seen .entry))
+        ⌝ }
 {
     if tag != LINE {
         return true; // passed over
@@ -56,7 +59,10 @@ fn take_field(n: u8, tag: u8, contents: &[u8], table: &mut [u8], seen: &mut [u8]
 // Takes the lines of all fields, up to the first that cannot be taken.
 fn take_fields(n: u8, file: &[u8], table: &mut [u8], seen: &mut [u8]) -> bool
     requires { ⌜ (isSize n ≡ true) × (length (now table) ≡ tableLength n) × (length (now seen) ≡ 64) × (runsPast (now file) ≡ false) ⌝ }
-    ensures { λ r. ⌜ built r (now (table .exit)) (now (seen .exit)) ≡ build n (fieldsOf (now (file .entry))) (built true (now (table .entry)) (now (seen .entry))) ⌝ }
+    ensures { λ r. ⌜
+        built r (now (table .exit)) (now (seen .exit))
+        ≡ build n (fieldsOf (now (file .entry))) (built true (now (table .entry)) (now (seen .entry)))
+        ⌝ }
 {
     let mut cursor = Cursor::new();
     loop {

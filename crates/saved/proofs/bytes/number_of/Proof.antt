@@ -23,7 +23,8 @@ unfolding numberOf
 loop-holds c = (search needs, refl)
 
 -- the number with the next byte fits
-next-fits : (l : List ℕ) (k v : ℕ) → ((j : ℕ) → getD l j 0 < 2 ^ 8) → length l ≤ 4 → k < length l → v ≡ numberOf (take k l) → v * 256 + getD l k 0 < 2 ^ 32
+next-fits : (l : List ℕ) (k v : ℕ) → ((j : ℕ) → getD l j 0 < 2 ^ 8) → length l ≤ 4 → k < length l → v ≡ numberOf (take k l)
+    → v * 256 + getD l k 0 < 2 ^ 32
 next-fits l k v small h m e = rw (number-next l k v m e) (number-fits l (k + 1) (λ j g. small j) h (omega arith))
 
 cast-byte : tie.Need-cast-byte Inv-loop μ-loop

@@ -25,22 +25,27 @@ array-share-prefix-seen : tie.Need-array-share-prefix-seen
 array-share-prefix-seen c = omega (arith, size-bounds _ (c .before .before .before .before .before .before .before .before .before .pre .0))
 
 slice-aggregate-same-bytes : tie.Need-slice-aggregate-same-bytes
-slice-aggregate-same-bytes c = simp length-take (omega (arith, size-bounds _ (c .before .before .before .before .before .before .before .before .before .before .pre .0)))
+slice-aggregate-same-bytes c =
+    let far = c .before .before .before .before .before in
+    simp length-take (omega (arith, size-bounds _ (far .before .before .before .before .before .pre .0)))
 
 array-share-prefix-all : tie.Need-array-share-prefix-all
 array-share-prefix-all c = omega (arith, size-bounds _ (c .before .before .before .before .before .before .before .before .before .before .pre .0))
 
 slice-aggregate-same-bytes-2 : tie.Need-slice-aggregate-same-bytes-2
-slice-aggregate-same-bytes-2 c = simp length-take (omega (arith, size-bounds _ (c .before .before .before .before .before .before .before .before .before .before .before .pre .0)))
+slice-aggregate-same-bytes-2 c =
+    let far = c .before .before .before .before .before in
+    simp length-take (omega (arith, size-bounds _ (far .before .before .before .before .before .before .pre .0)))
 
 returns-2 : tie.Need-returns-2
 returns-2 c =
-    let a = c .before .before .before .before .before .before .before .before .before .before .before .before .args in
-    let s = size-bounds _ (c .before .before .before .before .before .before .before .before .before .before .before .before .pre .0) in
+    let far = c .before .before .before .before .before in
+    let a = far .before .before .before .before .before .before .before .args in
+    let s = size-bounds _ (far .before .before .before .before .before .before .before .pre .0) in
     let e =
     ends-well (a .n) (fieldsOf (a .file .now)) (a .table .now) (replicate 64 0) (s .1) (λ i h. getD-replicate {A = ℕ} 64 i 0 0 (omega arith))
-    _ _ _ (c .before .before .before .before .before .before .before .take-fields .ensures) _ (not-false _ (c .before .before .before .if1 .left))
-    (c .same-bytes .ensures ∙ all-marked (a .n) _ (omega arith) (s .1)) (c .before .before .before .before .before .before .before .before .before .before .before .before .pre .1) in
+    _ _ _ (far .before .before .take-fields .ensures) _ (not-false _ (c .before .before .before .if1 .left))
+    (c .same-bytes .ensures ∙ all-marked (a .n) _ (omega arith) (s .1)) (far .before .before .before .before .before .before .before .pre .1) in
     (e .0, (e .1, search needs))
 
 pub build-table-spec : {M : Type 1} → statement M

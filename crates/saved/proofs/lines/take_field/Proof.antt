@@ -12,7 +12,9 @@ returns c = rw (ne-eqb _ _ (c .if1 .taken))
 
 returns-2 : tie.Need-returns-2
 unfolding builtIf
-returns-2 c = rw (eq-eqb _ _ (c .before .before .before .before .before .before .before .if1 .left)) (c .before .before .before .before .take-line .ensures)
+returns-2 c =
+    let far = c .before .before .before .before .before in
+    rw (eq-eqb _ _ (far .before .before .if1 .left)) (c .before .before .before .before .take-line .ensures)
 
 pub take-field-spec : {M : Type 1} → statement M
 take-field-spec =

@@ -42,31 +42,35 @@ part-take-field-end c =
 returns : tie.Need-returns Inv-loop μ-loop
 unfolding fieldsOf
 returns c =
-    let file = c .before .before .before .before .before .before .before .before .before .before .before .before .before .before .before .before .before .before .args .file .now in
-    let n = c .before .before .before .before .before .before .before .before .before .before .before .before .before .before .before .before .before .before .args .n in
-    let i = c .before .before .before .before .before .before .before .before .before .before .before .before .before .loop in
-    let g = c .before .before .before .before .before .before .before .before .before .before .tag .given in
-    let t = told _ _ _ _ (c .before .before .before .before .before .before .before .before .before .before .before .before .read .ensures) (g .1) in
+    let far = c .before .before .before .before .before in
+    let file = far .before .before .before .before .before .before .before .before .before .before .before .before .before .args .file .now in
+    let n = far .before .before .before .before .before .before .before .before .before .before .before .before .before .args .n in
+    let i = far .before .before .before .before .before .before .before .before .loop in
+    let g = far .before .before .before .before .before .tag .given in
+    let t = told _ _ _ _ (far .before .before .before .before .before .before .before .read .ensures) (g .1) in
     let f = field (g .0 .0) (take (g .0 .1 .1 .0) (drop (g .0 .1 .0) file)) in
     let rest = fields (drop (g .0 .1 .1 .1 .0 .at) file) in
-    let took = rw add-sub-cancel-left at (c .before .before .before .before .before .take-field .ensures) in
+    let took = rw add-sub-cancel-left at (far .take-field .ensures) in
     build-stops n f _ rest (i .table) (i .seen) _ _ _ (t .0) (i .inv .2) took (not-true _ (c .if1 .taken)) ∙ i .inv .3
 
 loop-less : tie.Need-loop-less Inv-loop μ-loop
 loop-less c =
-    let t = told _ _ _ _ (c .before .before .before .before .before .before .before .before .before .before .before .before .read .ensures) (c .before .before .before .before .before .before .before .before .before .before .tag .given .1) in
+    let far = c .before .before .before .before .before in
+    let read = far .before .before .before .before .before .before .before .read .ensures in
+    let t = told _ _ _ _ read (far .before .before .before .before .before .tag .given .1) in
     omega arith
 
 loop-again : tie.Need-loop-again Inv-loop μ-loop
 loop-again c =
-    let file = c .before .before .before .before .before .before .before .before .before .before .before .before .before .before .before .before .before .before .args .file .now in
-    let n = c .before .before .before .before .before .before .before .before .before .before .before .before .before .before .before .before .before .before .args .n in
-    let i = c .before .before .before .before .before .before .before .before .before .before .before .before .before .loop in
-    let g = c .before .before .before .before .before .before .before .before .before .before .tag .given in
-    let t = told _ _ _ _ (c .before .before .before .before .before .before .before .before .before .before .before .before .read .ensures) (g .1) in
+    let far = c .before .before .before .before .before in
+    let file = far .before .before .before .before .before .before .before .before .before .before .before .before .before .args .file .now in
+    let n = far .before .before .before .before .before .before .before .before .before .before .before .before .before .args .n in
+    let i = far .before .before .before .before .before .before .before .before .loop in
+    let g = far .before .before .before .before .before .tag .given in
+    let t = told _ _ _ _ (far .before .before .before .before .before .before .before .read .ensures) (g .1) in
     let f = field (g .0 .0) (take (g .0 .1 .1 .0) (drop (g .0 .1 .0) file)) in
     let rest = fields (drop (g .0 .1 .1 .1 .0 .at) file) in
-    let took = rw add-sub-cancel-left at (c .before .before .before .before .before .take-field .ensures) in (
+    let took = rw add-sub-cancel-left at (far .take-field .ensures) in (
       search needs,
       search needs,
       whole-rest n f _ rest (i .table) (i .seen) _ _ _ (t .0) (i .inv .2) took,
@@ -84,9 +88,10 @@ returns-2 c =
 returns-3 : tie.Need-returns-3 Inv-loop μ-loop
 unfolding fieldsOf build
 returns-3 c =
+    let far = c .before .before .before .before .before in
     let i = c .before .before .before .loop in
     let t = told _ _ _ _ (c .before .before .read .ensures) (c .enum-told2 .given .1) in
-    sym (ap (λ fs. build (c .before .before .before .before .before .before .before .before .args .n) (orEmpty fs) (built true (i .table) (i .seen))) t) ∙ i .inv .3
+    sym (ap (λ fs. build (far .before .before .before .args .n) (orEmpty fs) (built true (i .table) (i .seen))) t) ∙ i .inv .3
 
 pub take-fields-spec : {M : Type 1} → statement M
 take-fields-spec =

@@ -16,15 +16,19 @@ returns c =
 
 returns-2 : tie.Need-returns-2
 returns-2 c =
+    let far = c .before .before .before .before .before in
     let w = sym (c .before .before .before .before .build-table .ensures .0) ∙ not-false _ (c .before .if1 .left) in
-    (sym (not-long _ _ _ w (λ e. c .if2 .taken (e ∙ sym (c .before .before .before .before .build-table .ensures .1 .1 ∙ c .before .before .before .before .before .before .before .before .pre .1)))), (λ z. absurd (omega arith), c .before .before .before .before .build-table .ensures .1 .1))
+    let l = c .before .before .before .before .build-table .ensures .1 .1 in
+    (sym (not-long _ _ _ w (λ e. c .if2 .taken (e ∙ sym (l ∙ far .before .before .before .pre .1)))), (λ z. absurd (omega arith), l))
 
 returns-3 : tie.Need-returns-3
 returns-3 c =
-    let e = c .before .before .before .before .before .before .build-table .ensures in
+    let far = c .before .before .before .before .before in
+    let e = far .before .build-table .ensures in
     let r = not-false _ (c .before .before .before .if1 .left) in
     let t = e .1 .0 r in
-    (c .check-table .ensures ∙ (ap (tableNumber _) t ∙ sym (by-rules _ _ _ (sym (e .0) ∙ r) (c .before .before .if2 .left ∙ (e .1 .1 ∙ c .before .before .before .before .before .before .before .before .before .before .pre .1)))), (λ z. t, e .1 .1))
+    let l = c .before .before .if2 .left ∙ (e .1 .1 ∙ far .before .before .before .before .before .pre .1) in
+    (c .check-table .ensures ∙ (ap (tableNumber _) t ∙ sym (by-rules _ _ _ (sym (e .0) ∙ r) l)), (λ z. t, e .1 .1))
 
 pub build-and-judge-spec : {M : Type 1} → statement M
 build-and-judge-spec =

@@ -57,55 +57,62 @@ returns c =
     let a = c .before .before .before .before .before .before .before .before .before .before .args in
     let p = c .before .before .before .before .before .before .before .before .before .before .pre in
     let s = ap (λ n. restNumber n (fileLines (a .file .now)) (length (a .table .now))) (opened-size (a .file .now) (a .opened) (p .0)) in
-    let g = load-turned (a .file .now) (a .table .now) (p .1) _ (c .before .before .before .before .build-and-judge .ensures .0 ∙ s) (c .before .if1 .taken) in
+    let e = c .before .before .before .before .build-and-judge .ensures .0 ∙ s in
+    let g = load-turned (a .file .now) (a .table .now) (p .1) _ e (c .before .if1 .taken) in
     (c .refused .ensures ∙ g .0, g .1)
 
 slice-reshare-prefix-put-list : tie.Need-slice-reshare-prefix-put-list
 slice-reshare-prefix-put-list c =
-    let a = c .before .before .before .before .before .before .before .before .before .before .args in
-    let p = c .before .before .before .before .before .before .before .before .before .before .pre in
-    let f = fits (a .file .now) (a .opened) (a .own .now) _ (p .0) (p .1) (p .2) (c .before .before .before .before .before .before .table-length .ensures) in
+    let far = c .before .before .before .before .before in
+    let a = far .before .before .before .before .before .args in
+    let p = far .before .before .before .before .before .pre in
+    let f = fits (a .file .now) (a .opened) (a .own .now) _ (p .0) (p .1) (p .2) (far .before .table-length .ensures) in
     let l = c .before .before .before .before .build-and-judge .ensures .1 .1 ∙ f .2 in
     simp length-append (omega arith)
 
 slice-aggregate-put-list : tie.Need-slice-aggregate-put-list
 slice-aggregate-put-list c =
-    let a = c .before .before .before .before .before .before .before .before .before .before .before .args in
-    let p = c .before .before .before .before .before .before .before .before .before .before .before .pre in
-    let f = fits (a .file .now) (a .opened) (a .own .now) _ (p .0) (p .1) (p .2) (c .before .before .before .before .before .before .before .table-length .ensures) in
-    let e = c .before .before .before .before .before .build-and-judge .ensures .1 .1 in
-    let g = front (a .own .now) (c .before .before .before .before .before .build-and-judge .last .1 .1 .1 .0) (c .before .before .before .before .before .before .before .table-length .result) e (f .2) in
+    let far = c .before .before .before .before .before in
+    let a = far .before .before .before .before .before .before .args in
+    let p = far .before .before .before .before .before .before .pre in
+    let f = fits (a .file .now) (a .opened) (a .own .now) _ (p .0) (p .1) (p .2) (far .before .before .table-length .ensures) in
+    let e = far .build-and-judge .ensures .1 .1 in
+    let g = front (a .own .now) (far .build-and-judge .last .1 .1 .1 .0) (far .before .before .table-length .result) e (f .2) in
     sym (ap length g ∙ (e ∙ f .2))
 
 put-list-requires : tie.Need-put-list-requires
 put-list-requires c κs =
-    let a = c .before .before .before .before .before .before .before .before .before .before .before .args in
-    let p = c .before .before .before .before .before .before .before .before .before .before .before .pre in
-    let f = fits (a .file .now) (a .opened) (a .own .now) _ (p .0) (p .1) (p .2) (c .before .before .before .before .before .before .before .table-length .ensures) in
-    let e = c .before .before .before .before .before .build-and-judge .ensures .1 .1 in
+    let far = c .before .before .before .before .before in
+    let a = far .before .before .before .before .before .before .args in
+    let p = far .before .before .before .before .before .before .pre in
+    let f = fits (a .file .now) (a .opened) (a .own .now) _ (p .0) (p .1) (p .2) (far .before .before .table-length .ensures) in
+    let e = far .build-and-judge .ensures .1 .1 in
     let s = ap (λ n. restNumber n (fileLines (a .file .now)) (length (a .table .now))) (opened-size (a .file .now) (a .opened) (p .0)) in
-    let z = sym (c .before .before .before .before .before .build-and-judge .ensures .0 ∙ s) ∙ c .before .before .if1 .left in
+    let z = sym (far .build-and-judge .ensures .0 ∙ s) ∙ c .before .before .if1 .left in
     let t = load-long (a .file .now) (a .table .now) (p .1) z in
-    let g = front (a .own .now) (c .before .before .before .before .before .build-and-judge .last .1 .1 .1 .0) (c .before .before .before .before .before .before .before .table-length .result) e (f .2) in
+    let g = front (a .own .now) (far .build-and-judge .last .1 .1 .1 .0) (far .before .before .table-length .result) e (f .2) in
     let h = ap length g ∙ (e ∙ f .2) in
     omega arith
 
 returns-2 : tie.Need-returns-2
 returns-2 c =
-    let a = c .before .before .before .before .before .before .before .before .before .before .before .before .before .before .args in
-    let p = c .before .before .before .before .before .before .before .before .before .before .before .before .before .before .pre in
-    let f = fits (a .file .now) (a .opened) (a .own .now) _ (p .0) (p .1) (p .2) (c .before .before .before .before .before .before .before .before .before .before .table-length .ensures) in
-    let e = c .before .before .before .before .before .before .before .before .build-and-judge .ensures in
+    let far = c .before .before .before .before .before in
+    let a = far .before .before .before .before .before .before .before .before .before .args in
+    let p = far .before .before .before .before .before .before .before .before .before .pre in
+    let k = far .before .before .before .before .before .table-length .ensures in
+    let f = fits (a .file .now) (a .opened) (a .own .now) _ (p .0) (p .1) (p .2) k in
+    let e = far .before .before .before .build-and-judge .ensures in
     let n = opened-size (a .file .now) (a .opened) (p .0) in
     let s = ap (λ n. restNumber n (fileLines (a .file .now)) (length (a .table .now))) n in
-    let y = c .before .before .before .before .before .if1 .left in
+    let y = far .if1 .left in
     let z = sym (e .0 ∙ s) ∙ y in
     let t = load-long (a .file .now) (a .table .now) (p .1) z in
     let own = e .1 .0 y ∙ ap (λ n. tableIn n (fileLines (a .file .now))) n in
-    let last = c .before .before .before .before .before .before .before .before .build-and-judge .last .1 .1 .1 .0 in
-    let g = front (a .own .now) last (c .before .before .before .before .before .before .before .before .before .before .table-length .result) (e .1 .1) (f .2) in
+    let last = far .before .before .before .build-and-judge .last .1 .1 .1 .0 in
+    let g = front (a .own .now) last (far .before .before .before .before .before .table-length .result) (e .1 .1) (f .2) in
     load-done (a .file .now) (a .table .now) (p .1) (a .opened) _ (p .0) z
-    (c .before .before .put-list .ensures ∙ (ap (sets (a .table .now) 0) g ∙ (sets-all (a .table .now) last (t ∙ sym (f .0) ∙ sym (e .1 .1 ∙ f .2)) ∙ own)))
+    (c .before .before .put-list .ensures
+    ∙ (ap (sets (a .table .now) 0) g ∙ (sets-all (a .table .now) last (t ∙ sym (f .0) ∙ sym (e .1 .1 ∙ f .2)) ∙ own)))
 
 pub load-opened-spec : {M : Type 1} → statement M
 load-opened-spec =

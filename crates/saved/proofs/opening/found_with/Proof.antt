@@ -27,7 +27,8 @@ returns-2 : tie.Need-returns-2
 returns-2 c =
     let a = c .before .before .before .before .before .before .before .before .args in
     let l = drop (a .upper) (a .contents .now) in
-    let e : take (length (a .contents .now) - a .upper) l ≡ l = take-all (length (a .contents .now) - a .upper) l (omega (arith, length-drop (a .upper) (a .contents .now))) in
+    let k = length (a .contents .now) - a .upper in
+    let e : take k l ≡ l = take-all k l (omega (arith, length-drop (a .upper) (a .contents .now))) in
     rw (c .before .before .before .before .before .enum-told .given .1, eq-eqb _ _ (c .before .before .before .before .if1 .left))
     (rw (c .before .before .number-of .ensures, c .number-of2 .ensures, e))
 

@@ -45,18 +45,22 @@ returns-2 c =
 returns-3 : tie.Need-returns-3
 unfolding runsPast fieldsOf
 returns-3 c =
-    let t = scan-told _ _ _ (c .before .before .before .before .before .before .before .before .scan-fields .ensures) (c .before .before .before .before .before .before .opening .given .1) in
-    let file = c .before .before .before .before .before .before .before .before .before .before .args .file .now in
-    let u = unfound 4 4 (tagged tallyTag (fieldsOf file)) (c .before .before .before .before .before .before .opening .given .0 .0 .tally) (c .before .match3 .keys2) (t .2) in
+    let far = c .before .before .before .before .before in
+    let t = scan-told _ _ _ (far .before .before .before .scan-fields .ensures) (far .before .opening .given .1) in
+    let file = far .before .before .before .before .before .args .file .now in
+    let u = unfound 4 4 (tagged tallyTag (fieldsOf file)) (far .before .opening .given .0 .0 .tally) (c .before .match3 .keys2) (t .2) in
     c .refused3 .ensures ∙ answer-refused _ 19 _ (no-tally _ (t .0) u) (λ e. omega arith)
 
 returns-4 : tie.Need-returns-4
 unfolding runsPast fieldsOf sizeIn
 returns-4 c =
-    let t = scan-told _ _ _ (c .before .before .before .before .before .before .before .before .before .before .before .before .scan-fields .ensures) (c .before .before .before .before .before .before .before .before .before .before .opening .given .1) in
-    let size = subst (FoundTells 0 1 _) (c .before .before .before .before .before .before .before .size-found .given .1) (t .1) in
+    let far = c .before .before .before .before .before in
+    let whole = far .before .before .before .before .before .opening .given .1 in
+    let t = scan-told _ _ _ (far .before .before .before .before .before .before .before .scan-fields .ensures) whole in
+    let size = subst (FoundTells 0 1 _) (far .before .before .size-found .given .1) (t .1) in
     let tally = subst (FoundTells 4 4 _) (c .before .before .before .before .tally-found .given .1) (t .2) in
-    c .refused4 .ensures ∙ answer-refused _ 1 _ (by-size _ (t .0) _ false (size .0) (tally .0) (size .2) (sym (not-true _ (c .before .if1 .taken)) ∙ c .before .before .is-size .ensures)) (λ e. omega arith)
+    let out = sym (not-true _ (c .before .if1 .taken)) ∙ c .before .before .is-size .ensures in
+    c .refused4 .ensures ∙ answer-refused _ 1 _ (by-size _ (t .0) _ false (size .0) (tally .0) (size .2) out) (λ e. omega arith)
 
 cast-t12 : tie.Need-cast-t12
 cast-t12 c = omega (arith, size-bounds _ (sym (c .before .is-size .ensures) ∙ not-false _ (c .if1 .left)))
@@ -64,8 +68,10 @@ cast-t12 c = omega (arith, size-bounds _ (sym (c .before .is-size .ensures) ∙ 
 returns-5 : tie.Need-returns-5
 unfolding runsPast fieldsOf sizeIn roundsIn testsIn
 returns-5 c =
-    let t = scan-told _ _ _ (c .before .before .before .before .before .before .before .before .before .before .before .scan-fields .ensures) (c .before .before .before .before .before .before .before .before .before .opening .given .1) in
-    let size = subst (FoundTells 0 1 _) (c .before .before .before .before .before .before .size-found .given .1) (t .1) in
+    let far = c .before .before .before .before .before in
+    let whole = far .before .before .before .before .opening .given .1 in
+    let t = scan-told _ _ _ (far .before .before .before .before .before .before .scan-fields .ensures) whole in
+    let size = subst (FoundTells 0 1 _) (far .before .size-found .given .1) (t .1) in
     let tally = subst (FoundTells 4 4 _) (c .before .before .before .tally-found .given .1) (t .2) in
     let zero = by-size _ (t .0) _ true (size .0) (tally .0) (size .2) (sym (not-false _ (c .if1 .left)) ∙ c .before .is-size .ensures) in
     rw (size .2, tally .1, tally .2) (answer-taken _ _ zero)

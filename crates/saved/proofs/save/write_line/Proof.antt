@@ -59,7 +59,8 @@ put-list-requires c κs =
     let a = c .before .before .before .before .before .before .before .before .before .before .args in
     let p = c .before .before .before .before .before .before .before .before .before .before .pre in
     let h = simp length-sets at (ap length (c .before .before .before .before .before .put-head .ensures)) in
-    let l = length-take (c .before .before .line-start .result + (a .n + 4) - c .before .before .line-start .result) (drop (c .before .before .line-start .result) (a .table .now)) in
+    let s = c .before .before .line-start .result in
+    let l = length-take (s + (a .n + 4) - s) (drop s (a .table .now)) in
     simp length-set (omega (arith, field-inside (a .n) (a .i .0) (p .1 .1)))
 
 same-length : tie.Need-same-length
@@ -70,10 +71,11 @@ same-length c =
 
 returns : tie.Need-returns
 returns c =
-    let a = c .before .before .before .before .before .before .before .before .before .before .before .before .before .args in
-    let p = c .before .before .before .before .before .before .before .before .before .before .before .before .before .pre in
-    rw (c .before .before .put-list .ensures, c .before .before .before .before .before .before .before .before .put-head .ensures)
-    (line-written (a .buffer .now) (a .table .now) (a .n) (a .i .0) _ _ (p .1 .0) (p .1 .1) (c .before .before .before .before .before .line-start .ensures .0))
+    let far = c .before .before .before .before .before in
+    let a = far .before .before .before .before .before .before .before .before .args in
+    let p = far .before .before .before .before .before .before .before .before .pre in
+    rw (c .before .before .put-list .ensures, far .before .before .before .put-head .ensures)
+    (line-written (a .buffer .now) (a .table .now) (a .n) (a .i .0) _ _ (p .1 .0) (p .1 .1) (far .line-start .ensures .0))
 
 pub write-line-spec : {M : Type 1} → statement M
 write-line-spec =

@@ -21,23 +21,28 @@ put-word-requires c κs =
 
 put-word-requires-2 : tie.Need-put-word-requires-2
 put-word-requires-2 c κs =
-    let h = simp length-sets at (ap length (c .before .before .before .before .before .before .before .before .before .before .before .put-head .ensures)) in
-    let h₂ = simp (length-sets, length-set) at (ap length (c .before .before .before .before .before .before .before .put-head2 .ensures)) in
+    let far = c .before .before .before .before .before in
+    let h = simp length-sets at (ap length (far .before .before .before .before .before .before .put-head .ensures)) in
+    let h₂ = simp (length-sets, length-set) at (ap length (far .before .before .put-head2 .ensures)) in
     let w = simp length-sets at (ap length (c .before .before .before .put-word .ensures)) in
     omega arith
 
 same-length : tie.Need-same-length
 same-length c =
-    let h = simp length-sets at (ap length (c .before .before .before .before .before .before .before .before .before .before .before .before .before .before .put-head .ensures)) in
-    let h₂ = simp (length-sets, length-set) at (ap length (c .before .before .before .before .before .before .before .before .before .before .put-head2 .ensures)) in
-    let w = simp length-sets at (ap length (c .before .before .before .before .before .before .put-word .ensures)) in
+    let far = c .before .before .before .before .before in
+    let h = simp length-sets at (ap length (far .before .before .before .before .before .before .before .before .before .put-head .ensures)) in
+    let h₂ = simp (length-sets, length-set) at (ap length (far .before .before .before .before .before .put-head2 .ensures)) in
+    let w = simp length-sets at (ap length (far .before .put-word .ensures)) in
     let w₂ = simp length-sets at (ap length (c .before .before .put-word2 .ensures)) in
     omega arith
 
 returns : tie.Need-returns
 unfolding bytesOf fieldBytes
 returns c =
-    rw (c .before .before .put-word2 .ensures, c .before .before .before .before .before .before .put-word .ensures, c .before .before .before .before .before .before .before .before .before .before .put-head2 .ensures, c .before .before .before .before .before .before .before .before .before .before .before .before .before .before .put-head .ensures)
+    let far = c .before .before .before .before .before in
+    let two = far .before .before .before .before .before .put-head2 .ensures in
+    let one = far .before .before .before .before .before .before .before .before .before .put-head .ensures in
+    rw (c .before .before .put-word2 .ensures, far .before .put-word .ensures, two, one)
 
 pub write-opening-spec : {M : Type 1} → statement M
 write-opening-spec =

@@ -23,7 +23,9 @@ cast-len-2 : tie.Need-cast-len-2
 cast-len-2 c = omega (arith, c .shared-slice-known2 .given (c .before .before .before .before .args .self .at + 2))
 
 add-len-3 : tie.Need-add-len-3
-add-len-3 c = omega (arith, c .shared-slice-known2 .given (c .before .before .before .before .args .self .at + 2), c .before .shared-slice-known .given (c .before .before .before .before .args .self .at + 1))
+add-len-3 c =
+    let at = c .before .before .before .before .args .self .at in
+    omega (arith, c .shared-slice-known2 .given (at + 2), c .before .shared-slice-known .given (at + 1))
 
 returns-3 : tie.Need-returns-3
 returns-3 c =
