@@ -10,8 +10,8 @@ use borrow.Author.Tests.{ne-eqb, eq-eqb}
 use lib.Dec.{eqb}
 use lib.ListN.{length}
 use Rattle.table.specs.Sizes.{isSize}
-use Rattle.table.specs.Table.{head, stride, tableLength, lineStart, cell, statusColumn, nextColumn, finishedColumn, testsColumn, suspects, live, status}
-use Rattle.table.specs.Rules.{lineRules, tableNumber}
+use Rattle.table.specs.Table.{head, stride, tableLength, lineStart, cell, statusColumn, nextColumn, finishedColumn, testsColumn, toldByColumn, toldByNone, roundsAgoColumn, suspects, live, status}
+use Rattle.table.specs.Rules.{exitRule, lineRules, tableNumber}
 use Rattle.table.specs.Fresh.{freshByte, freshTable}
 use Rattle.lists.proofs.SearchLaws.{every-all, listOf-length, listOf-at}
 use Rattle.lists.specs.Sums.{bit}
@@ -25,8 +25,8 @@ use Rattle.detection.specs.Runs.{takenAll}
 use Rattle.detection.specs.Rounds.{allTaken}
 use Rattle.detection.specs.Claim.{FreshMeetsPremises}
 
--- "every line live, next distance 1, all else 0"
-fresh-cell : (n i c : ℕ) → i < n → c < stride n → cell n (freshTable n) i c ≡ cond (eqb c nextColumn) 1 0
+-- "every line live, next distance 1, all else 0"; by C-18 byte 4 is 255
+fresh-cell : (n i c : ℕ) → i < n → c < stride n → cell n (freshTable n) i c ≡ cond (eqb c nextColumn) 1 (cond (eqb c toldByColumn) toldByNone 0)
 unfolding cell freshTable freshByte lineStart
 fresh-cell n i c h g =
     listOf-at (freshByte n) (tableLength n) (lineStart n i + c) (omega (arith, line-inside n i h)) ∙ rw place
@@ -35,16 +35,18 @@ fresh-cell n i c h g =
     place = mul-add-mod-self-right i (stride n) c ∙ mod-eq-of-lt g
 
 fresh-row : (n i k : ℕ) → i < n → k < n → suspects n (freshTable n) i k ≡ 0
-fresh-row n i k g l = fresh-cell n i (head + k) g (omega arith) ∙ rw (ne-eqb (head + k) nextColumn (λ e. omega arith))
+fresh-row n i k g l = fresh-cell n i (head + k) g (omega arith) ∙ rw (ne-eqb (head + k) nextColumn (λ e. omega arith), ne-eqb (head + k) toldByColumn (λ e. omega arith))
 
 fresh-live : (n i : ℕ) → i < n → live n (freshTable n) i ≡ true
 fresh-live n i h = eq-eqb (status n (freshTable n) i) 0 (fresh-cell n i statusColumn h (omega arith))
 
 fresh-line : (n i : ℕ) → i < n → Line n (freshTable n) i
+unfolding exitRule
 fresh-line n i g = record {
   statusRange = omega (arith, fresh-cell n i statusColumn g (omega arith));
   pass = rw (fresh-cell n i nextColumn g (omega arith), fresh-cell n i finishedColumn g (omega arith), fresh-cell n i testsColumn g (omega arith))
       (record { nextLow = omega arith; nextHigh = distances-pos n; finishedRange = omega arith; testsBound = omega arith; finishedNext = λ e. absurd (omega arith) });
+  exits = rw (fresh-cell n i statusColumn g (omega arith), fresh-cell n i toldByColumn g (omega arith), fresh-cell n i roundsAgoColumn g (omega arith));
   own = fresh-row n i i g g;
   range = λ k l. omega (arith, fresh-row n i k g l);
 }

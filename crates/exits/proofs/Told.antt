@@ -17,12 +17,12 @@ use Rattle.table.specs.Rules.{roundOver}
 use Rattle.lists.proofs.BoolLaws.{by-bool, choice, every-same}
 use Rattle.lists.proofs.SearchLaws.{both, every-not}
 use Rattle.table.proofs.Accepting.{Accepted, accepted}
-use Rattle.table.proofs.CellLaws.{cell-same, cell-other, setCell-length, accepted-line, ClosingChanges}
-use Rattle.turn.specs.Turn.{kindTurn, outcomeExchanged, outcomeTold, outcomeTestedTold, setStatus, nextTest, makesTest, countTest, replies, isTold, exchangeRows, replyOutcome, testOutcome, afterOutcome, selfOrSuspected, isAlone, afterAlone, testing, turn, turnTested, turnOutcome}
+use Rattle.table.proofs.CellLaws.{cell-same, cell-other, accepted-line, ClosingChanges}
+use Rattle.turn.specs.Turn.{kindTurn, outcomeExchanged, outcomeTold, outcomeTestedTold, leaveTold, nextTest, makesTest, countTest, replies, isTold, exchangeRows, replyOutcome, testOutcome, afterOutcome, selfOrSuspected, isAlone, afterAlone, testing, turn, turnTested, turnOutcome}
 use Rattle.plant.specs.Round.{afterRound}
 use Rattle.plant.specs.Entry.{Entry, State, isCrash, acted, after, testedOf, outcomeOf}
 use Rattle.turn.proofs.NextTest.{nextTest-low, test-below, test-station}
-use Rattle.turn.proofs.StepCells.{countTest-other, exchange-other, exchange-tester, exchange-tested, exchange-tester-own, exchange-tested-own}
+use Rattle.turn.proofs.StepCells.{leaveTold-length, leaveTold-other, leaveTold-status, countTest-other, exchange-other, exchange-tester, exchange-tested, exchange-tester-own, exchange-tested-own}
 use Rattle.plant.proofs.RoundLaws.{reset-other}
 use Rattle.turn.proofs.StepLines.{Lines, countTest-lines, station-apart}
 use Rattle.plant.proofs.RulesKept.{Takes, entry-facts}
@@ -127,10 +127,10 @@ module _ (n : ℕ) (s : State) (e : Entry) (r : Replied n s e) where
   i-live = eqb-true (status n t i) 0 (facts .isLive)
 
   -- where a station leaves, no row changes
-  left-rows : (k x : ℕ) → SameRows n t (later n i (setStatus n u k x))
+  left-rows : (k x : ℕ) → SameRows n t (later n i (leaveTold n u k x))
   left-rows k x a b ha hb =
-      later-other n i (setStatus n u k x) a (head + b) (omega arith) (λ p. omega arith) (λ _. omega arith)
-      ∙ (cell-other n u k statusColumn x a (head + b) (omega arith) (omega arith) (λ _. omega arith) ∙ row-counted a b hb)
+      later-other n i (leaveTold n u k x) a (head + b) (omega arith) (λ p. omega arith) (λ _. omega arith)
+      ∙ (leaveTold-other n u k x a (head + b) (omega arith) (λ _. omega arith) ∙ row-counted a b hb)
 
   tester-told : suspects n t j i ≡ 1 → outcomeOf n t e ≡ outcomeTold
   unfolding replyOutcome isTold
@@ -149,15 +149,15 @@ module _ (n : ℕ) (s : State) (e : Entry) (r : Replied n s e) where
       → (outcomeOf n t e ≡ outcomeTold) × (status n (after n s e .table) i ≡ statusTold) × (live n (after n s e .table) j ≡ true) × SameRows n t (after n s e .table)
   unfolding afterOutcome isAlone
   tester-leaves w =
-      let v : List ℕ = setStatus n u i statusTold in
+      let v : List ℕ = leaveTold n u i j in
       let q = tester-told w in
       let a : after n s e .table ≡ later n i v = rw q at after-is in
-      let mine : status n v i ≡ statusTold = cell-same n u i statusColumn statusTold (lines .0) hi (omega arith) in
+      let mine : status n v i ≡ statusTold = leaveTold-status n u i (lines .0) hi j in
       let gone : isAlone n v i ≡ false = rw mine in
       let its : status n (later n i v) j ≡ 0 =
       later-other n i v j statusColumn (omega arith) (λ p. omega arith) (λ p. absurd (apart p))
-      ∙ (cell-other n u i statusColumn statusTold j statusColumn (omega arith) (omega arith) (λ p. absurd (apart p)) ∙ (counted j statusColumn (omega arith) (omega arith) ∙ j-live)) in
-      (q, rw a (later-stays n i v gone ∙ mine), rw (a, its), rw a (left-rows i statusTold))
+      ∙ (leaveTold-other n u i j j statusColumn (omega arith) (λ p. absurd (apart p)) ∙ (counted j statusColumn (omega arith) (omega arith) ∙ j-live)) in
+      (q, rw a (later-stays n i v gone ∙ mine), rw (a, its), rw a (left-rows i j))
 
   -- outcome 5
   tested-leaves : suspects n t j i ≡ 0 → suspects n t i j ≡ 1
@@ -167,18 +167,18 @@ module _ (n : ℕ) (s : State) (e : Entry) (r : Replied n s e) where
       × (status n (after n s e .table) i ≡ cond (every (selfOrSuspected n t i) n) statusAlone 0)
   unfolding afterOutcome isAlone selfOrSuspected
   tested-leaves w x =
-      let v : List ℕ = setStatus n u j statusTold in
+      let v : List ℕ = leaveTold n u j i in
       let q = tested-told w x in
       let a : after n s e .table ≡ later n i v = rw q at after-is in
       let its : status n (later n i v) j ≡ statusTold =
-      later-other n i v j statusColumn (omega arith) (λ p. omega arith) (λ p. absurd (apart p)) ∙ cell-same n u j statusColumn statusTold (lines .0) hj (omega arith) in
+      later-other n i v j statusColumn (omega arith) (λ p. omega arith) (λ p. absurd (apart p)) ∙ leaveTold-status n u j (lines .0) hj i in
       let mine : status n v i ≡ 0 =
-      cell-other n u j statusColumn statusTold i statusColumn (omega arith) (omega arith) (λ p. absurd (apart (sym p))) ∙ (counted i statusColumn (omega arith) (omega arith) ∙ i-live) in
+      leaveTold-other n u j i i statusColumn (omega arith) (λ p. absurd (apart (sym p))) ∙ (counted i statusColumn (omega arith) (omega arith) ∙ i-live) in
       let others : every (selfOrSuspected n v i) n ≡ every (selfOrSuspected n t i) n =
       every-same (selfOrSuspected n v i) (selfOrSuspected n t i) n
-      (λ k h. rw (cell-other n u j statusColumn statusTold i (head + k) (omega arith) (omega arith) (λ _. omega arith) ∙ row-counted i k h)) in
+      (λ k h. rw (leaveTold-other n u j i i (head + k) (omega arith) (λ _. omega arith) ∙ row-counted i k h)) in
       let alone : isAlone n v i ≡ every (selfOrSuspected n t i) n = rw (mine, others) in
-      (q, rw a its, rw a (left-rows j statusTold), rw a (later-alone n i v (setCell-length n u j statusColumn statusTold ∙ lines .0) hi mine ∙ rw alone))
+      (q, rw a its, rw a (left-rows j i), rw a (later-alone n i v (leaveTold-length n u j i ∙ lines .0) hi mine ∙ rw alone))
 
   -- where neither suspects the other, the exception for a station's own byte makes no difference to the union
   joined-tester : NeitherSuspects n t i j → (x : ℕ) → x < n → suspects n (exchangeRows n u i j) i x ≡ max (suspects n t i x) (suspects n t j x)

@@ -69,7 +69,7 @@ acted-lines n s e a z = pick (isCrash e) refl
     f = entry-facts n s e z
 
     pick : (b : Bool) → isCrash e ≡ b → Lines n (cond b (crash n (s .table) (e .station)) (turn n (s .table) (e .kind) (e .station)))
-    pick true c = leave-lines n (s .table) (e .station) lines (f .below) 1 (omega arith)
+    pick true c = leave-lines n (s .table) (e .station) lines (f .below) (f .isLive) 1 (omega arith) (omega arith) (omega arith)
     pick false c = turn-lines n (s .table) (e .kind) (e .station) (a .size) lines (f .below) (f .unfinished (eqb-false (e .kind) 3 c))
 
 -- where no line is finished, no live one is

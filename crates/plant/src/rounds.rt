@@ -1,10 +1,10 @@
-// Closing a round (document 01, step 8).
+// Closing a round (document 01, step 8; request C-18).
 ghost use mathlib.Core.Path.{_≡_};
 ghost use Prim.Native.Nat.{_<_};
 ghost use lib.ListN.{length};
 ghost use Rattle.table.specs.Rules.{roundOver};
 ghost use Rattle.table.specs.Table.{HasLine, tableLength};
-ghost use Rattle.plant.specs.Round.{resetLine, resetLines, afterRound};
+ghost use Rattle.plant.specs.Round.{roundsAfter, resetLine, resetLines, afterRound};
 use table::Station;
 use table::cells;
 use table::inside;
@@ -46,12 +46,30 @@ fn reset_lines(n: u8, table: &mut [u8])
     }
 }
 
-// Next distance 1, finished 0, tests 0.
+// Next distance 1, finished 0, tests 0, and byte 5.
 fn reset_line(n: u8, table: &mut [u8], i: Station)
     requires { ⌜ HasLine n (now table) (i .0) ⌝ }
     ensures { λ _. ⌜ now (table .exit) ≡ resetLine n (i .0) (now (table .entry)) ⌝ }
 {
+    let ago = rounds_after(n, table, i);
     inside::put(n, table, i, cells::NEXT, 1);
     inside::put(n, table, i, cells::FINISHED, 0);
     inside::put(n, table, i, cells::TESTS, 0);
+    inside::put(n, table, i, cells::ROUNDS_AGO, ago);
+}
+
+// Byte 5 of line i after a closing: one round more where i is not live, 255 at most.
+fn rounds_after(n: u8, table: &[u8], i: Station) -> u8
+    requires { ⌜ HasLine n (now table) (i .0) ⌝ }
+    ensures { λ r. ⌜ r ≡ roundsAfter n (now (table .entry)) (i .0) ⌝ }
+{
+    let status = inside::get(n, table, i, cells::STATUS);
+    let ago = inside::get(n, table, i, cells::ROUNDS_AGO);
+    if status == cells::LIVE {
+        return ago;
+    }
+    if ago == cells::ROUNDS_AGO_TOP {
+        return ago;
+    }
+    ago + 1
 }

@@ -16,9 +16,9 @@ use Rattle.saved.specs.Load.{fileSize, loadNumber, savedSize, loadAnswer, loadA
 use Rattle.saved.specs.Save.{saved, saveNumber, saveAfter}
 use Rattle.restoring.specs.Files.{AreBytes}
 
--- the length of a saved plant of n stations
+-- the length of a saved plant of n stations, whose lines have n + 6 bytes by C-18
 abbrev pub savedLength : ℕ → ℕ
-savedLength n = 15 + n * (n + 8)
+savedLength n = 15 + n * (n + 10)
 
 abbrev pub SavedLength : Type 0
 SavedLength = (n : ℕ) (t : List ℕ) (tally : Tally) → tableNumber n t ≡ 0 → length (saved n t tally) ≡ savedLength n

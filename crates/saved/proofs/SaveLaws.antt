@@ -30,14 +30,14 @@ module _ (n : ℕ) (t : List ℕ) (long : length t ≡ tableLength n) where
   unfolding lineOf
   line-length i h = length-take-le (stride n) (drop (lineStart n i) t) (omega (arith, length-drop (lineStart n i) t, line-inside n i h))
 
-  pub field-of : (i : ℕ) → i < n → length (fieldBytes (lineField n t i)) ≡ n + 8
+  pub field-of : (i : ℕ) → i < n → length (fieldBytes (lineField n t i)) ≡ stride n + 4
   field-of i h = omega (arith, field-length (lineField n t i), line-length i h)
 
-  pub lines-length : length (savedLines n t n) ≡ n * (n + 8)
+  pub lines-length : length (savedLines n t n) ≡ n * (stride n + 4)
   unfolding savedLines
-  lines-length = concat-length _ (n + 8) n (λ i h. field-of _ (omega arith))
+  lines-length = concat-length _ (stride n + 4) n (λ i h. field-of _ (omega arith))
 
-  pub length-saved : (tally : Tally) → length (saved n t tally) ≡ 15 + n * (n + 8)
+  pub length-saved : (tally : Tally) → length (saved n t tally) ≡ 15 + n * (stride n + 4)
   unfolding saved
   length-saved tally =
       omega (

@@ -10,6 +10,7 @@ use lib.ListN.{length, length-append}
 use lib.Seq.{sets}
 use Rattle.lists.proofs.RefusalLaws.{else-first, unless-refused, unless-accepted}
 use Rattle.lists.proofs.Writing.{sets-all}
+use Rattle.table.specs.Table.{stride}
 use Rattle.table.specs.Rules.{tableNumber}
 use Rattle.table.proofs.Accepting.{accepted}
 use Rattle.table.proofs.SizeLaws.{size-bounds}
@@ -34,19 +35,19 @@ module _ (n : ℕ) (t : List ℕ) (tally : Tally) (b : List ℕ) where
 
   module _ (zero : tableNumber n t ≡ 0) where
     -- a size, and so the length of what is saved, is small
-    pub save-low : (n ≤ 64) × (n * (n + 8) ≤ 4608)
+    pub save-low : (n ≤ 64) × (n * (stride n + 4) ≤ 64 * (stride 64 + 4))
     save-low =
         let s = size-bounds n (accepted n t zero .size) in
-        (s .1, mul-le-mul {n₁ = n} {m₁ = n + 8} {n₂ = 64} {m₂ = 72} (s .1) (omega arith))
+        (s .1, mul-le-mul {n₁ = n} {m₁ = stride n + 4} {n₂ = 64} {m₂ = stride 64 + 4} (s .1) (omega arith))
 
-    long : length (saved n t tally) ≡ 15 + n * (n + 8)
+    long : length (saved n t tally) ≡ 15 + n * (stride n + 4)
     long = length-saved n t (accepted n t zero .long) tally
 
-    pub save-13 : (length b ≡ 15 + n * (n + 8) → ⊥) → Gives 13 b
+    pub save-13 : (length b ≡ 15 + n * (stride n + 4) → ⊥) → Gives 13 b
     unfolding saveNumber
     save-13 h = refused 13 (rw (zero, ne-eqb (length b) (length (saved n t tally)) (λ e. h (e ∙ long)))) (λ e. omega arith)
 
-    pub save-done : (u v : List ℕ) → length b ≡ 15 + n * (n + 8) → u ≡ sets b 0 (fieldBytes (sizeField n) ++ fieldBytes (tallyField tally))
+    pub save-done : (u v : List ℕ) → length b ≡ 15 + n * (stride n + 4) → u ≡ sets b 0 (fieldBytes (sizeField n) ++ fieldBytes (tallyField tally))
         → v ≡ sets u 15 (savedLines n t n) → Gives 0 v
     unfolding saveNumber saveAfter saved
     save-done u v h e f =

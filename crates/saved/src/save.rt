@@ -6,7 +6,7 @@ ghost use Prim.Native.Nat.{_+_, _*_, _≤_};
 ghost use lib.ListN.{length};
 ghost use lib.Seq.{sets};
 ghost use Rattle.table.specs.Sizes.{isSize};
-ghost use Rattle.table.specs.Table.{HasLine, tableLength};
+ghost use Rattle.table.specs.Table.{HasLine, stride, tableLength};
 ghost use Rattle.saved.specs.Bytes.{bytesOf};
 ghost use Rattle.saved.specs.Fields.{fieldBytes};
 ghost use Rattle.saved.specs.Save.{sizeField, tallyField, lineField, savedLines, saved, saveNumber, saveAfter};
@@ -22,8 +22,8 @@ use table::rules;
 // The bytes of the size field and the tally field.
 const OPENING: usize = 15;
 
-// The bytes of a line field besides the row: the field's head, the station and the line's head.
-const BESIDE_ROW: usize = 3 + 1 + cells::HEAD as usize;
+// The bytes of a line field besides the line: the field's head and the station.
+const BESIDE_LINE: usize = 3 + 1;
 
 // Writes the saved plant into the buffer, which has just its length. The answer is 0 or a refusal.
 pub fn save(n: usize, table: &[u8], tally: Tally, buffer: &mut [u8]) -> u8
@@ -34,7 +34,7 @@ pub fn save(n: usize, table: &[u8], tally: Tally, buffer: &mut [u8]) -> u8
     if number != 0 {
         return number;
     }
-    if buffer.len() != OPENING + n * (n + BESIDE_ROW) {
+    if buffer.len() != OPENING + n * (n + cells::HEAD as usize + BESIDE_LINE) {
         return 13;
     }
     let size = n as u8;
@@ -57,7 +57,7 @@ fn write_opening(n: u8, tally: Tally, buffer: &mut [u8])
 
 // The line fields behind them, ascending.
 fn write_lines(n: u8, table: &[u8], buffer: &mut [u8])
-    requires { ⌜ (isSize n ≡ true) × (length (now table) ≡ tableLength n) × (length (now buffer) ≡ 15 + n * (n + 8)) ⌝ }
+    requires { ⌜ (isSize n ≡ true) × (length (now table) ≡ tableLength n) × (length (now buffer) ≡ 15 + n * (stride n + 4)) ⌝ }
     ensures { λ _. ⌜ now (buffer .exit) ≡ sets (now (buffer .entry)) 15 (savedLines n (now (table .entry)) n) ⌝ }
 {
     let mut i: u8 = 0;
@@ -69,11 +69,11 @@ fn write_lines(n: u8, table: &[u8], buffer: &mut [u8])
 
 // The field of line i.
 fn write_line(n: u8, table: &[u8], i: Station, buffer: &mut [u8])
-    requires { ⌜ (isSize n ≡ true) × HasLine n (now table) (i .0) × (length (now buffer) ≡ 15 + n * (n + 8)) ⌝ }
-    ensures { λ _. ⌜ now (buffer .exit) ≡ sets (now (buffer .entry)) (15 + i .0 * (n + 8)) (fieldBytes (lineField n (now (table .entry)) (i .0))) ⌝ }
+    requires { ⌜ (isSize n ≡ true) × HasLine n (now table) (i .0) × (length (now buffer) ≡ 15 + n * (stride n + 4)) ⌝ }
+    ensures { λ _. ⌜ now (buffer .exit) ≡ sets (now (buffer .entry)) (15 + i .0 * (stride n + 4)) (fieldBytes (lineField n (now (table .entry)) (i .0))) ⌝ }
 {
     let stride = n as u16 + cells::HEAD;
-    let at = OPENING + i.0 as usize * (n as usize + BESIDE_ROW);
+    let at = OPENING + i.0 as usize * (stride as usize + BESIDE_LINE);
     put_head(buffer, at, LINE, stride + 1);
     buffer[at + 3] = i.0;
     let start = cells::line_start(n, i);

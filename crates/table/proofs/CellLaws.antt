@@ -1,21 +1,22 @@
 -- Laws of the cells and rows of a lent table, of specs/Table, and the line rules of specs/Rules as facts.
 -- Assumes nothing.
 use mathlib.Core.Path.{_≡_, refl, sym, ap, _∙_}
-use mathlib.Core.Bool.{Bool, true, false, _&&_, _||_}
+use mathlib.Core.Bool.{Bool, true, false, _&&_, _||_, or-true}
+use mathlib.Core.Logic.{_≢_}
 use mathlib.Core.List.{List, _++_}
 use Prim.Native.Nat.{ℕ, _+_, _-_, _/_, _%_, max, _≤_, _<_}
 use native.Mathlib.Decide.{decLe, decLt}
 use native.Mathlib.Nat.{suc-mul, mul-le-mul-right}
 use native.Mathlib.Numerals.{add-one}
 use native.Mathlib.Omega.{arith}
-use borrow.Author.Tests.{leb-true, eqb-true, eqb-false, le-leb, lt-leb, eq-eqb, ne-eqb}
+use borrow.Author.Tests.{leb-true, eqb-true, eqb-false, le-leb, lt-leb, lt-ltb, eq-eqb, ne-eqb}
 use lib.Arith.{digits-div, digits-mod}
 use lib.Dec.{leb, eqb}
 use lib.ListN.{length, getD, take, drop, length-append, length-take, length-drop, length-set, List·getD-append}
 use lib.Seq.{length-take-le, getD-append-add, getD-take, getD-drop, getD-set-same, getD-set-other, ext-getD}
 use Rattle.table.specs.Sizes.{distances}
-use Rattle.table.specs.Table.{head, stride, tableLength, lineStart, cell, setCell, status, nextDistance, finished, testsMade, suspects, rowStart, row, setRow, nextColumn, testsColumn}
-use Rattle.table.specs.Rules.{passRule, suspicionRule, rowRule, lineRules}
+use Rattle.table.specs.Table.{head, stride, tableLength, lineStart, cell, setCell, status, nextDistance, finished, testsMade, statusTold, toldBy, toldByColumn, toldByNone, notRecorded, roundsAgo, roundsAgoColumn, suspects, rowStart, row, setRow, nextColumn, testsColumn}
+use Rattle.table.specs.Rules.{passRule, exitRule, suspicionRule, rowRule, lineRules}
 use Rattle.lists.specs.Search.{every}
 use Rattle.lists.proofs.SearchLaws.{both, every-at, every-all}
 use Rattle.table.proofs.Accepting.{Accepted}
@@ -26,7 +27,7 @@ TurnCounts c = (nextColumn ≤ c) × (c ≤ testsColumn)
 
 -- a column that closing a round changes
 abbrev pub ClosingChanges : ℕ → Type 0
-ClosingChanges c = (nextColumn ≤ c) × (c ≤ testsColumn)
+ClosingChanges c = (nextColumn ≤ c) × (c ≤ roundsAgoColumn) × (c ≢ toldByColumn)
 
 -- two places are one only where line and column are
 place-same : (n i c i′ c′ : ℕ) → c < stride n → c′ < stride n → lineStart n i + c ≡ lineStart n i′ + c′ → (i ≡ i′) × (c ≡ c′)
@@ -160,8 +161,24 @@ pub record Pass (n next finished tests : ℕ) : Type 0 where
 pub record Line (n : ℕ) (t : List ℕ) (i : ℕ) : Type 0 where
   pub statusRange : status n t i ≤ 3
   pub pass : Pass n (nextDistance n t i) (finished n t i) (testsMade n t i)
+  pub exits : exitRule n i (status n t i) (toldBy n t i) (roundsAgo n t i) ≡ true
   pub own : suspects n t i i ≡ 0
   pub range : (k : ℕ) → k < n → suspects n t i k ≤ 1
+
+-- bytes 4 and 5 of a live line
+pub live-exit : (n i told ago : ℕ) → exitRule n i 0 told ago ≡ true → (told ≡ toldByNone) × (ago ≡ 0)
+unfolding exitRule
+live-exit n i told ago e = let a = both _ _ e in (eqb-true _ _ (a .0), eqb-true _ _ (a .1))
+
+-- byte 4 of a line that ceased to be live, but not because told
+pub none-exit : (n i s told ago : ℕ) → 1 ≤ s → s ≢ statusTold → told ≡ toldByNone → exitRule n i s told ago ≡ true
+unfolding exitRule
+none-exit n i s told ago low untold e = rw (ne-eqb s 0 (omega arith), ne-eqb s statusTold untold) (eq-eqb told toldByNone e)
+
+-- byte 4 of a line that left because told by another station
+pub told-exit : (n i told ago : ℕ) → told < n → told ≢ i → exitRule n i statusTold told ago ≡ true
+unfolding exitRule
+told-exit n i told ago h d = rw (lt-ltb told n h, ne-eqb told i d) (or-true (eqb told notRecorded))
 
 one-of : (a b : Bool) → (a || b) ≡ true → a ≡ false → b ≡ true
 one-of true b e f = cc
@@ -195,10 +212,12 @@ unfolding lineRules rowRule
 line-facts n t i e =
     let a = both _ _ e in
     let b = both _ _ (a .0) in
+    let c = both _ _ (b .0) in
     let r = both _ _ (a .1) in
     record {
-      statusRange = leb-true _ _ (b .0);
-      pass = pass-facts n _ _ _ (b .1);
+      statusRange = leb-true _ _ (c .0);
+      pass = pass-facts n _ _ _ (c .1);
+      exits = b .1;
       own = eqb-true _ _ (r .0);
       range = λ k h. leb-true _ _ (every-at (suspicionRule n t i) n k (r .1) h);
     }
@@ -206,7 +225,7 @@ line-facts n t i e =
 pub line-holds : (n : ℕ) (t : List ℕ) (i : ℕ) → Line n t i → lineRules n t i ≡ true
 unfolding lineRules rowRule
 line-holds n t i l =
-    rw (le-leb (status n t i) 3 (l .statusRange), pass-holds n (nextDistance n t i) (finished n t i) (testsMade n t i) (l .pass), eq-eqb (suspects n t i i) 0 (l .own))
+    rw (le-leb (status n t i) 3 (l .statusRange), pass-holds n (nextDistance n t i) (finished n t i) (testsMade n t i) (l .pass), l .exits, eq-eqb (suspects n t i i) 0 (l .own))
     (every-all (suspicionRule n t i) n (λ k h. le-leb (suspects n t i k) 1 (l .range k h)))
 
 pub accepted-line : (n : ℕ) (t : List ℕ) → Accepted n t → (i : ℕ) → i < n → Line n t i

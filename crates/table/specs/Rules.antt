@@ -1,13 +1,14 @@
--- Document 01, the line rules of "The lent table", and refusals 1 to 4 of the refusal list; 9 and 13, which several calls have.
+-- Document 01, the line rules of "The lent table", with those of request C-18 of document 02, and refusals 1 to 4 of the refusal list; 9
+-- and 13, which several calls have.
 -- Assumes nothing.
 use Prim.Native.Nat.{ℕ, _-_}
-use mathlib.Core.Bool.{Bool, not, _&&_, _||_}
+use mathlib.Core.Bool.{Bool, cond, not, _&&_, _||_}
 use mathlib.Core.List.{List}
 use lib.ListN.{length}
-use lib.Dec.{leb, eqb}
+use lib.Dec.{ltb, leb, eqb}
 use Rattle.lists.specs.Search.{every}
 use Rattle.table.specs.Sizes.{isSize, distances}
-use Rattle.table.specs.Table.{tableLength, status, nextDistance, finished, testsMade, suspects, live}
+use Rattle.table.specs.Table.{tableLength, status, statusTold, nextDistance, finished, testsMade, toldBy, toldByNone, notRecorded, roundsAgo, suspects, live}
 use Rattle.lists.specs.Refusal.{_else_, refuse}
 
 -- status, "each byte in its range"
@@ -20,6 +21,16 @@ abbrev pub passRule : ℕ → ℕ → ℕ → ℕ → Bool
 passRule n next finished tests =
     leb 1 next && leb next (distances n) && leb finished 1 && leb tests (next - 1) && (eqb finished 0 || eqb next (distances n))
 
+-- byte 4 where the status is 2: "254 or another station's number", which is below n and not i, the line's own
+abbrev pub tellerRule : ℕ → ℕ → ℕ → Bool
+tellerRule n i told = eqb told notRecorded || (ltb told n && not (eqb told i))
+
+-- bytes 4 and 5 of line i by its status, C-18: "a live line, fresh ones too, has 255 and 0; status 1 or 3 has 255; status 2 has 254 or another
+-- station's number"
+unfoldable pub exitRule : ℕ → ℕ → ℕ → ℕ → ℕ → Bool
+exitRule n i status told ago =
+    cond (eqb status 0) (eqb told toldByNone && eqb ago 0) (cond (eqb status statusTold) (tellerRule n i told) (eqb told toldByNone))
+
 -- byte k of the row, "each byte in its range"
 abbrev pub suspicionRule : ℕ → List ℕ → ℕ → ℕ → Bool
 suspicionRule n t i k = leb (suspects n t i k) 1
@@ -30,7 +41,9 @@ rowRule n t i = eqb (suspects n t i i) 0 && every (suspicionRule n t i) n
 
 -- all line rules, of line i
 unfoldable pub lineRules : ℕ → List ℕ → ℕ → Bool
-lineRules n t i = statusRule (status n t i) && passRule n (nextDistance n t i) (finished n t i) (testsMade n t i) && rowRule n t i
+lineRules n t i =
+    statusRule (status n t i) && passRule n (nextDistance n t i) (finished n t i) (testsMade n t i)
+    && exitRule n i (status n t i) (toldBy n t i) (roundsAgo n t i) && rowRule n t i
 
 -- station i is not live
 abbrev pub notLive : ℕ → List ℕ → ℕ → Bool
@@ -52,7 +65,8 @@ liveFinished n t = every (finishedIfLive n t) n
 abbrev pub roundOver : ℕ → List ℕ → Bool
 roundOver n t = someLive n t && liveFinished n t
 
--- refusals 1 and 2: by C-11 "a size outside 2 to 64"; "The table's length is not N times (N + 4)."
+-- refusals 1 and 2: by C-11 "a size outside 2 to 64"; "The table's length is
+-- not N times (N + 4).", by C-18 (n + 6)
 unfoldable pub shapeNumber : ℕ → ℕ → ℕ
 shapeNumber n len = refuse 1 (not (isSize n)) else refuse 2 (not (eqb len (tableLength n)))
 

@@ -1,4 +1,5 @@
--- Document 01, "The lent table": N lines of N + 4 bytes, in station order. A byte is read and written by line and column.
+-- Document 01, "The lent table", with the six-byte heads of request C-18 of document 02: N lines of N + 6 bytes, in station order. A byte is
+-- read and written by line and column.
 -- Assumes nothing.
 use mathlib.Core.Path.{_≡_}
 use Prim.Native.Nat.{ℕ, _+_, _*_, _<_}
@@ -7,15 +8,15 @@ use mathlib.Core.List.{List, _++_}
 use lib.ListN.{length, getD, set, take, drop}
 use lib.Dec.{eqb}
 
--- how many bytes of a line stand before its row
+-- how many bytes of a line stand before its row. C-18: "The head of each line grows from four to six bytes."
 abbrev pub head : ℕ
-head = 4
+head = 6
 
 -- a line's length
 abbrev pub stride : ℕ → ℕ
 stride n = n + head
 
--- "N lines of N + 4 bytes"
+-- C-18: "The table is n times (n + 6) bytes"
 unfoldable pub tableLength : ℕ → ℕ
 tableLength n = n * stride n
 
@@ -39,7 +40,7 @@ cell n t i c = getD t (lineStart n i + c) 0
 unfoldable pub setCell : ℕ → List ℕ → ℕ → ℕ → ℕ → List ℕ
 setCell n t i c v = set t (lineStart n i + c) v
 
--- the columns of bytes 0 to 3
+-- the columns of bytes 0 to 5
 abbrev pub statusColumn : ℕ
 statusColumn = 0
 
@@ -51,6 +52,12 @@ finishedColumn = 2
 
 abbrev pub testsColumn : ℕ
 testsColumn = 3
+
+abbrev pub toldByColumn : ℕ
+toldByColumn = 4
+
+abbrev pub roundsAgoColumn : ℕ
+roundsAgoColumn = 5
 
 -- byte 0, status: 0 live, 1 crashed, 2 left because told, 3 left because alone
 abbrev pub status : ℕ → List ℕ → ℕ → ℕ
@@ -78,7 +85,24 @@ finished n t i = cell n t i finishedColumn
 abbrev pub testsMade : ℕ → List ℕ → ℕ → ℕ
 testsMade n t i = cell n t i testsColumn
 
--- "4 on: the station's row: byte k is 1 if it suspects station k, else 0"
+-- C-18: "Byte 4 names the station whose row told it to leave: 255 for none, 254 where that was never recorded."
+abbrev pub toldBy : ℕ → List ℕ → ℕ → ℕ
+toldBy n t i = cell n t i toldByColumn
+
+abbrev pub toldByNone : ℕ
+toldByNone = 255
+
+abbrev pub notRecorded : ℕ
+notRecorded = 254
+
+-- C-18: "Byte 5 counts rounds closed since the station ceased to be live, and stops at 255."
+abbrev pub roundsAgo : ℕ → List ℕ → ℕ → ℕ
+roundsAgo n t i = cell n t i roundsAgoColumn
+
+abbrev pub roundsAgoTop : ℕ
+roundsAgoTop = 255
+
+-- "the station's row: byte k is 1 if it suspects station k, else 0"; C-18: "rows start at byte 6"
 abbrev pub suspects : ℕ → List ℕ → ℕ → ℕ → ℕ
 suspects n t i k = cell n t i (head + k)
 

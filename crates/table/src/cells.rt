@@ -1,4 +1,4 @@
-// The bytes of the lent table, by line and column (document 01, "The lent table").
+// The bytes of the lent table, by line and column (document 01, "The lent table"; request C-18).
 ghost use mathlib.Core.Path.{_≡_};
 ghost use Prim.Native.Nat.{_+_, _*_, _≤_};
 ghost use Rattle.table.specs.Table.{head, stride, tableLength, lineStart, cell, rowStart};
@@ -13,6 +13,10 @@ pub const FINISHED: u16 = 2;
 
 pub const TESTS: u16 = 3;
 
+pub const TOLD_BY: u16 = 4;
+
+pub const ROUNDS_AGO: u16 = 5;
+
 // The statuses of a station.
 pub const LIVE: u8 = 0;
 
@@ -22,8 +26,16 @@ pub const LEFT_TOLD: u8 = 2;
 
 pub const LEFT_ALONE: u8 = 3;
 
+// Byte 4 where no station told this one to leave, and where that was never recorded.
+pub const TOLD_BY_NONE: u8 = 255;
+
+pub const NOT_RECORDED: u8 = 254;
+
+// Where byte 5 stops.
+pub const ROUNDS_AGO_TOP: u8 = 255;
+
 // How many bytes of a line stand before its row.
-pub const HEAD: u16 = 4;
+pub const HEAD: u16 = 6;
 
 // The length of the greatest table, that of 64 stations.
 pub const GREATEST_TABLE: usize = 64 * (64 + HEAD as usize);

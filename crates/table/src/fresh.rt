@@ -1,4 +1,4 @@
-// The fresh table (document 01, "What can be asked").
+// The fresh table (document 01, "What can be asked"; request C-18).
 ghost use mathlib.Core.Path.{_≡_};
 ghost use lib.ListN.{length};
 ghost use Rattle.table.specs.Table.{tableLength};
@@ -7,7 +7,7 @@ ghost use Rattle.table.specs.Fresh.{freshByte, freshTable, freshAfter};
 use crate::cells;
 use crate::rules;
 
-// Fills the table: every line live, next distance 1, all else 0. The answer is 0 or a refusal.
+// Fills the table: every line live, next distance 1, byte 4 255, all else 0. The answer is 0 or a refusal.
 pub fn fresh_table(n: usize, table: &mut [u8]) -> u8
     ensures { λ r. ⌜ r ≡ shapeNumber n (length (now (table .entry))) ⌝ }
     ensures { λ _. ⌜ now (table .exit) ≡ freshAfter n (now (table .entry)) ⌝ }
@@ -35,9 +35,12 @@ fn write_fresh(n: u8, table: &mut [u8])
 fn fresh_byte(n: u8, p: usize) -> u8
     ensures { λ r. ⌜ r ≡ freshByte n p ⌝ }
 {
-    if p % (n as usize + cells::HEAD as usize) == cells::NEXT as usize {
-        1
-    } else {
-        0
+    let column = p % (n as usize + cells::HEAD as usize);
+    if column == cells::NEXT as usize {
+        return 1;
     }
+    if column == cells::TOLD_BY as usize {
+        return cells::TOLD_BY_NONE;
+    }
+    0
 }

@@ -1,10 +1,10 @@
-// The line rules and the check of a table: refusals 1 to 4 (document 01, "The lent table" and "Refusal list").
+// The line rules and the check of a table: refusals 1 to 4 (document 01, "The lent table" and "Refusal list"; request C-18).
 ghost use mathlib.Core.Path.{_≡_};
 ghost use Prim.Native.Nat.{_<_};
 ghost use lib.ListN.{length};
 ghost use Rattle.lists.specs.Search.{every};
-ghost use Rattle.table.specs.Table.{HasLine, tableLength, nextDistance, finished, testsMade, live};
-ghost use Rattle.table.specs.Rules.{passRule, rowRule, lineRules, finishedIfLive, roundOver, shapeNumber, tableNumber};
+ghost use Rattle.table.specs.Table.{HasLine, tableLength, status, nextDistance, finished, testsMade, toldBy, roundsAgo, live};
+ghost use Rattle.table.specs.Rules.{passRule, exitRule, rowRule, lineRules, finishedIfLive, roundOver, shapeNumber, tableNumber};
 use crate::Station;
 use crate::cells;
 use crate::inside;
@@ -93,7 +93,7 @@ fn line_rules(n: u8, table: &[u8], i: Station) -> bool
     ensures { λ r. ⌜ r ≡ lineRules n (now (table .entry)) (i .0) ⌝ }
 {
     let status = inside::get(n, table, i, cells::STATUS);
-    (status <= 3) & pass_rule(n, table, i) & row_rule(n, table, i)
+    (status <= 3) & pass_rule(n, table, i) & exit_rule(n, table, i) & row_rule(n, table, i)
 }
 
 // The rules of bytes 1 to 3.
@@ -110,6 +110,23 @@ fn pass_rule(n: u8, table: &[u8], i: Station) -> bool
         & (finished <= 1)
         & (tests < next)
         & ((finished == 0) | (next as u16 == last))
+}
+
+// The rules of bytes 4 and 5, by the status.
+fn exit_rule(n: u8, table: &[u8], i: Station) -> bool
+    requires { ⌜ HasLine n (now table) (i .0) ⌝ }
+    ensures { λ r. ⌜ r ≡ exitRule n (i .0) (status n (now (table .entry)) (i .0)) (toldBy n (now (table .entry)) (i .0)) (roundsAgo n (now (table .entry)) (i .0)) ⌝ }
+{
+    let status = inside::get(n, table, i, cells::STATUS);
+    let told = inside::get(n, table, i, cells::TOLD_BY);
+    let ago = inside::get(n, table, i, cells::ROUNDS_AGO);
+    if status == cells::LIVE {
+        return (told == cells::TOLD_BY_NONE) & (ago == 0);
+    }
+    if status == cells::LEFT_TOLD {
+        return (told == cells::NOT_RECORDED) | ((told < n) & (told != i.0));
+    }
+    told == cells::TOLD_BY_NONE
 }
 
 // The rules of the row: the station's byte about itself, and every byte, by the greatest one. The loop has no exit, so that the compiler

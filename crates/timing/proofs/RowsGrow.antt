@@ -10,13 +10,13 @@ use native.Mathlib.Omega.{arith}
 use lib.Dec.{eqb}
 use lib.ListN.{length}
 use Rattle.station.specs.Groups.{stationAt}
-use Rattle.table.specs.Table.{head, tableLength, statusColumn, suspects, statusTold, statusAlone, statusCrashed}
+use Rattle.table.specs.Table.{head, tableLength, statusColumn, suspects, statusAlone, statusCrashed}
 use Rattle.lists.proofs.BoolLaws.{by-bool, choice}
 use Rattle.table.proofs.CellLaws.{cell-other}
-use Rattle.turn.specs.Turn.{outcomeExchanged, outcomeTold, outcomeTestedTold, setStatus, nextTest, makesTest, finishPass, countTest, suspect, testOutcome, afterOutcome, afterTest, isAlone, afterAlone, testing, turn, crash}
+use Rattle.turn.specs.Turn.{outcomeExchanged, outcomeTold, outcomeTestedTold, setStatus, leaveTold, nextTest, makesTest, finishPass, countTest, suspect, testOutcome, afterOutcome, afterTest, isAlone, afterAlone, testing, turn, crash}
 use Rattle.plant.specs.Entry.{Entry, isCrash, acted}
 use Rattle.turn.proofs.NextTest.{nextTest-low, test-station}
-use Rattle.turn.proofs.StepCells.{finishPass-other, countTest-length, countTest-other, suspect-same, suspect-other}
+use Rattle.turn.proofs.StepCells.{leaveTold-other, finishPass-other, countTest-length, countTest-other, suspect-same, suspect-other}
 use Rattle.turn.proofs.StepLines.{Lines, station-apart}
 use Rattle.detection.proofs.TurnEffect.{exchange-between}
 
@@ -31,6 +31,9 @@ RowsStay n t t′ = (k y : ℕ) → y < n → suspects n t′ k y ≡ suspects n
 left-rows : (n : ℕ) (t : List ℕ) (i s : ℕ) → RowsStay n t (setStatus n t i s)
 left-rows n t i s k y h = cell-other n t i statusColumn s k (head + y) (omega arith) (omega arith) (λ _. omega arith)
 
+told-rows : (n : ℕ) (t : List ℕ) (a b : ℕ) → RowsStay n t (leaveTold n t a b)
+told-rows n t a b k y h = leaveTold-other n t a b k (head + y) (omega arith) (λ _. omega arith)
+
 same-grows : (n : ℕ) (t t′ : List ℕ) → RowsStay n t t′ → Grows n t t′
 same-grows n t t′ same k y hk hy = omega (arith, same k y hy)
 
@@ -39,8 +42,8 @@ test-grows : (n : ℕ) (t : List ℕ) (kind i j : ℕ) → length t ≡ tableLen
     → ((k y : ℕ) → k < n → y < n → suspects n t k y ≤ 1) → Grows n t (afterTest n t kind i j)
 unfolding afterOutcome
 test-grows n t kind i j long hi hj apart small =
-    choice (Grows n t) (eqb (testOutcome n t kind i j) outcomeTold) (same-grows n t _ (left-rows n t i statusTold))
-    (choice (Grows n t) (eqb (testOutcome n t kind i j) outcomeTestedTold) (same-grows n t _ (left-rows n t j statusTold))
+    choice (Grows n t) (eqb (testOutcome n t kind i j) outcomeTold) (same-grows n t _ (told-rows n t i j))
+    (choice (Grows n t) (eqb (testOutcome n t kind i j) outcomeTestedTold) (same-grows n t _ (told-rows n t j i))
     (choice (Grows n t) (eqb (testOutcome n t kind i j) outcomeExchanged)
     (λ k y hk hy. exchange-between n t i j long hi hj apart k y hy .0) suspected))
   where

@@ -8,12 +8,12 @@ use native.Mathlib.Decide.{decLt, ℕ-discrete}
 use native.Mathlib.Omega.{arith}
 use lib.ListN.{length}
 use Rattle.table.specs.Sizes.{distances}
-use Rattle.table.specs.Table.{head, stride, tableLength, cell, nextColumn, finishedColumn, testsColumn, nextDistance, finished, testsMade, suspects, row, setRow}
+use Rattle.table.specs.Table.{head, stride, tableLength, cell, statusColumn, nextColumn, finishedColumn, testsColumn, toldByColumn, status, statusTold, nextDistance, finished, testsMade, toldBy, suspects, row, setRow}
 use Rattle.lists.specs.Bytes.{joinedByte}
 use Rattle.station.specs.Rows.{unionByte, union, mark}
 use Rattle.table.proofs.CellLaws.{cell-same, cell-other, setCell-length, row-length, row-at, setRow-length, setRow-in, setRow-out}
 use Rattle.station.proofs.UnionLaws.{union-length, union-at, union-own, union-others, mark-length, mark-same, mark-other}
-use Rattle.turn.specs.Turn.{finishPass, countTest, exchangeRows, suspect}
+use Rattle.turn.specs.Turn.{setStatus, leaveTold, finishPass, countTest, exchangeRows, suspect}
 
 module _ (n : ℕ) (t : List ℕ) (i : ℕ) where
   -- Step 2, none due: next distance the number of distances, finished 1
@@ -40,7 +40,29 @@ module _ (n : ℕ) (t : List ℕ) (i : ℕ) where
       cell-other n _ i testsColumn _ i′ c (omega arith) h (λ e f. out e .1 (sym f))
       ∙ cell-other n t i nextColumn (m + 1) i′ c (omega arith) h (λ e f. out e .0 (sym f))
 
+  -- Step 4, i is told by j: status 2 and byte 4
+  pub leaveTold-length : (j : ℕ) → length (leaveTold n t i j) ≡ length t
+  unfolding leaveTold
+  leaveTold-length j = simp setCell-length
+
+  pub leaveTold-other : (j i′ c : ℕ) → c < stride n → (i ≡ i′ → (c ≢ statusColumn) × (c ≢ toldByColumn))
+      → cell n (leaveTold n t i j) i′ c ≡ cell n t i′ c
+  unfolding leaveTold
+  leaveTold-other j i′ c h out =
+      cell-other n _ i toldByColumn j i′ c (omega arith) h (λ e f. out e .1 (sym f))
+      ∙ cell-other n t i statusColumn statusTold i′ c (omega arith) h (λ e f. out e .0 (sym f))
+
   module _ (long : length t ≡ tableLength n) (h : i < n) where
+    pub leaveTold-status : (j : ℕ) → status n (leaveTold n t i j) i ≡ statusTold
+    unfolding leaveTold
+    leaveTold-status j =
+        cell-other n _ i toldByColumn j i statusColumn (omega arith) (omega arith) (omega arith)
+        ∙ cell-same n t i statusColumn statusTold long h (omega arith)
+
+    pub leaveTold-teller : (j : ℕ) → toldBy n (leaveTold n t i j) i ≡ j
+    unfolding leaveTold
+    leaveTold-teller j = cell-same n (setStatus n t i statusTold) i toldByColumn j (setCell-length n t i statusColumn statusTold ∙ long) h (omega arith)
+
     pub finishPass-next : nextDistance n (finishPass n t i) i ≡ distances n
     unfolding finishPass
     finishPass-next =

@@ -7,18 +7,21 @@ use mathlib.Core.List.{List}
 use Prim.Native.Nat.{ℕ, _+_, _≤_, _<_}
 use native.Mathlib.Decide.{ℕ-discrete}
 use native.Mathlib.Omega.{arith}
+use borrow.Author.Tests.{eqb-true}
 use lib.Bits.{xor-self}
 use lib.Dec.{eqb}
 use lib.ListN.{length}
 use Rattle.table.specs.Sizes.{isSize, distances}
 use Rattle.station.specs.Groups.{stationAt}
-use Rattle.table.specs.Table.{head, stride, tableLength, cell, statusColumn, nextColumn, finishedColumn, testsColumn, status, nextDistance, finished, suspects}
-use Rattle.lists.proofs.BoolLaws.{choice}
+use Rattle.table.specs.Table.{head, stride, tableLength, cell, statusColumn, nextColumn, finishedColumn, testsColumn, toldByColumn, roundsAgoColumn, status, statusCrashed, statusTold, statusAlone, nextDistance, finished, toldBy, roundsAgo, suspects, live}
+use Rattle.lists.proofs.BoolLaws.{by-bool, choice}
+use Rattle.lists.proofs.SearchLaws.{both}
 use Rattle.lists.proofs.Xor.{xor-cancel}
-use Rattle.table.proofs.CellLaws.{Line, cell-same, cell-other, setCell-length}
-use Rattle.turn.specs.Turn.{outcomeExchanged, outcomeTold, outcomeTestedTold, setStatus, makesTest, nextTest, finishPass, countTest, exchangeRows, suspect, testOutcome, afterOutcome, afterTest, isAlone, afterAlone, testing, turn}
+use Rattle.table.specs.Rules.{exitRule}
+use Rattle.table.proofs.CellLaws.{Line, live-exit, told-exit, none-exit, cell-same, cell-other, setCell-length}
+use Rattle.turn.specs.Turn.{outcomeExchanged, outcomeTold, outcomeTestedTold, setStatus, leaveTold, makesTest, nextTest, finishPass, countTest, exchangeRows, suspect, testOutcome, afterOutcome, afterTest, isAlone, afterAlone, testing, turn}
 use Rattle.turn.proofs.NextTest.{nextTest-low, test-below, test-station}
-use Rattle.turn.proofs.StepCells.{finishPass-length, finishPass-other, finishPass-next, finishPass-finished, countTest-length, countTest-other, countTest-next, countTest-tests, suspect-length, suspect-same, suspect-other, exchange-length, exchange-other, exchange-tester, exchange-tested, exchange-tester-own, exchange-tested-own}
+use Rattle.turn.proofs.StepCells.{leaveTold-length, leaveTold-other, leaveTold-status, leaveTold-teller, finishPass-length, finishPass-other, finishPass-next, finishPass-finished, countTest-length, countTest-other, countTest-next, countTest-tests, suspect-length, suspect-same, suspect-other, exchange-length, exchange-other, exchange-tester, exchange-tested, exchange-tester-own, exchange-tested-own}
 
 -- the table has its length, and each line obeys the rules
 abbrev pub Lines : ℕ → List ℕ → Type 0
@@ -31,6 +34,7 @@ line-row n t t′ k l same own range =
     record {
       statusRange = rw (same statusColumn (omega arith)) (l .statusRange);
       pass = rw (same nextColumn (omega arith), same finishedColumn (omega arith), same testsColumn (omega arith)) (l .pass);
+      exits = rw (same statusColumn (omega arith), same toldByColumn (omega arith), same roundsAgoColumn (omega arith)) (l .exits);
       own = own;
       range = range;
     }
@@ -47,20 +51,36 @@ one-line n t t′ i len same here old = (len ∙ old .0, λ k h. pick k h (ℕ-d
         line-row n t t′ k l (λ c hc. same k c (omega arith) d) (same k (head + k) (omega arith) d ∙ l .own)
         (λ x hx. rw (same k (head + x) (omega arith) d) (l .range x hx))
 
--- Steps 4, 6 and 7: the status of a station, the tester or the tested
-pub leave-lines : (n : ℕ) (t : List ℕ) (i : ℕ) → Lines n t → i < n → (s : ℕ) → s ≤ 3 → Lines n (setStatus n t i s)
-leave-lines n t i lines h s hs =
-    let l = lines .1 i h in
-    let e : status n (setStatus n t i s) i ≡ s = cell-same n t i statusColumn s (lines .0) h (omega arith) in
-    let other : (c : ℕ) → c < stride n → 1 ≤ c → cell n (setStatus n t i s) i c ≡ cell n t i c = λ c hc pos. cell-other n t i statusColumn s i c (omega arith) hc (omega arith) in
+-- a line of which only bytes 0 and 4 are written
+line-exit : (n : ℕ) (t t′ : List ℕ) (k : ℕ) → Line n t k → ((c : ℕ) → c < stride n → (c ≢ statusColumn) × (c ≢ toldByColumn) → cell n t′ k c ≡ cell n t k c)
+    → (s : ℕ) → status n t′ k ≡ s → s ≤ 3 → exitRule n k s (toldBy n t′ k) (roundsAgo n t k) ≡ true → k < n → Line n t′ k
+line-exit n t t′ k l same s e hs exits h =
+    let pass : (c : ℕ) → (c ≢ statusColumn) × (c < toldByColumn) → cell n t′ k c ≡ cell n t k c = λ c p. same c (omega arith) (omega arith) in
+    record {
+      statusRange = omega arith;
+      pass = rw (pass nextColumn (omega arith), pass finishedColumn (omega arith), pass testsColumn (omega arith)) (l .pass);
+      exits = rw (e, same roundsAgoColumn (omega arith) (omega arith)) exits;
+      own = same (head + k) (omega arith) (omega arith) ∙ l .own;
+      range = λ x hx. rw (same (head + x) (omega arith) (omega arith)) (l .range x hx);
+    }
+
+-- Steps 6 and 7: the status of a live station, not because told
+pub leave-lines : (n : ℕ) (t : List ℕ) (i : ℕ) → Lines n t → i < n → live n t i ≡ true → (s : ℕ) → 1 ≤ s → s ≤ 3 → s ≢ statusTold → Lines n (setStatus n t i s)
+leave-lines n t i lines h alive s low high untold =
+    let other : (c : ℕ) → c < stride n → (c ≢ statusColumn) × (c ≢ toldByColumn) → cell n (setStatus n t i s) i c ≡ cell n t i c =
+    λ c hc d. cell-other n t i statusColumn s i c (omega arith) hc (omega arith) in
+    let none : toldBy n t i ≡ 255 = live-exit n i (toldBy n t i) (roundsAgo n t i) (rw (eqb-true (status n t i) 0 alive) at (lines .1 i h .exits)) .0 in
     one-line n t (setStatus n t i s) i (setCell-length n t i statusColumn s)
     (λ k c hc d. cell-other n t i statusColumn s k c (omega arith) hc (λ f. absurd (d f)))
-    (record {
-      statusRange = omega arith;
-      pass = rw (other nextColumn (omega arith) (omega arith), other finishedColumn (omega arith) (omega arith), other testsColumn (omega arith) (omega arith)) (l .pass);
-      own = other (head + i) (omega arith) (omega arith) ∙ l .own;
-      range = λ x hx. rw (other (head + x) (omega arith) (omega arith)) (l .range x hx);
-    }) lines
+    (line-exit n t (setStatus n t i s) i (lines .1 i h) other s (cell-same n t i statusColumn s (lines .0) h (omega arith)) high
+    (none-exit n i s _ _ low untold (cell-other n t i statusColumn s i toldByColumn (omega arith) (omega arith) (omega arith) ∙ none)) h) lines
+
+-- Step 4: a station that is told by another
+pub told-lines : (n : ℕ) (t : List ℕ) (a b : ℕ) → Lines n t → a < n → b < n → b ≢ a → Lines n (leaveTold n t a b)
+told-lines n t a b lines h hb apart =
+    one-line n t (leaveTold n t a b) a (leaveTold-length n t a b) (λ k c hc d. leaveTold-other n t a b k c hc (λ f. absurd (d f)))
+    (line-exit n t (leaveTold n t a b) a (lines .1 a h) (λ c hc d. leaveTold-other n t a b a c hc (λ _. d)) statusTold (leaveTold-status n t a (lines .0) h b)
+    (omega arith) (rw (leaveTold-teller n t a (lines .0) h b) (told-exit n a b _ hb apart)) h) lines
 
 module _ (n : ℕ) (t : List ℕ) (i : ℕ) (lines : Lines n t) (h : i < n) where
   -- Step 2
@@ -80,6 +100,7 @@ module _ (n : ℕ) (t : List ℕ) (i : ℕ) (lines : Lines n t) (h : i < n) wher
           testsBound = omega (arith, other testsColumn (omega arith) (omega arith), l .pass .testsBound, l .pass .nextHigh);
           finishedNext = λ p. e;
         };
+        exits = rw (other statusColumn (omega arith) (omega arith), other toldByColumn (omega arith) (omega arith), other roundsAgoColumn (omega arith) (omega arith)) (l .exits);
         own = other (head + i) (omega arith) (omega arith) ∙ l .own;
         range = λ x hx. rw (other (head + x) (omega arith) (omega arith)) (l .range x hx);
       }) lines
@@ -101,6 +122,7 @@ module _ (n : ℕ) (t : List ℕ) (i : ℕ) (lines : Lines n t) (h : i < n) wher
           testsBound = omega (arith, l .pass .testsBound, l .pass .nextLow);
           finishedNext = λ p. absurd (going (sym (other finishedColumn (omega arith) (omega arith)) ∙ p));
         };
+        exits = rw (other statusColumn (omega arith) (omega arith), other toldByColumn (omega arith) (omega arith), other roundsAgoColumn (omega arith) (omega arith)) (l .exits);
         own = other (head + i) (omega arith) (omega arith) ∙ l .own;
         range = λ x hx. rw (other (head + x) (omega arith) (omega arith)) (l .range x hx);
       }) lines
@@ -156,13 +178,14 @@ module _ (n : ℕ) (t : List ℕ) (i : ℕ) (lines : Lines n t) (h : i < n) wher
     unfolding afterOutcome
     afterTest-lines kind =
         let o : ℕ = testOutcome n t kind i j in
-        choice (Lines n) (eqb o outcomeTold) (leave-lines n t i lines h 2 (omega arith))
-        (choice (Lines n) (eqb o outcomeTestedTold) (leave-lines n t j lines hj 2 (omega arith))
+        choice (Lines n) (eqb o outcomeTold) (told-lines n t i j lines h hj (λ e. apart (sym e)))
+        (choice (Lines n) (eqb o outcomeTestedTold) (told-lines n t j i lines hj h apart)
         (choice (Lines n) (eqb o outcomeExchanged) exchange-lines suspect-lines))
 
   pub afterAlone-lines : Lines n (afterAlone n t i)
-  unfolding afterAlone
-  afterAlone-lines = choice (Lines n) (isAlone n t i) (leave-lines n t i lines h 3 (omega arith)) lines
+  unfolding afterAlone isAlone
+  afterAlone-lines =
+      by-bool (isAlone n t i) (λ e. rw e (leave-lines n t i lines h (both _ _ e .0) statusAlone (omega arith) (omega arith) (omega arith))) (λ e. rw e lines)
 
 -- no station is at a positive distance from itself
 pub station-apart : (i m : ℕ) → 1 ≤ m → i ≢ stationAt i m

@@ -12,12 +12,12 @@ use lib.Dec.{eqb}
 use Rattle.lists.specs.Search.{select}
 use Rattle.table.specs.Sizes.{isSize, distances}
 use Rattle.station.specs.Groups.{stationAt}
-use Rattle.table.specs.Table.{tableLength, cell, statusColumn, nextColumn, finishedColumn, testsColumn, nextDistance, finished, testsMade, row, statusTold, statusAlone}
+use Rattle.table.specs.Table.{tableLength, cell, statusColumn, nextColumn, finishedColumn, testsColumn, nextDistance, finished, testsMade, row, statusAlone}
 use Rattle.station.specs.Tests.{due}
 use Rattle.table.proofs.CellLaws.{TurnCounts, cell-other}
-use Rattle.turn.specs.Turn.{outcomeExchanged, outcomeTold, outcomeTestedTold, setStatus, nextTest, makesTest, countTest, testOutcome, afterOutcome, afterTest, isAlone, afterAlone, testing, turn}
+use Rattle.turn.specs.Turn.{outcomeExchanged, outcomeTold, outcomeTestedTold, setStatus, leaveTold, nextTest, makesTest, countTest, testOutcome, afterOutcome, afterTest, isAlone, afterAlone, testing, turn}
 use Rattle.turn.proofs.NextTest.{nextTest-low, not-due-before, test-station, test-due, none-due}
-use Rattle.turn.proofs.StepCells.{finishPass-other, finishPass-next, finishPass-finished, countTest-length, countTest-other, countTest-next, countTest-tests, suspect-other, exchange-other}
+use Rattle.turn.proofs.StepCells.{leaveTold-other, finishPass-other, finishPass-next, finishPass-finished, countTest-length, countTest-other, countTest-next, countTest-tests, suspect-other, exchange-other}
 use Rattle.turn.proofs.StepLines.{Lines, station-apart}
 use Rattle.lists.specs.Sums.{sum, bit}
 use Rattle.lists.proofs.BoolLaws.{by-bool, choice}
@@ -31,6 +31,9 @@ SameCounts n t t′ = (k c : ℕ) → TurnCounts c → cell n t′ k c ≡ cell 
 left-counts : (n : ℕ) (t : List ℕ) (i s : ℕ) → SameCounts n t (setStatus n t i s)
 left-counts n t i s k c counts = cell-other n t i statusColumn s k c (omega arith) (omega arith) (λ _. omega arith)
 
+told-counts : (n : ℕ) (t : List ℕ) (a b : ℕ) → SameCounts n t (leaveTold n t a b)
+told-counts n t a b k c counts = leaveTold-other n t a b k c (omega arith) (λ _. omega arith)
+
 module _ (n : ℕ) (t : List ℕ) (i : ℕ) where
   alone-counts : SameCounts n t (afterAlone n t i)
   unfolding afterAlone
@@ -39,8 +42,8 @@ module _ (n : ℕ) (t : List ℕ) (i : ℕ) where
   test-counts : (kind j : ℕ) → length t ≡ tableLength n → i < n → j < n → i ≢ j → SameCounts n t (afterTest n t kind i j)
   unfolding afterOutcome
   test-counts kind j long hi hj apart =
-      choice (SameCounts n t) (eqb (testOutcome n t kind i j) outcomeTold) (left-counts n t i statusTold)
-      (choice (SameCounts n t) (eqb (testOutcome n t kind i j) outcomeTestedTold) (left-counts n t j statusTold)
+      choice (SameCounts n t) (eqb (testOutcome n t kind i j) outcomeTold) (told-counts n t i j)
+      (choice (SameCounts n t) (eqb (testOutcome n t kind i j) outcomeTestedTold) (told-counts n t j i)
       (choice (SameCounts n t) (eqb (testOutcome n t kind i j) outcomeExchanged)
       (λ k c counts. exchange-other n t i long hi j hj apart k c (omega arith) (λ _. omega arith) (λ _. omega arith))
       (λ k c counts. suspect-other n t i long hi j k c (omega arith) (λ _. omega arith))))

@@ -1,5 +1,5 @@
--- Document 01, steps 2 to 7 of "What an entry does", with step 4 as request C-13 has it, as functions of the table. Station i is the
--- entry's, kind its kind, j the tested station.
+-- Document 01, steps 2 to 7 of "What an entry does", with step 4 as request C-13 has it and byte 4 of request C-18, as functions of the
+-- table. Station i is the entry's, kind its kind, j the tested station.
 -- Assumes nothing.
 use Prim.Native.Nat.{ℕ, _+_, _-_}
 use mathlib.Core.Bool.{Bool, cond, _&&_, _||_}
@@ -8,7 +8,7 @@ use lib.Dec.{ltb, eqb}
 use Rattle.lists.specs.Search.{least, every}
 use Rattle.station.specs.Groups.{stationAt}
 use Rattle.table.specs.Sizes.{distances}
-use Rattle.table.specs.Table.{setCell, statusColumn, nextColumn, finishedColumn, testsColumn, nextDistance, testsMade, suspects, live, row, setRow, statusAlone, statusCrashed, statusTold}
+use Rattle.table.specs.Table.{setCell, statusColumn, nextColumn, finishedColumn, testsColumn, toldByColumn, nextDistance, testsMade, suspects, live, row, setRow, statusAlone, statusCrashed, statusTold}
 use Rattle.station.specs.Tests.{due}
 use Rattle.station.specs.Rows.{union, mark}
 
@@ -48,6 +48,10 @@ noStation = 255
 -- the station leaves with status s (steps 4, 6 and 7)
 abbrev pub setStatus : ℕ → List ℕ → ℕ → ℕ → List ℕ
 setStatus n t i s = setCell n t i statusColumn s
+
+-- station a leaves because told by b (step 4): status 2, and by C-18 "Byte 4 names the station whose row told it to leave"
+unfoldable pub leaveTold : ℕ → List ℕ → ℕ → ℕ → List ℕ
+leaveTold n t a b = setCell n (setStatus n t a statusTold) a toldByColumn b
 
 -- Step 2: "A turn takes the least due distance not below i's next distance." Where there is none: the number of distances
 unfoldable pub nextTest : ℕ → List ℕ → ℕ → ℕ
@@ -93,8 +97,8 @@ testOutcome n t kind i j = cond (replies n t kind j) (replyOutcome n t i j) outc
 -- status 2, no row changes", "both rows become the union as before"; step 5: "i suspects j"
 unfoldable pub afterOutcome : ℕ → List ℕ → ℕ → ℕ → ℕ → List ℕ
 afterOutcome n t i j outcome =
-    cond (eqb outcome outcomeTold) (setStatus n t i statusTold)
-    (cond (eqb outcome outcomeTestedTold) (setStatus n t j statusTold)
+    cond (eqb outcome outcomeTold) (leaveTold n t i j)
+    (cond (eqb outcome outcomeTestedTold) (leaveTold n t j i)
     (cond (eqb outcome outcomeExchanged) (exchangeRows n t i j) (suspect n t i j)))
 
 -- the table after the test of j

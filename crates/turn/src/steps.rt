@@ -1,4 +1,4 @@
-// A turn of one station (document 01, steps 2 to 6; step 4 as request C-13 has it).
+// A turn of one station (document 01, steps 2 to 6; step 4 as request C-13 has it, byte 4 as C-18).
 ghost use mathlib.Core.Path.{_≡_};
 ghost use Prim.Native.Nat.{_-_, _<_, _≤_};
 ghost use lib.ListN.{length};
@@ -9,7 +9,7 @@ ghost use Rattle.lists.specs.Bytes.{withJoined, sameBytes};
 ghost use Rattle.station.specs.Rows.{union};
 ghost use Rattle.table.specs.Rules.{tableNumber};
 ghost use Rattle.station.specs.Tests.{due};
-ghost use Rattle.turn.specs.Turn.{nextTest, finishPass, countTest, replies, isTold, exchangeRows, suspect, setStatus, replyOutcome, testOutcome, afterOutcome, selfOrSuspected, isAlone, afterAlone, testing, turn, turnTested, turnOutcome};
+ghost use Rattle.turn.specs.Turn.{nextTest, finishPass, countTest, replies, isTold, exchangeRows, suspect, setStatus, leaveTold, replyOutcome, testOutcome, afterOutcome, selfOrSuspected, isAlone, afterAlone, testing, turn, turnTested, turnOutcome};
 use crate::codes;
 use lists::bytes;
 use station::DueOrAhead;
@@ -148,11 +148,11 @@ fn apply_outcome(n: u8, table: &mut [u8], i: Station, j: Station, outcome: u8)
     ensures { λ _. ⌜ now (table .exit) ≡ afterOutcome n (now (table .entry)) (i .0) (j .0) outcome ⌝ }
 {
     if outcome == codes::TOLD {
-        leave(n, table, i, cells::LEFT_TOLD);
+        leave_told(n, table, i, j);
         return;
     }
     if outcome == codes::TESTED_TOLD {
-        leave(n, table, j, cells::LEFT_TOLD);
+        leave_told(n, table, j, i);
         return;
     }
     if outcome == codes::EXCHANGED {
@@ -160,6 +160,15 @@ fn apply_outcome(n: u8, table: &mut [u8], i: Station, j: Station, outcome: u8)
         return;
     }
     suspect_station(n, table, i, j);
+}
+
+// Step 4: a leaves because told by b, which byte 4 names.
+fn leave_told(n: u8, table: &mut [u8], a: Station, b: Station)
+    requires { ⌜ HasLine n (now table) (a .0) ⌝ }
+    ensures { λ _. ⌜ now (table .exit) ≡ leaveTold n (now (table .entry)) (a .0) (b .0) ⌝ }
+{
+    leave(n, table, a, cells::LEFT_TOLD);
+    inside::put(n, table, a, cells::TOLD_BY, b.0);
 }
 
 // Steps 4, 6 and 7: the station leaves with a status.

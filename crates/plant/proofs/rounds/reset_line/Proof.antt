@@ -7,9 +7,12 @@ use Rattle.plant.proofs.rounds.reset_line.Tie as tie
 
 returns : tie.Need-returns
 unfolding resetLine
-returns c = rw (c .before .before .put3 .ensures, c .before .before .before .before .before .before .put2 .ensures, c .before .before .before .before .before .before .before .before .before .before .put .ensures)
+returns c =
+    let far = c .before .before .before .before .before .before in
+    let farther = far .before .before .before .before in
+    rw (c .before .before .put4 .ensures, far .put3 .ensures, farther .put2 .ensures, farther .before .before .before .before .put .ensures, farther .before .before .before .before .before .before .rounds-after .ensures)
 
 pub reset-line-spec : {M : Type 1} → statement M
 reset-line-spec =
     tie.close
-    (tie.spec (λ c κs. search needs) (λ c κs. search needs) (λ c κs. search needs) (λ c. search needs) returns)
+    (tie.spec (λ c κs. search needs) (λ c κs. search needs) (λ c κs. search needs) (λ c κs. search needs) (λ c κs. search needs) (λ c. search needs) returns)

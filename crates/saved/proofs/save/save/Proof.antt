@@ -20,13 +20,18 @@ add-if2 c =
     let a = c .before .before .before .before .args in
     omega (arith, save-low (a .n) (a .table .now) (a .tally) (a .buffer .now) (sym (c .before .check-table .ensures) ∙ c .if1 .left))
 
+add-if2-2 : tie.Need-add-if2-2
+add-if2-2 c =
+    let a = c .before .before .before .before .args in
+    omega (arith, save-low (a .n) (a .table .now) (a .tally) (a .buffer .now) (sym (c .before .check-table .ensures) ∙ c .if1 .left))
+
 mul-if2 : tie.Need-mul-if2
 mul-if2 c =
     let a = c .before .before .before .before .args in
     omega (arith, save-low (a .n) (a .table .now) (a .tally) (a .buffer .now) (sym (c .before .check-table .ensures) ∙ c .if1 .left))
 
-add-if2-2 : tie.Need-add-if2-2
-add-if2-2 c =
+add-if2-3 : tie.Need-add-if2-3
+add-if2-3 c =
     let a = c .before .before .before .before .args in
     omega (arith, save-low (a .n) (a .table .now) (a .tally) (a .buffer .now) (sym (c .before .check-table .ensures) ∙ c .if1 .left))
 
@@ -61,9 +66,11 @@ save-spec =
     (tie.spec
     (λ c κs. search needs)
     returns
+    (λ c. search needs)
     add-if2
-    mul-if2
     add-if2-2
+    mul-if2
+    add-if2-3
     returns-2
     cast-size
     (λ c κs. search needs)

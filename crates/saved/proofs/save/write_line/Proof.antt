@@ -6,6 +6,7 @@ use native.Mathlib.Omega.{arith}
 use lib.ListN.{length, drop, length-set, length-take}
 use lib.Seq.{length-sets}
 use borrow.Author.Needs.{needs}
+use Rattle.table.specs.Table.{stride}
 use Rattle.table.proofs.CellLaws.{line-inside}
 use Rattle.saved.proofs.LineFields.{field-inside, field-low, line-written}
 use Rattle.saved.proofs.save.write_line.Statement.{statement}
@@ -60,7 +61,7 @@ put-list-requires c κs =
     let p = c .before .before .before .before .before .before .before .before .before .before .pre in
     let h = simp length-sets at (ap length (c .before .before .before .before .before .put-head .ensures)) in
     let s = c .before .before .line-start .result in
-    let l = length-take (s + (a .n + 4) - s) (drop s (a .table .now)) in
+    let l = length-take (s + stride (a .n) - s) (drop s (a .table .now)) in
     simp length-set (omega (arith, field-inside (a .n) (a .i .0) (p .1 .1)))
 
 same-length : tie.Need-same-length
@@ -81,6 +82,7 @@ pub write-line-spec : {M : Type 1} → statement M
 write-line-spec =
     tie.close
     (tie.spec
+    (λ c. search needs)
     (λ c. search needs)
     (λ c. search needs)
     (λ c. search needs)

@@ -8,11 +8,11 @@ use Rattle.turn.proofs.steps.apply_outcome.Tie as tie
 
 returns : tie.Need-returns
 unfolding afterOutcome
-returns c = rw (c .before .before .before .before .if1 .taken) (c .before .before .leave .ensures)
+returns c = rw (c .before .before .before .before .if1 .taken) (c .before .before .leave-told .ensures)
 
 returns-2 : tie.Need-returns-2
 unfolding afterOutcome
-returns-2 c = rw (c .before .before .before .before .if2 .taken) (c .before .before .leave2 .ensures)
+returns-2 c = rw (c .before .before .before .before .if2 .taken) (c .before .before .leave-told2 .ensures)
 
 returns-3 : tie.Need-returns-3
 unfolding afterOutcome
