@@ -294,9 +294,7 @@ fn who_stands_ahead() {
 fn a_turn_takes_the_least_due_entry() {
     let (mut tests, mut finished) = (0, 0);
     for (n, mut table, i) in random_live(22) {
-        let [_, next, done, ..] = *head(n, &table, i) else {
-            unreachable!()
-        };
+        let [next, done] = [1, 2].map(|byte| head(n, &table, i)[byte]);
         let entries = defined(i, row_bytes(n, &table, i));
         let mut due = entries.iter().filter(|[_, second]| *second == DUE);
         let least = due.find(|[m, _]| *m >= next);
