@@ -1,5 +1,6 @@
 //! The size n, and stations, distances and levels as types of their own.
 
+use crate::line::HEAD;
 use crate::refusal::Refusal;
 
 /// The size n, 2 to 64.
@@ -42,7 +43,7 @@ impl Size {
     }
 
     pub fn line_length(self) -> usize {
-        self.count() + 4
+        self.count() + HEAD
     }
 
     pub fn table_length(self) -> usize {

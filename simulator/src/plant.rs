@@ -29,11 +29,9 @@ impl Plant {
 
     /// Used only on bytes that keep the line rules.
     fn decode(size: Size, table: &[u8]) -> Plant {
-        let lines = table.chunks_exact(size.line_length()).map(Line::decode);
-        Plant {
-            size,
-            lines: lines.collect(),
-        }
+        let parts = table.chunks_exact(size.line_length());
+        let lines = parts.map(|part| Line::decode(size, part)).collect();
+        Plant { size, lines }
     }
 
     pub fn encode(&self, table: &mut [u8]) {
@@ -68,9 +66,9 @@ impl Plant {
         !self.none_live() && self.live().all(|line| line.finished)
     }
 
-    /// Every line, live or not, begins a round.
-    pub fn begin_round(&mut self) {
-        self.lines.iter_mut().for_each(Line::begin_round);
+    /// Closes the round on every line, live or not.
+    pub fn close_round(&mut self) {
+        self.lines.iter_mut().for_each(Line::close_round);
     }
 
     /// Refusal 10.

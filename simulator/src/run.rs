@@ -224,10 +224,10 @@ impl Watch {
     /// tested station; rows are exchanged where neither suspects the other.
     fn reply(&mut self, i: Station, j: Station) -> Outcome {
         if self.suspects(j, i) {
-            self.leave_told(i);
+            self.leave_told(i, j);
             Outcome::Told
         } else if self.suspects(i, j) {
-            self.leave_told(j);
+            self.leave_told(j, i);
             Outcome::TestedTold
         } else {
             self.exchange(i, j);
@@ -240,9 +240,10 @@ impl Watch {
         self.plant.line(i).row.suspects(k)
     }
 
-    /// Status 2; nothing else on the line changes.
-    fn leave_told(&mut self, station: Station) {
-        self.plant.line_mut(station).status = Status::Told;
+    /// Status 2, told by the row of station `by`; nothing else on the line
+    /// changes.
+    fn leave_told(&mut self, station: Station, by: Station) {
+        self.plant.line_mut(station).status = Status::Told(Some(by));
     }
 
     /// Both rows become the union; neither station writes the byte about itself.
@@ -278,7 +279,7 @@ impl Watch {
     /// Step 8.
     fn close_round_if_over(&mut self) {
         if self.plant.all_live_finished() {
-            self.plant.begin_round();
+            self.plant.close_round();
             self.rounds += 1;
         }
     }
