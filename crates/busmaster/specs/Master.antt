@@ -1,4 +1,5 @@
--- Examples that follow the rules of request C-15, in one table: what the definitions give, and what is said. One statement covers it.
+-- Examples that follow the rules of request C-15, in two tables: what the definitions give, and what is said. One statement covers
+-- each.
 -- Assumes nothing.
 use mathlib.Core.Path.{_≡_, refl}
 use mathlib.Core.List.{List, [], _∷_, map}
@@ -7,13 +8,13 @@ use Rattle.lists.specs.Search.{least, every, listOf}
 use Rattle.table.specs.Sizes.{isSize, level, dimension, distances}
 use Rattle.station.specs.Groups.{width, member}
 use Rattle.table.specs.Table.{head, tableLength, lineStart, cell, setCell, statusColumn, row, setRow}
-use Rattle.table.specs.Rules.{rowRule, lineRules, someLive, liveFinished, shapeNumber, tableNumber}
+use Rattle.table.specs.Rules.{exitRule, rowRule, lineRules, someLive, liveFinished, shapeNumber, tableNumber}
 use Rattle.station.specs.Tests.{unsuspected, firstPlace, first, answer, due}
 use Rattle.station.specs.Rows.{unionByte, union, mark}
 use Rattle.table.specs.Fresh.{freshByte, freshTable}
 use Rattle.lists.specs.Iterate.{iterate}
-use Rattle.turn.specs.Turn.{nextTest, makesTest, finishPass, countTest, replies, isTold, exchangeRows, suspect, replyOutcome, testOutcome, afterOutcome, selfOrSuspected, isAlone, afterAlone, testing, turn}
-use Rattle.plant.specs.Round.{resetLine, resetLines, afterRound}
+use Rattle.turn.specs.Turn.{leaveTold, nextTest, makesTest, finishPass, countTest, replies, isTold, exchangeRows, suspect, replyOutcome, testOutcome, afterOutcome, selfOrSuspected, isAlone, afterAlone, testing, turn}
+use Rattle.plant.specs.Round.{roundsAfter, resetLine, resetLines, afterRound}
 use Rattle.plant.specs.Entry.{stateOf, acted, after}
 use Rattle.granter.specs.Grant.{waits, firstFrom, following, granted, grantNumber, grantStation}
 use Rattle.granter.specs.Drive.{DriveOutcome, grantTurn, afterGrants, ended, stops, grantsMade, outcomeAfter, drive}
@@ -66,8 +67,13 @@ examples =
     ∷ gives (map (grantNumber 4 (freshTable 4)) (3 ∷ 4 ∷ 254 ∷ 255 ∷ 256 ∷ [])) (0 ∷ 16 ∷ 16 ∷ 0 ∷ 16 ∷ [])
     ∷ gives (map (grantNumber 4 allDead) (3 ∷ 4 ∷ 255 ∷ [])) (17 ∷ 16 ∷ 17 ∷ [])
     ∷ gives (grantStation 4 allDead 3 ∷ grantStation 4 (freshTable 4) 4 ∷ []) (0 ∷ 0 ∷ [])
+    ∷ []
+
+-- of drives
+unfoldable pub drives : List Example
+drives =
     -- two boards, fresh: 0 and 1 test one another, then both finish: n times n grants, and the table is fresh again
-    ∷ gives (driveFigures twoFresh) (0 ∷ 1 ∷ 2 ∷ 1 ∷ 4 ∷ [])
+    gives (driveFigures twoFresh) (0 ∷ 1 ∷ 2 ∷ 1 ∷ 4 ∷ [])
     ∷ gives (twoFresh .state .table) (freshTable 2)
     -- one after the other: the second drive begins behind the last granted station
     ∷ gives (driveFigures (drive 2 (twoFresh .state) (twoFresh .last))) (0 ∷ 2 ∷ 4 ∷ 1 ∷ 4 ∷ [])
@@ -82,6 +88,13 @@ examples =
     ∷ []
 
 -- each example holds
-pub as-said : map (λ (e : Example). e .given) examples ≡ map (λ (e : Example). e .said) examples
-unfolding examples twoWait oneWaits allDead twoFresh twoSuspecting drive outcomeAfter grantsMade stops ended afterGrants grantTurn grantNumber grantStation granted following firstFrom waits tableNumber shapeNumber isSize tableLength every lineRules rowRule someLive liveFinished cell lineStart row setRow setCell freshTable freshByte listOf after acted turn resetLine resetLines afterRound iterate nextTest makesTest finishPass countTest replies isTold exchangeRows suspect replyOutcome testOutcome afterOutcome selfOrSuspected isAlone afterAlone testing answer due first firstPlace least unsuspected member width level dimension distances union unionByte joinedByte mark
+abbrev pub AsSaid : List Example → Type 0
+AsSaid es = map (λ (e : Example). e .given) es ≡ map (λ (e : Example). e .said) es
+
+pub as-said : AsSaid examples
+unfolding roundsAfter leaveTold examples twoWait oneWaits allDead twoFresh twoSuspecting drive outcomeAfter grantsMade stops ended afterGrants grantTurn grantNumber grantStation granted following firstFrom waits tableNumber shapeNumber isSize tableLength every lineRules exitRule rowRule someLive liveFinished cell lineStart row setRow setCell freshTable freshByte listOf after acted turn resetLine resetLines afterRound iterate nextTest makesTest finishPass countTest replies isTold exchangeRows suspect replyOutcome testOutcome afterOutcome selfOrSuspected isAlone afterAlone testing answer due first firstPlace least unsuspected member width level dimension distances union unionByte joinedByte mark
 as-said = refl
+
+pub drives-as-said : AsSaid drives
+unfolding roundsAfter leaveTold drives twoWait oneWaits allDead twoFresh twoSuspecting drive outcomeAfter grantsMade stops ended afterGrants grantTurn grantNumber grantStation granted following firstFrom waits tableNumber shapeNumber isSize tableLength every lineRules exitRule rowRule someLive liveFinished cell lineStart row setRow setCell freshTable freshByte listOf after acted turn resetLine resetLines afterRound iterate nextTest makesTest finishPass countTest replies isTold exchangeRows suspect replyOutcome testOutcome afterOutcome selfOrSuspected isAlone afterAlone testing answer due first firstPlace least unsuspected member width level dimension distances union unionByte joinedByte mark
+drives-as-said = refl

@@ -6,9 +6,20 @@ use granter::grant;
 use lists::bytes;
 use plant::Tally;
 use plant::run;
+use table::cells;
 use table::fresh;
 
 const OUT: i32 = 1;
+
+// The lengths of tables of two and of eight boards.
+const TWO: usize = 2 * (2 + cells::HEAD as usize);
+
+const EIGHT: usize = 8 * (8 + cells::HEAD as usize);
+
+// Where a table of two has what 0 says of 1, and what 1 says of 0.
+const ZERO_OF_ONE: usize = cells::HEAD as usize + 1;
+
+const ONE_OF_ZERO: usize = 2 + cells::HEAD as usize + cells::HEAD as usize;
 
 fn main() {
     eight_boards();
@@ -21,8 +32,8 @@ fn main() {
 
 // Eight boards, none dead.
 fn eight_boards() {
-    let mut by_turns = [0u8; 96];
-    let mut driven = [0u8; 96];
+    let mut by_turns = [0u8; EIGHT];
+    let mut driven = [0u8; EIGHT];
     fresh::fresh_table(8, &mut by_turns);
     fresh::fresh_table(8, &mut driven);
     both_ways(&mut by_turns, &mut driven);
@@ -30,8 +41,8 @@ fn eight_boards() {
 
 // Eight boards, of which board 4 has crashed.
 fn four_crashed() {
-    let mut by_turns = [0u8; 96];
-    let mut driven = [0u8; 96];
+    let mut by_turns = [0u8; EIGHT];
+    let mut driven = [0u8; EIGHT];
     fresh::fresh_table(8, &mut by_turns);
     fresh::fresh_table(8, &mut driven);
     entry_of(&mut by_turns, tally_of(0, 0), 3, 4);
@@ -82,7 +93,7 @@ fn granted_round(table: &mut [u8]) -> Tally {
 
 // Eight boards: board 5 takes a turn, and the rest of the round is driven.
 fn rest_of_a_round() {
-    let mut table = [0u8; 96];
+    let mut table = [0u8; EIGHT];
     fresh::fresh_table(8, &mut table);
     let tally = entry_of(&mut table, tally_of(0, 0), 1, 5);
     drive_line(drive::drive(8, &mut table, tally, 255));
@@ -119,17 +130,17 @@ fn top_tally() {
 
 // A drive of two fresh boards.
 fn two_boards(tally: Tally) {
-    let mut table = [0u8; 12];
+    let mut table = [0u8; TWO];
     fresh::fresh_table(2, &mut table);
     drive_line(drive::drive(2, &mut table, tally, 255));
 }
 
 // Two boards that suspect one another: 0 tests 1, is told and leaves; 1 tests 0, which is not live, and leaves as alone.
 fn nobody_left() {
-    let mut table = [0u8; 12];
+    let mut table = [0u8; TWO];
     fresh::fresh_table(2, &mut table);
-    table[5] = 1;
-    table[10] = 1;
+    table[ZERO_OF_ONE] = 1;
+    table[ONE_OF_ZERO] = 1;
     drive_line(drive::drive(2, &mut table, tally_of(0, 0), 255));
     drive_line(drive::drive(2, &mut table, tally_of(0, 2), 1));
 }
@@ -145,7 +156,7 @@ fn last_numbers() {
 }
 
 fn number_line(last: usize) {
-    let mut table = [0u8; 12];
+    let mut table = [0u8; TWO];
     fresh::fresh_table(2, &mut table);
     let granted = grant::grant(2, &table, last);
     let to = granted.station;

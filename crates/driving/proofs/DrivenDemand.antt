@@ -42,7 +42,7 @@ one-mixed-left s (aRun c) = refl
 one-mixed-left s (aDrive n last) = turn-by-turn n s last .left
 
 -- and so do those of a list
-mixed-left : (s : State) (xs : List RunOrDrive) → afterRuns s (runsOfMixed s xs) ≡ afterMixed s xs
+pub mixed-left : (s : State) (xs : List RunOrDrive) → afterRuns s (runsOfMixed s xs) ≡ afterMixed s xs
 unfolding runsOfMixed afterMixed afterRuns
 mixed-left s [] = refl
 mixed-left s (x ∷ xs) =

@@ -1,22 +1,22 @@
--- The plant examples of document 01 marked [P], and examples that follow the rules of requests C-11, C-13 and C-16, in one table: what the
--- definitions give, and what is said. One statement covers it.
+-- The plant examples of document 01 marked [P], and examples that follow the rules of requests C-11, C-13, C-16 and C-18, in two
+-- tables: what the definitions give, and what is said. One statement covers each.
 -- Assumes nothing.
 use mathlib.Core.Path.{_≡_, refl}
 use mathlib.Core.List.{List, [], _∷_, map}
 use Prim.Native.Nat.{ℕ, _+_}
-use lib.ListN.{replicate}
+use lib.ListN.{drop, replicate}
 use Rattle.lists.specs.Search.{least, every, keep, listOf}
 use Rattle.table.specs.Sizes.{isSize, level, dimension, distances}
 use Rattle.station.specs.Groups.{width, member, fullGroup, group, stationAt}
-use Rattle.table.specs.Table.{head, tableLength, lineStart, cell, setCell, statusColumn, row, setRow}
-use Rattle.table.specs.Rules.{rowRule, lineRules, someLive, liveFinished, shapeNumber, tableNumber}
+use Rattle.table.specs.Table.{head, tableLength, lineStart, cell, setCell, statusColumn, nextColumn, toldByColumn, roundsAgoColumn, toldBy, row, setRow}
+use Rattle.table.specs.Rules.{exitRule, rowRule, lineRules, someLive, liveFinished, shapeNumber, tableNumber}
 use Rattle.station.specs.Tests.{unsuspected, firstPlace, first, answer, due, dueDistances}
 use Rattle.station.specs.Rows.{unionByte, union, mark}
 use Rattle.table.specs.Fresh.{freshByte, freshTable}
 use Rattle.station.specs.Calls.{otherDistances, assignmentEntries}
 use Rattle.lists.specs.Iterate.{iterate}
-use Rattle.turn.specs.Turn.{nextTest, makesTest, finishPass, countTest, replies, isTold, exchangeRows, suspect, replyOutcome, testOutcome, afterOutcome, selfOrSuspected, isAlone, afterAlone, testing, turn, turnTested, turnOutcome, crash}
-use Rattle.plant.specs.Round.{resetLine, resetLines, afterRound}
+use Rattle.turn.specs.Turn.{leaveTold, nextTest, makesTest, finishPass, countTest, replies, isTold, exchangeRows, suspect, replyOutcome, testOutcome, afterOutcome, selfOrSuspected, isAlone, afterAlone, testing, turn, turnTested, turnOutcome, crash}
+use Rattle.plant.specs.Round.{roundsAfter, resetLine, resetLines, afterRound}
 use Rattle.plant.specs.Entry.{stateOf, entryNumber, acted, after, testedOf, outcomeOf, sheetLine}
 use Rattle.plant.specs.Run.{Outcome, entries, goOn, startNumber, run}
 use Rattle.lists.specs.Sums.{sum}
@@ -82,6 +82,18 @@ aloneOfTwo = oneEntry 2 (alsoSuspects 2 (freshTable 2) 0 1) 1 0
 unfoldable pub aloneOfThree : Outcome
 aloneOfThree = oneEntry 3 stationTwoFinished 1 0
 
+-- C-18, n = 3: line 2 after the next closing, where station 2 was told, by nobody knows whom, so many rounds ago: 1 has finished, and 0 finishes
+-- with the entry
+unfoldable pub afterClosing : ℕ → List ℕ
+afterClosing ago =
+    let gone = setCell 3 (setCell 3 (setCell 3 (freshTable 3) 2 statusColumn 2) 2 toldByColumn 254) 2 roundsAgoColumn ago in
+    drop 18 (oneEntry 3 (setCell 3 (finishPass 3 gone 1) 0 nextColumn 4) 1 0 .state .table)
+
+-- C-18, n = 3: the number of a table whose line 1 has this status, byte 5 and byte 4
+unfoldable pub numberOf : ℕ → ℕ → ℕ → ℕ
+numberOf status ago told =
+    tableNumber 3 (setCell 3 (setCell 3 (setCell 3 (freshTable 3) 1 statusColumn status) 1 toldByColumn told) 1 roundsAgoColumn ago)
+
 unfoldable pub examples : List Example
 examples =
     -- "(0, level 3) is 4, 5, 6, 7. (3, level 2) is 1, 0. (5, level 1) is 4. (6, level 2) is 4, 5. (7, level 3) is 3, 2, 1, 0."
@@ -111,8 +123,13 @@ examples =
     ∷ gives (row 4 (fourBoards .state .table) 1) (0 ∷ 0 ∷ 0 ∷ 0 ∷ [])
     ∷ gives (row 4 (fourBoards .state .table) 2) (0 ∷ 1 ∷ 0 ∷ 0 ∷ [])
     ∷ gives (row 4 (fourBoards .state .table) 3) (0 ∷ 1 ∷ 0 ∷ 0 ∷ [])
+    ∷ []
+
+-- of the requests
+unfoldable pub requested : List Example
+requested =
     -- C-11, n = 11: groups with the absent numbers left out
-    ∷ gives (group 11 10 1) []
+    gives (group 11 10 1) []
     ∷ gives (group 11 10 2) (8 ∷ 9 ∷ [])
     ∷ gives (group 11 2 4) (10 ∷ 8 ∷ 9 ∷ [])
     -- nothing suspected, station 10 has 2, 3, 8, 9, 12, 13 due, which are stations 8, 9, 2, 3, 6, 7
@@ -131,27 +148,50 @@ examples =
     -- C-13: 0 suspects 1 and tests it; 1 leaves, and no row changes
     ∷ gives (testedTold .sheet) (0 ∷ 1 ∷ 5 ∷ 0 ∷ [])
     ∷ gives (testedTold .state .table)
-    (0 ∷ 2 ∷ 0 ∷ 1 ∷ 0 ∷ 1 ∷ 0 ∷ 0
-    ∷ 2 ∷ 1 ∷ 0 ∷ 0 ∷ 0 ∷ 0 ∷ 1 ∷ 0
-    ∷ 0 ∷ 1 ∷ 0 ∷ 0 ∷ 0 ∷ 0 ∷ 0 ∷ 0
-    ∷ 0 ∷ 1 ∷ 0 ∷ 0 ∷ 0 ∷ 0 ∷ 0 ∷ 0 ∷ [])
+    (0 ∷ 2 ∷ 0 ∷ 1 ∷ 255 ∷ 0 ∷ 0 ∷ 1 ∷ 0 ∷ 0
+    ∷ 2 ∷ 1 ∷ 0 ∷ 0 ∷ 0 ∷ 0 ∷ 0 ∷ 0 ∷ 1 ∷ 0
+    ∷ 0 ∷ 1 ∷ 0 ∷ 0 ∷ 255 ∷ 0 ∷ 0 ∷ 0 ∷ 0 ∷ 0
+    ∷ 0 ∷ 1 ∷ 0 ∷ 0 ∷ 255 ∷ 0 ∷ 0 ∷ 0 ∷ 0 ∷ 0 ∷ [])
     -- where the reply is late, or 1 suspects 0 too
     ∷ gives (oneEntry 4 zeroSuspectsOne 2 0 .sheet) (0 ∷ 1 ∷ 3 ∷ 0 ∷ [])
     ∷ gives (oneEntry 4 (alsoSuspects 4 zeroSuspectsOne 1 0) 1 0 .sheet) (0 ∷ 1 ∷ 2 ∷ 2 ∷ [])
     -- of two boards, 0 leaves as alone by the same entry: nobody is live, and no round closes
     ∷ gives (aloneOfTwo .sheet) (0 ∷ 1 ∷ 5 ∷ 3 ∷ [])
-    ∷ gives (aloneOfTwo .state .table) (3 ∷ 2 ∷ 0 ∷ 1 ∷ 0 ∷ 1 ∷ 2 ∷ 1 ∷ 0 ∷ 0 ∷ 0 ∷ 0 ∷ [])
+    ∷ gives (aloneOfTwo .state .table) (3 ∷ 2 ∷ 0 ∷ 1 ∷ 255 ∷ 0 ∷ 0 ∷ 1 ∷ 2 ∷ 1 ∷ 0 ∷ 0 ∷ 0 ∷ 0 ∷ 0 ∷ 0 ∷ [])
     ∷ gives (aloneOfTwo .state .rounds ∷ aloneOfTwo .state .tests ∷ []) (0 ∷ 1 ∷ [])
-    -- of three, 2 is left live and has finished: the round closes
+    -- of three, 2 is left live and has finished: the round closes, and by C-18 it counts for both that ceased at this very entry
     ∷ gives (aloneOfThree .sheet) (0 ∷ 1 ∷ 5 ∷ 3 ∷ [])
     ∷ gives (aloneOfThree .state .table)
-    (3 ∷ 1 ∷ 0 ∷ 0 ∷ 0 ∷ 1 ∷ 1
-    ∷ 2 ∷ 1 ∷ 0 ∷ 0 ∷ 0 ∷ 0 ∷ 0
-    ∷ 0 ∷ 1 ∷ 0 ∷ 0 ∷ 0 ∷ 0 ∷ 0 ∷ [])
+    (3 ∷ 1 ∷ 0 ∷ 0 ∷ 255 ∷ 1 ∷ 0 ∷ 1 ∷ 1
+    ∷ 2 ∷ 1 ∷ 0 ∷ 0 ∷ 0 ∷ 1 ∷ 0 ∷ 0 ∷ 0
+    ∷ 0 ∷ 1 ∷ 0 ∷ 0 ∷ 255 ∷ 0 ∷ 0 ∷ 0 ∷ 0 ∷ [])
     ∷ gives (aloneOfThree .state .rounds ∷ aloneOfThree .state .tests ∷ []) (1 ∷ 1 ∷ [])
+    -- C-18: station 1 of four boards above was told by 0; a crash and a late reply name nobody
+    ∷ gives (map (toldBy 4 (fourBoards .state .table)) (0 ∷ 1 ∷ 2 ∷ 3 ∷ [])) (255 ∷ 0 ∷ 255 ∷ 255 ∷ [])
+    -- 1 has finished: the round closes when 0 crashes, "on the very entry at which it ceased"
+    ∷ gives (oneEntry 2 (finishPass 2 (freshTable 2) 1) 3 0 .state .table)
+    (1 ∷ 1 ∷ 0 ∷ 0 ∷ 255 ∷ 1 ∷ 0 ∷ 0
+    ∷ 0 ∷ 1 ∷ 0 ∷ 0 ∷ 255 ∷ 0 ∷ 0 ∷ 0 ∷ [])
+    -- 2 was told by nobody knows whom: 254 stays; byte 5 grows with each round that closes, to 255
+    ∷ gives (afterClosing 0) (2 ∷ 1 ∷ 0 ∷ 0 ∷ 254 ∷ 1 ∷ 0 ∷ 0 ∷ 0 ∷ [])
+    ∷ gives (afterClosing 254) (2 ∷ 1 ∷ 0 ∷ 0 ∷ 254 ∷ 255 ∷ 0 ∷ 0 ∷ 0 ∷ [])
+    ∷ gives (afterClosing 255) (2 ∷ 1 ∷ 0 ∷ 0 ∷ 254 ∷ 255 ∷ 0 ∷ 0 ∷ 0 ∷ [])
+    -- the rules: a live line has 255 and 0; status 1 and 3 have 255; status 2 has 254 or another's number
+    ∷ gives (map (numberOf 0 0) (0 ∷ 2 ∷ 254 ∷ 255 ∷ [])) (3 ∷ 3 ∷ 3 ∷ 0 ∷ [])
+    ∷ gives (numberOf 0 1 255 ∷ numberOf 1 1 255 ∷ numberOf 2 255 254 ∷ []) (3 ∷ 0 ∷ 0 ∷ [])
+    ∷ gives (map (numberOf 1 0) (0 ∷ 254 ∷ 255 ∷ [])) (3 ∷ 3 ∷ 0 ∷ [])
+    ∷ gives (map (numberOf 3 0) (0 ∷ 254 ∷ 255 ∷ [])) (3 ∷ 3 ∷ 0 ∷ [])
+    ∷ gives (map (numberOf 2 0) (0 ∷ 1 ∷ 2 ∷ 3 ∷ 4 ∷ 253 ∷ 254 ∷ 255 ∷ [])) (0 ∷ 3 ∷ 0 ∷ 3 ∷ 3 ∷ 3 ∷ 0 ∷ 3 ∷ [])
     ∷ []
 
 -- each example holds
-pub as-said : map (λ (e : Example). e .given) examples ≡ map (λ (e : Example). e .said) examples
-unfolding examples fourBoards fourDead fourAndFiveDead fourDeadOfEleven zeroSuspectsOne stationTwoFinished testedTold aloneOfTwo aloneOfThree deadPairs deadGroup sum run startNumber tableNumber shapeNumber isSize tableLength every lineRules rowRule someLive liveFinished cell lineStart row setRow setCell freshTable freshByte listOf goOn entries entryNumber after acted sheetLine testedOf outcomeOf turn turnTested turnOutcome crash resetLine resetLines afterRound iterate nextTest makesTest finishPass countTest replies isTold exchangeRows suspect replyOutcome testOutcome afterOutcome selfOrSuspected isAlone afterAlone testing answer due dueDistances otherDistances assignmentEntries keep first firstPlace least unsuspected member width level dimension distances group fullGroup union unionByte joinedByte mark
+abbrev pub AsSaid : List Example → Type 0
+AsSaid es = map (λ (e : Example). e .given) es ≡ map (λ (e : Example). e .said) es
+
+pub as-said : AsSaid examples
+unfolding roundsAfter leaveTold examples fourBoards fourDead fourAndFiveDead fourDeadOfEleven zeroSuspectsOne stationTwoFinished testedTold aloneOfTwo aloneOfThree deadPairs deadGroup sum run startNumber tableNumber shapeNumber isSize tableLength every lineRules exitRule rowRule someLive liveFinished cell lineStart row setRow setCell freshTable freshByte listOf goOn entries entryNumber after acted sheetLine testedOf outcomeOf turn turnTested turnOutcome crash resetLine resetLines afterRound iterate nextTest makesTest finishPass countTest replies isTold exchangeRows suspect replyOutcome testOutcome afterOutcome selfOrSuspected isAlone afterAlone testing answer due dueDistances otherDistances assignmentEntries keep first firstPlace least unsuspected member width level dimension distances group fullGroup union unionByte joinedByte mark
 as-said = refl
+
+pub requested-as-said : AsSaid requested
+unfolding roundsAfter leaveTold requested afterClosing numberOf fourBoards fourDead fourAndFiveDead fourDeadOfEleven zeroSuspectsOne stationTwoFinished testedTold aloneOfTwo aloneOfThree deadPairs deadGroup sum run startNumber tableNumber shapeNumber isSize tableLength every lineRules exitRule rowRule someLive liveFinished cell lineStart row setRow setCell freshTable freshByte listOf goOn entries entryNumber after acted sheetLine testedOf outcomeOf turn turnTested turnOutcome crash resetLine resetLines afterRound iterate nextTest makesTest finishPass countTest replies isTold exchangeRows suspect replyOutcome testOutcome afterOutcome selfOrSuspected isAlone afterAlone testing answer due dueDistances otherDistances assignmentEntries keep first firstPlace least unsuspected member width level dimension distances group fullGroup union unionByte joinedByte mark
+requested-as-said = refl

@@ -13,6 +13,16 @@ use table::fresh;
 
 const OUT: i32 = 1;
 
+// The lengths of tables of two, eight and eleven boards.
+const TWO: usize = 2 * (2 + cells::HEAD as usize);
+
+const EIGHT: usize = 8 * (8 + cells::HEAD as usize);
+
+const ELEVEN: usize = 11 * (11 + cells::HEAD as usize);
+
+// Where a table of eight has what 5 says of 4.
+const FIVE_OF_FOUR: usize = 5 * (8 + cells::HEAD as usize) + cells::HEAD as usize + 4;
+
 fn main() {
     table_1();
     sizes();
@@ -88,17 +98,20 @@ fn byte(x: u8) {
 }
 
 // "N = 128: refusal 1. N = 2: table of 12 bytes; 11 and 13 give 2. N = 64: 4,352 bytes." By C-11 size 3 is taken, and 0, 1 and 65 are not.
+// By C-18 each line has two bytes more: 16 bytes, 15 and 17, and 4,480 bytes.
 fn sizes() {
     size_line(0, 0);
-    size_line(1, 5);
-    size_line(3, 21);
-    size_line(65, 4352);
-    size_line(128, 4352);
+    size_line(1, 7);
+    size_line(3, 27);
+    size_line(65, 4480);
+    size_line(128, 4480);
+    size_line(2, 16);
+    size_line(2, 15);
+    size_line(2, 17);
     size_line(2, 12);
-    size_line(2, 11);
-    size_line(2, 13);
+    size_line(64, 4480);
+    size_line(64, 4479);
     size_line(64, 4352);
-    size_line(64, 4351);
 }
 
 // The number that a fresh table of a size and a length gets.
@@ -133,7 +146,7 @@ fn sixty_four() {
 // Eight boards. None dead: 24 tests a round, of which board 0 makes three. Board 4 crashes: 23 tests a round once all know it, and
 // board 5 tests 0 and 6 besides.
 fn eight_boards() {
-    let mut table = [0u8; 96];
+    let mut table = [0u8; EIGHT];
     fresh::fresh_table(8, &mut table);
     let first = one_round(8, &mut table, no_tally(), 0);
     tests_line(no_tally(), first);
@@ -145,7 +158,7 @@ fn eight_boards() {
 
 // "Tests at 4,294,967,294: a testing turn is taken, the next entry gets 7."
 fn top_tally() {
-    let mut table = [0u8; 12];
+    let mut table = [0u8; TWO];
     fresh::fresh_table(2, &mut table);
     let top = Tally {
         rounds: 0,
@@ -182,7 +195,7 @@ fn eleven_boards() {
     eleven_line(10, Level(1), 0);
     eleven_line(10, Level(2), 2);
     eleven_line(2, Level(4), 3);
-    let mut table = [0u8; 165];
+    let mut table = [0u8; ELEVEN];
     fresh::fresh_table(11, &mut table);
     let mut list = [0u8; 20];
     assignment_line(11, &table, 10, &mut list);
@@ -194,11 +207,11 @@ fn eleven_boards() {
 
 // C-16, eight boards: the assignment of station 5, nothing suspected, and where it suspects 4.
 fn eight_assigned() {
-    let mut table = [0u8; 96];
+    let mut table = [0u8; EIGHT];
     fresh::fresh_table(8, &mut table);
     let mut list = [0u8; 14];
     assignment_line(8, &table, 5, &mut list);
-    table[68] = 1;
+    table[FIVE_OF_FOUR] = 1;
     assignment_line(8, &table, 5, &mut list);
 }
 

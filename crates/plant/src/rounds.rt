@@ -69,7 +69,7 @@ fn rounds_after(n: u8, table: &[u8], i: Station) -> u8
         return ago;
     }
     if ago == cells::ROUNDS_AGO_TOP {
-        return ago;
+        return cells::ROUNDS_AGO_TOP;
     }
     ago + 1
 }

@@ -13,7 +13,7 @@ use lib.Dec.{eqb}
 use lib.ListN.{length}
 use Rattle.table.specs.Sizes.{isSize, distances}
 use Rattle.station.specs.Groups.{stationAt}
-use Rattle.table.specs.Table.{head, stride, tableLength, cell, statusColumn, nextColumn, finishedColumn, testsColumn, toldByColumn, roundsAgoColumn, status, statusCrashed, statusTold, statusAlone, nextDistance, finished, toldBy, roundsAgo, suspects, live}
+use Rattle.table.specs.Table.{head, stride, tableLength, cell, statusColumn, nextColumn, finishedColumn, testsColumn, toldByColumn, roundsAgoColumn, status, statusTold, statusAlone, nextDistance, finished, toldBy, roundsAgo, suspects, live}
 use Rattle.lists.proofs.BoolLaws.{by-bool, choice}
 use Rattle.lists.proofs.SearchLaws.{both}
 use Rattle.lists.proofs.Xor.{xor-cancel}

@@ -7,13 +7,13 @@ use Rattle.lists.specs.Search.{least, every, listOf}
 use Rattle.table.specs.Sizes.{isSize, level, dimension, distances}
 use Rattle.station.specs.Groups.{width, member}
 use Rattle.table.specs.Table.{tableLength, lineStart, cell, setCell, row, setRow}
-use Rattle.table.specs.Rules.{rowRule, lineRules, someLive, liveFinished, shapeNumber, tableNumber}
+use Rattle.table.specs.Rules.{exitRule, rowRule, lineRules, someLive, liveFinished, shapeNumber, tableNumber}
 use Rattle.station.specs.Tests.{unsuspected, firstPlace, first, answer, due}
 use Rattle.station.specs.Rows.{unionByte, union, mark}
 use Rattle.table.specs.Fresh.{freshByte, freshTable}
 use Rattle.lists.specs.Iterate.{iterate}
-use Rattle.turn.specs.Turn.{nextTest, makesTest, finishPass, countTest, replies, isTold, exchangeRows, suspect, replyOutcome, testOutcome, afterOutcome, selfOrSuspected, isAlone, afterAlone, testing, turn, turnTested, turnOutcome, crash}
-use Rattle.plant.specs.Round.{resetLine, resetLines, afterRound}
+use Rattle.turn.specs.Turn.{leaveTold, nextTest, makesTest, finishPass, countTest, replies, isTold, exchangeRows, suspect, replyOutcome, testOutcome, afterOutcome, selfOrSuspected, isAlone, afterAlone, testing, turn, turnTested, turnOutcome, crash}
+use Rattle.plant.specs.Round.{roundsAfter, resetLine, resetLines, afterRound}
 use Rattle.plant.specs.Entry.{entryNumber, acted, after, testedOf, outcomeOf, sheetLine}
 use Rattle.plant.specs.Run.{entries, goOn, startNumber, run}
 use Rattle.lists.specs.Sums.{sum}
@@ -25,7 +25,7 @@ use Rattle.lists.specs.Bytes.{joinedByte}
 
 -- who unfolds this name unfolds all the definitions on its line, and a list of runs computes
 unfoldable pub wholeRun : Unit {0}
-unfolding atStart liveCount noneSuspected deadPairs deadGroup sum afterRuns takenFrom takenIn takenAll anyTaken allTaken countTaken closes cut run startNumber tableNumber shapeNumber isSize tableLength every lineRules rowRule someLive liveFinished cell lineStart row setRow setCell freshTable freshByte listOf goOn entries entryNumber after acted sheetLine testedOf outcomeOf turn turnTested turnOutcome crash resetLine resetLines afterRound iterate nextTest makesTest finishPass countTest replies isTold exchangeRows suspect replyOutcome testOutcome afterOutcome selfOrSuspected isAlone afterAlone testing answer due first firstPlace least unsuspected member width level dimension distances union unionByte joinedByte mark
+unfolding roundsAfter leaveTold atStart liveCount noneSuspected deadPairs deadGroup sum afterRuns takenFrom takenIn takenAll anyTaken allTaken countTaken closes cut run startNumber tableNumber shapeNumber isSize tableLength every lineRules exitRule rowRule someLive liveFinished cell lineStart row setRow setCell freshTable freshByte listOf goOn entries entryNumber after acted sheetLine testedOf outcomeOf turn turnTested turnOutcome crash resetLine resetLines afterRound iterate nextTest makesTest finishPass countTest replies isTold exchangeRows suspect replyOutcome testOutcome afterOutcome selfOrSuspected isAlone afterAlone testing answer due first firstPlace least unsuspected member width level dimension distances union unionByte joinedByte mark
 wholeRun = tt
 
 -- a schedule of turns of the stations listed

@@ -2,7 +2,7 @@
 -- are dead, and every live board suspects them from the start.
 -- Assumes nothing.
 use mathlib.Core.Path.{_≡_, refl, sym, ap, _∙_}
-use mathlib.Core.Bool.{Bool, true, false, cond, _&&_}
+use mathlib.Core.Bool.{Bool, true, false, cond, not, _&&_}
 use mathlib.Core.List.{List, []}
 use Prim.Native.Nat.{ℕ, suc, _+_, _-_, _*_, _/_, _%_, _^_, _≤_, _<_}
 use native.Mathlib.Nat.{mod-eq-of-lt, mul-add-mod-self-right, div-eq-of-lt, add-mul-div-right, add-comm}
@@ -16,8 +16,8 @@ use Rattle.lists.proofs.BoolLaws.{by-bool}
 use Rattle.lists.proofs.SearchLaws.{both, every-at, every-all, listOf-length, listOf-at}
 use Rattle.lists.proofs.SumLaws.{sum-by, sum-stays}
 use Rattle.table.specs.Sizes.{isSize, dimension, distances}
-use Rattle.table.specs.Table.{head, stride, tableLength, lineStart, cell, statusColumn, nextColumn, finishedColumn, testsColumn, status, nextDistance, finished, testsMade, suspects, live}
-use Rattle.table.specs.Rules.{lineRules}
+use Rattle.table.specs.Table.{head, stride, tableLength, lineStart, cell, statusColumn, nextColumn, finishedColumn, testsColumn, toldByColumn, roundsAgoColumn, status, statusTold, nextDistance, finished, testsMade, toldBy, toldByNone, notRecorded, roundsAgo, suspects, live}
+use Rattle.table.specs.Rules.{exitRule, lineRules}
 use Rattle.table.specs.Properties.{lineAtStart, atStart, liveCount, noLiveSuspicion, noneSuspected}
 use Rattle.table.proofs.Accepting.{Accepted, accepted}
 use Rattle.table.proofs.CellLaws.{line-inside, Line, line-holds, accepted-line}
@@ -49,6 +49,17 @@ by-cell n f i c h g =
     line : (i * stride n + c) / stride n ≡ i
     line = rw (add-comm (i * stride n) c) (omega (arith, add-mul-div-right c i {z = stride n} (omega arith), div-eq-of-lt g))
 
+-- the rule of bytes 4 and 5 with more stations
+wider-exit : (n N i s told ago : ℕ) → n ≤ N → exitRule n i s told ago ≡ true → exitRule N i s told ago ≡ true
+unfolding exitRule
+wider-exit n N i s told ago low h =
+    by-bool (eqb s 0) (λ e. rw e (rw e at h))
+    (λ e. by-bool (eqb s statusTold)
+    (λ f. rw (e, f)
+    (by-bool (eqb told notRecorded) (λ q. rw q)
+    (λ q. let b = both (ltb told n) (not (eqb told i)) (rw (e, f, q) at h) in rw (q, lt-ltb told N (omega (arith, ltb-true told n (b .0))), b .1))))
+    (λ f. rw (e, f) (rw (e, f) at h)))
+
 module _ (n N : ℕ) (p : Slow n) (Size : isSize N ≡ true) (low : n ≤ N) (levels : dimension n ≡ dimension N) where
   abbrev t : List ℕ
   t = p .first .table
@@ -63,9 +74,13 @@ module _ (n N : ℕ) (p : Slow n) (Size : isSize N ≡ true) (low : n ≤ N) (le
   abbrev rowByte : ℕ → ℕ → ℕ
   rowByte i y = cond (ltb i n) (cond (ltb y n) (suspects n t i y) (bit (live n t i))) 0
 
+  -- bytes 4 and 5 as they are, with 255 and 0 from n on
+  abbrev exitByte : ℕ → ℕ → ℕ
+  exitByte i c = cond (eqb c toldByColumn) (cond (ltb i n) (toldBy n t i) toldByNone) (cond (eqb c roundsAgoColumn) (cond (ltb i n) (roundsAgo n t i) 0) 0)
+
   abbrev byte : ℕ → ℕ → ℕ
   byte i c =
-      cond (ltb c head) (cond (eqb c statusColumn) (cond (ltb i n) (status n t i) 1) (cond (eqb c nextColumn) 1 0)) (rowByte i (c - head))
+      cond (ltb c head) (cond (eqb c statusColumn) (cond (ltb i n) (status n t i) 1) (cond (eqb c nextColumn) 1 (exitByte i c))) (rowByte i (c - head))
 
   abbrev u : List ℕ
   u = tableBy N byte
@@ -90,6 +105,12 @@ module _ (n N : ℕ) (p : Slow n) (Size : isSize N ≡ true) (low : n ≤ N) (le
   tests-of : (i : ℕ) → i < N → testsMade N u i ≡ 0
   tests-of i h = at i testsColumn h (omega arith)
 
+  exits-of : (i : ℕ) → i < N → exitRule N i (status N u i) (toldBy N u i) (roundsAgo N u i) ≡ true
+  unfolding exitRule
+  exits-of i h =
+      rw (status-of i h, at i toldByColumn h (omega arith), at i roundsAgoColumn h (omega arith))
+      (by-bool (ltb i n) (λ q. rw q (wider-exit n N i (status n t i) (toldBy n t i) (roundsAgo n t i) low (accepted-line n t ok i (ltb-true i n q) .exits))) (λ q. rw q))
+
   live-of : (i : ℕ) → i < N → live N u i ≡ L i
   live-of i h =
       by-bool (ltb i n) (λ q. rw (q, status-of i h, q)) (λ q. rw (q, status-of i h, q))
@@ -99,6 +120,7 @@ module _ (n N : ℕ) (p : Slow n) (Size : isSize N ≡ true) (low : n ≤ N) (le
     statusRange = rw (status-of i h) (by-bool (ltb i n) (λ q. rw q (accepted-line n t ok i (ltb-true i n q) .statusRange)) (λ q. rw q (omega arith)));
     pass = rw (next-of i h, finished-of i h, tests-of i h)
         (record { nextLow = omega arith; nextHigh = distances-pos N; finishedRange = omega arith; testsBound = omega arith; finishedNext = λ e. absurd (omega arith) });
+    exits = exits-of i h;
     own = row-of i i h h ∙ by-bool (ltb i n) (λ q. rw q (accepted-line n t ok i (ltb-true i n q) .own)) (λ q. rw q);
     range = λ y g. rw (row-of i y h g) (byte-small i y);
   }

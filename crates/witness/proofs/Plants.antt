@@ -11,7 +11,7 @@ use lib.ListN.{length}
 use Rattle.lists.proofs.BoolLaws.{by-bool}
 use Rattle.lists.proofs.SearchLaws.{both}
 use Rattle.table.specs.Sizes.{isSize, dimension}
-use Rattle.table.specs.Table.{head, tableLength, setCell, suspects, live}
+use Rattle.table.specs.Table.{head, tableLength, setCell, suspects, live, roundsAgoColumn}
 use Rattle.table.specs.Rules.{notLive, tableNumber}
 use Rattle.table.specs.Properties.{atStart, liveCount, noneSuspected}
 use Rattle.table.specs.Fresh.{freshTable}
@@ -22,14 +22,14 @@ use Rattle.detection.specs.Rounds.{allTaken}
 use Rattle.detection.specs.Claim.{exactWait}
 use Rattle.witness.proofs.Slow.{Goes, stop, go, goes-append, Slow}
 
--- a table with these boards crashed
-unfoldable pub crashed : ℕ → List ℕ → List ℕ → List ℕ
-crashed n t [] = t
-crashed n t (i ∷ is) = crashed n (crash n t i) is
+-- a table with these boards crashed, so many rounds ago
+unfoldable pub crashed : ℕ → List ℕ → List ℕ → ℕ → List ℕ
+crashed n t [] ago = t
+crashed n t (i ∷ is) ago = crashed n (setCell n (crash n t i) i roundsAgoColumn ago) is ago
 
 -- a fresh table with the dead boards crashed, and no tally
 abbrev pub firstState : ℕ → List ℕ → State
-firstState n dead = stateOf (crashed n (freshTable n) dead) 0 0
+firstState n dead = stateOf (crashed n (freshTable n) dead 0) 0 0
 
 -- all turns are taken, and the state that they leave passes q
 unfoldable pub arrives : ℕ → State → List ℕ → (State → Bool) → Bool

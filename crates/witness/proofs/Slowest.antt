@@ -62,7 +62,7 @@ dead-33 = (0 ∷ 1 ∷ 2 ∷ 3 ∷ 4 ∷ 5 ∷ 6 ∷ 7 ∷ 8 ∷ 9 ∷ 10 ∷ 11
     30 ∷ 31 ∷ 32 ∷ [])
 
 abbrev state-33 : List (ℕ × ℕ) → ℕ → ℕ → State
-state-33 suspicions rounds tests = stateOf (marked 33 (crashed 33 (freshTable 33) dead-33) suspicions) rounds tests
+state-33 suspicions rounds tests = stateOf (marked 33 (crashed 33 (freshTable 33) dead-33 rounds) suspicions) rounds tests
 
 -- who came to suspect whom in which round: (20, 5) is board 20, which came to suspect board 5
 abbrev found-0 : List (ℕ × ℕ)
