@@ -1,8 +1,9 @@
 /* The vCube watch for C and C++: the calls of the document "The vCube watch on a gin's plant cable" (document 01), with the sizes of
- * request C-11 of document 02, the tested station that hears it too, its request C-13, and the assignment that says who stands ahead, its
- * request C-16; the bus master that grants the turns, its request C-15; saving the plant to the panel, its request C-17; and the figures
- * over a season's trials, its request C-12. The library behind them (crates/vcube and the crates that it uses, docs/MAP.md) is proved in
- * Rattle to do what its definitions say; this header and the compiler's back end are not part of the proof.
+ * request C-11 of document 02, the tested station that hears it too, its request C-13, the assignment that says who stands ahead, its
+ * request C-16, and the line that says who told a station to leave and how long ago, its request C-18; the bus master that grants the turns,
+ * its request C-15; saving the plant to the panel, its request C-17; and the figures over a season's trials, its request C-12. The library
+ * behind them (crates/vcube and the crates that it uses, docs/MAP.md) is proved in Rattle to do what its definitions say; this header and
+ * the compiler's back end are not part of the proof.
  *
  * Build the archive with `rt staticlib vcube` and link target/staticlib/libvcube.a (x86-64 Linux), or install it by bindings/c/install.
  *
@@ -22,16 +23,33 @@
  * the group of j at the level of m: m is due for i if i is the first station of that group that i does not suspect, and otherwise that first
  * station, live or not, is ahead of i at m. If no station is at distance m from i, then m is not due for i.
  *
- * The table has n lines of n + 4 bytes, in station order. Bytes 0 to 3 of a line are its status (enum vcube_status), its next distance (1
- * to 2^d), whether its pass is finished (0 or 1), and the tests made in this round. Then comes the station's row: byte k is 1 if it
- * suspects station k, else 0. The line rules, for lines that are not live too: each byte in its range; the tests at most the next distance
- * less 1; a finished line has next distance 2^d; a station's byte about itself is 0.
+ * The table has n lines of n + 6 bytes, in station order. The head of a line is its first VCUBE_HEAD bytes:
+ *
+ *   byte 0    its status (enum vcube_status)
+ *   byte 1    its next distance, 1 to 2^d
+ *   byte 2    whether its pass is finished, 0 or 1
+ *   byte 3    the tests made in this round
+ *   byte 4    the station whose row told it to leave; VCUBE_TOLD_BY_NONE if none did, VCUBE_TOLD_NOT_RECORDED if it was never recorded
+ *   byte 5    how many rounds were closed since it ceased to be live; it stops at 255, which means 255 or more
+ *
+ * Then, from byte 6 on, comes the station's row: byte k of it is 1 if the station suspects station k, else 0. For byte 5 a round that closes
+ * on the very entry at which the station ceased to be live counts too, so that byte 5 is 1 after that entry.
+ *
+ * The line rules, for lines that are not live too: each byte in its range; the tests at most the next distance less 1; a finished line has
+ * next distance 2^d; a station's byte about itself is 0. And of bytes 4 and 5: a live line has VCUBE_TOLD_BY_NONE and 0; one of status 1 or
+ * 3 has VCUBE_TOLD_BY_NONE in byte 4; one of status 2 has there VCUBE_TOLD_NOT_RECORDED, or a number below n other than its own, be that
+ * station live or not. Byte 5 of a line that is not live may be anything.
+ *
+ * A table of before version 0.9, whose heads have four bytes, is refused with 2. Begin with a fresh table instead; or make the heads longer
+ * by hand, with these as bytes 4 and 5 of each line: VCUBE_TOLD_BY_NONE and 0 where the status is 0, 1 or 3, VCUBE_TOLD_NOT_RECORDED and 0
+ * where it is 2. Byte 5 then counts the rounds closed from there on. A plant saved before 0.9 is refused with 20 when it is loaded, and no
+ * call converts it.
  *
  * A saved plant holds size, tally and table as fields, one behind the other. A field is a tag of one byte (enum vcube_tag), the length of
  * its contents in two bytes, high byte first, and the contents. Those of the size field are n, in one byte; those of the tally field are
- * rounds and tests, in four bytes each, high byte first; those of a line field are a station number, in one byte, and the n + 4 bytes of
- * that station's line. There is one size field, one tally field, and one line
- * field for each station; fields of other tags may stand among them.
+ * rounds and tests, in four bytes each, high byte first; those of a line field are a station number, in one byte, and the n + 6 bytes of
+ * that station's line. There is one size field, one tally field, and one line field for each station; fields of other tags may stand among
+ * them.
  *
  * Figures are taken over results, which are numbers of 16 bits: for instance the rounds that each trial took until all dead boards were
  * known. Totals are what is kept of results so that figures can be had without them, and are joined with the totals of further results. A
@@ -50,19 +68,22 @@
 #include <stdint.h>
 
 #define VCUBE_VERSION_MAJOR 0
-#define VCUBE_VERSION_MINOR 8
+#define VCUBE_VERSION_MINOR 9
 #define VCUBE_VERSION_PATCH 0
-#define VCUBE_VERSION "0.8.0"
+#define VCUBE_VERSION "0.9.0"
 
 #ifdef __cplusplus
 extern "C" {
 #endif
 
-/* The length of a table of n stations. */
-#define VCUBE_TABLE_LENGTH(n) ((size_t)(n) * ((size_t)(n) + 4))
+/* How many bytes of a line of the table stand before its row. */
+#define VCUBE_HEAD 6
 
-/* The length of a saved plant of n stations, as vcube_save writes it: 15 bytes for size and tally, and n line fields of n + 8 bytes. */
-#define VCUBE_SAVED_LENGTH(n) (15 + (size_t)(n) * ((size_t)(n) + 8))
+/* The length of a table of n stations. */
+#define VCUBE_TABLE_LENGTH(n) ((size_t)(n) * ((size_t)(n) + VCUBE_HEAD))
+
+/* The length of a saved plant of n stations, as vcube_save writes it: 15 bytes for size and tally, and n line fields of n + 10 bytes. */
+#define VCUBE_SAVED_LENGTH(n) (15 + (size_t)(n) * ((size_t)(n) + 10))
 
 /* The length of the longest group list. */
 #define VCUBE_LONGEST_GROUP 32
@@ -76,6 +97,12 @@ extern "C" {
 /* Stands in the sheet where no station was tested, and is the last granted number where none was granted yet. */
 #define VCUBE_NO_STATION 255
 
+/* Byte 4 of the line of a station that no other one told to leave: it is live, crashed, or left because alone. */
+#define VCUBE_TOLD_BY_NONE 255
+
+/* Byte 4 of the line of a station that was told to leave, where it was never recorded by whom. Runs and drives never write it. */
+#define VCUBE_TOLD_NOT_RECORDED 254
+
 /* The most results that figures are taken over. */
 #define VCUBE_MOST_RESULTS 4096
 
@@ -84,7 +111,7 @@ extern "C" {
 enum vcube_refusal {
     VCUBE_ACCEPTED = 0,
     VCUBE_REFUSED_SIZE = 1,                 /* the size n is not from 2 to 64 */
-    VCUBE_REFUSED_TABLE_LENGTH = 2,         /* the table's length is not n * (n + 4) */
+    VCUBE_REFUSED_TABLE_LENGTH = 2,         /* the table's length is not n * (n + 6) */
     VCUBE_REFUSED_LINE_RULE = 3,            /* a line of the table breaks a line rule */
     VCUBE_REFUSED_ALL_FINISHED = 4,         /* some station is live and every live one is finished */
     VCUBE_REFUSED_SCHEDULE_LENGTH = 5,      /* the schedule's length is odd */
@@ -96,14 +123,15 @@ enum vcube_refusal {
     VCUBE_REFUSED_PASS_FINISHED = 11,       /* the kind is 1 or 2 and the station has finished its pass */
     VCUBE_REFUSED_LEVEL = 12,               /* the level is 0 or above d */
     VCUBE_REFUSED_LIST_LENGTH = 13,         /* the lent list, or buffer to save into, has not the length stated (group list:
-                                             * vcube_group_length; assignment: 2 * (n - 1); saved plant: 15 + n * (n + 8)) */
+                                             * vcube_group_length; assignment: 2 * (n - 1); saved plant: 15 + n * (n + 10)) */
     VCUBE_REFUSED_NO_RESULT = 14,           /* there is no result at all (in both lists together, where two are given) */
     VCUBE_REFUSED_TOO_MANY_RESULTS = 15,    /* there are more than 4096 results in all, or totals that 4096 results cannot have */
     VCUBE_REFUSED_LAST_GRANTED = 16,        /* the last granted number is n or more and not 255 */
     VCUBE_REFUSED_NONE_LIVE = 17,           /* no station is live */
     VCUBE_REFUSED_FIELD_PAST_END = 18,      /* a field of the saved plant, or its head (tag and length), runs past the end */
     VCUBE_REFUSED_SIZE_OR_TALLY_FIELD = 19, /* the size field or the tally field is absent, twice or of wrong length */
-    VCUBE_REFUSED_LINE_FIELD = 20           /* a line field has the wrong length, or a station is absent, twice or too high (n or more) */
+    VCUBE_REFUSED_LINE_FIELD = 20           /* a line field has not the length n + 7, or a station is absent, twice or too high (n or
+                                             * more) */
 };
 
 /* Byte 0 of an entry of a schedule. */
@@ -117,7 +145,8 @@ enum vcube_kind {
 enum vcube_status {
     VCUBE_STATUS_LIVE = 0,
     VCUBE_STATUS_CRASHED = 1,
-    VCUBE_STATUS_TOLD = 2,              /* left because told that it is suspected, by a station that it tested or by one that tested it */
+    VCUBE_STATUS_TOLD = 2,              /* left because told that it is suspected, by a station that it tested or by one that tested it;
+                                         * byte 4 of its line names that station, if it was recorded */
     VCUBE_STATUS_ALONE = 3              /* left because alone: it suspects all others */
 };
 
@@ -138,7 +167,7 @@ enum vcube_tag {
     VCUBE_TAG_LINE = 3
 };
 
-/* Fresh table: every line live, next distance 1, all else 0.
+/* Fresh table: every line live, next distance 1, VCUBE_TOLD_BY_NONE in byte 4, all else 0.
  * Refusals: 1, 2. */
 uint8_t vcube_fresh_table(size_t n, uint8_t *table, size_t table_length);
 
@@ -186,6 +215,10 @@ uint8_t vcube_row(size_t n, const uint8_t *table, size_t table_length, size_t st
  * if the tester suspects all others. So one entry may make two stations cease to be live: a caller who follows the sheet learns it of the
  * station in byte 0 from byte 3, and of that in byte 1 from byte 2.
  *
+ * In the table byte 4 of the line of a station that was told and left names the one whose row told it: the tested station where the outcome
+ * is VCUBE_OUTCOME_TOLD, the tester where it is VCUBE_OUTCOME_TESTED_TOLD. An entry that closes a round adds 1 to byte 5 of every line that
+ * is not live then, up to 255. Nothing else in a run changes these two bytes: a VCUBE_TOLD_NOT_RECORDED that was handed in stays.
+ *
  * *rounds and *tests are the tally of closed rounds and of tests: handed in there, given back there. *taken is how many entries were taken.
  * A run refused by 1 to 6 leaves the tally as it was, and *taken is 0.
  * Refusals: 1 to 6, then 7 to 11 at each entry. */
@@ -226,7 +259,7 @@ uint8_t vcube_save(size_t n, const uint8_t *table, size_t table_length, uint32_t
                    size_t saved_length);
 
 /* Load: reads a saved plant; its size into *n, its tally into *rounds and *tests, and its lines into the table, which has
- * n * (n + 4) bytes for the saved plant's n, all of them written (vcube_saved_size gives n beforehand). The fields may stand in any order.
+ * n * (n + 6) bytes for the saved plant's n, all of them written (vcube_saved_size gives n beforehand). The fields may stand in any order.
  * Fields of other tags, 0 included, are passed over: there may be any number of them, with any contents. *n, *rounds and *tests are 0 where
  * the call is refused.
  *

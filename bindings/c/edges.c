@@ -1,5 +1,6 @@
 /* What vcube.h says of NULL with length 0, of figures after a refusal, of a group's length, of who is ahead, of who leaves at a test, of
- * grants and drives, of saved plants, of the most results and the totals that they can have, of its structs, and of its version. */
+ * grants and drives, of saved plants, of who told a station to leave and how long ago, of the most results and the totals that they can
+ * have, of its structs, and of its version. */
 
 #include "vcube.h"
 
@@ -8,6 +9,10 @@
 
 #define N 2
 #define ANY 77 /* what a figure holds before a call */
+
+/* Byte 4 of a line. */
+#define NONE VCUBE_TOLD_BY_NONE
+#define NOT_RECORDED VCUBE_TOLD_NOT_RECORDED
 
 static int failures;
 
@@ -120,7 +125,7 @@ static void assign(const struct assignment *one)
 
     expect(vcube_fresh_table(one->n, table, table_length) == VCUBE_ACCEPTED, one->what);
     for (size_t k = 0; k < one->n; k++)
-        table[one->station * (one->n + 4) + 4 + k] = (uint8_t)((one->suspected >> k) & 1);
+        table[one->station * (one->n + VCUBE_HEAD) + VCUBE_HEAD + k] = (uint8_t)((one->suspected >> k) & 1);
     memset(list, ANY, sizeof list);
     expect(vcube_assignment(one->n, table, table_length, one->station, list, length, &count) == VCUBE_ACCEPTED, one->what);
     expect(count == one->count && memcmp(list, one->list, length) == 0, one->what);
@@ -130,8 +135,12 @@ static void assign(const struct assignment *one)
 /* A station that has finished its pass, in a plant of 4 in which 1 and 3 are not live: it does not suspect 1, which is ahead at 3. */
 static void assignment_of_finished(void)
 {
-    const uint8_t table[VCUBE_TABLE_LENGTH(4)] = {0, 4, 1, 2, 0, 0, 0, 0, 1, 1, 0, 0, 0, 0, 0, 0,
-                                                  0, 1, 0, 0, 0, 0, 0, 0, 3, 2, 0, 1, 1, 1, 1, 0};
+    const uint8_t table[VCUBE_TABLE_LENGTH(4)] = {
+        0, 4, 1, 2, NONE, 0, 0, 0, 0, 0,
+        1, 1, 0, 0, NONE, 0, 0, 0, 0, 0,
+        0, 1, 0, 0, NONE, 0, 0, 0, 0, 0,
+        3, 2, 0, 1, NONE, 0, 1, 1, 1, 0,
+    };
     const uint8_t expected[VCUBE_ASSIGNMENT_LENGTH(4)] = {1, DUE, 2, DUE, 3, 1};
     uint8_t list[sizeof expected];
     size_t count = ANY;
@@ -215,32 +224,35 @@ struct turn {
     uint32_t rounds;
 };
 
-/* Worked out by hand from steps 3 to 8 of document 01 and request C-13. */
+/* Worked out by hand from steps 3 to 8 of document 01 and requests C-13 and C-18. */
 static const struct turn turns[] = {
     {"run: neither suspects the other, both stay live", VCUBE_KIND_TURN,
-     {0, 1, 0, 0, 0, 0, 0, 1, 0, 0, 0, 0}, {0, 1, VCUBE_OUTCOME_EXCHANGED, VCUBE_STATUS_LIVE},
-     {0, 2, 0, 1, 0, 0, 0, 1, 0, 0, 0, 0}, 0},
+     {0, 1, 0, 0, NONE, 0, 0, 0, 0, 1, 0, 0, NONE, 0, 0, 0}, {0, 1, VCUBE_OUTCOME_EXCHANGED, VCUBE_STATUS_LIVE},
+     {0, 2, 0, 1, NONE, 0, 0, 0, 0, 1, 0, 0, NONE, 0, 0, 0}, 0},
     {"run: the tested station suspects the tester, which leaves", VCUBE_KIND_TURN,
-     {0, 1, 0, 0, 0, 0, 0, 1, 0, 0, 1, 0}, {0, 1, VCUBE_OUTCOME_TOLD, VCUBE_STATUS_TOLD},
-     {2, 2, 0, 1, 0, 0, 0, 1, 0, 0, 1, 0}, 0},
+     {0, 1, 0, 0, NONE, 0, 0, 0, 0, 1, 0, 0, NONE, 0, 1, 0}, {0, 1, VCUBE_OUTCOME_TOLD, VCUBE_STATUS_TOLD},
+     {2, 2, 0, 1, 1, 0, 0, 0, 0, 1, 0, 0, NONE, 0, 1, 0}, 0},
     {"run: each suspects the other, only the tester leaves", VCUBE_KIND_TURN,
-     {0, 1, 0, 0, 0, 1, 0, 1, 0, 0, 1, 0}, {0, 1, VCUBE_OUTCOME_TOLD, VCUBE_STATUS_TOLD},
-     {2, 2, 0, 1, 0, 1, 0, 1, 0, 0, 1, 0}, 0},
+     {0, 1, 0, 0, NONE, 0, 0, 1, 0, 1, 0, 0, NONE, 0, 1, 0}, {0, 1, VCUBE_OUTCOME_TOLD, VCUBE_STATUS_TOLD},
+     {2, 2, 0, 1, 1, 0, 0, 1, 0, 1, 0, 0, NONE, 0, 1, 0}, 0},
     {"run: the tester leaves, and the round closes as the tested station is finished", VCUBE_KIND_TURN,
-     {0, 1, 0, 0, 0, 1, 0, 2, 1, 1, 1, 0}, {0, 1, VCUBE_OUTCOME_TOLD, VCUBE_STATUS_TOLD},
-     {2, 1, 0, 0, 0, 1, 0, 1, 0, 0, 1, 0}, 1},
+     {0, 1, 0, 0, NONE, 0, 0, 1, 0, 2, 1, 1, NONE, 0, 1, 0}, {0, 1, VCUBE_OUTCOME_TOLD, VCUBE_STATUS_TOLD},
+     {2, 1, 0, 0, 1, 1, 0, 1, 0, 1, 0, 0, NONE, 0, 1, 0}, 1},
     {"run: the tester suspects the tested station, which leaves, and is alone", VCUBE_KIND_TURN,
-     {0, 1, 0, 0, 0, 1, 0, 1, 0, 0, 0, 0}, {0, 1, VCUBE_OUTCOME_TESTED_TOLD, VCUBE_STATUS_ALONE},
-     {3, 2, 0, 1, 0, 1, 2, 1, 0, 0, 0, 0}, 0},
+     {0, 1, 0, 0, NONE, 0, 0, 1, 0, 1, 0, 0, NONE, 0, 0, 0}, {0, 1, VCUBE_OUTCOME_TESTED_TOLD, VCUBE_STATUS_ALONE},
+     {3, 2, 0, 1, NONE, 0, 0, 1, 2, 1, 0, 0, 0, 0, 0, 0}, 0},
     {"run: both leave, and no round closes as nobody is live", VCUBE_KIND_TURN,
-     {0, 1, 0, 0, 0, 1, 0, 2, 1, 1, 0, 0}, {0, 1, VCUBE_OUTCOME_TESTED_TOLD, VCUBE_STATUS_ALONE},
-     {3, 2, 0, 1, 0, 1, 2, 2, 1, 1, 0, 0}, 0},
+     {0, 1, 0, 0, NONE, 0, 0, 1, 0, 2, 1, 1, NONE, 0, 0, 0}, {0, 1, VCUBE_OUTCOME_TESTED_TOLD, VCUBE_STATUS_ALONE},
+     {3, 2, 0, 1, NONE, 0, 0, 1, 2, 2, 1, 1, 0, 0, 0, 0}, 0},
     {"run: a suspected station whose reply is late hears nothing", VCUBE_KIND_LATE_TURN,
-     {0, 1, 0, 0, 0, 1, 0, 1, 0, 0, 0, 0}, {0, 1, VCUBE_OUTCOME_NO_REPLY, VCUBE_STATUS_ALONE},
-     {3, 2, 0, 1, 0, 1, 0, 1, 0, 0, 0, 0}, 0},
+     {0, 1, 0, 0, NONE, 0, 0, 1, 0, 1, 0, 0, NONE, 0, 0, 0}, {0, 1, VCUBE_OUTCOME_NO_REPLY, VCUBE_STATUS_ALONE},
+     {3, 2, 0, 1, NONE, 0, 0, 1, 0, 1, 0, 0, NONE, 0, 0, 0}, 0},
     {"run: a suspected station that crashed keeps its status", VCUBE_KIND_TURN,
-     {0, 1, 0, 0, 0, 1, 1, 1, 0, 0, 0, 0}, {0, 1, VCUBE_OUTCOME_NO_REPLY, VCUBE_STATUS_ALONE},
-     {3, 2, 0, 1, 0, 1, 1, 1, 0, 0, 0, 0}, 0},
+     {0, 1, 0, 0, NONE, 0, 0, 1, 1, 1, 0, 0, NONE, 7, 0, 0}, {0, 1, VCUBE_OUTCOME_NO_REPLY, VCUBE_STATUS_ALONE},
+     {3, 2, 0, 1, NONE, 0, 0, 1, 1, 1, 0, 0, NONE, 7, 0, 0}, 0},
+    {"run: a suspected station that was told keeps what its line says", VCUBE_KIND_TURN,
+     {0, 1, 0, 0, NONE, 0, 0, 1, 2, 1, 0, 0, NOT_RECORDED, 255, 0, 0}, {0, 1, VCUBE_OUTCOME_NO_REPLY, VCUBE_STATUS_ALONE},
+     {3, 2, 0, 1, NONE, 0, 0, 1, 2, 1, 0, 0, NOT_RECORDED, 255, 0, 0}, 0},
 };
 
 static void take_turn(const struct turn *turn)
@@ -303,7 +315,7 @@ static void drive(size_t n, uint8_t *table, size_t table_length, struct driven f
 }
 
 /* A fresh table of 2. */
-#define FRESH {0, 1, 0, 0, 0, 0, 0, 1, 0, 0, 0, 0}
+#define FRESH {0, 1, 0, 0, NONE, 0, 0, 0, 0, 1, 0, 0, NONE, 0, 0, 0}
 
 /* A plant that grant and drive refuse with the same number. */
 struct refused_plant {
@@ -317,26 +329,30 @@ struct refused_plant {
 
 /* Where later numbers stand in the text, their sentences hold of the plant too. */
 static const struct refused_plant refused_plants[] = {
-    {"grant and drive: size 1 gets 1 before 2", 1, 11, N, VCUBE_REFUSED_SIZE, {4, 1, 0, 0, 0, 0, 1, 1, 0, 0, 0, 0}},
-    {"grant and drive: size 65 gets 1 before 2", 65, 11, N, VCUBE_REFUSED_SIZE, {4, 1, 0, 0, 0, 0, 1, 1, 0, 0, 0, 0}},
-    {"grant and drive: size 258 is not cut to 2", 258, 12, 0, VCUBE_REFUSED_SIZE, FRESH},
-    {"grant and drive: 11 bytes get 2 before 3 and 16", N, 11, N, VCUBE_REFUSED_TABLE_LENGTH, {4, 1, 0, 0, 0, 0, 1, 1, 0, 0, 0, 0}},
-    {"grant and drive: the table of another size gets 2", 3, 12, 0, VCUBE_REFUSED_TABLE_LENGTH, FRESH},
-    {"grant and drive: more tests than distances get 3 before 4 and 16", N, 12, N, VCUBE_REFUSED_LINE_RULE,
-     {0, 2, 1, 0, 0, 0, 0, 2, 1, 2, 0, 0}},
-    {"grant and drive: a row byte of 2 gets 3 before 16 and 17", N, 12, N, VCUBE_REFUSED_LINE_RULE,
-     {1, 1, 0, 0, 0, 0, 1, 1, 0, 0, 2, 0}},
-    {"grant and drive: every live station is finished, 4 before 16", N, 12, N, VCUBE_REFUSED_ALL_FINISHED,
-     {0, 2, 1, 0, 0, 0, 1, 1, 0, 0, 0, 0}},
-    {"grant and drive: 16 comes before 17", N, 12, N, VCUBE_REFUSED_LAST_GRANTED, {1, 1, 0, 0, 0, 0, 1, 1, 0, 0, 0, 0}},
-    {"grant and drive: no station is live", N, 12, VCUBE_NO_STATION, VCUBE_REFUSED_NONE_LIVE, {1, 1, 0, 0, 0, 0, 3, 2, 0, 1, 1, 0}},
-    {"grant and drive: none is live, be they finished or not", N, 12, 1, VCUBE_REFUSED_NONE_LIVE, {2, 2, 1, 1, 0, 0, 1, 1, 0, 0, 0, 0}},
-    {"grant and drive: a last number of n", N, 12, N, VCUBE_REFUSED_LAST_GRANTED, FRESH},
-    {"grant and drive: a last number of 254", N, 12, 254, VCUBE_REFUSED_LAST_GRANTED, FRESH},
-    {"grant and drive: 256 is not cut to 0", N, 12, 256, VCUBE_REFUSED_LAST_GRANTED, FRESH},
-    {"grant and drive: 511 is not cut to 255", N, 12, 511, VCUBE_REFUSED_LAST_GRANTED, FRESH},
-    {"grant and drive: 2^32 + 255 is not cut to 255", N, 12, (size_t)UINT32_MAX + 256, VCUBE_REFUSED_LAST_GRANTED, FRESH},
-    {"grant and drive: the greatest last number", N, 12, SIZE_MAX, VCUBE_REFUSED_LAST_GRANTED, FRESH},
+    {"grant and drive: size 1 gets 1 before 2", 1, 15, N, VCUBE_REFUSED_SIZE, {4, 1, 0, 0, NONE, 0, 0, 0, 1, 1, 0, 0, NONE, 0, 0, 0}},
+    {"grant and drive: size 65 gets 1 before 2", 65, 15, N, VCUBE_REFUSED_SIZE, {4, 1, 0, 0, NONE, 0, 0, 0, 1, 1, 0, 0, NONE, 0, 0, 0}},
+    {"grant and drive: size 258 is not cut to 2", 258, 16, 0, VCUBE_REFUSED_SIZE, FRESH},
+    {"grant and drive: 15 bytes get 2 before 3 and 16", N, 15, N, VCUBE_REFUSED_TABLE_LENGTH,
+     {4, 1, 0, 0, NONE, 0, 0, 0, 1, 1, 0, 0, NONE, 0, 0, 0}},
+    {"grant and drive: the table of another size gets 2", 3, 16, 0, VCUBE_REFUSED_TABLE_LENGTH, FRESH},
+    {"grant and drive: a table of before 0.9 gets 2", N, 12, 0, VCUBE_REFUSED_TABLE_LENGTH, {0, 1, 0, 0, 0, 0, 0, 1, 0, 0, 0, 0}},
+    {"grant and drive: more tests than distances get 3 before 4 and 16", N, 16, N, VCUBE_REFUSED_LINE_RULE,
+     {0, 2, 1, 0, NONE, 0, 0, 0, 0, 2, 1, 2, NONE, 0, 0, 0}},
+    {"grant and drive: a row byte of 2 gets 3 before 16 and 17", N, 16, N, VCUBE_REFUSED_LINE_RULE,
+     {1, 1, 0, 0, NONE, 0, 0, 0, 1, 1, 0, 0, NONE, 0, 2, 0}},
+    {"grant and drive: every live station is finished, 4 before 16", N, 16, N, VCUBE_REFUSED_ALL_FINISHED,
+     {0, 2, 1, 0, NONE, 0, 0, 0, 1, 1, 0, 0, NONE, 0, 0, 0}},
+    {"grant and drive: 16 comes before 17", N, 16, N, VCUBE_REFUSED_LAST_GRANTED, {1, 1, 0, 0, NONE, 0, 0, 0, 1, 1, 0, 0, NONE, 0, 0, 0}},
+    {"grant and drive: no station is live", N, 16, VCUBE_NO_STATION, VCUBE_REFUSED_NONE_LIVE,
+     {1, 1, 0, 0, NONE, 0, 0, 0, 3, 2, 0, 1, NONE, 0, 1, 0}},
+    {"grant and drive: none is live, be they finished or not", N, 16, 1, VCUBE_REFUSED_NONE_LIVE,
+     {2, 2, 1, 1, 1, 0, 0, 0, 1, 1, 0, 0, NONE, 0, 0, 0}},
+    {"grant and drive: a last number of n", N, 16, N, VCUBE_REFUSED_LAST_GRANTED, FRESH},
+    {"grant and drive: a last number of 254", N, 16, 254, VCUBE_REFUSED_LAST_GRANTED, FRESH},
+    {"grant and drive: 256 is not cut to 0", N, 16, 256, VCUBE_REFUSED_LAST_GRANTED, FRESH},
+    {"grant and drive: 511 is not cut to 255", N, 16, 511, VCUBE_REFUSED_LAST_GRANTED, FRESH},
+    {"grant and drive: 2^32 + 255 is not cut to 255", N, 16, (size_t)UINT32_MAX + 256, VCUBE_REFUSED_LAST_GRANTED, FRESH},
+    {"grant and drive: the greatest last number", N, 16, SIZE_MAX, VCUBE_REFUSED_LAST_GRANTED, FRESH},
 };
 
 /* The refused drive gives back what was handed in, makes no grant and changes no byte. */
@@ -367,10 +383,18 @@ static void refused_grants(void)
 /* The granting rule on plants of 4 in which 1 is not live and 2 is finished: 3 is granted, and in the first plant 0 too. */
 static void who_is_granted(void)
 {
-    const uint8_t two[VCUBE_TABLE_LENGTH(4)] = {0, 1, 0, 0, 0, 0, 0, 0, 1, 1, 0, 0, 0, 0, 0, 0,
-                                                0, 4, 1, 2, 0, 0, 0, 0, 0, 3, 0, 1, 0, 0, 0, 0};
-    const uint8_t one[VCUBE_TABLE_LENGTH(4)] = {0, 4, 1, 2, 0, 0, 0, 0, 1, 1, 0, 0, 0, 0, 0, 0,
-                                                0, 4, 1, 2, 0, 0, 0, 0, 0, 3, 0, 1, 0, 0, 0, 0};
+    const uint8_t two[VCUBE_TABLE_LENGTH(4)] = {
+        0, 1, 0, 0, NONE, 0, 0, 0, 0, 0,
+        1, 1, 0, 0, NONE, 0, 0, 0, 0, 0,
+        0, 4, 1, 2, NONE, 0, 0, 0, 0, 0,
+        0, 3, 0, 1, NONE, 0, 0, 0, 0, 0,
+    };
+    const uint8_t one[VCUBE_TABLE_LENGTH(4)] = {
+        0, 4, 1, 2, NONE, 0, 0, 0, 0, 0,
+        1, 1, 0, 0, NONE, 0, 0, 0, 0, 0,
+        0, 4, 1, 2, NONE, 0, 0, 0, 0, 0,
+        0, 3, 0, 1, NONE, 0, 0, 0, 0, 0,
+    };
     const size_t lasts[] = {VCUBE_NO_STATION, 0, 1, 2, 3};
     const size_t of_two[] = {0, 3, 3, 3, 0};
 
@@ -390,7 +414,7 @@ struct drive {
     struct driven given;
 };
 
-/* Worked out by hand from the granting rule and steps 1 to 8 of document 01 with request C-13. */
+/* Worked out by hand from the granting rule and steps 1 to 8 of document 01 with requests C-13 and C-18. */
 static const struct drive drives[] = {
     {"drive: 0, 1, 0, 1 close a round, in n * n grants",
      FRESH, {5, 7, VCUBE_NO_STATION, ANY}, VCUBE_ACCEPTED,
@@ -399,35 +423,35 @@ static const struct drive drives[] = {
      FRESH, {5, 7, 0, ANY}, VCUBE_ACCEPTED,
      FRESH, {6, 9, 0, 4}},
     {"drive: in the middle of a round only 1 is left, and it was the last one",
-     {0, 2, 1, 1, 0, 0, 0, 2, 0, 1, 0, 0}, {5, 7, 1, ANY}, VCUBE_ACCEPTED,
+     {0, 2, 1, 1, NONE, 0, 0, 0, 0, 2, 0, 1, NONE, 0, 0, 0}, {5, 7, 1, ANY}, VCUBE_ACCEPTED,
      FRESH, {6, 7, 1, 1}},
     {"drive: 0 tests 1, which leaves, and is alone: nobody is left live",
-     {0, 1, 0, 0, 0, 1, 0, 1, 0, 0, 0, 0}, {5, 7, VCUBE_NO_STATION, ANY}, VCUBE_ACCEPTED,
-     {3, 2, 0, 1, 0, 1, 2, 1, 0, 0, 0, 0}, {5, 8, 0, 1}},
+     {0, 1, 0, 0, NONE, 0, 0, 1, 0, 1, 0, 0, NONE, 0, 0, 0}, {5, 7, VCUBE_NO_STATION, ANY}, VCUBE_ACCEPTED,
+     {3, 2, 0, 1, NONE, 0, 0, 1, 2, 1, 0, 0, 0, 0, 0, 0}, {5, 8, 0, 1}},
     {"drive: 1 is told and leaves; then 0 is alone and leaves",
-     {0, 1, 0, 0, 0, 1, 0, 1, 0, 0, 0, 0}, {5, 7, 0, ANY}, VCUBE_ACCEPTED,
-     {3, 2, 0, 1, 0, 1, 2, 2, 0, 1, 0, 0}, {5, 9, 0, 2}},
+     {0, 1, 0, 0, NONE, 0, 0, 1, 0, 1, 0, 0, NONE, 0, 0, 0}, {5, 7, 0, ANY}, VCUBE_ACCEPTED,
+     {3, 2, 0, 1, NONE, 0, 0, 1, 2, 2, 0, 1, 0, 0, 0, 0}, {5, 9, 0, 2}},
     {"drive: rounds at the top stop it before the first grant",
      FRESH, {UINT32_MAX, 7, VCUBE_NO_STATION, ANY}, VCUBE_REFUSED_TALLY,
      FRESH, {UINT32_MAX, 7, VCUBE_NO_STATION, 0}},
     {"drive: tests at the top stop it before the first grant",
-     {0, 2, 1, 1, 0, 0, 0, 2, 0, 1, 0, 0}, {5, UINT32_MAX, 0, ANY}, VCUBE_REFUSED_TALLY,
-     {0, 2, 1, 1, 0, 0, 0, 2, 0, 1, 0, 0}, {5, UINT32_MAX, 0, 0}},
+     {0, 2, 1, 1, NONE, 0, 0, 0, 0, 2, 0, 1, NONE, 0, 0, 0}, {5, UINT32_MAX, 0, ANY}, VCUBE_REFUSED_TALLY,
+     {0, 2, 1, 1, NONE, 0, 0, 0, 0, 2, 0, 1, NONE, 0, 0, 0}, {5, UINT32_MAX, 0, 0}},
     {"drive: tests reach the top with the first turn",
      FRESH, {5, UINT32_MAX - 1, VCUBE_NO_STATION, ANY}, VCUBE_REFUSED_TALLY,
-     {0, 2, 0, 1, 0, 0, 0, 1, 0, 0, 0, 0}, {5, UINT32_MAX, 0, 1}},
+     {0, 2, 0, 1, NONE, 0, 0, 0, 0, 1, 0, 0, NONE, 0, 0, 0}, {5, UINT32_MAX, 0, 1}},
     {"drive: tests reach the top with the second turn",
      FRESH, {5, UINT32_MAX - 2, VCUBE_NO_STATION, ANY}, VCUBE_REFUSED_TALLY,
-     {0, 2, 0, 1, 0, 0, 0, 2, 0, 1, 0, 0}, {5, UINT32_MAX, 1, 2}},
+     {0, 2, 0, 1, NONE, 0, 0, 0, 0, 2, 0, 1, NONE, 0, 0, 0}, {5, UINT32_MAX, 1, 2}},
     {"drive: rounds reach the top with the turn that closes the round",
      FRESH, {UINT32_MAX - 1, 7, VCUBE_NO_STATION, ANY}, VCUBE_ACCEPTED,
      FRESH, {UINT32_MAX, 9, 1, 4}},
     {"drive: both reach the top as 0 leaves and so closes the round",
-     {0, 1, 0, 0, 0, 1, 0, 2, 1, 1, 1, 0}, {UINT32_MAX - 1, UINT32_MAX - 1, 1, ANY}, VCUBE_ACCEPTED,
-     {2, 1, 0, 0, 0, 1, 0, 1, 0, 0, 1, 0}, {UINT32_MAX, UINT32_MAX, 0, 1}},
+     {0, 1, 0, 0, NONE, 0, 0, 1, 0, 2, 1, 1, NONE, 0, 1, 0}, {UINT32_MAX - 1, UINT32_MAX - 1, 1, ANY}, VCUBE_ACCEPTED,
+     {2, 1, 0, 0, 1, 1, 0, 1, 0, 1, 0, 0, NONE, 0, 1, 0}, {UINT32_MAX, UINT32_MAX, 0, 1}},
     {"drive: tests reach the top with the turn that leaves nobody live",
-     {0, 1, 0, 0, 0, 1, 0, 1, 0, 0, 0, 0}, {5, UINT32_MAX - 1, 1, ANY}, VCUBE_ACCEPTED,
-     {3, 2, 0, 1, 0, 1, 2, 1, 0, 0, 0, 0}, {5, UINT32_MAX, 0, 1}},
+     {0, 1, 0, 0, NONE, 0, 0, 1, 0, 1, 0, 0, NONE, 0, 0, 0}, {5, UINT32_MAX - 1, 1, ANY}, VCUBE_ACCEPTED,
+     {3, 2, 0, 1, NONE, 0, 0, 1, 2, 1, 0, 0, 0, 0, 0, 0}, {5, UINT32_MAX, 0, 1}},
 };
 
 static void how_drives_end(void)
@@ -472,14 +496,14 @@ static void grants_and_drives(void)
             fresh_plant(d, begin);
 }
 
-/* The fields of a plant of 2: 0 is live and suspects 1, which crashed. */
+/* The fields of a plant of 2: 0 is live and suspects 1, which crashed 9 rounds ago. */
 #define SIZE_2 1, 0, 1, 2
 #define TALLY 2, 0, 8, 1, 2, 3, 4, 245, 246, 247, 248
-#define LINE_0 3, 0, 7, 0, 0, 2, 0, 1, 0, 1
-#define LINE_1 3, 0, 7, 1, 1, 1, 0, 0, 0, 0
+#define LINE_0 3, 0, 9, 0, 0, 2, 0, 1, NONE, 0, 0, 1
+#define LINE_1 3, 0, 9, 1, 1, 1, 0, 0, NONE, 9, 0, 0
 
 /* The plant itself. */
-static const uint8_t saved_table[VCUBE_TABLE_LENGTH(N)] = {0, 2, 0, 1, 0, 1, 1, 1, 0, 0, 0, 0};
+static const uint8_t saved_table[VCUBE_TABLE_LENGTH(N)] = {0, 2, 0, 1, NONE, 0, 0, 1, 1, 1, 0, 0, NONE, 9, 0, 0};
 static const uint32_t saved_rounds = 0x01020304, saved_tests = 0xf5f6f7f8;
 
 /* As the writer puts it. */
@@ -500,18 +524,19 @@ static void save(size_t n, const uint8_t *table, size_t table_length, size_t sav
 /* Where later numbers stand in the text, their sentences hold too. */
 static void refused_saves(void)
 {
-    const uint8_t broken[VCUBE_TABLE_LENGTH(N)] = {0, 2, 1, 2, 0, 1, 1, 1, 0, 0, 0, 0};
-    const uint8_t finished[VCUBE_TABLE_LENGTH(N)] = {0, 2, 1, 1, 0, 1, 1, 1, 0, 0, 0, 0};
+    const uint8_t broken[VCUBE_TABLE_LENGTH(N)] = {0, 2, 1, 2, NONE, 0, 0, 1, 1, 1, 0, 0, NONE, 0, 0, 0};
+    const uint8_t finished[VCUBE_TABLE_LENGTH(N)] = {0, 2, 1, 1, NONE, 0, 0, 1, 1, 1, 0, 0, NONE, 0, 0, 0};
     const size_t sizes[] = {0, 1, 65, 255, 258, SIZE_MAX};
 
     for (size_t k = 0; k < sizeof sizes / sizeof sizes[0]; k++)
-        save(sizes[k], broken, 11, 34, VCUBE_REFUSED_SIZE, "save: a size that is not from 2 to 64 gets 1 before 2 and 13");
-    save(N, broken, 11, 34, VCUBE_REFUSED_TABLE_LENGTH, "save: 11 bytes get 2 before 3 and 13");
-    save(N, NULL, 0, 35, VCUBE_REFUSED_TABLE_LENGTH, "save: a table of length 0 gets 2");
-    save(N, broken, 12, 34, VCUBE_REFUSED_LINE_RULE, "save: more tests than distances get 3 before 4 and 13");
-    save(N, finished, 12, 34, VCUBE_REFUSED_ALL_FINISHED, "save: every live station is finished, 4 before 13");
-    save(N, saved_table, 12, 0, VCUBE_REFUSED_LIST_LENGTH, "save: a buffer of length 0 gets 13");
-    save(N, saved_table, 12, 35, VCUBE_ACCEPTED, "save: 35 bytes are accepted");
+        save(sizes[k], broken, 15, 38, VCUBE_REFUSED_SIZE, "save: a size that is not from 2 to 64 gets 1 before 2 and 13");
+    save(N, broken, 15, 38, VCUBE_REFUSED_TABLE_LENGTH, "save: 15 bytes get 2 before 3 and 13");
+    save(N, NULL, 0, 39, VCUBE_REFUSED_TABLE_LENGTH, "save: a table of length 0 gets 2");
+    save(N, broken, 16, 38, VCUBE_REFUSED_LINE_RULE, "save: more tests than distances get 3 before 4 and 13");
+    save(N, finished, 16, 38, VCUBE_REFUSED_ALL_FINISHED, "save: every live station is finished, 4 before 13");
+    save(N, saved_table, 16, 0, VCUBE_REFUSED_LIST_LENGTH, "save: a buffer of length 0 gets 13");
+    save(N, saved_table, 16, 35, VCUBE_REFUSED_LIST_LENGTH, "save: 35 bytes, the length of before 0.9, get 13");
+    save(N, saved_table, 16, 39, VCUBE_ACCEPTED, "save: 39 bytes are accepted");
 }
 
 /* VCUBE_SAVED_LENGTH, for every size. */
@@ -519,7 +544,7 @@ static void saved_lengths(void)
 {
     static uint8_t table[VCUBE_TABLE_LENGTH(64)];
 
-    expect(VCUBE_SAVED_LENGTH(2) == 35 && VCUBE_SAVED_LENGTH(64) == 4623, "the length of a saved plant");
+    expect(VCUBE_SAVED_LENGTH(2) == 39 && VCUBE_SAVED_LENGTH(64) == 4751, "the length of a saved plant");
     for (size_t n = 2; n <= 64; n++) {
         const size_t right = VCUBE_SAVED_LENGTH(n), wrong[] = {0, 1, right - 1, right + 1, right + 256};
         expect(vcube_fresh_table(n, table, VCUBE_TABLE_LENGTH(n)) == VCUBE_ACCEPTED, "a fresh table");
@@ -559,7 +584,7 @@ static void load(const uint8_t *saved, size_t saved_length, size_t table_length,
     expect(all_are(ANY, table + written, sizeof table - written), "load: only the table is written, and not where refused");
 }
 
-/* The load of these bytes into a table of 12. */
+/* The load of these bytes into a table of 16. */
 #define LOAD(number, what, ...)                                      \
     do {                                                             \
         static const uint8_t bytes[] = {__VA_ARGS__};                \
@@ -577,15 +602,15 @@ static void accepted_loads(void)
     LOAD(VCUBE_ACCEPTED, "load: the tally last", LINE_0, LINE_1, SIZE_2, TALLY);
     LOAD(VCUBE_ACCEPTED, "load: tags 0, 4 and 255, even twice, and with no contents",
          0, 0, 0, 4, 0, 1, 2, SIZE_2, 4, 0, 1, 2, TALLY, 255, 0, 3, 1, 2, 3, LINE_0, LINE_1, 0, 0, 0);
-    LOAD(VCUBE_ACCEPTED, "load: contents of another tag that look like fields", 9, 0, 14, SIZE_2, LINE_0, SIZE_2, TALLY, LINE_0, LINE_1);
+    LOAD(VCUBE_ACCEPTED, "load: contents of another tag that look like fields", 9, 0, 16, SIZE_2, LINE_0, SIZE_2, TALLY, LINE_0, LINE_1);
     for (unsigned tag = 4; tag <= 256; tag++) {
         const uint8_t saved[] = {(uint8_t)tag, 0, 1, 2, SIZE_2, TALLY, LINE_0, LINE_1};
         load(saved, sizeof saved, sizeof saved_table, VCUBE_ACCEPTED, "load: tags 4 to 255 and 0");
     }
     memcpy(longest, saved_bytes, sizeof saved_bytes);
     memset(longest + sizeof saved_bytes, 255, sizeof longest - sizeof saved_bytes);
-    load(longest, sizeof longest, 12, VCUBE_ACCEPTED, "load: another tag with the most contents");
-    load(longest, sizeof longest - 1, 12, VCUBE_REFUSED_FIELD_PAST_END, "load: one byte of them is absent");
+    load(longest, sizeof longest, 16, VCUBE_ACCEPTED, "load: another tag with the most contents");
+    load(longest, sizeof longest - 1, 16, VCUBE_REFUSED_FIELD_PAST_END, "load: one byte of them is absent");
 }
 
 static void fields_past_end(void)
@@ -593,9 +618,9 @@ static void fields_past_end(void)
     const int past_end = VCUBE_REFUSED_FIELD_PAST_END;
 
     for (size_t length = 0; length < sizeof saved_bytes; length++) {
-        const int in_field = length != 0 && length != 4 && length != 15 && length != 25;
+        const int in_field = length != 0 && length != 4 && length != 15 && length != 27;
         const int absent = length < 15 ? VCUBE_REFUSED_SIZE_OR_TALLY_FIELD : VCUBE_REFUSED_LINE_FIELD;
-        load(saved_bytes, length, 12, in_field ? past_end : absent, "load: 18 where a field is cut off, else 19 or 20");
+        load(saved_bytes, length, 16, in_field ? past_end : absent, "load: 18 where a field is cut off, else 19 or 20");
     }
     LOAD(past_end, "load: one stray byte", SIZE_2, TALLY, LINE_0, LINE_1, 0);
     LOAD(past_end, "load: two stray bytes", SIZE_2, TALLY, LINE_0, LINE_1, 4, 0);
@@ -609,7 +634,7 @@ static void size_and_tally_fields(void)
     const int wrong = VCUBE_REFUSED_SIZE_OR_TALLY_FIELD;
     const uint8_t sizes[] = {0, 1, 65, 66, 255};
 
-    load(NULL, 0, 12, wrong, "load: a saved plant of length 0 gets 19");
+    load(NULL, 0, 16, wrong, "load: a saved plant of length 0 gets 19");
     LOAD(wrong, "load: no size field", TALLY, LINE_0, LINE_1);
     LOAD(wrong, "load: no tally field", SIZE_2, LINE_0, LINE_1);
     LOAD(wrong, "load: the size field twice", SIZE_2, TALLY, LINE_0, LINE_1, SIZE_2);
@@ -622,7 +647,7 @@ static void size_and_tally_fields(void)
     LOAD(wrong, "load: 19 for the tally comes before 1 for the size", 1, 0, 1, 65, LINE_0, LINE_1);
     for (size_t k = 0; k < sizeof sizes; k++) {
         const uint8_t saved[] = {1, 0, 1, sizes[k], TALLY, LINE_0, LINE_0};
-        load(saved, sizeof saved, 11, VCUBE_REFUSED_SIZE, "load: a size that is not from 2 to 64 gets 1 before 20 and 2");
+        load(saved, sizeof saved, 15, VCUBE_REFUSED_SIZE, "load: a size that is not from 2 to 64 gets 1 before 20 and 2");
     }
 }
 
@@ -636,31 +661,39 @@ static void line_fields(void)
     LOAD(wrong, "load: station 1 is absent", SIZE_2, TALLY, LINE_0);
     LOAD(wrong, "load: station 0 is there twice", SIZE_2, TALLY, LINE_0, LINE_0, LINE_1);
     LOAD(wrong, "load: station 0 is there in place of 1", SIZE_2, TALLY, LINE_0, LINE_0);
-    LOAD(wrong, "load: station 2 is too high", SIZE_2, TALLY, LINE_0, LINE_1, 3, 0, 7, 2, 1, 1, 0, 0, 0, 0);
-    LOAD(wrong, "load: station 255 is too high", SIZE_2, TALLY, LINE_0, LINE_1, 3, 0, 7, 255, 1, 1, 0, 0, 0, 0);
+    LOAD(wrong, "load: station 2 is too high", SIZE_2, TALLY, LINE_0, LINE_1, 3, 0, 9, 2, 1, 1, 0, 0, NONE, 0, 0, 0);
+    LOAD(wrong, "load: station 255 is too high", SIZE_2, TALLY, LINE_0, LINE_1, 3, 0, 9, 255, 1, 1, 0, 0, NONE, 0, 0, 0);
     LOAD(wrong, "load: an empty line field", SIZE_2, TALLY, LINE_0, LINE_1, 3, 0, 0);
-    LOAD(wrong, "load: a line field of 6 bytes", SIZE_2, TALLY, LINE_0, 3, 0, 6, 1, 1, 1, 0, 0, 0);
-    LOAD(wrong, "load: a line field of 8 bytes", SIZE_2, TALLY, LINE_0, 3, 0, 8, 1, 1, 1, 0, 0, 0, 0, 0);
+    LOAD(wrong, "load: a line field of 8 bytes", SIZE_2, TALLY, LINE_0, 3, 0, 8, 1, 1, 1, 0, 0, NONE, 9, 0);
+    LOAD(wrong, "load: a line field of 10 bytes", SIZE_2, TALLY, LINE_0, 3, 0, 10, 1, 1, 1, 0, 0, NONE, 9, 0, 0, 0);
+    LOAD(wrong, "load: a plant saved before 0.9", SIZE_2, TALLY, 3, 0, 7, 0, 0, 2, 0, 1, 0, 1, 3, 0, 7, 1, 1, 1, 0, 0, 0, 0);
+    LOAD(wrong, "load: one line field of before 0.9", SIZE_2, TALLY, LINE_0, 3, 0, 7, 1, 1, 1, 0, 0, 0, 0);
     memcpy(longer, saved_bytes, sizeof saved_bytes);
-    longer[26] = 1;
-    load(longer, sizeof longer, 12, wrong, "load: a length of 256 + 7 bytes is not cut to 7");
-    load(longer, sizeof longer, 11, wrong, "load: 20 comes before 2");
+    longer[28] = 1;
+    load(longer, sizeof longer, 16, wrong, "load: a length of 256 + 9 bytes is not cut to 9");
+    load(longer, sizeof longer, 15, wrong, "load: 20 comes before 2");
 }
 
 /* The lent table's length and what the lines hold. */
 static void table_and_rules(void)
 {
-    const uint8_t broken[] = {SIZE_2, TALLY, 3, 0, 7, 0, 0, 2, 1, 2, 0, 1, LINE_1};
-    const size_t lengths[] = {0, 11, 13, 21};
+    const uint8_t broken[] = {SIZE_2, TALLY, 3, 0, 9, 0, 0, 2, 1, 2, NONE, 0, 0, 1, LINE_1};
+    const size_t lengths[] = {0, 12, 15, 17, VCUBE_TABLE_LENGTH(3)}; /* 12: that of before 0.9 */
 
     for (size_t k = 0; k < sizeof lengths / sizeof lengths[0]; k++) {
         load(saved_bytes, sizeof saved_bytes, lengths[k], VCUBE_REFUSED_TABLE_LENGTH, "load: a table of another length gets 2");
         load(broken, sizeof broken, lengths[k], VCUBE_REFUSED_TABLE_LENGTH, "load: 2 comes before 3");
     }
-    load(broken, sizeof broken, 12, VCUBE_REFUSED_LINE_RULE, "load: more tests than distances get 3 before 4");
-    LOAD(VCUBE_REFUSED_LINE_RULE, "load: a row byte of 2", SIZE_2, TALLY, 3, 0, 7, 0, 0, 2, 0, 1, 0, 2, LINE_1);
-    LOAD(VCUBE_REFUSED_LINE_RULE, "load: a station that suspects itself", SIZE_2, TALLY, LINE_0, 3, 0, 7, 1, 1, 1, 0, 0, 0, 1);
-    LOAD(VCUBE_REFUSED_ALL_FINISHED, "load: every live station is finished", SIZE_2, TALLY, 3, 0, 7, 0, 0, 2, 1, 1, 0, 1, LINE_1);
+    load(broken, sizeof broken, 16, VCUBE_REFUSED_LINE_RULE, "load: more tests than distances get 3 before 4");
+    LOAD(VCUBE_REFUSED_LINE_RULE, "load: a row byte of 2", SIZE_2, TALLY, 3, 0, 9, 0, 0, 2, 0, 1, NONE, 0, 0, 2, LINE_1);
+    LOAD(VCUBE_REFUSED_LINE_RULE, "load: a station that suspects itself", SIZE_2, TALLY, LINE_0, 3, 0, 9, 1, 1, 1, 0, 0, NONE, 0, 0, 1);
+    LOAD(VCUBE_REFUSED_LINE_RULE, "load: a live station that was told", SIZE_2, TALLY, 3, 0, 9, 0, 0, 2, 0, 1, 1, 0, 0, 1, LINE_1);
+    LOAD(VCUBE_REFUSED_LINE_RULE, "load: a live station that ceased a round ago",
+         SIZE_2, TALLY, 3, 0, 9, 0, 0, 2, 0, 1, NONE, 1, 0, 1, LINE_1);
+    LOAD(VCUBE_REFUSED_LINE_RULE, "load: a crashed station that was told", SIZE_2, TALLY, LINE_0, 3, 0, 9, 1, 1, 1, 0, 0, 0, 0, 0, 0);
+    LOAD(VCUBE_REFUSED_LINE_RULE, "load: a station that told itself", SIZE_2, TALLY, LINE_0, 3, 0, 9, 1, 2, 1, 0, 0, 1, 0, 0, 0);
+    LOAD(VCUBE_REFUSED_ALL_FINISHED, "load: every live station is finished",
+         SIZE_2, TALLY, 3, 0, 9, 0, 0, 2, 1, 1, NONE, 0, 0, 1, LINE_1);
 }
 
 /* What is to be saved of a table. */
@@ -670,11 +703,23 @@ static void expected_saved(size_t n, const uint8_t *table, uint8_t *saved)
 
     memcpy(saved, head, sizeof head);
     for (size_t station = 0; station < n; station++) {
-        const uint8_t line_head[] = {VCUBE_TAG_LINE, 0, (uint8_t)(n + 5), (uint8_t)station};
-        uint8_t *field = saved + sizeof head + station * (n + 8);
+        const uint8_t line_head[] = {VCUBE_TAG_LINE, 0, (uint8_t)(1 + VCUBE_HEAD + n), (uint8_t)station};
+        uint8_t *field = saved + sizeof head + station * (n + 10);
         memcpy(field, line_head, sizeof line_head);
-        memcpy(field + sizeof line_head, table + station * (n + 4), n + 4);
+        memcpy(field + sizeof line_head, table + station * (n + VCUBE_HEAD), n + VCUBE_HEAD);
     }
+}
+
+/* Makes a fresh line another one: of four stations one is live, one crashed, one was told and one left because alone, and each suspects the
+ * next station. Of those that were told every other one was so by an unrecorded station, and else by the one before it. */
+static void vary_line(size_t n, size_t station, uint8_t *line)
+{
+    line[0] = (uint8_t)(station % 4);
+    if (line[0] == VCUBE_STATUS_TOLD)
+        line[4] = station % 8 == 2 ? NOT_RECORDED : (uint8_t)(station - 1);
+    if (line[0] != VCUBE_STATUS_LIVE)
+        line[5] = (uint8_t)(256 - station);
+    line[VCUBE_HEAD + (station + 1) % n] = 1;
 }
 
 /* A plant of n whose lines differ is saved and loaded, by tables and buffers that begin at some byte. */
@@ -688,10 +733,8 @@ static void save_and_load(size_t n, size_t begin)
     uint32_t rounds = ANY, tests = ANY;
 
     expect(vcube_fresh_table(n, table, table_length) == VCUBE_ACCEPTED, "a fresh table");
-    for (size_t station = 0; station < n; station++) {
-        table[station * (n + 4)] = (uint8_t)(station % 4);
-        table[station * (n + 4) + 4 + (station + 1) % n] = 1;
-    }
+    for (size_t station = 0; station < n; station++)
+        vary_line(n, station, table + station * (n + VCUBE_HEAD));
     expected_saved(n, table, expected);
     memset(buffer, ANY, sizeof buffer);
     memset(again, ANY, sizeof again);
@@ -736,6 +779,356 @@ static void saved_plants(void)
         for (size_t begin = 0; begin < 8; begin++)
             save_and_load(n, begin);
     greatest_tallies();
+}
+
+/* Bytes 0, 4 and 5 of a line, and what the calls give for a table that has it. */
+struct head {
+    const char *what;
+    uint8_t status;
+    uint8_t told_by;
+    uint8_t rounds_ago;
+    int number;
+};
+
+#define REFUSED VCUBE_REFUSED_LINE_RULE
+
+/* Of station 1 of 3. The texts say which station told it; 3 is no station of this plant. */
+static const struct head heads[] = {
+    {"line rules: live, none and 0", VCUBE_STATUS_LIVE, NONE, 0, VCUBE_ACCEPTED},
+    {"line rules: live, station 0", VCUBE_STATUS_LIVE, 0, 0, REFUSED},
+    {"line rules: live, station 2", VCUBE_STATUS_LIVE, 2, 0, REFUSED},
+    {"line rules: live, not recorded", VCUBE_STATUS_LIVE, NOT_RECORDED, 0, REFUSED},
+    {"line rules: live, a round ago", VCUBE_STATUS_LIVE, NONE, 1, REFUSED},
+    {"line rules: live, 255 rounds ago", VCUBE_STATUS_LIVE, NONE, 255, REFUSED},
+    {"line rules: crashed, none and 0", VCUBE_STATUS_CRASHED, NONE, 0, VCUBE_ACCEPTED},
+    {"line rules: crashed, 255 rounds ago", VCUBE_STATUS_CRASHED, NONE, 255, VCUBE_ACCEPTED},
+    {"line rules: crashed, station 0", VCUBE_STATUS_CRASHED, 0, 0, REFUSED},
+    {"line rules: crashed, not recorded", VCUBE_STATUS_CRASHED, NOT_RECORDED, 0, REFUSED},
+    {"line rules: alone, none and 0", VCUBE_STATUS_ALONE, NONE, 0, VCUBE_ACCEPTED},
+    {"line rules: alone, 255 rounds ago", VCUBE_STATUS_ALONE, NONE, 255, VCUBE_ACCEPTED},
+    {"line rules: alone, station 0", VCUBE_STATUS_ALONE, 0, 0, REFUSED},
+    {"line rules: alone, not recorded", VCUBE_STATUS_ALONE, NOT_RECORDED, 0, REFUSED},
+    {"line rules: told, station 0", VCUBE_STATUS_TOLD, 0, 0, VCUBE_ACCEPTED},
+    {"line rules: told, station 2, 255 rounds ago", VCUBE_STATUS_TOLD, 2, 255, VCUBE_ACCEPTED},
+    {"line rules: told, not recorded", VCUBE_STATUS_TOLD, NOT_RECORDED, 0, VCUBE_ACCEPTED},
+    {"line rules: told, not recorded, 7 rounds ago", VCUBE_STATUS_TOLD, NOT_RECORDED, 7, VCUBE_ACCEPTED},
+    {"line rules: told, by itself", VCUBE_STATUS_TOLD, 1, 0, REFUSED},
+    {"line rules: told, station 3", VCUBE_STATUS_TOLD, 3, 0, REFUSED},
+    {"line rules: told, station 253", VCUBE_STATUS_TOLD, 253, 0, REFUSED},
+    {"line rules: told, by none", VCUBE_STATUS_TOLD, NONE, 0, REFUSED},
+};
+
+/* The calls that write the table: where they refuse it, it stays as it was, and so it does in a run of no entry. */
+static void write_table(const uint8_t *table, int number, const char *what)
+{
+    uint8_t copy[VCUBE_TABLE_LENGTH(3)], saved[VCUBE_SAVED_LENGTH(3)];
+    size_t n, taken, last = VCUBE_NO_STATION, grants;
+    uint32_t rounds = 0, tests = 0;
+
+    memcpy(copy, table, sizeof copy);
+    expect(vcube_run(3, copy, sizeof copy, &rounds, &tests, NULL, 0, NULL, 0, &taken) == number, what);
+    expect(memcmp(copy, table, sizeof copy) == 0, what);
+    expect(vcube_drive(3, copy, sizeof copy, &rounds, &tests, &last, &grants) == number, what);
+    expect(number == VCUBE_ACCEPTED || memcmp(copy, table, sizeof copy) == 0, what);
+    expected_saved(3, table, saved);
+    memset(copy, ANY, sizeof copy);
+    expect(vcube_load(saved, sizeof saved, copy, sizeof copy, &n, &rounds, &tests) == number, what);
+    expect(number == VCUBE_ACCEPTED ? memcmp(copy, table, sizeof copy) == 0 : all_are(ANY, copy, sizeof copy), what);
+}
+
+/* Every call that takes a table judges it alike. */
+static void try_head(const struct head *head)
+{
+    uint8_t table[VCUBE_TABLE_LENGTH(3)], saved[VCUBE_SAVED_LENGTH(3)], list[VCUBE_ASSIGNMENT_LENGTH(3)];
+    uint8_t *line = table + 3 + VCUBE_HEAD;
+    size_t start, length, count, station;
+
+    expect(vcube_fresh_table(3, table, sizeof table) == VCUBE_ACCEPTED, "a fresh table");
+    line[0] = head->status;
+    line[4] = head->told_by;
+    line[5] = head->rounds_ago;
+    expect(vcube_row(3, table, sizeof table, 2, &start, &length) == head->number, head->what);
+    expect(vcube_assignment(3, table, sizeof table, 0, list, sizeof list, &count) == head->number, head->what);
+    expect(vcube_grant(3, table, sizeof table, VCUBE_NO_STATION, &station) == head->number, head->what);
+    expect(vcube_save(3, table, sizeof table, 0, 0, saved, sizeof saved) == head->number, head->what);
+    write_table(table, head->number, head->what);
+}
+
+/* Whether the rules of request C-18 take a line of this station of n. */
+static int rules_take(size_t n, size_t station, unsigned status, unsigned told_by, unsigned rounds_ago)
+{
+    switch (status) {
+    case VCUBE_STATUS_LIVE:
+        return told_by == NONE && rounds_ago == 0;
+    case VCUBE_STATUS_TOLD:
+        return told_by == NOT_RECORDED || (told_by < n && told_by != station);
+    default:
+        return told_by == NONE;
+    }
+}
+
+/* Each status with each byte 4, and with byte 5 from 0 to 255 in steps; all other lines are fresh. */
+static void all_heads(size_t n, size_t station, unsigned step)
+{
+    static uint8_t table[VCUBE_TABLE_LENGTH(64)];
+    uint8_t *line = table + station * (n + VCUBE_HEAD);
+    size_t start, length, wrong = 0;
+
+    expect(vcube_fresh_table(n, table, VCUBE_TABLE_LENGTH(n)) == VCUBE_ACCEPTED, "a fresh table");
+    for (unsigned status = 0; status < 4; status++)
+        for (unsigned told_by = 0; told_by < 256; told_by++)
+            for (unsigned rounds_ago = 0; rounds_ago < 256; rounds_ago += step) {
+                int right = rules_take(n, station, status, told_by, rounds_ago) ? VCUBE_ACCEPTED : REFUSED;
+                line[0] = (uint8_t)status;
+                line[4] = (uint8_t)told_by;
+                line[5] = (uint8_t)rounds_ago;
+                wrong += vcube_row(n, table, VCUBE_TABLE_LENGTH(n), 0, &start, &length) != right;
+            }
+    expect(wrong == 0, "line rules: bytes 4 and 5, by the status");
+}
+
+static void rules_of_heads(void)
+{
+    for (size_t k = 0; k < sizeof heads / sizeof heads[0]; k++)
+        try_head(&heads[k]);
+    for (size_t n = 2; n <= 4; n++)
+        for (size_t station = 0; station < n; station++)
+            all_heads(n, station, 1);
+    all_heads(63, 62, 85);
+    all_heads(64, 0, 85);
+    all_heads(64, 1, 85);
+    all_heads(64, 63, 85);
+}
+
+/* Every line of a fresh table, at every size. */
+static void fresh_lines(void)
+{
+    static uint8_t table[VCUBE_TABLE_LENGTH(64)];
+    const uint8_t head[VCUBE_HEAD] = {VCUBE_STATUS_LIVE, 1, 0, 0, NONE, 0};
+    size_t wrong = 0;
+
+    for (size_t n = 2; n <= 64; n++) {
+        expect(vcube_fresh_table(n, table, VCUBE_TABLE_LENGTH(n)) == VCUBE_ACCEPTED, "a fresh table");
+        for (size_t station = 0; station < n; station++) {
+            const uint8_t *line = table + station * (n + VCUBE_HEAD);
+            wrong += memcmp(line, head, sizeof head) != 0 || !all_are(0, line + VCUBE_HEAD, n);
+        }
+    }
+    expect(wrong == 0, "fresh table: live, next distance 1, told by none, all else 0");
+}
+
+/* An entry in a plant of 4. The tally was 0. */
+struct entry {
+    const char *what;
+    uint8_t kind;
+    uint8_t station;
+    uint8_t before[VCUBE_TABLE_LENGTH(4)];
+    uint8_t sheet[4];
+    uint8_t after[VCUBE_TABLE_LENGTH(4)];
+    uint32_t rounds;
+};
+
+/* Worked out by hand from steps 2 to 8 of document 01 and requests C-13 and C-18. */
+static const struct entry entries[] = {
+    {"run: 3 suspects 2, which tests it and leaves: told by 3", VCUBE_KIND_TURN, 2,
+     {0, 1, 0, 0, NONE, 0, 0, 0, 0, 0,
+      0, 1, 0, 0, NONE, 0, 0, 0, 0, 0,
+      0, 1, 0, 0, NONE, 0, 0, 0, 0, 0,
+      0, 1, 0, 0, NONE, 0, 0, 0, 1, 0},
+     {2, 3, VCUBE_OUTCOME_TOLD, VCUBE_STATUS_TOLD},
+     {0, 1, 0, 0, NONE, 0, 0, 0, 0, 0,
+      0, 1, 0, 0, NONE, 0, 0, 0, 0, 0,
+      2, 2, 0, 1, 3, 0, 0, 0, 0, 0,
+      0, 1, 0, 0, NONE, 0, 0, 0, 1, 0}, 0},
+    {"run: 3 tests 2, which it suspects and which leaves: told by 3", VCUBE_KIND_TURN, 3,
+     {0, 1, 0, 0, NONE, 0, 0, 0, 0, 0,
+      0, 1, 0, 0, NONE, 0, 0, 0, 0, 0,
+      0, 1, 0, 0, NONE, 0, 0, 0, 0, 0,
+      0, 1, 0, 0, NONE, 0, 0, 0, 1, 0},
+     {3, 2, VCUBE_OUTCOME_TESTED_TOLD, VCUBE_STATUS_LIVE},
+     {0, 1, 0, 0, NONE, 0, 0, 0, 0, 0,
+      0, 1, 0, 0, NONE, 0, 0, 0, 0, 0,
+      2, 1, 0, 0, 3, 0, 0, 0, 0, 0,
+      0, 2, 0, 1, NONE, 0, 0, 0, 1, 0}, 0},
+    {"run: 0 finishes its pass and closes the round: 1 crashed in it, 2 left 254 rounds before", VCUBE_KIND_TURN, 0,
+     {0, 4, 0, 3, NONE, 0, 0, 1, 1, 0,
+      1, 2, 0, 1, NONE, 0, 0, 0, 0, 0,
+      2, 1, 0, 0, 0, 254, 0, 0, 0, 0,
+      0, 4, 1, 3, NONE, 0, 0, 1, 1, 0},
+     {0, VCUBE_NO_STATION, VCUBE_OUTCOME_PASS_FINISHED, VCUBE_STATUS_LIVE},
+     {0, 1, 0, 0, NONE, 0, 0, 1, 1, 0,
+      1, 1, 0, 0, NONE, 1, 0, 0, 0, 0,
+      2, 1, 0, 0, 0, 255, 0, 0, 0, 0,
+      0, 1, 0, 0, NONE, 0, 0, 1, 1, 0}, 1},
+    {"run: the count stays at 255, and it stays unrecorded who told 2", VCUBE_KIND_TURN, 0,
+     {0, 4, 0, 3, NONE, 0, 0, 1, 1, 0,
+      3, 1, 0, 0, NONE, 255, 1, 0, 1, 1,
+      2, 1, 0, 0, NOT_RECORDED, 1, 0, 0, 0, 0,
+      0, 4, 1, 3, NONE, 0, 0, 1, 1, 0},
+     {0, VCUBE_NO_STATION, VCUBE_OUTCOME_PASS_FINISHED, VCUBE_STATUS_LIVE},
+     {0, 1, 0, 0, NONE, 0, 0, 1, 1, 0,
+      3, 1, 0, 0, NONE, 255, 1, 0, 1, 1,
+      2, 1, 0, 0, NOT_RECORDED, 2, 0, 0, 0, 0,
+      0, 1, 0, 0, NONE, 0, 0, 1, 1, 0}, 1},
+    {"run: no round closes, as 3 is unfinished, and no count grows", VCUBE_KIND_TURN, 0,
+     {0, 4, 0, 3, NONE, 0, 0, 1, 1, 0,
+      1, 1, 0, 0, NONE, 4, 0, 0, 0, 0,
+      2, 1, 0, 0, 1, 5, 0, 0, 0, 0,
+      0, 4, 0, 3, NONE, 0, 0, 1, 1, 0},
+     {0, VCUBE_NO_STATION, VCUBE_OUTCOME_PASS_FINISHED, VCUBE_STATUS_LIVE},
+     {0, 4, 1, 3, NONE, 0, 0, 1, 1, 0,
+      1, 1, 0, 0, NONE, 4, 0, 0, 0, 0,
+      2, 1, 0, 0, 1, 5, 0, 0, 0, 0,
+      0, 4, 0, 3, NONE, 0, 0, 1, 1, 0}, 0},
+    {"run: 0 crashes, and no round closes", VCUBE_KIND_CRASH, 0,
+     {0, 2, 0, 1, NONE, 0, 0, 0, 0, 0,
+      0, 4, 1, 2, NONE, 0, 0, 0, 0, 0,
+      0, 4, 1, 2, NONE, 0, 0, 0, 0, 0,
+      0, 1, 0, 0, NONE, 0, 0, 0, 0, 0},
+     {0, VCUBE_NO_STATION, VCUBE_OUTCOME_CRASH, VCUBE_STATUS_CRASHED},
+     {1, 2, 0, 1, NONE, 0, 0, 0, 0, 0,
+      0, 4, 1, 2, NONE, 0, 0, 0, 0, 0,
+      0, 4, 1, 2, NONE, 0, 0, 0, 0, 0,
+      0, 1, 0, 0, NONE, 0, 0, 0, 0, 0}, 0},
+    {"run: 0 crashes and so closes the round, which counts", VCUBE_KIND_CRASH, 0,
+     {0, 2, 0, 1, NONE, 0, 0, 0, 0, 0,
+      0, 4, 1, 2, NONE, 0, 0, 0, 0, 0,
+      0, 4, 1, 2, NONE, 0, 0, 0, 0, 0,
+      1, 1, 0, 0, NONE, 8, 0, 0, 0, 0},
+     {0, VCUBE_NO_STATION, VCUBE_OUTCOME_CRASH, VCUBE_STATUS_CRASHED},
+     {1, 1, 0, 0, NONE, 1, 0, 0, 0, 0,
+      0, 1, 0, 0, NONE, 0, 0, 0, 0, 0,
+      0, 1, 0, 0, NONE, 0, 0, 0, 0, 0,
+      1, 1, 0, 0, NONE, 9, 0, 0, 0, 0}, 1},
+    {"run: 0 is told by 1, leaves and so closes the round, which counts", VCUBE_KIND_TURN, 0,
+     {0, 1, 0, 0, NONE, 0, 0, 0, 0, 0,
+      0, 4, 1, 2, NONE, 0, 1, 0, 0, 0,
+      0, 4, 1, 2, NONE, 0, 0, 0, 0, 0,
+      0, 4, 1, 2, NONE, 0, 0, 0, 0, 0},
+     {0, 1, VCUBE_OUTCOME_TOLD, VCUBE_STATUS_TOLD},
+     {2, 1, 0, 0, 1, 1, 0, 0, 0, 0,
+      0, 1, 0, 0, NONE, 0, 1, 0, 0, 0,
+      0, 1, 0, 0, NONE, 0, 0, 0, 0, 0,
+      0, 1, 0, 0, NONE, 0, 0, 0, 0, 0}, 1},
+    {"run: 0 is alone, leaves and so closes the round, which counts", VCUBE_KIND_LATE_TURN, 0,
+     {0, 1, 0, 0, NONE, 0, 0, 0, 1, 1,
+      0, 4, 1, 2, NONE, 0, 0, 0, 0, 0,
+      0, 4, 1, 2, NONE, 0, 0, 0, 0, 0,
+      0, 4, 1, 2, NONE, 0, 0, 0, 0, 0},
+     {0, 1, VCUBE_OUTCOME_NO_REPLY, VCUBE_STATUS_ALONE},
+     {3, 1, 0, 0, NONE, 1, 0, 1, 1, 1,
+      0, 1, 0, 0, NONE, 0, 0, 0, 0, 0,
+      0, 1, 0, 0, NONE, 0, 0, 0, 0, 0,
+      0, 1, 0, 0, NONE, 0, 0, 0, 0, 0}, 1},
+    {"run: 1 is told by 0, which is alone; both leave and so close the round, which counts", VCUBE_KIND_TURN, 0,
+     {0, 1, 0, 0, NONE, 0, 0, 1, 1, 1,
+      0, 3, 0, 2, NONE, 0, 0, 0, 0, 0,
+      0, 4, 1, 2, NONE, 0, 0, 0, 0, 0,
+      0, 4, 1, 2, NONE, 0, 0, 0, 0, 0},
+     {0, 1, VCUBE_OUTCOME_TESTED_TOLD, VCUBE_STATUS_ALONE},
+     {3, 1, 0, 0, NONE, 1, 0, 1, 1, 1,
+      2, 1, 0, 0, 0, 1, 0, 0, 0, 0,
+      0, 1, 0, 0, NONE, 0, 0, 0, 0, 0,
+      0, 1, 0, 0, NONE, 0, 0, 0, 0, 0}, 1},
+    {"run: the last live station crashes: no round closes, and no count grows", VCUBE_KIND_CRASH, 0,
+     {0, 4, 0, 2, NONE, 0, 0, 0, 0, 0,
+      1, 1, 0, 0, NONE, 5, 0, 0, 0, 0,
+      2, 1, 0, 0, 3, 6, 0, 0, 0, 0,
+      3, 1, 0, 0, NONE, 7, 1, 1, 1, 0},
+     {0, VCUBE_NO_STATION, VCUBE_OUTCOME_CRASH, VCUBE_STATUS_CRASHED},
+     {1, 4, 0, 2, NONE, 0, 0, 0, 0, 0,
+      1, 1, 0, 0, NONE, 5, 0, 0, 0, 0,
+      2, 1, 0, 0, 3, 6, 0, 0, 0, 0,
+      3, 1, 0, 0, NONE, 7, 1, 1, 1, 0}, 0},
+};
+
+static void take_entry(const struct entry *entry)
+{
+    const uint8_t schedule[2] = {entry->kind, entry->station};
+    uint8_t table[VCUBE_TABLE_LENGTH(4)], sheet[4] = {ANY, ANY, ANY, ANY};
+    uint32_t rounds = 0, tests = 0;
+    size_t taken = ANY;
+
+    memcpy(table, entry->before, sizeof table);
+    expect(vcube_run(4, table, sizeof table, &rounds, &tests, schedule, sizeof schedule, sheet, sizeof sheet, &taken) == VCUBE_ACCEPTED,
+           entry->what);
+    expect(taken == 1 && rounds == entry->rounds && tests == (sheet[1] == VCUBE_NO_STATION ? 0 : 1), entry->what);
+    expect(memcmp(sheet, entry->sheet, sizeof sheet) == 0, entry->what);
+    expect(memcmp(table, entry->after, sizeof table) == 0, entry->what);
+}
+
+/* Two tables of 4 that differ in byte 5 of line 1. A turn of 0 closes the round, by a run and by a drive. */
+static void close_at(uint8_t status, uint8_t told_by, unsigned rounds_ago)
+{
+    const uint8_t count = (uint8_t)rounds_ago, next = (uint8_t)(rounds_ago < 255 ? rounds_ago + 1 : 255);
+    const uint8_t before[VCUBE_TABLE_LENGTH(4)] = {
+        0, 4, 0, 3, NONE, 0, 0, 1, 0, 0,
+        status, 1, 0, 0, told_by, count, 0, 0, 0, 0,
+        0, 4, 1, 3, NONE, 0, 0, 1, 0, 0,
+        0, 4, 1, 3, NONE, 0, 0, 1, 0, 0,
+    };
+    const uint8_t after[VCUBE_TABLE_LENGTH(4)] = {
+        0, 1, 0, 0, NONE, 0, 0, 1, 0, 0,
+        status, 1, 0, 0, told_by, next, 0, 0, 0, 0,
+        0, 1, 0, 0, NONE, 0, 0, 1, 0, 0,
+        0, 1, 0, 0, NONE, 0, 0, 1, 0, 0,
+    };
+    const uint8_t schedule[2] = {VCUBE_KIND_TURN, 0};
+    uint8_t table[sizeof before], sheet[4];
+    uint32_t rounds = 0, tests = 0;
+    size_t taken;
+
+    memcpy(table, before, sizeof table);
+    expect(vcube_run(4, table, sizeof table, &rounds, &tests, schedule, 2, sheet, 4, &taken) == VCUBE_ACCEPTED, "run: a closing");
+    expect(memcmp(table, after, sizeof table) == 0, "run: a closing adds 1 to the count of who is not live, up to 255");
+    memcpy(table, before, sizeof table);
+    drive(4, table, sizeof table, driven(5, 7, VCUBE_NO_STATION, ANY), VCUBE_ACCEPTED, driven(6, 7, 0, 1), "drive: a closing");
+    expect(memcmp(table, after, sizeof table) == 0, "drive: a closing adds 1 to the count of who is not live, up to 255");
+}
+
+/* Round after round by drives: the count grows to 255 and stays there, and all else is the same at the start of each round. Before the first
+ * drive station 1 of 4 crashed, or 0 suspects it and tells it in the first turn. */
+static void many_rounds(int told)
+{
+    uint8_t table[VCUBE_TABLE_LENGTH(4)];
+    uint8_t *line = table + 4 + VCUBE_HEAD;
+    uint32_t rounds = 0, tests = 0;
+    size_t last = VCUBE_NO_STATION, grants, wrong = 0;
+
+    expect(vcube_fresh_table(4, table, sizeof table) == VCUBE_ACCEPTED, "a fresh table");
+    if (told)
+        table[VCUBE_HEAD + 1] = 1;
+    else
+        line[0] = VCUBE_STATUS_CRASHED;
+    for (unsigned round = 1; round <= 600; round++) {
+        const uint8_t head[VCUBE_HEAD] = {
+            (uint8_t)(told ? VCUBE_STATUS_TOLD : VCUBE_STATUS_CRASHED), 1, 0, 0, (uint8_t)(told ? 0 : NONE),
+            (uint8_t)(round < 255 ? round : 255),
+        };
+        wrong += vcube_drive(4, table, sizeof table, &rounds, &tests, &last, &grants) != VCUBE_ACCEPTED || rounds != round;
+        wrong += memcmp(line, head, sizeof head) != 0;
+        wrong += table[4] != NONE || table[5] != 0;
+    }
+    expect(wrong == 0, told ? "drive: rounds since 1 was told by 0" : "drive: rounds since 1 crashed");
+}
+
+static void who_told_and_how_long_ago(void)
+{
+    expect(VCUBE_HEAD == 6 && VCUBE_TOLD_BY_NONE == 255 && VCUBE_TOLD_NOT_RECORDED == 254, "the numbers are those of the document");
+    expect(VCUBE_TABLE_LENGTH(2) == 16 && VCUBE_TABLE_LENGTH(64) == 4480, "the length of a table");
+    fresh_lines();
+    rules_of_heads();
+    for (size_t k = 0; k < sizeof entries / sizeof entries[0]; k++)
+        take_entry(&entries[k]);
+    for (unsigned rounds_ago = 0; rounds_ago < 256; rounds_ago++) {
+        close_at(VCUBE_STATUS_CRASHED, NONE, rounds_ago);
+        close_at(VCUBE_STATUS_ALONE, NONE, rounds_ago);
+        close_at(VCUBE_STATUS_TOLD, NOT_RECORDED, rounds_ago);
+        close_at(VCUBE_STATUS_TOLD, 0, rounds_ago);
+        close_at(VCUBE_STATUS_TOLD, 3, rounds_ago);
+    }
+    many_rounds(0);
+    many_rounds(1);
 }
 
 /* One result more than figures are taken over. */
@@ -948,6 +1341,7 @@ int main(void)
     who_leaves();
     grants_and_drives();
     saved_plants();
+    who_told_and_how_long_ago();
     figures_over_results();
     return failures != 0;
 }

@@ -1,6 +1,7 @@
 /* Saving a plant to the panel (request C-17 of document 02), by the C interface of the library: document 01's example for N = 4 is run and
  * saved, loaded by a panel that does not know its size, and driven on. Then a saved plant of another panel, whose fields stand in another
- * order, and the same one cut off. */
+ * order, and the same one cut off. Of each plant the panel says which boards are not live, who told them to leave and how many rounds ago
+ * (its request C-18). */
 
 #include "vcube.h"
 
@@ -19,13 +20,16 @@ static const uint8_t example[] = {
     VCUBE_KIND_TURN, 1,
 };
 
-/* A plant of 2 after 128 rounds, of which board 1 crashed. Tag 9 is one of that panel's own. */
+/* A plant of 4 after 384 rounds. Board 1 left long ago, when nobody recorded who told it; board 2 crashed 2 rounds ago. Tag 9 is one of
+ * that panel's own. */
 static const uint8_t elsewhere[] = {
-    VCUBE_TAG_LINE, 0, 7, 1, VCUBE_STATUS_CRASHED, 1, 0, 0, 0, 0,
+    VCUBE_TAG_LINE, 0, 11, 3, VCUBE_STATUS_LIVE, 1, 0, 0, VCUBE_TOLD_BY_NONE, 0, 0, 1, 1, 0,
+    VCUBE_TAG_LINE, 0, 11, 1, VCUBE_STATUS_TOLD, 1, 0, 0, VCUBE_TOLD_NOT_RECORDED, 255, 0, 0, 0, 0,
     9, 0, 3, 'g', 'i', 'n',
-    VCUBE_TAG_TALLY, 0, 8, 0, 0, 0, 128, 0, 0, 1, 0,
-    VCUBE_TAG_LINE, 0, 7, 0, VCUBE_STATUS_LIVE, 1, 0, 0, 0, 0,
-    VCUBE_TAG_SIZE, 0, 1, 2,
+    VCUBE_TAG_TALLY, 0, 8, 0, 0, 1, 128, 0, 0, 8, 0,
+    VCUBE_TAG_LINE, 0, 11, 2, VCUBE_STATUS_CRASHED, 1, 0, 0, VCUBE_TOLD_BY_NONE, 2, 0, 1, 0, 0,
+    VCUBE_TAG_LINE, 0, 11, 0, VCUBE_STATUS_LIVE, 1, 0, 0, VCUBE_TOLD_BY_NONE, 0, 0, 1, 1, 0,
+    VCUBE_TAG_SIZE, 0, 1, 4,
 };
 
 /* A plant of any size. */
@@ -85,9 +89,42 @@ static int drive(struct plant *plant)
     return refused("drive", vcube_drive(n, plant->table, VCUBE_TABLE_LENGTH(n), &plant->rounds, &plant->tests, &last, &grants));
 }
 
+/* Why a board is not live, from its line: bytes 0 and 4. */
+static void print_why(const uint8_t *line)
+{
+    if (line[0] == VCUBE_STATUS_CRASHED)
+        printf("crashed");
+    else if (line[0] == VCUBE_STATUS_ALONE)
+        printf("left because alone");
+    else if (line[4] == VCUBE_TOLD_NOT_RECORDED)
+        printf("was told to leave, by whom is not recorded");
+    else
+        printf("was told to leave by board %d", line[4]);
+}
+
+/* How long ago that was, from byte 5 of the line, which stops at 255. */
+static void print_how_long_ago(const uint8_t *line)
+{
+    if (line[5] == 0)
+        printf("in this round");
+    else
+        printf("%d round%s ago%s", line[5], line[5] == 1 ? "" : "s", line[5] == 255 ? " or more" : "");
+}
+
+/* The tally, and a line for each board that is not live. */
 static void print_plant(const char *what, const struct plant *plant)
 {
     printf("%s: boards %zu rounds %" PRIu32 " tests %" PRIu32 "\n", what, plant->n, plant->rounds, plant->tests);
+    for (size_t station = 0; station < plant->n; station++) {
+        const uint8_t *line = plant->table + station * (plant->n + VCUBE_HEAD);
+        if (line[0] == VCUBE_STATUS_LIVE)
+            continue;
+        printf("board %zu ", station);
+        print_why(line);
+        printf(", ");
+        print_how_long_ago(line);
+        printf("\n");
+    }
 }
 
 /* Saves the plant and prints the saved plant in hexadecimal, a line for each field. */

@@ -123,7 +123,7 @@ static int print_line(size_t station)
 
     if (refused("row", vcube_row(N, table, sizeof table, station, &start, &length)))
         return 1;
-    printf("status of %zu: %d, row: ", station, table[station * (N + 4)]);
+    printf("status of %zu: %d, row: ", station, table[station * (N + VCUBE_HEAD)]);
     print_bytes(table + start, length);
     return 0;
 }

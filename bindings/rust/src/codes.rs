@@ -79,7 +79,8 @@ numbered! {
         Live = 0,
         Crashed = 1,
         /// It left because it was told that it is suspected: by a station that
-        /// it tested, or by one that tested it.
+        /// it tested, or by one that tested it. [`told_by`](crate::told_by)
+        /// says by which.
         Told = 2,
         /// It left because it suspects all others.
         Alone = 3,
@@ -110,7 +111,7 @@ impl fmt::Display for Refusal {
     fn fmt(&self, f: &mut fmt::Formatter<'_>) -> fmt::Result {
         f.write_str(match self {
             Refusal::Size => "the size is not from 2 to 64",
-            Refusal::TableLength => "the table's length is not n times (n + 4)",
+            Refusal::TableLength => "the table's length is not n times (n + 6)",
             Refusal::LineRule => "a line of the table breaks a line rule",
             Refusal::AllFinished => "some station is live and every live one is finished",
             Refusal::ScheduleLength => "the schedule's length is odd",

@@ -4,19 +4,23 @@
 //! vCube watch on a gin's plant cable"; the steps of an entry stand as
 //! definitions in crates/turn/specs/Turn.antt and crates/plant/specs. Plants have 2 to
 //! 64 stations (request C-11 of document 02), the tested station hears too that
-//! it is suspected (its request C-13), and an assignment says who stands ahead
-//! where a distance is not due (its request C-16). The bus master that grants the
-//! turns is that of its request C-15, saving a plant to the panel is its request
-//! C-17, and the figures over a season's trials are those of its request C-12.
-//! Every call takes any numbers and slices of any length: nothing need be tested
-//! before calling. A refused call changes nothing; a run that stops at an entry
-//! keeps the work of the entries before it, and a drive that stops before a grant
-//! that of the turns before it.
+//! it is suspected (its request C-13), an assignment says who stands ahead where
+//! a distance is not due (its request C-16), and a line of the table says who told
+//! its station to leave and how long ago (its request C-18). The bus master that
+//! grants the turns is that of its request C-15, saving a plant to the panel is
+//! its request C-17, and the figures over a season's trials are those of its
+//! request C-12. Every call takes any numbers and slices of any length: nothing
+//! need be tested before calling. A refused call changes nothing; a run that stops
+//! at an entry keeps the work of the entries before it, and a drive that stops
+//! before a grant that of the turns before it.
+//!
+//! The table is told in include/vcube.h, which also says what to do with one of
+//! before version 0.9: it is refused with 2.
 //!
 //! The example of document 01 for N = 4:
 //!
 //! ```
-//! use vcube::{Answer, Distance, DueOrAhead, Entry, Kind, Outcome, Station, Status, Tally};
+//! use vcube::{Answer, Distance, DueOrAhead, Entry, Kind, Outcome, Station, Status, Tally, ToldBy};
 //!
 //! let n = 4;
 //! let mut table = [0; vcube::table_length(4)];
@@ -43,6 +47,11 @@
 //! assert_eq!(vcube::row(n, &table, Station(0))?, [0, 1, 0, 0]);
 //! assert_eq!(vcube::row(n, &table, Station(1))?, [0, 0, 0, 0]);
 //!
+//! // What the table says of 1: it was told by 0, and no round was closed since.
+//! assert_eq!(vcube::status(n, &table, Station(1))?, Status::Told);
+//! assert_eq!(vcube::told_by(n, &table, Station(1))?, ToldBy::Station(Station(0)));
+//! assert_eq!(vcube::rounds_ago(n, &table, Station(1))?, 0);
+//!
 //! let mut list = [0; vcube::assignment_length(4)];
 //! let due = vcube::due_distances(n, &table, Station(0), &mut list)?;
 //! assert!(due.eq([Distance(1), Distance(2), Distance(3)]));
@@ -59,7 +68,7 @@
 //! by its outcome, as the status there is the tester's:
 //!
 //! ```
-//! use vcube::{Entry, Kind, Outcome, Station, Status, Tally};
+//! use vcube::{Entry, Kind, Outcome, Station, Status, Tally, ToldBy};
 //!
 //! let n = 3;
 //! let mut table = [0; vcube::table_length(3)];
@@ -81,6 +90,7 @@
 //! assert_eq!((last.station, last.tested), (Station(2), Some(Station(1))));
 //! assert_eq!((last.outcome, last.status), (Outcome::TestedTold, Status::Live));
 //! assert!(last.ceased().eq([(Station(1), Status::Told)]));
+//! assert_eq!(vcube::told_by(n, &table, Station(1))?, ToldBy::Station(Station(2)));
 //! # Ok::<(), vcube::Refusal>(())
 //! ```
 //!
@@ -112,6 +122,7 @@
 //! assert_eq!(tally, Tally { rounds: 2, tests: 47 });
 //! assert_eq!(last, Some(Station(4)));
 //! assert_eq!(vcube::row(n, &table, Station(0))?, [0, 0, 0, 0, 0, 1, 0, 0]);
+//! assert_eq!(vcube::rounds_ago(n, &table, Station(5))?, 1);
 //! # Ok::<(), vcube::Refusal>(())
 //! ```
 //!
@@ -130,8 +141,8 @@
 //! vcube::save(n, &table, tally, &mut saved)?;
 //! assert_eq!(saved[..4], [1, 0, 1, 2]);
 //! assert_eq!(saved[4..15], [2, 0, 8, 0, 0, 0, 128, 0, 0, 1, 0]);
-//! assert_eq!(saved[15..25], [3, 0, 7, 0, 0, 1, 0, 0, 0, 0]);
-//! assert_eq!(saved[25..], [3, 0, 7, 1, 0, 1, 0, 0, 0, 0]);
+//! assert_eq!(saved[15..27], [3, 0, 9, 0, 0, 1, 0, 0, 255, 0, 0, 0]);
+//! assert_eq!(saved[27..], [3, 0, 9, 1, 0, 1, 0, 0, 255, 0, 0, 0]);
 //!
 //! let mut restored = vec![0; vcube::table_length(vcube::saved_size(&saved)?)];
 //! assert_eq!(vcube::load(&saved, &mut restored)?, Loaded { n, tally });
@@ -171,6 +182,7 @@ mod codes;
 mod entries;
 mod figures;
 mod granter;
+mod lines;
 #[allow(unsafe_code)]
 mod raw;
 mod saved;
@@ -186,6 +198,7 @@ pub use codes::{Kind, Outcome, Refusal, Status};
 pub use entries::{schedule, sheet_lines, Entry, SheetLine};
 pub use figures::{figures, figures_of_two, Figures, Fraction, Totals, MOST_RESULTS};
 pub use granter::{drive, grant, Driven};
+pub use lines::{rounds_ago, status, told_by, ToldBy, HEAD, TOLD_BY_NONE, TOLD_NOT_RECORDED};
 pub use saved::{load, save, saved_length, saved_size, Loaded};
 
 /// A station number. Any number can stand here; the library refuses n or more.
@@ -218,14 +231,14 @@ pub struct Answer {
     pub taken: usize,
 }
 
-/// The length of a table of n stations: n lines of n + 4 bytes.
+/// The length of a table of n stations: n lines of n + 6 bytes.
 /// It has no meaning for a size that the library refuses.
 #[must_use]
 pub const fn table_length(n: usize) -> usize {
-    n.wrapping_mul(n.wrapping_add(4))
+    n.wrapping_mul(n.wrapping_add(HEAD))
 }
 
-/// Fresh table: every line live, next distance 1, all else 0.
+/// Fresh table: every line live, next distance 1, told by nobody, all else 0.
 /// Refusals: 1, 2.
 pub fn fresh_table(n: usize, table: &mut [u8]) -> Result<(), Refusal> {
     accepted(raw::fresh_table(n, table))
@@ -292,9 +305,10 @@ pub fn row(n: usize, table: &[u8], station: Station) -> Result<&[u8], Refusal> {
 
 /// Run: takes the entries of a schedule in order; writes four bytes of the
 /// sheet for each entry taken, which [`sheet_lines`] reads. One entry may make
-/// two stations cease to be live, which [`SheetLine::ceased`] gives. The tally
-/// goes in and comes back in its place. A run that is refused at its start
-/// leaves the tally as it was.
+/// two stations cease to be live, which [`SheetLine::ceased`] gives; who told
+/// them to leave, and how long ago, [`told_by`] and [`rounds_ago`] read from the
+/// table. The tally goes in and comes back in its place. A run that is refused
+/// at its start leaves the tally as it was.
 /// Refusals: 1 to 6, then 7 to 11 at each entry.
 pub fn run(
     n: usize,

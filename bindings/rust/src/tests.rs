@@ -1,13 +1,18 @@
 //! The expected values are those of document 01's plant examples, and follow
 //! its rules with the sizes of request C-11. Those of the figures (request C-12),
-//! of suspected stations that are tested (request C-13) and of who stands ahead
-//! (request C-16) are worked out by hand.
+//! of suspected stations that are tested (request C-13), of who stands ahead
+//! (request C-16) and of who told a station to leave (request C-18) are worked
+//! out by hand.
 
 use crate::*;
 
 mod assignment;
 mod granter;
+mod lines;
 mod saved;
+
+/// Byte 4 of a line whose station nobody told to leave.
+const NONE: u8 = TOLD_BY_NONE;
 
 fn fresh(n: usize) -> Vec<u8> {
     let mut table = vec![9; table_length(n)];
@@ -31,7 +36,7 @@ fn stations(n: usize, station: Station, level: Level) -> Vec<Station> {
 
 #[test]
 fn a_fresh_table_is_live_with_next_distance_1() {
-    assert_eq!(fresh(2), [0, 1, 0, 0, 0, 0, 0, 1, 0, 0, 0, 0]);
+    assert_eq!(fresh(2), [0, 1, 0, 0, 255, 0, 0, 0].repeat(2));
 }
 
 #[test]
@@ -139,10 +144,10 @@ fn the_run_example_of_4_changes_the_table_as_stated() {
     );
     assert_eq!(answer.refusal, None);
     let expected = [
-        [0, 4, 0, 3, 0, 1, 0, 0],
-        [2, 2, 0, 1, 0, 0, 0, 0],
-        [0, 1, 0, 0, 0, 1, 0, 0],
-        [0, 1, 0, 0, 0, 1, 0, 0],
+        [0, 4, 0, 3, NONE, 0, 0, 1, 0, 0],
+        [2, 2, 0, 1, 0, 0, 0, 0, 0, 0],
+        [0, 1, 0, 0, NONE, 0, 0, 1, 0, 0],
+        [0, 1, 0, 0, NONE, 0, 0, 1, 0, 0],
     ];
     assert_eq!(table, expected.concat());
 }
@@ -155,7 +160,7 @@ fn a_pass_of_station_4_of_5_ends_at_next_distance_8() {
     assert_eq!((answer.refusal, answer.taken, tally.tests), (None, 5, 4));
     let tested: Vec<u8> = sheet.chunks(4).map(|line| line[1]).collect();
     assert_eq!(tested, [0, 1, 2, 3, 255]);
-    assert_eq!(table[4 * 9..][..4], [0, 8, 1, 4]);
+    assert_eq!(table[4 * 11..][..6], [0, 8, 1, 4, NONE, 0]);
 }
 
 /// An entry that is taken, on a plant with these lines: the line of the sheet,
@@ -176,11 +181,11 @@ fn one_test(rounds: u32) -> Tally {
 }
 
 /// A plant of 4 at the start of a round: 0 suspects 1, and 1 suspects 3.
-const SUSPECTED_1: [[u8; 8]; 4] = [
-    [0, 1, 0, 0, 0, 1, 0, 0],
-    [0, 1, 0, 0, 0, 0, 0, 1],
-    [0, 1, 0, 0, 0, 0, 0, 0],
-    [0, 1, 0, 0, 0, 0, 0, 0],
+const SUSPECTED_1: [[u8; 10]; 4] = [
+    [0, 1, 0, 0, NONE, 0, 0, 1, 0, 0],
+    [0, 1, 0, 0, NONE, 0, 0, 0, 0, 1],
+    [0, 1, 0, 0, NONE, 0, 0, 0, 0, 0],
+    [0, 1, 0, 0, NONE, 0, 0, 0, 0, 0],
 ];
 
 #[test]
@@ -190,6 +195,7 @@ fn a_suspected_station_leaves_when_it_is_tested() {
     let mut expected = SUSPECTED_1;
     expected[0][..4].copy_from_slice(&[0, 2, 0, 1]);
     expected[1][0] = 2;
+    expected[1][4] = 0;
     assert_eq!(table, expected.concat());
 }
 
@@ -207,10 +213,10 @@ fn a_station_that_left_when_it_was_tested_is_not_live() {
 #[test]
 fn only_the_tester_leaves_where_each_suspects_the_other() {
     let mut lines = SUSPECTED_1;
-    lines[1][4] = 1;
+    lines[1][HEAD] = 1;
     let (sheet, table, tally) = after_entry(lines, [1, 0]);
     assert_eq!((sheet, tally), ([0, 1, 2, 2], one_test(0)));
-    lines[0][..4].copy_from_slice(&[2, 2, 0, 1]);
+    lines[0][..HEAD].copy_from_slice(&[2, 2, 0, 1, 1, 0]);
     assert_eq!(table, lines.concat());
 }
 
@@ -223,13 +229,15 @@ fn a_suspected_station_whose_reply_is_late_hears_nothing() {
 }
 
 #[test]
-fn a_suspected_station_that_is_not_live_keeps_its_status() {
-    for (kind, status) in [(1, 1), (1, 2), (1, 3), (2, 1), (2, 2), (2, 3)] {
-        let mut lines = SUSPECTED_1;
-        lines[1][0] = status;
-        let (sheet, table, _) = after_entry(lines, [kind, 0]);
-        lines[0][..4].copy_from_slice(&[0, 2, 0, 1]);
-        assert_eq!((sheet, table), ([0, 1, 3, 0], lines.concat()));
+fn a_suspected_station_that_is_not_live_keeps_its_head() {
+    for [status, told_by, rounds_ago] in [[1, NONE, 0], [2, 3, 4], [2, 254, 1], [3, NONE, 255]] {
+        for kind in [1, 2] {
+            let mut lines = SUSPECTED_1;
+            lines[1][..HEAD].copy_from_slice(&[status, 1, 0, 0, told_by, rounds_ago]);
+            let (sheet, table, _) = after_entry(lines, [kind, 0]);
+            lines[0][..4].copy_from_slice(&[0, 2, 0, 1]);
+            assert_eq!((sheet, table), ([0, 1, 3, 0], lines.concat()));
+        }
     }
 }
 
@@ -238,10 +246,16 @@ fn tester_and_tested_station_may_leave_at_once() {
     // Nobody is live after it, so no round closes, be 1 finished or not.
     for head in [[1, 0, 0], [2, 1, 1]] {
         let [next, finished, tests] = head;
-        let lines = [[0, 1, 0, 0, 0, 1], [0, next, finished, tests, 0, 0]];
+        let lines = [
+            [0, 1, 0, 0, NONE, 0, 0, 1],
+            [0, next, finished, tests, NONE, 0, 0, 0],
+        ];
         let (sheet, table, tally) = after_entry(lines, [1, 0]);
         assert_eq!((sheet, tally), ([0, 1, 5, 3], one_test(0)));
-        let expected = [[3, 2, 0, 1, 0, 1], [2, next, finished, tests, 0, 0]];
+        let expected = [
+            [3, 2, 0, 1, NONE, 0, 0, 1],
+            [2, next, finished, tests, 0, 0, 0, 0],
+        ];
         assert_eq!(table, expected.concat());
     }
 }
@@ -249,18 +263,18 @@ fn tester_and_tested_station_may_leave_at_once() {
 #[test]
 fn a_round_closes_when_the_two_unfinished_stations_leave_at_once() {
     let lines = [
-        [0, 1, 0, 0, 0, 1, 1, 1],
-        [0, 3, 0, 2, 0, 0, 0, 0],
-        [0, 4, 1, 2, 0, 0, 0, 0],
-        [0, 4, 1, 2, 0, 0, 0, 0],
+        [0, 1, 0, 0, NONE, 0, 0, 1, 1, 1],
+        [0, 3, 0, 2, NONE, 0, 0, 0, 0, 0],
+        [0, 4, 1, 2, NONE, 0, 0, 0, 0, 0],
+        [0, 4, 1, 2, NONE, 0, 0, 0, 0, 0],
     ];
     let (sheet, table, tally) = after_entry(lines, [1, 0]);
     assert_eq!((sheet, tally), ([0, 1, 5, 3], one_test(1)));
     let expected = [
-        [3, 1, 0, 0, 0, 1, 1, 1],
-        [2, 1, 0, 0, 0, 0, 0, 0],
-        [0, 1, 0, 0, 0, 0, 0, 0],
-        [0, 1, 0, 0, 0, 0, 0, 0],
+        [3, 1, 0, 0, NONE, 1, 0, 1, 1, 1],
+        [2, 1, 0, 0, 0, 1, 0, 0, 0, 0],
+        [0, 1, 0, 0, NONE, 0, 0, 0, 0, 0],
+        [0, 1, 0, 0, NONE, 0, 0, 0, 0, 0],
     ];
     assert_eq!(table, expected.concat());
 }
@@ -288,10 +302,10 @@ fn a_station_whose_reply_was_late_leaves_in_the_next_round() {
     ];
     assert_eq!(sheet[36..], *of_0.concat());
     let expected = [
-        [0, 2, 0, 1, 0, 1, 0, 0],
-        [2, 1, 0, 0, 0, 0, 0, 0],
-        [0, 1, 0, 0, 0, 1, 0, 0],
-        [0, 1, 0, 0, 0, 1, 0, 0],
+        [0, 2, 0, 1, NONE, 0, 0, 1, 0, 0],
+        [2, 1, 0, 0, 0, 0, 0, 0, 0, 0],
+        [0, 1, 0, 0, NONE, 0, 0, 1, 0, 0],
+        [0, 1, 0, 0, NONE, 0, 0, 1, 0, 0],
     ];
     assert_eq!(table, expected.concat());
 }
@@ -300,7 +314,7 @@ fn a_station_whose_reply_was_late_leaves_in_the_next_round() {
 fn the_row_is_that_very_part_of_the_table() {
     let table = fresh(4);
     let row = row(4, &table, Station(2)).expect("accepted");
-    assert!(std::ptr::eq(row, &table[2 * 8 + 4..3 * 8]));
+    assert!(std::ptr::eq(row, &table[2 * 10 + 6..3 * 10]));
 }
 
 #[test]
@@ -417,7 +431,7 @@ fn a_caller_who_follows_the_sheet_has_every_status() {
         statuses[station.0] = status;
     }
     assert_eq!(statuses.map(Status::number), [3, 2, 3, 1]);
-    let in_table: Vec<u8> = table.chunks(8).map(|line| line[0]).collect();
+    let in_table: Vec<u8> = table.chunks(10).map(|line| line[0]).collect();
     assert_eq!(in_table, [3, 2, 3, 1]);
 }
 
@@ -471,11 +485,14 @@ fn wrong_sizes_and_lengths_are_refused() {
         let mut table = vec![0; table_length(n)];
         assert_eq!(fresh_table(n, &mut table), Err(Refusal::Size));
     }
-    assert_eq!(fresh_table(2, &mut [0; 11]), Err(Refusal::TableLength));
-    assert_eq!(fresh_table(2, &mut [0; 13]), Err(Refusal::TableLength));
-    assert_eq!(fresh_table(3, &mut [0; 32]), Err(Refusal::TableLength));
+    // 12 is the length of before request C-18; 40 is that of 4 stations.
+    for length in [0, 12, 15, 17] {
+        let mut table = vec![0; length];
+        assert_eq!(fresh_table(2, &mut table), Err(Refusal::TableLength));
+    }
+    assert_eq!(fresh_table(3, &mut [0; 40]), Err(Refusal::TableLength));
     let lengths = [2, 3, 11, 63, 64].map(|n| fresh(n).len());
-    assert_eq!(lengths, [12, 21, 165, 4_221, 4_352]);
+    assert_eq!(lengths, [16, 27, 187, 4_347, 4_480]);
 }
 
 #[test]
@@ -520,7 +537,7 @@ fn refusals_of_tables_and_entries_have_their_names() {
         let mut sheet = vec![0; 2 * schedule.len()];
         run(2, table, &mut Tally::default(), schedule, &mut sheet).refusal
     };
-    let mut all_finished = [0, 2, 1, 0, 0, 0].repeat(2);
+    let mut all_finished = [0, 2, 1, 0, NONE, 0, 0, 0].repeat(2);
     assert_eq!(refusal(&mut all_finished, &[]), Some(Refusal::AllFinished));
     assert_eq!(refusal(&mut fresh(2), &[4, 0]), Some(Refusal::Kind));
     assert_eq!(refusal(&mut fresh(2), &[1, 2]), Some(Refusal::Station));

@@ -8,7 +8,7 @@ use crate::*;
 /// A fresh table, but for the stations that one station suspects.
 fn suspecting(n: usize, station: Station, suspected: &[usize]) -> Vec<u8> {
     let mut table = fresh(n);
-    let row = &mut table[station.0 * (n + 4) + 4..][..n];
+    let row = &mut table[station.0 * (n + HEAD) + HEAD..][..n];
     suspected.iter().for_each(|other| row[*other] = 1);
     table
 }
@@ -100,7 +100,8 @@ fn a_station_that_is_not_live_stands_ahead_until_it_is_suspected() {
     for status in 1..=3 {
         let mut table = suspecting(8, Station(5), &[7]);
         for dead in [3, 4, 7] {
-            table[dead * 12] = status;
+            table[dead * 14] = status;
+            table[dead * 14 + 4] = if status == 2 { 5 } else { TOLD_BY_NONE };
         }
         let live = suspecting(8, Station(5), &[7]);
         assert_eq!(
@@ -114,7 +115,7 @@ fn a_station_that_is_not_live_stands_ahead_until_it_is_suspected() {
 fn the_next_distance_makes_no_difference() {
     for head in [[0, 3, 0, 2], [0, 8, 0, 3], [0, 8, 1, 3]] {
         let mut table = fresh(8);
-        table[5 * 12..][..4].copy_from_slice(&head);
+        table[5 * 14..][..4].copy_from_slice(&head);
         assert_eq!(
             entries(8, &table, Station(5)),
             entries(8, &fresh(8), Station(5))
@@ -266,14 +267,14 @@ fn assignments_are_refused_by_1_to_4_9_10_and_13() {
     let mut table = fresh.clone();
     table[0] = 4;
     assert_eq!(refusal(8, &table, 5, 14), Some(Refusal::LineRule));
-    for line in table.chunks_mut(12) {
+    for line in table.chunks_mut(14) {
         line[..4].copy_from_slice(&[0, 8, 1, 3]);
     }
     assert_eq!(refusal(8, &table, 5, 14), Some(Refusal::AllFinished));
     assert_eq!(refusal(8, &fresh, 8, 14), Some(Refusal::Station));
     assert_eq!(refusal(8, &fresh, 8, 7), Some(Refusal::Station));
     let mut table = fresh.clone();
-    table[5 * 12] = 1;
+    table[5 * 14] = 1;
     assert_eq!(refusal(8, &table, 5, 14), Some(Refusal::NotLive));
     assert_eq!(refusal(8, &table, 5, 7), Some(Refusal::NotLive));
     assert_eq!(refusal(8, &fresh, 5, 7), Some(Refusal::ListLength));

@@ -1,15 +1,16 @@
 //! Grants and drives (request C-15). The expected values are worked out by hand
-//! from the granting rule and the steps of document 01, with request C-13.
+//! from the granting rule and the steps of document 01, with requests C-13 and
+//! C-18.
 
-use super::fresh;
+use super::{fresh, NONE};
 use crate::*;
 
 /// Of 4 stations 1 crashed and 2 finished its pass.
-const UNFINISHED_0_AND_3: [[u8; 8]; 4] = [
-    [0, 1, 0, 0, 0, 0, 0, 0],
-    [1, 1, 0, 0, 0, 0, 0, 0],
-    [0, 4, 1, 2, 0, 0, 0, 0],
-    [0, 3, 0, 1, 0, 0, 0, 0],
+const UNFINISHED_0_AND_3: [[u8; 10]; 4] = [
+    [0, 1, 0, 0, NONE, 0, 0, 0, 0, 0],
+    [1, 1, 0, 0, NONE, 0, 0, 0, 0, 0],
+    [0, 4, 1, 2, NONE, 0, 0, 0, 0, 0],
+    [0, 3, 0, 1, NONE, 0, 0, 0, 0, 0],
 ];
 
 /// Every last number that a plant of 4 may have.
@@ -60,11 +61,13 @@ fn refusal(n: usize, table: &[u8], last: Option<usize>) -> Refusal {
 #[test]
 fn grants_and_drives_are_refused_by_1_to_4_before_16() {
     for n in [0, 1, 65, 258, usize::MAX] {
-        assert_eq!(refusal(n, &[9; 11], Some(n)), Refusal::Size);
+        assert_eq!(refusal(n, &[9; 15], Some(n)), Refusal::Size);
     }
-    assert_eq!(refusal(2, &[9; 11], Some(2)), Refusal::TableLength);
+    assert_eq!(refusal(2, &[9; 15], Some(2)), Refusal::TableLength);
     assert_eq!(refusal(3, &fresh(2), Some(3)), Refusal::TableLength);
-    let mut lines = [[0, 2, 1, 0, 0, 0], [0, 2, 1, 2, 0, 0]];
+    // The length of before request C-18.
+    assert_eq!(refusal(2, &[9; 12], Some(2)), Refusal::TableLength);
+    let mut lines = [[0, 2, 1, 0, NONE, 0, 0, 0], [0, 2, 1, 2, NONE, 0, 0, 0]];
     assert_eq!(refusal(2, &lines.concat(), Some(2)), Refusal::LineRule);
     lines[1][3] = 1;
     assert_eq!(refusal(2, &lines.concat(), Some(2)), Refusal::AllFinished);
@@ -72,7 +75,7 @@ fn grants_and_drives_are_refused_by_1_to_4_before_16() {
 
 #[test]
 fn grants_and_drives_are_refused_by_16_and_then_17() {
-    let none_live = [[1, 1, 0, 0, 0, 0], [3, 2, 1, 1, 1, 0]].concat();
+    let none_live = [[1, 1, 0, 0, NONE, 0, 0, 0], [3, 2, 1, 1, NONE, 0, 1, 0]].concat();
     for last in [2, 3, 254, 256, 511, (1 << 32) + 255, usize::MAX] {
         assert_eq!(refusal(2, &fresh(2), Some(last)), Refusal::LastGranted);
         assert_eq!(refusal(2, &none_live, Some(last)), Refusal::LastGranted);
@@ -145,17 +148,23 @@ fn a_drive_of_a_fresh_plant_has_the_tests_of_one_round() {
 
 #[test]
 fn a_drive_ends_where_nobody_is_left_live() {
-    let lines = [[0, 1, 0, 0, 0, 1], [0, 1, 0, 0, 0, 0]];
+    let lines = [[0, 1, 0, 0, NONE, 0, 0, 1], [0, 1, 0, 0, NONE, 0, 0, 0]];
     // 0 tests 1, which leaves as told; 0 leaves as alone.
     let mut table = lines.concat();
     let given = after_drive(&mut table, tally(5, 7), None);
     assert_eq!(given, (ended(1), tally(5, 8), Some(Station(0))));
-    assert_eq!(table, [[3, 2, 0, 1, 0, 1], [2, 1, 0, 0, 0, 0]].concat());
+    assert_eq!(
+        table,
+        [[3, 2, 0, 1, NONE, 0, 0, 1], [2, 1, 0, 0, 0, 0, 0, 0]].concat()
+    );
     // 1 tests 0 and leaves as told; then 0 tests 1 and leaves as alone.
     let mut table = lines.concat();
     let given = after_drive(&mut table, tally(5, 7), Some(Station(0)));
     assert_eq!(given, (ended(2), tally(5, 9), Some(Station(0))));
-    assert_eq!(table, [[3, 2, 0, 1, 0, 1], [2, 2, 0, 1, 0, 0]].concat());
+    assert_eq!(
+        table,
+        [[3, 2, 0, 1, NONE, 0, 0, 1], [2, 2, 0, 1, 0, 0, 0, 0]].concat()
+    );
 }
 
 #[test]
@@ -172,12 +181,12 @@ fn a_drive_stops_with_7_before_its_first_grant() {
 
 #[test]
 fn a_drive_that_stops_with_7_keeps_the_turns_made() {
-    let tested = [0, 2, 0, 1, 0, 0];
+    let tested = [0, 2, 0, 1, NONE, 0, 0, 0];
     let top = tally(5, u32::MAX);
     let mut table = fresh(2);
     let given = after_drive(&mut table, tally(5, u32::MAX - 1), None);
     assert_eq!(given, (stopped(Refusal::Tally, 1), top, Some(Station(0))));
-    assert_eq!(table, [tested, [0, 1, 0, 0, 0, 0]].concat());
+    assert_eq!(table, [tested, [0, 1, 0, 0, NONE, 0, 0, 0]].concat());
     let mut table = fresh(2);
     let given = after_drive(&mut table, tally(5, u32::MAX - 2), None);
     assert_eq!(given, (stopped(Refusal::Tally, 2), top, Some(Station(1))));
@@ -190,13 +199,16 @@ fn a_drive_whose_last_turn_brings_a_tally_to_the_top_is_not_refused() {
     let given = after_drive(&mut fresh(2), tally(below, 7), None);
     assert_eq!(given, (ended(4), tally(u32::MAX, 9), Some(Station(1))));
     // 0 tests 1, is told and leaves, and 1 is finished: the round closes.
-    let mut table = [[0, 1, 0, 0, 0, 1], [0, 2, 1, 1, 1, 0]].concat();
+    let mut table = [[0, 1, 0, 0, NONE, 0, 0, 1], [0, 2, 1, 1, NONE, 0, 1, 0]].concat();
     let given = after_drive(&mut table, tally(below, below), None);
     let top = tally(u32::MAX, u32::MAX);
     assert_eq!(given, (ended(1), top, Some(Station(0))));
-    assert_eq!(table, [[2, 1, 0, 0, 0, 1], [0, 1, 0, 0, 1, 0]].concat());
+    assert_eq!(
+        table,
+        [[2, 1, 0, 0, 1, 1, 0, 1], [0, 1, 0, 0, NONE, 0, 1, 0]].concat()
+    );
     // Nobody is left live.
-    let mut table = [[0, 1, 0, 0, 0, 1], [0, 1, 0, 0, 0, 0]].concat();
+    let mut table = [[0, 1, 0, 0, NONE, 0, 0, 1], [0, 1, 0, 0, NONE, 0, 0, 0]].concat();
     let given = after_drive(&mut table, tally(5, below), None);
     assert_eq!(given, (ended(1), tally(5, u32::MAX), Some(Station(0))));
 }
@@ -261,6 +273,6 @@ fn a_drive_makes_the_turns_that_are_granted() {
     let granted = [[7, 0, 1, 2, 3, 4, 6].repeat(4), vec![4, 4]].concat();
     assert_eq!(plant.drive(), granted);
     assert_eq!(plant.tally, tally(2, 44));
-    let suspects_5 = (0..8).map(|station| plant.table[12 * station + 4 + 5]);
+    let suspects_5 = (0..8).map(|station| plant.table[14 * station + HEAD + 5]);
     assert!(suspects_5.eq([1, 1, 1, 1, 1, 0, 1, 1]));
 }
