@@ -9,10 +9,11 @@ const SCHEDULE: &[u8] = include_bytes!("../../samples/eight-boards-4-out.txt");
 const SAMPLE: &[u8] = include_bytes!("../../samples/eight-boards-4-out.saved");
 
 /// The line of a live board at the start of a round, which suspects board 4.
-const LIVE: [u8; 12] = [0, 1, 0, 0, 0, 0, 0, 0, 1, 0, 0, 0];
+const LIVE: [u8; 14] = [0, 1, 0, 0, 255, 0, 0, 0, 0, 0, 1, 0, 0, 0];
 
-/// The line of board 4, which crashed before its first turn.
-const CRASHED: [u8; 12] = [1, 1, 0, 0, 0, 0, 0, 0, 0, 0, 0, 0];
+/// The line of board 4, which crashed before its first turn: one round closed
+/// since.
+const CRASHED: [u8; 14] = [1, 1, 0, 0, 255, 1, 0, 0, 0, 0, 0, 0, 0, 0];
 
 /// One closed round with 23 tests, which is document 01's count for board 4 dead.
 const TALLY: (u32, u32) = (1, 23);
@@ -34,14 +35,14 @@ fn simulate_saved(input: &[u8]) -> Output {
 
 #[test]
 fn sample_is_what_the_simulator_saves() {
-    let mut saved = vec![0; 143];
+    let mut saved = vec![0; 159];
     assert_eq!(simulator::save(8, &table(), TALLY, &mut saved), 0);
     assert_eq!(saved, SAMPLE);
 }
 
 #[test]
 fn sample_is_loaded() {
-    let mut read = vec![170; 96];
+    let mut read = vec![170; 112];
     let given = simulator::load(SAMPLE, &mut read);
     assert_eq!((given.number, given.size), (0, 8));
     assert_eq!((given.rounds, given.tests), TALLY);

@@ -2,7 +2,7 @@
 //! reply, and no live station that suspects a live one.
 
 use super::rounds::{pairs, random_dead};
-use super::{fresh, row_bytes, run_with, set, sizes, suspect, Numbers};
+use super::{cease, fresh, row_bytes, run_with, sizes, suspect, Numbers};
 
 /// The rounds that are always enough: d for d up to 3, and from 4 on
 /// 4 + (d - 3)^2 / 2, rounded down.
@@ -27,7 +27,7 @@ impl Plant {
         let mut table = fresh(n);
         let share = numbers.below(4);
         for k in &dead {
-            set(n, &mut table, *k, 0, 1);
+            cease(n, &mut table, *k, 1);
             for i in (0..n).filter(|i| i != k) {
                 if numbers.below(8) < share {
                     suspect(n, &mut table, i, *k);

@@ -4,7 +4,7 @@
 use super::granter::{granted, random_last, random_live_table};
 use super::rounds::{pairs, random_dead, with_dead};
 use super::told::suspecting;
-use super::{driven, finish, fresh, head, run_with, set, sizes, Numbers, MOST};
+use super::{cease, driven, finish, fresh, head, run_with, set, sizes, Numbers, MOST};
 use crate::{check_table, drive, Driven};
 
 fn none_live(n: usize, table: &[u8]) -> bool {
@@ -98,16 +98,17 @@ fn fresh_plant_of_8_stations() {
 /// Station 4 is dead and known. Station 5 makes five tests, the others three.
 #[test]
 fn plant_of_8_stations_with_a_dead_one() {
-    let mut table = with_dead(8, &[4]);
+    let mut table = with_dead(8, &[4], 0);
     let (given, stations) = drive_both_ways(8, &mut table, (0, 0), 255);
     assert_eq!(given, driven(0, 1, 23, 5, 30));
     let expected = [&[0, 1, 2, 3, 5, 6, 7].repeat(4)[..], &[5, 5]].concat();
     assert_eq!(stations, expected);
-    assert_eq!(table, with_dead(8, &[4]));
+    assert_eq!(table, with_dead(8, &[4], 1));
     let (given, stations) = drive_both_ways(8, &mut table, (1, 23), 5);
     assert_eq!(given, driven(0, 2, 46, 5, 30));
     let expected = [&[6, 7, 0, 1, 2, 3, 5].repeat(4)[..], &[5, 5]].concat();
     assert_eq!(stations, expected);
+    assert_eq!(table, with_dead(8, &[4], 2));
 }
 
 /// Station 1 has crashed and nobody knows: 0 and 3 find it, and 2 hears it
@@ -115,15 +116,15 @@ fn plant_of_8_stations_with_a_dead_one() {
 #[test]
 fn crashed_station_is_found() {
     let mut table = fresh(4);
-    set(4, &mut table, 1, 0, 1);
+    cease(4, &mut table, 1, 1);
     let (given, stations) = drive_both_ways(4, &mut table, (0, 0), 255);
     assert_eq!(given, driven(0, 1, 7, 0, 10));
     assert_eq!(stations, [0, 2, 3, 0, 2, 3, 0, 2, 3, 0]);
     let expected = [
-        [0, 1, 0, 0, 0, 1, 0, 0],
-        [1, 1, 0, 0, 0, 0, 0, 0],
-        [0, 1, 0, 0, 0, 1, 0, 0],
-        [0, 1, 0, 0, 0, 1, 0, 0],
+        [0, 1, 0, 0, 255, 0, 0, 1, 0, 0],
+        [1, 1, 0, 0, 255, 1, 0, 0, 0, 0],
+        [0, 1, 0, 0, 255, 0, 0, 1, 0, 0],
+        [0, 1, 0, 0, 255, 0, 0, 1, 0, 0],
     ];
     assert_eq!(table, expected.concat());
 }
@@ -137,10 +138,10 @@ fn station_that_leaves_is_not_granted_again() {
     assert_eq!(given, driven(0, 1, 8, 1, 11));
     assert_eq!(stations, [0, 1, 2, 3, 1, 2, 3, 1, 2, 3, 1]);
     let expected = [
-        [2, 1, 0, 0, 0, 0, 0, 0],
-        [0, 1, 0, 0, 1, 0, 0, 0],
-        [0, 1, 0, 0, 1, 0, 0, 0],
-        [0, 1, 0, 0, 1, 0, 0, 0],
+        [2, 1, 0, 0, 1, 1, 0, 0, 0, 0],
+        [0, 1, 0, 0, 255, 0, 1, 0, 0, 0],
+        [0, 1, 0, 0, 255, 0, 1, 0, 0, 0],
+        [0, 1, 0, 0, 255, 0, 1, 0, 0, 0],
     ];
     assert_eq!(table, expected.concat());
 }
@@ -190,12 +191,14 @@ fn drive_leaves_nobody_live_in_two_turns() {
     let (given, stations) = drive_both_ways(2, &mut table, (5, 9), 255);
     assert_eq!(given, driven(0, 5, 11, 1, 2));
     assert_eq!(stations, [0, 1]);
-    assert_eq!(table, [2, 2, 0, 1, 0, 1, 3, 2, 0, 1, 1, 0]);
+    let expected = [[2, 2, 0, 1, 1, 0, 0, 1], [3, 2, 0, 1, 255, 0, 1, 0]];
+    assert_eq!(table, expected.concat());
     let mut table = suspecting(2, &[(0, 1), (1, 0)]);
     let (given, stations) = drive_both_ways(2, &mut table, (5, 9), 0);
     assert_eq!(given, driven(0, 5, 11, 0, 2));
     assert_eq!(stations, [1, 0]);
-    assert_eq!(table, [3, 2, 0, 1, 0, 1, 2, 2, 0, 1, 1, 0]);
+    let expected = [[3, 2, 0, 1, 255, 0, 0, 1], [2, 2, 0, 1, 0, 0, 1, 0]];
+    assert_eq!(table, expected.concat());
 }
 
 /// Station 0 suspects 1, which leaves at the first test; then 0 is alone.
@@ -204,7 +207,8 @@ fn drive_leaves_nobody_live_in_one_turn() {
     let mut table = suspecting(2, &[(0, 1)]);
     let (given, _) = drive_both_ways(2, &mut table, (5, 9), 255);
     assert_eq!(given, driven(0, 5, 10, 0, 1));
-    assert_eq!(table, [3, 2, 0, 1, 0, 1, 2, 1, 0, 0, 0, 0]);
+    let expected = [[3, 2, 0, 1, 255, 0, 0, 1], [2, 1, 0, 0, 0, 0, 0, 0]];
+    assert_eq!(table, expected.concat());
 }
 
 /// Station 0 tells 1 and is alone; 2 then gets no reply from 0 and from 1.
@@ -215,9 +219,9 @@ fn drive_leaves_nobody_of_3_live() {
     assert_eq!(given, driven(0, 0, 3, 2, 3));
     assert_eq!(stations, [0, 2, 2]);
     let expected = [
-        [3, 2, 0, 1, 0, 1, 1],
-        [2, 1, 0, 0, 0, 0, 0],
-        [3, 4, 0, 2, 1, 1, 0],
+        [3, 2, 0, 1, 255, 0, 0, 1, 1],
+        [2, 1, 0, 0, 0, 0, 0, 0, 0],
+        [3, 4, 0, 2, 255, 0, 1, 1, 0],
     ];
     assert_eq!(table, expected.concat());
 }
@@ -240,7 +244,12 @@ fn full_tally_of_tests_stops_after_two_grants() {
     let (given, stations) = drive_both_ways(4, &mut table, (3, MOST - 2), 255);
     assert_eq!(given, driven(7, 3, MOST, 1, 2));
     assert_eq!(stations, [0, 1]);
-    let heads = [[0, 2, 0, 1], [0, 2, 0, 1], [0, 1, 0, 0], [0, 1, 0, 0]];
+    let heads = [
+        [0, 2, 0, 1, 255, 0],
+        [0, 2, 0, 1, 255, 0],
+        [0, 1, 0, 0, 255, 0],
+        [0, 1, 0, 0, 255, 0],
+    ];
     for (station, expected) in heads.iter().enumerate() {
         assert_eq!(head(4, &table, station), expected);
     }
@@ -254,8 +263,8 @@ fn turn_without_a_test_counts_as_a_grant() {
     let (given, stations) = drive_both_ways(4, &mut table, (3, MOST - 1), 3);
     assert_eq!(given, driven(7, 3, MOST, 1, 2));
     assert_eq!(stations, [0, 1]);
-    assert_eq!(head(4, &table, 0), [0, 4, 1, 0]);
-    assert_eq!(head(4, &table, 1), [0, 2, 0, 1]);
+    assert_eq!(head(4, &table, 0), [0, 4, 1, 0, 255, 0]);
+    assert_eq!(head(4, &table, 1), [0, 2, 0, 1, 255, 0]);
 }
 
 #[test]
@@ -277,7 +286,7 @@ fn closing_the_round_at_the_limit_of_tests_ends_with_0() {
     }
     let (given, _) = drive_both_ways(4, &mut table, (5, MOST - 1), 255);
     assert_eq!(given, driven(0, 6, MOST, 0, 1));
-    assert_eq!(head(4, &table, 0), [2, 1, 0, 0]);
+    assert_eq!(head(4, &table, 0), [2, 1, 0, 0, 1, 1]);
 }
 
 #[test]
@@ -322,13 +331,13 @@ fn grants_of_a_round_with_known_dead() {
     let mut numbers = Numbers::new(16);
     for (n, d) in sizes() {
         for dead in [vec![], random_dead(n, &mut numbers)] {
-            let mut table = with_dead(n, &dead);
+            let mut table = with_dead(n, &dead, 0);
             let given = drive(n, &mut table, (0, 0), 255);
             let tests = pairs(n, d, &dead);
             let grants = tests as usize + n - dead.len();
             let last = last_of_a_round(n, d, &dead);
             assert_eq!(given, driven(0, 1, tests, last, grants));
-            assert_eq!(table, with_dead(n, &dead));
+            assert_eq!(table, with_dead(n, &dead, 1));
         }
     }
 }

@@ -2,7 +2,8 @@
 //! the definition without sets.
 
 use super::{
-    fresh, head, random_table, row_bytes, run_with, set, sizes, suspect, Numbers, POWERS, UNWRITTEN,
+    cease, fresh, head, random_table, row_bytes, run_with, set, sizes, suspect, Numbers, POWERS,
+    UNWRITTEN,
 };
 use crate::assignment;
 
@@ -157,7 +158,7 @@ fn only_the_own_row_counts() {
     suspect(8, &mut table, 4, 5);
     suspect(8, &mut table, 6, 4);
     for (station, status) in [(4, 1), (7, 2), (0, 3)] {
-        set(8, &mut table, station, 0, status);
+        cease(8, &mut table, station, status);
     }
     assert_eq!(assigned(8, &table, 5), (STATION_5_OF_8.to_vec(), 3));
 }
@@ -293,7 +294,7 @@ fn who_stands_ahead() {
 fn a_turn_takes_the_least_due_entry() {
     let (mut tests, mut finished) = (0, 0);
     for (n, mut table, i) in random_live(22) {
-        let [_, next, done, _]: [u8; 4] = head(n, &table, i).try_into().unwrap();
+        let [next, done] = [1, 2].map(|byte| head(n, &table, i)[byte]);
         let entries = defined(i, row_bytes(n, &table, i));
         let mut due = entries.iter().filter(|[_, second]| *second == DUE);
         let least = due.find(|[m, _]| *m >= next);

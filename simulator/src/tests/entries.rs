@@ -1,7 +1,8 @@
 //! What an entry does, and the refusals of a run.
 
 use super::{
-    answer, finish, fresh, head, place, row_bytes, run_with, set, sizes, suspect, MOST, UNWRITTEN,
+    answer, cease, finish, fresh, head, place, row_bytes, run_with, set, sizes, suspect, wrong,
+    MOST, UNWRITTEN,
 };
 use crate::{check_table, run};
 
@@ -31,10 +32,10 @@ fn example_of_4_stations() {
     assert_eq!(given, answer(0, 4, 0, 4));
     assert_eq!(sheet, [0, 1, 3, 0, 0, 2, 1, 0, 0, 3, 1, 0, 1, 0, 2, 2]);
     let expected = [
-        [0, 4, 0, 3, 0, 1, 0, 0],
-        [2, 2, 0, 1, 0, 0, 0, 0],
-        [0, 1, 0, 0, 0, 1, 0, 0],
-        [0, 1, 0, 0, 0, 1, 0, 0],
+        [0, 4, 0, 3, 255, 0, 0, 1, 0, 0],
+        [2, 2, 0, 1, 0, 0, 0, 0, 0, 0],
+        [0, 1, 0, 0, 255, 0, 0, 1, 0, 0],
+        [0, 1, 0, 0, 255, 0, 0, 1, 0, 0],
     ];
     assert_eq!(table, expected.concat());
 }
@@ -47,7 +48,7 @@ fn pass_of_station_10_of_11() {
     let mut expected = [8, 9, 2, 3, 6, 7].map(|j| [10, j, 1, 0]).concat();
     expected.extend([10, 255, 0, 0]);
     assert_eq!(sheet, expected);
-    assert_eq!(head(11, &table, 10), [0, 16, 1, 6]);
+    assert_eq!(head(11, &table, 10), [0, 16, 1, 6, 255, 0]);
 }
 
 #[test]
@@ -75,9 +76,9 @@ fn next_distance_behind_the_last_station_is_2_to_the_d() {
     let mut table = fresh(5);
     let (_, sheet) = run_with(5, &mut table, (0, 0), &[1, 4].repeat(4));
     assert_eq!(sheet[12..], [4, 3, 1, 0]);
-    assert_eq!(head(5, &table, 4), [0, 8, 0, 4]);
+    assert_eq!(head(5, &table, 4), [0, 8, 0, 4, 255, 0]);
     run_with(5, &mut table, (0, 0), &[1, 4]);
-    assert_eq!(head(5, &table, 4), [0, 8, 1, 4]);
+    assert_eq!(head(5, &table, 4), [0, 8, 1, 4, 255, 0]);
 }
 
 #[test]
@@ -136,7 +137,7 @@ fn told_station_leaves_and_no_row_changes() {
     let (given, sheet) = run_with(4, &mut table, (0, 0), &[1, 0]);
     assert_eq!(given, answer(0, 1, 0, 1));
     assert_eq!(sheet, [0, 1, 2, 2]);
-    assert_eq!(head(4, &table, 0), [2, 2, 0, 1]);
+    assert_eq!(head(4, &table, 0), [2, 2, 0, 1, 1, 0]);
     assert_eq!(row_bytes(4, &table, 0), [0, 0, 0, 1]);
     assert_eq!(row_bytes(4, &table, 1), [1, 0, 1, 0]);
 }
@@ -149,7 +150,8 @@ fn told_station_that_suspects_all_others_has_status_2() {
     let (given, sheet) = run_with(2, &mut table, (0, 0), &[1, 0]);
     assert_eq!(given, answer(0, 1, 0, 1));
     assert_eq!(sheet, [0, 1, 2, 2]);
-    assert_eq!(table, [2, 2, 0, 1, 0, 1, 0, 1, 0, 0, 1, 0]);
+    let expected = [[2, 2, 0, 1, 1, 0, 0, 1], [0, 1, 0, 0, 255, 0, 1, 0]];
+    assert_eq!(table, expected.concat());
 }
 
 #[test]
@@ -157,7 +159,7 @@ fn status_of_the_tested_decides_not_the_row() {
     for status in 1..4 {
         for kind in 1..3 {
             let mut table = fresh(4);
-            set(4, &mut table, 1, 0, status);
+            cease(4, &mut table, 1, status);
             suspect(4, &mut table, 1, 0);
             let (_, sheet) = run_with(4, &mut table, (0, 0), &[kind, 0]);
             assert_eq!(sheet, [0, 1, 3, 0]);
@@ -173,7 +175,8 @@ fn alone_after_no_reply() {
     let (given, sheet) = run_with(2, &mut table, (0, 0), &[2, 0]);
     assert_eq!(given, answer(0, 1, 0, 1));
     assert_eq!(sheet, [0, 1, 3, 3]);
-    assert_eq!(table, [3, 2, 0, 1, 0, 1, 0, 1, 0, 0, 0, 0]);
+    let expected = [[3, 2, 0, 1, 255, 0, 0, 1], [0, 1, 0, 0, 255, 0, 0, 0]];
+    assert_eq!(table, expected.concat());
 }
 
 /// An exchange is made only where the tester does not suspect the tested, and
@@ -186,10 +189,10 @@ fn nobody_is_alone_after_an_exchange() {
     let (_, sheet) = run_with(4, &mut table, (0, 0), &[1, 0]);
     assert_eq!(sheet, [0, 1, 1, 0]);
     let expected = [
-        [0, 2, 0, 1, 0, 0, 1, 1],
-        [0, 1, 0, 0, 0, 0, 1, 1],
-        [0, 1, 0, 0, 0, 0, 0, 0],
-        [0, 1, 0, 0, 0, 0, 0, 0],
+        [0, 2, 0, 1, 255, 0, 0, 0, 1, 1],
+        [0, 1, 0, 0, 255, 0, 0, 0, 1, 1],
+        [0, 1, 0, 0, 255, 0, 0, 0, 0, 0],
+        [0, 1, 0, 0, 255, 0, 0, 0, 0, 0],
     ];
     assert_eq!(table, expected.concat());
 }
@@ -213,7 +216,7 @@ fn no_test_does_not_look_for_alone() {
     let (given, sheet) = run_with(2, &mut table, (0, 0), &[1, 0]);
     assert_eq!(given, answer(0, 1, 0, 0));
     assert_eq!(sheet, [0, 255, 0, 0]);
-    assert_eq!(head(2, &table, 0), [0, 2, 1, 0]);
+    assert_eq!(head(2, &table, 0), [0, 2, 1, 0, 255, 0]);
 }
 
 #[test]
@@ -224,7 +227,7 @@ fn turn_without_a_test_finishes_the_pass() {
         let (given, sheet) = run_with(8, &mut table, (0, 0), &[kind, 0]);
         assert_eq!(given, answer(0, 1, 0, 0));
         assert_eq!(sheet, [0, 255, 0, 0]);
-        assert_eq!(head(8, &table, 0), [0, 8, 1, 0]);
+        assert_eq!(head(8, &table, 0), [0, 8, 1, 0, 255, 0]);
     }
 }
 
@@ -232,7 +235,7 @@ fn turn_without_a_test_finishes_the_pass() {
 fn test_of_the_last_distance_does_not_finish_the_pass() {
     let mut table = fresh(2);
     run_with(2, &mut table, (0, 0), &[1, 0]);
-    assert_eq!(head(2, &table, 0), [0, 2, 0, 1]);
+    assert_eq!(head(2, &table, 0), [0, 2, 0, 1, 255, 0]);
 }
 
 #[test]
@@ -294,13 +297,13 @@ fn refusals_at_the_start_in_order() {
 
 #[test]
 fn damaged_bytes_are_refused_before_decoding() {
-    for byte in 0..8 {
+    for byte in 0..10 {
         let mut table = fresh(4);
-        set(4, &mut table, 1, byte, 255);
+        set(4, &mut table, 1, byte, wrong(byte));
         refused_at_start(4, &table, &[1, 0], 4, 3);
     }
-    refused_at_start(4, &[255; 32], &[1, 0], 4, 3);
-    refused_at_start(4, &[0; 32], &[1, 0], 4, 3);
+    refused_at_start(4, &[255; 40], &[1, 0], 4, 3);
+    refused_at_start(4, &[0; 40], &[1, 0], 4, 3);
 }
 
 #[test]
@@ -339,7 +342,7 @@ fn refused_stations_of_every_size() {
 fn refused_when_not_live() {
     for status in 1..4 {
         let mut table = fresh(4);
-        set(4, &mut table, 2, 0, status);
+        cease(4, &mut table, 2, status);
         for kind in 1..4 {
             refused_entry(&table, (0, 0), [kind, 2], 10);
         }
@@ -355,14 +358,14 @@ fn refused_when_the_pass_is_finished() {
     let (given, sheet) = run_with(4, &mut table, (0, 0), &[3, 2]);
     assert_eq!(given, answer(0, 1, 0, 0));
     assert_eq!(sheet, [2, 255, 4, 1]);
-    assert_eq!(head(4, &table, 2), [1, 4, 1, 0]);
+    assert_eq!(head(4, &table, 2), [1, 4, 1, 0, 255, 0]);
 }
 
 #[test]
 fn entry_refusals_in_order() {
     let mut table = fresh(4);
     finish(4, &mut table, 2);
-    set(4, &mut table, 2, 0, 1);
+    cease(4, &mut table, 2, 1);
     refused_entry(&table, (MOST, 0), [0, 4], 7);
     refused_entry(&table, (0, MOST), [0, 4], 7);
     refused_entry(&table, (0, 0), [0, 4], 8);
@@ -386,7 +389,7 @@ fn tests_one_below_the_limit() {
         sheet,
         [0, 1, 1, 0, UNWRITTEN, UNWRITTEN, UNWRITTEN, UNWRITTEN]
     );
-    assert_eq!(head(4, &table, 0), [0, 2, 0, 1]);
+    assert_eq!(head(4, &table, 0), [0, 2, 0, 1, 255, 0]);
 }
 
 #[test]

@@ -1,7 +1,9 @@
 //! The grant (C-15): which station comes next, how long a station waits, and
 //! the refusals that grant and drive share.
 
-use super::{driven, finish, fresh, head, random_table, set, sizes, suspect, Numbers, MOST};
+use super::{
+    cease, driven, finish, fresh, head, random_table, set, sizes, suspect, wrong, Numbers, MOST,
+};
 use crate::{drive, grant};
 
 /// The station granted after this last number.
@@ -13,7 +15,7 @@ pub fn granted(n: usize, table: &[u8], last: usize) -> usize {
 
 /// The live and unfinished stations.
 fn ready(n: usize, table: &[u8]) -> Vec<usize> {
-    let is_ready = |i: &usize| matches!(head(n, table, *i), [0, _, 0, _]);
+    let is_ready = |i: &usize| matches!(head(n, table, *i), [0, _, 0, ..]);
     (0..n).filter(is_ready).collect()
 }
 
@@ -49,7 +51,14 @@ fn all_finished(n: usize) -> Vec<u8> {
 /// Makes every station crash, leave because told or leave because alone.
 fn leave_none_live(n: usize, table: &mut [u8]) {
     for station in 0..n {
-        set(n, table, station, 0, 1 + (station % 3) as u8);
+        cease(n, table, station, 1 + (station % 3) as u8);
+    }
+}
+
+/// Makes the line of a station a live one.
+fn live_again(n: usize, table: &mut [u8], station: usize) {
+    for (byte, value) in [(0, 0), (4, 255), (5, 0)] {
+        set(n, table, station, byte, value);
     }
 }
 
@@ -85,7 +94,7 @@ fn finished_and_dead_stations_are_passed_over() {
         finish(8, &mut table, station);
     }
     for (station, status) in [(2, 1), (5, 2), (7, 3)] {
-        set(8, &mut table, station, 0, status);
+        cease(8, &mut table, station, status);
     }
     let after = [0, 1, 2, 3, 4, 5, 6, 7].map(|last| granted(8, &table, last));
     assert_eq!(after, [1, 3, 3, 6, 6, 6, 1, 1]);
@@ -96,7 +105,7 @@ fn finished_and_dead_stations_are_passed_over() {
 fn last_granted_station_comes_last() {
     let mut table = fresh(4);
     finish(4, &mut table, 0);
-    set(4, &mut table, 2, 0, 1);
+    cease(4, &mut table, 2, 1);
     assert_eq!(granted(4, &table, 1), 3);
     assert_eq!(granted(4, &table, 3), 1);
     finish(4, &mut table, 1);
@@ -161,7 +170,7 @@ fn others_before(n: usize, station: usize, numbers: &mut Numbers) -> usize {
     let mut others = 0;
     loop {
         let mut table = random_table(n, numbers);
-        set(n, &mut table, station, 0, 0);
+        live_again(n, &mut table, station);
         set(n, &mut table, station, 2, 0);
         last = granted(n, &table, last);
         if last == station {
@@ -205,9 +214,9 @@ fn refused_tables() {
     refused(4, &table[1..], 255, 2);
     refused(4, &[&table[..], &[0]].concat(), 255, 2);
     refused(3, &table, 255, 2);
-    for byte in 0..8 {
+    for byte in 0..10 {
         let mut table = fresh(4);
-        set(4, &mut table, 1, byte, 255);
+        set(4, &mut table, 1, byte, wrong(byte));
         refused(4, &table, 255, 3);
     }
     refused(4, &all_finished(4), 255, 4);
@@ -246,7 +255,7 @@ fn refusals_in_order() {
     for last in [4, 254, 256] {
         refused(4, &table, last, 16);
     }
-    set(4, &mut table, 3, 0, 0);
+    live_again(4, &mut table, 3);
     refused(4, &table, 4, 4);
     refused(4, &table, 256, 4);
     set(4, &mut table, 0, 1, 0);

@@ -1,6 +1,8 @@
 //! Statements that hold for all runs, checked on many schedules.
 
-use super::{end, fresh, head, random_table, row_bytes, run_with, set, sizes, Numbers, UNWRITTEN};
+use super::{
+    end, fresh, head, random_table, row_bytes, run_with, set, sizes, Numbers, HEAD, UNWRITTEN,
+};
 use crate::check_table;
 
 /// A schedule with mostly turns, some late replies, few crashes and a few
@@ -28,7 +30,7 @@ pub struct Taken {
     sheet: Vec<u8>,
     pub before: Vec<u8>,
     pub after: Vec<u8>,
-    closed: u32,
+    pub closed: u32,
 }
 
 impl Taken {
@@ -41,7 +43,7 @@ impl Taken {
         Some(usize::from(self.sheet[1])).filter(|j| *j != 255)
     }
 
-    fn outcome(&self) -> u8 {
+    pub fn outcome(&self) -> u8 {
         self.sheet[2]
     }
 
@@ -114,7 +116,7 @@ pub fn from_fresh_tables(seed: u64) -> impl Iterator<Item = Taken> {
 }
 
 /// The taken entries of short random schedules on random tables of each size.
-fn from_random_tables(seed: u64) -> impl Iterator<Item = Taken> {
+pub fn from_random_tables(seed: u64) -> impl Iterator<Item = Taken> {
     let mut numbers = Numbers::new(seed);
     sizes().flat_map(move |(n, _)| {
         let mut all = Vec::new();
@@ -235,7 +237,7 @@ fn with_rows(n: usize, bits: usize) -> Vec<u8> {
     let mut table = fresh(n);
     let pairs = (0..n).flat_map(|i| (0..n).map(move |k| (i, k)));
     for (bit, (i, k)) in pairs.filter(|(i, k)| i != k).enumerate() {
-        set(n, &mut table, i, 4 + k, (bits >> bit & 1) as u8);
+        set(n, &mut table, i, HEAD + k, (bits >> bit & 1) as u8);
     }
     table
 }

@@ -8,6 +8,7 @@ mod figures;
 mod granter;
 mod groups;
 mod laws;
+mod leaving;
 mod program;
 mod questions;
 mod rounds;
@@ -47,16 +48,19 @@ pub const MOST: u32 = 4_294_967_295;
 /// The value of buffer bytes that nobody has written.
 pub const UNWRITTEN: u8 = 170;
 
+/// The bytes of a line before its row.
+pub const HEAD: usize = 6;
+
 /// A fresh table of size n.
 pub fn fresh(n: usize) -> Vec<u8> {
-    let mut table = vec![UNWRITTEN; n * (n + 4)];
+    let mut table = vec![UNWRITTEN; n * (n + HEAD)];
     assert_eq!(fresh_table(n, &mut table), 0);
     table
 }
 
 /// The place in the table of a byte of a station's line.
 pub fn place(n: usize, station: usize, byte: usize) -> usize {
-    station * (n + 4) + byte
+    station * (n + HEAD) + byte
 }
 
 /// Sets one byte of a station's line.
@@ -66,7 +70,7 @@ pub fn set(n: usize, table: &mut [u8], station: usize, byte: usize, value: u8) {
 
 /// Sets the byte of a station's row about another station.
 pub fn suspect(n: usize, table: &mut [u8], station: usize, other: usize) {
-    set(n, table, station, 4 + other, 1);
+    set(n, table, station, HEAD + other, 1);
 }
 
 /// Makes a line that has finished its pass.
@@ -75,14 +79,30 @@ pub fn finish(n: usize, table: &mut [u8], station: usize) {
     set(n, table, station, 2, 1);
 }
 
-/// The four bytes before a station's row.
+/// Makes the line of a station that is not live: it has this status, by whom it
+/// was told was never recorded, and no round closed since.
+pub fn cease(n: usize, table: &mut [u8], station: usize, status: u8) {
+    set(n, table, station, 0, status);
+    set(n, table, station, 4, if status == 2 { 254 } else { 255 });
+    set(n, table, station, 5, 0);
+}
+
+/// A value of this byte that a live line must not have.
+pub fn wrong(byte: usize) -> u8 {
+    match byte {
+        4 => 254,
+        _ => 255,
+    }
+}
+
+/// The six bytes before a station's row.
 pub fn head(n: usize, table: &[u8], station: usize) -> &[u8] {
-    &table[place(n, station, 0)..place(n, station, 4)]
+    &table[place(n, station, 0)..place(n, station, HEAD)]
 }
 
 /// The bytes of a station's row.
 pub fn row_bytes(n: usize, table: &[u8], station: usize) -> &[u8] {
-    &table[place(n, station, 4)..place(n, station + 1, 0)]
+    &table[place(n, station, HEAD)..place(n, station + 1, 0)]
 }
 
 /// Runs a schedule on a sheet of the right length; gives the answer and the sheet.
@@ -158,7 +178,7 @@ fn random_line(
     finished: usize,
     numbers: &mut Numbers,
 ) -> Vec<u8> {
-    let mut line = vec![0; n + 4];
+    let mut line = vec![0; n + HEAD];
     if numbers.below(4) >= live {
         line[0] = 1 + numbers.below(3) as u8;
     }
@@ -168,9 +188,31 @@ fn random_line(
         _ => 1 + numbers.below(usize::from(end(n))) as u8,
     };
     line[3] = numbers.below(usize::from(line[1])) as u8;
+    line[4] = match line[0] {
+        2 => random_teller(n, own, numbers),
+        _ => 255,
+    };
+    line[5] = match line[0] {
+        0 => 0,
+        _ => random_closed(numbers),
+    };
     let share = numbers.below(7);
     for k in (0..n).filter(|k| *k != own) {
-        line[4 + k] = u8::from(numbers.below(6) < share);
+        line[HEAD + k] = u8::from(numbers.below(6) < share);
     }
     line
+}
+
+/// 254 or any other station: byte 4 of a line with status 2.
+fn random_teller(n: usize, own: usize, numbers: &mut Numbers) -> u8 {
+    let others = (0..n).filter(|k| *k != own);
+    others.chain([254]).nth(numbers.below(n)).unwrap() as u8
+}
+
+/// Any number of closed rounds, in half of the cases 254 or 255.
+fn random_closed(numbers: &mut Numbers) -> u8 {
+    match numbers.below(2) {
+        0 => 254 + numbers.below(2) as u8,
+        _ => numbers.below(256) as u8,
+    }
 }

@@ -1,6 +1,6 @@
 //! Refusals of the questions, at their boundaries and in their order.
 
-use super::{finish, fresh, place, set, sizes, suspect, UNWRITTEN};
+use super::{cease, finish, fresh, place, set, sizes, suspect, UNWRITTEN};
 use crate::{assignment, check_table, fresh_table, group_list, row, row_number};
 
 /// Asks for a group into a list of this length. A refusal writes nothing.
@@ -26,12 +26,12 @@ fn assignment_number(n: usize, table: &[u8], station: u8, length: usize) -> u8 {
 }
 
 #[test]
-fn fresh_table_has_live_lines_with_next_distance_1() {
+fn fresh_table_has_live_lines_with_next_distance_1_that_none_told() {
     for (n, _) in sizes() {
         let table = fresh(n);
-        for line in table.chunks(n + 4) {
-            assert_eq!(line[..2], [0, 1]);
-            assert!(line[2..].iter().all(|byte| *byte == 0));
+        for line in table.chunks(n + 6) {
+            assert_eq!(line[..6], [0, 1, 0, 0, 255, 0]);
+            assert!(line[6..].iter().all(|byte| *byte == 0));
         }
     }
 }
@@ -39,23 +39,30 @@ fn fresh_table_has_live_lines_with_next_distance_1() {
 #[test]
 fn fresh_table_refuses_sizes() {
     let accepted: Vec<usize> = (0..=1000)
-        .filter(|n| fresh_table(*n, &mut vec![0; n * (n + 4)]) == 0)
+        .filter(|n| fresh_table(*n, &mut vec![0; n * (n + 6)]) == 0)
         .collect();
     assert_eq!(accepted, Vec::from_iter(2..=64));
     assert_eq!(fresh_table(usize::MAX, &mut []), 1);
-    assert_eq!(fresh_table(258, &mut [0; 12]), 1);
+    assert_eq!(fresh_table(258, &mut [0; 16]), 1);
 }
 
 #[test]
 fn table_lengths() {
-    let of_powers = [(2, 12), (4, 32), (8, 96), (16, 320), (32, 1152), (64, 4352)];
+    let of_powers = [
+        (2, 16),
+        (4, 40),
+        (8, 112),
+        (16, 352),
+        (32, 1216),
+        (64, 4480),
+    ];
     let of_others = [
-        (3, 21),
-        (5, 45),
-        (11, 165),
-        (19, 437),
-        (48, 2496),
-        (63, 4221),
+        (3, 27),
+        (5, 55),
+        (11, 187),
+        (19, 475),
+        (48, 2592),
+        (63, 4347),
     ];
     for (n, length) in of_powers.into_iter().chain(of_others) {
         assert_eq!(fresh_table(n, &mut vec![0; length - 1]), 2);
@@ -68,7 +75,7 @@ fn table_lengths() {
 
 #[test]
 fn refused_fresh_table_writes_nothing() {
-    for (n, length) in [(1, 5), (65, 4485), (128, 16896), (3, 20), (3, 22), (2, 0)] {
+    for (n, length) in [(1, 7), (65, 4615), (128, 17152), (3, 26), (3, 28), (2, 0)] {
         let mut table = vec![UNWRITTEN; length];
         assert_ne!(fresh_table(n, &mut table), 0);
         assert_eq!(table, vec![UNWRITTEN; length]);
@@ -139,7 +146,7 @@ fn assignment_refuses_in_order() {
     assert_eq!(assignment_number(1, &table[1..], 9, 9), 1);
     assert_eq!(assignment_number(65, &table[1..], 9, 9), 1);
     assert_eq!(assignment_number(4, &table[1..], 9, 9), 2);
-    set(4, &mut table, 1, 0, 3);
+    cease(4, &mut table, 1, 3);
     assert_eq!(assignment_number(4, &table, 4, 9), 9);
     assert_eq!(assignment_number(4, &table, 1, 9), 10);
     assert_eq!(assignment_number(4, &table, 1, 6), 10);
@@ -169,7 +176,7 @@ fn row_is_the_very_part_of_the_table() {
         for station in 0..n {
             let part = row(n, &table, station as u8);
             assert_eq!(part.len(), n);
-            assert_eq!(part.as_ptr(), table[place(n, station, 4)..].as_ptr());
+            assert_eq!(part.as_ptr(), table[place(n, station, 6)..].as_ptr());
             assert_eq!(row_number(n, &table, station as u8), 0);
         }
     }
@@ -185,9 +192,9 @@ fn row_shows_the_suspected_stations() {
 
 #[test]
 fn row_of_a_station_that_is_not_live_is_given() {
-    for status in 0..4 {
+    for status in 1..4 {
         let mut table = fresh(4);
-        set(4, &mut table, 2, 0, status);
+        cease(4, &mut table, 2, status);
         assert_eq!(row_number(4, &table, 2), 0);
         assert_eq!(row(4, &table, 2).len(), 4);
     }

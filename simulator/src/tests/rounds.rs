@@ -1,14 +1,15 @@
 //! Rounds: how they close, and the counts of tests in a round.
 
-use super::{answer, finish, fresh, head, run_with, set, sizes, suspect, Numbers, POWERS};
+use super::{answer, cease, finish, fresh, head, run_with, set, sizes, suspect, Numbers, POWERS};
 use crate::check_table;
 
-/// A table at the start of a round in which each of these stations is
-/// crashed and suspected by all others.
-pub fn with_dead(n: usize, dead: &[usize]) -> Vec<u8> {
+/// A table at the start of a round in which each of these stations is crashed
+/// and suspected by all others, with so many rounds closed since it crashed.
+pub fn with_dead(n: usize, dead: &[usize], closed: u8) -> Vec<u8> {
     let mut table = fresh(n);
     for k in dead {
-        set(n, &mut table, *k, 0, 1);
+        cease(n, &mut table, *k, 1);
+        set(n, &mut table, *k, 5, closed);
         for i in (0..n).filter(|i| i != k) {
             suspect(n, &mut table, i, *k);
         }
@@ -19,7 +20,7 @@ pub fn with_dead(n: usize, dead: &[usize]) -> Vec<u8> {
 /// Gives every live station turns until its pass is finished, in station
 /// order: at most n. Gives the tests of the round.
 fn tests_of_a_round(n: usize, dead: &[usize]) -> u32 {
-    let mut table = with_dead(n, dead);
+    let mut table = with_dead(n, dead, 0);
     let mut tally = (0, 0);
     for i in (0..n).filter(|i| !dead.contains(i)) {
         let (mut outcome, mut turns) = (255, 0);
@@ -32,7 +33,7 @@ fn tests_of_a_round(n: usize, dead: &[usize]) -> u32 {
         assert!(turns <= n);
     }
     assert_eq!(tally.0, 1);
-    assert_eq!(table, with_dead(n, dead));
+    assert_eq!(table, with_dead(n, dead, 1));
     tally.1
 }
 
@@ -150,8 +151,11 @@ fn round_closes_with_a_crash() {
     let (given, _) = run_with(4, &mut table, (0, 0), &[3, 3]);
     assert_eq!(given, answer(0, 1, 1, 0));
     for station in 0..4 {
-        let status = u8::from(station == 3);
-        assert_eq!(head(4, &table, station), [status, 1, 0, 0]);
+        let expected = match station {
+            3 => [1, 1, 0, 0, 255, 1],
+            _ => [0, 1, 0, 0, 255, 0],
+        };
+        assert_eq!(head(4, &table, station), expected);
     }
 }
 
@@ -165,7 +169,7 @@ fn round_closes_when_a_told_station_leaves() {
     let (given, sheet) = run_with(4, &mut table, (0, 0), &[1, 0]);
     assert_eq!(given, answer(0, 1, 1, 1));
     assert_eq!(sheet, [0, 1, 2, 2]);
-    assert_eq!(head(4, &table, 0), [2, 1, 0, 0]);
+    assert_eq!(head(4, &table, 0), [2, 1, 0, 0, 1, 1]);
 }
 
 #[test]
@@ -175,7 +179,7 @@ fn round_closes_when_a_station_leaves_alone() {
     let (given, sheet) = run_with(2, &mut table, (0, 0), &[2, 0]);
     assert_eq!(given, answer(0, 1, 1, 1));
     assert_eq!(sheet, [0, 1, 3, 3]);
-    assert_eq!(head(2, &table, 1), [0, 1, 0, 0]);
+    assert_eq!(head(2, &table, 1), [0, 1, 0, 0, 255, 0]);
 }
 
 /// Stations 2 and 3 of 4 have finished their pass, and 0 suspects all others.
@@ -202,10 +206,10 @@ fn round_closes_when_tested_and_tester_leave() {
         assert_eq!(given, answer(0, 1, 4, 10));
         assert_eq!(sheet, [0, 1, 5, 3]);
         let expected = [
-            [3, 1, 0, 0, 0, 1, 1, 1],
-            [2, 1, 0, 0, 0, 0, 0, 0],
-            [0, 1, 0, 0, 0, 0, 0, 0],
-            [0, 1, 0, 0, 0, 0, 0, 0],
+            [3, 1, 0, 0, 255, 1, 0, 1, 1, 1],
+            [2, 1, 0, 0, 0, 1, 0, 0, 0, 0],
+            [0, 1, 0, 0, 255, 0, 0, 0, 0, 0],
+            [0, 1, 0, 0, 255, 0, 0, 0, 0, 0],
         ];
         assert_eq!(table, expected.concat());
     }
@@ -218,7 +222,12 @@ fn round_does_not_close_when_both_leave_and_another_is_not_finished() {
     let (given, sheet) = run_with(4, &mut table, (3, 9), &[1, 0]);
     assert_eq!(given, answer(0, 1, 3, 10));
     assert_eq!(sheet, [0, 1, 5, 3]);
-    let heads = [[3, 2, 0, 1], [2, 1, 0, 0], [0, 4, 1, 2], [0, 4, 0, 2]];
+    let heads = [
+        [3, 2, 0, 1, 255, 0],
+        [2, 1, 0, 0, 0, 0],
+        [0, 4, 1, 2, 255, 0],
+        [0, 4, 0, 2, 255, 0],
+    ];
     for (station, expected) in heads.iter().enumerate() {
         assert_eq!(head(4, &table, station), expected);
     }
@@ -227,12 +236,17 @@ fn round_does_not_close_when_both_leave_and_another_is_not_finished() {
 #[test]
 fn round_does_not_close_when_both_leave_and_nobody_is_live() {
     let mut table = tester_that_suspects_all();
-    set(4, &mut table, 2, 0, 1);
-    set(4, &mut table, 3, 0, 3);
+    cease(4, &mut table, 2, 1);
+    cease(4, &mut table, 3, 3);
     let (given, sheet) = run_with(4, &mut table, (3, 9), &[1, 0]);
     assert_eq!(given, answer(0, 1, 3, 10));
     assert_eq!(sheet, [0, 1, 5, 3]);
-    let heads = [[3, 2, 0, 1], [2, 1, 0, 0], [1, 4, 1, 2], [3, 4, 1, 2]];
+    let heads = [
+        [3, 2, 0, 1, 255, 0],
+        [2, 1, 0, 0, 0, 0],
+        [1, 4, 1, 2, 255, 0],
+        [3, 4, 1, 2, 255, 0],
+    ];
     for (station, expected) in heads.iter().enumerate() {
         assert_eq!(head(4, &table, station), expected);
     }
@@ -249,7 +263,12 @@ fn round_stays_open_when_the_tested_leaves_and_the_tester_does_not() {
     let (given, sheet) = run_with(4, &mut table, (0, 0), &[1, 0]);
     assert_eq!(given, answer(0, 1, 0, 1));
     assert_eq!(sheet, [0, 1, 5, 0]);
-    let heads = [[0, 2, 0, 1], [2, 4, 1, 0], [0, 4, 1, 0], [0, 4, 1, 0]];
+    let heads = [
+        [0, 2, 0, 1, 255, 0],
+        [2, 4, 1, 0, 0, 0],
+        [0, 4, 1, 0, 255, 0],
+        [0, 4, 1, 0, 255, 0],
+    ];
     for (station, expected) in heads.iter().enumerate() {
         assert_eq!(head(4, &table, station), expected);
     }
@@ -257,10 +276,10 @@ fn round_stays_open_when_the_tested_leaves_and_the_tester_does_not() {
     assert_eq!(given, answer(0, 3, 1, 3));
     assert_eq!(sheet, [0, 2, 1, 0, 0, 3, 1, 0, 0, 255, 0, 0]);
     let expected = [
-        [0, 1, 0, 0, 0, 1, 0, 0],
-        [2, 1, 0, 0, 0, 0, 0, 0],
-        [0, 1, 0, 0, 0, 1, 0, 0],
-        [0, 1, 0, 0, 0, 1, 0, 0],
+        [0, 1, 0, 0, 255, 0, 0, 1, 0, 0],
+        [2, 1, 0, 0, 0, 1, 0, 0, 0, 0],
+        [0, 1, 0, 0, 255, 0, 0, 1, 0, 0],
+        [0, 1, 0, 0, 255, 0, 0, 1, 0, 0],
     ];
     assert_eq!(table, expected.concat());
 }
@@ -278,24 +297,27 @@ fn round_stays_open_when_the_tested_leaves_at_the_last_distance() {
     let (given, sheet) = run_with(4, &mut table, (0, 0), &[1, 0]);
     assert_eq!(given, answer(0, 1, 0, 1));
     assert_eq!(sheet, [0, 3, 5, 0]);
-    assert_eq!(head(4, &table, 0), [0, 4, 0, 3]);
+    assert_eq!(head(4, &table, 0), [0, 4, 0, 3, 255, 0]);
     let (given, sheet) = run_with(4, &mut table, (0, 1), &[1, 0]);
     assert_eq!(given, answer(0, 1, 1, 1));
     assert_eq!(sheet, [0, 255, 0, 0]);
     for station in 0..4 {
-        let status = if station == 3 { 2 } else { 0 };
-        assert_eq!(head(4, &table, station), [status, 1, 0, 0]);
+        let expected = match station {
+            3 => [2, 1, 0, 0, 0, 1],
+            _ => [0, 1, 0, 0, 255, 0],
+        };
+        assert_eq!(head(4, &table, station), expected);
     }
 }
 
 #[test]
 fn round_does_not_close_without_a_live_station() {
     let mut table = fresh(2);
-    set(2, &mut table, 1, 0, 1);
+    cease(2, &mut table, 1, 1);
     finish(2, &mut table, 1);
     let (given, _) = run_with(2, &mut table, (0, 0), &[3, 0]);
     assert_eq!(given, answer(0, 1, 0, 0));
-    assert_eq!(head(2, &table, 1), [1, 2, 1, 0]);
+    assert_eq!(head(2, &table, 1), [1, 2, 1, 0, 255, 0]);
     assert_eq!(check_table(2, &table), 0);
 }
 
@@ -306,12 +328,18 @@ fn finished_lines_that_are_not_live_begin_the_round_too() {
         finish(4, &mut table, station);
     }
     for station in 1..4 {
-        set(4, &mut table, station, 0, station as u8);
+        cease(4, &mut table, station, station as u8);
     }
     set(4, &mut table, 0, 2, 0);
     let (given, _) = run_with(4, &mut table, (0, 0), &[1, 0]);
     assert_eq!(given, answer(0, 1, 1, 0));
-    for station in 0..4 {
-        assert_eq!(head(4, &table, station), [station as u8, 1, 0, 0]);
+    let heads = [
+        [0, 1, 0, 0, 255, 0],
+        [1, 1, 0, 0, 255, 1],
+        [2, 1, 0, 0, 254, 1],
+        [3, 1, 0, 0, 255, 1],
+    ];
+    for (station, expected) in heads.iter().enumerate() {
+        assert_eq!(head(4, &table, station), expected);
     }
 }

@@ -1,36 +1,36 @@
 //! The saved plant (C-17): what is written, and which files are read.
 
-use super::{answer, end, finish, fresh, random_table, run_with, set, sizes, suspect};
-use super::{Numbers, MOST, UNWRITTEN};
+use super::{answer, cease, end, finish, fresh, random_table, run_with, set, sizes, suspect};
+use super::{Numbers, HEAD, MOST, UNWRITTEN};
 use crate::program::saved_after_run;
 use crate::{load, save, saved_size, Loaded};
 
 /// A fresh plant of two boards: size 2, no rounds, no tests, two lines.
 #[rustfmt::skip]
-const TWO_BOARDS: [u8; 35] = [
+const TWO_BOARDS: [u8; 39] = [
     0x01, 0x00, 0x01, 0x02,
     0x02, 0x00, 0x08, 0x00, 0x00, 0x00, 0x00, 0x00, 0x00, 0x00, 0x00,
-    0x03, 0x00, 0x07, 0x00, 0x00, 0x01, 0x00, 0x00, 0x00, 0x00,
-    0x03, 0x00, 0x07, 0x01, 0x00, 0x01, 0x00, 0x00, 0x00, 0x00,
+    0x03, 0x00, 0x09, 0x00, 0x00, 0x01, 0x00, 0x00, 0xFF, 0x00, 0x00, 0x00,
+    0x03, 0x00, 0x09, 0x01, 0x00, 0x01, 0x00, 0x00, 0xFF, 0x00, 0x00, 0x00,
 ];
 
 /// Three boards: 0 suspects 1, which crashed; 1 had finished its pass and
-/// suspects both others; 2 left because told.
+/// suspects both others; 2 left because 1 told it, 165 rounds ago.
 #[rustfmt::skip]
-const THREE_LINES: [u8; 21] = [
-    0x00, 0x02, 0x00, 0x01, 0x00, 0x01, 0x00,
-    0x01, 0x04, 0x01, 0x02, 0x01, 0x00, 0x01,
-    0x02, 0x03, 0x00, 0x00, 0x00, 0x00, 0x00,
+const THREE_LINES: [u8; 27] = [
+    0x00, 0x02, 0x00, 0x01, 0xFF, 0x00, 0x00, 0x01, 0x00,
+    0x01, 0x04, 0x01, 0x02, 0xFF, 0x00, 0x01, 0x00, 0x01,
+    0x02, 0x03, 0x00, 0x00, 0x01, 0xA5, 0x00, 0x00, 0x00,
 ];
 
 /// The same three boards saved, with 16,909,060 rounds and 2,712,847,316 tests.
 #[rustfmt::skip]
-const THREE_BOARDS: [u8; 48] = [
+const THREE_BOARDS: [u8; 54] = [
     0x01, 0x00, 0x01, 0x03,
     0x02, 0x00, 0x08, 0x01, 0x02, 0x03, 0x04, 0xA1, 0xB2, 0xC3, 0xD4,
-    0x03, 0x00, 0x08, 0x00, 0x00, 0x02, 0x00, 0x01, 0x00, 0x01, 0x00,
-    0x03, 0x00, 0x08, 0x01, 0x01, 0x04, 0x01, 0x02, 0x01, 0x00, 0x01,
-    0x03, 0x00, 0x08, 0x02, 0x02, 0x03, 0x00, 0x00, 0x00, 0x00, 0x00,
+    0x03, 0x00, 0x0A, 0x00, 0x00, 0x02, 0x00, 0x01, 0xFF, 0x00, 0x00, 0x01, 0x00,
+    0x03, 0x00, 0x0A, 0x01, 0x01, 0x04, 0x01, 0x02, 0xFF, 0x00, 0x01, 0x00, 0x01,
+    0x03, 0x00, 0x0A, 0x02, 0x02, 0x03, 0x00, 0x00, 0x01, 0xA5, 0x00, 0x00, 0x00,
 ];
 
 /// All tags but 1, 2 and 3.
@@ -64,7 +64,7 @@ pub fn line_field(station: usize, line: &[u8]) -> Vec<u8> {
 
 /// The fields of a saved plant: size, tally and lines ascending.
 pub fn fields(n: usize, table: &[u8], (rounds, tests): (u32, u32)) -> Vec<Vec<u8>> {
-    let lines = table.chunks(n + 4).enumerate();
+    let lines = table.chunks(n + HEAD).enumerate();
     let mut fields = vec![size_field(n), tally_field(rounds, tests)];
     fields.extend(lines.map(|(station, line)| line_field(station, line)));
     fields
@@ -77,7 +77,7 @@ pub fn fresh_fields(n: usize) -> Vec<Vec<u8>> {
 
 /// The length of a saved plant.
 pub fn saved_length(n: usize) -> usize {
-    15 + n * (n + 8)
+    15 + n * (n + 10)
 }
 
 /// What a load answers, with all its figures.
@@ -100,7 +100,7 @@ fn saved(n: usize, table: &[u8], tally: (u32, u32)) -> Vec<u8> {
 /// Checks that the file is read as this plant and tally, and that its size is
 /// told.
 fn reads(file: &[u8], n: usize, table: &[u8], (rounds, tests): (u32, u32)) {
-    let mut read = vec![UNWRITTEN; n * (n + 4)];
+    let mut read = vec![UNWRITTEN; n * (n + HEAD)];
     assert_eq!(load(file, &mut read), loaded(0, n, rounds, tests));
     assert_eq!(read, table);
     assert_eq!(saved_size(file), (0, n));
@@ -152,7 +152,7 @@ fn three_boards() {
 #[test]
 fn lengths_of_saved_plants() {
     let lengths = [2, 3, 8, 11, 19, 64].map(saved_length);
-    assert_eq!(lengths, [35, 48, 143, 224, 528, 4623]);
+    assert_eq!(lengths, [39, 54, 159, 246, 566, 4751]);
     for (n, _) in sizes() {
         let length = fresh_fields(n).concat().len();
         assert_eq!(length, saved_length(n));
@@ -219,7 +219,7 @@ fn orders(left: &[Vec<u8>]) -> Vec<Vec<u8>> {
 fn all_orders_of_two_boards() {
     let mut table = fresh(2);
     suspect(2, &mut table, 1, 0);
-    set(2, &mut table, 0, 0, 3);
+    cease(2, &mut table, 0, 3);
     let files = orders(&fields(2, &table, (7, 8)));
     assert_eq!(files.len(), 24);
     for file in files {
@@ -308,7 +308,7 @@ fn plants_with_nobody_live() {
     for (n, _) in sizes() {
         let mut table = fresh(n);
         for station in 0..n {
-            set(n, &mut table, station, 0, 1 + (station % 3) as u8);
+            cease(n, &mut table, station, 1 + (station % 3) as u8);
             finish(n, &mut table, station);
         }
         let file = saved(n, &table, (1, 2));
@@ -328,6 +328,24 @@ fn greatest_next_distance_and_tests() {
     }
 }
 
+/// Each station as the one that told station 1, and 254, with some numbers of
+/// rounds closed since (C-18).
+#[test]
+fn who_told_and_rounds_closed_since() {
+    for (n, _) in sizes() {
+        for teller in (0..n).filter(|k| *k != 1).chain([254]) {
+            for closed in [0, 1, 254, 255] {
+                let mut table = fresh(n);
+                cease(n, &mut table, 1, 2);
+                set(n, &mut table, 1, 4, teller as u8);
+                set(n, &mut table, 1, 5, closed);
+                let file = saved(n, &table, (1, 2));
+                reads(&file, n, &table, (1, 2));
+            }
+        }
+    }
+}
+
 /// A run goes on from what was read as from what was saved.
 #[test]
 fn run_goes_on_after_reading() {
@@ -336,7 +354,7 @@ fn run_goes_on_after_reading() {
     let (first, _) = run_with(4, &mut table, (0, 0), &schedule);
     assert_eq!(first, answer(0, 6, 0, 5));
     let file = saved(4, &table, (first.rounds, first.tests));
-    let mut read = vec![UNWRITTEN; 32];
+    let mut read = vec![UNWRITTEN; 40];
     let given = load(&file, &mut read);
     assert_eq!(given, loaded(0, 4, 0, 5));
     let rest = [1, 0, 1, 2, 1, 2, 1, 2, 1, 2];
@@ -354,6 +372,21 @@ fn saved_after_the_run_of_an_input() {
     set(2, &mut table, 0, 3, 1);
     let file = fields(2, &table, (0, 1)).concat();
     assert_eq!(saved_after_run(b"2\nT 0\n"), Ok(file));
+    let file = fields(64, &fresh(64), (0, 0)).concat();
+    assert_eq!(saved_after_run(b"64\n"), Ok(file));
+}
+
+/// Document 01's example of 4 stations: 0 tells 1 to leave (C-18).
+#[test]
+fn saved_with_who_told() {
+    let expected = [
+        [0, 4, 0, 3, 255, 0, 0, 1, 0, 0],
+        [2, 2, 0, 1, 0, 0, 0, 0, 0, 0],
+        [0, 1, 0, 0, 255, 0, 0, 1, 0, 0],
+        [0, 1, 0, 0, 255, 0, 0, 1, 0, 0],
+    ];
+    let file = fields(4, &expected.concat(), (0, 4)).concat();
+    assert_eq!(saved_after_run(b"4\nL 0\nT 0\nT 0\nT 1\n"), Ok(file));
 }
 
 /// Nothing is saved where a line cannot be read or the run is refused.

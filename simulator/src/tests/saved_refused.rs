@@ -4,7 +4,9 @@ use super::saved::{
     field, fields, fresh_fields, line_field, loaded, other_tags, saved_length, size_field,
     tally_field,
 };
-use super::{finish, fresh, random_table, set, sizes, Numbers, MOST, UNWRITTEN};
+use super::{
+    cease, finish, fresh, random_table, set, sizes, wrong, Numbers, HEAD, MOST, UNWRITTEN,
+};
 use crate::{load, save, saved_size};
 
 /// Checks that the file is refused with this number by a load into a buffer of
@@ -19,7 +21,7 @@ fn load_refused(file: &[u8], length: usize, number: u8) {
 /// Checks that the file is refused with 18, 19 or 1, by a load whatever its
 /// buffer, and by the question for the size.
 fn size_refused(file: &[u8], number: u8) {
-    for length in [0, 1, 12, 21, 32, 4352] {
+    for length in [0, 1, 16, 27, 40, 4480] {
         load_refused(file, length, number);
     }
     assert_eq!(saved_size(file), (number, 0));
@@ -29,7 +31,7 @@ fn size_refused(file: &[u8], number: u8) {
 /// that its size is told.
 fn lines_refused(fields: &[Vec<u8>], n: usize) {
     let file = fields.concat();
-    for length in [n * (n + 4), 0, n * (n + 4) + 1] {
+    for length in [n * (n + HEAD), 0, n * (n + HEAD) + 1] {
         load_refused(&file, length, 20);
     }
     assert_eq!(saved_size(&file), (0, n));
@@ -39,7 +41,7 @@ fn lines_refused(fields: &[Vec<u8>], n: usize) {
 /// size is told.
 fn table_refused(n: usize, table: &[u8], number: u8) {
     let file = fields(n, table, (5, 6)).concat();
-    load_refused(&file, n * (n + 4), number);
+    load_refused(&file, n * (n + HEAD), number);
     assert_eq!(saved_size(&file), (0, n));
 }
 
@@ -85,8 +87,9 @@ fn fresh_and(n: usize, field: Vec<u8>) -> Vec<Vec<u8>> {
 
 /// The line of a fresh table.
 fn fresh_line(n: usize) -> Vec<u8> {
-    let mut line = vec![0; n + 4];
+    let mut line = vec![0; n + HEAD];
     line[1] = 1;
+    line[4] = 255;
     line
 }
 
@@ -136,7 +139,7 @@ fn last_field_runs_past_the_end() {
 fn first_field_runs_past_the_end() {
     let behind = fresh_fields(2).concat();
     for tag in [0, 1, 2, 3, 4] {
-        size_refused(&[&[tag, 0, 36][..], &behind].concat(), 18);
+        size_refused(&[&[tag, 0, 40][..], &behind].concat(), 18);
         size_refused(&[&[tag, 255, 255][..], &behind].concat(), 18);
     }
 }
@@ -150,10 +153,10 @@ fn cut_files() {
         for length in 0..file.len() {
             let number = match length {
                 0 | 4 => 19,
-                15.. if (length - 15) % (n + 8) == 0 => 20,
+                15.. if (length - 15) % (n + 10) == 0 => 20,
                 _ => 18,
             };
-            load_refused(&file[..length], n * (n + 4), number);
+            load_refused(&file[..length], n * (n + HEAD), number);
             let size = if number == 20 { (0, n) } else { (number, 0) };
             assert_eq!(saved_size(&file[..length]), size);
         }
@@ -236,13 +239,28 @@ fn size_of_another_plant() {
 #[test]
 fn line_field_of_wrong_length() {
     for (n, _) in sizes() {
-        for length in [0, 1, n + 4, n + 6, 256 + n + 5] {
+        for length in [0, 1, n + 5, n + 6, n + 8, 256 + n + 7] {
             for station in [0, n - 1] {
                 let wrong = field(3, &vec![station as u8; length]);
                 lines_refused(&fresh_but(n, 2 + station, wrong.clone()), n);
                 lines_refused(&fresh_and(n, wrong), n);
             }
         }
+    }
+}
+
+/// Files from before C-18.
+#[test]
+fn heads_of_four_bytes() {
+    for (n, _) in sizes() {
+        let mut line = vec![0; n + 4];
+        line[1] = 1;
+        let mut fields = fresh_fields(n);
+        for station in 0..n {
+            fields[2 + station] = line_field(station, &line);
+        }
+        lines_refused(&fields, n);
+        load_refused(&fields.concat(), n * (n + 4), 20);
     }
 }
 
@@ -299,13 +317,14 @@ fn station_too_high() {
 fn table_buffer_of_wrong_length() {
     for (n, _) in sizes() {
         let file = fresh_fields(n).concat();
-        let right = n * (n + 4);
+        let right = n * (n + 6);
         for length in [
             0,
             right - 1,
             right + 1,
-            (n - 1) * (n + 3),
-            (n + 1) * (n + 5),
+            (n - 1) * (n + 5),
+            (n + 1) * (n + 7),
+            n * (n + 4),
         ] {
             load_refused(&file, length, 2);
         }
@@ -317,9 +336,9 @@ fn table_buffer_of_wrong_length() {
 fn broken_line_rules() {
     for (n, _) in sizes() {
         for station in [0, n - 1] {
-            for byte in 0..n + 4 {
+            for byte in 0..n + HEAD {
                 let mut table = fresh(n);
-                set(n, &mut table, station, byte, 255);
+                set(n, &mut table, station, byte, wrong(byte));
                 table_refused(n, &table, 3);
                 save_refused(n, &table, saved_length(n), 3);
             }
@@ -332,15 +351,60 @@ fn broken_line_rules() {
 fn rows_are_judged_by_their_own_station() {
     for station in 0..5 {
         let mut line = fresh_line(5);
-        line[4 + station] = 1;
+        line[HEAD + station] = 1;
         let mut fields = fresh_but(5, 2 + station, line_field(station, &line));
         fields.reverse();
-        load_refused(&fields.concat(), 45, 3);
+        load_refused(&fields.concat(), 55, 3);
         for other in (0..5).filter(|other| *other != station) {
             let fields = fresh_but(5, 2 + other, line_field(other, &line));
-            let mut table = vec![UNWRITTEN; 45];
+            let mut table = vec![UNWRITTEN; 55];
             assert_eq!(load(&fields.concat(), &mut table), loaded(0, 5, 5, 6));
         }
+    }
+}
+
+/// A station's own number as the one that told it (C-18), in whatever order the
+/// lines stand.
+#[test]
+fn who_told_is_judged_by_the_own_station() {
+    for station in 0..5 {
+        let mut line = fresh_line(5);
+        line[0] = 2;
+        line[4] = station as u8;
+        let mut fields = fresh_but(5, 2 + station, line_field(station, &line));
+        fields.reverse();
+        load_refused(&fields.concat(), 55, 3);
+        for other in (0..5).filter(|other| *other != station) {
+            let fields = fresh_but(5, 2 + other, line_field(other, &line));
+            let mut table = vec![UNWRITTEN; 55];
+            assert_eq!(load(&fields.concat(), &mut table), loaded(0, 5, 5, 6));
+        }
+    }
+}
+
+/// Statuses with bytes 4 and 5 that they must not have (C-18).
+#[test]
+fn broken_rules_of_bytes_4_and_5() {
+    let broken = [
+        [0, 254, 0],
+        [0, 1, 0],
+        [0, 255, 1],
+        [1, 254, 0],
+        [1, 1, 0],
+        [2, 255, 0],
+        [2, 0, 0],
+        [2, 5, 0],
+        [2, 253, 0],
+        [3, 254, 0],
+        [3, 1, 0],
+    ];
+    for [status, teller, closed] in broken {
+        let mut table = fresh(5);
+        for (byte, value) in [(0, status), (4, teller), (5, closed)] {
+            set(5, &mut table, 0, byte, value);
+        }
+        table_refused(5, &table, 3);
+        save_refused(5, &table, 90, 3);
     }
 }
 
@@ -352,9 +416,9 @@ fn next_distance_of_a_finished_line() {
         set(5, &mut table, 2, 1, next);
         set(5, &mut table, 2, 2, 1);
         let file = fields(5, &table, (5, 6)).concat();
-        let mut read = vec![UNWRITTEN; 45];
+        let mut read = vec![UNWRITTEN; 55];
         assert_eq!(load(&file, &mut read).number, number);
-        let mut file = vec![UNWRITTEN; 80];
+        let mut file = vec![UNWRITTEN; 90];
         assert_eq!(save(5, &table, (5, 6), &mut file), number);
     }
 }
@@ -365,7 +429,7 @@ fn all_live_stations_finished() {
         let mut table = all_finished(n);
         table_refused(n, &table, 4);
         save_refused(n, &table, saved_length(n), 4);
-        set(n, &mut table, 0, 0, 1);
+        cease(n, &mut table, 0, 1);
         table_refused(n, &table, 4);
         save_refused(n, &table, saved_length(n), 4);
     }
@@ -374,7 +438,7 @@ fn all_live_stations_finished() {
 #[test]
 fn refused_sizes_of_the_writer() {
     for n in [0, 1, 65, 66, 128, 255, 256, 258, 65_538, usize::MAX] {
-        save_refused(n, &fresh(2), 35, 1);
+        save_refused(n, &fresh(2), 39, 1);
     }
 }
 
@@ -385,7 +449,7 @@ fn refused_lengths_of_the_writer() {
         save_refused(n, &table[1..], right, 2);
         save_refused(n, &[&table[..], &[0]].concat(), right, 2);
         save_refused(n, &[], right, 2);
-        for length in [0, right - 1, right + 1, right - 4, right + n + 8] {
+        for length in [0, right - 1, right + 1, right - 2 * n, right + n + 10] {
             save_refused(n, &table, length, 13);
         }
     }
@@ -394,11 +458,11 @@ fn refused_lengths_of_the_writer() {
 #[test]
 fn refusals_of_the_writer_in_order() {
     let mut table = all_finished(4);
-    save_refused(4, &table, 62, 4);
+    save_refused(4, &table, 70, 4);
     set(4, &mut table, 0, 0, 4);
-    save_refused(4, &table, 62, 3);
-    save_refused(4, &table[1..], 62, 2);
-    save_refused(65, &table[1..], 62, 1);
+    save_refused(4, &table, 70, 3);
+    save_refused(4, &table[1..], 70, 2);
+    save_refused(65, &table[1..], 70, 1);
 }
 
 /// A file and the length of the buffer that it is read into.
@@ -439,7 +503,7 @@ fn finish_all(case: &mut Case) {
 
 /// A file with these faults, put in from the last to the first.
 fn with_faults(has: impl Fn(usize) -> bool) -> Case {
-    let (fields, length) = (fresh_fields(4), 32);
+    let (fields, length) = (fresh_fields(4), 40);
     let mut case = Case { fields, length };
     for (k, (_, fault)) in FAULTS.iter().enumerate().rev() {
         if has(k) {
@@ -510,15 +574,15 @@ fn refusal_1_before_20() {
 fn refusal_20_before_2_before_3_before_4() {
     let mut table = all_finished(4);
     let of_table = |table: &[u8]| fields(4, table, (5, 6)).concat();
-    load_refused(&of_table(&table), 32, 4);
-    load_refused(&of_table(&table), 31, 2);
+    load_refused(&of_table(&table), 40, 4);
+    load_refused(&of_table(&table), 39, 2);
     set(4, &mut table, 3, 1, 0);
-    load_refused(&of_table(&table), 32, 3);
-    load_refused(&of_table(&table), 33, 2);
-    let without_last = &of_table(&table)[..51];
-    load_refused(without_last, 33, 20);
-    load_refused(without_last, 24, 20);
-    load_refused(without_last, 32, 20);
+    load_refused(&of_table(&table), 40, 3);
+    load_refused(&of_table(&table), 41, 2);
+    let without_last = &of_table(&table)[..57];
+    load_refused(without_last, 41, 20);
+    load_refused(without_last, 30, 20);
+    load_refused(without_last, 40, 20);
 }
 
 /// Changes some bytes of a file, cuts some out or puts some in.
@@ -565,12 +629,12 @@ fn saves_and_loads_again(n: usize, table: &[u8], tally: (u32, u32)) {
 fn spoiled_files() {
     let mut numbers = Numbers::new(19);
     let mut met = [false; 21];
-    for case in 0..6_000 {
+    for case in 0..10_000 {
         let n = 2 + numbers.below(4 + case % 7);
         let table = random_table(n, &mut numbers);
         let mut file = fields(n, &table, (5, 6)).concat();
         spoil(&mut file, &mut numbers);
-        let length = n * (n + 4) + usize::from(numbers.below(8) == 0);
+        let length = n * (n + HEAD) + usize::from(numbers.below(8) == 0);
         met[usize::from(check_any(&file, length))] = true;
     }
     let numbers: Vec<usize> = (0..21).filter(|number| met[*number]).collect();
@@ -583,6 +647,6 @@ fn files_of_any_bytes() {
     for _ in 0..20_000 {
         let (length, greatest) = (numbers.below(40), 1 + numbers.below(256));
         let file: Vec<u8> = (0..length).map(|_| numbers.below(greatest) as u8).collect();
-        check_any(&file, 12);
+        check_any(&file, 16);
     }
 }

@@ -3,7 +3,7 @@
 
 use super::laws::{from_fresh_tables, Taken};
 use super::rounds::{random_dead, with_dead};
-use super::{head, row_bytes, run_with, sizes, Numbers, POWERS};
+use super::{head, row_bytes, run_with, sizes, Numbers, HEAD, POWERS};
 use crate::sheet::respond;
 
 /// All of standard output for arguments that are right.
@@ -630,7 +630,7 @@ fn table_of_sizes_has_the_known_figures() {
 /// Turns in random order from this table on, until the round closes. Gives
 /// whom each board tested, in order.
 fn tested_in_a_round(n: usize, dead: &[usize], numbers: &mut Numbers) -> Vec<Vec<usize>> {
-    let mut table = with_dead(n, dead);
+    let mut table = with_dead(n, dead, 0);
     let mut ready: Vec<usize> = (0..n).filter(|i| !dead.contains(i)).collect();
     let mut tested = vec![vec![]; n];
     let mut rounds = 0;
@@ -647,7 +647,7 @@ fn tested_in_a_round(n: usize, dead: &[usize], numbers: &mut Numbers) -> Vec<Vec
         }
     }
     assert_eq!(rounds, 1);
-    assert_eq!(table, with_dead(n, dead));
+    assert_eq!(table, with_dead(n, dead, 1));
     tested
 }
 
@@ -678,7 +678,7 @@ fn made(entry: &Taken, i: usize) -> usize {
 fn tests_made_are_at_most_the_tests_due_by_the_row_now() {
     let (mut fewer, mut equal, mut closing) = (0, 0, 0);
     for entry in from_fresh_tables(37) {
-        let (n, length) = (entry.n, entry.n + 4);
+        let (n, length) = (entry.n, entry.n + HEAD);
         let parts = entry.before.chunks(length).zip(entry.after.chunks(length));
         let changed = parts
             .enumerate()

@@ -1,7 +1,7 @@
 //! Turns that make a test, against steps 3 to 6 and 8 carried out on the
 //! bytes of the table.
 
-use super::{answer, place, random_table, run_with, set, sizes, Numbers};
+use super::{answer, place, random_table, run_with, set, sizes, Numbers, HEAD};
 
 /// A table on which the steps are carried out.
 struct Bytes {
@@ -19,7 +19,7 @@ impl Bytes {
     }
 
     fn suspects(&self, station: usize, other: usize) -> bool {
-        self.byte(station, 4 + other) == 1
+        self.byte(station, HEAD + other) == 1
     }
 
     fn live(&self) -> Vec<usize> {
@@ -31,7 +31,7 @@ impl Bytes {
         self.set(i, 1, (i ^ j) as u8 + 1);
         self.set(i, 3, self.byte(i, 3) + 1);
         let outcome = if late || self.byte(j, 0) != 0 {
-            self.set(i, 4 + j, 1);
+            self.set(i, HEAD + j, 1);
             3
         } else {
             self.reply(i, j)
@@ -43,15 +43,15 @@ impl Bytes {
         outcome
     }
 
-    /// Step 4, as C-13 has it.
+    /// Step 4, as C-13 and C-18 have it.
     fn reply(&mut self, i: usize, j: usize) -> u8 {
         match (self.suspects(j, i), self.suspects(i, j)) {
             (true, _) => {
-                self.set(i, 0, 2);
+                self.leave_told(i, j);
                 2
             }
             (false, true) => {
-                self.set(j, 0, 2);
+                self.leave_told(j, i);
                 5
             }
             (false, false) => {
@@ -61,11 +61,24 @@ impl Bytes {
         }
     }
 
+    fn leave_told(&mut self, station: usize, by: usize) {
+        self.set(station, 0, 2);
+        self.set(station, 4, by as u8);
+    }
+
     fn exchange(&mut self, i: usize, j: usize) {
         for k in (0..self.n).filter(|k| *k != i && *k != j) {
-            let either = self.byte(i, 4 + k).max(self.byte(j, 4 + k));
-            self.set(i, 4 + k, either);
-            self.set(j, 4 + k, either);
+            let either = self.byte(i, HEAD + k).max(self.byte(j, HEAD + k));
+            self.set(i, HEAD + k, either);
+            self.set(j, HEAD + k, either);
+        }
+    }
+
+    /// Counts a closed round if the station is not live, up to 255.
+    fn count_round(&mut self, station: usize) {
+        let closed = self.byte(station, 5);
+        if self.byte(station, 0) != 0 && closed < 255 {
+            self.set(station, 5, closed + 1);
         }
     }
 
@@ -78,6 +91,7 @@ impl Bytes {
                 self.set(i, 1, 1);
                 self.set(i, 2, 0);
                 self.set(i, 3, 0);
+                self.count_round(i);
             }
         }
         u32::from(over)

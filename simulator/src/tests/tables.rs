@@ -1,6 +1,6 @@
 //! The line rules and refusal 4, byte by byte.
 
-use super::{end, finish, fresh, place, set, sizes};
+use super::{cease, end, finish, fresh, place, set, sizes, HEAD};
 use crate::check_table;
 
 /// The values of one byte with which the table is accepted.
@@ -27,10 +27,12 @@ fn bytes_of_a_fresh_line() {
         let table = fresh(n);
         for station in [0, n - 1] {
             let next: Vec<u8> = (1..=end(n)).collect();
-            assert_eq!(accepted(n, &table, station, 0), up_to(3));
+            assert_eq!(accepted(n, &table, station, 0), [0, 1, 3]);
             assert_eq!(accepted(n, &table, station, 1), next);
             assert_eq!(accepted(n, &table, station, 2), [0]);
             assert_eq!(accepted(n, &table, station, 3), [0]);
+            assert_eq!(accepted(n, &table, station, 4), [255]);
+            assert_eq!(accepted(n, &table, station, 5), [0]);
         }
     }
 }
@@ -41,7 +43,7 @@ fn bytes_of_a_row() {
         let table = fresh(n);
         for station in 0..n {
             for k in 0..n {
-                let values = accepted(n, &table, station, 4 + k);
+                let values = accepted(n, &table, station, HEAD + k);
                 assert_eq!(values, up_to(usize::from(k != station)));
             }
         }
@@ -106,12 +108,110 @@ fn more_tests_than_other_stations_keep_the_line_rules() {
 fn line_rules_hold_for_lines_that_are_not_live() {
     for status in 1..4 {
         let mut table = fresh(4);
-        set(4, &mut table, 3, 0, status);
+        cease(4, &mut table, 3, status);
         assert_eq!(accepted(4, &table, 3, 1), [1, 2, 3, 4]);
         assert_eq!(accepted(4, &table, 3, 2), [0]);
         assert_eq!(accepted(4, &table, 3, 3), [0]);
-        assert_eq!(accepted(4, &table, 3, 4 + 3), [0]);
-        assert_eq!(accepted(4, &table, 3, 4), [0, 1]);
+        assert_eq!(accepted(4, &table, 3, HEAD + 3), [0]);
+        assert_eq!(accepted(4, &table, 3, HEAD), [0, 1]);
+    }
+}
+
+/// The bytes that a station with status 2 may have as byte 4: the numbers of the
+/// other stations, and 254.
+fn tellers(n: usize, own: usize) -> Vec<u8> {
+    let others = (0..n).filter(|k| *k != own);
+    others.chain([254]).map(|k| k as u8).collect()
+}
+
+/// Whatever else the line holds.
+#[test]
+fn live_line_has_255_and_0() {
+    for station in 0..4 {
+        let mut table = fresh(4);
+        finish(4, &mut table, station);
+        set(4, &mut table, station, 3, 2);
+        set(4, &mut table, station, HEAD + (station + 1) % 4, 1);
+        assert_eq!(accepted(4, &table, station, 4), [255]);
+        assert_eq!(accepted(4, &table, station, 5), [0]);
+    }
+}
+
+#[test]
+fn crashed_or_alone_line_has_255() {
+    for (n, _) in sizes() {
+        for (station, status) in [(0, 1), (0, 3), (n - 1, 1), (n - 1, 3)] {
+            let mut table = fresh(n);
+            cease(n, &mut table, station, status);
+            assert_eq!(accepted(n, &table, station, 4), [255]);
+        }
+    }
+}
+
+/// Not its own number, n, 253 or 255.
+#[test]
+fn told_line_has_254_or_another_station() {
+    for (n, _) in sizes() {
+        for station in [0, n / 2, n - 1] {
+            let mut table = fresh(n);
+            cease(n, &mut table, station, 2);
+            let values = accepted(n, &table, station, 4);
+            assert_eq!(values, tellers(n, station));
+            let refused = [station, n, 64, 253, 255].map(|value| value as u8);
+            assert!(refused.iter().all(|value| !values.contains(value)));
+        }
+    }
+}
+
+/// The others are live, or left in one of the three ways.
+#[test]
+fn told_line_names_another_station_live_or_not() {
+    for status in 0..4 {
+        for station in 0..5 {
+            let mut table = fresh(5);
+            for other in (0..5).filter(|_| status != 0) {
+                cease(5, &mut table, other, status);
+            }
+            cease(5, &mut table, station, 2);
+            assert_eq!(accepted(5, &table, station, 4), tellers(5, station));
+        }
+    }
+}
+
+#[test]
+fn rounds_closed_since_are_any_on_a_line_that_is_not_live() {
+    for (n, _) in sizes() {
+        for (station, status) in [(0, 1), (n / 2, 2), (n - 1, 2), (n - 1, 3)] {
+            let mut table = fresh(n);
+            cease(n, &mut table, station, status);
+            assert_eq!(accepted(n, &table, station, 5), up_to(255));
+            if status == 2 {
+                set(n, &mut table, station, 4, ((station + 1) % n) as u8);
+                assert_eq!(accepted(n, &table, station, 5), up_to(255));
+            }
+        }
+    }
+}
+
+#[test]
+fn statuses_by_bytes_4_and_5() {
+    let statuses = |teller, closed| {
+        let mut table = fresh(4);
+        set(4, &mut table, 2, 4, teller);
+        set(4, &mut table, 2, 5, closed);
+        accepted(4, &table, 2, 0)
+    };
+    assert_eq!(statuses(255, 0), [0, 1, 3]);
+    for closed in [1, 254, 255] {
+        assert_eq!(statuses(255, closed), [1, 3]);
+    }
+    for closed in [0, 1, 255] {
+        for teller in [0, 1, 3, 254] {
+            assert_eq!(statuses(teller, closed), [2]);
+        }
+        for teller in [2, 4, 5, 64, 253] {
+            assert_eq!(statuses(teller, closed), []);
+        }
     }
 }
 
@@ -130,7 +230,7 @@ fn every_live_one_finished_is_refused() {
 fn one_live_finished_station_is_refused() {
     let mut table = fresh(4);
     for station in 1..4 {
-        set(4, &mut table, station, 0, station as u8);
+        cease(4, &mut table, station, station as u8);
     }
     assert_eq!(check_table(4, &table), 0);
     finish(4, &mut table, 0);
@@ -141,7 +241,7 @@ fn one_live_finished_station_is_refused() {
 fn no_live_station_is_accepted() {
     let mut table = fresh(4);
     for station in 0..4 {
-        set(4, &mut table, station, 0, 1);
+        cease(4, &mut table, station, 1);
         finish(4, &mut table, station);
     }
     assert_eq!(check_table(4, &table), 0);
@@ -153,7 +253,7 @@ fn refusals_in_order() {
     finish(2, &mut table, 0);
     finish(2, &mut table, 1);
     assert_eq!(check_table(2, &table), 4);
-    set(2, &mut table, 1, 5, 1);
+    set(2, &mut table, 1, HEAD + 1, 1);
     assert_eq!(check_table(2, &table), 3);
     assert_eq!(check_table(2, &table[1..]), 2);
     assert_eq!(check_table(1, &table[1..]), 1);

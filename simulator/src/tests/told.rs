@@ -1,7 +1,8 @@
 //! Step 4 as C-13 has it: who leaves on a reply, and that no row then changes.
 
 use super::{
-    answer, finish, fresh, head, row_bytes, run_with, set, sizes, suspect, MOST, UNWRITTEN,
+    answer, cease, finish, fresh, head, row_bytes, run_with, set, sizes, suspect, HEAD, MOST,
+    UNWRITTEN,
 };
 use crate::check_table;
 
@@ -23,10 +24,10 @@ fn suspected_tested_station_leaves_and_no_row_changes() {
     assert_eq!(given, answer(0, 1, 5, 7));
     assert_eq!(sheet, [0, 1, 5, 0]);
     let expected = [
-        [0, 2, 0, 1, 0, 1, 0, 1],
-        [2, 3, 0, 2, 0, 0, 1, 0],
-        [0, 1, 0, 0, 0, 0, 0, 1],
-        [0, 1, 0, 0, 0, 0, 0, 0],
+        [0, 2, 0, 1, 255, 0, 0, 1, 0, 1],
+        [2, 3, 0, 2, 0, 0, 0, 0, 1, 0],
+        [0, 1, 0, 0, 255, 0, 0, 0, 0, 1],
+        [0, 1, 0, 0, 255, 0, 0, 0, 0, 0],
     ];
     assert_eq!(table, expected.concat());
 }
@@ -38,10 +39,10 @@ fn both_suspect_each_other_and_only_the_tester_leaves() {
     assert_eq!(given, answer(0, 1, 5, 7));
     assert_eq!(sheet, [0, 1, 2, 2]);
     let expected = [
-        [2, 2, 0, 1, 0, 1, 0, 1],
-        [0, 1, 0, 0, 1, 0, 1, 0],
-        [0, 1, 0, 0, 0, 0, 0, 0],
-        [0, 1, 0, 0, 0, 0, 0, 0],
+        [2, 2, 0, 1, 1, 0, 0, 1, 0, 1],
+        [0, 1, 0, 0, 255, 0, 1, 0, 1, 0],
+        [0, 1, 0, 0, 255, 0, 0, 0, 0, 0],
+        [0, 1, 0, 0, 255, 0, 0, 0, 0, 0],
     ];
     assert_eq!(table, expected.concat());
 }
@@ -52,8 +53,8 @@ fn both_suspect_each_other_and_only_the_tester_leaves() {
 fn outcome(n: usize, kind: u8, i: usize, told: bool, tested_told: bool) -> [u8; 3] {
     let j = i ^ 1;
     let mut table = fresh(n);
-    set(n, &mut table, j, 4 + i, u8::from(told));
-    set(n, &mut table, i, 4 + j, u8::from(tested_told));
+    set(n, &mut table, j, HEAD + i, u8::from(told));
+    set(n, &mut table, i, HEAD + j, u8::from(tested_told));
     let (_, sheet) = run_with(n, &mut table, (0, 0), &[kind, i as u8]);
     assert_eq!(sheet[1], j as u8);
     [sheet[2], head(n, &table, i)[0], head(n, &table, j)[0]]
@@ -86,7 +87,7 @@ fn late_reply_does_not_make_the_tested_leave() {
         assert_eq!(given, answer(0, 1, 5, 7));
         assert_eq!(sheet, [0, 1, 3, 0]);
         assert_eq!(table, expected);
-        assert_eq!(head(4, &table, 1), [0, 1, 0, 0]);
+        assert_eq!(head(4, &table, 1), [0, 1, 0, 0, 255, 0]);
     }
 }
 
@@ -95,7 +96,7 @@ fn suspected_station_that_is_not_live_keeps_its_status() {
     for status in 1..4 {
         for kind in 1..3 {
             let mut table = suspecting(4, &[(0, 1), (1, 2)]);
-            set(4, &mut table, 1, 0, status);
+            cease(4, &mut table, 1, status);
             let mut expected = table.clone();
             set(4, &mut expected, 0, 1, 2);
             set(4, &mut expected, 0, 3, 1);
@@ -116,8 +117,8 @@ fn tested_station_that_has_finished_its_pass_leaves() {
     let (given, sheet) = run_with(4, &mut table, (0, 0), &[1, 0]);
     assert_eq!(given, answer(0, 1, 0, 1));
     assert_eq!(sheet, [0, 1, 5, 0]);
-    assert_eq!(head(4, &table, 0), [0, 2, 0, 1]);
-    assert_eq!(head(4, &table, 1), [2, 4, 1, 2]);
+    assert_eq!(head(4, &table, 0), [0, 2, 0, 1, 255, 0]);
+    assert_eq!(head(4, &table, 1), [2, 4, 1, 2, 0, 0]);
 }
 
 #[test]
@@ -135,7 +136,8 @@ fn alone_at_once_with_2_stations() {
     let (given, sheet) = run_with(2, &mut table, (5, 6), &[1, 0, 1, 1]);
     assert_eq!(given, answer(10, 1, 5, 7));
     assert_eq!(sheet[..4], [0, 1, 5, 3]);
-    assert_eq!(table, [3, 2, 0, 1, 0, 1, 2, 1, 0, 0, 0, 0]);
+    let expected = [[3, 2, 0, 1, 255, 0, 0, 1], [2, 1, 0, 0, 0, 0, 0, 0]];
+    assert_eq!(table, expected.concat());
     assert_eq!(check_table(2, &table), 0);
 }
 
@@ -147,7 +149,8 @@ fn alone_at_once_beside_a_finished_station() {
     let (given, sheet) = run_with(2, &mut table, (5, 6), &[1, 0]);
     assert_eq!(given, answer(0, 1, 5, 7));
     assert_eq!(sheet, [0, 1, 5, 3]);
-    assert_eq!(table, [3, 2, 0, 1, 0, 1, 2, 2, 1, 1, 0, 0]);
+    let expected = [[3, 2, 0, 1, 255, 0, 0, 1], [2, 2, 1, 1, 0, 0, 0, 0]];
+    assert_eq!(table, expected.concat());
     assert_eq!(check_table(2, &table), 0);
 }
 
@@ -158,9 +161,9 @@ fn last_of_3_stations_after_both_left() {
     assert_eq!(given, answer(0, 3, 0, 3));
     assert_eq!(sheet, [0, 1, 5, 3, 2, 0, 3, 0, 2, 1, 3, 3]);
     let expected = [
-        [3, 2, 0, 1, 0, 1, 1],
-        [2, 1, 0, 0, 0, 0, 0],
-        [3, 4, 0, 2, 1, 1, 0],
+        [3, 2, 0, 1, 255, 0, 0, 1, 1],
+        [2, 1, 0, 0, 0, 0, 0, 0, 0],
+        [3, 4, 0, 2, 255, 0, 1, 1, 0],
     ];
     assert_eq!(table, expected.concat());
 }
@@ -173,7 +176,7 @@ fn every_entry_of_the_station_that_left_is_refused() {
         assert_eq!(given, answer(10, 1, 0, 1));
         assert_eq!(sheet[..4], [0, 1, 5, 0]);
         assert_eq!(sheet[4..], [UNWRITTEN; 8]);
-        assert_eq!(head(4, &table, 1), [2, 1, 0, 0]);
+        assert_eq!(head(4, &table, 1), [2, 1, 0, 0, 0, 0]);
     }
 }
 
@@ -225,10 +228,10 @@ fn tested_station_leaves_in_the_round_after_its_late_reply() {
     assert_eq!(given, answer(10, 1, 1, 10));
     assert_eq!(sheet[..4], [0, 1, 5, 0]);
     let expected = [
-        [0, 2, 0, 1, 0, 1, 0, 0],
-        [2, 1, 0, 0, 0, 0, 0, 0],
-        [0, 1, 0, 0, 0, 1, 0, 0],
-        [0, 1, 0, 0, 0, 1, 0, 0],
+        [0, 2, 0, 1, 255, 0, 0, 1, 0, 0],
+        [2, 1, 0, 0, 0, 0, 0, 0, 0, 0],
+        [0, 1, 0, 0, 255, 0, 0, 1, 0, 0],
+        [0, 1, 0, 0, 255, 0, 0, 1, 0, 0],
     ];
     assert_eq!(table, expected.concat());
 }
@@ -248,10 +251,10 @@ fn suspicion_from_an_exchange_is_told() {
     ];
     assert_eq!(sheet, expected.concat());
     let expected = [
-        [0, 4, 0, 3, 0, 1, 0, 0],
-        [2, 1, 0, 0, 0, 0, 0, 0],
-        [0, 1, 0, 0, 0, 1, 0, 0],
-        [0, 3, 0, 2, 0, 1, 0, 0],
+        [0, 4, 0, 3, 255, 0, 0, 1, 0, 0],
+        [2, 1, 0, 0, 3, 0, 0, 0, 0, 0],
+        [0, 1, 0, 0, 255, 0, 0, 1, 0, 0],
+        [0, 3, 0, 2, 255, 0, 0, 1, 0, 0],
     ];
     assert_eq!(table, expected.concat());
 }
