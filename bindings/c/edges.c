@@ -544,7 +544,7 @@ static void saved_lengths(void)
 {
     static uint8_t table[VCUBE_TABLE_LENGTH(64)];
 
-    expect(VCUBE_SAVED_LENGTH(2) == 39 && VCUBE_SAVED_LENGTH(64) == 4751, "the length of a saved plant");
+    expect(VCUBE_SAVED_LENGTH(2) == 39 && VCUBE_SAVED_LENGTH(8) == 159 && VCUBE_SAVED_LENGTH(64) == 4751, "the length of a saved plant");
     for (size_t n = 2; n <= 64; n++) {
         const size_t right = VCUBE_SAVED_LENGTH(n), wrong[] = {0, 1, right - 1, right + 1, right + 256};
         expect(vcube_fresh_table(n, table, VCUBE_TABLE_LENGTH(n)) == VCUBE_ACCEPTED, "a fresh table");
@@ -1057,7 +1057,7 @@ static void take_entry(const struct entry *entry)
     expect(memcmp(table, entry->after, sizeof table) == 0, entry->what);
 }
 
-/* Two tables of 4 that differ in byte 5 of line 1. A turn of 0 closes the round, by a run and by a drive. */
+/* In a plant of 4 whose station 1 is not live a turn of 0 closes the round, by a run and by a drive. */
 static void close_at(uint8_t status, uint8_t told_by, unsigned rounds_ago)
 {
     const uint8_t count = (uint8_t)rounds_ago, next = (uint8_t)(rounds_ago < 255 ? rounds_ago + 1 : 255);
