@@ -5,7 +5,7 @@
 use std::fmt;
 
 use shared::counts::{list, Required};
-use shared::table::{CRASHED, LEFT_ALONE, LEFT_TOLD, NOT_RECORDED, TOLD_BY_NONE};
+use shared::table::{CRASHED, LEFT_ALONE, LEFT_TOLD, LIVE, NOT_RECORDED, TOLD_BY_NONE};
 
 use crate::call::{Call, Kind, Name};
 use crate::ceasing::{broken, former_table_length, heads, Head, RIGHT};
@@ -15,7 +15,10 @@ use crate::outcome::Outcome;
 use crate::saving::READER;
 
 /// How many stations the greatest plant has.
-pub const STATIONS: usize = 64;
+const STATIONS: usize = 64;
+
+/// The turns of drives are counted in plants of at most so many stations.
+const SMALL: usize = 16;
 
 #[derive(Clone)]
 pub struct Ceased {
@@ -47,7 +50,7 @@ pub struct Taken {
 type TableCase = occurred::Case<Table>;
 type EntryCase = occurred::Case<Taken>;
 
-const OF_TABLES: [(Kind, &[TableCase]); 22] = [
+const OF_TABLES: [(Kind, &[TableCase]); 23] = [
     (Kind::FreshTable, &LENGTH),
     (Kind::Assignment, &LENGTH),
     (Kind::Assignment, &TAKEN),
@@ -58,6 +61,7 @@ const OF_TABLES: [(Kind, &[TableCase]); 22] = [
     (Kind::Run, &LENGTH),
     (Kind::Run, &TAKEN),
     (Kind::Run, &REFUSED),
+    (Kind::Run, &REFUSED_BY_BYTE),
     (Kind::Grant, &LENGTH),
     (Kind::Grant, &TAKEN),
     (Kind::Grant, &REFUSED),
@@ -73,9 +77,9 @@ const OF_TABLES: [(Kind, &[TableCase]); 22] = [
 ];
 
 const OF_ENTRIES: [(Kind, &[EntryCase]); 3] = [
-    (Kind::Run, &BY_CRASH),
-    (Kind::Run, &BY_TURN),
-    (Kind::Drive, &BY_TURN),
+    (Kind::Run, &OF_RUNS),
+    (Kind::Run, &OF_TURNS),
+    (Kind::Drive, &OF_TURNS),
 ];
 
 const LENGTH: [TableCase; 1] = [("a table for heads of four bytes", |table| {
@@ -113,7 +117,29 @@ const TAKEN: [TableCase; 11] = [
 ];
 
 /// By the line by which alone a table is refused with 3.
-const REFUSED: [TableCase; 16] = [
+const REFUSED: [TableCase; 6] = [
+    ("a wrong byte 5 of a live line", |table| {
+        is_live_with_count(table, |_| true)
+    }),
+    ("a wrong byte 4 of a live line", |table| {
+        is_live_with_teller(table, |_, _| true)
+    }),
+    ("a wrong byte 4 of a crashed line", |table| {
+        is_broken(table, CRASHED, |_| true)
+    }),
+    ("a wrong byte 4 of one that was alone", |table| {
+        is_broken(table, LEFT_ALONE, |_| true)
+    }),
+    ("255 or its own number in byte 4 of a told line", |table| {
+        is_broken(table, LEFT_TOLD, |head| !is_past(table.n, head.told_by))
+    }),
+    ("n to 253 in byte 4 of a told line", |table| {
+        is_broken(table, LEFT_TOLD, |head| is_past(table.n, head.told_by))
+    }),
+];
+
+/// The same by each kind of byte, for runs, which are the most calls.
+const REFUSED_BY_BYTE: [TableCase; 16] = [
     ("1 in byte 5 of a live line", |table| {
         is_live_with_count(table, |byte| byte == 1)
     }),
@@ -166,18 +192,25 @@ const REFUSED: [TableCase; 16] = [
     }),
 ];
 
-/// By entries of kind 3.
-const BY_CRASH: [EntryCase; 2] = [
-    ("a round closed by a crash, which counts it", |taken| {
+/// By entries of runs.
+const OF_RUNS: [EntryCase; 4] = [
+    ("a crash, round open", |taken| {
+        taken.entry.status == CRASHED && taken.entry.live != 0 && !taken.entry.closes
+    }),
+    ("a crash, round closed", |taken| {
         taken.entry.status == CRASHED && taken.entry.closes
     }),
-    ("a crash while the round stays open", |taken| {
-        taken.entry.status == CRASHED && taken.entry.live != 0 && !taken.entry.closes
+    ("outcome 5, tester alone, round open", |taken| {
+        let alone = taken.entry.status == LEFT_ALONE && taken.entry.live != 0;
+        is_tested_told(taken) && alone && !taken.entry.closes
+    }),
+    ("no reply of one with 254 in byte 4", |taken| {
+        is_silent(taken, |_, head, _| head.told_by == NOT_RECORDED)
     }),
 ];
 
-/// By turns.
-const BY_TURN: [EntryCase; 19] = [
+/// By turns of runs, and of drives in small plants.
+const OF_TURNS: [EntryCase; 17] = [
     ("outcome 2, round open", |taken| {
         is_told(taken) && !taken.entry.closes
     }),
@@ -189,10 +222,6 @@ const BY_TURN: [EntryCase; 19] = [
     }),
     ("outcome 5, tester alone, round closed", |taken| {
         is_tested_told(taken) && taken.entry.closes
-    }),
-    ("outcome 5, tester alone, round open", |taken| {
-        let alone = taken.entry.status == LEFT_ALONE && taken.entry.live != 0;
-        is_tested_told(taken) && alone && !taken.entry.closes
     }),
     ("outcome 5, nobody live", |taken| {
         is_tested_told(taken) && taken.entry.live == 0
@@ -235,9 +264,6 @@ const BY_TURN: [EntryCase; 19] = [
             head.teller(n).is_some_and(|teller| teller != tester)
         })
     }),
-    ("no reply of one with 254 in byte 4", |taken| {
-        is_silent(taken, |_, head, _| head.told_by == NOT_RECORDED)
-    }),
 ];
 
 /// Whether a table is taken and has such a line of a station that is not live.
@@ -267,14 +293,14 @@ fn is_broken(table: &Table, status: u8, is_one: impl Fn(Head) -> bool) -> bool {
 /// Whether a table is refused by byte 5 of a live line alone, and it is such a
 /// one.
 fn is_live_with_count(table: &Table, is_one: fn(u8) -> bool) -> bool {
-    is_broken(table, 0, |head| {
+    is_broken(table, LIVE, |head| {
         head.told_by == TOLD_BY_NONE && is_one(head.closed_since)
     })
 }
 
 /// The same of byte 4, by the size and the byte.
 fn is_live_with_teller(table: &Table, is_one: fn(usize, u8) -> bool) -> bool {
-    is_broken(table, 0, |head| {
+    is_broken(table, LIVE, |head| {
         head.closed_since == 0 && is_one(table.n, head.told_by)
     })
 }
@@ -343,7 +369,8 @@ impl Ceased {
         }
         if call.kind == Kind::Drive {
             check_drive(call, outcome);
-            self.add_entries(call, outcome, &entries::of_drive(call, outcome));
+            let turns = entries::of_drive(call, outcome, SMALL);
+            self.add_entries(call, outcome, &turns);
         }
     }
 

@@ -9,6 +9,7 @@ use crate::ceasing::{breaks_a_rule, count, former_table_length, heads, keeps, pu
 use crate::ceasing::{Head, Rule, FORMER_HEAD, RIGHT};
 use crate::entries;
 use crate::faults::{self, Fault};
+use crate::grant_faults::SMALL;
 use crate::outcome::Outcome;
 use crate::saving::READER;
 
@@ -357,7 +358,7 @@ fn is_told_by(head: Head, number: usize) -> bool {
 fn write_by(rule: &Rule, call: &Call, outcome: &mut Outcome) {
     let entries = match call.kind {
         Kind::Run => entries::of_call(call, outcome),
-        _ => entries::of_drive(call, outcome),
+        _ => entries::of_drive(call, outcome, SMALL),
     };
     if entries.is_empty() {
         return;

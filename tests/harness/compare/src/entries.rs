@@ -19,10 +19,6 @@ pub const TOLD: u8 = 2;
 pub const NO_REPLY: u8 = 3;
 pub const TESTED_TOLD: u8 = 5;
 
-/// The turns of a drive are found one by one, which takes long: only in plants
-/// of at most so many stations.
-pub const SMALL: usize = 8;
-
 /// The figures of a run's answer.
 #[derive(Clone, Copy, Debug)]
 pub struct Answer {
@@ -145,10 +141,11 @@ pub fn of_call(call: &Call, outcome: &Outcome) -> Vec<Entry> {
     }
 }
 
-/// The turns of a drive in a small plant as entries; none if the call is another.
-pub fn of_drive(call: &Call, outcome: &Outcome) -> Vec<Entry> {
+/// The turns of a drive as entries; none if the call is another. They are found
+/// one by one, which takes long: only in plants of at most so many stations.
+pub fn of_drive(call: &Call, outcome: &Outcome, most: usize) -> Vec<Entry> {
     let n = call.numbers.n;
-    if call.kind != Kind::Drive || n > SMALL {
+    if call.kind != Kind::Drive || n > most {
         return Vec::new();
     }
     let mut table = call.buffers.get(Name::Table).clone();

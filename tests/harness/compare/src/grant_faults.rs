@@ -5,10 +5,13 @@ use shared::table::live_stations;
 use simulator::Driven;
 
 use crate::call::{Call, Kind, Name};
-use crate::entries::SMALL;
 use crate::faults::{clear_tally, grow, leave, put, Fault};
 use crate::granting::{is_wrong, Rule, LAST_GRANTED, NONE_LIVE, RIGHT, TALLY};
 use crate::outcome::Outcome;
+
+/// A drive by another rule is followed turn by turn, which takes long: only in
+/// plants of at most so many stations.
+pub const SMALL: usize = 8;
 
 const LAST_FIRST: Rule = Rule {
     first: |last| match last {

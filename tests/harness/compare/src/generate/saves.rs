@@ -6,7 +6,7 @@ use shared::groups::{distances, SIZES};
 use shared::random::Random;
 use shared::table::{line_length, table_length, HEAD};
 
-use super::{numbers, tables, Size};
+use super::{ceased, numbers, tables, Size};
 use crate::call::{Buffers, Call, Kind, Name, Numbers};
 use crate::ceasing::{former_saved_length, former_table_length, FORMER_HEAD};
 use crate::outcome::Outcome;
@@ -184,12 +184,15 @@ fn cut_anywhere(random: &mut Random) -> Vec<u8> {
 }
 
 /// The fields of a plant, with changes. Now and then the first or the last
-/// station suspects itself.
+/// station suspects itself, or a line has a wrong byte 4 or 5.
 fn of_plant(size: Size, random: &mut Random) -> Vec<u8> {
     let mut table = tables::any(size, random);
     if random.once_in(24) {
         let own = random.pick(&[0, size - 1]);
         table[own * line_length(size) + HEAD + own] = 1;
+    }
+    if random.once_in(20) {
+        ceased::break_one(&mut table, size, random);
     }
     let mut fields = WRITER.fields(size, &table, tally(random));
     put_in_order(&mut fields, random);

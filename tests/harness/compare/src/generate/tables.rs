@@ -27,7 +27,7 @@ pub fn any(size: Size, random: &mut Random) -> Vec<u8> {
     if random.once_in(8) {
         damage(&mut table, size, random);
     }
-    if random.once_in(12) {
+    if random.once_in(16) {
         ceased::break_one(&mut table, size, random);
     }
     table
@@ -75,9 +75,12 @@ fn by_the_rules(size: Size, random: &mut Random) -> Vec<u8> {
     for own in 0..size {
         table.extend(line(size, own, &weights, random));
     }
+    if random.once_in(24) {
+        ceased::tell_each_other(&mut table, size, random);
+    }
     reopen_one(&mut table, size, random);
     // More often in a small plant, whose runs end after few tests.
-    if random.once_in(2 + size / 8) {
+    if size < 4 && random.once_in(2) || random.once_in(2 + size / 8) {
         isolate_one(&mut table, size, random);
     }
     table
@@ -85,7 +88,6 @@ fn by_the_rules(size: Size, random: &mut Random) -> Vec<u8> {
 
 fn line(size: Size, own: usize, weights: &Weights, random: &mut Random) -> Vec<u8> {
     let live = random.below(16) < weights.live;
-    let status = if live { LIVE } else { ceased::status(random) };
     let end = distances(size);
     let next = match random.below(16) < weights.at_end {
         true => end,
@@ -97,7 +99,10 @@ fn line(size: Size, own: usize, weights: &Weights, random: &mut Random) -> Vec<u
     line[NEXT_DISTANCE] = next as u8;
     line[FINISHED] = u8::from(finished);
     line[TESTS] = tests as u8;
-    ceased::set_status(&mut line, own, size, status, random);
+    match live {
+        true => ceased::set_status(&mut line, own, size, LIVE, random),
+        false => ceased::leave(&mut line, own, size, random),
+    }
     for other in 0..size {
         let suspected = other != own && random.below(16) < weights.suspected;
         line.push(u8::from(suspected));
@@ -116,7 +121,8 @@ fn reopen_one(table: &mut [u8], size: Size, random: &mut Random) {
 
 /// A station that can take a turn comes to suspect all others, so that it
 /// leaves at its next test, whatever the reply. Mostly nobody suspects it.
-/// Often the others are finished, or only the one that it tests is live.
+/// Often the others are finished and the one that it tests may be dead, or only
+/// the one that it tests is live.
 fn isolate_one(table: &mut [u8], size: Size, random: &mut Random) {
     let unfinished = unfinished_stations(size, table);
     if unfinished.is_empty() {
@@ -126,16 +132,15 @@ fn isolate_one(table: &mut [u8], size: Size, random: &mut Random) {
     let next = random.between(1, distances(size) - 1);
     let tested = first_from(next, size, station);
     let (unsuspected, others) = (!random.once_in(4), random.below(3));
+    let dead = random.once_in(3);
     let lines = table.chunks_exact_mut(line_length(size)).enumerate();
     for (own, line) in lines {
         match others {
             _ if own == station => suspect_all(line, next),
+            0 if dead && Some(own) == tested => ceased::leave(line, own, size, random),
             0 => finish(line, size),
             1 if Some(own) == tested => ceased::set_status(line, own, size, LIVE, random),
-            1 => {
-                let status = ceased::status(random);
-                ceased::set_status(line, own, size, status, random);
-            }
+            1 => ceased::leave(line, own, size, random),
             _ => {}
         }
         if own == station || unsuspected {
