@@ -57,9 +57,7 @@ pub fn self_test(seed: u64) -> Result<usize, String> {
 fn all_faults() -> Vec<(&'static [Kind], Fault)> {
     let of_plants = faults::ALL.into_iter().chain(size_faults::ALL);
     let of_plants = of_plants.chain(told_faults::ALL);
-    let of_plants = of_plants.chain(ceased_faults::OF_ENTRIES);
-    let of_plants = of_plants.chain(ceased_faults::OF_RULES);
-    let of_plants = of_plants.chain(ceased_faults::OF_LAYOUT);
+    let of_plants = of_plants.chain(ceased_faults::all());
     let of_plants = of_plants.chain(assign_faults::OF_RULE);
     let of_plants = of_plants.chain(assign_faults::OF_LIST);
     let of_grants = grant_faults::OF_RULE.into_iter();
