@@ -1,5 +1,5 @@
 //! The run of document 01 in plain Rust over the lent bytes, with the sizes of
-//! request C-11 and step 4 of request C-13.
+//! request C-11, step 4 of request C-13 and bytes 4 and 5 of request C-18.
 //!
 //! Table, schedule and sheet are used as they are lent: nothing is decoded,
 //! and the group order is computed with exclusive or. As the document's steps
@@ -9,17 +9,25 @@
 
 use simulator::Answer;
 
-/// The bytes of a line before its row, and what the first four hold.
-pub const HEAD: usize = 4;
+/// The bytes of a line before its row, and what they hold.
+pub const HEAD: usize = 6;
 pub const STATUS: usize = 0;
 const NEXT: usize = 1;
 pub const FINISHED: usize = 2;
 const TESTS: usize = 3;
+/// The station whose row told it to leave.
+const TOLD_BY: usize = 4;
+/// The rounds closed since it ceased to be live.
+const CLOSED_SINCE: usize = 5;
 
 pub const LIVE: u8 = 0;
 const CRASHED: u8 = 1;
 const TOLD: u8 = 2;
 const ALONE: u8 = 3;
+
+/// Byte 4 where no station told it to leave; where that was never recorded.
+const TOLD_BY_NONE: u8 = 255;
+const NOT_RECORDED: u8 = 254;
 
 pub const TURN: u8 = 1;
 const CRASH: u8 = 3;
@@ -105,13 +113,30 @@ pub fn distances(n: usize) -> usize {
 pub fn keeps_line_rules(end: usize, i: usize, line: &[u8]) -> bool {
     let (head, row) = line.split_at(HEAD);
     let next = usize::from(head[NEXT]);
-    head[STATUS] <= ALONE
+    keeps_status_rules(row.len(), i, head)
         && (1..=end).contains(&next)
         && head[FINISHED] <= 1
         && head[TESTS] < head[NEXT]
         && (head[FINISHED] == 0 || next == end)
         && row[i] == 0
         && row.iter().all(|byte| *byte <= 1)
+}
+
+/// The status, and bytes 4 and 5 by it.
+fn keeps_status_rules(n: usize, i: usize, head: &[u8]) -> bool {
+    let told_by = head[TOLD_BY];
+    match head[STATUS] {
+        LIVE => told_by == TOLD_BY_NONE && head[CLOSED_SINCE] == 0,
+        TOLD => told_by == NOT_RECORDED || is_another(n, i, told_by),
+        CRASHED | ALONE => told_by == TOLD_BY_NONE,
+        _ => false,
+    }
+}
+
+/// Whether the number is that of another station than i.
+fn is_another(n: usize, i: usize, number: u8) -> bool {
+    let number = usize::from(number);
+    number < n && number != i
 }
 
 /// Whether a station is live and all live ones are finished.
@@ -223,9 +248,11 @@ fn test(n: usize, table: &mut [u8], kind: u8, i: usize, j: usize) -> u8 {
         NO_REPLY
     } else if theirs[HEAD + i] == 1 {
         mine[STATUS] = TOLD;
+        mine[TOLD_BY] = j as u8;
         WAS_TOLD
     } else if mine[HEAD + j] == 1 {
         theirs[STATUS] = TOLD;
+        theirs[TOLD_BY] = i as u8;
         TESTED_TOLD
     } else {
         exchange(&mut mine[HEAD..], &mut theirs[HEAD..], i, j);
@@ -265,11 +292,15 @@ fn leave_if_alone(line: &mut [u8], i: usize) {
     }
 }
 
-/// Every line, live or not, begins a round (step 8).
+/// Every line, live or not, begins a round (step 8). Those that are not live
+/// count the closed one.
 fn begin_round(n: usize, table: &mut [u8]) {
     for line in table.chunks_exact_mut(n + HEAD) {
         line[NEXT] = 1;
         line[FINISHED] = 0;
         line[TESTS] = 0;
+        if line[STATUS] != LIVE {
+            line[CLOSED_SINCE] = line[CLOSED_SINCE].saturating_add(1);
+        }
     }
 }

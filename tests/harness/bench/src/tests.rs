@@ -13,6 +13,8 @@ use crate::{bounds, plain, plain_figures, slowest};
 use shared::groups::{distances, POWERS, SIZES};
 use shared::random::Random;
 use shared::table::{line_length, lines, table_length, unfinished_stations, Line, HEAD};
+use shared::table::{CLOSED_SINCE, CRASHED, FINISHED, NEXT_DISTANCE, STATUS, TOLD_BY};
+use shared::table::{LIVE, NOT_RECORDED, TOLD_BY_NONE};
 use simulator::Answer;
 use vcube::{Figures, Fraction, Refusal};
 
@@ -39,8 +41,8 @@ fn compare(
 fn table_with(n: usize, finished: &[usize], suspicions: &[(usize, usize)]) -> Vec<u8> {
     let mut table = table_with_crashed(n, &[]);
     for i in finished {
-        table[i * line_length(n) + 1] = distances(n) as u8;
-        table[i * line_length(n) + 2] = 1;
+        table[i * line_length(n) + NEXT_DISTANCE] = distances(n) as u8;
+        table[i * line_length(n) + FINISHED] = 1;
     }
     for (i, j) in suspicions {
         table[i * line_length(n) + HEAD + j] = 1;
@@ -60,8 +62,26 @@ fn turn_of_0(n: usize, table: &[u8]) -> ([u8; 4], Vec<u8>, u32) {
 }
 
 fn statuses(n: usize, table: &[u8]) -> Vec<u8> {
-    let lines = table.chunks_exact(line_length(n));
-    lines.map(|line| line[0]).collect()
+    lines(n, table).map(Line::status).collect()
+}
+
+/// Bytes 4 and 5 of each line.
+fn told_and_closed(n: usize, table: &[u8]) -> Vec<[u8; 2]> {
+    let bytes = |line: Line| [line.told_by(), line.closed_since()];
+    lines(n, table).map(bytes).collect()
+}
+
+/// The line of a station that crashes; whoever told it is forgotten.
+fn crash(line: &mut [u8]) {
+    line[STATUS] = CRASHED;
+    line[TOLD_BY] = TOLD_BY_NONE;
+}
+
+/// Changes one byte, often to one that is not far from those that are taken.
+fn damage(n: usize, table: &mut [u8], random: &mut Random) {
+    let place = random.below(table.len());
+    let small = random.below(distances(n) + 3) as u8;
+    table[place] = random.pick(&[small, small, 254, 255]);
 }
 
 /// Request C-13, worked out by hand.
@@ -87,6 +107,71 @@ fn a_tester_can_be_alone_behind_a_told_one() {
     let stays_open = table_with(3, &[], &[(0, 1), (0, 2)]);
     let expected = ([0, 1, 5, 3], vec![3, 2, 0], 0);
     assert_eq!(turn_of_0(3, &stays_open), expected);
+}
+
+/// Request C-18, worked out by hand: the told one's byte 4 names the other.
+#[test]
+fn byte_4_names_the_station_whose_row_told_it() {
+    let bytes_after = |table: &[u8]| {
+        let (_, after, _) = compare(4, table, (0, 0), &[1, 0], 4);
+        told_and_closed(4, &after)
+    };
+    let none = [TOLD_BY_NONE, 0];
+    let by_tester = table_with(4, &[], &[(0, 1)]);
+    assert_eq!(bytes_after(&by_tester), [none, [0, 0], none, none]);
+    let by_tested = table_with(4, &[], &[(1, 0)]);
+    assert_eq!(bytes_after(&by_tested), [[1, 0], none, none, none]);
+    let both = table_with(4, &[], &[(0, 1), (1, 0)]);
+    assert_eq!(bytes_after(&both), [[1, 0], none, none, none]);
+}
+
+/// The round closes on the very entry at which station 0, or 0 and 1, cease to be
+/// live: by outcome 2, by outcome 5 and alone, by a crash.
+#[test]
+fn byte_5_counts_the_round_that_closes_on_the_very_entry() {
+    let bytes_after = |table: &[u8], kind| {
+        let (answer, after, _) = compare(3, table, (0, 0), &[kind, 0], 4);
+        assert_eq!((answer.number, answer.rounds), (0, 1));
+        told_and_closed(3, &after)
+    };
+    let none = [TOLD_BY_NONE, 0];
+    let told = table_with(3, &[1, 2], &[(1, 0)]);
+    assert_eq!(bytes_after(&told, 1), [[1, 1], none, none]);
+    let alone = table_with(3, &[2], &[(0, 1), (0, 2)]);
+    assert_eq!(bytes_after(&alone, 1), [[TOLD_BY_NONE, 1], [0, 1], none]);
+    let crashed = table_with(3, &[1, 2], &[]);
+    assert_eq!(bytes_after(&crashed, 3), [[TOLD_BY_NONE, 1], none, none]);
+}
+
+/// Stations 1 to 3 left earlier; 0 finds nobody to test and closes the round.
+/// 255 stays, 254 in byte 4 stays.
+#[test]
+fn byte_5_stops_at_255() {
+    let mut table = table_with(5, &[4], &[]);
+    table[NEXT_DISTANCE] = distances(5) as u8;
+    let left = [[1, TOLD_BY_NONE, 254], [2, NOT_RECORDED, 255], [2, 0, 9]];
+    let lines = table.chunks_exact_mut(line_length(5)).skip(1);
+    for (line, [status, told_by, closed_since]) in lines.zip(left) {
+        line[STATUS] = status;
+        line[TOLD_BY] = told_by;
+        line[CLOSED_SINCE] = closed_since;
+    }
+    let (answer, after, _) = compare(5, &table, (0, 0), &[1, 0], 4);
+    assert_eq!((answer.number, answer.rounds), (0, 1));
+    let none = [TOLD_BY_NONE, 0];
+    let [one, two, three] = [[TOLD_BY_NONE, 255], [NOT_RECORDED, 255], [0, 10]];
+    assert_eq!(told_and_closed(5, &after), [none, one, two, three, none]);
+}
+
+/// Nobody is live after the entry: no round closes, and byte 5 stays.
+#[test]
+fn byte_5_stays_where_nobody_is_live() {
+    let mut table = table_with_crashed(2, &[1]);
+    table[line_length(2) + CLOSED_SINCE] = 7;
+    let (answer, after, _) = compare(2, &table, (0, 0), &[1, 0], 4);
+    assert_eq!((answer.number, answer.rounds), (0, 0));
+    let expected = [[TOLD_BY_NONE, 0], [TOLD_BY_NONE, 7]];
+    assert_eq!(told_and_closed(2, &after), expected);
 }
 
 /// A random entry: mostly a turn that is taken, sometimes late, seldom a
@@ -117,6 +202,15 @@ fn random_schedule(n: usize, table: &[u8], random: &mut Random) -> Vec<u8> {
     schedule
 }
 
+/// Gives some of the lines that are not live another byte 5.
+fn count_anew(n: usize, table: &mut [u8], random: &mut Random) {
+    for line in table.chunks_exact_mut(line_length(n)) {
+        if line[STATUS] != LIVE && random.once_in(4) {
+            line[CLOSED_SINCE] = random.pick(&[0, 1, 253, 254, 255]);
+        }
+    }
+}
+
 #[test]
 fn random_schedules() {
     let mut random = Random::new(11);
@@ -126,6 +220,7 @@ fn random_schedules() {
         for _ in 0..8 {
             let mut table = table_with_crashed(n, &[]);
             for _ in 0..5 {
+                count_anew(n, &mut table, &mut random);
                 let schedule = random_schedule(n, &table, &mut random);
                 let sheet = 2 * schedule.len();
                 let (answer, after, sheet) = compare(n, &table, (3, 5), &schedule, sheet);
@@ -191,13 +286,38 @@ fn all_three_give_the_same() {
 #[test]
 fn damaged_tables() {
     let mut random = Random::new(13);
+    let mut numbers = [0; 12];
     for n in SIZES {
         let work = Work::new(n, 0, 100, &mut random);
-        for _ in 0..100 {
-            let mut table = work.table.clone();
-            let place = random.below(table.len());
-            table[place] = random.below(distances(n) + 3) as u8;
-            compare(n, &table, (0, 0), &work.schedule, 400);
+        let left = random_schedule(n, &work.table, &mut random);
+        let mut table = work.table.clone();
+        let mut sheet = vec![0; 2 * left.len()];
+        simulator::run(n, &mut table, (0, 0), &left, &mut sheet);
+        for start in [&work.table, &table] {
+            for _ in 0..100 {
+                let mut table = start.clone();
+                damage(n, &mut table, &mut random);
+                let (answer, _, _) = compare(n, &table, (0, 0), &work.schedule, 400);
+                numbers[usize::from(answer.number)] += 1;
+            }
+        }
+    }
+    assert!(numbers[0] > 50 && numbers[3] > 50, "{numbers:?}");
+}
+
+/// Each byte 4 and each byte 5 with each status, on the line of station 1.
+#[test]
+fn bytes_4_and_5_of_each_status() {
+    for n in [2, 3, 5, 64] {
+        for status in 0..=4 {
+            for byte in 0..=255 {
+                for place in [TOLD_BY, CLOSED_SINCE] {
+                    let mut table = table_with_crashed(n, &[]);
+                    table[line_length(n) + STATUS] = status;
+                    table[line_length(n) + place] = byte;
+                    compare(n, &table, (0, 0), &[1, 0], 4);
+                }
+            }
         }
     }
 }
@@ -207,8 +327,8 @@ fn every_live_one_finished() {
     for n in SIZES {
         let mut table = table_with_crashed(n, &[0]);
         for line in table.chunks_exact_mut(line_length(n)) {
-            line[1] = distances(n) as u8;
-            line[2] = 1;
+            line[NEXT_DISTANCE] = distances(n) as u8;
+            line[FINISHED] = 1;
         }
         let (answer, _, _) = compare(n, &table, (0, 0), &[1, 1], 4);
         assert_eq!(answer.number, 4);
@@ -222,8 +342,8 @@ fn next_distances_at_the_borders() {
         for next in [n - 1, n, n + 1, end - 1, end, end + 1] {
             for finished in [0, 1] {
                 let mut table = table_with_crashed(n, &[]);
-                table[line_length(n) + 1] = next as u8;
-                table[line_length(n) + 2] = finished;
+                table[line_length(n) + NEXT_DISTANCE] = next as u8;
+                table[line_length(n) + FINISHED] = finished;
                 let (answer, _, _) = compare(n, &table, (0, 0), &[1, 0], 4);
                 let right = next == end || finished == 0 && next < end;
                 assert_eq!(answer.number, if right { 0 } else { 3 });

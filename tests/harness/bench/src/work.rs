@@ -100,7 +100,7 @@ impl Work {
 pub fn table_with_crashed(n: usize, crashed: &[usize]) -> Vec<u8> {
     let mut table = table::fresh(n);
     for i in crashed {
-        table[i * table::line_length(n)] = 1;
+        table[i * table::line_length(n) + table::STATUS] = table::CRASHED;
     }
     table
 }

@@ -2,7 +2,7 @@
 //! same answer (request C-16).
 
 use shared::groups::{assignment_length, distances};
-use shared::table::line_length;
+use shared::table::{line_length, NEXT_DISTANCE};
 
 use crate::assigned::LIST_LENGTH;
 use crate::assigning::{Asked, Rule, RIGHT};
@@ -246,7 +246,7 @@ fn move_last_turn(call: &Call, outcome: &mut Outcome, from: fn(&Entry) -> usize)
     let mut table = call.buffers.get(Name::Table).clone();
     let mut sheet = vec![0; 2 * earlier.len()];
     let before = simulator::run(n, &mut table, call.tally(), earlier, &mut sheet);
-    table[turn.station * line_length(n) + 1] = from(turn) as u8;
+    table[turn.station * line_length(n) + NEXT_DISTANCE] = from(turn) as u8;
     let mut line = [0; 4];
     let after = simulator::run(
         n,

@@ -2,7 +2,7 @@
 //! may have the first three, a finished one 2^d only.
 
 use shared::groups::distances;
-use shared::table::{line_length, lines, Line};
+use shared::table::{line_length, lines, Line, FINISHED, NEXT_DISTANCE, TESTS};
 
 pub const BORDERS: usize = 4;
 
@@ -49,6 +49,9 @@ fn is_allowed((place, finished): Border) -> bool {
 /// Whether no line but this one breaks a line rule.
 fn is_alone(n: usize, table: &[u8], own: usize) -> bool {
     let mut healed = table.to_vec();
-    healed[own * line_length(n)..][1..4].copy_from_slice(&[1, 0, 0]);
+    let line = &mut healed[own * line_length(n)..];
+    line[NEXT_DISTANCE] = 1;
+    line[FINISHED] = 0;
+    line[TESTS] = 0;
     !matches!(simulator::check_table(n, &healed), 1..=3)
 }

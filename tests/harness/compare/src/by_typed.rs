@@ -1,12 +1,14 @@
 //! Makes a call by the typed layer of bindings/rust.
 //!
-//! Stations, distances, entries and lines of the sheet go through its types:
-//! what it reads from a buffer is written there again, and its figures are put
-//! where the library would put them. So a fault of it shows in a buffer.
+//! Stations, distances, entries, lines of the sheet and what a line of the table
+//! says of its station go through its types: what it reads from a buffer is
+//! written there again, and its figures are put where the library would put
+//! them. So a fault of it shows in a buffer.
 
 use shared::grants::NONE_YET;
+use shared::table::{CLOSED_SINCE, HEAD, NOT_RECORDED, STATUS, TOLD_BY, TOLD_BY_NONE};
 use vcube::{AssignmentEntry, DueOrAhead, Entry, Figures, Level, Refusal};
-use vcube::{SheetLine, Station, Tally, Totals};
+use vcube::{SheetLine, Station, Tally, ToldBy, Totals};
 
 use crate::assigning::DUE;
 use crate::call::Numbers;
@@ -61,12 +63,17 @@ impl Calls for Typed {
     }
 
     fn row(numbers: &Numbers, lent: Row) -> u8 {
+        let (n, station) = (numbers.n, Station(numbers.station));
         let table = lent.table.contents();
-        let given = vcube::row(numbers.n, table, Station(numbers.station));
+        let given = vcube::row(n, table, station);
         let start = given.map_or(0, |row| row.as_ptr() as usize - table.as_ptr() as usize);
         lent.start.put_figure(start);
         lent.length.put_figure(given.map_or(0, <[u8]>::len));
-        number(&given)
+        let number = number(&given);
+        match reread_head(n, lent.table, station, start) == [number; 3] {
+            true => number,
+            false => u8::MAX,
+        }
     }
 
     fn run(numbers: &Numbers, lent: Run) -> u8 {
@@ -206,6 +213,30 @@ fn put_figures(place: &mut Guarded, given: Result<Figures, Refusal>) -> u8 {
     };
     place.put_members(given.map_or([0; words::FIGURES], members));
     number(&given)
+}
+
+/// Reads what the station's line says of it and writes it there again, before the
+/// row, which begins at that place. Gives the numbers.
+fn reread_head(n: usize, table: &mut Guarded, station: Station, start: usize) -> [u8; 3] {
+    let bytes = table.contents();
+    let status = vcube::status(n, bytes, station);
+    let told_by = vcube::told_by(n, bytes, station);
+    let rounds_ago = vcube::rounds_ago(n, bytes, station);
+    if let (Ok(status), Ok(told_by), Ok(rounds_ago)) = (status, told_by, rounds_ago) {
+        let head = &mut table.contents_mut()[start - HEAD..start];
+        head[STATUS] = status.number();
+        head[TOLD_BY] = told_by_byte(told_by);
+        head[CLOSED_SINCE] = rounds_ago;
+    }
+    [number(&status), number(&told_by), number(&rounds_ago)]
+}
+
+fn told_by_byte(told_by: ToldBy) -> u8 {
+    match told_by {
+        ToldBy::Nobody => TOLD_BY_NONE,
+        ToldBy::NotRecorded => NOT_RECORDED,
+        ToldBy::Station(station) => byte(station),
+    }
 }
 
 fn byte(station: Station) -> u8 {

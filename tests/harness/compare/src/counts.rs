@@ -9,6 +9,7 @@ use crate::absent::Absent;
 use crate::assigned;
 use crate::call::{Call, Kind, Name};
 use crate::cases;
+use crate::ceased::Ceased;
 use crate::cuts::Cuts;
 use crate::entries::{self, Answer, Entry};
 use crate::granted;
@@ -81,6 +82,8 @@ pub struct Counts {
     pub absent: Absent,
     /// Tests in which one station suspects the other.
     pub told: Told,
+    /// The cases of bytes 4 and 5 of a line.
+    pub ceased: Ceased,
     /// The cases of assignments.
     pub assigned: Occurred<assigned::Seen>,
     /// The cases of grants and drives.
@@ -138,6 +141,7 @@ impl Counts {
             empty: [count; LENGTHS],
             absent: Absent::all(count),
             told: Told::all(count),
+            ceased: Ceased::all(count),
             assigned: assigned::all(count),
             granted: granted::all(count),
             saved: saved::all(count),
@@ -165,6 +169,7 @@ impl Counts {
             self.sizes[call.kind as usize][place(size)] += 1;
         }
         self.absent.add(call, outcome);
+        self.ceased.add(call, outcome);
         match call.kind {
             Kind::Assignment => {
                 let seen = assigned::Seen::new(call, outcome);
@@ -197,6 +202,7 @@ impl Counts {
             self.told.add_entry(entry);
             self.add_entry(entry);
         }
+        self.ceased.add_entries(call, outcome, &entries);
         self.long_runs += u64::from(answer.taken >= LONG_RUN);
         match outcome.number {
             1..=6 => self.kept_tallies += u64::from(call.tally().0 != 0 && call.tally().1 != 0),
@@ -240,6 +246,7 @@ impl Counts {
         self.require_singly(&mut required);
         self.absent.require(&mut required);
         self.told.require(&mut required);
+        self.ceased.require(&mut required);
         self.assigned.require(&mut required);
         self.granted.require(&mut required);
         self.saved.require(&mut required);
@@ -352,7 +359,7 @@ impl fmt::Display for Counts {
             let comma = if name == OF_ANY_LENGTH[0] { "" } else { ", " };
             write!(f, "{comma}{} {count}", name.text())?;
         }
-        write!(f, "; {}; {}; ", self.absent, self.told)?;
+        write!(f, "; {}; {}; {}; ", self.absent, self.told, self.ceased)?;
         write!(f, "{}; {}; {}; ", self.assigned, self.granted, self.saved)?;
         write!(f, "{}; {}; {}", self.cuts, self.ways_back, self.cases)?;
         let rarest = self.required().into_iter().min();

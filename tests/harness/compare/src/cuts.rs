@@ -8,14 +8,14 @@ use shared::counts::{list, Required};
 use crate::call::{Call, Kind, Name};
 
 /// The length of a saved plant of two boards.
-const WHOLE: usize = 35;
+const WHOLE: usize = 39;
 
 /// The bytes that do not depend on table and tally, and where they begin.
 const FIXED: [(usize, &[u8]); 4] = [
     (0, &[1, 0, 1, 2]),
     (4, &[2, 0, 8]),
-    (15, &[3, 0, 7, 0]),
-    (25, &[3, 0, 7, 1]),
+    (15, &[3, 0, 9, 0]),
+    (27, &[3, 0, 9, 1]),
 ];
 
 #[derive(Clone)]

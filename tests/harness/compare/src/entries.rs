@@ -3,8 +3,8 @@
 use std::ops::Range;
 
 use shared::groups::distances;
-use shared::schedule::{CRASH, LATE_TURN};
-use shared::table;
+use shared::schedule::{CRASH, LATE_TURN, TURN};
+use shared::table::{self, LIVE};
 
 use crate::call::{Call, Kind, Name};
 use crate::outcome::Outcome;
@@ -16,13 +16,8 @@ const NO_STATION: usize = 255;
 const FINISHED: u8 = 0;
 pub const EXCHANGED: u8 = 1;
 pub const TOLD: u8 = 2;
-const NO_REPLY: u8 = 3;
+pub const NO_REPLY: u8 = 3;
 pub const TESTED_TOLD: u8 = 5;
-
-// Statuses.
-pub const LIVE: u8 = 0;
-pub const LEFT_TOLD: u8 = 2;
-pub const LEFT_ALONE: u8 = 3;
 
 /// The figures of a run's answer.
 #[derive(Clone, Copy, Debug)]
@@ -87,6 +82,15 @@ impl Entry {
     pub fn tests_past_a_station(&self) -> bool {
         self.test.is_some() && self.passes_over_a_station()
     }
+
+    /// Whether the station ceased to be live at this entry.
+    pub fn ceased(&self, station: usize) -> bool {
+        let tested = self.test.is_some_and(|test| test.tested == station);
+        match station == self.station {
+            true => self.status != LIVE,
+            false => tested && self.outcome == TESTED_TOLD,
+        }
+    }
 }
 
 /// What of a line the entries are judged by.
@@ -137,21 +141,62 @@ pub fn of_call(call: &Call, outcome: &Outcome) -> Vec<Entry> {
     }
 }
 
-/// The entries taken. They are judged by the table handed in, the schedule and
-/// the sheet alone; what these tell must be what the table holds afterwards.
-pub fn taken(call: &Call, outcome: &Outcome, answer: &Answer) -> Vec<Entry> {
-    if answer.taken == 0 {
+/// The turns of a drive as entries; none if the call is another. They are found
+/// one by one, which takes long: only in plants of at most so many stations.
+pub fn of_drive(call: &Call, outcome: &Outcome, most: usize) -> Vec<Entry> {
+    let n = call.numbers.n;
+    if call.kind != Kind::Drive || n > most {
         return Vec::new();
     }
-    let n = call.numbers.n;
-    let mut lines = lines(n, call.buffers.get(Name::Table));
-    let schedule = call.buffers.get(Name::Schedule).chunks_exact(2);
-    let sheet = outcome.buffers.get(Name::Sheet).contents().chunks_exact(4);
-    let pairs = schedule.zip(sheet).take(answer.taken);
+    let mut table = call.buffers.get(Name::Table).clone();
+    let grants = outcome.buffers.get(Name::Grants).figure();
+    let (schedule, sheet) = granted(n, &mut table, call.last_granted(), grants);
+    let before = call.buffers.get(Name::Table);
+    judged(n, [before, &table], &schedule, &sheet)
+}
+
+/// Grants so many turns and carries them out, both by the simulator. Gives the
+/// schedule of the turns and their sheet.
+fn granted(n: usize, table: &mut [u8], last: usize, grants: usize) -> (Vec<u8>, Vec<u8>) {
+    let (mut last, mut schedule, mut sheet) = (last, Vec::new(), Vec::new());
+    for _ in 0..grants {
+        let (_, station) = simulator::grant(n, table, last);
+        let (entry, mut line) = ([TURN, station], [0; 4]);
+        simulator::run(n, table, (0, 0), &entry, &mut line);
+        schedule.extend(entry);
+        sheet.extend(line);
+        last = station.into();
+    }
+    (schedule, sheet)
+}
+
+/// The entries that a run took.
+pub fn taken(call: &Call, outcome: &Outcome, answer: &Answer) -> Vec<Entry> {
+    let schedule = call.buffers.get(Name::Schedule);
+    let sheet = outcome.buffers.get(Name::Sheet).contents();
+    let after = outcome.buffers.get(Name::Table).contents();
+    let tables = [&call.buffers.get(Name::Table)[..], after];
+    let (entries, lines) = (2 * answer.taken, 4 * answer.taken);
+    judged(
+        call.numbers.n,
+        tables,
+        &schedule[..entries],
+        &sheet[..lines],
+    )
+}
+
+/// Entries taken between two tables. They are judged by the first one, the
+/// schedule and the sheet alone; what these tell must be what the second holds.
+fn judged(n: usize, [before, after]: [&[u8]; 2], schedule: &[u8], sheet: &[u8]) -> Vec<Entry> {
+    if schedule.is_empty() {
+        return Vec::new();
+    }
+    let mut lines = lines(n, before);
+    let pairs = schedule.chunks_exact(2).zip(sheet.chunks_exact(4));
     let entries = pairs
         .map(|(entry, written)| take(&mut lines, entry, written))
         .collect();
-    let after = self::lines(n, outcome.buffers.get(Name::Table).contents());
+    let after = self::lines(n, after);
     assert_eq!(lines, after, "sheet and table: lines after the entries");
     entries
 }

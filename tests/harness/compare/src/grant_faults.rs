@@ -11,7 +11,7 @@ use crate::outcome::Outcome;
 
 /// A drive by another rule is followed turn by turn, which takes long: only in
 /// plants of at most so many stations.
-const SMALL: usize = 8;
+pub const SMALL: usize = 8;
 
 const LAST_FIRST: Rule = Rule {
     first: |last| match last {

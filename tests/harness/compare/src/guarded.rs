@@ -16,7 +16,7 @@ pub struct Guarded {
 }
 
 /// The least number of guard bytes on either side: more than a line of a table
-/// of 64 stations, which has 68 bytes.
+/// of 64 stations, which has 70 bytes.
 const LEAST_GUARD: usize = 128;
 
 impl Guarded {

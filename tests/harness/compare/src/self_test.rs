@@ -4,6 +4,7 @@ use shared::random::Random;
 
 use crate::assign_faults;
 use crate::call::{Kind, Name};
+use crate::ceased_faults;
 use crate::counts::{Counts, LEAST, LENGTHS, OUTCOMES, SIZES};
 use crate::faults::{self, Fault};
 use crate::grant_faults;
@@ -56,6 +57,7 @@ pub fn self_test(seed: u64) -> Result<usize, String> {
 fn all_faults() -> Vec<(&'static [Kind], Fault)> {
     let of_plants = faults::ALL.into_iter().chain(size_faults::ALL);
     let of_plants = of_plants.chain(told_faults::ALL);
+    let of_plants = of_plants.chain(ceased_faults::all());
     let of_plants = of_plants.chain(assign_faults::OF_RULE);
     let of_plants = of_plants.chain(assign_faults::OF_LIST);
     let of_grants = grant_faults::OF_RULE.into_iter();
@@ -71,10 +73,11 @@ fn all_faults() -> Vec<(&'static [Kind], Fault)> {
 const SAVING: [Kind; 3] = [Kind::Save, Kind::Load, Kind::SavedSize];
 
 /// The right rules, which are no fault: what they are of, and what they give.
-const RIGHT: [Fault; 3] = [
+const RIGHT: [Fault; 4] = [
     ("granting", grant_faults::right),
     ("assigning", assign_faults::right),
     ("saving", save_faults::right),
+    ("bytes 4 and 5", ceased_faults::right),
 ];
 
 /// Libraries with a fault: each must be noticed wherever it gives something
@@ -258,6 +261,7 @@ fn lowered_counts() -> Vec<Counts> {
     all.lower_singly();
     all.lower_absent();
     all.lower_told();
+    all.lower_ceased();
     all.lower_assigned();
     all.lower_granted();
     all.lower_saved();
@@ -336,6 +340,19 @@ impl Lowered {
     fn lower_told(&mut self) {
         for case in 0..Counts::all(0).told.0.len() {
             self.lower(|counts| &mut counts.told.0[case]);
+        }
+    }
+
+    /// The cases of bytes 4 and 5 of a line.
+    fn lower_ceased(&mut self) {
+        for case in 0..Counts::all(0).ceased.tables.counts.len() {
+            self.lower(|counts| &mut counts.ceased.tables.counts[case]);
+        }
+        for case in 0..Counts::all(0).ceased.entries.counts.len() {
+            self.lower(|counts| &mut counts.ceased.entries.counts[case]);
+        }
+        for station in 0..Counts::all(0).ceased.tellers.len() {
+            self.lower(|counts| &mut counts.ceased.tellers[station]);
         }
     }
 

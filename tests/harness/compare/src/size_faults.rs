@@ -2,7 +2,7 @@
 //! n and 2^d are taken for each other, or absent numbers for stations.
 
 use shared::groups::{ahead, assignment_length, distances, SIZES};
-use shared::table::{line_length, lines};
+use shared::table::{line_length, lines, FINISHED, NEXT_DISTANCE};
 
 use crate::assign_faults::{assign_by, want_length};
 use crate::assigning::{Rule, RIGHT};
@@ -57,8 +57,8 @@ pub const ALL: [Fault; 14] = [
         if has_absent(call) && figure(outcome, Name::Taken) != 0 {
             let table = outcome.buffers.get_mut(Name::Table).contents_mut();
             for line in table.chunks_exact_mut(line_length(call.numbers.n)) {
-                if line[2] == 1 {
-                    line[1] = call.numbers.n as u8;
+                if line[FINISHED] == 1 {
+                    line[NEXT_DISTANCE] = call.numbers.n as u8;
                 }
             }
         }

@@ -8,8 +8,9 @@
 use std::fmt;
 
 use shared::counts::Required;
+use shared::table::{LEFT_ALONE, LIVE};
 
-use crate::entries::{Entry, Test, LEFT_ALONE, LIVE, TESTED_TOLD, TOLD};
+use crate::entries::{Entry, Test, TESTED_TOLD, TOLD};
 
 /// What a case is called, and whether an entry with its test is one.
 type Case = (&'static str, fn(&Entry, &Test) -> bool);

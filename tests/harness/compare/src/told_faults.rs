@@ -2,11 +2,12 @@
 //! other (request C-13). But for the count of rounds, the fault is in the last
 //! entry taken, so that no later entry builds on it.
 
-use shared::table::{line_length, HEAD};
+use shared::table::{line_length, CLOSED_SINCE, HEAD, STATUS, TOLD_BY};
+use shared::table::{LEFT_ALONE, LEFT_TOLD, LIVE, TOLD_BY_NONE};
 
 use crate::call::{Call, Name};
 use crate::entries::{self, Entry, Test};
-use crate::entries::{EXCHANGED, LEFT_ALONE, LEFT_TOLD, LIVE, TESTED_TOLD, TOLD};
+use crate::entries::{EXCHANGED, TESTED_TOLD, TOLD};
 use crate::faults::Fault;
 use crate::outcome::Outcome;
 use crate::told::{both_suspected, dead_suspected, late_suspected, tested_told, told_by_alone};
@@ -83,6 +84,8 @@ struct Left<'a> {
     stations: usize,
     tester: usize,
     tested: usize,
+    /// Whether the entry closed a round.
+    closes: bool,
     table: &'a mut [u8],
     /// Its line of the sheet.
     sheet: &'a mut [u8],
@@ -107,6 +110,7 @@ fn change(
         stations: entry.stations,
         tester: entry.station,
         tested: test.tested,
+        closes: entry.closes,
         table: table.contents_mut(),
         sheet: &mut sheet.contents_mut()[4 * (entries.len() - 1)..][..4],
     });
@@ -131,12 +135,28 @@ impl Left<'_> {
 
     /// The tester's status, in the table and in the sheet.
     fn set_tester(&mut self, status: u8) {
-        self.line(self.tester)[0] = status;
+        self.set_status(self.tester, status, self.tested);
         self.sheet[3] = status;
     }
 
     fn set_tested(&mut self, status: u8) {
-        self.line(self.tested)[0] = status;
+        self.set_status(self.tested, status, self.tester);
+    }
+
+    /// The status of one of the two, and bytes 4 and 5 as they would then be.
+    fn set_status(&mut self, station: usize, status: u8, other: usize) {
+        let counted = u8::from(self.closes);
+        let line = self.line(station);
+        line[CLOSED_SINCE] = match (line[STATUS], status) {
+            (_, LIVE) => 0,
+            (LIVE, _) => counted,
+            _ => line[CLOSED_SINCE],
+        };
+        line[TOLD_BY] = match status {
+            LEFT_TOLD => other as u8,
+            _ => TOLD_BY_NONE,
+        };
+        line[STATUS] = status;
     }
 
     fn tell_tested(&mut self) {

@@ -1,23 +1,56 @@
 //! A view of the lines of a lent table. Any bytes can stand there.
 
 /// The bytes of a line before its row.
-pub const HEAD: usize = 4;
+pub const HEAD: usize = 6;
+
+// What each of them holds.
+pub const STATUS: usize = 0;
+pub const NEXT_DISTANCE: usize = 1;
+pub const FINISHED: usize = 2;
+pub const TESTS: usize = 3;
+/// The station whose row told it to leave (request C-18).
+pub const TOLD_BY: usize = 4;
+/// The rounds closed since it ceased to be live.
+pub const CLOSED_SINCE: usize = 5;
+
+// Statuses.
+pub const LIVE: u8 = 0;
+pub const CRASHED: u8 = 1;
+pub const LEFT_TOLD: u8 = 2;
+pub const LEFT_ALONE: u8 = 3;
+
+/// Byte 4 where no station told it to leave.
+pub const TOLD_BY_NONE: u8 = 255;
+/// Byte 4 where it was never recorded which station told it to leave.
+pub const NOT_RECORDED: u8 = 254;
 
 /// One line of a table.
 #[derive(Clone, Copy, Debug)]
 pub struct Line<'a>(&'a [u8]);
 
 impl<'a> Line<'a> {
+    pub fn status(self) -> u8 {
+        self.0[STATUS]
+    }
+
     pub fn is_live(self) -> bool {
-        self.0[0] == 0
+        self.status() == LIVE
     }
 
     pub fn next_distance(self) -> usize {
-        usize::from(self.0[1])
+        usize::from(self.0[NEXT_DISTANCE])
     }
 
     pub fn is_finished(self) -> bool {
-        self.0[2] != 0
+        self.0[FINISHED] != 0
+    }
+
+    pub fn told_by(self) -> u8 {
+        self.0[TOLD_BY]
+    }
+
+    pub fn closed_since(self) -> u8 {
+        self.0[CLOSED_SINCE]
     }
 
     pub fn row(self) -> &'a [u8] {

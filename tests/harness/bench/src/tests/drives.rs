@@ -1,14 +1,14 @@
 //! The drive in plain Rust against the simulator, and against what is worked
-//! out by hand from request C-15.
+//! out by hand from requests C-15 and C-18.
 
-use super::{random_schedule, table_with};
+use super::{crash, damage, random_schedule, table_with, told_and_closed};
 use crate::measure::check_equal_drives;
 use crate::plain_drive;
 use crate::work::{table_with_crashed, Work};
 use shared::grants::NONE_YET;
-use shared::groups::{distances, POWERS, SIZES};
+use shared::groups::{POWERS, SIZES};
 use shared::random::Random;
-use shared::table::line_length;
+use shared::table::{line_length, CLOSED_SINCE, LEFT_TOLD, STATUS, TOLD_BY, TOLD_BY_NONE};
 use simulator::Driven;
 
 const FULL: u32 = u32::MAX;
@@ -54,7 +54,9 @@ fn each_station_of_a_fresh_plant_has_d_plus_1_turns() {
 fn a_drive_ends_when_nobody_is_left() {
     let (ended, table) = drive(2, &table_with_crashed(2, &[1]), (0, 0), NONE_YET);
     assert_eq!(ended, driven(0, (0, 1), 0, 1));
-    assert_eq!(table, [3, 2, 0, 1, 0, 1, 1, 1, 0, 0, 0, 0]);
+    let zero = [3, 2, 0, 1, 255, 0, 0, 1];
+    let one = [1, 1, 0, 0, 255, 0, 0, 0];
+    assert_eq!(table, [zero, one].concat());
 }
 
 /// Only station 2 has not finished its pass. It tests 3, then 0, and finishes
@@ -76,9 +78,10 @@ fn a_full_tally_stops_a_drive() {
     let at_once = |tally| (driven(7, tally, NONE_YET, 0), fresh.clone());
     assert_eq!(end((0, FULL)), at_once((0, FULL)));
     assert_eq!(end((FULL, 0)), at_once((FULL, 0)));
-    let one_turn = vec![0, 2, 0, 1, 0, 0, 0, 1, 0, 0, 0, 0];
+    let (before, behind) = ([0, 1, 0, 0, 255, 0, 0, 0], [0, 2, 0, 1, 255, 0, 0, 0]);
+    let one_turn = [behind, before].concat();
     assert_eq!(end((0, FULL - 1)), (driven(7, (0, FULL), 0, 1), one_turn));
-    let two_turns = vec![0, 2, 0, 1, 0, 0, 0, 2, 0, 1, 0, 0];
+    let two_turns = [behind, behind].concat();
     assert_eq!(end((0, FULL - 2)), (driven(7, (0, FULL), 1, 2), two_turns));
     assert_eq!(end((0, FULL - 3)).0, driven(0, (1, FULL - 1), 1, 4));
     assert_eq!(end((FULL - 1, 0)).0, driven(0, (FULL, 2), 1, 4));
@@ -112,6 +115,24 @@ fn refused_drives_give_back_what_they_were_handed() {
     }
 }
 
+/// Station 1 was told by 3, which is crashed. 0 and 2 finish their passes, and the
+/// round that closes counts for both.
+#[test]
+fn a_drive_counts_the_round_it_closes() {
+    let mut table = table_with_crashed(4, &[3]);
+    table[line_length(4) + STATUS] = LEFT_TOLD;
+    table[line_length(4) + TOLD_BY] = 3;
+    for ([one, three], after) in [([254, 0], [255, 1]), ([255, 1], [255, 2])] {
+        table[line_length(4) + CLOSED_SINCE] = one;
+        table[3 * line_length(4) + CLOSED_SINCE] = three;
+        let (ended, left) = drive(4, &table, (0, 0), NONE_YET);
+        assert_eq!((ended.number, ended.rounds), (0, 1));
+        let none = [TOLD_BY_NONE, 0];
+        let expected = [none, [3, after[0]], none, [TOLD_BY_NONE, after[1]]];
+        assert_eq!(told_and_closed(4, &left), expected);
+    }
+}
+
 /// A table that a random schedule leaves; sometimes one byte is changed, or all
 /// stations but the first crash.
 fn random_table(n: usize, random: &mut Random) -> Vec<u8> {
@@ -120,13 +141,10 @@ fn random_table(n: usize, random: &mut Random) -> Vec<u8> {
     let mut sheet = vec![0; 2 * schedule.len()];
     simulator::run(n, &mut table, (0, 0), &schedule, &mut sheet);
     match random.below(8) {
-        0 => {
-            let place = random.below(table.len());
-            table[place] = random.below(distances(n) + 3) as u8;
-        }
+        0 => damage(n, &mut table, random),
         1 => {
             let lines = table.chunks_exact_mut(line_length(n));
-            lines.skip(1).for_each(|line| line[0] = 1);
+            lines.skip(1).for_each(crash);
         }
         _ => {}
     }

@@ -2,6 +2,7 @@
 //! then, one or several of its parts are made wrong. The places of figures hold
 //! anything before the call.
 
+mod ceased;
 mod drives;
 mod numbers;
 mod results;

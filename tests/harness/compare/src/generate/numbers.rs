@@ -7,6 +7,7 @@ use shared::random::Random;
 use shared::table;
 
 use super::Size;
+use crate::ceasing::former_table_length;
 
 const WRONG_SIZES: [usize; 12] = [
     0,
@@ -46,14 +47,14 @@ pub fn given_size(size: Size, random: &mut Random) -> usize {
 /// The length of the table for the size handed over, or for the right size;
 /// now and then a wrong one.
 pub fn table_length(n: usize, size: Size, random: &mut Random) -> usize {
-    let fitting = n.checked_mul(n.saturating_add(4));
+    let fitting = n.checked_mul(n.saturating_add(table::HEAD));
     let fitting = fitting.filter(|length| *length <= LONGEST_TABLE);
     let right = table::table_length(size);
-    let length = match fitting {
-        Some(fitting) if n == size || random.once_in(2) => fitting,
-        _ => right,
-    };
-    self::length(length, random)
+    match fitting {
+        Some(_) if random.once_in(80) => former_table_length(n),
+        Some(fitting) if n == size || random.once_in(2) => length(fitting, random),
+        _ => length(right, random),
+    }
 }
 
 /// Mostly the right length.

@@ -6,8 +6,9 @@ use shared::groups::{distances, SIZES};
 use shared::random::Random;
 use shared::table::{line_length, table_length, HEAD};
 
-use super::{numbers, tables, Size};
+use super::{ceased, numbers, tables, Size};
 use crate::call::{Buffers, Call, Kind, Name, Numbers};
+use crate::ceasing::{former_saved_length, former_table_length, FORMER_HEAD};
 use crate::outcome::Outcome;
 use crate::saving::{line_contents, saved_length, Field};
 use crate::saving::{FIELD_HEAD, LINE, SIZE, TALLY, WRITER};
@@ -60,6 +61,7 @@ fn buffer_length(size: Size, random: &mut Random) -> usize {
         4 => saved_length(distances(size)),
         5 => saved_length(size + 1),
         6 => 0,
+        7 => former_saved_length(size),
         _ => numbers::length(right, random),
     }
 }
@@ -108,6 +110,7 @@ fn table_buffer(size: Size, random: &mut Random) -> usize {
         // For the longest table.
         4 => table_length(*SIZES.end()),
         5 => 0,
+        6 => former_table_length(size),
         _ => numbers::length(right, random),
     }
 }
@@ -181,15 +184,21 @@ fn cut_anywhere(random: &mut Random) -> Vec<u8> {
 }
 
 /// The fields of a plant, with changes. Now and then the first or the last
-/// station suspects itself.
+/// station suspects itself, or a line has a wrong byte 4 or 5.
 fn of_plant(size: Size, random: &mut Random) -> Vec<u8> {
     let mut table = tables::any(size, random);
     if random.once_in(24) {
         let own = random.pick(&[0, size - 1]);
         table[own * line_length(size) + HEAD + own] = 1;
     }
+    if random.once_in(20) {
+        ceased::break_one(&mut table, size, random);
+    }
     let mut fields = WRITER.fields(size, &table, tally(random));
     put_in_order(&mut fields, random);
+    if random.once_in(40) {
+        fields.iter_mut().for_each(give_former_head);
+    }
     if random.once_in(3) {
         spoil(&mut fields, size, random);
     }
@@ -204,6 +213,13 @@ fn of_plant(size: Size, random: &mut Random) -> Vec<u8> {
         spoil_bytes(&mut file, &fields, random);
     }
     file
+}
+
+/// A line as it was before request C-18: without bytes 4 and 5.
+fn give_former_head(field: &mut Field) {
+    if field.tag == LINE {
+        field.contents.drain(1 + FORMER_HEAD..1 + HEAD);
+    }
 }
 
 fn bytes(fields: &[Field]) -> Vec<u8> {

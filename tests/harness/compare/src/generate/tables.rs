@@ -4,8 +4,9 @@ use shared::groups::distances;
 use shared::random::Random;
 use shared::schedule::Style;
 use shared::table::{fresh, line_length, live_stations, unfinished_stations, HEAD};
+use shared::table::{FINISHED, LIVE, NEXT_DISTANCE, STATUS, TESTS};
 
-use super::{numbers, Size};
+use super::{ceased, numbers, Size};
 use crate::borders;
 
 /// The size handed over and a table; now and then one of them is wrong.
@@ -26,6 +27,9 @@ pub fn any(size: Size, random: &mut Random) -> Vec<u8> {
     if random.once_in(8) {
         damage(&mut table, size, random);
     }
+    if random.once_in(16) {
+        ceased::break_one(&mut table, size, random);
+    }
     table
 }
 
@@ -38,11 +42,14 @@ fn valid(size: Size, random: &mut Random) -> Vec<u8> {
     }
 }
 
-/// The table that a random schedule leaves behind.
+/// The table that a random schedule leaves behind, or the same long after.
 fn after_a_run(size: Size, random: &mut Random) -> Vec<u8> {
     let mut table = fresh(size);
     let entries = random.between(1, 3 * size);
     Style::new(false, random).taken(size, &mut table, entries, random);
+    if random.once_in(3) {
+        ceased::count_anew(&mut table, size, random);
+    }
     table
 }
 
@@ -68,9 +75,12 @@ fn by_the_rules(size: Size, random: &mut Random) -> Vec<u8> {
     for own in 0..size {
         table.extend(line(size, own, &weights, random));
     }
+    if random.once_in(24) {
+        ceased::tell_each_other(&mut table, size, random);
+    }
     reopen_one(&mut table, size, random);
     // More often in a small plant, whose runs end after few tests.
-    if random.once_in(2 + size / 8) {
+    if size < 4 && random.once_in(2) || random.once_in(2 + size / 8) {
         isolate_one(&mut table, size, random);
     }
     table
@@ -78,7 +88,6 @@ fn by_the_rules(size: Size, random: &mut Random) -> Vec<u8> {
 
 fn line(size: Size, own: usize, weights: &Weights, random: &mut Random) -> Vec<u8> {
     let live = random.below(16) < weights.live;
-    let status = if live { 0 } else { random.between(1, 3) };
     let end = distances(size);
     let next = match random.below(16) < weights.at_end {
         true => end,
@@ -86,7 +95,14 @@ fn line(size: Size, own: usize, weights: &Weights, random: &mut Random) -> Vec<u
     };
     let finished = next == end && random.below(16) < weights.finished;
     let tests = random.below(next);
-    let mut line = vec![status as u8, next as u8, u8::from(finished), tests as u8];
+    let mut line = vec![0; HEAD];
+    line[NEXT_DISTANCE] = next as u8;
+    line[FINISHED] = u8::from(finished);
+    line[TESTS] = tests as u8;
+    match live {
+        true => ceased::set_status(&mut line, own, size, LIVE, random),
+        false => ceased::leave(&mut line, own, size, random),
+    }
     for other in 0..size {
         let suspected = other != own && random.below(16) < weights.suspected;
         line.push(u8::from(suspected));
@@ -99,13 +115,14 @@ fn reopen_one(table: &mut [u8], size: Size, random: &mut Random) {
     let live = live_stations(size, table);
     if !live.is_empty() && unfinished_stations(size, table).is_empty() {
         let station = random.pick(&live);
-        table[station * line_length(size) + 2] = 0;
+        table[station * line_length(size) + FINISHED] = 0;
     }
 }
 
 /// A station that can take a turn comes to suspect all others, so that it
 /// leaves at its next test, whatever the reply. Mostly nobody suspects it.
-/// Often the others are finished, or only the one that it tests is live.
+/// Often the others are finished and the one that it tests may be dead, or only
+/// the one that it tests is live.
 fn isolate_one(table: &mut [u8], size: Size, random: &mut Random) {
     let unfinished = unfinished_stations(size, table);
     if unfinished.is_empty() {
@@ -115,13 +132,15 @@ fn isolate_one(table: &mut [u8], size: Size, random: &mut Random) {
     let next = random.between(1, distances(size) - 1);
     let tested = first_from(next, size, station);
     let (unsuspected, others) = (!random.once_in(4), random.below(3));
+    let dead = random.once_in(3);
     let lines = table.chunks_exact_mut(line_length(size)).enumerate();
     for (own, line) in lines {
         match others {
             _ if own == station => suspect_all(line, next),
+            0 if dead && Some(own) == tested => ceased::leave(line, own, size, random),
             0 => finish(line, size),
-            1 if Some(own) == tested => line[0] = 0,
-            1 => line[0] = random.between(1, 3) as u8,
+            1 if Some(own) == tested => ceased::set_status(line, own, size, LIVE, random),
+            1 => ceased::leave(line, own, size, random),
             _ => {}
         }
         if own == station || unsuspected {
@@ -137,13 +156,15 @@ fn first_from(distance: usize, size: Size, station: usize) -> Option<usize> {
 }
 
 fn suspect_all(line: &mut [u8], next: usize) {
-    line[1..HEAD].copy_from_slice(&[next as u8, 0, 0]);
+    line[NEXT_DISTANCE] = next as u8;
+    line[FINISHED] = 0;
+    line[TESTS] = 0;
     line[HEAD..].fill(1);
 }
 
 fn finish(line: &mut [u8], size: Size) {
-    line[1] = distances(size) as u8;
-    line[2] = 1;
+    line[NEXT_DISTANCE] = distances(size) as u8;
+    line[FINISHED] = 1;
 }
 
 /// Of the stations that can take a turn all but one become finished.
@@ -160,7 +181,7 @@ pub fn finish_all_but_one(table: &mut [u8], size: Size, random: &mut Random) {
 /// Every live line becomes finished, so that refusal 4 applies if one is live.
 fn finish_all_live(table: &mut [u8], size: Size) {
     for line in table.chunks_exact_mut(line_length(size)) {
-        if line[0] == 0 {
+        if line[STATUS] == LIVE {
             finish(line, size);
         }
     }
@@ -181,19 +202,19 @@ fn damage(table: &mut [u8], size: Size, random: &mut Random) {
 fn damage_line(line: &mut [u8], own: usize, size: Size, random: &mut Random) {
     let column = HEAD + random.below(size);
     match random.below(12) {
-        0 => line[0] = random.pick(&[4, 5, 8, 128, 255]),
-        1 => line[1] = random.pick(&[0, 128, 255]),
-        2 => line[2] = random.pick(&[1, 2, 3, 128, 255]),
-        3 => line[3] = line[1],
-        4 => line[3] = random.byte(),
+        0 => line[STATUS] = random.pick(&[4, 5, 8, 128, 255]),
+        1 => line[NEXT_DISTANCE] = random.pick(&[0, 128, 255]),
+        2 => line[FINISHED] = random.pick(&[1, 2, 3, 128, 255]),
+        3 => line[TESTS] = line[NEXT_DISTANCE],
+        4 => line[TESTS] = random.byte(),
         5 => line[column] = random.pick(&[2, 3, 128, 254, 255]),
         6 => line[HEAD + own] = 1,
         7 => line[column] ^= 1,
         8 => line[random.below(HEAD)] = random.byte(),
         9 | 10 => {
-            line[1] = random.pick(&borders::of(size)) as u8;
-            line[2] = random.pick(&[0, 1]);
-            line[3] = 0;
+            line[NEXT_DISTANCE] = random.pick(&borders::of(size)) as u8;
+            line[FINISHED] = random.pick(&[0, 1]);
+            line[TESTS] = 0;
         }
         _ => line[random.below(line_length(size))] = random.byte(),
     }

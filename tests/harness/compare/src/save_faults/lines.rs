@@ -3,6 +3,7 @@
 use shared::groups::distances;
 
 use super::{load_by, refuse_if};
+use crate::ceasing::have_former_length;
 use crate::faults::Fault;
 use crate::saving::{have_line_length, line_contents, stations};
 use crate::saving::{Field, Reader, LINE, LINES, READER, SIZE};
@@ -65,12 +66,15 @@ const OF_ABSENT_TOO: Reader = with_lines(|n, fields| {
     have_line_length(distances(n), fields) && stations(fields).into_iter().eq(0..n)
 });
 
+const OF_FORMER_LENGTH: Reader =
+    with_lines(|n, fields| have_former_length(n, fields) && stations(fields).into_iter().eq(0..n));
+
 const BY_THE_FILE: Reader = Reader {
     place: |ordinal, _| ordinal,
     ..READER
 };
 
-pub const ALL: [Fault; 14] = [
+pub const ALL: [Fault; 15] = [
     ("load: a line twice is taken", |call, outcome| {
         load_by(&TWICE, call, outcome);
     }),
@@ -106,6 +110,9 @@ pub const ALL: [Fault; 14] = [
     }),
     ("load: lines have 2^d bytes of row", |call, outcome| {
         load_by(&OF_ABSENT_TOO, call, outcome);
+    }),
+    ("load: lines have heads of four bytes", |call, outcome| {
+        load_by(&OF_FORMER_LENGTH, call, outcome);
     }),
     ("load: lines in the order of the file", |call, outcome| {
         load_by(&BY_THE_FILE, call, outcome);

@@ -4,6 +4,7 @@ use shared::groups::{distances, SIZES};
 
 use super::{is_full, is_refused, save_by, write, FULL_TALLY};
 use crate::call::{Call, Kind, Name};
+use crate::ceasing::former_saved_length;
 use crate::faults::{leave, Fault};
 use crate::outcome::Outcome;
 use crate::saving::{saved_length, Writer, BUFFER_LENGTH, LINE, SIZE, TALLY, WRITER};
@@ -49,7 +50,7 @@ pub const OF_WRITER: [Fault; 9] = [
 ];
 
 /// Faults in what a save refuses, and in what it does then.
-pub const OF_SAVES: [Fault; 11] = [
+pub const OF_SAVES: [Fault; 12] = [
     ("save: 13 before 1", |call, outcome| {
         save_sooner(call, outcome, 1)
     }),
@@ -74,6 +75,13 @@ pub const OF_SAVES: [Fault; 11] = [
             let wanted = saved_length(distances(call.numbers.n));
             let fits = call.buffers.get(Name::Saved).len() == wanted;
             outcome.number = if fits { 0 } else { BUFFER_LENGTH };
+        }
+    }),
+    ("save: a buffer for heads of four bytes", |call, outcome| {
+        let length = call.buffers.get(Name::Saved).len();
+        let is_former = length == former_saved_length(call.numbers.n);
+        if is_refused(call, outcome, Kind::Save, BUFFER_LENGTH) && is_former {
+            outcome.number = 0;
         }
     }),
     ("save: a full tally is refused", |call, outcome| {

@@ -2,12 +2,13 @@
 //! are met together.
 
 use shared::groups::SIZES;
-use shared::table::{line_length, table_length};
+use shared::table::{fresh, line_length, table_length};
 
 use super::{is_ascending, is_met_too, with_tag, Case, Seen};
+use crate::ceasing::have_former_length;
 use crate::saving::{have_line_length, line_contents, stations, LINE, LINES};
 
-pub const ALL: [Case; 33] = [
+pub const ALL: [Case; 34] = [
     ("20 alone", |seen| met(seen, LINES) == [LINES]),
     ("a line one byte short", |seen| {
         has_line(seen, |n, line| line.len() + 1 == line_contents(n))
@@ -23,7 +24,7 @@ pub const ALL: [Case; 33] = [
         let mut lines = with_tag(seen, LINE);
         let before = lines.len();
         lines.retain(|line| right(seen.n, line));
-        seen.number == LINES && lines.len() < before && stations(&lines).into_iter().eq(0..seen.n)
+        seen.number == LINES && lines.len() < before && are_all(seen.n, &lines)
     }),
     ("a station that is absent", |seen| {
         is_wrong_by_stations(seen, |n, found| {
@@ -69,6 +70,10 @@ pub const ALL: [Case; 33] = [
         let lines = with_tag(seen, LINE);
         seen.number == LINES && !lines.is_empty() && have_line_length(lines.len(), &lines)
     }),
+    ("lines with heads of four bytes", |seen| {
+        let lines = with_tag(seen, LINE);
+        seen.number == LINES && have_former_length(seen.n, &lines) && are_all(seen.n, &lines)
+    }),
     ("20 before 2", |seen| is_met_too(seen, LINES, 2)),
     ("20 before 3", |seen| is_met_too(seen, LINES, 3)),
     ("20 before 4", |seen| is_met_too(seen, LINES, 4)),
@@ -100,6 +105,11 @@ pub const ALL: [Case; 33] = [
         seen.number == 4 && !is_ascending(seen)
     }),
 ];
+
+/// Whether the lines are those of all stations.
+fn are_all(n: usize, lines: &[&[u8]]) -> bool {
+    stations(lines).into_iter().eq(0..n)
+}
 
 /// The refusals met, if the call is refused with this number.
 fn met(seen: &Seen, number: u8) -> &[u8] {
@@ -146,8 +156,6 @@ fn is_broken_at(seen: &Seen, station: fn(usize) -> usize) -> bool {
     let mut healed = seen.plant.clone();
     let own = station(seen.n);
     let length = line_length(seen.n);
-    let line = &mut healed[own * length..][..length];
-    line.fill(0);
-    line[1] = 1;
+    healed[own * length..][..length].copy_from_slice(&fresh(seen.n)[..length]);
     simulator::check_table(seen.n, &healed) == 0
 }

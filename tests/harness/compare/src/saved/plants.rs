@@ -5,10 +5,11 @@ use shared::groups::SIZES;
 use shared::table::{lines, live_stations, table_length};
 
 use super::{Case, Seen};
+use crate::ceasing::former_saved_length;
 use crate::saving::{saved_length, BUFFER_LENGTH};
 
 /// By the buffer of a save, and by refusals that are met together.
-pub const SAVE: [Case; 9] = [
+pub const SAVE: [Case; 10] = [
     ("a buffer one byte short", |seen| {
         is_refused_by_length(seen) && seen.saved + 1 == saved_length(seen.n)
     }),
@@ -20,6 +21,9 @@ pub const SAVE: [Case; 9] = [
     }),
     ("a buffer of the table's length", |seen| {
         is_refused_by_length(seen) && seen.saved == table_length(seen.n)
+    }),
+    ("a buffer for heads of four bytes", |seen| {
+        is_refused_by_length(seen) && seen.saved == former_saved_length(seen.n)
     }),
     ("a buffer for more stations", |seen| {
         is_refused_by_length(seen) && seen.saved > saved_length(seen.n) + 1
