@@ -11,13 +11,13 @@ use borrow.Author.Tests.{eqb-true, eqb-false}
 use lib.Dec.{eqb}
 use lib.ListN.{length}
 use Rattle.station.specs.Groups.{stationAt}
-use Rattle.table.specs.Table.{head, stride, tableLength, cell, statusColumn, nextColumn, testsColumn, toldByColumn, roundsAgoColumn, status, statusTold, statusAlone, statusCrashed, toldBy, roundsAgo, live}
+use Rattle.table.specs.Table.{head, stride, tableLength, cell, statusColumn, nextColumn, finishedColumn, testsColumn, toldByColumn, roundsAgoColumn, status, statusTold, statusAlone, statusCrashed, toldBy, roundsAgo, live}
 use Rattle.table.specs.Rules.{roundOver}
 use Rattle.lists.proofs.BoolLaws.{by-bool, choice}
 use Rattle.lists.proofs.SearchLaws.{both}
 use Rattle.table.proofs.Accepting.{Accepted, accepted}
-use Rattle.table.proofs.CellLaws.{cell-same, cell-other, accepted-line}
-use Rattle.turn.specs.Turn.{outcomeExchanged, outcomeTold, outcomeTestedTold, setStatus, leaveTold, nextTest, makesTest, countTest, replies, isTold, exchangeRows, suspect, replyOutcome, testOutcome, afterOutcome, afterTest, isAlone, afterAlone, testing, turn, turnTested, turnOutcome, crash}
+use Rattle.table.proofs.CellLaws.{TurnCounts, cell-same, cell-other, accepted-line}
+use Rattle.turn.specs.Turn.{outcomeExchanged, outcomeTold, outcomeTestedTold, setStatus, leaveTold, nextTest, makesTest, countTest, replies, isTold, exchangeRows, suspect, replyOutcome, testOutcome, afterOutcome, afterTest, isAlone, afterAlone, testing, turn, turnTested, turnOutcome, crash, finishPass}
 use Rattle.plant.specs.Round.{afterRound}
 use Rattle.plant.specs.Entry.{Entry, State, isCrash, entryNumber, acted, after, testedOf, outcomeOf}
 use Rattle.turn.proofs.NextTest.{nextTest-low, test-below, test-station}
@@ -30,6 +30,10 @@ use Rattle.ceased.specs.Ceased.{LeftTold, EntryTells}
 -- status and byte 4 of line k are the same in both tables
 abbrev pub SameExit : ℕ → List ℕ → List ℕ → ℕ → Type 0
 SameExit n t t′ k = (status n t′ k ≡ status n t k) × (toldBy n t′ k ≡ toldBy n t k)
+
+-- by the columns of the head that a turn does not count in
+same-exit : (n : ℕ) (t t′ : List ℕ) (k : ℕ) → ((c : ℕ) → c < head → ¬ (TurnCounts c) → cell n t′ k c ≡ cell n t k c) → SameExit n t t′ k
+same-exit n t t′ k same = (same statusColumn (omega arith) (λ p. omega arith), same toldByColumn (omega arith) (λ p. omega arith))
 
 -- what happened to line k between two tables: nothing; the station left, but not because told; or it was told, by b
 pub data Fate (n : ℕ) (t t′ : List ℕ) (k : ℕ) : Type 0 where
@@ -75,7 +79,8 @@ module _ (n : ℕ) (v : List ℕ) (i : ℕ) where
       by-bool (isAlone n v i)
       (λ e.
       let apart : i ≢ k = λ q. gone q (both _ _ e .0) in
-      rw e (cell-other n v i statusColumn statusAlone k statusColumn (omega arith) (omega arith) (λ q. absurd (apart q)), cell-other n v i statusColumn statusAlone k toldByColumn (omega arith) (omega arith) (λ q. absurd (apart q))))
+      rw e (same-exit n v (setStatus n v i statusAlone) k
+      (λ c hc _. cell-other n v i statusColumn statusAlone k c (omega arith) (omega arith) (λ q. absurd (apart q)))))
       (λ e. rw e (refl, refl))
     where
       gone : i ≡ k → live n v i ≡ true → ⊥
@@ -93,8 +98,7 @@ module _ (n : ℕ) (v : List ℕ) (i : ℕ) where
       other : i ≢ k → Fate n t w k
       other d =
           fate-later n t v w k
-          (cell-other n v i statusColumn statusAlone k statusColumn (omega arith) (omega arith) (λ q. absurd (d q)), cell-other n v i statusColumn statusAlone k toldByColumn (omega arith) (omega arith) (λ q. absurd (d q)))
-          f
+          (same-exit n v w k (λ c hc _. cell-other n v i statusColumn statusAlone k c (omega arith) (omega arith) (λ q. absurd (d q)))) f
 
       three : status n w i ≡ statusAlone
       three = cell-same n v i statusColumn statusAlone long h (omega arith)
@@ -107,7 +111,8 @@ module _ (n : ℕ) (v : List ℕ) (i : ℕ) where
       here l (hears b hb p) = absurd (omega (arith, eqb-true (status n v i) 0 l, p .left))
 
 -- steps 4 and 5: i, which is live, tests j
-module _ (n : ℕ) (u : List ℕ) (kind i j : ℕ) (long : length u ≡ tableLength n) (hi : i < n) (hj : j < n) (apart : i ≢ j) (alive : live n u i ≡ true) where
+module _ (n : ℕ) (u : List ℕ) (kind i j : ℕ) (long : length u ≡ tableLength n) (hi : i < n) (hj : j < n) (apart : i ≢ j)
+    (alive : live n u i ≡ true) where
   left-tester : replies n u kind j ≡ true → isTold n u i j ≡ true → LeftTold n u (leaveTold n u i j) i j
   unfolding replies isTold
   left-tester r q = record {
@@ -131,7 +136,7 @@ module _ (n : ℕ) (u : List ℕ) (kind i j : ℕ) (long : length u ≡ tableLen
   left-fate : (a b k : ℕ) → b < n → LeftTold n u (leaveTold n u a b) a b → Fate n u (leaveTold n u a b) k
   left-fate a b k hb l =
       by-cases (ℕ-discrete a k) (λ e. rw (← e) (hears b hb l))
-      (λ d. stays (leaveTold-other n u a b k statusColumn (omega arith) (λ q. absurd (d q)), leaveTold-other n u a b k toldByColumn (omega arith) (λ q. absurd (d q))))
+      (λ d. stays (same-exit n u (leaveTold n u a b) k (λ c hc _. leaveTold-other n u a b k c (omega arith) (λ q. absurd (d q)))))
 
   test-fate : (k : ℕ) → Fate n u (afterTest n u kind i j) k
   unfolding afterOutcome testOutcome replyOutcome
@@ -144,11 +149,12 @@ module _ (n : ℕ) (u : List ℕ) (kind i j : ℕ) (long : length u ≡ tableLen
     where
       exchanged : Fate n u (exchangeRows n u i j) k
       exchanged =
-          stays (exchange-other n u i long hi j hj apart k statusColumn (omega arith) (λ _. omega arith) (λ _. omega arith), exchange-other n u i long hi j hj apart k toldByColumn (omega arith) (λ _. omega arith) (λ _. omega arith))
+          stays (same-exit n u (exchangeRows n u i j) k
+          (λ c hc _. exchange-other n u i long hi j hj apart k c (omega arith) (λ _. hc) (λ _. hc)))
 
       suspected : Fate n u (suspect n u i j) k
       suspected =
-          stays (suspect-other n u i long hi j k statusColumn (omega arith) (λ _. omega arith), suspect-other n u i long hi j k toldByColumn (omega arith) (λ _. omega arith))
+          stays (same-exit n u (suspect n u i j) k (λ c hc _. suspect-other n u i long hi j k c (omega arith) (λ _. omega arith)))
 
 -- a taken entry
 module _ (n : ℕ) (s : State) (e : Entry) (ok : Accepted n (s .table)) (z : entryNumber n s e ≡ 0) where
@@ -186,7 +192,8 @@ module _ (n : ℕ) (s : State) (e : Entry) (ok : Accepted n (s .table)) (z : ent
 
     lines-counted : Lines n u
     lines-counted =
-        countTest-lines n t i lines (facts .below) m (facts .unfinished (eqb-false (e .kind) 3 no-crash)) (nextTest-low n t i) (test-below n t i makes)
+        countTest-lines n t i lines (facts .below) m (facts .unfinished (eqb-false (e .kind) 3 no-crash)) (nextTest-low n t i)
+        (test-below n t i makes)
 
     alive : live n u i ≡ true
     alive = rw (counted i statusColumn (omega arith) (omega arith)) (facts .isLive)
@@ -204,18 +211,23 @@ module _ (n : ℕ) (s : State) (e : Entry) (ok : Accepted n (s .table)) (z : ent
   acted-fate : (k : ℕ) → k < n → Fate n t (acted n t e) k
   unfolding acted crash turn
   acted-fate k h =
-      by-bool (isCrash e) (λ c. rw c (by-cases (ℕ-discrete i k) (λ q. rw (← q) crashed) (λ d. stays (other d statusColumn (omega arith), other d toldByColumn (omega arith)))))
+      by-bool (isCrash e)
+      (λ c. rw c (by-cases (ℕ-discrete i k) (λ q. rw (← q) crashed) (λ d. stays (same-exit n t (setStatus n t i statusCrashed) k (other d)))))
       (λ c.
       by-bool (makesTest n t i) (λ b. rw (c, b) (testing-fate c b k h))
-      (λ b. rw (c, b) (stays (finishPass-other n t i k statusColumn (omega arith) (λ _. omega arith), finishPass-other n t i k toldByColumn (omega arith) (λ _. omega arith)))))
+      (λ b. rw (c, b) (stays (same-exit n t (finishPass n t i) k (λ c hc out. finishPass-other n t i k c (omega arith) (λ _. not-counted c out))))))
     where
-      other : i ≢ k → (c : ℕ) → c < stride n → cell n (setStatus n t i statusCrashed) k c ≡ cell n t k c
-      other d c hc = cell-other n t i statusColumn statusCrashed k c (omega arith) hc (λ q. absurd (d q))
+      other : i ≢ k → (c : ℕ) → c < head → ¬ (TurnCounts c) → cell n (setStatus n t i statusCrashed) k c ≡ cell n t k c
+      other d c hc _ = cell-other n t i statusColumn statusCrashed k c (omega arith) (omega arith) (λ q. absurd (d q))
+
+      not-counted : (c : ℕ) → ¬ (TurnCounts c) → (c ≢ nextColumn) × (c ≢ finishedColumn)
+      not-counted c out = (λ q. out (omega arith), λ q. out (omega arith))
 
       crashed : Fate n t (setStatus n t i statusCrashed) i
       crashed =
           let one = cell-same n t i statusColumn statusCrashed (ok .long) (facts .below) (omega arith) in
-          leaves (facts .isLive) (omega (arith, one)) (λ q. omega (arith, one)) (cell-other n t i statusColumn statusCrashed i toldByColumn (omega arith) (omega arith) (omega arith))
+          leaves (facts .isLive) (omega (arith, one)) (λ q. omega (arith, one))
+          (cell-other n t i statusColumn statusCrashed i toldByColumn (omega arith) (omega arith) (omega arith))
 
   -- steps 2 to 7 leave byte 5
   pub acted-ago : (k : ℕ) → roundsAgo n (acted n t e) k ≡ roundsAgo n t k
@@ -254,7 +266,8 @@ module _ (n : ℕ) (s : State) (e : Entry) (ok : Accepted n (s .table)) (z : ent
   unfolding after afterRound
   closing-same k =
       choice (λ (v : List ℕ). SameExit n (acted n t e) v k) (roundOver n (acted n t e))
-      (reset-other n (acted n t e) k statusColumn (omega arith) (λ p. omega arith), reset-other n (acted n t e) k toldByColumn (omega arith) (λ p. omega arith)) (refl, refl)
+      (reset-other n (acted n t e) k statusColumn (omega arith) (λ p. omega arith), reset-other n (acted n t e) k toldByColumn (omega arith) (λ p. omega arith))
+      (refl, refl)
 
   pub after-fate : (k : ℕ) → k < n → Fate n t (after n s e .table) k
   after-fate k h = fate-later n t (acted n t e) (after n s e .table) k (closing-same k) (acted-fate k h)
@@ -269,18 +282,24 @@ module _ (n : ℕ) (s : State) (e : Entry) (ok : Accepted n (s .table)) (z : ent
     after-left a x h out l = left-later n t (acted n t e) (after n s e .table) a x (closing-same a) acted-left
       where
         acted-left : LeftTold n t (acted n t e) a x
-        acted-left = rw (no-crash, makes) (left-earlier n t u (afterAlone n v i) a x counted h (left-later n u v (afterAlone n v i) a x (alone-other n v i a out) l))
+        acted-left =
+            rw (no-crash, makes)
+            (left-earlier n t u (afterAlone n v i) a x counted h (left-later n u v (afterAlone n v i) a x (alone-other n v i a out) l))
 
     tester-left : replies n u (e .kind) j ≡ true → isTold n u i j ≡ true → LeftTold n t (after n s e .table) i j
     unfolding afterOutcome testOutcome replyOutcome
     tester-left r q =
-        let l : LeftTold n u v i j = rw (r, q) (left-tester n u (e .kind) i j (lines-counted no-crash makes .0) (facts .below) (hj no-crash makes) (apart no-crash makes) (alive no-crash makes) r q) in
+        let l : LeftTold n u v i j =
+        rw (r, q) (left-tester n u (e .kind) i j (lines-counted no-crash makes .0) (facts .below) (hj no-crash makes) (apart no-crash makes)
+        (alive no-crash makes) r q) in
         after-left i j (facts .below) (λ _. rw (l .left)) l
 
     tested-left : replies n u (e .kind) j ≡ true → isTold n u i j ≡ false → isTold n u j i ≡ true → LeftTold n t (after n s e .table) j i
     unfolding afterOutcome testOutcome replyOutcome
     tested-left r q p =
-        let l : LeftTold n u v j i = rw (r, q, p) (left-tested n u (e .kind) i j (lines-counted no-crash makes .0) (facts .below) (hj no-crash makes) (apart no-crash makes) (alive no-crash makes) r p) in
+        let l : LeftTold n u v j i =
+        rw (r, q, p) (left-tested n u (e .kind) i j (lines-counted no-crash makes .0) (facts .below) (hj no-crash makes) (apart no-crash makes)
+        (alive no-crash makes) r p) in
         after-left j i (hj no-crash makes) (λ same. absurd (apart no-crash makes same)) l
 
   -- by the outcome

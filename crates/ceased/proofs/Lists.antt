@@ -35,12 +35,15 @@ module _ (n : ℕ) (s : State) (e : Entry) (ok : Accepted n (s .table)) (z : ent
   t′ = after n s e .table
 
   -- byte 5 goes by whether the round closes, and whether the station is live after the entry
-  ago-step : roundsAgo n t′ k ≡ cond (roundOver n (acted n t e)) (cond (live n t′ k) (roundsAgo n t k) (min (roundsAgo n t k + 1) roundsAgoTop)) (roundsAgo n t k)
+  ago-step : roundsAgo n t′ k
+      ≡ cond (roundOver n (acted n t e)) (cond (live n t′ k) (roundsAgo n t k) (min (roundsAgo n t k + 1) roundsAgoTop)) (roundsAgo n t k)
   unfolding after afterRound roundsAfter
   ago-step =
       let v : List ℕ = acted n t e in
       by-bool (roundOver n v)
-      (λ o. rw (o, reset-ago n v (acted-lines n s e ok z .0) k h, reset-other n v k statusColumn (omega arith) (λ p. omega arith), acted-ago n s e ok z k))
+      (λ o.
+      let stays-live = reset-other n v k statusColumn (omega arith) (λ p. omega arith) in
+      rw (o, reset-ago n v (acted-lines n s e ok z .0) k h, stays-live, acted-ago n s e ok z k))
       (λ o. rw o (acted-ago n s e ok z k))
 
   gone-step : live n t′ k ≡ false → roundsAgo n t k ≤ roundsAgoTop

@@ -35,7 +35,8 @@ fresh-cell n i c h g =
     place = mul-add-mod-self-right i (stride n) c ∙ mod-eq-of-lt g
 
 fresh-row : (n i k : ℕ) → i < n → k < n → suspects n (freshTable n) i k ≡ 0
-fresh-row n i k g l = fresh-cell n i (head + k) g (omega arith) ∙ rw (ne-eqb (head + k) nextColumn (λ e. omega arith), ne-eqb (head + k) toldByColumn (λ e. omega arith))
+fresh-row n i k g l =
+    fresh-cell n i (head + k) g (omega arith) ∙ rw (ne-eqb (head + k) nextColumn (λ e. omega arith), ne-eqb (head + k) toldByColumn (λ e. omega arith))
 
 fresh-live : (n i : ℕ) → i < n → live n (freshTable n) i ≡ true
 fresh-live n i h = eq-eqb (status n (freshTable n) i) 0 (fresh-cell n i statusColumn h (omega arith))
@@ -46,7 +47,8 @@ fresh-line n i g = record {
   statusRange = omega (arith, fresh-cell n i statusColumn g (omega arith));
   pass = rw (fresh-cell n i nextColumn g (omega arith), fresh-cell n i finishedColumn g (omega arith), fresh-cell n i testsColumn g (omega arith))
       (record { nextLow = omega arith; nextHigh = distances-pos n; finishedRange = omega arith; testsBound = omega arith; finishedNext = λ e. absurd (omega arith) });
-  exits = rw (fresh-cell n i statusColumn g (omega arith), fresh-cell n i toldByColumn g (omega arith), fresh-cell n i roundsAgoColumn g (omega arith));
+  exits =
+      rw (fresh-cell n i statusColumn g (omega arith), fresh-cell n i toldByColumn g (omega arith), fresh-cell n i roundsAgoColumn g (omega arith));
   own = fresh-row n i i g g;
   range = λ k l. omega (arith, fresh-row n i k g l);
 }

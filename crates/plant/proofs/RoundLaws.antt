@@ -53,19 +53,21 @@ resetLine-here n i t long h =
     let long₃ : length t₃ ≡ tableLength n = setCell-length n t₂ i testsColumn 0 ∙ long₂ in
     let ago : ℕ = roundsAfter n t i in
     let last : (c : ℕ) → c < roundsAgoColumn → cell n (setCell n t₃ i roundsAgoColumn ago) i c ≡ cell n t₃ i c =
-    λ c hc. cell-other n t₃ i roundsAgoColumn ago i c (omega arith) (omega arith) (omega arith) in
-    (record {
-      next =
-          last nextColumn (omega arith)
-          ∙ (cell-other n t₂ i testsColumn 0 i nextColumn (omega arith) (omega arith) (omega arith)
-          ∙ (cell-other n t₁ i finishedColumn 0 i nextColumn (omega arith) (omega arith) (omega arith)
-          ∙ cell-same n t i nextColumn 1 long h (omega arith)));
-      unfinished =
-          last finishedColumn (omega arith)
-          ∙ (cell-other n t₂ i testsColumn 0 i finishedColumn (omega arith) (omega arith) (omega arith)
-          ∙ cell-same n t₁ i finishedColumn 0 long₁ h (omega arith));
-      untested = last testsColumn (omega arith) ∙ cell-same n t₂ i testsColumn 0 long₂ h (omega arith);
-    }, cell-same n t₃ i roundsAgoColumn ago long₃ h (omega arith))
+    λ c hc. cell-other n t₃ i roundsAgoColumn ago i c (omega arith) (omega arith) (omega arith) in (
+      record {
+        next =
+            last nextColumn (omega arith)
+            ∙ (cell-other n t₂ i testsColumn 0 i nextColumn (omega arith) (omega arith) (omega arith)
+            ∙ (cell-other n t₁ i finishedColumn 0 i nextColumn (omega arith) (omega arith) (omega arith)
+            ∙ cell-same n t i nextColumn 1 long h (omega arith)));
+        unfinished =
+            last finishedColumn (omega arith)
+            ∙ (cell-other n t₂ i testsColumn 0 i finishedColumn (omega arith) (omega arith) (omega arith)
+            ∙ cell-same n t₁ i finishedColumn 0 long₁ h (omega arith));
+        untested = last testsColumn (omega arith) ∙ cell-same n t₂ i testsColumn 0 long₂ h (omega arith);
+      },
+      cell-same n t₃ i roundsAgoColumn ago long₃ h (omega arith),
+    )
 
 resets-length : (n m : ℕ) (t : List ℕ) → length (iterate (resetLine n) m t) ≡ length t
 unfolding iterate
@@ -82,7 +84,8 @@ resets-other n (suc m) t i c h out = resetLine-other n m (iterate (resetLine n) 
 resets-behind : (n m : ℕ) (t : List ℕ) (i c : ℕ) → c < stride n → m ≤ i → cell n (iterate (resetLine n) m t) i c ≡ cell n t i c
 unfolding iterate
 resets-behind n zero t i c h hm = refl
-resets-behind n (suc m) t i c h hm = resetLine-other n m (iterate (resetLine n) m t) i c h (λ e. absurd (omega arith)) ∙ resets-behind n m t i c h (omega arith)
+resets-behind n (suc m) t i c h hm =
+    resetLine-other n m (iterate (resetLine n) m t) i c h (λ e. absurd (omega arith)) ∙ resets-behind n m t i c h (omega arith)
 
 resets-here : (n m : ℕ) (t : List ℕ) → length t ≡ tableLength n → m ≤ n → (i : ℕ) → i < m → LineClosed n t (iterate (resetLine n) m t) i
 unfolding iterate roundsAfter
@@ -102,7 +105,8 @@ resets-here n (suc m) t long hm i h = pick (resets-here n m t long (omega arith)
         rw e (r .0, r .1 ∙ own)
     pick rest (inr l) =
         let r = rest l in
-        let same : (c : ℕ) → c < stride n → cell n (resetLine n m s) i c ≡ cell n s i c = λ c hc. resetLine-other n m s i c hc (λ e. absurd (omega arith)) in (
+        let same : (c : ℕ) → c < stride n → cell n (resetLine n m s) i c ≡ cell n s i c =
+        λ c hc. resetLine-other n m s i c hc (λ e. absurd (omega arith)) in (
           record {
             next = same nextColumn (omega arith) ∙ r .0 .next;
             unfinished = same finishedColumn (omega arith) ∙ r .0 .unfinished;
@@ -147,8 +151,9 @@ reset-lines n t lines = (
         pass = rw (r .next, r .unfinished, r .untested)
             (record { nextLow = omega arith; nextHigh = distances-pos n; finishedRange = omega arith; testsBound = omega arith; finishedNext = λ p. absurd (omega arith) });
         exits =
-            rw (reset-other n t k statusColumn (omega arith) (λ p. omega arith), reset-other n t k toldByColumn (omega arith) (λ p. omega arith), reset-ago n t (lines .0) k h)
-            (after-exit n t k (l .exits));
+            let s = reset-other n t k statusColumn (omega arith) (λ p. omega arith) in
+            let b = reset-other n t k toldByColumn (omega arith) (λ p. omega arith) in
+            rw (s, b, reset-ago n t (lines .0) k h) (after-exit n t k (l .exits));
         own = reset-other n t k (head + k) (omega arith) (λ p. omega arith) ∙ l .own;
         range = λ x hx. rw (reset-other n t k (head + x) (omega arith) (λ p. omega arith)) (l .range x hx);
       },

@@ -70,7 +70,8 @@ fn write_lines(n: u8, table: &[u8], buffer: &mut [u8])
 // The field of line i.
 fn write_line(n: u8, table: &[u8], i: Station, buffer: &mut [u8])
     requires { ⌜ (isSize n ≡ true) × HasLine n (now table) (i .0) × (length (now buffer) ≡ 15 + n * (stride n + 4)) ⌝ }
-    ensures { λ _. ⌜ now (buffer .exit) ≡ sets (now (buffer .entry)) (15 + i .0 * (stride n + 4)) (fieldBytes (lineField n (now (table .entry)) (i .0))) ⌝ }
+    ensures { λ _. ⌜ now (buffer .exit) ≡ sets (now (buffer .entry)) (15 + i .0 * (stride n + 4))
+        (fieldBytes (lineField n (now (table .entry)) (i .0))) ⌝ }
 {
     let stride = n as u16 + cells::HEAD;
     let at = OPENING + i.0 as usize * (stride as usize + BESIDE_LINE);

@@ -99,7 +99,8 @@ fn line_rules(n: u8, table: &[u8], i: Station) -> bool
 // The rules of bytes 1 to 3.
 fn pass_rule(n: u8, table: &[u8], i: Station) -> bool
     requires { ⌜ HasLine n (now table) (i .0) ⌝ }
-    ensures { λ r. ⌜ r ≡ passRule n (nextDistance n (now (table .entry)) (i .0)) (finished n (now (table .entry)) (i .0)) (testsMade n (now (table .entry)) (i .0)) ⌝ }
+    ensures { λ r. ⌜ r ≡ passRule n (nextDistance n (now (table .entry)) (i .0)) (finished n (now (table .entry)) (i .0))
+        (testsMade n (now (table .entry)) (i .0)) ⌝ }
 {
     let next = inside::get(n, table, i, cells::NEXT);
     let finished = inside::get(n, table, i, cells::FINISHED);
@@ -115,7 +116,8 @@ fn pass_rule(n: u8, table: &[u8], i: Station) -> bool
 // The rules of bytes 4 and 5, by the status.
 fn exit_rule(n: u8, table: &[u8], i: Station) -> bool
     requires { ⌜ HasLine n (now table) (i .0) ⌝ }
-    ensures { λ r. ⌜ r ≡ exitRule n (i .0) (status n (now (table .entry)) (i .0)) (toldBy n (now (table .entry)) (i .0)) (roundsAgo n (now (table .entry)) (i .0)) ⌝ }
+    ensures { λ r. ⌜ r ≡ exitRule n (i .0) (status n (now (table .entry)) (i .0)) (toldBy n (now (table .entry)) (i .0))
+        (roundsAgo n (now (table .entry)) (i .0)) ⌝ }
 {
     let status = inside::get(n, table, i, cells::STATUS);
     let told = inside::get(n, table, i, cells::TOLD_BY);
@@ -124,7 +126,8 @@ fn exit_rule(n: u8, table: &[u8], i: Station) -> bool
         return (told == cells::TOLD_BY_NONE) & (ago == 0);
     }
     if status == cells::LEFT_TOLD {
-        return (told == cells::NOT_RECORDED) | ((told < n) & (told != i.0));
+        let own = i.0;
+        return (told == cells::NOT_RECORDED) | ((told < n) & (told != own));
     }
     told == cells::TOLD_BY_NONE
 }

@@ -49,19 +49,20 @@ module _ (n : ℕ) (t : List ℕ) (i : ℕ) where
       → cell n (leaveTold n t i j) i′ c ≡ cell n t i′ c
   unfolding leaveTold
   leaveTold-other j i′ c h out =
-      cell-other n _ i toldByColumn j i′ c (omega arith) h (λ e f. out e .1 (sym f))
+      cell-other n _ i toldByColumn _ i′ c (omega arith) h (λ e f. out e .1 (sym f))
       ∙ cell-other n t i statusColumn statusTold i′ c (omega arith) h (λ e f. out e .0 (sym f))
 
   module _ (long : length t ≡ tableLength n) (h : i < n) where
     pub leaveTold-status : (j : ℕ) → status n (leaveTold n t i j) i ≡ statusTold
     unfolding leaveTold
     leaveTold-status j =
-        cell-other n _ i toldByColumn j i statusColumn (omega arith) (omega arith) (omega arith)
+        cell-other n _ i toldByColumn _ i statusColumn (omega arith) (omega arith) (omega arith)
         ∙ cell-same n t i statusColumn statusTold long h (omega arith)
 
     pub leaveTold-teller : (j : ℕ) → toldBy n (leaveTold n t i j) i ≡ j
     unfolding leaveTold
-    leaveTold-teller j = cell-same n (setStatus n t i statusTold) i toldByColumn j (setCell-length n t i statusColumn statusTold ∙ long) h (omega arith)
+    leaveTold-teller j =
+        cell-same n (setStatus n t i statusTold) i toldByColumn j (setCell-length n t i statusColumn statusTold ∙ long) h (omega arith)
 
     pub finishPass-next : nextDistance n (finishPass n t i) i ≡ distances n
     unfolding finishPass

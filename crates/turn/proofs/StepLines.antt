@@ -52,7 +52,8 @@ one-line n t t′ i len same here old = (len ∙ old .0, λ k h. pick k h (ℕ-d
         (λ x hx. rw (same k (head + x) (omega arith) d) (l .range x hx))
 
 -- a line of which only bytes 0 and 4 are written
-line-exit : (n : ℕ) (t t′ : List ℕ) (k : ℕ) → Line n t k → ((c : ℕ) → c < stride n → (c ≢ statusColumn) × (c ≢ toldByColumn) → cell n t′ k c ≡ cell n t k c)
+line-exit : (n : ℕ) (t t′ : List ℕ) (k : ℕ) → Line n t k
+    → ((c : ℕ) → c < stride n → (c ≢ statusColumn) × (c ≢ toldByColumn) → cell n t′ k c ≡ cell n t k c)
     → (s : ℕ) → status n t′ k ≡ s → s ≤ 3 → exitRule n k s (toldBy n t′ k) (roundsAgo n t k) ≡ true → k < n → Line n t′ k
 line-exit n t t′ k l same s e hs exits h =
     let pass : (c : ℕ) → (c ≢ statusColumn) × (c < toldByColumn) → cell n t′ k c ≡ cell n t k c = λ c p. same c (omega arith) (omega arith) in
@@ -65,11 +66,13 @@ line-exit n t t′ k l same s e hs exits h =
     }
 
 -- Steps 6 and 7: the status of a live station, not because told
-pub leave-lines : (n : ℕ) (t : List ℕ) (i : ℕ) → Lines n t → i < n → live n t i ≡ true → (s : ℕ) → 1 ≤ s → s ≤ 3 → s ≢ statusTold → Lines n (setStatus n t i s)
+pub leave-lines : (n : ℕ) (t : List ℕ) (i : ℕ) → Lines n t → i < n → live n t i ≡ true
+    → (s : ℕ) → 1 ≤ s → s ≤ 3 → s ≢ statusTold → Lines n (setStatus n t i s)
 leave-lines n t i lines h alive s low high untold =
     let other : (c : ℕ) → c < stride n → (c ≢ statusColumn) × (c ≢ toldByColumn) → cell n (setStatus n t i s) i c ≡ cell n t i c =
     λ c hc d. cell-other n t i statusColumn s i c (omega arith) hc (omega arith) in
-    let none : toldBy n t i ≡ 255 = live-exit n i (toldBy n t i) (roundsAgo n t i) (rw (eqb-true (status n t i) 0 alive) at (lines .1 i h .exits)) .0 in
+    let none : toldBy n t i ≡ 255 =
+    live-exit n i (toldBy n t i) (roundsAgo n t i) (rw (eqb-true (status n t i) 0 alive) at (lines .1 i h .exits)) .0 in
     one-line n t (setStatus n t i s) i (setCell-length n t i statusColumn s)
     (λ k c hc d. cell-other n t i statusColumn s k c (omega arith) hc (λ f. absurd (d f)))
     (line-exit n t (setStatus n t i s) i (lines .1 i h) other s (cell-same n t i statusColumn s (lines .0) h (omega arith)) high
@@ -79,8 +82,8 @@ leave-lines n t i lines h alive s low high untold =
 pub told-lines : (n : ℕ) (t : List ℕ) (a b : ℕ) → Lines n t → a < n → b < n → b ≢ a → Lines n (leaveTold n t a b)
 told-lines n t a b lines h hb apart =
     one-line n t (leaveTold n t a b) a (leaveTold-length n t a b) (λ k c hc d. leaveTold-other n t a b k c hc (λ f. absurd (d f)))
-    (line-exit n t (leaveTold n t a b) a (lines .1 a h) (λ c hc d. leaveTold-other n t a b a c hc (λ _. d)) statusTold (leaveTold-status n t a (lines .0) h b)
-    (omega arith) (rw (leaveTold-teller n t a (lines .0) h b) (told-exit n a b _ hb apart)) h) lines
+    (line-exit n t (leaveTold n t a b) a (lines .1 a h) (λ c hc d. leaveTold-other n t a b a c hc (λ _. d)) statusTold
+    (leaveTold-status n t a (lines .0) h b) (omega arith) (rw (leaveTold-teller n t a (lines .0) h b) (told-exit n a b _ hb apart)) h) lines
 
 module _ (n : ℕ) (t : List ℕ) (i : ℕ) (lines : Lines n t) (h : i < n) where
   -- Step 2
@@ -100,7 +103,9 @@ module _ (n : ℕ) (t : List ℕ) (i : ℕ) (lines : Lines n t) (h : i < n) wher
           testsBound = omega (arith, other testsColumn (omega arith) (omega arith), l .pass .testsBound, l .pass .nextHigh);
           finishedNext = λ p. e;
         };
-        exits = rw (other statusColumn (omega arith) (omega arith), other toldByColumn (omega arith) (omega arith), other roundsAgoColumn (omega arith) (omega arith)) (l .exits);
+        exits =
+            let told = other toldByColumn (omega arith) (omega arith) in
+            rw (other statusColumn (omega arith) (omega arith), told, other roundsAgoColumn (omega arith) (omega arith)) (l .exits);
         own = other (head + i) (omega arith) (omega arith) ∙ l .own;
         range = λ x hx. rw (other (head + x) (omega arith) (omega arith)) (l .range x hx);
       }) lines
@@ -122,7 +127,9 @@ module _ (n : ℕ) (t : List ℕ) (i : ℕ) (lines : Lines n t) (h : i < n) wher
           testsBound = omega (arith, l .pass .testsBound, l .pass .nextLow);
           finishedNext = λ p. absurd (going (sym (other finishedColumn (omega arith) (omega arith)) ∙ p));
         };
-        exits = rw (other statusColumn (omega arith) (omega arith), other toldByColumn (omega arith) (omega arith), other roundsAgoColumn (omega arith) (omega arith)) (l .exits);
+        exits =
+            let told = other toldByColumn (omega arith) (omega arith) in
+            rw (other statusColumn (omega arith) (omega arith), told, other roundsAgoColumn (omega arith) (omega arith)) (l .exits);
         own = other (head + i) (omega arith) (omega arith) ∙ l .own;
         range = λ x hx. rw (other (head + x) (omega arith) (omega arith)) (l .range x hx);
       }) lines
@@ -185,7 +192,8 @@ module _ (n : ℕ) (t : List ℕ) (i : ℕ) (lines : Lines n t) (h : i < n) wher
   pub afterAlone-lines : Lines n (afterAlone n t i)
   unfolding afterAlone isAlone
   afterAlone-lines =
-      by-bool (isAlone n t i) (λ e. rw e (leave-lines n t i lines h (both _ _ e .0) statusAlone (omega arith) (omega arith) (omega arith))) (λ e. rw e lines)
+      by-bool (isAlone n t i) (λ e. rw e (leave-lines n t i lines h (both _ _ e .0) statusAlone (omega arith) (omega arith) (omega arith)))
+      (λ e. rw e lines)
 
 -- no station is at a positive distance from itself
 pub station-apart : (i m : ℕ) → 1 ≤ m → i ≢ stationAt i m

@@ -76,11 +76,13 @@ module _ (n N : ℕ) (p : Slow n) (Size : isSize N ≡ true) (low : n ≤ N) (le
 
   -- bytes 4 and 5 as they are, with 255 and 0 from n on
   abbrev exitByte : ℕ → ℕ → ℕ
-  exitByte i c = cond (eqb c toldByColumn) (cond (ltb i n) (toldBy n t i) toldByNone) (cond (eqb c roundsAgoColumn) (cond (ltb i n) (roundsAgo n t i) 0) 0)
+  exitByte i c =
+      cond (eqb c toldByColumn) (cond (ltb i n) (toldBy n t i) toldByNone) (cond (eqb c roundsAgoColumn) (cond (ltb i n) (roundsAgo n t i) 0) 0)
 
   abbrev byte : ℕ → ℕ → ℕ
   byte i c =
-      cond (ltb c head) (cond (eqb c statusColumn) (cond (ltb i n) (status n t i) 1) (cond (eqb c nextColumn) 1 (exitByte i c))) (rowByte i (c - head))
+      cond (ltb c head) (cond (eqb c statusColumn) (cond (ltb i n) (status n t i) 1) (cond (eqb c nextColumn) 1 (exitByte i c)))
+      (rowByte i (c - head))
 
   abbrev u : List ℕ
   u = tableBy N byte
@@ -109,7 +111,9 @@ module _ (n N : ℕ) (p : Slow n) (Size : isSize N ≡ true) (low : n ≤ N) (le
   unfolding exitRule
   exits-of i h =
       rw (status-of i h, at i toldByColumn h (omega arith), at i roundsAgoColumn h (omega arith))
-      (by-bool (ltb i n) (λ q. rw q (wider-exit n N i (status n t i) (toldBy n t i) (roundsAgo n t i) low (accepted-line n t ok i (ltb-true i n q) .exits))) (λ q. rw q))
+      (by-bool (ltb i n)
+      (λ q. rw q (wider-exit n N i (status n t i) (toldBy n t i) (roundsAgo n t i) low (accepted-line n t ok i (ltb-true i n q) .exits)))
+      (λ q. rw q))
 
   live-of : (i : ℕ) → i < N → live N u i ≡ L i
   live-of i h =

@@ -10,7 +10,8 @@ unfolding resetLine
 returns c =
     let far = c .before .before .before .before .before .before in
     let farther = far .before .before .before .before in
-    rw (c .before .before .put4 .ensures, far .put3 .ensures, farther .put2 .ensures, farther .before .before .before .before .put .ensures, farther .before .before .before .before .before .before .rounds-after .ensures)
+    let first = farther .before .before .before .before in
+    rw (c .before .before .put4 .ensures, far .put3 .ensures, farther .put2 .ensures, first .put .ensures, first .before .before .rounds-after .ensures)
 
 pub reset-line-spec : {M : Type 1} → statement M
 reset-line-spec =

@@ -15,8 +15,8 @@ returns c =
 returns-2 : tie.Need-returns-2
 unfolding exitRule
 returns-2 c =
-    let far = c .before .before .before .before in
-    rw (← far .before .get .ensures, ← far .get2 .ensures, ne-eqb _ _ (c .before .before .if1 .left), eq-eqb _ _ (c .before .if2 .taken))
+    let far = c .before .before .before in
+    rw (← far .before .get .ensures, ← far .get2 .ensures, ne-eqb _ _ (c .before .if1 .left), eq-eqb _ _ (c .if2 .taken))
 
 returns-3 : tie.Need-returns-3
 unfolding exitRule
