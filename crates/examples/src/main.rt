@@ -13,12 +13,19 @@ use table::fresh;
 
 const OUT: i32 = 1;
 
-// The lengths of tables of two, eight and eleven boards.
+// The lengths of tables of two, four, eight and eleven boards.
 const TWO: usize = 2 * (2 + cells::HEAD as usize);
+
+const FOUR: usize = 4 * (4 + cells::HEAD as usize);
 
 const EIGHT: usize = 8 * (8 + cells::HEAD as usize);
 
 const ELEVEN: usize = 11 * (11 + cells::HEAD as usize);
+
+// Where a table of four has who told 1 to leave, and how many rounds ago it ceased to be live.
+const ONE_TOLD_BY: usize = 4 + cells::HEAD as usize + cells::TOLD_BY as usize;
+
+const ONE_ROUNDS_AGO: usize = 4 + cells::HEAD as usize + cells::ROUNDS_AGO as usize;
 
 // Where a table of eight has what 5 says of 4.
 const FIVE_OF_FOUR: usize = 5 * (8 + cells::HEAD as usize) + cells::HEAD as usize + 4;
@@ -258,9 +265,9 @@ fn round_line(n: u8) {
 }
 
 // C-13, four boards: 1, 2 and 3 take their passes. The reply of 1 to 0's first test comes late; 0 tests 2 and 3 and finishes its pass, which
-// closes the round. In the next round 0 tests 1 again: 1 is told and leaves, and its own turn is refused.
+// closes the round. In the next round 0 tests 1 again: 1 is told and leaves, and its own turn is refused. By C-18 its line names 0.
 fn late_reply() {
-    let mut table = [0u8; 32];
+    let mut table = [0u8; FOUR];
     fresh::fresh_table(4, &mut table);
     let one = one_pass(4, &mut table, no_tally(), 1, false);
     let two = one_pass(4, &mut table, one, 2, false);
@@ -275,6 +282,11 @@ fn late_reply() {
     commas(&sheet[0..4]);
     line_end();
     answer_line(answer);
+    io::write_all(OUT, b"1 told by ");
+    byte(table[ONE_TOLD_BY]);
+    io::write_all(OUT, b" rounds ago ");
+    byte(table[ONE_ROUNDS_AGO]);
+    line_end();
 }
 
 // The tally of so many rounds on a fresh table in the first len bytes of space; no rounds where space is shorter.

@@ -191,7 +191,8 @@ pub extern "C" fn vcube_load(
     rounds: &mut u32,
     tests: &mut u32,
 ) -> u8
-    ensures { λ r. ⌜ loadedOut r (now (n .exit)) (now (rounds .exit)) (now (tests .exit)) ≡ loadAnswer (now (file .entry)) (length (now (table .entry))) ⌝ }
+    ensures { λ r. ⌜ loadedOut r (now (n .exit)) (now (rounds .exit)) (now (tests .exit))
+        ≡ loadAnswer (now (file .entry)) (length (now (table .entry))) ⌝ }
     ensures { λ _. ⌜ now (table .exit) ≡ loadAfter (now (file .entry)) (now (table .entry)) ⌝ }
 {
     let loaded = load::load(file, table);
