@@ -19,7 +19,6 @@ use Rattle.lists.proofs.SearchLaws.{every-at}
 use Rattle.lists.proofs.SumLaws.{sum-zero}
 use Rattle.turn.specs.Turn.{kindTurn}
 use Rattle.plant.specs.Entry.{Entry, State, entryOf, acted, after}
-use Rattle.plant.specs.Run.{entries}
 use Rattle.detection.specs.Runs.{Taken, turnRun, afterRuns, takenAll, crashes, isLate}
 use Rattle.detection.specs.Rounds.{allTaken}
 use Rattle.table.specs.Properties.{liveCount}

@@ -8,7 +8,6 @@ use Prim.Native.Nat.{ℕ, zero, suc, _+_, _*_, _-_, _/_, _%_, _^_, _≤_, _<_}
 use native.Mathlib.Nat.{div-eq-of-lt, add-mul-div-right, add-comm}
 use native.Mathlib.Omega.{arith}
 use borrow.Author.Tests.{eq-eqb, eqb-true, not-true}
-use lib.ListN.{length}
 use lib.Pow.{pow-pos, pow-mono, pow-add}
 use Rattle.station.specs.Groups.{distance, stationAt, width, member}
 use Rattle.table.specs.Sizes.{level}

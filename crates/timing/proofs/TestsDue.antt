@@ -12,7 +12,6 @@ use borrow.Author.Tests.{eqb-true, eq-eqb}
 use lib.Dec.{eqb}
 use lib.ListN.{length}
 use Rattle.lists.specs.Sums.{sum, bit}
-use Rattle.table.specs.Sizes.{distances}
 use Rattle.table.specs.Table.{tableLength, statusColumn, nextColumn, testsColumn, cell, nextDistance, testsMade, suspects, row, statusCrashed}
 use Rattle.station.specs.Tests.{unsuspected, due}
 use Rattle.lists.proofs.BoolLaws.{by-bool}
@@ -21,7 +20,7 @@ use Rattle.table.proofs.CellLaws.{cell-other, row-length, row-at, accepted-line
 use Rattle.station.proofs.DueLaws.{unsuspected-at}
 use Rattle.station.proofs.EntryLaws.{unsuspected-below}
 use Rattle.turn.specs.Turn.{makesTest, crash}
-use Rattle.plant.specs.Entry.{Entry, State, isCrash, entryNumber, acted, after}
+use Rattle.plant.specs.Entry.{Entry, State, isCrash, entryNumber, acted}
 use Rattle.plant.proofs.RulesKept.{entry-facts, acted-lines}
 use Rattle.turn.proofs.StepLines.{Lines}
 use Rattle.turn.proofs.TurnHeads.{Heads, turn-heads, passed-dues}

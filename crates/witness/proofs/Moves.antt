@@ -14,7 +14,7 @@ use lib.Dec.{eqb}
 use Rattle.lists.proofs.BoolLaws.{by-bool}
 use Rattle.lists.proofs.SearchLaws.{both}
 use Rattle.table.specs.Sizes.{isSize, distances}
-use Rattle.table.specs.Table.{head, tableLength, finishedColumn, nextDistance, finished, suspects, live, row}
+use Rattle.table.specs.Table.{head, tableLength, finishedColumn, nextDistance, finished, suspects, row}
 use Rattle.table.proofs.CellLaws.{row-length, row-at}
 use Rattle.station.specs.Groups.{stationAt}
 use Rattle.station.specs.Tests.{unsuspected, due}

@@ -1,4 +1,4 @@
--- `watched::table_part` meets its contract: a size is at most 64, and 64 · 68 is 4,352.
+-- `watched::table_part` meets its contract: a size is at most 64, and 64 · 70 is 4,480.
 -- Assumes nothing.
 use mathlib.Core.Path.{_∙_, sym}
 use mathlib.Core.Bool.{false≢true}
