@@ -33,7 +33,7 @@
  *   byte 5    how many rounds were closed since it ceased to be live; it stops at 255, which means 255 or more
  *
  * Then, from byte 6 on, comes the station's row: byte k of it is 1 if the station suspects station k, else 0. For byte 5 a round that closes
- * on the very entry at which the station ceased to be live counts too, so that byte 5 is 1 after that entry.
+ * on the very entry at which the station ceased to be live counts too, so that byte 5 is 1 after such an entry.
  *
  * The line rules, for lines that are not live too: each byte in its range; the tests at most the next distance less 1; a finished line has
  * next distance 2^d; a station's byte about itself is 0. And of bytes 4 and 5: a live line has VCUBE_TOLD_BY_NONE and 0; one of status 1 or

@@ -41,8 +41,8 @@ pub fn status(n: usize, table: &[u8], station: Station) -> Result<Status, Refusa
     Ok(Status::from_number(status).expect("the line rules take 0 to 3"))
 }
 
-/// Who told the station to leave: a station where its status is
-/// [`Status::Told`], if that was recorded, and else nobody. Byte 4 of its line.
+/// Who told the station to leave. Where its status is [`Status::Told`]: a
+/// station, or that this was not recorded; else nobody. Byte 4 of its line.
 /// Refusals: 1 to 4, 9.
 pub fn told_by(n: usize, table: &[u8], station: Station) -> Result<ToldBy, Refusal> {
     let [.., told_by, _] = head(n, table, station)?;

@@ -44,7 +44,7 @@ pub data Fate (n : ℕ) (t t′ : List ℕ) (k : ℕ) : Type 0 where
 -- what comes later leaves the line's status and byte 4
 left-later : (n : ℕ) (t v w : List ℕ) (a b : ℕ) → SameExit n v w a → LeftTold n t v a b → LeftTold n t w a b
 left-later n t v w a b same l =
-    record { wasLive = l .wasLive; left = same .0 ∙ l .left; named = same .1 ∙ l .named; teller = l .teller; suspected = l .suspected }
+    record { wasLive = l .wasLive; left = same .0 ∙ l .left; named = same .1 ∙ l .named; tellerLive = l .tellerLive; suspected = l .suspected }
 
 fate-later : (n : ℕ) (t v w : List ℕ) (k : ℕ) → SameExit n v w k → Fate n t v k → Fate n t w k
 fate-later n t v w k same (stays p) = stays (same .0 ∙ p .0, same .1 ∙ p .1)
@@ -60,7 +60,7 @@ left-earlier n t u v a b same h l = record {
   wasLive = rw (same a statusColumn (omega arith) (omega arith)) at (l .wasLive);
   left = l .left;
   named = l .named;
-  teller = rw (same b statusColumn (omega arith) (omega arith)) at (l .teller);
+  tellerLive = rw (same b statusColumn (omega arith) (omega arith)) at (l .tellerLive);
   suspected = sym (same b (head + a) (omega arith) (omega arith)) ∙ l .suspected;
 }
 
@@ -119,7 +119,7 @@ module _ (n : ℕ) (u : List ℕ) (kind i j : ℕ) (long : length u ≡ tableLen
     wasLive = alive;
     left = leaveTold-status n u i long hi j;
     named = leaveTold-teller n u i long hi j;
-    teller = both _ _ r .0;
+    tellerLive = both _ _ r .0;
     suspected = eqb-true _ _ q;
   }
 
@@ -129,7 +129,7 @@ module _ (n : ℕ) (u : List ℕ) (kind i j : ℕ) (long : length u ≡ tableLen
     wasLive = both _ _ r .0;
     left = leaveTold-status n u j long hj i;
     named = leaveTold-teller n u j long hj i;
-    teller = alive;
+    tellerLive = alive;
     suspected = eqb-true _ _ q;
   }
 
@@ -155,6 +155,19 @@ module _ (n : ℕ) (u : List ℕ) (kind i j : ℕ) (long : length u ≡ tableLen
       suspected : Fate n u (suspect n u i j) k
       suspected =
           stays (same-exit n u (suspect n u i j) k (λ c hc _. suspect-other n u i long hi j k c (omega arith) (λ _. omega arith)))
+
+  -- byte 4 of a station that does not leave by it
+  test-others : (k : ℕ) → (testOutcome n u kind i j ≡ outcomeTold → k ≢ i) → (testOutcome n u kind i j ≡ outcomeTestedTold → k ≢ j)
+      → toldBy n (afterTest n u kind i j) k ≡ toldBy n u k
+  unfolding afterOutcome testOutcome replyOutcome
+  test-others k p q =
+      by-bool (replies n u kind j)
+      (λ r.
+      by-bool (isTold n u i j) (λ x. rw (r, x) (leaveTold-other n u i j k toldByColumn (omega arith) (λ e. absurd (p (rw (r, x)) (sym e)))))
+      (λ x.
+      by-bool (isTold n u j i) (λ y. rw (r, x, y) (leaveTold-other n u j i k toldByColumn (omega arith) (λ e. absurd (q (rw (r, x, y)) (sym e)))))
+      (λ y. rw (r, x, y) (exchange-other n u i long hi j hj apart k toldByColumn (omega arith) (λ _. omega arith) (λ _. omega arith)))))
+      (λ r. rw r (suspect-other n u i long hi j k toldByColumn (omega arith) (λ _. omega arith)))
 
 -- a taken entry
 module _ (n : ℕ) (s : State) (e : Entry) (ok : Accepted n (s .table)) (z : entryNumber n s e ≡ 0) where
@@ -302,6 +315,26 @@ module _ (n : ℕ) (s : State) (e : Entry) (ok : Accepted n (s .table)) (z : ent
         (alive no-crash makes) r p) in
         after-left j i (hj no-crash makes) (λ same. absurd (apart no-crash makes same)) l
 
+  others-told : (k : ℕ) → (outcomeOf n t e ≡ outcomeTold → k ≢ i) → (outcomeOf n t e ≡ outcomeTestedTold → k ≢ testedOf n t e)
+      → toldBy n (after n s e .table) k ≡ toldBy n t k
+  unfolding outcomeOf turnOutcome testedOf turnTested acted crash turn testing afterAlone
+  others-told k p q =
+      closing-same k .1
+      ∙ by-bool (isCrash e) (λ c. rw c (status-only t statusCrashed))
+      (λ c.
+      by-bool (makesTest n t i) (λ b. rw (c, b) (alone c b ∙ (test c b ∙ counted k toldByColumn (omega arith) (omega arith))))
+      (λ b. rw (c, b) (finishPass-other n t i k toldByColumn (omega arith) (λ _. omega arith))))
+    where
+      status-only : (w : List ℕ) (x : ℕ) → toldBy n (setStatus n w i x) k ≡ toldBy n w k
+      status-only w x = cell-other n w i statusColumn x k toldByColumn (omega arith) (omega arith) (λ _. omega arith)
+
+      alone : (c : isCrash e ≡ false) (b : makesTest n t i ≡ true) → toldBy n (afterAlone n (v c b) i) k ≡ toldBy n (v c b) k
+      alone c b = choice (λ (w : List ℕ). toldBy n w k ≡ toldBy n (v c b) k) (isAlone n (v c b) i) (status-only (v c b) statusAlone) refl
+
+      test : (c : isCrash e ≡ false) (b : makesTest n t i ≡ true) → toldBy n (v c b) k ≡ toldBy n u k
+      test c b =
+          test-others n u (e .kind) i j (lines-counted c b .0) (facts .below) (hj c b) (apart c b) (alive c b) k (rw (c, b) at p) (rw (c, b) at q)
+
   -- by the outcome
   tester-told : outcomeOf n t e ≡ outcomeTold → LeftTold n t (after n s e .table) i (testedOf n t e)
   unfolding outcomeOf turnOutcome testedOf turnTested testOutcome replyOutcome
@@ -325,11 +358,6 @@ module _ (n : ℕ) (s : State) (e : Entry) (ok : Accepted n (s .table)) (z : ent
       (λ r. absurd (omega (arith, rw (c, b, r) at o))))
       (λ b. absurd (omega (arith, rw (c, b) at o))))
 
-untold-same : (n : ℕ) (t t′ : List ℕ) (k : ℕ) → Fate n t t′ k → (live n t k ≡ true → status n t′ k ≡ statusTold → ⊥) → toldBy n t′ k ≡ toldBy n t k
-untold-same n t t′ k (stays p) out = p .1
-untold-same n t t′ k (leaves l low untold p) out = p
-untold-same n t t′ k (hears b h l) out = absurd (out (l .wasLive) (l .left))
-
 -- the claim about one entry, an end in itself
 pub entry-tells : EntryTells
 entry-tells n s e shape z =
@@ -337,5 +365,5 @@ entry-tells n s e shape z =
     record {
       tester = tester-told n s e ok z;
       tested = tested-told n s e ok z;
-      others = λ k h. untold-same n (s .table) (after n s e .table) k (after-fate n s e ok z k h);
+      others = λ k h p q. others-told n s e ok z k p q;
     }

@@ -2,6 +2,7 @@
 -- drives.
 -- Assumes nothing.
 use mathlib.Core.Path.{_≡_}
+use mathlib.Core.Logic.{_≢_}
 use mathlib.Core.Bool.{Bool, true, false, cond}
 use mathlib.Core.List.{List, [], _∷_}
 use Prim.Native.Nat.{ℕ, _+_, min, _≤_, _<_}
@@ -21,7 +22,7 @@ pub record LeftTold (n : ℕ) (t t′ : List ℕ) (a b : ℕ) : Type 0 where
   -- "Byte 4 names the station whose row told it to leave"
   pub named : toldBy n t′ a ≡ b
   -- b is live and suspects a
-  pub teller : live n t b ≡ true
+  pub tellerLive : live n t b ≡ true
   pub suspected : suspects n t b a ≡ 1
 
 -- a taken entry: by its outcome, who left and who told it, and whose byte 4 stays
@@ -30,9 +31,9 @@ pub record WhoTold (n : ℕ) (s : State) (e : Entry) : Type 0 where
   pub tester : outcomeOf n (s .table) e ≡ outcomeTold → LeftTold n (s .table) (after n s e .table) (e .station) (testedOf n (s .table) e)
   -- outcome 5: the tested one, told by the station of the entry
   pub tested : outcomeOf n (s .table) e ≡ outcomeTestedTold → LeftTold n (s .table) (after n s e .table) (testedOf n (s .table) e) (e .station)
-  -- of a station that did not leave because told at this entry
-  pub others : (k : ℕ) → k < n → (live n (s .table) k ≡ true → status n (after n s e .table) k ≡ statusTold → ⊥)
-      → toldBy n (after n s e .table) k ≡ toldBy n (s .table) k
+  -- byte 4 of every other line stays
+  pub others : (k : ℕ) → k < n → (outcomeOf n (s .table) e ≡ outcomeTold → k ≢ e .station)
+      → (outcomeOf n (s .table) e ≡ outcomeTestedTold → k ≢ testedOf n (s .table) e) → toldBy n (after n s e .table) k ≡ toldBy n (s .table) k
 
 -- at every entry that a run reaches, refusals 1 to 4 let its table through (`accepted-kept` of plant's proofs/RulesKept.antt)
 abbrev pub EntryTells : Type 0

@@ -82,12 +82,12 @@ aloneOfTwo = oneEntry 2 (alsoSuspects 2 (freshTable 2) 0 1) 1 0
 unfoldable pub aloneOfThree : Outcome
 aloneOfThree = oneEntry 3 stationTwoFinished 1 0
 
--- C-18, n = 3: line 2 after the next closing, where station 2 was told, by nobody knows whom, so many rounds ago: 1 has finished, and 0 finishes
--- with the entry
+-- C-18, n = 3: line 2 after the next closing, where station 2 was told so many rounds ago, by whom was never recorded: 1 has finished, and 0
+-- finishes with the entry
 unfoldable pub afterClosing : ℕ → List ℕ
 afterClosing ago =
     let gone = setCell 3 (setCell 3 (setCell 3 (freshTable 3) 2 statusColumn 2) 2 toldByColumn 254) 2 roundsAgoColumn ago in
-    drop 18 (oneEntry 3 (setCell 3 (finishPass 3 gone 1) 0 nextColumn 4) 1 0 .state .table)
+    drop (lineStart 3 2) (oneEntry 3 (setCell 3 (finishPass 3 gone 1) 0 nextColumn 4) 1 0 .state .table)
 
 -- C-18, n = 3: the number of a table whose line 1 has this status, byte 5 and byte 4
 unfoldable pub numberOf : ℕ → ℕ → ℕ → ℕ
@@ -166,13 +166,13 @@ requested =
     ∷ 2 ∷ 1 ∷ 0 ∷ 0 ∷ 0 ∷ 1 ∷ 0 ∷ 0 ∷ 0
     ∷ 0 ∷ 1 ∷ 0 ∷ 0 ∷ 255 ∷ 0 ∷ 0 ∷ 0 ∷ 0 ∷ [])
     ∷ gives (aloneOfThree .state .rounds ∷ aloneOfThree .state .tests ∷ []) (1 ∷ 1 ∷ [])
-    -- C-18: station 1 of four boards above was told by 0; a crash and a late reply name nobody
+    -- C-18: station 1 of the four boards above was told by 0
     ∷ gives (map (toldBy 4 (fourBoards .state .table)) (0 ∷ 1 ∷ 2 ∷ 3 ∷ [])) (255 ∷ 0 ∷ 255 ∷ 255 ∷ [])
     -- 1 has finished: the round closes when 0 crashes, "on the very entry at which it ceased"
     ∷ gives (oneEntry 2 (finishPass 2 (freshTable 2) 1) 3 0 .state .table)
     (1 ∷ 1 ∷ 0 ∷ 0 ∷ 255 ∷ 1 ∷ 0 ∷ 0
     ∷ 0 ∷ 1 ∷ 0 ∷ 0 ∷ 255 ∷ 0 ∷ 0 ∷ 0 ∷ [])
-    -- 2 was told by nobody knows whom: 254 stays; byte 5 grows with each round that closes, to 255
+    -- 2 was told, by whom was never recorded: 254 stays; byte 5 grows with each round that closes, to 255
     ∷ gives (afterClosing 0) (2 ∷ 1 ∷ 0 ∷ 0 ∷ 254 ∷ 1 ∷ 0 ∷ 0 ∷ 0 ∷ [])
     ∷ gives (afterClosing 254) (2 ∷ 1 ∷ 0 ∷ 0 ∷ 254 ∷ 255 ∷ 0 ∷ 0 ∷ 0 ∷ [])
     ∷ gives (afterClosing 255) (2 ∷ 1 ∷ 0 ∷ 0 ∷ 254 ∷ 255 ∷ 0 ∷ 0 ∷ 0 ∷ [])

@@ -104,8 +104,8 @@ fn byte(x: u8) {
     print(x as u64);
 }
 
-// "N = 128: refusal 1. N = 2: table of 12 bytes; 11 and 13 give 2. N = 64: 4,352 bytes." By C-11 size 3 is taken, and 0, 1 and 65 are not.
-// By C-18 each line has two bytes more: 16 bytes, 15 and 17, and 4,480 bytes.
+// "[..] N = 128: refusal 1. N = 2: table of 12 bytes; 11 and 13 give 2. N = 64: 4,352 bytes." By C-11 size 3 is taken, and 0, 1 and 65 are not.
+// By C-18 each line has two bytes more: 16 bytes, 15 and 17, and 4,480 bytes; the lengths of before, 12 and 4,352, give 2.
 fn sizes() {
     size_line(0, 0);
     size_line(1, 7);

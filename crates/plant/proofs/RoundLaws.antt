@@ -27,7 +27,7 @@ pub record Reset (n : ℕ) (t : List ℕ) (i : ℕ) : Type 0 where
 abbrev LineClosed : ℕ → List ℕ → List ℕ → ℕ → Type 0
 LineClosed n t t′ i = Reset n t′ i × (roundsAgo n t′ i ≡ roundsAfter n t i)
 
--- Step 8: the four bytes of a line
+-- Step 8: the bytes of a line that a closing writes, 1, 2, 3 and 5
 module _ (n i : ℕ) (t : List ℕ) where
   resetLine-length : length (resetLine n i t) ≡ length t
   unfolding resetLine

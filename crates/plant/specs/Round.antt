@@ -7,7 +7,8 @@ use Rattle.table.specs.Table.{setCell, nextColumn, finishedColumn, testsColumn,
 use Rattle.table.specs.Rules.{roundOver}
 use Rattle.lists.specs.Iterate.{iterate}
 
--- byte 5 of line i after a closing. C-18: it "counts rounds closed since the station ceased to be live, and stops at 255"
+-- byte 5 of line i after a closing. C-18: it "counts rounds closed since the station ceased to be live, and stops at 255". Of a live line it
+-- stays, 0 by the rules
 unfoldable pub roundsAfter : ℕ → List ℕ → ℕ → ℕ
 roundsAfter n t i = cond (live n t i) (roundsAgo n t i) (min (roundsAgo n t i + 1) roundsAgoTop)
 

@@ -46,7 +46,7 @@ fn reset_lines(n: u8, table: &mut [u8])
     }
 }
 
-// Next distance 1, finished 0, tests 0, and byte 5.
+// Next distance 1, finished 0, tests 0; byte 5 as `rounds_after` gives it.
 fn reset_line(n: u8, table: &mut [u8], i: Station)
     requires { ⌜ HasLine n (now table) (i .0) ⌝ }
     ensures { λ _. ⌜ now (table .exit) ≡ resetLine n (i .0) (now (table .entry)) ⌝ }

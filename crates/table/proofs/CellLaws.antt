@@ -166,19 +166,19 @@ pub record Line (n : ℕ) (t : List ℕ) (i : ℕ) : Type 0 where
   pub range : (k : ℕ) → k < n → suspects n t i k ≤ 1
 
 -- bytes 4 and 5 of a live line
-pub live-exit : (n i told ago : ℕ) → exitRule n i 0 told ago ≡ true → (told ≡ toldByNone) × (ago ≡ 0)
+pub live-exit : (n i by ago : ℕ) → exitRule n i 0 by ago ≡ true → (by ≡ toldByNone) × (ago ≡ 0)
 unfolding exitRule
-live-exit n i told ago e = let a = both _ _ e in (eqb-true _ _ (a .0), eqb-true _ _ (a .1))
+live-exit n i by ago e = let a = both _ _ e in (eqb-true _ _ (a .0), eqb-true _ _ (a .1))
 
 -- byte 4 of a line that ceased to be live, but not because told
-pub none-exit : (n i s told ago : ℕ) → 1 ≤ s → s ≢ statusTold → told ≡ toldByNone → exitRule n i s told ago ≡ true
+pub none-exit : (n i s by ago : ℕ) → 1 ≤ s → s ≢ statusTold → by ≡ toldByNone → exitRule n i s by ago ≡ true
 unfolding exitRule
-none-exit n i s told ago low untold e = rw (ne-eqb s 0 (omega arith), ne-eqb s statusTold untold) (eq-eqb told toldByNone e)
+none-exit n i s by ago low untold e = rw (ne-eqb s 0 (omega arith), ne-eqb s statusTold untold) (eq-eqb by toldByNone e)
 
 -- byte 4 of a line that left because told by another station
-pub told-exit : (n i told ago : ℕ) → told < n → told ≢ i → exitRule n i statusTold told ago ≡ true
+pub told-exit : (n i by ago : ℕ) → by < n → by ≢ i → exitRule n i statusTold by ago ≡ true
 unfolding exitRule
-told-exit n i told ago h d = rw (lt-ltb told n h, ne-eqb told i d) (or-true (eqb told notRecorded))
+told-exit n i by ago h d = rw (lt-ltb by n h, ne-eqb by i d) (or-true (eqb by notRecorded))
 
 one-of : (a b : Bool) → (a || b) ≡ true → a ≡ false → b ≡ true
 one-of true b e f = cc

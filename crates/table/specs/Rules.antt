@@ -22,14 +22,14 @@ passRule n next finished tests =
     leb 1 next && leb next (distances n) && leb finished 1 && leb tests (next - 1) && (eqb finished 0 || eqb next (distances n))
 
 -- byte 4 where the status is 2: "254 or another station's number", which is below n and not i, the line's own
-abbrev pub tellerRule : ℕ → ℕ → ℕ → Bool
-tellerRule n i told = eqb told notRecorded || (ltb told n && not (eqb told i))
+abbrev pub toldByRule : ℕ → ℕ → ℕ → Bool
+toldByRule n i by = eqb by notRecorded || (ltb by n && not (eqb by i))
 
 -- bytes 4 and 5 of line i by its status, C-18: "a live line, fresh ones too, has 255 and 0; status 1 or 3 has 255; status 2 has 254 or another
 -- station's number"
 unfoldable pub exitRule : ℕ → ℕ → ℕ → ℕ → ℕ → Bool
-exitRule n i status told ago =
-    cond (eqb status 0) (eqb told toldByNone && eqb ago 0) (cond (eqb status statusTold) (tellerRule n i told) (eqb told toldByNone))
+exitRule n i status by ago =
+    cond (eqb status 0) (eqb by toldByNone && eqb ago 0) (cond (eqb status statusTold) (toldByRule n i by) (eqb by toldByNone))
 
 -- byte k of the row, "each byte in its range"
 abbrev pub suspicionRule : ℕ → List ℕ → ℕ → ℕ → Bool
@@ -65,8 +65,8 @@ liveFinished n t = every (finishedIfLive n t) n
 abbrev pub roundOver : ℕ → List ℕ → Bool
 roundOver n t = someLive n t && liveFinished n t
 
--- refusals 1 and 2: by C-11 "a size outside 2 to 64"; "The table's length is
--- not N times (N + 4).", by C-18 (n + 6)
+-- refusals 1 and 2: by C-11 "a size outside 2 to 64"; "The table's length is not N times (N + 4)."; by C-18 it
+-- is n times (n + 6)
 unfoldable pub shapeNumber : ℕ → ℕ → ℕ
 shapeNumber n len = refuse 1 (not (isSize n)) else refuse 2 (not (eqb len (tableLength n)))
 

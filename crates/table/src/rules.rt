@@ -120,16 +120,16 @@ fn exit_rule(n: u8, table: &[u8], i: Station) -> bool
         (roundsAgo n (now (table .entry)) (i .0)) ⌝ }
 {
     let status = inside::get(n, table, i, cells::STATUS);
-    let told = inside::get(n, table, i, cells::TOLD_BY);
+    let by = inside::get(n, table, i, cells::TOLD_BY);
     let ago = inside::get(n, table, i, cells::ROUNDS_AGO);
     if status == cells::LIVE {
-        return (told == cells::TOLD_BY_NONE) & (ago == 0);
+        return (by == cells::TOLD_BY_NONE) & (ago == 0);
     }
     if status == cells::LEFT_TOLD {
         let own = i.0;
-        return (told == cells::NOT_RECORDED) | ((told < n) & (told != own));
+        return (by == cells::NOT_RECORDED) | ((by < n) & (by != own));
     }
-    told == cells::TOLD_BY_NONE
+    by == cells::TOLD_BY_NONE
 }
 
 // The rules of the row: the station's byte about itself, and every byte, by the greatest one. The loop has no exit, so that the compiler

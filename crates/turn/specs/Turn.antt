@@ -105,7 +105,7 @@ afterOutcome n t i j outcome =
 abbrev pub afterTest : ℕ → List ℕ → ℕ → ℕ → ℕ → List ℕ
 afterTest n t kind i j = afterOutcome n t i j (testOutcome n t kind i j)
 
--- Step 6: "i, if still live, leaves with status 3 if it suspects all others"
+-- Step 6: "i, if still live, leaves with status 3 if it suspects all others". Byte 4 is 255 then, which a live line has by C-18's rules
 unfoldable pub selfOrSuspected : ℕ → List ℕ → ℕ → ℕ → Bool
 selfOrSuspected n t i k = eqb k i || eqb (suspects n t i k) 1
 
@@ -131,6 +131,6 @@ turnTested n t i = cond (makesTest n t i) (stationAt i (nextTest n t i)) noStati
 unfoldable pub turnOutcome : ℕ → List ℕ → ℕ → ℕ → ℕ
 turnOutcome n t kind i = cond (makesTest n t i) (testOutcome n (countTest n t i (nextTest n t i)) kind i (stationAt i (nextTest n t i))) outcomeFinished
 
--- Step 7: "Status becomes 1, nothing else on the line."
+-- Step 7: "Status becomes 1, nothing else on the line." Byte 4 is 255 then, which a live line has by C-18's rules
 unfoldable pub crash : ℕ → List ℕ → ℕ → List ℕ
 crash n t i = setStatus n t i statusCrashed

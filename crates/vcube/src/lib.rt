@@ -34,7 +34,7 @@ use table::Station;
 use table::cells;
 use table::fresh;
 
-// Fresh table: every line live, next distance 1, all else 0.
+// Fresh table: every line live, next distance 1, byte 4 255, all else 0.
 #[no_mangle]
 pub extern "C" fn vcube_fresh_table(n: usize, table: &mut [u8]) -> u8
     ensures { λ r. ⌜ r ≡ shapeNumber n (length (now (table .entry))) ⌝ }
