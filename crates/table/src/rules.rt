@@ -93,10 +93,19 @@ fn line_rules(n: u8, table: &[u8], i: Station) -> bool
     ensures { λ r. ⌜ r ≡ lineRules n (now (table .entry)) (i .0) ⌝ }
 {
     let status = inside::get(n, table, i, cells::STATUS);
-    (status <= 3) & pass_rule(n, table, i) & exit_rule(n, table, i) & row_rule(n, table, i)
+    if 3 < status {
+        return false;
+    }
+    if !pass_rule(n, table, i) {
+        return false;
+    }
+    if !exit_rule(n, table, i) {
+        return false;
+    }
+    row_rule(n, table, i)
 }
 
-// The rules of bytes 1 to 3.
+// The rules of bytes 1 to 3. Byte 1 is 1 or more where byte 3 is below it.
 fn pass_rule(n: u8, table: &[u8], i: Station) -> bool
     requires { ⌜ HasLine n (now table) (i .0) ⌝ }
     ensures { λ r. ⌜ r ≡ passRule n (nextDistance n (now (table .entry)) (i .0)) (finished n (now (table .entry)) (i .0))
@@ -106,14 +115,16 @@ fn pass_rule(n: u8, table: &[u8], i: Station) -> bool
     let finished = inside::get(n, table, i, cells::FINISHED);
     let tests = inside::get(n, table, i, cells::TESTS);
     let last = sizes::distances(n);
-    (1 <= next)
-        & (next as u16 <= last)
-        & (finished <= 1)
-        & (tests < next)
-        & ((finished == 0) | (next as u16 == last))
+    if last < next as u16 {
+        return false;
+    }
+    if next <= tests {
+        return false;
+    }
+    (finished == 0) | ((finished == 1) & (next as u16 == last))
 }
 
-// The rules of bytes 4 and 5, by the status.
+// The rules of bytes 4 and 5, by the status. Byte 4 is asked first, since most often it is 255.
 fn exit_rule(n: u8, table: &[u8], i: Station) -> bool
     requires { ⌜ HasLine n (now table) (i .0) ⌝ }
     ensures { λ r. ⌜ r ≡ exitRule n (i .0) (status n (now (table .entry)) (i .0)) (toldBy n (now (table .entry)) (i .0))
@@ -122,14 +133,11 @@ fn exit_rule(n: u8, table: &[u8], i: Station) -> bool
     let status = inside::get(n, table, i, cells::STATUS);
     let by = inside::get(n, table, i, cells::TOLD_BY);
     let ago = inside::get(n, table, i, cells::ROUNDS_AGO);
-    if status == cells::LIVE {
-        return (by == cells::TOLD_BY_NONE) & (ago == 0);
+    let own = i.0;
+    if by == cells::TOLD_BY_NONE {
+        return (status != cells::LEFT_TOLD) & ((status != cells::LIVE) | (ago == 0));
     }
-    if status == cells::LEFT_TOLD {
-        let own = i.0;
-        return (by == cells::NOT_RECORDED) | ((by < n) & (by != own));
-    }
-    by == cells::TOLD_BY_NONE
+    (status == cells::LEFT_TOLD) & ((by == cells::NOT_RECORDED) | ((by < n) & (by != own)))
 }
 
 // The rules of the row: the station's byte about itself, and every byte, by the greatest one. The loop has no exit, so that the compiler
