@@ -1,6 +1,6 @@
 -- The line rules as the code asks them, the rules of a round that is over, and a table that refusals 1 to 4 let through.
 -- Assumes nothing.
-use mathlib.Core.Path.{_≡_, refl, sym, ap, _∙_}
+use mathlib.Core.Path.{_≡_, sym, ap, _∙_}
 use mathlib.Core.Bool.{Bool, true, false, not, _&&_, _||_, and-true, and-false}
 use mathlib.Core.Logic.{by-cases}
 use mathlib.Core.List.{List}
@@ -28,7 +28,9 @@ pass-rule-is n (suc next) f tests =
     let p : suc next - 1 ≡ next = omega arith in
     let one = le-leb 1 (suc next) (omega arith) in
     by-bool (leb (suc next) (distances n))
-    (λ a. by-bool (leb tests next) (λ b. rw (one, p, leb·suc-suc tests next, a, b) finish) (λ b. rw (one, p, leb·suc-suc tests next, a, b, and-false (leb f 1))))
+    (λ a.
+    by-bool (leb tests next) (λ b. rw (one, p, leb·suc-suc tests next, a, b) finish)
+    (λ b. rw (one, p, leb·suc-suc tests next, a, b, and-false (leb f 1))))
     (λ a. rw (one, a))
   where
     finish : (eqb f 0 || (eqb f 1 && eqb (suc next) (distances n))) ≡ (leb f 1 && true && (eqb f 0 || eqb (suc next) (distances n)))
@@ -65,7 +67,8 @@ exit-none n i s ago h =
     by-cases (ℕ-discrete s 0) (λ e. rw e)
     (λ d. by-bool (eqb s statusTold) (λ f. rw (ne-eqb s 0 d, f, le-ltb 255 n h)) (λ f. rw (ne-eqb s 0 d, f)))
 
-pub exit-named : (n i s by ago : ℕ) → (by ≡ toldByNone → ⊥) → (eqb s statusTold && (eqb by notRecorded || (ltb by n && not (eqb by i)))) ≡ exitRule n i s by ago
+pub exit-named : (n i s by ago : ℕ) → (by ≡ toldByNone → ⊥)
+    → (eqb s statusTold && (eqb by notRecorded || (ltb by n && not (eqb by i)))) ≡ exitRule n i s by ago
 unfolding exitRule
 exit-named n i s by ago h =
     by-cases (ℕ-discrete s 0) (λ e. rw (e, ne-eqb by toldByNone h))
