@@ -1,4 +1,4 @@
--- Laws of lists one behind the other, and of the lines of a table.
+-- Laws of lists one behind the other.
 -- Assumes nothing.
 use mathlib.Core.Path.{◌≡◌, refl, ◌∙◌}
 use mathlib.Core.List.{List, ◌++◌}
@@ -7,16 +7,8 @@ use native.Mathlib.Nat.{zero-mul, suc-mul, mul-le-mul_right}
 use native.Mathlib.Decide.{dec_lt}
 use native.Mathlib.Omega.{arith}
 use lib.ListN.{length, take, drop, length-append, length-drop}
-use lib.Seq.{take_all, take-add, take-append-le, drop-append-le, drop_at, length-take-le}
-use Rattle.saved.specs.Bytes.{concatOf, line_at}
-
--- lines do not overlap
-pub lines-apart : (m i j : ℕ) → i < j → i * m + m ≤ j * m
-lines-apart m i j h = omega (arith, suc-mul i m, mul-le-mul_right {m = suc i} {n = j} m h)
-
-pub line-length : (m n : ℕ) (t : List ℕ) → length t ≡ n * m → (i : ℕ) → i < n → length (line_at m t i) ≡ m
-unfolding line_at
-line-length m n t long i h = length-take-le m (drop (i * m) t) (omega (arith, length-drop (i * m) t, lines-apart m i n h))
+use lib.Seq.{take_all, take-add, take-append-le, drop-append-le, drop_at}
+use Rattle.saved.specs.Bytes.{concatOf}
 
 pub concat-length : (f : ℕ → List ℕ) (m n : ℕ) → ((i : ℕ) → i < n → length (f i) ≡ m) → length (concatOf f n) ≡ n * m
 unfolding concatOf
@@ -31,8 +23,8 @@ concat-same f g zero same = refl
 concat-same f g (suc n) same = cc (concat-same f g n (λ i h. same i (omega arith)), same n (omega arith))
 
 -- the list of place i, where all have length m
-pub concat-at : (f : ℕ → List ℕ) (m n i : ℕ) → ((i : ℕ) → i < n → length (f i) ≡ m) → i < n → line_at m (concatOf f n) i ≡ f i
-unfolding concatOf line_at
+pub concat-at : (f : ℕ → List ℕ) (m n i : ℕ) → ((i : ℕ) → i < n → length (f i) ≡ m) → i < n → take m (drop (i * m) (concatOf f n)) ≡ f i
+unfolding concatOf
 concat-at f m zero i long h = absurd (omega arith)
 concat-at f m (suc n) i long h = pick (dec_lt i n) (concat-at f m n i before)
   where
@@ -44,18 +36,18 @@ concat-at f m (suc n) i long h = pick (dec_lt i n) (concat-at f m n i before)
 
     pick : Dec (i < n) → (i < n → take m (drop (i * m) (concatOf f n)) ≡ f i) → take m (drop (i * m) (concatOf f n ++ f n)) ≡ f i
     pick (yes b) rest =
-        let s = lines-apart m i n b in
+        let s : i * m + m ≤ n * m = omega (arith, suc-mul i m, mul-le-mul_right {m = suc i} {n = n} m b) in
         rw (drop-append-le (i * m) (concatOf f n) (f n) (omega (arith, whole)))
         (take-append-le m (drop (i * m) (concatOf f n)) (f n) (omega (arith, whole, length-drop (i * m) (concatOf f n))) ∙ rest b)
     pick (no b) rest =
         let e : i ≡ n = omega arith in
         rw (e, drop_at (concatOf f n) (f n) (n * m) whole) (take_all m (f n) (omega (arith, long n (omega arith))))
 
--- a table is its lines
-parts-take : (t : List ℕ) (m n : ℕ) → concatOf (λ i. line_at m t i) n ≡ take (n * m) t
-unfolding concatOf line_at
+-- a list is its parts of length m
+parts-take : (t : List ℕ) (m n : ℕ) → concatOf (λ i. take m (drop (i * m) t)) n ≡ take (n * m) t
+unfolding concatOf
 parts-take t m zero = rw zero-mul
 parts-take t m (suc n) = rw (suc-mul, take-add (n * m) m t, parts-take t m n)
 
-pub concat-parts : (t : List ℕ) (m n : ℕ) → length t ≡ n * m → concatOf (λ i. line_at m t i) n ≡ t
+pub concat-parts : (t : List ℕ) (m n : ℕ) → length t ≡ n * m → concatOf (λ i. take m (drop (i * m) t)) n ≡ t
 concat-parts t m n long = parts-take t m n ∙ take_all (n * m) t (omega arith)

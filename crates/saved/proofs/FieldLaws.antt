@@ -1,16 +1,15 @@
 -- Laws of the fields of a file: none in an empty one, and otherwise the first field and those of the rest.
 -- Assumes nothing.
-use mathlib.Core.Path.{◌≡◌, refl, sym, ap, ◌∙◌}
-use mathlib.Core.Bool.{false}
-use mathlib.Core.List.{List, [], ◌∷◌, ◌++◌}
-use mathlib.Core.Option.{Option, none, some}
+use mathlib.Core.Path.{◌≡◌, refl, sym, ◌∙◌}
+use mathlib.Core.List.{List, [], ◌++◌}
+use mathlib.Core.Option.{none, some}
 use Prim.Native.Nat.{ℕ, zero, suc, ◌+◌, ◌^◌, ◌≤◌, ◌<◌}
 use native.Mathlib.Omega.{arith}
 use borrow.Author.Tests.{lt-ltb, le-ltb, eq-eqb, ne_eqb}
 use lib.ListN.{length, get_or, take, drop, length-append, length-drop}
 use lib.Seq.{take-append_seam, drop-append_seam, drop-drop}
 use Rattle.saved.specs.Bytes.{number_of, bytes_of}
-use Rattle.saved.specs.Fields.{Field, field, fieldBytes, infront, lengthIn, extent, fieldsUpTo, fields, is_none, orEmpty}
+use Rattle.saved.specs.Fields.{Field, field, fieldBytes, infront, lengthIn, extent, fieldsUpTo, fields}
 
 -- an empty file has none
 upTo-empty : (k : ℕ) (file : List ℕ) → length file ≤ 0 → fieldsUpTo k file ≡ some []
@@ -60,14 +59,3 @@ fields-first f rest h =
     let c : take (length f.contents) (drop 3 file) ≡ f.contents = take-append_seam f.contents rest in
     let r : drop (3 + length f.contents) file ≡ rest = sym (drop-drop (length f.contents) 3 file) ∙ drop-append_seam f.contents rest in
     fields-cons file (omega arith) (omega arith) ∙ rw (l, c, r)
-
--- a field and the rest of a file in which no field runs past the end
-pub whole-rest : (f : Field) (all rest : Option (List Field)) → all ≡ infront f rest → is_none all ≡ false
-    → (is_none rest ≡ false) × (orEmpty all ≡ f ∷ orEmpty rest)
-whole-rest f all rest split whole =
-    let parts = go rest (ap is_none (sym split) ∙ whole) in
-    (parts.0, ap orEmpty split ∙ parts.1)
-  where
-    go : (rest : Option (List Field)) → is_none (infront f rest) ≡ false → (is_none rest ≡ false) × (orEmpty (infront f rest) ≡ f ∷ orEmpty rest)
-    go none e = (e, cc)
-    go (some fs) e = (refl, refl)

@@ -7,7 +7,6 @@ pub mod LineFields
 pub mod Saving
 pub mod Copying
 pub mod Reading
-pub mod OrderLaws
 pub mod Passing
 pub mod Building
 pub mod TableLines

@@ -16,8 +16,7 @@ use Rattle.table.specs.Table.{stride, tableLength, greatestTable}
 use Rattle.table.specs.Rules.{tableNumber}
 use Rattle.table.proofs.SizeLaws.{size-bounds}
 use Rattle.saved.specs.Fields.{Field, runsPast, fields_of}
-use Rattle.saved.specs.Plant.{sizeIn, sizeAndTally, sizeRefusal, linesRight, tableIn}
-use Rattle.saved.specs.Order.{orderNumber}
+use Rattle.saved.specs.Plant.{sizeIn, sizeAndTally, linesRight, tableIn}
 use Rattle.saved.specs.Load.{fileSize, fileLines, fileTable, sizeNumber, restNumber, loadNumber, savedSize, refusedBy, answer_of, loadAnswer, loadAfter}
 use Rattle.saved.specs.declared.Loaded.{Loaded}
 use Rattle.saved.proofs.Numbers.{answer-refused}
@@ -43,12 +42,11 @@ size-answer file r e = rw (e, answer-number (sizeNumber file) (fields_of file), 
 
 -- a file whose size is not refused
 pub size-zero : (file : List ℕ) → sizeNumber file ≡ 0 → (runsPast file ≡ false) × (isSize (fileSize file) ≡ true)
-unfolding sizeNumber sizeRefusal
+unfolding sizeNumber
 size-zero file z =
     let a = else-zero (refuse 18 (runsPast file)) _ z in
-    let b = else-zero (orderNumber (fields_of file)) _ a.1 in
-    let c = else-zero (refuse 19 (not (sizeAndTally (fields_of file)))) _ b.1 in
-    (refuse-zero 17 _ a.0, not-false _ (refuse-zero 0 _ c.1))
+    let b = else-zero (refuse 19 (not (sizeAndTally (fields_of file)))) _ a.1 in
+    (refuse-zero 17 _ a.0, not-false _ (refuse-zero 0 _ b.1))
 
 pub table_fits : (n : ℕ) → isSize n ≡ true → tableLength n ≤ greatestTable
 unfolding tableLength
@@ -56,11 +54,11 @@ table_fits n e = let s = size-bounds n e in mul-le-mul {n₁ = n} {m₁ = stride
 
 -- the refusals after the size's, one after the other
 module _ (n : ℕ) (cs : List (List ℕ)) (len : ℕ) where
-  pub not_right : linesRight (stride n) n cs ≡ false → restNumber n cs len ≡ 20
+  pub not_right : linesRight n cs ≡ false → restNumber n cs len ≡ 20
   unfolding restNumber
   not_right e = rw e
 
-  module _ (right : linesRight (stride n) n cs ≡ true) where
+  module _ (right : linesRight n cs ≡ true) where
     pub not-long : (len ≡ tableLength n → ⊥) → restNumber n cs len ≡ 2
     unfolding restNumber
     not-long h = rw (right, ne_eqb len (tableLength n) h)
@@ -105,6 +103,6 @@ module _ (file t : List ℕ) where
     pub load-long : restNumber (fileSize file) (fileLines file) (length t) ≡ 0 → length t ≡ tableLength (fileSize file)
     unfolding restNumber
     load-long z =
-        let a = else-zero (refuse 20 (not (linesRight (stride (fileSize file)) (fileSize file) (fileLines file)))) _ z in
+        let a = else-zero (refuse 20 (not (linesRight (fileSize file) (fileLines file)))) _ z in
         let b = else-zero (refuse 2 (not (eqb (length t) (tableLength (fileSize file))))) _ a.1 in
         eqb-true (length t) (tableLength (fileSize file)) (not-false _ (refuse-zero 1 _ b.0))

@@ -11,19 +11,19 @@ use Rattle.lists.proofs.BoolLaws.{by_bool}
 use Rattle.saved.specs.Bytes.{number_of}
 use Rattle.saved.specs.Fields.{Field, infront, is_none, orEmpty, tagged, single, first_of}
 use Rattle.saved.specs.Plant.{sizeTag, tallyTag}
-use Rattle.saved.specs.Passes.{foundWith, foundIf, frontWith, scan, nothingFound}
-use Rattle.saved.specs.declared.front.Found.{Found}
-use Rattle.saved.specs.declared.front.Found.TheVariants.{Absent, Numbers, Wrong}
-use Rattle.saved.specs.declared.front.Front.{Front}
-use Rattle.saved.specs.declared.front.Scan.{Scan}
-use Rattle.saved.specs.declared.front.Scan.TheVariants.{Cut, Whole}
+use Rattle.saved.specs.Passes.{foundWith, foundIf, openingWith, scan, nothingFound}
+use Rattle.saved.specs.declared.opening.Found.{Found}
+use Rattle.saved.specs.declared.opening.Found.TheVariants.{Absent, Numbers, Wrong}
+use Rattle.saved.specs.declared.opening.Opening.{Opening}
+use Rattle.saved.specs.declared.opening.Scan.{Scan}
+use Rattle.saved.specs.declared.opening.Scan.TheVariants.{Cut, Whole}
 
 -- the first pass, one field more
-pub scan-next : (o : Front) (f : Field) (all rest : Option (List Field)) → all ≡ infront f rest → scan o all ≡ scan (frontWith o f) rest
+pub scan-next : (o : Opening) (f : Field) (all rest : Option (List Field)) → all ≡ infront f rest → scan o all ≡ scan (openingWith o f) rest
 unfolding scan
 scan-next o f all rest e = ap (scan o) e ∙ step rest
   where
-    step : (rest : Option (List Field)) → scan o (infront f rest) ≡ scan (frontWith o f) rest
+    step : (rest : Option (List Field)) → scan o (infront f rest) ≡ scan (openingWith o f) rest
     step none = refl
     step (some fs) = refl
 
@@ -38,12 +38,12 @@ unfolding tagged foundOver
 found-tag tag upper lower found f fs = by_bool (eqb f.tag tag) (λ e. rw e) (λ e. rw e)
 
 -- the first pass over all fields
-scan-all : (o : Front) (fs : List Field)
+scan-all : (o : Opening) (fs : List Field)
     → scan o (some fs) ≡ Whole (record { size = foundOver 0 1 o.size (tagged sizeTag fs); tally = foundOver 4 4 o.tally (tagged tallyTag fs) })
 unfolding scan tagged foundOver
 scan-all o [] = refl
 scan-all o (f ∷ fs) =
-    scan-all (frontWith o f) fs
+    scan-all (openingWith o f) fs
     ∙ ap₂ (λ a b. Whole (record { size = a; tally = b })) (found-tag sizeTag 0 1 o.size f fs) (found-tag tallyTag 4 4 o.tally f fs)
 
 -- what is found tells whether there is one such field of that length, and its numbers

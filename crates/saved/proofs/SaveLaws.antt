@@ -4,15 +4,16 @@ use mathlib.Core.Path.{◌≡◌}
 use mathlib.Core.List.{List, ◌++◌}
 use Prim.Native.Nat.{ℕ, ◌+◌, ◌*◌, ◌<◌}
 use native.Mathlib.Omega.{arith}
-use lib.ListN.{length, length-append}
-use Rattle.table.specs.Table.{stride, tableLength}
+use lib.ListN.{length, drop, length-append, length-drop}
+use lib.Seq.{length-take-le}
+use Rattle.table.specs.Table.{stride, tableLength, lineStart}
+use Rattle.table.proofs.CellLaws.{line-inside}
 use Rattle.plant.specs.declared.Tally.{Tally}
-use Rattle.saved.specs.Bytes.{bytes_of, line_at}
+use Rattle.saved.specs.Bytes.{bytes_of}
 use Rattle.saved.specs.Fields.{Field, fieldBytes}
-use Rattle.saved.specs.Order.{openingField}
-use Rattle.saved.specs.Save.{sizeField, tallyField, lineField, savedFront, savedLines, saved, savedLength}
+use Rattle.saved.specs.Save.{line_of, sizeField, tallyField, lineField, savedLines, saved}
 use Rattle.saved.proofs.NumberLaws.{bytes-length}
-use Rattle.saved.proofs.ConcatLaws.{line-length, concat-length}
+use Rattle.saved.proofs.ConcatLaws.{concat-length}
 
 -- three bytes are the head
 pub field-length : (f : Field) → length (fieldBytes f) ≡ 3 + length f.contents
@@ -24,36 +25,27 @@ tally-length tally =
     let a = length-append (bytes_of 4 tally.rounds) (bytes_of 4 tally.tests) in
     omega (arith, bytes-length 4 tally.rounds, bytes-length 4 tally.tests)
 
--- the line fields of n stations
-pub fields-length : (n : ℕ) → 19 + n * (stride n + 4) ≡ savedLength n
-fields-length n = let e : stride n + 4 ≡ n + 10 = omega arith in rw e
-
-pub front_length : (n : ℕ) (tally : Tally) → length (savedFront n tally) ≡ 19
-unfolding savedFront
-front_length n tally =
-    omega (
-      arith,
-      length-append (fieldBytes openingField) (fieldBytes (sizeField n) ++ fieldBytes (tallyField tally)),
-      length-append (fieldBytes (sizeField n)) (fieldBytes (tallyField tally)),
-      field-length openingField,
-      field-length (sizeField n),
-      field-length (tallyField tally),
-      tally-length tally,
-    )
-
 module _ (n : ℕ) (t : List ℕ) (long : length t ≡ tableLength n) where
-  pub own_line : (i : ℕ) → i < n → length (line_at (stride n) t i) ≡ stride n
-  unfolding tableLength
-  own_line i h = line-length (stride n) n t long i h
+  pub line-length : (i : ℕ) → i < n → length (line_of n t i) ≡ stride n
+  unfolding line_of
+  line-length i h = length-take-le (stride n) (drop (lineStart n i) t) (omega (arith, length-drop (lineStart n i) t, line-inside n i h))
 
   pub field_of : (i : ℕ) → i < n → length (fieldBytes (lineField n t i)) ≡ stride n + 4
-  field_of i h = omega (arith, field-length (lineField n t i), own_line i h)
+  field_of i h = omega (arith, field-length (lineField n t i), line-length i h)
 
   pub lines-length : length (savedLines n t n) ≡ n * (stride n + 4)
   unfolding savedLines
   lines-length = concat-length _ (stride n + 4) n (λ i h. field_of _ (omega arith))
 
-  pub length-saved : (tally : Tally) → length (saved n t tally) ≡ savedLength n
+  pub length-saved : (tally : Tally) → length (saved n t tally) ≡ 15 + n * (stride n + 4)
   unfolding saved
   length-saved tally =
-      omega (arith, length-append (savedFront n tally) (savedLines n t n), front_length n tally, lines-length, fields-length n)
+      omega (
+        arith,
+        length-append (fieldBytes (sizeField n)) (fieldBytes (tallyField tally) ++ savedLines n t n),
+        length-append (fieldBytes (tallyField tally)) (savedLines n t n),
+        field-length (sizeField n),
+        field-length (tallyField tally),
+        tally-length tally,
+        lines-length,
+      )

@@ -1,17 +1,21 @@
--- Laws of the lines of a table, read after a line is written.
+-- Laws of the lines of a table: read after a line is written, and all one behind the other.
 -- Assumes nothing.
 use mathlib.Core.Path.{◌≡◌, refl, sym, ◌∙◌}
 use mathlib.Core.Logic.{◌≢◌, by_cases}
 use mathlib.Core.List.{List, [], ◌∷◌}
-use Prim.Native.Nat.{ℕ, zero, suc, ◌+◌, ◌*◌, ◌≤◌, ◌<◌}
-use native.Mathlib.Nat.{add-zero}
+use Prim.Native.Nat.{ℕ, zero, suc, ◌+◌, ◌≤◌, ◌<◌}
+use native.Mathlib.Nat.{add-zero, suc-mul, mul-le-mul_right}
 use native.Mathlib.Decide.{dec_lt}
 use native.Mathlib.Omega.{arith}
 use lib.ListN.{length, get_or, set, drop, length-set}
 use lib.Seq.{sets, length-sets, get_or-set_same, get_or-set_other, get_or-take, get_or-drop, ext_get_or}
 use Rattle.lists.proofs.Writing.{sets-ahead}
-use Rattle.saved.specs.Bytes.{line_at}
-use Rattle.saved.proofs.ConcatLaws.{lines-apart, line-length}
+use Rattle.table.specs.Table.{stride, tableLength, lineStart}
+use Rattle.table.proofs.CellLaws.{line-inside}
+use Rattle.saved.specs.Bytes.{concatOf}
+use Rattle.saved.specs.Save.{line_of}
+use Rattle.saved.proofs.ConcatLaws.{concat-parts}
+use Rattle.saved.proofs.SaveLaws.{line-length}
 
 -- a list written into another, read before it and in it
 before-written : (l xs : List ℕ) (a k : ℕ) → k < a → get_or (sets l a xs) k 0 ≡ get_or l k 0
@@ -26,32 +30,42 @@ in-written l (x ∷ xs) a (suc j) h m =
     let e : a + suc j ≡ suc a + j = omega arith in
     rw e (in-written (set l a x) xs (suc a) j (omega arith) (omega (arith, length-set l a x)))
 
-module _ (m n : ℕ) (t l : List ℕ) (i : ℕ) (long : length t ≡ n * m) (h : i < n) (e : length l ≡ m) where
+-- lines do not overlap
+ordered : (n i j : ℕ) → i < j → lineStart n i + stride n ≤ lineStart n j
+unfolding lineStart
+ordered n i j h = omega (arith, suc-mul i (stride n), mul-le-mul_right {m = suc i} {n = j} (stride n) h)
+
+module _ (n : ℕ) (t l : List ℕ) (i : ℕ) (long : length t ≡ tableLength n) (h : i < n) (e : length l ≡ stride n) where
   written : List ℕ
-  written = sets t (i * m) l
+  written = sets t (lineStart n i) l
 
-  pub written-long : length (sets t (i * m) l) ≡ n * m
-  written-long = length-sets t (i * m) l ∙ long
+  pub written-long : length (sets t (lineStart n i) l) ≡ tableLength n
+  written-long = length-sets t (lineStart n i) l ∙ long
 
-  pub line_same : line_at m (sets t (i * m) l) i ≡ l
-  unfolding line_at written
+  pub line_same : line_of n (sets t (lineStart n i) l) i ≡ l
+  unfolding line_of written
   line_same =
-      let a = line-length m n written written-long i h in
-      ext_get_or 0 (line_at m written i) l (a ∙ sym e)
-      (λ k g. rw (get_or-take m (drop (i * m) written) k 0 (omega arith), get_or-drop (i * m) written k 0)
-      (in-written t l (i * m) k (omega arith) (omega (arith, lines-apart m i n h))))
+      let a = line-length n written written-long i h in
+      ext_get_or 0 (line_of n written i) l (a ∙ sym e)
+      (λ k g. rw (get_or-take (stride n) (drop (lineStart n i) written) k 0 (omega arith), get_or-drop (lineStart n i) written k 0)
+      (in-written t l (lineStart n i) k (omega arith) (omega (arith, line-inside n i h))))
 
-  pub line_other : (j : ℕ) → j < n → j ≢ i → line_at m (sets t (i * m) l) j ≡ line_at m t j
-  unfolding line_at written
+  pub line_other : (j : ℕ) → j < n → j ≢ i → line_of n (sets t (lineStart n i) l) j ≡ line_of n t j
+  unfolding line_of written
   line_other j g d =
-      let a = line-length m n written written-long j g in
-      let b = line-length m n t long j g in
-      ext_get_or 0 (line_at m written j) (line_at m t j) (a ∙ sym b)
-      (λ k q. let s : k < m = omega arith in
-      rw (get_or-take m (drop (j * m) written) k 0 s, get_or-drop (j * m) written k 0)
-      (apart (j * m + k) k s refl ∙ sym (get_or-take m (drop (j * m) t) k 0 s ∙ get_or-drop (j * m) t k 0)))
+      let a = line-length n written written-long j g in
+      let b = line-length n t long j g in
+      ext_get_or 0 (line_of n written j) (line_of n t j) (a ∙ sym b)
+      (λ k m. let s : k < stride n = omega arith in
+      rw (get_or-take (stride n) (drop (lineStart n j) written) k 0 s, get_or-drop (lineStart n j) written k 0)
+      (apart (lineStart n j + k) k s refl ∙ sym (get_or-take (stride n) (drop (lineStart n j) t) k 0 s ∙ get_or-drop (lineStart n j) t k 0)))
     where
-      apart : (p k : ℕ) → k < m → p ≡ j * m + k → get_or written p 0 ≡ get_or t p 0
+      apart : (p k : ℕ) → k < stride n → p ≡ lineStart n j + k → get_or written p 0 ≡ get_or t p 0
       apart p k s q =
-          by_cases (dec_lt j i) (λ y. before-written t l (i * m) p (omega (arith, lines-apart m j i y)))
-          (λ y. sets-ahead t l (i * m) p (omega (arith, lines-apart m i j (omega arith))))
+          by_cases (dec_lt j i) (λ y. before-written t l (lineStart n i) p (omega (arith, ordered n j i y)))
+          (λ y. sets-ahead t l (lineStart n i) p (omega (arith, ordered n i j (omega arith))))
+
+-- a table is its lines
+pub own-lines : (n : ℕ) (t : List ℕ) → length t ≡ tableLength n → concatOf (λ i. line_of n t i) n ≡ t
+unfolding line_of lineStart tableLength
+own-lines n t long = concat-parts t (stride n) n long

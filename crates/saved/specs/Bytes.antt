@@ -1,6 +1,6 @@
--- Numbers in bytes, "high byte first", lists one behind the other, and the lines of a table.
+-- Numbers in bytes, "high byte first", and lists one behind the other.
 -- Assumes nothing.
-use Rattle.std.specs.Prelude.{ℕ, zero, suc, ◌+◌, ◌*◌, ◌/◌, ◌%◌, ◌^◌, List, [], ◌∷◌, ◌++◌, length, take, drop}
+use Rattle.std.specs.Prelude.{ℕ, zero, suc, ◌+◌, ◌*◌, ◌/◌, ◌%◌, ◌^◌, List, [], ◌∷◌, ◌++◌, length}
 
 -- the number that some bytes hold, high byte first
 unfoldable pub number_of : List ℕ → ℕ
@@ -16,7 +16,3 @@ bytes_of (suc k) v = bytes_of k (v / 256) ++ (v % 256 ∷ [])
 unfoldable pub concatOf : (ℕ → List ℕ) → ℕ → List ℕ
 concatOf f zero = []
 concatOf f (suc n) = concatOf f n ++ f n
-
--- line i of a table whose lines have m bytes each
-unfoldable pub line_at : ℕ → List ℕ → ℕ → List ℕ
-line_at m t i = take m (drop (i * m) t)

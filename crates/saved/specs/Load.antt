@@ -1,14 +1,12 @@
--- Requests C-17 and C-19: the reader, for all files and buffers. "the reader gives 18, then 21 [..], then 22 [..], then 19 and onward as before":
--- 1, 20, 2, 3, 4.
+-- Request C-17: the reader, for all files and buffers. "Turned away, in this order": 18, 19, 1, 20, 2, 3, 4.
 -- Assumes nothing.
 use Rattle.std.specs.Prelude.{ℕ, not, List, length, eqb}
 use Rattle.lists.specs.Refusal.{refuse, ◌else◌, unless}
-use Rattle.table.specs.Table.{stride, tableLength}
+use Rattle.table.specs.Sizes.{isSize}
+use Rattle.table.specs.Table.{tableLength}
 use Rattle.table.specs.Rules.{tableNumber}
-use Rattle.plant.specs.declared.Tally.{Tally}
 use Rattle.saved.specs.Fields.{Field, runsPast, fields_of, tagged}
-use Rattle.saved.specs.Plant.{sizeIn, roundsIn, testsIn, sizeRefusal, lineTag, linesRight, tableIn}
-use Rattle.saved.specs.Order.{orderNumber}
+use Rattle.saved.specs.Plant.{sizeIn, roundsIn, testsIn, sizeAndTally, lineTag, linesRight, tableIn}
 use Rattle.saved.specs.declared.Loaded.{Loaded}
 use Rattle.saved.specs.declared.SavedSize.{SavedSize}
 
@@ -22,15 +20,15 @@ fileLines file = tagged lineTag (fields_of file)
 abbrev pub fileTable : List ℕ → List ℕ
 fileTable file = tableIn (fileSize file) (fileLines file)
 
--- the size's own refusals: 18, 21, 22, 19, 1
+-- the size's own refusals: 18, 19, 1
 unfoldable pub sizeNumber : List ℕ → ℕ
-sizeNumber file = refuse 18 (runsPast file) else orderNumber (fields_of file) else sizeRefusal (fields_of file)
+sizeNumber file = refuse 18 (runsPast file) else refuse 19 (not (sizeAndTally (fields_of file))) else refuse 1 (not (isSize (fileSize file)))
 
 -- of a file of that size with those contents of tag 3, for a table buffer of length len: 20, 2, 3, 4. The file's own table has that size and the
 -- right length, so that of tableNumber's refusals only 3 and 4 are left
 unfoldable pub restNumber : ℕ → List (List ℕ) → ℕ → ℕ
 restNumber n cs len =
-    refuse 20 (not (linesRight (stride n) n cs)) else refuse 2 (not (eqb len (tableLength n))) else tableNumber n (tableIn n cs)
+    refuse 20 (not (linesRight n cs)) else refuse 2 (not (eqb len (tableLength n))) else tableNumber n (tableIn n cs)
 
 -- all of the reader's
 unfoldable pub loadNumber : List ℕ → ℕ → ℕ
@@ -44,11 +42,9 @@ savedSize file = record { number = sizeNumber file; size = unless (sizeNumber fi
 abbrev pub refusedBy : ℕ → Loaded
 refusedBy number = record { number = number; size = 0; tally = record { rounds = 0; tests = 0 } }
 
-abbrev pub tallyIn : List Field → Tally
-tallyIn fs = record { rounds = roundsIn fs; tests = testsIn fs }
-
 unfoldable pub answer_of : ℕ → List Field → Loaded
-answer_of number fs = unless number (refusedBy number) (record { number = 0; size = sizeIn fs; tally = tallyIn fs })
+answer_of number fs =
+    unless number (refusedBy number) (record { number = 0; size = sizeIn fs; tally = record { rounds = roundsIn fs; tests = testsIn fs } })
 
 unfoldable pub loadAnswer : List ℕ → ℕ → Loaded
 loadAnswer file len = answer_of (loadNumber file len) (fields_of file)

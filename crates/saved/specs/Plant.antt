@@ -1,9 +1,8 @@
--- Request C-17: what the fields of a file say of a plant, in both editions. Tags 1, 2 and 3.
+-- Request C-17: what the fields of a file say of a plant. Tags 1, 2 and 3.
 -- Assumes nothing.
-use Rattle.std.specs.Prelude.{ℕ, ◌+◌, Bool, true, cond, not, ◌&&◌, ◌||◌, List, [], ◌∷◌, length, get_or, take, drop, ltb, eqb}
+use Rattle.std.specs.Prelude.{ℕ, ◌+◌, Bool, true, cond, ◌&&◌, List, [], ◌∷◌, length, get_or, take, drop, ltb, eqb}
 use Rattle.lists.specs.Search.{every}
-use Rattle.lists.specs.Refusal.{refuse, ◌else◌}
-use Rattle.table.specs.Sizes.{isSize}
+use Rattle.table.specs.Table.{stride}
 use Rattle.saved.specs.Bytes.{number_of, concatOf}
 use Rattle.saved.specs.Fields.{Field, tagged, single, first_of}
 
@@ -30,27 +29,18 @@ roundsIn fs = number_of (take 4 (first_of (tagged tallyTag fs)))
 unfoldable pub testsIn : List Field → ℕ
 testsIn fs = number_of (drop 4 (first_of (tagged tallyTag fs)))
 
--- "Tag 3: station number and its line."
-abbrev pub lineTag : ℕ
-lineTag = 3
-
--- one of these tags; any other is "unknown" by C-19, for the converter 4 too
-abbrev pub isKnown : ℕ → Bool
-isKnown tag = eqb tag sizeTag || eqb tag tallyTag || eqb tag lineTag
-
 -- not "19 when the size or tally field is absent, twice or of wrong length"
 unfoldable pub sizeAndTally : List Field → Bool
 sizeAndTally fs = single sizeLength (tagged sizeTag fs) && single tallyLength (tagged tallyTag fs)
 
--- 19, then 1
-unfoldable pub sizeRefusal : List Field → ℕ
-sizeRefusal fs = refuse 19 (not (sizeAndTally fs)) else refuse 1 (not (isSize (sizeIn fs)))
+-- "Tag 3: station number and its line."
+abbrev pub lineTag : ℕ
+lineTag = 3
 
--- the length of contents with tag 3, where a line has m bytes: n + 6 in edition 2, n + 4 in edition 1
 abbrev pub lineFieldLength : ℕ → ℕ
-lineFieldLength m = 1 + m
+lineFieldLength n = 1 + stride n
 
--- such contents: the station, and its line
+-- contents with tag 3: the station, and its line
 abbrev pub stationIn : List ℕ → ℕ
 stationIn c = get_or c 0 0
 
@@ -63,17 +53,17 @@ ofStation i [] = []
 ofStation i (c ∷ cs) = cond (eqb (stationIn c) i) (c ∷ ofStation i cs) (ofStation i cs)
 
 -- not "a line field has the wrong length", and no station is "too high"
-abbrev pub fits : ℕ → ℕ → List ℕ → Bool
-fits m n c = eqb (length c) (lineFieldLength m) && ltb (stationIn c) n
+abbrev pub fits : ℕ → List ℕ → Bool
+fits n c = eqb (length c) (lineFieldLength n) && ltb (stationIn c) n
 
-unfoldable pub all_fit : ℕ → ℕ → List (List ℕ) → Bool
-all_fit m n [] = true
-all_fit m n (c ∷ cs) = fits m n c && all_fit m n cs
+unfoldable pub all_fit : ℕ → List (List ℕ) → Bool
+all_fit n [] = true
+all_fit n (c ∷ cs) = fits n c && all_fit n cs
 
 -- not "20 when a line field has the wrong length or a station is absent, twice or too high", of the contents with tag 3: all fit, and there is
 -- one for each station
-unfoldable pub linesRight : ℕ → ℕ → List (List ℕ) → Bool
-linesRight m n cs = all_fit m n cs && every (λ i. single (lineFieldLength m) (ofStation i cs)) n
+unfoldable pub linesRight : ℕ → List (List ℕ) → Bool
+linesRight n cs = all_fit n cs && every (λ i. single (lineFieldLength n) (ofStation i cs)) n
 
 -- the table: each station's line, ascending
 unfoldable pub tableIn : ℕ → List (List ℕ) → List ℕ

@@ -30,7 +30,7 @@ pub(crate) fn put_word(list: &mut [u8], at: usize, v: u32)
 }
 
 // Writes the other list into the list.
-pub fn put_list(list: &mut [u8], at: usize, other: &[u8])
+pub(crate) fn put_list(list: &mut [u8], at: usize, other: &[u8])
     requires { at + length other.now ≤ length list.old }
     ensures { list.new ≡ sets list.old at other.now }
 {

@@ -1,16 +1,11 @@
-// Saving the plant to the panel (requests C-17 and C-19 of document 02): a writer and a reader of table and tally, as tagged fields, edition 2.
+// Saving the plant to the panel (request C-17 of document 02): a writer and a reader of table and tally, as tagged fields.
 //
-// The calls are save::save, load::load and load::saved_size. None has a `requires`. What the converter of edition 1 shares with them is open too:
-// fields, front, lines and bytes.
-ghost use Rattle.std.specs.Prelude.{◌≡◌};
-ghost use Rattle.saved.specs.Plant.{isKnown};
-
-pub mod bytes;
-pub mod fields;
-pub mod front;
-pub mod lines;
+// The calls are save::save, load::load and load::saved_size. None has a `requires`.
+mod bytes;
+mod fields;
+mod lines;
 pub mod load;
-mod order;
+mod opening;
 pub mod save;
 
 use plant::Tally;
@@ -36,15 +31,3 @@ const SIZE: u8 = 1;
 const TALLY: u8 = 2;
 
 const LINE: u8 = 3;
-
-const OPENING: u8 = 4;
-
-// The contents of the opening.
-const EDITION: u8 = 2;
-
-// Whether a tag is that of size, tally or line.
-pub fn is_known(tag: u8) -> bool
-    ensures { result ≡ isKnown tag }
-{
-    (tag == SIZE) | (tag == TALLY) | (tag == LINE)
-}

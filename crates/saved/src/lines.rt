@@ -1,7 +1,7 @@
-// The second pass over a file: the table that its lines of m bytes give. Refusal 20.
-ghost use Rattle.std.specs.Prelude.{◌≡◌, true, false, ◌*◌, ◌≤◌, length};
+// The second pass over a file: the table that its lines give. Refusal 20.
+ghost use Rattle.std.specs.Prelude.{◌≡◌, true, false, length};
 ghost use Rattle.table.specs.Sizes.{isSize};
-ghost use Rattle.table.specs.Table.{stride};
+ghost use Rattle.table.specs.Table.{tableLength};
 ghost use Rattle.saved.specs.Fields.{field, runsPast, fields_of};
 ghost use Rattle.saved.specs.Plant.{linesRight, tableIn};
 ghost use Rattle.saved.specs.Load.{fileLines};
@@ -10,17 +10,19 @@ ghost use Rattle.saved.specs.Passes.{built, builtWith, builtIf, build};
 use crate::fields::{Cursor, Read};
 use crate::{LINE, bytes};
 use lists::bytes as byte_lists;
+use table::{Station, cells};
 
 // The stations that a plant has at most.
 const MOST: usize = 64;
 
 // Puts a line into the table, where its contents have the right length and its station is in the plant and not yet seen. Otherwise false, and
 // nothing is written.
-fn take_line(m: usize, n: u8, contents: &[u8], table: &mut [u8], seen: &mut [u8]) -> bool
-    requires { (isSize n ≡ true) × (m ≤ stride 64) × (length table.old ≡ n * m) × (length seen.old ≡ 64) }
-    ensures { built result table.new seen.new ≡ builtWith m n contents.now table.old seen.old }
+fn take_line(n: u8, contents: &[u8], table: &mut [u8], seen: &mut [u8]) -> bool
+    requires { (isSize n ≡ true) × (length table.old ≡ tableLength n) × (length seen.old ≡ 64) }
+    ensures { built result table.new seen.new ≡ builtWith n contents.now table.old seen.old }
 {
-    if contents.len() != m + 1 {
+    let stride = n as usize + cells::HEAD as usize;
+    if contents.len() != stride + 1 {
         return false;
     }
     let i = contents[0];
@@ -31,27 +33,28 @@ fn take_line(m: usize, n: u8, contents: &[u8], table: &mut [u8], seen: &mut [u8]
         return false;
     }
     seen[i as usize] = 1;
-    bytes::put_list(table, i as usize * m, &contents[1..]);
+    let start = cells::line_start(n, Station(i));
+    bytes::put_list(table, start, &contents[1..]);
     true
 }
 
 // One field more: a line is taken, a field with another tag passed over.
-fn take_field(m: usize, n: u8, tag: u8, contents: &[u8], table: &mut [u8], seen: &mut [u8]) -> bool
-    requires { (isSize n ≡ true) × (m ≤ stride 64) × (length table.old ≡ n * m) × (length seen.old ≡ 64) }
+fn take_field(n: u8, tag: u8, contents: &[u8], table: &mut [u8], seen: &mut [u8]) -> bool
+    requires { (isSize n ≡ true) × (length table.old ≡ tableLength n) × (length seen.old ≡ 64) }
     ensures { built result table.new seen.new
-        ≡ builtIf m n (field tag contents.now) table.old seen.old }
+        ≡ builtIf n (field tag contents.now) table.old seen.old }
 {
     if tag != LINE {
         return true; // passed over
     }
-    take_line(m, n, contents, table, seen)
+    take_line(n, contents, table, seen)
 }
 
 // Takes the lines of all fields, up to the first that cannot be taken.
-fn take_fields(m: usize, n: u8, file: &[u8], table: &mut [u8], seen: &mut [u8]) -> bool
-    requires { (isSize n ≡ true) × (m ≤ stride 64) × (length table.old ≡ n * m) × (length seen.old ≡ 64) × (runsPast file.now ≡ false) }
+fn take_fields(n: u8, file: &[u8], table: &mut [u8], seen: &mut [u8]) -> bool
+    requires { (isSize n ≡ true) × (length table.old ≡ tableLength n) × (length seen.old ≡ 64) × (runsPast file.now ≡ false) }
     ensures { built result table.new seen.new
-        ≡ build m n (fields_of file.now) (built true table.old seen.old) }
+        ≡ build n (fields_of file.now) (built true table.old seen.old) }
 {
     let mut cursor = Cursor::new();
     loop {
@@ -62,7 +65,7 @@ fn take_fields(m: usize, n: u8, file: &[u8], table: &mut [u8], seen: &mut [u8]) 
                 len,
                 next,
             } => {
-                if !take_field(m, n, tag, &file[start..start + len], table, seen) {
+                if !take_field(n, tag, &file[start..start + len], table, seen) {
                     return false;
                 }
                 cursor = next;
@@ -78,15 +81,15 @@ fn take_fields(m: usize, n: u8, file: &[u8], table: &mut [u8], seen: &mut [u8]) 
 }
 
 // Builds the file's table, where every line has the right length and there is just one for each station and none for another; else false.
-pub fn build_table(m: usize, n: u8, file: &[u8], table: &mut [u8]) -> bool
-    requires { (isSize n ≡ true) × (m ≤ stride 64) × (length table.old ≡ n * m) × (runsPast file.now ≡ false) }
-    ensures value { result ≡ linesRight m n (fileLines file.now) }
+pub(crate) fn build_table(n: u8, file: &[u8], table: &mut [u8]) -> bool
+    requires { (isSize n ≡ true) × (length table.old ≡ tableLength n) × (runsPast file.now ≡ false) }
+    ensures value { result ≡ linesRight n (fileLines file.now) }
     ensures table_after { result ≡ true → table.new ≡ tableIn n (fileLines file.now) }
     ensures table_len_unchanged { length table.new ≡ length table.old }
 {
     let all = [1u8; MOST];
     let mut seen = [0u8; MOST];
-    if !take_fields(m, n, file, table, &mut seen) {
+    if !take_fields(n, file, table, &mut seen) {
         return false;
     }
     let size = n as usize;

@@ -6,14 +6,14 @@ ghost use Rattle.saved.specs.Fields.{runsPast, fields_of};
 ghost use Rattle.saved.specs.Plant.{tableIn};
 ghost use Rattle.saved.specs.Load.{fileLines, sizeNumber, restNumber, savedSize, answer_of, loadAnswer, loadAfter};
 
-use crate::{Loaded, SavedSize, bytes, front, lines};
+use crate::{Loaded, SavedSize, bytes, lines, opening};
 use table::{cells, rules};
 
-// The size of a saved plant, or its refusal 18, 21, 22, 19 or 1.
+// The size of a saved plant, or its refusal 18, 19 or 1.
 pub fn saved_size(file: &[u8]) -> SavedSize
     ensures { result ≡ savedSize file.now }
 {
-    let opened = front::open(file);
+    let opened = opening::open(file);
     SavedSize {
         number: opened.number,
         size: opened.size,
@@ -26,7 +26,7 @@ pub fn load(file: &[u8], table: &mut [u8]) -> Loaded
     ensures value { result ≡ loadAnswer file.now (length table.old) }
     ensures table_after { table.new ≡ loadAfter file.now table.old }
 {
-    let opened = front::open(file);
+    let opened = opening::open(file);
     if opened.number != 0 {
         return opened;
     }
@@ -44,7 +44,7 @@ fn load_opened(opened: Loaded, file: &[u8], table: &mut [u8], own: &mut [u8]) ->
     let length = cells::table_length(n);
     let number = build_and_judge(n, file, table.len(), &mut own[..length]);
     if number != 0 {
-        return front::refused(number);
+        return opening::refused(number);
     }
     bytes::put_list(table, 0, &own[..length]);
     opened
@@ -57,7 +57,7 @@ fn build_and_judge(n: u8, file: &[u8], len: usize, own: &mut [u8]) -> u8
     ensures own_after { result ≡ 0 → own.new ≡ tableIn n (fileLines file.now) }
     ensures own_len_unchanged { length own.new ≡ length own.old }
 {
-    if !lines::build_table(n as usize + cells::HEAD as usize, n, file, own) {
+    if !lines::build_table(n, file, own) {
         return 20;
     }
     if len != own.len() {

@@ -1,18 +1,18 @@
 // The writer.
-ghost use Rattle.std.specs.Prelude.{◌≡◌, true, ◌∷◌, ◌+◌, ◌*◌, ◌≤◌, length};
+ghost use Rattle.std.specs.Prelude.{◌≡◌, true, ◌∷◌, ◌++◌, ◌+◌, ◌*◌, ◌≤◌, length};
 ghost use Rattle.std.proofs.lemmas.List.Edits.{sets};
 ghost use Rattle.table.specs.Sizes.{isSize};
 ghost use Rattle.table.specs.Table.{HasLine, stride, tableLength};
 ghost use Rattle.saved.specs.Bytes.{bytes_of};
 ghost use Rattle.saved.specs.Fields.{fieldBytes};
-ghost use Rattle.saved.specs.Save.{lineField, savedFront, savedLines, savedLength, saveNumber, saveAfter};
+ghost use Rattle.saved.specs.Save.{sizeField, tallyField, lineField, savedLines, saved, saveNumber, saveAfter};
 
-use crate::{EDITION, LINE, OPENING, SIZE, TALLY, bytes};
+use crate::{LINE, SIZE, TALLY, bytes};
 use plant::Tally;
 use table::{Station, cells, rules};
 
-// The bytes of what stands before the lines: opening, size and tally.
-const FRONT: usize = 19;
+// The bytes of the size field and the tally field.
+const OPENING: usize = 15;
 
 // The bytes of a line field besides the line: the field's head and the station.
 const BESIDE_LINE: usize = 3 + 1;
@@ -26,40 +26,31 @@ pub fn save(n: usize, table: &[u8], tally: Tally, buffer: &mut [u8]) -> u8
     if number != 0 {
         return number;
     }
-    let size = n as u8;
-    if buffer.len() != saved_length(size) {
+    if buffer.len() != OPENING + n * (n + cells::HEAD as usize + BESIDE_LINE) {
         return 13;
     }
-    write_front(size, tally, buffer);
+    let size = n as u8;
+    write_opening(size, tally, buffer);
     write_lines(size, table, buffer);
     0
 }
 
-// The length of the saved plant of n stations.
-pub fn saved_length(n: u8) -> usize
-    ensures { result ≡ savedLength n }
+// The size field and the tally field.
+fn write_opening(n: u8, tally: Tally, buffer: &mut [u8])
+    requires { 15 ≤ length buffer.old }
+    ensures { buffer.new ≡ sets buffer.old 0 (fieldBytes (sizeField n) ++ fieldBytes (tallyField tally)) }
 {
-    FRONT + n as usize * (n as usize + cells::HEAD as usize + BESIDE_LINE)
-}
-
-// Opening, size field and tally field.
-fn write_front(n: u8, tally: Tally, buffer: &mut [u8])
-    requires { 19 ≤ length buffer.old }
-    ensures { buffer.new ≡ sets buffer.old 0 (savedFront n tally) }
-{
-    put_head(buffer, 0, OPENING, 1);
-    buffer[3] = EDITION;
-    put_head(buffer, 4, SIZE, 1);
-    buffer[7] = n;
-    put_head(buffer, 8, TALLY, 8);
-    bytes::put_word(buffer, 11, tally.rounds);
-    bytes::put_word(buffer, 15, tally.tests);
+    put_head(buffer, 0, SIZE, 1);
+    buffer[3] = n;
+    put_head(buffer, 4, TALLY, 8);
+    bytes::put_word(buffer, 7, tally.rounds);
+    bytes::put_word(buffer, 11, tally.tests);
 }
 
 // The line fields behind them, ascending.
 fn write_lines(n: u8, table: &[u8], buffer: &mut [u8])
-    requires { (isSize n ≡ true) × (length table.now ≡ tableLength n) × (length buffer.old ≡ 19 + n * (stride n + 4)) }
-    ensures { buffer.new ≡ sets buffer.old 19 (savedLines n table.now n) }
+    requires { (isSize n ≡ true) × (length table.now ≡ tableLength n) × (length buffer.old ≡ 15 + n * (stride n + 4)) }
+    ensures { buffer.new ≡ sets buffer.old 15 (savedLines n table.now n) }
 {
     let mut i: u8 = 0;
     while i < n {
@@ -70,12 +61,12 @@ fn write_lines(n: u8, table: &[u8], buffer: &mut [u8])
 
 // The field of line i.
 fn write_line(n: u8, table: &[u8], i: Station, buffer: &mut [u8])
-    requires { (isSize n ≡ true) × HasLine n table.now i.0 × (length buffer.old ≡ 19 + n * (stride n + 4)) }
-    ensures { buffer.new ≡ sets buffer.old (19 + i.0 * (stride n + 4))
+    requires { (isSize n ≡ true) × HasLine n table.now i.0 × (length buffer.old ≡ 15 + n * (stride n + 4)) }
+    ensures { buffer.new ≡ sets buffer.old (15 + i.0 * (stride n + 4))
         (fieldBytes (lineField n table.now i.0)) }
 {
     let stride = n as u16 + cells::HEAD;
-    let at = FRONT + i.0 as usize * (stride as usize + BESIDE_LINE);
+    let at = OPENING + i.0 as usize * (stride as usize + BESIDE_LINE);
     put_head(buffer, at, LINE, stride + 1);
     buffer[at + 3] = i.0;
     let start = cells::line_start(n, i);

@@ -16,7 +16,7 @@ returns : tie.Need-returns
 returns c =
     let a = c.before.before.before.before.before.before.before.before.before.args in
     let s = size-bounds _ c.before.before.before.before.before.before.before.before.before.requires.0 in (
-      ends-not a.m a.n (fields_of a.file.now) a.table.now (replicate 64 0) s.1 (λ i h. get_or-replicate {A = ℕ} 64 i 0 0 (omega arith))
+      ends-not a.n (fields_of a.file.now) a.table.now (replicate 64 0) s.1 (λ i h. get_or-replicate {A = ℕ} 64 i 0 0 (omega arith))
           _ _ _ c.before.before.before.before.take-fields.ensures (not-true _ c.if1.true),
       (λ e. let z : ◌≡◌ {A = ℕ} 0 1 = cc in absurd (omega arith), search rules),
     )
@@ -43,9 +43,9 @@ returns-2 c =
     let a = far.before.before.before.before.before.before.before.args in
     let s = size-bounds _ far.before.before.before.before.before.before.before.requires.0 in
     let e =
-    ends-well a.m a.n (fields_of a.file.now) a.table.now (replicate 64 0) s.1 (λ i h. get_or-replicate {A = ℕ} 64 i 0 0 (omega arith))
+    ends-well a.n (fields_of a.file.now) a.table.now (replicate 64 0) s.1 (λ i h. get_or-replicate {A = ℕ} 64 i 0 0 (omega arith))
     _ _ _ far.before.before.take-fields.ensures _ (not-false _ c.before.before.before.if1.false)
-    (c.same_bytes.ensures ∙ all-marked a.n _ (omega arith) s.1) far.before.before.before.before.before.before.before.requires.2 in
+    (c.same_bytes.ensures ∙ all-marked a.n _ (omega arith) s.1) far.before.before.before.before.before.before.before.requires.1 in
     (e.0, (e.1, search rules))
 
 pub build-table-spec : {M : Type 1} → statement M

@@ -11,24 +11,23 @@ use borrow.Author.Tests.{not-true, not-false}
 use Rattle.saved.specs.Fields.{field, fields, is_none, orEmpty, runsPast, fields_of}
 use Rattle.saved.specs.Passes.{built, build}
 use Rattle.saved.proofs.Reading.{told}
-use Rattle.saved.proofs.FieldLaws.{whole-rest}
-use Rattle.saved.proofs.Building.{build-next, build-stops}
+use Rattle.saved.proofs.Building.{whole-rest, build-next, build-stops}
 use Rattle.saved.proofs.lines.take_fields.Statement.{statement}
 use Rattle.saved.proofs.lines.take_fields.Tie as tie
 
 abbrev invariant-loop : tie.invariant-loop
-invariant-loop m n file table₀ seen₀ cursor₀ table seen cursor =
+invariant-loop n file table₀ seen₀ cursor₀ table seen cursor =
     (length table ≡ length table₀)
     × (length seen ≡ length seen₀)
     × (is_none (fields (drop cursor.at file)) ≡ false)
-    × (build m n (orEmpty (fields (drop cursor.at file))) (built true table seen) ≡ build m n (orEmpty (fields file)) (built true table₀ seen₀))
+    × (build n (orEmpty (fields (drop cursor.at file))) (built true table seen) ≡ build n (orEmpty (fields file)) (built true table₀ seen₀))
 
 abbrev decreases-loop : tie.decreases-loop
-decreases-loop m n file table₀ seen₀ cursor₀ table seen cursor = length file - cursor.at
+decreases-loop n file table₀ seen₀ cursor₀ table seen cursor = length file - cursor.at
 
 loop-holds : tie.Need-loop-init invariant-loop decreases-loop
 unfolding runsPast
-loop-holds c = (refl, refl, rw c.new.ensures c.before.before.before.before.requires.4, rw c.new.ensures)
+loop-holds c = (refl, refl, rw c.new.ensures c.before.before.before.before.requires.3, rw c.new.ensures)
 
 add-take-field : tie.Need-overflow-add-take-field invariant-loop decreases-loop
 add-take-field c =
@@ -44,15 +43,15 @@ returns : tie.Need-returns invariant-loop decreases-loop
 unfolding fields_of
 returns c =
     let far = c.before.before.before.before.before in
-    let a = far.before.before.before.before.before.before.before.before.before.before.before.before.before.args in
-    let file = a.file.now in
+    let file = far.before.before.before.before.before.before.before.before.before.before.before.before.before.args.file.now in
+    let n = far.before.before.before.before.before.before.before.before.before.before.before.before.before.args.n in
     let i = far.before.before.before.before.before.before.before.before.loop in
     let g = far.before.before.before.before.before.tag.given in
     let t = told _ _ _ _ far.before.before.before.before.before.before.before.read.ensures g.1 in
     let f = field g.0.0 (take g.0.1.1.0 (drop g.0.1.0 file)) in
     let rest = fields (drop g.0.1.1.1.0.at file) in
     let took = rw add-sub_cancel_left at far.take-field.ensures in
-    build-stops a.m a.n f _ rest i.table i.seen _ _ _ t.0 i.invariant.2 took (not-true _ c.if1.true) ∙ i.invariant.3
+    build-stops n f _ rest i.table i.seen _ _ _ t.0 i.invariant.2 took (not-true _ c.if1.true) ∙ i.invariant.3
 
 loop-less : tie.Need-loop-smaller invariant-loop decreases-loop
 loop-less c =
@@ -64,8 +63,8 @@ loop-less c =
 loop-again : tie.Need-loop-preserved invariant-loop decreases-loop
 loop-again c =
     let far = c.before.before.before.before.before in
-    let a = far.before.before.before.before.before.before.before.before.before.before.before.before.before.args in
-    let file = a.file.now in
+    let file = far.before.before.before.before.before.before.before.before.before.before.before.before.before.args.file.now in
+    let n = far.before.before.before.before.before.before.before.before.before.before.before.before.before.args.n in
     let i = far.before.before.before.before.before.before.before.before.loop in
     let g = far.before.before.before.before.before.tag.given in
     let t = told _ _ _ _ far.before.before.before.before.before.before.before.read.ensures g.1 in
@@ -74,8 +73,8 @@ loop-again c =
     let took = rw add-sub_cancel_left at far.take-field.ensures in (
       search rules,
       search rules,
-      (whole-rest f _ rest t.0 i.invariant.2).0,
-      build-next a.m a.n f _ rest i.table i.seen _ _ _ t.0 i.invariant.2 took (not-false _ c.if1.false) ∙ i.invariant.3,
+      whole-rest n f _ rest i.table i.seen _ _ _ t.0 i.invariant.2 took,
+      build-next n f _ rest i.table i.seen _ _ _ t.0 i.invariant.2 took (not-false _ c.if1.false) ∙ i.invariant.3,
     )
 
 returns-2 : tie.Need-returns-2 invariant-loop decreases-loop
@@ -92,8 +91,7 @@ returns-3 c =
     let far = c.before.before.before.before.before in
     let i = c.before.before.before.loop in
     let t = told _ _ _ _ c.before.before.read.ensures c.enum-told2.given.1 in
-    let a = far.before.before.before.args in
-    sym (ap (λ fs. build a.m a.n (orEmpty fs) (built true i.table i.seen)) t) ∙ i.invariant.3
+    sym (ap (λ fs. build far.before.before.before.args.n (orEmpty fs) (built true i.table i.seen)) t) ∙ i.invariant.3
 
 pub take-fields-spec : {M : Type 1} → statement M
 take-fields-spec =

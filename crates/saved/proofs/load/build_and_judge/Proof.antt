@@ -4,19 +4,10 @@ use mathlib.Core.Path.{sym, ap, ◌∙◌}
 use native.Mathlib.Omega.{arith}
 use borrow.Author.Rules.{rules}
 use borrow.Author.Tests.{not-true, not-false}
-use Rattle.table.specs.Table.{tableLength}
 use Rattle.table.specs.Rules.{tableNumber}
-use Rattle.table.proofs.SizeLaws.{size-bounds}
 use Rattle.saved.proofs.Loading.{not_right, not-long, by-rules}
 use Rattle.saved.proofs.load.build_and_judge.Statement.{statement}
 use Rattle.saved.proofs.load.build_and_judge.Tie as tie
-
-build-table-requires : tie.Need-build-table-requires
-unfolding tableLength
-build-table-requires c κs =
-    let p = c.before.before.before.requires in
-    let s = size-bounds _ p.0 in
-    (p.0, omega arith, p.1, p.2)
 
 returns : tie.Need-returns
 returns c =
@@ -43,9 +34,7 @@ pub build-and-judge-spec : {M : Type 1} → statement M
 build-and-judge-spec =
     tie.close
     (tie.spec
-    (λ c. search rules)
-    (λ c. search rules)
-    build-table-requires
+    (λ c κs. search rules)
     (λ c. search rules)
     returns
     (λ c. search rules)

@@ -13,7 +13,7 @@ use Rattle.saved.proofs.save.write_lines.Statement.{statement}
 use Rattle.saved.proofs.save.write_lines.Tie as tie
 
 abbrev invariant-loop : tie.invariant-loop
-invariant-loop n table buffer₀ i₀ buffer i = (i ≤ n) × (length buffer ≡ length buffer₀) × (buffer ≡ sets buffer₀ 19 (savedLines n table i))
+invariant-loop n table buffer₀ i₀ buffer i = (i ≤ n) × (length buffer ≡ length buffer₀) × (buffer ≡ sets buffer₀ 15 (savedLines n table i))
 
 abbrev decreases-loop : tie.decreases-loop
 decreases-loop n table buffer₀ i₀ buffer i = n - i
@@ -37,7 +37,7 @@ returns : tie.Need-returns invariant-loop decreases-loop
 returns c =
     let a = c.before.before.before.before.args in
     let i = c.before.loop in
-    i.invariant.2 ∙ ap (λ k. sets a.buffer.now 19 (savedLines a.n a.table.now k)) (le_antisymm i.invariant.0 (search rules))
+    i.invariant.2 ∙ ap (λ k. sets a.buffer.now 15 (savedLines a.n a.table.now k)) (le_antisymm i.invariant.0 (search rules))
 
 pub write-lines-spec : {M : Type 1} → statement M
 write-lines-spec =

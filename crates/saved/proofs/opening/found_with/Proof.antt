@@ -1,4 +1,4 @@
--- `front::found_with` meets its contract.
+-- `opening::found_with` meets its contract.
 -- Assumes nothing.
 use mathlib.Core.Path.{◌≡◌, sym, ◌∙◌}
 use Prim.Native.Nat.{◌-◌}
@@ -7,8 +7,8 @@ use lib.ListN.{length, take, drop, length-take, length-drop}
 use lib.Seq.{take_all}
 use borrow.Author.Rules.{rules}
 use borrow.Author.Tests.{eq-eqb, ne_eqb}
-use Rattle.saved.proofs.front.found_with.Statement.{statement}
-use Rattle.saved.proofs.front.found_with.Tie as tie
+use Rattle.saved.proofs.opening.found_with.Statement.{statement}
+use Rattle.saved.proofs.opening.found_with.Tie as tie
 
 returns : tie.Need-returns
 returns c = rw (c.before.enum_told.given.1, ne_eqb _ _ c.if1.true)

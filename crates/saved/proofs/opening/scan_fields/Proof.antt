@@ -1,4 +1,4 @@
--- `front::scan_fields` meets its contract: what is found so far and the rest of the fields give the answer.
+-- `opening::scan_fields` meets its contract: what is found so far and the rest of the fields give the answer.
 -- Assumes nothing.
 use mathlib.Core.Path.{◌≡◌, sym, ap, ◌∙◌}
 use Prim.Native.Nat.{◌-◌}
@@ -10,14 +10,14 @@ use Rattle.saved.specs.Fields.{field, fields}
 use Rattle.saved.specs.Passes.{scan, nothingFound}
 use Rattle.saved.proofs.Reading.{told}
 use Rattle.saved.proofs.Passing.{scan-next}
-use Rattle.saved.proofs.front.scan_fields.Statement.{statement}
-use Rattle.saved.proofs.front.scan_fields.Tie as tie
+use Rattle.saved.proofs.opening.scan_fields.Statement.{statement}
+use Rattle.saved.proofs.opening.scan_fields.Tie as tie
 
 abbrev invariant-loop : tie.invariant-loop
-invariant-loop file front₀ cursor₀ front cursor = scan front (fields (drop cursor.at file)) ≡ scan nothingFound (fields file)
+invariant-loop file opening₀ cursor₀ opening cursor = scan opening (fields (drop cursor.at file)) ≡ scan nothingFound (fields file)
 
 abbrev decreases-loop : tie.decreases-loop
-decreases-loop file front₀ cursor₀ front cursor = length file - cursor.at
+decreases-loop file opening₀ cursor₀ opening cursor = length file - cursor.at
 
 loop-holds : tie.Need-loop-init invariant-loop decreases-loop
 loop-holds c = rw c.new.ensures
@@ -25,19 +25,19 @@ loop-holds c = rw c.new.ensures
 enum-known-tag : tie.Need-enum-known-tag invariant-loop decreases-loop
 enum-known-tag c = search rules
 
-add-front-with : tie.Need-overflow-add-front-with invariant-loop decreases-loop
-add-front-with c =
+add-opening-with : tie.Need-overflow-add-opening-with invariant-loop decreases-loop
+add-opening-with c =
     let t = told _ _ _ _ c.before.before.before.read.ensures c.before.tag.given.1 in
     omega arith
 
-sub-front-with : tie.Need-overflow-sub-front-with invariant-loop decreases-loop
-sub-front-with c = search rules
+sub-opening-with : tie.Need-overflow-sub-opening-with invariant-loop decreases-loop
+sub-opening-with c = search rules
 
-part-front-with-start : tie.Need-slice-bounds-front-with-start invariant-loop decreases-loop
-part-front-with-start c = search rules
+part-opening-with-start : tie.Need-slice-bounds-opening-with-start invariant-loop decreases-loop
+part-opening-with-start c = search rules
 
-part-front-with-end : tie.Need-slice-bounds-front-with-end invariant-loop decreases-loop
-part-front-with-end c =
+part-opening-with-end : tie.Need-slice-bounds-opening-with-end invariant-loop decreases-loop
+part-opening-with-end c =
     let t = told _ _ _ _ c.before.before.before.read.ensures c.before.tag.given.1 in
     omega arith
 
@@ -53,21 +53,21 @@ loop-again c =
     let g = c.before.before.before.tag.given in
     let t = told _ _ _ _ c.before.before.before.before.before.read.ensures g.1 in
     let f = field g.0.0 (take g.0.1.1.0 (drop g.0.1.0 file)) in
-    rw (c.front-with.ensures, add-sub_cancel_left) (sym (scan-next i.front f _ (fields (drop g.0.1.1.1.0.at file)) t.0) ∙ i.invariant)
+    rw (c.opening-with.ensures, add-sub_cancel_left) (sym (scan-next i.opening f _ (fields (drop g.0.1.1.1.0.at file)) t.0) ∙ i.invariant)
 
 returns : tie.Need-returns invariant-loop decreases-loop
 unfolding scan
 returns c =
     let i = c.before.before.before.loop in
     let t = told _ _ _ _ c.before.before.read.ensures c.enum_told.given.1 in
-    sym (ap (scan i.front) t) ∙ i.invariant
+    sym (ap (scan i.opening) t) ∙ i.invariant
 
 returns-2 : tie.Need-returns-2 invariant-loop decreases-loop
 unfolding scan
 returns-2 c =
     let i = c.before.before.before.loop in
     let t = told _ _ _ _ c.before.before.read.ensures c.enum-told2.given.1 in
-    sym (ap (scan i.front) t) ∙ i.invariant
+    sym (ap (scan i.opening) t) ∙ i.invariant
 
 pub scan-fields-spec : {M : Type 1} → statement M
 scan-fields-spec =
@@ -79,10 +79,10 @@ scan-fields-spec =
     loop-holds
     (λ c κs. search rules)
     enum-known-tag
-    add-front-with
-    sub-front-with
-    part-front-with-start
-    part-front-with-end
+    add-opening-with
+    sub-opening-with
+    part-opening-with-start
+    part-opening-with-end
     (λ c κs. search rules)
     loop-less
     loop-again

@@ -1,12 +1,11 @@
-// The first pass over a file: whether its fields end where it ends, its size and its tally. Refusals 18, 19 and 1, and for the reader 21 and 22
-// between them.
+// The first pass over a file: whether its fields end where it ends, its size and its tally. Refusals 18, 19 and 1.
 ghost use Rattle.std.specs.Prelude.{◌≡◌, ◌≤◌};
 ghost use Rattle.saved.specs.Fields.{fields, fields_of, field};
 ghost use Rattle.saved.specs.Load.{sizeNumber, refusedBy, answer_of};
-ghost use Rattle.saved.specs.Passes.{foundWith, frontWith, nothingFound, scan, foundAnswer};
+ghost use Rattle.saved.specs.Passes.{foundWith, openingWith, nothingFound, scan};
 
 use crate::fields::{Cursor, Read};
-use crate::{Loaded, SIZE, TALLY, bytes, order};
+use crate::{Loaded, SIZE, TALLY, bytes};
 use plant::Tally;
 use table::sizes;
 
@@ -20,9 +19,8 @@ pub enum Found {
     Wrong,
 }
 
-// What is found of size and tally.
 #[derive(Drop)]
-pub struct Front {
+pub struct Opening {
     pub size: Found,
     pub tally: Found,
 }
@@ -31,7 +29,7 @@ pub struct Front {
 #[derive(Drop)]
 pub enum Scan {
     Cut,
-    Whole(Front),
+    Whole(Opening),
 }
 
 // What is found with one such field more: its contents are two numbers of so many bytes.
@@ -54,31 +52,31 @@ fn found_with(found: Found, contents: &[u8], upper: usize, lower: usize) -> Foun
 }
 
 // What is found with one field more.
-fn front_with(front: Front, tag: u8, contents: &[u8]) -> Front
-    ensures { result ≡ frontWith front (field tag contents.now) }
+fn opening_with(opening: Opening, tag: u8, contents: &[u8]) -> Opening
+    ensures { result ≡ openingWith opening (field tag contents.now) }
 {
-    let size = front.size;
-    let tally = front.tally;
+    let size = opening.size;
+    let tally = opening.tally;
     if tag == SIZE {
-        return Front {
+        return Opening {
             size: found_with(size, contents, 0, 1),
             tally,
         };
     }
     if tag == TALLY {
-        return Front {
+        return Opening {
             size,
             tally: found_with(tally, contents, 4, 4),
         };
     }
-    front
+    opening
 }
 
 // The first pass.
-pub fn scan_fields(file: &[u8]) -> Scan
+fn scan_fields(file: &[u8]) -> Scan
     ensures { result ≡ scan nothingFound (fields file.now) }
 {
-    let mut front = Front {
+    let mut opening = Opening {
         size: Found::Absent,
         tally: Found::Absent,
     };
@@ -91,21 +89,21 @@ pub fn scan_fields(file: &[u8]) -> Scan
                 len,
                 next,
             } => {
-                front = front_with(front, tag, &file[start..start + len]);
+                opening = opening_with(opening, tag, &file[start..start + len]);
                 cursor = next;
             }
             Read::Past => {
                 return Scan::Cut;
             }
             Read::End => {
-                return Scan::Whole(front);
+                return Scan::Whole(opening);
             }
         }
     }
 }
 
 // The answer of a refused call.
-pub fn refused(number: u8) -> Loaded
+pub(crate) fn refused(number: u8) -> Loaded
     ensures { result ≡ refusedBy number }
 {
     Loaded {
@@ -118,15 +116,18 @@ pub fn refused(number: u8) -> Loaded
     }
 }
 
-// Size and tally by what the first pass found, or refusal 19 or 1.
-pub fn answer(front: Front) -> Loaded
-    ensures { result ≡ foundAnswer front.size front.tally }
+// Size and tally of a file, or its refusal 18, 19 or 1.
+pub(crate) fn open(file: &[u8]) -> Loaded
+    ensures { result ≡ answer_of (sizeNumber file.now) (fields_of file.now) }
 {
-    let size_found = front.size;
+    let Scan::Whole(opening) = scan_fields(file) else {
+        return refused(18);
+    };
+    let size_found = opening.size;
     let Found::Numbers(_, size) = size_found else {
         return refused(19);
     };
-    let tally_found = front.tally;
+    let tally_found = opening.tally;
     let Found::Numbers(rounds, tests) = tally_found else {
         return refused(19);
     };
@@ -138,18 +139,4 @@ pub fn answer(front: Front) -> Loaded
         size: size as u8,
         tally: Tally { rounds, tests },
     }
-}
-
-// Size and tally of an edition 2 file, or its refusal 18, 21, 22, 19 or 1.
-pub(crate) fn open(file: &[u8]) -> Loaded
-    ensures { result ≡ answer_of (sizeNumber file.now) (fields_of file.now) }
-{
-    let Scan::Whole(front) = scan_fields(file) else {
-        return refused(18);
-    };
-    let number = order::order_number(file);
-    if number != 0 {
-        return refused(number);
-    }
-    answer(front)
 }
