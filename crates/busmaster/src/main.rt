@@ -1,5 +1,7 @@
 // Computes examples of request C-15: a round of eight boards, grant by grant and as one drive, and drives that stop early. What it writes is
 // compared with the file `stdout`, which has what the request's rules give by hand and by the simulator.
+#![tactic(auto)]
+
 use granter::{Driven, drive, grant};
 use lists::bytes;
 use plant::{Tally, run};

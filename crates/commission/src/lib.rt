@@ -1,6 +1,8 @@
 // What the commissioning sheet says of a board, by its row: which boards it tests, whom it does not test and who stands ahead (`untested`), how many
 // tests it makes a round, and the most that one more dead board can make of it. The definitions, and the law behind the numbers, stand in crate
 // `slots`.
+#![tactic(auto)]
+
 ghost use Rattle.std.specs.Prelude.{◌≡◌, ◌+◌, ◌<◌, cond, set};
 ghost use Rattle.station.specs.Groups.{stationAt};
 ghost use Rattle.station.specs.Tests.{due};

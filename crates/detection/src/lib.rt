@@ -1,5 +1,7 @@
 // Demand 3 and the exact wait: the claims stand in specs/Claim.antt, their proof in proofs/Demand3.antt. The one function is the run itself
 // with the claims as its promise, so that they rest on what plant::run::run promises.
+#![tactic(auto)]
+
 ghost use Rattle.std.specs.Prelude.{◌≡◌};
 ghost use Rattle.plant.specs.Entry.{stateWith};
 ghost use Rattle.plant.specs.Run.{outcomeWith, run};

@@ -1,5 +1,7 @@
 // The claims of request C-15 stand in specs/, their proofs in proofs/. The one function is the drive itself with demand 3 of driven plants as
 // its promise, and the same within the exact wait, so that they rest on what granter::drive::drive promises.
+#![tactic(auto)]
+
 ghost use Rattle.std.specs.Prelude.{◌≡◌};
 ghost use Rattle.plant.specs.Entry.{stateWith};
 ghost use Rattle.detection.specs.Claim.{demandWait, exactWait};

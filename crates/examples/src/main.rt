@@ -1,6 +1,8 @@
 // Computes the examples of document 01 that are not marked [P], examples that follow the rules of requests C-11, C-13 and C-16, a plant of
 // eight boards, all of Table 1 of paper 000, and column vCube of Table 3 of paper 001. What it writes is compared with the file `stdout`, which has
 // what the documents and the papers say, and for C-11, C-13 and C-16 what their rules give by hand and by the simulator.
+#![tactic(auto)]
+
 use plant::{Answer, Tally, run};
 use station::{due, groups};
 use table::{Level, Station, cells, fresh};
@@ -342,7 +344,7 @@ fn one_pass(n: u8, table: &mut [u8], before: Tally, i: u8, shown: bool) -> Tally
 }
 
 // A turn: the tally after it, and whether the pass is finished or the turn was refused.
-#[derive(Drop)]
+#[derive(Clone, Copy)]
 struct Turn {
     tally: Tally,
     ended: bool,

@@ -1,5 +1,7 @@
 // The granter of request C-15: which station is granted the next turn, and the drive, which repeats grant and turn. It stands above `plant`
 // and relies only on what that crate and `station` state. The calls are grant::grant and drive::drive.
+#![tactic(auto)]
+
 pub mod drive;
 pub mod grant;
 
@@ -7,14 +9,14 @@ use plant::Tally;
 use table::Station;
 
 // What a grant answers: 0 or the refusal, and the granted station, 0 where it is refused.
-#[derive(Drop)]
+#[derive(Clone, Copy)]
 pub struct Granted {
     pub number: u8,
     pub station: Station,
 }
 
 // What a drive answers: 0 or the number it stopped or was refused with, the tally, the last granted number and the grants made.
-#[derive(Drop)]
+#[derive(Clone, Copy)]
 pub struct Driven {
     pub number: u8,
     pub tally: Tally,

@@ -36,6 +36,7 @@ module _ (q : ℕ → Bool) where
   -- and the other way
   pub mem-keep : (xs : List ℕ) (x : ℕ) → Memᴰ x xs → q x ≡ true → Memᴰ x (keep q xs)
   unfolding keep
+  mem-keep [] x m t = absurd (Memᴰ.not-nil m)
   mem-keep (y ∷ xs) x (Memᴰ.head p) t = let e : q y ≡ true = sym (ap q p) ∙ t in rw e (Memᴰ.head p)
   mem-keep (y ∷ xs) x (Memᴰ.tail k) t =
       by_bool (q y) (λ e. rw e (Memᴰ.tail (mem-keep xs x k t))) (λ e. rw e (mem-keep xs x k t))

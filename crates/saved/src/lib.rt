@@ -11,7 +11,7 @@ pub mod save;
 use plant::Tally;
 
 // What the reader answers: 0 or the refusal, the size and the tally; these are 0 where it is refused.
-#[derive(Drop)]
+#[derive(Clone, Copy)]
 pub struct Loaded {
     pub number: u8,
     pub size: u8,
@@ -19,7 +19,7 @@ pub struct Loaded {
 }
 
 // The size of a saved plant: 0 or the refusal, and the size, 0 where it is refused.
-#[derive(Drop)]
+#[derive(Clone, Copy)]
 pub struct SavedSize {
     pub number: u8,
     pub size: u8,

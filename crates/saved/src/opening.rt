@@ -10,7 +10,7 @@ use plant::Tally;
 use table::sizes;
 
 // What is found of a field that is to stand in the file once.
-#[derive(Drop)]
+#[derive(Clone, Copy)]
 pub enum Found {
     Absent,
     // The two numbers that its contents hold. Of the size field the first has no bytes and is 0.
@@ -19,14 +19,14 @@ pub enum Found {
     Wrong,
 }
 
-#[derive(Drop)]
+#[derive(Clone, Copy)]
 pub struct Opening {
     pub size: Found,
     pub tally: Found,
 }
 
 // What the first pass finds: a field or its head that runs past the end, or what the fields hold.
-#[derive(Drop)]
+#[derive(Clone, Copy)]
 pub enum Scan {
     Cut,
     Whole(Opening),

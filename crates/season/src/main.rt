@@ -1,4 +1,6 @@
 // Computes examples of request C-12. What it writes is compared with the file `stdout`, whose figures were worked out by hand.
+#![tactic(auto)]
+
 use figures::{Figures, Fraction, Totalled, Totals, adding, batch};
 
 const OUT: i32 = 1;

@@ -6,7 +6,7 @@ use lists::bytes;
 use table::sizes;
 
 // The sheet of so many boards, the table over all sizes, or nothing, where an argument is wrong.
-#[derive(Drop)]
+#[derive(Clone, Copy)]
 pub enum Asked {
     Sheet(u8),
     Sizes,

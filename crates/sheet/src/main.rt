@@ -1,6 +1,8 @@
 // The commissioning sheet: `sheet SIZE [DEAD BOARDS ..]` prints for each live board of a plant, whose dead boards are known to all, which boards it
 // tests, how many, the most that one more dead board can make of it, and who stands ahead where it does not test; `sheet --sizes` the most tests of
 // a board at every size.
+#![tactic(auto)]
+
 mod arguments;
 mod boards;
 mod sizes;

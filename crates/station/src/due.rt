@@ -116,7 +116,7 @@ fn assignment_number(n: usize, table: &[u8], i: Station, len: usize) -> u8
 }
 
 // How much of an assignment is written: the bytes, and how many entries are due.
-#[derive(Drop)]
+#[derive(Clone, Copy)]
 struct Written {
     bytes: u8,
     due: u8,

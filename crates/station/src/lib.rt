@@ -3,6 +3,8 @@
 //
 // The calls of document 01: groups::group_list, due::assignment, rows::row and rows::row_number. The rest is open for the crates above. No function
 // open to a caller has a `requires`.
+#![tactic(auto)]
+
 pub mod due;
 pub mod groups;
 pub mod order;
@@ -11,7 +13,7 @@ pub mod rows;
 use table::Station;
 
 // The first station not suspected in a group, if there is one.
-#[derive(Drop)]
+#[derive(Clone, Copy)]
 pub enum First {
     At(Station),
     Nobody,
@@ -19,14 +21,14 @@ pub enum First {
 
 // Request C-16: what the question whether a distance is due answers. Ahead names the station that is first instead; where nobody is first, or
 // nobody stands at the distance, the one that asks.
-#[derive(Drop)]
+#[derive(Clone, Copy)]
 pub enum DueOrAhead {
     Due,
     Ahead(Station),
 }
 
 // What the assignment answers: 0 or the refusal, and how many distances are due.
-#[derive(Drop)]
+#[derive(Clone, Copy)]
 pub struct Assigned {
     pub number: u8,
     pub count: u8,

@@ -2,6 +2,8 @@
 //
 // The call of document 01 is fresh::fresh_table. The rest is open for the crates above. No function open to a caller has a `requires`, but for
 // those of `inside`, which are meant for crates that have checked the table.
+#![tactic(auto)]
+
 pub mod cells;
 pub mod fresh;
 pub mod inside;
@@ -9,13 +11,13 @@ pub mod rules;
 pub mod sizes;
 
 // The number of a station, 0 to N − 1.
-#[derive(Drop)]
+#[derive(Clone, Copy)]
 pub struct Station(pub u8);
 
 // The distance of two stations: the exclusive or of their numbers.
-#[derive(Drop)]
+#[derive(Clone, Copy)]
 pub struct Distance(pub u8);
 
 // The level of a group (the papers' cluster), 1 to d.
-#[derive(Drop)]
+#[derive(Clone, Copy)]
 pub struct Level(pub u8);

@@ -15,7 +15,7 @@ use station::{DueOrAhead, due, order, rows};
 use table::{Distance, Station, cells, inside, sizes};
 
 // What a turn puts on the sheet: the tested station or 255, and the outcome.
-#[derive(Drop)]
+#[derive(Clone, Copy)]
 pub struct Turned {
     pub tested: u8,
     pub outcome: u8,

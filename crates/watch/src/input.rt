@@ -5,7 +5,7 @@ ghost use Rattle.watch.specs.Input.{lines, lineLength, number_of, kind_of, entry
 
 // The answer of `parse`: the number of the first unreadable line, from 1, or 0 where there is none; the size and how many entries were
 // read, all of them or those before that line.
-#[derive(Drop)]
+#[derive(Clone, Copy)]
 pub struct Parsed {
     pub unread: usize,
     pub size: usize,
@@ -13,14 +13,14 @@ pub struct Parsed {
 }
 
 // A number of a few digits, if they are one.
-#[derive(Drop)]
+#[derive(Clone, Copy)]
 enum Number {
     Value(usize),
     NoNumber,
 }
 
 // The kind and the station of a line, if it is an entry.
-#[derive(Drop)]
+#[derive(Clone, Copy)]
 enum Entry {
     Bytes(u8, u8),
     NoEntry,

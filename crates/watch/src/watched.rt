@@ -12,7 +12,7 @@ use plant::{Answer, Tally, run};
 use table::{cells, fresh, sizes};
 
 // What is printed: the number of the first unreadable line, or what the run answers.
-#[derive(Drop)]
+#[derive(Clone, Copy)]
 pub enum Report {
     Unread(usize),
     Ran(Answer),
