@@ -1,0 +1,25 @@
+-- The first rule that is broken decides.
+use Rattle.std.proofs.Common.{le-leb, lt-leb, not-true, not-false}
+use mathlib.Core.Bool.{and-false}
+use Rattle.table.specs.Rules.{lineRules}
+use Rattle.table.proofs.rules.line_rules.Goals as goal
+
+pub returns-then-status-gt3 : goal.returns-then-status-gt3
+unfolding lineRules
+returns-then-status-gt3 c = rw (← c.get-status.ensures, lt-leb _ 3 c.if-status-gt3.true)
+
+pub returns-then-not-pass_rule : goal.returns-then-not-pass_rule
+unfolding lineRules
+returns-then-not-pass_rule c = rw (← c.pass_rule.ensures, not-true c.pass_rule.result c.if-not-pass_rule.true, and-false)
+
+pub returns-then-not-exit_rule : goal.returns-then-not-exit_rule
+unfolding lineRules
+returns-then-not-exit_rule c = rw (← c.exit_rule.ensures, not-true c.exit_rule.result c.if-not-exit_rule.true, and-false)
+
+pub returns : goal.returns
+unfolding lineRules
+returns c =
+    let passes = not-false c.pass_rule.result c.if-not-pass_rule.false in
+    let exits = not-false c.exit_rule.result c.if-not-exit_rule.false in
+    let low = le-leb c.get-status.result 3 c.if-status-gt3.false in
+    rw (← c.pass_rule.ensures, passes, ← c.exit_rule.ensures, exits, ← c.row_rule.ensures, ← c.get-status.ensures, low)
