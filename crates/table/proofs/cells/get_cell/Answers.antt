@@ -1,5 +1,6 @@
 -- Past the table's end `get_or` gives 0.
-use Rattle.std.proofs.Common.{sym, get_or-eq_default}
+use Rattle.std.proofs.Common.{sym}
+use lib.ListN.{get_or-eq_default}
 use Rattle.table.specs.Table.{cell}
 use Rattle.table.proofs.cells.get_cell.Goals as goal
 

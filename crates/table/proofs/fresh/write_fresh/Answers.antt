@@ -9,7 +9,7 @@ loop-p-init c = record { passed = omega arith; written = fill_start _ _ }
 
 pub loop-p-preserved : goal.loop-p-preserved
 loop-p-preserved c =
-    record { passed = omega arith; written = fill-next _ _ _ _ _ c.loop-p.invariant.written c.fresh_byte.ensures }
+    record { passed = search rules; written = fill-next _ _ _ _ _ c.loop-p.invariant.written c.fresh_byte.ensures }
 
 pub returns : goal.returns
 unfolding freshTable

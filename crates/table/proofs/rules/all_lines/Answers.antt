@@ -1,5 +1,5 @@
 -- The lines passed so far all pass the test.
-use Rattle.std.proofs.Common.{rules, arith}
+use Rattle.std.proofs.Common.{rules, ap, not, arith}
 use Rattle.lists.proofs.Loops.{loops, every-start, every-next}
 use Rattle.table.proofs.rules.all_lines.Goals as goal
 
@@ -13,5 +13,5 @@ pub loop-i-preserved : goal.loop-i-preserved
 loop-i-preserved c =
     record {
       passed = omega arith;
-      kept = every-next _ _ _ c.loop-i.invariant.kept c.line_rules.ensures c.if-not-line_rules.false;
+      kept = every-next _ _ _ c.loop-i.invariant.kept c.line_rules.ensures (ap not c.if-not-line_rules.false);
     }

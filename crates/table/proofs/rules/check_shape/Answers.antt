@@ -1,5 +1,5 @@
 -- The size is asked first, then the length.
-use Rattle.std.proofs.Common.{◌∙◌, sym, arith, eq-eqb, ne_eqb, not-false}
+use Rattle.std.proofs.Common.{◌∙◌, sym, arith, eq-eqb, ne_eqb}
 use Rattle.table.specs.Rules.{shapeNumber}
 use Rattle.table.proofs.SizeLaws.{size-bounds}
 use Rattle.table.proofs.rules.check_shape.Goals as goal
@@ -9,7 +9,7 @@ unfolding shapeNumber
 returns-then-not-is_size c = simp (← c.is_size.ensures, c.if-not-is_size.true)
 
 pub overflow_cast-n : goal.overflow_cast-n
-overflow_cast-n c = omega (arith, size-bounds _ (sym c.is_size.ensures ∙ not-false _ c.if-not-is_size.false))
+overflow_cast-n c = omega (arith, size-bounds _ (sym c.is_size.ensures ∙ c.if-not-is_size.false))
 
 pub returns-then-len-table_length : goal.returns-then-len-table_length
 unfolding shapeNumber

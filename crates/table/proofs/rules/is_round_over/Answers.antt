@@ -9,15 +9,15 @@ loop-i-init c = record { passed = omega arith; done = every-start _; seen = ap n
 
 pub returns-then-not-finished_if_live : goal.returns-then-not-finished_if_live
 returns-then-not-finished_if_live c =
-    round-open _ _ _ _ (omega arith) c.finished_if_live.ensures c.if-not-finished_if_live.true
+    round-open _ _ _ _ (omega arith) c.finished_if_live.ensures (ap not c.if-not-finished_if_live.true)
 
 pub loop-i-preserved : goal.loop-i-preserved
 loop-i-preserved c =
     let i = c.loop-i.invariant in
     record {
       passed = omega arith;
-      done = every-next _ _ _ i.done c.finished_if_live.ensures c.if-not-finished_if_live.false;
-      seen = some_next _ _ _ _ i.seen (ap not c.is_live.ensures);
+      done = every-next _ _ _ i.done c.finished_if_live.ensures (ap not c.if-not-finished_if_live.false);
+      seen = some_next _ _ _ _ i.seen (ap not c.is_live-some.ensures);
     }
 
 pub returns : goal.returns

@@ -12,7 +12,7 @@ pub loop-k-preserved : goal.loop-k-preserved
 loop-k-preserved c =
     record {
       passed = omega arith;
-      within = range-next _ _ _ _ _ _ _ c.row-row.ensures.result_value (omega arith) c.loop-k.invariant.within c.greater.ensures;
+      within = range-next _ _ _ _ _ _ _ c.row-row.ensures.result_value (omega arith) c.loop-k.invariant.within c.greater-greatest.ensures;
     }
 
 pub returns : goal.returns

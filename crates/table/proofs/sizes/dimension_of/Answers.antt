@@ -9,4 +9,4 @@ returns-then-n-eq0 c = let e : c.args.n ≡ 0 = c.if-n-eq0.true in rw e c.level_
 
 pub returns : goal.returns
 unfolding dimension
-returns c = c.level_of.ensures.result_value
+returns c = c.level_of-2.ensures.result_value
