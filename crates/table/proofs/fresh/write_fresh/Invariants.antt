@@ -8,7 +8,7 @@ use Rattle.table.proofs.fresh.write_fresh.Given as goal
 abbrev pub invariant-loop-p : goal.invariant-loop-p
 invariant-loop-p l = record {
   passed : l.p ≤ length l.table;
-  written : l.table ≡ sets l.initial.table 0 (list_of (freshByte l.n) l.p)
+  written : l.table ≡ sets l.initial.table 0 (list_of (freshByte l.n) l.p);
 }
 
 abbrev pub decreases-loop-p : goal.decreases-loop-p

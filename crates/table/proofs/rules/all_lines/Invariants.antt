@@ -7,7 +7,7 @@ use Rattle.table.proofs.rules.all_lines.Given as goal
 abbrev pub invariant-loop-i : goal.invariant-loop-i
 invariant-loop-i l = record {
   passed : l.i ≤ l.n;
-  kept : every (lineRules l.n l.table) l.i ≡ true
+  kept : every (lineRules l.n l.table) l.i ≡ true;
 }
 
 abbrev pub decreases-loop-i : goal.decreases-loop-i

@@ -24,11 +24,23 @@ returns-then-not-all_lines c =
 pub returns-then-is_round_over : goal.returns-then-is_round_over
 unfolding tableNumber
 returns-then-is_round_over c =
-    simp (← c.check_shape-shape.ensures, c.if-shape-ne0.false, ← c.all_lines.ensures, c.if-not-all_lines.false,
-      ← c.is_round_over.ensures, c.if-is_round_over.true)
+    simp (
+      ← c.check_shape-shape.ensures,
+      c.if-shape-ne0.false,
+      ← c.all_lines.ensures,
+      c.if-not-all_lines.false,
+      ← c.is_round_over.ensures,
+      c.if-is_round_over.true,
+    )
 
 pub returns : goal.returns
 unfolding tableNumber
 returns c =
-    simp (← c.check_shape-shape.ensures, c.if-shape-ne0.false, ← c.all_lines.ensures, c.if-not-all_lines.false,
-      ← c.is_round_over.ensures, c.if-is_round_over.false)
+    simp (
+      ← c.check_shape-shape.ensures,
+      c.if-shape-ne0.false,
+      ← c.all_lines.ensures,
+      c.if-not-all_lines.false,
+      ← c.is_round_over.ensures,
+      c.if-is_round_over.false,
+    )

@@ -8,7 +8,7 @@ abbrev pub invariant-loop-i : goal.invariant-loop-i
 invariant-loop-i l = record {
   passed : l.i ≤ l.n;
   done : every (finishedIfLive l.n l.table) l.i ≡ true;
-  seen : l.some ≡ not (every (notLive l.n l.table) l.i)
+  seen : l.some ≡ not (every (notLive l.n l.table) l.i);
 }
 
 abbrev pub decreases-loop-i : goal.decreases-loop-i

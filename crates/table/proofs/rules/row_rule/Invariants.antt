@@ -8,7 +8,7 @@ use Rattle.table.proofs.rules.row_rule.Given as goal
 abbrev pub invariant-loop-k : goal.invariant-loop-k
 invariant-loop-k l = record {
   passed : l.k ≤ l.n;
-  within : leb l.greatest 1 ≡ every (suspicionRule l.n l.table l.fn.i.0) l.k
+  within : leb l.greatest 1 ≡ every (suspicionRule l.n l.table l.fn.i.0) l.k;
 }
 
 abbrev pub decreases-loop-k : goal.decreases-loop-k
