@@ -21,4 +21,12 @@ pub returns : goal.returns
 unfolding lineRules
 returns c =
     let low = le-leb c.get-status.result 3 c.if-status-gt3.false in
-    rw (← c.pass_rule.ensures, c.if-not-pass_rule.false, ← c.exit_rule.ensures, c.if-not-exit_rule.false, ← c.row_rule.ensures, ← c.get-status.ensures, low)
+    rw (
+      ← c.pass_rule.ensures,
+      c.if-not-pass_rule.false,
+      ← c.exit_rule.ensures,
+      c.if-not-exit_rule.false,
+      ← c.row_rule.ensures,
+      ← c.get-status.ensures,
+      low,
+    )
