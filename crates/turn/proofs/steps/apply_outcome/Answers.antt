@@ -9,7 +9,7 @@ returns-then-outcome-eq-TOLD c = rw c.if-outcome-eq-TOLD.true c.leave_told.ensur
 
 pub returns-then-outcome-eq-TESTED_TOLD : goal.returns-then-outcome-eq-TESTED_TOLD
 unfolding afterOutcome
-returns-then-outcome-eq-TESTED_TOLD c = rw c.if-outcome-eq-TESTED_TOLD.true c.leave_told.ensures
+returns-then-outcome-eq-TESTED_TOLD c = rw c.if-outcome-eq-TESTED_TOLD.true c.leave_told-then-outcome-eq-TESTED_TOLD.ensures
 
 pub returns-then-outcome-eq-EXCHANGED : goal.returns-then-outcome-eq-EXCHANGED
 unfolding afterOutcome

@@ -1,5 +1,5 @@
 -- The stations passed so far are suspected, but for the station itself.
-use Rattle.std.proofs.Common.{arith}
+use Rattle.std.proofs.Common.{ap, not, arith}
 use borrow.Author.Tests.{eq-eqb, ne_eqb}
 use Rattle.lists.proofs.Loops.{every-start, every-next, every-stop, every-done}
 use Rattle.turn.specs.Turn.{isAlone}
@@ -15,12 +15,12 @@ loop-k-init c = record { passed = omega arith; suspected = every-start _ }
 pub returns-then-not-self_or_suspected : goal.returns-then-not-self_or_suspected
 unfolding isAlone
 returns-then-not-self_or_suspected c =
-    rw (← c.get.ensures, eq-eqb _ _ c.if-get-ne-LIVE.false) (every-stop _ _ _ _ c.loop-k-test.true c.self_or_suspected.ensures c.if-not-self_or_suspected.true)
+    rw (← c.get.ensures, eq-eqb _ _ c.if-get-ne-LIVE.false) (every-stop _ _ _ _ c.loop-k-test.true c.self_or_suspected.ensures (ap not c.if-not-self_or_suspected.true))
 
 pub loop-k-preserved : goal.loop-k-preserved
 loop-k-preserved c = record {
   passed = omega arith;
-  suspected = every-next _ _ _ c.loop-k.invariant.suspected c.self_or_suspected.ensures c.if-not-self_or_suspected.false
+  suspected = every-next _ _ _ c.loop-k.invariant.suspected c.self_or_suspected.ensures (ap not c.if-not-self_or_suspected.false)
 }
 
 pub returns : goal.returns
