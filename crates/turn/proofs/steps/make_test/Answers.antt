@@ -20,7 +20,8 @@ pub test_outcome-outcome-requires : goal.test_outcome-outcome-requires
 test_outcome-outcome-requires c =
     let a = c.args in
     let p = c.requires in
-    (ap length c.count_test.ensures ∙ (countTest-length a.n a.table.now a.i.0 a.m.0 ∙ (accepted a.n a.table.now p.0).long), p.1, rw c.lookup-j.ensures p.4)
+    let t = accepted a.n a.table.now p.0 in
+    (ap length c.count_test.ensures ∙ (countTest-length a.n a.table.now a.i.0 a.m.0 ∙ t.long), p.1, rw c.lookup-j.ensures p.4)
 
 pub apply_outcome-requires : goal.apply_outcome-requires
 apply_outcome-requires c =

@@ -15,7 +15,8 @@ loop-k-init c = record { passed = omega arith; suspected = every-start _ }
 pub returns-then-not-self_or_suspected : goal.returns-then-not-self_or_suspected
 unfolding isAlone
 returns-then-not-self_or_suspected c =
-    rw (← c.get.ensures, eq-eqb _ _ c.if-get-ne-LIVE.false) (every-stop _ _ _ _ c.loop-k-test.true c.self_or_suspected.ensures (ap not c.if-not-self_or_suspected.true))
+    rw (← c.get.ensures, eq-eqb _ _ c.if-get-ne-LIVE.false)
+    (every-stop _ _ _ _ c.loop-k-test.true c.self_or_suspected.ensures (ap not c.if-not-self_or_suspected.true))
 
 pub loop-k-preserved : goal.loop-k-preserved
 loop-k-preserved c = record {
@@ -25,4 +26,6 @@ loop-k-preserved c = record {
 
 pub returns : goal.returns
 unfolding isAlone
-returns c = rw (← c.get.ensures, eq-eqb _ _ c.if-get-ne-LIVE.false) (every-done _ _ _ c.loop-k.invariant.suspected c.loop-k.invariant.passed c.loop-k-test.false)
+returns c =
+    let i = c.loop-k.invariant in
+    rw (← c.get.ensures, eq-eqb _ _ c.if-get-ne-LIVE.false) (every-done _ _ _ i.suspected i.passed c.loop-k-test.false)

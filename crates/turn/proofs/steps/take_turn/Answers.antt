@@ -22,7 +22,7 @@ pub returns-then-distances-m : goal.returns-then-distances-m
 unfolding turn turnTested turnOutcome makesTest
 returns-then-distances-m c =
     let e = le-ltb _ _ (rw c.distances.ensures at c.if-distances-m.true) in
-    rw (← c.next_test-m.ensures, e) (refl, (refl, c.finish_pass.ensures))
+    rw (← c.next_test-m.ensures, e) (record { tested_value = refl; outcome_value = refl; table_after = c.finish_pass.ensures })
 
 pub make_test-outcome-requires : goal.make_test-outcome-requires
 unfolding makesTest
@@ -45,4 +45,5 @@ pub returns : goal.returns
 unfolding turn turnTested turnOutcome makesTest
 returns c =
     let e = lt-ltb _ _ (rw c.distances.ensures at c.if-distances-m.false) in
-    rw (← c.next_test-m.ensures, e) (c.lookup-j.ensures, (c.make_test-outcome.ensures.value, c.make_test-outcome.ensures.table_after))
+    let o = c.make_test-outcome.ensures in
+    rw (← c.next_test-m.ensures, e) (record { tested_value = c.lookup-j.ensures; outcome_value = o.value; table_after = o.table_after })
