@@ -1,10 +1,10 @@
-use Rattle.std.proofs.Common.{refl, arith, rules}
-use Rattle.lists.proofs.Loops.{fill-ahead, fill-next, fill-start}
+use Rattle.std.proofs.Common.{arith}
+use Rattle.lists.proofs.Loops.{fill-ahead, fill-next, fill_start}
 use Rattle.lists.proofs.ByteLaws.{joined-byte, joined-filled}
 use Rattle.lists.proofs.bytes.join_bytes.Goals as goal
 
 pub loop-k-init : goal.loop-k-init
-loop-k-init c = record { passed = omega arith; joined = fill-start _ _ }
+loop-k-init c = record { passed = omega arith; joined = fill_start _ _ }
 
 pub loop-k-preserved : goal.loop-k-preserved
 loop-k-preserved c =
