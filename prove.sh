@@ -1,5 +1,5 @@
-# What ./watch and ./sheet share: to prove and build a program of this repository, as far as something changed since it was last proved, and
-# to write what it printed.
+# What ./watch, ./sheet and the tests share: to prove and build a program of this repository, as far as something changed since it was last
+# proved, and to write what it printed.
 # This file is sourced; $program names the program, which is its crate too, and $root the folder of this repository.
 # shellcheck shell=bash
 : "${program:?}" "${root:?}"
@@ -24,46 +24,60 @@ write_out() { # TEXT
 # The crates of this repository that NAME needs, as crates.txt lists them, and NAME behind them.
 needed() { # NAME
     local uses used
-    uses=$(sed -n "s/#.*//; s/^$1://p" crates.txt)
+    uses=$(sed -nE "s/#.*//; s/^$1( staticlib)?://p" crates.txt)
     for used in $uses; do
         if [[ -d crates/$used ]]; then needed "$used"; fi
     done
     echo "$1"
 }
 
-# Waits until rt begins to prove NAME, and says so. rt keeps a stamp of each proved crate, and removes it when it proves the crate anew.
-announce() { # NAME PLACE
-    while [[ -e target/stamp/$1 ]]; do
-        sleep 0.1
-        kill -0 $$ 2>/dev/null || return 0
-    done
-    echo "proving $1 ($2) .." >&2
+# The same, each once.
+all_needed() { # NAME
+    needed "$1" | awk '!seen[$0]++'
 }
 
+# The sum of what a proof of NAME reads in this repository.
+sum_of() { # NAME
+    local folders
+    mapfile -t folders < <(all_needed "$1" | sed 's|^|crates/|')
+    find "${folders[@]}" \( -path '*/src/*' -o -path '*/specs/*' -o -path '*/proofs/*' \) ! -path '*/out/*' -type f -print0 |
+        LC_ALL=C sort -z | xargs -0 sha256sum | sha256sum
+}
+
+# What rt makes of NAME: the program, or a library for the crates above it. Both prove it first.
+make_of() { # NAME
+    cd "crates/$1" || return
+    if [[ -f src/main.rt ]]; then
+        rt run </dev/null && mkdir -p ../../target/bin && cp "out/$1" ../../target/bin/
+    else
+        rt lib
+    fi
+}
+
+# target/proved/NAME holds the sum of what was last proved.
 prove() { # NAME PLACE
-    local announcing status=0 log=target/$program.log
-    announce "$1" "$2" &
-    announcing=$!
-    rt check "$1" </dev/null >"$log" 2>&1 || status=$?
-    kill $announcing 2>/dev/null || true
-    wait $announcing 2>/dev/null || true
-    if ((status != 0)); then
-        cat "$log" >&2
+    local sum began=$SECONDS proved=target/proved/$1 log=target/$program.log
+    sum=$(sum_of "$1")
+    if [[ -f $proved && $(<"$proved") == "$sum" && ! (-f crates/$1/src/main.rt && ! -x target/bin/$1) ]]; then return; fi
+    echo "proving $1 ($2) .." >&2 || true
+    rm -f "$proved"
+    if ! (make_of "$1") </dev/null >"$log" 2>&1; then
+        cat "$log" >&2 || true
+        echo "$program: $1 is not proved" >&2 || true
         exit 1
     fi
-    sed -n "s/^rt: \($1 proved ([0-9]* s)\)$/\1/p" "$log" >&2 || true
+    echo "$1 proved ($((SECONDS - began)) s)" >&2 || true
+    echo "$sum" >"$proved"
 }
 
 # Proves and builds the program, and first what it needs. Stays in the folder of this repository.
 prove_program() {
     local crates k
-    command -v rt >/dev/null || refuse "rt, the command of the Rattle toolchain, is not found"
     cd "$root" || exit
-    mkdir -p target
-    # rt takes the program for built as long as it has its stamp.
-    [[ -x target/bin/$program ]] || rm -f "target/stamp/$program"
-    mapfile -t crates < <(needed "$program" | awk '!seen[$0]++')
+    mkdir -p target/proved
+    mapfile -t crates < <(all_needed "$program")
     for k in "${!crates[@]}"; do
+        [[ -n $(command -v rt) ]] || refuse "rt, the command of the Rattle toolchain, is not found"
         prove "${crates[k]}" "$((k + 1)) of ${#crates[@]}"
     done
 }

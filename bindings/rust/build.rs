@@ -1,4 +1,4 @@
-//! Links the archive libvcube.a, made by `rt staticlib vcube`.
+//! Links the archive libvcube.a, made by tests/archive.
 //!
 //! It is looked for in the folder named by VCUBE_LIB_DIR, or else in
 //! target/staticlib of the repository.
@@ -16,7 +16,7 @@ fn main() {
         println!("cargo::rustc-link-lib=static=vcube");
     } else {
         let missing = archive.display();
-        println!("cargo::error=no archive {missing}: run `rt staticlib vcube`, or set VCUBE_LIB_DIR to the folder that holds it");
+        println!("cargo::error=no archive {missing}: run tests/archive, or set VCUBE_LIB_DIR to the folder that holds it");
     }
 }
 

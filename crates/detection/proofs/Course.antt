@@ -23,7 +23,7 @@ use Rattle.turn.proofs.StepLines.{Lines}
 use Rattle.turn.proofs.NextTest.{test-station}
 use Rattle.lists.specs.Sums.{bit}
 use Rattle.detection.specs.Runs.{Taken, takenTest, crashes, isLate}
-use Rattle.detection.specs.Rounds.{allTaken, countTaken, Rounds, closes, cut, testsIn, testsOfAll}
+use Rattle.detection.specs.Rounds.{allTaken, countTaken, Rounds, roundBefore, closes, cut, testsIn, testsOfAll}
 use Rattle.detection.specs.Claim.{TurnsOk, demandCount, allRounds, exactWait}
 use Rattle.detection.specs.Boards.{tested_in, firstTable}
 use Rattle.lists.proofs.BoolLaws.{by_bool}
@@ -83,6 +83,52 @@ exact-at n d T t₀ r end c pow q far closed i j h g l e =
 -- the entries xs from s to s', behind the entries `cur` of the round that started with t₀
 abbrev CutFrom : ℕ → List ℕ → List ℕ → List Taken → State → List Taken → State → Type 0
 CutFrom n T t₀ cur s xs s' = Course n T t₀ (cut cur xs) s'.table × Tallied cur s (cut cur xs) s'
+
+-- a closed round before the others: the table at its start, and those at the starts of the others
+abbrev startWith : List ℕ → (ℕ → List ℕ) → ℕ → List ℕ
+startWith t f zero = t
+startWith t f (suc q) = f q
+
+-- what is shown of the round `here`, which starts with t₀ and closes with the table t₁
+record ClosedRound (n : ℕ) (T t₀ t₁ : List ℕ) (here : List Taken) : Type 0 where
+  pub step : RoundStep n (live n T) t₀ t₁
+  pub turns : (i : ℕ) → i < n → TurnsOk n i here
+  pub counted : Exact n (live n T) t₀ → testsIn here ≡ demandCount n T
+  pub opened : (firstTable here ≡ t₀) × Plain n (live n T) t₀
+  pub listed : Exact n (live n T) t₀ → (i : ℕ) → i < n → live n T i ≡ true
+      → tested_in i here ≡ map (stationAt i) (ledBelow n (live n T) i (distances n))
+
+course-before : (n : ℕ) (T t₀ t₁ : List ℕ) (here : List Taken) → ClosedRound n T t₀ t₁ here
+    → (r : Rounds) (end : List ℕ) → Course n T t₁ r end → Course n T t₀ (roundBefore here r) end
+course-before n T t₀ t₁ here first r end c =
+    let start = startWith t₀ c.start in
+    let round = λ (k : ℕ). get_or (here ∷ r.closed) k [] in
+    record {
+      start = start;
+      begins = refl;
+      steps = λ q. elim q as (λ x. x < length (here ∷ r.closed) → RoundStep n (live n T) (start x) (start (suc x))) [
+        | zero ↦ λ h. rw c.begins first.step
+        | suc q ↦ λ h. c.steps q (omega arith)
+      ];
+      last = c.last;
+      turns = λ k. elim k as (λ x. (i : ℕ) → x ≤ length (here ∷ r.closed) → i < n → TurnsOk n i (get_or (here ∷ allRounds r) x [])) [
+        | zero ↦ λ i h. first.turns i
+        | suc k ↦ λ i h. c.turns k i (omega arith)
+      ];
+      counted = λ k. elim k as (λ x. x < length (here ∷ r.closed) → Exact n (live n T) (start x) → testsIn (round x) ≡ demandCount n T) [
+        | zero ↦ λ h. first.counted
+        | suc k ↦ λ h. c.counted k (omega arith)
+      ];
+      opened = λ k. elim k as (λ x. x < length (here ∷ r.closed) → (firstTable (round x) ≡ start x) × Plain n (live n T) (start x)) [
+        | zero ↦ λ h. first.opened
+        | suc k ↦ λ h. c.opened k (omega arith)
+      ];
+      listed = λ k. elim k as (λ x. x < length (here ∷ r.closed) → Exact n (live n T) (start x) → (i : ℕ) → i < n → live n T i ≡ true
+          → tested_in i (round x) ≡ map (stationAt i) (ledBelow n (live n T) i (distances n))) [
+        | zero ↦ λ h. first.listed
+        | suc k ↦ λ h. c.listed k (omega arith)
+      ];
+    }
 
 -- no entry more
 cut-done : (n : ℕ) (T t₀ : List ℕ) (cur : List Taken) (s : State) → isSize n ≡ true → InRound n (live n T) t₀ cur s.table
@@ -178,31 +224,15 @@ module _ (n : ℕ) (T : List ℕ) (company : Company n (live n T)) (t₀ : List 
       closing over =
           let r = rest (resetLines n t') [] (rw over (restart n L t' moved.knows.plain)) in
           rw (closing-is ∙ over) (
-            record {
-              start = λ q. elim q [ zero ↦ t₀ | suc q ↦ r.0.start q ];
-              begins = refl;
-              steps = λ q. elim q [
-                | zero ↦ λ h. rw r.0.begins (round-step n L t₀ t' here moved over low)
-                | suc q ↦ λ h. r.0.steps q (omega arith)
-              ];
-              last = r.0.last;
-              turns = λ k. elim k [
-                | zero ↦ λ i h. turns-ok n t₀ t' here moved.fresh lines' moved.counts ok.size moved.roomy i
-                | suc k ↦ λ i h. r.0.turns k i (omega arith)
-              ];
-              counted = λ k. elim k [
-                | zero ↦ λ h. round-count n T t₀ t' here low moved over
-                | suc k ↦ λ h. r.0.counted k (omega arith)
-              ];
-              opened = λ k. elim k [
-                | zero ↦ λ h. (inv.lists.opens x refl, inv.lists.opened)
-                | suc k ↦ λ h. r.0.opened k (omega arith)
-              ];
-              listed = λ k. elim k [
-                | zero ↦ λ h. round-list n L t₀ t' here moved over
-                | suc k ↦ λ h. r.0.listed k (omega arith)
-              ];
-            },
+            course-before n T t₀ (resetLines n t') here
+            (record {
+              step = round-step n L t₀ t' here moved over low;
+              turns = turns-ok n t₀ t' here moved.fresh lines' moved.counts ok.size moved.roomy;
+              counted = round-count n T t₀ t' here low moved over;
+              opened = (inv.lists.opens x refl, inv.lists.opened);
+              listed = round-list n L t₀ t' here moved over;
+            })
+            _ _ r.0,
             omega (arith, rw over at r.1.rounds, r.1.tests, tests-after, count-snoc takenTest cur x),
           )
 

@@ -15,6 +15,7 @@ const MOST_SUM: u64 = 268431360;
 const MOST_SQUARES: u64 = 17591649177600;
 
 // Totals of a list: those of no result are all 0.
+#[tactic(auto, unfolding(crate::specs::Totals::totals))]
 pub fn totals(results: &[u16]) -> Totalled
     ensures { result ≡ totals results.now }
 {
@@ -45,6 +46,7 @@ pub fn join(a: Totals, b: Totals) -> Totalled
 }
 
 // The join of the totals of two answers; a refusal is handed on.
+#[tactic(auto, unfolding(crate::specs::Steps::joinAnswers))]
 pub(crate) fn join_answers(a: Totalled, b: Totalled) -> Totalled
     ensures { result ≡ joinAnswers a b }
 {
@@ -58,6 +60,7 @@ pub(crate) fn join_answers(a: Totalled, b: Totalled) -> Totalled
 }
 
 // Whether the totals are more than 4,096 results can have.
+#[tactic(auto, unfolding(crate::specs::Totals::overfull))]
 pub(crate) fn is_overfull(t: Totals) -> bool
     ensures { result ≡ overfull t }
 {
@@ -79,6 +82,7 @@ fn add_up(results: &[u16]) -> Totals
 }
 
 // The totals of one result.
+#[tactic(auto, unfolding(crate::specs::Steps::single))]
 fn single(x: u16) -> Totals
     ensures { result ≡ single x }
 {
@@ -115,6 +119,7 @@ fn joined(a: Totals, b: Totals) -> Totals
 
 // The least or the greatest of two batches, of which one has m results and the value a, the other n and b; `both` is what a and b give
 // together.
+#[tactic(auto, unfolding(crate::specs::Totals::of_both))]
 fn of_both(m: u64, a: u64, n: u64, b: u64, both: u64) -> u64
     ensures { result ≡ of_both m a n b both }
 {

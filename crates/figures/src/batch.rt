@@ -24,6 +24,7 @@ pub fn figures_of_two(first: &[u16], second: &[u16]) -> Figures
 }
 
 // Figures of kept totals.
+#[tactic(auto, unfolding(crate::specs::Totals::figuresOfTotals, crate::specs::Batch::batchNumber))]
 pub fn figures_of_totals(t: Totals) -> Figures
     ensures { result ≡ figuresOfTotals t }
 {
@@ -44,6 +45,7 @@ pub fn figures_of_totals(t: Totals) -> Figures
 }
 
 // The figures of the totals of an answer; a refusal is handed on.
+#[tactic(auto, unfolding(crate::specs::Steps::figuresOfAnswer))]
 fn figures_of_answer(a: Totalled) -> Figures
     ensures { result ≡ figuresOfAnswer a }
 {

@@ -53,6 +53,7 @@ other-counted r i m = by_bool (due r i m) (λ e. rw (e, other e)) (λ e. rw (e, 
 
 -- what f gives at an element is among what it gives at all
 mem-map : (f : ℕ → ℕ) (x m : ℕ) (xs : List ℕ) → x ≡ f m → Memᴰ m xs → Memᴰ x (map f xs)
+mem-map f x m [] e k = elim k [ ]
 mem-map f x m (y ∷ xs) e (Memᴰ.head p) = Memᴰ.head (e ∙ ap f p)
 mem-map f x m (y ∷ xs) e (Memᴰ.tail k) = Memᴰ.tail (mem-map f x m xs e k)
 

@@ -164,7 +164,10 @@ module _ (n : ℕ) (s : State) (e : Entry) (ok : Accepted n s.table) (takes : en
           let r = rest (resetLines n t') [] (rw over anew) (inl refl) in
           let end : tableLeft T here ≡ resetLines n t' = left-snoc T cur (takenAt n s e) ∙ rw over in
           rw (closing-is ∙ over) (record {
-            each = λ k. elim k [ zero ↦ λ h. inr (rw end (closed-leaves n here t' left)) | suc k ↦ λ h. r.each k (omega arith) ];
+            each = λ k. elim k as (λ x. x ≤ length (here ∷ (cut [] xs).closed) → RoundFits n T (get_or (here ∷ allRounds (cut [] xs)) x [])) [
+              | zero ↦ λ h. inr (rw end (closed-leaves n here t' left))
+              | suc k ↦ λ h. r.each k (omega arith)
+            ];
             counts = r.counts;
           })
 

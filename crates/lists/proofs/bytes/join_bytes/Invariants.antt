@@ -8,7 +8,7 @@ use Rattle.lists.proofs.bytes.join_bytes.Given as goal
 abbrev pub invariant-loop-k : goal.invariant-loop-k
 invariant-loop-k l = record {
   passed : l.k ≤ l.end;
-  joined : l.list ≡ sets l.initial.list 0 (list_of (joinedByte l.initial.list l.other) l.k)
+  joined : l.list ≡ sets l.initial.list 0 (list_of (joinedByte l.initial.list l.other) l.k);
 }
 
 abbrev pub decreases-loop-k : goal.decreases-loop-k

@@ -7,7 +7,7 @@ use Rattle.lists.proofs.bytes.same_bytes.Given as goal
 abbrev pub invariant-loop-k : goal.invariant-loop-k
 invariant-loop-k l = record {
   passed : l.k ≤ length l.list;
-  same : eqb l.apart 0 ≡ every (sameByte l.list l.other) l.k
+  same : eqb l.apart 0 ≡ every (sameByte l.list l.other) l.k;
 }
 
 abbrev pub decreases-loop-k : goal.decreases-loop-k

@@ -8,7 +8,7 @@ use Rattle.lists.proofs.bytes.write_joined.Given as goal
 abbrev pub invariant-loop-k : goal.invariant-loop-k
 invariant-loop-k l = record {
   passed : l.k ≤ length l.list;
-  joined : l.out ≡ sets l.initial.out 0 (list_of (joinedByte l.list l.other) l.k)
+  joined : l.out ≡ sets l.initial.out 0 (list_of (joinedByte l.list l.other) l.k);
 }
 
 abbrev pub decreases-loop-k : goal.decreases-loop-k

@@ -1,0 +1,22 @@
+-- What there is to say of the distances below m is written.
+use Rattle.std.proofs.Common.{◌≡◌, ◌-◌, ◌≤◌, ◌<◌, length, map}
+use Rattle.std.proofs.lemmas.List.Edits.{sets}
+use Rattle.lists.specs.Search.{select}
+use Rattle.station.specs.Groups.{stationAt}
+use Rattle.station.specs.Tests.{answer}
+use Rattle.station.specs.Calls.{answerByte}
+use Rattle.slots.specs.Slots.{isUntested}
+use Rattle.commission.proofs.untested.list_untested.Given as goal
+
+abbrev pub invariant-loop-m : goal.invariant-loop-m
+invariant-loop-m l = record {
+  counted : l.count ≡ length (select (isUntested l.row l.i.0) l.m);
+  listed : l.list ≡ sets l.initial.list 0 (map (stationAt l.i.0) (select (isUntested l.row l.i.0) l.m));
+  named : l.firsts ≡ sets l.initial.firsts 0 (map (λ k. answerByte (answer l.row l.i.0 k)) (select (isUntested l.row l.i.0) l.m));
+  fewer : l.count < l.m;
+  reached : l.m ≤ l.end;
+  bytes : l.end ≤ 256
+}
+
+abbrev pub decreases-loop-m : goal.decreases-loop-m
+decreases-loop-m l = l.end - l.m

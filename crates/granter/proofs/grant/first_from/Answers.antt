@@ -1,0 +1,29 @@
+-- The stations passed so far do not wait.
+use Rattle.std.proofs.Common.{◌≡◌, not, ◌+◌, ◌-◌, sym, ap, ◌∙◌, arith, below_more}
+use Rattle.lists.proofs.SearchLaws.{least-is, least-none}
+use Rattle.granter.specs.Grant.{waits, firstFrom}
+use Rattle.granter.proofs.GrantLaws.{waits-is}
+use Rattle.granter.proofs.grant.first_from.Goals as goal
+
+pub returns-then-not-finished_if_live : goal.returns-then-not-finished_if_live
+unfolding firstFrom
+returns-then-not-finished_if_live c =
+    let i = c.loop-i.invariant in
+    let w = sym (waits-is _ _ _) ∙ ap not (sym c.finished_if_live.ensures ∙ c.if-not-finished_if_live.true) in
+    sym (least-is _ _ _ _ i.begun (omega arith) w (λ y a b. i.passed y b a))
+
+pub loop-i-preserved : goal.loop-i-preserved
+loop-i-preserved c = record {
+  begun = omega arith;
+  reached = omega arith;
+  passed = below_more _ _ c.loop-i.invariant.passed
+    (λ _. sym (waits-is _ _ _) ∙ ap not (sym c.finished_if_live.ensures ∙ c.if-not-finished_if_live.false));
+}
+
+pub returns : goal.returns
+unfolding firstFrom
+returns c =
+    let a = c.args in
+    let i = c.loop-i.invariant in
+    let e : c.loop-i.i ≡ a.from.0 + (a.n - a.from.0) = omega arith in
+    e ∙ sym (least-none (waits a.n a.table.now) (a.n - a.from.0) a.from.0 (λ y lo hi. i.passed y (omega arith) lo))

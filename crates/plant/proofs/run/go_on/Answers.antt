@@ -1,0 +1,47 @@
+-- The rest of the run, from where it stands, gives what the whole gives, and the table obeys the rules.
+use Rattle.std.proofs.Common.{refl, sym, ap, ◌∙◌, arith, length-take, length-drop}
+use Rattle.plant.specs.Entry.{State, stateWith}
+use Rattle.plant.proofs.RulesKept.{accepted-kept}
+use Rattle.plant.proofs.RunLaws.{accepted-number, entry_at, line-back, go-taken, go-stopped, go-done, start-facts}
+use Rattle.plant.proofs.run.go_on.Goals as goal
+
+pub loop-k-init : goal.loop-k-init
+loop-k-init c =
+    let f = start-facts _ _ _ _ c.requires in
+    record { taken = omega arith; twice = f.2; rules = f.0; same = refl }
+
+pub returns-then-number-ne0 : goal.returns-then-number-ne0
+returns-then-number-ne0 c =
+    let l = c.loop-k in
+    let s = stateWith l.table l.held in
+    sym (sym l.invariant.same ∙ go-stopped c.args.n l.k s l.sheet c.args.schedule.now _ c.loop-k-test.true c.entry_number-number.ensures c.if-number-ne0.true)
+
+pub take_entry-held-requires : goal.take_entry-held-requires
+take_entry-held-requires c =
+    let i = c.loop-k.invariant in
+    let h = c.loop-k-test.true in
+    (accepted-number _ _ i.rules, sym c.entry_number-number.ensures ∙ c.if-number-ne0.false, simp (length-take, length-drop) (omega (arith, i.twice, h)))
+
+pub loop-k-preserved : goal.loop-k-preserved
+loop-k-preserved c =
+    let n = c.args.n in
+    let l = c.loop-k in
+    let i = l.invariant in
+    let h = c.loop-k-test.true in
+    let s = stateWith l.table l.held in
+    let e = entry_at c.args.schedule.now l.k in
+    let z = sym c.entry_number-number.ensures ∙ c.if-number-ne0.false in
+    let p = c.take_entry-held.ensures in
+    let w = line-back n s e l.sheet l.k _ p.line_after (omega (arith, i.twice, h)) in
+    record {
+      taken = omega arith;
+      twice = omega arith;
+      rules = rw (ap (λ (z : State). z.table) p.result_after) (accepted-kept n s e i.rules z);
+      same = go-taken n l.k s l.sheet c.args.schedule.now _ _ h z p.result_after w ∙ i.same;
+    }
+
+pub returns : goal.returns
+returns c =
+    let l = c.loop-k in
+    let s = stateWith l.table l.held in
+    sym (sym l.invariant.same ∙ go-done c.args.n l.k s l.sheet c.args.schedule.now c.loop-k-test.false)

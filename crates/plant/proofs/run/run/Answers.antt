@@ -1,0 +1,22 @@
+-- A run that is not refused at its start goes on with the entries.
+use Rattle.std.proofs.Common.{sym, ◌∙◌, arith}
+use Rattle.table.proofs.SizeLaws.{size-bounds}
+use Rattle.plant.specs.Entry.{stateWith}
+use Rattle.plant.proofs.RunLaws.{start-facts, run-refused, run-goes}
+use Rattle.plant.proofs.run.run.Goals as goal
+
+pub returns-then-number-ne0 : goal.returns-then-number-ne0
+returns-then-number-ne0 c =
+    let a = c.args in
+    sym (run-refused a.n (stateWith a.table.now a.tally) a.schedule.now a.sheet.now _ c.start_number-number.ensures c.if-number-ne0.true)
+
+pub overflow_cast-n : goal.overflow_cast-n
+overflow_cast-n c = omega (arith, size-bounds _ (start-facts _ _ _ _ (sym c.start_number-number.ensures ∙ c.if-number-ne0.false)).0.size)
+
+pub go_on-requires : goal.go_on-requires
+go_on-requires c = sym c.start_number-number.ensures ∙ c.if-number-ne0.false
+
+pub returns : goal.returns
+returns c =
+    let a = c.args in
+    rw (run-goes a.n (stateWith a.table.now a.tally) a.schedule.now a.sheet.now (sym c.start_number-number.ensures ∙ c.if-number-ne0.false)) c.go_on.ensures

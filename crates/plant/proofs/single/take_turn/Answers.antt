@@ -1,0 +1,11 @@
+-- The rest of a run of one entry is that entry.
+use Rattle.std.proofs.Common.{ap, ◌∙◌}
+use Rattle.plant.specs.Run.{Outcome}
+use Rattle.plant.proofs.RunLaws.{start-one, go-one}
+use Rattle.plant.proofs.single.take_turn.Goals as goal
+
+pub go_on-answer-requires : goal.go_on-answer-requires
+go_on-answer-requires c = start-one _ _ c.requires.0
+
+pub returns : goal.returns
+returns c = ap (λ (o : Outcome). o.state) c.go_on-answer.ensures ∙ go-one _ _ _ _ _ c.requires.1

@@ -1,0 +1,24 @@
+-- A refusal of the row hides the later ones.
+use Rattle.std.proofs.Common.{◌∙◌, sym, arith}
+use Rattle.lists.proofs.RefusalLaws.{else-first}
+use Rattle.table.proofs.SizeLaws.{size-bounds}
+use Rattle.station.specs.Calls.{assignmentNumber}
+use Rattle.station.proofs.Refusals.{row_zero}
+use Rattle.station.proofs.due.assignment_number.Goals as goal
+
+pub returns-then-number-ne0 : goal.returns-then-number-ne0
+unfolding assignmentNumber
+returns-then-number-ne0 c = else-first _ _ _ c.row_number-number.ensures c.if-number-ne0.true
+
+pub overflow_cast-n : goal.overflow_cast-n
+overflow_cast-n c = omega (arith, size-bounds _ (row_zero _ _ _ (sym c.row_number-number.ensures ∙ c.if-number-ne0.false)).0.size)
+
+pub overflow_sub-thirteen : goal.overflow_sub-thirteen
+overflow_sub-thirteen c = ?
+
+pub overflow_mul-thirteen : goal.overflow_mul-thirteen
+overflow_mul-thirteen c = ?
+
+pub returns : goal.returns
+unfolding assignmentNumber
+returns c = rw (← c.row_number-number.ensures, c.if-number-ne0.false) (cc)

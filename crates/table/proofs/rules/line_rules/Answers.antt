@@ -1,0 +1,32 @@
+-- The first rule that is broken decides.
+use Rattle.std.proofs.Common.{le-leb}
+use mathlib.Core.Bool.{and-false}
+use borrow.Author.Tests.{lt-leb}
+use Rattle.table.specs.Rules.{lineRules}
+use Rattle.table.proofs.rules.line_rules.Goals as goal
+
+pub returns-then-status-gt3 : goal.returns-then-status-gt3
+unfolding lineRules
+returns-then-status-gt3 c = rw (← c.get-status.ensures, lt-leb _ 3 c.if-status-gt3.true)
+
+pub returns-then-not-pass_rule : goal.returns-then-not-pass_rule
+unfolding lineRules
+returns-then-not-pass_rule c = rw (← c.pass_rule.ensures, c.if-not-pass_rule.true, and-false)
+
+pub returns-then-not-exit_rule : goal.returns-then-not-exit_rule
+unfolding lineRules
+returns-then-not-exit_rule c = rw (← c.exit_rule.ensures, c.if-not-exit_rule.true, and-false)
+
+pub returns : goal.returns
+unfolding lineRules
+returns c =
+    let low = le-leb c.get-status.result 3 c.if-status-gt3.false in
+    rw (
+      ← c.pass_rule.ensures,
+      c.if-not-pass_rule.false,
+      ← c.exit_rule.ensures,
+      c.if-not-exit_rule.false,
+      ← c.row_rule.ensures,
+      ← c.get-status.ensures,
+      low,
+    )

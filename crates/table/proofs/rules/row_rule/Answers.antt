@@ -1,0 +1,27 @@
+-- The greatest byte so far is in its range as long as all bytes passed are.
+use Rattle.std.proofs.Common.{◌≡◌, sym, arith}
+use Rattle.table.specs.Rules.{rowRule}
+use Rattle.lists.proofs.Loops.{every-start}
+use Rattle.table.proofs.CellLaws.{row_at, range-next}
+use Rattle.table.proofs.rules.row_rule.Goals as goal
+
+pub loop-k-init : goal.loop-k-init
+loop-k-init c = record { passed = omega arith; within = sym (every-start _) }
+
+pub loop-k-preserved : goal.loop-k-preserved
+loop-k-preserved c =
+    record {
+      passed = omega arith;
+      within = range-next _ _ _ _ _ _ _ c.row-row.ensures.result_value (omega arith) c.loop-k.invariant.within c.greater-greatest.ensures;
+    }
+
+pub returns : goal.returns
+unfolding rowRule
+returns c =
+    let e : c.loop-k.k ≡ c.args.n = omega arith in
+    rw (
+      c.row-row.ensures.result_value,
+      row_at c.args.n c.args.table.now c.args.i.0 c.args.i.0 (omega arith),
+      c.loop-k.invariant.within,
+      e,
+    )

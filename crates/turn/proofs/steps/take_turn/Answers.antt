@@ -1,0 +1,49 @@
+-- The next distance is at least 1, and a test is made where the distance found is one of the plant's.
+use Rattle.std.proofs.Common.{refl, arith}
+use borrow.Author.Tests.{lt-ltb, le-ltb}
+use Rattle.table.proofs.Accepting.{accepted}
+use Rattle.table.proofs.SizeLaws.{size-bounds, size-distances}
+use Rattle.table.proofs.CellLaws.{accepted-line}
+use Rattle.turn.specs.Turn.{makesTest, turn, turnTested, turnOutcome}
+use Rattle.turn.proofs.NextTest.{nextTest-low, test-station}
+use Rattle.turn.proofs.steps.take_turn.Goals as goal
+
+pub next_test-m-requires : goal.next_test-m-requires
+next_test-m-requires c =
+    let t = accepted c.args.n c.args.table.now c.requires.0 in
+    ((size-bounds c.args.n t.size).1, (t.long, c.requires.1))
+
+pub finish_pass-requires : goal.finish_pass-requires
+finish_pass-requires c =
+    let t = accepted c.args.n c.args.table.now c.requires.0 in
+    ((size-bounds c.args.n t.size).1, (t.long, c.requires.1))
+
+pub returns-then-distances-m : goal.returns-then-distances-m
+unfolding turn turnTested turnOutcome makesTest
+returns-then-distances-m c =
+    let e = le-ltb _ _ (rw c.distances.ensures at c.if-distances-m.true) in
+    rw (← c.next_test-m.ensures, e) (record { tested_value = refl; outcome_value = refl; table_after = c.finish_pass.ensures })
+
+pub make_test-outcome-requires : goal.make_test-outcome-requires
+unfolding makesTest
+make_test-outcome-requires c =
+    let a = c.args in
+    let p = c.requires in
+    let t = accepted a.n a.table.now p.0 in
+    let l = accepted-line a.n a.table.now t a.i.0 p.1 in
+    let m = c.next_test-m.ensures in
+    let end = c.distances.ensures in
+    let e = lt-ltb _ _ (rw (end, m) at c.if-distances-m.false) in (
+      p.0,
+      p.1,
+      omega (arith, m, nextTest-low a.n a.table.now a.i.0, l.pass.nextLow),
+      omega (arith, end, size-distances a.n t.size),
+      rw m (test-station a.n a.table.now a.i.0 e t.long p.1),
+    )
+
+pub returns : goal.returns
+unfolding turn turnTested turnOutcome makesTest
+returns c =
+    let e = lt-ltb _ _ (rw c.distances.ensures at c.if-distances-m.false) in
+    let o = c.make_test-outcome.ensures in
+    rw (← c.next_test-m.ensures, e) (record { tested_value = c.lookup-j.ensures; outcome_value = o.value; table_after = o.table_after })
