@@ -22,8 +22,8 @@ pub returns-then-number-ne0-clause-bytes_after : goal.returns-then-number-ne0-cl
 unfolding rowPart
 returns-then-number-ne0-clause-bytes_after c =
     ap length (
-      unless-refused _ _ [] (row _ _ _) c.row_number-number.ensures c.if-number-ne0.true
-      ∙ row-part-narrow c.args.n c.args.table.now c.args.station _ c.byte_of.ensures
+    unless-refused _ _ [] (row _ _ _) c.row_number-number.ensures c.if-number-ne0.true
+    ∙ row-part-narrow c.args.n c.args.table.now c.args.station _ c.byte_of.ensures
     )
 
 pub overflow_cast-n : goal.overflow_cast-n
@@ -38,8 +38,8 @@ pub returns-clause-start_after : goal.returns-clause-start_after
 returns-clause-start_after c =
     c.row_start.ensures.value
     ∙ (
-      sym (offset-accepted _ _ _ (sym c.row_number-number.ensures ∙ c.if-number-ne0.false))
-      ∙ row-offset-narrow c.args.n c.args.table.now c.args.station _ c.byte_of.ensures
+    sym (offset-accepted _ _ _ (sym c.row_number-number.ensures ∙ c.if-number-ne0.false))
+    ∙ row-offset-narrow c.args.n c.args.table.now c.args.station _ c.byte_of.ensures
     )
 
 pub returns-clause-bytes_after : goal.returns-clause-bytes_after
