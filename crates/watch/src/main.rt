@@ -6,7 +6,9 @@ mod input;
 mod print;
 mod watched;
 
-use libc::STDIN_FILENO;
+ghost use Rattle.std.specs.Prelude.{◌≤◌, length};
+
+use std::io::Read;
 use table::cells;
 
 // The first 20,490 bytes decide every input. A readable line has at most three bytes (the size) or four (an entry) and its line feed, so
@@ -14,12 +16,27 @@ use table::cells;
 // entry's, that line's number is the answer, whatever follows. Else, in a longer input, at least six bytes with no line feed follow the
 // last whole line; the line that they begin is longer than four bytes and so unreadable, cut or not. `program-watches` of
 // proofs/Buffer.antt shows it.
-fn main() {
+fn main(rt: HostRuntime) {
     let mut buffer = [0u8; 20490];
     let mut schedule = [0u8; 8192];
     let mut table = [0u8; cells::GREATEST_TABLE];
     let mut sheet = [0u8; 16384];
-    let got = io::read_full(STDIN_FILENO, &mut buffer);
+    let got = read_full(&mut rt.stdin(), &mut buffer);
     let report = watched::watch_plant(&buffer[..got], &mut schedule, &mut table, &mut sheet);
-    print::print_report(&sheet, report);
+    print::print_report(&rt, &sheet, report);
+}
+
+// Reads until buf is full, the input ends or a read fails, and answers how many bytes it put at the start of buf.
+fn read_full<R: Read>(input: &mut R, buf: &mut [u8]) -> usize
+    ensures { result ≤ length buf.new }
+{
+    let mut done = 0;
+    while done < buf.len() {
+        let n = input.read(&mut buf[done..]).unwrap_or(0);
+        if n == 0 {
+            break;
+        }
+        done += n;
+    }
+    done
 }
