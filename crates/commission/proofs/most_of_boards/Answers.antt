@@ -1,5 +1,5 @@
 -- The greatest of those asked so far.
-use Rattle.std.proofs.Common.{◌≡◌, refl, ap, ◌∙◌, arith, length}
+use Rattle.std.proofs.Common.{◌≡◌, refl, ◌∙◌, arith}
 use Rattle.lists.proofs.Loops.{greatest-start, greatest-next}
 use Rattle.slots.specs.Slots.{mostOfBoards}
 use Rattle.commission.proofs.most_of_boards.Goals as goal

@@ -1,5 +1,5 @@
 -- The stations passed so far do not wait.
-use Rattle.std.proofs.Common.{◌≡◌, not, ◌+◌, ◌-◌, sym, ap, ◌∙◌, arith, below_more}
+use Rattle.std.proofs.Common.{◌≡◌, ◌+◌, ◌-◌, not, sym, ap, ◌∙◌, arith, below_more}
 use Rattle.lists.proofs.SearchLaws.{least-is, least-none}
 use Rattle.granter.specs.Grant.{waits, firstFrom}
 use Rattle.granter.proofs.GrantLaws.{waits-is}

@@ -13,7 +13,7 @@ returns-then-number-ne0 c =
     let h = c.if-number-ne0.true in
     record {
       result_value = unless-refused _ _ _ _ e h;
-      ref_ptr_value = (refl, omega (arith, offset-refused _ _ _ _ e h))
+      ref_ptr_value = (refl, omega (arith, offset-refused _ _ _ _ e h));
     }
 
 pub overflow_cast-n : goal.overflow_cast-n
@@ -31,5 +31,5 @@ returns c =
     let place = c.row.ensures.ref_ptr_value in
     record {
       result_value = c.row.ensures.result_value ∙ unless-accepted _ _ _ zero;
-      ref_ptr_value = (place.0, omega (arith, place.1, offset-accepted _ _ _ zero))
+      ref_ptr_value = (place.0, omega (arith, place.1, offset-accepted _ _ _ zero));
     }
