@@ -1,8 +1,8 @@
 // What the arguments ask for. What is wrong with them gets a line on standard error, and nothing else is printed.
 ghost use Rattle.std.specs.Prelude.{◌≤◌, length};
 
-use libc::STDERR_FILENO;
 use lists::bytes;
+use std::env::{Env, FillError};
 use table::sizes;
 
 // The sheet of so many boards, the table over all sizes, or nothing, where an argument is wrong.
@@ -17,55 +17,55 @@ pub enum Asked {
 const NO_NUMBER: u16 = 1000;
 
 // Reads the arguments. The row gets 1 at each dead board.
-pub fn read(row: &mut [u8]) -> Asked
+pub fn read(rt: &impl Env, err: &impl Print, row: &mut [u8]) -> Asked
     requires { 64 ≤ length row.old }
 {
-    let count = os::arg_count();
+    let count = arg_count(rt);
     if count < 2 {
-        complain(b"a size is needed, from 2 to 64");
+        complain(err, b"a size is needed, from 2 to 64");
         return Asked::Nothing;
     }
     let mut word = [0u8; 8];
-    let length = os::arg(1, &mut word);
+    let length = arg(rt, 1, &mut word);
     if bytes::same_bytes(&word[..length], b"--sizes") {
-        return read_sizes(count);
+        return read_sizes(err, count);
     }
-    read_sheet(number(&word[..length], 3), count, row)
+    read_sheet(rt, err, number(&word[..length], 3), count, row)
 }
 
 // `--sizes` stands alone.
-fn read_sizes(count: usize) -> Asked {
+fn read_sizes(err: &impl Print, count: usize) -> Asked {
     if count != 2 {
-        complain(b"nothing may follow --sizes");
+        complain(err, b"nothing may follow --sizes");
         return Asked::Nothing;
     }
     Asked::Sizes
 }
 
 // The size, as it was read, and the dead boards behind it.
-fn read_sheet(size: u16, count: usize, row: &mut [u8]) -> Asked
+fn read_sheet(rt: &impl Env, err: &impl Print, size: u16, count: usize, row: &mut [u8]) -> Asked
     requires { 64 ≤ length row.old }
 {
     if !sizes::is_size(size as usize) {
-        complain(b"argument 1 is not a size from 2 to 64");
+        complain(err, b"argument 1 is not a size from 2 to 64");
         return Asked::Nothing;
     }
     let n = size as usize;
-    if !read_boards(count, &mut row[0..n]) {
+    if !read_boards(rt, err, count, &mut row[0..n]) {
         return Asked::Nothing;
     }
     if live_boards(&row[0..n]) < 2 {
-        complain(b"at least two boards must be live");
+        complain(err, b"at least two boards must be live");
         return Asked::Nothing;
     }
     Asked::Sheet(size as u8)
 }
 
 // Reads the arguments from the second on; whether all of them name boards, each once.
-fn read_boards(count: usize, row: &mut [u8]) -> bool {
+fn read_boards(rt: &impl Env, err: &impl Print, count: usize, row: &mut [u8]) -> bool {
     let mut k: usize = 2;
     while k < count {
-        if !read_board(k, row) {
+        if !read_board(rt, err, k, row) {
             return false;
         }
         k += 1;
@@ -74,17 +74,17 @@ fn read_boards(count: usize, row: &mut [u8]) -> bool {
 }
 
 // Reads argument k; whether it names a board that no argument named before.
-fn read_board(k: usize, row: &mut [u8]) -> bool {
+fn read_board(rt: &impl Env, err: &impl Print, k: usize, row: &mut [u8]) -> bool {
     let mut word = [0u8; 8];
-    let length = os::arg(k, &mut word);
+    let length = arg(rt, k, &mut word);
     let board = number(&word[..length], 2) as usize;
     if row.len() <= board {
-        not_a_board(k, row.len());
+        not_a_board(err, k, row.len());
         return false;
     }
     if row[board] != 0 {
-        complain_of(k);
-        write(b" names a board again\n");
+        complain_of(err, k);
+        write(err, b" names a board again\n");
         return false;
     }
     row[board] = 1;
@@ -92,11 +92,11 @@ fn read_board(k: usize, row: &mut [u8]) -> bool {
 }
 
 // Argument k is not a number below n.
-fn not_a_board(k: usize, n: usize) {
-    complain_of(k);
-    write(b" is not a board from 0 to ");
-    io::print_decimal(STDERR_FILENO, before(n) as u64);
-    write(b"\n");
+fn not_a_board(err: &impl Print, k: usize, n: usize) {
+    complain_of(err, k);
+    write(err, b" is not a board from 0 to ");
+    decimal(err, before(n) as u64);
+    write(err, b"\n");
 }
 
 // One less; 0 for 0.
@@ -146,18 +146,42 @@ fn append(value: u16, byte: u8) -> u16 {
 }
 
 // A line on standard error.
-fn complain(what: &[u8]) {
-    write(b"sheet: ");
-    write(what);
-    write(b"\n");
+fn complain(err: &impl Print, what: &[u8]) {
+    write(err, b"sheet: ");
+    write(err, what);
+    write(err, b"\n");
 }
 
 // The start of a line on standard error that speaks of argument k.
-fn complain_of(k: usize) {
-    write(b"sheet: argument ");
-    io::print_decimal(STDERR_FILENO, k as u64);
+fn complain_of(err: &impl Print, k: usize) {
+    write(err, b"sheet: argument ");
+    decimal(err, k as u64);
 }
 
-fn write(text: &[u8]) {
-    io::write_all(STDERR_FILENO, text);
+// Writes a text. One that cannot be written is left out, and what follows is tried all the same.
+fn write(err: &impl Print, text: &[u8]) {
+    let _ = err.write_all(text);
+}
+
+// Writes a number's decimal digits, likewise.
+fn decimal(err: &impl Print, x: u64) {
+    let _ = err.print(x);
+}
+
+// How many arguments the program was started with, its own name among them.
+fn arg_count(rt: &impl Env) -> usize {
+    let mut word = [0u8; 8];
+    for k in 0..usize::MAX {
+        if let Err(FillError::NotPresent) = rt.arg(k, &mut word) {
+            return k;
+        }
+    }
+    usize::MAX
+}
+
+// Puts argument k at the start of `word` and returns its length, or 0 where it is missing or longer than `word`.
+fn arg(rt: &impl Env, k: usize, word: &mut [u8]) -> usize
+    ensures { result ≤ length word.new }
+{
+    rt.arg(k, word).unwrap_or(0)
 }

@@ -6,34 +6,34 @@ use table::Station;
 const HEAD_COLUMNS: u16 = 23;
 
 // The sheet of n boards, by the first n bytes of the row. For a shorter row nothing is printed.
-pub fn print_sheet(n: u8, row: &mut [u8]) {
+pub fn print_sheet(rt: &impl Print, n: u8, row: &mut [u8]) {
     let end = n as usize;
     if row.len() < end {
         return;
     }
-    print_plant(n, &row[0..end]);
-    print_tests(n, &mut row[0..end]);
-    print_ahead(n, &row[0..end]);
+    print_plant(rt, n, &row[0..end]);
+    print_tests(rt, n, &mut row[0..end]);
+    print_ahead(rt, n, &row[0..end]);
 }
 
 // The size and the dead boards.
-fn print_plant(n: u8, row: &[u8]) {
-    text::number(n);
-    text::write(b" boards, dead:");
+fn print_plant(rt: &impl Print, n: u8, row: &[u8]) {
+    text::number(rt, n);
+    text::write(rt, b" boards, dead:");
     let mut none = true;
     let mut x: u8 = 0;
     while x < n {
         if !is_live(row, Station(x)) {
-            text::write(b" ");
-            text::number(x);
+            text::write(rt, b" ");
+            text::number(rt, x);
             none = false;
         }
         x += 1;
     }
     if none {
-        text::write(b" none");
+        text::write(rt, b" none");
     }
-    text::write(b"\n\n");
+    text::write(rt, b"\n\n");
 }
 
 // Whether x is in the row and not dead.
@@ -43,14 +43,14 @@ fn is_live(row: &[u8], x: Station) -> bool {
 }
 
 // A line for each live board: whom it tests, how many these are, and the most with one more dead.
-fn print_tests(n: u8, row: &mut [u8]) {
+fn print_tests(rt: &impl Print, n: u8, row: &mut [u8]) {
     let columns = widest(n, row);
-    text::write(b"board  whom it tests, in order");
-    text::spaces(text::less(columns, HEAD_COLUMNS));
-    text::write(b"  tests a round  most with one more dead\n");
+    text::write(rt, b"board  whom it tests, in order");
+    text::spaces(rt, text::less(columns, HEAD_COLUMNS));
+    text::write(rt, b"  tests a round  most with one more dead\n");
     let mut i: u8 = 0;
     while i < n {
-        print_tests_of(n, row, Station(i), columns);
+        print_tests_of(rt, n, row, Station(i), columns);
         i += 1;
     }
 }
@@ -78,46 +78,46 @@ fn wider(columns: u16, n: u8, row: &[u8], i: Station) -> u16 {
 }
 
 // The line of board i, if it is live.
-fn print_tests_of(n: u8, row: &mut [u8], i: Station, columns: u16) {
+fn print_tests_of(rt: &impl Print, n: u8, row: &mut [u8], i: Station, columns: u16) {
     if !is_live(row, i) {
         return;
     }
     let mut list = [0u8; 256];
     let count = commission::list_tests(n, row, i, &mut list);
-    text::right(i.0, 5);
-    text::write(b"  ");
-    text::list(&list, count);
-    text::spaces(text::less(columns, text::list_width(&list, count)));
-    text::write(b"  ");
-    text::right(count, 13);
-    text::write(b"  ");
-    text::right(commission::most_tests(n, row, i), 23);
-    text::write(b"\n");
+    text::right(rt, i.0, 5);
+    text::write(rt, b"  ");
+    text::list(rt, &list, count);
+    text::spaces(rt, text::less(columns, text::list_width(&list, count)));
+    text::write(rt, b"  ");
+    text::right(rt, count, 13);
+    text::write(rt, b"  ");
+    text::right(rt, commission::most_tests(n, row, i), 23);
+    text::write(rt, b"\n");
 }
 
 // A line for each live board: whom it does not test, and who stands ahead.
-fn print_ahead(n: u8, row: &[u8]) {
-    text::write(b"\nboard  whom it does not test (who stands ahead)\n");
+fn print_ahead(rt: &impl Print, n: u8, row: &[u8]) {
+    text::write(rt, b"\nboard  whom it does not test (who stands ahead)\n");
     let mut i: u8 = 0;
     while i < n {
-        print_ahead_of(n, row, Station(i));
+        print_ahead_of(rt, n, row, Station(i));
         i += 1;
     }
 }
 
 // The line of board i, if it is live.
-fn print_ahead_of(n: u8, row: &[u8], i: Station) {
+fn print_ahead_of(rt: &impl Print, n: u8, row: &[u8], i: Station) {
     if !is_live(row, i) {
         return;
     }
     let mut list = [0u8; 256];
     let mut firsts = [0u8; 256];
     let count = commission::untested::list_untested(n, row, i, &mut list, &mut firsts);
-    text::right(i.0, 5);
-    text::write(b"  ");
+    text::right(rt, i.0, 5);
+    text::write(rt, b"  ");
     if count == 0 {
-        text::write(b"-");
+        text::write(rt, b"-");
     }
-    text::pairs(&list, &firsts, count);
-    text::write(b"\n");
+    text::pairs(rt, &list, &firsts, count);
+    text::write(rt, b"\n");
 }

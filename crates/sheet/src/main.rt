@@ -10,12 +10,12 @@ mod text;
 
 use arguments::Asked;
 
-fn main() {
+fn main(rt: HostRuntime) {
     let mut row = [0u8; 64];
-    let asked = arguments::read(&mut row);
+    let asked = arguments::read(&rt, &rt.stderr(), &mut row);
     match asked {
-        Asked::Sheet(n) => boards::print_sheet(n, &mut row),
-        Asked::Sizes => sizes::print_sizes(),
+        Asked::Sheet(n) => boards::print_sheet(&rt, n, &mut row),
+        Asked::Sizes => sizes::print_sizes(&rt),
         Asked::Nothing => {}
     }
 }

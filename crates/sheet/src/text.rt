@@ -1,21 +1,21 @@
 // Text on standard output. No contract can say what is written; these functions are safe.
 ghost use Rattle.std.specs.Prelude.{◌≤◌};
 
-use libc::STDOUT_FILENO;
-
-pub fn write(text: &[u8]) {
-    io::write_all(STDOUT_FILENO, text);
+// Writes a text. One that cannot be written is left out, and what follows is tried all the same.
+pub fn write(rt: &impl Print, text: &[u8]) {
+    let _ = rt.write_all(text);
 }
 
-pub fn number(x: u8) {
-    io::print_decimal(STDOUT_FILENO, x as u64);
+// Writes a number's decimal digits, likewise.
+pub fn number(rt: &impl Print, x: u8) {
+    let _ = rt.print(x);
 }
 
 // So many spaces.
-pub fn spaces(count: u16) {
+pub fn spaces(rt: &impl Print, count: u16) {
     let mut k: u16 = 0;
     while k < count {
-        write(b" ");
+        write(rt, b" ");
         k += 1;
     }
 }
@@ -34,9 +34,9 @@ fn digits(x: u8) -> u16
 }
 
 // A number at the right end of so many columns.
-pub fn right(x: u8, columns: u16) {
-    spaces(less(columns, digits(x)));
-    number(x);
+pub fn right(rt: &impl Print, x: u8, columns: u16) {
+    spaces(rt, less(columns, digits(x)));
+    number(rt, x);
 }
 
 // a less b; 0 where b is greater.
@@ -45,11 +45,11 @@ pub fn less(a: u16, b: u16) -> u16 {
 }
 
 // The first `count` numbers of a list, with a space between.
-pub fn list(list: &[u8; 256], count: u8) {
+pub fn list(rt: &impl Print, list: &[u8; 256], count: u8) {
     let mut k: u8 = 0;
     while k < count {
-        spaces(gap(k));
-        number(list[k as usize]);
+        spaces(rt, gap(k));
+        number(rt, list[k as usize]);
         k += 1;
     }
 }
@@ -73,16 +73,16 @@ fn gap(k: u8) -> u16
 }
 
 // The first `count` numbers of a list, with those of another in brackets, and commas between.
-pub fn pairs(list: &[u8; 256], other: &[u8; 256], count: u8) {
+pub fn pairs(rt: &impl Print, list: &[u8; 256], other: &[u8; 256], count: u8) {
     let mut k: u8 = 0;
     while k < count {
         if k != 0 {
-            write(b", ");
+            write(rt, b", ");
         }
-        number(list[k as usize]);
-        write(b" (");
-        number(other[k as usize]);
-        write(b")");
+        number(rt, list[k as usize]);
+        write(rt, b" (");
+        number(rt, other[k as usize]);
+        write(rt, b")");
         k += 1;
     }
 }

@@ -70,12 +70,12 @@ fn print_number(rt: &impl Print, text: &[u8], number: u64) {
     decimal(rt, number);
 }
 
-// Bytes on standard output. What cannot be written is left out.
+// Writes a text. One that cannot be written is left out, and what follows is tried all the same.
 fn write(rt: &impl Print, text: &[u8]) {
     let _ = rt.write_all(text);
 }
 
-// A number in decimal digits on standard output.
+// Writes a number's decimal digits, likewise.
 fn decimal(rt: &impl Print, number: u64) {
     let _ = rt.print(number);
 }
