@@ -73,11 +73,11 @@ prove() { # NAME PLACE
 # Proves and builds the program, and first what it needs. Stays in the folder of this repository.
 prove_program() {
     local crates k
+    command -v rt >/dev/null || refuse "rt, the command of the Rattle toolchain, is not found"
     cd "$root" || exit
     mkdir -p target/proved
     mapfile -t crates < <(all_needed "$program")
     for k in "${!crates[@]}"; do
-        [[ -n $(command -v rt) ]] || refuse "rt, the command of the Rattle toolchain, is not found"
         prove "${crates[k]}" "$((k + 1)) of ${#crates[@]}"
     done
 }

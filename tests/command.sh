@@ -49,7 +49,7 @@ mkdir "$made/stand-in"
 cat >"$made/stand-in/rt" <<EOF
 #!/bin/sh
 touch "$made/called"
-echo 'rt: station NOT PROVED'
+echo 'fn lists::bytes::greater: not proved'
 exit 1
 EOF
 chmod +x "$made/stand-in/rt"
@@ -104,10 +104,10 @@ proves_what_is_left() { # WORDS...
     local stdout=$small/crates/$name/stdout
     mkdir -p "$small/crates/"{low,between,"$name"}/src
     cp "$tested" ./*.sh "$small"
-    printf '%s\n' 'low: # used by both others' 'between: low' "$name: between low libc" >"$small/crates.txt"
+    printf '%s\n' 'low: # used by both others' 'between: low' "$name: between low" >"$small/crates.txt"
     echo 'pub fn half(x: u8) -> u8 { x / 2 }' >"$small/crates/low/src/lib.rt"
     echo 'pub fn quarter(x: u8) -> u8 { low::half(low::half(x)) }' >"$small/crates/between/src/lib.rt"
-    printf '%s\n' 'fn main() { libc::write(1, b"built\n"); }' >"$small/crates/$name/src/main.rt"
+    printf '%s\n' 'fn main(rt: HostRuntime) {' '    let _ = rt.write_all(b"built\n");' '}' >"$small/crates/$name/src/main.rt"
     echo built >"$stdout"
     called=$small/$name
 
@@ -122,6 +122,7 @@ proves_what_is_left() { # WORDS...
     echo 'pub fn half(x: u8) -> u8 { x + 2 }' >"$small/crates/low/src/lib.rt"
     call 1 "$made/empty" "$@"
     said '^proving low (1 of 3) \.\.$'
-    said '^rt: low NOT PROVED (exit 1, [0-9]* s)$'
+    said '^fn low::half: no proof'
+    said "^$name: low is not proved\$"
     called=$tested
 }

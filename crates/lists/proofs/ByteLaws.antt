@@ -86,8 +86,8 @@ pub same-done : (a b : List ℕ) (k : ℕ) (x : Bool) → length a ≡ length b 
 unfolding sameBytes
 same-done a b k x h e l m = let y : k ≡ length a = omega arith in rw (eq-eqb (length a) (length b) h) (e ∙ ap (every (sameByte a b)) y)
 
-pub same_bytes : (a b : List ℕ) → sameBytes a b ≡ true → a ≡ b
+pub equal_bytes : (a b : List ℕ) → sameBytes a b ≡ true → a ≡ b
 unfolding sameBytes sameByte
-same_bytes a b e =
+equal_bytes a b e =
     let p = both _ _ e in
     ext_get_or 0 a b (eqb-true _ _ p.0) (λ k h. eqb-true _ _ (every-at _ (length a) k p.1 h))

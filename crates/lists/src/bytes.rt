@@ -31,10 +31,8 @@ pub fn join_bytes(list: &mut [u8], other: &[u8])
     ensures { list.new ≡ joinedBytes list.old other.now }
 {
     let end = lesser(list.len(), other.len());
-    let mut k: usize = 0;
-    while k < end {
+    for k in 0..end {
         list[k] = greater(list[k], other[k]);
-        k += 1;
     }
 }
 
@@ -48,10 +46,8 @@ pub fn write_joined(list: &[u8], other: &[u8], out: &mut [u8])
     if out.len() < list.len() {
         return;
     }
-    let mut k: usize = 0;
-    while k < list.len() {
+    for k in 0..list.len() {
         out[k] = greater(list[k], other[k]);
-        k += 1;
     }
 }
 
@@ -63,10 +59,8 @@ pub fn same_bytes(list: &[u8], other: &[u8]) -> bool
         return false;
     }
     let mut apart: u8 = 0;
-    let mut k: usize = 0;
-    while k < list.len() {
+    for k in 0..list.len() {
         apart = greater(apart, list[k] ^ other[k]);
-        k += 1;
     }
     apart == 0
 }

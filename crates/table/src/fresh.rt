@@ -23,10 +23,8 @@ fn write_fresh(n: u8, table: &mut [u8])
     requires { length table.old ≡ tableLength n }
     ensures { table.new ≡ freshTable n }
 {
-    let mut p: usize = 0;
-    while p < table.len() {
+    for p in 0..table.len() {
         table[p] = fresh_byte(n, p);
-        p += 1;
     }
 }
 

@@ -50,13 +50,11 @@ pub fn is_round_over(n: u8, table: &[u8]) -> bool
     ensures { result ≡ roundOver n table.now }
 {
     let mut some = false;
-    let mut i: u8 = 0;
-    while i < n {
+    for i in 0..n {
         if !finished_if_live(n, table, Station(i)) {
             return false;
         }
         some = some | is_live(n, table, Station(i));
-        i += 1;
     }
     some
 }
@@ -74,12 +72,10 @@ fn all_lines(n: u8, table: &[u8]) -> bool
     requires { length table.now ≡ tableLength n }
     ensures { result ≡ every (lineRules n table.now) n }
 {
-    let mut i: u8 = 0;
-    while i < n {
+    for i in 0..n {
         if !line_rules(n, table, Station(i)) {
             return false;
         }
-        i += 1;
     }
     true
 }
@@ -146,10 +142,8 @@ fn row_rule(n: u8, table: &[u8], i: Station) -> bool
     let of = i.0 as usize;
     let own = row[of];
     let mut greatest: u8 = 0;
-    let mut k: usize = 0;
-    while k < row.len() {
-        greatest = bytes::greater(greatest, row[k]);
-        k += 1;
+    for byte in row {
+        greatest = bytes::greater(greatest, *byte);
     }
     (own == 0) & (greatest <= 1)
 }

@@ -16,7 +16,7 @@ use Rattle.lists.proofs.SearchLaws.{listOf-same}
 use Rattle.table.proofs.CellLaws.{row-length, row_same, setRow-length, setRow-out}
 use Rattle.station.proofs.UnionLaws.{union-length, union-at, union-own, union-others}
 use Rattle.lists.specs.Bytes.{joinedByte, joinedBytes, withJoined, sameBytes}
-use Rattle.lists.proofs.ByteLaws.{joined_length, joined_at, into-fits, same_bytes}
+use Rattle.lists.proofs.ByteLaws.{joined_length, joined_at, into-fits, equal_bytes}
 use Rattle.turn.specs.Turn.{exchangeRows}
 
 -- the table with the row as it comes back
@@ -44,7 +44,7 @@ union-twice r o u n own w e = listOf-same _ _ (length r) (λ k h. pick k (omega 
 pub same-exchange : (n : ℕ) (t : List ℕ) (i j : ℕ) → sameBytes (row n t i) (row n t j) ≡ true → t ≡ exchangeRows n t i j
 unfolding exchangeRows joinedByte
 same-exchange n t i j e =
-    let w : row n t i ≡ row n t j = same_bytes (row n t i) (row n t j) e in
+    let w : row n t i ≡ row n t j = equal_bytes (row n t i) (row n t j) e in
     let s : set_row n t i (union (row n t i) (row n t j) i) ≡ t = ap (set_row n t i) (ap (λ (r : List ℕ). union (row n t i) r i) (sym w) ∙ union_self (row n t i) i) ∙ setRow-same n t i in
     sym (rw s (ap (set_row n t j) (ap (λ (r : List ℕ). union (row n t j) r j) w ∙ union_self (row n t j) j) ∙ setRow-same n t j))
   where

@@ -12,7 +12,7 @@ invariant-loop-m l = record {
   listed : l.list ≡ sets l.initial.list 0 (map (stationAt l.i.0) (select (due l.row l.i.0) l.m));
   fewer : l.count < l.m;
   reached : l.m ≤ l.end;
-  bytes : l.end ≤ 256
+  bytes : l.end ≤ 256;
 }
 
 abbrev pub decreases-loop-m : goal.decreases-loop-m

@@ -8,7 +8,7 @@ abbrev pub invariant-loop-i : goal.invariant-loop-i
 invariant-loop-i l = record {
   most : l.most ≡ greatest (cond l.more (mostTests l.n l.initial.row) (testsDue l.n l.initial.row)) l.i;
   same : l.row ≡ l.initial.row;
-  reached : l.i ≤ l.n
+  reached : l.i ≤ l.n;
 }
 
 abbrev pub decreases-loop-i : goal.decreases-loop-i

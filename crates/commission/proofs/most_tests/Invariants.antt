@@ -8,7 +8,7 @@ abbrev pub invariant-loop-j : goal.invariant-loop-j
 invariant-loop-j l = record {
   most : l.most ≡ greatest (testsWith l.n l.initial.row l.i.0) l.j;
   same : l.row ≡ l.initial.row;
-  reached : l.j ≤ l.n
+  reached : l.j ≤ l.n;
 }
 
 abbrev pub decreases-loop-j : goal.decreases-loop-j

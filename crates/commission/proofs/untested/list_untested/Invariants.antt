@@ -15,7 +15,7 @@ invariant-loop-m l = record {
   named : l.firsts ≡ sets l.initial.firsts 0 (map (λ k. answerByte (answer l.row l.i.0 k)) (select (isUntested l.row l.i.0) l.m));
   fewer : l.count < l.m;
   reached : l.m ≤ l.end;
-  bytes : l.end ≤ 256
+  bytes : l.end ≤ 256;
 }
 
 abbrev pub decreases-loop-m : goal.decreases-loop-m

@@ -1,6 +1,5 @@
 -- The totals so far are those of the results passed; with one more result they are not overfull.
-use Rattle.std.proofs.Common.{◌≡◌, ◌<◌, ◌≤◌, length, take, get_or, arith, ◌∙◌, ap, ap₂}
-use lib.Seq.{take_all}
+use Rattle.std.proofs.Common.{◌≡◌, ◌≤◌, length, take, get_or, arith, ◌∙◌, ap₂}
 use Rattle.figures.specs.Batch.{sum_of, reduce}
 use Rattle.figures.specs.Totals.{totalsOf, joined}
 use Rattle.figures.specs.Steps.{single}

@@ -8,7 +8,7 @@ abbrev pub invariant-loop-k : goal.invariant-loop-k
 invariant-loop-k l = record {
   passed : l.k ≤ length l.results;
   so_far : l.sofar ≡ totalsOf (take l.k l.results);
-  of_results : OfResults l.sofar
+  of_results : OfResults l.sofar;
 }
 
 abbrev pub decreases-loop-k : goal.decreases-loop-k

@@ -1,6 +1,5 @@
 -- The drive stands where the grants made so far lead, and has not stopped before.
 use Rattle.std.proofs.Common.{refl, sym, ◌∙◌, arith}
-use borrow.Author.Tests.{not-true, not-false}
 use Rattle.plant.specs.Entry.{stateWith}
 use Rattle.granter.specs.Drive.{standAt, afterGrants}
 use Rattle.granter.proofs.GrantLaws.{grantable}
@@ -14,7 +13,7 @@ loop-tally-init c = record { led = refl; driving = driving-start _ _ _ (grantabl
 pub take_turn-held-requires : goal.take_turn-held-requires
 take_turn-held-requires c =
     let l = c.loop-tally.invariant in
-    let fits = sym c.is_full.ensures ∙ not-true _ c.loop-tally-test.true in
+    let fits = sym c.is_full.ensures ∙ c.loop-tally-test.true in
     let r = turn-ready _ _ _ _ l.led l.driving fits in
     (r.0, rw c.next_station-i.ensures r.1)
 
@@ -25,7 +24,7 @@ pub returns-then-has_ended : goal.returns-then-has_ended
 returns-then-has_ended c =
     let l = c.loop-tally in
     let q = standAt (stateWith l.table l.held) l.before in
-    let fits = sym c.is_full.ensures ∙ not-true _ c.loop-tally-test.true in
+    let fits = sym c.is_full.ensures ∙ c.loop-tally-test.true in
     let turned = turned-is _ q _ _ c.next_station-i.ensures c.take_turn-held.ensures in
     let stop = end-stop _ _ _ q l.invariant.led l.invariant.driving fits _ turned (sym c.has_ended.ensures ∙ c.if-has_ended.true) in
     let a = c.answer.ensures in
@@ -38,7 +37,7 @@ pub loop-tally-preserved : goal.loop-tally-preserved
 loop-tally-preserved c =
     let l = c.loop-tally in
     let q = standAt (stateWith l.table l.held) l.before in
-    let fits = sym c.is_full.ensures ∙ not-true _ c.loop-tally-test.true in
+    let fits = sym c.is_full.ensures ∙ c.loop-tally-test.true in
     let turned = turned-is _ q _ _ c.next_station-i.ensures c.take_turn-held.ensures in
     record {
       led = turned_on _ _ _ q l.invariant.led l.invariant.driving fits _ turned;
@@ -49,6 +48,6 @@ pub returns : goal.returns
 returns c =
     let l = c.loop-tally in
     let q = standAt (stateWith l.table l.held) l.before in
-    let stop = full-stop _ _ _ q l.invariant.led l.invariant.driving (sym c.is_full.ensures ∙ not-false _ c.loop-tally-test.false) in
-    let a = c.answer.ensures in
+    let stop = full-stop _ _ _ q l.invariant.led l.invariant.driving (sym c.is_full.ensures ∙ c.loop-tally-test.false) in
+    let a = c.answer-2.ensures in
     rw (a.0, a.1, a.2, a.3) (record { table_after = stop.0; stopped = stop.1 })

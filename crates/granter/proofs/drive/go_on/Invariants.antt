@@ -8,7 +8,7 @@ use Rattle.granter.proofs.drive.go_on.Given as goal
 abbrev pub invariant-loop-tally : goal.invariant-loop-tally
 invariant-loop-tally l = record {
   led : standAt (stateWith l.table l.held) l.before ≡ afterGrants l.n (standAt (stateWith l.initial.table l.tally) l.last) l.grants;
-  driving : Driving l.n (standAt (stateWith l.initial.table l.tally) l.last) l.grants
+  driving : Driving l.n (standAt (stateWith l.initial.table l.tally) l.last) l.grants;
 }
 
 abbrev pub decreases-loop-tally : goal.decreases-loop-tally

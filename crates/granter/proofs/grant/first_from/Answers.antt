@@ -1,5 +1,5 @@
 -- The stations passed so far do not wait.
-use Rattle.std.proofs.Common.{◌≡◌, not, ◌+◌, ◌-◌, sym, ap, ◌∙◌, arith, below_more}
+use Rattle.std.proofs.Common.{◌≡◌, ◌+◌, ◌-◌, not, sym, ap, ◌∙◌, arith, below_more}
 use Rattle.lists.proofs.SearchLaws.{least-is, least-none}
 use Rattle.granter.specs.Grant.{waits, firstFrom}
 use Rattle.granter.proofs.GrantLaws.{waits-is}
@@ -17,7 +17,7 @@ loop-i-preserved c = record {
   begun = omega arith;
   reached = omega arith;
   passed = below_more _ _ c.loop-i.invariant.passed
-    (λ _. sym (waits-is _ _ _) ∙ ap not (sym c.finished_if_live.ensures ∙ c.if-not-finished_if_live.false));
+      (λ _. sym (waits-is _ _ _) ∙ ap not (sym c.finished_if_live.ensures ∙ c.if-not-finished_if_live.false));
 }
 
 pub returns : goal.returns

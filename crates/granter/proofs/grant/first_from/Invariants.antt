@@ -7,7 +7,7 @@ abbrev pub invariant-loop-i : goal.invariant-loop-i
 invariant-loop-i l = record {
   begun : l.fn.from.0 ≤ l.i;
   reached : l.i ≤ l.fn.from.0 + (l.n - l.fn.from.0);
-  passed : (y : ℕ) → y < l.i → l.fn.from.0 ≤ y → waits l.n l.table y ≡ false
+  passed : (y : ℕ) → y < l.i → l.fn.from.0 ≤ y → waits l.n l.table y ≡ false;
 }
 
 abbrev pub decreases-loop-i : goal.decreases-loop-i

@@ -4,12 +4,12 @@ use Rattle.lists.proofs.ByteLaws.{joined-byte, joined-filled}
 use Rattle.lists.proofs.bytes.join_bytes.Goals as goal
 
 pub loop-k-init : goal.loop-k-init
-loop-k-init c = record { passed = omega arith; joined = fill_start _ _ }
+loop-k-init c = fill_start _ _
 
 pub loop-k-preserved : goal.loop-k-preserved
 loop-k-preserved c =
-    let i = c.loop-k.invariant.joined in
-    record { passed = omega arith; joined = fill-next _ _ _ _ _ i (joined-byte _ _ _ _ _ (fill-ahead _ _ _ _ i) c.greater.ensures) }
+    let i = c.loop-k.invariant in
+    fill-next _ _ _ _ _ i (joined-byte _ _ _ _ _ (fill-ahead _ _ _ _ i) c.greater.ensures)
 
 pub returns : goal.returns
-returns c = joined-filled _ _ _ _ c.loop-k.invariant.joined (omega arith)
+returns c = joined-filled _ _ _ _ c.loop-k.invariant (omega arith)

@@ -1,15 +1,9 @@
 -- The bytes passed so far are the greater ones, the others are as they were.
-use Rattle.std.proofs.Common.{◌≡◌, ◌-◌, ◌≤◌, min, length}
+use Rattle.std.proofs.Common.{◌≡◌}
 use Rattle.std.proofs.lemmas.List.Edits.{sets}
 use Rattle.lists.specs.Search.{list_of}
 use Rattle.lists.specs.Bytes.{joinedByte}
 use Rattle.lists.proofs.bytes.join_bytes.Given as goal
 
 abbrev pub invariant-loop-k : goal.invariant-loop-k
-invariant-loop-k l = record {
-  passed : l.k ≤ l.end;
-  joined : l.list ≡ sets l.initial.list 0 (list_of (joinedByte l.initial.list l.other) l.k);
-}
-
-abbrev pub decreases-loop-k : goal.decreases-loop-k
-decreases-loop-k l = l.end - l.k
+invariant-loop-k l = l.list ≡ sets l.initial.list 0 (list_of (joinedByte l.initial.list l.other) l.k)

@@ -7,13 +7,10 @@ pub returns-then-list-other : goal.returns-then-list-other
 returns-then-list-other c = same-apart _ _ c.if-list-other.true
 
 pub loop-k-init : goal.loop-k-init
-loop-k-init c = record { passed = omega arith; same = sym (every-start _) }
+loop-k-init c = sym (every-start _)
 
 pub loop-k-preserved : goal.loop-k-preserved
-loop-k-preserved c = record {
-  passed = omega arith;
-  same = same_next _ _ _ _ _ c.loop-k.invariant.same c.greater-apart.ensures;
-}
+loop-k-preserved c = same_next _ _ _ _ _ c.loop-k.invariant c.greater-apart.ensures
 
 pub returns : goal.returns
-returns c = let i = c.loop-k.invariant in same-done _ _ _ _ c.if-list-other.false i.same i.passed c.loop-k-test.false
+returns c = same-done _ _ _ _ c.if-list-other.false c.loop-k.invariant (omega arith) c.loop-k-test.false

@@ -10,15 +10,11 @@ pub returns-then-out-list : goal.returns-then-out-list
 returns-then-out-list c = into-short _ _ _ c.if-list-other.false c.if-out-list.true
 
 pub loop-k-init : goal.loop-k-init
-loop-k-init c = record { passed = omega arith; joined = fill_start _ _ }
+loop-k-init c = fill_start _ _
 
 pub loop-k-preserved : goal.loop-k-preserved
-loop-k-preserved c = record {
-  passed = omega arith;
-  joined = fill-next _ _ _ _ _ c.loop-k.invariant.joined (joined-byte _ _ _ _ _ refl c.greater.ensures);
-}
+loop-k-preserved c = fill-next _ _ _ _ _ c.loop-k.invariant (joined-byte _ _ _ _ _ refl c.greater.ensures)
 
 pub returns : goal.returns
 returns c =
-    let i = c.loop-k.invariant in
-    into-filled _ _ _ _ _ c.if-list-other.false c.if-out-list.false i.joined i.passed c.loop-k-test.false
+    into-filled _ _ _ _ _ c.if-list-other.false c.if-out-list.false c.loop-k.invariant (omega arith) c.loop-k-test.false

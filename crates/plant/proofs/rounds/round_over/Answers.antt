@@ -4,4 +4,4 @@ use Rattle.plant.proofs.rounds.round_over.Goals as goal
 
 pub returns-then-not-finished_if_live : goal.returns-then-not-finished_if_live
 returns-then-not-finished_if_live c =
-    round-open _ _ _ _ c.requires c.finished_if_live.ensures c.if-not-finished_if_live.true
+    round-open _ _ _ c.finished_if_live.result c.requires c.finished_if_live.ensures (rw c.if-not-finished_if_live.true)

@@ -14,12 +14,12 @@ loop-k-init c = record { passed = omega arith; number = refl }
 
 pub overflow_mul-v : goal.overflow_mul-v
 overflow_mul-v c =
-    let s = next_fits c.args.bytes.now _ _ c.type_inv.bytes c.requires c.loop-k-test.true c.loop-k.invariant.number in
+    let s = next_fits c.args.bytes.now _ _ (λ j h. omega (arith, c.type_inv.bytes j)) c.requires c.loop-k-test.true c.loop-k.invariant.number in
     omega arith
 
 pub overflow_add-v : goal.overflow_add-v
 overflow_add-v c =
-    let s = next_fits c.args.bytes.now _ _ c.type_inv.bytes c.requires c.loop-k-test.true c.loop-k.invariant.number in
+    let s = next_fits c.args.bytes.now _ _ (λ j h. omega (arith, c.type_inv.bytes j)) c.requires c.loop-k-test.true c.loop-k.invariant.number in
     omega arith
 
 pub loop-k-preserved : goal.loop-k-preserved

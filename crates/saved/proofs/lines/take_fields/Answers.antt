@@ -22,7 +22,7 @@ unfolding fields_of
 returns-then-not-take_field c =
     let t = told _ _ _ _ c.in-At.ensures refl in
     let took = rw add-sub_cancel_left at c.take_field.ensures in
-    build-stops _ _ _ _ _ _ _ _ _ t.0 c.loop-tag.invariant.whole took ? ∙ c.loop-tag.invariant.gives
+    build-stops _ _ _ _ _ _ _ _ _ t.0 c.loop-tag.invariant.whole took c.if-not-take_field.true ∙ c.loop-tag.invariant.gives
 
 pub loop-tag-smaller : goal.loop-tag-smaller
 loop-tag-smaller c = let t = told _ _ _ _ c.in-At.ensures refl in omega arith
@@ -33,7 +33,7 @@ loop-tag-preserved c =
     let took = rw add-sub_cancel_left at c.take_field.ensures in
     record {
       whole = whole-rest _ _ _ _ _ _ _ _ _ t.0 c.loop-tag.invariant.whole took;
-      gives = build-next _ _ _ _ _ _ _ _ _ t.0 c.loop-tag.invariant.whole took ? ∙ c.loop-tag.invariant.gives;
+      gives = build-next _ _ _ _ _ _ _ _ _ t.0 c.loop-tag.invariant.whole took c.if-not-take_field.false ∙ c.loop-tag.invariant.gives;
     }
 
 pub returns-in-Past : goal.returns-in-Past

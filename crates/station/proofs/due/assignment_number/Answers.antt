@@ -13,11 +13,11 @@ returns-then-number-ne0 c = else-first _ _ _ c.row_number-number.ensures c.if-nu
 pub overflow_cast-n : goal.overflow_cast-n
 overflow_cast-n c = omega (arith, size-bounds _ (row_zero _ _ _ (sym c.row_number-number.ensures ∙ c.if-number-ne0.false)).0.size)
 
-pub overflow_sub-thirteen : goal.overflow_sub-thirteen
-overflow_sub-thirteen c = ?
+pub overflow_sub-n : goal.overflow_sub-n
+overflow_sub-n c = omega (arith, (row_zero _ _ _ (sym c.row_number-number.ensures ∙ c.if-number-ne0.false)).1)
 
-pub overflow_mul-thirteen : goal.overflow_mul-thirteen
-overflow_mul-thirteen c = ?
+pub overflow_mul-n : goal.overflow_mul-n
+overflow_mul-n c = omega (arith, size-bounds _ (row_zero _ _ _ (sym c.row_number-number.ensures ∙ c.if-number-ne0.false)).0.size)
 
 pub returns : goal.returns
 unfolding assignmentNumber

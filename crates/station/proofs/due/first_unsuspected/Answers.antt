@@ -1,5 +1,5 @@
 -- Distance 0 has level 0, whose group is empty; otherwise the stations passed so far are all suspected.
-use Rattle.std.proofs.Common.{◌≡◌, sym, ap, ◌∙◌, ℕ, ◌<◌, arith}
+use Rattle.std.proofs.Common.{sym, ap, ◌∙◌, arith}
 use Rattle.std.proofs.Math.Option.{some}
 use Rattle.table.proofs.Levels.{level-zero, level-split}
 use Rattle.station.specs.Groups.{width}
@@ -17,9 +17,9 @@ pub returns-then-is_unsuspected : goal.returns-then-is_unsuspected
 returns-then-is_unsuspected c =
     ap some c.lookup-x.ensures
     ∙ sym (first-at _ _ _ _ (c.width_of-w.ensures.value ∙ ap width c.level_of.ensures.result_value) _ c.loop-k-test.true
-      (sym (ap (unsuspected _) c.lookup-x.ensures) ∙ sym c.is_unsuspected.ensures ∙ c.if-is_unsuspected.true) c.loop-k.invariant.suspected)
+    (sym (ap (unsuspected _) c.lookup-x.ensures) ∙ sym c.is_unsuspected.ensures ∙ c.if-is_unsuspected.true) c.loop-k.invariant.suspected)
 
 pub returns : goal.returns
 returns c =
     sym (first-nobody _ _ _ _ (c.width_of-w.ensures.value ∙ ap width c.level_of.ensures.result_value)
-      (λ y l. c.loop-k.invariant.suspected y (omega arith)))
+    (λ y l. c.loop-k.invariant.suspected y (omega arith)))

@@ -7,7 +7,7 @@ use Rattle.station.proofs.due.first_unsuspected.Given as goal
 abbrev pub invariant-loop-k : goal.invariant-loop-k
 invariant-loop-k l = record {
   passed : l.k ≤ l.w;
-  suspected : (y : ℕ) → y < l.k → unsuspected l.row (stationAt l.j.0 (l.w + y)) ≡ false
+  suspected : (y : ℕ) → y < l.k → unsuspected l.row (stationAt l.j.0 (l.w + y)) ≡ false;
 }
 
 abbrev pub decreases-loop-k : goal.decreases-loop-k

@@ -15,7 +15,7 @@ loop-m-init c =
       above = omega arith;
       passed = omega (arith, distances-pos c.args.n);
       counted = rw (due-start c.args.row.now c.args.i.0);
-      written = (rw none.0, rw none.1)
+      written = (rw none.0, rw none.1);
     }
 
 pub put_entry-written-requires : goal.put_entry-written-requires
@@ -34,7 +34,7 @@ loop-m-preserved c =
       above = omega arith;
       passed = omega arith;
       counted = count_next _ (λ k. k) _ _ _ i.counted s.due_value;
-      written = entry_next _ _ _ c.requires.1 _ _ _ _ _ _ i.above i.written s.bytes_value s.list_after
+      written = entry_next _ _ _ c.requires.1 _ _ _ _ _ _ i.above i.written s.bytes_value s.list_after;
     }
 
 pub returns-clause-value : goal.returns-clause-value

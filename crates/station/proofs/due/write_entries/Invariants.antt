@@ -12,7 +12,7 @@ invariant-loop-m l = record {
   passed : l.m ≤ l.end;
   counted : l.written.due ≡ length (select (due l.row l.i.0) l.m);
   written : (l.written.bytes ≡ 2 * length (select (isOther l.n l.i.0) l.m))
-      × (l.list ≡ sets l.initial.list 0 (assignmentEntries l.row l.i.0 (select (isOther l.n l.i.0) l.m)))
+      × (l.list ≡ sets l.initial.list 0 (assignmentEntries l.row l.i.0 (select (isOther l.n l.i.0) l.m)));
 }
 
 abbrev pub decreases-loop-m : goal.decreases-loop-m

@@ -14,7 +14,7 @@ count_if-count-requires c = omega (arith, passed-le _ _ _ _ _ c.loop-k.invariant
 pub loop-k-preserved : goal.loop-k-preserved
 loop-k-preserved c = record {
   within = omega arith;
-  counted = passed-count _ _ _ _ _ c.lookup-x.ensures _ _ c.loop-k.invariant.counted c.count_if-count.ensures
+  counted = passed-count _ _ _ _ _ c.lookup-x.ensures _ _ c.loop-k.invariant.counted c.count_if-count.ensures;
 }
 
 pub returns : goal.returns

@@ -6,7 +6,7 @@ use Rattle.station.proofs.groups.group_length.Given as goal
 abbrev pub invariant-loop-k : goal.invariant-loop-k
 invariant-loop-k l = record {
   within : l.k ≤ l.w;
-  counted : l.count ≡ length (passed l.n l.i.0 l.w l.k)
+  counted : l.count ≡ length (passed l.n l.i.0 l.w l.k);
 }
 
 abbrev pub decreases-loop-k : goal.decreases-loop-k

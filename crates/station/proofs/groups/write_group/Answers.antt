@@ -20,7 +20,7 @@ loop-k-preserved c =
     record {
       within = omega arith;
       counted = passed-count _ _ _ _ _ x _ _ i.counted p.value;
-      written = passed-put _ _ _ _ _ x _ _ _ _ i.written i.counted p.list_after
+      written = passed-put _ _ _ _ _ x _ _ _ _ i.written i.counted p.list_after;
     }
 
 pub returns : goal.returns

@@ -8,7 +8,7 @@ abbrev pub invariant-loop-k : goal.invariant-loop-k
 invariant-loop-k l = record {
   within : l.k ≤ l.w;
   counted : l.count ≡ length (passed l.n l.i.0 l.w l.k);
-  written : l.list ≡ sets l.initial.list 0 (passed l.n l.i.0 l.w l.k)
+  written : l.list ≡ sets l.initial.list 0 (passed l.n l.i.0 l.w l.k);
 }
 
 abbrev pub decreases-loop-k : goal.decreases-loop-k

@@ -1,15 +1,9 @@
 -- The bytes passed so far are those of a fresh table.
-use Rattle.std.proofs.Common.{◌≡◌, ◌-◌, ◌≤◌, length}
+use Rattle.std.proofs.Common.{◌≡◌}
 use Rattle.std.proofs.lemmas.List.Edits.{sets}
 use Rattle.lists.specs.Search.{list_of}
 use Rattle.table.specs.Fresh.{freshByte}
 use Rattle.table.proofs.fresh.write_fresh.Given as goal
 
 abbrev pub invariant-loop-p : goal.invariant-loop-p
-invariant-loop-p l = record {
-  passed : l.p ≤ length l.table;
-  written : l.table ≡ sets l.initial.table 0 (list_of (freshByte l.n) l.p);
-}
-
-abbrev pub decreases-loop-p : goal.decreases-loop-p
-decreases-loop-p l = length l.table - l.p
+invariant-loop-p l = l.table ≡ sets l.initial.table 0 (list_of (freshByte l.n) l.p)

@@ -1,14 +1,8 @@
 -- The lines passed so far all pass the test.
-use Rattle.std.proofs.Common.{◌≡◌, ◌-◌, ◌≤◌, true}
+use Rattle.std.proofs.Common.{◌≡◌, true}
 use Rattle.lists.specs.Search.{every}
 use Rattle.table.specs.Rules.{lineRules}
 use Rattle.table.proofs.rules.all_lines.Given as goal
 
 abbrev pub invariant-loop-i : goal.invariant-loop-i
-invariant-loop-i l = record {
-  passed : l.i ≤ l.n;
-  kept : every (lineRules l.n l.table) l.i ≡ true;
-}
-
-abbrev pub decreases-loop-i : goal.decreases-loop-i
-decreases-loop-i l = l.n - l.i
+invariant-loop-i l = every (lineRules l.n l.table) l.i ≡ true

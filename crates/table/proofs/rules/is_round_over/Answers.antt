@@ -5,7 +5,7 @@ use Rattle.table.proofs.Accepting.{round-open, round-done}
 use Rattle.table.proofs.rules.is_round_over.Goals as goal
 
 pub loop-i-init : goal.loop-i-init
-loop-i-init c = record { passed = omega arith; done = every-start _; seen = ap not (sym (every-start _)) }
+loop-i-init c = record { done = every-start _; seen = ap not (sym (every-start _)) }
 
 pub returns-then-not-finished_if_live : goal.returns-then-not-finished_if_live
 returns-then-not-finished_if_live c =
@@ -15,7 +15,6 @@ pub loop-i-preserved : goal.loop-i-preserved
 loop-i-preserved c =
     let i = c.loop-i.invariant in
     record {
-      passed = omega arith;
       done = every-next _ _ _ i.done c.finished_if_live.ensures (ap not c.if-not-finished_if_live.false);
       seen = some_next _ _ _ _ i.seen (ap not c.is_live-some.ensures);
     }
@@ -23,4 +22,4 @@ loop-i-preserved c =
 pub returns : goal.returns
 returns c =
     let i = c.loop-i.invariant in
-    round-done _ _ _ _ i.passed (omega arith) i.done i.seen
+    round-done _ _ _ _ (omega arith) (omega arith) i.done i.seen

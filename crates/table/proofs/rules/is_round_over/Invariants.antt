@@ -1,15 +1,11 @@
 -- Of the lines passed so far all live ones are finished, and `some` says whether one is live.
-use Rattle.std.proofs.Common.{◌≡◌, ◌-◌, ◌≤◌, true, not}
+use Rattle.std.proofs.Common.{◌≡◌, true, not}
 use Rattle.lists.specs.Search.{every}
 use Rattle.table.specs.Rules.{notLive, finishedIfLive}
 use Rattle.table.proofs.rules.is_round_over.Given as goal
 
 abbrev pub invariant-loop-i : goal.invariant-loop-i
 invariant-loop-i l = record {
-  passed : l.i ≤ l.n;
   done : every (finishedIfLive l.n l.table) l.i ≡ true;
   seen : l.some ≡ not (every (notLive l.n l.table) l.i);
 }
-
-abbrev pub decreases-loop-i : goal.decreases-loop-i
-decreases-loop-i l = l.n - l.i

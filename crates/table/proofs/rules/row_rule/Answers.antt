@@ -5,23 +5,20 @@ use Rattle.lists.proofs.Loops.{every-start}
 use Rattle.table.proofs.CellLaws.{row_at, range-next}
 use Rattle.table.proofs.rules.row_rule.Goals as goal
 
-pub loop-k-init : goal.loop-k-init
-loop-k-init c = record { passed = omega arith; within = sym (every-start _) }
+pub loop-byte-init : goal.loop-byte-init
+loop-byte-init c = sym (every-start _)
 
-pub loop-k-preserved : goal.loop-k-preserved
-loop-k-preserved c =
-    record {
-      passed = omega arith;
-      within = range-next _ _ _ _ _ _ _ c.row-row.ensures.result_value (omega arith) c.loop-k.invariant.within c.greater-greatest.ensures;
-    }
+pub loop-byte-preserved : goal.loop-byte-preserved
+loop-byte-preserved c =
+    range-next _ _ _ _ _ _ _ c.row-row.ensures.result_value (omega arith) c.loop-byte.invariant c.greater-greatest.ensures
 
 pub returns : goal.returns
 unfolding rowRule
 returns c =
-    let e : c.loop-k.k ≡ c.args.n = omega arith in
+    let e : c.loop-byte.byte-index ≡ c.args.n = omega arith in
     rw (
       c.row-row.ensures.result_value,
       row_at c.args.n c.args.table.now c.args.i.0 c.args.i.0 (omega arith),
-      c.loop-k.invariant.within,
+      c.loop-byte.invariant,
       e,
     )

@@ -16,4 +16,5 @@ returns c =
     let a = c.args in
     let s = c.row_start-a.ensures.value in
     row_back a.n a.table.now a.i.0 _ _ s
-    ∙ ap (set_row a.n a.table.now a.i.0) (c.join_row.ensures ∙ ap (λ (r : List ℕ). union r a.other.now a.i.0) (row-part a.n a.table.now a.i.0 _ s))
+    ∙ ap (set_row a.n a.table.now a.i.0)
+    (c.join_row.ensures ∙ ap (λ (r : List ℕ). union r a.other.now a.i.0) (row-part a.n a.table.now a.i.0 _ s))

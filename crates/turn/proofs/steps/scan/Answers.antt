@@ -1,5 +1,5 @@
 -- The distances passed so far are not due.
-use Rattle.std.proofs.Common.{◌≡◌, ℕ, ◌+◌, ◌-◌, ◌∙◌, sym, ap, below_more, arith}
+use Rattle.std.proofs.Common.{◌≡◌, ◌+◌, ◌-◌, ◌∙◌, sym, ap, below_more, arith}
 use mathlib.Core.Logic.{by_cases}
 use native.Mathlib.Decide.{dec_lt}
 use Rattle.station.specs.Tests.{saysDue, due}
@@ -14,7 +14,7 @@ loop-m-init c = record { begun = omega arith; passed = λ y l h. absurd (omega a
 pub loop-m-preserved-then-not-stands : goal.loop-m-preserved-then-not-stands
 loop-m-preserved-then-not-stands c = record {
   begun = omega arith;
-  passed = below_more _ _ c.loop-m.invariant.passed (λ _. due-absent _ _ _ (sym c.stands.ensures ∙ c.if-not-stands.true))
+  passed = below_more _ _ c.loop-m.invariant.passed (λ _. due-absent _ _ _ (sym c.stands.ensures ∙ c.if-not-stands.true));
 }
 
 pub loop-m-smaller : goal.loop-m-smaller
@@ -28,7 +28,7 @@ loop-m-preserved c =
     record {
       begun = omega (arith, block-low _ _ last);
       passed = λ y l h. by_cases (dec_lt y m) (λ b. c.loop-m.invariant.passed y b h)
-          (λ b. none-due-in-block _ _ m _ y here (sym c.in_default.ensures) (omega arith) (omega (arith, last)))
+          (λ b. none-due-in-block _ _ m _ y here (sym c.in_default.ensures) (omega arith) (omega (arith, last)));
     }
 
 pub returns-in-loop-m : goal.returns-in-loop-m

@@ -6,7 +6,7 @@ use Rattle.turn.proofs.steps.scan.Given as goal
 abbrev pub invariant-loop-m : goal.invariant-loop-m
 invariant-loop-m l = record {
   begun : l.from.0 ≤ l.m;
-  passed : (y : ℕ) → y < l.m → l.from.0 ≤ y → due l.row l.i.0 y ≡ false
+  passed : (y : ℕ) → y < l.m → l.from.0 ≤ y → due l.row l.i.0 y ≡ false;
 }
 
 abbrev pub decreases-loop-m : goal.decreases-loop-m

@@ -21,7 +21,7 @@ returns-then-not-self_or_suspected c =
 pub loop-k-preserved : goal.loop-k-preserved
 loop-k-preserved c = record {
   passed = omega arith;
-  suspected = every-next _ _ _ c.loop-k.invariant.suspected c.self_or_suspected.ensures (ap not c.if-not-self_or_suspected.false)
+  suspected = every-next _ _ _ c.loop-k.invariant.suspected c.self_or_suspected.ensures (ap not c.if-not-self_or_suspected.false);
 }
 
 pub returns : goal.returns

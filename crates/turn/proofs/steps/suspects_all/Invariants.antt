@@ -7,7 +7,7 @@ use Rattle.turn.proofs.steps.suspects_all.Given as goal
 abbrev pub invariant-loop-k : goal.invariant-loop-k
 invariant-loop-k l = record {
   passed : l.k ≤ l.n;
-  suspected : every (selfOrSuspected l.n l.table l.i.0) l.k ≡ true
+  suspected : every (selfOrSuspected l.n l.table l.i.0) l.k ≡ true;
 }
 
 abbrev pub decreases-loop-k : goal.decreases-loop-k

@@ -1,0 +1,34 @@
+-- The stations at the due distances below m are written.
+use Rattle.std.proofs.Common.{◌≡◌, refl, arith}
+use Rattle.lists.proofs.KeepLaws.{count_next, kept-next-by}
+use Rattle.table.specs.Sizes.{distances}
+use Rattle.station.specs.Tests.{due, dueDistances}
+use Rattle.station.proofs.EntryLaws.{due-start}
+use Rattle.slots.specs.Slots.{tested, testsDue}
+use Rattle.commission.proofs.ListLaws.{distance-range, count-below}
+use Rattle.commission.proofs.list_tests.Goals as goal
+
+pub loop-m-init : goal.loop-m-init
+loop-m-init c =
+    let none = due-start c.args.row.now c.args.i.0 in
+    let r = distance-range c.args.n _ c.ranges.n.fits c.distances-end.ensures in
+    record { counted = rw none; listed = rw none refl; fewer = omega arith; reached = r.0; bytes = r.1 }
+
+pub loop-m-preserved : goal.loop-m-preserved
+loop-m-preserved c =
+    let i = c.loop-m.invariant in
+    let p = c.put_test-count.ensures in
+    record {
+      counted = count_next _ (λ k. k) _ _ _ i.counted p.value;
+      listed = kept-next-by _ (λ k. k) _ _ _ _ _ _ i.counted i.listed p.list_after;
+      fewer = count-below (due c.args.row.now c.args.i.0) _ _ _ i.fewer p.value;
+      reached = omega arith;
+      bytes = i.bytes;
+    }
+
+pub returns : goal.returns
+unfolding testsDue tested dueDistances
+returns c =
+    let i = c.loop-m.invariant in
+    let e : c.loop-m.m ≡ distances c.args.n = omega (arith, c.distances-end.ensures) in
+    record { value = rw e at i.counted; list_after = rw e at i.listed }

@@ -1,0 +1,25 @@
+-- The greatest of those asked so far.
+use Rattle.std.proofs.Common.{◌≡◌, refl, ◌∙◌, arith}
+use Rattle.lists.proofs.Loops.{greatest-start, greatest-next}
+use Rattle.slots.specs.Slots.{mostOfBoards}
+use Rattle.commission.proofs.most_of_boards.Goals as goal
+
+pub loop-i-init : goal.loop-i-init
+loop-i-init c = record { most = greatest-start _; same = refl; reached = omega arith }
+
+pub loop-i-preserved : goal.loop-i-preserved
+loop-i-preserved c =
+    let i = c.loop-i.invariant in
+    let t = c.tests_of.ensures in
+    record {
+      most = c.greater-most.ensures ∙ greatest-next _ _ _ _ i.most (rw i.same at t.value);
+      same = t.row_unchanged ∙ i.same;
+      reached = omega arith;
+    }
+
+pub returns : goal.returns
+unfolding mostOfBoards
+returns c =
+    let i = c.loop-i.invariant in
+    let e : c.loop-i.i ≡ c.args.n = omega arith in
+    record { value = rw e at i.most; row_unchanged = i.same }
