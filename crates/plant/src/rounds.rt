@@ -35,10 +35,8 @@ fn reset_lines(n: u8, table: &mut [u8])
     requires { length table.old ≡ tableLength n }
     ensures { table.new ≡ resetLines n table.old }
 {
-    let mut i: u8 = 0;
-    while i < n {
+    for i in 0..n {
         reset_line(n, table, Station(i));
-        i += 1;
     }
 }
 

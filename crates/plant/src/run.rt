@@ -54,8 +54,8 @@ pub(crate) fn go_on(
     ensures { outcomeWith result table.new sheet.new ≡ goOn n 0 (stateWith table.old tally) sheet.old (entries schedule.now) }
 {
     let mut held = tally;
-    let mut k: usize = 0;
-    while k < schedule.len() / 2 {
+    let count = schedule.len() / 2;
+    for k in 0..count {
         let kind = schedule[2 * k];
         let i = Station(schedule[2 * k + 1]);
         let number = entry::entry_number(n, table, held, kind, i);
@@ -69,11 +69,10 @@ pub(crate) fn go_on(
         let a = 4 * k;
         let e = a + 4;
         held = entry::take_entry(n, table, held, kind, i, &mut sheet[a..e]);
-        k += 1;
     }
     Answer {
         number: 0,
-        taken: k,
+        taken: count,
         tally: held,
     }
 }

@@ -5,11 +5,11 @@ use Rattle.plant.specs.Round.{resetLines}
 use Rattle.plant.proofs.rounds.reset_lines.Goals as goal
 
 pub loop-i-init : goal.loop-i-init
-loop-i-init c = record { passed = omega arith; reset = iterate-start _ _ }
+loop-i-init c = iterate-start _ _
 
 pub loop-i-preserved : goal.loop-i-preserved
-loop-i-preserved c = record { passed = omega arith; reset = iterate-next _ _ _ _ _ c.loop-i.invariant.reset c.reset_line.ensures }
+loop-i-preserved c = iterate-next _ _ _ _ _ c.loop-i.invariant c.reset_line.ensures
 
 pub returns : goal.returns
 unfolding resetLines
-returns c = iterate-done _ _ _ _ _ c.loop-i.invariant.reset c.loop-i.invariant.passed c.loop-i-test.false
+returns c = iterate-done _ _ _ _ _ c.loop-i.invariant (omega arith) c.loop-i-test.false

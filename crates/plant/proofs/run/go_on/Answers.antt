@@ -1,5 +1,5 @@
 -- The rest of the run, from where it stands, gives what the whole gives, and the table obeys the rules.
-use Rattle.std.proofs.Common.{refl, sym, ap, ◌∙◌, arith, length-take, length-drop}
+use Rattle.std.proofs.Common.{◌≡◌, ◌/◌, length, refl, sym, ap, ◌∙◌, arith, length-take, length-drop}
 use Rattle.plant.specs.Entry.{State, stateWith}
 use Rattle.plant.proofs.RulesKept.{accepted-kept}
 use Rattle.plant.proofs.RunLaws.{accepted-number, entry_at, line-back, go-taken, go-stopped, go-done, start-facts}
@@ -8,7 +8,7 @@ use Rattle.plant.proofs.run.go_on.Goals as goal
 pub loop-k-init : goal.loop-k-init
 loop-k-init c =
     let f = start-facts _ _ _ _ c.requires in
-    record { taken = omega arith; twice = f.2; rules = f.0; same = refl }
+    record { twice = f.2; rules = f.0; same = refl }
 
 pub returns-then-number-ne0 : goal.returns-then-number-ne0
 returns-then-number-ne0 c =
@@ -36,7 +36,6 @@ loop-k-preserved c =
     let p = c.take_entry-held.ensures in
     let w = line-back n s e l.sheet l.k _ p.line_after (omega (arith, i.twice, h)) in
     record {
-      taken = omega arith;
       twice = omega arith;
       rules = rw (ap (λ (z : State). z.table) p.result_after) (accepted-kept n s e i.rules z);
       same = go-taken n l.k s l.sheet c.args.schedule.now _ _ h z p.result_after w ∙ i.same;
@@ -46,4 +45,6 @@ pub returns : goal.returns
 returns c =
     let l = c.loop-k in
     let s = stateWith l.table l.held in
-    sym (sym l.invariant.same ∙ go-done c.args.n l.k s l.sheet c.args.schedule.now c.loop-k-test.false)
+    let all : l.k ≡ length c.args.schedule.now / 2 = omega arith in
+    let done = sym l.invariant.same ∙ go-done c.args.n l.k s l.sheet c.args.schedule.now c.loop-k-test.false in
+    rw all at (sym done)
