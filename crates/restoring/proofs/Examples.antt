@@ -18,5 +18,7 @@ unfolding list_of tableLength lineStart freshByte freshTable bytes_of concatOf f
 two-boards = refl
 
 pub examples-hold : ExamplesHold
-unfolding every list_of least isSize level dimension distances tableLength lineStart cell exitRule rowRule lineRules someLive liveFinished shapeNumber tableNumber number_of bytes_of concatOf fieldsUpTo fields runsPast fields_of tagged sizeIn sizeAndTally ofStation all_fit linesRight tableIn sizeNumber restNumber loadNumber twoBoards examples allHold
+unfolding every list_of least isSize level dimension distances tableLength lineStart cell exitRule rowRule lineRules someLive liveFinished
+    shapeNumber tableNumber number_of bytes_of concatOf fieldsUpTo fields runsPast fields_of tagged sizeIn
+    sizeAndTally ofStation all_fit linesRight tableIn sizeNumber restNumber loadNumber twoBoards examples allHold
 examples-hold = refl

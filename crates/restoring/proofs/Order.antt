@@ -10,7 +10,8 @@ use Rattle.lists.proofs.BoolLaws.{by_bool, neither, every-same}
 use Rattle.lists.proofs.SearchLaws.{both, every-at}
 use Rattle.table.specs.Sizes.{isSize}
 use Rattle.saved.specs.Fields.{Field, fields_of, tagged, single, first_of}
-use Rattle.saved.specs.Plant.{sizeTag, sizeLength, tallyTag, tallyLength, lineTag, lineFieldLength, sizeIn, roundsIn, testsIn, sizeAndTally, stationIn, lineIn, ofStation, fits, all_fit, linesRight, tableIn}
+use Rattle.saved.specs.Plant.{sizeTag, sizeLength, tallyTag, tallyLength, lineTag, lineFieldLength}
+use Rattle.saved.specs.Plant.{sizeIn, roundsIn, testsIn, sizeAndTally, stationIn, lineIn, ofStation, fits, all_fit, linesRight, tableIn}
 use Rattle.saved.specs.Load.{fileLines, sizeNumber, restNumber, loadNumber, savedSize, answer_of, loadAnswer, loadAfter}
 use Rattle.saved.proofs.ConcatLaws.{concat-same}
 use Rattle.restoring.specs.Restoring.{isKnown, known, AnyOrder}

@@ -101,7 +101,8 @@ module _ (n : ℕ) where
   unfolding gather all_fit ofStation builtWith
   well-is [] t seen h =
       every-same _ _ n
-      (λ k g. by_bool (eqb (get_or seen k 0) 0) (λ e. rw e (ne_eqb (get_or seen k 0) 1 (λ q. omega (arith, eqb-true (get_or seen k 0) 0 e)))) (λ e. rw e))
+      (λ k g. by_bool (eqb (get_or seen k 0) 0) (λ e. rw e (ne_eqb (get_or seen k 0) 1 (λ q. omega (arith, eqb-true (get_or seen k 0) 0 e))))
+      (λ e. rw e))
   well-is (c ∷ cs) t seen h =
       by_bool (isNew n c seen)
       (λ e. rw (e, (new-facts n c seen e).0) (well-is cs _ (set seen (stationIn c) 1) (omega (arith, length-set seen (stationIn c) 1))

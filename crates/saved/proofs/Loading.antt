@@ -17,7 +17,8 @@ use Rattle.table.specs.Rules.{tableNumber}
 use Rattle.table.proofs.SizeLaws.{size-bounds}
 use Rattle.saved.specs.Fields.{Field, runsPast, fields_of}
 use Rattle.saved.specs.Plant.{sizeIn, sizeAndTally, linesRight, tableIn}
-use Rattle.saved.specs.Load.{fileSize, fileLines, fileTable, sizeNumber, restNumber, loadNumber, savedSize, refusedBy, answer_of, loadAnswer, loadAfter}
+use Rattle.saved.specs.Load.{fileSize, fileLines, fileTable, sizeNumber, restNumber, loadNumber, savedSize, refusedBy}
+use Rattle.saved.specs.Load.{answer_of, loadAnswer, loadAfter}
 use Rattle.saved.specs.declared.Loaded.{Loaded}
 use Rattle.saved.proofs.Numbers.{answer-refused}
 
@@ -74,8 +75,10 @@ module _ (file t : List ℕ) where
 
   refused : (x : ℕ) → x ≡ loadNumber file (length t) → (x ≡ 0 → ⊥) → Gives (refusedBy x) t
   unfolding loadAnswer loadAfter
-  refused x e h =
-      (answer-refused (loadNumber file (length t)) x (fields_of file) (sym e) h, unless-refused x (loadNumber file (length t)) t (fileTable file) e h)
+  refused x e h = (
+    answer-refused (loadNumber file (length t)) x (fields_of file) (sym e) h,
+    unless-refused x (loadNumber file (length t)) t (fileTable file) e h,
+  )
 
   pub load-refused : (r : Loaded) → r ≡ answer_of (sizeNumber file) (fields_of file) → (r.number ≡ 0 → ⊥) → Gives r t
   unfolding loadNumber

@@ -1,6 +1,8 @@
 // Saving the plant to the panel (request C-17 of document 02): a writer and a reader of table and tally, as tagged fields.
 //
 // The calls are save::save, load::load and load::saved_size. None has a `requires`.
+#![tactic(auto)]
+
 mod bytes;
 mod fields;
 mod lines;

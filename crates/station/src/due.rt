@@ -26,13 +26,11 @@ fn first_unsuspected(row: &[u8], j: Station, m: Distance) -> First
         return First::Nobody;
     }
     let w = groups::width_of(sizes::level_of(m));
-    let mut k: u8 = 0;
-    while k < w {
+    for k in 0..w {
         let x = order::lookup(j, Distance(w + k));
         if is_unsuspected(row, x) {
             return First::At(x);
         }
-        k += 1;
     }
     First::Nobody
 }
@@ -128,12 +126,10 @@ fn write_entries(n: u8, row: &[u8], i: Station, list: &mut [u8]) -> u8
     ensures value { result ≡ length (dueDistances row.now i.0 n) }
     ensures list_after { list.new ≡ assignmentEntries row.now i.0 (otherDistances n i.0) }
 {
-    let end = sizes::distances(n);
+    let end = sizes::distances(n) as u8;
     let mut written = Written { bytes: 0, due: 0 };
-    let mut m: u8 = 1;
-    while (m as u16) < end {
+    for m in 1..end {
         written = put_entry(row, i, Distance(m), list, written);
-        m += 1;
     }
     written.due
 }

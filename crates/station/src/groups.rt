@@ -61,11 +61,9 @@ fn group_length(n: u8, i: Station, s: Level) -> u8
 {
     let w = width_of(s);
     let mut count: u8 = 0;
-    let mut k: u8 = 0;
-    while k < w {
+    for k in 0..w {
         let x = order::lookup(i, Distance(w + k));
         count = count_if(count, x.0 < n);
-        k += 1;
     }
     count
 }
@@ -86,10 +84,8 @@ fn write_group(n: u8, i: Station, s: Level, list: &mut [u8])
 {
     let w = width_of(s);
     let mut count: u8 = 0;
-    let mut k: u8 = 0;
-    while k < w {
+    for k in 0..w {
         count = put_member(n, order::lookup(i, Distance(w + k)), list, count);
-        k += 1;
     }
 }
 

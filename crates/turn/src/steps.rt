@@ -260,12 +260,10 @@ fn suspects_all(n: u8, table: &[u8], i: Station) -> bool
     if inside::get(n, table, i, cells::STATUS) != cells::LIVE {
         return false;
     }
-    let mut k: u8 = 0;
-    while k < n {
+    for k in 0..n {
         if !self_or_suspected(n, table, i, Station(k)) {
             return false;
         }
-        k += 1;
     }
     true
 }

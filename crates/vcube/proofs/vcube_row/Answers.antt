@@ -21,26 +21,24 @@ returns-then-number-ne0-clause-start_after c =
 pub returns-then-number-ne0-clause-bytes_after : goal.returns-then-number-ne0-clause-bytes_after
 unfolding rowPart
 returns-then-number-ne0-clause-bytes_after c =
-    ap length (
-    unless-refused _ _ [] (row _ _ _) c.row_number-number.ensures c.if-number-ne0.true
-    ∙ row-part-narrow c.args.n c.args.table.now c.args.station _ c.byte_of.ensures
-    )
+    let narrow = row-part-narrow c.args.n c.args.table.now c.args.station _ c.byte_of.ensures in
+    ap length (unless-refused _ _ [] (row _ _ _) c.row_number-number.ensures c.if-number-ne0.true ∙ narrow)
 
 pub overflow_cast-n : goal.overflow_cast-n
 overflow_cast-n c = omega (arith, size-bounds _ (row_zero _ _ _ (sym c.row_number-number.ensures ∙ c.if-number-ne0.false)).0.size)
 
 pub returns-clause-value : goal.returns-clause-value
 returns-clause-value c =
-    sym (sym c.row_number-number.ensures ∙ c.if-number-ne0.false)
+    sym c.if-number-ne0.false
+    ∙ c.row_number-number.ensures
     ∙ row-number-narrow c.args.n c.args.table.now c.args.station _ c.byte_of.ensures
 
 pub returns-clause-start_after : goal.returns-clause-start_after
 returns-clause-start_after c =
+    let z = sym c.row_number-number.ensures ∙ c.if-number-ne0.false in
     c.row_start.ensures.value
-    ∙ (
-    sym (offset-accepted _ _ _ (sym c.row_number-number.ensures ∙ c.if-number-ne0.false))
+    ∙ sym (offset-accepted _ _ _ z)
     ∙ row-offset-narrow c.args.n c.args.table.now c.args.station _ c.byte_of.ensures
-    )
 
 pub returns-clause-bytes_after : goal.returns-clause-bytes_after
 unfolding rowPart

@@ -25,8 +25,7 @@ returns-then-get-ne-LIVE c =
 pub returns-then-kind-finished : goal.returns-then-kind-finished
 unfolding entryNumber
 returns-then-kind-finished c =
-    simp
-    (
+    simp (
       ← c.is_full.ensures,
       c.if-is_full.false,
       c.if-not-kind.false,
@@ -40,8 +39,7 @@ returns-then-kind-finished c =
 pub returns : goal.returns
 unfolding entryNumber
 returns c =
-    simp
-    (
+    simp (
       ← c.is_full.ensures,
       c.if-is_full.false,
       c.if-not-kind.false,

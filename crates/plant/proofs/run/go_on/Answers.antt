@@ -14,13 +14,15 @@ pub returns-then-number-ne0 : goal.returns-then-number-ne0
 returns-then-number-ne0 c =
     let l = c.loop-k in
     let s = stateWith l.table l.held in
-    sym (sym l.invariant.same ∙ go-stopped c.args.n l.k s l.sheet c.args.schedule.now _ c.loop-k-test.true c.entry_number-number.ensures c.if-number-ne0.true)
+    let r = c.entry_number-number.ensures in
+    sym (sym l.invariant.same ∙ go-stopped c.args.n l.k s l.sheet c.args.schedule.now _ c.loop-k-test.true r c.if-number-ne0.true)
 
 pub take_entry-held-requires : goal.take_entry-held-requires
 take_entry-held-requires c =
     let i = c.loop-k.invariant in
     let h = c.loop-k-test.true in
-    (accepted-number _ _ i.rules, sym c.entry_number-number.ensures ∙ c.if-number-ne0.false, simp (length-take, length-drop) (omega (arith, i.twice, h)))
+    let z = sym c.entry_number-number.ensures ∙ c.if-number-ne0.false in
+    (accepted-number _ _ i.rules, z, simp (length-take, length-drop) (omega (arith, i.twice, h)))
 
 pub loop-k-preserved : goal.loop-k-preserved
 loop-k-preserved c =

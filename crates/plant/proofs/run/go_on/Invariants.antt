@@ -11,7 +11,7 @@ invariant-loop-k l = record {
   twice : length l.sheet ≡ 2 * length l.schedule;
   rules : Accepted l.n l.table;
   same : goOn l.n l.k (stateWith l.table l.held) l.sheet (drop l.k (entries l.schedule))
-      ≡ goOn l.n 0 (stateWith l.initial.table l.initial.held) l.initial.sheet (entries l.schedule)
+      ≡ goOn l.n 0 (stateWith l.initial.table l.initial.held) l.initial.sheet (entries l.schedule);
 }
 
 abbrev pub decreases-loop-k : goal.decreases-loop-k

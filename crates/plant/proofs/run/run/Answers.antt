@@ -19,4 +19,5 @@ go_on-requires c = sym c.start_number-number.ensures ∙ c.if-number-ne0.false
 pub returns : goal.returns
 returns c =
     let a = c.args in
-    rw (run-goes a.n (stateWith a.table.now a.tally) a.schedule.now a.sheet.now (sym c.start_number-number.ensures ∙ c.if-number-ne0.false)) c.go_on.ensures
+    let z = sym c.start_number-number.ensures ∙ c.if-number-ne0.false in
+    rw (run-goes a.n (stateWith a.table.now a.tally) a.schedule.now a.sheet.now z) c.go_on.ensures

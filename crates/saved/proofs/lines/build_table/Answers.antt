@@ -1,5 +1,5 @@
 -- All went well and every station was seen.
-use Rattle.std.proofs.Common.{◌≡◌, ℕ, ◌∙◌, length, length-take, replicate, arith}
+use Rattle.std.proofs.Common.{ℕ, ◌∙◌, length-take, replicate, arith}
 use Rattle.std.proofs.Math.ListN.{get_or-replicate}
 use Rattle.table.proofs.SizeLaws.{size-bounds}
 use Rattle.saved.specs.Fields.{fields_of}

@@ -8,8 +8,8 @@ abbrev pub invariant-loop-tag : goal.invariant-loop-tag
 invariant-loop-tag l = record {
   whole : is_none (fields (drop l.cursor.at l.file)) ≡ false;
   gives :
-    build l.n (orEmpty (fields (drop l.cursor.at l.file))) (built true l.table l.seen)
-      ≡ build l.n (orEmpty (fields l.file)) (built true l.initial.table l.initial.seen)
+      build l.n (orEmpty (fields (drop l.cursor.at l.file))) (built true l.table l.seen)
+      ≡ build l.n (orEmpty (fields l.file)) (built true l.initial.table l.initial.seen);
 }
 
 abbrev pub decreases-loop-tag : goal.decreases-loop-tag

@@ -1,5 +1,5 @@
 -- A line is not taken by its length, its station, or since the station was seen; else it lies inside the table.
-use Rattle.std.proofs.Common.{◌-◌, length, drop, length-take, length-drop, arith, rules}
+use Rattle.std.proofs.Common.{◌-◌, length, drop, length-take, length-drop, arith}
 use Rattle.table.proofs.CellLaws.{line-inside}
 use Rattle.table.proofs.SizeLaws.{size-bounds}
 use Rattle.saved.proofs.Building.{wrong-length, too-high, seen-before, line_taken}

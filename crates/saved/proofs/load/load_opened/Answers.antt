@@ -80,8 +80,8 @@ returns c =
     let t = load-long c.args.file.now c.args.table.now c.requires.1 z in
     let last = c.build_and_judge-number.new.own in
     let own = c.build_and_judge-number.ensures.own_after c.if-number-ne0.false
-        ∙ ap (λ n. tableIn n (fileLines c.args.file.now)) (opened-size _ _ c.requires.0) in
+    ∙ ap (λ n. tableIn n (fileLines c.args.file.now)) (opened-size _ _ c.requires.0) in
     let done = load-done c.args.file.now c.args.table.now c.requires.1 c.args.opened _ c.requires.0 z
-        (c.put_list.ensures ∙ (ap (sets c.args.table.now 0) (front c.args.own.now last _ e f.2)
-        ∙ (sets-all c.args.table.now last (t ∙ sym f.0 ∙ sym (e ∙ f.2)) ∙ own))) in
+    (c.put_list.ensures ∙ (ap (sets c.args.table.now 0) (front c.args.own.now last _ e f.2)
+    ∙ (sets-all c.args.table.now last (t ∙ sym f.0 ∙ sym (e ∙ f.2)) ∙ own))) in
     record { value = done.0; table_after = done.1 }

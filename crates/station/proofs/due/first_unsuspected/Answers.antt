@@ -17,9 +17,9 @@ pub returns-then-is_unsuspected : goal.returns-then-is_unsuspected
 returns-then-is_unsuspected c =
     ap some c.lookup-x.ensures
     ∙ sym (first-at _ _ _ _ (c.width_of-w.ensures.value ∙ ap width c.level_of.ensures.result_value) _ c.loop-k-test.true
-    (sym (ap (unsuspected _) c.lookup-x.ensures) ∙ sym c.is_unsuspected.ensures ∙ c.if-is_unsuspected.true) c.loop-k.invariant.suspected)
+    (sym (ap (unsuspected _) c.lookup-x.ensures) ∙ sym c.is_unsuspected.ensures ∙ c.if-is_unsuspected.true) c.loop-k.invariant)
 
 pub returns : goal.returns
 returns c =
     sym (first-nobody _ _ _ _ (c.width_of-w.ensures.value ∙ ap width c.level_of.ensures.result_value)
-    (λ y l. c.loop-k.invariant.suspected y (omega arith)))
+    (λ y l. c.loop-k.invariant y (omega arith)))

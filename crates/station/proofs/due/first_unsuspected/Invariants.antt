@@ -1,14 +1,8 @@
 -- The stations passed so far are all suspected.
-use Rattle.std.proofs.Common.{◌≡◌, false, ℕ, ◌+◌, ◌-◌, ◌≤◌, ◌<◌}
+use Rattle.std.proofs.Common.{◌≡◌, false, ℕ, ◌+◌, ◌<◌}
 use Rattle.station.specs.Groups.{stationAt}
 use Rattle.station.specs.Tests.{unsuspected}
 use Rattle.station.proofs.due.first_unsuspected.Given as goal
 
 abbrev pub invariant-loop-k : goal.invariant-loop-k
-invariant-loop-k l = record {
-  passed : l.k ≤ l.w;
-  suspected : (y : ℕ) → y < l.k → unsuspected l.row (stationAt l.j.0 (l.w + y)) ≡ false;
-}
-
-abbrev pub decreases-loop-k : goal.decreases-loop-k
-decreases-loop-k l = l.w - l.k
+invariant-loop-k l = (y : ℕ) → y < l.k → unsuspected l.row (stationAt l.j.0 (l.w + y)) ≡ false

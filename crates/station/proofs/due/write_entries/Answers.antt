@@ -12,8 +12,6 @@ pub loop-m-init : goal.loop-m-init
 loop-m-init c =
     let none = entries-start c.args.n c.args.row.now c.args.i.0 in
     record {
-      above = omega arith;
-      passed = omega (arith, distances-pos c.args.n);
       counted = rw (due-start c.args.row.now c.args.i.0);
       written = (rw none.0, rw none.1);
     }
@@ -23,26 +21,24 @@ put_entry-written-requires c =
     let i = c.loop-m.invariant in
     omega (arith, size-distances _ c.requires.0, due-count _ _ _ _ i.counted, entry-bytes _ _ _ _ i.written.0)
 
-pub overflow_add-m : goal.overflow_add-m
-overflow_add-m c = omega (arith, size-distances _ c.requires.0)
+pub overflow_cast-end : goal.overflow_cast-end
+overflow_cast-end c = omega (arith, size-distances _ c.requires.0)
 
 pub loop-m-preserved : goal.loop-m-preserved
 loop-m-preserved c =
     let i = c.loop-m.invariant in
     let s = c.put_entry-written.ensures in
     record {
-      above = omega arith;
-      passed = omega arith;
       counted = count_next _ (λ k. k) _ _ _ i.counted s.due_value;
-      written = entry_next _ _ _ c.requires.1 _ _ _ _ _ _ i.above i.written s.bytes_value s.list_after;
+      written = entry_next _ _ _ c.requires.1 _ _ _ _ _ _ (omega arith) i.written s.bytes_value s.list_after;
     }
 
 pub returns-clause-value : goal.returns-clause-value
 unfolding dueDistances
-returns-clause-value c = let e : c.loop-m.m ≡ distances c.args.n = omega arith in rw e at c.loop-m.invariant.counted
+returns-clause-value c = let e : c.loop-m.m ≡ distances c.args.n = omega (arith, distances-pos c.args.n) in rw e at c.loop-m.invariant.counted
 
 pub returns-clause-list_after : goal.returns-clause-list_after
 unfolding otherDistances
 returns-clause-list_after c =
-    let e : c.loop-m.m ≡ distances c.args.n = omega arith in
+    let e : c.loop-m.m ≡ distances c.args.n = omega (arith, distances-pos c.args.n) in
     rw e at c.loop-m.invariant.written.1 ∙ entry_done _ _ _ c.requires.0 c.requires.2 _ c.requires.3

@@ -1,5 +1,5 @@
 -- The list holds the entries of the distances below m, and behind them what it held.
-use Rattle.std.proofs.Common.{◌≡◌, ◌*◌, ◌-◌, ◌≤◌, ◌<◌, length}
+use Rattle.std.proofs.Common.{◌≡◌, ◌*◌, length}
 use Rattle.std.proofs.lemmas.List.Edits.{sets}
 use Rattle.lists.specs.Search.{select}
 use Rattle.station.specs.Tests.{due}
@@ -8,12 +8,7 @@ use Rattle.station.proofs.due.write_entries.Given as goal
 
 abbrev pub invariant-loop-m : goal.invariant-loop-m
 invariant-loop-m l = record {
-  above : 0 < l.m;
-  passed : l.m ≤ l.end;
   counted : l.written.due ≡ length (select (due l.row l.i.0) l.m);
   written : (l.written.bytes ≡ 2 * length (select (isOther l.n l.i.0) l.m))
       × (l.list ≡ sets l.initial.list 0 (assignmentEntries l.row l.i.0 (select (isOther l.n l.i.0) l.m)));
 }
-
-abbrev pub decreases-loop-m : goal.decreases-loop-m
-decreases-loop-m l = l.end - l.m

@@ -6,18 +6,15 @@ use Rattle.station.proofs.groups.group_length.Goals as goal
 
 pub loop-k-init : goal.loop-k-init
 unfolding passed keep list_of
-loop-k-init c = record { within = omega arith; counted = refl }
+loop-k-init c = refl
 
 pub count_if-count-requires : goal.count_if-count-requires
-count_if-count-requires c = omega (arith, passed-le _ _ _ _ _ c.loop-k.invariant.counted)
+count_if-count-requires c = omega (arith, passed-le _ _ _ _ _ c.loop-k.invariant)
 
 pub loop-k-preserved : goal.loop-k-preserved
-loop-k-preserved c = record {
-  within = omega arith;
-  counted = passed-count _ _ _ _ _ c.lookup-x.ensures _ _ c.loop-k.invariant.counted c.count_if-count.ensures;
-}
+loop-k-preserved c = passed-count _ _ _ _ _ c.lookup-x.ensures _ _ c.loop-k.invariant c.count_if-count.ensures
 
 pub returns : goal.returns
 returns c =
     let all : c.loop-k.k ≡ c.width_of-w.result = omega arith in
-    rw all at c.loop-k.invariant.counted ∙ ap length (passed-all _ _ _ _ c.width_of-w.ensures.value)
+    rw all at c.loop-k.invariant ∙ ap length (passed-all _ _ _ _ c.width_of-w.ensures.value)

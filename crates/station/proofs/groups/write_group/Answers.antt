@@ -7,7 +7,7 @@ use Rattle.station.proofs.groups.write_group.Goals as goal
 
 pub loop-k-init : goal.loop-k-init
 unfolding passed keep list_of
-loop-k-init c = record { within = omega arith; counted = refl; written = refl }
+loop-k-init c = record { counted = refl; written = refl }
 
 pub put_member-count-requires : goal.put_member-count-requires
 put_member-count-requires c = omega (arith, passed-le _ _ _ _ _ c.loop-k.invariant.counted)
@@ -18,7 +18,6 @@ loop-k-preserved c =
     let p = c.put_member-count.ensures in
     let x = c.lookup.ensures in
     record {
-      within = omega arith;
       counted = passed-count _ _ _ _ _ x _ _ i.counted p.value;
       written = passed-put _ _ _ _ _ x _ _ _ _ i.written i.counted p.list_after;
     }

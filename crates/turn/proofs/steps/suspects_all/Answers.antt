@@ -10,7 +10,7 @@ unfolding isAlone
 returns-then-get-ne-LIVE c = rw (← c.get.ensures, ne_eqb _ _ c.if-get-ne-LIVE.true)
 
 pub loop-k-init : goal.loop-k-init
-loop-k-init c = record { passed = omega arith; suspected = every-start _ }
+loop-k-init c = every-start _
 
 pub returns-then-not-self_or_suspected : goal.returns-then-not-self_or_suspected
 unfolding isAlone
@@ -19,13 +19,9 @@ returns-then-not-self_or_suspected c =
     (every-stop _ _ _ _ c.loop-k-test.true c.self_or_suspected.ensures (ap not c.if-not-self_or_suspected.true))
 
 pub loop-k-preserved : goal.loop-k-preserved
-loop-k-preserved c = record {
-  passed = omega arith;
-  suspected = every-next _ _ _ c.loop-k.invariant.suspected c.self_or_suspected.ensures (ap not c.if-not-self_or_suspected.false);
-}
+loop-k-preserved c = every-next _ _ _ c.loop-k.invariant c.self_or_suspected.ensures (ap not c.if-not-self_or_suspected.false)
 
 pub returns : goal.returns
 unfolding isAlone
 returns c =
-    let i = c.loop-k.invariant in
-    rw (← c.get.ensures, eq-eqb _ _ c.if-get-ne-LIVE.false) (every-done _ _ _ i.suspected i.passed c.loop-k-test.false)
+    rw (← c.get.ensures, eq-eqb _ _ c.if-get-ne-LIVE.false) (every-done _ _ _ c.loop-k.invariant (omega arith) c.loop-k-test.false)

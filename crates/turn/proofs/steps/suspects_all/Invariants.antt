@@ -1,14 +1,8 @@
 -- The stations passed so far are suspected, but for the station itself.
-use Rattle.std.proofs.Common.{◌≡◌, ◌-◌, ◌≤◌, true}
+use Rattle.std.proofs.Common.{◌≡◌, true}
 use Rattle.lists.specs.Search.{every}
 use Rattle.turn.specs.Turn.{selfOrSuspected}
 use Rattle.turn.proofs.steps.suspects_all.Given as goal
 
 abbrev pub invariant-loop-k : goal.invariant-loop-k
-invariant-loop-k l = record {
-  passed : l.k ≤ l.n;
-  suspected : every (selfOrSuspected l.n l.table l.i.0) l.k ≡ true;
-}
-
-abbrev pub decreases-loop-k : goal.decreases-loop-k
-decreases-loop-k l = l.n - l.k
+invariant-loop-k l = every (selfOrSuspected l.n l.table l.i.0) l.k ≡ true

@@ -1,5 +1,4 @@
 -- What stands at the place: the end, a field or its head that runs past it, or a field.
-use Rattle.std.proofs.Common.{rules}
 use Rattle.saved.proofs.Reading.{at-end, at_head, at-past, at_field}
 use Rattle.saved.proofs.fields.Cursor.read.Goals as goal
 
