@@ -6,7 +6,8 @@ mod input;
 mod print;
 mod watched;
 
-ghost use Rattle.std.specs.Prelude.{◌≤◌, length};
+ghost use Rattle.std.specs.Prelude.{◌≤◌, length, take};
+ghost use Rattle.std.specs.Io.KnownBytes.{Consumes};
 
 use std::io::Read;
 use table::cells;
@@ -26,15 +27,18 @@ fn main(rt: HostRuntime) {
     print::print_report(&rt, &sheet, report);
 }
 
-// Reads until buf is full, the input ends or a read fails, and answers how many bytes it put at the start of buf.
+// Reads until buf is full, the input ends or a read fails, and answers how many bytes it put at the start of buf: the front of the input.
 fn read_full<R: Read>(input: &mut R, buf: &mut [u8]) -> usize
-    ensures { result ≤ length buf.new }
+    ensures upper_bound { result ≤ length buf.new }
+    ensures bytes { Consumes (R.remaining input.old) (R.remaining input.new) (take result buf.new) }
 {
     let mut done = 0;
     while done < buf.len() {
-        let n = input.read(&mut buf[done..]).unwrap_or(0);
+        let Ok(n) = input.read(&mut buf[done..]) else {
+            return done;
+        };
         if n == 0 {
-            break;
+            return done;
         }
         done += n;
     }
