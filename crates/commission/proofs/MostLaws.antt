@@ -7,13 +7,13 @@ use Prim.Native.Nat.{ℕ, ◌≤◌}
 use lib.ListN.{length, get_or, set}
 use lib.Seq.{set_out, set-set, set-get_or}
 use Rattle.station.specs.Rows.{mark}
-use Rattle.slots.specs.Slots.{testsDue, testsWith}
+use Rattle.slots.specs.Slots.{tests_due, tests_with}
 use Rattle.slots.proofs.MoreTests.{with-other}
 
 -- past the row's end there is nothing to mark
-pub with-beyond : (n : ℕ) (r : List ℕ) (i j : ℕ) → j ≢ i → length r ≤ j → testsWith n r i j ≡ testsDue n r i
+pub with-beyond : (n : ℕ) (r : List ℕ) (i j : ℕ) → j ≢ i → length r ≤ j → tests_with n r i j ≡ tests_due n r i
 unfolding mark
-with-beyond n r i j apart h = with-other n r i j apart ∙ ap (λ (l : List ℕ). testsDue n l i) (set_out r j 1 h)
+with-beyond n r i j apart h = with-other n r i j apart ∙ ap (λ (l : List ℕ). tests_due n l i) (set_out r j 1 h)
 
 -- the mark is taken back
 pub mark-back : (r : List ℕ) (j : ℕ) → set (mark r j) j (get_or r j 0) ≡ r

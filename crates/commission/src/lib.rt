@@ -4,9 +4,9 @@
 #![tactic(auto)]
 
 ghost use Rattle.std.specs.Prelude.{◌≡◌, ◌+◌, ◌<◌, cond, set};
-ghost use Rattle.station.specs.Groups.{stationAt};
+ghost use Rattle.station.specs.Groups.{station_at};
 ghost use Rattle.station.specs.Tests.{due};
-ghost use Rattle.slots.specs.Slots.{tested, testsDue, testsWith, mostTests, mostOfBoards};
+ghost use Rattle.slots.specs.Slots.{tested, tests_due, tests_with, most_tests, most_of_boards};
 ghost use Rattle.std.proofs.lemmas.List.Edits.{sets};
 
 pub mod untested;
@@ -17,7 +17,7 @@ use table::{Distance, Station, sizes};
 
 // Whom i of n stations tests by its row of n bytes, in order, into a lent list; answers how many these are. Past the list's end nothing is written.
 pub fn list_tests(n: u8, row: &[u8], i: Station, list: &mut [u8]) -> u8
-    ensures value { result ≡ testsDue n row.now i.0 }
+    ensures value { result ≡ tests_due n row.now i.0 }
     ensures list_after { list.new ≡ sets list.old 0 (tested n row.now i.0) }
 {
     let end = sizes::distances(n);
@@ -34,7 +34,7 @@ pub fn list_tests(n: u8, row: &[u8], i: Station, list: &mut [u8]) -> u8
 fn put_test(row: &[u8], i: Station, m: Distance, list: &mut [u8], count: u8) -> u8
     requires { count < 255 }
     ensures value { result ≡ cond (due row.now i.0 m.0) (count + 1) count }
-    ensures list_after { list.new ≡ cond (due row.now i.0 m.0) (set list.old count (stationAt i.0 m.0)) list.old }
+    ensures list_after { list.new ≡ cond (due row.now i.0 m.0) (set list.old count (station_at i.0 m.0)) list.old }
 {
     if !is_due(row, i, m) {
         return count;
@@ -46,7 +46,7 @@ fn put_test(row: &[u8], i: Station, m: Distance, list: &mut [u8], count: u8) -> 
 
 // How many distances are due for i of n stations, by its row. The list is not used.
 fn tests(n: u8, row: &[u8], i: Station) -> u8
-    ensures { result ≡ testsDue n row.now i.0 }
+    ensures { result ≡ tests_due n row.now i.0 }
 {
     let mut list = [0u8; 1];
     list_tests(n, row, i, &mut list)
@@ -65,7 +65,7 @@ fn is_due(row: &[u8], i: Station, m: Distance) -> bool
 
 // The most tests of i where its row suspects one station more. The row is as before afterwards.
 pub fn most_tests(n: u8, row: &mut [u8], i: Station) -> u8
-    ensures value { result ≡ mostTests n row.old i.0 }
+    ensures value { result ≡ most_tests n row.old i.0 }
     ensures row_unchanged { row.new ≡ row.old }
 {
     let mut most: u8 = 0;
@@ -79,7 +79,7 @@ pub fn most_tests(n: u8, row: &mut [u8], i: Station) -> u8
 
 // The tests of i where its row suspects j too; 0 where j is i. The row is as before afterwards.
 fn tests_with(n: u8, row: &mut [u8], i: Station, j: Station) -> u8
-    ensures value { result ≡ testsWith n row.old i.0 j.0 }
+    ensures value { result ≡ tests_with n row.old i.0 j.0 }
     ensures row_unchanged { row.new ≡ row.old }
 {
     if j.0 == i.0 {
@@ -98,7 +98,7 @@ fn tests_with(n: u8, row: &mut [u8], i: Station, j: Station) -> u8
 
 // The most tests of any of n boards that all have this row and, if `more`, also suspect any one other board. The row is as before afterwards.
 pub fn most_of_boards(n: u8, row: &mut [u8], more: bool) -> u8
-    ensures value { result ≡ mostOfBoards n row.old more }
+    ensures value { result ≡ most_of_boards n row.old more }
     ensures row_unchanged { row.new ≡ row.old }
 {
     let mut most: u8 = 0;
@@ -112,7 +112,7 @@ pub fn most_of_boards(n: u8, row: &mut [u8], more: bool) -> u8
 
 // The tests of i by the row or, if `more`, the most where it suspects one station more. The row is as before afterwards.
 fn tests_of(n: u8, row: &mut [u8], i: Station, more: bool) -> u8
-    ensures value { result ≡ cond more (mostTests n row.old) (testsDue n row.old) i.0 }
+    ensures value { result ≡ cond more (most_tests n row.old) (tests_due n row.old) i.0 }
     ensures row_unchanged { row.new ≡ row.old }
 {
     if more {

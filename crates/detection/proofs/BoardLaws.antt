@@ -9,43 +9,43 @@ use native.Mathlib.Omega.{arith}
 use lib.ListN.{length, get_or}
 use Rattle.lists.specs.Search.{list_of}
 use Rattle.lists.specs.Sums.{bit}
-use Rattle.station.specs.Groups.{stationAt}
+use Rattle.station.specs.Groups.{station_at}
 use Rattle.table.specs.Sizes.{distances}
 use Rattle.table.specs.Table.{live}
-use Rattle.table.specs.Rules.{notLive}
-use Rattle.station.specs.Tests.{due, dueDistances}
-use Rattle.lists.proofs.SearchLaws.{listOf-length, listOf-at}
-use Rattle.lists.proofs.KeepLaws.{keep_same}
+use Rattle.table.specs.Rules.{not_live}
+use Rattle.station.specs.Tests.{due, due_distances}
+use Rattle.lists.proofs.SearchLaws.{list_of-length, list_of-at}
+use Rattle.lists.proofs.FilterLaws.{filter_same}
 use Rattle.table.proofs.Accepting.{Accepted}
 use Rattle.table.proofs.CellLaws.{row_at}
 use Rattle.plant.specs.Entry.{State}
-use Rattle.detection.specs.Runs.{Call, takenAll, afterRuns}
+use Rattle.detection.specs.Runs.{Call, taken_all, after_runs}
 use Rattle.detection.specs.Rounds.{cut}
-use Rattle.detection.specs.Claim.{roundsOf, Premises}
-use Rattle.table.specs.Properties.{exactRow, ExactRows}
+use Rattle.detection.specs.Claim.{rounds_of, Premises}
+use Rattle.table.specs.Properties.{exact_row, ExactRows}
 use Rattle.detection.specs.Boards.{TestsJustDue, BoardTests, BoardTestsAfterWait}
 use Rattle.detection.proofs.Chain.{chain-all, chain_first}
 use Rattle.detection.proofs.TurnEffect.{Plain}
-use Rattle.detection.proofs.Knowledge.{Exact, leadsAt, row-due}
-use Rattle.detection.proofs.Listing.{ledBelow}
+use Rattle.detection.proofs.Knowledge.{Exact, leads_at, row-due}
+use Rattle.detection.proofs.Listing.{led_below}
 use Rattle.detection.proofs.Demand3.{history, exact}
 
 -- the distances due by the exact row are those at which a station leads
-exact-list : (n : ℕ) (T : List ℕ) (i : ℕ) → dueDistances (exactRow n T) i n ≡ ledBelow n (live n T) i (distances n)
-unfolding dueDistances exactRow
+exact-list : (n : ℕ) (T : List ℕ) (i : ℕ) → due_distances (exact_row n T) i n ≡ led_below n (live n T) i (distances n)
+unfolding due_distances exact_row
 exact-list n T i =
-    keep_same (due (exactRow n T) i) (leadsAt n (live n T) i)
-    (row-due n (live n T) (exactRow n T) (listOf-length (λ j. bit (notLive n T j)) n) (listOf-at (λ j. bit (notLive n T j)) n) i)
+    filter_same (due (exact_row n T) i) (leads_at n (live n T) i)
+    (row-due n (live n T) (exact_row n T) (list_of-length (λ j. bit (not_live n T j)) n) (list_of-at (λ j. bit (not_live n T j)) n) i)
     (list_of (λ k. k) (distances n))
 
 -- exact rows, byte by byte
 exact_bytes : (n : ℕ) (L : ℕ → Bool) (t : List ℕ) → Plain n L t → ExactRows n t → Exact n L t
-unfolding exactRow
+unfolding exact_row
 exact_bytes n L t p rows i j hi hj li lj =
-    sym (row_at n t i j hj) ∙ ap (λ (r : List ℕ). get_or r j 0) (rows i hi (p.lives i hi ∙ li)) ∙ listOf-at (λ j. bit (notLive n t j)) n j hj
+    sym (row_at n t i j hj) ∙ ap (λ (r : List ℕ). get_or r j 0) (rows i hi (p.lives i hi ∙ li)) ∙ list_of-at (λ j. bit (not_live n t j)) n j hj
     ∙ ap (λ b. bit (not b)) (p.lives j hj ∙ lj)
 
-module _ (n : ℕ) (s : State) (calls : List Call) (given : Premises n s calls) (k : ℕ) (closed : k < length (roundsOf s calls).closed) where
+module _ (n : ℕ) (s : State) (calls : List Call) (given : Premises n s calls) (k : ℕ) (closed : k < length (rounds_of s calls).closed) where
   abbrev L : ℕ → Bool
   L = live n s.table
 
@@ -54,12 +54,12 @@ module _ (n : ℕ) (s : State) (calls : List Call) (given : Premises n s calls) 
   unfolding cut
   accepted = go (chain_first (chain-all n s calls given.long))
     where
-      go : ((takenAll s calls ≡ []) × (afterRuns s calls ≡ s)) ⊎ Accepted n s.table → Accepted n s.table
-      go (inl e) = let none : length (roundsOf s calls).closed ≡ 0 = rw e.0 in absurd (omega (arith, none))
+      go : ((taken_all s calls ≡ []) × (after_runs s calls ≡ s)) ⊎ Accepted n s.table → Accepted n s.table
+      go (inl e) = let none : length (rounds_of s calls).closed ≡ 0 = rw e.0 in absurd (omega (arith, none))
       go (inr ok) = ok
 
   just-due : Exact n L ((history n s calls given accepted).0.start k) → TestsJustDue n s calls k
-  just-due e i h l = (history n s calls given accepted).0.listed k closed e i h l ∙ ap (map (stationAt i)) (sym (exact-list n s.table i))
+  just-due e i h l = (history n s calls given accepted).0.listed k closed e i h l ∙ ap (map (station_at i)) (sym (exact-list n s.table i))
 
 pub board-tests : BoardTests
 board-tests n s calls given k closed rows =

@@ -8,26 +8,26 @@ use native.Mathlib.Omega.{arith}
 use borrow.Author.Tests.{lt-ltb, eqb-false, not-true}
 use lib.ListN.{length, get_or}
 use lib.Dec.{eqb}
-use Rattle.table.specs.Rules.{roundOver}
-use Rattle.table.specs.Sizes.{isSize, distances}
-use Rattle.station.specs.Groups.{stationAt}
+use Rattle.table.specs.Rules.{round_over}
+use Rattle.table.specs.Sizes.{is_size, distances}
+use Rattle.station.specs.Groups.{station_at}
 use Rattle.table.specs.Table.{finished, live}
 use Rattle.lists.proofs.SearchLaws.{both}
 use Rattle.table.proofs.Accepting.{Accepted}
 use Rattle.table.proofs.SizeLaws.{size-distances}
-use Rattle.turn.specs.Turn.{kindTurn, kindLate, kindCrash, makesTest, nextTest, turnTested}
-use Rattle.plant.specs.Round.{resetLines, afterRound}
-use Rattle.plant.specs.Entry.{Entry, State, isCrash, entryNumber, acted, after, tested_of}
+use Rattle.turn.specs.Turn.{kind_turn, kind_late, kind_crash, makes_test, next_test, turn_tested}
+use Rattle.plant.specs.Round.{reset_lines, after_round}
+use Rattle.plant.specs.Entry.{Entry, State, is_crash, entry_number, acted, after, tested_of}
 use Rattle.plant.proofs.RulesKept.{Takes, entry-facts}
 use Rattle.turn.proofs.StepLines.{Lines}
 use Rattle.turn.proofs.NextTest.{test-station}
 use Rattle.lists.specs.Sums.{bit}
-use Rattle.detection.specs.Runs.{Taken, takenTest, crashes, isLate}
-use Rattle.detection.specs.Rounds.{allTaken, countTaken, Rounds, roundBefore, closes, cut, testsIn, testsOfAll}
-use Rattle.detection.specs.Claim.{TurnsOk, demandCount, allRounds, exactWait}
-use Rattle.detection.specs.Boards.{tested_in, firstTable}
+use Rattle.detection.specs.Runs.{Taken, taken_test, crashes, is_late}
+use Rattle.detection.specs.Rounds.{all_taken, count_taken, Rounds, round_before, closes, cut, tests_in, tests_of_all}
+use Rattle.detection.specs.Claim.{TurnsOk, demand_count, all_rounds, exact_wait}
+use Rattle.detection.specs.Boards.{tested_in, first_table}
 use Rattle.lists.proofs.BoolLaws.{by_bool}
-use Rattle.detection.proofs.TakenLaws.{takenAt, count-snoc}
+use Rattle.detection.proofs.TakenLaws.{taken_at, count-snoc}
 use Rattle.detection.proofs.Near.{near-below}
 use Rattle.detection.proofs.Pass.{Round, wider}
 use Rattle.detection.proofs.Detected.{detected}
@@ -36,7 +36,7 @@ use Rattle.detection.proofs.Counting.{turn-counts, turn-roomy, turns-ok, closes-
 use Rattle.turn.proofs.TurnHeads.{turn-heads}
 use Rattle.detection.proofs.TurnEffect.{Plain, Company, turn-effect}
 use Rattle.detection.proofs.Knowledge.{LiveOf, RowOf, Exact, Knows, turn-knows}
-use Rattle.detection.proofs.Listing.{ledBelow, turn-listed}
+use Rattle.detection.proofs.Listing.{led_below, turn-listed}
 use Rattle.detection.proofs.Closing.{InRound, restart, RoundStep, round-list, round-step, round-count}
 
 -- the rounds r from the one that starts with t₀ on, to the table `end`; T has the live set
@@ -46,22 +46,22 @@ pub record Course (n : ℕ) (T t₀ : List ℕ) (r : Rounds) (end : List ℕ) : 
   pub begins : start 0 ≡ t₀
   pub steps : (q : ℕ) → q < length r.closed → RoundStep n (live n T) (start q) (start (suc q))
   pub last : Knows n (live n T) (start (length r.closed)) end
-  pub turns : (k i : ℕ) → k ≤ length r.closed → i < n → TurnsOk n i (get_or (allRounds r) k [])
+  pub turns : (k i : ℕ) → k ≤ length r.closed → i < n → TurnsOk n i (get_or (all_rounds r) k [])
   -- a closed round that starts exact has the count of tests
-  pub counted : (k : ℕ) → k < length r.closed → Exact n (live n T) (start k) → testsIn (get_or r.closed k []) ≡ demandCount n T
+  pub counted : (k : ℕ) → k < length r.closed → Exact n (live n T) (start k) → tests_in (get_or r.closed k []) ≡ demand_count n T
   -- each round begins with its table, and in a closed round that starts exact each live station tests whom it leads
-  pub opened : (k : ℕ) → k < length r.closed → (firstTable (get_or r.closed k []) ≡ start k) × Plain n (live n T) (start k)
+  pub opened : (k : ℕ) → k < length r.closed → (first_table (get_or r.closed k []) ≡ start k) × Plain n (live n T) (start k)
   pub listed : (k : ℕ) → k < length r.closed → Exact n (live n T) (start k) → (i : ℕ) → i < n → live n T i ≡ true
-      → tested_in i (get_or r.closed k []) ≡ map (stationAt i) (ledBelow n (live n T) i (distances n))
+      → tested_in i (get_or r.closed k []) ≡ map (station_at i) (led_below n (live n T) i (distances n))
 
 -- the tally s' at the end, from the tally s at which the open round had the entries `cur`
 pub record Tallied (cur : List Taken) (s : State) (r : Rounds) (s' : State) : Type 0 where
   pub rounds : s'.rounds ≡ s.rounds + length r.closed
-  pub tests : s'.tests + testsIn cur ≡ s.tests + testsOfAll (allRounds r)
+  pub tests : s'.tests + tests_in cur ≡ s.tests + tests_of_all (all_rounds r)
 
 -- after enough closed rounds the rows at a round's start are exact
 pub exact-at : (n d : ℕ) (T t₀ : List ℕ) (r : Rounds) (end : List ℕ) (c : Course n T t₀ r end) → n ≤ 2 ^ d
-    → (q : ℕ) → exactWait d ≤ q → q ≤ length r.closed → Exact n (live n T) (c.start q)
+    → (q : ℕ) → exact_wait d ≤ q → q ≤ length r.closed → Exact n (live n T) (c.start q)
 exact-at n d T t₀ r end c pow q far closed i j h g l e =
     detected d L rows rounds q i j far (rw (lt-ltb i n h, l)) (rw (lt-ltb j n g, e)) (near-below d j i (omega arith) (omega arith)) closed g
   where
@@ -85,23 +85,23 @@ abbrev CutFrom : ℕ → List ℕ → List ℕ → List Taken → State → List
 CutFrom n T t₀ cur s xs s' = Course n T t₀ (cut cur xs) s'.table × Tallied cur s (cut cur xs) s'
 
 -- a closed round before the others: the table at its start, and those at the starts of the others
-abbrev startWith : List ℕ → (ℕ → List ℕ) → ℕ → List ℕ
-startWith t f zero = t
-startWith t f (suc q) = f q
+abbrev start_with : List ℕ → (ℕ → List ℕ) → ℕ → List ℕ
+start_with t f zero = t
+start_with t f (suc q) = f q
 
 -- what is shown of the round `here`, which starts with t₀ and closes with the table t₁
 record ClosedRound (n : ℕ) (T t₀ t₁ : List ℕ) (here : List Taken) : Type 0 where
   pub step : RoundStep n (live n T) t₀ t₁
   pub turns : (i : ℕ) → i < n → TurnsOk n i here
-  pub counted : Exact n (live n T) t₀ → testsIn here ≡ demandCount n T
-  pub opened : (firstTable here ≡ t₀) × Plain n (live n T) t₀
+  pub counted : Exact n (live n T) t₀ → tests_in here ≡ demand_count n T
+  pub opened : (first_table here ≡ t₀) × Plain n (live n T) t₀
   pub listed : Exact n (live n T) t₀ → (i : ℕ) → i < n → live n T i ≡ true
-      → tested_in i here ≡ map (stationAt i) (ledBelow n (live n T) i (distances n))
+      → tested_in i here ≡ map (station_at i) (led_below n (live n T) i (distances n))
 
 course-before : (n : ℕ) (T t₀ t₁ : List ℕ) (here : List Taken) → ClosedRound n T t₀ t₁ here
-    → (r : Rounds) (end : List ℕ) → Course n T t₁ r end → Course n T t₀ (roundBefore here r) end
+    → (r : Rounds) (end : List ℕ) → Course n T t₁ r end → Course n T t₀ (round_before here r) end
 course-before n T t₀ t₁ here first r end c =
-    let start = startWith t₀ c.start in
+    let start = start_with t₀ c.start in
     let round = λ (k : ℕ). get_or (here ∷ r.closed) k [] in
     record {
       start = start;
@@ -111,29 +111,29 @@ course-before n T t₀ t₁ here first r end c =
         | suc q ↦ λ h. c.steps q (omega arith)
       ];
       last = c.last;
-      turns = λ k. elim k as (λ x. (i : ℕ) → x ≤ length (here ∷ r.closed) → i < n → TurnsOk n i (get_or (here ∷ allRounds r) x [])) [
+      turns = λ k. elim k as (λ x. (i : ℕ) → x ≤ length (here ∷ r.closed) → i < n → TurnsOk n i (get_or (here ∷ all_rounds r) x [])) [
         | zero ↦ λ i h. first.turns i
         | suc k ↦ λ i h. c.turns k i (omega arith)
       ];
-      counted = λ k. elim k as (λ x. x < length (here ∷ r.closed) → Exact n (live n T) (start x) → testsIn (round x) ≡ demandCount n T) [
+      counted = λ k. elim k as (λ x. x < length (here ∷ r.closed) → Exact n (live n T) (start x) → tests_in (round x) ≡ demand_count n T) [
         | zero ↦ λ h. first.counted
         | suc k ↦ λ h. c.counted k (omega arith)
       ];
-      opened = λ k. elim k as (λ x. x < length (here ∷ r.closed) → (firstTable (round x) ≡ start x) × Plain n (live n T) (start x)) [
+      opened = λ k. elim k as (λ x. x < length (here ∷ r.closed) → (first_table (round x) ≡ start x) × Plain n (live n T) (start x)) [
         | zero ↦ λ h. first.opened
         | suc k ↦ λ h. c.opened k (omega arith)
       ];
       listed = λ k. elim k as (λ x. x < length (here ∷ r.closed) → Exact n (live n T) (start x) → (i : ℕ) → i < n → live n T i ≡ true
-          → tested_in i (round x) ≡ map (stationAt i) (ledBelow n (live n T) i (distances n))) [
+          → tested_in i (round x) ≡ map (station_at i) (led_below n (live n T) i (distances n))) [
         | zero ↦ λ h. first.listed
         | suc k ↦ λ h. c.listed k (omega arith)
       ];
     }
 
 -- no entry more
-cut-done : (n : ℕ) (T t₀ : List ℕ) (cur : List Taken) (s : State) → isSize n ≡ true → InRound n (live n T) t₀ cur s.table
+cut-done : (n : ℕ) (T t₀ : List ℕ) (cur : List Taken) (s : State) → is_size n ≡ true → InRound n (live n T) t₀ cur s.table
     → CutFrom n T t₀ cur s [] s
-unfolding cut testsOfAll
+unfolding cut tests_of_all
 cut-done n T t₀ cur s size inv = (
   record {
     start = λ q. t₀;
@@ -152,8 +152,8 @@ cut-done n T t₀ cur s size inv = (
 
 -- one taken entry that is no crash and no late reply
 module _ (n : ℕ) (T : List ℕ) (company : Company n (live n T)) (t₀ : List ℕ) (cur : List Taken) (s : State) (e : Entry)
-    (ok : Accepted n s.table) (takes : entryNumber n s e ≡ 0) (inv : InRound n (live n T) t₀ cur s.table)
-    (noCrash : isCrash e ≡ false) (inTime : isLate (takenAt n s e) ≡ false) where
+    (ok : Accepted n s.table) (takes : entry_number n s e ≡ 0) (inv : InRound n (live n T) t₀ cur s.table)
+    (no_crash : is_crash e ≡ false) (in_time : is_late (taken_at n s e) ≡ false) where
   abbrev L : ℕ → Bool
   L = live n T
 
@@ -167,7 +167,7 @@ module _ (n : ℕ) (T : List ℕ) (company : Company n (live n T)) (t₀ : List 
   t' = acted n t e
 
   abbrev x : Taken
-  x = takenAt n s e
+  x = taken_at n s e
 
   abbrev here : List Taken
   here = cur ++ (x ∷ [])
@@ -176,39 +176,39 @@ module _ (n : ℕ) (T : List ℕ) (company : Company n (live n T)) (t₀ : List 
   facts = entry-facts n s e takes
 
   -- the reply of a live station
-  prompt : makesTest n t i ≡ true → L (stationAt i (nextTest n t i)) ≡ true → e.kind ≡ kindTurn
-  unfolding tested_of turnTested
+  prompt : makes_test n t i ≡ true → L (station_at i (next_test n t i)) ≡ true → e.kind ≡ kind_turn
+  unfolding tested_of turn_tested
   prompt m l =
       let x<n = test-station n t i m ok.long facts.below in
-      let late : eqb e.kind kindLate ≡ false = simp and-true at (rw (noCrash, m, inv.knows.plain.lives _ x<n ∙ l) at inTime) in
-      omega (arith, eqb-false e.kind kindLate late, eqb-false e.kind kindCrash noCrash, facts.kindLow, facts.kindHigh)
+      let late : eqb e.kind kind_late ≡ false = simp and-true at (rw (no_crash, m, inv.knows.plain.lives _ x<n ∙ l) at in_time) in
+      omega (arith, eqb-false e.kind kind_late late, eqb-false e.kind kind_crash no_crash, facts.kind_low, facts.kind_high)
 
   moved : InRound n L t₀ here t'
   unfolding acted
   moved =
       let p = inv.knows.plain in
-      let isLive : L i ≡ true = sym (p.lives i facts.below) ∙ facts.isLive in
-      let open-pass = facts.unfinished (eqb-false e.kind kindCrash noCrash) in
-      let going : finished n t i ≡ 0 = omega (arith, (p.lines.1 i facts.below).pass.finishedRange) in
+      let is_live : L i ≡ true = sym (p.lives i facts.below) ∙ facts.is_live in
+      let open-pass = facts.unfinished (eqb-false e.kind kind_crash no_crash) in
+      let going : finished n t i ≡ 0 = omega (arith, (p.lines.1 i facts.below).pass.finished_range) in
       let heads = turn-heads n t e.kind i ok.size p.lines facts.below in
-      let turned = turn-effect n L t e.kind i ok.size p company facts.below isLive going prompt in
-      rw noCrash (record {
+      let turned = turn-effect n L t e.kind i ok.size p company facts.below is_live going prompt in
+      rw no_crash (record {
         fresh = inv.fresh;
-        counts = turn-counts n s e t₀ _ cur noCrash facts.below going heads inv.counts;
+        counts = turn-counts n s e t₀ _ cur no_crash facts.below going heads inv.counts;
         roomy = turn-roomy n t _ i p.lines facts.below heads inv.roomy;
-        knows = turn-knows n L t₀ t _ i inv.knows turned heads facts.below isLive;
-        lists = turn-listed n L s e t₀ _ cur noCrash facts.below isLive heads inv.knows inv.lists;
+        knows = turn-knows n L t₀ t _ i inv.knows turned heads facts.below is_live;
+        lists = turn-listed n L s e t₀ _ cur no_crash facts.below is_live heads inv.knows inv.lists;
       })
 
   lines' : Lines n t'
   lines' = moved.knows.plain.lines
 
-  closing-is : closes here x ≡ roundOver n t'
+  closing-is : closes here x ≡ round_over n t'
   closing-is = closes-is n t₀ t' here moved.fresh lines' moved.counts s e refl
 
-  tests-after : (after n s e).tests ≡ s.tests + bit (takenTest x)
+  tests-after : (after n s e).tests ≡ s.tests + bit (taken_test x)
   unfolding after
-  tests-after = by_bool (takenTest x) (λ q. rw q) (λ q. rw q (omega arith))
+  tests-after = by_bool (taken_test x) (λ q. rw q) (λ q. rw q (omega arith))
 
   low : n ≤ distances n
   low = (size-distances n ok.size).0
@@ -217,14 +217,14 @@ module _ (n : ℕ) (T : List ℕ) (company : Company n (live n T)) (t₀ : List 
   cut-more : (xs : List Taken) (s' : State)
       → ((t₁ : List ℕ) (now : List Taken) → InRound n L t₁ now (after n s e).table → CutFrom n T t₁ now (after n s e) xs s')
       → CutFrom n T t₀ cur s (x ∷ xs) s'
-  unfolding cut after afterRound testsOfAll countTaken
-  cut-more xs s' rest = by_bool (roundOver n t') closing going
+  unfolding cut after after_round tests_of_all count_taken
+  cut-more xs s' rest = by_bool (round_over n t') closing going
     where
-      closing : roundOver n t' ≡ true → CutFrom n T t₀ cur s (x ∷ xs) s'
+      closing : round_over n t' ≡ true → CutFrom n T t₀ cur s (x ∷ xs) s'
       closing over =
-          let r = rest (resetLines n t') [] (rw over (restart n L t' moved.knows.plain)) in
+          let r = rest (reset_lines n t') [] (rw over (restart n L t' moved.knows.plain)) in
           rw (closing-is ∙ over) (
-            course-before n T t₀ (resetLines n t') here
+            course-before n T t₀ (reset_lines n t') here
             (record {
               step = round-step n L t₀ t' here moved over low;
               turns = turns-ok n t₀ t' here moved.fresh lines' moved.counts ok.size moved.roomy;
@@ -233,23 +233,23 @@ module _ (n : ℕ) (T : List ℕ) (company : Company n (live n T)) (t₀ : List 
               listed = round-list n L t₀ t' here moved over;
             })
             _ _ r.0,
-            omega (arith, rw over at r.1.rounds, r.1.tests, tests-after, count-snoc takenTest cur x),
+            omega (arith, rw over at r.1.rounds, r.1.tests, tests-after, count-snoc taken_test cur x),
           )
 
-      going : roundOver n t' ≡ false → CutFrom n T t₀ cur s (x ∷ xs) s'
+      going : round_over n t' ≡ false → CutFrom n T t₀ cur s (x ∷ xs) s'
       going over =
           let r = rest t₀ here (rw over moved) in
-          rw (closing-is ∙ over) (r.0, omega (arith, rw over at r.1.rounds, r.1.tests, tests-after, count-snoc takenTest cur x))
+          rw (closing-is ∙ over) (r.0, omega (arith, rw over at r.1.rounds, r.1.tests, tests-after, count-snoc taken_test cur x))
 
 -- a chain, cut into rounds
-pub course : (n : ℕ) (T : List ℕ) → isSize n ≡ true → Company n (live n T) → {s s' : State} {xs : List Taken} → Chain n s xs s'
-    → allTaken (λ x. not (crashes x)) xs ≡ true → allTaken (λ x. not (isLate x)) xs ≡ true
+pub course : (n : ℕ) (T : List ℕ) → is_size n ≡ true → Company n (live n T) → {s s' : State} {xs : List Taken} → Chain n s xs s'
+    → all_taken (λ x. not (crashes x)) xs ≡ true → all_taken (λ x. not (is_late x)) xs ≡ true
     → (t₀ : List ℕ) (cur : List Taken) → InRound n (live n T) t₀ cur s.table → CutFrom n T t₀ cur s xs s'
-unfolding allTaken
+unfolding all_taken
 course n T size company {s} done a b t₀ cur inv = cut-done n T t₀ cur s size inv
 course n T size company {s} {s'} (more {xs = xs} e ok takes chain) a b t₀ cur inv =
-    let p = both (not (isCrash e)) (allTaken (λ x. not (crashes x)) xs) a in
-    let late : Bool = isLate (takenAt n s e) in
-    let q = both (not late) (allTaken (λ x. not (isLate x)) xs) b in
-    cut-more n T company t₀ cur s e ok takes inv (not-true (isCrash e) p.0) (not-true late q.0) xs s'
+    let p = both (not (is_crash e)) (all_taken (λ x. not (crashes x)) xs) a in
+    let late : Bool = is_late (taken_at n s e) in
+    let q = both (not late) (all_taken (λ x. not (is_late x)) xs) b in
+    cut-more n T company t₀ cur s e ok takes inv (not-true (is_crash e) p.0) (not-true late q.0) xs s'
     (λ t₁ now i. course n T size company chain p.1 q.1 t₁ now i)

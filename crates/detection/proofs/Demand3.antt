@@ -12,9 +12,9 @@ use borrow.Author.Tests.{ltb-true, ltb-false, eqb-true, eqb-false, ne_eqb, not-t
 use lib.ListN.{length}
 use lib.Dec.{ltb, eqb}
 use Rattle.lists.specs.Search.{least, every}
-use Rattle.table.specs.Sizes.{isSize, dimension}
+use Rattle.table.specs.Sizes.{is_size, dimension}
 use Rattle.table.specs.Table.{suspects, live}
-use Rattle.table.specs.Rules.{notLive}
+use Rattle.table.specs.Rules.{not_live}
 use Rattle.lists.proofs.SearchLaws.{both, every-at, least-passes, least-before}
 use Rattle.table.proofs.Accepting.{Accepted}
 use Rattle.table.proofs.CellLaws.{accepted-line}
@@ -22,10 +22,10 @@ use Rattle.table.proofs.SizeLaws.{size-bounds, size-log}
 use Rattle.plant.specs.Entry.{State}
 use Rattle.plant.proofs.RoundLaws.{Reset}
 use Rattle.lists.specs.Sums.{bit}
-use Rattle.detection.specs.Runs.{Call, takenAll, afterRun, afterRuns}
-use Rattle.detection.specs.Rounds.{countTaken, cut, testsOfAll}
-use Rattle.table.specs.Properties.{lineAtStart, at_start, liveCount, noLiveSuspicion, noneSuspected}
-use Rattle.detection.specs.Claim.{roundsOf, Premises, Conclusion, Within, WithinAfter, demandWait, Demand3, exactWait}
+use Rattle.detection.specs.Runs.{Call, taken_all, after_run, after_runs}
+use Rattle.detection.specs.Rounds.{count_taken, cut, tests_of_all}
+use Rattle.table.specs.Properties.{line_at_start, at_start, live_count, no_live_suspicion, none_suspected}
+use Rattle.detection.specs.Claim.{rounds_of, Premises, Conclusion, Within, WithinAfter, demand_wait, Demand3, exact_wait}
 use Rattle.lists.proofs.BoolLaws.{by_bool}
 use Rattle.lists.proofs.SumLaws.{sum-single}
 use Rattle.detection.proofs.Wait.{wait-pos, wait-le-pairs, wait-le-square}
@@ -36,18 +36,18 @@ use Rattle.detection.proofs.Closing.{InRound, round-start}
 use Rattle.detection.proofs.Course.{Course, Tallied, exact-at, course}
 
 -- no live station suspects a live one: the byte is 0, where rows hold 0 and 1 only
-pub trusts : (n : ℕ) (t : List ℕ) → Accepted n t → noneSuspected n t ≡ true → (i j : ℕ) → i < n → j < n → live n t i ≡ true → live n t j ≡ true
+pub trusts : (n : ℕ) (t : List ℕ) → Accepted n t → none_suspected n t ≡ true → (i j : ℕ) → i < n → j < n → live n t i ≡ true → live n t j ≡ true
     → suspects n t i j ≡ 0
-unfolding noneSuspected
+unfolding none_suspected
 trusts n t ok none i j h g a b =
-    let mine = every-at (λ k. every (noLiveSuspicion n t k) n) n i none h in
-    let all : noLiveSuspicion n t i j ≡ true = every-at (noLiveSuspicion n t i) n j mine g in
-    let notOne = eqb-false (suspects n t i j) 1 (not-true _ (rw (a, b) at all)) in
+    let mine = every-at (λ k. every (no_live_suspicion n t k) n) n i none h in
+    let all : no_live_suspicion n t i j ≡ true = every-at (no_live_suspicion n t i) n j mine g in
+    let not_one = eqb-false (suspects n t i j) 1 (not-true _ (rw (a, b) at all)) in
     omega (arith, (accepted-line n t ok i h).range j g)
 
 -- where two stations are live each live one has another
-pub company-of : (n : ℕ) (t : List ℕ) → 2 ≤ liveCount n t → Company n (live n t)
-unfolding liveCount
+pub company-of : (n : ℕ) (t : List ℕ) → 2 ≤ live_count n t → Company n (live n t)
+unfolding live_count
 company-of n t two i h l =
     by_bool (ltb p n)
     (λ e.
@@ -77,7 +77,7 @@ first_round n s calls given ok =
 
     fresh : (i : ℕ) → i < n → Reset n t i
     fresh i h =
-        let all = both _ _ (every-at (lineAtStart n t) n i given.start h) in
+        let all = both _ _ (every-at (line_at_start n t) n i given.start h) in
         let head = both _ _ all.0 in
         record { next = eqb-true _ 1 head.0; unfinished = eqb-true _ 0 head.1; untested = eqb-true _ 0 all.1 }
 
@@ -86,77 +86,77 @@ module _ (n : ℕ) (s : State) (calls : List Call) (given : Premises n s calls) 
   abbrev L : ℕ → Bool
   L = live n s.table
 
-  pub history : Course n s.table s.table (roundsOf s calls) (afterRuns s calls).table
-      × Tallied [] s (roundsOf s calls) (afterRuns s calls)
+  pub history : Course n s.table s.table (rounds_of s calls) (after_runs s calls).table
+      × Tallied [] s (rounds_of s calls) (after_runs s calls)
   history =
-      course n s.table given.size (company-of n s.table given.twoLive) (chain-all n s calls given.long)
-      given.noCrash given.noLate
+      course n s.table given.size (company-of n s.table given.two_live) (chain-all n s calls given.long)
+      given.no_crash given.no_late
       s.table [] (first_round n s calls given ok)
 
   -- after the exact wait all rounds start exact
-  pub exact : (q : ℕ) → exactWait (dimension n) ≤ q → q ≤ length (roundsOf s calls).closed → Exact n L (history.0.start q)
+  pub exact : (q : ℕ) → exact_wait (dimension n) ≤ q → q ≤ length (rounds_of s calls).closed → Exact n L (history.0.start q)
   exact =
-      exact-at n (dimension n) s.table s.table (roundsOf s calls) (afterRuns s calls).table history.0 (let d = size-log n given.size in rw d.1 d.3)
+      exact-at n (dimension n) s.table s.table (rounds_of s calls) (after_runs s calls).table history.0 (let d = size-log n given.size in rw d.1 d.3)
 
-  known : exactWait (dimension n) ≤ length (roundsOf s calls).closed
-      → (i j : ℕ) → i < n → j < n → L i ≡ true → suspects n (afterRuns s calls).table i j ≡ bit (notLive n s.table j)
+  known : exact_wait (dimension n) ≤ length (rounds_of s calls).closed
+      → (i j : ℕ) → i < n → j < n → L i ≡ true → suspects n (after_runs s calls).table i j ≡ bit (not_live n s.table j)
   known far i j h g l =
       let last = history.0.last in
       by_bool (L j) (λ e. rw e (last.plain.trusted i j h g l e)) (λ e. rw e (last.grown i j h g (exact _ far (omega arith) i j h g l e)))
 
-  wait-accepted : Conclusion (exactWait (dimension n)) n s calls (afterRuns s calls)
-  unfolding countTaken
+  wait-accepted : Conclusion (exact_wait (dimension n)) n s calls (after_runs s calls)
+  unfolding count_taken
   wait-accepted = record {
-    sameLive = history.0.last.plain.lives;
+    same_live = history.0.last.plain.lives;
     turns = λ k i h g l. history.0.turns k i h g;
     known = known;
     tests = λ k far h. history.0.counted k h (exact k far (omega arith));
-    roundsTally = history.1.rounds;
-    testsTally = omega (arith, history.1.tests);
+    rounds_tally = history.1.rounds;
+    tests_tally = omega (arith, history.1.tests);
   }
 
 -- no entry is taken, as on a table that the refusals turn away
-wait-none : (n : ℕ) (s : State) (calls : List Call) → isSize n ≡ true → takenAll s calls ≡ [] → afterRuns s calls ≡ s
-    → Conclusion (exactWait (dimension n)) n s calls (afterRuns s calls)
-unfolding cut countTaken testsOfAll
+wait-none : (n : ℕ) (s : State) (calls : List Call) → is_size n ≡ true → taken_all s calls ≡ [] → after_runs s calls ≡ s
+    → Conclusion (exact_wait (dimension n)) n s calls (after_runs s calls)
+unfolding cut count_taken tests_of_all
 wait-none n s calls size none stays =
     rw stays (record {
-      sameLive = λ i h. refl;
+      same_live = λ i h. refl;
       turns = λ k i h g l.
           let first : k ≡ 0 = omega (arith, closed) in
           rw (first, none) (omega arith, λ e. absurd (omega (arith, size-bounds n size)));
       known = λ far. absurd (some_level far);
       tests = λ k far h. absurd (omega (arith, closed));
-      roundsTally = omega (arith, closed);
-      testsTally = rw none (omega arith);
+      rounds_tally = omega (arith, closed);
+      tests_tally = rw none (omega arith);
     })
   where
-    closed : length (roundsOf s calls).closed ≡ 0
+    closed : length (rounds_of s calls).closed ≡ 0
     closed = rw none
 
-    some_level : exactWait (dimension n) ≤ length (roundsOf s calls).closed → ⊥
+    some_level : exact_wait (dimension n) ≤ length (rounds_of s calls).closed → ⊥
     some_level far = let d = size-log n size in omega (arith, closed, rw (← d.1) at (wait-pos d.0))
 
 -- the claim within the exact wait, an end in itself
-pub exact-wait : Within exactWait
+pub exact-wait : Within exact_wait
 exact-wait n s calls given = go (chain_first (chain-all n s calls given.long))
   where
-    go : ((takenAll s calls ≡ []) × (afterRuns s calls ≡ s)) ⊎ Accepted n s.table
-        → Conclusion (exactWait (dimension n)) n s calls (afterRuns s calls)
+    go : ((taken_all s calls ≡ []) × (after_runs s calls ≡ s)) ⊎ Accepted n s.table
+        → Conclusion (exact_wait (dimension n)) n s calls (after_runs s calls)
     go (inl e) = wait-none n s calls given.size e.0 e.1
     go (inr ok) = wait-accepted n s calls given ok
 
 -- and so within any number of rounds that is not less
-pub within : (rounds : ℕ → ℕ) → ((d : ℕ) → exactWait d ≤ rounds d) → Within rounds
+pub within : (rounds : ℕ → ℕ) → ((d : ℕ) → exact_wait d ≤ rounds d) → Within rounds
 within rounds enough n s calls given =
     let c = exact-wait n s calls given in
     record {
-      sameLive = c.sameLive;
+      same_live = c.same_live;
       turns = c.turns;
       known = λ far. c.known (le_trans (enough (dimension n)) far);
       tests = λ k far. c.tests k (le_trans (enough (dimension n)) far);
-      roundsTally = c.roundsTally;
-      testsTally = c.testsTally;
+      rounds_tally = c.rounds_tally;
+      tests_tally = c.tests_tally;
     }
 
 -- within 1 + d(d − 1)/2 rounds, an end in itself
@@ -165,14 +165,14 @@ within-pairs = within _ wait-le-pairs
 
 -- demand 3, an end in itself
 pub demand-3 : Demand3
-demand-3 = within demandWait (λ d. omega (arith, wait-le-square d))
+demand-3 = within demand_wait (λ d. omega (arith, wait-le-square d))
 
 -- the runs of a list and one more
-after-one-more : (s : State) (calls : List Call) (c : Call) → afterRuns s (calls ++ (c ∷ [])) ≡ afterRun (afterRuns s calls) c
-unfolding afterRuns
+after-one-more : (s : State) (calls : List Call) (c : Call) → after_runs s (calls ++ (c ∷ [])) ≡ after_run (after_runs s calls) c
+unfolding after_runs
 after-one-more s [] c = refl
-after-one-more s (b ∷ calls) c = after-one-more (afterRun s b) calls c
+after-one-more s (b ∷ calls) c = after-one-more (after_run s b) calls c
 
 -- a claim about lists, of the last run of a list
-pub last-run : (rounds : ℕ → ℕ) → Within rounds → (c : Call) (before : State) → WithinAfter rounds c before (afterRun before c)
+pub last-run : (rounds : ℕ → ℕ) → Within rounds → (c : Call) (before : State) → WithinAfter rounds c before (after_run before c)
 last-run rounds claim c before n s calls e given = rw (after-one-more s calls c, e) at (claim n s (calls ++ (c ∷ [])) given)

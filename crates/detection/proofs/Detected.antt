@@ -1,4 +1,4 @@
--- Who knows after how many rounds: after `exactWait d` closed rounds each live station suspects each station near at d to it that is not
+-- Who knows after how many rounds: after `exact_wait d` closed rounds each live station suspects each station near at d to it that is not
 -- live. docs/DEMAND-3.md tells the proof. A live set and rows over numbers, nothing else.
 -- Assumes nothing.
 use mathlib.Core.Path.{◌≡◌, refl, sym, ◌∙◌}
@@ -7,7 +7,7 @@ use mathlib.Core.Bool.{Bool, true, false, true≢false}
 use Prim.Native.Nat.{ℕ, zero, suc, ◌+◌, ◌*◌, ◌-◌, ◌≤◌, ◌<◌}
 use native.Mathlib.Decide.{dec_lt}
 use native.Mathlib.Omega.{arith}
-use Rattle.detection.specs.Claim.{exactWait}
+use Rattle.detection.specs.Claim.{exact_wait}
 use Rattle.lists.proofs.Xor.{Near, near_le}
 use Rattle.detection.proofs.Near.{Member, Parting, same, apart, near-dec, near-zero, member-sym, member-near, members-near, parting}
 use Rattle.detection.proofs.Pass.{InPass, find, lift, Round}
@@ -133,13 +133,13 @@ module _ (live : ℕ → Bool) (rows : ℕ → ℕ → ℕ → Type 0) (R : (q :
           gains i s (suc p) _ _ cube u s q i e (omega arith) (omega arith) t refl
 
   -- a live i comes to suspect a j that is not live and has i in its group at level s + 1
-  suspected : (s i j : ℕ) → live i ≡ true → live j ≡ false → Member s j i → rows (exactWait (suc s)) i j
+  suspected : (s i j : ℕ) → live i ≡ true → live j ≡ false → Member s j i → rows (exact_wait (suc s)) i j
   suspected s i j ti fj m = go (span live i s)
     where
       all : (p : ℕ) → AllAware live rows (ready p) p
       all p q y = all-aware (suc p) p q y (omega arith)
 
-      go : Span live i s → rows (exactWait (suc s)) i j
+      go : Span live i s → rows (exact_wait (suc s)) i j
       go (alone dead) =
           let g = finds-for i s 0 0 0 (subcube-alone i s dead) s 0 j (omega arith) (omega arith) ti m fj in
           let me : g.station ≡ i = near-zero g.station i g.near in
@@ -154,7 +154,7 @@ module _ (live : ℕ → Bool) (rows : ℕ → ℕ → ℕ → Type 0) (R : (q :
 
 -- after the exact wait, and at any later round's start, each live station suspects each station near at d to it that is not live
 pub detected : (d : ℕ) (live : ℕ → Bool) (rows : ℕ → ℕ → ℕ → Type 0) → ((q : ℕ) → Round live (rows q) (rows (suc q))) → (q i j : ℕ)
-    → exactWait d ≤ q → live i ≡ true → live j ≡ false → Near d j i → rows q i j
+    → exact_wait d ≤ q → live i ≡ true → live j ≡ false → Near d j i → rows q i j
 detected d live rows R q i j l ti fj n = go (parting d j i n)
   where
     go : Parting d j i → rows q i j

@@ -9,95 +9,95 @@ use native.Mathlib.Omega.{arith}
 use borrow.Author.Tests.{ne_eqb, eq-eqb}
 use lib.Dec.{eqb}
 use lib.ListN.{length}
-use Rattle.table.specs.Sizes.{isSize}
-use Rattle.table.specs.Table.{head, stride, tableLength, lineStart, cell, statusColumn, nextColumn, finishedColumn, testsColumn, toldByColumn, toldByNone, roundsAgoColumn, suspects, live, status}
-use Rattle.table.specs.Rules.{exitRule, lineRules, tableNumber}
-use Rattle.table.specs.Fresh.{freshByte, freshTable}
-use Rattle.lists.proofs.SearchLaws.{every-all, listOf-length, listOf-at}
+use Rattle.table.specs.Sizes.{is_size}
+use Rattle.table.specs.Table.{head, stride, table_length, line_start, cell, status_column, next_column, finished_column, tests_column, told_by_column, told_by_none, rounds_ago_column, suspects, live, status}
+use Rattle.table.specs.Rules.{exit_rule, line_rules, table_number}
+use Rattle.table.specs.Fresh.{fresh_byte, fresh_table}
+use Rattle.lists.proofs.SearchLaws.{every-all, list_of-length, list_of-at}
 use Rattle.lists.specs.Sums.{bit}
 use Rattle.lists.proofs.SumLaws.{sum_by, sum-const}
 use Rattle.table.proofs.SizeLaws.{size-bounds, distances-pos}
 use Rattle.table.proofs.CellLaws.{line-inside, Line, line-holds}
 use Rattle.plant.proofs.RulesKept.{unfinished-open}
 use Rattle.plant.proofs.RunLaws.{accepted-number}
-use Rattle.table.specs.Properties.{lineAtStart, at_start, liveCount, noneSuspected, noLiveSuspicion}
-use Rattle.detection.specs.Runs.{takenAll}
-use Rattle.detection.specs.Rounds.{allTaken}
+use Rattle.table.specs.Properties.{line_at_start, at_start, live_count, none_suspected, no_live_suspicion}
+use Rattle.detection.specs.Runs.{taken_all}
+use Rattle.detection.specs.Rounds.{all_taken}
 use Rattle.detection.specs.Claim.{FreshMeetsPremises}
 
 -- "every line live, next distance 1, all else 0"; by C-18 byte 4 is 255
-fresh-cell : (n i c : ℕ) → i < n → c < stride n → cell n (freshTable n) i c ≡ cond (eqb c nextColumn) 1 (cond (eqb c toldByColumn) toldByNone 0)
-unfolding cell freshTable freshByte lineStart
+fresh-cell : (n i c : ℕ) → i < n → c < stride n → cell n (fresh_table n) i c ≡ cond (eqb c next_column) 1 (cond (eqb c told_by_column) told_by_none 0)
+unfolding cell fresh_table fresh_byte line_start
 fresh-cell n i c h g =
-    listOf-at (freshByte n) (tableLength n) (lineStart n i + c) (omega (arith, line-inside n i h)) ∙ rw place
+    list_of-at (fresh_byte n) (table_length n) (line_start n i + c) (omega (arith, line-inside n i h)) ∙ rw place
   where
-    place : (lineStart n i + c) % stride n ≡ c
+    place : (line_start n i + c) % stride n ≡ c
     place = mul-add-mod_self_right i (stride n) c ∙ mod-eq_of_lt g
 
-fresh-row : (n i k : ℕ) → i < n → k < n → suspects n (freshTable n) i k ≡ 0
+fresh-row : (n i k : ℕ) → i < n → k < n → suspects n (fresh_table n) i k ≡ 0
 fresh-row n i k g l =
-    fresh-cell n i (head + k) g (omega arith) ∙ rw (ne_eqb (head + k) nextColumn (λ e. omega arith), ne_eqb (head + k) toldByColumn (λ e. omega arith))
+    fresh-cell n i (head + k) g (omega arith) ∙ rw (ne_eqb (head + k) next_column (λ e. omega arith), ne_eqb (head + k) told_by_column (λ e. omega arith))
 
-fresh-live : (n i : ℕ) → i < n → live n (freshTable n) i ≡ true
-fresh-live n i h = eq-eqb (status n (freshTable n) i) 0 (fresh-cell n i statusColumn h (omega arith))
+fresh-live : (n i : ℕ) → i < n → live n (fresh_table n) i ≡ true
+fresh-live n i h = eq-eqb (status n (fresh_table n) i) 0 (fresh-cell n i status_column h (omega arith))
 
-fresh-line : (n i : ℕ) → i < n → Line n (freshTable n) i
-unfolding exitRule
+fresh-line : (n i : ℕ) → i < n → Line n (fresh_table n) i
+unfolding exit_rule
 fresh-line n i g = record {
-  statusRange = omega (arith, fresh-cell n i statusColumn g (omega arith));
-  pass = rw (fresh-cell n i nextColumn g (omega arith), fresh-cell n i finishedColumn g (omega arith), fresh-cell n i testsColumn g (omega arith))
-      (record { nextLow = omega arith; nextHigh = distances-pos n; finishedRange = omega arith; testsBound = omega arith; finishedNext = λ e. absurd (omega arith) });
+  status_range = omega (arith, fresh-cell n i status_column g (omega arith));
+  pass = rw (fresh-cell n i next_column g (omega arith), fresh-cell n i finished_column g (omega arith), fresh-cell n i tests_column g (omega arith))
+      (record { next_low = omega arith; next_high = distances-pos n; finished_range = omega arith; tests_bound = omega arith; finished_next = λ e. absurd (omega arith) });
   exits =
-      rw (fresh-cell n i statusColumn g (omega arith), fresh-cell n i toldByColumn g (omega arith), fresh-cell n i roundsAgoColumn g (omega arith));
+      rw (fresh-cell n i status_column g (omega arith), fresh-cell n i told_by_column g (omega arith), fresh-cell n i rounds_ago_column g (omega arith));
   own = fresh-row n i i g g;
   range = λ k l. omega (arith, fresh-row n i k g l);
 }
 
 module _ (n : ℕ) where
   abbrev t : List ℕ
-  t = freshTable n
+  t = fresh_table n
 
-  fresh-long : length t ≡ tableLength n
-  unfolding freshTable
-  fresh-long = listOf-length (freshByte n) (tableLength n)
+  fresh-long : length t ≡ table_length n
+  unfolding fresh_table
+  fresh-long = list_of-length (fresh_byte n) (table_length n)
 
   -- it passes refusals 1 to 4
-  pub fresh-accepted : isSize n ≡ true → tableNumber n t ≡ 0
+  pub fresh-accepted : is_size n ≡ true → table_number n t ≡ 0
   fresh-accepted size =
       accepted-number n t (record {
         size = size;
         long = fresh-long;
-        lines = every-all (lineRules n t) n (λ i h. line-holds n t i (fresh-line n i h));
-        unclosed = unfinished-open n t (λ i h. fresh-cell n i finishedColumn h (omega arith));
+        lines = every-all (line_rules n t) n (λ i h. line-holds n t i (fresh-line n i h));
+        unclosed = unfinished-open n t (λ i h. fresh-cell n i finished_column h (omega arith));
       })
 
   -- it stands at the start of a round
   pub fresh_start : at_start n t ≡ true
   unfolding at_start
   fresh_start =
-      every-all (lineAtStart n t) n (λ i h.
-      let next = fresh-cell n i nextColumn h (omega arith) in
-      let finish = fresh-cell n i finishedColumn h (omega arith) in
-      rw (next, finish, fresh-cell n i testsColumn h (omega arith)))
+      every-all (line_at_start n t) n (λ i h.
+      let next = fresh-cell n i next_column h (omega arith) in
+      let finish = fresh-cell n i finished_column h (omega arith) in
+      rw (next, finish, fresh-cell n i tests_column h (omega arith)))
 
   -- all are live, and none suspects another
-  all_live : liveCount n t ≡ n
-  unfolding liveCount
+  all_live : live_count n t ≡ n
+  unfolding live_count
   all_live = sum_by {g = λ i. 1} n (λ i h. ap bit (fresh-live n i h)) ∙ (sum-const 1 n ∙ mul-one n)
 
-  none-suspected : noneSuspected n t ≡ true
-  unfolding noneSuspected
+  none-suspected : none_suspected n t ≡ true
+  unfolding none_suspected
   none-suspected =
-      every-all _ n (λ i h. every-all (noLiveSuspicion n t i) n (λ j l. rw (fresh-live n i h, fresh-live n j l, fresh-row n i j h l)))
+      every-all _ n (λ i h. every-all (no_live_suspicion n t i) n (λ j l. rw (fresh-live n i h, fresh-live n j l, fresh-row n i j h l)))
 
 pub fresh-premises : FreshMeetsPremises
-unfolding allTaken takenAll
+unfolding all_taken taken_all
 fresh-premises n rounds tests size = record {
   size = size;
   long = fresh-long n;
   start = fresh_start n;
-  twoLive = omega (arith, all_live n, size-bounds n size);
+  two_live = omega (arith, all_live n, size-bounds n size);
   trusted = none-suspected n;
-  noCrash = refl;
-  noLate = refl;
+  no_crash = refl;
+  no_late = refl;
 }

@@ -12,17 +12,17 @@ use lib.ListN.{length, get_or}
 use lib.Bits.{bit_xor, xor_comm}
 use lib.Dec.{eqb, ltb}
 use lib.Pow.{pow_pos}
-use Rattle.station.specs.Groups.{stationAt, isPresent, member}
+use Rattle.station.specs.Groups.{station_at, is_present, member}
 use Rattle.table.specs.Sizes.{level}
-use Rattle.table.specs.Table.{nextColumn, testsColumn, nextDistance, testsMade, suspects, row}
+use Rattle.table.specs.Table.{next_column, tests_column, next_distance, tests_made, suspects, row}
 use Rattle.station.specs.Tests.{unsuspected, due}
 use Rattle.lists.proofs.Xor.{xor-cancel}
 use Rattle.lists.proofs.SearchLaws.{both}
 use Rattle.table.proofs.CellLaws.{row-length, row_at}
-use Rattle.turn.specs.Turn.{makesTest}
+use Rattle.turn.specs.Turn.{makes_test}
 use Rattle.plant.proofs.RoundLaws.{Reset}
 use Rattle.turn.proofs.StepLines.{Lines}
-use Rattle.lists.specs.Sums.{sum, bit}
+use Rattle.lists.specs.Sums.{sum_below, bit}
 use Rattle.lists.proofs.BoolLaws.{by_bool}
 use Rattle.lists.proofs.SumLaws.{sum_by, sum-zero}
 use Rattle.detection.proofs.Count.{leads, leads-zero, leads-same}
@@ -35,7 +35,7 @@ use Rattle.detection.proofs.TurnEffect.{Plain, Grown, Row, Tested, tested-more, 
 
 -- the live stations among the n
 abbrev pub LiveOf : ℕ → (ℕ → Bool) → ℕ → Bool
-LiveOf n L i = isPresent n i && L i
+LiveOf n L i = is_present n i && L i
 
 -- i suspects j, or j is absent
 abbrev pub RowOf : ℕ → List ℕ → ℕ → ℕ → Type 0
@@ -65,16 +65,16 @@ met-later n L t₀ t t' i reach grows hi met h x hx below asks =
     tested-more n L t t' i x hi hx grows (λ j a s. s) (λ j a s. s) (met h x hx below asks)
 
 -- whether a station stands at distance m from i and i leads its group
-abbrev pub leadsAt : ℕ → (ℕ → Bool) → ℕ → ℕ → Bool
-leadsAt n L i m = isPresent n (stationAt i m) && leads (LiveOf n L) i m
+abbrev pub leads_at : ℕ → (ℕ → Bool) → ℕ → ℕ → Bool
+leads_at n L i m = is_present n (station_at i m) && leads (LiveOf n L) i m
 
 -- the invariant of a round
 pub record Knows (n : ℕ) (L : ℕ → Bool) (t₀ t : List ℕ) : Type 0 where
   pub plain : Plain n L t
   pub grown : Grown n t₀ t
-  pub met : (i : ℕ) → i < n → L i ≡ true → Met n L t₀ t i (nextDistance n t i)
+  pub met : (i : ℕ) → i < n → L i ≡ true → Met n L t₀ t i (next_distance n t i)
   -- in a round that starts exact byte 3 counts the distances passed at which i leads the group of a station
-  pub counted : Exact n L t₀ → (i : ℕ) → i < n → testsMade n t i ≡ sum (λ m. bit (leadsAt n L i m)) (nextDistance n t i)
+  pub counted : Exact n L t₀ → (i : ℕ) → i < n → tests_made n t i ≡ sum_below (λ m. bit (leads_at n L i m)) (next_distance n t i)
 
 -- where a round starts
 pub knows_start : (n : ℕ) (L : ℕ → Bool) (t : List ℕ) → Plain n L t → ((i : ℕ) → i < n → Reset n t i) → Knows n L t t
@@ -90,9 +90,9 @@ knows_start n L t p fresh = record {
 
 -- by a row that suspects exactly the stations that are not live, the distances due are those at which i leads the group of a station
 pub row-due : (n : ℕ) (L : ℕ → Bool) (r : List ℕ) → length r ≡ n → ((x : ℕ) → x < n → get_or r x 0 ≡ bit (not (L x))) → (i m : ℕ)
-    → due r i m ≡ leadsAt n L i m
+    → due r i m ≡ leads_at n L i m
 row-due n L r long bytes i m =
-    rw (due-first r i m, long, leads-same (unsuspected r) (LiveOf n L) i m (λ k h. same (member (stationAt i m) (level m) k)))
+    rw (due-first r i m, long, leads-same (unsuspected r) (LiveOf n L) i m (λ k h. same (member (station_at i m) (level m) k)))
   where
     same : (x : ℕ) → unsuspected r x ≡ LiveOf n L x
     same x =
@@ -103,7 +103,7 @@ row-due n L r long bytes i m =
 
 -- in an exact table that holds of the row of each live station
 pub exact-due : (n : ℕ) (L : ℕ → Bool) (t : List ℕ) → Plain n L t → Exact n L t → (i m : ℕ) → i < n → L i ≡ true
-    → due (row n t i) i m ≡ leadsAt n L i m
+    → due (row n t i) i m ≡ leads_at n L i m
 exact-due n L t p exact i m hi l =
     row-due n L (row n t i) (row-length n t i p.lines.0 hi)
     (λ x h. row_at n t i x h ∙ by_bool (L x) (λ e. rw e (p.trusted i x hi h l e)) (λ e. rw e (exact i x hi h l e))) i m
@@ -118,14 +118,14 @@ due-now n t h x i lines hi hx m ahead =
 
 -- where no distance below M, from i's next one on, is due, i suspects all present that it knows in its pass through distances below M
 module _ (n : ℕ) (L : ℕ → Bool) (t₀ t : List ℕ) (know : Knows n L t₀ t) (i : ℕ) (hi : i < n) (li : L i ≡ true) (M : ℕ)
-    (undue : (m : ℕ) → nextDistance n t i ≤ m → m < M → due (row n t i) i m ≡ false) where
+    (undue : (m : ℕ) → next_distance n t i ≤ m → m < M → due (row n t i) i m ≡ false) where
   met-now : (h x : ℕ) → x < n → bit_xor i x < M → Asks n L t₀ i h x → ((y : ℕ) → Ahead h x i y → RowOf n t i y)
       → Tested n L (InPassOf n L t₀ i h) (Row n t₀ x) t i x
   met-now h x hx below asks ahead =
-      by_cases (dec_lt (bit_xor i x) (nextDistance n t i)) (λ l. know.met i hi li h x hx l asks)
+      by_cases (dec_lt (bit_xor i x) (next_distance n t i)) (λ l. know.met i hi li h x hx l asks)
       (λ l.
-      let isDue = due-now n t h x i know.plain.lines hi hx asks.0 ahead in
-      absurd (true≢false (sym isDue ∙ undue (bit_xor i x) (omega arith) below)))
+      let is_due = due-now n t h x i know.plain.lines hi hx asks.0 ahead in
+      absurd (true≢false (sym is_due ∙ undue (bit_xor i x) (omega arith) below)))
 
   pub known-now : (h j : ℕ) → ((x : ℕ) → x < n → bit_xor i x < 2 ^ h → bit_xor i x < M) → InPassOf n L t₀ i h j → RowOf n t i j
   known-now h j below (had r) = λ l. know.grown i j hi l (r l)
@@ -140,40 +140,40 @@ module _ (n : ℕ) (L : ℕ → Bool) (t₀ t : List ℕ) (know : Knows n L t₀
 
 -- a turn of a live station keeps it
 module _ (n : ℕ) (L : ℕ → Bool) (t₀ t t' : List ℕ) (i : ℕ) (know : Knows n L t₀ t) (turned : TurnKept n L t t' i)
-    (heads : Heads n t t' i (makesTest n t i)) (below : i < n) (isLive : L i ≡ true) where
+    (heads : Heads n t t' i (makes_test n t i)) (below : i < n) (is_live : L i ≡ true) where
   p : Plain n L t
   p = know.plain
 
   -- at a distance that the turn passes
-  newly-met : (h x : ℕ) → x < n → nextDistance n t i ≤ bit_xor i x → bit_xor i x < nextDistance n t' i → Asks n L t₀ i h x
+  newly-met : (h x : ℕ) → x < n → next_distance n t i ≤ bit_xor i x → bit_xor i x < next_distance n t' i → Asks n L t₀ i h x
       → Tested n L (InPassOf n L t₀ i h) (Row n t₀ x) t' i x
   newly-met h x hx lo passed asks =
-      let isDue = due-now n t h x i p.lines below hx asks.0 (λ y a. now y (asks.1 y a)) in
+      let is_due = due-now n t h x i p.lines below hx asks.0 (λ y a. now y (asks.1 y a)) in
       tested-more n L t' t' i x below hx (λ k y a b s. s) (λ j a known. now j known a) (λ j a s. know.grown x j hx a s)
-      (rw xor-cancel at (turned.passed (bit_xor i x) lo passed isDue))
+      (rw xor-cancel at (turned.passed (bit_xor i x) lo passed is_due))
     where
-      undue : (m : ℕ) → nextDistance n t i ≤ m → m < bit_xor i x → due (row n t i) i m ≡ false
+      undue : (m : ℕ) → next_distance n t i ≤ m → m < bit_xor i x → due (row n t i) i m ≡ false
       undue m a b = turned.undue (bit_xor i x) m a b passed
 
       now : (j : ℕ) → InPassOf n L t₀ i h j → RowOf n t i j
       now j =
-          known-now n L t₀ t know i below isLive (bit_xor i x) undue h j
+          known-now n L t₀ t know i below is_live (bit_xor i x) undue h j
           (λ y l b. omega (arith, (member-distance h x i).0 asks.0, xor_comm i x))
 
-  own-met : Met n L t₀ t' i (nextDistance n t' i)
+  own-met : Met n L t₀ t' i (next_distance n t' i)
   own-met h x hx passed asks =
-      by_cases (dec_lt (bit_xor i x) (nextDistance n t i))
-      (λ l. met-later n L t₀ t t' i _ turned.grows below (know.met i below isLive) h x hx l asks)
+      by_cases (dec_lt (bit_xor i x) (next_distance n t i))
+      (λ l. met-later n L t₀ t t' i _ turned.grows below (know.met i below is_live) h x hx l asks)
       (λ l. newly-met h x hx (omega arith) passed asks)
 
   -- in an exact round: t is exact as t₀ was
-  own-counted : Exact n L t₀ → testsMade n t' i ≡ sum (λ m. bit (leadsAt n L i m)) (nextDistance n t' i)
+  own-counted : Exact n L t₀ → tests_made n t' i ≡ sum_below (λ m. bit (leads_at n L i m)) (next_distance n t' i)
   own-counted exact =
-      let exactNow : Exact n L t = λ k j g c q e. know.grown k j g c (exact k j g c q e) in
-      let dues : (a : ℕ) → sum (λ m. bit (due (row n t i) i m)) a ≡ sum (λ m. bit (leadsAt n L i m)) a =
-      λ a. sum_by a (λ m l. ap bit (exact-due n L t p exactNow i m below isLive)) in
-      let passed = passed-dues n t t' i heads (p.lines.1 i below).pass.nextHigh in
-      omega (arith, heads.tests, know.counted exact i below, passed, dues (nextDistance n t i), dues (nextDistance n t' i))
+      let exact_now : Exact n L t = λ k j g c q e. know.grown k j g c (exact k j g c q e) in
+      let dues : (a : ℕ) → sum_below (λ m. bit (due (row n t i) i m)) a ≡ sum_below (λ m. bit (leads_at n L i m)) a =
+      λ a. sum_by a (λ m l. ap bit (exact-due n L t p exact_now i m below is_live)) in
+      let passed = passed-dues n t t' i heads (p.lines.1 i below).pass.next_high in
+      omega (arith, heads.tests, know.counted exact i below, passed, dues (next_distance n t i), dues (next_distance n t' i))
 
   pub turn-knows : Knows n L t₀ t'
   turn-knows = record {
@@ -181,11 +181,11 @@ module _ (n : ℕ) (L : ℕ → Bool) (t₀ t t' : List ℕ) (i : ℕ) (know : K
     grown = λ k j h g s. turned.grows k j h g (know.grown k j h g s);
     met = λ k hk l. by_cases (ℕ_discrete k i) (λ e. rw e own-met)
         (λ e.
-        let next = heads.others k nextColumn e (omega arith) in
+        let next = heads.others k next_column e (omega arith) in
         rw next (met-later n L t₀ t t' k _ turned.grows hk (know.met k hk l)));
     counted = λ exact k h. by_cases (ℕ_discrete k i) (λ e. rw e (own-counted exact))
         (λ e.
-        let tests = heads.others k testsColumn e (omega arith) in
-        let next = heads.others k nextColumn e (omega arith) in
+        let tests = heads.others k tests_column e (omega arith) in
+        let next = heads.others k next_column e (omega arith) in
         rw (tests, next) (know.counted exact k h));
   }

@@ -9,15 +9,15 @@ use native.Mathlib.Decide.{dec_lt, ℕ_discrete}
 use native.Mathlib.Omega.{arith}
 use borrow.Author.Tests.{eq-eqb, ne_eqb}
 use lib.ListN.{length}
-use Rattle.table.specs.Sizes.{isSize, distances}
-use Rattle.station.specs.Groups.{stationAt}
-use Rattle.table.specs.Table.{head, stride, tableLength, cell, statusColumn, status, nextDistance, finished, suspects, live, row}
+use Rattle.table.specs.Sizes.{is_size, distances}
+use Rattle.station.specs.Groups.{station_at}
+use Rattle.table.specs.Table.{head, stride, table_length, cell, status_column, status, next_distance, finished, suspects, live, row}
 use Rattle.station.specs.Tests.{due}
 use Rattle.lists.proofs.SearchLaws.{every-not}
-use Rattle.turn.specs.Turn.{kindTurn, outcomeExchanged, nextTest, makesTest, finishPass, countTest, replies, isTold, exchangeRows, suspect, replyOutcome, testOutcome, afterOutcome, after_test, selfOrSuspected, isAlone, afterAlone, testing, turn}
-use Rattle.turn.proofs.StepCells.{finishPass-other, countTest-other, suspect-same, suspect-other, exchange-other, exchange-tester, exchange-tested, exchange-tester-own, exchange-tested-own}
-use Rattle.turn.proofs.StepLines.{Lines, finishPass-lines, countTest-lines, suspect-lines, exchange-lines, station-apart}
-use Rattle.turn.proofs.NextTest.{nextTest-low, not-due-before, test_below, test-station, none-due}
+use Rattle.turn.specs.Turn.{kind_turn, outcome_exchanged, next_test, makes_test, finish_pass, count_test, replies, is_told, exchange_rows, suspect, reply_outcome, test_outcome, after_outcome, after_test, self_or_suspected, is_alone, after_alone, testing, turn}
+use Rattle.turn.proofs.StepCells.{finish_pass-other, count_test-other, suspect-same, suspect-other, exchange-other, exchange-tester, exchange-tested, exchange-tester-own, exchange-tested-own}
+use Rattle.turn.proofs.StepLines.{Lines, finish_pass-lines, count_test-lines, suspect-lines, exchange-lines, station-apart}
+use Rattle.turn.proofs.NextTest.{next_test-low, not-due-before, test_below, test-station, none-due}
 use Rattle.lists.proofs.BoolLaws.{by_bool}
 use Rattle.turn.proofs.TurnHeads.{turn-heads}
 use Rattle.table.proofs.CellLaws.{TurnCounts, ClosingChanges}
@@ -63,16 +63,16 @@ pub same_rows : (n : ℕ) (L : ℕ → Bool) (t t' : List ℕ) → Lines n t'
 same_rows n L t t' lines same p = (
   record {
     lines = lines;
-    lives = λ i h. rw (same i statusColumn (omega arith) (λ p. omega arith) (λ p. omega arith)) (p.lives i h);
+    lives = λ i h. rw (same i status_column (omega arith) (λ p. omega arith) (λ p. omega arith)) (p.lives i h);
     trusted = λ i j h g a b. same i (head + j) (omega arith) (λ p. omega arith) (λ p. omega arith) ∙ p.trusted i j h g a b;
   },
   λ k y hk hy s. same k (head + y) (omega arith) (λ p. omega arith) (λ p. omega arith) ∙ s,
 )
 
 -- where two rows are exchanged, a byte of a row grows by the bytes of the two at most
-module _ (n : ℕ) (t : List ℕ) (i x : ℕ) (long : length t ≡ tableLength n) (hi : i < n) (hx : x < n) (apart : i ≢ x) where
+module _ (n : ℕ) (t : List ℕ) (i x : ℕ) (long : length t ≡ table_length n) (hi : i < n) (hx : x < n) (apart : i ≢ x) where
   abbrev t' : List ℕ
-  t' = exchangeRows n t i x
+  t' = exchange_rows n t i x
 
   between : (k y : ℕ) → y < n → Dec (i ≡ k) → Dec (x ≡ k) → Dec (y ≡ k)
       → (suspects n t k y ≤ suspects n t' k y) × (suspects n t' k y ≤ max (suspects n t k y) (max (suspects n t i y) (suspects n t x y)))
@@ -89,7 +89,7 @@ module _ (n : ℕ) (t : List ℕ) (i x : ℕ) (long : length t ≡ tableLength n
 
 -- the test of x by the live i
 module _ (n : ℕ) (L : ℕ → Bool) (t : List ℕ) (i x : ℕ) (p : Plain n L t) (hi : i < n) (hx : x < n) (apart : i ≢ x) (li : L i ≡ true) where
-  long : length t ≡ tableLength n
+  long : length t ≡ table_length n
   long = p.lines.0
 
   abbrev Step : List ℕ → Type 0
@@ -110,7 +110,7 @@ module _ (n : ℕ) (L : ℕ → Bool) (t : List ℕ) (i x : ℕ) (p : Plain n L 
   -- a station that is not live is marked
   marked : L x ≡ false → Step (suspect n t i x)
   marked f =
-      step t' lines (λ k. suspect-other n t i long hi x k statusColumn (omega arith) (λ e. omega arith))
+      step t' lines (λ k. suspect-other n t i long hi x k status_column (omega arith) (λ e. omega arith))
       (λ k y hk hy. by_cases (ℕ_discrete y x)
       (λ g. by_cases (ℕ_discrete i k)
       (λ e. rw (← e, g) (omega (arith, now, (p.lines.1 i hi).range x hx), λ a b. absurd (true≢false (sym b ∙ f))))
@@ -134,9 +134,9 @@ module _ (n : ℕ) (L : ℕ → Bool) (t : List ℕ) (i x : ℕ) (p : Plain n L 
           (omega arith, λ a b. e ∙ p.trusted k y hk hy a b)
 
   -- two live stations exchange their rows
-  exchanged : L x ≡ true → Step (exchangeRows n t i x)
+  exchanged : L x ≡ true → Step (exchange_rows n t i x)
   exchanged lx =
-      step t' lines (λ k. exchange-other n t i long hi x hx apart k statusColumn (omega arith) (λ e. omega arith) (λ e. omega arith))
+      step t' lines (λ k. exchange-other n t i long hi x hx apart k status_column (omega arith) (λ e. omega arith) (λ e. omega arith))
       (λ k y hk hy.
       let v = exchange-between n t i x long hi hx apart k y hy in
       (v.0, λ a b. omega (arith, v.1, p.trusted k y hk hy a b, p.trusted i y hi hy li b, p.trusted x y hx hy lx b))) (record {
@@ -150,79 +150,79 @@ module _ (n : ℕ) (L : ℕ → Bool) (t : List ℕ) (i x : ℕ) (p : Plain n L 
       })
     where
       t' : List ℕ
-      t' = exchangeRows n t i x
+      t' = exchange_rows n t i x
 
       lines : Lines n t'
       lines = exchange-lines n t i p.lines hi x hx apart
 
   -- neither of two live stations suspects the other: a test with a reply tells nobody
-  pub none_told : L x ≡ true → replyOutcome n t i x ≡ outcomeExchanged
-  unfolding replyOutcome isTold
+  pub none_told : L x ≡ true → reply_outcome n t i x ≡ outcome_exchanged
+  unfolding reply_outcome is_told
   none_told e = rw (p.trusted x i hx hi e li, p.trusted i x hi hx li e)
 
   -- the reply of a live station is not late
-  pub tested : (kind : ℕ) → (L x ≡ true → kind ≡ kindTurn) → Step (after_test n t kind i x)
-  unfolding afterOutcome testOutcome replies
+  pub tested : (kind : ℕ) → (L x ≡ true → kind ≡ kind_turn) → Step (after_test n t kind i x)
+  unfolding after_outcome test_outcome replies
   tested kind prompt =
-      by_bool (L x) (λ e. rw (p.lives x hx ∙ e, eq-eqb kind kindTurn (prompt e), none_told e) (exchanged e))
+      by_bool (L x) (λ e. rw (p.lives x hx ∙ e, eq-eqb kind kind_turn (prompt e), none_told e) (exchanged e))
       (λ e. rw (p.lives x hx ∙ e) (marked e))
 
 -- a turn of i: of the distances that it passes none before the last was due, and at one that was due it tested
 pub record TurnKept (n : ℕ) (L : ℕ → Bool) (t t' : List ℕ) (i : ℕ) : Type 0 where
   pub plain : Plain n L t'
   pub grows : Grown n t t'
-  pub undue : (m k : ℕ) → nextDistance n t i ≤ k → k < m → m < nextDistance n t' i → due (row n t i) i k ≡ false
-  pub passed : (m : ℕ) → nextDistance n t i ≤ m → m < nextDistance n t' i → due (row n t i) i m ≡ true
-      → Tested n L (Row n t i) (Row n t (stationAt i m)) t' i (stationAt i m)
+  pub undue : (m k : ℕ) → next_distance n t i ≤ k → k < m → m < next_distance n t' i → due (row n t i) i k ≡ false
+  pub passed : (m : ℕ) → next_distance n t i ≤ m → m < next_distance n t' i → due (row n t i) i m ≡ true
+      → Tested n L (Row n t i) (Row n t (station_at i m)) t' i (station_at i m)
 
 -- a station with a live one beside it that it does not suspect is not alone
-pub not-alone : (n : ℕ) (L : ℕ → Bool) (t : List ℕ) (i : ℕ) → Plain n L t → Company n L → i < n → L i ≡ true → afterAlone n t i ≡ t
-unfolding afterAlone isAlone selfOrSuspected
+pub not-alone : (n : ℕ) (L : ℕ → Bool) (t : List ℕ) (i : ℕ) → Plain n L t → Company n L → i < n → L i ≡ true → after_alone n t i ≡ t
+unfolding after_alone is_alone self_or_suspected
 not-alone n L t i p company hi li =
     let o = company i hi li in
-    let fails : selfOrSuspected n t i o.0 ≡ false = rw (ne_eqb o.0 i (λ e. o.2 (sym e)), p.trusted i o.0 hi o.1 li o.3) in
-    rw (every-not (selfOrSuspected n t i) n o.0 o.1 fails, and-false)
+    let fails : self_or_suspected n t i o.0 ≡ false = rw (ne_eqb o.0 i (λ e. o.2 (sym e)), p.trusted i o.0 hi o.1 li o.3) in
+    rw (every-not (self_or_suspected n t i) n o.0 o.1 fails, and-false)
 
 -- a turn of a live station, where the reply of a live station is not late
-pub turn-effect : (n : ℕ) (L : ℕ → Bool) (t : List ℕ) (kind i : ℕ) → isSize n ≡ true → Plain n L t → Company n L → i < n → L i ≡ true
+pub turn-effect : (n : ℕ) (L : ℕ → Bool) (t : List ℕ) (kind i : ℕ) → is_size n ≡ true → Plain n L t → Company n L → i < n → L i ≡ true
     → finished n t i ≡ 0
-    → (makesTest n t i ≡ true → L (stationAt i (nextTest n t i)) ≡ true → kind ≡ kindTurn) → TurnKept n L t (turn n t kind i) i
+    → (makes_test n t i ≡ true → L (station_at i (next_test n t i)) ≡ true → kind ≡ kind_turn) → TurnKept n L t (turn n t kind i) i
 unfolding turn testing
-turn-effect n L t kind i size p company hi li going prompt = by_bool (makesTest n t i) makes (λ e. rw e (finishes e))
+turn-effect n L t kind i size p company hi li going prompt = by_bool (makes_test n t i) makes (λ e. rw e (finishes e))
   where
-    next : nextDistance n (turn n t kind i) i ≡ cond (makesTest n t i) (nextTest n t i + 1) (distances n)
+    next : next_distance n (turn n t kind i) i ≡ cond (makes_test n t i) (next_test n t i + 1) (distances n)
     next = (turn-heads n t kind i size p.lines hi).next
 
-    finishes : makesTest n t i ≡ false → TurnKept n L t (finishPass n t i) i
+    finishes : makes_test n t i ≡ false → TurnKept n L t (finish_pass n t i) i
     finishes e =
-        let lines = finishPass-lines n t i p.lines hi in
-        let same = same_rows n L t _ lines (λ k c h counts _. finishPass-other n t i k c h (λ _. (λ e. counts (omega arith), λ e. counts (omega arith)))) p in
-        let none = none-due n t i e (p.lines.1 i hi).pass.nextHigh in
+        let lines = finish_pass-lines n t i p.lines hi in
+        let same = same_rows n L t _ lines (λ k c h counts _. finish_pass-other n t i k c h (λ _. (λ e. counts (omega arith), λ e. counts (omega arith)))) p in
+        let none = none-due n t i e (p.lines.1 i hi).pass.next_high in
         record {
           plain = same.0;
           grows = same.1;
           undue = λ m k lo l below. none k lo (omega (arith, rw e at next));
-          passed = λ m lo below isDue. absurd (true≢false (sym isDue ∙ none m lo (omega (arith, rw e at next))));
+          passed = λ m lo below is_due. absurd (true≢false (sym is_due ∙ none m lo (omega (arith, rw e at next))));
         }
 
-    makes : makesTest n t i ≡ true → TurnKept n L t (turn n t kind i) i
+    makes : makes_test n t i ≡ true → TurnKept n L t (turn n t kind i) i
     makes e =
-        let m : ℕ = nextTest n t i in
-        let t₁ : List ℕ = countTest n t i m in
+        let m : ℕ = next_test n t i in
+        let t₁ : List ℕ = count_test n t i m in
         let m<n = test_below n t i e in
-        let low = nextTest-low n t i in
-        let lines₁ = countTest-lines n t i p.lines hi m (omega arith) low m<n in
-        let same = same_rows n L t t₁ lines₁ (λ k c h counts _. countTest-other n t i m k c h (λ _. (λ e. counts (omega arith), λ e. counts (omega arith)))) p in
-        let apart = station-apart i m (omega (arith, (p.lines.1 i hi).pass.nextLow)) in
+        let low = next_test-low n t i in
+        let lines₁ = count_test-lines n t i p.lines hi m (omega arith) low m<n in
+        let same = same_rows n L t t₁ lines₁ (λ k c h counts _. count_test-other n t i m k c h (λ _. (λ e. counts (omega arith), λ e. counts (omega arith)))) p in
+        let apart = station-apart i m (omega (arith, (p.lines.1 i hi).pass.next_low)) in
         let x<n = test-station n t i e p.lines.0 hi in
-        let done = tested n L t₁ i (stationAt i m) same.0 hi x<n apart li kind (prompt e) in
+        let done = tested n L t₁ i (station_at i m) same.0 hi x<n apart li kind (prompt e) in
         let stays = not-alone n L _ i done.0 company hi li in
         rw (e, stays) (record {
           plain = done.0;
           grows = λ k y hk hy s. done.1 k y hk hy (same.1 k y hk hy s);
           undue = λ y k lo l below. not-due-before n t i k lo (omega (arith, rw (e, stays) at next));
-          passed = λ y lo hi' isDue. by_cases (dec_lt y m)
-              (λ l. absurd (true≢false (sym isDue ∙ not-due-before n t i y lo l)))
+          passed = λ y lo hi' is_due. by_cases (dec_lt y m)
+              (λ l. absurd (true≢false (sym is_due ∙ not-due-before n t i y lo l)))
               (λ l.
               let last : y ≡ m = omega (arith, rw (e, stays) at next) in
               rw last (tested-more n L _ _ i _ hi x<n (λ k y a b s. s) (λ k a. same.1 i k hi a) (λ k a. same.1 _ k x<n a) done.2));

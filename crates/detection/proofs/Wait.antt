@@ -8,7 +8,7 @@ use native.Mathlib.Decide.{le_ind}
 use native.Mathlib.Omega.{arith}
 use lib.Dec.{ltb}
 use borrow.Author.Tests.{le-ltb}
-use Rattle.detection.specs.Claim.{exactWait}
+use Rattle.detection.specs.Claim.{exact_wait}
 
 -- so many rounds later what one station suspects is known to each live one near at p to it in its pass
 unfoldable pub spread : ℕ → ℕ
@@ -19,7 +19,7 @@ spread (suc (suc (suc v))) = suc v
 
 -- the round, from 0, from which on each live station knows its dead groups at levels up to s in its pass
 unfoldable pub ready : ℕ → ℕ
-ready s = cond (ltb s 4) (s - 1) (exactWait s)
+ready s = cond (ltb s 4) (s - 1) (exact_wait s)
 
 -- (n − 2)² is at least 0
 square : (n : ℕ) → 4 * n ≤ n * n + 4
@@ -33,9 +33,9 @@ from-four n d e = (le-ltb d 4 (omega arith), omega arith)
 
 -- the wait beside s, the readiness, the next wait and s·s
 bounds : (s : ℕ)
-    → (s ≤ exactWait s) × (exactWait s ≤ suc (ready s)) × (ready s ≤ exactWait s) × (2 * s ≤ 4 + ready s)
-    × (exactWait s ≤ exactWait (suc s)) × (2 * exactWait s + s ≤ 2 + s * s)
-unfolding ready exactWait
+    → (s ≤ exact_wait s) × (exact_wait s ≤ suc (ready s)) × (ready s ≤ exact_wait s) × (2 * s ≤ 4 + ready s)
+    × (exact_wait s ≤ exact_wait (suc s)) × (2 * exact_wait s + s ≤ 2 + s * s)
+unfolding ready exact_wait
 bounds zero = omega arith
 bounds (suc zero) = omega arith
 bounds (suc (suc zero)) = omega arith
@@ -48,7 +48,7 @@ bounds (suc (suc (suc (suc n)))) =
 
 -- after the readiness at p there is time for u spreads at p + 1, with one round more each, up to the readiness at p + 1 + u
 pub ready-enough : (p u : ℕ) → ready p + u * suc (spread (suc p)) ≤ ready (suc p + u)
-unfolding spread ready exactWait
+unfolding spread ready exact_wait
 ready-enough zero u = omega (arith, bounds (1 + u))
 ready-enough (suc zero) u = omega (arith, bounds (2 + u))
 ready-enough (suc (suc zero)) u = omega (arith, bounds (3 + u))
@@ -61,8 +61,8 @@ ready-enough (suc (suc (suc (suc (suc w))))) u =
     rw (a.0, a.1, b.0, b.1) (omega (arith, square u))
 
 -- after these there is time for a spread at p, with two rounds more, up to the wait at p + 2 + u
-pub wait-enough : (p u : ℕ) → suc (ready p + u * suc (spread (suc p)) + suc (spread p)) ≤ exactWait (suc (suc p + u))
-unfolding spread ready exactWait
+pub wait-enough : (p u : ℕ) → suc (ready p + u * suc (spread (suc p)) + suc (spread p)) ≤ exact_wait (suc (suc p + u))
+unfolding spread ready exact_wait
 wait-enough zero u = omega (arith, bounds (suc (1 + u)))
 wait-enough (suc zero) u = omega (arith, bounds (suc (2 + u)))
 wait-enough (suc (suc zero)) u = omega (arith, bounds (suc (3 + u)))
@@ -70,15 +70,15 @@ wait-enough (suc (suc (suc v))) u =
     let p : ℕ = suc (suc (suc v)) in omega (arith, bounds (suc (suc p + u)), rw add-suc at (ready-enough p (suc u)))
 
 -- the wait grows with the dimension
-pub wait-grows : (c d : ℕ) → c ≤ d → exactWait c ≤ exactWait d
-wait-grows c d l = le_ind (λ (k : ℕ). exactWait c ≤ exactWait k) (omega arith) (λ k _ before. omega (arith, bounds k)) d l
+pub wait-grows : (c d : ℕ) → c ≤ d → exact_wait c ≤ exact_wait d
+wait-grows c d l = le_ind (λ (k : ℕ). exact_wait c ≤ exact_wait k) (omega arith) (λ k _ before. omega (arith, bounds k)) d l
 
 -- from dimension 1 on it is at least one round
-pub wait-pos : (d : ℕ) → 1 ≤ exactWait (suc d)
+pub wait-pos : (d : ℕ) → 1 ≤ exact_wait (suc d)
 wait-pos d = omega (arith, bounds (suc d))
 
 -- it is at most 1 + d (d − 1) / 2
-pub wait-le-pairs : (d : ℕ) → exactWait d ≤ 1 + d * (d - 1) / 2
+pub wait-le-pairs : (d : ℕ) → exact_wait d ≤ 1 + d * (d - 1) / 2
 wait-le-pairs zero = omega (arith, bounds 0)
 wait-le-pairs (suc d) = let e : suc d - 1 ≡ d = omega arith in rw e (omega (arith, bounds (suc d)))
 
@@ -87,7 +87,7 @@ pub pairs-le-square : (d : ℕ) → 1 + suc d * (suc d - 1) / 2 ≤ suc d * suc 
 pairs-le-square d = let e : suc d - 1 ≡ d = omega arith in rw e (omega arith)
 
 -- and so is the wait
-pub wait-le-square : (d : ℕ) → exactWait d ≤ d * d
-unfolding exactWait
+pub wait-le-square : (d : ℕ) → exact_wait d ≤ d * d
+unfolding exact_wait
 wait-le-square zero = omega arith
 wait-le-square (suc d) = omega (arith, wait-le-pairs (suc d), pairs-le-square d)

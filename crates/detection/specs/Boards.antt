@@ -1,48 +1,48 @@
 -- Which tests each board makes in a round that begins with exact rows.
 -- Assumes nothing.
 use Rattle.std.specs.Prelude.{ℕ, ◌≤◌, ◌<◌, ◌≡◌, Bool, true, cond, ◌&&◌, List, [], ◌∷◌, map, length, get_or, eqb}
-use Rattle.station.specs.Groups.{stationAt}
+use Rattle.station.specs.Groups.{station_at}
 use Rattle.table.specs.Sizes.{dimension}
 use Rattle.table.specs.Table.{live}
-use Rattle.station.specs.Tests.{dueDistances}
+use Rattle.station.specs.Tests.{due_distances}
 use Rattle.plant.specs.Entry.{State, tested_of}
-use Rattle.detection.specs.Runs.{Call, Taken, takenTest}
-use Rattle.detection.specs.Claim.{roundsOf, Premises, exactWait}
-use Rattle.table.specs.Properties.{exactRow, ExactRows}
+use Rattle.detection.specs.Runs.{Call, Taken, taken_test}
+use Rattle.detection.specs.Claim.{rounds_of, Premises, exact_wait}
+use Rattle.table.specs.Properties.{exact_row, ExactRows}
 
 -- the station that the taken entry tests; 255 where it makes no test
-abbrev pub stationTested : Taken → ℕ
-stationTested x = tested_of x.size x.before.table x.entry
+abbrev pub station_tested : Taken → ℕ
+station_tested x = tested_of x.size x.before.table x.entry
 
 -- whether the taken entry is a turn of station i that makes a test
-abbrev pub isTestOf : ℕ → Taken → Bool
-isTestOf i x = eqb x.entry.station i && takenTest x
+abbrev pub is_test_of : ℕ → Taken → Bool
+is_test_of i x = eqb x.entry.station i && taken_test x
 
 -- the stations that station i tests in the round, in order
 unfoldable pub tested_in : ℕ → List Taken → List ℕ
 tested_in i [] = []
-tested_in i (x ∷ xs) = cond (isTestOf i x) (stationTested x ∷ tested_in i xs) (tested_in i xs)
+tested_in i (x ∷ xs) = cond (is_test_of i x) (station_tested x ∷ tested_in i xs) (tested_in i xs)
 
 -- the table with which a round begins, that before its first entry
-unfoldable pub firstTable : List Taken → List ℕ
-firstTable [] = []
-firstTable (x ∷ xs) = x.before.table
+unfoldable pub first_table : List Taken → List ℕ
+first_table [] = []
+first_table (x ∷ xs) = x.before.table
 
 -- in the kth closed round (from 0) each live board tests, in this order, the boards at the distances that are due by the row
 -- that suspects exactly the boards that are not live, and no other
 abbrev pub TestsJustDue : ℕ → State → List Call → ℕ → Type 0
 TestsJustDue n s calls k =
     (i : ℕ) → i < n → live n s.table i ≡ true
-    → tested_in i (get_or (roundsOf s calls).closed k []) ≡ map (stationAt i) (dueDistances (exactRow n s.table) i n)
+    → tested_in i (get_or (rounds_of s calls).closed k []) ≡ map (station_at i) (due_distances (exact_row n s.table) i n)
 
 -- "In a round that begins with exact rows, a board that stays live makes just these tests". By demand 3 the live boards stay live
 abbrev pub BoardTests : Type 0
 BoardTests =
-    (n : ℕ) (s : State) (calls : List Call) → Premises n s calls → (k : ℕ) → k < length (roundsOf s calls).closed
-    → ExactRows n (firstTable (get_or (roundsOf s calls).closed k [])) → TestsJustDue n s calls k
+    (n : ℕ) (s : State) (calls : List Call) → Premises n s calls → (k : ℕ) → k < length (rounds_of s calls).closed
+    → ExactRows n (first_table (get_or (rounds_of s calls).closed k [])) → TestsJustDue n s calls k
 
 -- after the exact wait that is so in every closed round
 abbrev pub BoardTestsAfterWait : Type 0
 BoardTestsAfterWait =
-    (n : ℕ) (s : State) (calls : List Call) → Premises n s calls → (k : ℕ) → exactWait (dimension n) ≤ k → k < length (roundsOf s calls).closed
+    (n : ℕ) (s : State) (calls : List Call) → Premises n s calls → (k : ℕ) → exact_wait (dimension n) ≤ k → k < length (rounds_of s calls).closed
     → TestsJustDue n s calls k

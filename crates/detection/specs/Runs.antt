@@ -2,9 +2,9 @@
 -- Assumes nothing.
 use Rattle.std.specs.Prelude.{ℕ, Bool, cond, not, ◌&&◌, List, [], ◌∷◌, ◌++◌, length, eqb}
 use Rattle.table.specs.Table.{live}
-use Rattle.turn.specs.Turn.{kindTurn, kindLate}
-use Rattle.plant.specs.Entry.{Entry, State, isCrash, isTest, entryNumber, after, tested_of}
-use Rattle.plant.specs.Run.{entries, startNumber, run}
+use Rattle.turn.specs.Turn.{kind_turn, kind_late}
+use Rattle.plant.specs.Entry.{Entry, State, is_crash, is_test, entry_number, after, tested_of}
+use Rattle.plant.specs.Run.{entries, start_number, run}
 
 -- what one run of the list is given anew: "Size, schedule and sheet are any, anew for each run"
 pub record Call : Type 0 where
@@ -17,17 +17,17 @@ abbrev pub call_of : ℕ → List ℕ → List ℕ → Call
 call_of n schedule sheet = record { size = n; schedule = schedule; sheet = sheet }
 
 -- a run of one entry, (1, i): a turn of station i. What its sheet of four bytes held does not matter
-abbrev pub turnRun : ℕ → ℕ → Call
-turnRun n i = call_of n (kindTurn ∷ i ∷ []) (0 ∷ 0 ∷ 0 ∷ 0 ∷ [])
+abbrev pub turn_run : ℕ → ℕ → Call
+turn_run n i = call_of n (kind_turn ∷ i ∷ []) (0 ∷ 0 ∷ 0 ∷ 0 ∷ [])
 
 -- table and tally as a run leaves them
-abbrev pub afterRun : State → Call → State
-afterRun s c = (run c.size s c.schedule c.sheet).state
+abbrev pub after_run : State → Call → State
+after_run s c = (run c.size s c.schedule c.sheet).state
 
 -- "Each later one gets the table as the run before left it and the tally it gave back": table and tally after the list
-unfoldable pub afterRuns : State → List Call → State
-afterRuns s [] = s
-afterRuns s (c ∷ cs) = afterRuns (afterRun s c) cs
+unfoldable pub after_runs : State → List Call → State
+after_runs s [] = s
+after_runs s (c ∷ cs) = after_runs (after_run s c) cs
 
 -- a taken entry: the size of its run, and table and tally as it found them
 pub record Taken : Type 0 where
@@ -37,39 +37,39 @@ pub record Taken : Type 0 where
 
 -- "A run not turned away at its start reaches its first entry, and the next one after each it takes. An entry is taken when its run
 -- reaches it and none of 7 to 11 applies"
-unfoldable pub takenFrom : ℕ → State → List Entry → List Taken
-takenFrom n s [] = []
-takenFrom n s (e ∷ es) = cond (eqb (entryNumber n s e) 0) (record { size = n; before = s; entry = e } ∷ takenFrom n (after n s e) es) []
+unfoldable pub taken_from : ℕ → State → List Entry → List Taken
+taken_from n s [] = []
+taken_from n s (e ∷ es) = cond (eqb (entry_number n s e) 0) (record { size = n; before = s; entry = e } ∷ taken_from n (after n s e) es) []
 
 -- the taken entries of one run
-unfoldable pub takenIn : State → Call → List Taken
-takenIn s c = cond (eqb (startNumber c.size s.table (length c.schedule) (length c.sheet)) 0) (takenFrom c.size s (entries c.schedule)) []
+unfoldable pub taken_in : State → Call → List Taken
+taken_in s c = cond (eqb (start_number c.size s.table (length c.schedule) (length c.sheet)) 0) (taken_from c.size s (entries c.schedule)) []
 
 -- "the taken entries of all runs, one run's behind the other's"
-unfoldable pub takenAll : State → List Call → List Taken
-takenAll s [] = []
-takenAll s (c ∷ cs) = takenIn s c ++ takenAll (afterRun s c) cs
+unfoldable pub taken_all : State → List Call → List Taken
+taken_all s [] = []
+taken_all s (c ∷ cs) = taken_in s c ++ taken_all (after_run s c) cs
 
 -- the table after the taken entry
-abbrev pub tableAfter : Taken → List ℕ
-tableAfter x = (after x.size x.before x.entry).table
+abbrev pub table_after : Taken → List ℕ
+table_after x = (after x.size x.before x.entry).table
 
 -- "A station's turns are its taken entries of kind 1 or 2."
-abbrev pub isTurnOf : ℕ → Taken → Bool
-isTurnOf i x = not (isCrash x.entry) && eqb x.entry.station i
+abbrev pub is_turn_of : ℕ → Taken → Bool
+is_turn_of i x = not (is_crash x.entry) && eqb x.entry.station i
 
 -- "the turns in it that make a test"
-abbrev pub takenTest : Taken → Bool
-takenTest x = isTest x.size x.before.table x.entry
+abbrev pub taken_test : Taken → Bool
+taken_test x = is_test x.size x.before.table x.entry
 
 -- "One that makes no test finishes its pass."
 abbrev pub finishes : Taken → Bool
-finishes x = not (isCrash x.entry) && not (takenTest x)
+finishes x = not (is_crash x.entry) && not (taken_test x)
 
 -- "A crash is a taken entry of kind 3."
 abbrev pub crashes : Taken → Bool
-crashes x = isCrash x.entry
+crashes x = is_crash x.entry
 
 -- "A live board's reply is late at a taken entry of kind 2 that tests a live station."
-abbrev pub isLate : Taken → Bool
-isLate x = eqb x.entry.kind kindLate && takenTest x && live x.size x.before.table (tested_of x.size x.before.table x.entry)
+abbrev pub is_late : Taken → Bool
+is_late x = eqb x.entry.kind kind_late && taken_test x && live x.size x.before.table (tested_of x.size x.before.table x.entry)

@@ -3,10 +3,10 @@
 #![tactic(auto)]
 
 ghost use Rattle.std.specs.Prelude.{◌≡◌};
-ghost use Rattle.plant.specs.Entry.{stateWith};
-ghost use Rattle.plant.specs.Run.{outcomeWith, run};
+ghost use Rattle.plant.specs.Entry.{state_with};
+ghost use Rattle.plant.specs.Run.{outcome_with, run};
 ghost use Rattle.detection.specs.Runs.{call_of};
-ghost use Rattle.detection.specs.Claim.{WithinAfter, demandWait, exactWait};
+ghost use Rattle.detection.specs.Claim.{WithinAfter, demand_wait, exact_wait};
 
 use plant::{Answer, Tally, run};
 
@@ -19,9 +19,9 @@ pub fn run_in_list(
     schedule: &[u8],
     sheet: &mut [u8],
 ) -> Answer
-    ensures sheet_after { outcomeWith result table.new sheet.new ≡ run n (stateWith table.old tally) schedule.now sheet.old }
-    ensures within_after { WithinAfter demandWait (call_of n schedule.now sheet.old) (stateWith table.old tally) (stateWith table.new result.tally) }
-    ensures within_after_2 { WithinAfter exactWait (call_of n schedule.now sheet.old) (stateWith table.old tally) (stateWith table.new result.tally) }
+    ensures sheet_after { outcome_with result table.new sheet.new ≡ run n (state_with table.old tally) schedule.now sheet.old }
+    ensures within_after { WithinAfter demand_wait (call_of n schedule.now sheet.old) (state_with table.old tally) (state_with table.new result.tally) }
+    ensures within_after_2 { WithinAfter exact_wait (call_of n schedule.now sheet.old) (state_with table.old tally) (state_with table.new result.tally) }
 {
     run::run(n, table, tally, schedule, sheet)
 }

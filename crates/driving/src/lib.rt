@@ -3,9 +3,9 @@
 #![tactic(auto)]
 
 ghost use Rattle.std.specs.Prelude.{◌≡◌};
-ghost use Rattle.plant.specs.Entry.{stateWith};
-ghost use Rattle.detection.specs.Claim.{demandWait, exactWait};
-ghost use Rattle.granter.specs.Drive.{driveOutcomeWith, drive};
+ghost use Rattle.plant.specs.Entry.{state_with};
+ghost use Rattle.detection.specs.Claim.{demand_wait, exact_wait};
+ghost use Rattle.granter.specs.Drive.{drive_outcome_with, drive};
 ghost use Rattle.driving.specs.Driven.{DrivenWithinAfter};
 
 use granter::{Driven, drive};
@@ -14,9 +14,9 @@ use plant::Tally;
 // The drive, wherever it stands behind other drives: what demand 3 says of the plant that they drove holds of the table and tally that it
 // leaves, and holds within the exact wait too.
 pub fn drive_in_list(n: usize, table: &mut [u8], tally: Tally, last: usize) -> Driven
-    ensures table_after { driveOutcomeWith result table.new ≡ drive n (stateWith table.old tally) last }
-    ensures driven_within_after { DrivenWithinAfter demandWait n last (stateWith table.old tally) (stateWith table.new result.tally) }
-    ensures driven_within_after_2 { DrivenWithinAfter exactWait n last (stateWith table.old tally) (stateWith table.new result.tally) }
+    ensures table_after { drive_outcome_with result table.new ≡ drive n (state_with table.old tally) last }
+    ensures driven_within_after { DrivenWithinAfter demand_wait n last (state_with table.old tally) (state_with table.new result.tally) }
+    ensures driven_within_after_2 { DrivenWithinAfter exact_wait n last (state_with table.old tally) (state_with table.new result.tally) }
 {
     drive::drive(n, table, tally, last)
 }

@@ -2,51 +2,52 @@
 -- compute.
 -- Assumes nothing.
 use Rattle.std.specs.Prelude.{◌≡◌, ℕ, true, false, List, [], ◌∷◌, map, refl}
-use Rattle.lists.specs.Search.{least, list_of, keep, greatest}
+use Rattle.std.specs.List.{filter}
+use Rattle.lists.specs.Search.{least, list_of, greatest}
 use Rattle.table.specs.Sizes.{level, dimension, distances}
 use Rattle.station.specs.Groups.{width, member}
-use Rattle.station.specs.Tests.{unsuspected, firstPlace, first, answer, due, dueDistances}
+use Rattle.station.specs.Tests.{unsuspected, first_place, first, answer, due, due_distances}
 use Rattle.station.specs.Rows.{mark}
 use Rattle.examples.specs.Plant.{Example, gives}
-use Rattle.slots.specs.Slots.{tested, untestedDistances, untested, ahead, testsDue, testsWith, mostTests, mostOfBoards}
+use Rattle.slots.specs.Slots.{tested, untested_distances, untested, ahead, tests_due, tests_with, most_tests, most_of_boards}
 
 -- the row of n boards in which nobody is suspected
-unfoldable pub emptyRow : ℕ → List ℕ
-emptyRow n = list_of (λ k. 0) n
+unfoldable pub empty_row : ℕ → List ℕ
+empty_row n = list_of (λ k. 0) n
 
 -- how many tests each of n boards makes with nobody suspected
-abbrev pub testsOfEach : ℕ → List ℕ
-testsOfEach n = list_of (testsDue n (emptyRow n)) n
+abbrev pub tests_of_each : ℕ → List ℕ
+tests_of_each n = list_of (tests_due n (empty_row n)) n
 
 -- the most tests of any of n boards, with nobody and with any one dead
-abbrev pub mostAt : ℕ → List ℕ
-mostAt n = mostOfBoards n (emptyRow n) false ∷ mostOfBoards n (emptyRow n) true ∷ []
+abbrev pub most_at : ℕ → List ℕ
+most_at n = most_of_boards n (empty_row n) false ∷ most_of_boards n (empty_row n) true ∷ []
 
 unfoldable pub examples : List Example
 examples =
     -- "with eight boards and board 4 out, board 5 makes five"
-    gives (tested 8 (mark (emptyRow 8) 4) 5) (4 ∷ 7 ∷ 6 ∷ 1 ∷ 0 ∷ [])
-    ∷ gives (tested 8 (emptyRow 8) 5) (4 ∷ 7 ∷ 1 ∷ [])
+    gives (tested 8 (mark (empty_row 8) 4) 5) (4 ∷ 7 ∷ 6 ∷ 1 ∷ 0 ∷ [])
+    ∷ gives (tested 8 (empty_row 8) 5) (4 ∷ 7 ∷ 1 ∷ [])
     -- "for those that it does not test, who stands ahead": 7 at board 3, and 6 at board 2
-    ∷ gives (untested 8 (mark (emptyRow 8) 4) 5) (3 ∷ 2 ∷ [])
-    ∷ gives (ahead 8 (mark (emptyRow 8) 4) 5) (7 ∷ 6 ∷ [])
+    ∷ gives (untested 8 (mark (empty_row 8) 4) 5) (3 ∷ 2 ∷ [])
+    ∷ gives (ahead 8 (mark (empty_row 8) 4) 5) (7 ∷ 6 ∷ [])
     -- "with 2^d boards and nobody suspected each board has exactly d due"; "with one suspected, at most 2d − 1"
-    ∷ gives (testsOfEach 8) (3 ∷ 3 ∷ 3 ∷ 3 ∷ 3 ∷ 3 ∷ 3 ∷ 3 ∷ [])
-    ∷ gives (mostTests 8 (emptyRow 8) 5 ∷ mostTests 4 (emptyRow 4) 0 ∷ mostTests 2 (emptyRow 2) 0 ∷ []) (5 ∷ 3 ∷ 1 ∷ [])
+    ∷ gives (tests_of_each 8) (3 ∷ 3 ∷ 3 ∷ 3 ∷ 3 ∷ 3 ∷ 3 ∷ 3 ∷ [])
+    ∷ gives (most_tests 8 (empty_row 8) 5 ∷ most_tests 4 (empty_row 4) 0 ∷ most_tests 2 (empty_row 2) 0 ∷ []) (5 ∷ 3 ∷ 1 ∷ [])
     -- "most tests of a board with nobody dead, and with any one dead", at sizes 4, 5 and 6
-    ∷ gives (mostAt 4) (2 ∷ 3 ∷ [])
-    ∷ gives (mostAt 5) (4 ∷ 4 ∷ [])
-    ∷ gives (mostAt 6) (3 ∷ 5 ∷ [])
+    ∷ gives (most_at 4) (2 ∷ 3 ∷ [])
+    ∷ gives (most_at 5) (4 ∷ 4 ∷ [])
+    ∷ gives (most_at 6) (3 ∷ 5 ∷ [])
     -- "11 boards, 6 at most"
-    ∷ gives (testsOfEach 11) (4 ∷ 4 ∷ 4 ∷ 3 ∷ 3 ∷ 3 ∷ 3 ∷ 3 ∷ 4 ∷ 3 ∷ 6 ∷ [])
+    ∷ gives (tests_of_each 11) (4 ∷ 4 ∷ 4 ∷ 3 ∷ 3 ∷ 3 ∷ 3 ∷ 3 ∷ 4 ∷ 3 ∷ 6 ∷ [])
     ∷ []
 
 -- each example holds
 pub as_said : map (λ (e : Example). e.given) examples ≡ map (λ (e : Example). e.said) examples
-unfolding examples emptyRow tested untestedDistances untested ahead testsDue greatest testsWith mostTests mostOfBoards dueDistances due answer first firstPlace unsuspected mark member width level dimension distances least list_of keep
+unfolding examples empty_row tested untested_distances untested ahead tests_due greatest tests_with most_tests most_of_boards due_distances due answer first first_place unsuspected mark member width level dimension distances least list_of
 as_said = refl
 
 -- "19 boards, 10", which board 18 has
-pub nineteen : testsDue 19 (emptyRow 19) 18 ≡ 10
-unfolding emptyRow testsDue dueDistances due answer first firstPlace unsuspected member width level dimension distances least list_of keep
+pub nineteen : tests_due 19 (empty_row 19) 18 ≡ 10
+unfolding empty_row tests_due due_distances due answer first first_place unsuspected member width level dimension distances least list_of
 nineteen = refl

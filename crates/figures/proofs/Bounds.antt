@@ -12,8 +12,8 @@ use borrow.Author.Tests.{ltb-false, le-ltb, lt-ltb}
 use lib.Dec.{ltb}
 use lib.ListN.{length, get_or}
 use Rattle.figures.specs.declared.Totals.{Totals}
-use Rattle.figures.specs.Batch.{mostResults, sum_of}
-use Rattle.figures.specs.Totals.{totalsOf, joined, greatestResult, overfull}
+use Rattle.figures.specs.Batch.{most_results, sum_of}
+use Rattle.figures.specs.Totals.{totals_of, joined, greatest_result, overfull}
 use Rattle.figures.specs.Steps.{single}
 
 -- the numbers of a list have 16 bits
@@ -22,30 +22,30 @@ Small xs = (k : ℕ) → get_or xs k 0 < 65536
 
 -- totals that as many results of 16 bits can have
 pub record OfResults (t : Totals) : Type 0 where
-  pub sum-most : t.sum ≤ greatestResult * t.count
-  pub squares-most : t.squares ≤ greatestResult * greatestResult * t.count
+  pub sum-most : t.sum ≤ greatest_result * t.count
+  pub squares-most : t.squares ≤ greatest_result * greatest_result * t.count
 
 sum-most-of : (f : ℕ → ℕ) (m : ℕ) (xs : List ℕ) → ((k : ℕ) → f (get_or xs k 0) ≤ m) → sum_of f xs ≤ m * length xs
 unfolding sum_of
 sum-most-of f m [] h = omega arith
 sum-most-of f m (x ∷ xs) h = omega (arith, h 0, sum-most-of f m xs (λ k. h (suc k)))
 
-pub square-most : {x : ℕ} → x ≤ greatestResult → x * x ≤ greatestResult * greatestResult
+pub square-most : {x : ℕ} → x ≤ greatest_result → x * x ≤ greatest_result * greatest_result
 square-most h = mul-le-mul h h
 
-pub list-of-results : (xs : List ℕ) → Small xs → OfResults (totalsOf xs)
-unfolding totalsOf
+pub list-of-results : (xs : List ℕ) → Small xs → OfResults (totals_of xs)
+unfolding totals_of
 list-of-results xs small =
     record {
-      sum-most = sum-most-of (λ x. x) greatestResult xs (λ k. omega (arith, small k));
-      squares-most = sum-most-of (λ x. x * x) (greatestResult * greatestResult) xs (λ k. square-most (omega (arith, small k)));
+      sum-most = sum-most-of (λ x. x) greatest_result xs (λ k. omega (arith, small k));
+      squares-most = sum-most-of (λ x. x * x) (greatest_result * greatest_result) xs (λ k. square-most (omega (arith, small k)));
     }
 
 pub single-of-results : (x : ℕ) → x < 65536 → OfResults (single x)
 unfolding single
 single-of-results x h = record { sum-most = omega arith; squares-most = omega (arith, square-most {x = x} (omega arith)) }
 
-pub single-count : (x : ℕ) → (single x).count ≤ mostResults
+pub single-count : (x : ℕ) → (single x).count ≤ most_results
 unfolding single
 single-count x = omega arith
 
@@ -56,9 +56,9 @@ joined-of-results a b p q =
 
 -- what "not overfull" says
 pub record TotalsFit (t : Totals) : Type 0 where
-  pub count_fits : t.count ≤ mostResults
-  pub sum_fits : t.sum ≤ mostResults * greatestResult
-  pub squares-fit : t.squares ≤ mostResults * (greatestResult * greatestResult)
+  pub count_fits : t.count ≤ most_results
+  pub sum_fits : t.sum ≤ most_results * greatest_result
+  pub squares-fit : t.squares ≤ most_results * (greatest_result * greatest_result)
 
 -- neither of two
 pub neither : (a b : Bool) → (a || b) ≡ false → (a ≡ false) × (b ≡ false)
@@ -68,9 +68,9 @@ neither false b e = (refl, e)
 pub overfull-fits : (t : Totals) → overfull t ≡ false → TotalsFit t
 unfolding overfull
 overfull-fits t e =
-    let count = ltb mostResults t.count in
-    let sum = ltb (mostResults * greatestResult) t.sum in
-    let squares = ltb (mostResults * (greatestResult * greatestResult)) t.squares in
+    let count = ltb most_results t.count in
+    let sum = ltb (most_results * greatest_result) t.sum in
+    let squares = ltb (most_results * (greatest_result * greatest_result)) t.squares in
     let f = neither (count || sum) squares e in
     let g = neither count sum f.0 in
     record { count_fits = ltb-false _ _ g.0; sum_fits = ltb-false _ _ g.1; squares-fit = ltb-false _ _ f.1 }
@@ -80,17 +80,17 @@ unfolding overfull
 fits-overfull t f = rw (le-ltb _ _ f.count_fits, le-ltb _ _ f.sum_fits, le-ltb _ _ f.squares-fit)
 
 -- of results of 16 bits only their count matters
-pub overfull-count : (t : Totals) → OfResults t → overfull t ≡ ltb mostResults t.count
+pub overfull-count : (t : Totals) → OfResults t → overfull t ≡ ltb most_results t.count
 unfolding overfull
 overfull-count t h =
-    by_cases (dec_le t.count mostResults)
+    by_cases (dec_le t.count most_results)
     (λ l.
     fits-overfull t
     (record { count_fits = l; sum_fits = omega (arith, h.sum-most); squares-fit = omega (arith, h.squares-most) })
     ∙ sym (le-ltb _ _ l))
-    (λ l. let g : ltb mostResults t.count ≡ true = lt-ltb mostResults t.count (omega arith) in rw g)
+    (λ l. let g : ltb most_results t.count ≡ true = lt-ltb most_results t.count (omega arith) in rw g)
 
-pub not-overfull : (t : Totals) → OfResults t → t.count ≤ mostResults → overfull t ≡ false
+pub not-overfull : (t : Totals) → OfResults t → t.count ≤ most_results → overfull t ≡ false
 not-overfull t h l = overfull-count t h ∙ le-ltb _ _ l
 
 -- each of two batches has at most what both have

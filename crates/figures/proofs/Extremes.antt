@@ -7,7 +7,7 @@ use Prim.Native.Nat.{ℕ, zero, suc, ◌<◌, ◌≤◌, min, max}
 use native.Mathlib.Decide.{dec_le}
 use native.Mathlib.Omega.{arith}
 use lib.ListN.{length, get_or}
-use Rattle.figures.specs.Batch.{reduce, leastOfResults, greatestOfResults}
+use Rattle.figures.specs.Batch.{reduce, least_of_results, greatest_of_results}
 
 -- m stands in the list, and has R to each of its elements
 pub record Extreme (R : ℕ → ℕ → Type 0) (xs : List ℕ) (m : ℕ) : Type 0 where
@@ -43,8 +43,8 @@ min-one a b = by_cases (dec_le a b) (λ h. inl (omega arith)) (λ h. inr (omega 
 max-one : (a b : ℕ) → (max a b ≡ a) ⊎ (max a b ≡ b)
 max-one a b = by_cases (dec_le a b) (λ h. inr (omega arith)) (λ h. inl (omega arith))
 
-pub least-extreme : (x : ℕ) (xs : List ℕ) → Extreme (λ m y. m ≤ y) (x ∷ xs) (leastOfResults (x ∷ xs))
+pub least-extreme : (x : ℕ) (xs : List ℕ) → Extreme (λ m y. m ≤ y) (x ∷ xs) (least_of_results (x ∷ xs))
 least-extreme = reduce-extreme min (λ m y. m ≤ y) (λ a. omega arith) (λ a b. omega arith) (λ a b c h. omega arith) min-one
 
-pub greatest-extreme : (x : ℕ) (xs : List ℕ) → Extreme (λ m y. y ≤ m) (x ∷ xs) (greatestOfResults (x ∷ xs))
+pub greatest-extreme : (x : ℕ) (xs : List ℕ) → Extreme (λ m y. y ≤ m) (x ∷ xs) (greatest_of_results (x ∷ xs))
 greatest-extreme = reduce-extreme max (λ m y. y ≤ m) (λ a. omega arith) (λ a b. omega arith) (λ a b c h. omega arith) max-one

@@ -10,7 +10,7 @@ use native.Mathlib.Numerals.{add-one}
 use lib.ListN.{length, take, get_or, length-append, length-take}
 use lib.Seq.{take-suc}
 use Rattle.figures.specs.Batch.{sum_of, reduce}
-use Rattle.figures.specs.Totals.{totalsOf, of_both, joined}
+use Rattle.figures.specs.Totals.{totals_of, of_both, joined}
 use Rattle.figures.specs.Steps.{single}
 
 -- a sum over two lists
@@ -38,21 +38,21 @@ reduce-append op assoc (x ∷ z ∷ xs) ys =
     ∙ of-both-more op assoc x (length xs) (reduce op (z ∷ xs)) (length ys) (reduce op ys)
 
 -- the totals of two lists one behind the other
-pub totals-append : (xs ys : List ℕ) → totalsOf (xs ++ ys) ≡ joined (totalsOf xs) (totalsOf ys)
-unfolding totalsOf joined
+pub totals-append : (xs ys : List ℕ) → totals_of (xs ++ ys) ≡ joined (totals_of xs) (totals_of ys)
+unfolding totals_of joined
 totals-append xs ys =
     rw (length-append, sum-append, sum-append, reduce-append min (λ a b c. omega arith), reduce-append max (λ a b c. omega arith))
 
 -- the totals of a list of one result
-totals-single : (x : ℕ) → totalsOf (x ∷ []) ≡ single x
-unfolding totalsOf single sum_of reduce
+totals-single : (x : ℕ) → totals_of (x ∷ []) ≡ single x
+unfolding totals_of single sum_of reduce
 totals-single x = simp add-zero
 
 -- one more result of a list
-pub totals-step : (xs : List ℕ) (k : ℕ) → k < length xs → joined (totalsOf (take k xs)) (single (get_or xs k 0)) ≡ totalsOf (take (k + 1) xs)
+pub totals-step : (xs : List ℕ) (k : ℕ) → k < length xs → joined (totals_of (take k xs)) (single (get_or xs k 0)) ≡ totals_of (take (k + 1) xs)
 totals-step xs k l = rw (add-one, take-suc xs k 0, totals-append, totals-single)
 
 -- the first results of a list are not more than all
-pub part_count : (xs : List ℕ) (k : ℕ) → (totalsOf (take k xs)).count ≤ length xs
-unfolding totalsOf
+pub part_count : (xs : List ℕ) (k : ℕ) → (totals_of (take k xs)).count ≤ length xs
+unfolding totals_of
 part_count xs k = omega (arith, length-take k xs)

@@ -9,14 +9,14 @@ use Rattle.figures.specs.Fractions.{lowest}
 use Rattle.figures.specs.Batch as batch
 
 -- the totals of a list: count, sum, sum of squares, least, greatest
-unfoldable pub totalsOf : List ℕ → Totals
-totalsOf xs =
+unfoldable pub totals_of : List ℕ → Totals
+totals_of xs =
     record {
       count = length xs;
-      sum = batch.sumOfResults xs;
+      sum = batch.sum_of_results xs;
       squares = batch.sum_of (λ x. x * x) xs;
-      least = batch.leastOfResults xs;
-      greatest = batch.greatestOfResults xs;
+      least = batch.least_of_results xs;
+      greatest = batch.greatest_of_results xs;
     }
 
 -- the least or the greatest of two batches, of which one has m results and the value a, the other n and b: `both` is what a and b give
@@ -36,51 +36,51 @@ joined a b =
     }
 
 -- the greatest result of 16 bits
-abbrev pub greatestResult : ℕ
-greatestResult = 65535
+abbrev pub greatest_result : ℕ
+greatest_result = 65535
 
 -- whether totals are more than 4,096 results can have: by their count, their sum or the sum of their squares
 unfoldable pub overfull : Totals → Bool
 overfull t =
-    ltb batch.mostResults t.count
-    || ltb (batch.mostResults * greatestResult) t.sum
-    || ltb (batch.mostResults * (greatestResult * greatestResult)) t.squares
+    ltb batch.most_results t.count
+    || ltb (batch.most_results * greatest_result) t.sum
+    || ltb (batch.most_results * (greatest_result * greatest_result)) t.squares
 
 -- the totals of no result
-abbrev pub noTotals : Totals
-noTotals = record { count = 0; sum = 0; squares = 0; least = 0; greatest = 0 }
+abbrev pub no_totals : Totals
+no_totals = record { count = 0; sum = 0; squares = 0; least = 0; greatest = 0 }
 
 -- a refused call gives its number, and 0 for every total
-abbrev pub refusedTotals : ℕ → Totalled
-refusedTotals number = record { number = number; totals = noTotals }
+abbrev pub refused_totals : ℕ → Totalled
+refused_totals number = record { number = number; totals = no_totals }
 
 -- the totals of a list, for all lists: 15 for more than 4,096 results. A list with no result is accepted.
 unfoldable pub totals : List ℕ → Totalled
-totals xs = cond (ltb batch.mostResults (length xs)) (refusedTotals 15) (record { number = 0; totals = totalsOf xs })
+totals xs = cond (ltb batch.most_results (length xs)) (refused_totals 15) (record { number = 0; totals = totals_of xs })
 
 -- the join of any two totals: 15 where the joined totals are overfull
 unfoldable pub join : Totals → Totals → Totalled
-join a b = cond (overfull (joined a b)) (refusedTotals 15) (record { number = 0; totals = joined a b })
+join a b = cond (overfull (joined a b)) (refused_totals 15) (record { number = 0; totals = joined a b })
 
 -- the variance by totals: with c results, their sum s and the sum q of their squares, (c·q − s·s) / (c·c),
 -- zero where s·s is greater, which is so of no list
-unfoldable pub varianceOf : Totals → Fraction
-varianceOf t = lowest (t.count * t.squares - t.sum * t.sum) (t.count * t.count)
+unfoldable pub variance_of : Totals → Fraction
+variance_of t = lowest (t.count * t.squares - t.sum * t.sum) (t.count * t.count)
 
 -- refusals 14 and 15 of any totals
-abbrev pub totalsNumber : Totals → ℕ
-totalsNumber t = batch.batchNumber (eqb t.count 0) (overfull t)
+abbrev pub totals_number : Totals → ℕ
+totals_number t = batch.batch_number (eqb t.count 0) (overfull t)
 
 -- the figures of any totals
-unfoldable pub figuresOfTotals : Totals → Figures
-figuresOfTotals t =
-    cond (eqb (totalsNumber t) 0)
+unfoldable pub figures_of_totals : Totals → Figures
+figures_of_totals t =
+    cond (eqb (totals_number t) 0)
     (record {
       number = 0;
       count = t.count;
       least = t.least;
       greatest = t.greatest;
       mean = lowest t.sum t.count;
-      variance = varianceOf t;
+      variance = variance_of t;
     })
-    (batch.refusedFigures (totalsNumber t))
+    (batch.refused_figures (totals_number t))

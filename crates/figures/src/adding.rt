@@ -1,8 +1,8 @@
 // Totals of a list of results, and their join (request C-12).
 ghost use Rattle.std.specs.Prelude.{◌≡◌, false, ◌≤◌, min, max, length};
-ghost use Rattle.figures.specs.Batch.{mostResults};
-ghost use Rattle.figures.specs.Totals.{totalsOf, of_both, joined, overfull, noTotals, refusedTotals, totals, join};
-ghost use Rattle.figures.specs.Steps.{single, joinAnswers};
+ghost use Rattle.figures.specs.Batch.{most_results};
+ghost use Rattle.figures.specs.Totals.{totals_of, of_both, joined, overfull, no_totals, refused_totals, totals, join};
+ghost use Rattle.figures.specs.Steps.{single, join_answers};
 
 use crate::{Totalled, Totals};
 
@@ -46,9 +46,9 @@ pub fn join(a: Totals, b: Totals) -> Totalled
 }
 
 // The join of the totals of two answers; a refusal is handed on.
-#[tactic(auto, unfolding(crate::specs::Steps::joinAnswers))]
+#[tactic(auto, unfolding(crate::specs::Steps::join_answers))]
 pub(crate) fn join_answers(a: Totalled, b: Totalled) -> Totalled
-    ensures { result ≡ joinAnswers a b }
+    ensures { result ≡ join_answers a b }
 {
     if a.number != 0 {
         return a;
@@ -69,8 +69,8 @@ pub(crate) fn is_overfull(t: Totals) -> bool
 
 // The totals of at most 4,096 results.
 fn add_up(results: &[u16]) -> Totals
-    requires { length results.now ≤ mostResults }
-    ensures { result ≡ totalsOf results.now }
+    requires { length results.now ≤ most_results }
+    ensures { result ≡ totals_of results.now }
 {
     let mut sofar = no_totals();
     let mut k: usize = 0;
@@ -146,7 +146,7 @@ fn greater(a: u64, b: u64) -> u64
 
 // The totals of no result.
 fn no_totals() -> Totals
-    ensures { result ≡ noTotals }
+    ensures { result ≡ no_totals }
 {
     Totals {
         count: 0,
@@ -159,7 +159,7 @@ fn no_totals() -> Totals
 
 // A refusal: its number, and 0 for every total.
 fn refused_totals(number: u8) -> Totalled
-    ensures { result ≡ refusedTotals number }
+    ensures { result ≡ refused_totals number }
 {
     Totalled {
         number: number,

@@ -1,8 +1,8 @@
 // Figures of one list of results, of two, and of kept totals (request C-12).
 ghost use Rattle.std.specs.Prelude.{◌≡◌, ◌++◌, false, ◌<◌};
-ghost use Rattle.figures.specs.Batch.{refusedFigures, figures};
-ghost use Rattle.figures.specs.Totals.{overfull, varianceOf, figuresOfTotals};
-ghost use Rattle.figures.specs.Steps.{figuresOfAnswer};
+ghost use Rattle.figures.specs.Batch.{refused_figures, figures};
+ghost use Rattle.figures.specs.Totals.{overfull, variance_of, figures_of_totals};
+ghost use Rattle.figures.specs.Steps.{figures_of_answer};
 
 use crate::{Figures, Fraction, Totalled, Totals, adding, fractions};
 
@@ -24,9 +24,9 @@ pub fn figures_of_two(first: &[u16], second: &[u16]) -> Figures
 }
 
 // Figures of kept totals.
-#[tactic(auto, unfolding(crate::specs::Totals::figuresOfTotals, crate::specs::Batch::batchNumber))]
+#[tactic(auto, unfolding(crate::specs::Totals::figures_of_totals, crate::specs::Batch::batch_number))]
 pub fn figures_of_totals(t: Totals) -> Figures
-    ensures { result ≡ figuresOfTotals t }
+    ensures { result ≡ figures_of_totals t }
 {
     if t.count == 0 {
         return refused_figures(14);
@@ -45,9 +45,9 @@ pub fn figures_of_totals(t: Totals) -> Figures
 }
 
 // The figures of the totals of an answer; a refusal is handed on.
-#[tactic(auto, unfolding(crate::specs::Steps::figuresOfAnswer))]
+#[tactic(auto, unfolding(crate::specs::Steps::figures_of_answer))]
 fn figures_of_answer(a: Totalled) -> Figures
-    ensures { result ≡ figuresOfAnswer a }
+    ensures { result ≡ figures_of_answer a }
 {
     if a.number != 0 {
         return refused_figures(a.number);
@@ -59,7 +59,7 @@ fn figures_of_answer(a: Totalled) -> Figures
 fn variance_of(t: Totals) -> Fraction
     requires count_nonzero { 0 < t.count }
     requires t_value { overfull t ≡ false }
-    ensures { result ≡ varianceOf t }
+    ensures { result ≡ variance_of t }
 {
     let whole = t.count * t.squares;
     let part = t.sum * t.sum;
@@ -69,7 +69,7 @@ fn variance_of(t: Totals) -> Fraction
 
 // A refusal: its number, and 0 for every figure.
 fn refused_figures(number: u8) -> Figures
-    ensures { result ≡ refusedFigures number }
+    ensures { result ≡ refused_figures number }
 {
     Figures {
         number: number,

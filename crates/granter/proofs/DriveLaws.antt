@@ -11,51 +11,51 @@ use native.Mathlib.Numerals.{add-one}
 use native.Mathlib.Omega.{arith}
 use borrow.Author.Tests.{eqb-true, eqb-false, eq-eqb, ne_eqb, not-false}
 use lib.Dec.{eqb}
-use Rattle.table.specs.Rules.{someLive, roundOver, tableNumber}
+use Rattle.table.specs.Rules.{some_live, round_over, table_number}
 use Rattle.lists.proofs.BoolLaws.{by_bool, neither}
 use Rattle.lists.proofs.SearchLaws.{least-is, least-none}
 use Rattle.table.proofs.SizeLaws.{size-bounds}
 use Rattle.table.proofs.Accepting.{Accepted}
 use Rattle.table.proofs.CellLaws.{accepted-line}
-use Rattle.turn.specs.Turn.{kindTurn, kindCrash}
-use Rattle.plant.specs.Round.{afterRound}
-use Rattle.plant.specs.Entry.{Entry, State, entry_of, tallyFull, entryNumber, acted, after}
+use Rattle.turn.specs.Turn.{kind_turn, kind_crash}
+use Rattle.plant.specs.Round.{after_round}
+use Rattle.plant.specs.Entry.{Entry, State, entry_of, tally_full, entry_number, acted, after}
 use Rattle.plant.proofs.RulesKept.{accepted-kept}
 use Rattle.plant.proofs.RunLaws.{accepted-number}
 use Rattle.turn.proofs.StepLines.{Lines}
-use Rattle.granter.specs.Grant.{waits, granted, grantNumber}
-use Rattle.granter.specs.Drive.{Stand, standAt, grantedAt, grantTurn, afterGrants, ended, endedAfter, fullAfter, stops, grantsMade, driveOutcome, outcomeAfter, drive, Stopped}
+use Rattle.granter.specs.Grant.{waits, granted, grant_number}
+use Rattle.granter.specs.Drive.{Stand, stand_at, granted_at, grant_turn, after_grants, ended, ended_after, full_after, stops, grants_made, drive_outcome, outcome_after, drive, Stopped}
 use Rattle.granter.proofs.GrantLaws.{Grantable, granted-waits, waits-parts, turn-taken}
-use Rattle.granter.proofs.TurnsLeft.{allLeft, all-left-most, turn-left}
+use Rattle.granter.proofs.TurnsLeft.{all_left, all-left-most, turn-left}
 
 -- a drive that has not ended: no round closed, somebody is live
-pub not-ended : (n rounds : ℕ) (s : State) → ended n rounds s ≡ false → (s.rounds ≡ rounds) × (someLive n s.table ≡ true)
+pub not-ended : (n rounds : ℕ) (s : State) → ended n rounds s ≡ false → (s.rounds ≡ rounds) × (some_live n s.table ≡ true)
 unfolding ended
 not-ended n rounds s e = let a = neither _ _ e in (eqb-true _ _ (not-false _ a.0), not-false _ a.1)
 
 -- a drive that does not stop has not ended, and no tally is full
-pub not_stopped : (n : ℕ) (p : Stand) (k : ℕ) → stops n p k ≡ false → (endedAfter n p k ≡ false) × (fullAfter n p k ≡ false)
+pub not_stopped : (n : ℕ) (p : Stand) (k : ℕ) → stops n p k ≡ false → (ended_after n p k ≡ false) × (full_after n p k ≡ false)
 unfolding stops
 not_stopped n p k e = neither _ _ e
 
 -- at its start
-pub unended : (n : ℕ) (s : State) → someLive n s.table ≡ true → ended n s.rounds s ≡ false
+pub unended : (n : ℕ) (s : State) → some_live n s.table ≡ true → ended n s.rounds s ≡ false
 unfolding ended
 unended n s l = rw (eq-eqb s.rounds s.rounds refl, l)
 
 -- after k grants it has not ended, and did not stop before
 pub record Driving (n : ℕ) (p : Stand) (k : ℕ) : Type 0 where
-  pub ok : Accepted n (afterGrants n p k).state.table
-  pub open-still : endedAfter n p k ≡ false
-  pub room : k + allLeft n (afterGrants n p k).state.table ≤ n * n
+  pub ok : Accepted n (after_grants n p k).state.table
+  pub open-still : ended_after n p k ≡ false
+  pub room : k + all_left n (after_grants n p k).state.table ≤ n * n
   pub before : (j : ℕ) → j < k → stops n p j ≡ false
 
 -- a table that refusals 1 to 4 let through, line by line
 lines_of : (n : ℕ) (t : List ℕ) → Accepted n t → Lines n t
 lines_of n t ok = (ok.long, accepted-line n t ok)
 
-pub driving-start : (n : ℕ) (s : State) (last : ℕ) → Grantable n s.table last → Driving n (standAt s last) 0
-unfolding afterGrants
+pub driving-start : (n : ℕ) (s : State) (last : ℕ) → Grantable n s.table last → Driving n (stand_at s last) 0
+unfolding after_grants
 driving-start n s last g = record {
   ok = g.ok;
   open-still = unended n s g.someone;
@@ -64,8 +64,8 @@ driving-start n s last g = record {
 }
 
 -- a grant and its turn, of any kind but a crash
-module _ (n : ℕ) (s : State) (last kind : ℕ) (ok : Accepted n s.table) (someone : someLive n s.table ≡ true)
-    (noCrash : eqb kind kindCrash ≡ false) where
+module _ (n : ℕ) (s : State) (last kind : ℕ) (ok : Accepted n s.table) (someone : some_live n s.table ≡ true)
+    (no_crash : eqb kind kind_crash ≡ false) where
   abbrev station : ℕ
   station = granted n s.table last
 
@@ -73,41 +73,41 @@ module _ (n : ℕ) (s : State) (last kind : ℕ) (ok : Accepted n s.table) (some
   entry = entry_of kind station
 
   -- fewer turns are left
-  pub turn-fewer : allLeft n (acted n s.table entry) < allLeft n s.table
+  pub turn-fewer : all_left n (acted n s.table entry) < all_left n s.table
   unfolding acted
   turn-fewer =
       let w = granted-waits n s.table ok someone last in
-      rw noCrash (turn-left n s.table ok.size (lines_of n s.table ok) kind station w.0 (eqb-false _ _ (waits-parts n s.table station w.1).1))
+      rw no_crash (turn-left n s.table ok.size (lines_of n s.table ok) kind station w.0 (eqb-false _ _ (waits-parts n s.table station w.1).1))
 
   -- also in the table that is left, if the round does not close
-  pub fewer-after : (after n s entry).rounds ≡ s.rounds → allLeft n (after n s entry).table < allLeft n s.table
-  unfolding after afterRound
+  pub fewer-after : (after n s entry).rounds ≡ s.rounds → all_left n (after n s entry).table < all_left n s.table
+  unfolding after after_round
   fewer-after same =
-      by_bool (roundOver n (acted n s.table entry)) (λ over. absurd (omega (arith, rw over at same))) (λ over. rw over turn-fewer)
+      by_bool (round_over n (acted n s.table entry)) (λ over. absurd (omega (arith, rw over at same))) (λ over. rw over turn-fewer)
 
 -- the next grant
 module _ (n : ℕ) (p : Stand) (k : ℕ) (d : Driving n p k) where
   abbrev s : State
-  s = (afterGrants n p k).state
+  s = (after_grants n p k).state
 
   abbrev i : ℕ
-  i = grantedAt n (afterGrants n p k)
+  i = granted_at n (after_grants n p k)
 
   abbrev e : Entry
-  e = entry_of kindTurn i
+  e = entry_of kind_turn i
 
-  pub still : (s.rounds ≡ p.state.rounds) × (someLive n s.table ≡ true)
+  pub still : (s.rounds ≡ p.state.rounds) × (some_live n s.table ≡ true)
   still = not-ended n p.state.rounds s d.open-still
 
   pub chosen : (i < n) × (waits n s.table i ≡ true)
-  chosen = granted-waits n s.table d.ok still.1 (afterGrants n p k).last
+  chosen = granted-waits n s.table d.ok still.1 (after_grants n p k).last
 
   pub next-within : suc k ≤ n * n
-  next-within = omega (arith, turn-fewer n s (afterGrants n p k).last kindTurn d.ok still.1 refl, d.room)
+  next-within = omega (arith, turn-fewer n s (after_grants n p k).last kind_turn d.ok still.1 refl, d.room)
 
   -- where no tally is full
-  module _ (fits : fullAfter n p k ≡ false) where
-    pub next-taken : entryNumber n s e ≡ 0
+  module _ (fits : full_after n p k ≡ false) where
+    pub next-taken : entry_number n s e ≡ 0
     next-taken = turn-taken n s i fits chosen.0 chosen.1
 
     pub next-before : (j : ℕ) → j < suc k → stops n p j ≡ false
@@ -115,35 +115,35 @@ module _ (n : ℕ) (p : Stand) (k : ℕ) (d : Driving n p k) where
     next-before j h =
         by_cases (dec_lt j k) (d.before j) (λ l. let same : j ≡ k = omega arith in rw (same, d.open-still, fits))
 
-    pub next-driving : endedAfter n p (suc k) ≡ false → Driving n p (suc k)
-    unfolding afterGrants grantTurn
+    pub next-driving : ended_after n p (suc k) ≡ false → Driving n p (suc k)
+    unfolding after_grants grant_turn
     next-driving o =
         let same : (after n s e).rounds ≡ s.rounds = (not-ended n p.state.rounds (after n s e) o).0 ∙ sym still.0 in
         record {
           ok = accepted-kept n s e d.ok next-taken;
           open-still = o;
-          room = omega (arith, fewer-after n s (afterGrants n p k).last kindTurn d.ok still.1 refl same, d.room);
+          room = omega (arith, fewer-after n s (after_grants n p k).last kind_turn d.ok still.1 refl same, d.room);
           before = next-before;
         }
 
 -- where a drive stops: it stops there, and not before
-pub stopped-full : (n : ℕ) (p : Stand) (k : ℕ) → Driving n p k → fullAfter n p k ≡ true → Stopped n p k
+pub stopped-full : (n : ℕ) (p : Stand) (k : ℕ) → Driving n p k → full_after n p k ≡ true → Stopped n p k
 unfolding stops
 stopped-full n p k d full = record { within = omega (arith, d.room); stopped = rw (d.open-still, full); first = d.before }
 
-pub stopped-ended : (n : ℕ) (p : Stand) (k : ℕ) → Driving n p k → fullAfter n p k ≡ false → endedAfter n p (suc k) ≡ true → Stopped n p (suc k)
+pub stopped-ended : (n : ℕ) (p : Stand) (k : ℕ) → Driving n p k → full_after n p k ≡ false → ended_after n p (suc k) ≡ true → Stopped n p (suc k)
 unfolding stops
 stopped-ended n p k d fits o = record { within = next-within n p k d; stopped = rw o; first = next-before n p k d fits }
 
 -- a drive that is refused
-pub drive-refused : (n : ℕ) (s : State) (last r : ℕ) → r ≡ grantNumber n s.table last → (r ≡ 0 → ⊥)
-    → drive n s last ≡ driveOutcome r s last 0
+pub drive-refused : (n : ℕ) (s : State) (last r : ℕ) → r ≡ grant_number n s.table last → (r ≡ 0 → ⊥)
+    → drive n s last ≡ drive_outcome r s last 0
 unfolding drive
 drive-refused n s last r e z = rw (← e, ne_eqb r 0 z)
 
 -- the grants made are the first after which it stops
-pub made-is : (n : ℕ) (p : Stand) (k : ℕ) → Stopped n p k → grantsMade n p ≡ k
-unfolding grantsMade
+pub made-is : (n : ℕ) (p : Stand) (k : ℕ) → Stopped n p k → grants_made n p ≡ k
+unfolding grants_made
 made-is n p k s =
     by_cases (dec_lt k (n * n))
     (λ l. least-is (stops n p) (n * n) 0 k (omega arith) (omega arith) s.stopped (λ j a b. s.first j b))
@@ -152,10 +152,10 @@ made-is n p k s =
     least-none (stops n p) (n * n) 0 (λ j a b. s.first j (omega arith)) ∙ omega arith)
 
 -- the whole drive
-pub drive-made : (n : ℕ) (s : State) (last k : ℕ) → grantNumber n s.table last ≡ 0 → Stopped n (standAt s last) k
-    → outcomeAfter n (standAt s last) k ≡ drive n s last
+pub drive-made : (n : ℕ) (s : State) (last k : ℕ) → grant_number n s.table last ≡ 0 → Stopped n (stand_at s last) k
+    → outcome_after n (stand_at s last) k ≡ drive n s last
 unfolding drive
-drive-made n s last k z stop = rw (z, made-is n (standAt s last) k stop)
+drive-made n s last k z stop = rw (z, made-is n (stand_at s last) k stop)
 
 -- the grants made so far are few
 pub grants-small : (n : ℕ) (p : Stand) (k : ℕ) → Driving n p k → k ≤ 4096
@@ -164,35 +164,35 @@ grants-small n p k d =
     omega (arith, d.room, mul-le-mul top top)
 
 -- a grant and its turn, by the station and the state after it
-pub turned-is : (n : ℕ) (q : Stand) (s : State) (i : ℕ) → i ≡ grantedAt n q → s ≡ after n q.state (entry_of kindTurn i)
-    → standAt s i ≡ grantTurn n q
-unfolding grantTurn
+pub turned-is : (n : ℕ) (q : Stand) (s : State) (i : ℕ) → i ≡ granted_at n q → s ≡ after n q.state (entry_of kind_turn i)
+    → stand_at s i ≡ grant_turn n q
+unfolding grant_turn
 turned-is n q s i e f = rw (f, e)
 
 -- a drive as the code finds it: q is where it stands after k grants
-module _ (n : ℕ) (p : Stand) (k : ℕ) (q : Stand) (at-k : q ≡ afterGrants n p k) (d : Driving n p k) where
+module _ (n : ℕ) (p : Stand) (k : ℕ) (q : Stand) (at-k : q ≡ after_grants n p k) (d : Driving n p k) where
   -- a tally is full: it stops here
-  pub full-stop : tallyFull q.state.rounds q.state.tests ≡ true → (driveOutcome 7 q.state q.last k ≡ outcomeAfter n p k) × Stopped n p k
-  unfolding outcomeAfter
+  pub full-stop : tally_full q.state.rounds q.state.tests ≡ true → (drive_outcome 7 q.state q.last k ≡ outcome_after n p k) × Stopped n p k
+  unfolding outcome_after
   full-stop full = (rw (at-k, d.open-still), stopped-full n p k d (rw at-k at full))
 
-  module _ (fits : tallyFull q.state.rounds q.state.tests ≡ false) where
-    pub turn-ready : (tableNumber n q.state.table ≡ 0) × (entryNumber n q.state (entry_of kindTurn (grantedAt n q)) ≡ 0)
+  module _ (fits : tally_full q.state.rounds q.state.tests ≡ false) where
+    pub turn-ready : (table_number n q.state.table ≡ 0) × (entry_number n q.state (entry_of kind_turn (granted_at n q)) ≡ 0)
     turn-ready = rw at-k (accepted-number n _ d.ok, next-taken n p k d (rw at-k at fits))
 
     -- the next grant
-    module _ (q' : Stand) (turned : q' ≡ grantTurn n q) where
-      pub turned_on : q' ≡ afterGrants n p (k + 1)
-      unfolding afterGrants
-      turned_on = rw (add-one k) (turned ∙ ap (grantTurn n) at-k)
+    module _ (q' : Stand) (turned : q' ≡ grant_turn n q) where
+      pub turned_on : q' ≡ after_grants n p (k + 1)
+      unfolding after_grants
+      turned_on = rw (add-one k) (turned ∙ ap (grant_turn n) at-k)
 
-      pub end-stop : ended n p.state.rounds q'.state ≡ true → (driveOutcome 0 q'.state q'.last (k + 1) ≡ outcomeAfter n p (k + 1)) × Stopped n p (k + 1)
-      unfolding outcomeAfter
+      pub end-stop : ended n p.state.rounds q'.state ≡ true → (drive_outcome 0 q'.state q'.last (k + 1) ≡ outcome_after n p (k + 1)) × Stopped n p (k + 1)
+      unfolding outcome_after
       end-stop o =
-          let here : endedAfter n p (k + 1) ≡ true = rw turned_on at o in
+          let here : ended_after n p (k + 1) ≡ true = rw turned_on at o in
           (rw (turned_on, here), rw (add-one k) (stopped-ended n p k d (rw at-k at fits) (rw (add-one k) at here)))
 
       pub drives-on : ended n p.state.rounds q'.state ≡ false → Driving n p (k + 1)
       drives-on o =
-          let here : endedAfter n p (k + 1) ≡ false = rw turned_on at o in
+          let here : ended_after n p (k + 1) ≡ false = rw turned_on at o in
           rw (add-one k) (next-driving n p k d (rw at-k at fits) (rw (add-one k) at here))

@@ -9,18 +9,18 @@ use borrow.Author.Tests.{ltb-true, ltb-false, lt-leb, leb-false, eqb-true, not-t
 use lib.Dec.{ltb, leb, eqb}
 use Rattle.lists.specs.Search.{least, every}
 use Rattle.table.specs.Table.{finished, live}
-use Rattle.table.specs.Rules.{someLive, finishedIfLive, liveFinished, tableNumber}
+use Rattle.table.specs.Rules.{some_live, finished_if_live, live_finished, table_number}
 use Rattle.lists.proofs.BoolLaws.{by_bool}
 use Rattle.lists.proofs.SearchLaws.{both, every-all, least-between, least-passes, least-before}
 use Rattle.table.proofs.SizeLaws.{size-bounds}
 use Rattle.table.proofs.Accepting.{Accepted, accepted}
 use Rattle.lists.proofs.RefusalLaws.{else-zero, refuse-zero}
-use Rattle.turn.specs.Turn.{kindTurn}
-use Rattle.plant.specs.Entry.{State, entry_of, tallyFull, entryNumber}
-use Rattle.granter.specs.Grant.{noGrant, waits, firstFrom, following, granted, lastRefusal, grantNumber}
+use Rattle.turn.specs.Turn.{kind_turn}
+use Rattle.plant.specs.Entry.{State, entry_of, tally_full, entry_number}
+use Rattle.granter.specs.Grant.{no_grant, waits, first_from, following, granted, last_refusal, grant_number}
 
 -- who waits is live and not finished
-pub waits-is : (n : ℕ) (t : List ℕ) (i : ℕ) → not (finishedIfLive n t i) ≡ waits n t i
+pub waits-is : (n : ℕ) (t : List ℕ) (i : ℕ) → not (finished_if_live n t i) ≡ waits n t i
 unfolding waits
 waits-is n t i = cases (live n t i) (eqb (finished n t i) 1)
   where
@@ -38,58 +38,58 @@ waits-parts n t i w =
 -- what a grant has that is not refused
 pub record Grantable (n : ℕ) (t : List ℕ) (last : ℕ) : Type 0 where
   pub ok : Accepted n t
-  pub lastFits : lastRefusal n last ≡ 0
-  pub someone : someLive n t ≡ true
+  pub last_fits : last_refusal n last ≡ 0
+  pub someone : some_live n t ≡ true
 
-pub grantable : (n : ℕ) (t : List ℕ) (last : ℕ) → grantNumber n t last ≡ 0 → Grantable n t last
-unfolding grantNumber
+pub grantable : (n : ℕ) (t : List ℕ) (last : ℕ) → grant_number n t last ≡ 0 → Grantable n t last
+unfolding grant_number
 grantable n t last z =
     let a = else-zero _ _ z in
     let b = else-zero _ _ a.1 in
-    record { ok = accepted n t a.0; lastFits = b.0; someone = not-false _ (refuse-zero 16 _ b.1) }
+    record { ok = accepted n t a.0; last_fits = b.0; someone = not-false _ (refuse-zero 16 _ b.1) }
 
-pub grant-zero : (n : ℕ) (t : List ℕ) (last : ℕ) → tableNumber n t ≡ 0 → lastRefusal n last ≡ 0 → someLive n t ≡ true → grantNumber n t last ≡ 0
-unfolding grantNumber
+pub grant-zero : (n : ℕ) (t : List ℕ) (last : ℕ) → table_number n t ≡ 0 → last_refusal n last ≡ 0 → some_live n t ≡ true → grant_number n t last ≡ 0
+unfolding grant_number
 grant-zero n t last z fits someone = rw (z, fits, someone)
 
 -- a station is a last number that is let through
-pub station-fits : (n g : ℕ) → g < n → lastRefusal n g ≡ 0
+pub station-fits : (n g : ℕ) → g < n → last_refusal n g ≡ 0
 station-fits n g h = rw (lt-leb n g h)
 
 -- a last number that is let through and is not 255 is a station
-pub last-below : (n last : ℕ) → lastRefusal n last ≡ 0 → eqb last noGrant ≡ false → last < n
+pub last-below : (n last : ℕ) → last_refusal n last ≡ 0 → eqb last no_grant ≡ false → last < n
 last-below n last fits e =
-    let low : (leb n last && not (eqb last noGrant)) ≡ false = refuse-zero 15 _ fits in
+    let low : (leb n last && not (eqb last no_grant)) ≡ false = refuse-zero 15 _ fits in
     leb-false n last (simp and-true at (rw e at low))
 
 -- size and last number are bytes
 pub fits_byte : (n : ℕ) (t : List ℕ) (last : ℕ) → Grantable n t last → (n < 256) × (last < 256)
 fits_byte n t last g =
     let top = (size-bounds n g.ok.size).1 in
-    by_bool (eqb last noGrant) (λ e. (omega arith, omega (arith, eqb-true last noGrant e)))
-    (λ e. (omega arith, omega (arith, last-below n last g.lastFits e)))
+    by_bool (eqb last no_grant) (λ e. (omega arith, omega (arith, eqb-true last no_grant e)))
+    (λ e. (omega arith, omega (arith, last-below n last g.last_fits e)))
 
 -- in a table that refusals 1 to 4 let through, with a live station
-module _ (n : ℕ) (t : List ℕ) (ok : Accepted n t) (someone : someLive n t ≡ true) where
+module _ (n : ℕ) (t : List ℕ) (ok : Accepted n t) (someone : some_live n t ≡ true) where
   -- somebody waits
-  first-waits : firstFrom n t 0 < n
-  unfolding firstFrom liveFinished
-  first-waits = by_bool (ltb q n) (ltb-true q n) (λ e. absurd (closed (every-all (finishedIfLive n t) n (λ i h. done e i h))))
+  first-waits : first_from n t 0 < n
+  unfolding first_from live_finished
+  first-waits = by_bool (ltb q n) (ltb-true q n) (λ e. absurd (closed (every-all (finished_if_live n t) n (λ i h. done e i h))))
     where
       q : ℕ
       q = least (waits n t) (n - 0) 0
 
-      done : ltb q n ≡ false → (i : ℕ) → i < n → finishedIfLive n t i ≡ true
+      done : ltb q n ≡ false → (i : ℕ) → i < n → finished_if_live n t i ≡ true
       done e i h =
           let none = least-before (waits n t) (n - 0) 0 i (omega arith) (omega (arith, ltb-false q n e)) in
           not-false _ (waits-is n t i ∙ none)
 
-      closed : every (finishedIfLive n t) n ≡ true → ⊥
+      closed : every (finished_if_live n t) n ≡ true → ⊥
       closed e = true≢false (rw (someone, e) at ok.unclosed)
 
   -- the granted station is one of the plant's and waits
   pub granted-waits : (last : ℕ) → (granted n t last < n) × (waits n t (granted n t last) ≡ true)
-  unfolding granted firstFrom
+  unfolding granted first_from
   granted-waits last = by_bool (ltb p n) (λ e. rw e (ltb-true p n e, found e)) (λ e. rw e (first-waits, begun))
     where
       b : ℕ
@@ -105,7 +105,7 @@ module _ (n : ℕ) (t : List ℕ) (ok : Accepted n t) (someone : someLive n t �
       begun = least-passes (waits n t) (n - 0) 0 (omega (arith, first-waits))
 
 -- a station that waits takes its turn, where no tally is full
-pub turn-taken : (n : ℕ) (s : State) (i : ℕ) → tallyFull s.rounds s.tests ≡ false → i < n → waits n s.table i ≡ true
-    → entryNumber n s (entry_of kindTurn i) ≡ 0
-unfolding entryNumber
+pub turn-taken : (n : ℕ) (s : State) (i : ℕ) → tally_full s.rounds s.tests ≡ false → i < n → waits n s.table i ≡ true
+    → entry_number n s (entry_of kind_turn i) ≡ 0
+unfolding entry_number
 turn-taken n s i fits h w = let b = waits-parts n s.table i w in rw (fits, lt-leb n i h, b.0, b.1)

@@ -1,16 +1,16 @@
 // The drive (request C-15): grant and turn on the lent table, again and again.
 ghost use Rattle.std.specs.Prelude.{◌≡◌};
-ghost use Rattle.plant.specs.Entry.{stateWith};
-ghost use Rattle.granter.specs.Grant.{grantNumber};
-ghost use Rattle.granter.specs.Drive.{standAt, ended, driveOutcomeWith, outcomeAfter, drive, Stopped, StoppedIfTaken};
+ghost use Rattle.plant.specs.Entry.{state_with};
+ghost use Rattle.granter.specs.Grant.{grant_number};
+ghost use Rattle.granter.specs.Drive.{stand_at, ended, drive_outcome_with, outcome_after, drive, Stopped, StoppedIfTaken};
 
 use crate::{Driven, grant};
 use plant::{Tally, single};
 
 // Grants and turns of kind 1 until a round closes, nobody is left live, or a tally is full. A drive refused at its start changes no byte.
 pub fn drive(n: usize, table: &mut [u8], tally: Tally, last: usize) -> Driven
-    ensures table_after { driveOutcomeWith result table.new ≡ drive n (stateWith table.old tally) last }
-    ensures stopped_if_taken { StoppedIfTaken n (stateWith table.old tally) last result.grants }
+    ensures table_after { drive_outcome_with result table.new ≡ drive n (state_with table.old tally) last }
+    ensures stopped_if_taken { StoppedIfTaken n (state_with table.old tally) last result.grants }
 {
     let number = grant::grant_number(n, table, last);
     if number != 0 {
@@ -26,9 +26,9 @@ pub fn drive(n: usize, table: &mut [u8], tally: Tally, last: usize) -> Driven
 
 // A drive that is not refused at its start: grant and turn until it stops.
 fn go_on(n: u8, table: &mut [u8], tally: Tally, last: u8) -> Driven
-    requires { grantNumber n table.old last ≡ 0 }
-    ensures table_after { driveOutcomeWith result table.new ≡ outcomeAfter n (standAt (stateWith table.old tally) last) result.grants }
-    ensures stopped { Stopped n (standAt (stateWith table.old tally) last) result.grants }
+    requires { grant_number n table.old last ≡ 0 }
+    ensures table_after { drive_outcome_with result table.new ≡ outcome_after n (stand_at (state_with table.old tally) last) result.grants }
+    ensures stopped { Stopped n (stand_at (state_with table.old tally) last) result.grants }
 {
     let mut held = tally;
     let mut before = last;
@@ -59,7 +59,7 @@ fn answer(number: u8, tally: Tally, last: u8, grants: usize) -> Driven
 
 // Whether a round has closed since the tally had these rounds, or nobody is left live.
 fn has_ended(n: u8, table: &[u8], rounds: u32, held: Tally) -> bool
-    ensures { result ≡ ended n rounds (stateWith table.now held) }
+    ensures { result ≡ ended n rounds (state_with table.now held) }
 {
     if held.rounds != rounds {
         return true;

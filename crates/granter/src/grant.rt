@@ -1,7 +1,7 @@
 // The grant (request C-15): the next station, going round, that is live and unfinished.
 ghost use Rattle.std.specs.Prelude.{◌≡◌};
-ghost use Rattle.table.specs.Rules.{someLive};
-ghost use Rattle.granter.specs.Grant.{firstFrom, following, granted, lastRefusal, liveRefusal, grantNumber, grantStation};
+ghost use Rattle.table.specs.Rules.{some_live};
+ghost use Rattle.granter.specs.Grant.{first_from, following, granted, last_refusal, live_refusal, grant_number, grant_station};
 
 use crate::Granted;
 use lists::refusal;
@@ -12,8 +12,8 @@ const NO_GRANT: usize = 255;
 
 // The station that is granted after the last one.
 pub fn grant(n: usize, table: &[u8], last: usize) -> Granted
-    ensures number_value { result.number ≡ grantNumber n table.now last }
-    ensures station_value { result.station.0 ≡ grantStation n table.now last }
+    ensures number_value { result.number ≡ grant_number n table.now last }
+    ensures station_value { result.station.0 ≡ grant_station n table.now last }
 {
     let number = grant_number(n, table, last);
     if number != 0 {
@@ -30,7 +30,7 @@ pub fn grant(n: usize, table: &[u8], last: usize) -> Granted
 
 // Refusals 1 to 4, 16 and 17, or 0.
 pub(crate) fn grant_number(n: usize, table: &[u8], last: usize) -> u8
-    ensures { result ≡ grantNumber n table.now last }
+    ensures { result ≡ grant_number n table.now last }
 {
     let number = rules::check_table(n, table);
     if number != 0 {
@@ -43,14 +43,14 @@ pub(crate) fn grant_number(n: usize, table: &[u8], last: usize) -> u8
 
 // Refusal 16, or 0.
 fn last_refusal(n: usize, last: usize) -> u8
-    ensures { result ≡ lastRefusal n last }
+    ensures { result ≡ last_refusal n last }
 {
     refusal::refuse(16, (n <= last) & (last != NO_GRANT))
 }
 
 // Refusal 17, or 0.
 fn live_refusal(n: u8, table: &[u8]) -> u8
-    ensures { result ≡ liveRefusal n table.now }
+    ensures { result ≡ live_refusal n table.now }
 {
     refusal::refuse(17, !some_live(n, table))
 }
@@ -78,7 +78,7 @@ fn following(last: u8) -> Station
 
 // The first station from `from` on, and below n, that is live and unfinished; n, or `from` if that is greater, where there is none.
 fn first_from(n: u8, table: &[u8], from: Station) -> Station
-    ensures { result.0 ≡ firstFrom n table.now from.0 }
+    ensures { result.0 ≡ first_from n table.now from.0 }
 {
     let mut i = from.0;
     while i < n {
@@ -92,7 +92,7 @@ fn first_from(n: u8, table: &[u8], from: Station) -> Station
 
 // Whether a station is live.
 pub(crate) fn some_live(n: u8, table: &[u8]) -> bool
-    ensures { result ≡ someLive n table.now }
+    ensures { result ≡ some_live n table.now }
 {
     let mut i: u8 = 0;
     while i < n {

@@ -4,8 +4,8 @@ pub mod BoolLaws
 pub mod SearchLaws
 pub mod SumLaws
 pub mod Writing
-pub mod KeepLaws
+pub mod FilterLaws
 pub mod Loops
 pub mod ByteLaws
-pub mod IterateLaws
+pub mod StepsLaws
 pub mod RefusalLaws

@@ -88,30 +88,30 @@ every-not q n k h f = pick (every q n) refl
     pick true e = cc (every-at q n k e h)
     pick false e = e
 
-pub listOf-length : (f : ℕ → ℕ) (n : ℕ) → length (list_of f n) ≡ n
+pub list_of-length : (f : ℕ → ℕ) (n : ℕ) → length (list_of f n) ≡ n
 unfolding list_of
-listOf-length f zero = refl
-listOf-length f (suc n) = omega (arith, length-append (list_of f n) (f n ∷ []), listOf-length f n)
+list_of-length f zero = refl
+list_of-length f (suc n) = omega (arith, length-append (list_of f n) (f n ∷ []), list_of-length f n)
 
-pub listOf-at : (f : ℕ → ℕ) (n k : ℕ) → k < n → get_or (list_of f n) k 0 ≡ f k
+pub list_of-at : (f : ℕ → ℕ) (n k : ℕ) → k < n → get_or (list_of f n) k 0 ≡ f k
 unfolding list_of
-listOf-at f zero k h = absurd (omega arith)
-listOf-at f (suc n) k h = pick (listOf-at f n k) (eq-or-lt_of_le (le_of_suc-le-suc h))
+list_of-at f zero k h = absurd (omega arith)
+list_of-at f (suc n) k h = pick (list_of-at f n k) (eq-or-lt_of_le (le_of_suc-le-suc h))
   where
     pick : (k < n → get_or (list_of f n) k 0 ≡ f k) → (k ≡ n) ⊎ (k < n) → get_or (list_of f n ++ (f n ∷ [])) k 0 ≡ f k
-    pick rest (inl p) = rw p (get_or_at (list_of f n) (f n) [] 0 n (listOf-length f n))
-    pick rest (inr l) = get_or-append (list_of f n) (f n ∷ []) 0 k (omega (arith, listOf-length f n)) ∙ rest l
+    pick rest (inl p) = rw p (get_or_at (list_of f n) (f n) [] 0 n (list_of-length f n))
+    pick rest (inr l) = get_or-append (list_of f n) (f n ∷ []) 0 k (omega (arith, list_of-length f n)) ∙ rest l
 
-pub listOf-same : (f g : ℕ → ℕ) (n : ℕ) → ((k : ℕ) → k < n → f k ≡ g k) → list_of f n ≡ list_of g n
+pub list_of-same : (f g : ℕ → ℕ) (n : ℕ) → ((k : ℕ) → k < n → f k ≡ g k) → list_of f n ≡ list_of g n
 unfolding list_of
-listOf-same f g zero same = refl
-listOf-same f g (suc n) same = cc (listOf-same f g n (λ k h. same k (omega arith)), same n (omega arith))
+list_of-same f g zero same = refl
+list_of-same f g (suc n) same = cc (list_of-same f g n (λ k h. same k (omega arith)), same n (omega arith))
 
 -- the first a places, then the next b
-pub listOf-append : (f : ℕ → ℕ) (a b : ℕ) → list_of f (a + b) ≡ list_of f a ++ list_of (λ k. f (a + k)) b
+pub list_of-append : (f : ℕ → ℕ) (a b : ℕ) → list_of f (a + b) ≡ list_of f a ++ list_of (λ k. f (a + k)) b
 unfolding list_of
-listOf-append f a zero = rw (add-zero, append-nil)
-listOf-append f a (suc b) = rw (add-suc, listOf-append f a b, append_assoc)
+list_of-append f a zero = rw (add-zero, append-nil)
+list_of-append f a (suc b) = rw (add-suc, list_of-append f a b, append_assoc)
 
 -- the greatest is none less, and no more than what none exceeds
 pub greatest-le : (f : ℕ → ℕ) (n k : ℕ) → k < n → f k ≤ greatest f n
@@ -126,7 +126,7 @@ greatest-most f zero c l = omega arith
 greatest-most f (suc n) c l = omega (arith, greatest-most f n c (λ k h. l k (omega arith)), l n (omega arith))
 
 -- within a list the default is not read
-pub getD-within : (l : List ℕ) (k a b : ℕ) → k < length l → get_or l k a ≡ get_or l k b
-getD-within [] k a b h = absurd (not-suc-le-zero h)
-getD-within (x ∷ l) zero a b h = refl
-getD-within (x ∷ l) (suc k) a b h = getD-within l k a b (le_of_suc-le-suc h)
+pub get_d-within : (l : List ℕ) (k a b : ℕ) → k < length l → get_or l k a ≡ get_or l k b
+get_d-within [] k a b h = absurd (not-suc-le-zero h)
+get_d-within (x ∷ l) zero a b h = refl
+get_d-within (x ∷ l) (suc k) a b h = get_d-within l k a b (le_of_suc-le-suc h)

@@ -8,70 +8,70 @@ use native.Mathlib.Nat.{add-zero, zero-add, add_comm, add-suc, mul-zero, zero-mu
 use native.Mathlib.Decide.{dec_lt}
 use native.Mathlib.Omega.{arith}
 use lib.Bits.{bit_xor, xor_block}
-use Rattle.lists.specs.Sums.{sum, bit}
+use Rattle.lists.specs.Sums.{sum_below, bit}
 use Rattle.lists.proofs.BoolLaws.{bit-split}
 
 -- equal terms have equal sums
-pub sum_by : {f g : ℕ → ℕ} (n : ℕ) → ((i : ℕ) → i < n → f i ≡ g i) → sum f n ≡ sum g n
-unfolding sum
+pub sum_by : {f g : ℕ → ℕ} (n : ℕ) → ((i : ℕ) → i < n → f i ≡ g i) → sum_below f n ≡ sum_below g n
+unfolding sum_below
 sum_by zero e = refl
 sum_by (suc n) e = rw (sum_by n (λ i h. e i (omega arith)), e n (omega arith))
 
 -- the sum of the sums of two terms
-pub sum-add : (f g : ℕ → ℕ) (n : ℕ) → sum (λ i. f i + g i) n ≡ sum f n + sum g n
-unfolding sum
+pub sum-add : (f g : ℕ → ℕ) (n : ℕ) → sum_below (λ i. f i + g i) n ≡ sum_below f n + sum_below g n
+unfolding sum_below
 sum-add f g zero = refl
 sum-add f g (suc n) = let e = sum-add f g n in omega arith
 
 -- a constant term
-pub sum-const : (c n : ℕ) → sum (λ i. c) n ≡ n * c
-unfolding sum
+pub sum-const : (c n : ℕ) → sum_below (λ i. c) n ≡ n * c
+unfolding sum_below
 sum-const c zero = sym (zero-mul c)
 sum-const c (suc n) = rw (sum-const c n, suc-mul)
 
 -- terms that are all 0
-pub sum-zero : {f : ℕ → ℕ} (n : ℕ) → ((i : ℕ) → i < n → f i ≡ 0) → sum f n ≡ 0
+pub sum-zero : {f : ℕ → ℕ} (n : ℕ) → ((i : ℕ) → i < n → f i ≡ 0) → sum_below f n ≡ 0
 sum-zero n e = sum_by n e ∙ (sum-const 0 n ∙ mul-zero n)
 
 -- all terms but one are 0
-pub sum-single : (f : ℕ → ℕ) (n p : ℕ) → p < n → ((i : ℕ) → i < n → i ≢ p → f i ≡ 0) → sum f n ≡ f p
-unfolding sum
+pub sum-single : (f : ℕ → ℕ) (n p : ℕ) → p < n → ((i : ℕ) → i < n → i ≢ p → f i ≡ 0) → sum_below f n ≡ f p
+unfolding sum_below
 sum-single f zero p l e = omega arith
 sum-single f (suc n) p l e =
     by_cases (dec_lt p n) (λ h. omega (arith, sum-single f n p h (λ i g. e i (omega arith)), e n (omega arith) (omega arith)))
     (λ h. let same : p ≡ n = omega arith in rw same (omega (arith, sum-zero n (λ i g. e i (omega arith) (omega arith)))))
 
 -- two sums, one inside the other, change places
-pub sum-swap : (f : ℕ → ℕ → ℕ) (n m : ℕ) → sum (λ i. sum (f i) m) n ≡ sum (λ k. sum (λ i. f i k) n) m
-unfolding sum
+pub sum-swap : (f : ℕ → ℕ → ℕ) (n m : ℕ) → sum_below (λ i. sum_below (f i) m) n ≡ sum_below (λ k. sum_below (λ i. f i k) n) m
+unfolding sum_below
 sum-swap f zero m = sym (sum-zero m (λ i h. refl))
-sum-swap f (suc n) m = rw (sum-swap f n m) (sym (sum-add (λ k. sum (λ i. f i k) n) (f n) m))
+sum-swap f (suc n) m = rw (sum-swap f n m) (sym (sum-add (λ k. sum_below (λ i. f i k) n) (f n) m))
 
 -- a sum in two parts
-pub sum-split : (f : ℕ → ℕ) (a b : ℕ) → sum f (a + b) ≡ sum f a + sum (λ i. f (a + i)) b
-unfolding sum
+pub sum-split : (f : ℕ → ℕ) (a b : ℕ) → sum_below f (a + b) ≡ sum_below f a + sum_below (λ i. f (a + i)) b
+unfolding sum_below
 sum-split f a zero = rw (add-zero a) (omega arith)
 sum-split f a (suc b) = rw add-suc (let e = sum-split f a b in omega arith)
 
 -- a sum whose terms from a on are 0
-pub sum-stays : (f : ℕ → ℕ) (a b : ℕ) → a ≤ b → ((y : ℕ) → a ≤ y → y < b → f y ≡ 0) → sum f b ≡ sum f a
+pub sum-stays : (f : ℕ → ℕ) (a b : ℕ) → a ≤ b → ((y : ℕ) → a ≤ y → y < b → f y ≡ 0) → sum_below f b ≡ sum_below f a
 sum-stays f a b h z =
     let e : a + (b - a) ≡ b = omega arith in
     omega (arith, rw e at (sum-split f a (b - a)), sum-zero {f = λ k. f (a + k)} (b - a) (λ k l. z (a + k) (omega arith) (omega arith)))
 
 -- a sum over a power of two, by halves
-sum-halves : (f : ℕ → ℕ) (d : ℕ) → sum f (2 ^ suc d) ≡ sum f (2 ^ d) + sum (λ i. f (2 ^ d + i)) (2 ^ d)
+sum-halves : (f : ℕ → ℕ) (d : ℕ) → sum_below f (2 ^ suc d) ≡ sum_below f (2 ^ d) + sum_below (λ i. f (2 ^ d + i)) (2 ^ d)
 sum-halves f d = let e : 2 ^ suc d ≡ 2 ^ d + 2 ^ d = omega arith in rw e (sum-split f (2 ^ d) (2 ^ d))
 
 -- a sum over a power of two, by the level of the index
-pub sum-levels : (g : ℕ → ℕ) (d : ℕ) → sum g (2 ^ d) ≡ g 0 + sum (λ h. sum (λ k. g (2 ^ h + k)) (2 ^ h)) d
-unfolding sum
+pub sum-levels : (g : ℕ → ℕ) (d : ℕ) → sum_below g (2 ^ d) ≡ g 0 + sum_below (λ h. sum_below (λ k. g (2 ^ h + k)) (2 ^ h)) d
+unfolding sum_below
 sum-levels g zero = omega arith
 sum-levels g (suc d) = let e = sum-levels g d in sum-halves g d ∙ omega arith
 
 -- a sum over all numbers below a power of two does not change when its index is exclusive-ored with one of them
-pub sum-xor : (f : ℕ → ℕ) (d m : ℕ) → m < 2 ^ d → sum (λ i. f (bit_xor i m)) (2 ^ d) ≡ sum f (2 ^ d)
-unfolding sum
+pub sum-xor : (f : ℕ → ℕ) (d m : ℕ) → m < 2 ^ d → sum_below (λ i. f (bit_xor i m)) (2 ^ d) ≡ sum_below f (2 ^ d)
+unfolding sum_below
 sum-xor f zero m h = let e : m ≡ 0 = omega arith in rw e
 sum-xor f (suc d) m h =
     by_cases (dec_lt m (2 ^ d)) (λ l. at (λ g k. sum-xor g d k) 0 m l (omega arith) refl)
@@ -79,12 +79,12 @@ sum-xor f (suc d) m h =
   where
     -- the half of the sum with top digit a, where m has top digit c
     half : ℕ → ℕ → ℕ
-    half a c = sum (λ i. f (bit_xor a c * 2 ^ d + i)) (2 ^ d)
+    half a c = sum_below (λ i. f (bit_xor a c * 2 ^ d + i)) (2 ^ d)
 
-    at : ((g : ℕ → ℕ) (k : ℕ) → k < 2 ^ d → sum (λ i. g (bit_xor i k)) (2 ^ d) ≡ sum g (2 ^ d)) → (c k : ℕ) → k < 2 ^ d → c * 2 ^ d + k ≡ m
-        → half 0 c + half 1 c ≡ half 0 0 + half 1 0 → sum (λ i. f (bit_xor i m)) (2 ^ suc d) ≡ sum f (2 ^ suc d)
+    at : ((g : ℕ → ℕ) (k : ℕ) → k < 2 ^ d → sum_below (λ i. g (bit_xor i k)) (2 ^ d) ≡ sum_below g (2 ^ d)) → (c k : ℕ) → k < 2 ^ d → c * 2 ^ d + k ≡ m
+        → half 0 c + half 1 c ≡ half 0 0 + half 1 0 → sum_below (λ i. f (bit_xor i m)) (2 ^ suc d) ≡ sum_below f (2 ^ suc d)
     at rest c k l e swap =
-        let halves : (a : ℕ) → sum (λ i. f (bit_xor (a * 2 ^ d + i) (c * 2 ^ d + k))) (2 ^ d) ≡ half a c =
+        let halves : (a : ℕ) → sum_below (λ i. f (bit_xor (a * 2 ^ d + i) (c * 2 ^ d + k))) (2 ^ d) ≡ half a c =
         λ a. sum_by (2 ^ d) (λ i g. ap f (xor_block d a c i k g l)) ∙ rest (λ i. f (bit_xor a c * 2 ^ d + i)) k l in
         let swapped = simp (zero-mul, zero-add, one-mul) at swap in
         let low = simp (zero-mul, zero-add, e) at (halves 0) in
@@ -92,6 +92,6 @@ sum-xor f (suc d) m h =
         omega (arith, low, high, swapped, sum-halves f d, sum-halves (λ i. f (bit_xor i m)) d)
 
 -- tests that pass and tests that fail are all
-pub sum-not : (q : ℕ → Bool) (n : ℕ) → sum (λ k. bit (q k)) n + sum (λ k. bit (not (q k))) n ≡ n
+pub sum-not : (q : ℕ → Bool) (n : ℕ) → sum_below (λ k. bit (q k)) n + sum_below (λ k. bit (not (q k))) n ≡ n
 sum-not q n =
     sym (sum-add (λ k. bit (q k)) (λ k. bit (not (q k))) n) ∙ (sum_by n (λ i h. bit-split true (q i)) ∙ (sum-const 1 n ∙ mul-one n))

@@ -5,21 +5,21 @@ use Rattle.std.proofs.lemmas.List.Edits.{sets}
 use Rattle.lists.specs.Search.{every, list_of}
 
 -- the greater of the two bytes at place k; past a list's end its byte is 0
-unfoldable pub joinedByte : List ℕ → List ℕ → ℕ → ℕ
-joinedByte a b k = max (get_or a k 0) (get_or b k 0)
+unfoldable pub joined_byte : List ℕ → List ℕ → ℕ → ℕ
+joined_byte a b k = max (get_or a k 0) (get_or b k 0)
 
 -- list a with the greater byte at each of its places
-unfoldable pub joinedBytes : List ℕ → List ℕ → List ℕ
-joinedBytes a b = list_of (joinedByte a b) (length a)
+unfoldable pub joined_bytes : List ℕ → List ℕ → List ℕ
+joined_bytes a b = list_of (joined_byte a b) (length a)
 
 -- the same at the front of a buffer, for two lists of one length and a buffer with room for them; otherwise the buffer as it was
-unfoldable pub withJoined : List ℕ → List ℕ → List ℕ → List ℕ
-withJoined a b out = cond (eqb (length a) (length b) && leb (length a) (length out)) (sets out 0 (joinedBytes a b)) out
+unfoldable pub with_joined : List ℕ → List ℕ → List ℕ → List ℕ
+with_joined a b out = cond (eqb (length a) (length b) && leb (length a) (length out)) (sets out 0 (joined_bytes a b)) out
 
 -- whether two lists hold the same byte at place k
-unfoldable pub sameByte : List ℕ → List ℕ → ℕ → Bool
-sameByte a b k = eqb (get_or a k 0) (get_or b k 0)
+unfoldable pub same_byte : List ℕ → List ℕ → ℕ → Bool
+same_byte a b k = eqb (get_or a k 0) (get_or b k 0)
 
 -- whether two lists hold the same bytes
-unfoldable pub sameBytes : List ℕ → List ℕ → Bool
-sameBytes a b = eqb (length a) (length b) && every (sameByte a b) (length a)
+unfoldable pub same_bytes : List ℕ → List ℕ → Bool
+same_bytes a b = eqb (length a) (length b) && every (same_byte a b) (length a)

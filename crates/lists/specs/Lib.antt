@@ -1,6 +1,6 @@
 -- Definitions that know nothing of the watch, by which the other crates state theirs.
 pub mod Search
 pub mod Sums
-pub mod Iterate
+pub mod Steps
 pub mod Bytes
 pub mod Refusal

@@ -1,5 +1,6 @@
 -- Searches and lists over numbers, by which the other definitions are stated.
 -- Assumes nothing.
+use Rattle.std.specs.List.{filter}
 use Rattle.std.specs.Prelude.{ℕ, zero, suc, max, Bool, true, cond, ◌&&◌, List, [], ◌∷◌, ◌++◌}
 
 -- the least of k, k + 1, .., k + n − 1 that passes q; k + n where none does
@@ -17,14 +18,9 @@ unfoldable pub list_of : (ℕ → ℕ) → ℕ → List ℕ
 list_of f zero = []
 list_of f (suc n) = list_of f n ++ (f n ∷ [])
 
--- the elements of a list that pass q, in the same order
-unfoldable pub keep : (ℕ → Bool) → List ℕ → List ℕ
-keep q [] = []
-keep q (x ∷ xs) = cond (q x) (x ∷ keep q xs) (keep q xs)
-
 -- the numbers below n that pass q, ascending
 abbrev pub select : (ℕ → Bool) → ℕ → List ℕ
-select q n = keep q (list_of (λ k. k) n)
+select q n = filter q (list_of (λ k. k) n)
 
 -- the greatest of f 0, f 1, .., f (n − 1); 0 where n is 0
 unfoldable pub greatest : (ℕ → ℕ) → ℕ → ℕ

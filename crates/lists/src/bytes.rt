@@ -1,6 +1,6 @@
 // Bytes: the greater of two, a byte put into a list, and two lists place by place.
 ghost use Rattle.std.specs.Prelude.{◌≡◌, min, max, set};
-ghost use Rattle.lists.specs.Bytes.{joinedBytes, withJoined, sameBytes};
+ghost use Rattle.lists.specs.Bytes.{joined_bytes, with_joined, same_bytes};
 
 // The greater of two bytes.
 pub fn greater(a: u8, b: u8) -> u8
@@ -28,7 +28,7 @@ pub fn put(list: &mut [u8], k: u8, byte: u8)
 
 // The greater byte at each place of the first list.
 pub fn join_bytes(list: &mut [u8], other: &[u8])
-    ensures { list.new ≡ joinedBytes list.old other.now }
+    ensures { list.new ≡ joined_bytes list.old other.now }
 {
     let end = lesser(list.len(), other.len());
     for k in 0..end {
@@ -38,7 +38,7 @@ pub fn join_bytes(list: &mut [u8], other: &[u8])
 
 // Writes the greater bytes of two lists to the front of a buffer. Lists of two lengths, or a buffer without room: nothing.
 pub fn write_joined(list: &[u8], other: &[u8], out: &mut [u8])
-    ensures { out.new ≡ withJoined list.now other.now out.old }
+    ensures { out.new ≡ with_joined list.now other.now out.old }
 {
     if list.len() != other.len() {
         return;
@@ -53,7 +53,7 @@ pub fn write_joined(list: &[u8], other: &[u8], out: &mut [u8])
 
 // Whether two lists hold the same bytes.
 pub fn same_bytes(list: &[u8], other: &[u8]) -> bool
-    ensures { result ≡ sameBytes list.now other.now }
+    ensures { result ≡ same_bytes list.now other.now }
 {
     if list.len() != other.len() {
         return false;

@@ -9,33 +9,33 @@ use borrow.Author.Tests.{leb-true, leb-false, eqb-true, eqb-false, eq-eqb, ne_eq
 use lib.Dec.{eqb}
 use lib.ListN.{length}
 use Rattle.lists.specs.Search.{every}
-use Rattle.table.specs.Table.{tableLength, finished, live}
-use Rattle.table.specs.Rules.{lineRules, notLive, someLive, finishedIfLive, liveFinished, tableNumber, roundOver}
+use Rattle.table.specs.Table.{table_length, finished, live}
+use Rattle.table.specs.Rules.{line_rules, not_live, some_live, finished_if_live, live_finished, table_number, round_over}
 use Rattle.lists.proofs.BoolLaws.{neither}
 use Rattle.lists.proofs.SearchLaws.{both, every-at, every-all}
 use Rattle.table.proofs.Accepting.{Accepted, accepted}
 use Rattle.lists.proofs.RefusalLaws.{else-zero, refuse-zero}
 use Rattle.table.proofs.CellLaws.{Line, line-holds, accepted-line}
 use Rattle.turn.specs.Turn.{turn, crash}
-use Rattle.plant.specs.Round.{resetLines, afterRound}
-use Rattle.plant.specs.Entry.{Entry, State, tallyTop, isCrash, entryNumber, acted, after, sheetLine}
-use Rattle.plant.specs.Run.{Outcome, entries, writeLine, goOn, startNumber, run}
+use Rattle.plant.specs.Round.{reset_lines, after_round}
+use Rattle.plant.specs.Entry.{Entry, State, tally_top, is_crash, entry_number, acted, after, sheet_line}
+use Rattle.plant.specs.Run.{Outcome, entries, write_line, go_on, start_number, run}
 use Rattle.plant.proofs.RunLaws.{accepted-number}
 use Rattle.turn.proofs.StepLines.{Lines, leave-lines, turn_lines}
 use Rattle.plant.proofs.RoundLaws.{reset-lines, reset-cells}
 
 -- what an entry has that refusals 7 to 11 let through
 pub record Takes (n : ℕ) (s : State) (e : Entry) : Type 0 where
-  pub roundsFit : s.rounds ≡ tallyTop → ⊥
-  pub testsFit : s.tests ≡ tallyTop → ⊥
-  pub kindLow : 1 ≤ e.kind
-  pub kindHigh : e.kind ≤ 3
+  pub rounds_fit : s.rounds ≡ tally_top → ⊥
+  pub tests_fit : s.tests ≡ tally_top → ⊥
+  pub kind_low : 1 ≤ e.kind
+  pub kind_high : e.kind ≤ 3
   pub below : e.station < n
-  pub isLive : live n s.table e.station ≡ true
+  pub is_live : live n s.table e.station ≡ true
   pub unfinished : (e.kind ≡ 3 → ⊥) → finished n s.table e.station ≡ 1 → ⊥
 
-pub entry-facts : (n : ℕ) (s : State) (e : Entry) → entryNumber n s e ≡ 0 → Takes n s e
-unfolding entryNumber
+pub entry-facts : (n : ℕ) (s : State) (e : Entry) → entry_number n s e ≡ 0 → Takes n s e
+unfolding entry_number
 entry-facts n s e z =
     let a = else-zero _ _ z in
     let b = else-zero _ _ a.1 in
@@ -43,24 +43,24 @@ entry-facts n s e z =
     let d = else-zero _ _ c.1 in
     let tally = neither _ _ (refuse-zero 6 _ a.0) in
     let kind = both _ _ (not-false _ (refuse-zero 7 _ b.0)) in
-    let last : (not (isCrash e) && eqb (finished n s.table e.station) 1) ≡ false = refuse-zero 10 _ d.1 in
+    let last : (not (is_crash e) && eqb (finished n s.table e.station) 1) ≡ false = refuse-zero 10 _ d.1 in
     record {
-      roundsFit = eqb-false _ _ tally.0;
-      testsFit = eqb-false _ _ tally.1;
-      kindLow = leb-true _ _ kind.0;
-      kindHigh = leb-true _ _ kind.1;
+      rounds_fit = eqb-false _ _ tally.0;
+      tests_fit = eqb-false _ _ tally.1;
+      kind_low = leb-true _ _ kind.0;
+      kind_high = leb-true _ _ kind.1;
       below = leb-false _ _ (refuse-zero 8 _ c.0);
-      isLive = not-false _ (refuse-zero 9 _ d.0);
+      is_live = not-false _ (refuse-zero 9 _ d.0);
       unfinished = λ k f.
           let z : true ≡ false = rw (ne_eqb e.kind 3 k, eq-eqb (finished n s.table e.station) 1 f) at last in
           let z : ◌≡◌ {A = ℕ} 0 1 = cc in
           omega arith;
     }
 
-pub acted-lines : (n : ℕ) (s : State) (e : Entry) → Accepted n s.table → entryNumber n s e ≡ 0
-    → (length (acted n s.table e) ≡ tableLength n) × ((i : ℕ) → i < n → Line n (acted n s.table e) i)
+pub acted-lines : (n : ℕ) (s : State) (e : Entry) → Accepted n s.table → entry_number n s e ≡ 0
+    → (length (acted n s.table e) ≡ table_length n) × ((i : ℕ) → i < n → Line n (acted n s.table e) i)
 unfolding acted crash
-acted-lines n s e a z = pick (isCrash e) refl
+acted-lines n s e a z = pick (is_crash e) refl
   where
     lines : Lines n s.table
     lines = (a.long, accepted-line n s.table a)
@@ -68,26 +68,26 @@ acted-lines n s e a z = pick (isCrash e) refl
     f : Takes n s e
     f = entry-facts n s e z
 
-    pick : (b : Bool) → isCrash e ≡ b → Lines n (cond b (crash n s.table e.station) (turn n s.table e.kind e.station))
-    pick true c = leave-lines n s.table e.station lines f.below f.isLive 1 (omega arith) (omega arith) (omega arith)
+    pick : (b : Bool) → is_crash e ≡ b → Lines n (cond b (crash n s.table e.station) (turn n s.table e.kind e.station))
+    pick true c = leave-lines n s.table e.station lines f.below f.is_live 1 (omega arith) (omega arith) (omega arith)
     pick false c = turn_lines n s.table e.kind e.station a.size lines f.below (f.unfinished (eqb-false e.kind 3 c))
 
 -- where no line is finished, no live one is
-pub unfinished-open : (n : ℕ) (t : List ℕ) → ((i : ℕ) → i < n → finished n t i ≡ 0) → (someLive n t && liveFinished n t) ≡ false
-unfolding someLive liveFinished
-unfinished-open n t zeros = pick (every (finishedIfLive n t) n) refl
+pub unfinished-open : (n : ℕ) (t : List ℕ) → ((i : ℕ) → i < n → finished n t i ≡ 0) → (some_live n t && live_finished n t) ≡ false
+unfolding some_live live_finished
+unfinished-open n t zeros = pick (every (finished_if_live n t) n) refl
   where
-    pick : (b : Bool) → every (finishedIfLive n t) n ≡ b → (not (every (notLive n t) n) && b) ≡ false
+    pick : (b : Bool) → every (finished_if_live n t) n ≡ b → (not (every (not_live n t) n) && b) ≡ false
     pick true e =
-        let none : every (notLive n t) n ≡ true = every-all (notLive n t) n (λ i h.
-        let p : (notLive n t i || eqb (finished n t i) 1) ≡ true = every-at (finishedIfLive n t) n i e h in
-        sym (or-false (notLive n t i)) ∙ (rw (zeros i h) at p)) in
+        let none : every (not_live n t) n ≡ true = every-all (not_live n t) n (λ i h.
+        let p : (not_live n t i || eqb (finished n t i) 1) ≡ true = every-at (finished_if_live n t) n i e h in
+        sym (or-false (not_live n t i)) ∙ (rw (zeros i h) at p)) in
         rw none
-    pick false e = and-false (not (every (notLive n t) n))
+    pick false e = and-false (not (every (not_live n t) n))
 
-pub accepted-kept : (n : ℕ) (s : State) (e : Entry) → Accepted n s.table → entryNumber n s e ≡ 0 → Accepted n (after n s e).table
-unfolding after afterRound
-accepted-kept n s e a z = pick (roundOver n t) refl
+pub accepted-kept : (n : ℕ) (s : State) (e : Entry) → Accepted n s.table → entry_number n s e ≡ 0 → Accepted n (after n s e).table
+unfolding after after_round
+accepted-kept n s e a z = pick (round_over n t) refl
   where
     t : List ℕ
     t = acted n s.table e
@@ -95,46 +95,46 @@ accepted-kept n s e a z = pick (roundOver n t) refl
     lines : Lines n t
     lines = acted-lines n s e a z
 
-    make : (u : List ℕ) → Lines n u → (someLive n u && liveFinished n u) ≡ false → Accepted n u
-    make u l open-still = record { size = a.size; long = l.0; lines = every-all (lineRules n u) n (λ i h. line-holds n u i (l.1 i h)); unclosed = open-still }
+    make : (u : List ℕ) → Lines n u → (some_live n u && live_finished n u) ≡ false → Accepted n u
+    make u l open-still = record { size = a.size; long = l.0; lines = every-all (line_rules n u) n (λ i h. line-holds n u i (l.1 i h)); unclosed = open-still }
 
-    pick : (b : Bool) → roundOver n t ≡ b → Accepted n (cond b (resetLines n t) t)
+    pick : (b : Bool) → round_over n t ≡ b → Accepted n (cond b (reset_lines n t) t)
     pick true c =
-        make (resetLines n t) (reset-lines n t lines) (unfinished-open n (resetLines n t) (λ i h. (reset-cells n t lines.0 i h).unfinished))
+        make (reset_lines n t) (reset-lines n t lines) (unfinished-open n (reset_lines n t) (λ i h. (reset-cells n t lines.0 i h).unfinished))
     pick false c = make t lines c
 
 -- "An empty schedule is accepted and changes nothing": on a table that refusals 1 to 4 let through. An end in itself
-pub empty-run : (n : ℕ) (s : State) → tableNumber n s.table ≡ 0 → run n s [] [] ≡ record { number = 0; taken = 0; state = s; sheet = [] }
-unfolding run startNumber goOn entries
+pub empty-run : (n : ℕ) (s : State) → table_number n s.table ≡ 0 → run n s [] [] ≡ record { number = 0; taken = 0; state = s; sheet = [] }
+unfolding run start_number go_on entries
 empty-run n s z = rw z
 
 -- the rest of a run
-accepted-on : (n k : ℕ) (s : State) (sheet : List ℕ) (es : List Entry) → Accepted n s.table → Accepted n (goOn n k s sheet es).state.table
-unfolding goOn
+accepted-on : (n k : ℕ) (s : State) (sheet : List ℕ) (es : List Entry) → Accepted n s.table → Accepted n (go_on n k s sheet es).state.table
+unfolding go_on
 accepted-on n k s sheet [] a = a
 accepted-on n k s sheet (e ∷ es) a =
-    pick (eqb (entryNumber n s e) 0) refl (λ z. accepted-on n (suc k) (after n s e) (writeLine sheet k (sheetLine n s e)) es (accepted-kept n s e a z))
+    pick (eqb (entry_number n s e) 0) refl (λ z. accepted-on n (suc k) (after n s e) (write_line sheet k (sheet_line n s e)) es (accepted-kept n s e a z))
   where
     rest : Outcome
-    rest = goOn n (suc k) (after n s e) (writeLine sheet k (sheetLine n s e)) es
+    rest = go_on n (suc k) (after n s e) (write_line sheet k (sheet_line n s e)) es
 
-    pick : (b : Bool) → eqb (entryNumber n s e) 0 ≡ b → (entryNumber n s e ≡ 0 → Accepted n rest.state.table)
-        → Accepted n (cond b rest (record { number = entryNumber n s e; taken = k; state = s; sheet = sheet })).state.table
-    pick true c next = next (eqb-true (entryNumber n s e) 0 c)
+    pick : (b : Bool) → eqb (entry_number n s e) 0 ≡ b → (entry_number n s e ≡ 0 → Accepted n rest.state.table)
+        → Accepted n (cond b rest (record { number = entry_number n s e; taken = k; state = s; sheet = sheet })).state.table
+    pick true c next = next (eqb-true (entry_number n s e) 0 c)
     pick false c next = a
 
 accepted-run : (n : ℕ) (s : State) (schedule sheet : List ℕ) → Accepted n s.table → Accepted n (run n s schedule sheet).state.table
 unfolding run
-accepted-run n s schedule sheet a = pick (eqb (startNumber n s.table (length schedule) (length sheet)) 0)
+accepted-run n s schedule sheet a = pick (eqb (start_number n s.table (length schedule) (length sheet)) 0)
   where
     rest : Outcome
-    rest = goOn n 0 s sheet (entries schedule)
+    rest = go_on n 0 s sheet (entries schedule)
 
     pick : (b : Bool)
-        → Accepted n (cond b rest (record { number = startNumber n s.table (length schedule) (length sheet); taken = 0; state = s; sheet = sheet })).state.table
+        → Accepted n (cond b rest (record { number = start_number n s.table (length schedule) (length sheet); taken = 0; state = s; sheet = sheet })).state.table
     pick true = accepted-on n 0 s sheet (entries schedule) a
     pick false = a
 
 -- a table that refusals 1 to 4 let through is let through after every run, an end in itself
-pub run-keeps : (n : ℕ) (s : State) (schedule sheet : List ℕ) → tableNumber n s.table ≡ 0 → tableNumber n (run n s schedule sheet).state.table ≡ 0
+pub run-keeps : (n : ℕ) (s : State) (schedule sheet : List ℕ) → table_number n s.table ≡ 0 → table_number n (run n s schedule sheet).state.table ≡ 0
 run-keeps n s schedule sheet z = accepted-number n _ (accepted-run n s schedule sheet (accepted n s.table z))

@@ -10,20 +10,20 @@ use borrow.Author.Tests.{eqb-true, eqb-false, eq-eqb, ne_eqb, not-false}
 use lib.Dec.{eqb}
 use lib.ListN.{length, get_or, set, take, drop, drop_of_length-le}
 use lib.Seq.{drop-drop, sets-eq}
-use Rattle.station.specs.Groups.{stationAt}
-use Rattle.table.specs.Rules.{shapeNumber, tableNumber}
-use Rattle.table.specs.Table.{tableLength}
+use Rattle.station.specs.Groups.{station_at}
+use Rattle.table.specs.Rules.{shape_number, table_number}
+use Rattle.table.specs.Table.{table_length}
 use Rattle.lists.proofs.BoolLaws.{choice}
 use Rattle.table.proofs.Accepting.{Accepted, accepted}
 use Rattle.lists.proofs.RefusalLaws.{else-zero, refuse-zero}
-use Rattle.turn.specs.Turn.{countTest, replies, isTold, replyOutcome, testOutcome, makesTest, nextTest, turnOutcome}
-use Rattle.plant.specs.Entry.{Entry, State, entry_of, isCrash, isTest, entryNumber, after, outcomeOf, sheetLine}
-use Rattle.plant.specs.Run.{Outcome, entries, writeLine, goOn, startNumber, run}
+use Rattle.turn.specs.Turn.{count_test, replies, is_told, reply_outcome, test_outcome, makes_test, next_test, turn_outcome}
+use Rattle.plant.specs.Entry.{Entry, State, entry_of, is_crash, is_test, entry_number, after, outcome_of, sheet_line}
+use Rattle.plant.specs.Run.{Outcome, entries, write_line, go_on, start_number, run}
 
 -- a table that obeys the rules gets no refusal
-pub accepted-number : (n : ℕ) (t : List ℕ) → Accepted n t → tableNumber n t ≡ 0
-unfolding tableNumber shapeNumber
-accepted-number n t a = rw (a.size, eq-eqb (length t) (tableLength n) a.long, a.lines, a.unclosed)
+pub accepted-number : (n : ℕ) (t : List ℕ) → Accepted n t → table_number n t ≡ 0
+unfolding table_number shape_number
+accepted-number n t a = rw (a.size, eq-eqb (length t) (table_length n) a.long, a.lines, a.unclosed)
 
 -- the entries of a schedule
 entries-length : (s : List ℕ) → length (entries s) ≡ length s / 2
@@ -48,24 +48,24 @@ entries_at (a ∷ b ∷ rest) (suc k) h =
     cc (entries_at rest k (omega arith), p, q)
 
 -- the outcome tells whether a test was made
-some-outcome : (n : ℕ) (t : List ℕ) (kind i j : ℕ) → not (eqb (testOutcome n t kind i j) 0) ≡ true
-unfolding testOutcome replyOutcome
+some-outcome : (n : ℕ) (t : List ℕ) (kind i j : ℕ) → not (eqb (test_outcome n t kind i j) 0) ≡ true
+unfolding test_outcome reply_outcome
 some-outcome n t kind i j =
     let P : ℕ → Type 0 = λ o. not (eqb o 0) ≡ true in
-    choice P (replies n t kind j) (choice P (isTold n t i j) refl (choice P (isTold n t j i) refl refl)) refl
+    choice P (replies n t kind j) (choice P (is_told n t i j) refl (choice P (is_told n t j i) refl refl)) refl
 
-pub made-test : (n : ℕ) (t : List ℕ) (e : Entry) → (not (eqb (outcomeOf n t e) 0) && not (eqb e.kind 3)) ≡ isTest n t e
-unfolding outcomeOf turnOutcome
-made-test n t e = pick (isCrash e) (makesTest n t e.station)
+pub made-test : (n : ℕ) (t : List ℕ) (e : Entry) → (not (eqb (outcome_of n t e) 0) && not (eqb e.kind 3)) ≡ is_test n t e
+unfolding outcome_of turn_outcome
+made-test n t e = pick (is_crash e) (makes_test n t e.station)
   where
     u : List ℕ
-    u = countTest n t e.station (nextTest n t e.station)
+    u = count_test n t e.station (next_test n t e.station)
 
     j : ℕ
-    j = stationAt e.station (nextTest n t e.station)
+    j = station_at e.station (next_test n t e.station)
 
     pick : (b c : Bool)
-        → (not (eqb (cond b 4 (cond c (testOutcome n u e.kind e.station j) 0)) 0) && not b) ≡ (not b && c)
+        → (not (eqb (cond b 4 (cond c (test_outcome n u e.kind e.station j) 0)) 0) && not b) ≡ (not b && c)
     pick true c = refl
     pick false true = rw (some-outcome n u e.kind e.station j)
     pick false false = refl
@@ -80,57 +80,57 @@ line-written (w ∷ x ∷ y ∷ z ∷ []) a b c d h = refl
 line-written (w ∷ x ∷ y ∷ z ∷ v ∷ l) a b c d h = absurd (omega arith)
 
 -- a line that is lent as a part of the sheet and comes back as that of an entry
-pub line-back : (n : ℕ) (s : State) (e : Entry) (sheet : List ℕ) (k : ℕ) (line : List ℕ) → line ≡ sheetLine n s e → 4 * k + 4 ≤ length sheet
-    → take (4 * k) sheet ++ (line ++ drop (4 * k + 4 - 4 * k) (drop (4 * k) sheet)) ≡ writeLine sheet k (sheetLine n s e)
-unfolding sheetLine
+pub line-back : (n : ℕ) (s : State) (e : Entry) (sheet : List ℕ) (k : ℕ) (line : List ℕ) → line ≡ sheet_line n s e → 4 * k + 4 ≤ length sheet
+    → take (4 * k) sheet ++ (line ++ drop (4 * k + 4 - 4 * k) (drop (4 * k) sheet)) ≡ write_line sheet k (sheet_line n s e)
+unfolding sheet_line
 line-back n s e sheet k line same fits =
     let w : 4 * k + 4 - 4 * k ≡ 4 = omega arith in
-    rw (w, drop-drop, same) (sym (rw append_assoc at (sets-eq (sheetLine n s e) sheet (4 * k) fits)))
+    rw (w, drop-drop, same) (sym (rw append_assoc at (sets-eq (sheet_line n s e) sheet (4 * k) fits)))
 
 -- the run from entry k on
 module _ (n k : ℕ) (s : State) (sheet schedule : List ℕ) where
   abbrev pub from-here : Outcome
-  from-here = goOn n k s sheet (drop k (entries schedule))
+  from-here = go_on n k s sheet (drop k (entries schedule))
 
-  pub go-taken : (s' : State) (sheet' : List ℕ) → k < length schedule / 2 → entryNumber n s (entry_at schedule k) ≡ 0
-      → s' ≡ after n s (entry_at schedule k) → sheet' ≡ writeLine sheet k (sheetLine n s (entry_at schedule k))
-      → goOn n (k + 1) s' sheet' (drop (k + 1) (entries schedule)) ≡ from-here
-  unfolding goOn
+  pub go-taken : (s' : State) (sheet' : List ℕ) → k < length schedule / 2 → entry_number n s (entry_at schedule k) ≡ 0
+      → s' ≡ after n s (entry_at schedule k) → sheet' ≡ write_line sheet k (sheet_line n s (entry_at schedule k))
+      → go_on n (k + 1) s' sheet' (drop (k + 1) (entries schedule)) ≡ from-here
+  unfolding go_on
   go-taken s' sheet' h z a b = rw (a, b, entries_at schedule k h, z, add-one k)
 
-  pub go-stopped : (r : ℕ) → k < length schedule / 2 → r ≡ entryNumber n s (entry_at schedule k) → (r ≡ 0 → ⊥)
+  pub go-stopped : (r : ℕ) → k < length schedule / 2 → r ≡ entry_number n s (entry_at schedule k) → (r ≡ 0 → ⊥)
       → from-here ≡ record { number = r; taken = k; state = s; sheet = sheet }
-  unfolding goOn
+  unfolding go_on
   go-stopped r h e z = rw (entries_at schedule k h, ← e, ne_eqb r 0 z)
 
   pub go-done : length schedule / 2 ≤ k → from-here ≡ record { number = 0; taken = k; state = s; sheet = sheet }
-  unfolding goOn
+  unfolding go_on
   go-done h = rw (drop_of_length-le (entries schedule) {i = k} (omega (arith, entries-length schedule)))
 
 -- a run of one entry, which is taken
-pub start-one : (n : ℕ) (t : List ℕ) → tableNumber n t ≡ 0 → startNumber n t 2 4 ≡ 0
-unfolding startNumber
+pub start-one : (n : ℕ) (t : List ℕ) → table_number n t ≡ 0 → start_number n t 2 4 ≡ 0
+unfolding start_number
 start-one n t z = rw z
 
-pub go-one : (n : ℕ) (s : State) (sheet : List ℕ) (k i : ℕ) → entryNumber n s (entry_of k i) ≡ 0
-    → (goOn n 0 s sheet (entries (k ∷ i ∷ []))).state ≡ after n s (entry_of k i)
-unfolding goOn entries
+pub go-one : (n : ℕ) (s : State) (sheet : List ℕ) (k i : ℕ) → entry_number n s (entry_of k i) ≡ 0
+    → (go_on n 0 s sheet (entries (k ∷ i ∷ []))).state ≡ after n s (entry_of k i)
+unfolding go_on entries
 go-one n s sheet k i z = rw z
 
 -- what a run has that refusals 1 to 6 let through
-pub start-facts : (n : ℕ) (t : List ℕ) (a b : ℕ) → startNumber n t a b ≡ 0 → Accepted n t × (a % 2 ≡ 1 → ⊥) × (b ≡ 2 * a)
-unfolding startNumber
+pub start-facts : (n : ℕ) (t : List ℕ) (a b : ℕ) → start_number n t a b ≡ 0 → Accepted n t × (a % 2 ≡ 1 → ⊥) × (b ≡ 2 * a)
+unfolding start_number
 start-facts n t a b z =
     let p = else-zero _ _ z in
     let q = else-zero _ _ p.1 in
     (accepted n t p.0, eqb-false _ _ (refuse-zero 4 _ q.0), eqb-true _ _ (not-false _ (refuse-zero 5 _ q.1)))
 
 module _ (n : ℕ) (s : State) (schedule sheet : List ℕ) where
-  pub run-refused : (r : ℕ) → r ≡ startNumber n s.table (length schedule) (length sheet) → (r ≡ 0 → ⊥)
+  pub run-refused : (r : ℕ) → r ≡ start_number n s.table (length schedule) (length sheet) → (r ≡ 0 → ⊥)
       → run n s schedule sheet ≡ record { number = r; taken = 0; state = s; sheet = sheet }
   unfolding run
   run-refused r e z = rw (← e, ne_eqb r 0 z)
 
-  pub run-goes : startNumber n s.table (length schedule) (length sheet) ≡ 0 → run n s schedule sheet ≡ goOn n 0 s sheet (entries schedule)
+  pub run-goes : start_number n s.table (length schedule) (length sheet) ≡ 0 → run n s schedule sheet ≡ go_on n 0 s sheet (entries schedule)
   unfolding run
   run-goes z = rw z

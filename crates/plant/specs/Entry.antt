@@ -3,10 +3,10 @@
 use Rattle.std.specs.Prelude.{ℕ, ◌+◌, Bool, cond, not, ◌&&◌, ◌||◌, List, [], ◌∷◌, leb, eqb}
 use Rattle.table.specs.Table.{status, finished, live}
 use Rattle.lists.specs.Refusal.{refuse, ◌else◌}
-use Rattle.table.specs.Rules.{roundOver, stationRefusal}
+use Rattle.table.specs.Rules.{round_over, station_refusal}
 use Rattle.plant.specs.declared.Tally.{Tally}
-use Rattle.turn.specs.Turn.{kindCrash, outcomeCrash, noStation, makesTest, turn, turnTested, turnOutcome, crash}
-use Rattle.plant.specs.Round.{afterRound}
+use Rattle.turn.specs.Turn.{kind_crash, outcome_crash, no_station, makes_test, turn, turn_tested, turn_outcome, crash}
+use Rattle.plant.specs.Round.{after_round}
 
 -- "A schedule entry is two bytes: kind [..] and station i."
 pub record Entry : Type 0 where
@@ -24,58 +24,58 @@ abbrev pub state_of : List ℕ → ℕ → ℕ → State
 state_of t r u = record { table = t; rounds = r; tests = u }
 
 -- the table and the tally that are handed to a call, or that it gives back
-abbrev pub stateWith : List ℕ → Tally → State
-stateWith t tally = state_of t tally.rounds tally.tests
+abbrev pub state_with : List ℕ → Tally → State
+state_with t tally = state_of t tally.rounds tally.tests
 
 -- an entry by its two bytes
 abbrev pub entry_of : ℕ → ℕ → Entry
 entry_of k i = record { kind = k; station = i }
 
 -- the greatest value of a tally, 32 bits
-abbrev pub tallyTop : ℕ
-tallyTop = 4294967295
+abbrev pub tally_top : ℕ
+tally_top = 4294967295
 
 -- refusal 7: "Either tally stands at 4,294,967,295"
-abbrev pub tallyFull : ℕ → ℕ → Bool
-tallyFull rounds tests = eqb rounds tallyTop || eqb tests tallyTop
+abbrev pub tally_full : ℕ → ℕ → Bool
+tally_full rounds tests = eqb rounds tally_top || eqb tests tally_top
 
 -- whether the entry is a crash, and whether it is a turn that makes a test
-abbrev pub isCrash : Entry → Bool
-isCrash e = eqb e.kind kindCrash
+abbrev pub is_crash : Entry → Bool
+is_crash e = eqb e.kind kind_crash
 
-abbrev pub isTest : ℕ → List ℕ → Entry → Bool
-isTest n t e = not (isCrash e) && makesTest n t e.station
+abbrev pub is_test : ℕ → List ℕ → Entry → Bool
+is_test n t e = not (is_crash e) && makes_test n t e.station
 
 -- refusals 7 to 11: "Either tally stands at 4,294,967,295 when an entry is reached." "The kind is not 1, 2 or 3." "The station number is
 -- N or more." "The station is not live." "The kind is 1 or 2 and the station has finished its pass."
-unfoldable pub entryNumber : ℕ → State → Entry → ℕ
-entryNumber n s e =
-    refuse 7 (tallyFull s.rounds s.tests) else
+unfoldable pub entry_number : ℕ → State → Entry → ℕ
+entry_number n s e =
+    refuse 7 (tally_full s.rounds s.tests) else
     refuse 8 (not (leb 1 e.kind && leb e.kind 3)) else
-    stationRefusal n e.station else
+    station_refusal n e.station else
     refuse 10 (not (live n s.table e.station)) else
-    refuse 11 (not (isCrash e) && eqb (finished n s.table e.station) 1)
+    refuse 11 (not (is_crash e) && eqb (finished n s.table e.station) 1)
 
 -- steps 2 to 7: the table before the round rule
 unfoldable pub acted : ℕ → List ℕ → Entry → List ℕ
-acted n t e = cond (isCrash e) (crash n t e.station) (turn n t e.kind e.station)
+acted n t e = cond (is_crash e) (crash n t e.station) (turn n t e.kind e.station)
 
 -- an accepted entry: table and tally after it, the round rule (step 8) included
 unfoldable pub after : ℕ → State → Entry → State
 after n s e = record {
-  table = afterRound n (acted n s.table e);
-  rounds = cond (roundOver n (acted n s.table e)) (s.rounds + 1) s.rounds;
-  tests = cond (isTest n s.table e) (s.tests + 1) s.tests;
+  table = after_round n (acted n s.table e);
+  rounds = cond (round_over n (acted n s.table e)) (s.rounds + 1) s.rounds;
+  tests = cond (is_test n s.table e) (s.tests + 1) s.tests;
 }
 
 -- the tested station or 255, and the outcome
 unfoldable pub tested_of : ℕ → List ℕ → Entry → ℕ
-tested_of n t e = cond (isCrash e) noStation (turnTested n t e.station)
+tested_of n t e = cond (is_crash e) no_station (turn_tested n t e.station)
 
-unfoldable pub outcomeOf : ℕ → List ℕ → Entry → ℕ
-outcomeOf n t e = cond (isCrash e) outcomeCrash (turnOutcome n t e.kind e.station)
+unfoldable pub outcome_of : ℕ → List ℕ → Entry → ℕ
+outcome_of n t e = cond (is_crash e) outcome_crash (turn_outcome n t e.kind e.station)
 
 -- "four bytes of the sheet: i; the tested station or 255; the outcome [..]; i's status after the entry"
-unfoldable pub sheetLine : ℕ → State → Entry → List ℕ
-sheetLine n s e =
-    e.station ∷ tested_of n s.table e ∷ outcomeOf n s.table e ∷ status n (after n s e).table e.station ∷ []
+unfoldable pub sheet_line : ℕ → State → Entry → List ℕ
+sheet_line n s e =
+    e.station ∷ tested_of n s.table e ∷ outcome_of n s.table e ∷ status n (after n s e).table e.station ∷ []

@@ -1,22 +1,22 @@
 -- Document 01, step 8 of "What an entry does": the round, with byte 5 of request C-18.
 -- Assumes nothing.
 use Rattle.std.specs.Prelude.{ℕ, ◌+◌, min, cond, List}
-use Rattle.table.specs.Table.{setCell, nextColumn, finishedColumn, testsColumn, roundsAgoColumn, roundsAgo, roundsAgoTop, live}
-use Rattle.table.specs.Rules.{roundOver}
-use Rattle.lists.specs.Iterate.{iterate}
+use Rattle.table.specs.Table.{set_cell, next_column, finished_column, tests_column, rounds_ago_column, rounds_ago, rounds_ago_top, live}
+use Rattle.table.specs.Rules.{round_over}
+use Rattle.lists.specs.Steps.{after_steps}
 
 -- byte 5 of line i after a closing. C-18: it "counts rounds closed since the station ceased to be live, and stops at 255". Of a live line it
 -- stays, 0 by the rules
-unfoldable pub roundsAfter : ℕ → List ℕ → ℕ → ℕ
-roundsAfter n t i = cond (live n t i) (roundsAgo n t i) (min (roundsAgo n t i + 1) roundsAgoTop)
+unfoldable pub rounds_after : ℕ → List ℕ → ℕ → ℕ
+rounds_after n t i = cond (live n t i) (rounds_ago n t i) (min (rounds_ago n t i + 1) rounds_ago_top)
 
 -- Step 8, where the round is over: "Every line, live or not, gets next distance 1, finished 0, tests 0"; and byte 5
-unfoldable pub resetLine : ℕ → ℕ → List ℕ → List ℕ
-resetLine n i t =
-    setCell n (setCell n (setCell n (setCell n t i nextColumn 1) i finishedColumn 0) i testsColumn 0) i roundsAgoColumn (roundsAfter n t i)
+unfoldable pub reset_line : ℕ → ℕ → List ℕ → List ℕ
+reset_line n i t =
+    set_cell n (set_cell n (set_cell n (set_cell n t i next_column 1) i finished_column 0) i tests_column 0) i rounds_ago_column (rounds_after n t i)
 
-unfoldable pub resetLines : ℕ → List ℕ → List ℕ
-resetLines n t = iterate (resetLine n) n t
+unfoldable pub reset_lines : ℕ → List ℕ → List ℕ
+reset_lines n t = after_steps (reset_line n) n t
 
-unfoldable pub afterRound : ℕ → List ℕ → List ℕ
-afterRound n t = cond (roundOver n t) (resetLines n t) t
+unfoldable pub after_round : ℕ → List ℕ → List ℕ
+after_round n t = cond (round_over n t) (reset_lines n t) t

@@ -3,9 +3,9 @@
 use Rattle.std.specs.Prelude.{ℕ, suc, ◌*◌, ◌%◌, cond, not, List, [], ◌∷◌, length, eqb}
 use Rattle.std.proofs.lemmas.List.Edits.{sets}
 use Rattle.lists.specs.Refusal.{refuse, ◌else◌}
-use Rattle.table.specs.Rules.{tableNumber}
+use Rattle.table.specs.Rules.{table_number}
 use Rattle.plant.specs.declared.Answer.{Answer}
-use Rattle.plant.specs.Entry.{Entry, State, stateWith, entry_of, entryNumber, after, sheetLine}
+use Rattle.plant.specs.Entry.{Entry, State, state_with, entry_of, entry_number, after, sheet_line}
 
 -- the entries of a schedule, two bytes each
 unfoldable pub entries : List ℕ → List Entry
@@ -21,30 +21,30 @@ pub record Outcome : Type 0 where
   pub sheet : List ℕ
 
 -- the outcome of a call: its answer, and table and sheet as it left them
-abbrev pub outcomeWith : Answer → List ℕ → List ℕ → Outcome
-outcomeWith a t sheet = record { number = a.number; taken = a.taken; state = stateWith t a.tally; sheet = sheet }
+abbrev pub outcome_with : Answer → List ℕ → List ℕ → Outcome
+outcome_with a t sheet = record { number = a.number; taken = a.taken; state = state_with t a.tally; sheet = sheet }
 
 -- the sheet with a line written as the kth, from 0, of four bytes each
-abbrev pub writeLine : List ℕ → ℕ → List ℕ → List ℕ
-writeLine sheet k line = sets sheet (4 * k) line
+abbrev pub write_line : List ℕ → ℕ → List ℕ → List ℕ
+write_line sheet k line = sets sheet (4 * k) line
 
 -- a run that has taken k entries goes on with the rest. "At an entry, the run stops: table, tally and sheet are as the earlier entries left
 -- them, the rest of the sheet unchanged."
-unfoldable pub goOn : ℕ → ℕ → State → List ℕ → List Entry → Outcome
-goOn n k s sheet [] = record { number = 0; taken = k; state = s; sheet = sheet }
-goOn n k s sheet (e ∷ es) =
-    cond (eqb (entryNumber n s e) 0)
-    (goOn n (suc k) (after n s e) (writeLine sheet k (sheetLine n s e)) es)
-    (record { number = entryNumber n s e; taken = k; state = s; sheet = sheet })
+unfoldable pub go_on : ℕ → ℕ → State → List ℕ → List Entry → Outcome
+go_on n k s sheet [] = record { number = 0; taken = k; state = s; sheet = sheet }
+go_on n k s sheet (e ∷ es) =
+    cond (eqb (entry_number n s e) 0)
+    (go_on n (suc k) (after n s e) (write_line sheet k (sheet_line n s e)) es)
+    (record { number = entry_number n s e; taken = k; state = s; sheet = sheet })
 
 -- refusals 1 to 6: then "The schedule's length is odd." "The sheet's length is not twice the schedule's."
-unfoldable pub startNumber : ℕ → List ℕ → ℕ → ℕ → ℕ
-startNumber n t scheduleLength sheetLength =
-    tableNumber n t else refuse 5 (eqb (scheduleLength % 2) 1) else refuse 6 (not (eqb sheetLength (2 * scheduleLength)))
+unfoldable pub start_number : ℕ → List ℕ → ℕ → ℕ → ℕ
+start_number n t schedule_length sheet_length =
+    table_number n t else refuse 5 (eqb (schedule_length % 2) 1) else refuse 6 (not (eqb sheet_length (2 * schedule_length)))
 
 -- the run of a schedule on a table and a tally with a lent sheet, for all inputs. "A run refused by 1 to 6 gives back the tally handed in."
 unfoldable pub run : ℕ → State → List ℕ → List ℕ → Outcome
 run n s schedule sheet =
-    cond (eqb (startNumber n s.table (length schedule) (length sheet)) 0)
-    (goOn n 0 s sheet (entries schedule))
-    (record { number = startNumber n s.table (length schedule) (length sheet); taken = 0; state = s; sheet = sheet })
+    cond (eqb (start_number n s.table (length schedule) (length sheet)) 0)
+    (go_on n 0 s sheet (entries schedule))
+    (record { number = start_number n s.table (length schedule) (length sheet); taken = 0; state = s; sheet = sheet })

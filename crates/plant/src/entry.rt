@@ -1,8 +1,8 @@
 // One entry of a schedule (document 01, "What an entry does" and refusals 7 to 11).
 ghost use Rattle.std.specs.Prelude.{◌≡◌, ◌+◌, ◌<◌, cond, length};
-ghost use Rattle.table.specs.Table.{tableLength};
-ghost use Rattle.table.specs.Rules.{tableNumber};
-ghost use Rattle.plant.specs.Entry.{stateWith, entry_of, entryNumber, acted, after, tested_of, outcomeOf, sheetLine};
+ghost use Rattle.table.specs.Table.{table_length};
+ghost use Rattle.table.specs.Rules.{table_number};
+ghost use Rattle.plant.specs.Entry.{state_with, entry_of, entry_number, acted, after, tested_of, outcome_of, sheet_line};
 
 use crate::{Tally, rounds, single};
 use table::{Station, cells, inside};
@@ -11,8 +11,8 @@ use turn::{codes, steps};
 
 // Refusals 7 to 11, or 0.
 pub(crate) fn entry_number(n: u8, table: &[u8], tally: Tally, kind: u8, i: Station) -> u8
-    requires { length table.now ≡ tableLength n }
-    ensures { result ≡ entryNumber n (stateWith table.now tally) (entry_of kind i.0) }
+    requires { length table.now ≡ table_length n }
+    ensures { result ≡ entry_number n (state_with table.now tally) (entry_of kind i.0) }
 {
     if single::is_full(tally) {
         return 7;
@@ -42,9 +42,9 @@ pub(crate) fn take_entry(
     i: Station,
     line: &mut [u8],
 ) -> Tally
-    requires { (tableNumber n table.old ≡ 0) × (entryNumber n (stateWith table.old tally) (entry_of kind i.0) ≡ 0) × (length line.old ≡ 4) }
-    ensures result_after { stateWith table.new result ≡ after n (stateWith table.old tally) (entry_of kind i.0) }
-    ensures line_after { line.new ≡ sheetLine n (stateWith table.old tally) (entry_of kind i.0) }
+    requires { (table_number n table.old ≡ 0) × (entry_number n (state_with table.old tally) (entry_of kind i.0) ≡ 0) × (length line.old ≡ 4) }
+    ensures result_after { state_with table.new result ≡ after n (state_with table.old tally) (entry_of kind i.0) }
+    ensures line_after { line.new ≡ sheet_line n (state_with table.old tally) (entry_of kind i.0) }
 {
     let done = act(n, table, kind, i);
     let over = rounds::close_round(n, table, i);
@@ -61,9 +61,9 @@ pub(crate) fn take_entry(
 
 // Steps 2 to 7: a crash or a turn.
 fn act(n: u8, table: &mut [u8], kind: u8, i: Station) -> Turned
-    requires { (tableNumber n table.old ≡ 0) × (i.0 < n) }
+    requires { (table_number n table.old ≡ 0) × (i.0 < n) }
     ensures tested_value { result.tested ≡ tested_of n table.old (entry_of kind i.0) }
-    ensures outcome_value { result.outcome ≡ outcomeOf n table.old (entry_of kind i.0) }
+    ensures outcome_value { result.outcome ≡ outcome_of n table.old (entry_of kind i.0) }
     ensures table_after { table.new ≡ acted n table.old (entry_of kind i.0) }
 {
     if kind == codes::CRASH {

@@ -1,16 +1,16 @@
 // Closing a round (document 01, step 8; request C-18).
 ghost use Rattle.std.specs.Prelude.{◌≡◌, ◌<◌, length};
-ghost use Rattle.table.specs.Rules.{roundOver};
-ghost use Rattle.table.specs.Table.{HasLine, tableLength};
-ghost use Rattle.plant.specs.Round.{roundsAfter, resetLine, resetLines, afterRound};
+ghost use Rattle.table.specs.Rules.{round_over};
+ghost use Rattle.table.specs.Table.{HasLine, table_length};
+ghost use Rattle.plant.specs.Round.{rounds_after, reset_line, reset_lines, after_round};
 
 use table::{Station, cells, inside, rules};
 
 // Closes the round if a station is live and all live ones are finished; answers whether it closed. i is the station of the entry.
 pub(crate) fn close_round(n: u8, table: &mut [u8], i: Station) -> bool
     requires { HasLine n table.old i.0 }
-    ensures value { result ≡ roundOver n table.old }
-    ensures table_after { table.new ≡ afterRound n table.old }
+    ensures value { result ≡ round_over n table.old }
+    ensures table_after { table.new ≡ after_round n table.old }
 {
     let over = round_over(n, table, i);
     if over {
@@ -22,7 +22,7 @@ pub(crate) fn close_round(n: u8, table: &mut [u8], i: Station) -> bool
 // Whether a station is live and all live ones are finished. i is looked at first, since most often it is live and has not finished.
 fn round_over(n: u8, table: &[u8], i: Station) -> bool
     requires { i.0 < n }
-    ensures { result ≡ roundOver n table.now }
+    ensures { result ≡ round_over n table.now }
 {
     if !rules::finished_if_live(n, table, i) {
         return false;
@@ -32,8 +32,8 @@ fn round_over(n: u8, table: &[u8], i: Station) -> bool
 
 // Every line, live or not, begins a new round.
 fn reset_lines(n: u8, table: &mut [u8])
-    requires { length table.old ≡ tableLength n }
-    ensures { table.new ≡ resetLines n table.old }
+    requires { length table.old ≡ table_length n }
+    ensures { table.new ≡ reset_lines n table.old }
 {
     for i in 0..n {
         reset_line(n, table, Station(i));
@@ -43,7 +43,7 @@ fn reset_lines(n: u8, table: &mut [u8])
 // Next distance 1, finished 0, tests 0; byte 5 as `rounds_after` gives it.
 fn reset_line(n: u8, table: &mut [u8], i: Station)
     requires { HasLine n table.old i.0 }
-    ensures { table.new ≡ resetLine n i.0 table.old }
+    ensures { table.new ≡ reset_line n i.0 table.old }
 {
     let ago = rounds_after(n, table, i);
     inside::put(n, table, i, cells::NEXT, 1);
@@ -55,7 +55,7 @@ fn reset_line(n: u8, table: &mut [u8], i: Station)
 // Byte 5 of line i after a closing: one round more where i is not live, 255 at most.
 fn rounds_after(n: u8, table: &[u8], i: Station) -> u8
     requires { HasLine n table.now i.0 }
-    ensures { result ≡ roundsAfter n table.now i.0 }
+    ensures { result ≡ rounds_after n table.now i.0 }
 {
     let status = inside::get(n, table, i, cells::STATUS);
     let ago = inside::get(n, table, i, cells::ROUNDS_AGO);

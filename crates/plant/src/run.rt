@@ -1,7 +1,7 @@
 // The run (document 01, "What can be asked" and the refusal list).
 ghost use Rattle.std.specs.Prelude.{◌≡◌, length};
-ghost use Rattle.plant.specs.Entry.{stateWith};
-ghost use Rattle.plant.specs.Run.{entries, goOn, startNumber, outcomeWith, run};
+ghost use Rattle.plant.specs.Entry.{state_with};
+ghost use Rattle.plant.specs.Run.{entries, go_on, start_number, outcome_with, run};
 
 use crate::{Answer, Tally, entry};
 use table::{Station, rules};
@@ -9,7 +9,7 @@ use table::{Station, rules};
 // Carries out a schedule on a table and a tally and fills the sheet, four bytes for each entry taken. A run refused at its start changes
 // no byte; one stopped at an entry keeps the work of the entries before it and no other.
 pub fn run(n: usize, table: &mut [u8], tally: Tally, schedule: &[u8], sheet: &mut [u8]) -> Answer
-    ensures { outcomeWith result table.new sheet.new ≡ run n (stateWith table.old tally) schedule.now sheet.old }
+    ensures { outcome_with result table.new sheet.new ≡ run n (state_with table.old tally) schedule.now sheet.old }
 {
     let number = start_number(n, table, schedule.len(), sheet.len());
     if number != 0 {
@@ -24,7 +24,7 @@ pub fn run(n: usize, table: &mut [u8], tally: Tally, schedule: &[u8], sheet: &mu
 
 // Refusals 1 to 6, or 0.
 fn start_number(n: usize, table: &[u8], schedule: usize, sheet: usize) -> u8
-    ensures { result ≡ startNumber n table.now schedule sheet }
+    ensures { result ≡ start_number n table.now schedule sheet }
 {
     let number = rules::check_table(n, table);
     if number != 0 {
@@ -50,8 +50,8 @@ pub(crate) fn go_on(
     schedule: &[u8],
     sheet: &mut [u8],
 ) -> Answer
-    requires { startNumber n table.old (length schedule.now) (length sheet.old) ≡ 0 }
-    ensures { outcomeWith result table.new sheet.new ≡ goOn n 0 (stateWith table.old tally) sheet.old (entries schedule.now) }
+    requires { start_number n table.old (length schedule.now) (length sheet.old) ≡ 0 }
+    ensures { outcome_with result table.new sheet.new ≡ go_on n 0 (state_with table.old tally) sheet.old (entries schedule.now) }
 {
     let mut held = tally;
     let count = schedule.len() / 2;

@@ -1,9 +1,9 @@
 // What the crate `granter` uses of an entry. It has checked the table and chosen a station that may take a turn: so `take_turn` has a
 // `requires`.
 ghost use Rattle.std.specs.Prelude.{◌≡◌};
-ghost use Rattle.table.specs.Rules.{tableNumber};
-ghost use Rattle.turn.specs.Turn.{kindTurn};
-ghost use Rattle.plant.specs.Entry.{stateWith, entry_of, tallyFull, entryNumber, after};
+ghost use Rattle.table.specs.Rules.{table_number};
+ghost use Rattle.turn.specs.Turn.{kind_turn};
+ghost use Rattle.plant.specs.Entry.{state_with, entry_of, tally_full, entry_number, after};
 
 use crate::{Tally, run};
 use table::Station;
@@ -14,15 +14,15 @@ const TALLY_TOP: u32 = 4294967295;
 
 // Whether either tally is full.
 pub fn is_full(tally: Tally) -> bool
-    ensures { result ≡ tallyFull tally.rounds tally.tests }
+    ensures { result ≡ tally_full tally.rounds tally.tests }
 {
     (tally.rounds == TALLY_TOP) | (tally.tests == TALLY_TOP)
 }
 
 // A turn of kind 1 of station i, with no line of a sheet: the rest of a run that has this one entry. The answer is the tally after it.
 pub fn take_turn(n: u8, table: &mut [u8], tally: Tally, i: Station) -> Tally
-    requires { (tableNumber n table.old ≡ 0) × (entryNumber n (stateWith table.old tally) (entry_of kindTurn i.0) ≡ 0) }
-    ensures { stateWith table.new result ≡ after n (stateWith table.old tally) (entry_of kindTurn i.0) }
+    requires { (table_number n table.old ≡ 0) × (entry_number n (state_with table.old tally) (entry_of kind_turn i.0) ≡ 0) }
+    ensures { state_with table.new result ≡ after n (state_with table.old tally) (entry_of kind_turn i.0) }
 {
     let schedule = [codes::TURN, i.0];
     let mut line = [0u8; 4];

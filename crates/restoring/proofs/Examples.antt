@@ -2,23 +2,23 @@
 -- Assumes nothing.
 use mathlib.Core.Path.{refl}
 use Rattle.lists.specs.Search.{every, list_of, least}
-use Rattle.table.specs.Sizes.{isSize, level, dimension, distances}
-use Rattle.table.specs.Table.{tableLength, lineStart, cell}
-use Rattle.table.specs.Rules.{exitRule, rowRule, lineRules, someLive, liveFinished, shapeNumber, tableNumber}
-use Rattle.table.specs.Fresh.{freshByte, freshTable}
-use Rattle.saved.specs.Bytes.{number_of, bytes_of, concatOf}
-use Rattle.saved.specs.Fields.{fieldBytes, fieldsUpTo, fields, runsPast, fields_of, tagged}
-use Rattle.saved.specs.Plant.{sizeIn, sizeAndTally, ofStation, all_fit, linesRight, tableIn}
-use Rattle.saved.specs.Load.{sizeNumber, restNumber, loadNumber}
-use Rattle.saved.specs.Save.{line_of, savedLines, saved}
-use Rattle.restoring.specs.Examples.{twoBoards, examples, allHold, TwoBoards, ExamplesHold}
+use Rattle.table.specs.Sizes.{is_size, level, dimension, distances}
+use Rattle.table.specs.Table.{table_length, line_start, cell}
+use Rattle.table.specs.Rules.{exit_rule, row_rule, line_rules, some_live, live_finished, shape_number, table_number}
+use Rattle.table.specs.Fresh.{fresh_byte, fresh_table}
+use Rattle.saved.specs.Bytes.{number_of, bytes_of, concat_of}
+use Rattle.saved.specs.Fields.{field_bytes, fields_up_to, fields, runs_past, fields_of, tagged}
+use Rattle.saved.specs.Plant.{size_in, size_and_tally, of_station, all_fit, lines_right, table_in}
+use Rattle.saved.specs.Load.{size_number, rest_number, load_number}
+use Rattle.saved.specs.Save.{line_of, saved_lines, saved}
+use Rattle.restoring.specs.Examples.{two_boards, examples, all_hold, TwoBoards, ExamplesHold}
 
 pub two-boards : TwoBoards
-unfolding list_of tableLength lineStart freshByte freshTable bytes_of concatOf fieldBytes line_of savedLines saved twoBoards
+unfolding list_of table_length line_start fresh_byte fresh_table bytes_of concat_of field_bytes line_of saved_lines saved two_boards
 two-boards = refl
 
 pub examples-hold : ExamplesHold
-unfolding every list_of least isSize level dimension distances tableLength lineStart cell exitRule rowRule lineRules someLive liveFinished
-    shapeNumber tableNumber number_of bytes_of concatOf fieldsUpTo fields runsPast fields_of tagged sizeIn
-    sizeAndTally ofStation all_fit linesRight tableIn sizeNumber restNumber loadNumber twoBoards examples allHold
+unfolding every list_of least is_size level dimension distances table_length line_start cell exit_rule row_rule line_rules some_live live_finished
+    shape_number table_number number_of bytes_of concat_of fields_up_to fields runs_past fields_of tagged size_in
+    size_and_tally of_station all_fit lines_right table_in size_number rest_number load_number two_boards examples all_hold
 examples-hold = refl

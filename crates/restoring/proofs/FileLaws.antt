@@ -11,23 +11,23 @@ use native.Mathlib.Omega.{arith}
 use lib.ListN.{length, get_or, take, drop, take-append-drop, length-drop}
 use lib.Seq.{length-take-le, get_or-drop, drop-drop}
 use Rattle.saved.specs.Bytes.{number_of, bytes_of}
-use Rattle.saved.specs.Fields.{Field, field, fieldBytes, infront, lengthIn, extent, fields}
+use Rattle.saved.specs.Fields.{Field, field, field_bytes, infront, length_in, extent, fields}
 use Rattle.saved.proofs.NumberLaws.{bytes-number}
 use Rattle.saved.proofs.FieldLaws.{fields-nil, fields-cut, fields-cons, fields-first}
-use Rattle.restoring.specs.Files.{fieldsBytes, AreBytes, Short, FieldsOfBytes, BytesOfFields}
+use Rattle.restoring.specs.Files.{fields_bytes, AreBytes, Short, FieldsOfBytes, BytesOfFields}
 
 pub fields-of-bytes : FieldsOfBytes
-unfolding fieldsBytes
+unfolding fields_bytes
 fields-of-bytes [] short = fields-nil
 fields-of-bytes (f ∷ fs) short =
-    fields-first f (fieldsBytes fs) (short f (Memᴰ.head refl)) ∙ rw (fields-of-bytes fs (λ g m. short g (Memᴰ.tail m)))
+    fields-first f (fields_bytes fs) (short f (Memᴰ.head refl)) ∙ rw (fields-of-bytes fs (λ g m. short g (Memᴰ.tail m)))
 
 -- the first field of a file
 abbrev first : List ℕ → Field
-first file = field (get_or file 0 0) (take (lengthIn file) (drop 3 file))
+first file = field (get_or file 0 0) (take (length_in file) (drop 3 file))
 
 -- what its head says fits into two bytes, and these are the bytes of it
-length-short : (file : List ℕ) → AreBytes file → lengthIn file < 2 ^ 16
+length-short : (file : List ℕ) → AreBytes file → length_in file < 2 ^ 16
 unfolding number_of
 length-short file bytes = omega (arith, bytes 1, bytes 2)
 
@@ -40,8 +40,8 @@ two_bytes b c hb hc = bytes-number (b ∷ c ∷ []) small
     small (suc (suc k)) h = absurd (omega arith)
 
 -- a file is the bytes of its first field and the rest
-first-bytes : (file : List ℕ) → AreBytes file → extent file ≤ length file → fieldBytes (first file) ++ drop (extent file) file ≡ file
-unfolding fieldBytes
+first-bytes : (file : List ℕ) → AreBytes file → extent file ≤ length file → field_bytes (first file) ++ drop (extent file) file ≡ file
+unfolding field_bytes
 first-bytes [] bytes h = absurd (omega arith)
 first-bytes (a ∷ []) bytes h = absurd (omega arith)
 first-bytes (a ∷ b ∷ []) bytes h = absurd (omega arith)
@@ -71,7 +71,7 @@ module _ (file : List ℕ) (some_byte : 0 < length file) (fs : List Field) (e : 
   opened = sym (fields-cons file some_byte within) ∙ e
 
 pub bytes-of-fields : BytesOfFields
-unfolding fieldsBytes
+unfolding fields_bytes
 bytes-of-fields [] [] bytes e = (refl, λ f m. absurd (Memᴰ.not-nil m))
 bytes-of-fields [] (f ∷ fs) bytes e = let z : ◌≡◌ {A = ℕ} 0 1 = cc fields-nil in absurd (omega arith)
 bytes-of-fields (b ∷ l) [] bytes e =
@@ -83,7 +83,7 @@ bytes-of-fields (b ∷ l) (f ∷ fs) bytes e =
     let parts = infront-cons (first file) f (fields rest) fs (opened file (omega arith) (f ∷ fs) e) in
     let below = bytes-of-fields rest fs (λ k. rw get_or-drop (bytes (extent file + k))) parts.1 in
     let same = ap (λ (g : Field). length g.contents) parts.0 in
-    let long = length-take-le (lengthIn file) (drop 3 file) (omega (arith, length-drop 3 file)) in
+    let long = length-take-le (length_in file) (drop 3 file) (omega (arith, length-drop 3 file)) in
     let short : length f.contents < 2 ^ 16 = omega (arith, length-short file bytes) in (
       rw (← parts.0, below.0) (first-bytes file bytes h),
       λ g m. pick g (Memᴰ.cases_cons m) short below.1,

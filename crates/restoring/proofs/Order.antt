@@ -8,13 +8,13 @@ use lib.Dec.{eqb}
 use Rattle.lists.specs.Search.{every}
 use Rattle.lists.proofs.BoolLaws.{by_bool, neither, every-same}
 use Rattle.lists.proofs.SearchLaws.{both, every-at}
-use Rattle.table.specs.Sizes.{isSize}
+use Rattle.table.specs.Sizes.{is_size}
 use Rattle.saved.specs.Fields.{Field, fields_of, tagged, single, first_of}
-use Rattle.saved.specs.Plant.{sizeTag, sizeLength, tallyTag, tallyLength, lineTag, lineFieldLength}
-use Rattle.saved.specs.Plant.{sizeIn, roundsIn, testsIn, sizeAndTally, stationIn, lineIn, ofStation, fits, all_fit, linesRight, tableIn}
-use Rattle.saved.specs.Load.{fileLines, sizeNumber, restNumber, loadNumber, savedSize, answer_of, loadAnswer, loadAfter}
+use Rattle.saved.specs.Plant.{size_tag, size_length, tally_tag, tally_length, line_tag, line_field_length}
+use Rattle.saved.specs.Plant.{size_in, rounds_in, tests_in, size_and_tally, station_in, line_in, of_station, fits, all_fit, lines_right, table_in}
+use Rattle.saved.specs.Load.{file_lines, size_number, rest_number, load_number, saved_size, answer_of, load_answer, load_after}
 use Rattle.saved.proofs.ConcatLaws.{concat-same}
-use Rattle.restoring.specs.Restoring.{isKnown, known, AnyOrder}
+use Rattle.restoring.specs.Restoring.{is_known, known, AnyOrder}
 
 -- an answer about a list that does not depend on the order of its elements
 record Blind {A B : Type 0} (F : List A → B) : Type 0 where
@@ -49,12 +49,12 @@ module _ {B : Type 0} (F : List (List ℕ) → B) (blind : Blind F) (k : ℕ) wh
         past = λ f g l. pick-past F blind (eqb f.tag k) (eqb g.tag k) f.contents g.contents (tagged k l);
       }
 
-  blind-station : Blind (λ cs. F (ofStation k cs))
-  unfolding ofStation
+  blind-station : Blind (λ cs. F (of_station k cs))
+  unfolding of_station
   blind-station =
       record {
-        under = λ c l m. pick_under F blind (eqb (stationIn c) k) c (ofStation k l) (ofStation k m);
-        past = λ c d l. pick-past F blind (eqb (stationIn c) k) (eqb (stationIn d) k) c d (ofStation k l);
+        under = λ c l m. pick_under F blind (eqb (station_in c) k) c (of_station k l) (of_station k m);
+        past = λ c d l. pick-past F blind (eqb (station_in c) k) (eqb (station_in d) k) c d (of_station k l);
       }
 
 -- a list of one, as it is; longer ones are all made the same
@@ -104,14 +104,14 @@ module _ (len : ℕ) (cs cs' : List (List ℕ)) (same : once cs ≡ once cs') wh
 
 -- k is one of the three: no other tag is k
 abbrev Known : ℕ → Type 0
-Known k = (tag : ℕ) → isKnown tag ≡ false → eqb tag k ≡ false
+Known k = (tag : ℕ) → is_known tag ≡ false → eqb tag k ≡ false
 
-unknown : (tag : ℕ) → isKnown tag ≡ false → (eqb tag sizeTag ≡ false) × (eqb tag tallyTag ≡ false) × (eqb tag lineTag ≡ false)
+unknown : (tag : ℕ) → is_known tag ≡ false → (eqb tag size_tag ≡ false) × (eqb tag tally_tag ≡ false) × (eqb tag line_tag ≡ false)
 unknown tag e =
-    let a = neither (eqb tag sizeTag || eqb tag tallyTag) (eqb tag lineTag) e in
-    let b = neither (eqb tag sizeTag) (eqb tag tallyTag) a.0 in (b.0, b.1, a.1)
+    let a = neither (eqb tag size_tag || eqb tag tally_tag) (eqb tag line_tag) e in
+    let b = neither (eqb tag size_tag) (eqb tag tally_tag) a.0 in (b.0, b.1, a.1)
 
-all_known : Known sizeTag × Known tallyTag × Known lineTag
+all_known : Known size_tag × Known tally_tag × Known line_tag
 all_known = (λ tag e. (unknown tag e).0, λ tag e. (unknown tag e).1, λ tag e. (unknown tag e).2)
 
 -- other tags are passed over
@@ -120,7 +120,7 @@ unfolding tagged known
 tagged-known k is_Known [] = refl
 tagged-known k is_Known (f ∷ fs) =
     let rest = tagged-known k is_Known fs in
-    by_bool (isKnown f.tag) (λ e. rw (e, rest)) (λ e. rw (e, is_Known f.tag e, rest))
+    by_bool (is_known f.tag) (λ e. rw (e, rest)) (λ e. rw (e, is_Known f.tag e, rest))
 
 -- two lists of fields, whose known fields are the same in some order
 module _ (fs fs' : List Field) (perm : Permᴰ (known fs) (known fs')) where
@@ -128,74 +128,74 @@ module _ (fs fs' : List Field) (perm : Permᴰ (known fs) (known fs')) where
   tagged-same k is_Known F blind =
       rw (tagged-known k is_Known fs, tagged-known k is_Known fs') at (perm_same (λ gs. F (tagged k gs)) (blind-tagged F blind k) perm)
 
-  size-once : once (tagged sizeTag fs) ≡ once (tagged sizeTag fs')
-  size-once = tagged-same sizeTag all_known.0 once blind-once
+  size-once : once (tagged size_tag fs) ≡ once (tagged size_tag fs')
+  size-once = tagged-same size_tag all_known.0 once blind-once
 
-  tally-once : once (tagged tallyTag fs) ≡ once (tagged tallyTag fs')
-  tally-once = tagged-same tallyTag all_known.1 once blind-once
+  tally-once : once (tagged tally_tag fs) ≡ once (tagged tally_tag fs')
+  tally-once = tagged-same tally_tag all_known.1 once blind-once
 
-  station-once : (i : ℕ) → once (ofStation i (tagged lineTag fs)) ≡ once (ofStation i (tagged lineTag fs'))
-  station-once i = tagged-same lineTag all_known.2 (λ cs. once (ofStation i cs)) (blind-station once blind-once i)
+  station-once : (i : ℕ) → once (of_station i (tagged line_tag fs)) ≡ once (of_station i (tagged line_tag fs'))
+  station-once i = tagged-same line_tag all_known.2 (λ cs. once (of_station i cs)) (blind-station once blind-once i)
 
   -- size and tally: where they stand there once, they are the same
-  right-same : sizeAndTally fs ≡ sizeAndTally fs'
-  unfolding sizeAndTally
+  right-same : size_and_tally fs ≡ size_and_tally fs'
+  unfolding size_and_tally
   right-same =
-      ap₂ ◌&&◌ (single-same sizeLength (tagged sizeTag fs) (tagged sizeTag fs') size-once)
-      (single-same tallyLength (tagged tallyTag fs) (tagged tallyTag fs') tally-once)
+      ap₂ ◌&&◌ (single-same size_length (tagged size_tag fs) (tagged size_tag fs') size-once)
+      (single-same tally_length (tagged tally_tag fs) (tagged tally_tag fs') tally-once)
 
-  module _ (right : sizeAndTally fs ≡ true) where
-    parts : (single sizeLength (tagged sizeTag fs) ≡ true) × (single tallyLength (tagged tallyTag fs) ≡ true)
-    unfolding sizeAndTally
-    parts = both (single sizeLength (tagged sizeTag fs)) (single tallyLength (tagged tallyTag fs)) right
+  module _ (right : size_and_tally fs ≡ true) where
+    parts : (single size_length (tagged size_tag fs) ≡ true) × (single tally_length (tagged tally_tag fs) ≡ true)
+    unfolding size_and_tally
+    parts = both (single size_length (tagged size_tag fs)) (single tally_length (tagged tally_tag fs)) right
 
-    size_same : sizeIn fs ≡ sizeIn fs'
-    unfolding sizeIn
-    size_same = rw (first-same sizeLength (tagged sizeTag fs) (tagged sizeTag fs') size-once parts.0)
+    size_same : size_in fs ≡ size_in fs'
+    unfolding size_in
+    size_same = rw (first-same size_length (tagged size_tag fs) (tagged size_tag fs') size-once parts.0)
 
-    tally-same : first_of (tagged tallyTag fs) ≡ first_of (tagged tallyTag fs')
-    tally-same = first-same tallyLength (tagged tallyTag fs) (tagged tallyTag fs') tally-once parts.1
+    tally-same : first_of (tagged tally_tag fs) ≡ first_of (tagged tally_tag fs')
+    tally-same = first-same tally_length (tagged tally_tag fs) (tagged tally_tag fs') tally-once parts.1
 
   -- the lines: where they are right, the table is the same
   module _ (n : ℕ) where
     abbrev cs : List (List ℕ)
-    cs = tagged lineTag fs
+    cs = tagged line_tag fs
 
     abbrev cs' : List (List ℕ)
-    cs' = tagged lineTag fs'
+    cs' = tagged line_tag fs'
 
     -- whether there is one line of station i
     abbrev has : List (List ℕ) → ℕ → Bool
-    has ds i = single (lineFieldLength n) (ofStation i ds)
+    has ds i = single (line_field_length n) (of_station i ds)
 
-    lines_same : linesRight n cs ≡ linesRight n cs'
-    unfolding linesRight
+    lines_same : lines_right n cs ≡ lines_right n cs'
+    unfolding lines_right
     lines_same =
-        ap₂ ◌&&◌ (tagged-same lineTag all_known.2 (all_fit n) (blind-fits n))
-        (every-same (has cs) (has cs') n (λ i h. single-same (lineFieldLength n) (ofStation i cs) (ofStation i cs') (station-once i)))
+        ap₂ ◌&&◌ (tagged-same line_tag all_known.2 (all_fit n) (blind-fits n))
+        (every-same (has cs) (has cs') n (λ i h. single-same (line_field_length n) (of_station i cs) (of_station i cs') (station-once i)))
 
-    table_same : linesRight n cs ≡ true → tableIn n cs ≡ tableIn n cs'
-    unfolding linesRight tableIn
+    table_same : lines_right n cs ≡ true → table_in n cs ≡ table_in n cs'
+    unfolding lines_right table_in
     table_same e =
         let all = (both (all_fit n cs) (every (has cs) n) e).1 in
         concat-same _ _ n
-        (λ i h. ap lineIn (first-same (lineFieldLength n) (ofStation i cs) (ofStation i cs') (station-once i) (every-at (has cs) n i all h)))
+        (λ i h. ap line_in (first-same (line_field_length n) (of_station i cs) (of_station i cs') (station-once i) (every-at (has cs) n i all h)))
 
 -- the claim, an end in itself: the files are both read, or refused by 2 to 4, by 20, by 1, or by 19
 pub any_order : AnyOrder
-unfolding savedSize loadAnswer loadAfter sizeNumber loadNumber restNumber answer_of roundsIn testsIn
+unfolding saved_size load_answer load_after size_number load_number rest_number answer_of rounds_in tests_in
 any_order file file' past past' perm t =
     let fs : List Field = fields_of file in
     let fs' : List Field = fields_of file' in
-    let n : ℕ = sizeIn fs' in
+    let n : ℕ = size_in fs' in
     let right = right-same fs fs' perm in
     let lines = lines_same fs fs' perm n in
     rw (past, past', ← right)
-    (by_bool (sizeAndTally fs)
+    (by_bool (size_and_tally fs)
     (λ e. rw (e, size_same fs fs' perm e)
-    (by_bool (isSize n)
+    (by_bool (is_size n)
     (λ s. rw s
-    (by_bool (linesRight n (fileLines file))
+    (by_bool (lines_right n (file_lines file))
     (λ h. rw (← lines, h, table_same fs fs' perm n h, tally-same fs fs' perm e) (refl, refl, refl))
     (λ h. rw (← lines, h) (refl, refl, refl))))
     (λ s. rw s (refl, refl, refl))))

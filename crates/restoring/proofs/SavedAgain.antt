@@ -14,21 +14,21 @@ use Rattle.lists.specs.Refusal.{refuse}
 use Rattle.lists.proofs.BoolLaws.{by_bool}
 use Rattle.lists.proofs.SearchLaws.{both, every-at}
 use Rattle.lists.proofs.RefusalLaws.{else-zero, refuse-zero}
-use Rattle.table.specs.Sizes.{isSize}
-use Rattle.table.specs.Table.{stride, tableLength, lineStart}
-use Rattle.table.specs.Rules.{tableNumber}
+use Rattle.table.specs.Sizes.{is_size}
+use Rattle.table.specs.Table.{stride, table_length, line_start}
+use Rattle.table.specs.Rules.{table_number}
 use Rattle.plant.specs.declared.Tally.{Tally}
-use Rattle.saved.specs.Bytes.{number_of, bytes_of, concatOf}
-use Rattle.saved.specs.Fields.{Field, field, fieldBytes, infront, lengthIn, extent, fieldsUpTo, fields}
-use Rattle.saved.specs.Fields.{runsPast, orEmpty, fields_of, tagged, single, first_of}
-use Rattle.saved.specs.Plant.{sizeTag, sizeLength, tallyTag, lineTag, lineFieldLength, sizeIn, roundsIn, testsIn, sizeAndTally}
-use Rattle.saved.specs.Plant.{stationIn, lineIn, ofStation, all_fit, linesRight, tableIn}
-use Rattle.saved.specs.Load.{fileSize, fileLines, fileTable, sizeNumber, restNumber, loadNumber, answer_of, loadAnswer, loadAfter}
-use Rattle.saved.specs.Save.{line_of, lineField, savedLines, saved, saveNumber, saveAfter}
+use Rattle.saved.specs.Bytes.{number_of, bytes_of, concat_of}
+use Rattle.saved.specs.Fields.{Field, field, field_bytes, infront, length_in, extent, fields_up_to, fields}
+use Rattle.saved.specs.Fields.{runs_past, or_empty, fields_of, tagged, single, first_of}
+use Rattle.saved.specs.Plant.{size_tag, size_length, tally_tag, line_tag, line_field_length, size_in, rounds_in, tests_in, size_and_tally}
+use Rattle.saved.specs.Plant.{station_in, line_in, of_station, all_fit, lines_right, table_in}
+use Rattle.saved.specs.Load.{file_size, file_lines, file_table, size_number, rest_number, load_number, answer_of, load_answer, load_after}
+use Rattle.saved.specs.Save.{line_of, line_field, saved_lines, saved, save_number, save_after}
 use Rattle.saved.proofs.NumberLaws.{bytes-number}
 use Rattle.saved.proofs.ConcatLaws.{concat-same, concat-at}
 use Rattle.restoring.specs.Files.{AreBytes}
-use Rattle.restoring.specs.Restoring.{writersForm, SavedAgain}
+use Rattle.restoring.specs.Restoring.{writers_form, SavedAgain}
 use Rattle.restoring.proofs.Length.{saved-length}
 
 -- parts of a list of bytes
@@ -42,30 +42,30 @@ take-bytes (suc k) (x ∷ l) small zero = small 0
 take-bytes (suc k) (x ∷ l) small (suc i) = take-bytes k l (λ j. small (suc j)) i
 
 -- the first contents with a tag, of a file of bytes, are bytes
-first-upTo : (k most : ℕ) (file : List ℕ) → AreBytes file → AreBytes (first_of (tagged k (orEmpty (fieldsUpTo most file))))
-unfolding fieldsUpTo tagged
-first-upTo k zero file small = λ i. omega arith
-first-upTo k (suc most) file small =
-    pick (eqb (length file) 0) (ltb (length file) (extent file)) (fieldsUpTo most (drop (extent file) file))
-    (first-upTo k most (drop (extent file) file) (drop-bytes (extent file) file small))
+first-up_to : (k most : ℕ) (file : List ℕ) → AreBytes file → AreBytes (first_of (tagged k (or_empty (fields_up_to most file))))
+unfolding fields_up_to tagged
+first-up_to k zero file small = λ i. omega arith
+first-up_to k (suc most) file small =
+    pick (eqb (length file) 0) (ltb (length file) (extent file)) (fields_up_to most (drop (extent file) file))
+    (first-up_to k most (drop (extent file) file) (drop-bytes (extent file) file small))
   where
     first : Field
-    first = field (get_or file 0 0) (take (lengthIn file) (drop 3 file))
+    first = field (get_or file 0 0) (take (length_in file) (drop 3 file))
 
     Fine : Option (List Field) → Type 0
-    Fine o = AreBytes (first_of (tagged k (orEmpty o)))
+    Fine o = AreBytes (first_of (tagged k (or_empty o)))
 
     pick : (a b : Bool) (o : Option (List Field)) → Fine o → Fine (cond a (some []) (cond b none (infront first o)))
     pick true b o rest = λ i. omega arith
     pick false true o rest = λ i. omega arith
     pick false false none rest = rest
     pick false false (some fs) rest =
-        let c = take-bytes (lengthIn file) (drop 3 file) (drop-bytes 3 file small) in
+        let c = take-bytes (length_in file) (drop 3 file) (drop-bytes 3 file small) in
         by_bool (eqb first.tag k) (λ e. rw e c) (λ e. rw e rest)
 
 first-are-bytes : (k : ℕ) (file : List ℕ) → AreBytes file → AreBytes (first_of (tagged k (fields_of file)))
 unfolding fields_of fields
-first-are-bytes k file small = first-upTo k (length file) file small
+first-are-bytes k file small = first-up_to k (length file) file small
 
 -- one that is the only one
 single-length : (len : ℕ) (cs : List (List ℕ)) → single len cs ≡ true → length (first_of cs) ≡ len
@@ -73,11 +73,11 @@ single-length len [] e = absurd (let z : ◌≡◌ {A = ℕ} 0 1 = cc in omega a
 single-length len (c ∷ []) e = eqb-true (length c) len e
 single-length len (c ∷ d ∷ cs) e = absurd (let z : ◌≡◌ {A = ℕ} 0 1 = cc in omega arith)
 
-single-station : (i len : ℕ) (cs : List (List ℕ)) → single len (ofStation i cs) ≡ true → stationIn (first_of (ofStation i cs)) ≡ i
-unfolding ofStation
+single-station : (i len : ℕ) (cs : List (List ℕ)) → single len (of_station i cs) ≡ true → station_in (first_of (of_station i cs)) ≡ i
+unfolding of_station
 single-station i len [] e = absurd (let z : ◌≡◌ {A = ℕ} 0 1 = cc in omega arith)
 single-station i len (c ∷ cs) e =
-    by_bool (eqb (stationIn c) i) (λ q. rw q (eqb-true (stationIn c) i q)) (λ q. rw q (single-station i len cs (rw q at e)))
+    by_bool (eqb (station_in c) i) (λ q. rw q (eqb-true (station_in c) i q)) (λ q. rw q (single-station i len cs (rw q at e)))
 
 -- contents of one byte, of eight, and of a line
 one_byte : (c : List ℕ) → length c ≡ 1 → number_of c ∷ [] ≡ c
@@ -94,24 +94,24 @@ eight-bytes c small e =
     let q : bytes_of 4 (number_of (drop 4 c)) ≡ drop 4 c = rw b at (bytes-number (drop 4 c) (λ k h. drop-bytes 4 c small k)) in
     rw (p, q) (take-append-drop 4 c)
 
-station-line : (c : List ℕ) (i len : ℕ) → length c ≡ 1 + len → stationIn c ≡ i → i ∷ lineIn c ≡ c
+station-line : (c : List ℕ) (i len : ℕ) → length c ≡ 1 + len → station_in c ≡ i → i ∷ line_in c ≡ c
 station-line [] i len e s = absurd (omega arith)
 station-line (x ∷ c) i len e s = rw s
 
 -- a file that is read
 record Opened (file : List ℕ) : Type 0 where
-  singles : sizeAndTally (fields_of file) ≡ true
-  right : linesRight (fileSize file) (fileLines file) ≡ true
-  sound : tableNumber (fileSize file) (fileTable file) ≡ 0
+  singles : size_and_tally (fields_of file) ≡ true
+  right : lines_right (file_size file) (file_lines file) ≡ true
+  sound : table_number (file_size file) (file_table file) ≡ 0
 
-opened : (file : List ℕ) (len : ℕ) → loadNumber file len ≡ 0 → Opened file
-unfolding loadNumber sizeNumber restNumber
+opened : (file : List ℕ) (len : ℕ) → load_number file len ≡ 0 → Opened file
+unfolding load_number size_number rest_number
 opened file len z =
-    let p = else-zero (sizeNumber file) (restNumber (fileSize file) (fileLines file) len) z in
-    let q = else-zero (refuse 18 (runsPast file)) _ p.0 in
-    let s = else-zero _ (refuse 1 (not (isSize (fileSize file)))) q.1 in
+    let p = else-zero (size_number file) (rest_number (file_size file) (file_lines file) len) z in
+    let q = else-zero (refuse 18 (runs_past file)) _ p.0 in
+    let s = else-zero _ (refuse 1 (not (is_size (file_size file)))) q.1 in
     let r = else-zero _ _ p.1 in
-    let t = else-zero (refuse 2 (not (eqb len (tableLength (fileSize file))))) _ r.1 in
+    let t = else-zero (refuse 2 (not (eqb len (table_length (file_size file))))) _ r.1 in
     record {
       singles = not-false _ (refuse-zero 18 _ s.0);
       right = not-false _ (refuse-zero 19 _ r.0);
@@ -119,75 +119,75 @@ opened file len z =
     }
 
 -- the tally it says
-abbrev fileTally : List ℕ → Tally
-fileTally file = record { rounds = roundsIn (fields_of file); tests = testsIn (fields_of file) }
+abbrev file_tally : List ℕ → Tally
+file_tally file = record { rounds = rounds_in (fields_of file); tests = tests_in (fields_of file) }
 
 -- its fields are those that are written of it
 module _ (file : List ℕ) (o : Opened file) where
-  size-again : fileSize file ∷ [] ≡ first_of (tagged sizeTag (fields_of file))
-  unfolding sizeAndTally sizeIn
+  size-again : file_size file ∷ [] ≡ first_of (tagged size_tag (fields_of file))
+  unfolding size_and_tally size_in
   size-again =
       let b = both _ _ o.singles in
-      one_byte (first_of (tagged sizeTag (fields_of file))) (single-length 1 (tagged sizeTag (fields_of file)) b.0)
+      one_byte (first_of (tagged size_tag (fields_of file))) (single-length 1 (tagged size_tag (fields_of file)) b.0)
 
   tally-again : AreBytes file
-      → bytes_of 4 (roundsIn (fields_of file)) ++ bytes_of 4 (testsIn (fields_of file)) ≡ first_of (tagged tallyTag (fields_of file))
-  unfolding sizeAndTally roundsIn testsIn
+      → bytes_of 4 (rounds_in (fields_of file)) ++ bytes_of 4 (tests_in (fields_of file)) ≡ first_of (tagged tally_tag (fields_of file))
+  unfolding size_and_tally rounds_in tests_in
   tally-again small =
-      let b = both (single sizeLength (tagged sizeTag (fields_of file))) _ o.singles in
-      eight-bytes (first_of (tagged tallyTag (fields_of file))) (first-are-bytes tallyTag file small)
-      (single-length 8 (tagged tallyTag (fields_of file)) b.1)
+      let b = both (single size_length (tagged size_tag (fields_of file))) _ o.singles in
+      eight-bytes (first_of (tagged tally_tag (fields_of file))) (first-are-bytes tally_tag file small)
+      (single-length 8 (tagged tally_tag (fields_of file)) b.1)
 
   -- the contents of station i
   abbrev its : ℕ → List ℕ
-  its i = first_of (ofStation i (fileLines file))
+  its i = first_of (of_station i (file_lines file))
 
-  only : (i : ℕ) → i < fileSize file → single (lineFieldLength (fileSize file)) (ofStation i (fileLines file)) ≡ true
-  unfolding linesRight
+  only : (i : ℕ) → i < file_size file → single (line_field_length (file_size file)) (of_station i (file_lines file)) ≡ true
+  unfolding lines_right
   only i h =
-      let b = both (all_fit (fileSize file) (fileLines file)) _ o.right in
-      every-at (λ j. single (lineFieldLength (fileSize file)) (ofStation j (fileLines file))) (fileSize file) i b.1 h
+      let b = both (all_fit (file_size file) (file_lines file)) _ o.right in
+      every-at (λ j. single (line_field_length (file_size file)) (of_station j (file_lines file))) (file_size file) i b.1 h
 
-  its-length : (i : ℕ) → i < fileSize file → length (its i) ≡ 1 + stride (fileSize file)
-  its-length i h = single-length (lineFieldLength (fileSize file)) (ofStation i (fileLines file)) (only i h)
+  its-length : (i : ℕ) → i < file_size file → length (its i) ≡ 1 + stride (file_size file)
+  its-length i h = single-length (line_field_length (file_size file)) (of_station i (file_lines file)) (only i h)
 
-  its-line : (i : ℕ) → i < fileSize file → length (lineIn (its i)) ≡ stride (fileSize file)
+  its-line : (i : ℕ) → i < file_size file → length (line_in (its i)) ≡ stride (file_size file)
   its-line i h = omega (arith, length-drop 1 (its i), its-length i h)
 
-  line-again : (i : ℕ) → i < fileSize file → i ∷ line_of (fileSize file) (fileTable file) i ≡ its i
-  unfolding line_of lineStart tableIn
+  line-again : (i : ℕ) → i < file_size file → i ∷ line_of (file_size file) (file_table file) i ≡ its i
+  unfolding line_of line_start table_in
   line-again i h =
-      let s = single-station i (lineFieldLength (fileSize file)) (fileLines file) (only i h) in
-      rw (concat-at (λ j. lineIn (its j)) (stride (fileSize file)) (fileSize file) i its-line h)
-      (station-line (its i) i (stride (fileSize file)) (its-length i h) s)
+      let s = single-station i (line_field_length (file_size file)) (file_lines file) (only i h) in
+      rw (concat-at (λ j. line_in (its j)) (stride (file_size file)) (file_size file) i its-line h)
+      (station-line (its i) i (stride (file_size file)) (its-length i h) s)
 
-  lines-again : savedLines (fileSize file) (fileTable file) (fileSize file) ≡ concatOf (λ i. fieldBytes (field lineTag (its i))) (fileSize file)
-  unfolding savedLines
+  lines-again : saved_lines (file_size file) (file_table file) (file_size file) ≡ concat_of (λ i. field_bytes (field line_tag (its i))) (file_size file)
+  unfolding saved_lines
   lines-again =
-      concat-same (λ i. fieldBytes (lineField (fileSize file) (fileTable file) i)) (λ i. fieldBytes (field lineTag (its i))) (fileSize file)
+      concat-same (λ i. field_bytes (line_field (file_size file) (file_table file) i)) (λ i. field_bytes (field line_tag (its i))) (file_size file)
       (λ i h. rw (line-again i h))
 
-  form : AreBytes file → saved (fileSize file) (fileTable file) (fileTally file) ≡ writersForm (fields_of file)
-  unfolding saved writersForm
+  form : AreBytes file → saved (file_size file) (file_table file) (file_tally file) ≡ writers_form (fields_of file)
+  unfolding saved writers_form
   form small = rw (size-again, tally-again small, lines-again)
 
 -- table and tally after reading
-table-read : (file b : List ℕ) → loadNumber file (length b) ≡ 0 → loadAfter file b ≡ fileTable file
-unfolding loadAfter
+table-read : (file b : List ℕ) → load_number file (length b) ≡ 0 → load_after file b ≡ file_table file
+unfolding load_after
 table-read file b z = rw z
 
-tally-read : (file : List ℕ) (len : ℕ) → loadNumber file len ≡ 0 → (loadAnswer file len).tally ≡ fileTally file
-unfolding loadAnswer answer_of
+tally-read : (file : List ℕ) (len : ℕ) → load_number file len ≡ 0 → (load_answer file len).tally ≡ file_tally file
+unfolding load_answer answer_of
 tally-read file len z = rw z
 
 pub saved-again : SavedAgain
-unfolding saveNumber saveAfter
+unfolding save_number save_after
 saved-again file b b' small z long =
     let o = opened file (length b) z in
-    let n : ℕ = fileSize file in
-    let t : List ℕ = fileTable file in
-    let l = saved-length n t (fileTally file) o.sound in
-    let e : eqb (length b') (length (saved n t (fileTally file))) ≡ true = eq-eqb _ _ (long ∙ sym l) in
+    let n : ℕ = file_size file in
+    let t : List ℕ = file_table file in
+    let l = saved-length n t (file_tally file) o.sound in
+    let e : eqb (length b') (length (saved n t (file_tally file))) ≡ true = eq-eqb _ _ (long ∙ sym l) in
     let f = table-read file b z in
     let r = tally-read file (length b) z in
     (rw (f, r, o.sound, e), rw (f, r, o.sound, e) (form file o small))

@@ -3,12 +3,12 @@
 use Rattle.std.specs.Prelude.{◌≡◌, ℕ, ◌^◌, ◌<◌, length, get_or}
 use mathlib.Core.List.{List, [], ◌∷◌, ◌++◌, Memᴰ}
 use Rattle.std.proofs.Math.Option.{some}
-use Rattle.saved.specs.Fields.{Field, fieldBytes, fields}
+use Rattle.saved.specs.Fields.{Field, field_bytes, fields}
 
 -- the bytes of some fields, one field behind the other
-unfoldable pub fieldsBytes : List Field → List ℕ
-fieldsBytes [] = []
-fieldsBytes (f ∷ fs) = fieldBytes f ++ fieldsBytes fs
+unfoldable pub fields_bytes : List Field → List ℕ
+fields_bytes [] = []
+fields_bytes (f ∷ fs) = field_bytes f ++ fields_bytes fs
 
 -- a list of bytes: each is below 256
 abbrev pub AreBytes : List ℕ → Type 0
@@ -19,7 +19,7 @@ abbrev pub Short : List Field → Type 0
 Short fs = (f : Field) → Memᴰ f fs → length f.contents < 2 ^ 16
 
 abbrev pub FieldsOfBytes : Type 0
-FieldsOfBytes = (fs : List Field) → Short fs → fields (fieldsBytes fs) ≡ some fs
+FieldsOfBytes = (fs : List Field) → Short fs → fields (fields_bytes fs) ≡ some fs
 
 abbrev pub BytesOfFields : Type 0
-BytesOfFields = (file : List ℕ) (fs : List Field) → AreBytes file → fields file ≡ some fs → (fieldsBytes fs ≡ file) × Short fs
+BytesOfFields = (file : List ℕ) (fs : List Field) → AreBytes file → fields file ≡ some fs → (fields_bytes fs ≡ file) × Short fs

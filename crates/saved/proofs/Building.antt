@@ -9,43 +9,43 @@ use native.Mathlib.Omega.{arith}
 use borrow.Author.Tests.{eq-eqb, ne_eqb, lt-ltb, le-ltb}
 use lib.ListN.{length, get_or, set, take, drop, length-drop}
 use lib.Seq.{sets, take_all}
-use Rattle.table.specs.Table.{stride, lineStart}
-use Rattle.saved.specs.Fields.{Field, infront, is_none, orEmpty}
-use Rattle.saved.specs.Plant.{lineFieldLength, stationIn, lineIn}
-use Rattle.saved.specs.Passes.{built, builtWith, builtIf, build}
+use Rattle.table.specs.Table.{stride, line_start}
+use Rattle.saved.specs.Fields.{Field, infront, is_none, or_empty}
+use Rattle.saved.specs.Plant.{line_field_length, station_in, line_in}
+use Rattle.saved.specs.Passes.{built, built_with, built_if, build}
 
 -- one line more: not taken, by its length, its station, or since the station was seen
 module _ (n : ℕ) (c t seen : List ℕ) where
-  pub wrong-length : (length c ≡ stride n + 1 → ⊥) → built false t seen ≡ builtWith n c t seen
-  unfolding builtWith
-  wrong-length h = rw (ne_eqb (length c) (lineFieldLength n) (λ e. h (e ∙ omega arith)))
+  pub wrong-length : (length c ≡ stride n + 1 → ⊥) → built false t seen ≡ built_with n c t seen
+  unfolding built_with
+  wrong-length h = rw (ne_eqb (length c) (line_field_length n) (λ e. h (e ∙ omega arith)))
 
   module _ (long : length c ≡ stride n + 1) where
-    right : length c ≡ lineFieldLength n
+    right : length c ≡ line_field_length n
     right = long ∙ omega arith
 
-    pub too-high : n ≤ stationIn c → built false t seen ≡ builtWith n c t seen
-    unfolding builtWith
-    too-high h = rw (eq-eqb (length c) (lineFieldLength n) right, le-ltb (stationIn c) n h)
+    pub too-high : n ≤ station_in c → built false t seen ≡ built_with n c t seen
+    unfolding built_with
+    too-high h = rw (eq-eqb (length c) (line_field_length n) right, le-ltb (station_in c) n h)
 
-    module _ (low : stationIn c < n) where
-      pub seen-before : (get_or seen (stationIn c) 0 ≡ 0 → ⊥) → built false t seen ≡ builtWith n c t seen
-      unfolding builtWith
+    module _ (low : station_in c < n) where
+      pub seen-before : (get_or seen (station_in c) 0 ≡ 0 → ⊥) → built false t seen ≡ built_with n c t seen
+      unfolding built_with
       seen-before h =
-          rw (eq-eqb (length c) (lineFieldLength n) right, lt-ltb (stationIn c) n low, ne_eqb (get_or seen (stationIn c) 0) 0 h)
+          rw (eq-eqb (length c) (line_field_length n) right, lt-ltb (station_in c) n low, ne_eqb (get_or seen (station_in c) 0) 0 h)
 
       -- taken: the line as the code takes it from the contents
-      pub line_taken : (t' : List ℕ) (start : ℕ) → get_or seen (stationIn c) 0 ≡ 0 → start ≡ lineStart n (stationIn c)
-          → t' ≡ sets t start (take (length c - 1) (drop 1 c)) → built true t' (set seen (stationIn c) 1) ≡ builtWith n c t seen
-      unfolding builtWith
+      pub line_taken : (t' : List ℕ) (start : ℕ) → get_or seen (station_in c) 0 ≡ 0 → start ≡ line_start n (station_in c)
+          → t' ≡ sets t start (take (length c - 1) (drop 1 c)) → built true t' (set seen (station_in c) 1) ≡ built_with n c t seen
+      unfolding built_with
       line_taken t' start h s e =
-          let d : take (length c - 1) (lineIn c) ≡ lineIn c = take_all (length c - 1) (lineIn c) (omega (arith, length-drop 1 c)) in
-          rw (eq-eqb (length c) (lineFieldLength n) right, lt-ltb (stationIn c) n low, eq-eqb (get_or seen (stationIn c) 0) 0 h)
+          let d : take (length c - 1) (line_in c) ≡ line_in c = take_all (length c - 1) (line_in c) (omega (arith, length-drop 1 c)) in
+          rw (eq-eqb (length c) (line_field_length n) right, lt-ltb (station_in c) n low, eq-eqb (get_or seen (station_in c) 0) 0 h)
           (rw (e, d, s))
 
 -- the second pass, one field more
 module _ (n : ℕ) (f : Field) (all rest : Option (List Field)) (t seen t' seen' : List ℕ) (r : Bool)
-    (split : all ≡ infront f rest) (whole : is_none all ≡ false) (took : built r t' seen' ≡ builtIf n f t seen) where
+    (split : all ≡ infront f rest) (whole : is_none all ≡ false) (took : built r t' seen' ≡ built_if n f t seen) where
   pub whole-rest : is_none rest ≡ false
   whole-rest = go rest (ap is_none (sym split) ∙ whole)
     where
@@ -54,16 +54,16 @@ module _ (n : ℕ) (f : Field) (all rest : Option (List Field)) (t seen t' seen'
       go (some fs) e = refl
 
   both_ways : (fs : List Field) → rest ≡ some fs
-      → build n (orEmpty all) (built true t seen) ≡ cond r (build n fs (built r t' seen')) (built r t' seen')
+      → build n (or_empty all) (built true t seen) ≡ cond r (build n fs (built r t' seen')) (built r t' seen')
   unfolding build
   both_ways fs e = rw (split, e, ← took)
 
-  some-rest : (rest : Option (List Field)) → is_none rest ≡ false → rest ≡ some (orEmpty rest)
+  some-rest : (rest : Option (List Field)) → is_none rest ≡ false → rest ≡ some (or_empty rest)
   some-rest none e = cc
   some-rest (some fs) e = refl
 
-  pub build-next : r ≡ true → build n (orEmpty rest) (built true t' seen') ≡ build n (orEmpty all) (built true t seen)
-  build-next e = sym (both_ways (orEmpty rest) (some-rest rest whole-rest) ∙ rw e)
+  pub build-next : r ≡ true → build n (or_empty rest) (built true t' seen') ≡ build n (or_empty all) (built true t seen)
+  build-next e = sym (both_ways (or_empty rest) (some-rest rest whole-rest) ∙ rw e)
 
-  pub build-stops : r ≡ false → built false t' seen' ≡ build n (orEmpty all) (built true t seen)
-  build-stops e = sym (both_ways (orEmpty rest) (some-rest rest whole-rest) ∙ rw e)
+  pub build-stops : r ≡ false → built false t' seen' ≡ build n (or_empty all) (built true t seen)
+  build-stops e = sym (both_ways (or_empty rest) (some-rest rest whole-rest) ∙ rw e)

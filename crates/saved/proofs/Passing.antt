@@ -9,9 +9,9 @@ use lib.ListN.{length, take, drop}
 use lib.Dec.{eqb}
 use Rattle.lists.proofs.BoolLaws.{by_bool}
 use Rattle.saved.specs.Bytes.{number_of}
-use Rattle.saved.specs.Fields.{Field, infront, is_none, orEmpty, tagged, single, first_of}
-use Rattle.saved.specs.Plant.{sizeTag, tallyTag}
-use Rattle.saved.specs.Passes.{foundWith, foundIf, openingWith, scan, nothingFound}
+use Rattle.saved.specs.Fields.{Field, infront, is_none, or_empty, tagged, single, first_of}
+use Rattle.saved.specs.Plant.{size_tag, tally_tag}
+use Rattle.saved.specs.Passes.{found_with, found_if, opening_with, scan, nothing_found}
 use Rattle.saved.specs.declared.opening.Found.{Found}
 use Rattle.saved.specs.declared.opening.Found.TheVariants.{Absent, Numbers, Wrong}
 use Rattle.saved.specs.declared.opening.Opening.{Opening}
@@ -19,32 +19,32 @@ use Rattle.saved.specs.declared.opening.Scan.{Scan}
 use Rattle.saved.specs.declared.opening.Scan.TheVariants.{Cut, Whole}
 
 -- the first pass, one field more
-pub scan-next : (o : Opening) (f : Field) (all rest : Option (List Field)) → all ≡ infront f rest → scan o all ≡ scan (openingWith o f) rest
+pub scan-next : (o : Opening) (f : Field) (all rest : Option (List Field)) → all ≡ infront f rest → scan o all ≡ scan (opening_with o f) rest
 unfolding scan
 scan-next o f all rest e = ap (scan o) e ∙ step rest
   where
-    step : (rest : Option (List Field)) → scan o (infront f rest) ≡ scan (openingWith o f) rest
+    step : (rest : Option (List Field)) → scan o (infront f rest) ≡ scan (opening_with o f) rest
     step none = refl
     step (some fs) = refl
 
 -- what a tag's fields leave of what is found, by their contents
-foundOver : ℕ → ℕ → Found → List (List ℕ) → Found
-foundOver upper lower found [] = found
-foundOver upper lower found (c ∷ cs) = foundOver upper lower (foundWith upper lower found c) cs
+found_over : ℕ → ℕ → Found → List (List ℕ) → Found
+found_over upper lower found [] = found
+found_over upper lower found (c ∷ cs) = found_over upper lower (found_with upper lower found c) cs
 
 found-tag : (tag upper lower : ℕ) (found : Found) (f : Field) (fs : List Field)
-    → foundOver upper lower (foundIf tag upper lower found f) (tagged tag fs) ≡ foundOver upper lower found (tagged tag (f ∷ fs))
-unfolding tagged foundOver
+    → found_over upper lower (found_if tag upper lower found f) (tagged tag fs) ≡ found_over upper lower found (tagged tag (f ∷ fs))
+unfolding tagged found_over
 found-tag tag upper lower found f fs = by_bool (eqb f.tag tag) (λ e. rw e) (λ e. rw e)
 
 -- the first pass over all fields
 scan-all : (o : Opening) (fs : List Field)
-    → scan o (some fs) ≡ Whole (record { size = foundOver 0 1 o.size (tagged sizeTag fs); tally = foundOver 4 4 o.tally (tagged tallyTag fs) })
-unfolding scan tagged foundOver
+    → scan o (some fs) ≡ Whole (record { size = found_over 0 1 o.size (tagged size_tag fs); tally = found_over 4 4 o.tally (tagged tally_tag fs) })
+unfolding scan tagged found_over
 scan-all o [] = refl
 scan-all o (f ∷ fs) =
-    scan-all (openingWith o f) fs
-    ∙ ap₂ (λ a b. Whole (record { size = a; tally = b })) (found-tag sizeTag 0 1 o.size f fs) (found-tag tallyTag 4 4 o.tally f fs)
+    scan-all (opening_with o f) fs
+    ∙ ap₂ (λ a b. Whole (record { size = a; tally = b })) (found-tag size_tag 0 1 o.size f fs) (found-tag tally_tag 4 4 o.tally f fs)
 
 -- what is found tells whether there is one such field of that length, and its numbers
 abbrev pub FoundTells : ℕ → ℕ → List (List ℕ) → Found → Type 0
@@ -53,13 +53,13 @@ FoundTells upper lower cs (Numbers first second) =
     (single (upper + lower) cs ≡ true) × (first ≡ number_of (take upper (first_of cs))) × (second ≡ number_of (drop upper (first_of cs)))
 FoundTells upper lower cs Wrong = single (upper + lower) cs ≡ false
 
-stays-wrong : (upper lower : ℕ) (cs : List (List ℕ)) → foundOver upper lower Wrong cs ≡ Wrong
-unfolding foundOver
+stays-wrong : (upper lower : ℕ) (cs : List (List ℕ)) → found_over upper lower Wrong cs ≡ Wrong
+unfolding found_over
 stays-wrong upper lower [] = refl
 stays-wrong upper lower (c ∷ cs) = stays-wrong upper lower cs
 
-found-tells : (upper lower : ℕ) (cs : List (List ℕ)) → FoundTells upper lower cs (foundOver upper lower Absent cs)
-unfolding foundOver
+found-tells : (upper lower : ℕ) (cs : List (List ℕ)) → FoundTells upper lower cs (found_over upper lower Absent cs)
+unfolding found_over
 found-tells upper lower [] = refl
 found-tells upper lower (c ∷ []) = by_bool (eqb (length c) (upper + lower)) (λ e. rw e (e, refl, refl)) (λ e. rw e e)
 found-tells upper lower (c ∷ d ∷ cs) =
@@ -69,13 +69,13 @@ found-tells upper lower (c ∷ d ∷ cs) =
 abbrev pub ScanTells : Option (List Field) → Scan → Type 0
 ScanTells fs Cut = is_none fs ≡ true
 ScanTells fs (Whole o) =
-    (is_none fs ≡ false) × FoundTells 0 1 (tagged sizeTag (orEmpty fs)) o.size × FoundTells 4 4 (tagged tallyTag (orEmpty fs)) o.tally
+    (is_none fs ≡ false) × FoundTells 0 1 (tagged size_tag (or_empty fs)) o.size × FoundTells 4 4 (tagged tally_tag (or_empty fs)) o.tally
 
-scan-tells : (fs : Option (List Field)) → ScanTells fs (scan nothingFound fs)
+scan-tells : (fs : Option (List Field)) → ScanTells fs (scan nothing_found fs)
 unfolding scan
 scan-tells none = refl
-scan-tells (some fs) = rw (scan-all nothingFound fs) (refl, found-tells 0 1 (tagged sizeTag fs), found-tells 4 4 (tagged tallyTag fs))
+scan-tells (some fs) = rw (scan-all nothing_found fs) (refl, found-tells 0 1 (tagged size_tag fs), found-tells 4 4 (tagged tally_tag fs))
 
 -- the same, by the answer of the call
-pub scan-told : (fs : Option (List Field)) (r s : Scan) → r ≡ scan nothingFound fs → r ≡ s → ScanTells fs s
+pub scan-told : (fs : Option (List Field)) (r s : Scan) → r ≡ scan nothing_found fs → r ≡ s → ScanTells fs s
 scan-told fs r s e f = subst (ScanTells fs) (sym e ∙ f) (scan-tells fs)

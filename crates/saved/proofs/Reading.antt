@@ -11,38 +11,38 @@ use borrow.Author.Tests.{le-leb, lt-leb, lt-ltb, le-ltb}
 use lib.ListN.{length, get_or, take, drop, length-drop}
 use lib.Seq.{get_or-drop, drop-drop}
 use Rattle.saved.specs.Bytes.{number_of}
-use Rattle.saved.specs.Fields.{field, infront, lengthIn, extent, fields}
-use Rattle.saved.specs.Passes.{readAt}
+use Rattle.saved.specs.Fields.{field, infront, length_in, extent, fields}
+use Rattle.saved.specs.Passes.{read_at}
 use Rattle.saved.proofs.FieldLaws.{fields-nil, fields-cut, fields-cons}
 use Rattle.saved.specs.declared.fields.Read.{Read}
 use Rattle.saved.specs.declared.fields.Read.TheVariants.{At, Past, End}
 
 -- the length that a head says, from its two bytes
-length-said : (file : List ℕ) (at : ℕ) → lengthIn (drop at file) ≡ get_or file (at + 1) 0 * 256 + get_or file (at + 2) 0
+length-said : (file : List ℕ) (at : ℕ) → length_in (drop at file) ≡ get_or file (at + 1) 0 * 256 + get_or file (at + 2) 0
 unfolding number_of
 length-said file at = rw (get_or-drop at file 1 0, get_or-drop at file 2 0) (omega arith)
 
-pub at-end : (file : List ℕ) (at : ℕ) → length file ≤ at → End ≡ readAt file at
-unfolding readAt
+pub at-end : (file : List ℕ) (at : ℕ) → length file ≤ at → End ≡ read_at file at
+unfolding read_at
 at-end file at h = rw (le-leb (length file) at h)
 
 module _ (file : List ℕ) (at : ℕ) (inside : at < length file) where
-  pub at_head : length file - at < 3 → Past ≡ readAt file at
-  unfolding readAt
+  pub at_head : length file - at < 3 → Past ≡ read_at file at
+  unfolding read_at
   at_head h = rw (lt-leb (length file) at inside, lt-ltb (length file - at) (extent (drop at file)) (omega arith))
 
   -- the length that the head says
   abbrev pub said : ℕ
   said = get_or file (at + 1) 0 * 256 + get_or file (at + 2) 0
 
-  pub at-past : 3 ≤ length file - at → length file - at - 3 < said → Past ≡ readAt file at
-  unfolding readAt
+  pub at-past : 3 ≤ length file - at → length file - at - 3 < said → Past ≡ read_at file at
+  unfolding read_at
   at-past m h =
       rw (lt-leb (length file) at inside, lt-ltb (length file - at) (extent (drop at file)) (omega (arith, length-said file at)))
 
   pub at_field : 3 ≤ length file - at → said ≤ length file - at - 3
-      → At (get_or file at 0) (at + 3) said (record { at = at + 3 + said }) ≡ readAt file at
-  unfolding readAt
+      → At (get_or file at 0) (at + 3) said (record { at = at + 3 + said }) ≡ read_at file at
+  unfolding read_at
   at_field m h =
       let s : at + 3 + said ≡ at + extent (drop at file) = omega (arith, length-said file at) in
       let w = le-ltb (length file - at) (extent (drop at file)) (omega (arith, length-said file at)) in
@@ -62,8 +62,8 @@ empty : (l : List ℕ) → length l ≤ 0 → l ≡ []
 empty [] h = refl
 empty (x ∷ l) h = absurd (omega arith)
 
-tells : (file : List ℕ) (at : ℕ) → Tells file at (readAt file at)
-unfolding readAt
+tells : (file : List ℕ) (at : ℕ) → Tells file at (read_at file at)
+unfolding read_at
 tells file at = pick (dec_lt at (length file)) (dec_lt (length file - at) (extent (drop at file)))
   where
     rest : List ℕ
@@ -72,7 +72,7 @@ tells file at = pick (dec_lt at (length file)) (dec_lt (length file - at) (exten
     long : length rest ≡ length file - at
     long = length-drop at file
 
-    pick : Dec (at < length file) → Dec (length file - at < extent rest) → Tells file at (readAt file at)
+    pick : Dec (at < length file) → Dec (length file - at < extent rest) → Tells file at (read_at file at)
     pick (no h) d = rw (le-leb (length file) at (omega arith), empty rest (omega (arith, long))) fields-nil
     pick (yes h) (yes l) =
         rw (lt-leb (length file) at h, lt-ltb (length file - at) (extent rest) l) (fields-cut rest (omega (arith, long)) (omega (arith, long)))
@@ -85,5 +85,5 @@ tells file at = pick (dec_lt at (length file)) (dec_lt (length file - at) (exten
         )
 
 -- the same, by the answer of the call
-pub told : (file : List ℕ) (at : ℕ) (r s : Read) → r ≡ readAt file at → r ≡ s → Tells file at s
+pub told : (file : List ℕ) (at : ℕ) (r s : Read) → r ≡ read_at file at → r ≡ s → Tells file at s
 told file at r s e f = subst (Tells file at) (sym e ∙ f) (tells file at)

@@ -10,9 +10,9 @@ use native.Mathlib.Omega.{arith}
 use lib.ListN.{length, get_or, set, drop, length-set}
 use lib.Seq.{sets, length-sets, get_or-set_same, get_or-set_other, get_or-take, get_or-drop, ext_get_or}
 use Rattle.lists.proofs.Writing.{sets-ahead}
-use Rattle.table.specs.Table.{stride, tableLength, lineStart}
+use Rattle.table.specs.Table.{stride, table_length, line_start}
 use Rattle.table.proofs.CellLaws.{line-inside}
-use Rattle.saved.specs.Bytes.{concatOf}
+use Rattle.saved.specs.Bytes.{concat_of}
 use Rattle.saved.specs.Save.{line_of}
 use Rattle.saved.proofs.ConcatLaws.{concat-parts}
 use Rattle.saved.proofs.SaveLaws.{line-length}
@@ -31,41 +31,41 @@ in-written l (x ∷ xs) a (suc j) h m =
     rw e (in-written (set l a x) xs (suc a) j (omega arith) (omega (arith, length-set l a x)))
 
 -- lines do not overlap
-ordered : (n i j : ℕ) → i < j → lineStart n i + stride n ≤ lineStart n j
-unfolding lineStart
+ordered : (n i j : ℕ) → i < j → line_start n i + stride n ≤ line_start n j
+unfolding line_start
 ordered n i j h = omega (arith, suc-mul i (stride n), mul-le-mul_right {m = suc i} {n = j} (stride n) h)
 
-module _ (n : ℕ) (t l : List ℕ) (i : ℕ) (long : length t ≡ tableLength n) (h : i < n) (e : length l ≡ stride n) where
+module _ (n : ℕ) (t l : List ℕ) (i : ℕ) (long : length t ≡ table_length n) (h : i < n) (e : length l ≡ stride n) where
   written : List ℕ
-  written = sets t (lineStart n i) l
+  written = sets t (line_start n i) l
 
-  pub written-long : length (sets t (lineStart n i) l) ≡ tableLength n
-  written-long = length-sets t (lineStart n i) l ∙ long
+  pub written-long : length (sets t (line_start n i) l) ≡ table_length n
+  written-long = length-sets t (line_start n i) l ∙ long
 
-  pub line_same : line_of n (sets t (lineStart n i) l) i ≡ l
+  pub line_same : line_of n (sets t (line_start n i) l) i ≡ l
   unfolding line_of written
   line_same =
       let a = line-length n written written-long i h in
       ext_get_or 0 (line_of n written i) l (a ∙ sym e)
-      (λ k g. rw (get_or-take (stride n) (drop (lineStart n i) written) k 0 (omega arith), get_or-drop (lineStart n i) written k 0)
-      (in-written t l (lineStart n i) k (omega arith) (omega (arith, line-inside n i h))))
+      (λ k g. rw (get_or-take (stride n) (drop (line_start n i) written) k 0 (omega arith), get_or-drop (line_start n i) written k 0)
+      (in-written t l (line_start n i) k (omega arith) (omega (arith, line-inside n i h))))
 
-  pub line_other : (j : ℕ) → j < n → j ≢ i → line_of n (sets t (lineStart n i) l) j ≡ line_of n t j
+  pub line_other : (j : ℕ) → j < n → j ≢ i → line_of n (sets t (line_start n i) l) j ≡ line_of n t j
   unfolding line_of written
   line_other j g d =
       let a = line-length n written written-long j g in
       let b = line-length n t long j g in
       ext_get_or 0 (line_of n written j) (line_of n t j) (a ∙ sym b)
       (λ k m. let s : k < stride n = omega arith in
-      rw (get_or-take (stride n) (drop (lineStart n j) written) k 0 s, get_or-drop (lineStart n j) written k 0)
-      (apart (lineStart n j + k) k s refl ∙ sym (get_or-take (stride n) (drop (lineStart n j) t) k 0 s ∙ get_or-drop (lineStart n j) t k 0)))
+      rw (get_or-take (stride n) (drop (line_start n j) written) k 0 s, get_or-drop (line_start n j) written k 0)
+      (apart (line_start n j + k) k s refl ∙ sym (get_or-take (stride n) (drop (line_start n j) t) k 0 s ∙ get_or-drop (line_start n j) t k 0)))
     where
-      apart : (p k : ℕ) → k < stride n → p ≡ lineStart n j + k → get_or written p 0 ≡ get_or t p 0
+      apart : (p k : ℕ) → k < stride n → p ≡ line_start n j + k → get_or written p 0 ≡ get_or t p 0
       apart p k s q =
-          by_cases (dec_lt j i) (λ y. before-written t l (lineStart n i) p (omega (arith, ordered n j i y)))
-          (λ y. sets-ahead t l (lineStart n i) p (omega (arith, ordered n i j (omega arith))))
+          by_cases (dec_lt j i) (λ y. before-written t l (line_start n i) p (omega (arith, ordered n j i y)))
+          (λ y. sets-ahead t l (line_start n i) p (omega (arith, ordered n i j (omega arith))))
 
 -- a table is its lines
-pub own-lines : (n : ℕ) (t : List ℕ) → length t ≡ tableLength n → concatOf (λ i. line_of n t i) n ≡ t
-unfolding line_of lineStart tableLength
+pub own-lines : (n : ℕ) (t : List ℕ) → length t ≡ table_length n → concat_of (λ i. line_of n t i) n ≡ t
+unfolding line_of line_start table_length
 own-lines n t long = concat-parts t (stride n) n long

@@ -13,6 +13,6 @@ bytes_of zero v = []
 bytes_of (suc k) v = bytes_of k (v / 256) ++ (v % 256 ∷ [])
 
 -- the lists f 0, f 1, .., f (n − 1), one behind the other
-unfoldable pub concatOf : (ℕ → List ℕ) → ℕ → List ℕ
-concatOf f zero = []
-concatOf f (suc n) = concatOf f n ++ f n
+unfoldable pub concat_of : (ℕ → List ℕ) → ℕ → List ℕ
+concat_of f zero = []
+concat_of f (suc n) = concat_of f n ++ f n

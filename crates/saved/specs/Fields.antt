@@ -13,8 +13,8 @@ abbrev pub field : ℕ → List ℕ → Field
 field tag contents = record { tag = tag; contents = contents }
 
 -- the bytes of a field
-unfoldable pub fieldBytes : Field → List ℕ
-fieldBytes f = f.tag ∷ (bytes_of 2 (length f.contents) ++ f.contents)
+unfoldable pub field_bytes : Field → List ℕ
+field_bytes f = f.tag ∷ (bytes_of 2 (length f.contents) ++ f.contents)
 
 -- one field more in front, where there are fields
 abbrev pub infront : Field → Option (List Field) → Option (List Field)
@@ -22,25 +22,25 @@ infront f none = none
 infront f (some fs) = some (f ∷ fs)
 
 -- the length that the head of the first field says
-abbrev pub lengthIn : List ℕ → ℕ
-lengthIn file = number_of (get_or file 1 0 ∷ get_or file 2 0 ∷ [])
+abbrev pub length_in : List ℕ → ℕ
+length_in file = number_of (get_or file 1 0 ∷ get_or file 2 0 ∷ [])
 
 -- the bytes of the first field, its head of three included
 abbrev pub extent : List ℕ → ℕ
-extent file = 3 + lengthIn file
+extent file = 3 + length_in file
 
 -- the fields of a file that has at most so many; none where "a field or its head runs past the end". The bound is for the recursion only: from
 -- the file's length on it does not matter (`fields-more` of proofs/FieldLaws.antt)
-unfoldable pub fieldsUpTo : ℕ → List ℕ → Option (List Field)
-fieldsUpTo zero file = some []
-fieldsUpTo (suc most) file =
+unfoldable pub fields_up_to : ℕ → List ℕ → Option (List Field)
+fields_up_to zero file = some []
+fields_up_to (suc most) file =
     cond (eqb (length file) 0) (some [])
     (cond (ltb (length file) (extent file)) none
-    (infront (field (get_or file 0 0) (take (lengthIn file) (drop 3 file))) (fieldsUpTo most (drop (extent file) file))))
+    (infront (field (get_or file 0 0) (take (length_in file) (drop 3 file))) (fields_up_to most (drop (extent file) file))))
 
 -- the fields of a file: no more than it has bytes
 unfoldable pub fields : List ℕ → Option (List Field)
-fields file = fieldsUpTo (length file) file
+fields file = fields_up_to (length file) file
 
 -- whether there are none
 abbrev pub is_none : Option (List Field) → Bool
@@ -48,17 +48,17 @@ is_none none = true
 is_none (some fs) = false
 
 -- 18: "when a field or its head runs past the end"
-unfoldable pub runsPast : List ℕ → Bool
-runsPast file = is_none (fields file)
+unfoldable pub runs_past : List ℕ → Bool
+runs_past file = is_none (fields file)
 
 -- the fields, where there are
-abbrev pub orEmpty : Option (List Field) → List Field
-orEmpty none = []
-orEmpty (some fs) = fs
+abbrev pub or_empty : Option (List Field) → List Field
+or_empty none = []
+or_empty (some fs) = fs
 
 -- the fields of a file that is not refused by 18
 unfoldable pub fields_of : List ℕ → List Field
-fields_of file = orEmpty (fields file)
+fields_of file = or_empty (fields file)
 
 -- the contents of the fields with a tag, in the file's order; the reader "takes any order and passes over other tags"
 unfoldable pub tagged : ℕ → List Field → List (List ℕ)

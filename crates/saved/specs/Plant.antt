@@ -3,58 +3,58 @@
 use Rattle.std.specs.Prelude.{ℕ, ◌+◌, Bool, true, cond, ◌&&◌, List, [], ◌∷◌, length, get_or, take, drop, ltb, eqb}
 use Rattle.lists.specs.Search.{every}
 use Rattle.table.specs.Table.{stride}
-use Rattle.saved.specs.Bytes.{number_of, concatOf}
+use Rattle.saved.specs.Bytes.{number_of, concat_of}
 use Rattle.saved.specs.Fields.{Field, tagged, single, first_of}
 
 -- "Tag 1: size, one byte."
-abbrev pub sizeTag : ℕ
-sizeTag = 1
+abbrev pub size_tag : ℕ
+size_tag = 1
 
-abbrev pub sizeLength : ℕ
-sizeLength = 1
+abbrev pub size_length : ℕ
+size_length = 1
 
-unfoldable pub sizeIn : List Field → ℕ
-sizeIn fs = number_of (first_of (tagged sizeTag fs))
+unfoldable pub size_in : List Field → ℕ
+size_in fs = number_of (first_of (tagged size_tag fs))
 
 -- "Tag 2: rounds and tests, four bytes each, high byte first."
-abbrev pub tallyTag : ℕ
-tallyTag = 2
+abbrev pub tally_tag : ℕ
+tally_tag = 2
 
-abbrev pub tallyLength : ℕ
-tallyLength = 8
+abbrev pub tally_length : ℕ
+tally_length = 8
 
-unfoldable pub roundsIn : List Field → ℕ
-roundsIn fs = number_of (take 4 (first_of (tagged tallyTag fs)))
+unfoldable pub rounds_in : List Field → ℕ
+rounds_in fs = number_of (take 4 (first_of (tagged tally_tag fs)))
 
-unfoldable pub testsIn : List Field → ℕ
-testsIn fs = number_of (drop 4 (first_of (tagged tallyTag fs)))
+unfoldable pub tests_in : List Field → ℕ
+tests_in fs = number_of (drop 4 (first_of (tagged tally_tag fs)))
 
 -- not "19 when the size or tally field is absent, twice or of wrong length"
-unfoldable pub sizeAndTally : List Field → Bool
-sizeAndTally fs = single sizeLength (tagged sizeTag fs) && single tallyLength (tagged tallyTag fs)
+unfoldable pub size_and_tally : List Field → Bool
+size_and_tally fs = single size_length (tagged size_tag fs) && single tally_length (tagged tally_tag fs)
 
 -- "Tag 3: station number and its line."
-abbrev pub lineTag : ℕ
-lineTag = 3
+abbrev pub line_tag : ℕ
+line_tag = 3
 
-abbrev pub lineFieldLength : ℕ → ℕ
-lineFieldLength n = 1 + stride n
+abbrev pub line_field_length : ℕ → ℕ
+line_field_length n = 1 + stride n
 
 -- contents with tag 3: the station, and its line
-abbrev pub stationIn : List ℕ → ℕ
-stationIn c = get_or c 0 0
+abbrev pub station_in : List ℕ → ℕ
+station_in c = get_or c 0 0
 
-abbrev pub lineIn : List ℕ → List ℕ
-lineIn c = drop 1 c
+abbrev pub line_in : List ℕ → List ℕ
+line_in c = drop 1 c
 
 -- those of station i
-unfoldable pub ofStation : ℕ → List (List ℕ) → List (List ℕ)
-ofStation i [] = []
-ofStation i (c ∷ cs) = cond (eqb (stationIn c) i) (c ∷ ofStation i cs) (ofStation i cs)
+unfoldable pub of_station : ℕ → List (List ℕ) → List (List ℕ)
+of_station i [] = []
+of_station i (c ∷ cs) = cond (eqb (station_in c) i) (c ∷ of_station i cs) (of_station i cs)
 
 -- not "a line field has the wrong length", and no station is "too high"
 abbrev pub fits : ℕ → List ℕ → Bool
-fits n c = eqb (length c) (lineFieldLength n) && ltb (stationIn c) n
+fits n c = eqb (length c) (line_field_length n) && ltb (station_in c) n
 
 unfoldable pub all_fit : ℕ → List (List ℕ) → Bool
 all_fit n [] = true
@@ -62,9 +62,9 @@ all_fit n (c ∷ cs) = fits n c && all_fit n cs
 
 -- not "20 when a line field has the wrong length or a station is absent, twice or too high", of the contents with tag 3: all fit, and there is
 -- one for each station
-unfoldable pub linesRight : ℕ → List (List ℕ) → Bool
-linesRight n cs = all_fit n cs && every (λ i. single (lineFieldLength n) (ofStation i cs)) n
+unfoldable pub lines_right : ℕ → List (List ℕ) → Bool
+lines_right n cs = all_fit n cs && every (λ i. single (line_field_length n) (of_station i cs)) n
 
 -- the table: each station's line, ascending
-unfoldable pub tableIn : ℕ → List (List ℕ) → List ℕ
-tableIn n cs = concatOf (λ i. lineIn (first_of (ofStation i cs))) n
+unfoldable pub table_in : ℕ → List (List ℕ) → List ℕ
+table_in n cs = concat_of (λ i. line_in (first_of (of_station i cs))) n

@@ -3,38 +3,38 @@
 -- Assumes nothing.
 use Rattle.std.specs.Prelude.{ℕ, List, [], ◌∷◌, ◌++◌, length, take, drop}
 use Rattle.lists.specs.Refusal.{◌else◌, unless}
-use Rattle.table.specs.Table.{stride, lineStart}
-use Rattle.table.specs.Rules.{tableNumber, lengthRefusal}
+use Rattle.table.specs.Table.{stride, line_start}
+use Rattle.table.specs.Rules.{table_number, length_refusal}
 use Rattle.plant.specs.declared.Tally.{Tally}
-use Rattle.saved.specs.Bytes.{bytes_of, concatOf}
-use Rattle.saved.specs.Fields.{Field, field, fieldBytes}
-use Rattle.saved.specs.Plant.{sizeTag, tallyTag, lineTag}
+use Rattle.saved.specs.Bytes.{bytes_of, concat_of}
+use Rattle.saved.specs.Fields.{Field, field, field_bytes}
+use Rattle.saved.specs.Plant.{size_tag, tally_tag, line_tag}
 
 -- line i of a table
 unfoldable pub line_of : ℕ → List ℕ → ℕ → List ℕ
-line_of n t i = take (stride n) (drop (lineStart n i) t)
+line_of n t i = take (stride n) (drop (line_start n i) t)
 
 -- the fields of the three tags
-abbrev pub sizeField : ℕ → Field
-sizeField n = field sizeTag (n ∷ [])
+abbrev pub size_field : ℕ → Field
+size_field n = field size_tag (n ∷ [])
 
-abbrev pub tallyField : Tally → Field
-tallyField tally = field tallyTag (bytes_of 4 tally.rounds ++ bytes_of 4 tally.tests)
+abbrev pub tally_field : Tally → Field
+tally_field tally = field tally_tag (bytes_of 4 tally.rounds ++ bytes_of 4 tally.tests)
 
-abbrev pub lineField : ℕ → List ℕ → ℕ → Field
-lineField n t i = field lineTag (i ∷ line_of n t i)
+abbrev pub line_field : ℕ → List ℕ → ℕ → Field
+line_field n t i = field line_tag (i ∷ line_of n t i)
 
 -- the lines ascending
-unfoldable pub savedLines : ℕ → List ℕ → ℕ → List ℕ
-savedLines n t k = concatOf (λ i. fieldBytes (lineField n t i)) k
+unfoldable pub saved_lines : ℕ → List ℕ → ℕ → List ℕ
+saved_lines n t k = concat_of (λ i. field_bytes (line_field n t i)) k
 
 -- the saved plant
 unfoldable pub saved : ℕ → List ℕ → Tally → List ℕ
-saved n t tally = fieldBytes (sizeField n) ++ (fieldBytes (tallyField tally) ++ savedLines n t n)
+saved n t tally = field_bytes (size_field n) ++ (field_bytes (tally_field tally) ++ saved_lines n t n)
 
-unfoldable pub saveNumber : ℕ → List ℕ → Tally → ℕ → ℕ
-saveNumber n t tally len = tableNumber n t else lengthRefusal (length (saved n t tally)) len
+unfoldable pub save_number : ℕ → List ℕ → Tally → ℕ → ℕ
+save_number n t tally len = table_number n t else length_refusal (length (saved n t tally)) len
 
 -- the buffer after the call, given b
-unfoldable pub saveAfter : ℕ → List ℕ → Tally → List ℕ → List ℕ
-saveAfter n t tally b = unless (saveNumber n t tally (length b)) b (saved n t tally)
+unfoldable pub save_after : ℕ → List ℕ → Tally → List ℕ → List ℕ
+save_after n t tally b = unless (save_number n t tally (length b)) b (saved n t tally)

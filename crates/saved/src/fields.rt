@@ -1,6 +1,6 @@
 // Tagged fields: a one-byte tag, a two-byte length (high byte first), then the contents. A cursor by value reads them one after the other.
 ghost use Rattle.std.specs.Prelude.{◌≡◌};
-ghost use Rattle.saved.specs.Passes.{readAt};
+ghost use Rattle.saved.specs.Passes.{read_at};
 
 // A place in a file.
 #[derive(Clone, Copy)]
@@ -32,7 +32,7 @@ impl Cursor {
     }
 
     pub fn read(self, file: &[u8]) -> Read
-        ensures { result ≡ readAt file.now self.at }
+        ensures { result ≡ read_at file.now self.at }
     {
         let at = self.at;
         if file.len() <= at {

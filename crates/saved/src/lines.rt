@@ -1,11 +1,11 @@
 // The second pass over a file: the table that its lines give. Refusal 20.
 ghost use Rattle.std.specs.Prelude.{◌≡◌, true, false, length};
-ghost use Rattle.table.specs.Sizes.{isSize};
-ghost use Rattle.table.specs.Table.{tableLength};
-ghost use Rattle.saved.specs.Fields.{field, runsPast, fields_of};
-ghost use Rattle.saved.specs.Plant.{linesRight, tableIn};
-ghost use Rattle.saved.specs.Load.{fileLines};
-ghost use Rattle.saved.specs.Passes.{built, builtWith, builtIf, build};
+ghost use Rattle.table.specs.Sizes.{is_size};
+ghost use Rattle.table.specs.Table.{table_length};
+ghost use Rattle.saved.specs.Fields.{field, runs_past, fields_of};
+ghost use Rattle.saved.specs.Plant.{lines_right, table_in};
+ghost use Rattle.saved.specs.Load.{file_lines};
+ghost use Rattle.saved.specs.Passes.{built, built_with, built_if, build};
 
 use crate::fields::{Cursor, Read};
 use crate::{LINE, bytes};
@@ -18,8 +18,8 @@ const MOST: usize = 64;
 // Puts a line into the table, where its contents have the right length and its station is in the plant and not yet seen. Otherwise false, and
 // nothing is written.
 fn take_line(n: u8, contents: &[u8], table: &mut [u8], seen: &mut [u8]) -> bool
-    requires { (isSize n ≡ true) × (length table.old ≡ tableLength n) × (length seen.old ≡ 64) }
-    ensures { built result table.new seen.new ≡ builtWith n contents.now table.old seen.old }
+    requires { (is_size n ≡ true) × (length table.old ≡ table_length n) × (length seen.old ≡ 64) }
+    ensures { built result table.new seen.new ≡ built_with n contents.now table.old seen.old }
 {
     let stride = n as usize + cells::HEAD as usize;
     if contents.len() != stride + 1 {
@@ -40,9 +40,9 @@ fn take_line(n: u8, contents: &[u8], table: &mut [u8], seen: &mut [u8]) -> bool
 
 // One field more: a line is taken, a field with another tag passed over.
 fn take_field(n: u8, tag: u8, contents: &[u8], table: &mut [u8], seen: &mut [u8]) -> bool
-    requires { (isSize n ≡ true) × (length table.old ≡ tableLength n) × (length seen.old ≡ 64) }
+    requires { (is_size n ≡ true) × (length table.old ≡ table_length n) × (length seen.old ≡ 64) }
     ensures { built result table.new seen.new
-        ≡ builtIf n (field tag contents.now) table.old seen.old }
+        ≡ built_if n (field tag contents.now) table.old seen.old }
 {
     if tag != LINE {
         return true; // passed over
@@ -52,7 +52,7 @@ fn take_field(n: u8, tag: u8, contents: &[u8], table: &mut [u8], seen: &mut [u8]
 
 // Takes the lines of all fields, up to the first that cannot be taken.
 fn take_fields(n: u8, file: &[u8], table: &mut [u8], seen: &mut [u8]) -> bool
-    requires { (isSize n ≡ true) × (length table.old ≡ tableLength n) × (length seen.old ≡ 64) × (runsPast file.now ≡ false) }
+    requires { (is_size n ≡ true) × (length table.old ≡ table_length n) × (length seen.old ≡ 64) × (runs_past file.now ≡ false) }
     ensures { built result table.new seen.new
         ≡ build n (fields_of file.now) (built true table.old seen.old) }
 {
@@ -82,9 +82,9 @@ fn take_fields(n: u8, file: &[u8], table: &mut [u8], seen: &mut [u8]) -> bool
 
 // Builds the file's table, where every line has the right length and there is just one for each station and none for another; else false.
 pub(crate) fn build_table(n: u8, file: &[u8], table: &mut [u8]) -> bool
-    requires { (isSize n ≡ true) × (length table.old ≡ tableLength n) × (runsPast file.now ≡ false) }
-    ensures value { result ≡ linesRight n (fileLines file.now) }
-    ensures table_after { result ≡ true → table.new ≡ tableIn n (fileLines file.now) }
+    requires { (is_size n ≡ true) × (length table.old ≡ table_length n) × (runs_past file.now ≡ false) }
+    ensures value { result ≡ lines_right n (file_lines file.now) }
+    ensures table_after { result ≡ true → table.new ≡ table_in n (file_lines file.now) }
     ensures table_len_unchanged { length table.new ≡ length table.old }
 {
     let all = [1u8; MOST];

@@ -1,8 +1,8 @@
 // The first pass over a file: whether its fields end where it ends, its size and its tally. Refusals 18, 19 and 1.
 ghost use Rattle.std.specs.Prelude.{◌≡◌, ◌≤◌};
 ghost use Rattle.saved.specs.Fields.{fields, fields_of, field};
-ghost use Rattle.saved.specs.Load.{sizeNumber, refusedBy, answer_of};
-ghost use Rattle.saved.specs.Passes.{foundWith, openingWith, nothingFound, scan};
+ghost use Rattle.saved.specs.Load.{size_number, refused_by, answer_of};
+ghost use Rattle.saved.specs.Passes.{found_with, opening_with, nothing_found, scan};
 
 use crate::fields::{Cursor, Read};
 use crate::{Loaded, SIZE, TALLY, bytes};
@@ -35,7 +35,7 @@ pub enum Scan {
 // What is found with one such field more: its contents are two numbers of so many bytes.
 fn found_with(found: Found, contents: &[u8], upper: usize, lower: usize) -> Found
     requires { (upper ≤ 4) × (lower ≤ 4) }
-    ensures { result ≡ foundWith upper lower found contents.now }
+    ensures { result ≡ found_with upper lower found contents.now }
 {
     match found {
         Found::Absent => {
@@ -53,7 +53,7 @@ fn found_with(found: Found, contents: &[u8], upper: usize, lower: usize) -> Foun
 
 // What is found with one field more.
 fn opening_with(opening: Opening, tag: u8, contents: &[u8]) -> Opening
-    ensures { result ≡ openingWith opening (field tag contents.now) }
+    ensures { result ≡ opening_with opening (field tag contents.now) }
 {
     let size = opening.size;
     let tally = opening.tally;
@@ -74,7 +74,7 @@ fn opening_with(opening: Opening, tag: u8, contents: &[u8]) -> Opening
 
 // The first pass.
 fn scan_fields(file: &[u8]) -> Scan
-    ensures { result ≡ scan nothingFound (fields file.now) }
+    ensures { result ≡ scan nothing_found (fields file.now) }
 {
     let mut opening = Opening {
         size: Found::Absent,
@@ -104,7 +104,7 @@ fn scan_fields(file: &[u8]) -> Scan
 
 // The answer of a refused call.
 pub(crate) fn refused(number: u8) -> Loaded
-    ensures { result ≡ refusedBy number }
+    ensures { result ≡ refused_by number }
 {
     Loaded {
         number,
@@ -118,7 +118,7 @@ pub(crate) fn refused(number: u8) -> Loaded
 
 // Size and tally of a file, or its refusal 18, 19 or 1.
 pub(crate) fn open(file: &[u8]) -> Loaded
-    ensures { result ≡ answer_of (sizeNumber file.now) (fields_of file.now) }
+    ensures { result ≡ answer_of (size_number file.now) (fields_of file.now) }
 {
     let Scan::Whole(opening) = scan_fields(file) else {
         return refused(18);

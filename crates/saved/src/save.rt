@@ -1,11 +1,11 @@
 // The writer.
 ghost use Rattle.std.specs.Prelude.{◌≡◌, true, ◌∷◌, ◌++◌, ◌+◌, ◌*◌, ◌≤◌, length};
 ghost use Rattle.std.proofs.lemmas.List.Edits.{sets};
-ghost use Rattle.table.specs.Sizes.{isSize};
-ghost use Rattle.table.specs.Table.{HasLine, stride, tableLength};
+ghost use Rattle.table.specs.Sizes.{is_size};
+ghost use Rattle.table.specs.Table.{HasLine, stride, table_length};
 ghost use Rattle.saved.specs.Bytes.{bytes_of};
-ghost use Rattle.saved.specs.Fields.{fieldBytes};
-ghost use Rattle.saved.specs.Save.{sizeField, tallyField, lineField, savedLines, saved, saveNumber, saveAfter};
+ghost use Rattle.saved.specs.Fields.{field_bytes};
+ghost use Rattle.saved.specs.Save.{size_field, tally_field, line_field, saved_lines, saved, save_number, save_after};
 
 use crate::{LINE, SIZE, TALLY, bytes};
 use plant::Tally;
@@ -19,8 +19,8 @@ const BESIDE_LINE: usize = 3 + 1;
 
 // Writes the saved plant into the buffer, which has just its length. The answer is 0 or a refusal.
 pub fn save(n: usize, table: &[u8], tally: Tally, buffer: &mut [u8]) -> u8
-    ensures value { result ≡ saveNumber n table.now tally (length buffer.old) }
-    ensures buffer_after { buffer.new ≡ saveAfter n table.now tally buffer.old }
+    ensures value { result ≡ save_number n table.now tally (length buffer.old) }
+    ensures buffer_after { buffer.new ≡ save_after n table.now tally buffer.old }
 {
     let number = rules::check_table(n, table);
     if number != 0 {
@@ -38,7 +38,7 @@ pub fn save(n: usize, table: &[u8], tally: Tally, buffer: &mut [u8]) -> u8
 // The size field and the tally field.
 fn write_opening(n: u8, tally: Tally, buffer: &mut [u8])
     requires { 15 ≤ length buffer.old }
-    ensures { buffer.new ≡ sets buffer.old 0 (fieldBytes (sizeField n) ++ fieldBytes (tallyField tally)) }
+    ensures { buffer.new ≡ sets buffer.old 0 (field_bytes (size_field n) ++ field_bytes (tally_field tally)) }
 {
     put_head(buffer, 0, SIZE, 1);
     buffer[3] = n;
@@ -49,8 +49,8 @@ fn write_opening(n: u8, tally: Tally, buffer: &mut [u8])
 
 // The line fields behind them, ascending.
 fn write_lines(n: u8, table: &[u8], buffer: &mut [u8])
-    requires { (isSize n ≡ true) × (length table.now ≡ tableLength n) × (length buffer.old ≡ 15 + n * (stride n + 4)) }
-    ensures { buffer.new ≡ sets buffer.old 15 (savedLines n table.now n) }
+    requires { (is_size n ≡ true) × (length table.now ≡ table_length n) × (length buffer.old ≡ 15 + n * (stride n + 4)) }
+    ensures { buffer.new ≡ sets buffer.old 15 (saved_lines n table.now n) }
 {
     let mut i: u8 = 0;
     while i < n {
@@ -61,9 +61,9 @@ fn write_lines(n: u8, table: &[u8], buffer: &mut [u8])
 
 // The field of line i.
 fn write_line(n: u8, table: &[u8], i: Station, buffer: &mut [u8])
-    requires { (isSize n ≡ true) × HasLine n table.now i.0 × (length buffer.old ≡ 15 + n * (stride n + 4)) }
+    requires { (is_size n ≡ true) × HasLine n table.now i.0 × (length buffer.old ≡ 15 + n * (stride n + 4)) }
     ensures { buffer.new ≡ sets buffer.old (15 + i.0 * (stride n + 4))
-        (fieldBytes (lineField n table.now i.0)) }
+        (field_bytes (line_field n table.now i.0)) }
 {
     let stride = n as u16 + cells::HEAD;
     let at = OPENING + i.0 as usize * (stride as usize + BESIDE_LINE);

@@ -3,8 +3,8 @@
 use Rattle.std.specs.Prelude.{◌≡◌, refl, List, [], ◌∷◌, map, ℕ}
 use Rattle.figures.specs.declared.Figures.{Figures}
 use Rattle.figures.specs.Fractions.{euclid, gcd, lowest}
-use Rattle.figures.specs.Batch.{sum_of, reduce, mean, squaredDifference, variance, batchNumber, figures}
-use Rattle.figures.specs.Totals.{totalsOf, of_both, joined, overfull, varianceOf, join, figuresOfTotals}
+use Rattle.figures.specs.Batch.{sum_of, reduce, mean, squared_difference, variance, batch_number, figures}
+use Rattle.figures.specs.Totals.{totals_of, of_both, joined, overfull, variance_of, join, figures_of_totals}
 
 -- the number and the seven figures
 abbrev pub line : Figures → List ℕ
@@ -26,12 +26,12 @@ examples =
     -- "14 for no result at all"
     ∷ (line (figures []), 14 ∷ 0 ∷ 0 ∷ 0 ∷ 0 ∷ 0 ∷ 0 ∷ 0 ∷ [])
     -- the join of the totals of 2, 4, 4 and of 4, 5, 5, 7, 9
-    ∷ (line (figuresOfTotals (join (totalsOf (2 ∷ 4 ∷ 4 ∷ [])) (totalsOf (4 ∷ 5 ∷ 5 ∷ 7 ∷ 9 ∷ []))).totals), line (figures eight))
+    ∷ (line (figures_of_totals (join (totals_of (2 ∷ 4 ∷ 4 ∷ [])) (totals_of (4 ∷ 5 ∷ 5 ∷ 7 ∷ 9 ∷ []))).totals), line (figures eight))
     -- "then 15 for more than 4,096 in all"
-    ∷ (line (figuresOfTotals (record { count = 4097; sum = 0; squares = 0; least = 0; greatest = 0 })), 15 ∷ 0 ∷ 0 ∷ 0 ∷ 0 ∷ 0 ∷ 0 ∷ 0 ∷ [])
+    ∷ (line (figures_of_totals (record { count = 4097; sum = 0; squares = 0; least = 0; greatest = 0 })), 15 ∷ 0 ∷ 0 ∷ 0 ∷ 0 ∷ 0 ∷ 0 ∷ 0 ∷ [])
     ∷ []
 
 -- each example holds
 pub as_said : map (λ (e : List ℕ × List ℕ). e.0) examples ≡ map (λ (e : List ℕ × List ℕ). e.1) examples
-unfolding examples euclid gcd lowest sum_of reduce mean squaredDifference variance batchNumber figures totalsOf of_both joined overfull varianceOf join figuresOfTotals
+unfolding examples euclid gcd lowest sum_of reduce mean squared_difference variance batch_number figures totals_of of_both joined overfull variance_of join figures_of_totals
 as_said = refl

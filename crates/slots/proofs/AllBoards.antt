@@ -11,12 +11,12 @@ use borrow.Author.Tests.{eq-eqb, ne_eqb}
 use lib.Bits.{xor_self, xor_lt}
 use lib.ListN.{length}
 use lib.Pow.{pow_pos, pow_mono}
-use Rattle.station.specs.Groups.{distance, stationAt}
+use Rattle.station.specs.Groups.{distance, station_at}
 use Rattle.station.specs.Tests.{unsuspected}
 use Rattle.station.specs.Rows.{mark}
 use Rattle.lists.proofs.Xor.{xor-cancel}
 use Rattle.station.proofs.UnionLaws.{mark-length}
-use Rattle.slots.specs.Slots.{testsDue, testsWith, mostTests, mostOfBoards}
+use Rattle.slots.specs.Slots.{tests_due, tests_with, most_tests, most_of_boards}
 use Rattle.lists.specs.Search.{greatest}
 use Rattle.slots.specs.Law.{SuspectsOne, MostOfPowers}
 use Rattle.slots.proofs.OneDead.{nobody-suspected, one-suspected, one-suspected-exactly}
@@ -43,18 +43,18 @@ module _ (d : ℕ) (r : List ℕ) (long : length r ≡ 2 ^ d) (none : (x : ℕ) 
   }
 
   -- of any board the most is that with the station at distance 1 marked
-  most-of : 0 < d → (i : ℕ) → i < 2 ^ d → mostTests (2 ^ d) r i ≡ 2 * d - 1
-  unfolding mostTests
+  most-of : 0 < d → (i : ℕ) → i < 2 ^ d → most_tests (2 ^ d) r i ≡ 2 * d - 1
+  unfolding most_tests
   most-of some i here =
-      omega (arith, greatest-le (testsWith (2 ^ d) r i) (2 ^ d) beside there, greatest-most (testsWith (2 ^ d) r i) (2 ^ d) (2 * d - 1) each, has)
+      omega (arith, greatest-le (tests_with (2 ^ d) r i) (2 ^ d) beside there, greatest-most (tests_with (2 ^ d) r i) (2 ^ d) (2 * d - 1) each, has)
     where
       beside : ℕ
-      beside = stationAt i 1
+      beside = station_at i 1
 
       there : beside < 2 ^ d
       there = xor_lt d i 1 here (omega (arith, pow_mono {i = 1} {j = d} some))
 
-      each : (j : ℕ) → j < 2 ^ d → testsWith (2 ^ d) r i j ≤ 2 * d - 1
+      each : (j : ℕ) → j < 2 ^ d → tests_with (2 ^ d) r i j ≤ 2 * d - 1
       each j l =
           by_cases (ℕ_discrete j i) (λ e. rw (with-self (2 ^ d) r i j e) (omega arith))
           (λ e. rw (with-other (2 ^ d) r i j e) (one-suspected d (mark r j) i j (one-marked i j here l e)))
@@ -62,25 +62,25 @@ module _ (d : ℕ) (r : List ℕ) (long : length r ≡ 2 ^ d) (none : (x : ℕ) 
       apart : beside ≢ i
       apart e = omega (arith, xor_self i, rw e at (xor-cancel i 1))
 
-      has : testsWith (2 ^ d) r i beside ≡ 2 * d - 1
+      has : tests_with (2 ^ d) r i beside ≡ 2 * d - 1
       has =
           with-other (2 ^ d) r i beside apart
           ∙ one-suspected-exactly d (mark r beside) i beside (one-marked i beside here there apart)
           ∙ rw (eq-eqb (distance i beside) 1 (xor-cancel i 1))
 
   -- and one board alone has none to test
-  most-each : (i : ℕ) → i < 2 ^ d → mostTests (2 ^ d) r i ≡ 2 * d - 1
-  unfolding mostTests
+  most-each : (i : ℕ) → i < 2 ^ d → most_tests (2 ^ d) r i ≡ 2 * d - 1
+  unfolding most_tests
   most-each i here =
       by_cases (ℕ_discrete d 0)
       (λ z.
       let alone : 2 ^ d ≡ 1 = rw z in
-      omega (arith, z, greatest-most (testsWith (2 ^ d) r i) (2 ^ d) 0 (λ j l. omega (arith, with-self (2 ^ d) r i j (omega (arith, alone))))))
+      omega (arith, z, greatest-most (tests_with (2 ^ d) r i) (2 ^ d) 0 (λ j l. omega (arith, with-self (2 ^ d) r i j (omega (arith, alone))))))
       (λ z. most-of (omega arith) i here)
 
 pub most-of-powers : MostOfPowers
-unfolding mostOfBoards
+unfolding most_of_boards
 most-of-powers d r long none = (
-  greatest-same (testsDue (2 ^ d) r) (2 ^ d) d (pow_pos d) (λ i l. nobody-suspected d r i long l none),
-  greatest-same (mostTests (2 ^ d) r) (2 ^ d) (2 * d - 1) (pow_pos d) (λ i l. most-each d r long none i l),
+  greatest-same (tests_due (2 ^ d) r) (2 ^ d) d (pow_pos d) (λ i l. nobody-suspected d r i long l none),
+  greatest-same (most_tests (2 ^ d) r) (2 ^ d) (2 * d - 1) (pow_pos d) (λ i l. most-each d r long none i l),
 )

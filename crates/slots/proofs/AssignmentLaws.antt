@@ -13,10 +13,10 @@ use lib.Dec.{eqb}
 use lib.ListN.{get_or, length}
 use lib.Pow.{pow_pos}
 use lib.Bits.{or_shr, or_zero_r}
-use Rattle.station.specs.Groups.{distance, stationAt, width}
+use Rattle.station.specs.Groups.{distance, station_at, width}
 use Rattle.table.specs.Sizes.{level, distances}
-use Rattle.station.specs.Tests.{unsuspected, DueAnswer, answerDue, answerAhead, answer, saysDue, stands, due, dueDistances}
-use Rattle.station.specs.Calls.{answerByte, isOther, otherDistances}
+use Rattle.station.specs.Tests.{unsuspected, DueAnswer, answer_due, answer_ahead, answer, says_due, stands, due, due_distances}
+use Rattle.station.specs.Calls.{answer_byte, is_other, other_distances}
 use Rattle.table.specs.Table.{row}
 use Rattle.slots.specs.Assignments.{OwnUnsuspected, SomebodyFirst, up_to, BeforeUpTo, DueHave255, NothingLeftOver}
 use Rattle.lists.proofs.Xor.{xor-undo}
@@ -25,7 +25,7 @@ use Rattle.table.proofs.CellLaws.{row-length, row_at, accepted-line}
 use Rattle.station.proofs.DueLaws.{unsuspected-at, first_found, due-is, due-absent, due-zero}
 use Rattle.lists.specs.Search.{list_of}
 use Rattle.lists.proofs.BoolLaws.{by_bool}
-use Rattle.lists.proofs.KeepLaws.{keep-twice}
+use Rattle.lists.proofs.FilterLaws.{filter-twice}
 use Rattle.table.proofs.SizeLaws.{size-bounds}
 use Rattle.station.proofs.AheadLaws.{named-stands-before, before-until}
 use Rattle.station.proofs.Presence.{others-all}
@@ -48,31 +48,31 @@ own-unsuspected n t i z h =
 
 pub somebody-first : SomebodyFirst
 somebody-first r i m own pos =
-    let f = first_found (unsuspected r) (stationAt i m) m pos (rw (xor-undo i m) own) in
-    (stationAt (stationAt i m) f.0, f.4)
+    let f = first_found (unsuspected r) (station_at i m) m pos (rw (xor-undo i m) own) in
+    (station_at (station_at i m) f.0, f.4)
 
 pub nothing-left-over : NothingLeftOver
-nothing-left-over n r i size h = omega (arith, entries-length r i (otherDistances n i), others-all n i size h)
+nothing-left-over n r i size h = omega (arith, entries-length r i (other_distances n i), others-all n i size h)
 
 -- an entry has 255 just where its distance is due
 due-byte : (r : List ℕ) (i m : ℕ) → length r ≤ 64 → unsuspected r i ≡ true → 0 < m → stands r i m ≡ true
-    → due r i m ≡ eqb (answerByte (answer r i m)) 255
+    → due r i m ≡ eqb (answer_byte (answer r i m)) 255
 due-byte r i m few own pos here = due-is r i m ∙ sym (go (answer r i m) refl)
   where
-    go : (a : DueAnswer) → answer r i m ≡ a → eqb (answerByte a) 255 ≡ saysDue a
-    go answerDue e = refl
-    go (answerAhead x) e =
+    go : (a : DueAnswer) → answer r i m ≡ a → eqb (answer_byte a) 255 ≡ says_due a
+    go answer_due e = refl
+    go (answer_ahead x) e =
         ne_eqb x 255 (omega (arith, unsuspected-below r x (named-stands-before r i m x own pos here e).0))
 
 pub due-have-255 : DueHave255
-unfolding dueDistances otherDistances
-due-have-255 n r i size long own = keep-twice (due r i) (isOther n i) (λ m. eqb (answerByte (answer r i m)) 255) same (list_of (λ k. k) (distances n))
+unfolding due_distances other_distances
+due-have-255 n r i size long own = filter-twice (due r i) (is_other n i) (λ m. eqb (answer_byte (answer r i m)) 255) same (list_of (λ k. k) (distances n))
   where
-    same : (m : ℕ) → due r i m ≡ (isOther n i m && eqb (answerByte (answer r i m)) 255)
+    same : (m : ℕ) → due r i m ≡ (is_other n i m && eqb (answer_byte (answer r i m)) 255)
     same m =
         by_cases (dec_lt 0 m)
         (λ pos. by_bool (stands r i m) (here pos) (λ absent. rw (due-absent r i m absent, ← long, absent, and-false)))
         (λ none. let z : m ≡ 0 = omega arith in rw z (due-zero r i))
       where
-        here : 0 < m → stands r i m ≡ true → due r i m ≡ (isOther n i m && eqb (answerByte (answer r i m)) 255)
+        here : 0 < m → stands r i m ≡ true → due r i m ≡ (is_other n i m && eqb (answer_byte (answer r i m)) 255)
         here pos e = rw (← long, e, lt-ltb 0 m pos) (due-byte r i m (omega (arith, size-bounds n size)) own pos e)

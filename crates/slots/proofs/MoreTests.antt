@@ -12,19 +12,19 @@ use borrow.Author.Tests.{eq-eqb, ne_eqb, lt-ltb}
 use lib.ListN.{length}
 use lib.Seq.{get_or-set_other}
 use lib.Dec.{eqb}
-use Rattle.lists.specs.Sums.{sum, bit}
-use Rattle.station.specs.Groups.{stationAt}
+use Rattle.lists.specs.Sums.{sum_below, bit}
+use Rattle.station.specs.Groups.{station_at}
 use Rattle.table.specs.Sizes.{distances}
-use Rattle.station.specs.Tests.{unsuspected, stands, due, dueDistances}
+use Rattle.station.specs.Tests.{unsuspected, stands, due, due_distances}
 use Rattle.station.specs.Rows.{mark}
 use Rattle.lists.proofs.BoolLaws.{by_bool}
 use Rattle.table.proofs.SizeLaws.{distances-pos, distances-le}
-use Rattle.lists.proofs.KeepLaws.{kept-sum}
+use Rattle.lists.proofs.FilterLaws.{kept-sum}
 use Rattle.station.proofs.UnionLaws.{mark-length, mark-same}
 use Rattle.station.proofs.DueLaws.{unsuspected-at, due-zero, due-present}
 use Rattle.station.proofs.EntryLaws.{unsuspected-below}
 use Rattle.station.proofs.AheadLaws.{due-if-nobody-before}
-use Rattle.slots.specs.Slots.{testsDue, testsWith, mostTests}
+use Rattle.slots.specs.Slots.{tests_due, tests_with, most_tests}
 use Rattle.slots.specs.Law.{Wider, NeverFewer, MostIsNoLess, MostCovers}
 use Rattle.slots.proofs.DigitLaws.{due-nobody}
 use Rattle.slots.proofs.Counts.{sum-le}
@@ -32,19 +32,19 @@ use Rattle.lists.proofs.SearchLaws.{greatest-le}
 
 -- what is due stays due
 due-more : (r r' : List ℕ) (i m : ℕ) → Wider r r' i → due r i m ≡ true → due r' i m ≡ true
-due-more r r' i m w isDue =
-    let d = due-nobody r i m isDue in
-    let here : stands r' i m ≡ true = lt-ltb (stationAt i m) (length r') (rw w.long (due-present r i m isDue)) in
+due-more r r' i m w is_due =
+    let d = due-nobody r i m is_due in
+    let here : stands r' i m ≡ true = lt-ltb (station_at i m) (length r') (rw w.long (due-present r i m is_due)) in
     (due-if-nobody-before r' i m w.own d.0).1
     (here, λ x b. by_bool (unsuspected r' x) (λ e. absurd (true≢false (sym (w.more x e) ∙ d.1 x b))) (λ e. e))
 
 -- also of the distances below any one
-pub fewer-below : (r r' : List ℕ) (i : ℕ) → Wider r r' i → (b : ℕ) → sum (λ m. bit (due r i m)) b ≤ sum (λ m. bit (due r' i m)) b
+pub fewer-below : (r r' : List ℕ) (i : ℕ) → Wider r r' i → (b : ℕ) → sum_below (λ m. bit (due r i m)) b ≤ sum_below (λ m. bit (due r' i m)) b
 fewer-below r r' i w b =
     sum-le b (λ m l. by_bool (due r i m) (λ e. rw (e, due-more r r' i m w e) (omega arith)) (λ e. rw e (omega arith)))
 
-pub tests-sum : (n : ℕ) (r : List ℕ) (i : ℕ) → testsDue n r i ≡ sum (λ m. bit (due r i m)) (distances n)
-unfolding testsDue dueDistances
+pub tests-sum : (n : ℕ) (r : List ℕ) (i : ℕ) → tests_due n r i ≡ sum_below (λ m. bit (due r i m)) (distances n)
+unfolding tests_due due_distances
 tests-sum n r i = kept-sum (due r i) (λ k. k) (distances n)
 
 pub never-fewer : NeverFewer
@@ -70,35 +70,35 @@ wider-mark r i j own apart = record {
 }
 
 -- the tests with j too
-pub with-other : (n : ℕ) (r : List ℕ) (i j : ℕ) → j ≢ i → testsWith n r i j ≡ testsDue n (mark r j) i
-unfolding testsWith
+pub with-other : (n : ℕ) (r : List ℕ) (i j : ℕ) → j ≢ i → tests_with n r i j ≡ tests_due n (mark r j) i
+unfolding tests_with
 with-other n r i j apart = rw (ne_eqb j i apart)
 
-pub with-self : (n : ℕ) (r : List ℕ) (i j : ℕ) → j ≡ i → testsWith n r i j ≡ 0
-unfolding testsWith
+pub with-self : (n : ℕ) (r : List ℕ) (i j : ℕ) → j ≡ i → tests_with n r i j ≡ 0
+unfolding tests_with
 with-self n r i j e = rw (eq-eqb j i e)
 
 -- what one other station can make of it is counted
-most-with : (n : ℕ) (r : List ℕ) (i j : ℕ) → j < n → j ≢ i → testsDue n (mark r j) i ≤ mostTests n r i
-unfolding mostTests
+most-with : (n : ℕ) (r : List ℕ) (i j : ℕ) → j < n → j ≢ i → tests_due n (mark r j) i ≤ most_tests n r i
+unfolding most_tests
 most-with n r i j l apart =
-    let e : testsWith n r i j ≡ testsDue n (mark r j) i = with-other n r i j apart in
-    omega (arith, greatest-le (testsWith n r i) n j l)
+    let e : tests_with n r i j ≡ tests_due n (mark r j) i = with-other n r i j apart in
+    omega (arith, greatest-le (tests_with n r i) n j l)
 
 pub most-covers : MostCovers
 most-covers n r r' i j l apart wider = le_trans (never-fewer n r' (mark r j) i wider) (most-with n r i j l apart)
 
 -- one board alone makes no test
-alone : (n : ℕ) (r : List ℕ) (i : ℕ) → n ≤ 1 → testsDue n r i ≡ 0
-unfolding sum
+alone : (n : ℕ) (r : List ℕ) (i : ℕ) → n ≤ 1 → tests_due n r i ≡ 0
+unfolding sum_below
 alone n r i few = let one : distances n ≡ 1 = omega (arith, distances-pos n, distances-le 0 n few) in rw (tests-sum n r i, one, due-zero r i)
 
 pub most-is-no-less : MostIsNoLess
 most-is-no-less n r i own = by_cases (dec_lt 1 n) (λ two. pick two (ℕ_discrete i 0)) (λ few. omega (arith, alone n r i (omega arith)))
   where
-    go : (j : ℕ) → j < n → j ≢ i → testsDue n r i ≤ mostTests n r i
+    go : (j : ℕ) → j < n → j ≢ i → tests_due n r i ≤ most_tests n r i
     go j l apart = most-covers n r r i j l apart (wider-mark r i j own apart)
 
-    pick : 1 < n → Dec (i ≡ 0) → testsDue n r i ≤ mostTests n r i
+    pick : 1 < n → Dec (i ≡ 0) → tests_due n r i ≤ most_tests n r i
     pick two (yes e) = go 1 two (omega arith)
     pick two (no e) = go 0 (omega arith) (λ q. e (sym q))

@@ -1,6 +1,7 @@
 -- Which distances are not tested; that each other station is one that is tested or one that is not.
 -- Assumes nothing.
 use mathlib.Core.Path.{◌≡◌, refl, sym, ap, ◌∙◌}
+use Rattle.std.specs.List.{filter}
 use mathlib.Core.Logic.{◌≢◌, ◌⊎◌, inl, inr, by_cases}
 use mathlib.Core.Bool.{Bool, true, false, and-true, and-false}
 use mathlib.Core.List.{List, [], ◌∷◌, map, Memᴰ}
@@ -11,45 +12,45 @@ use native.Mathlib.Omega.{arith}
 use borrow.Author.Tests.{lt-ltb}
 use lib.Bits.{xor_lt}
 use lib.ListN.{length, length-map}
-use Rattle.lists.specs.Search.{select, keep, list_of}
-use Rattle.lists.specs.Sums.{sum, bit}
-use Rattle.table.specs.Sizes.{isSize, dimension, distances}
-use Rattle.station.specs.Groups.{distance, stationAt}
-use Rattle.station.specs.Tests.{answer, saysDue, stands, due, dueDistances}
-use Rattle.station.specs.Calls.{isOther, otherDistances, answerByte}
+use Rattle.lists.specs.Search.{select, list_of}
+use Rattle.lists.specs.Sums.{sum_below, bit}
+use Rattle.table.specs.Sizes.{is_size, dimension, distances}
+use Rattle.station.specs.Groups.{distance, station_at}
+use Rattle.station.specs.Tests.{answer, says_due, stands, due, due_distances}
+use Rattle.station.specs.Calls.{is_other, other_distances, answer_byte}
 use Rattle.lists.proofs.BoolLaws.{by_bool}
 use Rattle.lists.proofs.SumLaws.{sum_by, sum-add}
-use Rattle.lists.proofs.KeepLaws.{mem-keep, kept-sum}
+use Rattle.lists.proofs.FilterLaws.{mem-filter, kept-sum}
 use Rattle.station.proofs.GroupLaws.{place-mem}
 use Rattle.table.proofs.SizeLaws.{size-distances}
 use Rattle.lists.proofs.Xor.{xor-cancel, xor-zero-eq}
 use Rattle.station.proofs.DueLaws.{due-is, due-present}
 use Rattle.station.proofs.Presence.{others-all}
-use Rattle.slots.specs.Slots.{tested, isUntested, untestedDistances, untested, ahead, testsDue}
+use Rattle.slots.specs.Slots.{tested, is_untested, untested_distances, untested, ahead, tests_due}
 use Rattle.slots.specs.Law.{NobodyLeftOut, ListsCounted}
 use Rattle.slots.proofs.DigitLaws.{due-nobody}
 
 -- where nobody stands, where the answer is "due", and where it is who stands ahead
-pub untested-absent : (r : List ℕ) (i m : ℕ) → stands r i m ≡ false → isUntested r i m ≡ false
+pub untested-absent : (r : List ℕ) (i m : ℕ) → stands r i m ≡ false → is_untested r i m ≡ false
 untested-absent r i m absent = rw (absent, and-false)
 
-pub untested-due : (r : List ℕ) (i m : ℕ) → saysDue (answer r i m) ≡ true → isUntested r i m ≡ false
+pub untested-due : (r : List ℕ) (i m : ℕ) → says_due (answer r i m) ≡ true → is_untested r i m ≡ false
 untested-due r i m says = rw (due-is r i m, says, and-false)
 
-pub untested-ahead : (r : List ℕ) (i m : ℕ) → 0 < m → stands r i m ≡ true → saysDue (answer r i m) ≡ false → isUntested r i m ≡ true
+pub untested-ahead : (r : List ℕ) (i m : ℕ) → 0 < m → stands r i m ≡ true → says_due (answer r i m) ≡ false → is_untested r i m ≡ true
 untested-ahead r i m pos here says = rw (due-is r i m, says, lt-ltb 0 m pos, here)
 
 -- below distance 1 there is nobody
-pub untested-start : (r : List ℕ) (i : ℕ) → select (isUntested r i) 1 ≡ []
-unfolding keep list_of
+pub untested-start : (r : List ℕ) (i : ℕ) → select (is_untested r i) 1 ≡ []
+unfolding list_of
 untested-start r i = refl
 
 -- another station is tested or not
-other-counted : (r : List ℕ) (i m : ℕ) → bit (due r i m) + bit (isUntested r i m) ≡ bit (isOther (length r) i m)
+other-counted : (r : List ℕ) (i m : ℕ) → bit (due r i m) + bit (is_untested r i m) ≡ bit (is_other (length r) i m)
 other-counted r i m = by_bool (due r i m) (λ e. rw (e, other e)) (λ e. rw (e, and-true) (zero-add _))
   where
-    other : due r i m ≡ true → isOther (length r) i m ≡ true
-    other e = rw (lt-ltb 0 m (due-nobody r i m e).0, lt-ltb (stationAt i m) (length r) (due-present r i m e))
+    other : due r i m ≡ true → is_other (length r) i m ≡ true
+    other e = rw (lt-ltb 0 m (due-nobody r i m e).0, lt-ltb (station_at i m) (length r) (due-present r i m e))
 
 -- what f gives at an element is among what it gives at all
 mem-map : (f : ℕ → ℕ) (x m : ℕ) (xs : List ℕ) → x ≡ f m → Memᴰ m xs → Memᴰ x (map f xs)
@@ -57,53 +58,53 @@ mem-map f x m [] e k = elim k [ ]
 mem-map f x m (y ∷ xs) e (Memᴰ.head p) = Memᴰ.head (e ∙ ap f p)
 mem-map f x m (y ∷ xs) e (Memᴰ.tail k) = Memᴰ.tail (mem-map f x m xs e k)
 
-other-listed : (n : ℕ) (r : List ℕ) (i x : ℕ) → isSize n ≡ true → length r ≡ n → i < n → x < n → x ≢ i
+other-listed : (n : ℕ) (r : List ℕ) (i x : ℕ) → is_size n ≡ true → length r ≡ n → i < n → x < n → x ≢ i
     → Memᴰ x (tested n r i) ⊎ Memᴰ x (untested n r i)
-unfolding tested untested untestedDistances dueDistances distances
-other-listed n r i x size long h l apart = by_bool (due r i m) (λ e. inl (among (due r i) e)) (λ e. inr (among (isUntested r i) (rw (e, other))))
+unfolding tested untested untested_distances due_distances distances
+other-listed n r i x size long h l apart = by_bool (due r i m) (λ e. inl (among (due r i) e)) (λ e. inr (among (is_untested r i) (rw (e, other))))
   where
     m : ℕ
     m = distance i x
 
-    back : x ≡ stationAt i m
+    back : x ≡ station_at i m
     back = sym (xor-cancel i x)
 
-    other : isOther (length r) i m ≡ true
+    other : is_other (length r) i m ≡ true
     other =
         let pos : 0 < m = by_cases (ℕ_discrete m 0) (λ z. absurd (apart (sym (xor-zero-eq i x z)))) (λ z. omega arith) in
-        rw (lt-ltb 0 m pos, lt-ltb (stationAt i m) (length r) (rw (long, ← back) l))
+        rw (lt-ltb 0 m pos, lt-ltb (station_at i m) (length r) (rw (long, ← back) l))
 
-    among : (q : ℕ → Bool) → q m ≡ true → Memᴰ x (map (stationAt i) (select q (2 ^ dimension n)))
+    among : (q : ℕ → Bool) → q m ≡ true → Memᴰ x (map (station_at i) (select q (2 ^ dimension n)))
     among q e =
         let room : n ≤ 2 ^ dimension n = (size-distances n size).0 in
         let below : m < 2 ^ dimension n = xor_lt (dimension n) i x (omega arith) (omega arith) in
-        mem-map (stationAt i) x m _ back (mem-keep q _ m (place-mem (λ k. k) (2 ^ dimension n) m m below refl) e)
+        mem-map (station_at i) x m _ back (mem-filter q _ m (place-mem (λ k. k) (2 ^ dimension n) m m below refl) e)
 
 pub lists-counted : ListsCounted
-unfolding tested testsDue untested ahead
+unfolding tested tests_due untested ahead
 lists-counted n r i = (
-  length-map (dueDistances r i n) (stationAt i),
-  length-map (untestedDistances n r i) (stationAt i),
-  length-map (untestedDistances n r i) (λ m. answerByte (answer r i m)),
+  length-map (due_distances r i n) (station_at i),
+  length-map (untested_distances n r i) (station_at i),
+  length-map (untested_distances n r i) (λ m. answer_byte (answer r i m)),
 )
 
-listed-all : (n : ℕ) (r : List ℕ) (i : ℕ) → isSize n ≡ true → length r ≡ n → i < n → suc (length (tested n r i) + length (untested n r i)) ≡ n
-unfolding testsDue untestedDistances dueDistances otherDistances
+listed-all : (n : ℕ) (r : List ℕ) (i : ℕ) → is_size n ≡ true → length r ≡ n → i < n → suc (length (tested n r i) + length (untested n r i)) ≡ n
+unfolding tests_due untested_distances due_distances other_distances
 listed-all n r i size long h =
-    let t : ℕ = sum (λ m. bit (due r i m)) (distances n) in
-    let u : ℕ = sum (λ m. bit (isUntested r i m)) (distances n) in
-    let each : (m : ℕ) → m < distances n → bit (due r i m) + bit (isUntested r i m) ≡ bit (isOther n i m) =
-    λ m l. other-counted r i m ∙ ap (λ (v : ℕ). bit (isOther v i m)) long in
-    let both : t + u ≡ sum (λ m. bit (isOther n i m)) (distances n) =
-    sym (sum-add (λ m. bit (due r i m)) (λ m. bit (isUntested r i m)) (distances n)) ∙ sum_by (distances n) each in
+    let t : ℕ = sum_below (λ m. bit (due r i m)) (distances n) in
+    let u : ℕ = sum_below (λ m. bit (is_untested r i m)) (distances n) in
+    let each : (m : ℕ) → m < distances n → bit (due r i m) + bit (is_untested r i m) ≡ bit (is_other n i m) =
+    λ m l. other-counted r i m ∙ ap (λ (v : ℕ). bit (is_other v i m)) long in
+    let both : t + u ≡ sum_below (λ m. bit (is_other n i m)) (distances n) =
+    sym (sum-add (λ m. bit (due r i m)) (λ m. bit (is_untested r i m)) (distances n)) ∙ sum_by (distances n) each in
     omega (
       arith,
       both,
       (lists-counted n r i).0,
       (lists-counted n r i).1,
       kept-sum (due r i) (λ k. k) (distances n),
-      kept-sum (isUntested r i) (λ k. k) (distances n),
-      kept-sum (isOther n i) (λ k. k) (distances n),
+      kept-sum (is_untested r i) (λ k. k) (distances n),
+      kept-sum (is_other n i) (λ k. k) (distances n),
       others-all n i size h,
     )
 

@@ -1,25 +1,25 @@
 -- What is claimed besides of the answer of request C-16 and of its assignment: the run does not need it.
 -- Assumes nothing.
 use Rattle.std.specs.Prelude.{◌≡◌, true, List, ℕ, ◌*◌, ◌-◌, ◌≤◌, ◌<◌, length, eqb}
+use Rattle.std.specs.List.{filter}
 use Rattle.std.proofs.Math.Option.{some}
 use Rattle.std.specs.Int.Bits.{bit_or}
-use Rattle.lists.specs.Search.{keep}
-use Rattle.table.specs.Sizes.{isSize, level}
-use Rattle.station.specs.Groups.{distance, stationAt, width}
+use Rattle.table.specs.Sizes.{is_size, level}
+use Rattle.station.specs.Groups.{distance, station_at, width}
 use Rattle.table.specs.Table.{row}
-use Rattle.table.specs.Rules.{tableNumber}
-use Rattle.station.specs.Tests.{unsuspected, first, answer, dueDistances}
-use Rattle.station.specs.Calls.{otherDistances, answerByte, assignmentEntries}
+use Rattle.table.specs.Rules.{table_number}
+use Rattle.station.specs.Tests.{unsuspected, first, answer, due_distances}
+use Rattle.station.specs.Calls.{other_distances, answer_byte, assignment_entries}
 use Rattle.station.specs.Ahead.{Before}
 
 -- a table that refusals 1 to 4 let through: no row suspects its own station, as the claims below ask of a row
 abbrev pub OwnUnsuspected : Type 0
-OwnUnsuspected = (n : ℕ) (t : List ℕ) (i : ℕ) → tableNumber n t ≡ 0 → i < n → unsuspected (row n t i) i ≡ true
+OwnUnsuspected = (n : ℕ) (t : List ℕ) (i : ℕ) → table_number n t ≡ 0 → i < n → unsuspected (row n t i) i ≡ true
 
 -- a row that does not suspect its own station: somebody is first at every distance but 0
 abbrev pub SomebodyFirst : Type 0
 SomebodyFirst =
-    (r : List ℕ) (i m : ℕ) → unsuspected r i ≡ true → 0 < m → (x : ℕ) × (first (unsuspected r) (stationAt i m) (level m) ≡ some x)
+    (r : List ℕ) (i m : ℕ) → unsuspected r i ≡ true → 0 < m → (x : ℕ) × (first (unsuspected r) (station_at i m) (level m) ≡ some x)
 
 -- who stands before i at distance m does so (by `BeforeByDigits`) at all distances up to m with its digits below the highest one of e all 1, where e
 -- is its distance from i. This is shown, and not used by the code
@@ -32,10 +32,10 @@ BeforeUpTo = (i m x y : ℕ) → Before i m x → m ≤ y → y ≤ up_to m (dis
 -- the assignment: n − 1 entries of two bytes, so that no byte of the list is left over
 abbrev pub NothingLeftOver : Type 0
 NothingLeftOver =
-    (n : ℕ) (r : List ℕ) (i : ℕ) → isSize n ≡ true → i < n → length (assignmentEntries r i (otherDistances n i)) ≡ 2 * (n - 1)
+    (n : ℕ) (r : List ℕ) (i : ℕ) → is_size n ≡ true → i < n → length (assignment_entries r i (other_distances n i)) ≡ 2 * (n - 1)
 
 -- for a row that does not suspect its own station the due distances are those of the entries with 255: no station that is ahead has that number
 abbrev pub DueHave255 : Type 0
 DueHave255 =
-    (n : ℕ) (r : List ℕ) (i : ℕ) → isSize n ≡ true → length r ≡ n → unsuspected r i ≡ true
-    → dueDistances r i n ≡ keep (λ m. eqb (answerByte (answer r i m)) 255) (otherDistances n i)
+    (n : ℕ) (r : List ℕ) (i : ℕ) → is_size n ≡ true → length r ≡ n → unsuspected r i ≡ true
+    → due_distances r i n ≡ filter (λ m. eqb (answer_byte (answer r i m)) 255) (other_distances n i)

@@ -3,21 +3,21 @@
 use Rattle.std.specs.Prelude.{◌≡◌, ◌↔◌, ◌≢◌, ◌⊎◌, Bool, true, false, cond, not, ℕ, suc, ◌+◌, ◌*◌, ◌-◌, ◌/◌, ◌%◌, ◌^◌, ◌≤◌, ◌<◌, length, eqb}
 use mathlib.Core.List.{List, Memᴰ}
 use Rattle.lists.specs.Search.{every}
-use Rattle.lists.specs.Sums.{sum, bit}
-use Rattle.table.specs.Sizes.{isSize, dimension}
+use Rattle.lists.specs.Sums.{sum_below, bit}
+use Rattle.table.specs.Sizes.{is_size, dimension}
 use Rattle.station.specs.Groups.{distance, width, member}
 use Rattle.station.specs.Tests.{unsuspected, stands, due}
 use Rattle.station.specs.Rows.{mark}
-use Rattle.slots.specs.Slots.{tested, untestedDistances, untested, ahead, testsDue, mostTests, mostOfBoards}
+use Rattle.slots.specs.Slots.{tested, untested_distances, untested, ahead, tests_due, most_tests, most_of_boards}
 
 -- "i suspects its whole own group (absent numbers aside)", at level t: its row r leaves nobody of the group unsuspected. An absent number is
 -- never "not suspected", so that a group of absent numbers only is suspected whole
-unfoldable pub suspectsGroup : List ℕ → ℕ → ℕ → Bool
-suspectsGroup r i t = every (λ k. not (unsuspected r (member i t k))) (width t)
+unfoldable pub suspects_group : List ℕ → ℕ → ℕ → Bool
+suspects_group r i t = every (λ k. not (unsuspected r (member i t k))) (width t)
 
 -- bit h of k is set
-abbrev pub bitSet : ℕ → ℕ → Bool
-bitSet k h = eqb (k / 2 ^ h % 2) 1
+abbrev pub bit_set : ℕ → ℕ → Bool
+bit_set k h = eqb (k / 2 ^ h % 2) 1
 
 -- "distance m = 2^(s−1) + k is due for i exactly when somebody stands at it and i suspects its whole own group (absent numbers aside) at each
 -- level t for which bit t−1 of k is set". For all rows: nothing is due for a row that suspects its own station, which refusal 3 turns away
@@ -26,39 +26,39 @@ DueByDigits =
     (r : List ℕ) (i s k : ℕ) → k < width s
     → (due r i (width s + k) ≡ true)
     ↔ ((unsuspected r i ≡ true) × (stands r i (width s + k) ≡ true)
-    × ((t : ℕ) → 0 < t → bitSet k (t - 1) ≡ true → suspectsGroup r i t ≡ true))
+    × ((t : ℕ) → 0 < t → bit_set k (t - 1) ≡ true → suspects_group r i t ≡ true))
 
 -- each other station is one that i tests or one that it does not test, and is listed once: the two lists have n − 1 stations
 abbrev pub NobodyLeftOut : Type 0
 NobodyLeftOut =
-    (n : ℕ) (r : List ℕ) (i : ℕ) → isSize n ≡ true → length r ≡ n → i < n
+    (n : ℕ) (r : List ℕ) (i : ℕ) → is_size n ≡ true → length r ≡ n → i < n
     → ((x : ℕ) → x < n → x ≢ i → Memᴰ x (tested n r i) ⊎ Memᴰ x (untested n r i))
     × (suc (length (tested n r i) + length (untested n r i)) ≡ n)
 
 -- the counts are the lengths of the lists
 abbrev pub ListsCounted : Type 0
 ListsCounted =
-    (n : ℕ) (r : List ℕ) (i : ℕ) → (length (tested n r i) ≡ testsDue n r i) × (length (untested n r i) ≡ length (untestedDistances n r i))
-    × (length (ahead n r i) ≡ length (untestedDistances n r i))
+    (n : ℕ) (r : List ℕ) (i : ℕ) → (length (tested n r i) ≡ tests_due n r i) × (length (untested n r i) ≡ length (untested_distances n r i))
+    × (length (ahead n r i) ≡ length (untested_distances n r i))
 
 -- how many of i's own groups at levels 1 to h it suspects whole
-unfoldable pub wholeBelow : List ℕ → ℕ → ℕ → ℕ
-wholeBelow r i h = sum (λ g. bit (suspectsGroup r i (suc g))) h
+unfoldable pub whole_below : List ℕ → ℕ → ℕ → ℕ
+whole_below r i h = sum_below (λ g. bit (suspects_group r i (suc g))) h
 
 -- so with 2^d boards the tests are a sum over the levels: for level h + 1, 2 to the number of own groups below it that i suspects whole
 abbrev pub TestsByLevels : Type 0
 TestsByLevels =
-    (d : ℕ) (r : List ℕ) (i : ℕ) → length r ≡ 2 ^ d → unsuspected r i ≡ true → testsDue (2 ^ d) r i ≡ sum (λ h. 2 ^ wholeBelow r i h) d
+    (d : ℕ) (r : List ℕ) (i : ℕ) → length r ≡ 2 ^ d → unsuspected r i ≡ true → tests_due (2 ^ d) r i ≡ sum_below (λ h. 2 ^ whole_below r i h) d
 
 -- at any size at most so many: at some of these distances nobody stands
 abbrev pub TestsAtMost : Type 0
 TestsAtMost =
-    (n : ℕ) (r : List ℕ) (i : ℕ) → unsuspected r i ≡ true → testsDue n r i ≤ sum (λ h. 2 ^ wholeBelow r i h) (dimension n)
+    (n : ℕ) (r : List ℕ) (i : ℕ) → unsuspected r i ≡ true → tests_due n r i ≤ sum_below (λ h. 2 ^ whole_below r i h) (dimension n)
 
 -- "with 2^d boards and nobody suspected each board has exactly d due"
 abbrev pub NobodySuspected : Type 0
 NobodySuspected =
-    (d : ℕ) (r : List ℕ) (i : ℕ) → length r ≡ 2 ^ d → i < 2 ^ d → ((x : ℕ) → x < 2 ^ d → unsuspected r x ≡ true) → testsDue (2 ^ d) r i ≡ d
+    (d : ℕ) (r : List ℕ) (i : ℕ) → length r ≡ 2 ^ d → i < 2 ^ d → ((x : ℕ) → x < 2 ^ d → unsuspected r x ≡ true) → tests_due (2 ^ d) r i ≡ d
 
 -- row r of 2^d suspects j, another station than i, and nobody else
 pub record SuspectsOne (d : ℕ) (r : List ℕ) (i j : ℕ) : Type 0 where
@@ -70,24 +70,24 @@ pub record SuspectsOne (d : ℕ) (r : List ℕ) (i j : ℕ) : Type 0 where
 
 -- "with one suspected, at most 2d − 1"
 abbrev pub OneSuspected : Type 0
-OneSuspected = (d : ℕ) (r : List ℕ) (i j : ℕ) → SuspectsOne d r i j → testsDue (2 ^ d) r i ≤ 2 * d - 1
+OneSuspected = (d : ℕ) (r : List ℕ) (i j : ℕ) → SuspectsOne d r i j → tests_due (2 ^ d) r i ≤ 2 * d - 1
 
 -- "and the board at distance 1 from it has them"; every other board has d
 abbrev pub OneSuspectedExactly : Type 0
 OneSuspectedExactly =
-    (d : ℕ) (r : List ℕ) (i j : ℕ) → SuspectsOne d r i j → testsDue (2 ^ d) r i ≡ cond (eqb (distance i j) 1) (2 * d - 1) d
+    (d : ℕ) (r : List ℕ) (i j : ℕ) → SuspectsOne d r i j → tests_due (2 ^ d) r i ≡ cond (eqb (distance i j) 1) (2 * d - 1) d
 
 -- so the most of any of 2^d boards is d with nobody dead, and 2d − 1 with any one dead
 abbrev pub MostOfPowers : Type 0
 MostOfPowers =
     (d : ℕ) (r : List ℕ) → length r ≡ 2 ^ d → ((x : ℕ) → x < 2 ^ d → unsuspected r x ≡ true)
-    → (mostOfBoards (2 ^ d) r false ≡ d) × (mostOfBoards (2 ^ d) r true ≡ 2 * d - 1)
+    → (most_of_boards (2 ^ d) r false ≡ d) × (most_of_boards (2 ^ d) r true ≡ 2 * d - 1)
 
 -- of "33 boards, board 32 alone has 32": with 2^d + 1 boards and nobody suspected the last board tests all others
 abbrev pub LastTestsAll : Type 0
 LastTestsAll =
     (d : ℕ) (r : List ℕ) → length r ≡ suc (2 ^ d) → ((x : ℕ) → x < suc (2 ^ d) → unsuspected r x ≡ true)
-    → testsDue (suc (2 ^ d)) r (2 ^ d) ≡ 2 ^ d
+    → tests_due (suc (2 ^ d)) r (2 ^ d) ≡ 2 ^ d
 
 -- row r' is as long as r and suspects all that r suspects, but not i
 pub record Wider (r r' : List ℕ) (i : ℕ) : Type 0 where
@@ -97,12 +97,12 @@ pub record Wider (r r' : List ℕ) (i : ℕ) : Type 0 where
 
 -- who suspects more makes no fewer tests
 abbrev pub NeverFewer : Type 0
-NeverFewer = (n : ℕ) (r r' : List ℕ) (i : ℕ) → Wider r r' i → testsDue n r i ≤ testsDue n r' i
+NeverFewer = (n : ℕ) (r r' : List ℕ) (i : ℕ) → Wider r r' i → tests_due n r i ≤ tests_due n r' i
 
 -- the most with one more dead is no less than the tests now
 abbrev pub MostIsNoLess : Type 0
-MostIsNoLess = (n : ℕ) (r : List ℕ) (i : ℕ) → unsuspected r i ≡ true → testsDue n r i ≤ mostTests n r i
+MostIsNoLess = (n : ℕ) (r : List ℕ) (i : ℕ) → unsuspected r i ≡ true → tests_due n r i ≤ most_tests n r i
 
 -- the most with one more dead is no less than the tests by any row that suspects nobody but those that r suspects and one other station
 abbrev pub MostCovers : Type 0
-MostCovers = (n : ℕ) (r r' : List ℕ) (i j : ℕ) → j < n → j ≢ i → Wider r' (mark r j) i → testsDue n r' i ≤ mostTests n r i
+MostCovers = (n : ℕ) (r r' : List ℕ) (i j : ℕ) → j < n → j ≢ i → Wider r' (mark r j) i → tests_due n r' i ≤ most_tests n r i

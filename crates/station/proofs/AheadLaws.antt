@@ -13,15 +13,15 @@ use borrow.Author.Tests.{eq-eqb, ne_eqb}
 use lib.Dec.{eqb}
 use lib.Pow.{pow_pos, pow_mono}
 use lib.Bits.{bit_xor, bit_or, differ, xor_step, xor_comm, xor_zero_r, xor_shr, or_step, or_shr, or_self, or_zero_r, or_add_and, and_le_r}
-use Rattle.station.specs.Groups.{distance, stationAt}
+use Rattle.station.specs.Groups.{distance, station_at}
 use Rattle.table.specs.Sizes.{level}
-use Rattle.station.specs.Tests.{unsuspected, first, DueAnswer, answerDue, answerAhead, answer, saysDue, stands, due}
-use Rattle.station.specs.Calls.{answerByte}
-use Rattle.station.specs.Ahead.{Before, NamedStandsBefore, BeforeByDigits, blockEnd, BeforeInBlock, NoneDueInBlock, DueIfNobodyBefore}
+use Rattle.station.specs.Tests.{unsuspected, first, DueAnswer, answer_due, answer_ahead, answer, says_due, stands, due}
+use Rattle.station.specs.Calls.{answer_byte}
+use Rattle.station.specs.Ahead.{Before, NamedStandsBefore, BeforeByDigits, block_end, BeforeInBlock, NoneDueInBlock, DueIfNobodyBefore}
 use Rattle.lists.proofs.BoolLaws.{by_bool}
 use Rattle.lists.proofs.Xor.{Near, div-le, near_le, near-of-xor, xor-of-near, xor_assoc, xor-cancel, xor-undo}
 use Rattle.table.proofs.Levels.{level-zero, level-upper, level-le, level-is, level-bounds, level-split}
-use Rattle.station.proofs.DueLaws.{isStation, first-not, first_found, answer-here, due-is, due-not, due-zero, due-stands}
+use Rattle.station.proofs.DueLaws.{is_station, first-not, first_found, answer-here, due-is, due-not, due-zero, due-stands}
 
 -- a level by the highest digit
 pub level-top : (m g : ℕ) → level m ≡ suc g → m / 2 ^ g ≡ 1
@@ -63,7 +63,7 @@ module _ (m e t : ℕ) (at : level e ≡ suc t) where
   digit-more o = less-of-div t m (bit_xor m e) (omega (arith, top, flip-even (m / 2 ^ t) o))
 
 -- the distance of x from the station at distance m, by its distance from i
-by-own : (i m x : ℕ) → distance (stationAt i m) x ≡ bit_xor m (distance i x)
+by-own : (i m x : ℕ) → distance (station_at i m) x ≡ bit_xor m (distance i x)
 by-own i m x = cc (xor_comm i m, xor_assoc m i x)
 
 pub before-by-digits : BeforeByDigits
@@ -115,8 +115,8 @@ or-odd a b odd e =
     omega (arith, rw (odd, low, same, or_self (a / 2)) at (or_step a b))
 
 -- where digit t of m is 1, the end of its block has the same digits from t on
-block_near : (m t : ℕ) → m / 2 ^ t % 2 ≡ 1 → blockEnd m / 2 ^ t ≡ m / 2 ^ t
-unfolding blockEnd
+block_near : (m t : ℕ) → m / 2 ^ t % 2 ≡ 1 → block_end m / 2 ^ t ≡ m / 2 ^ t
+unfolding block_end
 block_near m t odd =
     let a : ℕ = m / 2 ^ t in
     let b : ℕ = (m - 1) / 2 ^ t in
@@ -128,51 +128,51 @@ block_near m t odd =
     or_shr m (m - 1) t ∙ either
 
 pub before-in-block : BeforeInBlock
-before-in-block i m x y b lo hi = before-until i m x y (blockEnd m) b lo hi (λ t e odd. block_near m t odd)
+before-in-block i m x y b lo hi = before-until i m x y (block_end m) b lo hi (λ t e odd. block_near m t odd)
 
 -- as the code asks for it: the block begins with m, and that of distance 0 ends with it
-pub block-low : (m l : ℕ) → l ≡ blockEnd m → m ≤ l
-unfolding blockEnd
+pub block-low : (m l : ℕ) → l ≡ block_end m → m ≤ l
+unfolding block_end
 block-low m l e = omega (arith, or_add_and m (m - 1), and_le_r m (m - 1))
 
-pub block-zero : blockEnd 0 ≡ 0
-unfolding blockEnd
+pub block-zero : block_end 0 ≡ 0
+unfolding block_end
 block-zero = or_zero_r 0
 
 pub named-stands-before : NamedStandsBefore
-named-stands-before r i m x own pos here e = by_bool (eqb y i) (λ z. absurd (true≢false (ap saysDue (given z)))) named
+named-stands-before r i m x own pos here e = by_bool (eqb y i) (λ z. absurd (true≢false (ap says_due (given z)))) named
   where
     j : ℕ
-    j = stationAt i m
+    j = station_at i m
 
-    f : (a : ℕ) × (level a ≡ level m) × (a ≤ m) × (unsuspected r (stationAt j a) ≡ true) × (first (unsuspected r) j (level m) ≡ some (stationAt j a))
+    f : (a : ℕ) × (level a ≡ level m) × (a ≤ m) × (unsuspected r (station_at j a) ≡ true) × (first (unsuspected r) j (level m) ≡ some (station_at j a))
     f = first_found (unsuspected r) j m pos (rw (xor-undo i m) own)
 
     y : ℕ
-    y = stationAt j f.0
+    y = station_at j f.0
 
-    given : eqb y i ≡ true → answerDue ≡ answerAhead x
+    given : eqb y i ≡ true → answer_due ≡ answer_ahead x
     given z = rw (f.4, z) at (sym (answer-here r i m here) ∙ e)
 
     named : eqb y i ≡ false → (unsuspected r x ≡ true) × Before i m x
     named z =
-        let same : y ≡ x = ap answerByte (rw (f.4, z) at (sym (answer-here r i m here) ∙ e)) in
-        let apart : ¬ (f.0 ≡ m) = λ a. true≢false (sym (eq-eqb y i (ap (stationAt j) a ∙ xor-undo i m)) ∙ z) in
+        let same : y ≡ x = ap answer_byte (rw (f.4, z) at (sym (answer-here r i m here) ∙ e)) in
+        let apart : ¬ (f.0 ≡ m) = λ a. true≢false (sym (eq-eqb y i (ap (station_at j) a ∙ xor-undo i m)) ∙ z) in
         rw (← same, xor-cancel j f.0) (f.3, (f.1, omega (arith, f.2)))
 
 -- i is not first where one that stands before it passes
-before-first : (q : ℕ → Bool) (i m x : ℕ) → q x ≡ true → Before i m x → isStation i (first q (stationAt i m) (level m)) ≡ false
+before-first : (q : ℕ → Bool) (i m x : ℕ) → q x ≡ true → Before i m x → is_station i (first q (station_at i m) (level m)) ≡ false
 before-first q i m x passes b =
-    let j : ℕ = stationAt i m in
+    let j : ℕ = station_at i m in
     let a : ℕ = distance j x in
     let u = level-split m (omega (arith, b.1)) in
     let some_level : ¬ (a ≡ 0) = λ z. omega (arith, level-zero, u.1, rw z at b.0) in
     let f = first_found q j a (omega arith) (rw (xor-cancel j x) passes) in
     let y : ℕ = f.0 in
-    let apart : ¬ (stationAt j y ≡ i) = λ e.
+    let apart : ¬ (station_at j y ≡ i) = λ e.
     let same : y ≡ m = cc (xor-cancel j y, xor-undo i m, xor-cancel j m) in
     omega (arith, b.1, f.2) in
-    let none : isStation i (first q j (level a)) ≡ false = rw f.4 (ne_eqb (stationAt j y) i apart) in
+    let none : is_station i (first q j (level a)) ≡ false = rw f.4 (ne_eqb (station_at j y) i apart) in
     rw b.0 at none
 
 -- nor then is the distance due
@@ -185,9 +185,9 @@ due-if-nobody-before r i m own pos = (λ e. (due-stands r i m e, there e), λ gi
     there : due r i m ≡ true → (x : ℕ) → Before i m x → unsuspected r x ≡ false
     there e x b = by_bool (unsuspected r x) (λ p. absurd (true≢false (sym e ∙ not-due-before r i m x p b))) (λ p. p)
 
-    back : stands r i m ≡ true → ((x : ℕ) → Before i m x → unsuspected r x ≡ false) → (a : DueAnswer) → answer r i m ≡ a → saysDue (answer r i m) ≡ true
-    back here none answerDue e = rw e
-    back here none (answerAhead x) e =
+    back : stands r i m ≡ true → ((x : ℕ) → Before i m x → unsuspected r x ≡ false) → (a : DueAnswer) → answer r i m ≡ a → says_due (answer r i m) ≡ true
+    back here none answer_due e = rw e
+    back here none (answer_ahead x) e =
         let b = named-stands-before r i m x own pos here e in
         absurd (true≢false (sym b.0 ∙ none x b.1))
 
@@ -195,7 +195,7 @@ pub none-due-in-block : NoneDueInBlock
 none-due-in-block r i m x y here e lo hi = by_bool (unsuspected r i) (λ own. pick own (dec_lt 0 m)) not_own
   where
     not_own : unsuspected r i ≡ false → due r i y ≡ false
-    not_own fails = due-not r i y (first-not (unsuspected r) (stationAt i y) (level y) i fails)
+    not_own fails = due-not r i y (first-not (unsuspected r) (station_at i y) (level y) i fails)
 
     pick : unsuspected r i ≡ true → Dec (0 < m) → due r i y ≡ false
     pick own (yes pos) =

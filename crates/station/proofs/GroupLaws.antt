@@ -1,6 +1,7 @@
 -- The theorems on groups, for every size at once: who is in a group, in which group a station is, and equation 1 of paper 001.
 -- Assumes nothing.
 use mathlib.Core.Path.{◌≡◌, refl, sym, ap, ◌∙◌}
+use Rattle.std.specs.List.{filter}
 use mathlib.Core.Logic.{◌⊎◌, inl, inr}
 use mathlib.Core.List.Memᴰ
 use mathlib.Core.List.{[], ◌∷◌, ◌++◌, Memᴰ}
@@ -10,13 +11,14 @@ use native.Mathlib.Omega.{arith}
 use lib.Bits.{xor_self, xor_zero_r, xor_lt, xor_shifted}
 use borrow.Author.Tests.{ltb-true, lt-ltb}
 use mathlib.Core.Bool.{true}
-use Rattle.lists.specs.Search.{list_of, keep}
-use Rattle.table.specs.Sizes.{isSize, level, dimension, distances}
-use Rattle.station.specs.Groups.{distance, stationAt, isPresent, width, member, fullGroup, group}
-use Rattle.station.specs.Equation1.{groupsTo, remainingTo}
+use Rattle.lists.specs.Search.{list_of}
+use Rattle.table.specs.Sizes.{is_size, level, dimension, distances}
+use Rattle.station.specs.Groups.{distance, station_at, is_present, width, member, full_group, group}
+use Rattle.station.specs.Equation1.{groups_to, remaining_to}
 use Rattle.lists.proofs.Xor.{xor_assoc, xor-cancel, xor-zero-eq}
-use Rattle.lists.proofs.SearchLaws.{listOf-same, listOf-append}
-use Rattle.lists.proofs.KeepLaws.{keep_append, keep-mem, mem-keep}
+use Rattle.lists.proofs.SearchLaws.{list_of-same, list_of-append}
+use Rattle.std.proofs.lemmas.List.Elements.{filter-append}
+use Rattle.lists.proofs.FilterLaws.{filter-mem, mem-filter}
 use Rattle.table.proofs.SizeLaws.{size-distances}
 use Rattle.table.proofs.Levels.{level-zero, level_in, level-le, level-bounds, level-split}
 
@@ -41,47 +43,47 @@ place-mem f (suc n) x k h e = pick (place-mem f n x k) (eq-or-lt_of_le (le_of_su
     pick rest (inl p) = Memᴰ.append_right (list_of f n) (Memᴰ.head (cc))
     pick rest (inr l) = Memᴰ.append_left (f n ∷ []) (rest l e)
 
-no-group-zero : (i x : ℕ) → Memᴰ x (fullGroup i 0) → ⊥
-unfolding fullGroup width list_of
+no-group-zero : (i x : ℕ) → Memᴰ x (full_group i 0) → ⊥
+unfolding full_group width list_of
 no-group-zero i x m = Memᴰ.not-nil m
 
 -- who is in the full group of i at level s has a distance of that level
-members-level : (i s x : ℕ) → Memᴰ x (fullGroup i s) → level (distance i x) ≡ s
-unfolding fullGroup width member
+members-level : (i s x : ℕ) → Memᴰ x (full_group i s) → level (distance i x) ≡ s
+unfolding full_group width member
 members-level i zero x m = absurd (no-group-zero i x m)
 members-level i (suc h) x m =
     let t = mem-place (member i (suc h)) (2 ^ h) x m in
     rw (t.2, xor-cancel) (level_in h t.0 t.1)
 
 -- and the other way
-level-members : (i s x : ℕ) → 0 < s → level (distance i x) ≡ s → Memᴰ x (fullGroup i s)
-unfolding fullGroup width member
+level-members : (i s x : ℕ) → 0 < s → level (distance i x) ≡ s → Memᴰ x (full_group i s)
+unfolding full_group width member
 level-members i zero x pos e = absurd (omega arith)
 level-members i (suc h) x pos e =
     let m : ℕ = distance i x in
     let b = level-bounds m h e in
-    place-mem (member i (suc h)) (2 ^ h) x (m - 2 ^ h) (omega arith) (sym (xor-cancel i x) ∙ ap (stationAt i) (omega arith))
+    place-mem (member i (suc h)) (2 ^ h) x (m - 2 ^ h) (omega arith) (sym (xor-cancel i x) ∙ ap (station_at i) (omega arith))
 
 -- with the absent numbers left out: who is in the group of i at level s is present and has a distance of that level
 pub group-members : (n i s x : ℕ) → Memᴰ x (group n i s) → (x < n) × (level (distance i x) ≡ s)
 unfolding group
 group-members n i s x m =
-    let k = keep-mem (isPresent n) (fullGroup i s) x m in
+    let k = filter-mem (is_present n) (full_group i s) x m in
     (ltb-true x n k.1, members-level i s x k.0)
 
 -- and the other way
 pub members-group : (n i s x : ℕ) → 0 < s → x < n → level (distance i x) ≡ s → Memᴰ x (group n i s)
 unfolding group
-members-group n i s x pos h e = mem-keep (isPresent n) (fullGroup i s) x (level-members i s x pos e) (lt-ltb x n h)
+members-group n i s x pos h e = mem-filter (is_present n) (full_group i s) x (level-members i s x pos e) (lt-ltb x n h)
 
 -- no station is in a group of its own
 pub not-in-own : (n i s : ℕ) → Memᴰ i (group n i s) → ⊥
 unfolding group
-not-in-own n i zero m = no-group-zero i i (keep-mem (isPresent n) (fullGroup i 0) i m).0
+not-in-own n i zero m = no-group-zero i i (filter-mem (is_present n) (full_group i 0) i m).0
 not-in-own n i (suc h) m = let e : 0 ≡ suc h = cc ((group-members n i (suc h) i m).1, xor_self i, level-zero) in omega arith
 
 -- each other station is in exactly one group of i, at a level from 1 to d
-pub in-one-group : (n i x : ℕ) → isSize n ≡ true → i < n → x < n → (i ≡ x → ⊥)
+pub in-one-group : (n i x : ℕ) → is_size n ≡ true → i < n → x < n → (i ≡ x → ⊥)
     → (s : ℕ) × (0 < s) × (s ≤ dimension n) × Memᴰ x (group n i s) × ((s' : ℕ) → Memᴰ x (group n i s') → s' ≡ s)
 unfolding distances
 in-one-group n i x size hi hx other =
@@ -97,29 +99,29 @@ in-one-group n i x size hi hx other =
     )
 
 -- the stations at distances below 2^h from j, in order of distance
-run : (j h : ℕ) → list_of (stationAt j) (2 ^ h) ≡ j ∷ groupsTo j h
-unfolding groupsTo fullGroup width member list_of
+run : (j h : ℕ) → list_of (station_at j) (2 ^ h) ≡ j ∷ groups_to j h
+unfolding groups_to full_group width member list_of
 run j zero = cc (xor_zero_r j)
-run j (suc h) = rw two-pow-succ (listOf-append (stationAt j) (2 ^ h) (2 ^ h) ∙ rw (run j h))
+run j (suc h) = rw two-pow-succ (list_of-append (station_at j) (2 ^ h) (2 ^ h) ∙ rw (run j h))
 
 -- "equation 1": a full group is its first number and that number's full groups at all lower levels
-pub equation-1 : (i h : ℕ) → fullGroup i (suc h) ≡ stationAt i (2 ^ h) ∷ groupsTo (stationAt i (2 ^ h)) h
-unfolding fullGroup width member
-equation-1 i h = listOf-same (member i (suc h)) (stationAt (stationAt i (2 ^ h))) (2 ^ h) shifted ∙ run (stationAt i (2 ^ h)) h
+pub equation-1 : (i h : ℕ) → full_group i (suc h) ≡ station_at i (2 ^ h) ∷ groups_to (station_at i (2 ^ h)) h
+unfolding full_group width member
+equation-1 i h = list_of-same (member i (suc h)) (station_at (station_at i (2 ^ h))) (2 ^ h) shifted ∙ run (station_at i (2 ^ h)) h
   where
-    shifted : (k : ℕ) → k < 2 ^ h → stationAt i (2 ^ h + k) ≡ stationAt (stationAt i (2 ^ h)) k
+    shifted : (k : ℕ) → k < 2 ^ h → station_at i (2 ^ h + k) ≡ station_at (station_at i (2 ^ h)) k
     shifted k l = cc (xor_assoc i (2 ^ h) k, xor_shifted 1 h k l, one-mul (2 ^ h))
 
-remaining-is : (n j h : ℕ) → keep (isPresent n) (groupsTo j h) ≡ remainingTo n j h
-unfolding remainingTo groupsTo keep group
+remaining-is : (n j h : ℕ) → filter (is_present n) (groups_to j h) ≡ remaining_to n j h
+unfolding remaining_to groups_to group
 remaining-is n j zero = refl
-remaining-is n j (suc h) = keep_append (isPresent n) (groupsTo j h) (fullGroup j (suc h)) ∙ rw (remaining-is n j h)
+remaining-is n j (suc h) = filter-append (is_present n) (groups_to j h) (full_group j (suc h)) ∙ rw (remaining-is n j h)
 
 -- with the absent numbers left out: its first number, if that is present, and that number's groups at all lower levels
 pub equation-1-remaining : (n i h : ℕ)
-    → group n i (suc h) ≡ keep (isPresent n) (stationAt i (2 ^ h) ∷ []) ++ remainingTo n (stationAt i (2 ^ h)) h
+    → group n i (suc h) ≡ filter (is_present n) (station_at i (2 ^ h) ∷ []) ++ remaining_to n (station_at i (2 ^ h)) h
 unfolding group
 equation-1-remaining n i h =
-    let j : ℕ = stationAt i (2 ^ h) in
-    ap (keep (isPresent n)) (equation-1 i h) ∙ keep_append (isPresent n) (j ∷ []) (groupsTo j h)
-    ∙ ap (◌++◌ (keep (isPresent n) (j ∷ []))) (remaining-is n j h)
+    let j : ℕ = station_at i (2 ^ h) in
+    ap (filter (is_present n)) (equation-1 i h) ∙ filter-append (is_present n) (j ∷ []) (groups_to j h)
+    ∙ ap (◌++◌ (filter (is_present n) (j ∷ []))) (remaining-is n j h)

@@ -7,52 +7,52 @@ use native.Mathlib.Omega.{arith}
 use borrow.Author.Tests.{lt-ltb, le-ltb}
 use lib.Bits.{xor_comm, xor_zero_r}
 use lib.ListN.{length}
-use Rattle.lists.specs.Sums.{sum, bit}
-use Rattle.table.specs.Sizes.{isSize, dimension, distances}
-use Rattle.station.specs.Groups.{stationAt, isPresent}
-use Rattle.station.specs.Calls.{isOther, otherDistances}
+use Rattle.lists.specs.Sums.{sum_below, bit}
+use Rattle.table.specs.Sizes.{is_size, dimension, distances}
+use Rattle.station.specs.Groups.{station_at, is_present}
+use Rattle.station.specs.Calls.{is_other, other_distances}
 use Rattle.lists.proofs.SumLaws.{sum_by, sum-split, sum-zero, sum-const, sum-xor}
 use Rattle.table.proofs.SizeLaws.{size-distances, distances-pos}
-use Rattle.lists.proofs.KeepLaws.{kept-sum}
+use Rattle.lists.proofs.FilterLaws.{kept-sum}
 
 -- how many of n stations stand at the distances below m from station i
 abbrev pub standing : ℕ → ℕ → ℕ → ℕ
-standing n i m = sum (λ k. bit (isPresent n (stationAt i k))) m
+standing n i m = sum_below (λ k. bit (is_present n (station_at i k))) m
 
 -- of the numbers below m ≥ n those below n are n
-numbers-below : (n m : ℕ) → n ≤ m → sum (λ j. bit (isPresent n j)) m ≡ n
+numbers-below : (n m : ℕ) → n ≤ m → sum_below (λ j. bit (is_present n j)) m ≡ n
 numbers-below n m l =
     let whole : n + (m - n) ≡ m = omega arith in
-    let low : sum (λ j. bit (isPresent n j)) n ≡ n * 1 = sum_by n (λ j h. ap bit (lt-ltb j n h)) ∙ sum-const 1 n in
-    let high = sum-zero {f = λ j. bit (isPresent n (n + j))} (m - n) (λ j h. ap bit (le-ltb (n + j) n (omega arith))) in
-    omega (arith, rw whole at (sum-split (λ j. bit (isPresent n j)) n (m - n)), low, high)
+    let low : sum_below (λ j. bit (is_present n j)) n ≡ n * 1 = sum_by n (λ j h. ap bit (lt-ltb j n h)) ∙ sum-const 1 n in
+    let high = sum-zero {f = λ j. bit (is_present n (n + j))} (m - n) (λ j h. ap bit (le-ltb (n + j) n (omega arith))) in
+    omega (arith, rw whole at (sum-split (λ j. bit (is_present n j)) n (m - n)), low, high)
 
-pub standing-all : (n i : ℕ) → isSize n ≡ true → i < n → standing n i (distances n) ≡ n
+pub standing-all : (n i : ℕ) → is_size n ≡ true → i < n → standing n i (distances n) ≡ n
 unfolding distances
 standing-all n i size h =
     let low = (size-distances n size).0 in
-    sum_by (2 ^ dimension n) (λ k l. rw (xor_comm i k)) ∙ sum-xor (λ j. bit (isPresent n j)) (dimension n) i (omega arith)
+    sum_by (2 ^ dimension n) (λ k l. rw (xor_comm i k)) ∙ sum-xor (λ j. bit (is_present n j)) (dimension n) i (omega arith)
     ∙ numbers-below n (2 ^ dimension n) low
 
 -- a station at a distance counts one more
-pub standing-more : (n i m : ℕ) → stationAt i m < n → standing n i (suc m) ≡ suc (standing n i m)
-unfolding sum
-standing-more n i m l = rw (lt-ltb (stationAt i m) n l) (omega arith)
+pub standing-more : (n i m : ℕ) → station_at i m < n → standing n i (suc m) ≡ suc (standing n i m)
+unfolding sum_below
+standing-more n i m l = rw (lt-ltb (station_at i m) n l) (omega arith)
 
 pub standing-grows : (n i a b : ℕ) → a ≤ b → standing n i a ≤ standing n i b
 standing-grows n i a b l =
     let e : a + (b - a) ≡ b = omega arith in
-    omega (arith, rw e at (sum-split (λ k. bit (isPresent n (stationAt i k))) a (b - a)))
+    omega (arith, rw e at (sum-split (λ k. bit (is_present n (station_at i k))) a (b - a)))
 
 -- below m > 0 one station more stands than other stations do, for the station itself stands at 0
-pub others_below : (n i m : ℕ) → i < n → suc (sum (λ k. bit (isOther n i k)) (suc m)) ≡ standing n i (suc m)
-unfolding sum
+pub others_below : (n i m : ℕ) → i < n → suc (sum_below (λ k. bit (is_other n i k)) (suc m)) ≡ standing n i (suc m)
+unfolding sum_below
 others_below n i zero h = rw (xor_zero_r i, lt-ltb i n h) (omega arith)
 others_below n i (suc m) h = rw (lt-ltb 0 (suc m) (omega arith)) (omega (arith, others_below n i m h))
 
 -- the other stations of n are n − 1
-pub others-all : (n i : ℕ) → isSize n ≡ true → i < n → suc (length (otherDistances n i)) ≡ n
-unfolding otherDistances
+pub others-all : (n i : ℕ) → is_size n ≡ true → i < n → suc (length (other_distances n i)) ≡ n
+unfolding other_distances
 others-all n i size h =
     let pos : suc (distances n - 1) ≡ distances n = omega (arith, distances-pos n) in
-    omega (arith, kept-sum (isOther n i) (λ k. k) (distances n), rw pos at (others_below n i (distances n - 1) h), standing-all n i size h)
+    omega (arith, kept-sum (is_other n i) (λ k. k) (distances n), rw pos at (others_below n i (distances n - 1) h), standing-all n i size h)

@@ -3,18 +3,18 @@
 use Rattle.std.specs.Prelude.{◌≡◌, ◌↔◌, true, false, List, ℕ, suc, ◌-◌, ◌/◌, ◌%◌, ◌^◌, ◌≤◌, ◌<◌}
 use Rattle.std.specs.Int.Bits.{bit_or}
 use Rattle.table.specs.Sizes.{level}
-use Rattle.station.specs.Groups.{distance, stationAt}
-use Rattle.station.specs.Tests.{unsuspected, answerAhead, answer, stands, due}
+use Rattle.station.specs.Groups.{distance, station_at}
+use Rattle.station.specs.Tests.{unsuspected, answer_ahead, answer, stands, due}
 
 -- number x, present or absent, stands before i in the full group, at the level of m, of the station at distance m from i: its distance from that
 -- station has the same level, and is less than that of i, which is m
 abbrev pub Before : ℕ → ℕ → ℕ → Type 0
-Before i m x = (level (distance (stationAt i m) x) ≡ level m) × (distance (stationAt i m) x < m)
+Before i m x = (level (distance (station_at i m) x) ≡ level m) × (distance (station_at i m) x < m)
 
 -- for a row that does not suspect its own station, whom the answer names where a station stands is not suspected and stands before i
 abbrev pub NamedStandsBefore : Type 0
 NamedStandsBefore =
-    (r : List ℕ) (i m x : ℕ) → unsuspected r i ≡ true → 0 < m → stands r i m ≡ true → answer r i m ≡ answerAhead x
+    (r : List ℕ) (i m x : ℕ) → unsuspected r i ≡ true → 0 < m → stands r i m ≡ true → answer r i m ≡ answer_ahead x
     → (unsuspected r x ≡ true) × Before i m x
 
 -- and the answer is "due" just where a station stands and the row leaves nobody unsuspected that stands before i
@@ -31,14 +31,14 @@ BeforeByDigits =
     ↔ ((h : ℕ) × (level (distance i x) ≡ suc h) × (suc h < level m) × (m / 2 ^ h % 2 ≡ 1))
 
 -- the block that begins with m ends with m with its digits below its lowest 1 all 1, which does not depend on who stands before i
-unfoldable pub blockEnd : ℕ → ℕ
-blockEnd m = bit_or m (m - 1)
+unfoldable pub block_end : ℕ → ℕ
+block_end m = bit_or m (m - 1)
 
 -- who stands before i at distance m does so in the whole block
 abbrev pub BeforeInBlock : Type 0
-BeforeInBlock = (i m x y : ℕ) → Before i m x → m ≤ y → y ≤ blockEnd m → Before i y x
+BeforeInBlock = (i m x y : ℕ) → Before i m x → m ≤ y → y ≤ block_end m → Before i y x
 
 -- so where a station stands at distance m and the answer is not "due", no distance of the block is due, whatever the row
 abbrev pub NoneDueInBlock : Type 0
 NoneDueInBlock =
-    (r : List ℕ) (i m x y : ℕ) → stands r i m ≡ true → answer r i m ≡ answerAhead x → m ≤ y → y ≤ blockEnd m → due r i y ≡ false
+    (r : List ℕ) (i m x y : ℕ) → stands r i m ≡ true → answer r i m ≡ answer_ahead x → m ≤ y → y ≤ block_end m → due r i y ≡ false

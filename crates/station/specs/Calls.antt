@@ -4,78 +4,78 @@
 use Rattle.std.specs.Prelude.{ℕ, ◌*◌, ◌-◌, Bool, not, ◌&&◌, ◌||◌, List, [], ◌∷◌, length, ltb, eqb}
 use Rattle.std.proofs.Math.Option.{Option, none, some}
 use Rattle.lists.specs.Search.{select}
-use Rattle.table.specs.Sizes.{isSize, dimension, distances}
-use Rattle.station.specs.Groups.{stationAt, isPresent, group}
-use Rattle.table.specs.Table.{rowStart, row, live}
+use Rattle.table.specs.Sizes.{is_size, dimension, distances}
+use Rattle.station.specs.Groups.{station_at, is_present, group}
+use Rattle.table.specs.Table.{row_start, row, live}
 use Rattle.lists.specs.Refusal.{refuse, ◌else◌, unless}
-use Rattle.table.specs.Rules.{tableNumber, lengthRefusal, stationRefusal}
-use Rattle.station.specs.Tests.{DueAnswer, answerDue, answerAhead, answer, dueDistances}
+use Rattle.table.specs.Rules.{table_number, length_refusal, station_refusal}
+use Rattle.station.specs.Tests.{DueAnswer, answer_due, answer_ahead, answer, due_distances}
 use Rattle.station.specs.declared.First.{First}
 use Rattle.station.specs.declared.First.TheVariants.{At, Nobody}
 use Rattle.station.specs.declared.DueOrAhead.{DueOrAhead}
 use Rattle.station.specs.declared.DueOrAhead.TheVariants.{Due, Ahead}
 
 -- what the code's First stands for: the station, or none
-abbrev pub firstValue : First → Option ℕ
-firstValue (At x) = some x.0
-firstValue Nobody = none
+abbrev pub first_value : First → Option ℕ
+first_value (At x) = some x.0
+first_value Nobody = none
 
 -- C-16: what the code's DueOrAhead stands for
-abbrev pub answerValue : DueOrAhead → DueAnswer
-answerValue Due = answerDue
-answerValue (Ahead x) = answerAhead x.0
+abbrev pub answer_value : DueOrAhead → DueAnswer
+answer_value Due = answer_due
+answer_value (Ahead x) = answer_ahead x.0
 
 -- refusals 9 and 12, station and level in their ranges: "The level is 0 or above d."
-unfoldable pub rangeNumber : ℕ → ℕ → ℕ → ℕ
-rangeNumber n i s = stationRefusal n i else refuse 12 (eqb s 0 || ltb (dimension n) s)
+unfoldable pub range_number : ℕ → ℕ → ℕ → ℕ
+range_number n i s = station_refusal n i else refuse 12 (eqb s 0 || ltb (dimension n) s)
 
 -- Group list: refusals 1, 9, 12, 13. C-11: "number 13 uses the group's remaining length"
-unfoldable pub groupNumber : ℕ → ℕ → ℕ → ℕ → ℕ
-groupNumber n i s len = refuse 1 (not (isSize n)) else rangeNumber n i s else lengthRefusal (length (group n i s)) len
+unfoldable pub group_number : ℕ → ℕ → ℕ → ℕ → ℕ
+group_number n i s len = refuse 1 (not (is_size n)) else range_number n i s else length_refusal (length (group n i s)) len
 
 -- "the 2^(s−1) members in order, into a lent list of just that length"; C-11: "the members that remain, which may be 0"
-unfoldable pub groupAfter : ℕ → ℕ → ℕ → List ℕ → List ℕ
-groupAfter n i s list = unless (groupNumber n i s (length list)) list (group n i s)
+unfoldable pub group_after : ℕ → ℕ → ℕ → List ℕ → List ℕ
+group_after n i s list = unless (group_number n i s (length list)) list (group n i s)
 
 -- Row: refusals 1 to 4, 9
-unfoldable pub rowNumber : ℕ → List ℕ → ℕ → ℕ
-rowNumber n t i = tableNumber n t else stationRefusal n i
+unfoldable pub row_number : ℕ → List ℕ → ℕ → ℕ
+row_number n t i = table_number n t else station_refusal n i
 
 -- "the station's row handed back as that very part of the lent table"; "a refused row is the empty part"
-unfoldable pub rowPart : ℕ → List ℕ → ℕ → List ℕ
-rowPart n t i = unless (rowNumber n t i) [] (row n t i)
+unfoldable pub row_part : ℕ → List ℕ → ℕ → List ℕ
+row_part n t i = unless (row_number n t i) [] (row n t i)
 
 -- where that part begins, counted from the table's first byte; the empty part of a refusal begins where the table does
-unfoldable pub rowOffset : ℕ → List ℕ → ℕ → ℕ
-rowOffset n t i = unless (rowNumber n t i) 0 (rowStart n i)
+unfoldable pub row_offset : ℕ → List ℕ → ℕ → ℕ
+row_offset n t i = unless (row_number n t i) 0 (row_start n i)
 
 -- Assignment: refusals 1 to 4, 9, 10, 13. 10: "The station is not live." C-16: "number 13 speaks of the new length", two bytes for each entry
-unfoldable pub assignmentNumber : ℕ → List ℕ → ℕ → ℕ → ℕ
-assignmentNumber n t i len = rowNumber n t i else refuse 10 (not (live n t i)) else lengthRefusal (2 * (n - 1)) len
+unfoldable pub assignment_number : ℕ → List ℕ → ℕ → ℕ → ℕ
+assignment_number n t i len = row_number n t i else refuse 10 (not (live n t i)) else length_refusal (2 * (n - 1)) len
 
 -- C-16: "one for each other station in ascending distance": whether another of n stations stands at distance m from i
-abbrev pub isOther : ℕ → ℕ → ℕ → Bool
-isOther n i m = ltb 0 m && isPresent n (stationAt i m)
+abbrev pub is_other : ℕ → ℕ → ℕ → Bool
+is_other n i m = ltb 0 m && is_present n (station_at i m)
 
 -- the distances of the other stations, ascending
-unfoldable pub otherDistances : ℕ → ℕ → List ℕ
-otherDistances n i = select (isOther n i) (distances n)
+unfoldable pub other_distances : ℕ → ℕ → List ℕ
+other_distances n i = select (is_other n i) (distances n)
 
 -- "255 if due or else the one ahead"
-abbrev pub answerByte : DueAnswer → ℕ
-answerByte answerDue = 255
-answerByte (answerAhead x) = x
+abbrev pub answer_byte : DueAnswer → ℕ
+answer_byte answer_due = 255
+answer_byte (answer_ahead x) = x
 
 -- "two-byte entries ..: the distance, and 255 if due or else the one ahead", for each of these distances
-unfoldable pub assignmentEntries : List ℕ → ℕ → List ℕ → List ℕ
-assignmentEntries r i [] = []
-assignmentEntries r i (m ∷ ms) = m ∷ answerByte (answer r i m) ∷ assignmentEntries r i ms
+unfoldable pub assignment_entries : List ℕ → ℕ → List ℕ → List ℕ
+assignment_entries r i [] = []
+assignment_entries r i (m ∷ ms) = m ∷ answer_byte (answer r i m) ∷ assignment_entries r i ms
 
 -- "The assignment becomes n − 1 two-byte entries"; they fill the list (`NothingLeftOver`)
-unfoldable pub assignmentAfter : ℕ → List ℕ → ℕ → List ℕ → List ℕ
-assignmentAfter n t i list =
-    unless (assignmentNumber n t i (length list)) list (assignmentEntries (row n t i) i (otherDistances n i))
+unfoldable pub assignment_after : ℕ → List ℕ → ℕ → List ℕ → List ℕ
+assignment_after n t i list =
+    unless (assignment_number n t i (length list)) list (assignment_entries (row n t i) i (other_distances n i))
 
 -- "The count still counts due ones."
-unfoldable pub assignmentCount : ℕ → List ℕ → ℕ → ℕ → ℕ
-assignmentCount n t i len = unless (assignmentNumber n t i len) 0 (length (dueDistances (row n t i) i n))
+unfoldable pub assignment_count : ℕ → List ℕ → ℕ → ℕ → ℕ
+assignment_count n t i len = unless (assignment_number n t i len) 0 (length (due_distances (row n t i) i n))

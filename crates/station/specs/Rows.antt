@@ -2,15 +2,15 @@
 -- Assumes nothing.
 use Rattle.std.specs.Prelude.{ℕ, cond, List, length, get_or, set, eqb}
 use Rattle.lists.specs.Search.{list_of}
-use Rattle.lists.specs.Bytes.{joinedByte}
+use Rattle.lists.specs.Bytes.{joined_byte}
 
 -- byte k of the union: 1 if either row has 1, and the byte about the row's own station as it was
-unfoldable pub unionByte : List ℕ → List ℕ → ℕ → ℕ → ℕ
-unionByte r other own k = cond (eqb k own) (get_or r k 0) (joinedByte r other k)
+unfoldable pub union_byte : List ℕ → List ℕ → ℕ → ℕ → ℕ
+union_byte r other own k = cond (eqb k own) (get_or r k 0) (joined_byte r other k)
 
 -- "the union of the two, except that a station never writes the byte about itself": row r of station own
 unfoldable pub union : List ℕ → List ℕ → ℕ → List ℕ
-union r other own = list_of (unionByte r other own) (length r)
+union r other own = list_of (union_byte r other own) (length r)
 
 -- "i suspects j": row r of i with 1 at j
 unfoldable pub mark : List ℕ → ℕ → List ℕ

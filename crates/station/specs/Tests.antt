@@ -3,7 +3,7 @@
 use Rattle.std.specs.Prelude.{ℕ, Bool, true, false, cond, List, length, get_or, ltb, eqb}
 use Rattle.std.proofs.Math.Option.{Option, none, some}
 use Rattle.lists.specs.Search.{least, select}
-use Rattle.station.specs.Groups.{stationAt, isPresent, width, member}
+use Rattle.station.specs.Groups.{station_at, is_present, width, member}
 use Rattle.table.specs.Sizes.{level, distances}
 
 -- whether a row leaves station x not suspected. A number that is not below the row's length is absent (C-11): never "not suspected"
@@ -11,45 +11,45 @@ unfoldable pub unsuspected : List ℕ → ℕ → Bool
 unsuspected r x = eqb (get_or r x 1) 0
 
 -- the least place in the full group of j at level s whose number passes q; the full group's width where there is none
-unfoldable pub firstPlace : (ℕ → Bool) → ℕ → ℕ → ℕ
-firstPlace q j s = least (λ k. q (member j s k)) (width s) 0
+unfoldable pub first_place : (ℕ → Bool) → ℕ → ℕ → ℕ
+first_place q j s = least (λ k. q (member j s k)) (width s) 0
 
 -- the first number in the full group of j at level s that passes q
 unfoldable pub first : (ℕ → Bool) → ℕ → ℕ → Option ℕ
-first q j s = cond (ltb (firstPlace q j s) (width s)) (some (member j s (firstPlace q j s))) none
+first q j s = cond (ltb (first_place q j s) (width s)) (some (member j s (first_place q j s))) none
 
 -- C-16: "The question whether a distance is due must answer either that it is due, or the station that is first instead."
 pub data DueAnswer : Type 0 where
-  answerDue : DueAnswer
-  answerAhead : ℕ → DueAnswer
+  answer_due : DueAnswer
+  answer_ahead : ℕ → DueAnswer
 
 -- what is answered to i where the first station of the group is the one given. Where nobody is first (the group of level 0 is empty; the row leaves
 -- nobody of the group unsuspected, not even i) it names i itself, which no other case does
 abbrev pub answer_of : ℕ → Option ℕ → DueAnswer
-answer_of i none = answerAhead i
-answer_of i (some x) = cond (eqb x i) answerDue (answerAhead x)
+answer_of i none = answer_ahead i
+answer_of i (some x) = cond (eqb x i) answer_due (answer_ahead x)
 
 -- whether a station stands at distance m from i, whose row is r
 abbrev pub stands : List ℕ → ℕ → ℕ → Bool
-stands r i m = isPresent (length r) (stationAt i m)
+stands r i m = is_present (length r) (station_at i m)
 
 -- "the first station not suspected by i in the group of j at level s, where j is at distance m and s is the level of m": i, or who is first
 -- instead. r is the row of i. C-11: "numbers of n or more are .. never tested": where no station stands at distance m it names i itself, as where
 -- nobody is first
 unfoldable pub answer : List ℕ → ℕ → ℕ → DueAnswer
-answer r i m = cond (stands r i m) (answer_of i (first (unsuspected r) (stationAt i m) (level m))) (answerAhead i)
+answer r i m = cond (stands r i m) (answer_of i (first (unsuspected r) (station_at i m) (level m))) (answer_ahead i)
 
 -- C-16: "a caller that only wants due tests takes the answer apart"
-abbrev pub saysDue : DueAnswer → Bool
-saysDue answerDue = true
-saysDue (answerAhead x) = false
+abbrev pub says_due : DueAnswer → Bool
+says_due answer_due = true
+says_due (answer_ahead x) = false
 
 -- "Distance m is due for i if i is the first station not suspected by i in the group of j at level s, where j is at distance m
 -- and s is the level of m."
 unfoldable pub due : List ℕ → ℕ → ℕ → Bool
-due r i m = saysDue (answer r i m)
+due r i m = says_due (answer r i m)
 
 -- the distances due for i of n stations, by its row of n bytes, ascending. Distance 0 has level 0, whose group is empty: it is never due, and
 -- the list counts from 1
-unfoldable pub dueDistances : List ℕ → ℕ → ℕ → List ℕ
-dueDistances r i n = select (due r i) (distances n)
+unfoldable pub due_distances : List ℕ → ℕ → ℕ → List ℕ
+due_distances r i n = select (due r i) (distances n)

@@ -1,10 +1,10 @@
 // Which distances are due (document 01, step 1), who is first at the others (request C-16), and the assignment.
 ghost use Rattle.std.specs.Prelude.{◌≡◌, ◌+◌, ◌*◌, ◌<◌, true, cond, length, set};
 ghost use Rattle.std.proofs.Math.Option.{some};
-ghost use Rattle.table.specs.Sizes.{isSize, level};
-ghost use Rattle.station.specs.Tests.{unsuspected, first, answer_of, answer, saysDue, stands, due, dueDistances};
-ghost use Rattle.station.specs.Ahead.{blockEnd};
-ghost use Rattle.station.specs.Calls.{firstValue, answerValue, answerByte, otherDistances, assignmentEntries, assignmentNumber, assignmentAfter, assignmentCount};
+ghost use Rattle.table.specs.Sizes.{is_size, level};
+ghost use Rattle.station.specs.Tests.{unsuspected, first, answer_of, answer, says_due, stands, due, due_distances};
+ghost use Rattle.station.specs.Ahead.{block_end};
+ghost use Rattle.station.specs.Calls.{first_value, answer_value, answer_byte, other_distances, assignment_entries, assignment_number, assignment_after, assignment_count};
 
 use crate::{Assigned, DueOrAhead, First, groups, order, rows};
 use lists::{bytes, refusal};
@@ -20,7 +20,7 @@ fn is_unsuspected(row: &[u8], x: Station) -> bool
 
 // The first station that the row does not suspect in the group of j at the level of distance m.
 fn first_unsuspected(row: &[u8], j: Station, m: Distance) -> First
-    ensures { firstValue result ≡ first (unsuspected row.now) j.0 (level m.0) }
+    ensures { first_value result ≡ first (unsuspected row.now) j.0 (level m.0) }
 {
     if m.0 == 0 {
         return First::Nobody;
@@ -46,7 +46,7 @@ pub fn stands(row: &[u8], i: Station, m: Distance) -> bool
 
 // Whether distance m is due for i, by i's row, or who is first instead; i itself where nobody stands or nobody is first.
 pub fn due_or_ahead(row: &[u8], i: Station, m: Distance) -> DueOrAhead
-    ensures { answerValue result ≡ answer row.now i.0 m.0 }
+    ensures { answer_value result ≡ answer row.now i.0 m.0 }
 {
     let j = order::lookup(i, m);
     if row.len() <= j.0 as usize {
@@ -60,7 +60,7 @@ pub fn due_or_ahead(row: &[u8], i: Station, m: Distance) -> DueOrAhead
 
 // What is answered to i where x is first.
 fn answer_of(i: Station, x: Station) -> DueOrAhead
-    ensures { answerValue result ≡ answer_of i.0 (some x.0) }
+    ensures { answer_value result ≡ answer_of i.0 (some x.0) }
 {
     if x.0 == i.0 {
         return DueOrAhead::Due;
@@ -71,7 +71,7 @@ fn answer_of(i: Station, x: Station) -> DueOrAhead
 // m with its digits below its lowest 1 all 1. Whoever stands before a station in the group at distance m does so at every distance from m to
 // this one.
 pub fn block_end(m: Distance) -> Distance
-    ensures { result.0 ≡ blockEnd m.0 }
+    ensures { result.0 ≡ block_end m.0 }
 {
     if m.0 == 0 {
         return m;
@@ -82,9 +82,9 @@ pub fn block_end(m: Distance) -> Distance
 // The assignment of live station i (request C-16): for each other station, by ascending distance, the distance, and 255 if it is due or else the
 // one ahead; and how many are due.
 pub fn assignment(n: usize, table: &[u8], i: Station, list: &mut [u8]) -> Assigned
-    ensures number_value { result.number ≡ assignmentNumber n table.now i.0 (length list.old) }
-    ensures count_value { result.count ≡ assignmentCount n table.now i.0 (length list.old) }
-    ensures list_after { list.new ≡ assignmentAfter n table.now i.0 list.old }
+    ensures number_value { result.number ≡ assignment_number n table.now i.0 (length list.old) }
+    ensures count_value { result.count ≡ assignment_count n table.now i.0 (length list.old) }
+    ensures list_after { list.new ≡ assignment_after n table.now i.0 list.old }
 {
     let number = assignment_number(n, table, i, list.len());
     if number != 0 {
@@ -102,7 +102,7 @@ pub fn assignment(n: usize, table: &[u8], i: Station, list: &mut [u8]) -> Assign
 
 // Refusals 1 to 4, 9, 10, 13, or 0.
 fn assignment_number(n: usize, table: &[u8], i: Station, len: usize) -> u8
-    ensures { result ≡ assignmentNumber n table.now i.0 len }
+    ensures { result ≡ assignment_number n table.now i.0 len }
 {
     let number = rows::row_number(n, table, i);
     if number != 0 {
@@ -122,9 +122,9 @@ struct Written {
 
 // Writes the entries of i of n stations, by its row; answers how many are due.
 fn write_entries(n: u8, row: &[u8], i: Station, list: &mut [u8]) -> u8
-    requires { (isSize n ≡ true) × (length row.now ≡ n) × (i.0 < n) × (length list.old + 2 ≡ 2 * n) }
-    ensures value { result ≡ length (dueDistances row.now i.0 n) }
-    ensures list_after { list.new ≡ assignmentEntries row.now i.0 (otherDistances n i.0) }
+    requires { (is_size n ≡ true) × (length row.now ≡ n) × (i.0 < n) × (length list.old + 2 ≡ 2 * n) }
+    ensures value { result ≡ length (due_distances row.now i.0 n) }
+    ensures list_after { list.new ≡ assignment_entries row.now i.0 (other_distances n i.0) }
 {
     let end = sizes::distances(n) as u8;
     let mut written = Written { bytes: 0, due: 0 };
@@ -139,7 +139,7 @@ fn put_entry(row: &[u8], i: Station, m: Distance, list: &mut [u8], written: Writ
     requires { (written.bytes < 254) × (written.due < 255) }
     ensures bytes_value { result.bytes ≡ cond (stands row.now i.0 m.0) (written.bytes + 2) written.bytes }
     ensures due_value { result.due ≡ cond (due row.now i.0 m.0) (written.due + 1) written.due }
-    ensures list_after { list.new ≡ cond (stands row.now i.0 m.0) (set (set list.old written.bytes m.0) (written.bytes + 1) (answerByte (answer row.now i.0 m.0))) list.old }
+    ensures list_after { list.new ≡ cond (stands row.now i.0 m.0) (set (set list.old written.bytes m.0) (written.bytes + 1) (answer_byte (answer row.now i.0 m.0))) list.old }
 {
     if !stands(row, i, m) {
         return written;
@@ -156,7 +156,7 @@ fn put_entry(row: &[u8], i: Station, m: Distance, list: &mut [u8], written: Writ
 // One more where the answer is that the distance is due.
 fn count_due(answer: DueOrAhead, count: u8) -> u8
     requires { count < 255 }
-    ensures { result ≡ cond (saysDue (answerValue answer)) (count + 1) count }
+    ensures { result ≡ cond (says_due (answer_value answer)) (count + 1) count }
 {
     let DueOrAhead::Due = answer else {
         return count;
@@ -166,7 +166,7 @@ fn count_due(answer: DueOrAhead, count: u8) -> u8
 
 // The second byte of an entry: 255 if due or else the one ahead.
 fn answer_byte(answer: DueOrAhead) -> u8
-    ensures { result ≡ answerByte (answerValue answer) }
+    ensures { result ≡ answer_byte (answer_value answer) }
 {
     match answer {
         DueOrAhead::Due => 255,

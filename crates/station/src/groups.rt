@@ -1,7 +1,7 @@
 // Groups (document 01, "Groups by distance"; request C-11).
 ghost use Rattle.std.specs.Prelude.{◌≡◌, ◌+◌, ◌<◌, ◌≤◌, cond, length, set};
-ghost use Rattle.station.specs.Groups.{isPresent, width, group};
-ghost use Rattle.station.specs.Calls.{rangeNumber, groupNumber, groupAfter};
+ghost use Rattle.station.specs.Groups.{is_present, width, group};
+ghost use Rattle.station.specs.Calls.{range_number, group_number, group_after};
 
 use crate::order;
 use lists::{bytes, refusal};
@@ -19,8 +19,8 @@ pub(crate) fn width_of(s: Level) -> u8
 
 // The group list of document 01: the members of the group of i at level s, in order. The answer is 0 or a refusal.
 pub fn group_list(n: usize, i: Station, s: Level, list: &mut [u8]) -> u8
-    ensures value { result ≡ groupNumber n i.0 s.0 (length list.old) }
-    ensures list_after { list.new ≡ groupAfter n i.0 s.0 list.old }
+    ensures value { result ≡ group_number n i.0 s.0 (length list.old) }
+    ensures list_after { list.new ≡ group_after n i.0 s.0 list.old }
 {
     let number = group_number(n, i, s, list.len());
     if number == 0 {
@@ -31,7 +31,7 @@ pub fn group_list(n: usize, i: Station, s: Level, list: &mut [u8]) -> u8
 
 // Refusals 1, 9, 12, 13, or 0.
 fn group_number(n: usize, i: Station, s: Level, len: usize) -> u8
-    ensures { result ≡ groupNumber n i.0 s.0 len }
+    ensures { result ≡ group_number n i.0 s.0 len }
 {
     if !sizes::is_size(n) {
         return 1;
@@ -46,7 +46,7 @@ fn group_number(n: usize, i: Station, s: Level, len: usize) -> u8
 
 // Refusals 9 and 12, or 0.
 fn range_number(n: u8, i: Station, s: Level) -> u8
-    ensures { result ≡ rangeNumber n i.0 s.0 }
+    ensures { result ≡ range_number n i.0 s.0 }
 {
     let nine = refusal::refuse(9, n <= i.0);
     let d = sizes::dimension_of(n);
@@ -92,8 +92,8 @@ fn write_group(n: u8, i: Station, s: Level, list: &mut [u8])
 // Puts station x at place count of the list if it is one of n; answers how many are there now.
 fn put_member(n: u8, x: Station, list: &mut [u8], count: u8) -> u8
     requires { count < 255 }
-    ensures value { result ≡ cond (isPresent n x.0) (count + 1) count }
-    ensures list_after { list.new ≡ cond (isPresent n x.0) (set list.old count x.0) list.old }
+    ensures value { result ≡ cond (is_present n x.0) (count + 1) count }
+    ensures list_after { list.new ≡ cond (is_present n x.0) (set list.old count x.0) list.old }
 {
     if n <= x.0 {
         return count;

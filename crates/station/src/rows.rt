@@ -1,15 +1,15 @@
 // Rows: handed back as a part of the lent table, joined and marked (document 01, steps 4 and 5).
 ghost use Rattle.std.specs.Prelude.{◌≡◌, ◌+◌};
 ghost use Rattle.station.specs.Rows.{union, mark};
-ghost use Rattle.station.specs.Calls.{rowNumber, rowPart, rowOffset};
+ghost use Rattle.station.specs.Calls.{row_number, row_part, row_offset};
 
 use lists::{bytes, refusal};
 use table::{Station, inside, rules};
 
 // The row of station i, as that very part of the table: its bytes, and its place in the lent memory. Refused: the empty part.
 pub fn row(n: usize, table: &[u8], i: Station) -> &[u8]
-    ensures result_value { result.now ≡ rowPart n table.now i.0 }
-    ensures ref_ptr_value { (result.ref_ptr.0 ≡ table.entry.ref_ptr.0) × (result.ref_ptr.1 ≡ table.entry.ref_ptr.1 + rowOffset n table.now i.0) }
+    ensures result_value { result.now ≡ row_part n table.now i.0 }
+    ensures ref_ptr_value { (result.ref_ptr.0 ≡ table.entry.ref_ptr.0) × (result.ref_ptr.1 ≡ table.entry.ref_ptr.1 + row_offset n table.now i.0) }
 {
     let number = row_number(n, table, i);
     if number != 0 {
@@ -20,7 +20,7 @@ pub fn row(n: usize, table: &[u8], i: Station) -> &[u8]
 
 // Refusals 1 to 4, 9, or 0, of the row on the same inputs.
 pub fn row_number(n: usize, table: &[u8], i: Station) -> u8
-    ensures { result ≡ rowNumber n table.now i.0 }
+    ensures { result ≡ row_number n table.now i.0 }
 {
     let number = rules::check_table(n, table);
     let station = i.0;

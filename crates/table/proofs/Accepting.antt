@@ -12,16 +12,16 @@ use borrow.Author.Tests.{eqb-true, eqb-false, lt-ltb, le-ltb, le-leb, lt-leb, ne
 use lib.ListN.{length}
 use lib.Dec.{ltb, leb, eqb, leb-suc-suc}
 use Rattle.lists.specs.Search.{every}
-use Rattle.table.specs.Sizes.{isSize, distances}
-use Rattle.table.specs.Table.{tableLength, statusTold, toldByNone, notRecorded}
-use Rattle.table.specs.Rules.{passRule, exitRule, lineRules, notLive, someLive, finishedIfLive, liveFinished, shapeNumber, tableNumber}
+use Rattle.table.specs.Sizes.{is_size, distances}
+use Rattle.table.specs.Table.{table_length, status_told, told_by_none, not_recorded}
+use Rattle.table.specs.Rules.{pass_rule, exit_rule, line_rules, not_live, some_live, finished_if_live, live_finished, shape_number, table_number}
 use Rattle.lists.proofs.BoolLaws.{by_bool}
 use Rattle.lists.proofs.Loops.{every-stop, every-done}
 use Rattle.lists.proofs.RefusalLaws.{else-zero, refuse-zero}
 
 -- "byte 3 at most byte 1 less 1": below byte 1, where that is 1 or more
 pass-rule-is : (n next f tests : ℕ)
-    → (leb next (distances n) && ltb tests next && (eqb f 0 || (eqb f 1 && eqb next (distances n)))) ≡ passRule n next f tests
+    → (leb next (distances n) && ltb tests next && (eqb f 0 || (eqb f 1 && eqb next (distances n)))) ≡ pass_rule n next f tests
 pass-rule-is n zero f tests =
     rw (le-ltb tests 0 (omega arith), and-false (leb 0 (distances n)))
 pass-rule-is n (suc next) f tests =
@@ -45,62 +45,62 @@ module _ (n next f tests : ℕ) where
   abbrev end : Bool
   end = eqb f 0 || (eqb f 1 && eqb next (distances n))
 
-  pub pass-too-far : distances n < next → false ≡ passRule n next f tests
+  pub pass-too-far : distances n < next → false ≡ pass_rule n next f tests
   pass-too-far h =
       let e : (leb next (distances n) && ltb tests next && end) ≡ false = rw (lt-leb next (distances n) h) in
       sym e ∙ pass-rule-is n next f tests
 
-  pub pass-too-many : next ≤ tests → false ≡ passRule n next f tests
+  pub pass-too-many : next ≤ tests → false ≡ pass_rule n next f tests
   pass-too-many h =
       let e : (leb next (distances n) && ltb tests next && end) ≡ false = rw (le-ltb tests next h, and-false (leb next (distances n))) in
       sym e ∙ pass-rule-is n next f tests
 
-  pub pass-last : next ≤ distances n → tests < next → end ≡ passRule n next f tests
+  pub pass-last : next ≤ distances n → tests < next → end ≡ pass_rule n next f tests
   pass-last h g =
       let e : (leb next (distances n) && ltb tests next && end) ≡ end = rw (le-leb next (distances n) h, lt-ltb tests next g) in
       sym e ∙ pass-rule-is n next f tests
 
 -- bytes 4 and 5, where byte 4 is 255 and where it is not
-pub exit-none : (n i s ago : ℕ) → n ≤ 255 → (not (eqb s statusTold) && (not (eqb s 0) || eqb ago 0)) ≡ exitRule n i s toldByNone ago
-unfolding exitRule
+pub exit-none : (n i s ago : ℕ) → n ≤ 255 → (not (eqb s status_told) && (not (eqb s 0) || eqb ago 0)) ≡ exit_rule n i s told_by_none ago
+unfolding exit_rule
 exit-none n i s ago h =
     by_cases (ℕ_discrete s 0) (λ e. rw e)
-    (λ d. by_bool (eqb s statusTold) (λ f. rw (ne_eqb s 0 d, f, le-ltb 255 n h)) (λ f. rw (ne_eqb s 0 d, f)))
+    (λ d. by_bool (eqb s status_told) (λ f. rw (ne_eqb s 0 d, f, le-ltb 255 n h)) (λ f. rw (ne_eqb s 0 d, f)))
 
-pub exit_named : (n i s by ago : ℕ) → (by ≡ toldByNone → ⊥)
-    → (eqb s statusTold && (eqb by notRecorded || (ltb by n && not (eqb by i)))) ≡ exitRule n i s by ago
-unfolding exitRule
+pub exit_named : (n i s by ago : ℕ) → (by ≡ told_by_none → ⊥)
+    → (eqb s status_told && (eqb by not_recorded || (ltb by n && not (eqb by i)))) ≡ exit_rule n i s by ago
+unfolding exit_rule
 exit_named n i s by ago h =
-    by_cases (ℕ_discrete s 0) (λ e. rw (e, ne_eqb by toldByNone h))
-    (λ d. by_bool (eqb s statusTold) (λ f. rw (ne_eqb s 0 d, f)) (λ f. rw (ne_eqb s 0 d, f, ne_eqb by toldByNone h)))
+    by_cases (ℕ_discrete s 0) (λ e. rw (e, ne_eqb by told_by_none h))
+    (λ d. by_bool (eqb s status_told) (λ f. rw (ne_eqb s 0 d, f)) (λ f. rw (ne_eqb s 0 d, f, ne_eqb by told_by_none h)))
 
 -- refusal 4: one live station that has not finished keeps the round open
-pub round-open : (n : ℕ) (t : List ℕ) (i : ℕ) (r : Bool) → i < n → r ≡ finishedIfLive n t i → not r ≡ true → false ≡ (someLive n t && liveFinished n t)
-unfolding liveFinished
-round-open n t i r h e f = rw (← every-stop (finishedIfLive n t) n i r h e f, and-false)
+pub round-open : (n : ℕ) (t : List ℕ) (i : ℕ) (r : Bool) → i < n → r ≡ finished_if_live n t i → not r ≡ true → false ≡ (some_live n t && live_finished n t)
+unfolding live_finished
+round-open n t i r h e f = rw (← every-stop (finished_if_live n t) n i r h e f, and-false)
 
 -- after all lines, of which every live one has finished
-pub round-done : (n : ℕ) (t : List ℕ) (i : ℕ) (some : Bool) → i ≤ n → n ≤ i → every (finishedIfLive n t) i ≡ true → some ≡ not (every (notLive n t) i)
-    → some ≡ (someLive n t && liveFinished n t)
-unfolding someLive liveFinished
+pub round-done : (n : ℕ) (t : List ℕ) (i : ℕ) (some : Bool) → i ≤ n → n ≤ i → every (finished_if_live n t) i ≡ true → some ≡ not (every (not_live n t) i)
+    → some ≡ (some_live n t && live_finished n t)
+unfolding some_live live_finished
 round-done n t i some a b e s =
-    rw (← every-done (finishedIfLive n t) n i e a b, and-true) (s ∙ ap (λ k. not (every (notLive n t) k)) (le_antisymm a b))
+    rw (← every-done (finished_if_live n t) n i e a b, and-true) (s ∙ ap (λ k. not (every (not_live n t) k)) (le_antisymm a b))
 
 -- a table that refusals 1 to 4 let through
 pub record Accepted (n : ℕ) (t : List ℕ) : Type 0 where
-  pub size : isSize n ≡ true
-  pub long : length t ≡ tableLength n
-  pub lines : every (lineRules n t) n ≡ true
-  pub unclosed : (someLive n t && liveFinished n t) ≡ false
+  pub size : is_size n ≡ true
+  pub long : length t ≡ table_length n
+  pub lines : every (line_rules n t) n ≡ true
+  pub unclosed : (some_live n t && live_finished n t) ≡ false
 
-pub shape-zero : (n len : ℕ) → shapeNumber n len ≡ 0 → (isSize n ≡ true) × (len ≡ tableLength n)
-unfolding shapeNumber
+pub shape-zero : (n len : ℕ) → shape_number n len ≡ 0 → (is_size n ≡ true) × (len ≡ table_length n)
+unfolding shape_number
 shape-zero n len e =
     let p = else-zero _ _ e in
-    (not-false _ (refuse-zero 0 _ p.0), eqb-true len (tableLength n) (not-false _ (refuse-zero 1 _ p.1)))
+    (not-false _ (refuse-zero 0 _ p.0), eqb-true len (table_length n) (not-false _ (refuse-zero 1 _ p.1)))
 
-pub accepted : (n : ℕ) (t : List ℕ) → tableNumber n t ≡ 0 → Accepted n t
-unfolding tableNumber
+pub accepted : (n : ℕ) (t : List ℕ) → table_number n t ≡ 0 → Accepted n t
+unfolding table_number
 accepted n t e =
     let p = else-zero _ _ e in
     let s = shape-zero n (length t) p.0 in

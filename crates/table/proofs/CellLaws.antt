@@ -15,58 +15,58 @@ use lib.Dec.{leb, eqb}
 use lib.ListN.{length, get_or, take, drop, length-append, length-take, length-drop, length-set, get_or-append}
 use lib.Seq.{length-take-le, get_or-append-add, get_or-take, get_or-drop, get_or-set_same, get_or-set_other, ext_get_or}
 use Rattle.table.specs.Sizes.{distances}
-use Rattle.table.specs.Table.{head, stride, tableLength, lineStart, cell, setCell, status, nextDistance, finished, testsMade, statusTold, toldBy, toldByColumn, toldByNone, notRecorded, roundsAgo, roundsAgoColumn, suspects, rowStart, row, set_row, nextColumn, testsColumn}
-use Rattle.table.specs.Rules.{passRule, exitRule, suspicionRule, rowRule, lineRules}
+use Rattle.table.specs.Table.{head, stride, table_length, line_start, cell, set_cell, status, next_distance, finished, tests_made, status_told, told_by, told_by_column, told_by_none, not_recorded, rounds_ago, rounds_ago_column, suspects, row_start, row, set_row, next_column, tests_column}
+use Rattle.table.specs.Rules.{pass_rule, exit_rule, suspicion_rule, row_rule, line_rules}
 use Rattle.lists.specs.Search.{every}
 use Rattle.lists.proofs.SearchLaws.{both, every-at, every-all}
 use Rattle.table.proofs.Accepting.{Accepted}
 
 -- a column that a turn counts in: next distance, pass finished, tests made
 abbrev pub TurnCounts : ℕ → Type 0
-TurnCounts c = (nextColumn ≤ c) × (c ≤ testsColumn)
+TurnCounts c = (next_column ≤ c) × (c ≤ tests_column)
 
 -- a column that closing a round changes
 abbrev pub ClosingChanges : ℕ → Type 0
-ClosingChanges c = (nextColumn ≤ c) × (c ≤ roundsAgoColumn) × (c ≢ toldByColumn)
+ClosingChanges c = (next_column ≤ c) × (c ≤ rounds_ago_column) × (c ≢ told_by_column)
 
 -- two places are one only where line and column are
-place_same : (n i c i' c' : ℕ) → c < stride n → c' < stride n → lineStart n i + c ≡ lineStart n i' + c' → (i ≡ i') × (c ≡ c')
-unfolding lineStart
+place_same : (n i c i' c' : ℕ) → c < stride n → c' < stride n → line_start n i + c ≡ line_start n i' + c' → (i ≡ i') × (c ≡ c')
+unfolding line_start
 place_same n i c i' c' h h' e =
     (sym (digits_div i h) ∙ ap (λ (x : ℕ). x / stride n) e ∙ digits_div i' h', sym (digits_mod i h) ∙ ap (λ (x : ℕ). x % stride n) e ∙ digits_mod i' h')
 
-pub line-inside : (n i : ℕ) → i < n → lineStart n i + stride n ≤ tableLength n
-unfolding lineStart tableLength
+pub line-inside : (n i : ℕ) → i < n → line_start n i + stride n ≤ table_length n
+unfolding line_start table_length
 line-inside n i h = omega (arith, suc-mul i (stride n), mul-le-mul_right (stride n) h)
 
 -- a byte of a line below n lies inside the table, by the place where the line begins
-pub byte_inside : (n : ℕ) (t : List ℕ) (i c a : ℕ) → a ≡ lineStart n i → length t ≡ tableLength n → i < n → c < stride n → a + c < length t
+pub byte_inside : (n : ℕ) (t : List ℕ) (i c a : ℕ) → a ≡ line_start n i → length t ≡ table_length n → i < n → c < stride n → a + c < length t
 byte_inside n t i c a s e h hc = omega (arith, line-inside n i h)
 
 -- a row lies inside the table
-pub row_inside : (n : ℕ) (t : List ℕ) (i : ℕ) → length t ≡ tableLength n → i < n → rowStart n i + n ≤ length t
+pub row_inside : (n : ℕ) (t : List ℕ) (i : ℕ) → length t ≡ table_length n → i < n → row_start n i + n ≤ length t
 row_inside n t i e h = omega (arith, line-inside n i h)
 
 -- the row as the code takes it
-pub row-part : (n : ℕ) (t : List ℕ) (i a : ℕ) → a ≡ rowStart n i → take (a + n - a) (drop a t) ≡ row n t i
+pub row-part : (n : ℕ) (t : List ℕ) (i a : ℕ) → a ≡ row_start n i → take (a + n - a) (drop a t) ≡ row n t i
 unfolding row
 row-part n t i a e = let w : a + n - a ≡ n = omega arith in rw (w, e)
 
-pub cell_same : (n : ℕ) (t : List ℕ) (i c v : ℕ) → length t ≡ tableLength n → i < n → c < stride n → cell n (setCell n t i c v) i c ≡ v
-unfolding cell setCell
-cell_same n t i c v long h hc = get_or-set_same t (lineStart n i + c) v 0 (omega (arith, line-inside n i h))
+pub cell_same : (n : ℕ) (t : List ℕ) (i c v : ℕ) → length t ≡ table_length n → i < n → c < stride n → cell n (set_cell n t i c v) i c ≡ v
+unfolding cell set_cell
+cell_same n t i c v long h hc = get_or-set_same t (line_start n i + c) v 0 (omega (arith, line-inside n i h))
 
 pub cell_other : (n : ℕ) (t : List ℕ) (i c v i' c' : ℕ) → c < stride n → c' < stride n → (i ≡ i' → c ≡ c' → ⊥)
-    → cell n (setCell n t i c v) i' c' ≡ cell n t i' c'
-unfolding cell setCell
+    → cell n (set_cell n t i c v) i' c' ≡ cell n t i' c'
+unfolding cell set_cell
 cell_other n t i c v i' c' h h' apart =
-    get_or-set_other t (lineStart n i + c) (lineStart n i' + c') v 0 (λ e. let s = place_same n i c i' c' h h' (sym e) in apart s.0 s.1)
+    get_or-set_other t (line_start n i + c) (line_start n i' + c') v 0 (λ e. let s = place_same n i c i' c' h h' (sym e) in apart s.0 s.1)
 
-pub setCell-length : (n : ℕ) (t : List ℕ) (i c v : ℕ) → length (setCell n t i c v) ≡ length t
-unfolding setCell
-setCell-length n t i c v = length-set t (lineStart n i + c) v
+pub set_cell-length : (n : ℕ) (t : List ℕ) (i c v : ℕ) → length (set_cell n t i c v) ≡ length t
+unfolding set_cell
+set_cell-length n t i c v = length-set t (line_start n i + c) v
 
-pub row-length : (n : ℕ) (t : List ℕ) (i : ℕ) → length t ≡ tableLength n → i < n → length (row n t i) ≡ n
+pub row-length : (n : ℕ) (t : List ℕ) (i : ℕ) → length t ≡ table_length n → i < n → length (row n t i) ≡ n
 unfolding row
 row-length n t i long h = simp (length-take, length-drop) (omega (arith, line-inside n i h))
 
@@ -74,7 +74,7 @@ pub row_at : (n : ℕ) (t : List ℕ) (i k : ℕ) → k < n → get_or (row n t 
 unfolding row cell
 row_at n t i k h = rw (get_or-take, get_or-drop) (ap (λ (p : ℕ). get_or t p 0) (omega arith))
 
-pub row_same : (n : ℕ) (t t' : List ℕ) (i : ℕ) → length t ≡ tableLength n → length t' ≡ tableLength n → i < n
+pub row_same : (n : ℕ) (t t' : List ℕ) (i : ℕ) → length t ≡ table_length n → length t' ≡ table_length n → i < n
     → ((k : ℕ) → k < n → suspects n t i k ≡ suspects n t' i k) → row n t i ≡ row n t' i
 row_same n t t' i long long' h same =
     let e = row-length n t i long h in
@@ -103,27 +103,27 @@ module _ (t r : List ℕ) (a m : ℕ) (fits : a + m ≤ length t) (long : length
         get_or-drop a t (m + k) 0,
       )
 
-pub setRow-length : (n : ℕ) (t : List ℕ) (i : ℕ) (r : List ℕ) → length t ≡ tableLength n → i < n → length r ≡ n
+pub set_row-length : (n : ℕ) (t : List ℕ) (i : ℕ) (r : List ℕ) → length t ≡ table_length n → i < n → length r ≡ n
     → length (set_row n t i r) ≡ length t
 unfolding set_row
-setRow-length n t i r long h hr = simp (length-append, length-take, length-drop) (omega (arith, line-inside n i h))
+set_row-length n t i r long h hr = simp (length-append, length-take, length-drop) (omega (arith, line-inside n i h))
 
-pub setRow-in : (n : ℕ) (t : List ℕ) (i : ℕ) (r : List ℕ) (k : ℕ) → length t ≡ tableLength n → i < n → length r ≡ n → k < n
+pub set_row-in : (n : ℕ) (t : List ℕ) (i : ℕ) (r : List ℕ) (k : ℕ) → length t ≡ table_length n → i < n → length r ≡ n → k < n
     → suspects n (set_row n t i r) i k ≡ get_or r k 0
 unfolding set_row cell
-setRow-in n t i r k long h hr hk =
-    ap (λ (p : ℕ). get_or (set_row n t i r) p 0) (omega arith) ∙ spliced-in t r (rowStart n i) n (omega (arith, line-inside n i h)) hr k hk
+set_row-in n t i r k long h hr hk =
+    ap (λ (p : ℕ). get_or (set_row n t i r) p 0) (omega arith) ∙ spliced-in t r (row_start n i) n (omega (arith, line-inside n i h)) hr k hk
 
-pub setRow-out : (n : ℕ) (t : List ℕ) (i : ℕ) (r : List ℕ) (i' c : ℕ) → length t ≡ tableLength n → i < n → length r ≡ n → c < stride n
+pub set_row-out : (n : ℕ) (t : List ℕ) (i : ℕ) (r : List ℕ) (i' c : ℕ) → length t ≡ table_length n → i < n → length r ≡ n → c < stride n
     → (i ≡ i' → c < head) → cell n (set_row n t i r) i' c ≡ cell n t i' c
 unfolding set_row cell
-setRow-out n t i r i' c long h hr hc out = pick (dec_lt p a) (dec_lt p (a + n))
+set_row-out n t i r i' c long h hr hc out = pick (dec_lt p a) (dec_lt p (a + n))
   where
     p : ℕ
-    p = lineStart n i' + c
+    p = line_start n i' + c
 
     a : ℕ
-    a = rowStart n i
+    a = row_start n i
 
     fits : a + n ≤ length t
     fits = omega (arith, line-inside n i h)
@@ -131,15 +131,15 @@ setRow-out n t i r i' c long h hr hc out = pick (dec_lt p a) (dec_lt p (a + n))
     pick : Dec (p < a) → Dec (p < a + n) → get_or (set_row n t i r) p 0 ≡ get_or t p 0
     pick (yes l) d = spliced-before t r a n fits hr p l
     pick (no m) (yes l) =
-        let s = place_same n i (p - lineStart n i) i' c (omega arith) hc (omega arith) in
+        let s = place_same n i (p - line_start n i) i' c (omega arith) hc (omega arith) in
         absurd (omega (arith, out s.0))
     pick (no m) (no m') =
         let e : p ≡ a + (n + (p - (a + n))) = omega arith in
         rw e (spliced-after t r a n fits hr (p - (a + n)))
 
 -- the greatest byte so far is in its range as long as all bytes passed are
-pub range-next : (n : ℕ) (t r : List ℕ) (i k greatest x : ℕ) → r ≡ row n t i → k < n → leb greatest 1 ≡ every (suspicionRule n t i) k
-    → x ≡ max greatest (get_or r k 0) → leb x 1 ≡ every (suspicionRule n t i) (k + 1)
+pub range-next : (n : ℕ) (t r : List ℕ) (i k greatest x : ℕ) → r ≡ row n t i → k < n → leb greatest 1 ≡ every (suspicion_rule n t i) k
+    → x ≡ max greatest (get_or r k 0) → leb x 1 ≡ every (suspicion_rule n t i) (k + 1)
 unfolding every
 range-next n t r i k greatest x e h f g =
     rw (g, add-one, ← f, e, row_at n t i k h) (max-leb greatest (suspects n t i k) 1 (dec_le greatest 1) (dec_le (suspects n t i k) 1))
@@ -151,34 +151,34 @@ range-next n t r i k greatest x e h f g =
 
 -- the rules of bytes 1 to 3, of their values
 pub record Pass (n next finished tests : ℕ) : Type 0 where
-  pub nextLow : 1 ≤ next
-  pub nextHigh : next ≤ distances n
-  pub finishedRange : finished ≤ 1
-  pub testsBound : tests ≤ next - 1
-  pub finishedNext : finished ≡ 1 → next ≡ distances n
+  pub next_low : 1 ≤ next
+  pub next_high : next ≤ distances n
+  pub finished_range : finished ≤ 1
+  pub tests_bound : tests ≤ next - 1
+  pub finished_next : finished ≡ 1 → next ≡ distances n
 
 -- the line rules of line i
 pub record Line (n : ℕ) (t : List ℕ) (i : ℕ) : Type 0 where
-  pub statusRange : status n t i ≤ 3
-  pub pass : Pass n (nextDistance n t i) (finished n t i) (testsMade n t i)
-  pub exits : exitRule n i (status n t i) (toldBy n t i) (roundsAgo n t i) ≡ true
+  pub status_range : status n t i ≤ 3
+  pub pass : Pass n (next_distance n t i) (finished n t i) (tests_made n t i)
+  pub exits : exit_rule n i (status n t i) (told_by n t i) (rounds_ago n t i) ≡ true
   pub own : suspects n t i i ≡ 0
   pub range : (k : ℕ) → k < n → suspects n t i k ≤ 1
 
 -- bytes 4 and 5 of a live line
-pub live_exit : (n i by ago : ℕ) → exitRule n i 0 by ago ≡ true → (by ≡ toldByNone) × (ago ≡ 0)
-unfolding exitRule
+pub live_exit : (n i by ago : ℕ) → exit_rule n i 0 by ago ≡ true → (by ≡ told_by_none) × (ago ≡ 0)
+unfolding exit_rule
 live_exit n i by ago e = let a = both _ _ e in (eqb-true _ _ a.0, eqb-true _ _ a.1)
 
 -- byte 4 of a line that ceased to be live, but not because told
-pub none-exit : (n i s by ago : ℕ) → 1 ≤ s → s ≢ statusTold → by ≡ toldByNone → exitRule n i s by ago ≡ true
-unfolding exitRule
-none-exit n i s by ago low untold e = rw (ne_eqb s 0 (omega arith), ne_eqb s statusTold untold) (eq-eqb by toldByNone e)
+pub none-exit : (n i s by ago : ℕ) → 1 ≤ s → s ≢ status_told → by ≡ told_by_none → exit_rule n i s by ago ≡ true
+unfolding exit_rule
+none-exit n i s by ago low untold e = rw (ne_eqb s 0 (omega arith), ne_eqb s status_told untold) (eq-eqb by told_by_none e)
 
 -- byte 4 of a line that left because told by another station
-pub told-exit : (n i by ago : ℕ) → by < n → by ≢ i → exitRule n i statusTold by ago ≡ true
-unfolding exitRule
-told-exit n i by ago h d = rw (lt-ltb by n h, ne_eqb by i d) (or-true (eqb by notRecorded))
+pub told-exit : (n i by ago : ℕ) → by < n → by ≢ i → exit_rule n i status_told by ago ≡ true
+unfolding exit_rule
+told-exit n i by ago h d = rw (lt-ltb by n h, ne_eqb by i d) (or-true (eqb by not_recorded))
 
 one_of : (a b : Bool) → (a || b) ≡ true → a ≡ false → b ≡ true
 one_of true b e f = cc
@@ -188,45 +188,45 @@ or_right : (a b : Bool) → (a ≡ false → b ≡ true) → (a || b) ≡ true
 or_right true b h = refl
 or_right false b h = h refl
 
-pass-facts : (n x f m : ℕ) → passRule n x f m ≡ true → Pass n x f m
+pass-facts : (n x f m : ℕ) → pass_rule n x f m ≡ true → Pass n x f m
 pass-facts n x f m e =
     let a = both _ _ e in
     let b = both _ _ a.0 in
     let c = both _ _ b.0 in
     let d = both _ _ c.0 in
     record {
-      nextLow = leb-true _ _ d.0;
-      nextHigh = leb-true _ _ d.1;
-      finishedRange = leb-true _ _ c.1;
-      testsBound = leb-true _ _ b.1;
-      finishedNext = λ p. eqb-true _ _ (one_of _ _ a.1 (ne_eqb f 0 (omega arith)));
+      next_low = leb-true _ _ d.0;
+      next_high = leb-true _ _ d.1;
+      finished_range = leb-true _ _ c.1;
+      tests_bound = leb-true _ _ b.1;
+      finished_next = λ p. eqb-true _ _ (one_of _ _ a.1 (ne_eqb f 0 (omega arith)));
     }
 
-pass-holds : (n x f m : ℕ) → Pass n x f m → passRule n x f m ≡ true
+pass-holds : (n x f m : ℕ) → Pass n x f m → pass_rule n x f m ≡ true
 pass-holds n x f m p =
-    rw (le-leb 1 x p.nextLow, le-leb x (distances n) p.nextHigh, le-leb f 1 p.finishedRange, le-leb m (x - 1) p.testsBound)
-    (or_right (eqb f 0) (eqb x (distances n)) (λ g. eq-eqb x (distances n) (p.finishedNext (omega (arith, p.finishedRange, eqb-false f 0 g)))))
+    rw (le-leb 1 x p.next_low, le-leb x (distances n) p.next_high, le-leb f 1 p.finished_range, le-leb m (x - 1) p.tests_bound)
+    (or_right (eqb f 0) (eqb x (distances n)) (λ g. eq-eqb x (distances n) (p.finished_next (omega (arith, p.finished_range, eqb-false f 0 g)))))
 
-line-facts : (n : ℕ) (t : List ℕ) (i : ℕ) → lineRules n t i ≡ true → Line n t i
-unfolding lineRules rowRule
+line-facts : (n : ℕ) (t : List ℕ) (i : ℕ) → line_rules n t i ≡ true → Line n t i
+unfolding line_rules row_rule
 line-facts n t i e =
     let a = both _ _ e in
     let b = both _ _ a.0 in
     let c = both _ _ b.0 in
     let r = both _ _ a.1 in
     record {
-      statusRange = leb-true _ _ c.0;
+      status_range = leb-true _ _ c.0;
       pass = pass-facts n _ _ _ c.1;
       exits = b.1;
       own = eqb-true _ _ r.0;
-      range = λ k h. leb-true _ _ (every-at (suspicionRule n t i) n k r.1 h);
+      range = λ k h. leb-true _ _ (every-at (suspicion_rule n t i) n k r.1 h);
     }
 
-pub line-holds : (n : ℕ) (t : List ℕ) (i : ℕ) → Line n t i → lineRules n t i ≡ true
-unfolding lineRules rowRule
+pub line-holds : (n : ℕ) (t : List ℕ) (i : ℕ) → Line n t i → line_rules n t i ≡ true
+unfolding line_rules row_rule
 line-holds n t i l =
-    rw (le-leb (status n t i) 3 l.statusRange, pass-holds n (nextDistance n t i) (finished n t i) (testsMade n t i) l.pass, l.exits, eq-eqb (suspects n t i i) 0 l.own)
-    (every-all (suspicionRule n t i) n (λ k h. le-leb (suspects n t i k) 1 (l.range k h)))
+    rw (le-leb (status n t i) 3 l.status_range, pass-holds n (next_distance n t i) (finished n t i) (tests_made n t i) l.pass, l.exits, eq-eqb (suspects n t i i) 0 l.own)
+    (every-all (suspicion_rule n t i) n (λ k h. le-leb (suspects n t i k) 1 (l.range k h)))
 
 pub accepted-line : (n : ℕ) (t : List ℕ) → Accepted n t → (i : ℕ) → i < n → Line n t i
-accepted-line n t a i h = line-facts n t i (every-at (lineRules n t) n i a.lines h)
+accepted-line n t a i h = line-facts n t i (every-at (line_rules n t) n i a.lines h)

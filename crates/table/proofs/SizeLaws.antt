@@ -6,16 +6,16 @@ use Prim.Native.Nat.{ℕ, suc, ◌-◌, ◌^◌, ◌≤◌, ◌<◌}
 use native.Mathlib.Omega.{arith}
 use borrow.Author.Tests.{leb-true}
 use lib.Pow.{pow_mono, pow_pos}
-use Rattle.table.specs.Sizes.{isSize, level, dimension, distances}
+use Rattle.table.specs.Sizes.{is_size, level, dimension, distances}
 use Rattle.lists.proofs.SearchLaws.{both}
 use Rattle.table.proofs.Levels.{level-le, level-split}
 
-pub size-bounds : (n : ℕ) → isSize n ≡ true → (2 ≤ n) × (n ≤ 64)
-unfolding isSize
+pub size-bounds : (n : ℕ) → is_size n ≡ true → (2 ≤ n) × (n ≤ 64)
+unfolding is_size
 size-bounds n e = let b = both _ _ e in (leb-true 2 n b.0, leb-true n 64 b.1)
 
 -- the logarithm rounded up: 2^(d−1) < n ≤ 2^d
-pub size-log : (n : ℕ) → isSize n ≡ true → (h : ℕ) × (dimension n ≡ suc h) × (2 ^ h < n) × (n ≤ 2 ^ suc h)
+pub size-log : (n : ℕ) → is_size n ≡ true → (h : ℕ) × (dimension n ≡ suc h) × (2 ^ h < n) × (n ≤ 2 ^ suc h)
 unfolding dimension
 size-log n e =
     let b = size-bounds n e in
@@ -27,7 +27,7 @@ pub distances-pos : (n : ℕ) → 1 ≤ distances n
 unfolding distances
 distances-pos n = pow_pos (dimension n)
 
-pub size-dimension : (n : ℕ) → isSize n ≡ true → dimension n ≤ 6
+pub size-dimension : (n : ℕ) → is_size n ≡ true → dimension n ≤ 6
 unfolding dimension
 size-dimension n e = let b = size-bounds n e in level-le (n - 1) 6 (omega arith)
 
@@ -39,7 +39,7 @@ pub distances-top : (n : ℕ) → n ≤ 64 → distances n ≤ 64
 distances-top n h = distances-le 6 n h
 
 -- the number of distances is from n to 64
-pub size-distances : (n : ℕ) → isSize n ≡ true → (n ≤ distances n) × (distances n ≤ 64)
+pub size-distances : (n : ℕ) → is_size n ≡ true → (n ≤ distances n) × (distances n ≤ 64)
 unfolding distances
 size-distances n e =
     let d = size-log n e in

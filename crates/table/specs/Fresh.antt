@@ -2,17 +2,17 @@
 -- Assumes nothing.
 use Rattle.std.specs.Prelude.{ℕ, ◌%◌, cond, List, length, eqb}
 use Rattle.lists.specs.Search.{list_of}
-use Rattle.table.specs.Table.{stride, nextColumn, toldByColumn, toldByNone, tableLength}
-use Rattle.table.specs.Rules.{shapeNumber}
+use Rattle.table.specs.Table.{stride, next_column, told_by_column, told_by_none, table_length}
+use Rattle.table.specs.Rules.{shape_number}
 use Rattle.lists.specs.Refusal.{unless}
 
 -- Fresh table: "every line live, next distance 1, all else 0"; C-18: "a live line, fresh ones too, has 255 and 0"
-unfoldable pub freshByte : ℕ → ℕ → ℕ
-freshByte n p = cond (eqb (p % stride n) nextColumn) 1 (cond (eqb (p % stride n) toldByColumn) toldByNone 0)
+unfoldable pub fresh_byte : ℕ → ℕ → ℕ
+fresh_byte n p = cond (eqb (p % stride n) next_column) 1 (cond (eqb (p % stride n) told_by_column) told_by_none 0)
 
-unfoldable pub freshTable : ℕ → List ℕ
-freshTable n = list_of (freshByte n) (tableLength n)
+unfoldable pub fresh_table : ℕ → List ℕ
+fresh_table n = list_of (fresh_byte n) (table_length n)
 
 -- the table after the call, given t: refusals 1, 2
-unfoldable pub freshAfter : ℕ → List ℕ → List ℕ
-freshAfter n t = unless (shapeNumber n (length t)) t (freshTable n)
+unfoldable pub fresh_after : ℕ → List ℕ → List ℕ
+fresh_after n t = unless (shape_number n (length t)) t (fresh_table n)

@@ -4,8 +4,8 @@ use Rattle.std.specs.Prelude.{ℕ, ◌-◌, ◌^◌, Bool, ◌&&◌, ltb, leb}
 use Rattle.lists.specs.Search.{least}
 
 -- C-11: "Sizes 2 to 64 are to be taken."
-unfoldable pub isSize : ℕ → Bool
-isSize n = leb 2 n && leb n 64
+unfoldable pub is_size : ℕ → Bool
+is_size n = leb 2 n && leb n 64
 
 -- the level of distance m: the least s with m < 2^s, so that 2^(s−1) ≤ m < 2^s; 0 for distance 0
 unfoldable pub level : ℕ → ℕ

@@ -12,90 +12,90 @@ abbrev pub stride : ℕ → ℕ
 stride n = n + head
 
 -- C-18: "The table is n times (n + 6) bytes"
-unfoldable pub tableLength : ℕ → ℕ
-tableLength n = n * stride n
+unfoldable pub table_length : ℕ → ℕ
+table_length n = n * stride n
 
 -- the length of the greatest table, that of 64 stations
-abbrev pub greatestTable : ℕ
-greatestTable = 64 * stride 64
+abbrev pub greatest_table : ℕ
+greatest_table = 64 * stride 64
 
 -- where line i begins
-unfoldable pub lineStart : ℕ → ℕ → ℕ
-lineStart n i = i * stride n
+unfoldable pub line_start : ℕ → ℕ → ℕ
+line_start n i = i * stride n
 
 -- a table of n stations' length that has line i: what is asked where a byte or a row is read or written without a test of its place
 abbrev pub HasLine : ℕ → List ℕ → ℕ → Type 0
-HasLine n t i = (length t ≡ tableLength n) × (i < n)
+HasLine n t i = (length t ≡ table_length n) × (i < n)
 
 -- byte c of line i
 unfoldable pub cell : ℕ → List ℕ → ℕ → ℕ → ℕ
-cell n t i c = get_or t (lineStart n i + c) 0
+cell n t i c = get_or t (line_start n i + c) 0
 
 -- the table with v at byte c of line i
-unfoldable pub setCell : ℕ → List ℕ → ℕ → ℕ → ℕ → List ℕ
-setCell n t i c v = set t (lineStart n i + c) v
+unfoldable pub set_cell : ℕ → List ℕ → ℕ → ℕ → ℕ → List ℕ
+set_cell n t i c v = set t (line_start n i + c) v
 
 -- the columns of bytes 0 to 5
-abbrev pub statusColumn : ℕ
-statusColumn = 0
+abbrev pub status_column : ℕ
+status_column = 0
 
-abbrev pub nextColumn : ℕ
-nextColumn = 1
+abbrev pub next_column : ℕ
+next_column = 1
 
-abbrev pub finishedColumn : ℕ
-finishedColumn = 2
+abbrev pub finished_column : ℕ
+finished_column = 2
 
-abbrev pub testsColumn : ℕ
-testsColumn = 3
+abbrev pub tests_column : ℕ
+tests_column = 3
 
-abbrev pub toldByColumn : ℕ
-toldByColumn = 4
+abbrev pub told_by_column : ℕ
+told_by_column = 4
 
-abbrev pub roundsAgoColumn : ℕ
-roundsAgoColumn = 5
+abbrev pub rounds_ago_column : ℕ
+rounds_ago_column = 5
 
 -- byte 0, status: 0 live, 1 crashed, 2 left because told, 3 left because alone
 abbrev pub status : ℕ → List ℕ → ℕ → ℕ
-status n t i = cell n t i statusColumn
+status n t i = cell n t i status_column
 
 -- these statuses by name; 0 is asked by `live`
-abbrev pub statusCrashed : ℕ
-statusCrashed = 1
+abbrev pub status_crashed : ℕ
+status_crashed = 1
 
-abbrev pub statusTold : ℕ
-statusTold = 2
+abbrev pub status_told : ℕ
+status_told = 2
 
-abbrev pub statusAlone : ℕ
-statusAlone = 3
+abbrev pub status_alone : ℕ
+status_alone = 3
 
 -- byte 1, next distance, 1 to N; by C-11 to 2^d
-abbrev pub nextDistance : ℕ → List ℕ → ℕ → ℕ
-nextDistance n t i = cell n t i nextColumn
+abbrev pub next_distance : ℕ → List ℕ → ℕ → ℕ
+next_distance n t i = cell n t i next_column
 
 -- byte 2, pass finished, 0 or 1
 abbrev pub finished : ℕ → List ℕ → ℕ → ℕ
-finished n t i = cell n t i finishedColumn
+finished n t i = cell n t i finished_column
 
 -- byte 3, tests made in this round
-abbrev pub testsMade : ℕ → List ℕ → ℕ → ℕ
-testsMade n t i = cell n t i testsColumn
+abbrev pub tests_made : ℕ → List ℕ → ℕ → ℕ
+tests_made n t i = cell n t i tests_column
 
 -- C-18: "Byte 4 names the station whose row told it to leave: 255 for none, 254 where that was never recorded."
-abbrev pub toldBy : ℕ → List ℕ → ℕ → ℕ
-toldBy n t i = cell n t i toldByColumn
+abbrev pub told_by : ℕ → List ℕ → ℕ → ℕ
+told_by n t i = cell n t i told_by_column
 
-abbrev pub toldByNone : ℕ
-toldByNone = 255
+abbrev pub told_by_none : ℕ
+told_by_none = 255
 
-abbrev pub notRecorded : ℕ
-notRecorded = 254
+abbrev pub not_recorded : ℕ
+not_recorded = 254
 
 -- C-18: "Byte 5 counts rounds closed since the station ceased to be live, and stops at 255."
-abbrev pub roundsAgo : ℕ → List ℕ → ℕ → ℕ
-roundsAgo n t i = cell n t i roundsAgoColumn
+abbrev pub rounds_ago : ℕ → List ℕ → ℕ → ℕ
+rounds_ago n t i = cell n t i rounds_ago_column
 
-abbrev pub roundsAgoTop : ℕ
-roundsAgoTop = 255
+abbrev pub rounds_ago_top : ℕ
+rounds_ago_top = 255
 
 -- "the station's row: byte k is 1 if it suspects station k, else 0"; C-18: "rows start at byte 6"
 abbrev pub suspects : ℕ → List ℕ → ℕ → ℕ → ℕ
@@ -106,13 +106,13 @@ abbrev pub live : ℕ → List ℕ → ℕ → Bool
 live n t i = eqb (status n t i) 0
 
 -- where the row of line i begins
-abbrev pub rowStart : ℕ → ℕ → ℕ
-rowStart n i = lineStart n i + head
+abbrev pub row_start : ℕ → ℕ → ℕ
+row_start n i = line_start n i + head
 
 -- the row of line i as a list
 unfoldable pub row : ℕ → List ℕ → ℕ → List ℕ
-row n t i = take n (drop (rowStart n i) t)
+row n t i = take n (drop (row_start n i) t)
 
 -- the table with r in place of the row of line i
 unfoldable pub set_row : ℕ → List ℕ → ℕ → List ℕ → List ℕ
-set_row n t i r = take (rowStart n i) t ++ (r ++ drop n (drop (rowStart n i) t))
+set_row n t i r = take (row_start n i) t ++ (r ++ drop n (drop (row_start n i) t))

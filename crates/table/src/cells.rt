@@ -1,6 +1,6 @@
 // The bytes of the lent table, by line and column (document 01, "The lent table"; request C-18).
 ghost use Rattle.std.specs.Prelude.{◌≡◌, ◌+◌, ◌*◌, ◌≤◌};
-ghost use Rattle.table.specs.Table.{head, stride, tableLength, lineStart, cell, rowStart};
+ghost use Rattle.table.specs.Table.{head, stride, table_length, line_start, cell, row_start};
 
 use crate::Station;
 
@@ -42,14 +42,14 @@ pub const GREATEST_TABLE: usize = 64 * (64 + HEAD as usize);
 
 // The length of a table of n stations.
 pub fn table_length(n: u8) -> usize
-    ensures { result ≡ tableLength n }
+    ensures { result ≡ table_length n }
 {
     lines_length(n, n)
 }
 
 // The length of some lines of a table of n stations.
 fn lines_length(lines: u8, n: u8) -> usize
-    ensures value { result ≡ lineStart n lines }
+    ensures value { result ≡ line_start n lines }
     ensures upper_bound { result ≤ 255 * stride 255 }
 {
     lines as usize * (n as usize + HEAD as usize)
@@ -57,7 +57,7 @@ fn lines_length(lines: u8, n: u8) -> usize
 
 // Where line i begins.
 pub fn line_start(n: u8, i: Station) -> usize
-    ensures value { result ≡ lineStart n i.0 }
+    ensures value { result ≡ line_start n i.0 }
     ensures upper_bound { result ≤ 255 * stride 255 }
 {
     lines_length(i.0, n)
@@ -65,7 +65,7 @@ pub fn line_start(n: u8, i: Station) -> usize
 
 // Where the row of line i begins.
 pub fn row_start(n: u8, i: Station) -> usize
-    ensures value { result ≡ rowStart n i.0 }
+    ensures value { result ≡ row_start n i.0 }
     ensures upper_bound { result ≤ 255 * stride 255 + head }
 {
     line_start(n, i) + HEAD as usize

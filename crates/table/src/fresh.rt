@@ -1,15 +1,15 @@
 // The fresh table (document 01, "What can be asked"; request C-18).
 ghost use Rattle.std.specs.Prelude.{◌≡◌, length};
-ghost use Rattle.table.specs.Table.{tableLength};
-ghost use Rattle.table.specs.Rules.{shapeNumber};
-ghost use Rattle.table.specs.Fresh.{freshByte, freshTable, freshAfter};
+ghost use Rattle.table.specs.Table.{table_length};
+ghost use Rattle.table.specs.Rules.{shape_number};
+ghost use Rattle.table.specs.Fresh.{fresh_byte, fresh_table, fresh_after};
 
 use crate::{cells, rules};
 
 // Fills the table: every line live, next distance 1, byte 4 255, all else 0. The answer is 0 or a refusal.
 pub fn fresh_table(n: usize, table: &mut [u8]) -> u8
-    ensures value { result ≡ shapeNumber n (length table.old) }
-    ensures table_after { table.new ≡ freshAfter n table.old }
+    ensures value { result ≡ shape_number n (length table.old) }
+    ensures table_after { table.new ≡ fresh_after n table.old }
 {
     let number = rules::check_shape(n, table.len());
     if number != 0 {
@@ -20,8 +20,8 @@ pub fn fresh_table(n: usize, table: &mut [u8]) -> u8
 }
 
 fn write_fresh(n: u8, table: &mut [u8])
-    requires { length table.old ≡ tableLength n }
-    ensures { table.new ≡ freshTable n }
+    requires { length table.old ≡ table_length n }
+    ensures { table.new ≡ fresh_table n }
 {
     for p in 0..table.len() {
         table[p] = fresh_byte(n, p);
@@ -30,7 +30,7 @@ fn write_fresh(n: u8, table: &mut [u8])
 
 // Byte p of a fresh table.
 fn fresh_byte(n: u8, p: usize) -> u8
-    ensures { result ≡ freshByte n p }
+    ensures { result ≡ fresh_byte n p }
 {
     let column = p % (n as usize + cells::HEAD as usize);
     if column == cells::NEXT as usize {

@@ -1,13 +1,13 @@
 // Bytes and rows of a table that are known to lie inside it: no test of the place is made, so these functions have a `requires`. They
 // are meant for callers that have checked the table.
 ghost use Rattle.std.specs.Prelude.{◌≡◌, ◌+◌, ◌<◌, length};
-ghost use Rattle.table.specs.Table.{HasLine, stride, tableLength, cell, setCell, rowStart, row};
+ghost use Rattle.table.specs.Table.{HasLine, stride, table_length, cell, set_cell, row_start, row};
 
 use crate::{Station, cells};
 
 // Byte c of line i.
 pub fn get(n: u8, table: &[u8], i: Station, c: u16) -> u8
-    requires { (length table.now ≡ tableLength n) × (i.0 < n) × (c < stride n) }
+    requires { (length table.now ≡ table_length n) × (i.0 < n) × (c < stride n) }
     ensures { result ≡ cell n table.now i.0 c }
 {
     let at = cells::line_start(n, i) + c as usize;
@@ -16,8 +16,8 @@ pub fn get(n: u8, table: &[u8], i: Station, c: u16) -> u8
 
 // Writes byte c of line i.
 pub fn put(n: u8, table: &mut [u8], i: Station, c: u16, v: u8)
-    requires { (length table.old ≡ tableLength n) × (i.0 < n) × (c < stride n) }
-    ensures { table.new ≡ setCell n table.old i.0 c v }
+    requires { (length table.old ≡ table_length n) × (i.0 < n) × (c < stride n) }
+    ensures { table.new ≡ set_cell n table.old i.0 c v }
 {
     let at = cells::line_start(n, i) + c as usize;
     table[at] = v;
@@ -28,7 +28,7 @@ pub fn row(n: u8, table: &[u8], i: Station) -> &[u8]
     requires { HasLine n table.now i.0 }
     ensures result_value { result.now ≡ row n table.now i.0 }
     ensures result_len { length result.now ≡ n }
-    ensures ref_ptr_value { (result.ref_ptr.0 ≡ table.entry.ref_ptr.0) × (result.ref_ptr.1 ≡ table.entry.ref_ptr.1 + rowStart n i.0) }
+    ensures ref_ptr_value { (result.ref_ptr.0 ≡ table.entry.ref_ptr.0) × (result.ref_ptr.1 ≡ table.entry.ref_ptr.1 + row_start n i.0) }
 {
     let a = cells::row_start(n, i);
     let e = a + n as usize;

@@ -1,15 +1,15 @@
 // The line rules and the check of a table: refusals 1 to 4 (document 01, "The lent table" and "Refusal list"; request C-18).
 ghost use Rattle.std.specs.Prelude.{◌≡◌, ◌<◌, length};
 ghost use Rattle.lists.specs.Search.{every};
-ghost use Rattle.table.specs.Table.{HasLine, tableLength, status, nextDistance, finished, testsMade, toldBy, roundsAgo, live};
-ghost use Rattle.table.specs.Rules.{passRule, exitRule, rowRule, lineRules, finishedIfLive, roundOver, shapeNumber, tableNumber};
+ghost use Rattle.table.specs.Table.{HasLine, table_length, status, next_distance, finished, tests_made, told_by, rounds_ago, live};
+ghost use Rattle.table.specs.Rules.{pass_rule, exit_rule, row_rule, line_rules, finished_if_live, round_over, shape_number, table_number};
 
 use crate::{Station, cells, inside, sizes};
 use lists::bytes;
 
 // Refusals 1 and 2, or 0.
 pub(crate) fn check_shape(n: usize, len: usize) -> u8
-    ensures { result ≡ shapeNumber n len }
+    ensures { result ≡ shape_number n len }
 {
     if !sizes::is_size(n) {
         return 1;
@@ -22,7 +22,7 @@ pub(crate) fn check_shape(n: usize, len: usize) -> u8
 
 // Refusals 1 to 4, or 0.
 pub fn check_table(n: usize, table: &[u8]) -> u8
-    ensures { result ≡ tableNumber n table.now }
+    ensures { result ≡ table_number n table.now }
 {
     let shape = check_shape(n, table.len());
     if shape != 0 {
@@ -47,7 +47,7 @@ pub fn is_live(n: u8, table: &[u8], i: Station) -> bool
 
 // Whether some station is live and every live one has finished its pass.
 pub fn is_round_over(n: u8, table: &[u8]) -> bool
-    ensures { result ≡ roundOver n table.now }
+    ensures { result ≡ round_over n table.now }
 {
     let mut some = false;
     for i in 0..n {
@@ -61,7 +61,7 @@ pub fn is_round_over(n: u8, table: &[u8]) -> bool
 
 // Whether station i, if it is live, has finished its pass.
 pub fn finished_if_live(n: u8, table: &[u8], i: Station) -> bool
-    ensures { result ≡ finishedIfLive n table.now i.0 }
+    ensures { result ≡ finished_if_live n table.now i.0 }
 {
     let finished = cells::get_cell(n, table, i, cells::FINISHED);
     !is_live(n, table, i) | (finished == 1)
@@ -69,8 +69,8 @@ pub fn finished_if_live(n: u8, table: &[u8], i: Station) -> bool
 
 // Whether every line obeys the line rules.
 fn all_lines(n: u8, table: &[u8]) -> bool
-    requires { length table.now ≡ tableLength n }
-    ensures { result ≡ every (lineRules n table.now) n }
+    requires { length table.now ≡ table_length n }
+    ensures { result ≡ every (line_rules n table.now) n }
 {
     for i in 0..n {
         if !line_rules(n, table, Station(i)) {
@@ -82,7 +82,7 @@ fn all_lines(n: u8, table: &[u8]) -> bool
 
 fn line_rules(n: u8, table: &[u8], i: Station) -> bool
     requires { HasLine n table.now i.0 }
-    ensures { result ≡ lineRules n table.now i.0 }
+    ensures { result ≡ line_rules n table.now i.0 }
 {
     let status = inside::get(n, table, i, cells::STATUS);
     if 3 < status {
@@ -100,8 +100,8 @@ fn line_rules(n: u8, table: &[u8], i: Station) -> bool
 // The rules of bytes 1 to 3. Byte 1 is 1 or more where byte 3 is below it.
 fn pass_rule(n: u8, table: &[u8], i: Station) -> bool
     requires { HasLine n table.now i.0 }
-    ensures { result ≡ passRule n (nextDistance n table.now i.0) (finished n table.now i.0)
-        (testsMade n table.now i.0) }
+    ensures { result ≡ pass_rule n (next_distance n table.now i.0) (finished n table.now i.0)
+        (tests_made n table.now i.0) }
 {
     let next = inside::get(n, table, i, cells::NEXT);
     let finished = inside::get(n, table, i, cells::FINISHED);
@@ -119,8 +119,8 @@ fn pass_rule(n: u8, table: &[u8], i: Station) -> bool
 // The rules of bytes 4 and 5, by the status. Byte 4 is asked first, since most often it is 255.
 fn exit_rule(n: u8, table: &[u8], i: Station) -> bool
     requires { HasLine n table.now i.0 }
-    ensures { result ≡ exitRule n i.0 (status n table.now i.0) (toldBy n table.now i.0)
-        (roundsAgo n table.now i.0) }
+    ensures { result ≡ exit_rule n i.0 (status n table.now i.0) (told_by n table.now i.0)
+        (rounds_ago n table.now i.0) }
 {
     let status = inside::get(n, table, i, cells::STATUS);
     let by = inside::get(n, table, i, cells::TOLD_BY);
@@ -136,7 +136,7 @@ fn exit_rule(n: u8, table: &[u8], i: Station) -> bool
 // takes many bytes at a time.
 fn row_rule(n: u8, table: &[u8], i: Station) -> bool
     requires { HasLine n table.now i.0 }
-    ensures { result ≡ rowRule n table.now i.0 }
+    ensures { result ≡ row_rule n table.now i.0 }
 {
     let row = inside::row(n, table, i);
     let of = i.0 as usize;

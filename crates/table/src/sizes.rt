@@ -1,12 +1,12 @@
 // Sizes, levels and distances (document 01, "What the watch covers"; request C-11).
 ghost use Rattle.std.specs.Prelude.{◌≡◌, ◌≤◌};
-ghost use Rattle.table.specs.Sizes.{isSize, level, dimension, distances};
+ghost use Rattle.table.specs.Sizes.{is_size, level, dimension, distances};
 
 use crate::{Distance, Level};
 
 // Whether n is a plant's size.
 pub fn is_size(n: usize) -> bool
-    ensures { result ≡ isSize n }
+    ensures { result ≡ is_size n }
 {
     (2 <= n) & (n <= 64)
 }

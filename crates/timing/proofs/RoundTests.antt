@@ -12,9 +12,9 @@ use borrow.Author.Tests.{eqb-true, eqb-false, eq-eqb}
 use lib.ListN.{length, get_or}
 use Rattle.lists.specs.Sums.{bit}
 use Rattle.table.specs.Sizes.{distances}
-use Rattle.table.specs.Table.{head, tableLength, statusColumn, nextDistance, finished, testsMade, suspects, row, statusCrashed}
-use Rattle.table.specs.Rules.{roundOver}
-use Rattle.table.specs.Properties.{lineAtStart, at_start}
+use Rattle.table.specs.Table.{head, table_length, status_column, next_distance, finished, tests_made, suspects, row, status_crashed}
+use Rattle.table.specs.Rules.{round_over}
+use Rattle.table.specs.Properties.{line_at_start, at_start}
 use Rattle.station.specs.Tests.{unsuspected, due}
 use Rattle.station.specs.Rows.{mark}
 use Rattle.lists.proofs.BoolLaws.{by_bool}
@@ -24,28 +24,28 @@ use Rattle.table.proofs.Accepting.{Accepted}
 use Rattle.table.proofs.CellLaws.{cell_other, row-length, row_same, accepted-line}
 use Rattle.station.proofs.UnionLaws.{mark-length}
 use Rattle.station.proofs.EntryLaws.{unsuspected-below}
-use Rattle.turn.specs.Turn.{kindCrash, crash}
+use Rattle.turn.specs.Turn.{kind_crash, crash}
 use Rattle.turn.proofs.StepLines.{Lines}
 use Rattle.turn.proofs.TurnHeads.{turn-heads}
-use Rattle.plant.specs.Round.{resetLines, afterRound}
-use Rattle.plant.specs.Entry.{Entry, State, isCrash, entryNumber, acted, after}
+use Rattle.plant.specs.Round.{reset_lines, after_round}
+use Rattle.plant.specs.Entry.{Entry, State, is_crash, entry_number, acted, after}
 use Rattle.plant.proofs.RulesKept.{entry-facts, acted-lines}
 use Rattle.plant.proofs.RoundLaws.{Reset, reset-cells, reset-other, reset-lines}
-use Rattle.detection.specs.Runs.{Call, Taken, tableAfter, takenAll, afterRuns}
-use Rattle.detection.specs.Rounds.{countTaken, Rounds, closes, cut}
-use Rattle.detection.specs.Claim.{allRounds, roundsOf, roundAt}
-use Rattle.detection.proofs.TakenLaws.{takenAt}
+use Rattle.detection.specs.Runs.{Call, Taken, table_after, taken_all, after_runs}
+use Rattle.detection.specs.Rounds.{count_taken, Rounds, closes, cut}
+use Rattle.detection.specs.Claim.{all_rounds, rounds_of, round_at}
+use Rattle.detection.proofs.TakenLaws.{taken_at}
 use Rattle.detection.proofs.Chain.{Chain, done, more, chain_first, chain-all}
 use Rattle.detection.proofs.Counting.{Counts, counts_start, turn-counts, crash-counts, turns-split, closes-is}
-use Rattle.slots.specs.Slots.{testsDue, mostTests}
+use Rattle.slots.specs.Slots.{tests_due, most_tests}
 use Rattle.slots.specs.Law.{Wider}
 use Rattle.slots.proofs.MoreTests.{tests-sum, mark-unsuspected, mark-suspected, wider-mark, most-covers}
-use Rattle.timing.specs.Timing.{testsBy, ByteThree, tableLeft, end_of, NoMoreThanDue, SuspectsAtMost, SlotIsEnough}
+use Rattle.timing.specs.Timing.{tests_by, ByteThree, table_left, end_of, NoMoreThanDue, SuspectsAtMost, SlotIsEnough}
 use Rattle.timing.proofs.TestsDue.{row-unsuspected, TestsAreDue, acted-fits}
 
 -- byte 3 of each line is the number of its testing entries since t₀, the start of the round
 tests-counted : (n : ℕ) (t₀ : List ℕ) (cur : List Taken) (t : List ℕ) → ((i : ℕ) → i < n → Reset n t₀ i) → Counts n t₀ cur t
-    → (i : ℕ) → i < n → testsMade n t i ≡ testsBy i cur
+    → (i : ℕ) → i < n → tests_made n t i ≡ tests_by i cur
 tests-counted n t₀ cur t fresh c i h = omega (arith, c.turns i h, c.ended i h, (fresh i h).unfinished, (fresh i h).untested, turns-split i cur)
 
 -- in a round that started with t₀, behind the entries `cur`
@@ -58,15 +58,15 @@ record Timed (n : ℕ) (t₀ : List ℕ) (cur : List Taken) (t : List ℕ) : Typ
 -- what a round with entries leaves: a table whose rows all its tests are due by
 record Leaves (n : ℕ) (round : List Taken) (t : List ℕ) : Type 0 where
   pub lines : Lines n t
-  pub within : (i : ℕ) → i < n → testsBy i round ≤ testsDue n (row n t i) i
+  pub within : (i : ℕ) → i < n → tests_by i round ≤ tests_due n (row n t i) i
 
 -- the distances passed are some of all
 leaves : (n : ℕ) (t₀ : List ℕ) (cur : List Taken) (t : List ℕ) → Timed n t₀ cur t → Leaves n cur t
 leaves n t₀ cur t inv = record {
   lines = inv.lines;
   within = λ i h.
-      let next : ℕ = nextDistance n t i in
-      let whole : next + (distances n - next) ≡ distances n = omega (arith, (inv.lines.1 i h).pass.nextHigh) in
+      let next : ℕ = next_distance n t i in
+      let whole : next + (distances n - next) ≡ distances n = omega (arith, (inv.lines.1 i h).pass.next_high) in
       omega (
         arith,
         inv.fits i h,
@@ -77,14 +77,14 @@ leaves n t₀ cur t inv = record {
 }
 
 -- the closing of a round leaves the rows
-closed-leaves : (n : ℕ) (round : List Taken) (t : List ℕ) → Leaves n round t → Leaves n round (resetLines n t)
+closed-leaves : (n : ℕ) (round : List Taken) (t : List ℕ) → Leaves n round t → Leaves n round (reset_lines n t)
 closed-leaves n round t l =
     let lines = reset-lines n t l.lines in
     record {
       lines = lines;
       within = λ i h.
-          let same : row n (resetLines n t) i ≡ row n t i =
-          row_same n (resetLines n t) t i lines.0 l.lines.0 h (λ k g. reset-other n t i (head + k) (omega arith) (λ p. omega arith)) in
+          let same : row n (reset_lines n t) i ≡ row n t i =
+          row_same n (reset_lines n t) t i lines.0 l.lines.0 h (λ k g. reset-other n t i (head + k) (omega arith) (λ p. omega arith)) in
           rw same (l.within i h);
     }
 
@@ -98,22 +98,22 @@ timed-start n t fresh lines = record {
 }
 
 -- the table that the last entry leaves
-left-snoc : (t : List ℕ) (xs : List Taken) (x : Taken) → tableLeft t (xs ++ (x ∷ [])) ≡ tableAfter x
-unfolding tableLeft
+left-snoc : (t : List ℕ) (xs : List Taken) (x : Taken) → table_left t (xs ++ (x ∷ [])) ≡ table_after x
+unfolding table_left
 left-snoc t [] x = refl
-left-snoc t (y ∷ xs) x = left-snoc (tableAfter y) xs x
+left-snoc t (y ∷ xs) x = left-snoc (table_after y) xs x
 
 -- a round without entries, or one that leaves such a table; T is any table
 abbrev RoundFits : ℕ → List ℕ → List Taken → Type 0
-RoundFits n T round = (round ≡ []) ⊎ Leaves n round (tableLeft T round)
+RoundFits n T round = (round ≡ []) ⊎ Leaves n round (table_left T round)
 
 -- the rounds r, to the table `end`
 record Cut (n : ℕ) (T : List ℕ) (r : Rounds) (end : List ℕ) : Type 0 where
-  pub each : (k : ℕ) → k ≤ length r.closed → RoundFits n T (get_or (allRounds r) k [])
-  pub counts : (i : ℕ) → i < n → testsMade n end i ≡ testsBy i r.openRound
+  pub each : (k : ℕ) → k ≤ length r.closed → RoundFits n T (get_or (all_rounds r) k [])
+  pub counts : (i : ℕ) → i < n → tests_made n end i ≡ tests_by i r.open_round
 
 -- a taken entry
-module _ (n : ℕ) (s : State) (e : Entry) (ok : Accepted n s.table) (takes : entryNumber n s e ≡ 0) (t₀ : List ℕ) (cur : List Taken)
+module _ (n : ℕ) (s : State) (e : Entry) (ok : Accepted n s.table) (takes : entry_number n s e ≡ 0) (t₀ : List ℕ) (cur : List Taken)
     (inv : Timed n t₀ cur s.table) where
   abbrev t : List ℕ
   t = s.table
@@ -122,18 +122,18 @@ module _ (n : ℕ) (s : State) (e : Entry) (ok : Accepted n s.table) (takes : en
   t' = acted n t e
 
   abbrev here : List Taken
-  here = cur ++ (takenAt n s e ∷ [])
+  here = cur ++ (taken_at n s e ∷ [])
 
   counted : Counts n t₀ here t'
   unfolding acted crash
   counted =
-      by_bool (isCrash e)
+      by_bool (is_crash e)
       (λ crashed. rw crashed (crash-counts n s e t₀ _ cur crashed (λ k c counts.
-      cell_other n t e.station statusColumn statusCrashed k c (omega arith) (omega arith) (λ _. omega arith)) inv.counts))
+      cell_other n t e.station status_column status_crashed k c (omega arith) (omega arith) (λ _. omega arith)) inv.counts))
       (λ turns.
       let facts = entry-facts n s e takes in
       let line = inv.lines.1 e.station facts.below in
-      let going : finished n t e.station ≡ 0 = omega (arith, facts.unfinished (eqb-false e.kind kindCrash turns), line.pass.finishedRange) in
+      let going : finished n t e.station ≡ 0 = omega (arith, facts.unfinished (eqb-false e.kind kind_crash turns), line.pass.finished_range) in
       rw turns (turn-counts n s e t₀ _ cur turns facts.below going
       (turn-heads n t e.kind e.station ok.size inv.lines facts.below) inv.counts))
 
@@ -145,35 +145,35 @@ module _ (n : ℕ) (s : State) (e : Entry) (ok : Accepted n s.table) (takes : en
     lines = acted-lines n s e ok takes;
   }
 
-  closing-is : closes here (takenAt n s e) ≡ roundOver n t'
+  closing-is : closes here (taken_at n s e) ≡ round_over n t'
   closing-is = closes-is n t₀ t' here inv.fresh moved.lines counted s e refl
 
   -- with it the round closes, or goes on
   cut-more : (T : List ℕ) (xs : List Taken) (s' : State)
       → ((t₁ : List ℕ) (now : List Taken) → Timed n t₁ now (after n s e).table → RoundFits n T now → Cut n T (cut now xs) s'.table)
-      → Cut n T (cut cur (takenAt n s e ∷ xs)) s'.table
-  unfolding cut after afterRound
-  cut-more T xs s' rest = by_bool (roundOver n t') closing going
+      → Cut n T (cut cur (taken_at n s e ∷ xs)) s'.table
+  unfolding cut after after_round
+  cut-more T xs s' rest = by_bool (round_over n t') closing going
     where
       left : Leaves n here t'
       left = leaves n t₀ here t' moved
 
-      closing : roundOver n t' ≡ true → Cut n T (cut cur (takenAt n s e ∷ xs)) s'.table
+      closing : round_over n t' ≡ true → Cut n T (cut cur (taken_at n s e ∷ xs)) s'.table
       closing over =
-          let anew = timed-start n (resetLines n t') (reset-cells n t' moved.lines.0) (reset-lines n t' moved.lines) in
-          let r = rest (resetLines n t') [] (rw over anew) (inl refl) in
-          let end : tableLeft T here ≡ resetLines n t' = left-snoc T cur (takenAt n s e) ∙ rw over in
+          let anew = timed-start n (reset_lines n t') (reset-cells n t' moved.lines.0) (reset-lines n t' moved.lines) in
+          let r = rest (reset_lines n t') [] (rw over anew) (inl refl) in
+          let end : table_left T here ≡ reset_lines n t' = left-snoc T cur (taken_at n s e) ∙ rw over in
           rw (closing-is ∙ over) (record {
-            each = λ k. elim k as (λ x. x ≤ length (here ∷ (cut [] xs).closed) → RoundFits n T (get_or (here ∷ allRounds (cut [] xs)) x [])) [
+            each = λ k. elim k as (λ x. x ≤ length (here ∷ (cut [] xs).closed) → RoundFits n T (get_or (here ∷ all_rounds (cut [] xs)) x [])) [
               | zero ↦ λ h. inr (rw end (closed-leaves n here t' left))
               | suc k ↦ λ h. r.each k (omega arith)
             ];
             counts = r.counts;
           })
 
-      going : roundOver n t' ≡ false → Cut n T (cut cur (takenAt n s e ∷ xs)) s'.table
+      going : round_over n t' ≡ false → Cut n T (cut cur (taken_at n s e ∷ xs)) s'.table
       going over =
-          let end : tableLeft T here ≡ t' = left-snoc T cur (takenAt n s e) ∙ rw over in
+          let end : table_left T here ≡ t' = left-snoc T cur (taken_at n s e) ∙ rw over in
           rw (closing-is ∙ over) (rest t₀ here (rw over moved) (inr (rw end left)))
 
 -- a chain, cut into rounds
@@ -188,19 +188,19 @@ cut-chain n T {s} {s'} (more {xs = xs} e ok takes chain) t₀ cur inv fits =
     cut-more n s e ok takes t₀ cur inv T xs s' (λ t₁ now inv fits. cut-chain n T chain t₁ now inv fits)
 
 -- a list of runs from the start of a round on
-module _ (n : ℕ) (s : State) (calls : List Call) (long : length s.table ≡ tableLength n) (start : at_start n s.table ≡ true) where
+module _ (n : ℕ) (s : State) (calls : List Call) (long : length s.table ≡ table_length n) (start : at_start n s.table ≡ true) where
   at-start : (i : ℕ) → i < n → Reset n s.table i
   unfolding at_start
   at-start i h =
-      let all = both _ _ (every-at (lineAtStart n s.table) n i start h) in
+      let all = both _ _ (every-at (line_at_start n s.table) n i start h) in
       let head = both _ _ all.0 in
       record { next = eqb-true _ 1 head.0; unfinished = eqb-true _ 0 head.1; untested = eqb-true _ 0 all.1 }
 
-  rounds-cut : Cut n s.table (roundsOf s calls) (afterRuns s calls).table
-  unfolding cut countTaken
+  rounds-cut : Cut n s.table (rounds_of s calls) (after_runs s calls).table
+  unfolding cut count_taken
   rounds-cut = go (chain_first (chain-all n s calls long))
     where
-      go : ((takenAll s calls ≡ []) × (afterRuns s calls ≡ s)) ⊎ Accepted n s.table → Cut n s.table (roundsOf s calls) (afterRuns s calls).table
+      go : ((taken_all s calls ≡ []) × (after_runs s calls ≡ s)) ⊎ Accepted n s.table → Cut n s.table (rounds_of s calls) (after_runs s calls).table
       go (inl none) = rw (none.0, none.1) (record {
         each = λ k h. let e : k ≡ 0 = omega arith in rw e (inl refl);
         counts = λ i h. (at-start i h).untested;
@@ -233,17 +233,17 @@ pub byte-three : ByteThree
 byte-three n s calls i long start h = (rounds-cut n s calls long start).counts i h
 
 pub no-more-than-due : NoMoreThanDue
-unfolding countTaken
+unfolding count_taken
 no-more-than-due n s calls k i long start far h = pick ((rounds-cut n s calls long start).each k far)
   where
-    pick : RoundFits n s.table (roundAt s calls k) → testsBy i (roundAt s calls k) ≤ testsDue n (row n (end_of s calls k) i) i
+    pick : RoundFits n s.table (round_at s calls k) → tests_by i (round_at s calls k) ≤ tests_due n (row n (end_of s calls k) i) i
     pick (inl none) = rw none (omega arith)
     pick (inr l) = l.within i h
 
 pub slot-is-enough : SlotIsEnough
-unfolding countTaken
-slot-is-enough n s calls k r i j long start far h l apart rowLong own few = pick ((rounds-cut n s calls long start).each k far)
+unfolding count_taken
+slot-is-enough n s calls k r i j long start far h l apart row_long own few = pick ((rounds-cut n s calls long start).each k far)
   where
-    pick : RoundFits n s.table (roundAt s calls k) → testsBy i (roundAt s calls k) ≤ mostTests n r i
+    pick : RoundFits n s.table (round_at s calls k) → tests_by i (round_at s calls k) ≤ most_tests n r i
     pick (inl none) = rw none (omega arith)
-    pick (inr at) = le_trans (at.within i h) (most-covers n r _ i j l apart (wider-mark-row n (end_of s calls k) at.lines r i j h apart rowLong own few))
+    pick (inr at) = le_trans (at.within i h) (most-covers n r _ i j l apart (wider-mark-row n (end_of s calls k) at.lines r i j h apart row_long own few))

@@ -11,16 +11,16 @@ use native.Mathlib.Omega.{arith}
 use borrow.Author.Tests.{eqb-true, eq-eqb}
 use lib.Dec.{eqb}
 use lib.ListN.{length}
-use Rattle.lists.specs.Sums.{sum, bit}
-use Rattle.table.specs.Table.{tableLength, statusColumn, nextColumn, testsColumn, cell, nextDistance, testsMade, suspects, row, statusCrashed}
+use Rattle.lists.specs.Sums.{sum_below, bit}
+use Rattle.table.specs.Table.{table_length, status_column, next_column, tests_column, cell, next_distance, tests_made, suspects, row, status_crashed}
 use Rattle.station.specs.Tests.{unsuspected, due}
 use Rattle.lists.proofs.BoolLaws.{by_bool}
 use Rattle.table.proofs.Accepting.{Accepted}
 use Rattle.table.proofs.CellLaws.{cell_other, row-length, row_at, accepted-line, TurnCounts}
 use Rattle.station.proofs.DueLaws.{unsuspected-at}
 use Rattle.station.proofs.EntryLaws.{unsuspected-below}
-use Rattle.turn.specs.Turn.{makesTest, crash}
-use Rattle.plant.specs.Entry.{Entry, State, isCrash, entryNumber, acted}
+use Rattle.turn.specs.Turn.{makes_test, crash}
+use Rattle.plant.specs.Entry.{Entry, State, is_crash, entry_number, acted}
 use Rattle.plant.proofs.RulesKept.{entry-facts, acted-lines}
 use Rattle.turn.proofs.StepLines.{Lines}
 use Rattle.turn.proofs.TurnHeads.{Heads, turn-heads, passed-dues}
@@ -29,7 +29,7 @@ use Rattle.slots.proofs.MoreTests.{fewer-below}
 use Rattle.timing.proofs.RowsGrow.{Grows, acted-grows}
 
 -- whom the row of line k does not suspect
-pub row-unsuspected : (n : ℕ) (t : List ℕ) (k x : ℕ) → length t ≡ tableLength n → k < n → x < n → unsuspected (row n t k) x ≡ eqb (suspects n t k x) 0
+pub row-unsuspected : (n : ℕ) (t : List ℕ) (k x : ℕ) → length t ≡ table_length n → k < n → x < n → unsuspected (row n t k) x ≡ eqb (suspects n t k x) 0
 row-unsuspected n t k x long hk hx =
     unsuspected-at (row n t k) x (omega (arith, row-length n t k long hk)) ∙ ap (λ (v : ℕ). eqb v 0) (row_at n t k x hx)
 
@@ -46,14 +46,14 @@ wider-rows n t t' lines lines' grows k h = record {
 
 -- how many of the distances below the next one are due by the row as it is
 abbrev pub dues_of : ℕ → List ℕ → ℕ → ℕ → ℕ
-dues_of n t i b = sum (λ m. bit (due (row n t i) i m)) b
+dues_of n t i b = sum_below (λ m. bit (due (row n t i) i m)) b
 
 -- each line has made no more tests than that
 abbrev pub TestsAreDue : ℕ → List ℕ → Type 0
-TestsAreDue n t = (i : ℕ) → i < n → testsMade n t i ≤ dues_of n t i (nextDistance n t i)
+TestsAreDue n t = (i : ℕ) → i < n → tests_made n t i ≤ dues_of n t i (next_distance n t i)
 
 -- a taken entry keeps it
-module _ (n : ℕ) (s : State) (e : Entry) (ok : Accepted n s.table) (takes : entryNumber n s e ≡ 0) (fits : TestsAreDue n s.table) where
+module _ (n : ℕ) (s : State) (e : Entry) (ok : Accepted n s.table) (takes : entry_number n s e ≡ 0) (fits : TestsAreDue n s.table) where
   abbrev t : List ℕ
   t = s.table
 
@@ -76,26 +76,26 @@ module _ (n : ℕ) (s : State) (e : Entry) (ok : Accepted n s.table) (takes : en
       (wider-rows n t t' lines (acted-lines n s e ok takes) (acted-grows n t e lines (below)) k h)
 
   -- a line whose next distance and tests stay
-  stays : (k : ℕ) → k < n → nextDistance n t' k ≡ nextDistance n t k → testsMade n t' k ≡ testsMade n t k
-      → testsMade n t' k ≤ dues_of n t' k (nextDistance n t' k)
-  stays k h next tests = rw (next, tests) (le_trans (fits k h) (later k h (nextDistance n t k)))
+  stays : (k : ℕ) → k < n → next_distance n t' k ≡ next_distance n t k → tests_made n t' k ≡ tests_made n t k
+      → tests_made n t' k ≤ dues_of n t' k (next_distance n t' k)
+  stays k h next tests = rw (next, tests) (le_trans (fits k h) (later k h (next_distance n t k)))
 
-  crash-fits : isCrash e ≡ true → TestsAreDue n t'
+  crash-fits : is_crash e ≡ true → TestsAreDue n t'
   unfolding acted crash
   crash-fits c k h =
       let same : (b : ℕ) → TurnCounts b → cell n t' k b ≡ cell n t k b =
-      λ b counts. rw c (cell_other n t i statusColumn statusCrashed k b (omega arith) (omega arith) (λ _. omega arith)) in
-      stays k h (same nextColumn (omega arith)) (same testsColumn (omega arith))
+      λ b counts. rw c (cell_other n t i status_column status_crashed k b (omega arith) (omega arith) (λ _. omega arith)) in
+      stays k h (same next_column (omega arith)) (same tests_column (omega arith))
 
-  turn-fits : isCrash e ≡ false → TestsAreDue n t'
+  turn-fits : is_crash e ≡ false → TestsAreDue n t'
   unfolding acted
   turn-fits c k h =
-      let heads : Heads n t t' i (makesTest n t i) = rw c (turn-heads n t e.kind i ok.size lines (below)) in
+      let heads : Heads n t t' i (makes_test n t i) = rw c (turn-heads n t e.kind i ok.size lines (below)) in
       by_cases (ℕ_discrete k i)
       (λ q.
-      let passed = passed-dues n t t' i heads (lines.1 i (below)).pass.nextHigh in
-      rw q (omega (arith, heads.tests, fits i (below), passed, later i (below) (nextDistance n t' i))))
-      (λ q. stays k h (heads.others k nextColumn q (omega arith)) (heads.others k testsColumn q (omega arith)))
+      let passed = passed-dues n t t' i heads (lines.1 i (below)).pass.next_high in
+      rw q (omega (arith, heads.tests, fits i (below), passed, later i (below) (next_distance n t' i))))
+      (λ q. stays k h (heads.others k next_column q (omega arith)) (heads.others k tests_column q (omega arith)))
 
   pub acted-fits : TestsAreDue n t'
-  acted-fits k h = by_bool (isCrash e) (λ c. crash-fits c k h) (λ c. turn-fits c k h)
+  acted-fits k h = by_bool (is_crash e) (λ c. crash-fits c k h) (λ c. turn-fits c k h)

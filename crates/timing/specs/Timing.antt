@@ -3,51 +3,51 @@
 -- most, which is what slots are timed by.
 -- Assumes nothing.
 use Rattle.std.specs.Prelude.{◌≡◌, ◌≢◌, ◌⊎◌, true, false, List, [], ◌∷◌, ℕ, ◌≤◌, ◌<◌, length, get_or}
-use Rattle.table.specs.Table.{tableLength, testsMade, suspects, row, live}
+use Rattle.table.specs.Table.{table_length, tests_made, suspects, row, live}
 use Rattle.station.specs.Tests.{unsuspected}
 use Rattle.plant.specs.Entry.{State}
-use Rattle.detection.specs.Runs.{Call, Taken, afterRuns, tableAfter}
-use Rattle.detection.specs.Rounds.{countTaken}
-use Rattle.table.specs.Properties.{at_start, exactRow, ExactRows}
-use Rattle.detection.specs.Claim.{roundsOf, roundAt, Premises}
-use Rattle.detection.specs.Boards.{isTestOf, tested_in, firstTable}
-use Rattle.slots.specs.Slots.{tested, testsDue, mostTests}
+use Rattle.detection.specs.Runs.{Call, Taken, after_runs, table_after}
+use Rattle.detection.specs.Rounds.{count_taken}
+use Rattle.table.specs.Properties.{at_start, exact_row, ExactRows}
+use Rattle.detection.specs.Claim.{rounds_of, round_at, Premises}
+use Rattle.detection.specs.Boards.{is_test_of, tested_in, first_table}
+use Rattle.slots.specs.Slots.{tested, tests_due, most_tests}
 
 -- "In a round that begins with exact rows, a board that stays live makes just these tests": in the kth closed round (from 0) a live board tests, in
 -- this order, whom the sheet says, with the boards dead that are not live (`BoardTests` of detection, in the sheet's words)
 abbrev pub TestsOfTheSheet : Type 0
 TestsOfTheSheet =
-    (n : ℕ) (s : State) (calls : List Call) → Premises n s calls → (k : ℕ) → k < length (roundsOf s calls).closed
-    → ExactRows n (firstTable (get_or (roundsOf s calls).closed k [])) → (i : ℕ) → i < n → live n s.table i ≡ true
-    → tested_in i (get_or (roundsOf s calls).closed k []) ≡ tested n (exactRow n s.table) i
+    (n : ℕ) (s : State) (calls : List Call) → Premises n s calls → (k : ℕ) → k < length (rounds_of s calls).closed
+    → ExactRows n (first_table (get_or (rounds_of s calls).closed k [])) → (i : ℕ) → i < n → live n s.table i ≡ true
+    → tested_in i (get_or (rounds_of s calls).closed k []) ≡ tested n (exact_row n s.table) i
 
 -- the tests that board i makes in a round: its testing entries
-abbrev pub testsBy : ℕ → List Taken → ℕ
-testsBy i round = countTaken (isTestOf i) round
+abbrev pub tests_by : ℕ → List Taken → ℕ
+tests_by i round = count_taken (is_test_of i) round
 
 -- byte 3, "tests made in this round": after any list of runs from the start of a round on, whatever crashes or comes late, it is the number of
 -- the board's testing entries in the round that is then open
 abbrev pub ByteThree : Type 0
 ByteThree =
-    (n : ℕ) (s : State) (calls : List Call) (i : ℕ) → length s.table ≡ tableLength n → at_start n s.table ≡ true → i < n
-    → testsMade n (afterRuns s calls).table i ≡ testsBy i (roundsOf s calls).openRound
+    (n : ℕ) (s : State) (calls : List Call) (i : ℕ) → length s.table ≡ table_length n → at_start n s.table ≡ true → i < n
+    → tests_made n (after_runs s calls).table i ≡ tests_by i (rounds_of s calls).open_round
 
 -- the table as the last of the entries leaves it; t where there is none
-unfoldable pub tableLeft : List ℕ → List Taken → List ℕ
-tableLeft t [] = t
-tableLeft t (x ∷ xs) = tableLeft (tableAfter x) xs
+unfoldable pub table_left : List ℕ → List Taken → List ℕ
+table_left t [] = t
+table_left t (x ∷ xs) = table_left (table_after x) xs
 
 -- the table as the last entry of the kth round of a list of runs leaves it (from 0; the open round is the last one), step 8 included, which
 -- leaves all rows as they are. An open round without entries has no tests, and then it is the first table
 abbrev pub end_of : State → List Call → ℕ → List ℕ
-end_of s calls k = tableLeft s.table (roundAt s calls k)
+end_of s calls k = table_left s.table (round_at s calls k)
 
 -- in every round of any list of runs from the start of a round on, a board makes no more tests than are due by its row as the round leaves it;
 -- the list may end anywhere, so that this holds at every moment of a round
 abbrev pub NoMoreThanDue : Type 0
 NoMoreThanDue =
-    (n : ℕ) (s : State) (calls : List Call) (k i : ℕ) → length s.table ≡ tableLength n → at_start n s.table ≡ true
-    → k ≤ length (roundsOf s calls).closed → i < n → testsBy i (roundAt s calls k) ≤ testsDue n (row n (end_of s calls k) i) i
+    (n : ℕ) (s : State) (calls : List Call) (k i : ℕ) → length s.table ≡ table_length n → at_start n s.table ≡ true
+    → k ≤ length (rounds_of s calls).closed → i < n → tests_by i (round_at s calls k) ≤ tests_due n (row n (end_of s calls k) i) i
 
 -- board i suspects at table t nobody but those that row r suspects, and j
 abbrev pub SuspectsAtMost : ℕ → List ℕ → ℕ → List ℕ → ℕ → Type 0
@@ -57,6 +57,6 @@ SuspectsAtMost n t i r j = (x : ℕ) → x < n → suspects n t i x ≡ 1 → (u
 -- also in the rounds in which it comes to suspect that one
 abbrev pub SlotIsEnough : Type 0
 SlotIsEnough =
-    (n : ℕ) (s : State) (calls : List Call) (k : ℕ) (r : List ℕ) (i j : ℕ) → length s.table ≡ tableLength n → at_start n s.table ≡ true
-    → k ≤ length (roundsOf s calls).closed → i < n → j < n → j ≢ i → length r ≡ n → unsuspected r i ≡ true
-    → SuspectsAtMost n (end_of s calls k) i r j → testsBy i (roundAt s calls k) ≤ mostTests n r i
+    (n : ℕ) (s : State) (calls : List Call) (k : ℕ) (r : List ℕ) (i j : ℕ) → length s.table ≡ table_length n → at_start n s.table ≡ true
+    → k ≤ length (rounds_of s calls).closed → i < n → j < n → j ≢ i → length r ≡ n → unsuspected r i ≡ true
+    → SuspectsAtMost n (end_of s calls k) i r j → tests_by i (round_at s calls k) ≤ most_tests n r i

@@ -1,13 +1,13 @@
 // A turn of one station (document 01, steps 2 to 6; step 4 as request C-13 has it, byte 4 as C-18).
 ghost use Rattle.std.specs.Prelude.{◌≡◌, ◌-◌, ◌<◌, ◌≤◌, length};
 ghost use Rattle.lists.specs.Search.{least};
-ghost use Rattle.table.specs.Table.{HasLine, tableLength, testsMade, row, set_row};
-ghost use Rattle.station.specs.Groups.{stationAt};
-ghost use Rattle.lists.specs.Bytes.{withJoined, sameBytes};
+ghost use Rattle.table.specs.Table.{HasLine, table_length, tests_made, row, set_row};
+ghost use Rattle.station.specs.Groups.{station_at};
+ghost use Rattle.lists.specs.Bytes.{with_joined, same_bytes};
 ghost use Rattle.station.specs.Rows.{union};
-ghost use Rattle.table.specs.Rules.{tableNumber};
+ghost use Rattle.table.specs.Rules.{table_number};
 ghost use Rattle.station.specs.Tests.{due};
-ghost use Rattle.turn.specs.Turn.{nextTest, finishPass, countTest, replies, isTold, exchangeRows, suspect, setStatus, leaveTold, replyOutcome, testOutcome, afterOutcome, selfOrSuspected, isAlone, afterAlone, testing, turn, turnTested, turnOutcome};
+ghost use Rattle.turn.specs.Turn.{next_test, finish_pass, count_test, replies, is_told, exchange_rows, suspect, set_status, leave_told, reply_outcome, test_outcome, after_outcome, self_or_suspected, is_alone, after_alone, testing, turn, turn_tested, turn_outcome};
 
 use crate::codes;
 use lists::bytes;
@@ -23,9 +23,9 @@ pub struct Turned {
 
 // Steps 2 to 6: the turn of station i.
 pub fn take_turn(n: u8, table: &mut [u8], kind: u8, i: Station) -> Turned
-    requires { (tableNumber n table.old ≡ 0) × (i.0 < n) }
-    ensures tested_value { result.tested ≡ turnTested n table.old i.0 }
-    ensures outcome_value { result.outcome ≡ turnOutcome n table.old kind i.0 }
+    requires { (table_number n table.old ≡ 0) × (i.0 < n) }
+    ensures tested_value { result.tested ≡ turn_tested n table.old i.0 }
+    ensures outcome_value { result.outcome ≡ turn_outcome n table.old kind i.0 }
     ensures table_after { table.new ≡ turn n table.old kind i.0 }
 {
     let m = next_test(n, table, i);
@@ -47,7 +47,7 @@ pub fn take_turn(n: u8, table: &mut [u8], kind: u8, i: Station) -> Turned
 // Step 2: the least due distance not below the next one; the number of distances where there is none.
 fn next_test(n: u8, table: &[u8], i: Station) -> Distance
     requires { (n ≤ 64) × HasLine n table.now i.0 }
-    ensures { result.0 ≡ nextTest n table.now i.0 }
+    ensures { result.0 ≡ next_test n table.now i.0 }
 {
     let next = inside::get(n, table, i, cells::NEXT);
     let end = sizes::distances(n) as u8;
@@ -80,7 +80,7 @@ fn scan(row: &[u8], i: Station, end: u8, from: Distance) -> Distance
 // Step 2: no distance is due any more.
 fn finish_pass(n: u8, table: &mut [u8], i: Station)
     requires { (n ≤ 64) × HasLine n table.old i.0 }
-    ensures { table.new ≡ finishPass n table.old i.0 }
+    ensures { table.new ≡ finish_pass n table.old i.0 }
 {
     inside::put(n, table, i, cells::NEXT, sizes::distances(n) as u8);
     inside::put(n, table, i, cells::FINISHED, 1);
@@ -88,8 +88,8 @@ fn finish_pass(n: u8, table: &mut [u8], i: Station)
 
 // Steps 3 to 6: station i tests the station at distance m. The answer is the outcome.
 fn make_test(n: u8, table: &mut [u8], kind: u8, i: Station, m: Distance) -> u8
-    requires { (tableNumber n table.old ≡ 0) × (i.0 < n) × (0 < m.0) × (m.0 < 64) × (stationAt i.0 m.0 < n) }
-    ensures value { result ≡ testOutcome n (countTest n table.old i.0 m.0) kind i.0 (stationAt i.0 m.0) }
+    requires { (table_number n table.old ≡ 0) × (i.0 < n) × (0 < m.0) × (m.0 < 64) × (station_at i.0 m.0 < n) }
+    ensures value { result ≡ test_outcome n (count_test n table.old i.0 m.0) kind i.0 (station_at i.0 m.0) }
     ensures table_after { table.new ≡ testing n table.old kind i.0 m.0 }
 {
     let j = order::lookup(i, m);
@@ -102,8 +102,8 @@ fn make_test(n: u8, table: &mut [u8], kind: u8, i: Station, m: Distance) -> u8
 
 // Step 3: next distance and tests of i.
 fn count_test(n: u8, table: &mut [u8], i: Station, m: Distance)
-    requires { (length table.old ≡ tableLength n) × (i.0 < n) × (m.0 < 255) × (testsMade n table.old i.0 < 255) }
-    ensures { table.new ≡ countTest n table.old i.0 m.0 }
+    requires { (length table.old ≡ table_length n) × (i.0 < n) × (m.0 < 255) × (tests_made n table.old i.0 < 255) }
+    ensures { table.new ≡ count_test n table.old i.0 m.0 }
 {
     let tests = inside::get(n, table, i, cells::TESTS);
     inside::put(n, table, i, cells::NEXT, m.0 + 1);
@@ -112,8 +112,8 @@ fn count_test(n: u8, table: &mut [u8], i: Station, m: Distance)
 
 // Steps 4 and 5: the outcome of the test of j.
 fn test_outcome(n: u8, table: &[u8], kind: u8, i: Station, j: Station) -> u8
-    requires { (length table.now ≡ tableLength n) × (i.0 < n) × (j.0 < n) }
-    ensures { result ≡ testOutcome n table.now kind i.0 j.0 }
+    requires { (length table.now ≡ table_length n) × (i.0 < n) × (j.0 < n) }
+    ensures { result ≡ test_outcome n table.now kind i.0 j.0 }
 {
     if !does_reply(n, table, kind, j) {
         return codes::NO_REPLY;
@@ -123,8 +123,8 @@ fn test_outcome(n: u8, table: &[u8], kind: u8, i: Station, j: Station) -> u8
 
 // Step 4: the outcome where j replies. The row of j is asked first.
 fn reply_outcome(n: u8, table: &[u8], i: Station, j: Station) -> u8
-    requires { (length table.now ≡ tableLength n) × (i.0 < n) × (j.0 < n) }
-    ensures { result ≡ replyOutcome n table.now i.0 j.0 }
+    requires { (length table.now ≡ table_length n) × (i.0 < n) × (j.0 < n) }
+    ensures { result ≡ reply_outcome n table.now i.0 j.0 }
 {
     if is_told(n, table, i, j) {
         return codes::TOLD;
@@ -137,8 +137,8 @@ fn reply_outcome(n: u8, table: &[u8], i: Station, j: Station) -> u8
 
 // Steps 4 and 5: what the outcome of the test of j does to the table.
 fn apply_outcome(n: u8, table: &mut [u8], i: Station, j: Station, outcome: u8)
-    requires { (n ≤ 64) × (length table.old ≡ tableLength n) × (i.0 < n) × (j.0 < n) × (i.0 ≡ j.0 → ⊥) }
-    ensures { table.new ≡ afterOutcome n table.old i.0 j.0 outcome }
+    requires { (n ≤ 64) × (length table.old ≡ table_length n) × (i.0 < n) × (j.0 < n) × (i.0 ≡ j.0 → ⊥) }
+    ensures { table.new ≡ after_outcome n table.old i.0 j.0 outcome }
 {
     if outcome == codes::TOLD {
         leave_told(n, table, i, j);
@@ -158,7 +158,7 @@ fn apply_outcome(n: u8, table: &mut [u8], i: Station, j: Station, outcome: u8)
 // Step 4: a leaves because told by b, which byte 4 names.
 fn leave_told(n: u8, table: &mut [u8], a: Station, b: Station)
     requires { HasLine n table.old a.0 }
-    ensures { table.new ≡ leaveTold n table.old a.0 b.0 }
+    ensures { table.new ≡ leave_told n table.old a.0 b.0 }
 {
     leave(n, table, a, cells::LEFT_TOLD);
     inside::put(n, table, a, cells::TOLD_BY, b.0);
@@ -167,7 +167,7 @@ fn leave_told(n: u8, table: &mut [u8], a: Station, b: Station)
 // Steps 4, 6 and 7: the station leaves with a status.
 pub fn leave(n: u8, table: &mut [u8], i: Station, status: u8)
     requires { HasLine n table.old i.0 }
-    ensures { table.new ≡ setStatus n table.old i.0 status }
+    ensures { table.new ≡ set_status n table.old i.0 status }
 {
     inside::put(n, table, i, cells::STATUS, status);
 }
@@ -183,8 +183,8 @@ fn does_reply(n: u8, table: &[u8], kind: u8, j: Station) -> bool
 
 // Step 4: whether a is told by b: b suspects a.
 fn is_told(n: u8, table: &[u8], a: Station, b: Station) -> bool
-    requires { (length table.now ≡ tableLength n) × (a.0 < n) × (b.0 < n) }
-    ensures { result ≡ isTold n table.now a.0 b.0 }
+    requires { (length table.now ≡ table_length n) × (a.0 < n) × (b.0 < n) }
+    ensures { result ≡ is_told n table.now a.0 b.0 }
 {
     let of = a.0;
     inside::get(n, table, b, cells::HEAD + of as u16) == 1
@@ -203,8 +203,8 @@ fn suspect_station(n: u8, table: &mut [u8], i: Station, j: Station)
 // Step 4: both rows become the union of the two. Rows that are the same stay as they are. Otherwise each row is lent in turn as a part of
 // the table, with both joined in a buffer.
 fn exchange_rows(n: u8, table: &mut [u8], i: Station, j: Station)
-    requires { (n ≤ 64) × (length table.old ≡ tableLength n) × (i.0 < n) × (j.0 < n) × (i.0 ≡ j.0 → ⊥) }
-    ensures { table.new ≡ exchangeRows n table.old i.0 j.0 }
+    requires { (n ≤ 64) × (length table.old ≡ table_length n) × (i.0 < n) × (j.0 < n) × (i.0 ≡ j.0 → ⊥) }
+    ensures { table.new ≡ exchange_rows n table.old i.0 j.0 }
 {
     if same_rows(n, table, i, j) {
         return;
@@ -218,16 +218,16 @@ fn exchange_rows(n: u8, table: &mut [u8], i: Station, j: Station)
 
 // Whether the rows of i and j hold the same bytes.
 fn same_rows(n: u8, table: &[u8], i: Station, j: Station) -> bool
-    requires { (length table.now ≡ tableLength n) × (i.0 < n) × (j.0 < n) }
-    ensures { result ≡ sameBytes (row n table.now i.0) (row n table.now j.0) }
+    requires { (length table.now ≡ table_length n) × (i.0 < n) × (j.0 < n) }
+    ensures { result ≡ same_bytes (row n table.now i.0) (row n table.now j.0) }
 {
     bytes::same_bytes(inside::row(n, table, i), inside::row(n, table, j))
 }
 
 // Writes the rows of i and j, joined, to the front of a buffer.
 fn write_joined(n: u8, table: &[u8], i: Station, j: Station, out: &mut [u8])
-    requires { (length table.now ≡ tableLength n) × (i.0 < n) × (j.0 < n) }
-    ensures { out.new ≡ withJoined (row n table.now i.0) (row n table.now j.0) out.old }
+    requires { (length table.now ≡ table_length n) × (i.0 < n) × (j.0 < n) }
+    ensures { out.new ≡ with_joined (row n table.now i.0) (row n table.now j.0) out.old }
 {
     bytes::write_joined(inside::row(n, table, i), inside::row(n, table, j), out);
 }
@@ -245,7 +245,7 @@ fn join_into(n: u8, table: &mut [u8], i: Station, other: &[u8])
 // Step 6: i leaves if it is live and suspects all others.
 fn leave_if_alone(n: u8, table: &mut [u8], i: Station)
     requires { HasLine n table.old i.0 }
-    ensures { table.new ≡ afterAlone n table.old i.0 }
+    ensures { table.new ≡ after_alone n table.old i.0 }
 {
     if suspects_all(n, table, i) {
         leave(n, table, i, cells::LEFT_ALONE);
@@ -255,7 +255,7 @@ fn leave_if_alone(n: u8, table: &mut [u8], i: Station)
 // Step 6: whether i is live and suspects all others.
 fn suspects_all(n: u8, table: &[u8], i: Station) -> bool
     requires { HasLine n table.now i.0 }
-    ensures { result ≡ isAlone n table.now i.0 }
+    ensures { result ≡ is_alone n table.now i.0 }
 {
     if inside::get(n, table, i, cells::STATUS) != cells::LIVE {
         return false;
@@ -270,8 +270,8 @@ fn suspects_all(n: u8, table: &[u8], i: Station) -> bool
 
 // Whether k is i or i suspects it.
 fn self_or_suspected(n: u8, table: &[u8], i: Station, k: Station) -> bool
-    requires { (length table.now ≡ tableLength n) × (i.0 < n) × (k.0 < n) }
-    ensures { result ≡ selfOrSuspected n table.now i.0 k.0 }
+    requires { (length table.now ≡ table_length n) × (i.0 < n) × (k.0 < n) }
+    ensures { result ≡ self_or_suspected n table.now i.0 k.0 }
 {
     let of = k.0;
     let byte = inside::get(n, table, i, cells::HEAD + of as u16);

@@ -11,11 +11,11 @@ use native.Mathlib.Omega.{arith}
 use borrow.Author.Tests.{ne_eqb, lt-ltb, le-leb, not-false}
 use lib.Dec.{ltb, eqb}
 use lib.ListN.{length}
-use Rattle.table.specs.Sizes.{isSize, dimension}
+use Rattle.table.specs.Sizes.{is_size, dimension}
 use Rattle.station.specs.Groups.{group}
 use Rattle.lists.specs.Refusal.{refuse, ◌else◌, unless}
-use Rattle.table.specs.Rules.{tableNumber, stationRefusal, lengthRefusal}
-use Rattle.station.specs.Calls.{groupNumber, groupAfter, rowNumber, rowPart, rowOffset, assignmentNumber, assignmentAfter, assignmentCount, rangeNumber}
+use Rattle.table.specs.Rules.{table_number, station_refusal, length_refusal}
+use Rattle.station.specs.Calls.{group_number, group_after, row_number, row_part, row_offset, assignment_number, assignment_after, assignment_count, range_number}
 use Rattle.lists.proofs.RefusalLaws.{else-first, else_same, else-not, refuse-zero, unless-refused}
 use Rattle.table.proofs.Accepting.{accepted}
 use Rattle.table.proofs.SizeLaws.{size-bounds, size-dimension}
@@ -37,79 +37,79 @@ narrow-unless {ℓ} : {A : Type ℓ} (f : ℕ → ℕ) (v : ℕ) (a : A) (g : �
     → Narrow (λ x. unless (f x) a (g x))
 narrow-unless f v a g far h = narrow (λ x. unless (f x) a (g x)) a (λ x l. sym (unless-refused v (f x) a (g x) (sym (far x l)) h))
 
-sized : (n : ℕ) → refuse 1 (not (isSize n)) ≡ 0 → isSize n ≡ true
+sized : (n : ℕ) → refuse 1 (not (is_size n)) ≡ 0 → is_size n ≡ true
 sized n z = not-false _ (refuse-zero 0 _ z)
 
-station-far : (n x : ℕ) → isSize n ≡ true → 255 ≤ x → stationRefusal n x ≡ 9
+station-far : (n x : ℕ) → is_size n ≡ true → 255 ≤ x → station_refusal n x ≡ 9
 station-far n x e h = rw (le-leb n x (omega (arith, size-bounds n e)))
 
 -- the row and the assignment of a station
 module _ (n : ℕ) (t : List ℕ) where
   abbrev row-refused : ℕ
-  row-refused = tableNumber n t else 9
+  row-refused = table_number n t else 9
 
   refused : row-refused ≡ 0 → ⊥
-  refused = else-not (tableNumber n t) 9 (λ z. omega arith)
+  refused = else-not (table_number n t) 9 (λ z. omega arith)
 
-  row-far : (x : ℕ) → 255 ≤ x → rowNumber n t x ≡ row-refused
-  unfolding rowNumber
+  row-far : (x : ℕ) → 255 ≤ x → row_number n t x ≡ row-refused
+  unfolding row_number
   row-far x h = else_same _ _ _ (λ z. station-far n x (accepted n t z).size h)
 
-  pub row-number-narrow : Narrow (rowNumber n t)
-  row-number-narrow = narrow (rowNumber n t) row-refused row-far
+  pub row-number-narrow : Narrow (row_number n t)
+  row-number-narrow = narrow (row_number n t) row-refused row-far
 
-  pub row-offset-narrow : Narrow (rowOffset n t)
-  unfolding rowOffset
-  row-offset-narrow = narrow-unless (rowNumber n t) row-refused _ _ row-far refused
+  pub row-offset-narrow : Narrow (row_offset n t)
+  unfolding row_offset
+  row-offset-narrow = narrow-unless (row_number n t) row-refused _ _ row-far refused
 
-  pub row-part-narrow : Narrow (rowPart n t)
-  unfolding rowPart
-  row-part-narrow = narrow-unless (rowNumber n t) row-refused _ _ row-far refused
+  pub row-part-narrow : Narrow (row_part n t)
+  unfolding row_part
+  row-part-narrow = narrow-unless (row_number n t) row-refused _ _ row-far refused
 
-  assignment-far : (len x : ℕ) → 255 ≤ x → assignmentNumber n t x len ≡ row-refused
-  unfolding assignmentNumber
-  assignment-far len x h = sym (else-first row-refused (rowNumber n t x) _ (sym (row-far x h)) refused)
+  assignment-far : (len x : ℕ) → 255 ≤ x → assignment_number n t x len ≡ row-refused
+  unfolding assignment_number
+  assignment-far len x h = sym (else-first row-refused (row_number n t x) _ (sym (row-far x h)) refused)
 
-  pub assignment-number-narrow : (len : ℕ) → Narrow (λ x. assignmentNumber n t x len)
-  assignment-number-narrow len = narrow (λ x. assignmentNumber n t x len) row-refused (assignment-far len)
+  pub assignment-number-narrow : (len : ℕ) → Narrow (λ x. assignment_number n t x len)
+  assignment-number-narrow len = narrow (λ x. assignment_number n t x len) row-refused (assignment-far len)
 
-  pub assignment-after-narrow : (list : List ℕ) → Narrow (λ x. assignmentAfter n t x list)
-  unfolding assignmentAfter
+  pub assignment-after-narrow : (list : List ℕ) → Narrow (λ x. assignment_after n t x list)
+  unfolding assignment_after
   assignment-after-narrow list =
-      narrow-unless (λ x. assignmentNumber n t x (length list)) row-refused _ _ (assignment-far (length list)) refused
+      narrow-unless (λ x. assignment_number n t x (length list)) row-refused _ _ (assignment-far (length list)) refused
 
-  pub assignment-count-narrow : (len : ℕ) → Narrow (λ x. assignmentCount n t x len)
-  unfolding assignmentCount
-  assignment-count-narrow len = narrow-unless (λ x. assignmentNumber n t x len) row-refused _ _ (assignment-far len) refused
+  pub assignment-count-narrow : (len : ℕ) → Narrow (λ x. assignment_count n t x len)
+  unfolding assignment_count
+  assignment-count-narrow len = narrow-unless (λ x. assignment_number n t x len) row-refused _ _ (assignment-far len) refused
 
 -- the group of a station at a level
 module _ (n : ℕ) where
   abbrev unsized : ℕ
-  unsized = refuse 1 (not (isSize n))
+  unsized = refuse 1 (not (is_size n))
 
-  group-far : (s len x : ℕ) → 255 ≤ x → groupNumber n x s len ≡ (unsized else 9)
-  unfolding groupNumber rangeNumber
+  group-far : (s len x : ℕ) → 255 ≤ x → group_number n x s len ≡ (unsized else 9)
+  unfolding group_number range_number
   group-far s len x h = else_same _ _ _ (λ z. rw (station-far n x (sized n z) h))
 
-  level-far : (i len s : ℕ) → 255 ≤ s → groupNumber n i s len ≡ (unsized else stationRefusal n i else 12)
-  unfolding groupNumber rangeNumber
-  level-far i len s h = else_same unsized _ _ (λ z. rw (twelve (sized n z)) (sym (else-first _ _ (lengthRefusal (length (group n i s)) len) refl met)))
+  level-far : (i len s : ℕ) → 255 ≤ s → group_number n i s len ≡ (unsized else station_refusal n i else 12)
+  unfolding group_number range_number
+  level-far i len s h = else_same unsized _ _ (λ z. rw (twelve (sized n z)) (sym (else-first _ _ (length_refusal (length (group n i s)) len) refl met)))
     where
-      twelve : isSize n ≡ true → refuse 12 (eqb s 0 || ltb (dimension n) s) ≡ 12
+      twelve : is_size n ≡ true → refuse 12 (eqb s 0 || ltb (dimension n) s) ≡ 12
       twelve e = rw (ne_eqb s 0 (omega arith), lt-ltb (dimension n) s (omega (arith, size-dimension n e)))
 
-      met : ¬ ((stationRefusal n i else 12) ≡ 0)
-      met = else-not (stationRefusal n i) 12 (λ z. omega arith)
+      met : ¬ ((station_refusal n i else 12) ≡ 0)
+      met = else-not (station_refusal n i) 12 (λ z. omega arith)
 
   module _ (i s i' s' : ℕ) (e : i' ≡ min i 255) (f : s' ≡ min s 255) where
-    pub group-number-narrow : (len : ℕ) → groupNumber n i' s' len ≡ groupNumber n i s len
+    pub group-number-narrow : (len : ℕ) → group_number n i' s' len ≡ group_number n i s len
     group-number-narrow len =
-        narrow (λ x. groupNumber n x s' len) _ (group-far s' len) i i' e ∙ narrow (λ x. groupNumber n i x len) _ (level-far i len) s s' f
+        narrow (λ x. group_number n x s' len) _ (group-far s' len) i i' e ∙ narrow (λ x. group_number n i x len) _ (level-far i len) s s' f
 
-    pub group-after-narrow : (list : List ℕ) → groupAfter n i' s' list ≡ groupAfter n i s list
-    unfolding groupAfter
+    pub group-after-narrow : (list : List ℕ) → group_after n i' s' list ≡ group_after n i s list
+    unfolding group_after
     group-after-narrow list =
         let h = else-not unsized 9 (λ z. omega arith) in
-        let k = else-not unsized _ (else-not (stationRefusal n i) 12 (λ z. omega arith)) in
-        narrow-unless (λ x. groupNumber n x s' (length list)) _ list (λ x. group n x s') (group-far s' (length list)) h i i' e
-        ∙ narrow-unless (λ x. groupNumber n i x (length list)) _ list (group n i) (level-far i (length list)) k s s' f
+        let k = else-not unsized _ (else-not (station_refusal n i) 12 (λ z. omega arith)) in
+        narrow-unless (λ x. group_number n x s' (length list)) _ list (λ x. group n x s') (group-far s' (length list)) h i i' e
+        ∙ narrow-unless (λ x. group_number n i x (length list)) _ list (group n i) (level-far i (length list)) k s s' f

@@ -8,14 +8,14 @@ use borrow.Author.Tests.{eqb-true}
 use lib.Dec.{eqb}
 use lib.ListN.{length, take, drop}
 use Rattle.table.specs.Table.{row}
-use Rattle.station.specs.Calls.{rowNumber, rowPart, rowOffset}
+use Rattle.station.specs.Calls.{row_number, row_part, row_offset}
 use Rattle.lists.proofs.BoolLaws.{by_bool}
 use Rattle.station.proofs.Refusals.{row_zero}
 use Rattle.table.proofs.CellLaws.{row-length}
 
-pub row-part-out : (n : ℕ) (t : List ℕ) (i : ℕ) → take (length (rowPart n t i)) (drop (rowOffset n t i) t) ≡ rowPart n t i
-unfolding rowPart rowOffset row
+pub row-part-out : (n : ℕ) (t : List ℕ) (i : ℕ) → take (length (row_part n t i)) (drop (row_offset n t i) t) ≡ row_part n t i
+unfolding row_part row_offset row
 row-part-out n t i =
-    by_bool (eqb (rowNumber n t i) 0)
+    by_bool (eqb (row_number n t i) 0)
     (λ e. let z = row_zero n t i (eqb-true _ 0 e) in rw (e, row-length n t i z.0.long z.1))
     (λ e. rw e)

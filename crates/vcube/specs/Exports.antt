@@ -8,7 +8,7 @@ use Rattle.std.specs.Prelude.{ℕ, List, [], ◌∷◌, get_or}
 use Rattle.plant.specs.declared.Tally.{Tally}
 use Rattle.plant.specs.Entry.{state_of}
 use Rattle.plant.specs.Run.{Outcome}
-use Rattle.granter.specs.Drive.{DriveOutcome, driveOutcome}
+use Rattle.granter.specs.Drive.{DriveOutcome, drive_outcome}
 use Rattle.saved.specs.declared.Loaded.{Loaded}
 use Rattle.saved.specs.declared.SavedSize.{SavedSize}
 use Rattle.figures.specs.declared.Figures.{Figures}
@@ -16,24 +16,24 @@ use Rattle.figures.specs.declared.Totals.{Totals}
 use Rattle.figures.specs.declared.Totalled.{Totalled}
 
 -- Run: the outcome by its parts: the number, the entries taken, table, rounds and tests, and the sheet
-abbrev pub outcomeOut : ℕ → ℕ → List ℕ → ℕ → ℕ → List ℕ → Outcome
-outcomeOut number taken t rounds tests sheet = record { number = number; taken = taken; state = state_of t rounds tests; sheet = sheet }
+abbrev pub outcome_out : ℕ → ℕ → List ℕ → ℕ → ℕ → List ℕ → Outcome
+outcome_out number taken t rounds tests sheet = record { number = number; taken = taken; state = state_of t rounds tests; sheet = sheet }
 
 -- Drive: the outcome by its parts: the number, table, rounds and tests, the last granted number and the grants made
-abbrev pub driveOut : ℕ → List ℕ → ℕ → ℕ → ℕ → ℕ → DriveOutcome
-driveOut number t rounds tests last grants = driveOutcome number (state_of t rounds tests) last grants
+abbrev pub drive_out : ℕ → List ℕ → ℕ → ℕ → ℕ → ℕ → DriveOutcome
+drive_out number t rounds tests last grants = drive_outcome number (state_of t rounds tests) last grants
 
 -- Save: the tally by its parts
 abbrev pub tally_of : ℕ → ℕ → Tally
 tally_of rounds tests = record { rounds = rounds; tests = tests }
 
 -- Load: the answer by its parts: the number, the size, rounds and tests
-abbrev pub loadedOut : ℕ → ℕ → ℕ → ℕ → Loaded
-loadedOut number n rounds tests = record { number = number; size = n; tally = tally_of rounds tests }
+abbrev pub loaded_out : ℕ → ℕ → ℕ → ℕ → Loaded
+loaded_out number n rounds tests = record { number = number; size = n; tally = tally_of rounds tests }
 
 -- the size of a saved plant: the number and the size
-abbrev pub sizeOut : ℕ → ℕ → SavedSize
-sizeOut number n = record { number = number; size = n }
+abbrev pub size_out : ℕ → ℕ → SavedSize
+size_out number n = record { number = number; size = n }
 
 -- C-12: what a call answers: its number, and the members of the struct that it fills, in their order
 pub record Filled : Type 0 where
@@ -44,20 +44,20 @@ abbrev pub filled : ℕ → List ℕ → Filled
 filled number members = record { number = number; members = members }
 
 -- the seven members of figures
-abbrev pub figuresMembers : Figures → List ℕ
-figuresMembers f =
+abbrev pub figures_members : Figures → List ℕ
+figures_members f =
     f.count ∷ f.least ∷ f.greatest ∷ f.mean.upper ∷ f.mean.lower ∷ f.variance.upper ∷ f.variance.lower ∷ []
 
 -- the five members of totals
-abbrev pub totalsMembers : Totals → List ℕ
-totalsMembers t = t.count ∷ t.sum ∷ t.squares ∷ t.least ∷ t.greatest ∷ []
+abbrev pub totals_members : Totals → List ℕ
+totals_members t = t.count ∷ t.sum ∷ t.squares ∷ t.least ∷ t.greatest ∷ []
 
 -- the totals with these five members
-abbrev pub totalsWith : List ℕ → Totals
-totalsWith m = record { count = get_or m 0 0; sum = get_or m 1 0; squares = get_or m 2 0; least = get_or m 3 0; greatest = get_or m 4 0 }
+abbrev pub totals_with : List ℕ → Totals
+totals_with m = record { count = get_or m 0 0; sum = get_or m 1 0; squares = get_or m 2 0; least = get_or m 3 0; greatest = get_or m 4 0 }
 
-abbrev pub figuresOut : Figures → Filled
-figuresOut f = filled f.number (figuresMembers f)
+abbrev pub figures_out : Figures → Filled
+figures_out f = filled f.number (figures_members f)
 
-abbrev pub totalsOut : Totalled → Filled
-totalsOut t = filled t.number (totalsMembers t.totals)
+abbrev pub totals_out : Totalled → Filled
+totals_out t = filled t.number (totals_members t.totals)

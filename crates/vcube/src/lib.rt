@@ -3,18 +3,18 @@
 #![tactic(auto)]
 
 ghost use Rattle.std.specs.Prelude.{◌≡◌, min, ◌++◌, length};
-ghost use Rattle.table.specs.Rules.{shapeNumber};
-ghost use Rattle.table.specs.Fresh.{freshAfter};
-ghost use Rattle.station.specs.Calls.{groupNumber, groupAfter, rowNumber, rowPart, rowOffset, assignmentNumber, assignmentAfter, assignmentCount};
+ghost use Rattle.table.specs.Rules.{shape_number};
+ghost use Rattle.table.specs.Fresh.{fresh_after};
+ghost use Rattle.station.specs.Calls.{group_number, group_after, row_number, row_part, row_offset, assignment_number, assignment_after, assignment_count};
 ghost use Rattle.plant.specs.Entry.{state_of};
 ghost use Rattle.plant.specs.Run.{run};
-ghost use Rattle.granter.specs.Grant.{grantNumber, grantStation};
+ghost use Rattle.granter.specs.Grant.{grant_number, grant_station};
 ghost use Rattle.granter.specs.Drive.{drive, StoppedIfTaken};
-ghost use Rattle.saved.specs.Load.{savedSize, loadAnswer, loadAfter};
-ghost use Rattle.saved.specs.Save.{saveNumber, saveAfter};
+ghost use Rattle.saved.specs.Load.{saved_size, load_answer, load_after};
+ghost use Rattle.saved.specs.Save.{save_number, save_after};
 ghost use Rattle.figures.specs.Batch.{figures};
-ghost use Rattle.figures.specs.Totals.{totals, join, figuresOfTotals};
-ghost use Rattle.vcube.specs.Exports.{outcomeOut, driveOut, tally_of, loadedOut, sizeOut, filled, figuresMembers, totalsMembers, totalsWith, figuresOut, totalsOut};
+ghost use Rattle.figures.specs.Totals.{totals, join, figures_of_totals};
+ghost use Rattle.vcube.specs.Exports.{outcome_out, drive_out, tally_of, loaded_out, size_out, filled, figures_members, totals_members, totals_with, figures_out, totals_out};
 
 use figures::{Figures, Totals, adding, batch};
 use granter::{drive, grant};
@@ -26,8 +26,8 @@ use table::{Level, Station, cells, fresh};
 // Fresh table: every line live, next distance 1, byte 4 255, all else 0.
 #[unsafe(no_mangle)]
 pub extern "C" fn vcube_fresh_table(n: usize, table: &mut [u8]) -> u8
-    ensures value { result ≡ shapeNumber n (length table.old) }
-    ensures table_after { table.new ≡ freshAfter n table.old }
+    ensures value { result ≡ shape_number n (length table.old) }
+    ensures table_after { table.new ≡ fresh_after n table.old }
 {
     fresh::fresh_table(n, table)
 }
@@ -35,8 +35,8 @@ pub extern "C" fn vcube_fresh_table(n: usize, table: &mut [u8]) -> u8
 // Group list: the members of the station's group at that level, in order.
 #[unsafe(no_mangle)]
 pub extern "C" fn vcube_group_list(n: usize, station: usize, level: usize, list: &mut [u8]) -> u8
-    ensures value { result ≡ groupNumber n station level (length list.old) }
-    ensures list_after { list.new ≡ groupAfter n station level list.old }
+    ensures value { result ≡ group_number n station level (length list.old) }
+    ensures list_after { list.new ≡ group_after n station level list.old }
 {
     groups::group_list(n, Station(byte_of(station)), Level(byte_of(level)), list)
 }
@@ -51,9 +51,9 @@ pub extern "C" fn vcube_assignment(
     list: &mut [u8],
     count: &mut usize,
 ) -> u8
-    ensures value { result ≡ assignmentNumber n table.now station (length list.old) }
-    ensures count_after { count.new ≡ assignmentCount n table.now station (length list.old) }
-    ensures list_after { list.new ≡ assignmentAfter n table.now station list.old }
+    ensures value { result ≡ assignment_number n table.now station (length list.old) }
+    ensures count_after { count.new ≡ assignment_count n table.now station (length list.old) }
+    ensures list_after { list.new ≡ assignment_after n table.now station list.old }
 {
     let assigned = due::assignment(n, table, Station(byte_of(station)), list);
     *count = assigned.count as usize;
@@ -69,9 +69,9 @@ pub extern "C" fn vcube_row(
     start: &mut usize,
     bytes: &mut usize,
 ) -> u8
-    ensures value { result ≡ rowNumber n table.now station }
-    ensures start_after { start.new ≡ rowOffset n table.now station }
-    ensures bytes_after { bytes.new ≡ length (rowPart n table.now station) }
+    ensures value { result ≡ row_number n table.now station }
+    ensures start_after { start.new ≡ row_offset n table.now station }
+    ensures bytes_after { bytes.new ≡ length (row_part n table.now station) }
 {
     let i = Station(byte_of(station));
     let number = rows::row_number(n, table, i);
@@ -97,7 +97,7 @@ pub extern "C" fn vcube_run(
     sheet: &mut [u8],
     taken: &mut usize,
 ) -> u8
-    ensures { outcomeOut result taken.new table.new rounds.new tests.new sheet.new
+    ensures { outcome_out result taken.new table.new rounds.new tests.new sheet.new
         ≡ run n (state_of table.old rounds.old tests.old) schedule.now sheet.old }
 {
     let tally = Tally {
@@ -115,8 +115,8 @@ pub extern "C" fn vcube_run(
 // Grant: the station that is granted after the last one, 0 where it is refused.
 #[unsafe(no_mangle)]
 pub extern "C" fn vcube_grant(n: usize, table: &[u8], last: usize, station: &mut usize) -> u8
-    ensures value { result ≡ grantNumber n table.now last }
-    ensures station_after { station.new ≡ grantStation n table.now last }
+    ensures value { result ≡ grant_number n table.now last }
+    ensures station_after { station.new ≡ grant_station n table.now last }
 {
     let granted = grant::grant(n, table, last);
     let to = granted.station;
@@ -135,7 +135,7 @@ pub extern "C" fn vcube_drive(
     last: &mut usize,
     grants: &mut usize,
 ) -> u8
-    ensures grants_after { driveOut result table.new rounds.new tests.new last.new grants.new
+    ensures grants_after { drive_out result table.new rounds.new tests.new last.new grants.new
         ≡ drive n (state_of table.old rounds.old tests.old) last.old }
     ensures stopped_if_taken { StoppedIfTaken n (state_of table.old rounds.old tests.old) last.old grants.new }
 {
@@ -161,8 +161,8 @@ pub extern "C" fn vcube_save(
     tests: u32,
     buffer: &mut [u8],
 ) -> u8
-    ensures value { result ≡ saveNumber n table.now (tally_of rounds tests) (length buffer.old) }
-    ensures buffer_after { buffer.new ≡ saveAfter n table.now (tally_of rounds tests) buffer.old }
+    ensures value { result ≡ save_number n table.now (tally_of rounds tests) (length buffer.old) }
+    ensures buffer_after { buffer.new ≡ save_after n table.now (tally_of rounds tests) buffer.old }
 {
     save::save(n, table, Tally { rounds, tests }, buffer)
 }
@@ -176,9 +176,9 @@ pub extern "C" fn vcube_load(
     rounds: &mut u32,
     tests: &mut u32,
 ) -> u8
-    ensures tests_after { loadedOut result n.new rounds.new tests.new
-        ≡ loadAnswer file.now (length table.old) }
-    ensures table_after { table.new ≡ loadAfter file.now table.old }
+    ensures tests_after { loaded_out result n.new rounds.new tests.new
+        ≡ load_answer file.now (length table.old) }
+    ensures table_after { table.new ≡ load_after file.now table.old }
 {
     let loaded = load::load(file, table);
     let tally = loaded.tally;
@@ -191,7 +191,7 @@ pub extern "C" fn vcube_load(
 // The size of a saved plant into n, 0 where it is refused.
 #[unsafe(no_mangle)]
 pub extern "C" fn vcube_saved_size(file: &[u8], n: &mut usize) -> u8
-    ensures { sizeOut result n.new ≡ savedSize file.now }
+    ensures { size_out result n.new ≡ saved_size file.now }
 {
     let asked = load::saved_size(file);
     *n = asked.size as usize;
@@ -201,7 +201,7 @@ pub extern "C" fn vcube_saved_size(file: &[u8], n: &mut usize) -> u8
 // Figures of one list: count, least, greatest, the upper and lower part of the mean and those of the variance, all 0 where it is refused.
 #[unsafe(no_mangle)]
 pub extern "C" fn vcube_figures_of_list(results: &[u16], answer: &mut [u64; 7]) -> u8
-    ensures { filled result answer.new ≡ figuresOut (figures results.now) }
+    ensures { filled result answer.new ≡ figures_out (figures results.now) }
 {
     let of_list = batch::figures(results);
     *answer = figures_members(of_list);
@@ -215,7 +215,7 @@ pub extern "C" fn vcube_figures_of_two_lists(
     second: &[u16],
     answer: &mut [u64; 7],
 ) -> u8
-    ensures { filled result answer.new ≡ figuresOut (figures (first.now ++ second.now)) }
+    ensures { filled result answer.new ≡ figures_out (figures (first.now ++ second.now)) }
 {
     let of_two = batch::figures_of_two(first, second);
     *answer = figures_members(of_two);
@@ -225,7 +225,7 @@ pub extern "C" fn vcube_figures_of_two_lists(
 // Totals of a list: count, sum, sum of squares, least, greatest, all 0 where it is refused.
 #[unsafe(no_mangle)]
 pub extern "C" fn vcube_totals_of_list(results: &[u16], answer: &mut [u64; 5]) -> u8
-    ensures { filled result answer.new ≡ totalsOut (totals results.now) }
+    ensures { filled result answer.new ≡ totals_out (totals results.now) }
 {
     let summed = adding::totals(results);
     *answer = totals_members(summed.totals);
@@ -239,7 +239,7 @@ pub extern "C" fn vcube_join_totals(
     second: &[u64; 5],
     answer: &mut [u64; 5],
 ) -> u8
-    ensures { filled result answer.new ≡ totalsOut (join (totalsWith first.now) (totalsWith second.now)) }
+    ensures { filled result answer.new ≡ totals_out (join (totals_with first.now) (totals_with second.now)) }
 {
     let joined = adding::join(totals_with(first), totals_with(second));
     *answer = totals_members(joined.totals);
@@ -249,7 +249,7 @@ pub extern "C" fn vcube_join_totals(
 // Figures of totals that the caller kept.
 #[unsafe(no_mangle)]
 pub extern "C" fn vcube_figures_of_totals(kept: &[u64; 5], answer: &mut [u64; 7]) -> u8
-    ensures { filled result answer.new ≡ figuresOut (figuresOfTotals (totalsWith kept.now)) }
+    ensures { filled result answer.new ≡ figures_out (figures_of_totals (totals_with kept.now)) }
 {
     let of_kept = batch::figures_of_totals(totals_with(kept));
     *answer = figures_members(of_kept);
@@ -258,7 +258,7 @@ pub extern "C" fn vcube_figures_of_totals(kept: &[u64; 5], answer: &mut [u64; 7]
 
 // The members of a struct of figures, in their order.
 fn figures_members(f: Figures) -> [u64; 7]
-    ensures { result ≡ figuresMembers f }
+    ensures { result ≡ figures_members f }
 {
     let mean = f.mean;
     let variance = f.variance;
@@ -275,14 +275,14 @@ fn figures_members(f: Figures) -> [u64; 7]
 
 // The members of a struct of totals, in their order.
 fn totals_members(t: Totals) -> [u64; 5]
-    ensures { result ≡ totalsMembers t }
+    ensures { result ≡ totals_members t }
 {
     [t.count, t.sum, t.squares, t.least, t.greatest]
 }
 
 // The totals with these members.
 fn totals_with(members: &[u64; 5]) -> Totals
-    ensures { result ≡ totalsWith members.now }
+    ensures { result ≡ totals_with members.now }
 {
     Totals {
         count: members[0],

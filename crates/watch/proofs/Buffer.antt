@@ -10,20 +10,20 @@ use native.Mathlib.Decide.{dec_lt}
 use lib.Dec.{ltb}
 use lib.ListN.{length, take, drop, length-take}
 use lib.Seq.{take-take, take-nil}
-use Rattle.watch.specs.Input.{given, isLineFeed, lines, lineLength, size_of, entryBytes, Reading, reading_of, readEntries, readLines, readUpTo}
+use Rattle.watch.specs.Input.{given, is_line_feed, lines, line_length, size_of, entry_bytes, Reading, reading_of, read_entries, read_lines, read_up_to}
 use Rattle.watch.specs.Watched.{watched}
 use Rattle.watch.proofs.LineLaws.{line-within, lines-first}
 use Rattle.watch.proofs.NumberLaws.{number-has}
 use Rattle.watch.proofs.ReadLaws.{taken-has}
 
 -- lines of an input that is cut after m bytes
-cut_line : (m : ℕ) (l : List ℕ) → lineLength (take m l) ≡ min (lineLength l) m
-unfolding lineLength
+cut_line : (m : ℕ) (l : List ℕ) → line_length (take m l) ≡ min (line_length l) m
+unfolding line_length
 cut_line zero l = omega arith
 cut_line (suc m) [] = omega arith
-cut_line (suc m) (b ∷ l) = go (isLineFeed b) (cut_line m l)
+cut_line (suc m) (b ∷ l) = go (is_line_feed b) (cut_line m l)
   where
-    go : (x : Bool) → lineLength (take m l) ≡ min (lineLength l) m → cond x 0 (suc (lineLength (take m l))) ≡ min (cond x 0 (suc (lineLength l))) (suc m)
+    go : (x : Bool) → line_length (take m l) ≡ min (line_length l) m → cond x 0 (suc (line_length (take m l))) ≡ min (cond x 0 (suc (line_length l))) (suc m)
     go true e = omega arith
     go false e = omega arith
 
@@ -34,19 +34,19 @@ drop-take (suc i) (suc m) [] = rw (take-nil)
 drop-take (suc i) (suc m) (b ∷ l) = let e : suc m - suc i ≡ m - i = omega arith in rw e (drop-take i m l)
 
 -- the lines of the cut input, where the first line ends before the cut
-module _ (m : ℕ) (l : List ℕ) (h : 0 < length l) (in_cut : lineLength l < m) where
-  cut-lines : lines (take m l) ≡ take (lineLength l) l ∷ lines (take (m - suc (lineLength l)) (drop (suc (lineLength l)) l))
+module _ (m : ℕ) (l : List ℕ) (h : 0 < length l) (in_cut : line_length l < m) where
+  cut-lines : lines (take m l) ≡ take (line_length l) l ∷ lines (take (m - suc (line_length l)) (drop (suc (line_length l)) l))
   cut-lines =
-      let e : lineLength (take m l) ≡ lineLength l = omega (arith, cut_line m l) in
+      let e : line_length (take m l) ≡ line_length l = omega (arith, cut_line m l) in
       let p : 0 < length (take m l) = rw length-take (omega arith) in
-      lines-first (take m l) p ∙ rw (e, take-take (lineLength l) m l (omega arith), drop-take) refl
+      lines-first (take m l) p ∙ rw (e, take-take (line_length l) m l (omega arith), drop-take) refl
 
 -- a first line that is cut is unreadable, cut or not
-module _ (m : ℕ) (l : List ℕ) (out : m ≤ lineLength l) where
-  cut-long : length (take (lineLength (take m l)) (take m l)) ≡ m
+module _ (m : ℕ) (l : List ℕ) (out : m ≤ line_length l) where
+  cut-long : length (take (line_length (take m l)) (take m l)) ≡ m
   cut-long = let w = line-within l in let c = cut_line m l in rw (length-take, length-take) (omega arith)
 
-  whole_long : m ≤ length (take (lineLength l) l)
+  whole_long : m ≤ length (take (line_length l) l)
   whole_long = let w = line-within l in rw length-take (omega arith)
 
 -- what is read after a value goes by the value
@@ -68,16 +68,16 @@ module _ {A : Type 0} (read : List ℕ → Option A) (most : ℕ) (short : (l : 
       (first : (l : List ℕ) (ls : List (List ℕ)) → all (l ∷ ls) ≡ given (read l) (λ a. next a ls) stop)
       (on : (l : List ℕ) (a : A) (r : List ℕ) (i : ℕ) → read l ≡ some a → m ≤ i + suc most
       → next a (lines (take i r)) ≡ next a (lines r)) where
-    pick : (l : List ℕ) → 0 < length l → Dec (lineLength l < m) → all (lines (take m l)) ≡ all (lines l)
+    pick : (l : List ℕ) → 0 < length l → Dec (line_length l < m) → all (lines (take m l)) ≡ all (lines l)
     pick l h (yes p) =
         let w = line-within l in
-        let q : length (take (lineLength l) l) ≡ lineLength l = rw length-take (omega arith) in
+        let q : length (take (line_length l) l) ≡ line_length l = rw length-take (omega arith) in
         rw (cut-lines m l h p, lines-first l h, first, first)
-        (given-same (read (take (lineLength l) l)) _ _ _
-        (λ a t. on _ a _ (m - suc (lineLength l)) t (omega (arith, q, short (take (lineLength l) l) a t))))
+        (given-same (read (take (line_length l) l)) _ _ _
+        (λ a t. on _ a _ (m - suc (line_length l)) t (omega (arith, q, short (take (line_length l) l) a t))))
     pick l h (no p) =
         let w = line-within l in
-        let o : m ≤ lineLength l = omega arith in
+        let o : m ≤ line_length l = omega arith in
         let c = cut-long m l o in
         let d = whole_long m l o in
         rw (
@@ -85,37 +85,37 @@ module _ {A : Type 0} (read : List ℕ → Option A) (most : ℕ) (short : (l : 
           lines-first l h,
           first,
           first,
-          long-none (take (lineLength (take m l)) (take m l)) (omega arith),
-          long-none (take (lineLength l) l) (omega arith),
+          long-none (take (line_length (take m l)) (take m l)) (omega arith),
+          long-none (take (line_length l) l) (omega arith),
         )
 
     cut-first : (l : List ℕ) → all (lines (take m l)) ≡ all (lines l)
     cut-first [] = rw take-nil
-    cut-first (x ∷ l) = pick (x ∷ l) (omega arith) (dec_lt (lineLength (x ∷ l)) m)
+    cut-first (x ∷ l) = pick (x ∷ l) (omega arith) (dec_lt (line_length (x ∷ l)) m)
 
 -- one entry, where those after it may be cut
 cut-entry : (room n k m : ℕ) (s : List ℕ) → 4 < m
     → ((e r : List ℕ) (i : ℕ) → k < room → m ≤ i + 5
-    → readEntries room n (suc k) (s ++ e) (lines (take i r)) ≡ readEntries room n (suc k) (s ++ e) (lines r))
-    → (l : List ℕ) → readEntries room n k s (lines (take m l)) ≡ readEntries room n k s (lines l)
-unfolding readEntries
+    → read_entries room n (suc k) (s ++ e) (lines (take i r)) ≡ read_entries room n (suc k) (s ++ e) (lines r))
+    → (l : List ℕ) → read_entries room n k s (lines (take m l)) ≡ read_entries room n k s (lines l)
+unfolding read_entries
 cut-entry room n k m s h on =
-    cut-first (λ l. cond (ltb k room) (entryBytes l) none) 4 (λ l e t. (taken-has k room l e t).1)
-    m h (λ e. readEntries room n (suc k) (s ++ e)) (reading_of (k + 2) n k s) (readEntries room n k s) (λ l ls. refl)
+    cut-first (λ l. cond (ltb k room) (entry_bytes l) none) 4 (λ l e t. (taken-has k room l e t).1)
+    m h (λ e. read_entries room n (suc k) (s ++ e)) (reading_of (k + 2) n k s) (read_entries room n k s) (λ l ls. refl)
     (λ l e r i t. on e r i (taken-has k room l e t).0)
 
 -- five bytes for each entry that there is room for, and six more
-cut-entries : (f room n k m : ℕ) (s l : List ℕ) → room ≤ k + f → 5 * f + 6 ≤ m → readEntries room n k s (lines (take m l)) ≡ readEntries room n k s (lines l)
+cut-entries : (f room n k m : ℕ) (s l : List ℕ) → room ≤ k + f → 5 * f + 6 ≤ m → read_entries room n k s (lines (take m l)) ≡ read_entries room n k s (lines l)
 cut-entries zero room n k m s l a b = cut-entry room n k m s (omega arith) (λ e r i t h. absurd (omega arith)) l
 cut-entries (suc f) room n k m s l a b =
     cut-entry room n k m s (omega arith) (λ e r i t h. cut-entries f room n (suc k) i (s ++ e) r (omega arith) (omega arith)) l
 
 -- the size's line takes four bytes more
-cut-input : (room m : ℕ) (l : List ℕ) → 5 * room + 10 ≤ m → readUpTo room (take m l) ≡ readUpTo room l
-unfolding readUpTo readLines
+cut-input : (room m : ℕ) (l : List ℕ) → 5 * room + 10 ≤ m → read_up_to room (take m l) ≡ read_up_to room l
+unfolding read_up_to read_lines
 cut-input room m l b =
     cut-first size_of 3 (λ l n t. (number-has 3 l n t).0)
-    m (omega arith) (λ n. readEntries room n 0 []) (reading_of 1 0 0 []) (readLines room) (λ l ls. refl)
+    m (omega arith) (λ n. read_entries room n 0 []) (reading_of 1 0 0 []) (read_lines room) (λ l ls. refl)
     (λ _ n r i _ h. cut-entries room room n 0 i [] r (omega arith) (omega arith)) l
 
 -- what the program answers

@@ -11,24 +11,24 @@ use borrow.Author.Tests.{le-leb, lt-leb, leb-true}
 use lib.Dec.{leb}
 use lib.ListN.{length, get_or, drop, drop_of_length-le}
 use lib.Seq.{drop-cons}
-use Rattle.watch.specs.Input.{isDigit, digitsFrom, number_of}
+use Rattle.watch.specs.Input.{is_digit, digits_from, number_of}
 
 -- one digit more, from position i on
 module _ (l : List ℕ) (i v : ℕ) (h : i < length l) where
-  pub digits-next : 48 ≤ get_or l i 0 → get_or l i 0 ≤ 57 → digitsFrom v (drop i l) ≡ digitsFrom (10 * v + (get_or l i 0 - 48)) (drop (i + 1) l)
-  unfolding digitsFrom
+  pub digits-next : 48 ≤ get_or l i 0 → get_or l i 0 ≤ 57 → digits_from v (drop i l) ≡ digits_from (10 * v + (get_or l i 0 - 48)) (drop (i + 1) l)
+  unfolding digits_from
   digits-next a b = rw (add-one, drop-cons l i 0, le-leb 48 (get_or l i 0) a, le-leb (get_or l i 0) 57 b)
 
-  pub digits_low : get_or l i 0 < 48 → digitsFrom v (drop i l) ≡ none
-  unfolding digitsFrom
+  pub digits_low : get_or l i 0 < 48 → digits_from v (drop i l) ≡ none
+  unfolding digits_from
   digits_low a = rw (drop-cons l i 0, lt-leb 48 (get_or l i 0) a)
 
-  pub digits-high : 57 < get_or l i 0 → digitsFrom v (drop i l) ≡ none
-  unfolding digitsFrom
+  pub digits-high : 57 < get_or l i 0 → digits_from v (drop i l) ≡ none
+  unfolding digits_from
   digits-high a = rw (drop-cons l i 0, le-leb 48 (get_or l i 0) (omega arith), lt-leb (get_or l i 0) 57 a)
 
-pub digits-done : (l : List ℕ) (i v : ℕ) → length l ≤ i → digitsFrom v (drop i l) ≡ some v
-unfolding digitsFrom
+pub digits-done : (l : List ℕ) (i v : ℕ) → length l ≤ i → digits_from v (drop i l) ≡ some v
+unfolding digits_from
 digits-done l i v h = rw (drop_of_length-le l {i = i} h)
 
 -- how long a number is
@@ -40,21 +40,21 @@ pub number-long : (most : ℕ) (l : List ℕ) → 1 ≤ length l → most < leng
 unfolding number_of
 number-long most l a b = rw (le-leb 1 (length l) a, lt-leb (length l) most b)
 
-pub number_digits : (most : ℕ) (l : List ℕ) → 1 ≤ length l → length l ≤ most → number_of most l ≡ digitsFrom 0 l
+pub number_digits : (most : ℕ) (l : List ℕ) → 1 ≤ length l → length l ≤ most → number_of most l ≡ digits_from 0 l
 unfolding number_of
 number_digits most l a b = rw (le-leb 1 (length l) a, le-leb (length l) most b)
 
 -- the greatest number of k digits
-unfoldable pub allNines : ℕ → ℕ
-allNines zero = 0
-allNines (suc k) = 10 * allNines k + 9
+unfoldable pub all_nines : ℕ → ℕ
+all_nines zero = 0
+all_nines (suc k) = 10 * all_nines k + 9
 
-pub nines-next : (k : ℕ) → allNines (k + 1) ≡ 10 * allNines k + 9
-unfolding allNines
+pub nines-next : (k : ℕ) → all_nines (k + 1) ≡ 10 * all_nines k + 9
+unfolding all_nines
 nines-next k = rw add-one
 
-pub nines-two : (k : ℕ) → k ≤ 2 → allNines k ≤ 99
-unfolding allNines
+pub nines-two : (k : ℕ) → k ≤ 2 → all_nines k ≤ 99
+unfolding all_nines
 nines-two zero h = omega arith
 nines-two (suc zero) h = omega arith
 nines-two (suc (suc zero)) h = omega arith
@@ -64,26 +64,26 @@ both_true : (a b : Bool) → (a && b) ≡ true → b ≡ true
 both_true true b e = e
 both_true false b e = cc
 
-digits-small : (l : List ℕ) (k v w : ℕ) → v ≤ allNines k → digitsFrom v l ≡ some w → w ≤ allNines (k + length l)
-unfolding digitsFrom allNines
+digits-small : (l : List ℕ) (k v w : ℕ) → v ≤ all_nines k → digits_from v l ≡ some w → w ≤ all_nines (k + length l)
+unfolding digits_from all_nines
 digits-small [] k v w h e = let x : k + 0 ≡ k = omega arith in let y : v ≡ w = cc in rw (x, ← y) h
-digits-small (b ∷ rest) k v w h e = go (isDigit b) refl e (digits-small rest (suc k) (10 * v + (b - 48)) w)
+digits-small (b ∷ rest) k v w h e = go (is_digit b) refl e (digits-small rest (suc k) (10 * v + (b - 48)) w)
   where
-    go : (x : Bool) → isDigit b ≡ x → cond x (digitsFrom (10 * v + (b - 48)) rest) none ≡ some w
-        → (10 * v + (b - 48) ≤ 10 * allNines k + 9 → digitsFrom (10 * v + (b - 48)) rest ≡ some w → w ≤ allNines (suc k + length rest))
-        → w ≤ allNines (k + suc (length rest))
+    go : (x : Bool) → is_digit b ≡ x → cond x (digits_from (10 * v + (b - 48)) rest) none ≡ some w
+        → (10 * v + (b - 48) ≤ 10 * all_nines k + 9 → digits_from (10 * v + (b - 48)) rest ≡ some w → w ≤ all_nines (suc k + length rest))
+        → w ≤ all_nines (k + suc (length rest))
     go true p e f =
         let y : k + suc (length rest) ≡ suc k + length rest = omega arith in
         rw y (f (omega (arith, leb-true b 57 (both_true (leb 48 b) (leb b 57) p))) e)
     go false p e f = let z : ◌≡◌ {A = ℕ} 0 1 = cc in absurd (omega arith)
 
 -- what a number has
-pub number-has : (most : ℕ) (l : List ℕ) (v : ℕ) → number_of most l ≡ some v → (length l ≤ most) × (digitsFrom 0 l ≡ some v)
+pub number-has : (most : ℕ) (l : List ℕ) (v : ℕ) → number_of most l ≡ some v → (length l ≤ most) × (digits_from 0 l ≡ some v)
 unfolding number_of
 number-has most l v = go (leb 1 (length l)) (leb (length l) most) refl
   where
-    go : (a b : Bool) → leb (length l) most ≡ b → cond (a && b) (digitsFrom 0 l) none ≡ some v
-        → (length l ≤ most) × (digitsFrom 0 l ≡ some v)
+    go : (a b : Bool) → leb (length l) most ≡ b → cond (a && b) (digits_from 0 l) none ≡ some v
+        → (length l ≤ most) × (digits_from 0 l ≡ some v)
     go true true p e = (leb-true (length l) most p, e)
     go true false p e = let z : ◌≡◌ {A = ℕ} 0 1 = cc in absurd (omega arith)
     go false b p e = let z : ◌≡◌ {A = ℕ} 0 1 = cc in absurd (omega arith)

@@ -12,43 +12,43 @@ use lib.Dec.{ltb, eqb}
 use lib.ListN.{length, get_or, set, take, drop, length-set, length-append, length-drop, drop_of_length-le, take-append-drop}
 use lib.Seq.{take_all, drop-drop, drop-set-lt, take-suc-set, length-take-le, sets}
 use Rattle.watch.specs.declared.input.Parsed.{Parsed}
-use Rattle.watch.specs.Input.{given, lines, lineLength, digitsFrom, number_of, size_of, kind_of, entryBytes, Reading, reading_of, readEntries, readLines, readUpTo, ReadAs}
+use Rattle.watch.specs.Input.{given, lines, line_length, digits_from, number_of, size_of, kind_of, entry_bytes, Reading, reading_of, read_entries, read_lines, read_up_to, ReadAs}
 use Rattle.watch.proofs.LineLaws.{lines-first, drop_min}
 use Rattle.watch.proofs.NumberLaws.{number-has}
 use Rattle.lists.proofs.Writing.{sets-front}
 
 -- the entry of a line by the line's bytes
-pub entry-short : (l : List ℕ) → length l < 2 → entryBytes l ≡ none
-unfolding entryBytes
+pub entry-short : (l : List ℕ) → length l < 2 → entry_bytes l ≡ none
+unfolding entry_bytes
 entry-short [] h = refl
 entry-short (a ∷ []) h = refl
 entry-short (a ∷ b ∷ l) h = absurd (omega arith)
 
 pub entry-long : (l : List ℕ) → 2 ≤ length l
-    → entryBytes l ≡ cond (not (eqb (kind_of (get_or l 0 0)) 0) && eqb (get_or l 1 0) 32) (given (number_of 2 (drop 2 l)) (λ station. some (kind_of (get_or l 0 0) ∷ station ∷ [])) none) none
-unfolding entryBytes
+    → entry_bytes l ≡ cond (not (eqb (kind_of (get_or l 0 0)) 0) && eqb (get_or l 1 0) 32) (given (number_of 2 (drop 2 l)) (λ station. some (kind_of (get_or l 0 0) ∷ station ∷ [])) none) none
+unfolding entry_bytes
 entry-long [] h = absurd (omega arith)
 entry-long (a ∷ []) h = absurd (omega arith)
 entry-long (a ∷ b ∷ l) h = refl
 
 -- an entry's line is short, and the entry has two bytes
-entry_has : (l e : List ℕ) → entryBytes l ≡ some e → (length l ≤ 4) × (length e ≡ 2)
-unfolding entryBytes
+entry_has : (l e : List ℕ) → entry_bytes l ≡ some e → (length l ≤ 4) × (length e ≡ 2)
+unfolding entry_bytes
 entry_has [] e p = let z : ◌≡◌ {A = ℕ} 0 1 = cc in absurd (omega arith)
 entry_has (a ∷ []) e p = let z : ◌≡◌ {A = ℕ} 0 1 = cc in absurd (omega arith)
 entry_has (a ∷ b ∷ l) e p = go (not (eqb (kind_of a) 0) && eqb b 32) (number_of 2 l) (number-has 2 l) p
   where
-    go : (x : Bool) (o : Option ℕ) → ((v : ℕ) → o ≡ some v → (length l ≤ 2) × (digitsFrom 0 l ≡ some v))
+    go : (x : Bool) (o : Option ℕ) → ((v : ℕ) → o ≡ some v → (length l ≤ 2) × (digits_from 0 l ≡ some v))
         → cond x (given o (λ station. some (kind_of a ∷ station ∷ [])) none) none ≡ some e → (suc (suc (length l)) ≤ 4) × (length e ≡ 2)
     go true (some v) f p = let h = f v refl in let q : kind_of a ∷ v ∷ [] ≡ e = cc in (omega arith, rw (← q))
     go true none f p = let z : ◌≡◌ {A = ℕ} 0 1 = cc in absurd (omega arith)
     go false o f p = let z : ◌≡◌ {A = ℕ} 0 1 = cc in absurd (omega arith)
 
 -- so too where it is read only if there is room for one more
-pub taken-has : (k room : ℕ) (l e : List ℕ) → cond (ltb k room) (entryBytes l) none ≡ some e → (k < room) × (length l ≤ 4) × (length e ≡ 2)
+pub taken-has : (k room : ℕ) (l e : List ℕ) → cond (ltb k room) (entry_bytes l) none ≡ some e → (k < room) × (length l ≤ 4) × (length e ≡ 2)
 taken-has k room l e = go (ltb k room) refl
   where
-    go : (b : Bool) → ltb k room ≡ b → cond b (entryBytes l) none ≡ some e → (k < room) × (length l ≤ 4) × (length e ≡ 2)
+    go : (b : Bool) → ltb k room ≡ b → cond b (entry_bytes l) none ≡ some e → (k < room) × (length l ≤ 4) × (length e ≡ 2)
     go true t p = let h = entry_has l e p in (ltb-true k room t, h.0, h.1)
     go false t p = let z : ◌≡◌ {A = ℕ} 0 1 = cc in absurd (omega arith)
 
@@ -67,27 +67,27 @@ module _ (s : List ℕ) (a x y : ℕ) (h : a + 2 ≤ length s) where
 -- reading goes on at position p, where k entries are the front of the schedule s. In the shapes of the loop: the line ends at e, `o` is what
 -- it was read as where there is room for r entries, and the next line begins at q
 module _ (room n k : ℕ) (s l : List ℕ) (p : ℕ) where
-  abbrev pub readFrom : Reading
-  readFrom = readEntries room n k (take (2 * k) s) (lines (drop p l))
+  abbrev pub read_from : Reading
+  read_from = read_entries room n k (take (2 * k) s) (lines (drop p l))
 
-  pub read_done : length l ≤ p → readFrom ≡ reading_of 0 n k (take (2 * k) s)
-  unfolding readEntries lines
+  pub read_done : length l ≤ p → read_from ≡ reading_of 0 n k (take (2 * k) s)
+  unfolding read_entries lines
   read_done h = rw (drop_of_length-le l {i = p} h)
 
-  module _ (r e : ℕ) (o : Option (List ℕ)) (h : p < length l) (same : r ≡ room) (ends : e ≡ p + lineLength (drop p l))
-      (told : o ≡ cond (ltb k r) (entryBytes (take (e - p) (drop p l))) none) where
-    read_as : cond (ltb k room) (entryBytes (take (lineLength (drop p l)) (drop p l))) none ≡ o
-    read_as = let w : e - p ≡ lineLength (drop p l) = omega arith in rw (← same, ← w) (sym told)
+  module _ (r e : ℕ) (o : Option (List ℕ)) (h : p < length l) (same : r ≡ room) (ends : e ≡ p + line_length (drop p l))
+      (told : o ≡ cond (ltb k r) (entry_bytes (take (e - p) (drop p l))) none) where
+    read_as : cond (ltb k room) (entry_bytes (take (line_length (drop p l)) (drop p l))) none ≡ o
+    read_as = let w : e - p ≡ line_length (drop p l) = omega arith in rw (← same, ← w) (sym told)
 
-    pub read-stop : o ≡ none → readFrom ≡ reading_of (k + 2) n k (take (2 * k) s)
-    unfolding readEntries
+    pub read-stop : o ≡ none → read_from ≡ reading_of (k + 2) n k (take (2 * k) s)
+    unfolding read_entries
     read-stop z = rw (lines-first (drop p l) (rw length-drop (omega arith)), read_as, z)
 
     pub read_next : (x y q : ℕ) (s' : List ℕ) → o ≡ some (x ∷ y ∷ []) → take (2 * k + 2) s' ≡ take (2 * k) s ++ (x ∷ y ∷ []) → q ≡ min (e + 1) (length l)
-        → readEntries room n (k + 1) (take (2 * (k + 1)) s') (lines (drop q l)) ≡ readFrom
-    unfolding readEntries
+        → read_entries room n (k + 1) (take (2 * (k + 1)) s') (lines (drop q l)) ≡ read_from
+    unfolding read_entries
     read_next x y q s' z front next =
-        let w : p + suc (lineLength (drop p l)) ≡ suc e = omega arith in
+        let w : p + suc (line_length (drop p l)) ≡ suc e = omega arith in
         let d : 2 * (k + 1) ≡ 2 * k + 2 = omega arith in
         rw (d, front, drop_min l q e next, lines-first (drop p l) (rw length-drop (omega arith)), read_as, z, drop-drop, w, add-one)
 
@@ -106,58 +106,58 @@ pub after_two : (l : List ℕ) → take (length l - 2) (drop 2 l) ≡ drop 2 l
 after_two l = take_all (length l - 2) (drop 2 l) (rw length-drop (omega arith))
 
 -- what the first line decides
-first-unsized : (room : ℕ) (l : List ℕ) → size_of (take (lineLength l) l) ≡ none → readLines room (lines l) ≡ reading_of 1 0 0 []
-unfolding readLines lines
+first-unsized : (room : ℕ) (l : List ℕ) → size_of (take (line_length l) l) ≡ none → read_lines room (lines l) ≡ reading_of 1 0 0 []
+unfolding read_lines lines
 first-unsized room [] e = refl
 first-unsized room (b ∷ l) e = rw (lines-first (b ∷ l) (omega arith), e)
 
-first-sized : (room n : ℕ) (l : List ℕ) → size_of (take (lineLength l) l) ≡ some n
-    → readLines room (lines l) ≡ readEntries room n 0 [] (lines (drop (suc (lineLength l)) l))
-unfolding readLines lines lineLength number_of
+first-sized : (room n : ℕ) (l : List ℕ) → size_of (take (line_length l) l) ≡ some n
+    → read_lines room (lines l) ≡ read_entries room n 0 [] (lines (drop (suc (line_length l)) l))
+unfolding read_lines lines line_length number_of
 first-sized room n [] e = cc
 first-sized room n (b ∷ l) e = rw (lines-first (b ∷ l) (omega arith), e)
 
 -- the size's line, which ends at e and was read as `o`, and what follows it from q on
-module _ (room e : ℕ) (l : List ℕ) (o : Option ℕ) (ends : e ≡ 0 + lineLength l) (told : o ≡ number_of 3 (take e l)) where
-  size-as : size_of (take (lineLength l) l) ≡ o
-  size-as = let w : e ≡ lineLength l = omega arith in rw (← w) (sym told)
+module _ (room e : ℕ) (l : List ℕ) (o : Option ℕ) (ends : e ≡ 0 + line_length l) (told : o ≡ number_of 3 (take e l)) where
+  size-as : size_of (take (line_length l) l) ≡ o
+  size-as = let w : e ≡ line_length l = omega arith in rw (← w) (sym told)
 
-  pub read-unsized : o ≡ none → readUpTo room l ≡ reading_of 1 0 0 []
-  unfolding readUpTo
+  pub read-unsized : o ≡ none → read_up_to room l ≡ reading_of 1 0 0 []
+  unfolding read_up_to
   read-unsized z = first-unsized room l (size-as ∙ z)
 
-  pub read-sized : (n q : ℕ) → o ≡ some n → q ≡ min (e + 1) (length l) → readUpTo room l ≡ readEntries room n 0 [] (lines (drop q l))
-  unfolding readUpTo
+  pub read-sized : (n q : ℕ) → o ≡ some n → q ≡ min (e + 1) (length l) → read_up_to room l ≡ read_entries room n 0 [] (lines (drop q l))
+  unfolding read_up_to
   read-sized n q z next =
-      let w : e ≡ lineLength l = omega arith in
-      first-sized room n l (size-as ∙ z) ∙ ap (λ (d : List ℕ). readEntries room n 0 [] (lines d)) (ap (λ (k : ℕ). drop (suc k) l) (sym w) ∙ sym (drop_min l q e next))
+      let w : e ≡ line_length l = omega arith in
+      first-sized room n l (size-as ∙ z) ∙ ap (λ (d : List ℕ). read_entries room n 0 [] (lines d)) (ap (λ (k : ℕ). drop (suc k) l) (sym w) ∙ sym (drop_min l q e next))
 
 -- there are no more entries than there is room for, and each has two bytes
 pub record ReadFits (room : ℕ) (r : Reading) : Type 0 where
   pub within : r.entries ≤ room
   pub pairs : length r.schedule ≡ 2 * r.entries
 
-entries_fit : (room n k : ℕ) (s : List ℕ) (ls : List (List ℕ)) → k ≤ room → length s ≡ 2 * k → ReadFits room (readEntries room n k s ls)
-unfolding readEntries
+entries_fit : (room n k : ℕ) (s : List ℕ) (ls : List (List ℕ)) → k ≤ room → length s ≡ 2 * k → ReadFits room (read_entries room n k s ls)
+unfolding read_entries
 entries_fit room n k s [] h p = record { within = h; pairs = p }
 entries_fit room n k s (l ∷ ls) h p =
-    go (cond (ltb k room) (entryBytes l) none) (taken-has k room l) (λ e. entries_fit room n (suc k) (s ++ e) ls)
+    go (cond (ltb k room) (entry_bytes l) none) (taken-has k room l) (λ e. entries_fit room n (suc k) (s ++ e) ls)
   where
     go : (o : Option (List ℕ)) → ((e : List ℕ) → o ≡ some e → (k < room) × (length l ≤ 4) × (length e ≡ 2))
-        → ((e : List ℕ) → suc k ≤ room → length (s ++ e) ≡ 2 * suc k → ReadFits room (readEntries room n (suc k) (s ++ e) ls))
-        → ReadFits room (given o (λ e. readEntries room n (suc k) (s ++ e) ls) (reading_of (k + 2) n k s))
+        → ((e : List ℕ) → suc k ≤ room → length (s ++ e) ≡ 2 * suc k → ReadFits room (read_entries room n (suc k) (s ++ e) ls))
+        → ReadFits room (given o (λ e. read_entries room n (suc k) (s ++ e) ls) (reading_of (k + 2) n k s))
     go none f on = record { within = h; pairs = p }
     go (some e) f on = let g = f e refl in on e (omega arith) (simp length-append (omega arith))
 
-pub read_fits : (room : ℕ) (l : List ℕ) → ReadFits room (readUpTo room l)
-unfolding readUpTo readLines
+pub read_fits : (room : ℕ) (l : List ℕ) → ReadFits room (read_up_to room l)
+unfolding read_up_to read_lines
 read_fits room l = go (lines l)
   where
-    pick : (o : Option ℕ) (ls : List (List ℕ)) → ReadFits room (given o (λ n. readEntries room n 0 [] ls) (reading_of 1 0 0 []))
+    pick : (o : Option ℕ) (ls : List (List ℕ)) → ReadFits room (given o (λ n. read_entries room n 0 [] ls) (reading_of 1 0 0 []))
     pick none ls = record { within = omega arith; pairs = refl }
     pick (some n) ls = entries_fit room n 0 [] ls (omega arith) refl
 
-    go : (ls : List (List ℕ)) → ReadFits room (readLines room ls)
+    go : (ls : List (List ℕ)) → ReadFits room (read_lines room ls)
     go [] = record { within = omega arith; pairs = refl }
     go (l ∷ ls) = pick (size_of l) ls
 

@@ -9,23 +9,23 @@ use borrow.Author.Tests.{eq-eqb, ne_eqb}
 use lib.ListN.{length, take, drop, length-take, take-append-drop}
 use lib.Seq.{take_at, sets}
 use Rattle.lists.proofs.Writing.{sets-front}
-use Rattle.table.specs.Sizes.{isSize}
-use Rattle.table.specs.Table.{tableLength}
-use Rattle.table.specs.Rules.{shapeNumber, tableNumber}
-use Rattle.table.specs.Fresh.{freshTable, freshAfter}
+use Rattle.table.specs.Sizes.{is_size}
+use Rattle.table.specs.Table.{table_length}
+use Rattle.table.specs.Rules.{shape_number, table_number}
+use Rattle.table.specs.Fresh.{fresh_table, fresh_after}
 use Rattle.plant.specs.declared.Answer.{Answer}
 use Rattle.plant.specs.Entry.{State, state_of}
-use Rattle.plant.specs.Run.{Outcome, outcomeWith, startNumber, run}
+use Rattle.plant.specs.Run.{Outcome, outcome_with, start_number, run}
 use Rattle.watch.specs.declared.input.Parsed.{Parsed}
 use Rattle.watch.specs.declared.watched.Report.TheVariants.{Unread, Ran}
-use Rattle.watch.specs.Input.{roomFor, read_input, readInto, ReadAs}
-use Rattle.watch.specs.Watched.{watchedWith, runAnswer, carriedOut, watched}
+use Rattle.watch.specs.Input.{room_for, read_input, read_into, ReadAs}
+use Rattle.watch.specs.Watched.{watched_with, run_answer, carried_out, watched}
 use Rattle.watch.proofs.ReadLaws.{read_fits}
 
 -- a run of what is no size is refused, whatever the table
-size-refused : (n : ℕ) (s : State) (schedule sheet : List ℕ) → isSize n ≡ false
+size-refused : (n : ℕ) (s : State) (schedule sheet : List ℕ) → is_size n ≡ false
     → run n s schedule sheet ≡ record { number = 1; taken = 0; state = s; sheet = sheet }
-unfolding run startNumber tableNumber shapeNumber
+unfolding run start_number table_number shape_number
 size-refused n s schedule sheet e = rw e
 
 -- a part that comes back as it was lent
@@ -43,45 +43,45 @@ part-back k l =
 abbrev refused : Answer
 refused = record { number = 1; taken = 0; tally = record { rounds = 0; tests = 0 } }
 
-carried-refused : (n : ℕ) (schedule lent : List ℕ) → isSize n ≡ false → carriedOut n schedule lent ≡ watchedWith (Ran refused) lent
-carried-refused n schedule lent e = rw (size-refused n (state_of (freshTable n) 0 0) schedule (take (2 * length schedule) lent) e, part-back)
+carried-refused : (n : ℕ) (schedule lent : List ℕ) → is_size n ≡ false → carried_out n schedule lent ≡ watched_with (Ran refused) lent
+carried-refused n schedule lent e = rw (size-refused n (state_of (fresh_table n) 0 0) schedule (take (2 * length schedule) lent) e, part-back)
 
 -- a run on the lent table after it was made fresh, with the first k bytes of a lent sheet, answers what a run of a fresh table answers
 pub carried : (n : ℕ) (t schedule lent : List ℕ) (r : Answer) (t' s' : List ℕ) (k : ℕ)
-    → (isSize n ≡ true → length t ≡ tableLength n) → k ≡ 2 * length schedule → length s' ≡ k → k ≤ length lent
-    → outcomeWith r t' s' ≡ run n (state_of (freshAfter n t) 0 0) schedule (take k lent)
-    → watchedWith (Ran r) (s' ++ drop k lent) ≡ carriedOut n schedule lent
-unfolding freshAfter shapeNumber
-carried n t schedule lent r t' s' k shaped twice long fits e = pick (isSize n) refl
+    → (is_size n ≡ true → length t ≡ table_length n) → k ≡ 2 * length schedule → length s' ≡ k → k ≤ length lent
+    → outcome_with r t' s' ≡ run n (state_of (fresh_after n t) 0 0) schedule (take k lent)
+    → watched_with (Ran r) (s' ++ drop k lent) ≡ carried_out n schedule lent
+unfolding fresh_after shape_number
+carried n t schedule lent r t' s' k shaped twice long fits e = pick (is_size n) refl
   where
     front : sets lent 0 s' ≡ s' ++ drop k lent
     front = rw (← long) (sets-front lent s' (omega arith))
 
-    pick : (b : Bool) → isSize n ≡ b → watchedWith (Ran r) (s' ++ drop k lent) ≡ carriedOut n schedule lent
+    pick : (b : Bool) → is_size n ≡ b → watched_with (Ran r) (s' ++ drop k lent) ≡ carried_out n schedule lent
     pick true y =
-        let f : freshAfter n t ≡ freshTable n = rw (y, eq-eqb (length t) (tableLength n) (shaped y)) in
+        let f : fresh_after n t ≡ fresh_table n = rw (y, eq-eqb (length t) (table_length n) (shaped y)) in
         let g = rw f at e in
         rw (← twice, ← g) (rw (sym front))
     pick false y =
-        let g = e ∙ size-refused n (state_of (freshAfter n t) 0 0) schedule (take k lent) y in
-        let p : r ≡ refused = ap runAnswer g in
+        let g = e ∙ size-refused n (state_of (fresh_after n t) 0 0) schedule (take k lent) y in
+        let p : r ≡ refused = ap run_answer g in
         let q : s' ≡ take k lent = ap (λ (o : Outcome). o.sheet) g in
         rw (carried-refused n schedule lent y, p, q, take-append-drop)
 
 -- an input that is read as p into a schedule with room for all that the document allows
 module _ (lent input schedule₀ schedule : List ℕ) (p : Parsed) (room : length schedule₀ ≡ 8192)
-    (read : ReadAs p schedule schedule₀ (readInto schedule₀ input)) where
+    (read : ReadAs p schedule schedule₀ (read_into schedule₀ input)) where
   whole : ReadAs p schedule schedule₀ (read_input input)
-  whole = let e : roomFor (length schedule₀) ≡ 4096 = omega arith in rw e at read
+  whole = let e : room_for (length schedule₀) ≡ 4096 = omega arith in rw e at read
 
   pub entries-within : p.entries ≤ 4096
   entries-within = let h = whole in let f = read_fits 4096 input in omega arith
 
-  pub watched-unread : (p.unread ≡ 0 → ⊥) → watchedWith (Unread p.unread) lent ≡ watched lent input
+  pub watched-unread : (p.unread ≡ 0 → ⊥) → watched_with (Unread p.unread) lent ≡ watched lent input
   unfolding watched
   watched-unread h = rw (← whole.unread, ne_eqb p.unread 0 h)
 
-  pub watched-ran : p.unread ≡ 0 → carriedOut p.size (take (2 * p.entries) schedule) lent ≡ watched lent input
+  pub watched-ran : p.unread ≡ 0 → carried_out p.size (take (2 * p.entries) schedule) lent ≡ watched lent input
   unfolding watched
   watched-ran z =
       let s = (read_input input).schedule in

@@ -2,7 +2,7 @@
 -- Assumes nothing.
 use Rattle.std.specs.Prelude.{ℕ, ◌*◌, cond, List, length, take, eqb}
 use Rattle.std.proofs.lemmas.List.Edits.{sets}
-use Rattle.table.specs.Fresh.{freshTable}
+use Rattle.table.specs.Fresh.{fresh_table}
 use Rattle.plant.specs.declared.Answer.{Answer}
 use Rattle.plant.specs.Entry.{state_of}
 use Rattle.plant.specs.Run.{Outcome, run}
@@ -15,26 +15,26 @@ pub record Watched : Type 0 where
   pub report : Report
   pub sheet : List ℕ
 
-abbrev pub watchedWith : Report → List ℕ → Watched
-watchedWith r sheet = record { report = r; sheet = sheet }
+abbrev pub watched_with : Report → List ℕ → Watched
+watched_with r sheet = record { report = r; sheet = sheet }
 
 -- "answers the number (0 or a refusal), how many entries were taken, and the tally"
-abbrev pub runAnswer : Outcome → Answer
-runAnswer o = record { number = o.number; taken = o.taken; tally = record { rounds = o.state.rounds; tests = o.state.tests } }
+abbrev pub run_answer : Outcome → Answer
+run_answer o = record { number = o.number; taken = o.taken; tally = record { rounds = o.state.rounds; tests = o.state.tests } }
 
 -- an outcome, with the sheet of the run as the first part of the lent one
-abbrev ranOn : List ℕ → Outcome → Watched
-ranOn lent o = watchedWith (Ran (runAnswer o)) (sets lent 0 o.sheet)
+abbrev ran_on : List ℕ → Outcome → Watched
+ran_on lent o = watched_with (Ran (run_answer o)) (sets lent 0 o.sheet)
 
 -- "It starts from a fresh table and zero tallies." The run takes a part of the lent sheet, of twice the schedule's length
-abbrev pub carriedOut : ℕ → List ℕ → List ℕ → Watched
-carriedOut n schedule lent = ranOn lent (run n (state_of (freshTable n) 0 0) schedule (take (2 * length schedule) lent))
+abbrev pub carried_out : ℕ → List ℕ → List ℕ → Watched
+carried_out n schedule lent = ran_on lent (run n (state_of (fresh_table n) 0 0) schedule (take (2 * length schedule) lent))
 
 -- "At the first unreadable line or a 4,097th entry, whichever comes first, the program prints only `unread`, a space and that line's
 -- number from 1"
-abbrev watchedOf : List ℕ → Reading → Watched
-watchedOf lent r = cond (eqb r.unread 0) (carriedOut r.size r.schedule lent) (watchedWith (Unread r.unread) lent)
+abbrev watched_of : List ℕ → Reading → Watched
+watched_of lent r = cond (eqb r.unread 0) (carried_out r.size r.schedule lent) (watched_with (Unread r.unread) lent)
 
 -- the whole input, with a lent sheet: the program lends 16,384 zeros
 unfoldable pub watched : List ℕ → List ℕ → Watched
-watched lent input = watchedOf lent (read_input input)
+watched lent input = watched_of lent (read_input input)

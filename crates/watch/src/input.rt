@@ -1,7 +1,7 @@
 // What standard input holds (document 01, the run program): lines, the size, the entries. The one call is `parse`.
 ghost use Rattle.std.specs.Prelude.{◌≡◌, cond, ltb, [], ◌∷◌, ◌++◌, ◌+◌, ◌*◌, ◌≤◌, ◌<◌, min, length, take, drop};
 ghost use Rattle.std.proofs.Math.Option.{none};
-ghost use Rattle.watch.specs.Input.{lines, lineLength, number_of, kind_of, entryBytes, readEntries, roomFor, readInto, ReadAs, numberValue, entryValue};
+ghost use Rattle.watch.specs.Input.{lines, line_length, number_of, kind_of, entry_bytes, read_entries, room_for, read_into, ReadAs, number_value, entry_value};
 
 // The answer of `parse`: the number of the first unreadable line, from 1, or 0 where there is none; the size and how many entries were
 // read, all of them or those before that line.
@@ -29,7 +29,7 @@ enum Entry {
 // Reads the whole input. The entries before the first unreadable line go into the schedule, two bytes each, and its rest is unchanged. An
 // entry for which the schedule has no room counts as unreadable.
 pub fn parse(input: &[u8], schedule: &mut [u8]) -> Parsed
-    ensures { ReadAs result schedule.new schedule.old (readInto schedule.old input.now) }
+    ensures { ReadAs result schedule.new schedule.old (read_into schedule.old input.now) }
 {
     let e = line_end(input, 0);
     let size = read_number(&input[..e], 3);
@@ -47,7 +47,7 @@ pub fn parse(input: &[u8], schedule: &mut [u8]) -> Parsed
 // Reads the entries of the lines from `from` on, after the size n.
 fn read_entries(input: &[u8], from: usize, n: usize, schedule: &mut [u8]) -> Parsed
     requires { from ≤ length input.now }
-    ensures { ReadAs result schedule.new schedule.old (readEntries (roomFor (length schedule.old)) n 0 [] (lines (drop from input.now))) }
+    ensures { ReadAs result schedule.new schedule.old (read_entries (room_for (length schedule.old)) n 0 [] (lines (drop from input.now))) }
 {
     let room = room_for(schedule.len());
     let mut p = from;
@@ -75,7 +75,7 @@ fn read_entries(input: &[u8], from: usize, n: usize, schedule: &mut [u8]) -> Par
 
 // How many entries a schedule of len bytes takes.
 fn room_for(len: usize) -> usize
-    ensures { result ≡ roomFor len }
+    ensures { result ≡ room_for len }
 {
     if len / 2 < 4096 { len / 2 } else { 4096 }
 }
@@ -93,7 +93,7 @@ fn put_entry(schedule: &mut [u8], k: usize, kind: u8, station: u8)
 // Where the line that begins at `from` ends: at its line feed, or at the input's end.
 fn line_end(input: &[u8], from: usize) -> usize
     requires { from ≤ length input.now }
-    ensures value { result ≡ from + lineLength (drop from input.now) }
+    ensures value { result ≡ from + line_length (drop from input.now) }
     ensures lower_bound { (from ≤ result) × (result ≤ length input.now) }
 {
     let mut e = from;
@@ -116,7 +116,7 @@ fn line_after(input: &[u8], e: usize) -> usize
 
 // The entry of a line, where k entries were read and there is room for one more.
 fn entry_with_room(k: usize, room: usize, line: &[u8]) -> Entry
-    ensures { entryValue result ≡ cond (ltb k room) (entryBytes line.now) none }
+    ensures { entry_value result ≡ cond (ltb k room) (entry_bytes line.now) none }
 {
     if k < room {
         read_entry(line)
@@ -127,7 +127,7 @@ fn entry_with_room(k: usize, room: usize, line: &[u8]) -> Entry
 
 // The entry of a line.
 fn read_entry(line: &[u8]) -> Entry
-    ensures { entryValue result ≡ entryBytes line.now }
+    ensures { entry_value result ≡ entry_bytes line.now }
 {
     if line.len() < 2 {
         return Entry::NoEntry;
@@ -165,7 +165,7 @@ fn kind_of(letter: u8) -> u8
 // The value of one to `most` digits.
 fn read_number(digits: &[u8], most: usize) -> Number
     requires { most ≤ 3 }
-    ensures { numberValue result ≡ number_of most digits.now }
+    ensures { number_value result ≡ number_of most digits.now }
 {
     if digits.len() < 1 {
         return Number::NoNumber;

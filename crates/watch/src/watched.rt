@@ -1,11 +1,11 @@
 // What comes of an input (document 01, the run program): it is read, and its schedule is carried out on a fresh table with zero tallies.
 ghost use Rattle.std.specs.Prelude.{◌≡◌, true, ◌*◌, ◌≤◌, length, take};
-ghost use Rattle.table.specs.Sizes.{isSize};
-ghost use Rattle.table.specs.Table.{greatestTable, tableLength};
-ghost use Rattle.table.specs.Fresh.{freshAfter};
+ghost use Rattle.table.specs.Sizes.{is_size};
+ghost use Rattle.table.specs.Table.{greatest_table, table_length};
+ghost use Rattle.table.specs.Fresh.{fresh_after};
 ghost use Rattle.plant.specs.Entry.{state_of};
-ghost use Rattle.plant.specs.Run.{outcomeWith, run};
-ghost use Rattle.watch.specs.Watched.{watchedWith, carriedOut, watched};
+ghost use Rattle.plant.specs.Run.{outcome_with, run};
+ghost use Rattle.watch.specs.Watched.{watched_with, carried_out, watched};
 
 use crate::input;
 use plant::{Answer, Tally, run};
@@ -25,7 +25,7 @@ pub fn watch_plant(
     table: &mut [u8; cells::GREATEST_TABLE],
     sheet: &mut [u8; 16384],
 ) -> Report
-    ensures { watchedWith result sheet.new ≡ watched sheet.old input.now }
+    ensures { watched_with result sheet.new ≡ watched sheet.old input.now }
 {
     let parsed = input::parse(input, schedule);
     if parsed.unread != 0 {
@@ -42,8 +42,8 @@ fn carry_out(
     table: &mut [u8],
     sheet: &mut [u8],
 ) -> Report
-    requires { (2 * entries ≤ length schedule.now) × (greatestTable ≤ length table.old) × (4 * entries ≤ length sheet.old) }
-    ensures { watchedWith result sheet.new ≡ carriedOut size (take (2 * entries) schedule.now) sheet.old }
+    requires { (2 * entries ≤ length schedule.now) × (greatest_table ≤ length table.old) × (4 * entries ≤ length sheet.old) }
+    ensures { watched_with result sheet.new ≡ carried_out size (take (2 * entries) schedule.now) sheet.old }
 {
     let used = 2 * entries;
     let long = table_part(size);
@@ -59,7 +59,7 @@ fn carry_out(
 
 // Makes the table fresh and runs the schedule with zero tallies.
 fn run_fresh(size: usize, schedule: &[u8], table: &mut [u8], sheet: &mut [u8]) -> Answer
-    ensures { outcomeWith result table.new sheet.new ≡ run size (state_of (freshAfter size table.old) 0 0) schedule.now sheet.old }
+    ensures { outcome_with result table.new sheet.new ≡ run size (state_of (fresh_after size table.old) 0 0) schedule.now sheet.old }
 {
     fresh::fresh_table(size, table);
     let tally = Tally {
@@ -71,7 +71,7 @@ fn run_fresh(size: usize, schedule: &[u8], table: &mut [u8], sheet: &mut [u8]) -
 
 // The length of the part of the table that a plant of this size has; 0 for what is no size.
 fn table_part(size: usize) -> usize
-    ensures { (isSize size ≡ true → result ≡ tableLength size) × (result ≤ greatestTable) }
+    ensures { (is_size size ≡ true → result ≡ table_length size) × (result ≤ greatest_table) }
 {
     if !sizes::is_size(size) {
         return 0;

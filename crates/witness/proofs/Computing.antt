@@ -4,35 +4,35 @@ use mathlib.Core.List.{List, [], ◌∷◌}
 use Prim.Native.Nat.{ℕ, ◌*◌}
 use lib.ListN.{length, replicate}
 use Rattle.lists.specs.Search.{least, every, list_of}
-use Rattle.table.specs.Sizes.{isSize, level, dimension, distances}
+use Rattle.table.specs.Sizes.{is_size, level, dimension, distances}
 use Rattle.station.specs.Groups.{width, member}
-use Rattle.table.specs.Table.{tableLength, lineStart, cell, setCell, row, set_row}
-use Rattle.table.specs.Rules.{exitRule, rowRule, lineRules, someLive, liveFinished, shapeNumber, tableNumber}
-use Rattle.station.specs.Tests.{unsuspected, firstPlace, first, answer, due}
-use Rattle.station.specs.Rows.{unionByte, union, mark}
-use Rattle.table.specs.Fresh.{freshByte, freshTable}
-use Rattle.lists.specs.Iterate.{iterate}
-use Rattle.turn.specs.Turn.{leaveTold, nextTest, makesTest, finishPass, countTest, replies, isTold, exchangeRows, suspect, replyOutcome, testOutcome, afterOutcome, selfOrSuspected, isAlone, afterAlone, testing, turn, turnTested, turnOutcome, crash}
-use Rattle.plant.specs.Round.{roundsAfter, resetLine, resetLines, afterRound}
-use Rattle.plant.specs.Entry.{entryNumber, acted, after, tested_of, outcomeOf, sheetLine}
-use Rattle.plant.specs.Run.{entries, goOn, startNumber, run}
-use Rattle.lists.specs.Sums.{sum}
-use Rattle.detection.specs.Runs.{Call, afterRuns, takenFrom, takenIn, takenAll}
-use Rattle.detection.specs.Rounds.{anyTaken, allTaken, countTaken, closes, cut}
-use Rattle.table.specs.Properties.{at_start, liveCount, noneSuspected}
-use Rattle.detection.specs.Claim.{deadGroup, deadPairs}
-use Rattle.lists.specs.Bytes.{joinedByte}
+use Rattle.table.specs.Table.{table_length, line_start, cell, set_cell, row, set_row}
+use Rattle.table.specs.Rules.{exit_rule, row_rule, line_rules, some_live, live_finished, shape_number, table_number}
+use Rattle.station.specs.Tests.{unsuspected, first_place, first, answer, due}
+use Rattle.station.specs.Rows.{union_byte, union, mark}
+use Rattle.table.specs.Fresh.{fresh_byte, fresh_table}
+use Rattle.lists.specs.Steps.{after_steps}
+use Rattle.turn.specs.Turn.{leave_told, next_test, makes_test, finish_pass, count_test, replies, is_told, exchange_rows, suspect, reply_outcome, test_outcome, after_outcome, self_or_suspected, is_alone, after_alone, testing, turn, turn_tested, turn_outcome, crash}
+use Rattle.plant.specs.Round.{rounds_after, reset_line, reset_lines, after_round}
+use Rattle.plant.specs.Entry.{entry_number, acted, after, tested_of, outcome_of, sheet_line}
+use Rattle.plant.specs.Run.{entries, go_on, start_number, run}
+use Rattle.lists.specs.Sums.{sum_below}
+use Rattle.detection.specs.Runs.{Call, after_runs, taken_from, taken_in, taken_all}
+use Rattle.detection.specs.Rounds.{any_taken, all_taken, count_taken, closes, cut}
+use Rattle.table.specs.Properties.{at_start, live_count, none_suspected}
+use Rattle.detection.specs.Claim.{dead_group, dead_pairs}
+use Rattle.lists.specs.Bytes.{joined_byte}
 
 -- who unfolds this name unfolds all the definitions on its line, and a list of runs computes
-unfoldable pub wholeRun : Unit {0}
-unfolding roundsAfter leaveTold at_start liveCount noneSuspected deadPairs deadGroup sum afterRuns takenFrom takenIn takenAll anyTaken allTaken countTaken closes cut run startNumber tableNumber shapeNumber isSize tableLength every lineRules exitRule rowRule someLive liveFinished cell lineStart row set_row setCell freshTable freshByte list_of goOn entries entryNumber after acted sheetLine tested_of outcomeOf turn turnTested turnOutcome crash resetLine resetLines afterRound iterate nextTest makesTest finishPass countTest replies isTold exchangeRows suspect replyOutcome testOutcome afterOutcome selfOrSuspected isAlone afterAlone testing answer due first firstPlace least unsuspected member width level dimension distances union unionByte joinedByte mark
-wholeRun = tt
+unfoldable pub whole_run : Unit {0}
+unfolding rounds_after leave_told at_start live_count none_suspected dead_pairs dead_group sum_below after_runs taken_from taken_in taken_all any_taken all_taken count_taken closes cut run start_number table_number shape_number is_size table_length every line_rules exit_rule row_rule some_live live_finished cell line_start row set_row set_cell fresh_table fresh_byte list_of go_on entries entry_number after acted sheet_line tested_of outcome_of turn turn_tested turn_outcome crash reset_line reset_lines after_round after_steps next_test makes_test finish_pass count_test replies is_told exchange_rows suspect reply_outcome test_outcome after_outcome self_or_suspected is_alone after_alone testing answer due first first_place least unsuspected member width level dimension distances union union_byte joined_byte mark
+whole_run = tt
 
 -- a schedule of turns of the stations listed
-unfoldable pub turnsOf : List ℕ → List ℕ
-turnsOf [] = []
-turnsOf (i ∷ is) = 1 ∷ i ∷ turnsOf is
+unfoldable pub turns_of : List ℕ → List ℕ
+turns_of [] = []
+turns_of (i ∷ is) = 1 ∷ i ∷ turns_of is
 
 -- a run with a sheet of zeros
-abbrev pub callWith : ℕ → List ℕ → Call
-callWith n schedule = record { size = n; schedule = schedule; sheet = replicate (2 * length schedule) 0 }
+abbrev pub call_with : ℕ → List ℕ → Call
+call_with n schedule = record { size = n; schedule = schedule; sheet = replicate (2 * length schedule) 0 }

@@ -12,19 +12,19 @@ use lib.ListN.{length}
 use Rattle.lists.proofs.BoolLaws.{by_bool}
 use Rattle.lists.proofs.SearchLaws.{both, every-at, every-all, every-not, least-is, least-none}
 use Rattle.lists.specs.Search.{every}
-use Rattle.table.specs.Sizes.{isSize, distances}
-use Rattle.table.specs.Table.{head, nextColumn, nextDistance, finished, live, row}
-use Rattle.table.specs.Rules.{notLive, someLive, finishedIfLive, liveFinished, roundOver}
+use Rattle.table.specs.Sizes.{is_size, distances}
+use Rattle.table.specs.Table.{head, next_column, next_distance, finished, live, row}
+use Rattle.table.specs.Rules.{not_live, some_live, finished_if_live, live_finished, round_over}
 use Rattle.table.proofs.Accepting.{Accepted}
 use Rattle.table.proofs.CellLaws.{accepted-line}
 use Rattle.table.proofs.SizeLaws.{size-distances}
-use Rattle.station.specs.Groups.{stationAt}
+use Rattle.station.specs.Groups.{station_at}
 use Rattle.station.specs.Tests.{due}
-use Rattle.turn.specs.Turn.{kindTurn, nextTest, makesTest, turn}
-use Rattle.turn.proofs.NextTest.{nextTest-low, not-due-before, test_below, test-due, none-due}
+use Rattle.turn.specs.Turn.{kind_turn, next_test, makes_test, turn}
+use Rattle.turn.proofs.NextTest.{next_test-low, not-due-before, test_below, test-due, none-due}
 use Rattle.turn.proofs.TurnHeads.{Heads, turn-heads}
-use Rattle.plant.specs.Round.{resetLines, afterRound}
-use Rattle.plant.specs.Entry.{Entry, State, entry_of, tallyTop, tallyFull, isTest, entryNumber, acted, after}
+use Rattle.plant.specs.Round.{reset_lines, after_round}
+use Rattle.plant.specs.Entry.{Entry, State, entry_of, tally_top, tally_full, is_test, entry_number, acted, after}
 use Rattle.plant.proofs.RulesKept.{Takes, entry-facts, accepted-kept}
 use Rattle.plant.proofs.RoundLaws.{reset-cells, reset-other}
 use Rattle.detection.proofs.TurnEffect.{Company}
@@ -35,18 +35,18 @@ use Rattle.witness.proofs.Slow.{Goes, stop, go, goes-append}
 -- a round that is over in one table is over in another, if each live board of the other is one of the first, as far with its pass
 over-as : (m : ℕ) (t : List ℕ) (m' : ℕ) (t' : List ℕ) → (a : ℕ) → a < m' → live m' t' a ≡ true
     → ((k : ℕ) → k < m' → live m' t' k ≡ true → (k < m) × (live m t k ≡ true) × (finished m' t' k ≡ finished m t k))
-    → roundOver m t ≡ true → roundOver m' t' ≡ true
-unfolding someLive liveFinished
+    → round_over m t ≡ true → round_over m' t' ≡ true
+unfolding some_live live_finished
 over-as m t m' t' a ha la far over =
-    let all = (both (someLive m t) (every (finishedIfLive m t) m) over).1 in
-    let some : every (notLive m' t') m' ≡ false = every-not (notLive m' t') m' a ha (ap not la) in
-    let each : every (finishedIfLive m' t') m' ≡ true = every-all (finishedIfLive m' t') m' (λ k h.
+    let all = (both (some_live m t) (every (finished_if_live m t) m) over).1 in
+    let some : every (not_live m' t') m' ≡ false = every-not (not_live m' t') m' a ha (ap not la) in
+    let each : every (finished_if_live m' t') m' ≡ true = every-all (finished_if_live m' t') m' (λ k h.
     by_bool (live m' t' k)
-    (λ l. let o = far k h l in rw (l, o.2) (rw o.1 at (every-at (finishedIfLive m t) m k all o.0)))
+    (λ l. let o = far k h l in rw (l, o.2) (rw o.1 at (every-at (finished_if_live m t) m k all o.0)))
     (λ l. rw l)) in
     rw (some, each)
 
-module _ (n N : ℕ) (L : ℕ → Bool) (low : n ≤ N) (absent : (k : ℕ) → n ≤ k → L k ≡ false) (size : isSize n ≡ true) (Size : isSize N ≡ true)
+module _ (n N : ℕ) (L : ℕ → Bool) (low : n ≤ N) (absent : (k : ℕ) → n ≤ k → L k ≡ false) (size : is_size n ≡ true) (Size : is_size N ≡ true)
     (levels : distances n ≡ distances N) (company : Company n L) where
   abbrev Same : List ℕ → List ℕ → Type 0
   Same t u = Like n N L low absent t u
@@ -55,23 +55,23 @@ module _ (n N : ℕ) (L : ℕ → Bool) (low : n ≤ N) (absent : (k : ℕ) → 
   below = live_below n N L low absent
 
   -- the rounds of two such tables are over together
-  over-same : (t u : List ℕ) → Same t u → (a : ℕ) → L a ≡ true → roundOver N u ≡ roundOver n t
-  over-same t u like a la = by_bool (roundOver n t) (λ o. there o ∙ sym o) (λ o. by_bool (roundOver N u) (λ p. absurd (true≢false (sym (back p) ∙ o))) (λ p. p ∙ sym o))
+  over-same : (t u : List ℕ) → Same t u → (a : ℕ) → L a ≡ true → round_over N u ≡ round_over n t
+  over-same t u like a la = by_bool (round_over n t) (λ o. there o ∙ sym o) (λ o. by_bool (round_over N u) (λ p. absurd (true≢false (sym (back p) ∙ o))) (λ p. p ∙ sym o))
     where
-      there : roundOver n t ≡ true → roundOver N u ≡ true
+      there : round_over n t ≡ true → round_over N u ≡ true
       there =
           over-as n t N u a (omega (arith, below a la)) (like.big.lives a (omega (arith, below a la)) ∙ la) (λ k h l.
           let alive = sym (like.big.lives k h) ∙ l in
           (below k alive, like.small.lives k (below k alive) ∙ alive, like.finish k alive))
 
-      back : roundOver N u ≡ true → roundOver n t ≡ true
+      back : round_over N u ≡ true → round_over n t ≡ true
       back =
           over-as N u n t a (below a la) (like.small.lives a (below a la) ∙ la) (λ k h l.
           let alive = sym (like.small.lives k h) ∙ l in
           (omega arith, like.big.lives k (omega arith) ∙ alive, sym (like.finish k alive)))
 
   -- and so are the tables that the closing leaves
-  reset-same : (t u : List ℕ) → Same t u → Same (resetLines n t) (resetLines N u)
+  reset-same : (t u : List ℕ) → Same t u → Same (reset_lines n t) (reset_lines N u)
   reset-same t u like = record {
     small = (reset-rows n L t like.small).0;
     big = (reset-rows N L u like.big).0;
@@ -83,7 +83,7 @@ module _ (n N : ℕ) (L : ℕ → Bool) (low : n ≤ N) (absent : (k : ℕ) → 
   }
 
   abbrev NextSame : List ℕ → List ℕ → Type 0
-  NextSame t u = (k : ℕ) → L k ≡ true → nextDistance N u k ≡ nextDistance n t k
+  NextSame t u = (k : ℕ) → L k ≡ true → next_distance N u k ≡ next_distance n t k
 
   -- two states that are alike
   pub record Alike (s w : State) : Type 0 where
@@ -94,82 +94,82 @@ module _ (n N : ℕ) (L : ℕ → Bool) (low : n ≤ N) (absent : (k : ℕ) → 
     pub Ok : Accepted N w.table
 
   -- a turn of i in the first plant, which is taken
-  module _ (s : State) (i : ℕ) (ok : Accepted n s.table) (z : entryNumber n s (entry_of kindTurn i) ≡ 0) (li : L i ≡ true) where
+  module _ (s : State) (i : ℕ) (ok : Accepted n s.table) (z : entry_number n s (entry_of kind_turn i) ≡ 0) (li : L i ≡ true) where
     abbrev t : List ℕ
     t = s.table
 
     abbrev e : Entry
-    e = entry_of kindTurn i
+    e = entry_of kind_turn i
 
     abbrev t' : List ℕ
-    t' = turn n t kindTurn i
+    t' = turn n t kind_turn i
 
     facts : Takes n s e
     facts = entry-facts n s e z
 
     going : finished n t i ≡ 0
-    going = omega (arith, facts.unfinished (λ q. omega arith), (accepted-line n t ok i (below i li)).pass.finishedRange)
+    going = omega (arith, facts.unfinished (λ q. omega arith), (accepted-line n t ok i (below i li)).pass.finished_range)
 
     -- the second plant, behind turns of i that test boards from n on
     pub record Ahead (w : State) : Type 0 where
       pub like : Same t w.table
       pub Ok : Accepted N w.table
       pub rounds : w.rounds ≡ s.rounds
-      pub others : (k : ℕ) → L k ≡ true → k ≢ i → nextDistance N w.table k ≡ nextDistance n t k
-      pub from : nextDistance n t i ≤ nextDistance N w.table i
-      pub undue : (y : ℕ) → nextDistance n t i ≤ y → y < nextDistance N w.table i → due (row n t i) i y ≡ false
+      pub others : (k : ℕ) → L k ≡ true → k ≢ i → next_distance N w.table k ≡ next_distance n t k
+      pub from : next_distance n t i ≤ next_distance N w.table i
+      pub undue : (y : ℕ) → next_distance n t i ≤ y → y < next_distance N w.table i → due (row n t i) i y ≡ false
 
-    module _ (w : State) (b : Ahead w) (fits : w.tests < tallyTop) where
+    module _ (w : State) (b : Ahead w) (fits : w.tests < tally_top) where
       abbrev u : List ℕ
       u = w.table
 
       abbrev u' : List ℕ
-      u' = turn N u kindTurn i
+      u' = turn N u kind_turn i
 
       h : i < N
       h = omega (arith, below i li)
 
-      taken : entryNumber N w e ≡ 0
-      unfolding entryNumber
+      taken : entry_number N w e ≡ 0
+      unfolding entry_number
       taken =
-          let full : tallyFull w.rounds w.tests ≡ false =
-          rw (ne_eqb w.rounds tallyTop (λ q. facts.roundsFit (sym b.rounds ∙ q)), ne_eqb w.tests tallyTop (omega arith)) in
+          let full : tally_full w.rounds w.tests ≡ false =
+          rw (ne_eqb w.rounds tally_top (λ q. facts.rounds_fit (sym b.rounds ∙ q)), ne_eqb w.tests tally_top (omega arith)) in
           rw (full, lt-leb N i h, b.like.big.lives i h ∙ li, b.like.finish i li ∙ going)
 
       small-due : (y : ℕ) → due (row N u i) i y ≡ false → due (row n t i) i y ≡ false
       small-due y none =
-          by_cases (dec_lt (stationAt i y) n) (λ g. sym (due-same n N L low absent t u b.like i li y g) ∙ none)
+          by_cases (dec_lt (station_at i y) n) (λ g. sym (due-same n N L low absent t u b.like i li y g) ∙ none)
           (λ g. due-none n N L low absent t u b.like i li y g)
 
       -- none is due below the next test
-      undue-to : (y : ℕ) → nextDistance n t i ≤ y → y < nextTest N u i → due (row n t i) i y ≡ false
+      undue-to : (y : ℕ) → next_distance n t i ≤ y → y < next_test N u i → due (row n t i) i y ≡ false
       undue-to y lo hi =
-          by_cases (dec_lt y (nextDistance N u i)) (λ g. b.undue y lo g) (λ g. small-due y (not-due-before N u i y (omega arith) hi))
+          by_cases (dec_lt y (next_distance N u i)) (λ g. b.undue y lo g) (λ g. small-due y (not-due-before N u i y (omega arith) hi))
 
       tests-after : (after N w e).tests ≤ suc w.tests
       unfolding after
-      tests-after = by_bool (isTest N u e) (λ q. rw q (omega arith)) (λ q. rw q (omega arith))
+      tests-after = by_bool (is_test N u e) (λ q. rw q (omega arith)) (λ q. rw q (omega arith))
 
       -- a turn that tests a board from n on
-      module _ (E : makesTest N u i ≡ true) (out : ¬ (stationAt i (nextTest N u i) < n)) where
+      module _ (E : makes_test N u i ≡ true) (out : ¬ (station_at i (next_test N u i) < n)) where
         like' : Same t u'
         like' = extra n N L low absent size Size levels company t u b.like i li going E out
 
-        open-still : roundOver N u' ≡ false
+        open-still : round_over N u' ≡ false
         open-still = over-same t u' like' i li ∙ ok.unclosed
 
         left-table : (after N w e).table ≡ u'
-        unfolding after afterRound acted
+        unfolding after after_round acted
         left-table = rw open-still
 
         left-rounds : (after N w e).rounds ≡ w.rounds
         unfolding after acted
         left-rounds = rw open-still
 
-        heads : Heads N u u' i (makesTest N u i)
+        heads : Heads N u u' i (makes_test N u i)
         heads = Heads-of n N L low absent size Size levels company t u b.like i li going
 
-        next-is : nextDistance N u' i ≡ nextTest N u i + 1
+        next-is : next_distance N u' i ≡ next_test N u i + 1
         next-is = rw E at heads.next
 
         pub further : Ahead (after N w e)
@@ -177,36 +177,36 @@ module _ (n N : ℕ) (L : ℕ → Bool) (low : n ≤ N) (absent : (k : ℕ) → 
           like = rw left-table like';
           Ok = accepted-kept N w e b.Ok taken;
           rounds = left-rounds ∙ b.rounds;
-          others = λ k l ne. rw left-table (heads.others k nextColumn ne (omega arith) ∙ b.others k l ne);
-          from = rw left-table (omega (arith, next-is, b.from, nextTest-low N u i));
-          undue = λ y lo hi. by_cases (dec_lt y (nextTest N u i)) (λ g. undue-to y lo g)
+          others = λ k l ne. rw left-table (heads.others k next_column ne (omega arith) ∙ b.others k l ne);
+          from = rw left-table (omega (arith, next-is, b.from, next_test-low N u i));
+          undue = λ y lo hi. by_cases (dec_lt y (next_test N u i)) (λ g. undue-to y lo g)
               (λ g.
-              let here : y ≡ nextTest N u i = omega (arith, next-is, rw left-table at hi) in
-              rw here (due-none n N L low absent t u b.like i li (nextTest N u i) out));
+              let here : y ≡ next_test N u i = omega (arith, next-is, rw left-table at hi) in
+              rw here (due-none n N L low absent t u b.like i li (next_test N u i) out));
         }
 
-        pub further-next : nextDistance N (after N w e).table i ≡ nextTest N u i + 1
+        pub further-next : next_distance N (after N w e).table i ≡ next_test N u i + 1
         further-next = rw left-table next-is
 
       -- the turn that is that of the first plant
-      module _ (like' : Same t' u') (next' : nextDistance N u' i ≡ nextDistance n t' i) where
-        over : roundOver N u' ≡ roundOver n t'
+      module _ (like' : Same t' u') (next' : next_distance N u' i ≡ next_distance n t' i) where
+        over : round_over N u' ≡ round_over n t'
         over = over-same t' u' like' i li
 
         next-all : NextSame t' u'
         next-all k l =
             by_cases (ℕ_discrete k i) (λ q. rw q next')
-            (λ q. (Heads-of n N L low absent size Size levels company t u b.like i li going).others k nextColumn q (omega arith)
-            ∙ (b.others k l q ∙ sym ((turn-heads n t kindTurn i size b.like.small.lines (below i li)).others k nextColumn q (omega arith))))
+            (λ q. (Heads-of n N L low absent size Size levels company t u b.like i li going).others k next_column q (omega arith)
+            ∙ (b.others k l q ∙ sym ((turn-heads n t kind_turn i size b.like.small.lines (below i li)).others k next_column q (omega arith))))
 
         like-after : Same (after n s e).table (after N w e).table
-        unfolding after afterRound acted
-        like-after = by_bool (roundOver n t') (λ o. rw (over ∙ o, o) (reset-same t' u' like')) (λ o. rw (over ∙ o, o) like')
+        unfolding after after_round acted
+        like-after = by_bool (round_over n t') (λ o. rw (over ∙ o, o) (reset-same t' u' like')) (λ o. rw (over ∙ o, o) like')
 
         next-after : NextSame (after n s e).table (after N w e).table
-        unfolding after afterRound acted
+        unfolding after after_round acted
         next-after k l =
-            by_bool (roundOver n t')
+            by_bool (round_over n t')
             (λ o. rw (over ∙ o, o) ((reset-cells N u' like'.big.lines.0 k (omega (arith, below k l))).next
             ∙ sym (reset-cells n t' like'.small.lines.0 k (below k l)).next))
             (λ o. rw (over ∙ o, o) (next-all k l))
@@ -225,35 +225,35 @@ module _ (n N : ℕ) (L : ℕ → Bool) (low : n ≤ N) (absent : (k : ℕ) → 
         }
 
       -- where the next board below n is tested, or none is
-      module _ (E : makesTest N u i ≡ true) (inside : stationAt i (nextTest N u i) < n) where
-        m-below : nextTest N u i < distances n
+      module _ (E : makes_test N u i ≡ true) (inside : station_at i (next_test N u i) < n) where
+        m-below : next_test N u i < distances n
         m-below = omega (arith, levels, test_below N u i E)
 
-        same_test : nextTest n t i ≡ nextTest N u i
-        unfolding nextTest
+        same_test : next_test n t i ≡ next_test N u i
+        unfolding next_test
         same_test =
-            least-is (due (row n t i) i) (distances n - nextDistance n t i) (nextDistance n t i) (nextTest N u i)
-            (omega (arith, b.from, nextTest-low N u i)) (omega (arith, m-below, b.from, nextTest-low N u i))
-            (sym (due-same n N L low absent t u b.like i li (nextTest N u i) inside) ∙ test-due N u i E) undue-to
+            least-is (due (row n t i) i) (distances n - next_distance n t i) (next_distance n t i) (next_test N u i)
+            (omega (arith, b.from, next_test-low N u i)) (omega (arith, m-below, b.from, next_test-low N u i))
+            (sym (due-same n N L low absent t u b.like i li (next_test N u i) inside) ∙ test-due N u i E) undue-to
 
-        makes : makesTest n t i ≡ true
-        unfolding makesTest
-        makes = rw same_test (lt-ltb (nextTest N u i) (distances n) m-below)
+        makes : makes_test n t i ≡ true
+        unfolding makes_test
+        makes = rw same_test (lt-ltb (next_test N u i) (distances n) m-below)
 
         pub tested-alike : Alike (after n s e) (after N w e)
         tested-alike =
             arrived (both-test n N L low absent size Size levels company t u b.like i li going makes E (sym same_test))
             (test-next n N L low absent size Size levels company t u b.like i li going makes E (sym same_test))
 
-      module _ (E : makesTest N u i ≡ false) where
-        none : makesTest n t i ≡ false
-        unfolding makesTest nextTest
+      module _ (E : makes_test N u i ≡ false) where
+        none : makes_test n t i ≡ false
+        unfolding makes_test next_test
         none =
-            let q : ℕ = nextDistance n t i in
-            let high : q ≤ distances n = (accepted-line n t ok i (below i li)).pass.nextHigh in
-            let High : nextDistance N u i ≤ distances N = (accepted-line N u b.Ok i h).pass.nextHigh in
+            let q : ℕ = next_distance n t i in
+            let high : q ≤ distances n = (accepted-line n t ok i (below i li)).pass.next_high in
+            let High : next_distance N u i ≤ distances N = (accepted-line N u b.Ok i h).pass.next_high in
             let none_left = least-none (due (row n t i) i) (distances n - q) q (λ y lo hi.
-            by_cases (dec_lt y (nextDistance N u i)) (λ g. b.undue y lo g)
+            by_cases (dec_lt y (next_distance N u i)) (λ g. b.undue y lo g)
             (λ g. small-due y (none-due N u i E High y (omega arith) (omega (arith, levels))))) in
             rw none_left (le-ltb (q + (distances n - q)) (distances n) (omega arith))
 
@@ -270,7 +270,7 @@ module _ (n N : ℕ) (L : ℕ → Bool) (low : n ≤ N) (absent : (k : ℕ) → 
       pub alike : Alike (after n s e) end
       pub tests : end.tests ≤ w.tests + room
 
-    last_turn : (w : State) (b : Ahead w) (fits : w.tests < tallyTop) (room : ℕ) → 1 ≤ room → Alike (after n s e) (after N w e) → Played w room
+    last_turn : (w : State) (b : Ahead w) (fits : w.tests < tally_top) (room : ℕ) → 1 ≤ room → Alike (after n s e) (after N w e) → Played w room
     last_turn w b fits room some alike = record {
       turns = i ∷ [];
       end = after N w e;
@@ -279,20 +279,20 @@ module _ (n N : ℕ) (L : ℕ → Bool) (low : n ≤ N) (absent : (k : ℕ) → 
       tests = omega (arith, tests-after w b fits);
     }
 
-    pub play : (fuel : ℕ) (w : State) → Ahead w → distances N ≤ nextDistance N w.table i + fuel → w.tests + fuel < tallyTop → Played w (suc fuel)
+    pub play : (fuel : ℕ) (w : State) → Ahead w → distances N ≤ next_distance N w.table i + fuel → w.tests + fuel < tally_top → Played w (suc fuel)
     play zero w b far fits =
-        by_bool (makesTest N w.table i)
-        (λ E. absurd (omega (arith, test_below N w.table i E, nextTest-low N w.table i)))
+        by_bool (makes_test N w.table i)
+        (λ E. absurd (omega (arith, test_below N w.table i E, next_test-low N w.table i)))
         (λ E. last_turn w b (omega arith) 1 (omega arith) (finished-alike w b (omega arith) E))
     play (suc fuel) w b far fits =
-        by_bool (makesTest N w.table i)
+        by_bool (makes_test N w.table i)
         (λ E.
-        by_cases (dec_lt (stationAt i (nextTest N w.table i)) n)
+        by_cases (dec_lt (station_at i (next_test N w.table i)) n)
         (λ inside. last_turn w b (omega arith) (suc (suc fuel)) (omega arith) (tested-alike w b (omega arith) E inside))
         (λ out.
         let grown = tests-after w b (omega arith) in
         let next = further-next w b (omega arith) E out in
-        let rest = play fuel (after N w e) (further w b (omega arith) E out) (omega (arith, next, nextTest-low N w.table i)) (omega (arith, grown)) in
+        let rest = play fuel (after N w e) (further w b (omega arith) E out) (omega (arith, next, next_test-low N w.table i)) (omega (arith, grown)) in
         record {
           turns = i ∷ rest.turns;
           end = rest.end;
@@ -309,11 +309,11 @@ module _ (n N : ℕ) (L : ℕ → Bool) (low : n ≤ N) (absent : (k : ℕ) → 
     pub goes : Goes N w turns left
     pub alike : Alike end left
 
-  pub follow : {s end : State} {is : List ℕ} → Goes n s is end → (w : State) → Alike s w → w.tests + 66 * length is < tallyTop → Follows w end
+  pub follow : {s end : State} {is : List ℕ} → Goes n s is end → (w : State) → Alike s w → w.tests + 66 * length is < tally_top → Follows w end
   follow {s} stop w a fits = record { turns = []; left = w; goes = stop; alike = a }
   follow {s} {end} (go {is = is} i z g) w a fits =
-      let facts = entry-facts n s (entry_of kindTurn i) z in
-      let li : L i ≡ true = sym (a.like.small.lives i facts.below) ∙ facts.isLive in
+      let facts = entry-facts n s (entry_of kind_turn i) z in
+      let li : L i ≡ true = sym (a.like.small.lives i facts.below) ∙ facts.is_live in
       let top = (size-distances N Size).1 in
       let first = play s i a.ok z li (distances N) w (record {
         like = a.like;

@@ -11,23 +11,23 @@ use borrow.Author.Tests.{eqb-true, lt-ltb, le-ltb, ltb-true}
 use lib.ListN.{length}
 use lib.Dec.{eqb, ltb}
 use Rattle.lists.specs.Search.{list_of}
-use Rattle.lists.specs.Sums.{sum, bit}
+use Rattle.lists.specs.Sums.{sum_below, bit}
 use Rattle.lists.proofs.BoolLaws.{by_bool}
-use Rattle.lists.proofs.SearchLaws.{both, every-at, every-all, listOf-length, listOf-at}
+use Rattle.lists.proofs.SearchLaws.{both, every-at, every-all, list_of-length, list_of-at}
 use Rattle.lists.proofs.SumLaws.{sum_by, sum-stays}
-use Rattle.table.specs.Sizes.{isSize, dimension, distances}
-use Rattle.table.specs.Table.{head, stride, tableLength, lineStart, cell, statusColumn, nextColumn, finishedColumn, testsColumn, toldByColumn, roundsAgoColumn, status, statusTold, nextDistance, finished, testsMade, toldBy, toldByNone, notRecorded, roundsAgo, suspects, live}
-use Rattle.table.specs.Rules.{exitRule, lineRules}
-use Rattle.table.specs.Properties.{lineAtStart, at_start, liveCount, noLiveSuspicion, noneSuspected}
+use Rattle.table.specs.Sizes.{is_size, dimension, distances}
+use Rattle.table.specs.Table.{head, stride, table_length, line_start, cell, status_column, next_column, finished_column, tests_column, told_by_column, rounds_ago_column, status, status_told, next_distance, finished, tests_made, told_by, told_by_none, not_recorded, rounds_ago, suspects, live}
+use Rattle.table.specs.Rules.{exit_rule, line_rules}
+use Rattle.table.specs.Properties.{line_at_start, at_start, live_count, no_live_suspicion, none_suspected}
 use Rattle.table.proofs.Accepting.{Accepted, accepted}
 use Rattle.table.proofs.CellLaws.{line-inside, Line, line-holds, accepted-line}
 use Rattle.table.proofs.SizeLaws.{distances-pos}
 use Rattle.plant.specs.Entry.{State, state_of}
 use Rattle.plant.proofs.RulesKept.{unfinished-open}
 use Rattle.plant.proofs.RunLaws.{accepted-number}
-use Rattle.detection.specs.Runs.{takenAll}
-use Rattle.detection.specs.Rounds.{allTaken}
-use Rattle.detection.specs.Claim.{Premises, exactWait}
+use Rattle.detection.specs.Runs.{taken_all}
+use Rattle.detection.specs.Rounds.{all_taken}
+use Rattle.detection.specs.Claim.{Premises, exact_wait}
 use Rattle.detection.proofs.TurnEffect.{Company}
 use Rattle.detection.proofs.Demand3.{trusts, company-of}
 use Rattle.witness.proofs.Slow.{Slow}
@@ -35,13 +35,13 @@ use Rattle.witness.proofs.Moves.{Like}
 use Rattle.witness.proofs.Follow.{Alike, follow}
 
 -- a table by its bytes: line and column
-abbrev tableBy : ℕ → (ℕ → ℕ → ℕ) → List ℕ
-tableBy n f = list_of (λ p. f (p / stride n) (p % stride n)) (tableLength n)
+abbrev table_by : ℕ → (ℕ → ℕ → ℕ) → List ℕ
+table_by n f = list_of (λ p. f (p / stride n) (p % stride n)) (table_length n)
 
-by-cell : (n : ℕ) (f : ℕ → ℕ → ℕ) (i c : ℕ) → i < n → c < stride n → cell n (tableBy n f) i c ≡ f i c
-unfolding cell lineStart
+by-cell : (n : ℕ) (f : ℕ → ℕ → ℕ) (i c : ℕ) → i < n → c < stride n → cell n (table_by n f) i c ≡ f i c
+unfolding cell line_start
 by-cell n f i c h g =
-    listOf-at (λ p. f (p / stride n) (p % stride n)) (tableLength n) (i * stride n + c) (omega (arith, line-inside n i h)) ∙ rw (line, column)
+    list_of-at (λ p. f (p / stride n) (p % stride n)) (table_length n) (i * stride n + c) (omega (arith, line-inside n i h)) ∙ rw (line, column)
   where
     column : (i * stride n + c) % stride n ≡ c
     column = mul-add-mod_self_right i (stride n) c ∙ mod-eq_of_lt g
@@ -50,17 +50,17 @@ by-cell n f i c h g =
     line = rw (add_comm (i * stride n) c) (omega (arith, add-mul-div_right c i {z = stride n} (omega arith), div-eq_of_lt g))
 
 -- the rule of bytes 4 and 5 with more stations
-wider-exit : (n N i s told ago : ℕ) → n ≤ N → exitRule n i s told ago ≡ true → exitRule N i s told ago ≡ true
-unfolding exitRule
+wider-exit : (n N i s told ago : ℕ) → n ≤ N → exit_rule n i s told ago ≡ true → exit_rule N i s told ago ≡ true
+unfolding exit_rule
 wider-exit n N i s told ago low h =
     by_bool (eqb s 0) (λ e. rw e (rw e at h))
-    (λ e. by_bool (eqb s statusTold)
+    (λ e. by_bool (eqb s status_told)
     (λ f. rw (e, f)
-    (by_bool (eqb told notRecorded) (λ q. rw q)
+    (by_bool (eqb told not_recorded) (λ q. rw q)
     (λ q. let b = both (ltb told n) (not (eqb told i)) (rw (e, f, q) at h) in rw (q, lt-ltb told N (omega (arith, ltb-true told n b.0)), b.1))))
     (λ f. rw (e, f) (rw (e, f) at h)))
 
-module _ (n N : ℕ) (p : Slow n) (Size : isSize N ≡ true) (low : n ≤ N) (levels : dimension n ≡ dimension N) where
+module _ (n N : ℕ) (p : Slow n) (Size : is_size N ≡ true) (low : n ≤ N) (levels : dimension n ≡ dimension N) where
   abbrev t : List ℕ
   t = p.first.table
 
@@ -71,48 +71,48 @@ module _ (n N : ℕ) (p : Slow n) (Size : isSize N ≡ true) (low : n ≤ N) (le
   L k = ltb k n && live n t k
 
   -- the rows of the live boards, with 1 from n on
-  abbrev rowByte : ℕ → ℕ → ℕ
-  rowByte i y = cond (ltb i n) (cond (ltb y n) (suspects n t i y) (bit (live n t i))) 0
+  abbrev row_byte : ℕ → ℕ → ℕ
+  row_byte i y = cond (ltb i n) (cond (ltb y n) (suspects n t i y) (bit (live n t i))) 0
 
   -- bytes 4 and 5 as they are, with 255 and 0 from n on
-  abbrev exitByte : ℕ → ℕ → ℕ
-  exitByte i c =
-      cond (eqb c toldByColumn) (cond (ltb i n) (toldBy n t i) toldByNone) (cond (eqb c roundsAgoColumn) (cond (ltb i n) (roundsAgo n t i) 0) 0)
+  abbrev exit_byte : ℕ → ℕ → ℕ
+  exit_byte i c =
+      cond (eqb c told_by_column) (cond (ltb i n) (told_by n t i) told_by_none) (cond (eqb c rounds_ago_column) (cond (ltb i n) (rounds_ago n t i) 0) 0)
 
   abbrev byte : ℕ → ℕ → ℕ
   byte i c =
-      cond (ltb c head) (cond (eqb c statusColumn) (cond (ltb i n) (status n t i) 1) (cond (eqb c nextColumn) 1 (exitByte i c)))
-      (rowByte i (c - head))
+      cond (ltb c head) (cond (eqb c status_column) (cond (ltb i n) (status n t i) 1) (cond (eqb c next_column) 1 (exit_byte i c)))
+      (row_byte i (c - head))
 
   abbrev u : List ℕ
-  u = tableBy N byte
+  u = table_by N byte
 
   at : (i c : ℕ) → i < N → c < stride N → cell N u i c ≡ byte i c
   at = by-cell N byte
 
-  row_of : (i y : ℕ) → i < N → y < N → suspects N u i y ≡ rowByte i y
+  row_of : (i y : ℕ) → i < N → y < N → suspects N u i y ≡ row_byte i y
   row_of i y h g =
       let back : head + y - head ≡ y = omega arith in
       at i (head + y) h (omega arith) ∙ rw (le-ltb (head + y) head (omega arith), back)
 
   status-of : (i : ℕ) → i < N → status N u i ≡ cond (ltb i n) (status n t i) 1
-  status-of i h = at i statusColumn h (omega arith)
+  status-of i h = at i status_column h (omega arith)
 
-  next_of : (i : ℕ) → i < N → nextDistance N u i ≡ 1
-  next_of i h = at i nextColumn h (omega arith)
+  next_of : (i : ℕ) → i < N → next_distance N u i ≡ 1
+  next_of i h = at i next_column h (omega arith)
 
   finished-of : (i : ℕ) → i < N → finished N u i ≡ 0
-  finished-of i h = at i finishedColumn h (omega arith)
+  finished-of i h = at i finished_column h (omega arith)
 
-  tests-of : (i : ℕ) → i < N → testsMade N u i ≡ 0
-  tests-of i h = at i testsColumn h (omega arith)
+  tests-of : (i : ℕ) → i < N → tests_made N u i ≡ 0
+  tests-of i h = at i tests_column h (omega arith)
 
-  exits_of : (i : ℕ) → i < N → exitRule N i (status N u i) (toldBy N u i) (roundsAgo N u i) ≡ true
-  unfolding exitRule
+  exits_of : (i : ℕ) → i < N → exit_rule N i (status N u i) (told_by N u i) (rounds_ago N u i) ≡ true
+  unfolding exit_rule
   exits_of i h =
-      rw (status-of i h, at i toldByColumn h (omega arith), at i roundsAgoColumn h (omega arith))
+      rw (status-of i h, at i told_by_column h (omega arith), at i rounds_ago_column h (omega arith))
       (by_bool (ltb i n)
-      (λ q. rw q (wider-exit n N i (status n t i) (toldBy n t i) (roundsAgo n t i) low (accepted-line n t ok i (ltb-true i n q)).exits))
+      (λ q. rw q (wider-exit n N i (status n t i) (told_by n t i) (rounds_ago n t i) low (accepted-line n t ok i (ltb-true i n q)).exits))
       (λ q. rw q))
 
   live_of : (i : ℕ) → i < N → live N u i ≡ L i
@@ -121,29 +121,29 @@ module _ (n N : ℕ) (p : Slow n) (Size : isSize N ≡ true) (low : n ≤ N) (le
 
   line_of : (i : ℕ) → i < N → Line N u i
   line_of i h = record {
-    statusRange = rw (status-of i h) (by_bool (ltb i n) (λ q. rw q (accepted-line n t ok i (ltb-true i n q)).statusRange) (λ q. rw q (omega arith)));
+    status_range = rw (status-of i h) (by_bool (ltb i n) (λ q. rw q (accepted-line n t ok i (ltb-true i n q)).status_range) (λ q. rw q (omega arith)));
     pass = rw (next_of i h, finished-of i h, tests-of i h)
-        (record { nextLow = omega arith; nextHigh = distances-pos N; finishedRange = omega arith; testsBound = omega arith; finishedNext = λ e. absurd (omega arith) });
+        (record { next_low = omega arith; next_high = distances-pos N; finished_range = omega arith; tests_bound = omega arith; finished_next = λ e. absurd (omega arith) });
     exits = exits_of i h;
     own = row_of i i h h ∙ by_bool (ltb i n) (λ q. rw q (accepted-line n t ok i (ltb-true i n q)).own) (λ q. rw q);
     range = λ y g. rw (row_of i y h g) (byte_small i y);
   }
     where
-      byte_small : (i y : ℕ) → rowByte i y ≤ 1
+      byte_small : (i y : ℕ) → row_byte i y ≤ 1
       byte_small i y =
           by_bool (ltb i n)
           (λ q. by_bool (ltb y n) (λ r. rw (q, r) ((accepted-line n t ok i (ltb-true i n q)).range y (ltb-true y n r)))
           (λ r. rw (q, r) (by_bool (live n t i) (λ l. rw l (omega arith)) (λ l. rw l (omega arith)))))
           (λ q. rw q (omega arith))
 
-  long_of : length u ≡ tableLength N
-  long_of = listOf-length _ (tableLength N)
+  long_of : length u ≡ table_length N
+  long_of = list_of-length _ (table_length N)
 
   Ok : Accepted N u
   Ok = record {
     size = Size;
     long = long_of;
-    lines = every-all (lineRules N u) N (λ i h. line-holds N u i (line_of i h));
+    lines = every-all (line_rules N u) N (λ i h. line-holds N u i (line_of i h));
     unclosed = unfinished-open N u finished-of;
   }
 
@@ -154,16 +154,16 @@ module _ (n N : ℕ) (p : Slow n) (Size : isSize N ≡ true) (low : n ≤ N) (le
   absent : (k : ℕ) → n ≤ k → L k ≡ false
   absent k h = rw (le-ltb k n h)
 
-  at-start : (k : ℕ) → k < n → (nextDistance n t k ≡ 1) × (finished n t k ≡ 0)
+  at-start : (k : ℕ) → k < n → (next_distance n t k ≡ 1) × (finished n t k ≡ 0)
   unfolding at_start
   at-start k h =
-      let all = both _ _ (every-at (lineAtStart n t) n k p.premises.start h) in
+      let all = both _ _ (every-at (line_at_start n t) n k p.premises.start h) in
       let heads = both _ _ all.0 in
       (eqb-true _ 1 heads.0, eqb-true _ 0 heads.1)
 
   company : Company n L
   company i h l =
-      let o = company-of n t p.premises.twoLive i h (parts i l).1 in
+      let o = company-of n t p.premises.two_live i h (parts i l).1 in
       (o.0, o.1, o.2, rw (lt-ltb o.0 n o.1) o.3)
 
   row_below : (k y : ℕ) → L k ≡ true → y < n → suspects N u k y ≡ suspects n t k y
@@ -205,23 +205,23 @@ module _ (n N : ℕ) (p : Slow n) (Size : isSize N ≡ true) (low : n ≤ N) (le
 
   -- what the claim describes
   given : Premises N w []
-  unfolding at_start liveCount noneSuspected allTaken takenAll
+  unfolding at_start live_count none_suspected all_taken taken_all
   given = record {
     size = Size;
     long = long_of;
-    start = every-all (lineAtStart N u) N (λ i h. rw (next_of i h, finished-of i h, tests-of i h));
-    twoLive = omega (arith, two, p.premises.twoLive);
-    trusted = every-all _ N (λ i h. every-all (noLiveSuspicion N u i) N (λ j g. unsuspecting i j h g));
-    noCrash = refl;
-    noLate = refl;
+    start = every-all (line_at_start N u) N (λ i h. rw (next_of i h, finished-of i h, tests-of i h));
+    two_live = omega (arith, two, p.premises.two_live);
+    trusted = every-all _ N (λ i h. every-all (no_live_suspicion N u i) N (λ j g. unsuspecting i j h g));
+    no_crash = refl;
+    no_late = refl;
   }
     where
-      two : sum (λ i. bit (live N u i)) N ≡ sum (λ i. bit (live n t i)) n
+      two : sum_below (λ i. bit (live N u i)) N ≡ sum_below (λ i. bit (live n t i)) n
       two =
           sum_by N (λ i h. ap bit (live_of i h))
           ∙ (sum-stays (λ i. bit (L i)) n N low (λ i a b. ap bit (absent i a)) ∙ sum_by n (λ i h. rw (lt-ltb i n h)))
 
-      unsuspecting : (i j : ℕ) → i < N → j < N → noLiveSuspicion N u i j ≡ true
+      unsuspecting : (i j : ℕ) → i < N → j < N → no_live_suspicion N u i j ≡ true
       unsuspecting i j h g =
           by_bool (L i)
           (λ a. by_bool (L j) (λ b. rw (live_of i h, live_of j g, a, b, like.big.trusted i j h g a b)) (λ b. rw (live_of i h, live_of j g, a, b)))
@@ -231,7 +231,7 @@ module _ (n N : ℕ) (p : Slow n) (Size : isSize N ≡ true) (low : n ≤ N) (le
   pub greater : length p.turns ≤ 4096 → Slow N
   greater few =
       let f = follow n N L low absent p.premises.size Size distances-same company p.goes w alike (omega arith) in
-      let alive : L p.board ≡ true = rw (lt-ltb p.board n p.boardBelow) p.boardLive in
+      let alive : L p.board ≡ true = rw (lt-ltb p.board n p.board_below) p.board_live in
       record {
         first = w;
         ok = accepted-number N u Ok;
@@ -239,12 +239,12 @@ module _ (n N : ℕ) (p : Slow n) (Size : isSize N ≡ true) (low : n ≤ N) (le
         turns = f.turns;
         last = f.left;
         goes = f.goes;
-        rounds = ap suc f.alike.rounds ∙ (p.rounds ∙ ap (λ (d : ℕ). p.first.rounds + exactWait d) levels);
+        rounds = ap suc f.alike.rounds ∙ (p.rounds ∙ ap (λ (d : ℕ). p.first.rounds + exact_wait d) levels);
         board = p.board;
-        boardBelow = omega (arith, p.boardBelow);
-        boardLive = live_of p.board (omega (arith, p.boardBelow)) ∙ alive;
+        board_below = omega (arith, p.board_below);
+        board_live = live_of p.board (omega (arith, p.board_below)) ∙ alive;
         missed = p.missed;
-        missedBelow = omega (arith, p.missedBelow);
-        missedDead = rw (live_of p.missed (omega (arith, p.missedBelow)), lt-ltb p.missed n p.missedBelow) p.missedDead;
-        unseen = f.alike.like.rows p.board p.missed alive p.missedBelow ∙ p.unseen;
+        missed_below = omega (arith, p.missed_below);
+        missed_dead = rw (live_of p.missed (omega (arith, p.missed_below)), lt-ltb p.missed n p.missed_below) p.missed_dead;
+        unseen = f.alike.like.rows p.board p.missed alive p.missed_below ∙ p.unseen;
       }

@@ -13,76 +13,76 @@ use lib.ListN.{length}
 use lib.Dec.{eqb}
 use Rattle.lists.proofs.BoolLaws.{by_bool}
 use Rattle.lists.proofs.SearchLaws.{both}
-use Rattle.table.specs.Sizes.{isSize, distances}
-use Rattle.table.specs.Table.{head, tableLength, finishedColumn, nextDistance, finished, suspects, row}
+use Rattle.table.specs.Sizes.{is_size, distances}
+use Rattle.table.specs.Table.{head, table_length, finished_column, next_distance, finished, suspects, row}
 use Rattle.table.proofs.CellLaws.{row-length, row_at}
-use Rattle.station.specs.Groups.{stationAt}
+use Rattle.station.specs.Groups.{station_at}
 use Rattle.station.specs.Tests.{unsuspected, due}
 use Rattle.station.proofs.DueLaws.{unsuspected-at, unsuspected-absent, due-first, due-absent}
-use Rattle.turn.specs.Turn.{kindTurn, nextTest, makesTest, countTest, exchangeRows, suspect, replies, testOutcome, afterOutcome, after_test, testing, turn}
-use Rattle.turn.proofs.StepCells.{finishPass-other, countTest-other, countTest-length, suspect-same, suspect-other, exchange-other, exchange-tester, exchange-tested, exchange-tester-own, exchange-tested-own}
-use Rattle.turn.proofs.StepLines.{countTest-lines, station-apart}
-use Rattle.turn.proofs.NextTest.{nextTest-low, test_below, test-station}
+use Rattle.turn.specs.Turn.{kind_turn, next_test, makes_test, count_test, exchange_rows, suspect, replies, test_outcome, after_outcome, after_test, testing, turn}
+use Rattle.turn.proofs.StepCells.{finish_pass-other, count_test-other, count_test-length, suspect-same, suspect-other, exchange-other, exchange-tester, exchange-tested, exchange-tester-own, exchange-tested-own}
+use Rattle.turn.proofs.StepLines.{count_test-lines, station-apart}
+use Rattle.turn.proofs.NextTest.{next_test-low, test_below, test-station}
 use Rattle.turn.proofs.TurnHeads.{Heads, turn-heads}
 use Rattle.detection.proofs.Count.{leads-same}
 use Rattle.detection.proofs.TurnEffect.{Plain, Company, same_rows, none_told, tested, not-alone, turn-effect}
 
 -- byte y of the row of k after i tested x, by the bytes before: live boards exchange their rows, one that is not live is marked
-abbrev pub byteAfter : Bool → (ℕ → ℕ → ℕ) → ℕ → ℕ → ℕ → ℕ → ℕ
-byteAfter alive f i x k y =
+abbrev pub byte_after : Bool → (ℕ → ℕ → ℕ) → ℕ → ℕ → ℕ → ℕ → ℕ
+byte_after alive f i x k y =
     cond alive (cond ((eqb k i || eqb k x) && not (eqb y k)) (max (f i y) (f x y)) (f k y)) (cond (eqb k i && eqb y x) 1 (f k y))
 
 -- a turn in a table in which no live board suspects a live one
-module _ (n : ℕ) (L : ℕ → Bool) (t : List ℕ) (i : ℕ) (size : isSize n ≡ true) (p : Plain n L t) (company : Company n L) (hi : i < n)
+module _ (n : ℕ) (L : ℕ → Bool) (t : List ℕ) (i : ℕ) (size : is_size n ≡ true) (p : Plain n L t) (company : Company n L) (hi : i < n)
     (li : L i ≡ true) (going : finished n t i ≡ 0) where
   -- a turn that makes no test leaves the rows
-  pub finish-bytes : makesTest n t i ≡ false → (k y : ℕ) → y < n → suspects n (turn n t kindTurn i) k y ≡ suspects n t k y
+  pub finish-bytes : makes_test n t i ≡ false → (k y : ℕ) → y < n → suspects n (turn n t kind_turn i) k y ≡ suspects n t k y
   unfolding turn
-  finish-bytes e k y hy = rw e (finishPass-other n t i k (head + y) (omega arith) (λ q. (λ r. omega arith, λ r. omega arith)))
+  finish-bytes e k y hy = rw e (finish_pass-other n t i k (head + y) (omega arith) (λ q. (λ r. omega arith, λ r. omega arith)))
 
-  module _ (e : makesTest n t i ≡ true) where
+  module _ (e : makes_test n t i ≡ true) where
     abbrev m : ℕ
-    m = nextTest n t i
+    m = next_test n t i
 
     abbrev x : ℕ
-    x = stationAt i m
+    x = station_at i m
 
     abbrev t₁ : List ℕ
-    t₁ = countTest n t i m
+    t₁ = count_test n t i m
 
-    long₁ : length t₁ ≡ tableLength n
-    long₁ = countTest-length n t i m ∙ p.lines.0
+    long₁ : length t₁ ≡ table_length n
+    long₁ = count_test-length n t i m ∙ p.lines.0
 
     x<n : x < n
     x<n = test-station n t i e p.lines.0 hi
 
     apart : i ≢ x
-    apart = station-apart i m (omega (arith, (p.lines.1 i hi).pass.nextLow, nextTest-low n t i))
+    apart = station-apart i m (omega (arith, (p.lines.1 i hi).pass.next_low, next_test-low n t i))
 
     row₁ : (k y : ℕ) → y < n → suspects n t₁ k y ≡ suspects n t k y
-    row₁ k y hy = countTest-other n t i m k (head + y) (omega arith) (λ q. (λ r. omega arith, λ r. omega arith))
+    row₁ k y hy = count_test-other n t i m k (head + y) (omega arith) (λ q. (λ r. omega arith, λ r. omega arith))
 
     plain₁ : Plain n L t₁
     plain₁ =
-        let lines₁ = countTest-lines n t i p.lines hi m (omega (arith, going)) (nextTest-low n t i) (test_below n t i e) in
-        (same_rows n L t t₁ lines₁ (λ k c h counts _. countTest-other n t i m k c h (λ _. (λ e. counts (omega arith), λ e. counts (omega arith)))) p).0
+        let lines₁ = count_test-lines n t i p.lines hi m (omega (arith, going)) (next_test-low n t i) (test_below n t i e) in
+        (same_rows n L t t₁ lines₁ (λ k c h counts _. count_test-other n t i m k c h (λ _. (λ e. counts (omega arith), λ e. counts (omega arith)))) p).0
 
     -- what the turn does to the rows
-    outcome-is : after_test n t₁ kindTurn i x ≡ cond (L x) (exchangeRows n t₁ i x) (suspect n t₁ i x)
-    unfolding afterOutcome testOutcome replies
+    outcome-is : after_test n t₁ kind_turn i x ≡ cond (L x) (exchange_rows n t₁ i x) (suspect n t₁ i x)
+    unfolding after_outcome test_outcome replies
     outcome-is =
         by_bool (L x) (λ l. rw (plain₁.lives x x<n, l, none_told n L t₁ i x plain₁ hi x<n apart li l)) (λ l. rw (plain₁.lives x x<n, l))
 
-    turned-is : turn n t kindTurn i ≡ cond (L x) (exchangeRows n t₁ i x) (suspect n t₁ i x)
+    turned-is : turn n t kind_turn i ≡ cond (L x) (exchange_rows n t₁ i x) (suspect n t₁ i x)
     unfolding turn testing
     turned-is =
-        let done = tested n L t₁ i x plain₁ hi x<n apart li kindTurn (λ _. refl) in
+        let done = tested n L t₁ i x plain₁ hi x<n apart li kind_turn (λ _. refl) in
         rw (e, not-alone n L _ i done.0 company hi li) outcome-is
 
-    exchanged : (k y : ℕ) → k < n → y < n → suspects n (exchangeRows n t₁ i x) k y ≡ byteAfter true (suspects n t) i x k y
+    exchanged : (k y : ℕ) → k < n → y < n → suspects n (exchange_rows n t₁ i x) k y ≡ byte_after true (suspects n t) i x k y
     exchanged k y hk hy = pick (ℕ_discrete k i) (ℕ_discrete k x) (ℕ_discrete y k)
       where
-        pick : Dec (k ≡ i) → Dec (k ≡ x) → Dec (y ≡ k) → suspects n (exchangeRows n t₁ i x) k y ≡ byteAfter true (suspects n t) i x k y
+        pick : Dec (k ≡ i) → Dec (k ≡ x) → Dec (y ≡ k) → suspects n (exchange_rows n t₁ i x) k y ≡ byte_after true (suspects n t) i x k y
         pick (yes a) b (yes c) = rw (c, a, eq-eqb i i refl) (exchange-tester-own n t₁ i long₁ hi x x<n apart ∙ row₁ i i hi)
         pick (yes a) b (no c) =
             rw (ne_eqb y k c, a, eq-eqb i i refl)
@@ -96,16 +96,16 @@ module _ (n : ℕ) (L : ℕ → Bool) (t : List ℕ) (i : ℕ) (size : isSize n 
             rw (ne_eqb k i a, ne_eqb k x b)
             (exchange-other n t₁ i long₁ hi x x<n apart k (head + y) (omega arith) (λ q. absurd (a (sym q))) (λ q. absurd (b (sym q))) ∙ row₁ k y hy)
 
-    marked : (k y : ℕ) → k < n → y < n → suspects n (suspect n t₁ i x) k y ≡ byteAfter false (suspects n t) i x k y
+    marked : (k y : ℕ) → k < n → y < n → suspects n (suspect n t₁ i x) k y ≡ byte_after false (suspects n t) i x k y
     marked k y hk hy = pick (ℕ_discrete k i) (ℕ_discrete y x)
       where
-        pick : Dec (k ≡ i) → Dec (y ≡ x) → suspects n (suspect n t₁ i x) k y ≡ byteAfter false (suspects n t) i x k y
+        pick : Dec (k ≡ i) → Dec (y ≡ x) → suspects n (suspect n t₁ i x) k y ≡ byte_after false (suspects n t) i x k y
         pick (yes a) (yes b) = rw (a, b, eq-eqb i i refl, eq-eqb x x refl) (suspect-same n t₁ i long₁ hi x x<n)
         pick (yes a) (no b) =
             rw (a, eq-eqb i i refl, ne_eqb y x b) (suspect-other n t₁ i long₁ hi x i (head + y) (omega arith) (λ q r. b (omega arith)) ∙ row₁ i y hy)
         pick (no a) b = rw (ne_eqb k i a) (suspect-other n t₁ i long₁ hi x k (head + y) (omega arith) (λ q. absurd (a (sym q))) ∙ row₁ k y hy)
 
-    pub test-bytes : (k y : ℕ) → k < n → y < n → suspects n (turn n t kindTurn i) k y ≡ byteAfter (L x) (suspects n t) i x k y
+    pub test-bytes : (k y : ℕ) → k < n → y < n → suspects n (turn n t kind_turn i) k y ≡ byte_after (L x) (suspects n t) i x k y
     test-bytes k y hk hy =
         by_bool (L x) (λ l. rw (turned-is, l) (exchanged k y hk hy)) (λ l. rw (turned-is, l) (marked k y hk hy))
 
@@ -148,25 +148,25 @@ module _ (n N : ℕ) (L : ℕ → Bool) (low : n ≤ N) (absent : (k : ℕ) → 
         pick (no a) (no b) =
             unsuspected-absent (row N u i) x (λ h. b (rw Long at h)) ∙ sym (unsuspected-absent (row n t i) x (λ h. a (rw long at h)))
 
-    pub due-same : (m : ℕ) → stationAt i m < n → due (row N u i) i m ≡ due (row n t i) i m
+    pub due-same : (m : ℕ) → station_at i m < n → due (row N u i) i m ≡ due (row n t i) i m
     due-same m h =
         due-first (row N u i) i m
-        ∙ (rw (long, Long, lt-ltb (stationAt i m) n h, lt-ltb (stationAt i m) N (omega arith)) (leads-same (unsuspected (row N u i)) (unsuspected (row n t i)) i m (λ k l. same_row _))
+        ∙ (rw (long, Long, lt-ltb (station_at i m) n h, lt-ltb (station_at i m) N (omega arith)) (leads-same (unsuspected (row N u i)) (unsuspected (row n t i)) i m (λ k l. same_row _))
         ∙ sym (due-first (row n t i) i m))
 
-    pub due-none : (m : ℕ) → ¬ (stationAt i m < n) → due (row n t i) i m ≡ false
-    due-none m h = due-absent (row n t i) i m (rw long (le-ltb (stationAt i m) n (omega arith)))
+    pub due-none : (m : ℕ) → ¬ (station_at i m < n) → due (row n t i) i m ≡ false
+    due-none m h = due-absent (row n t i) i m (rw long (le-ltb (station_at i m) n (omega arith)))
 
-  module _ (size : isSize n ≡ true) (Size : isSize N ≡ true) (levels : distances n ≡ distances N) (company : Company n L) where
+  module _ (size : is_size n ≡ true) (Size : is_size N ≡ true) (levels : distances n ≡ distances N) (company : Company n L) where
     pub big-company : Company N L
     big-company i h l = let o = company i (live_below i l) l in (o.0, omega (arith, o.1), o.2, o.3)
 
     module _ (t u : List ℕ) (like : Like t u) (i : ℕ) (li : L i ≡ true) (going : finished n t i ≡ 0) where
       abbrev t' : List ℕ
-      t' = turn n t kindTurn i
+      t' = turn n t kind_turn i
 
       abbrev u' : List ℕ
-      u' = turn N u kindTurn i
+      u' = turn N u kind_turn i
 
       h : i < n
       h = live_below i li
@@ -177,22 +177,22 @@ module _ (n N : ℕ) (L : ℕ → Bool) (low : n ≤ N) (absent : (k : ℕ) → 
       Going : finished N u i ≡ 0
       Going = like.finish i li ∙ going
 
-      heads : Heads n t t' i (makesTest n t i)
-      heads = turn-heads n t kindTurn i size like.small.lines h
+      heads : Heads n t t' i (makes_test n t i)
+      heads = turn-heads n t kind_turn i size like.small.lines h
 
-      pub Heads-of : Heads N u u' i (makesTest N u i)
-      Heads-of = turn-heads N u kindTurn i Size like.big.lines H
+      pub Heads-of : Heads N u u' i (makes_test N u i)
+      Heads-of = turn-heads N u kind_turn i Size like.big.lines H
 
       plain' : Plain n L t'
-      plain' = (turn-effect n L t kindTurn i size like.small company h li going (λ _ _. refl)).plain
+      plain' = (turn-effect n L t kind_turn i size like.small company h li going (λ _ _. refl)).plain
 
       Plain' : Plain N L u'
-      Plain' = (turn-effect N L u kindTurn i Size like.big big-company H li Going (λ _ _. refl)).plain
+      Plain' = (turn-effect N L u kind_turn i Size like.big big-company H li Going (λ _ _. refl)).plain
 
       -- a turn that tests a board from n on changes no row of a live board, and finishes no pass
-      module _ (e : makesTest N u i ≡ true) (out : ¬ (stationAt i (nextTest N u i) < n)) where
+      module _ (e : makes_test N u i ≡ true) (out : ¬ (station_at i (next_test N u i) < n)) where
         abbrev z : ℕ
-        z = stationAt i (nextTest N u i)
+        z = station_at i (next_test N u i)
 
         z<N : z < N
         z<N = test-station N u i e like.big.lines.0 H
@@ -211,7 +211,7 @@ module _ (n N : ℕ) (L : ℕ → Bool) (low : n ≤ N) (absent : (k : ℕ) → 
 
         finish-kept : (k : ℕ) → finished N u' k ≡ finished N u k
         finish-kept k =
-            by_cases (ℕ_discrete k i) (λ q. rw q (rw e at Heads-of.finish)) (λ q. Heads-of.others k finishedColumn q (omega arith))
+            by_cases (ℕ_discrete k i) (λ q. rw q (rw e at Heads-of.finish)) (λ q. Heads-of.others k finished_column q (omega arith))
 
         pub extra : Like t u'
         extra = record {
@@ -223,38 +223,38 @@ module _ (n N : ℕ) (L : ℕ → Bool) (low : n ≤ N) (absent : (k : ℕ) → 
         }
 
       -- both finish their pass
-      module _ (e : makesTest n t i ≡ false) (E : makesTest N u i ≡ false) where
+      module _ (e : makes_test n t i ≡ false) (E : makes_test N u i ≡ false) where
         pub both-finish : Like t' u'
         both-finish = record {
           small = plain';
           big = Plain';
           finish = λ k l. by_cases (ℕ_discrete k i) (λ q. rw q (rw E at Heads-of.finish ∙ sym (rw e at heads.finish)))
-              (λ q. Heads-of.others k finishedColumn q (omega arith) ∙ (like.finish k l ∙ sym (heads.others k finishedColumn q (omega arith))));
+              (λ q. Heads-of.others k finished_column q (omega arith) ∙ (like.finish k l ∙ sym (heads.others k finished_column q (omega arith))));
           rows = λ k y l b.
               finish-bytes N L u i Size like.big big-company H li Going E k y (omega arith)
               ∙ (like.rows k y l b ∙ sym (finish-bytes n L t i size like.small company h li going e k y b));
           known = λ k y l a b. finish-bytes N L u i Size like.big big-company H li Going E k y b ∙ like.known k y l a b;
         }
 
-        pub finish-next : nextDistance N u' i ≡ nextDistance n t' i
+        pub finish-next : next_distance N u' i ≡ next_distance n t' i
         finish-next = rw E at Heads-of.next ∙ (sym levels ∙ sym (rw e at heads.next))
 
       -- both test the same board
-      module _ (e : makesTest n t i ≡ true) (E : makesTest N u i ≡ true) (same : nextTest N u i ≡ nextTest n t i) where
+      module _ (e : makes_test n t i ≡ true) (E : makes_test N u i ≡ true) (same : next_test N u i ≡ next_test n t i) where
         abbrev w : ℕ
-        w = stationAt i (nextTest n t i)
+        w = station_at i (next_test n t i)
 
         w-below : w < n
         w-below = test-station n t i e like.small.lines.0 h
 
-        Bytes : (k y : ℕ) → L k ≡ true → y < N → suspects N u' k y ≡ byteAfter (L w) (suspects N u) i w k y
+        Bytes : (k y : ℕ) → L k ≡ true → y < N → suspects N u' k y ≡ byte_after (L w) (suspects N u) i w k y
         Bytes k y l b = rw same at (test-bytes N L u i Size like.big big-company H li Going E k y (omega (arith, live_below k l)) b)
 
-        alike : (k y : ℕ) → L k ≡ true → y < n → byteAfter (L w) (suspects N u) i w k y ≡ byteAfter (L w) (suspects n t) i w k y
+        alike : (k y : ℕ) → L k ≡ true → y < n → byte_after (L w) (suspects N u) i w k y ≡ byte_after (L w) (suspects n t) i w k y
         alike k y l b =
             by_bool (L w) (λ lx. rw (lx, like.rows k y l b, like.rows i y li b, like.rows w y lx b)) (λ lx. rw (lx, like.rows k y l b))
 
-        stays : (k y : ℕ) → L k ≡ true → n ≤ y → y < N → byteAfter (L w) (suspects N u) i w k y ≡ 1
+        stays : (k y : ℕ) → L k ≡ true → n ≤ y → y < N → byte_after (L w) (suspects N u) i w k y ≡ 1
         stays k y l a b =
             by_bool (L w)
             (λ lx. rw (lx, like.known k y l a b, like.known i y li a b, like.known w y lx a b)
@@ -266,11 +266,11 @@ module _ (n N : ℕ) (L : ℕ → Bool) (low : n ≤ N) (absent : (k : ℕ) → 
           small = plain';
           big = Plain';
           finish = λ k l. by_cases (ℕ_discrete k i) (λ q. rw q (rw E at Heads-of.finish ∙ (like.finish i li ∙ sym (rw e at heads.finish))))
-              (λ q. Heads-of.others k finishedColumn q (omega arith) ∙ (like.finish k l ∙ sym (heads.others k finishedColumn q (omega arith))));
+              (λ q. Heads-of.others k finished_column q (omega arith) ∙ (like.finish k l ∙ sym (heads.others k finished_column q (omega arith))));
           rows = λ k y l b.
               Bytes k y l (omega arith) ∙ (alike k y l b ∙ sym (test-bytes n L t i size like.small company h li going e k y (live_below k l) b));
           known = λ k y l a b. Bytes k y l b ∙ stays k y l a b;
         }
 
-        pub test-next : nextDistance N u' i ≡ nextDistance n t' i
+        pub test-next : next_distance N u' i ≡ next_distance n t' i
         test-next = rw E at Heads-of.next ∙ (ap (λ (v : ℕ). v + 1) same ∙ sym (rw e at heads.next))

@@ -10,31 +10,31 @@ use lib.Dec.{eqb, ltb, leb}
 use lib.ListN.{length}
 use Rattle.lists.proofs.BoolLaws.{by_bool}
 use Rattle.lists.proofs.SearchLaws.{both}
-use Rattle.table.specs.Sizes.{isSize, dimension}
-use Rattle.table.specs.Table.{head, tableLength, setCell, suspects, live, roundsAgoColumn}
-use Rattle.table.specs.Rules.{notLive, tableNumber}
-use Rattle.table.specs.Properties.{at_start, liveCount, noneSuspected}
-use Rattle.table.specs.Fresh.{freshTable}
-use Rattle.turn.specs.Turn.{crash, kindTurn}
-use Rattle.plant.specs.Entry.{State, state_of, entry_of, entryNumber, after}
-use Rattle.detection.specs.Runs.{takenAll}
-use Rattle.detection.specs.Rounds.{allTaken}
-use Rattle.detection.specs.Claim.{exactWait}
+use Rattle.table.specs.Sizes.{is_size, dimension}
+use Rattle.table.specs.Table.{head, table_length, set_cell, suspects, live, rounds_ago_column}
+use Rattle.table.specs.Rules.{not_live, table_number}
+use Rattle.table.specs.Properties.{at_start, live_count, none_suspected}
+use Rattle.table.specs.Fresh.{fresh_table}
+use Rattle.turn.specs.Turn.{crash, kind_turn}
+use Rattle.plant.specs.Entry.{State, state_of, entry_of, entry_number, after}
+use Rattle.detection.specs.Runs.{taken_all}
+use Rattle.detection.specs.Rounds.{all_taken}
+use Rattle.detection.specs.Claim.{exact_wait}
 use Rattle.witness.proofs.Slow.{Goes, stop, go, goes-append, Slow}
 
 -- a table with these boards crashed, so many rounds ago
 unfoldable pub crashed : ℕ → List ℕ → List ℕ → ℕ → List ℕ
 crashed n t [] ago = t
-crashed n t (i ∷ is) ago = crashed n (setCell n (crash n t i) i roundsAgoColumn ago) is ago
+crashed n t (i ∷ is) ago = crashed n (set_cell n (crash n t i) i rounds_ago_column ago) is ago
 
 -- a fresh table with the dead boards crashed, and no tally
-abbrev pub firstState : ℕ → List ℕ → State
-firstState n dead = state_of (crashed n (freshTable n) dead 0) 0 0
+abbrev pub first_state : ℕ → List ℕ → State
+first_state n dead = state_of (crashed n (fresh_table n) dead 0) 0 0
 
 -- all turns are taken, and the state that they leave passes q
 unfoldable pub arrives : ℕ → State → List ℕ → (State → Bool) → Bool
 arrives n s [] q = q s
-arrives n s (i ∷ is) q = cond (eqb (entryNumber n s (entry_of kindTurn i)) 0) (arrives n (after n s (entry_of kindTurn i)) is q) false
+arrives n s (i ∷ is) q = cond (eqb (entry_number n s (entry_of kind_turn i)) 0) (arrives n (after n s (entry_of kind_turn i)) is q) false
 
 -- what they leave
 pub record Arrival (n : ℕ) (s : State) (is : List ℕ) (q : State → Bool) : Type 0 where
@@ -46,28 +46,28 @@ pub arrival : (n : ℕ) (s : State) (is : List ℕ) (q : State → Bool) → arr
 unfolding arrives
 arrival n s [] q e = record { left = s; goes = stop; passes = e }
 arrival n s (i ∷ is) q e =
-    by_bool (eqb (entryNumber n s (entry_of kindTurn i)) 0)
+    by_bool (eqb (entry_number n s (entry_of kind_turn i)) 0)
     (λ z.
-    let rest = arrival n (after n s (entry_of kindTurn i)) is q (rw z at e) in
+    let rest = arrival n (after n s (entry_of kind_turn i)) is q (rw z at e) in
     record { left = rest.left; goes = go i (eqb-true _ 0 z) rest.goes; passes = rest.passes })
     (λ z. absurd (true≢false (sym (rw z at e))))
 
 -- the table is one of those that the claim describes, and refusals let it through
 abbrev described : ℕ → State → Bool
 described n s =
-    isSize n && eqb (length s.table) (tableLength n) && at_start n s.table && ltb 1 (liveCount n s.table) && noneSuspected n s.table
-    && eqb (tableNumber n s.table) 0
+    is_size n && eqb (length s.table) (table_length n) && at_start n s.table && ltb 1 (live_count n s.table) && none_suspected n s.table
+    && eqb (table_number n s.table) 0
 
 -- board i is live and board j is not
 abbrev apart : ℕ → State → ℕ → ℕ → Bool
-apart n s i j = (ltb i n && live n s.table i) && (ltb j n && notLive n s.table j)
+apart n s i j = (ltb i n && live n s.table i) && (ltb j n && not_live n s.table j)
 
 unfoldable pub begins : ℕ → List ℕ → ℕ → ℕ → Bool
-begins n dead i j = described n (firstState n dead) && apart n (firstState n dead) i j
+begins n dead i j = described n (first_state n dead) && apart n (first_state n dead) i j
 
 -- one round less than the exact wait has closed, and i does not suspect j
 unfoldable pub unseen : ℕ → ℕ → ℕ → State → Bool
-unseen n i j end = eqb (suc end.rounds) (exactWait (dimension n)) && eqb (suspects n end.table i j) 0
+unseen n i j end = eqb (suc end.rounds) (exact_wait (dimension n)) && eqb (suspects n end.table i j) 0
 
 -- a slow plant with a list of turns that fits a schedule
 abbrev pub Computed : ℕ → Type 0
@@ -75,14 +75,14 @@ Computed n = (p : Slow n) × (length p.turns ≤ 4096)
 
 -- such a plant is slow
 pub slow-plant : (n : ℕ) (dead : List ℕ) (i j : ℕ) → begins n dead i j ≡ true → (turns : List ℕ) → leb (length turns) 4096 ≡ true
-    → Arrival n (firstState n dead) turns (unseen n i j) → Computed n
-unfolding begins unseen takenAll allTaken
+    → Arrival n (first_state n dead) turns (unseen n i j) → Computed n
+unfolding begins unseen taken_all all_taken
 slow-plant n dead i j begun turns few a =
-    let s = firstState n dead in
+    let s = first_state n dead in
     let d = both (described n s) (apart n s i j) begun in
-    let boards = both (ltb i n && live n s.table i) (ltb j n && notLive n s.table j) d.1 in
+    let boards = both (ltb i n && live n s.table i) (ltb j n && not_live n s.table j) d.1 in
     let lives = both (ltb i n) (live n s.table i) boards.0 in
-    let dies = both (ltb j n) (notLive n s.table j) boards.1 in
+    let dies = both (ltb j n) (not_live n s.table j) boards.1 in
     let checks = both _ _ d.0 in
     let trusts = both _ _ checks.0 in
     let two = both _ _ trusts.0 in
@@ -96,21 +96,21 @@ slow-plant n dead i j begun turns few a =
           size = sized.0;
           long = eqb-true _ _ sized.1;
           start = starts.1;
-          twoLive = ltb-true _ _ two.1;
+          two_live = ltb-true _ _ two.1;
           trusted = trusts.1;
-          noCrash = refl;
-          noLate = refl;
+          no_crash = refl;
+          no_late = refl;
         };
         turns = turns;
         last = a.left;
         goes = a.goes;
         rounds = eqb-true _ _ ends.0 ∙ sym (zero-add _);
         board = i;
-        boardBelow = ltb-true i n lives.0;
-        boardLive = lives.1;
+        board_below = ltb-true i n lives.0;
+        board_live = lives.1;
         missed = j;
-        missedBelow = ltb-true j n dies.0;
-        missedDead = dies.1;
+        missed_below = ltb-true j n dies.0;
+        missed_dead = dies.1;
         unseen = eqb-true _ 0 ends.1;
       },
       leb-true (length turns) 4096 few,
@@ -119,7 +119,7 @@ slow-plant n dead i j begun turns few a =
 -- round by round: a state with these suspicions, as pairs of a board and one that it suspects
 unfoldable pub marked : ℕ → List ℕ → List (ℕ × ℕ) → List ℕ
 marked n t [] = t
-marked n t ((i, y) ∷ ps) = marked n (setCell n t i (head + y) 1) ps
+marked n t ((i, y) ∷ ps) = marked n (set_cell n t i (head + y) 1) ps
 
 -- whether two lists are the same, byte by byte from the first on
 unfoldable pub same_list : List ℕ → List ℕ → Bool
@@ -138,11 +138,11 @@ lists-same (x ∷ xs) (y ∷ ys) e =
     rw (eqb-true x y parts.0, lists-same xs ys parts.1)
 
 -- whether two states are the same
-unfoldable pub sameState : State → State → Bool
-sameState a b = (eqb a.rounds b.rounds && eqb a.tests b.tests) && same_list a.table b.table
+unfoldable pub same_state : State → State → Bool
+same_state a b = (eqb a.rounds b.rounds && eqb a.tests b.tests) && same_list a.table b.table
 
-states-same : (a b : State) → sameState a b ≡ true → a ≡ b
-unfolding sameState
+states-same : (a b : State) → same_state a b ≡ true → a ≡ b
+unfolding same_state
 states-same a b e =
     let parts = both _ _ e in
     let tallies = both _ _ parts.0 in
@@ -152,9 +152,9 @@ states-same a b e =
     λ k. state_of (table k) (rounds k) (tests k)
 
 -- turns from one state to another
-pub part : (n : ℕ) (s : State) (is : List ℕ) (s' : State) → arrives n s is (sameState s') ≡ true → Goes n s is s'
+pub part : (n : ℕ) (s : State) (is : List ℕ) (s' : State) → arrives n s is (same_state s') ≡ true → Goes n s is s'
 part n s is s' e =
-    let a = arrival n s is (sameState s') e in
+    let a = arrival n s is (same_state s') e in
     subst (Goes n s is) (sym (states-same s' a.left a.passes)) a.goes
 
 -- an arrival behind some turns

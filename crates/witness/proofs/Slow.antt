@@ -11,23 +11,23 @@ use native.Mathlib.Omega.{arith}
 use Rattle.lists.specs.Sums.{bit}
 use Rattle.table.specs.Sizes.{dimension}
 use Rattle.table.specs.Table.{suspects, live}
-use Rattle.table.specs.Rules.{notLive, tableNumber}
+use Rattle.table.specs.Rules.{not_live, table_number}
 use Rattle.table.proofs.Accepting.{Accepted, accepted}
-use Rattle.turn.specs.Turn.{kindTurn}
-use Rattle.plant.specs.Entry.{State, entry_of, entryNumber, after}
+use Rattle.turn.specs.Turn.{kind_turn}
+use Rattle.plant.specs.Entry.{State, entry_of, entry_number, after}
 use Rattle.plant.proofs.RulesKept.{accepted-kept}
 use Rattle.plant.proofs.RunLaws.{accepted-number}
-use Rattle.detection.specs.Runs.{Call, Taken, turnRun, afterRuns, takenAll, crashes, isLate}
-use Rattle.detection.specs.Rounds.{allTaken}
-use Rattle.detection.specs.Claim.{Premises, exactWait}
-use Rattle.detection.proofs.TakenLaws.{takenAt}
+use Rattle.detection.specs.Runs.{Call, Taken, turn_run, after_runs, taken_all, crashes, is_late}
+use Rattle.detection.specs.Rounds.{all_taken}
+use Rattle.detection.specs.Claim.{Premises, exact_wait}
+use Rattle.detection.proofs.TakenLaws.{taken_at}
 use Rattle.detection.proofs.OneTurn.{one_left, runs_append, one_passes}
 use Rattle.witness.specs.Sooner.{NoneSooner}
 
 -- turns of the boards listed, each taken, from a state to a state
 pub data Goes (n : ℕ) : State → List ℕ → State → Type 0 where
   stop : {s : State} → Goes n s [] s
-  go : {s s' : State} {is : List ℕ} (i : ℕ) → entryNumber n s (entry_of kindTurn i) ≡ 0 → Goes n (after n s (entry_of kindTurn i)) is s'
+  go : {s s' : State} {is : List ℕ} (i : ℕ) → entry_number n s (entry_of kind_turn i) ≡ 0 → Goes n (after n s (entry_of kind_turn i)) is s'
       → Goes n s (i ∷ is) s'
 
 -- two such lists, one behind the other
@@ -36,58 +36,58 @@ goes-append stop d = d
 goes-append (go i z g) d = go i z (goes-append g d)
 
 -- they are a list of runs of one turn each
-goes-runs : {n : ℕ} {s s' : State} {is : List ℕ} → Goes n s is s' → Accepted n s.table → afterRuns s (map (turnRun n) is) ≡ s'
-unfolding afterRuns
+goes-runs : {n : ℕ} {s s' : State} {is : List ℕ} → Goes n s is s' → Accepted n s.table → after_runs s (map (turn_run n) is) ≡ s'
+unfolding after_runs
 goes-runs stop ok = refl
 goes-runs {n} (go {s} {is = is} i z g) ok =
-    ap (λ (w : State). afterRuns w (map (turnRun n) is)) (one_left n s i (accepted-number n s.table ok) z)
-    ∙ goes-runs g (accepted-kept n s (entry_of kindTurn i) ok z)
+    ap (λ (w : State). after_runs w (map (turn_run n) is)) (one_left n s i (accepted-number n s.table ok) z)
+    ∙ goes-runs g (accepted-kept n s (entry_of kind_turn i) ok z)
 
-turns-pass : (q : Taken → Bool) → ((n : ℕ) (s : State) (i : ℕ) → q (takenAt n s (entry_of kindTurn i)) ≡ true) → (n : ℕ) (s : State) (is : List ℕ)
-    → allTaken q (takenAll s (map (turnRun n) is)) ≡ true
-unfolding takenAll allTaken
+turns-pass : (q : Taken → Bool) → ((n : ℕ) (s : State) (i : ℕ) → q (taken_at n s (entry_of kind_turn i)) ≡ true) → (n : ℕ) (s : State) (is : List ℕ)
+    → all_taken q (taken_all s (map (turn_run n) is)) ≡ true
+unfolding taken_all all_taken
 turns-pass q turns n s [] = refl
 turns-pass q turns n s (i ∷ is) =
-    runs_append q s (turnRun n i ∷ []) (map (turnRun n) is) (one_passes q turns n s i) (turns-pass q turns n (afterRuns s (turnRun n i ∷ [])) is)
+    runs_append q s (turn_run n i ∷ []) (map (turn_run n) is) (one_passes q turns n s i) (turns-pass q turns n (after_runs s (turn_run n i ∷ [])) is)
 
 -- a table that the claim describes, turns with which one round less than the exact wait closes, and a live board that does not suspect a dead
 -- one then
 pub record Slow (n : ℕ) : Type 0 where
   pub first : State
-  pub ok : tableNumber n first.table ≡ 0
+  pub ok : table_number n first.table ≡ 0
   pub premises : Premises n first []
   pub turns : List ℕ
   pub last : State
   pub goes : Goes n first turns last
-  pub rounds : suc last.rounds ≡ first.rounds + exactWait (dimension n)
+  pub rounds : suc last.rounds ≡ first.rounds + exact_wait (dimension n)
   pub board : ℕ
-  pub boardBelow : board < n
-  pub boardLive : live n first.table board ≡ true
+  pub board_below : board < n
+  pub board_live : live n first.table board ≡ true
   pub missed : ℕ
-  pub missedBelow : missed < n
-  pub missedDead : notLive n first.table missed ≡ true
+  pub missed_below : missed < n
+  pub missed_dead : not_live n first.table missed ≡ true
   pub unseen : suspects n last.table board missed ≡ 0
 
 -- by a claim within fewer rounds the live board would suspect the dead one
 pub slow-none-sooner : (n : ℕ) → Slow n → NoneSooner n
-slow-none-sooner n p enough claim = by_cases (dec_lt enough (exactWait (dimension n))) early (λ l. omega arith)
+slow-none-sooner n p enough claim = by_cases (dec_lt enough (exact_wait (dimension n))) early (λ l. omega arith)
   where
     calls : List Call
-    calls = map (turnRun n) p.turns
+    calls = map (turn_run n) p.turns
 
     given : Premises n p.first calls
     given = record {
       size = p.premises.size;
       long = p.premises.long;
       start = p.premises.start;
-      twoLive = p.premises.twoLive;
+      two_live = p.premises.two_live;
       trusted = p.premises.trusted;
-      noCrash = turns-pass (λ x. not (crashes x)) (λ n s i. refl) n p.first p.turns;
-      noLate = turns-pass (λ x. not (isLate x)) (λ n s i. refl) n p.first p.turns;
+      no_crash = turns-pass (λ x. not (crashes x)) (λ n s i. refl) n p.first p.turns;
+      no_late = turns-pass (λ x. not (is_late x)) (λ n s i. refl) n p.first p.turns;
     }
 
-    early : enough < exactWait (dimension n) → exactWait (dimension n) ≤ enough
+    early : enough < exact_wait (dimension n) → exact_wait (dimension n) ≤ enough
     early l =
         let after = rw (goes-runs p.goes (accepted n p.first.table p.ok)) at (claim p.first calls given) in
-        let known = after.known (omega (arith, after.roundsTally, p.rounds)) p.board p.missed p.boardBelow p.missedBelow p.boardLive in
-        absurd (omega (arith, known, p.unseen, ap bit p.missedDead))
+        let known = after.known (omega (arith, after.rounds_tally, p.rounds)) p.board p.missed p.board_below p.missed_below p.board_live in
+        absurd (omega (arith, known, p.unseen, ap bit p.missed_dead))

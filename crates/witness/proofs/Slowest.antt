@@ -5,20 +5,20 @@ use mathlib.Core.Bool.{true}
 use mathlib.Core.List.{List, [], ◌∷◌, ◌++◌}
 use Prim.Native.Nat.{ℕ, zero, suc, ◌^◌, ◌≤◌, ◌<◌}
 use native.Mathlib.Omega.{arith}
-use Rattle.table.specs.Sizes.{isSize, dimension}
+use Rattle.table.specs.Sizes.{is_size, dimension}
 use Rattle.table.proofs.SizeLaws.{size-log, size-dimension}
-use Rattle.detection.specs.Claim.{exactWait}
+use Rattle.detection.specs.Claim.{exact_wait}
 use Rattle.plant.specs.Entry.{State, state_of}
-use Rattle.table.specs.Fresh.{freshTable}
-use Rattle.witness.proofs.Computing.{wholeRun}
+use Rattle.table.specs.Fresh.{fresh_table}
+use Rattle.witness.proofs.Computing.{whole_run}
 use Rattle.witness.specs.Sooner.{NoneSooner, NoneSoonerFromThree}
 use Rattle.witness.proofs.Slow.{Goes, goes-append, slow-none-sooner}
-use Rattle.witness.proofs.Plants.{crashed, firstState, arrives, Arrival, arrival, begins, unseen, Computed, slow-plant, marked, same_list, sameState, part, behind}
+use Rattle.witness.proofs.Plants.{crashed, first_state, arrives, Arrival, arrival, begins, unseen, Computed, slow-plant, marked, same_list, same_state, part, behind}
 use Rattle.witness.proofs.Greater.{greater}
 
 -- who unfolds this name computes whether turns arrive
 unfoldable computes : Unit {0}
-unfolding wholeRun exactWait crashed arrives begins unseen marked sameState same_list
+unfolding whole_run exact_wait crashed arrives begins unseen marked same_state same_list
 computes = tt
 
 -- the plants of samples/slowest.txt without their last round: the dead boards, a live board and a dead one that it does not suspect then, and
@@ -62,7 +62,7 @@ dead-33 = (0 ∷ 1 ∷ 2 ∷ 3 ∷ 4 ∷ 5 ∷ 6 ∷ 7 ∷ 8 ∷ 9 ∷ 10 ∷ 11
     30 ∷ 31 ∷ 32 ∷ [])
 
 abbrev state-33 : List (ℕ × ℕ) → ℕ → ℕ → State
-state-33 suspicions rounds tests = state_of (marked 33 (crashed 33 (freshTable 33) dead-33 rounds) suspicions) rounds tests
+state-33 suspicions rounds tests = state_of (marked 33 (crashed 33 (fresh_table 33) dead-33 rounds) suspicions) rounds tests
 
 -- who came to suspect whom in which round: (20, 5) is board 20, which came to suspect board 5
 abbrev found-0 : List (ℕ × ℕ)
@@ -137,9 +137,9 @@ abbrev turns-6 : List ℕ
 turns-6 = (21 ∷ 21 ∷ 21 ∷ 22 ∷ 20 ∷ 21 ∷ 21 ∷ 21 ∷ 21 ∷ 23 ∷ 21 ∷ 21 ∷ 23 ∷ 21 ∷ 23 ∷ 22 ∷ 22 ∷ 23 ∷ 23 ∷ 23 ∷ 20 ∷ 20 ∷ 23 ∷ 20 ∷
     23 ∷ 23 ∷ 20 ∷ 23 ∷ 20 ∷ 22 ∷ 20 ∷ 22 ∷ 22 ∷ 20 ∷ 20 ∷ 20 ∷ 20 ∷ 22 ∷ 22 ∷ 22 ∷ 22 ∷ [])
 
-round-0 : Goes 33 (firstState 33 dead-33) turns-0 (state-33 known-1 1 20)
+round-0 : Goes 33 (first_state 33 dead-33) turns-0 (state-33 known-1 1 20)
 unfolding computes
-round-0 = part 33 (firstState 33 dead-33) turns-0 (state-33 known-1 1 20) refl
+round-0 = part 33 (first_state 33 dead-33) turns-0 (state-33 known-1 1 20) refl
 
 round-1 : Goes 33 (state-33 known-1 1 20) turns-1 (state-33 known-2 2 46)
 unfolding computes
@@ -175,16 +175,16 @@ turns-33 = (turns-0 ++ (turns-1 ++ (turns-2 ++ (turns-3 ++ (turns-4 ++ (turns-5)
 slow-33 : Computed 33
 slow-33 =
     slow-plant 33 dead-33 21 32 begins-33 turns-33 refl
-    (behind 33 (firstState 33 dead-33) (state-33 known-6 6 182) (turns-0 ++ (turns-1 ++ (turns-2 ++ (turns-3 ++ (turns-4 ++ (turns-5)))))) turns-6 (unseen 33 21 32)
+    (behind 33 (first_state 33 dead-33) (state-33 known-6 6 182) (turns-0 ++ (turns-1 ++ (turns-2 ++ (turns-3 ++ (turns-4 ++ (turns-5)))))) turns-6 (unseen 33 21 32)
     (goes-append round-0 (goes-append round-1 (goes-append round-2 (goes-append round-3 (goes-append round-4 (round-5)))))) last-round)
 
 -- a size with as many levels as a computed one
-from-computed : (b n : ℕ) → Computed b → isSize n ≡ true → b ≤ n → dimension b ≡ dimension n → NoneSooner n
+from-computed : (b n : ℕ) → Computed b → is_size n ≡ true → b ≤ n → dimension b ≡ dimension n → NoneSooner n
 from-computed b n c size low levels = slow-none-sooner n (greater b n c.0 size low levels c.1)
 
 -- an end in itself
 pub none-sooner-from-three : NoneSoonerFromThree
-unfolding wholeRun
+unfolding whole_run
 none-sooner-from-three n size three = go (size-log n size)
   where
     go : (h : ℕ) × (dimension n ≡ suc h) × (2 ^ h < n) × (n ≤ 2 ^ suc h) → NoneSooner n

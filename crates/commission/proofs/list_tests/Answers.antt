@@ -1,10 +1,10 @@
 -- The stations at the due distances below m are written.
 use Rattle.std.proofs.Common.{◌≡◌, refl, arith}
-use Rattle.lists.proofs.KeepLaws.{count_next, kept-next-by}
+use Rattle.lists.proofs.FilterLaws.{count_next, kept-next-by}
 use Rattle.table.specs.Sizes.{distances}
-use Rattle.station.specs.Tests.{due, dueDistances}
+use Rattle.station.specs.Tests.{due, due_distances}
 use Rattle.station.proofs.EntryLaws.{due-start}
-use Rattle.slots.specs.Slots.{tested, testsDue}
+use Rattle.slots.specs.Slots.{tested, tests_due}
 use Rattle.commission.proofs.ListLaws.{distance-range, count-below}
 use Rattle.commission.proofs.list_tests.Goals as goal
 
@@ -27,7 +27,7 @@ loop-m-preserved c =
     }
 
 pub returns : goal.returns
-unfolding testsDue tested dueDistances
+unfolding tests_due tested due_distances
 returns c =
     let i = c.loop-m.invariant in
     let e : c.loop-m.m ≡ distances c.args.n = omega (arith, c.distances-end.ensures) in

@@ -1,7 +1,7 @@
 -- The greatest of those asked so far.
 use Rattle.std.proofs.Common.{◌≡◌, refl, ◌∙◌, arith}
 use Rattle.lists.proofs.Loops.{greatest-start, greatest-next}
-use Rattle.slots.specs.Slots.{mostOfBoards}
+use Rattle.slots.specs.Slots.{most_of_boards}
 use Rattle.commission.proofs.most_of_boards.Goals as goal
 
 pub loop-i-init : goal.loop-i-init
@@ -18,7 +18,7 @@ loop-i-preserved c =
     }
 
 pub returns : goal.returns
-unfolding mostOfBoards
+unfolding most_of_boards
 returns c =
     let i = c.loop-i.invariant in
     let e : c.loop-i.i ≡ c.args.n = omega arith in

@@ -1,7 +1,7 @@
 -- The greatest of those asked so far.
 use Rattle.std.proofs.Common.{◌≡◌, refl, ◌∙◌, arith}
 use Rattle.lists.proofs.Loops.{greatest-start, greatest-next}
-use Rattle.slots.specs.Slots.{mostTests}
+use Rattle.slots.specs.Slots.{most_tests}
 use Rattle.commission.proofs.most_tests.Goals as goal
 
 pub loop-j-init : goal.loop-j-init
@@ -18,7 +18,7 @@ loop-j-preserved c =
     }
 
 pub returns : goal.returns
-unfolding mostTests
+unfolding most_tests
 returns c =
     let i = c.loop-j.invariant in
     let e : c.loop-j.j ≡ c.args.n = omega arith in

@@ -1,7 +1,7 @@
 -- What the drive promises of table and tally is what the claims speak of.
 use Rattle.std.proofs.Common.{sym, ap, subst}
-use Rattle.plant.specs.Entry.{stateWith}
-use Rattle.detection.specs.Claim.{demandWait, exactWait}
+use Rattle.plant.specs.Entry.{state_with}
+use Rattle.detection.specs.Claim.{demand_wait, exact_wait}
 use Rattle.granter.specs.Drive.{DriveOutcome}
 use Rattle.driving.specs.Driven.{DrivenWithinAfter}
 use Rattle.driving.proofs.DrivenDemand.{driven-demand-3, driven-exact-wait, last-drive}
@@ -9,16 +9,16 @@ use Rattle.driving.proofs.drive_in_list.Goals as goal
 
 pub returns-clause-driven_within_after : goal.returns-clause-driven_within_after
 returns-clause-driven_within_after c =
-    let before = stateWith c.args.table.now c.args.tally in
+    let before = state_with c.args.table.now c.args.tally in
     subst
-    (DrivenWithinAfter demandWait c.args.n c.args.last before)
+    (DrivenWithinAfter demand_wait c.args.n c.args.last before)
     (sym (ap (λ (o : DriveOutcome). o.state) c.drive.ensures.table_after))
-    (last-drive demandWait driven-demand-3 c.args.n c.args.last before)
+    (last-drive demand_wait driven-demand-3 c.args.n c.args.last before)
 
 pub returns-clause-driven_within_after_2 : goal.returns-clause-driven_within_after_2
 returns-clause-driven_within_after_2 c =
-    let before = stateWith c.args.table.now c.args.tally in
+    let before = state_with c.args.table.now c.args.tally in
     subst
-    (DrivenWithinAfter exactWait c.args.n c.args.last before)
+    (DrivenWithinAfter exact_wait c.args.n c.args.last before)
     (sym (ap (λ (o : DriveOutcome). o.state) c.drive.ensures.table_after))
-    (last-drive exactWait driven-exact-wait c.args.n c.args.last before)
+    (last-drive exact_wait driven-exact-wait c.args.n c.args.last before)

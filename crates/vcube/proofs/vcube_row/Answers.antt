@@ -1,7 +1,7 @@
 -- The station is handed on as a byte, and a size fits one.
 use Rattle.std.proofs.Common.{◌∙◌, sym, ap, [], length, arith}
 use Rattle.table.specs.Table.{row}
-use Rattle.station.specs.Calls.{rowPart}
+use Rattle.station.specs.Calls.{row_part}
 use Rattle.lists.proofs.RefusalLaws.{unless-refused, unless-accepted}
 use Rattle.table.proofs.CellLaws.{row-length}
 use Rattle.table.proofs.SizeLaws.{size-bounds}
@@ -19,7 +19,7 @@ returns-then-number-ne0-clause-start_after c =
     ∙ row-offset-narrow c.args.n c.args.table.now c.args.station _ c.byte_of.ensures
 
 pub returns-then-number-ne0-clause-bytes_after : goal.returns-then-number-ne0-clause-bytes_after
-unfolding rowPart
+unfolding row_part
 returns-then-number-ne0-clause-bytes_after c =
     let narrow = row-part-narrow c.args.n c.args.table.now c.args.station _ c.byte_of.ensures in
     ap length (unless-refused _ _ [] (row _ _ _) c.row_number-number.ensures c.if-number-ne0.true ∙ narrow)
@@ -41,7 +41,7 @@ returns-clause-start_after c =
     ∙ row-offset-narrow c.args.n c.args.table.now c.args.station _ c.byte_of.ensures
 
 pub returns-clause-bytes_after : goal.returns-clause-bytes_after
-unfolding rowPart
+unfolding row_part
 returns-clause-bytes_after c =
     let z = sym c.row_number-number.ensures ∙ c.if-number-ne0.false in
     let r = row_zero _ _ _ z in

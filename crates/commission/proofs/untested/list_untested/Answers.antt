@@ -1,8 +1,8 @@
 -- What there is to say of the distances below m is written.
 use Rattle.std.proofs.Common.{◌≡◌, refl, arith}
-use Rattle.lists.proofs.KeepLaws.{count_next, kept-next-by}
+use Rattle.lists.proofs.FilterLaws.{count_next, kept-next-by}
 use Rattle.table.specs.Sizes.{distances}
-use Rattle.slots.specs.Slots.{isUntested, untestedDistances, untested, ahead}
+use Rattle.slots.specs.Slots.{is_untested, untested_distances, untested, ahead}
 use Rattle.slots.proofs.Untested.{untested-start}
 use Rattle.commission.proofs.ListLaws.{distance-range, count-below}
 use Rattle.commission.proofs.untested.list_untested.Goals as goal
@@ -21,13 +21,13 @@ loop-m-preserved c =
       counted = count_next _ (λ k. k) _ _ _ i.counted p.value;
       listed = kept-next-by _ (λ k. k) _ _ _ _ _ _ i.counted i.listed p.list_after;
       named = kept-next-by _ (λ k. k) _ _ _ _ _ _ i.counted i.named p.firsts_after;
-      fewer = count-below (isUntested c.args.row.now c.args.i.0) _ _ _ i.fewer p.value;
+      fewer = count-below (is_untested c.args.row.now c.args.i.0) _ _ _ i.fewer p.value;
       reached = omega arith;
       bytes = i.bytes;
     }
 
 pub returns : goal.returns
-unfolding untestedDistances untested ahead
+unfolding untested_distances untested ahead
 returns c =
     let i = c.loop-m.invariant in
     let e : c.loop-m.m ≡ distances c.args.n = omega (arith, c.distances-end.ensures) in

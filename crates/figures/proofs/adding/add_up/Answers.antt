@@ -1,14 +1,14 @@
 -- The totals so far are those of the results passed; with one more result they are not overfull.
 use Rattle.std.proofs.Common.{◌≡◌, ◌≤◌, length, take, get_or, arith, ◌∙◌, ap₂}
 use Rattle.figures.specs.Batch.{sum_of, reduce}
-use Rattle.figures.specs.Totals.{totalsOf, joined}
+use Rattle.figures.specs.Totals.{totals_of, joined}
 use Rattle.figures.specs.Steps.{single}
 use Rattle.figures.proofs.Joining.{totals-step, part_count}
 use Rattle.figures.proofs.Bounds.{single-of-results, single-count, joined-of-results, not-overfull}
 use Rattle.figures.proofs.adding.add_up.Goals as goal
 
 pub loop-k-init : goal.loop-k-init
-unfolding totalsOf sum_of reduce
+unfolding totals_of sum_of reduce
 loop-k-init c = record {
   passed = omega arith;
   so_far = c.no_totals-sofar.ensures;
@@ -31,7 +31,7 @@ loop-k-preserved c =
     let k = c.loop-k.k in
     let x = get_or xs k 0 in
     let i = c.loop-k.invariant in
-    let e : c.joined-sofar.result ≡ joined (totalsOf (take k xs)) (single x) =
+    let e : c.joined-sofar.result ≡ joined (totals_of (take k xs)) (single x) =
     c.joined-sofar.ensures ∙ ap₂ joined i.so_far c.single.ensures in
     let one = single-of-results x (omega (arith, c.type_inv.results k)) in
     record {

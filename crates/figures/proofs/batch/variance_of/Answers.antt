@@ -2,7 +2,7 @@
 use Rattle.std.proofs.Common.{◌≡◌, ℕ, ◌-◌, ◌*◌, arith, ◌∙◌, ap}
 use native.Mathlib.Nat.{mul-le-mul}
 use Rattle.figures.specs.Fractions.{lowest}
-use Rattle.figures.specs.Totals.{varianceOf}
+use Rattle.figures.specs.Totals.{variance_of}
 use Rattle.figures.proofs.Bounds.{overfull-fits}
 use Rattle.figures.proofs.batch.variance_of.Goals as goal
 use Rattle.figures.proofs.batch.variance_of.Goals.{then-part-whole, else-part-whole}
@@ -17,7 +17,7 @@ pub overflow_mul-t : goal.overflow_mul-t
 overflow_mul-t c = let f = overfull-fits _ c.requires.t_value in omega (arith, mul-le-mul f.count_fits f.count_fits)
 
 pub returns : goal.returns
-unfolding varianceOf
+unfolding variance_of
 returns c =
     let t = c.args.t in
     let e : c.if-part-whole.upper ≡ t.count * t.squares - t.sum * t.sum =

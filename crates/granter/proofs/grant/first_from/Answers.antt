@@ -1,12 +1,12 @@
 -- The stations passed so far do not wait.
 use Rattle.std.proofs.Common.{◌≡◌, ◌+◌, ◌-◌, not, sym, ap, ◌∙◌, arith, below_more}
 use Rattle.lists.proofs.SearchLaws.{least-is, least-none}
-use Rattle.granter.specs.Grant.{waits, firstFrom}
+use Rattle.granter.specs.Grant.{waits, first_from}
 use Rattle.granter.proofs.GrantLaws.{waits-is}
 use Rattle.granter.proofs.grant.first_from.Goals as goal
 
 pub returns-then-not-finished_if_live : goal.returns-then-not-finished_if_live
-unfolding firstFrom
+unfolding first_from
 returns-then-not-finished_if_live c =
     let i = c.loop-i.invariant in
     let w = sym (waits-is _ _ _) ∙ ap not (sym c.finished_if_live.ensures ∙ c.if-not-finished_if_live.true) in
@@ -21,7 +21,7 @@ loop-i-preserved c = record {
 }
 
 pub returns : goal.returns
-unfolding firstFrom
+unfolding first_from
 returns c =
     let a = c.args in
     let i = c.loop-i.invariant in

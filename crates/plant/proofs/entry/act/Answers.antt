@@ -2,7 +2,7 @@
 use Rattle.std.proofs.Common.{eq-eqb, ne_eqb}
 use Rattle.table.proofs.Accepting.{accepted}
 use Rattle.turn.specs.Turn.{crash}
-use Rattle.plant.specs.Entry.{acted, tested_of, outcomeOf}
+use Rattle.plant.specs.Entry.{acted, tested_of, outcome_of}
 use Rattle.plant.proofs.entry.act.Goals as goal
 
 pub leave-requires : goal.leave-requires
@@ -13,7 +13,7 @@ unfolding tested_of
 returns-then-kind-eq-CRASH-clause-tested_value c = rw (eq-eqb _ _ c.if-kind-eq-CRASH.true)
 
 pub returns-then-kind-eq-CRASH-clause-outcome_value : goal.returns-then-kind-eq-CRASH-clause-outcome_value
-unfolding outcomeOf
+unfolding outcome_of
 returns-then-kind-eq-CRASH-clause-outcome_value c = rw (eq-eqb _ _ c.if-kind-eq-CRASH.true)
 
 pub returns-then-kind-eq-CRASH-clause-table_after : goal.returns-then-kind-eq-CRASH-clause-table_after
@@ -25,7 +25,7 @@ unfolding tested_of
 returns-clause-tested_value c = rw (ne_eqb _ _ c.if-kind-eq-CRASH.false) c.take_turn.ensures.tested_value
 
 pub returns-clause-outcome_value : goal.returns-clause-outcome_value
-unfolding outcomeOf
+unfolding outcome_of
 returns-clause-outcome_value c = rw (ne_eqb _ _ c.if-kind-eq-CRASH.false) c.take_turn.ensures.outcome_value
 
 pub returns-clause-table_after : goal.returns-clause-table_after

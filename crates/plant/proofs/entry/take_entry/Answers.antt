@@ -1,7 +1,7 @@
 -- The entry is taken, so that no tally is full, and its outcome tells whether a test was made.
 use Rattle.std.proofs.Common.{◌∙◌, arith}
 use Rattle.table.proofs.Accepting.{accepted}
-use Rattle.plant.specs.Entry.{stateWith, entry_of, after, sheetLine}
+use Rattle.plant.specs.Entry.{state_with, entry_of, after, sheet_line}
 use Rattle.plant.proofs.RulesKept.{entry-facts}
 use Rattle.plant.proofs.RunLaws.{made-test, line-written}
 use Rattle.plant.proofs.entry.take_entry.Goals as goal
@@ -19,13 +19,13 @@ get-requires c =
 
 pub grown-requires : goal.grown-requires
 grown-requires c =
-    let f = entry-facts c.args.n (stateWith c.args.table.now c.args.tally) (entry_of c.args.kind c.args.i.0) c.requires.1 in
-    omega (arith, f.roundsFit)
+    let f = entry-facts c.args.n (state_with c.args.table.now c.args.tally) (entry_of c.args.kind c.args.i.0) c.requires.1 in
+    omega (arith, f.rounds_fit)
 
 pub grown-requires-2 : goal.grown-requires-2
 grown-requires-2 c =
-    let f = entry-facts c.args.n (stateWith c.args.table.now c.args.tally) (entry_of c.args.kind c.args.i.0) c.requires.1 in
-    omega (arith, f.testsFit)
+    let f = entry-facts c.args.n (state_with c.args.table.now c.args.tally) (entry_of c.args.kind c.args.i.0) c.requires.1 in
+    omega (arith, f.tests_fit)
 
 pub returns-clause-result_after : goal.returns-clause-result_after
 unfolding after
@@ -36,7 +36,7 @@ returns-clause-result_after c =
     rw (c.grown.ensures, c.grown-2.ensures, f.value, f.table_after, e.table_after, e.outcome_value, m)
 
 pub returns-clause-line_after : goal.returns-clause-line_after
-unfolding after sheetLine
+unfolding after sheet_line
 returns-clause-line_after c =
     let d = c.act-done.result in
     let e = c.act-done.ensures in

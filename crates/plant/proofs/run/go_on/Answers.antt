@@ -1,6 +1,6 @@
 -- The rest of the run, from where it stands, gives what the whole gives, and the table obeys the rules.
 use Rattle.std.proofs.Common.{◌≡◌, ◌/◌, length, refl, sym, ap, ◌∙◌, arith, length-take, length-drop}
-use Rattle.plant.specs.Entry.{State, stateWith}
+use Rattle.plant.specs.Entry.{State, state_with}
 use Rattle.plant.proofs.RulesKept.{accepted-kept}
 use Rattle.plant.proofs.RunLaws.{accepted-number, entry_at, line-back, go-taken, go-stopped, go-done, start-facts}
 use Rattle.plant.proofs.run.go_on.Goals as goal
@@ -13,7 +13,7 @@ loop-k-init c =
 pub returns-then-number-ne0 : goal.returns-then-number-ne0
 returns-then-number-ne0 c =
     let l = c.loop-k in
-    let s = stateWith l.table l.held in
+    let s = state_with l.table l.held in
     let r = c.entry_number-number.ensures in
     sym (sym l.invariant.same ∙ go-stopped c.args.n l.k s l.sheet c.args.schedule.now _ c.loop-k-test.true r c.if-number-ne0.true)
 
@@ -30,7 +30,7 @@ loop-k-preserved c =
     let l = c.loop-k in
     let i = l.invariant in
     let h = c.loop-k-test.true in
-    let s = stateWith l.table l.held in
+    let s = state_with l.table l.held in
     let e = entry_at c.args.schedule.now l.k in
     let z = sym c.entry_number-number.ensures ∙ c.if-number-ne0.false in
     let p = c.take_entry-held.ensures in
@@ -44,7 +44,7 @@ loop-k-preserved c =
 pub returns : goal.returns
 returns c =
     let l = c.loop-k in
-    let s = stateWith l.table l.held in
+    let s = state_with l.table l.held in
     let all : l.k ≡ length c.args.schedule.now / 2 = omega arith in
     let done = sym l.invariant.same ∙ go-done c.args.n l.k s l.sheet c.args.schedule.now c.loop-k-test.false in
     rw all at (sym done)

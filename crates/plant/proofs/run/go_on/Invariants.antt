@@ -1,14 +1,14 @@
 -- The rest of the run, from where it stands, gives what the whole gives, and the table obeys the rules.
 use Rattle.std.proofs.Common.{◌≡◌, ◌*◌, length, drop}
 use Rattle.table.proofs.Accepting.{Accepted}
-use Rattle.plant.specs.Entry.{stateWith}
-use Rattle.plant.specs.Run.{entries, goOn}
+use Rattle.plant.specs.Entry.{state_with}
+use Rattle.plant.specs.Run.{entries, go_on}
 use Rattle.plant.proofs.run.go_on.Given as goal
 
 abbrev pub invariant-loop-k : goal.invariant-loop-k
 invariant-loop-k l = record {
   twice : length l.sheet ≡ 2 * length l.schedule;
   rules : Accepted l.n l.table;
-  same : goOn l.n l.k (stateWith l.table l.held) l.sheet (drop l.k (entries l.schedule))
-      ≡ goOn l.n 0 (stateWith l.initial.table l.initial.held) l.initial.sheet (entries l.schedule);
+  same : go_on l.n l.k (state_with l.table l.held) l.sheet (drop l.k (entries l.schedule))
+      ≡ go_on l.n 0 (state_with l.initial.table l.initial.held) l.initial.sheet (entries l.schedule);
 }

@@ -1,14 +1,14 @@
 -- A field that stands at the cursor ends inside the file, and is the first of the rest.
 use Rattle.std.proofs.Common.{◌≡◌, refl, sym, ap, ◌∙◌, true, false, arith}
 use native.Mathlib.Nat.{add-sub_cancel_left}
-use Rattle.saved.specs.Fields.{is_none, orEmpty, runsPast, fields_of}
+use Rattle.saved.specs.Fields.{is_none, or_empty, runs_past, fields_of}
 use Rattle.saved.specs.Passes.{built, build}
 use Rattle.saved.proofs.Reading.{told}
 use Rattle.saved.proofs.Building.{whole-rest, build-next, build-stops}
 use Rattle.saved.proofs.lines.take_fields.Goals as goal
 
 pub loop-tag-init : goal.loop-tag-init
-unfolding runsPast
+unfolding runs_past
 loop-tag-init c = record { whole = rw c.new-cursor.ensures c.requires.3; gives = rw c.new-cursor.ensures }
 
 pub overflow_add-start : goal.overflow_add-start
@@ -47,4 +47,4 @@ pub returns-in-End : goal.returns-in-End
 unfolding fields_of build
 returns-in-End c =
     let t = told _ _ _ _ c.in-End.ensures refl in
-    sym (ap (λ fs. build c.args.n (orEmpty fs) (built true c.loop-tag.table c.loop-tag.seen)) t) ∙ c.loop-tag.invariant.gives
+    sym (ap (λ fs. build c.args.n (or_empty fs) (built true c.loop-tag.table c.loop-tag.seen)) t) ∙ c.loop-tag.invariant.gives

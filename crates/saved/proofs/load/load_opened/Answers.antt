@@ -3,21 +3,21 @@ use Rattle.std.proofs.Common.{◌≡◌, ℕ, ◌≤◌, ◌++◌, List, length,
 use Rattle.std.proofs.lemmas.List.Edits.{sets}
 use lib.Seq.{take_at, length-take-le}
 use Rattle.lists.proofs.Writing.{sets-all}
-use Rattle.table.specs.Sizes.{isSize}
-use Rattle.table.specs.Table.{tableLength, greatestTable}
+use Rattle.table.specs.Sizes.{is_size}
+use Rattle.table.specs.Table.{table_length, greatest_table}
 use Rattle.saved.specs.Fields.{fields_of}
-use Rattle.saved.specs.Plant.{tableIn}
-use Rattle.saved.specs.Load.{fileSize, fileLines, sizeNumber, restNumber, answer_of}
+use Rattle.saved.specs.Plant.{table_in}
+use Rattle.saved.specs.Load.{file_size, file_lines, size_number, rest_number, answer_of}
 use Rattle.saved.specs.declared.Loaded.{Loaded}
 use Rattle.saved.proofs.Loading.{opened-size, size-zero, table_fits, load-turned, load-done, load-long}
 use Rattle.saved.proofs.load.load_opened.Goals as goal
 
 -- the length l of the file's table, and that it fits into our own buffer
-fits : (file : List ℕ) (r : Loaded) (own : List ℕ) (l : ℕ) → r ≡ answer_of 0 (fields_of file) → sizeNumber file ≡ 0 → length own ≡ greatestTable
-    → l ≡ tableLength r.size → (l ≡ tableLength (fileSize file)) × (l ≤ length own) × (length (take l own) ≡ l)
+fits : (file : List ℕ) (r : Loaded) (own : List ℕ) (l : ℕ) → r ≡ answer_of 0 (fields_of file) → size_number file ≡ 0 → length own ≡ greatest_table
+    → l ≡ table_length r.size → (l ≡ table_length (file_size file)) × (l ≤ length own) × (length (take l own) ≡ l)
 fits file r own l e z g k =
-    let t = table_fits (fileSize file) (size-zero file z).1 in
-    let m = k ∙ ap tableLength (opened-size file r e) in
+    let t = table_fits (file_size file) (size-zero file z).1 in
+    let m = k ∙ ap table_length (opened-size file r e) in
     (m, omega arith, length-take-le l own (omega arith))
 
 -- what the buffer holds at its front
@@ -26,8 +26,8 @@ front own last l e f = take_at last (drop l own) l (e ∙ f)
 
 -- the number of the rest, with the size that the file says
 rest : (file : List ℕ) (r : Loaded) (len : ℕ) → r ≡ answer_of 0 (fields_of file)
-    → restNumber r.size (fileLines file) len ≡ restNumber (fileSize file) (fileLines file) len
-rest file r len e = ap (λ n. restNumber n (fileLines file) len) (opened-size file r e)
+    → rest_number r.size (file_lines file) len ≡ rest_number (file_size file) (file_lines file) len
+rest file r len e = ap (λ n. rest_number n (file_lines file) len) (opened-size file r e)
 
 pub slice_bounds-build_and_judge-end : goal.slice_bounds-build_and_judge-end
 slice_bounds-build_and_judge-end c = (fits _ _ c.args.own.now _ c.requires.0 c.requires.1 c.requires.2 c.table_length-length.ensures).1
@@ -39,7 +39,7 @@ pub build_and_judge-number-requires : goal.build_and_judge-number-requires
 build_and_judge-number-requires c =
     let f = fits _ _ c.args.own.now _ c.requires.0 c.requires.1 c.requires.2 c.table_length-length.ensures in
     let z = size-zero c.args.file.now c.requires.1 in
-    (ap isSize (opened-size _ _ c.requires.0) ∙ z.1, f.2 ∙ c.table_length-length.ensures, z.0)
+    (ap is_size (opened-size _ _ c.requires.0) ∙ z.1, f.2 ∙ c.table_length-length.ensures, z.0)
 
 pub returns-then-number-ne0-clause-value : goal.returns-then-number-ne0-clause-value
 returns-then-number-ne0-clause-value c =
@@ -80,7 +80,7 @@ returns c =
     let t = load-long c.args.file.now c.args.table.now c.requires.1 z in
     let last = c.build_and_judge-number.new.own in
     let own = c.build_and_judge-number.ensures.own_after c.if-number-ne0.false
-    ∙ ap (λ n. tableIn n (fileLines c.args.file.now)) (opened-size _ _ c.requires.0) in
+    ∙ ap (λ n. table_in n (file_lines c.args.file.now)) (opened-size _ _ c.requires.0) in
     let done = load-done c.args.file.now c.args.table.now c.requires.1 c.args.opened _ c.requires.0 z
     (c.put_list.ensures ∙ (ap (sets c.args.table.now 0) (front c.args.own.now last _ e f.2)
     ∙ (sets-all c.args.table.now last (t ∙ sym f.0 ∙ sym (e ∙ f.2)) ∙ own))) in

@@ -2,16 +2,16 @@
 use Rattle.std.proofs.Common.{◌∙◌, sym, arith}
 use Rattle.lists.proofs.RefusalLaws.{unless-refused, unless-accepted}
 use Rattle.table.proofs.SizeLaws.{size-bounds}
-use Rattle.station.specs.Calls.{assignmentCount, assignmentAfter}
+use Rattle.station.specs.Calls.{assignment_count, assignment_after}
 use Rattle.station.proofs.Refusals.{assignment-zero}
 use Rattle.station.proofs.due.assignment.Goals as goal
 
 pub returns-then-number-ne0-clause-count_value : goal.returns-then-number-ne0-clause-count_value
-unfolding assignmentCount
+unfolding assignment_count
 returns-then-number-ne0-clause-count_value c = unless-refused _ _ _ _ c.assignment_number-number.ensures c.if-number-ne0.true
 
 pub returns-then-number-ne0-clause-list_after : goal.returns-then-number-ne0-clause-list_after
-unfolding assignmentAfter
+unfolding assignment_after
 returns-then-number-ne0-clause-list_after c = unless-refused _ _ _ _ c.assignment_number-number.ensures c.if-number-ne0.true
 
 pub overflow_cast-n : goal.overflow_cast-n
@@ -33,13 +33,13 @@ write_entries-count-requires c =
     (z.0.size, c.row.ensures.result_len, z.1, omega (arith, size-bounds _ z.0.size, z.3))
 
 pub returns-clause-count_value : goal.returns-clause-count_value
-unfolding assignmentCount
+unfolding assignment_count
 returns-clause-count_value c =
     rw c.row.ensures.result_value at c.write_entries-count.ensures.value
     ∙ unless-accepted _ _ _ (sym c.assignment_number-number.ensures ∙ c.if-number-ne0.false)
 
 pub returns-clause-list_after : goal.returns-clause-list_after
-unfolding assignmentAfter
+unfolding assignment_after
 returns-clause-list_after c =
     rw c.row.ensures.result_value at c.write_entries-count.ensures.list_after
     ∙ unless-accepted _ _ _ (sym c.assignment_number-number.ensures ∙ c.if-number-ne0.false)

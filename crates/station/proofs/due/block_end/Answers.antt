@@ -1,6 +1,6 @@
 -- The end of a block is the definition's own term; distance 0 is alone in its block.
 use Rattle.std.proofs.Common.{refl, sym}
-use Rattle.station.specs.Ahead.{blockEnd}
+use Rattle.station.specs.Ahead.{block_end}
 use Rattle.station.proofs.AheadLaws.{block-zero}
 use Rattle.station.proofs.due.block_end.Goals as goal
 
@@ -8,5 +8,5 @@ pub returns-then-m-eq0 : goal.returns-then-m-eq0
 returns-then-m-eq0 c = rw c.if-m-eq0.true (sym block-zero)
 
 pub returns : goal.returns
-unfolding blockEnd
+unfolding block_end
 returns c = refl

@@ -2,9 +2,9 @@
 use Rattle.std.proofs.Common.{◌≡◌, ◌∙◌, arith}
 use Rattle.table.specs.Sizes.{distances}
 use Rattle.table.proofs.SizeLaws.{size-distances, distances-pos}
-use Rattle.lists.proofs.KeepLaws.{count_next}
-use Rattle.station.specs.Tests.{dueDistances}
-use Rattle.station.specs.Calls.{otherDistances}
+use Rattle.lists.proofs.FilterLaws.{count_next}
+use Rattle.station.specs.Tests.{due_distances}
+use Rattle.station.specs.Calls.{other_distances}
 use Rattle.station.proofs.EntryLaws.{entries-start, due-start, due-count, entry-bytes, entry_next, entry_done}
 use Rattle.station.proofs.due.write_entries.Goals as goal
 
@@ -34,11 +34,11 @@ loop-m-preserved c =
     }
 
 pub returns-clause-value : goal.returns-clause-value
-unfolding dueDistances
+unfolding due_distances
 returns-clause-value c = let e : c.loop-m.m ≡ distances c.args.n = omega (arith, distances-pos c.args.n) in rw e at c.loop-m.invariant.counted
 
 pub returns-clause-list_after : goal.returns-clause-list_after
-unfolding otherDistances
+unfolding other_distances
 returns-clause-list_after c =
     let e : c.loop-m.m ≡ distances c.args.n = omega (arith, distances-pos c.args.n) in
     rw e at c.loop-m.invariant.written.1 ∙ entry_done _ _ _ c.requires.0 c.requires.2 _ c.requires.3

@@ -1,11 +1,12 @@
 -- At the end all places of the group are passed.
 use Rattle.std.proofs.Common.{◌≡◌, refl, ◌∙◌, ap, length, arith}
-use Rattle.lists.specs.Search.{keep, list_of}
+use Rattle.std.specs.List.{filter}
+use Rattle.lists.specs.Search.{list_of}
 use Rattle.station.proofs.GroupWalk.{passed, passed-all, passed-le, passed-count}
 use Rattle.station.proofs.groups.group_length.Goals as goal
 
 pub loop-k-init : goal.loop-k-init
-unfolding passed keep list_of
+unfolding passed list_of
 loop-k-init c = refl
 
 pub count_if-count-requires : goal.count_if-count-requires

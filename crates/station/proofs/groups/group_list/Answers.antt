@@ -2,7 +2,7 @@
 use Rattle.std.proofs.Common.{◌∙◌, sym, arith}
 use Rattle.lists.proofs.RefusalLaws.{unless-refused, unless-accepted}
 use Rattle.table.proofs.SizeLaws.{size-bounds, size-dimension}
-use Rattle.station.specs.Calls.{groupAfter}
+use Rattle.station.specs.Calls.{group_after}
 use Rattle.station.proofs.Refusals.{group-zero}
 use Rattle.station.proofs.groups.group_list.Goals as goal
 
@@ -18,10 +18,10 @@ pub write_group-requires-clause-list_len : goal.write_group-requires-clause-list
 write_group-requires-clause-list_len c = (group-zero _ _ _ _ (sym c.group_number-number.ensures ∙ c.if-number-eq0.true)).2
 
 pub returns-then-number-eq0-clause-list_after : goal.returns-then-number-eq0-clause-list_after
-unfolding groupAfter
+unfolding group_after
 returns-then-number-eq0-clause-list_after c =
     c.write_group.ensures ∙ unless-accepted _ _ _ (sym c.group_number-number.ensures ∙ c.if-number-eq0.true)
 
 pub returns-else-number-eq0-clause-list_after : goal.returns-else-number-eq0-clause-list_after
-unfolding groupAfter
+unfolding group_after
 returns-else-number-eq0-clause-list_after c = unless-refused _ _ _ _ c.group_number-number.ensures c.if-number-eq0.false

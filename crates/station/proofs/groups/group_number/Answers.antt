@@ -2,19 +2,19 @@
 use Rattle.std.proofs.Common.{sym, ◌∙◌, arith}
 use Rattle.table.proofs.SizeLaws.{size-bounds, size-dimension}
 use Rattle.lists.proofs.RefusalLaws.{else-first}
-use Rattle.station.specs.Calls.{groupNumber}
+use Rattle.station.specs.Calls.{group_number}
 use Rattle.station.proofs.Refusals.{range-zero}
 use Rattle.station.proofs.groups.group_number.Goals as goal
 
 pub returns-then-not-is_size : goal.returns-then-not-is_size
-unfolding groupNumber
+unfolding group_number
 returns-then-not-is_size c = simp (← c.is_size.ensures, c.if-not-is_size.true)
 
 pub overflow_cast-n : goal.overflow_cast-n
 overflow_cast-n c = omega (arith, size-bounds _ (sym c.if-not-is_size.ensures))
 
 pub returns-then-number-ne0 : goal.returns-then-number-ne0
-unfolding groupNumber
+unfolding group_number
 returns-then-number-ne0 c =
     rw (← c.is_size.ensures, c.if-not-is_size.false) (else-first _ _ _ c.range_number-number.ensures c.if-number-ne0.true)
 
@@ -27,7 +27,7 @@ group_length-length-requires c =
     (m.1, omega (arith, m.2, size-dimension _ (sym c.if-not-is_size.ensures)))
 
 pub returns : goal.returns
-unfolding groupNumber
+unfolding group_number
 returns c =
     rw (
       ← c.is_size.ensures,

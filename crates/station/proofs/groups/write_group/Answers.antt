@@ -1,12 +1,13 @@
 -- At the end all places of the group are passed, and its stations fill the list.
 use Rattle.std.proofs.Common.{◌≡◌, refl, sym, ◌∙◌, ap, length, arith}
-use Rattle.lists.specs.Search.{keep, list_of}
+use Rattle.std.specs.List.{filter}
+use Rattle.lists.specs.Search.{list_of}
 use Rattle.lists.proofs.Writing.{sets-all}
 use Rattle.station.proofs.GroupWalk.{passed, passed-all, passed-le, passed-count, passed-put}
 use Rattle.station.proofs.groups.write_group.Goals as goal
 
 pub loop-k-init : goal.loop-k-init
-unfolding passed keep list_of
+unfolding passed list_of
 loop-k-init c = record { counted = refl; written = refl }
 
 pub put_member-count-requires : goal.put_member-count-requires

@@ -2,12 +2,12 @@
 use Rattle.std.proofs.Common.{◌∙◌, sym, refl, arith}
 use Rattle.lists.proofs.RefusalLaws.{unless-refused, unless-accepted}
 use Rattle.table.proofs.SizeLaws.{size-bounds}
-use Rattle.station.specs.Calls.{rowPart}
+use Rattle.station.specs.Calls.{row_part}
 use Rattle.station.proofs.Refusals.{row_zero, offset-refused, offset-accepted}
 use Rattle.station.proofs.rows.row.Goals as goal
 
 pub returns-then-number-ne0 : goal.returns-then-number-ne0
-unfolding rowPart
+unfolding row_part
 returns-then-number-ne0 c =
     let e = c.row_number-number.ensures in
     let h = c.if-number-ne0.true in
@@ -25,7 +25,7 @@ row-requires c =
     (z.0.long, z.1)
 
 pub returns : goal.returns
-unfolding rowPart
+unfolding row_part
 returns c =
     let zero = sym c.row_number-number.ensures ∙ c.if-number-ne0.false in
     let place = c.row.ensures.ref_ptr_value in

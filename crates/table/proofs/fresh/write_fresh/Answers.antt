@@ -1,7 +1,7 @@
 -- The bytes passed so far are those of a fresh table.
 use Rattle.std.proofs.Common.{rules}
 use Rattle.lists.proofs.Loops.{loops, fill_start, fill-next}
-use Rattle.table.specs.Fresh.{freshTable}
+use Rattle.table.specs.Fresh.{fresh_table}
 use Rattle.table.proofs.fresh.write_fresh.Goals as goal
 
 pub loop-p-init : goal.loop-p-init
@@ -11,5 +11,5 @@ pub loop-p-preserved : goal.loop-p-preserved
 loop-p-preserved c = fill-next _ _ _ _ _ c.loop-p.invariant c.fresh_byte.ensures
 
 pub returns : goal.returns
-unfolding freshTable
+unfolding fresh_table
 returns c = search (rules, loops)

@@ -2,8 +2,8 @@
 use Rattle.std.proofs.Common.{◌≡◌}
 use Rattle.std.proofs.lemmas.List.Edits.{sets}
 use Rattle.lists.specs.Search.{list_of}
-use Rattle.table.specs.Fresh.{freshByte}
+use Rattle.table.specs.Fresh.{fresh_byte}
 use Rattle.table.proofs.fresh.write_fresh.Given as goal
 
 abbrev pub invariant-loop-p : goal.invariant-loop-p
-invariant-loop-p l = l.table ≡ sets l.initial.table 0 (list_of (freshByte l.n) l.p)
+invariant-loop-p l = l.table ≡ sets l.initial.table 0 (list_of (fresh_byte l.n) l.p)

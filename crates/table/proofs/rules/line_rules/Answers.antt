@@ -2,23 +2,23 @@
 use Rattle.std.proofs.Common.{le-leb}
 use mathlib.Core.Bool.{and-false}
 use borrow.Author.Tests.{lt-leb}
-use Rattle.table.specs.Rules.{lineRules}
+use Rattle.table.specs.Rules.{line_rules}
 use Rattle.table.proofs.rules.line_rules.Goals as goal
 
 pub returns-then-status-gt3 : goal.returns-then-status-gt3
-unfolding lineRules
+unfolding line_rules
 returns-then-status-gt3 c = rw (← c.get-status.ensures, lt-leb _ 3 c.if-status-gt3.true)
 
 pub returns-then-not-pass_rule : goal.returns-then-not-pass_rule
-unfolding lineRules
+unfolding line_rules
 returns-then-not-pass_rule c = rw (← c.pass_rule.ensures, c.if-not-pass_rule.true, and-false)
 
 pub returns-then-not-exit_rule : goal.returns-then-not-exit_rule
-unfolding lineRules
+unfolding line_rules
 returns-then-not-exit_rule c = rw (← c.exit_rule.ensures, c.if-not-exit_rule.true, and-false)
 
 pub returns : goal.returns
-unfolding lineRules
+unfolding line_rules
 returns c =
     let low = le-leb c.get-status.result 3 c.if-status-gt3.false in
     rw (

@@ -1,6 +1,6 @@
 -- The greatest byte so far is in its range as long as all bytes passed are.
 use Rattle.std.proofs.Common.{◌≡◌, sym, arith}
-use Rattle.table.specs.Rules.{rowRule}
+use Rattle.table.specs.Rules.{row_rule}
 use Rattle.lists.proofs.Loops.{every-start}
 use Rattle.table.proofs.CellLaws.{row_at, range-next}
 use Rattle.table.proofs.rules.row_rule.Goals as goal
@@ -13,7 +13,7 @@ loop-byte-preserved c =
     range-next _ _ _ _ _ _ _ c.row-row.ensures.result_value (omega arith) c.loop-byte.invariant c.greater-greatest.ensures
 
 pub returns : goal.returns
-unfolding rowRule
+unfolding row_rule
 returns c =
     let e : c.loop-byte.byte-index ≡ c.args.n = omega arith in
     rw (

@@ -4,7 +4,7 @@ use Rattle.table.proofs.Accepting.{accepted}
 use Rattle.table.proofs.SizeLaws.{size-bounds, size-distances}
 use Rattle.table.proofs.CellLaws.{accepted-line}
 use Rattle.turn.specs.Turn.{testing}
-use Rattle.turn.proofs.StepCells.{countTest-length}
+use Rattle.turn.proofs.StepCells.{count_test-length}
 use Rattle.turn.proofs.StepLines.{station-apart}
 use Rattle.turn.proofs.steps.make_test.Goals as goal
 
@@ -14,14 +14,14 @@ count_test-requires c =
     let p = c.requires in
     let t = accepted a.n a.table.now p.0 in
     let l = accepted-line a.n a.table.now t a.i.0 p.1 in
-    (t.long, p.1, omega arith, omega (arith, size-distances a.n t.size, l.pass.testsBound, l.pass.nextHigh))
+    (t.long, p.1, omega arith, omega (arith, size-distances a.n t.size, l.pass.tests_bound, l.pass.next_high))
 
 pub test_outcome-outcome-requires : goal.test_outcome-outcome-requires
 test_outcome-outcome-requires c =
     let a = c.args in
     let p = c.requires in
     let t = accepted a.n a.table.now p.0 in
-    (ap length c.count_test.ensures ∙ (countTest-length a.n a.table.now a.i.0 a.m.0 ∙ t.long), p.1, rw c.lookup-j.ensures p.4)
+    (ap length c.count_test.ensures ∙ (count_test-length a.n a.table.now a.i.0 a.m.0 ∙ t.long), p.1, rw c.lookup-j.ensures p.4)
 
 pub apply_outcome-requires : goal.apply_outcome-requires
 apply_outcome-requires c =
@@ -30,7 +30,7 @@ apply_outcome-requires c =
     let t = accepted a.n a.table.now p.0 in
     let e = c.lookup-j.ensures in (
       (size-bounds a.n t.size).1,
-      ap length c.count_test.ensures ∙ (countTest-length a.n a.table.now a.i.0 a.m.0 ∙ t.long),
+      ap length c.count_test.ensures ∙ (count_test-length a.n a.table.now a.i.0 a.m.0 ∙ t.long),
       p.1,
       rw e p.4,
       λ q. station-apart a.i.0 a.m.0 p.2 (q ∙ e),

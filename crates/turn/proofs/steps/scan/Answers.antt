@@ -2,7 +2,7 @@
 use Rattle.std.proofs.Common.{◌≡◌, ◌+◌, ◌-◌, ◌∙◌, sym, ap, below_more, arith}
 use mathlib.Core.Logic.{by_cases}
 use native.Mathlib.Decide.{dec_lt}
-use Rattle.station.specs.Tests.{saysDue, due}
+use Rattle.station.specs.Tests.{says_due, due}
 use Rattle.lists.proofs.SearchLaws.{least-is, least-none}
 use Rattle.station.proofs.DueLaws.{due-absent, due-is}
 use Rattle.station.proofs.AheadLaws.{block-low, none-due-in-block}
@@ -34,7 +34,7 @@ loop-m-preserved c =
 pub returns-in-loop-m : goal.returns-in-loop-m
 returns-in-loop-m c =
     let i = c.loop-m.invariant in
-    sym (least-is _ _ _ _ i.begun (omega arith) (due-is _ _ _ ∙ ap saysDue (sym c.in-Due.ensures)) (λ y a b. i.passed y b a))
+    sym (least-is _ _ _ _ i.begun (omega arith) (due-is _ _ _ ∙ ap says_due (sym c.in-Due.ensures)) (λ y a b. i.passed y b a))
 
 pub returns-then-from-end : goal.returns-then-from-end
 returns-then-from-end c =

@@ -1,8 +1,8 @@
 -- The stations passed so far are suspected, but for the station itself.
 use Rattle.std.proofs.Common.{◌≡◌, true}
 use Rattle.lists.specs.Search.{every}
-use Rattle.turn.specs.Turn.{selfOrSuspected}
+use Rattle.turn.specs.Turn.{self_or_suspected}
 use Rattle.turn.proofs.steps.suspects_all.Given as goal
 
 abbrev pub invariant-loop-k : goal.invariant-loop-k
-invariant-loop-k l = every (selfOrSuspected l.n l.table l.i.0) l.k ≡ true
+invariant-loop-k l = every (self_or_suspected l.n l.table l.i.0) l.k ≡ true

@@ -4,8 +4,8 @@ use borrow.Author.Tests.{lt-ltb, le-ltb}
 use Rattle.table.proofs.Accepting.{accepted}
 use Rattle.table.proofs.SizeLaws.{size-bounds, size-distances}
 use Rattle.table.proofs.CellLaws.{accepted-line}
-use Rattle.turn.specs.Turn.{makesTest, turn, turnTested, turnOutcome}
-use Rattle.turn.proofs.NextTest.{nextTest-low, test-station}
+use Rattle.turn.specs.Turn.{makes_test, turn, turn_tested, turn_outcome}
+use Rattle.turn.proofs.NextTest.{next_test-low, test-station}
 use Rattle.turn.proofs.steps.take_turn.Goals as goal
 
 pub next_test-m-requires : goal.next_test-m-requires
@@ -19,13 +19,13 @@ finish_pass-requires c =
     ((size-bounds c.args.n t.size).1, (t.long, c.requires.1))
 
 pub returns-then-distances-m : goal.returns-then-distances-m
-unfolding turn turnTested turnOutcome makesTest
+unfolding turn turn_tested turn_outcome makes_test
 returns-then-distances-m c =
     let e = le-ltb _ _ (rw c.distances.ensures at c.if-distances-m.true) in
     rw (← c.next_test-m.ensures, e) (record { tested_value = refl; outcome_value = refl; table_after = c.finish_pass.ensures })
 
 pub make_test-outcome-requires : goal.make_test-outcome-requires
-unfolding makesTest
+unfolding makes_test
 make_test-outcome-requires c =
     let a = c.args in
     let p = c.requires in
@@ -36,13 +36,13 @@ make_test-outcome-requires c =
     let e = lt-ltb _ _ (rw (end, m) at c.if-distances-m.false) in (
       p.0,
       p.1,
-      omega (arith, m, nextTest-low a.n a.table.now a.i.0, l.pass.nextLow),
+      omega (arith, m, next_test-low a.n a.table.now a.i.0, l.pass.next_low),
       omega (arith, end, size-distances a.n t.size),
       rw m (test-station a.n a.table.now a.i.0 e t.long p.1),
     )
 
 pub returns : goal.returns
-unfolding turn turnTested turnOutcome makesTest
+unfolding turn turn_tested turn_outcome makes_test
 returns c =
     let e = lt-ltb _ _ (rw c.distances.ensures at c.if-distances-m.false) in
     let o = c.make_test-outcome.ensures in

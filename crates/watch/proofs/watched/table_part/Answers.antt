@@ -1,12 +1,12 @@
 -- A size is at most 64, and 64 · 70 is 4,480.
 use Rattle.std.proofs.Common.{ℕ, ◌≤◌, sym, ◌∙◌, arith}
 use Rattle.std.proofs.Math.Nat.{mul-le-mul}
-use Rattle.table.specs.Table.{stride, greatestTable, tableLength}
+use Rattle.table.specs.Table.{stride, greatest_table, table_length}
 use Rattle.table.proofs.SizeLaws.{size-bounds}
 use Rattle.watch.proofs.watched.table_part.Goals as goal
 
-table-within : (n : ℕ) → n ≤ 64 → tableLength n ≤ greatestTable
-unfolding tableLength
+table-within : (n : ℕ) → n ≤ 64 → table_length n ≤ greatest_table
+unfolding table_length
 table-within n h = let e : stride n ≤ stride 64 = omega arith in mul-le-mul h e
 
 pub overflow_cast-size : goal.overflow_cast-size
