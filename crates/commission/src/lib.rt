@@ -22,10 +22,8 @@ pub fn list_tests(n: u8, row: &[u8], i: Station, list: &mut [u8]) -> u8
 {
     let end = sizes::distances(n);
     let mut count: u8 = 0;
-    let mut m: u16 = 1;
-    while m < end {
+    for m in 1..end {
         count = put_test(row, i, Distance(m as u8), list, count);
-        m += 1;
     }
     count
 }
@@ -69,10 +67,8 @@ pub fn most_tests(n: u8, row: &mut [u8], i: Station) -> u8
     ensures row_unchanged { row.new ≡ row.old }
 {
     let mut most: u8 = 0;
-    let mut j: u8 = 0;
-    while j < n {
+    for j in 0..n {
         most = bytes::greater(most, tests_with(n, row, i, Station(j)));
-        j += 1;
     }
     most
 }
@@ -102,10 +98,8 @@ pub fn most_of_boards(n: u8, row: &mut [u8], more: bool) -> u8
     ensures row_unchanged { row.new ≡ row.old }
 {
     let mut most: u8 = 0;
-    let mut i: u8 = 0;
-    while i < n {
+    for i in 0..n {
         most = bytes::greater(most, tests_of(n, row, Station(i), more));
-        i += 1;
     }
     most
 }

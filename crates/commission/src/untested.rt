@@ -19,10 +19,8 @@ pub fn list_untested(n: u8, row: &[u8], i: Station, list: &mut [u8], firsts: &mu
 {
     let end = sizes::distances(n);
     let mut count: u8 = 0;
-    let mut m: u16 = 1;
-    while m < end {
+    for m in 1..end {
         count = put_untested(row, i, Distance(m as u8), list, firsts, count);
-        m += 1;
     }
     count
 }

@@ -125,9 +125,9 @@ course-before n T t₀ t₁ here first r end c =
       ];
       listed = λ k. elim k as (λ x. x < length (here ∷ r.closed) → Exact n (live n T) (start x) → (i : ℕ) → i < n → live n T i ≡ true
           → tested_in i (round x) ≡ map (station_at i) (led_below n (live n T) i (distances n))) [
-        | zero ↦ λ h. first.listed
-        | suc k ↦ λ h. c.listed k (omega arith)
-      ];
+            | zero ↦ λ h. first.listed
+            | suc k ↦ λ h. c.listed k (omega arith)
+          ];
     }
 
 -- no entry more
@@ -225,14 +225,14 @@ module _ (n : ℕ) (T : List ℕ) (company : Company n (live n T)) (t₀ : List 
           let r = rest (reset_lines n t') [] (rw over (restart n L t' moved.knows.plain)) in
           rw (closing-is ∙ over) (
             course-before n T t₀ (reset_lines n t') here
-            (record {
-              step = round-step n L t₀ t' here moved over low;
-              turns = turns-ok n t₀ t' here moved.fresh lines' moved.counts ok.size moved.roomy;
-              counted = round-count n T t₀ t' here low moved over;
-              opened = (inv.lists.opens x refl, inv.lists.opened);
-              listed = round-list n L t₀ t' here moved over;
-            })
-            _ _ r.0,
+                (record {
+                  step = round-step n L t₀ t' here moved over low;
+                  turns = turns-ok n t₀ t' here moved.fresh lines' moved.counts ok.size moved.roomy;
+                  counted = round-count n T t₀ t' here low moved over;
+                  opened = (inv.lists.opens x refl, inv.lists.opened);
+                  listed = round-list n L t₀ t' here moved over;
+                })
+                _ _ r.0,
             omega (arith, rw over at r.1.rounds, r.1.tests, tests-after, count-snoc taken_test cur x),
           )
 

@@ -4,7 +4,7 @@ ghost use Rattle.table.specs.Rules.{some_live};
 ghost use Rattle.granter.specs.Grant.{first_from, following, granted, last_refusal, live_refusal, grant_number, grant_station};
 
 use crate::Granted;
-use lists::refusal;
+use lists::{bytes, refusal};
 use table::{Station, rules};
 
 // The last granted number where none was granted yet.
@@ -80,26 +80,22 @@ fn following(last: u8) -> Station
 fn first_from(n: u8, table: &[u8], from: Station) -> Station
     ensures { result.0 ≡ first_from n table.now from.0 }
 {
-    let mut i = from.0;
-    while i < n {
+    for i in from.0..n {
         if !rules::finished_if_live(n, table, Station(i)) {
             return Station(i);
         }
-        i += 1;
     }
-    Station(i)
+    Station(bytes::greater(from.0, n))
 }
 
 // Whether a station is live.
 pub(crate) fn some_live(n: u8, table: &[u8]) -> bool
     ensures { result ≡ some_live n table.now }
 {
-    let mut i: u8 = 0;
-    while i < n {
+    for i in 0..n {
         if rules::is_live(n, table, Station(i)) {
             return true;
         }
-        i += 1;
     }
     false
 }

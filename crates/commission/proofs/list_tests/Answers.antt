@@ -11,8 +11,12 @@ use Rattle.commission.proofs.list_tests.Goals as goal
 pub loop-m-init : goal.loop-m-init
 loop-m-init c =
     let none = due-start c.args.row.now c.args.i.0 in
-    let r = distance-range c.args.n _ c.ranges.n.fits c.distances-end.ensures in
-    record { counted = rw none; listed = rw none refl; fewer = omega arith; reached = r.0; bytes = r.1 }
+    record {
+      counted = rw none;
+      listed = rw none refl;
+      fewer = omega arith;
+      range = distance-range c.args.n _ c.ranges.n.fits c.distances-end.ensures;
+    }
 
 pub loop-m-preserved : goal.loop-m-preserved
 loop-m-preserved c =
@@ -22,8 +26,7 @@ loop-m-preserved c =
       counted = count_next _ (λ k. k) _ _ _ i.counted p.value;
       listed = kept-next-by _ (λ k. k) _ _ _ _ _ _ i.counted i.listed p.list_after;
       fewer = count-below (due c.args.row.now c.args.i.0) _ _ _ i.fewer p.value;
-      reached = omega arith;
-      bytes = i.bytes;
+      range = i.range;
     }
 
 pub returns : goal.returns

@@ -1,5 +1,5 @@
 -- The stations at the due distances below m are written.
-use Rattle.std.proofs.Common.{◌≡◌, ◌-◌, ◌≤◌, ◌<◌, length, map}
+use Rattle.std.proofs.Common.{◌≡◌, ◌≤◌, ◌<◌, length, map}
 use Rattle.std.proofs.lemmas.List.Edits.{sets}
 use Rattle.lists.specs.Search.{select}
 use Rattle.station.specs.Groups.{station_at}
@@ -11,9 +11,5 @@ invariant-loop-m l = record {
   counted : l.count ≡ length (select (due l.row l.i.0) l.m);
   listed : l.list ≡ sets l.initial.list 0 (map (station_at l.i.0) (select (due l.row l.i.0) l.m));
   fewer : l.count < l.m;
-  reached : l.m ≤ l.end;
-  bytes : l.end ≤ 256;
+  range : (1 ≤ l.end) × (l.end ≤ 256);
 }
-
-abbrev pub decreases-loop-m : goal.decreases-loop-m
-decreases-loop-m l = l.end - l.m

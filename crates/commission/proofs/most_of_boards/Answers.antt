@@ -5,7 +5,7 @@ use Rattle.slots.specs.Slots.{most_of_boards}
 use Rattle.commission.proofs.most_of_boards.Goals as goal
 
 pub loop-i-init : goal.loop-i-init
-loop-i-init c = record { most = greatest-start _; same = refl; reached = omega arith }
+loop-i-init c = record { most = greatest-start _; same = refl }
 
 pub loop-i-preserved : goal.loop-i-preserved
 loop-i-preserved c =
@@ -14,7 +14,6 @@ loop-i-preserved c =
     record {
       most = c.greater-most.ensures ∙ greatest-next _ _ _ _ i.most (rw i.same at t.value);
       same = t.row_unchanged ∙ i.same;
-      reached = omega arith;
     }
 
 pub returns : goal.returns

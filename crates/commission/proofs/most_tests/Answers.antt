@@ -5,7 +5,7 @@ use Rattle.slots.specs.Slots.{most_tests}
 use Rattle.commission.proofs.most_tests.Goals as goal
 
 pub loop-j-init : goal.loop-j-init
-loop-j-init c = record { most = greatest-start _; same = refl; reached = omega arith }
+loop-j-init c = record { most = greatest-start _; same = refl }
 
 pub loop-j-preserved : goal.loop-j-preserved
 loop-j-preserved c =
@@ -14,7 +14,6 @@ loop-j-preserved c =
     record {
       most = c.greater-most.ensures ∙ greatest-next _ _ _ _ i.most (rw i.same at t.value);
       same = t.row_unchanged ∙ i.same;
-      reached = omega arith;
     }
 
 pub returns : goal.returns

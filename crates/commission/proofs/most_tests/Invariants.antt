@@ -1,5 +1,5 @@
 -- The greatest of those asked so far.
-use Rattle.std.proofs.Common.{◌≡◌, ◌-◌, ◌≤◌}
+use Rattle.std.proofs.Common.{◌≡◌}
 use Rattle.lists.specs.Search.{greatest}
 use Rattle.slots.specs.Slots.{tests_with}
 use Rattle.commission.proofs.most_tests.Given as goal
@@ -8,8 +8,4 @@ abbrev pub invariant-loop-j : goal.invariant-loop-j
 invariant-loop-j l = record {
   most : l.most ≡ greatest (tests_with l.n l.initial.row l.i.0) l.j;
   same : l.row ≡ l.initial.row;
-  reached : l.j ≤ l.n;
 }
-
-abbrev pub decreases-loop-j : goal.decreases-loop-j
-decreases-loop-j l = l.n - l.j

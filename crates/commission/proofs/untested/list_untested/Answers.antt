@@ -10,8 +10,13 @@ use Rattle.commission.proofs.untested.list_untested.Goals as goal
 pub loop-m-init : goal.loop-m-init
 loop-m-init c =
     let none = untested-start c.args.row.now c.args.i.0 in
-    let r = distance-range c.args.n _ c.ranges.n.fits c.distances-end.ensures in
-    record { counted = rw none; listed = rw none refl; named = rw none refl; fewer = omega arith; reached = r.0; bytes = r.1 }
+    record {
+      counted = rw none;
+      listed = rw none refl;
+      named = rw none refl;
+      fewer = omega arith;
+      range = distance-range c.args.n _ c.ranges.n.fits c.distances-end.ensures;
+    }
 
 pub loop-m-preserved : goal.loop-m-preserved
 loop-m-preserved c =
@@ -22,8 +27,7 @@ loop-m-preserved c =
       listed = kept-next-by _ (λ k. k) _ _ _ _ _ _ i.counted i.listed p.list_after;
       named = kept-next-by _ (λ k. k) _ _ _ _ _ _ i.counted i.named p.firsts_after;
       fewer = count-below (is_untested c.args.row.now c.args.i.0) _ _ _ i.fewer p.value;
-      reached = omega arith;
-      bytes = i.bytes;
+      range = i.range;
     }
 
 pub returns : goal.returns

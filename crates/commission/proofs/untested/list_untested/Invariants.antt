@@ -1,5 +1,5 @@
 -- What there is to say of the distances below m is written.
-use Rattle.std.proofs.Common.{◌≡◌, ◌-◌, ◌≤◌, ◌<◌, length, map}
+use Rattle.std.proofs.Common.{◌≡◌, ◌≤◌, ◌<◌, length, map}
 use Rattle.std.proofs.lemmas.List.Edits.{sets}
 use Rattle.lists.specs.Search.{select}
 use Rattle.station.specs.Groups.{station_at}
@@ -14,9 +14,5 @@ invariant-loop-m l = record {
   listed : l.list ≡ sets l.initial.list 0 (map (station_at l.i.0) (select (is_untested l.row l.i.0) l.m));
   named : l.firsts ≡ sets l.initial.firsts 0 (map (λ k. answer_byte (answer l.row l.i.0 k)) (select (is_untested l.row l.i.0) l.m));
   fewer : l.count < l.m;
-  reached : l.m ≤ l.end;
-  bytes : l.end ≤ 256;
+  range : (1 ≤ l.end) × (l.end ≤ 256);
 }
-
-abbrev pub decreases-loop-m : goal.decreases-loop-m
-decreases-loop-m l = l.end - l.m

@@ -8,22 +8,17 @@ use Rattle.granter.proofs.grant.first_from.Goals as goal
 pub returns-then-not-finished_if_live : goal.returns-then-not-finished_if_live
 unfolding first_from
 returns-then-not-finished_if_live c =
-    let i = c.loop-i.invariant in
     let w = sym (waits-is _ _ _) ∙ ap not (sym c.finished_if_live.ensures ∙ c.if-not-finished_if_live.true) in
-    sym (least-is _ _ _ _ i.begun (omega arith) w (λ y a b. i.passed y b a))
+    sym (least-is _ _ _ _ (omega arith) (omega arith) w (λ y a b. c.loop-i.invariant y b a))
 
 pub loop-i-preserved : goal.loop-i-preserved
-loop-i-preserved c = record {
-  begun = omega arith;
-  reached = omega arith;
-  passed = below_more _ _ c.loop-i.invariant.passed
-      (λ _. sym (waits-is _ _ _) ∙ ap not (sym c.finished_if_live.ensures ∙ c.if-not-finished_if_live.false));
-}
+loop-i-preserved c =
+    below_more _ _ c.loop-i.invariant
+    (λ _. sym (waits-is _ _ _) ∙ ap not (sym c.finished_if_live.ensures ∙ c.if-not-finished_if_live.false))
 
 pub returns : goal.returns
 unfolding first_from
 returns c =
     let a = c.args in
-    let i = c.loop-i.invariant in
-    let e : c.loop-i.i ≡ a.from.0 + (a.n - a.from.0) = omega arith in
-    e ∙ sym (least-none (waits a.n a.table.now) (a.n - a.from.0) a.from.0 (λ y lo hi. i.passed y (omega arith) lo))
+    let e : c.greater.result ≡ a.from.0 + (a.n - a.from.0) = omega arith in
+    e ∙ sym (least-none (waits a.n a.table.now) (a.n - a.from.0) a.from.0 (λ y lo hi. c.loop-i.invariant y (omega arith) lo))

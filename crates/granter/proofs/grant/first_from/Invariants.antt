@@ -1,14 +1,7 @@
 -- The stations passed so far do not wait.
-use Rattle.std.proofs.Common.{◌≡◌, ℕ, false, ◌+◌, ◌-◌, ◌≤◌, ◌<◌}
+use Rattle.std.proofs.Common.{◌≡◌, ℕ, false, ◌≤◌, ◌<◌}
 use Rattle.granter.specs.Grant.{waits}
 use Rattle.granter.proofs.grant.first_from.Given as goal
 
 abbrev pub invariant-loop-i : goal.invariant-loop-i
-invariant-loop-i l = record {
-  begun : l.fn.from.0 ≤ l.i;
-  reached : l.i ≤ l.fn.from.0 + (l.n - l.fn.from.0);
-  passed : (y : ℕ) → y < l.i → l.fn.from.0 ≤ y → waits l.n l.table y ≡ false;
-}
-
-abbrev pub decreases-loop-i : goal.decreases-loop-i
-decreases-loop-i l = l.n - l.i
+invariant-loop-i l = (y : ℕ) → y < l.i → l.fn.from.0 ≤ y → waits l.n l.table y ≡ false

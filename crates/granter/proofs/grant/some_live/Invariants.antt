@@ -1,11 +1,8 @@
 -- The stations passed so far are not live.
-use Rattle.std.proofs.Common.{◌≡◌, true, ◌-◌, ◌≤◌}
+use Rattle.std.proofs.Common.{◌≡◌, true}
 use Rattle.lists.specs.Search.{every}
 use Rattle.table.specs.Rules.{not_live}
 use Rattle.granter.proofs.grant.some_live.Given as goal
 
 abbrev pub invariant-loop-i : goal.invariant-loop-i
-invariant-loop-i l = record { reached : l.i ≤ l.n; passed : every (not_live l.n l.table) l.i ≡ true }
-
-abbrev pub decreases-loop-i : goal.decreases-loop-i
-decreases-loop-i l = l.n - l.i
+invariant-loop-i l = every (not_live l.n l.table) l.i ≡ true
