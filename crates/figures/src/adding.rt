@@ -73,10 +73,8 @@ fn add_up(results: &[u16]) -> Totals
     ensures { result ≡ totals_of results.now }
 {
     let mut sofar = no_totals();
-    let mut k: usize = 0;
-    while k < results.len() {
+    for k in 0..results.len() {
         sofar = joined(sofar, single(results[k]));
-        k += 1;
     }
     sofar
 }

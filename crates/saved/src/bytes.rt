@@ -9,11 +9,8 @@ pub(crate) fn number_of(bytes: &[u8]) -> u32
     ensures { result ≡ number_of bytes.now }
 {
     let mut v: u32 = 0;
-    let mut k: usize = 0;
-    while k < bytes.len() {
-        let byte = bytes[k] as u32;
-        v = v * 256 + byte;
-        k += 1;
+    for byte in bytes {
+        v = v * 256 + *byte as u32;
     }
     v
 }
@@ -34,9 +31,7 @@ pub(crate) fn put_list(list: &mut [u8], at: usize, other: &[u8])
     requires { at + length other.now ≤ length list.old }
     ensures { list.new ≡ sets list.old at other.now }
 {
-    let mut k: usize = 0;
-    while k < other.len() {
-        list[at + k] = other[k];
-        k += 1;
+    for (k, byte) in other.iter().enumerate() {
+        list[at + k] = *byte;
     }
 }

@@ -52,10 +52,8 @@ fn write_lines(n: u8, table: &[u8], buffer: &mut [u8])
     requires { (is_size n ≡ true) × (length table.now ≡ table_length n) × (length buffer.old ≡ 15 + n * (stride n + 4)) }
     ensures { buffer.new ≡ sets buffer.old 15 (saved_lines n table.now n) }
 {
-    let mut i: u8 = 0;
-    while i < n {
+    for i in 0..n {
         write_line(n, table, Station(i), buffer);
-        i += 1;
     }
 }
 

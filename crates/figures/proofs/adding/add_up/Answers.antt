@@ -10,7 +10,6 @@ use Rattle.figures.proofs.adding.add_up.Goals as goal
 pub loop-k-init : goal.loop-k-init
 unfolding totals_of sum_of reduce
 loop-k-init c = record {
-  passed = omega arith;
   so_far = c.no_totals-sofar.ensures;
   of_results = rw c.no_totals-sofar.ensures (record { sum-most = omega arith; squares-most = omega arith });
 }
@@ -35,7 +34,6 @@ loop-k-preserved c =
     c.joined-sofar.ensures ∙ ap₂ joined i.so_far c.single.ensures in
     let one = single-of-results x (omega (arith, c.type_inv.results k)) in
     record {
-      passed = omega arith;
       so_far = e ∙ totals-step xs k c.loop-k-test.true;
       of_results = rw (c.joined-sofar.ensures, c.single.ensures) (joined-of-results _ _ i.of_results one);
     }

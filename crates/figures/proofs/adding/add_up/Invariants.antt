@@ -1,15 +1,11 @@
 -- The totals so far are those of the results passed, and such as results of 16 bits can have.
-use Rattle.std.proofs.Common.{◌≡◌, ◌-◌, ◌≤◌, length, take}
+use Rattle.std.proofs.Common.{◌≡◌, take}
 use Rattle.figures.specs.Totals.{totals_of}
 use Rattle.figures.proofs.Bounds.{OfResults}
 use Rattle.figures.proofs.adding.add_up.Given as goal
 
 abbrev pub invariant-loop-k : goal.invariant-loop-k
 invariant-loop-k l = record {
-  passed : l.k ≤ length l.results;
   so_far : l.sofar ≡ totals_of (take l.k l.results);
   of_results : OfResults l.sofar;
 }
-
-abbrev pub decreases-loop-k : goal.decreases-loop-k
-decreases-loop-k l = length l.results - l.k

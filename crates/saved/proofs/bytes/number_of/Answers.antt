@@ -8,19 +8,19 @@ next_fits : (l : List ℕ) (k v : ℕ) → ((j : ℕ) → j < length l → get_o
     → v * 256 + get_or l k 0 < 2 ^ 32
 next_fits l k v small h m e = rw (number-next l k v m e) (number_fits l (k + 1) small h (omega arith))
 
-pub loop-k-init : goal.loop-k-init
+pub loop-byte-init : goal.loop-byte-init
 unfolding number_of
-loop-k-init c = record { passed = omega arith; number = refl }
+loop-byte-init c = refl
 
 pub overflow_mul-v : goal.overflow_mul-v
 overflow_mul-v c =
-    let s = next_fits c.args.bytes.now _ _ (λ j h. omega (arith, c.type_inv.bytes j)) c.requires c.loop-k-test.true c.loop-k.invariant.number in
+    let s = next_fits c.args.bytes.now _ _ (λ j h. omega (arith, c.type_inv.bytes j)) c.requires (omega arith) c.loop-byte.invariant in
     omega arith
 
 pub overflow_add-v : goal.overflow_add-v
 overflow_add-v c =
-    let s = next_fits c.args.bytes.now _ _ (λ j h. omega (arith, c.type_inv.bytes j)) c.requires c.loop-k-test.true c.loop-k.invariant.number in
+    let s = next_fits c.args.bytes.now _ _ (λ j h. omega (arith, c.type_inv.bytes j)) c.requires (omega arith) c.loop-byte.invariant in
     omega arith
 
-pub loop-k-preserved : goal.loop-k-preserved
-loop-k-preserved c = record { passed = omega arith; number = number-next _ _ _ c.loop-k-test.true c.loop-k.invariant.number }
+pub loop-byte-preserved : goal.loop-byte-preserved
+loop-byte-preserved c = number-next _ _ _ (omega arith) c.loop-byte.invariant

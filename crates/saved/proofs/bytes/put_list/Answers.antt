@@ -4,4 +4,4 @@ use Rattle.saved.proofs.Copying.{put_next}
 use Rattle.saved.proofs.bytes.put_list.Goals as goal
 
 pub loop-k-preserved : goal.loop-k-preserved
-loop-k-preserved c = record { passed = omega arith; written = put_next _ _ _ _ _ c.loop-k-test.true c.loop-k.invariant.written }
+loop-k-preserved c = put_next _ _ _ _ _ (omega arith) c.loop-k.invariant
