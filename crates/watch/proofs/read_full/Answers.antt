@@ -29,5 +29,5 @@ loop-done-preserved g c =
     let read = Consumes-trans _ _ _ _ _ c.loop-done.invariant.read c.in-Ok.ensures.bytes.0 in
     record {
       within = search rules;
-      read = subst (Consumes _ _) (ap (λ l. take from c.loop-done.buf ++ l) (sym part) ∙ joined) read
+      read = subst (Consumes _ _) (ap (λ l. take from c.loop-done.buf ++ l) (sym part) ∙ joined) read;
     }

@@ -5,7 +5,7 @@ use Rattle.sheet.proofs.arguments.live_boards.Given as goal
 abbrev pub invariant-loop-k : goal.invariant-loop-k
 invariant-loop-k l = record {
   passed : l.k ≤ length l.row;
-  some : l.live ≤ l.k
+  some : l.live ≤ l.k;
 }
 
 abbrev pub decreases-loop-k : goal.decreases-loop-k

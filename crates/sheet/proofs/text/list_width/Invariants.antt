@@ -5,7 +5,7 @@ use Rattle.sheet.proofs.text.list_width.Given as goal
 abbrev pub invariant-loop-k : goal.invariant-loop-k
 invariant-loop-k l = record {
   passed : l.k ≤ l.count;
-  narrow : l.columns ≤ 4 * l.k
+  narrow : l.columns ≤ 4 * l.k;
 }
 
 abbrev pub decreases-loop-k : goal.decreases-loop-k

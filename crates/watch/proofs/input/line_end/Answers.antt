@@ -11,7 +11,7 @@ pub loop-e-preserved : goal.loop-e-preserved
 loop-e-preserved c = record {
   started = omega arith;
   within = omega arith;
-  line = omega (arith, line-next _ c.loop-e.e c.loop-e-test.true c.if-input-e-eq10.false, c.loop-e.invariant.line)
+  line = omega (arith, line-next _ c.loop-e.e c.loop-e-test.true c.if-input-e-eq10.false, c.loop-e.invariant.line);
 }
 
 pub returns-clause-value : goal.returns-clause-value

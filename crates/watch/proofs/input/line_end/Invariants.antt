@@ -7,7 +7,7 @@ abbrev pub invariant-loop-e : goal.invariant-loop-e
 invariant-loop-e l = record {
   started : l.from ≤ l.e;
   within : l.e ≤ length l.input;
-  line : l.e + line_length (drop l.e l.input) ≡ l.from + line_length (drop l.from l.input)
+  line : l.e + line_length (drop l.e l.input) ≡ l.from + line_length (drop l.from l.input);
 }
 
 abbrev pub decreases-loop-e : goal.decreases-loop-e

@@ -22,7 +22,7 @@ loop-p-preserved c =
       few = omega (arith, h);
       room = l.invariant.room;
       rest = rest-kept l.k l.schedule _ _ w.schedule_unchanged l.invariant.rest;
-      read = read_next _ c.args.n l.k l.schedule _ l.p _ _ _ t l.invariant.room e o _ _ _ _ refl w.schedule_after c.line_after-p.ensures ∙ l.invariant.read
+      read = read_next _ c.args.n l.k l.schedule _ l.p _ _ _ t l.invariant.room e o _ _ _ _ refl w.schedule_after c.line_after-p.ensures ∙ l.invariant.read;
     }
 
 pub returns : goal.returns

@@ -10,7 +10,7 @@ invariant-loop-p l = record {
   room : l.room ≡ room_for (length l.initial.schedule);
   rest : drop (2 * l.k) l.schedule ≡ drop (2 * l.k) l.initial.schedule;
   read : read_entries (room_for (length l.initial.schedule)) l.n l.k (take (2 * l.k) l.schedule) (lines (drop l.p l.input))
-    ≡ read_entries (room_for (length l.initial.schedule)) l.n 0 [] (lines (drop l.from l.input))
+      ≡ read_entries (room_for (length l.initial.schedule)) l.n 0 [] (lines (drop l.from l.input));
 }
 
 abbrev pub decreases-loop-p : goal.decreases-loop-p

@@ -14,7 +14,7 @@ loop-i-init c = record {
   within = omega arith;
   few = omega arith;
   small = omega arith;
-  number = number_digits _ _ c.if-digits-lt1.false c.if-most-digits.false
+  number = number_digits _ _ c.if-digits-lt1.false c.if-most-digits.false;
 }
 
 pub returns-then-b-lt48 : goal.returns-then-b-lt48
@@ -34,7 +34,7 @@ loop-i-preserved c = record {
   within = omega arith;
   few = c.loop-i.invariant.few;
   small = omega (arith, nines-next c.loop-i.i);
-  number = c.loop-i.invariant.number ∙ digits-next _ c.loop-i.i c.loop-i.value c.loop-i-test.true c.if-b-lt48.false c.if-b-gt57.false
+  number = c.loop-i.invariant.number ∙ digits-next _ c.loop-i.i c.loop-i.value c.loop-i-test.true c.if-b-lt48.false c.if-b-gt57.false;
 }
 
 pub returns : goal.returns

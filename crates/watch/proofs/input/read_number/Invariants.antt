@@ -9,7 +9,7 @@ invariant-loop-i l = record {
   within : l.i ≤ length l.digits;
   few : length l.digits ≤ 3;
   small : l.value ≤ all_nines l.i;
-  number : number_of l.most l.digits ≡ digits_from l.value (drop l.i l.digits)
+  number : number_of l.most l.digits ≡ digits_from l.value (drop l.i l.digits);
 }
 
 abbrev pub decreases-loop-i : goal.decreases-loop-i
