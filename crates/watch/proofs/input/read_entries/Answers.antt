@@ -1,5 +1,5 @@
 -- Where reading stops, the entries read are the front of the schedule; else the entry's bytes stand behind them.
-use Rattle.std.proofs.Common.{◌*◌, ◌≡◌, refl, sym, ◌∙◌, arith}
+use Rattle.std.proofs.Common.{◌*◌, refl, sym, ◌∙◌, arith}
 use Rattle.watch.proofs.ReadLaws.{read_done, read-stop, read_next, has_room, rest-kept, sets-part, read-as-parts}
 use Rattle.watch.proofs.input.read_entries.Goals as goal
 

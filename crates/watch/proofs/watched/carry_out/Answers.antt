@@ -1,5 +1,5 @@
 -- The parts that are lent lie within schedule, table and sheet.
-use Rattle.std.proofs.Common.{◌≡◌, ◌*◌, ◌∙◌, sym, length, take, arith}
+use Rattle.std.proofs.Common.{◌≡◌, ◌*◌, ◌∙◌, length, take, arith}
 use Rattle.std.proofs.Math.Seq.{length-take-le}
 use Rattle.watch.proofs.WatchLaws.{carried}
 use Rattle.watch.proofs.watched.carry_out.Goals as goal
