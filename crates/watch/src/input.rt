@@ -1,7 +1,8 @@
 // What standard input holds (document 01, the run program): lines, the size, the entries. The one call is `parse`.
 ghost use Rattle.std.specs.Prelude.{◌≡◌, cond, ltb, [], ◌∷◌, ◌++◌, ◌+◌, ◌*◌, ◌≤◌, ◌<◌, min, length, take, drop};
 ghost use Rattle.std.proofs.Math.Option.{none};
-ghost use Rattle.watch.specs.Input.{lines, line_length, number_of, kind_of, entry_bytes, read_entries, room_for, read_into, ReadAs, number_value, entry_value};
+ghost use Rattle.watch.specs.Input.{lines, line_length, number_of, kind_of, entry_bytes, read_entries, room_for, read_into, ReadAs, number_value};
+ghost use Rattle.watch.specs.Input.{entry_value};
 
 // The answer of `parse`: the number of the first unreadable line, from 1, or 0 where there is none; the size and how many entries were
 // read, all of them or those before that line.

@@ -1,6 +1,7 @@
 -- Each byte is a digit, which makes the value greater, or no digit; where none is left the value is the number.
 use Rattle.std.proofs.Common.{sym, ◌∙◌, arith}
-use Rattle.watch.proofs.NumberLaws.{digits-next, digits_low, digits-high, digits-done, number-empty, number-long, number_digits, nines-next, nines-two}
+use Rattle.watch.proofs.NumberLaws.{digits-next, digits_low, digits-high, digits-done, number-empty, number-long, number_digits, nines-next}
+use Rattle.watch.proofs.NumberLaws.{nines-two}
 use Rattle.watch.proofs.input.read_number.Goals as goal
 
 pub returns-then-digits-lt1 : goal.returns-then-digits-lt1
