@@ -1,6 +1,9 @@
-// Demand 3 and the exact wait: the claims stand in specs/Claim.antt, their proof in proofs/Demand3.antt. The one function is the run itself
-// with the claims as its promise, so that they rest on what plant::run::run promises.
+// Demand 3 and the exact wait: the claims stand in specs/Claim.antt, their proof in proofs/Demand3.antt. The function here is the run itself
+// with the claims as its promise, so that they rest on what plant::run::run promises. Those of `claims` do nothing: their contracts are the
+// claims about every list of runs.
 #![tactic(auto)]
+
+pub mod claims;
 
 ghost use Rattle.std.specs.Prelude.{◌≡◌};
 ghost use Rattle.plant.specs.Entry.{state_with};

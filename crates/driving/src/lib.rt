@@ -1,6 +1,9 @@
-// The claims of request C-15 stand in specs/, their proofs in proofs/. The one function is the drive itself with demand 3 of driven plants as
-// its promise, and the same within the exact wait, so that they rest on what granter::drive::drive promises.
+// The claims of request C-15 stand in specs/, their proofs in proofs/. The function here is the drive itself with demand 3 of driven plants as
+// its promise, and the same within the exact wait, so that they rest on what granter::drive::drive promises. Those of `claims` do nothing:
+// their contracts are the claims.
 #![tactic(auto)]
+
+pub mod claims;
 
 ghost use Rattle.std.specs.Prelude.{◌≡◌};
 ghost use Rattle.plant.specs.Entry.{state_with};
