@@ -23,8 +23,8 @@ pub fn run_in_list(
     sheet: &mut [u8],
 ) -> Answer
     ensures sheet_after { outcome_with result table.new sheet.new ≡ run n (state_with table.old tally) schedule.now sheet.old }
-    ensures within_after { WithinAfter demand_wait (call_of n schedule.now sheet.old) (state_with table.old tally) (state_with table.new result.tally) }
-    ensures within_after_2 { WithinAfter exact_wait (call_of n schedule.now sheet.old) (state_with table.old tally) (state_with table.new result.tally) }
+    ensures within_demand_wait { WithinAfter demand_wait (call_of n schedule.now sheet.old) (state_with table.old tally) (state_with table.new result.tally) }
+    ensures within_exact_wait { WithinAfter exact_wait (call_of n schedule.now sheet.old) (state_with table.old tally) (state_with table.new result.tally) }
 {
     run::run(n, table, tally, schedule, sheet)
 }

@@ -18,8 +18,8 @@ use plant::Tally;
 // leaves, and holds within the exact wait too.
 pub fn drive_in_list(n: usize, table: &mut [u8], tally: Tally, last: usize) -> Driven
     ensures table_after { drive_outcome_with result table.new ≡ drive n (state_with table.old tally) last }
-    ensures driven_within_after { DrivenWithinAfter demand_wait n last (state_with table.old tally) (state_with table.new result.tally) }
-    ensures driven_within_after_2 { DrivenWithinAfter exact_wait n last (state_with table.old tally) (state_with table.new result.tally) }
+    ensures driven_within_demand_wait { DrivenWithinAfter demand_wait n last (state_with table.old tally) (state_with table.new result.tally) }
+    ensures driven_within_exact_wait { DrivenWithinAfter exact_wait n last (state_with table.old tally) (state_with table.new result.tally) }
 {
     drive::drive(n, table, tally, last)
 }
