@@ -6,7 +6,7 @@
 ghost use Rattle.slots.specs.Law.{DueByDigits, NobodyLeftOut, ListsCounted, TestsByLevels, TestsAtMost, NobodySuspected, OneSuspected, OneSuspectedExactly, MostOfPowers, LastTestsAll, NeverFewer, MostIsNoLess, MostCovers};
 ghost use Rattle.slots.specs.Assignments.{OwnUnsuspected, SomebodyFirst, BeforeUpTo, NothingLeftOver, DueHave255};
 
-// A distance is due by its binary digits: each of them that is 1 names a group that the row must suspect whole.
+// A distance at which somebody stands is due by its digits: each 1 below the highest names an own group that the row must suspect whole.
 pub fn due_by_digits()
     ensures { DueByDigits }
 {}
@@ -26,7 +26,7 @@ pub fn tests_by_levels()
     ensures { TestsByLevels }
 {}
 
-// With any number of boards they are at most as many.
+// With any number of boards they are at most that sum.
 pub fn tests_at_most()
     ensures { TestsAtMost }
 {}
@@ -66,7 +66,7 @@ pub fn most_is_no_less()
     ensures { MostIsNoLess }
 {}
 
-// They are no fewer than the tests by any row that suspects nobody else but one more board.
+// They are no fewer than the tests by any row that suspects only whom this row suspects, and one more board.
 pub fn most_covers()
     ensures { MostCovers }
 {}
@@ -81,7 +81,7 @@ pub fn somebody_first()
     ensures { SomebodyFirst }
 {}
 
-// Who stands before a board at a distance does so at all distances up to the one with these lower digits all 1.
+// Who stands before a board at a distance does so at all distances from there to `up_to`.
 pub fn before_up_to()
     ensures { BeforeUpTo }
 {}

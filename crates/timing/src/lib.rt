@@ -20,7 +20,7 @@ pub fn no_more_than_due()
     ensures { NoMoreThanDue }
 {}
 
-// A slot timed for the most tests with one more board dead is long enough while no other board is suspected.
+// A slot timed for the most tests with one more board dead is long enough while its board suspects only the known dead and one more.
 pub fn slot_is_enough()
     ensures { SlotIsEnough }
 {}
