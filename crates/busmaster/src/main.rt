@@ -16,6 +16,7 @@ const ZERO_OF_ONE: usize = cells::HEAD as usize + 1;
 
 const ONE_OF_ZERO: usize = 2 + cells::HEAD as usize + cells::HEAD as usize;
 
+// What one print cannot write is left out, and the next is tried all the same.
 fn main(rt: HostRuntime) {
     eight_boards(&rt);
     four_crashed(&rt);
@@ -53,7 +54,6 @@ fn both_ways(rt: &impl Print, by_turns: &mut [u8], driven: &mut [u8]) {
     tables_line(rt, by_turns, driven);
 }
 
-// A line that cannot be written is left out, and so below.
 fn tally_line(rt: &impl Print, tally: Tally) {
     let _ = println!(rt; "rounds {} tests {}", tally.rounds, tally.tests);
 }
@@ -145,10 +145,7 @@ fn number_line(rt: &impl Print, last: usize) {
 }
 
 fn tally_of(rounds: u32, tests: u32) -> Tally {
-    Tally {
-        rounds: rounds,
-        tests: tests,
-    }
+    Tally { rounds, tests }
 }
 
 fn drive_line(rt: &impl Print, driven: Driven) {

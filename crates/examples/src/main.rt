@@ -24,6 +24,7 @@ const ONE_ROUNDS_AGO: usize = 4 + cells::HEAD as usize + cells::ROUNDS_AGO as us
 // Where a table of eight has what 5 says of 4.
 const FIVE_OF_FOUR: usize = 5 * (8 + cells::HEAD as usize) + cells::HEAD as usize + 4;
 
+// What one print cannot write is left out, and the next is tried all the same.
 fn main(rt: HostRuntime) {
     table_1(&rt);
     sizes(&rt);
@@ -53,7 +54,6 @@ fn group_line(rt: &impl Print, s: Level, w: u8) {
     line_end(rt);
 }
 
-// A text that cannot be written is left out, and what follows is tried all the same; so above and below.
 fn line_end(rt: &impl Print) {
     let _ = println!(rt; "");
 }

@@ -3,6 +3,7 @@
 
 use figures::{Figures, Totalled, Totals, adding, batch};
 
+// What one print cannot write is left out, and the next is tried all the same.
 fn main(rt: HostRuntime) {
     short_lists(&rt);
     two_lists(&rt);
@@ -116,15 +117,14 @@ fn kept_totals(rt: &impl Print) {
 // Totals of so many results with a sum, all else 0.
 fn bare_totals(count: u64, sum: u64) -> Totals {
     Totals {
-        count: count,
-        sum: sum,
+        count,
+        sum,
         squares: 0,
         least: 0,
         greatest: 0,
     }
 }
 
-// A line that cannot be written is left out, and so below.
 fn figures_line(rt: &impl Print, of: &str, f: Figures) {
     let _ = println!(rt;
         "{of}: number {} count {} least {} greatest {} mean {}/{} variance {}/{}",

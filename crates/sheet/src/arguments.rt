@@ -113,7 +113,7 @@ fn append(value: u16, byte: u8) -> u16 {
     10 * value + (byte - b'0') as u16
 }
 
-// A line on standard error. One that cannot be written is left out.
+// A line on standard error.
 fn complain(err: &impl Print, what: &str) {
     let _ = println!(err; "sheet: {what}");
 }

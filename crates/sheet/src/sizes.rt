@@ -24,7 +24,8 @@ fn print_size(rt: &impl Print, n: u8, row: &mut [u8]) {
     if row.len() < end {
         return;
     }
-    let none_dead = commission::most_of_boards(n, &mut row[0..end], false);
-    let one_dead = commission::most_of_boards(n, &mut row[0..end], true);
+    let row = &mut row[0..end];
+    let none_dead = commission::most_of_boards(n, row, false);
+    let one_dead = commission::most_of_boards(n, row, true);
     let _ = print!(rt; "| {n} | {none_dead} | {one_dead} ");
 }

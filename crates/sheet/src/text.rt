@@ -1,8 +1,7 @@
 // Lists of boards on standard output. No contract can say what is written; these functions are safe.
 ghost use Rattle.std.specs.Prelude.{◌≤◌};
 
-// The first `count` numbers of a list, with a space between. A text that cannot be written is left out, and what follows is tried all the same;
-// so in the other modules too.
+// The first `count` numbers of a list, with a space between.
 pub fn list(rt: &impl Print, list: &[u8; 256], count: u8) {
     for k in 0..count {
         let gap = if k == 0 { "" } else { " " };
