@@ -3,7 +3,7 @@
 use mathlib.Core.Path.{◌≡◌, sym, ◌∙◌}
 use mathlib.Core.Bool.{Bool, true, false, cond, not}
 use mathlib.Core.List.{List, [], ◌∷◌, ◌++◌}
-use mathlib.Core.Option.{Option, none, some}
+use Rattle.std.specs.Prelude.{Option, Some, None}
 use Prim.Native.Nat.{ℕ, zero, suc, ◌+◌, ◌*◌, ◌^◌, ◌<◌}
 use native.Mathlib.Omega.{arith}
 use borrow.Author.Tests.{eqb-true, eq-eqb, not-false}
@@ -55,11 +55,11 @@ first-up_to k (suc most) file small =
     Fine : Option (List Field) → Type 0
     Fine o = AreBytes (first_of (tagged k (or_empty o)))
 
-    pick : (a b : Bool) (o : Option (List Field)) → Fine o → Fine (cond a (some []) (cond b none (infront first o)))
+    pick : (a b : Bool) (o : Option (List Field)) → Fine o → Fine (cond a (Some []) (cond b None (infront first o)))
     pick true b o rest = λ i. omega arith
     pick false true o rest = λ i. omega arith
-    pick false false none rest = rest
-    pick false false (some fs) rest =
+    pick false false None rest = rest
+    pick false false (Some fs) rest =
         let c = take-bytes (length_in file) (drop 3 file) (drop-bytes 3 file small) in
         by_bool (eqb first.tag k) (λ e. rw e c) (λ e. rw e rest)
 

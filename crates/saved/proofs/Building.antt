@@ -3,7 +3,7 @@
 use mathlib.Core.Path.{◌≡◌, refl, sym, ap, ◌∙◌}
 use mathlib.Core.Bool.{Bool, true, false, cond}
 use mathlib.Core.List.{List}
-use mathlib.Core.Option.{Option, none, some}
+use Rattle.std.specs.Prelude.{Option, Some, None}
 use Prim.Native.Nat.{ℕ, ◌+◌, ◌-◌, ◌≤◌, ◌<◌}
 use native.Mathlib.Omega.{arith}
 use borrow.Author.Tests.{eq-eqb, ne_eqb, lt-ltb, le-ltb}
@@ -50,17 +50,17 @@ module _ (n : ℕ) (f : Field) (all rest : Option (List Field)) (t seen t' seen'
   whole-rest = go rest (ap is_none (sym split) ∙ whole)
     where
       go : (rest : Option (List Field)) → is_none (infront f rest) ≡ false → is_none rest ≡ false
-      go none e = e
-      go (some fs) e = refl
+      go None e = e
+      go (Some fs) e = refl
 
-  both_ways : (fs : List Field) → rest ≡ some fs
+  both_ways : (fs : List Field) → rest ≡ Some fs
       → build n (or_empty all) (built true t seen) ≡ cond r (build n fs (built r t' seen')) (built r t' seen')
   unfolding build
   both_ways fs e = rw (split, e, ← took)
 
-  some-rest : (rest : Option (List Field)) → is_none rest ≡ false → rest ≡ some (or_empty rest)
-  some-rest none e = cc
-  some-rest (some fs) e = refl
+  some-rest : (rest : Option (List Field)) → is_none rest ≡ false → rest ≡ Some (or_empty rest)
+  some-rest None e = cc
+  some-rest (Some fs) e = refl
 
   pub build-next : r ≡ true → build n (or_empty rest) (built true t' seen') ≡ build n (or_empty all) (built true t seen)
   build-next e = sym (both_ways (or_empty rest) (some-rest rest whole-rest) ∙ rw e)

@@ -3,7 +3,7 @@
 use mathlib.Core.Path.{◌≡◌, refl, sym, ap, ap₂, subst, ◌∙◌}
 use mathlib.Core.Bool.{true, false}
 use mathlib.Core.List.{List, [], ◌∷◌}
-use mathlib.Core.Option.{Option, none, some}
+use Rattle.std.specs.Prelude.{Option, Some, None}
 use Prim.Native.Nat.{ℕ, ◌+◌}
 use lib.ListN.{length, take, drop}
 use lib.Dec.{eqb}
@@ -24,8 +24,8 @@ unfolding scan
 scan-next o f all rest e = ap (scan o) e ∙ step rest
   where
     step : (rest : Option (List Field)) → scan o (infront f rest) ≡ scan (opening_with o f) rest
-    step none = refl
-    step (some fs) = refl
+    step None = refl
+    step (Some fs) = refl
 
 -- what a tag's fields leave of what is found, by their contents
 found_over : ℕ → ℕ → Found → List (List ℕ) → Found
@@ -39,7 +39,7 @@ found-tag tag upper lower found f fs = by_bool (eqb f.tag tag) (λ e. rw e) (λ 
 
 -- the first pass over all fields
 scan-all : (o : Opening) (fs : List Field)
-    → scan o (some fs) ≡ Whole (record { size = found_over 0 1 o.size (tagged size_tag fs); tally = found_over 4 4 o.tally (tagged tally_tag fs) })
+    → scan o (Some fs) ≡ Whole (record { size = found_over 0 1 o.size (tagged size_tag fs); tally = found_over 4 4 o.tally (tagged tally_tag fs) })
 unfolding scan tagged found_over
 scan-all o [] = refl
 scan-all o (f ∷ fs) =
@@ -73,8 +73,8 @@ ScanTells fs (Whole o) =
 
 scan-tells : (fs : Option (List Field)) → ScanTells fs (scan nothing_found fs)
 unfolding scan
-scan-tells none = refl
-scan-tells (some fs) = rw (scan-all nothing_found fs) (refl, found-tells 0 1 (tagged size_tag fs), found-tells 4 4 (tagged tally_tag fs))
+scan-tells None = refl
+scan-tells (Some fs) = rw (scan-all nothing_found fs) (refl, found-tells 0 1 (tagged size_tag fs), found-tells 4 4 (tagged tally_tag fs))
 
 -- the same, by the answer of the call
 pub scan-told : (fs : Option (List Field)) (r s : Scan) → r ≡ scan nothing_found fs → r ≡ s → ScanTells fs s

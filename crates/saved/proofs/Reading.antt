@@ -2,7 +2,7 @@
 -- Assumes nothing.
 use mathlib.Core.Path.{◌≡◌, refl, sym, subst, ◌∙◌}
 use mathlib.Core.List.{List, [], ◌∷◌}
-use mathlib.Core.Option.{none, some}
+use Rattle.std.specs.Prelude.{Some, None}
 use Prim.Native.Nat.{ℕ, ◌+◌, ◌*◌, ◌-◌, ◌≤◌, ◌<◌}
 use native.Mathlib.Nat.{add-zero}
 use native.Mathlib.Decide.{dec_lt}
@@ -50,8 +50,8 @@ module _ (file : List ℕ) (at : ℕ) (inside : at < length file) where
 
 -- what reading at a place tells of the fields from there on
 abbrev pub Tells : List ℕ → ℕ → Read → Type 0
-Tells file at End = fields (drop at file) ≡ some []
-Tells file at Past = fields (drop at file) ≡ none
+Tells file at End = fields (drop at file) ≡ Some []
+Tells file at Past = fields (drop at file) ≡ None
 Tells file at (At tag start len next) =
     (fields (drop at file) ≡ infront (field tag (take len (drop start file))) (fields (drop next.at file)))
     × (at < next.at)
