@@ -3,13 +3,13 @@
 use mathlib.Core.Path.{◌≡◌, refl, sym, ap, ap₂, subst, ◌∙◌}
 use mathlib.Core.Bool.{true, false}
 use mathlib.Core.List.{List, [], ◌∷◌}
-use Rattle.std.specs.Prelude.{Option, Some, None}
+use Rattle.std.specs.Prelude.{Option, Some, None, is_none, unwrap_or}
 use Prim.Native.Nat.{ℕ, ◌+◌}
 use lib.ListN.{length, take, drop}
 use lib.Dec.{eqb}
 use Rattle.lists.proofs.BoolLaws.{by_bool}
 use Rattle.saved.specs.Bytes.{number_of}
-use Rattle.saved.specs.Fields.{Field, infront, is_none, or_empty, tagged, single, first_of}
+use Rattle.saved.specs.Fields.{Field, infront, tagged, single, first_of}
 use Rattle.saved.specs.Plant.{size_tag, tally_tag}
 use Rattle.saved.specs.Passes.{found_with, found_if, opening_with, scan, nothing_found}
 use Rattle.saved.specs.declared.opening.Found.{Found}
@@ -69,7 +69,7 @@ found-tells upper lower (c ∷ d ∷ cs) =
 abbrev pub ScanTells : Option (List Field) → Scan → Type 0
 ScanTells fs Cut = is_none fs ≡ true
 ScanTells fs (Whole o) =
-    (is_none fs ≡ false) × FoundTells 0 1 (tagged size_tag (or_empty fs)) o.size × FoundTells 4 4 (tagged tally_tag (or_empty fs)) o.tally
+    (is_none fs ≡ false) × FoundTells 0 1 (tagged size_tag (unwrap_or fs [])) o.size × FoundTells 4 4 (tagged tally_tag (unwrap_or fs [])) o.tally
 
 scan-tells : (fs : Option (List Field)) → ScanTells fs (scan nothing_found fs)
 unfolding scan

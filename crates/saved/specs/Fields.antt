@@ -1,6 +1,6 @@
 -- Request C-17: "tagged fields: a one-byte tag, a two-byte length (high byte first), then the contents".
 -- Assumes nothing.
-use Rattle.std.specs.Prelude.{ℕ, zero, suc, ◌+◌, Bool, true, false, cond, List, [], ◌∷◌, ◌++◌, length, get_or, take, drop, ltb, eqb, Option, Some, None}
+use Rattle.std.specs.Prelude.{ℕ, zero, suc, ◌+◌, Bool, false, cond, List, [], ◌∷◌, ◌++◌, length, get_or, take, drop, ltb, eqb, Option, Some, None, is_none, unwrap_or}
 use Rattle.saved.specs.Bytes.{number_of, bytes_of}
 
 pub record Field : Type 0 where
@@ -41,23 +41,13 @@ fields_up_to (suc most) file =
 unfoldable pub fields : List ℕ → Option (List Field)
 fields file = fields_up_to (length file) file
 
--- whether there are none
-abbrev pub is_none : Option (List Field) → Bool
-is_none None = true
-is_none (Some fs) = false
-
 -- 18: "when a field or its head runs past the end"
 unfoldable pub runs_past : List ℕ → Bool
 runs_past file = is_none (fields file)
 
--- the fields, where there are
-abbrev pub or_empty : Option (List Field) → List Field
-or_empty None = []
-or_empty (Some fs) = fs
-
 -- the fields of a file that is not refused by 18
 unfoldable pub fields_of : List ℕ → List Field
-fields_of file = or_empty (fields file)
+fields_of file = unwrap_or (fields file) []
 
 -- the contents of the fields with a tag, in the file's order; the reader "takes any order and passes over other tags"
 unfoldable pub tagged : ℕ → List Field → List (List ℕ)
