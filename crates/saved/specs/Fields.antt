@@ -1,6 +1,6 @@
 -- Request C-17: "tagged fields: a one-byte tag, a two-byte length (high byte first), then the contents".
 -- Assumes nothing.
-use Rattle.std.specs.Prelude.{ℕ, zero, suc, ◌+◌, Bool, false, cond, List, [], ◌∷◌, ◌++◌, length, get_or, take, drop, ltb, eqb, Option, Some, None, is_none, unwrap_or}
+use Rattle.std.specs.Prelude.{ℕ, zero, suc, ◌+◌, Bool, false, cond, List, [], ◌∷◌, ◌++◌, length, get_or, take, drop, ltb, eqb, Option, Some, None, is_none, unwrap_or, option_map}
 use Rattle.saved.specs.Bytes.{number_of, bytes_of}
 
 pub record Field : Type 0 where
@@ -17,8 +17,7 @@ field_bytes f = f.tag ∷ (bytes_of 2 (length f.contents) ++ f.contents)
 
 -- one field more in front, where there are fields
 abbrev pub infront : Field → Option (List Field) → Option (List Field)
-infront f None = None
-infront f (Some fs) = Some (f ∷ fs)
+infront f = option_map (λ fs. f ∷ fs)
 
 -- the length that the head of the first field says
 abbrev pub length_in : List ℕ → ℕ
