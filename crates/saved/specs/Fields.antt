@@ -1,6 +1,7 @@
 -- Request C-17: "tagged fields: a one-byte tag, a two-byte length (high byte first), then the contents".
 -- Assumes nothing.
-use Rattle.std.specs.Prelude.{ℕ, zero, suc, ◌+◌, Bool, false, cond, List, [], ◌∷◌, ◌++◌, length, get_or, take, drop, ltb, eqb, Option, Some, None, is_none, unwrap_or, option_map}
+use Rattle.std.specs.Prelude.{ℕ, zero, suc, ◌+◌, Bool, false, cond, List, [], ◌∷◌, ◌++◌, length, get_or, take, drop, ltb, eqb}
+use Rattle.std.specs.Prelude.{Option, Some, None, is_none, unwrap_or, option_map}
 use Rattle.saved.specs.Bytes.{number_of, bytes_of}
 
 pub record Field : Type 0 where

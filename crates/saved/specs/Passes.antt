@@ -1,7 +1,8 @@
 -- What the code of the reader answers on its way: what stands at a place of a file; what the first pass finds of size and tally; what the second
 -- makes of the lines. The promises of the three calls do not cite these; laws in proofs/ join them with the definitions that those cite.
 -- Assumes nothing.
-use Rattle.std.specs.Prelude.{ℕ, ◌+◌, ◌-◌, Bool, true, false, cond, ◌&&◌, List, [], ◌∷◌, length, get_or, set, take, drop, ltb, leb, eqb, Option, Some, None}
+use Rattle.std.specs.Prelude.{ℕ, ◌+◌, ◌-◌, Bool, true, false, cond, ◌&&◌, List, [], ◌∷◌, length, get_or, set, take, drop, ltb, leb, eqb}
+use Rattle.std.specs.Prelude.{Option, Some, None}
 use Rattle.std.proofs.lemmas.List.Edits.{sets}
 use Rattle.table.specs.Table.{line_start}
 use Rattle.saved.specs.Bytes.{number_of}
