@@ -13,13 +13,6 @@ pub mod rows;
 
 use table::Station;
 
-// The first station not suspected in a group, if there is one.
-#[derive(Clone, Copy)]
-pub enum First {
-    At(Station),
-    Nobody,
-}
-
 // Request C-16: what the question whether a distance is due answers. Ahead names the station that is first instead; where nobody is first, or
 // nobody stands at the distance, the one that asks.
 #[derive(Clone, Copy)]
