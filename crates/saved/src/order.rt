@@ -2,8 +2,8 @@
 //
 // Request C-19, in preparation: no call uses this module yet. The reader and the writer are those of C-17, which know no opening and take the
 // fields in any order.
-ghost use Rattle.std.specs.Prelude.{◌≡◌, false, drop};
-ghost use Rattle.saved.specs.Fields.{field, fields, is_none, or_empty, runs_past, fields_of};
+ghost use Rattle.std.specs.Prelude.{◌≡◌, false, [], drop, is_none, unwrap_or};
+ghost use Rattle.saved.specs.Fields.{field, fields, runs_past, fields_of};
 ghost use Rattle.saved.specs.Plant.{station_in};
 ghost use Rattle.saved.specs.Order.{is_known, is_opening, nothing_before, behind, follows, in_order, order_number};
 
@@ -61,7 +61,7 @@ fn behind_it(before: Before, tag: u8, contents: &[u8]) -> Before
 // Whether all fields from a place on are in order and their tags known.
 fn in_order(file: &[u8], from: Cursor) -> bool
     requires { is_none (fields (drop from.at file.now)) ≡ false }
-    ensures { result ≡ in_order nothing_before (or_empty (fields (drop from.at file.now))) }
+    ensures { result ≡ in_order nothing_before (unwrap_or (fields (drop from.at file.now)) []) }
 {
     let mut before = Before { tag: 0, station: 0 };
     let mut cursor = from;

@@ -1,7 +1,7 @@
 -- A field that stands at the cursor ends inside the file, and is the first of the rest.
 use Rattle.std.proofs.Common.{◌≡◌, refl, sym, ap, ◌∙◌, true, false, arith}
 use native.Mathlib.Nat.{add-sub_cancel_left}
-use Rattle.saved.specs.Fields.{is_none, or_empty}
+use Rattle.std.specs.Prelude.{[], is_none, unwrap_or}
 use Rattle.saved.specs.Order.{in_order}
 use Rattle.saved.proofs.Reading.{told}
 use Rattle.saved.proofs.OrderLaws.{none-past, order-stops, order-next}
@@ -43,4 +43,4 @@ pub returns-in-End : goal.returns-in-End
 unfolding in_order
 returns-in-End c =
     let t = told _ _ _ _ c.in-End.ensures refl in
-    sym (ap (λ fs. in_order c.loop-tag.before (or_empty fs)) t) ∙ c.loop-tag.invariant.gives
+    sym (ap (λ fs. in_order c.loop-tag.before (unwrap_or fs [])) t) ∙ c.loop-tag.invariant.gives

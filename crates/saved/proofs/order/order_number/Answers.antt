@@ -1,7 +1,8 @@
 -- The first field settles 21, those behind it 22.
 use Rattle.std.proofs.Common.{◌≡◌, refl, sym, ap, ◌∙◌, true, false, arith}
 use native.Mathlib.Nat.{add-sub_cancel_left}
-use Rattle.saved.specs.Fields.{is_none, runs_past, fields_of}
+use Rattle.std.specs.Prelude.{is_none}
+use Rattle.saved.specs.Fields.{runs_past, fields_of}
 use Rattle.saved.proofs.Reading.{told}
 use Rattle.saved.proofs.OrderLaws.{none-past, other-opening, out_of_order, all-ordered, no-opening}
 use Rattle.saved.proofs.order.order_number.Goals as goal
