@@ -8,13 +8,7 @@ use native.Mathlib.Decide.{dec_le}
 use native.Mathlib.Omega.{arith}
 use lib.ListN.{length, get_or}
 use Rattle.figures.specs.Batch.{reduce, least_of_results, greatest_of_results}
-
--- m stands in the list, and has R to each of its elements
-pub record Extreme (R : ℕ → ℕ → Type 0) (xs : List ℕ) (m : ℕ) : Type 0 where
-  pub place : ℕ
-  pub inside : place < length xs
-  pub stands : get_or xs place 0 ≡ m
-  pub all : (k : ℕ) → k < length xs → R m (get_or xs k 0)
+use Rattle.figures.specs.Claims.{Extreme}
 
 -- what an operation finds that gives one of two numbers, the one that has R to both
 module _ (op : ℕ → ℕ → ℕ) (R : ℕ → ℕ → Type 0) (self : (a : ℕ) → R a a) (left : (a b : ℕ) → R (op a b) a)

@@ -23,3 +23,15 @@ pub record LowestTerms (upper lower : ℕ) (f : Fraction) : Type 0 where
   pub same-value : f.upper * lower ≡ upper * f.lower
   pub no-common-divisor : (k : ℕ) → k ∣ f.upper → k ∣ f.lower → k ≡ 1
   pub positive : 0 < f.lower
+
+-- for any lower part but 0, the fraction that `lowest` gives is in lowest terms and stands for upper / lower
+abbrev pub LowestIsLowest : Type 0
+LowestIsLowest = (upper lower : ℕ) → 0 < lower → LowestTerms upper lower (lowest upper lower)
+
+-- and there is only one such
+abbrev pub OnlyOneLowest : Type 0
+OnlyOneLowest = (upper lower : ℕ) (f g : Fraction) → 0 < lower → LowestTerms upper lower f → LowestTerms upper lower g → f ≡ g
+
+-- "zero is 0/1"
+abbrev pub ZeroLowest : Type 0
+ZeroLowest = (lower : ℕ) → 0 < lower → lowest 0 lower ≡ record { upper = 0; lower = 1 }

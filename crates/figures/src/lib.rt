@@ -1,10 +1,12 @@
 // Figures over a batch of results (request C-12): count, least, greatest, mean and variance of unsigned 16-bit numbers.
 //
 // The calls: batch::figures, batch::figures_of_two, batch::figures_of_totals, adding::totals and adding::join. None has a `requires`.
+// The functions of `claims` do nothing: their contracts are claims of fractions and figures.
 #![tactic(auto)]
 
 pub mod adding;
 pub mod batch;
+pub mod claims;
 mod fractions;
 
 // A fraction. In an answer it is in lowest terms with a positive lower part, and 0/0 where the call is refused.

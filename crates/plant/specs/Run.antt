@@ -1,6 +1,6 @@
--- Document 01, the run: refusals 1 to 6, then the entries in order.
+-- Document 01, the run: refusals 1 to 6, then the entries in order; and two claims of it.
 -- Assumes nothing.
-use Rattle.std.specs.Prelude.{ℕ, suc, ◌*◌, ◌%◌, cond, not, List, [], ◌∷◌, length, eqb}
+use Rattle.std.specs.Prelude.{◌≡◌, ℕ, suc, ◌*◌, ◌%◌, cond, not, List, [], ◌∷◌, length, eqb}
 use Rattle.std.proofs.lemmas.List.Edits.{sets}
 use Rattle.lists.specs.Refusal.{refuse, ◌else◌}
 use Rattle.table.specs.Rules.{table_number}
@@ -48,3 +48,13 @@ run n s schedule sheet =
     cond (eqb (start_number n s.table (length schedule) (length sheet)) 0)
     (go_on n 0 s sheet (entries schedule))
     (record { number = start_number n s.table (length schedule) (length sheet); taken = 0; state = s; sheet = sheet })
+
+-- "An empty schedule is accepted and changes nothing": on a table that refusals 1 to 4 let through
+abbrev pub EmptyRun : Type 0
+EmptyRun = (n : ℕ) (s : State) → table_number n s.table ≡ 0 → run n s [] [] ≡ record { number = 0; taken = 0; state = s; sheet = [] }
+
+-- a table that refusals 1 to 4 let through is let through after every run too, whatever the run answers
+abbrev pub RunKeeps : Type 0
+RunKeeps =
+    (n : ℕ) (s : State) (schedule sheet : List ℕ)
+    → table_number n s.table ≡ 0 → table_number n (run n s schedule sheet).state.table ≡ 0

@@ -1,8 +1,9 @@
 // The plant run of the vCube watch (document 01, "What an entry does" and the run): entries, rounds, the tally. It stands above `turn`
 // and relies only on what the crates below state. The call of document 01 is run::run; single::take_turn, which has a `requires`, is for the crate
-// `granter`.
+// `granter`. Those of `claims` do nothing: their contracts are claims of every run.
 #![tactic(auto)]
 
+pub mod claims;
 mod entry;
 mod rounds;
 pub mod run;

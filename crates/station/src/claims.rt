@@ -1,6 +1,18 @@
-// What is claimed of the answer of request C-16 (specs/Ahead.antt), each the contract of a function that does nothing.
+// Equation 1 of paper 001 (specs/Equation1.antt) and what is claimed of the answer of request C-16 (specs/Ahead.antt), each the contract of a
+// function that does nothing.
 
+ghost use Rattle.station.specs.Equation1.{Equation1, Equation1Remaining};
 ghost use Rattle.station.specs.Ahead.{NamedStandsBefore, DueIfNobodyBefore, BeforeByDigits, BeforeInBlock, NoneDueInBlock};
+
+// A full group is its first station and that station's full groups at all lower levels.
+pub fn equation_1()
+    ensures { Equation1 }
+{}
+
+// The same with the absent numbers left out.
+pub fn equation_1_remaining()
+    ensures { Equation1Remaining }
+{}
 
 // Whom the answer names, where a station stands, is not suspected and stands before the one that asks.
 pub fn named_stands_before()

@@ -1,0 +1,31 @@
+-- What is claimed of the figures of request C-12 of a list with at least one result: mean and variance are in lowest terms, least and greatest
+-- are what they are called.
+-- Assumes nothing.
+use Rattle.std.specs.Prelude.{◌≡◌, ℕ, ◌*◌, ◌≤◌, ◌<◌, List, ◌∷◌, length, get_or}
+use Rattle.figures.specs.Fractions.{LowestTerms}
+use Rattle.figures.specs.Batch.{sum_of, sum_of_results, least_of_results, greatest_of_results, squared_difference, mean, variance}
+
+-- the mean is in lowest terms, and stands for the sum by the count
+abbrev pub MeanLowest : Type 0
+MeanLowest = (xs : List ℕ) → 0 < length xs → LowestTerms (sum_of_results xs) (length xs) (mean xs)
+
+-- the variance is in lowest terms, and stands for the mean of the squared deviations from the mean
+abbrev pub VarianceLowest : Type 0
+VarianceLowest =
+    (xs : List ℕ) → 0 < length xs
+    → LowestTerms (sum_of (λ x. squared_difference (length xs * x) (sum_of_results xs)) xs) (length xs * length xs * length xs) (variance xs)
+
+-- m stands in the list, and has R to each of its elements
+pub record Extreme (R : ℕ → ℕ → Type 0) (xs : List ℕ) (m : ℕ) : Type 0 where
+  pub place : ℕ
+  pub inside : place < length xs
+  pub stands : get_or xs place 0 ≡ m
+  pub all : (k : ℕ) → k < length xs → R m (get_or xs k 0)
+
+-- the least result is one of the results, and none is less
+abbrev pub LeastExtreme : Type 0
+LeastExtreme = (x : ℕ) (xs : List ℕ) → Extreme (λ m y. m ≤ y) (x ∷ xs) (least_of_results (x ∷ xs))
+
+-- the greatest result is one of the results, and none is greater
+abbrev pub GreatestExtreme : Type 0
+GreatestExtreme = (x : ℕ) (xs : List ℕ) → Extreme (λ m y. y ≤ m) (x ∷ xs) (greatest_of_results (x ∷ xs))
