@@ -14,7 +14,7 @@ loop-p-preserved c =
     let l = c.loop-p in
     let t = c.loop-p-test.true in
     let e = c.line_end-e.ensures.value in
-    let o = c.in-Bytes.ensures in
+    let o = c.in-Some.ensures in
     let h = has_room _ c.args.n l.k l.schedule _ l.p _ _ _ t l.invariant.room e o _ refl in
     let w = c.put_entry.ensures in
     record {
