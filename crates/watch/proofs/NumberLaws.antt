@@ -15,17 +15,13 @@ use Rattle.watch.specs.Input.{is_digit, digits_from, number_of}
 
 -- one digit more, from position i on
 module _ (l : List ℕ) (i v : ℕ) (h : i < length l) where
-  pub digits-next : 48 ≤ get_or l i 0 → get_or l i 0 ≤ 57 → digits_from v (drop i l) ≡ digits_from (10 * v + (get_or l i 0 - 48)) (drop (i + 1) l)
+  pub digits-next : is_digit (get_or l i 0) ≡ true → digits_from v (drop i l) ≡ digits_from (10 * v + (get_or l i 0 - 48)) (drop (i + 1) l)
   unfolding digits_from
-  digits-next a b = rw (add-one, drop-cons l i 0, le-leb 48 (get_or l i 0) a, le-leb (get_or l i 0) 57 b)
+  digits-next d = rw (add-one, drop-cons l i 0, d)
 
-  pub digits_low : get_or l i 0 < 48 → digits_from v (drop i l) ≡ None
+  pub digits-stop : is_digit (get_or l i 0) ≡ false → digits_from v (drop i l) ≡ None
   unfolding digits_from
-  digits_low a = rw (drop-cons l i 0, lt-leb 48 (get_or l i 0) a)
-
-  pub digits-high : 57 < get_or l i 0 → digits_from v (drop i l) ≡ None
-  unfolding digits_from
-  digits-high a = rw (drop-cons l i 0, le-leb 48 (get_or l i 0) (omega arith), lt-leb (get_or l i 0) 57 a)
+  digits-stop d = rw (drop-cons l i 0, d)
 
 pub digits-done : (l : List ℕ) (i v : ℕ) → length l ≤ i → digits_from v (drop i l) ≡ Some v
 unfolding digits_from

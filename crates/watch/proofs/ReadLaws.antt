@@ -3,7 +3,7 @@
 use mathlib.Core.Path.{◌≡◌, refl, sym, ap, ◌∙◌}
 use mathlib.Core.Bool.{Bool, true, false, cond}
 use mathlib.Core.List.{List, [], ◌∷◌, ◌++◌, append_assoc}
-use Rattle.std.specs.Prelude.{Option, None, Some}
+use Rattle.std.specs.Prelude.{Option, None, Some, option_and_then, option_map}
 use Prim.Native.Nat.{ℕ, suc, ◌+◌, ◌*◌, ◌-◌, ◌≤◌, ◌<◌, min}
 use native.Mathlib.Numerals.{add-one}
 use native.Mathlib.Omega.{arith}
@@ -25,7 +25,7 @@ entry-short (a ∷ []) h = refl
 entry-short (a ∷ b ∷ l) h = absurd (omega arith)
 
 pub entry-long : (l : List ℕ) → 2 ≤ length l
-    → entry_of l ≡ cond (eqb (get_or l 1 0) 32) (given (kind_of (get_or l 0 0)) (λ kind. given (number_of 2 (take (length l - 2) (drop 2 l))) (λ station. Some (kind, station)) None) None) None
+    → entry_of l ≡ cond (eqb (get_or l 1 0) 32) (option_and_then (λ kind. option_map (λ station. (kind, station)) (number_of 2 (take (length l - 2) (drop 2 l)))) (kind_of (get_or l 0 0))) None
 unfolding entry_of
 entry-long [] h = absurd (omega arith)
 entry-long (a ∷ []) h = absurd (omega arith)
@@ -39,7 +39,7 @@ entry_has (a ∷ []) e p = omega arith
 entry_has (a ∷ b ∷ l) e p = go (eqb b 32) (kind_of a) (number_of 2 l) (number-has 2 l) p
   where
     go : (x : Bool) (k o : Option ℕ) → ((v : ℕ) → o ≡ Some v → (length l ≤ 2) × (digits_from 0 l ≡ Some v))
-        → cond x (given k (λ kind. given o (λ station. Some (kind, station)) None) None) None ≡ Some e → suc (suc (length l)) ≤ 4
+        → cond x (option_and_then (λ kind. option_map (λ station. (kind, station)) o) k) None ≡ Some e → suc (suc (length l)) ≤ 4
     go true (Some k) (Some v) f p = let h = f v refl in omega arith
     go true (Some k) None f p = let z : ◌≡◌ {A = ℕ} 0 1 = cc in absurd (omega arith)
     go true None o f p = let z : ◌≡◌ {A = ℕ} 0 1 = cc in absurd (omega arith)

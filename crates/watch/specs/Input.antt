@@ -1,6 +1,6 @@
 -- Document 01, the run program: what its standard input means, for all inputs.
 -- Assumes nothing.
-use Rattle.std.specs.Prelude.{◌≡◌, ℕ, suc, ◌+◌, ◌*◌, ◌-◌, ◌/◌, min, Bool, cond, ◌&&◌, List, [], ◌∷◌, ◌++◌, length, ltb, leb, eqb, Option, None, Some}
+use Rattle.std.specs.Prelude.{◌≡◌, ℕ, suc, ◌+◌, ◌*◌, ◌-◌, ◌/◌, min, Bool, cond, ◌&&◌, List, [], ◌∷◌, ◌++◌, length, ltb, leb, eqb, Option, None, Some, option_and_then, option_map}
 use Rattle.std.proofs.lemmas.List.Edits.{sets}
 use Rattle.watch.specs.declared.input.Parsed.{Parsed}
 
@@ -54,7 +54,7 @@ unfoldable pub entry_of : List ℕ → Option (ℕ × ℕ)
 entry_of [] = None
 entry_of (letter ∷ []) = None
 entry_of (letter ∷ space ∷ digits) =
-    cond (eqb space 32) (given (kind_of letter) (λ kind. given (number_of 2 digits) (λ station. Some (kind, station)) None) None) None
+    cond (eqb space 32) (option_and_then (λ kind. option_map (λ station. (kind, station)) (number_of 2 digits)) (kind_of letter)) None
 
 -- what is read: the number of the first unreadable line, from 1, or 0 where there is none; the size; and the entries before that line, how
 -- many there are and their bytes, which are a schedule

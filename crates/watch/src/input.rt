@@ -135,11 +135,11 @@ fn read_number(digits: &[u8], most: usize) -> Option<usize>
         return None;
     }
     let mut value: usize = 0;
-    for b in digits {
-        if *b < b'0' || b'9' < *b {
+    for &b in digits {
+        if !b.is_ascii_digit() {
             return None;
         }
-        value = 10 * value + (*b - b'0') as usize;
+        value = 10 * value + (b - b'0') as usize;
     }
     Some(value)
 }

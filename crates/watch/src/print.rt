@@ -6,14 +6,11 @@ use plant::{Answer, Tally};
 // What is printed of a report and the sheet.
 pub fn print_report(rt: &impl Print, sheet: &[u8; 16384], report: Report) {
     match report {
-        Report::Unread(line) => print_unread(rt, line),
+        Report::Unread(line) => {
+            let _ = println!(rt; "unread {line}");
+        }
         Report::Ran(answer) => print_answer(rt, sheet, answer),
     }
-}
-
-// All that is printed of an input that is not readable.
-fn print_unread(rt: &impl Print, line: usize) {
-    let _ = println!(rt; "unread {line}");
 }
 
 // The header, a line for each entry taken, and the last line.
@@ -27,22 +24,16 @@ fn print_answer(rt: &impl Print, sheet: &[u8], answer: Answer) {
     let _ = println!(rt; "rounds {rounds} tests {tests} refused {number} at {taken}");
 }
 
-// Line k of the sheet, of four bytes, if there is one.
+// Line k of the sheet, of four bytes, if there is one; - where no station was tested.
 fn print_line(rt: &impl Print, sheet: &[u8], k: usize) {
     if sheet.len() / 4 <= k {
         return;
     }
     let at = 4 * k;
-    let _ = print!(rt; "{} ", sheet[at]);
-    print_tested(rt, sheet[at + 1]);
-    let _ = println!(rt; " {} {}", sheet[at + 2], sheet[at + 3]);
-}
-
-// The tested station, or - where there is none.
-fn print_tested(rt: &impl Print, tested: u8) {
-    if tested == 255 {
-        let _ = print!(rt; "-");
+    let (station, tested, outcome, status) = (sheet[at], sheet[at + 1], sheet[at + 2], sheet[at + 3]);
+    let _ = if tested == 255 {
+        println!(rt; "{station} - {outcome} {status}")
     } else {
-        let _ = print!(rt; "{tested}");
-    }
+        println!(rt; "{station} {tested} {outcome} {status}")
+    };
 }

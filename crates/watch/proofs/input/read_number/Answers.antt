@@ -2,8 +2,7 @@
 use Rattle.std.proofs.Common.{sym, ◌∙◌, arith}
 use Rattle.std.proofs.lemmas.Bool.Decides.{nat_tests}
 use Rattle.watch.specs.Input.{number_of}
-use Rattle.watch.proofs.NumberLaws.{digits-next, digits_low, digits-high, digits-done, number_digits, nines-next, nines-two}
-use Rattle.watch.proofs.input.read_number.Goals.{then-b-lt48-via-then-b-lt48, then-b-lt48-via-else-b-lt48+then-b-gt57}
+use Rattle.watch.proofs.NumberLaws.{digits-next, digits-stop, digits-done, number_digits, nines-next, nines-two}
 use Rattle.watch.proofs.input.read_number.Goals as goal
 
 pub returns-then-is_empty : goal.returns-then-is_empty
@@ -17,13 +16,11 @@ loop-b-init c = record {
   number = number_digits _ _ (grind (arith, nat_tests)) c.if-most-digits.false;
 }
 
-pub returns-then-b-lt48 : goal.returns-then-b-lt48
-returns-then-b-lt48 c =
+pub returns-then-not-is_ascii_digit : goal.returns-then-not-is_ascii_digit
+returns-then-not-is_ascii_digit c =
     let l = c.loop-b in
-    elim c.then-b-lt48.branch [
-      then-b-lt48-via-then-b-lt48 w ↦ sym (l.invariant.number ∙ digits_low _ l.b-index l.value c.loop-b-test.true w.if-b-lt48.true)
-    | then-b-lt48-via-else-b-lt48+then-b-gt57 w ↦ sym (l.invariant.number ∙ digits-high _ l.b-index l.value c.loop-b-test.true w.if-b-gt57.true)
-    ]
+    let d = sym c.is_ascii_digit.ensures.value ∙ c.if-not-is_ascii_digit.true in
+    sym (l.invariant.number ∙ digits-stop _ l.b-index l.value c.loop-b-test.true d)
 
 pub overflow_mul-value : goal.overflow_mul-value
 overflow_mul-value c = omega (arith, nines-two c.loop-b.b-index (omega arith))
@@ -34,10 +31,11 @@ overflow_add-value c = omega (arith, nines-two c.loop-b.b-index (omega arith))
 pub loop-b-preserved : goal.loop-b-preserved
 loop-b-preserved c =
     let l = c.loop-b in
+    let d = sym c.is_ascii_digit.ensures.value ∙ c.if-not-is_ascii_digit.false in
     record {
       few = l.invariant.few;
-      small = omega (arith, nines-next l.b-index);
-      number = l.invariant.number ∙ digits-next _ l.b-index l.value c.loop-b-test.true c.if-b-lt48.false c.if-b-gt57.false;
+      small = grind (arith, nat_tests, nines-next l.b-index);
+      number = l.invariant.number ∙ digits-next _ l.b-index l.value c.loop-b-test.true d;
     }
 
 pub returns : goal.returns
