@@ -19,9 +19,11 @@ fn print_answer(rt: &impl Print, sheet: &[u8], answer: Answer) {
     for k in 0..answer.taken {
         print_line(rt, sheet, k);
     }
-    let Answer { number, taken, tally } = answer;
-    let Tally { rounds, tests } = tally;
-    let _ = println!(rt; "rounds {rounds} tests {tests} refused {number} at {taken}");
+    let Tally { rounds, tests } = answer.tally;
+    let _ = println!(rt;
+        "rounds {rounds} tests {tests} refused {} at {}",
+        answer.number, answer.taken
+    );
 }
 
 // Line k of the sheet, of four bytes, if there is one; - where no station was tested.
@@ -30,7 +32,8 @@ fn print_line(rt: &impl Print, sheet: &[u8], k: usize) {
         return;
     }
     let at = 4 * k;
-    let (station, tested, outcome, status) = (sheet[at], sheet[at + 1], sheet[at + 2], sheet[at + 3]);
+    let (station, tested) = (sheet[at], sheet[at + 1]);
+    let (outcome, status) = (sheet[at + 2], sheet[at + 3]);
     let _ = if tested == 255 {
         println!(rt; "{station} - {outcome} {status}")
     } else {

@@ -16,5 +16,5 @@ returns-clause-value c =
     let whole : take (length a.input.now - a.from) rest ≡ rest = take_all _ _ (simp length-drop (omega arith)) in
     let slice = YieldsList-from_slice rest (c.iter.ensures.rest ∙ whole) in
     let found : c.position.result ≡ position is_line_feed rest =
-        position_from_yields_List is_line_feed _ _ c.position.result c.position.ensures.ran slice (λ x b q k. search (rules, tests)) in
+    position_from_yields_List is_line_feed _ _ c.position.result c.position.ensures.ran slice (λ x b q k. search (rules, tests)) in
     ap (λ n. a.from + n) (c.unwrap_or.ensures ∙ rw (found, whole) (line-found rest))

@@ -1,5 +1,5 @@
 -- Each answer follows the tests that led to it.
-use Rattle.std.proofs.Common.{◌≡◌, sym, ◌∙◌, arith, eq-eqb, ne_eqb}
+use Rattle.std.proofs.Common.{sym, ◌∙◌, arith, eq-eqb, ne_eqb}
 use Rattle.watch.proofs.NumberLaws.{number-two}
 use Rattle.watch.proofs.ReadLaws.{entry-short, entry-long}
 use Rattle.watch.proofs.input.read_entry.Goals as goal
