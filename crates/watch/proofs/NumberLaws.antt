@@ -4,13 +4,14 @@ use mathlib.Core.Path.{◌≡◌, refl}
 use mathlib.Core.Bool.{Bool, true, false, cond, ◌&&◌}
 use mathlib.Core.List.{List, [], ◌∷◌}
 use Rattle.std.specs.Prelude.{None, Some}
-use Prim.Native.Nat.{ℕ, zero, suc, ◌+◌, ◌*◌, ◌-◌, ◌≤◌, ◌<◌}
+use Prim.Native.Nat.{ℕ, suc, ◌+◌, ◌*◌, ◌-◌, ◌^◌, ◌≤◌, ◌<◌}
 use native.Mathlib.Numerals.{add-one}
 use native.Mathlib.Omega.{arith}
 use borrow.Author.Tests.{le-leb, lt-leb, leb-true}
 use lib.Dec.{leb}
 use lib.ListN.{length, get_or, drop, drop_of_length-le}
 use lib.Seq.{drop-cons}
+use Rattle.std.proofs.Math.Nat.{pow-succ', pow-le-pow_right}
 use Rattle.watch.specs.Input.{is_digit, digits_from, number_of}
 
 -- one digit more, from position i on
@@ -40,37 +41,28 @@ pub number_digits : (most : ℕ) (l : List ℕ) → 1 ≤ length l → length l 
 unfolding number_of
 number_digits most l a b = rw (le-leb 1 (length l) a, le-leb (length l) most b)
 
--- the greatest number of k digits
-unfoldable pub all_nines : ℕ → ℕ
-all_nines zero = 0
-all_nines (suc k) = 10 * all_nines k + 9
+-- a number of k digits is below the power 10 ^ k
+pub ten-next : (k : ℕ) → 10 ^ (k + 1) ≡ 10 * 10 ^ k
+ten-next k = rw add-one (pow-succ' 10 k)
 
-pub nines-next : (k : ℕ) → all_nines (k + 1) ≡ 10 * all_nines k + 9
-unfolding all_nines
-nines-next k = rw add-one
-
-pub nines-two : (k : ℕ) → k ≤ 2 → all_nines k ≤ 99
-unfolding all_nines
-nines-two zero h = omega arith
-nines-two (suc zero) h = omega arith
-nines-two (suc (suc zero)) h = omega arith
-nines-two (suc (suc (suc k))) h = absurd (omega arith)
+pub ten-two : (k : ℕ) → k ≤ 2 → 10 ^ k ≤ 100
+ten-two k h = pow-le-pow_right {n = 10} (omega arith) h
 
 both_true : (a b : Bool) → (a && b) ≡ true → b ≡ true
 both_true true b e = e
 both_true false b e = cc
 
-digits-small : (l : List ℕ) (k v w : ℕ) → v ≤ all_nines k → digits_from v l ≡ Some w → w ≤ all_nines (k + length l)
-unfolding digits_from all_nines
+digits-small : (l : List ℕ) (k v w : ℕ) → v < 10 ^ k → digits_from v l ≡ Some w → w < 10 ^ (k + length l)
+unfolding digits_from
 digits-small [] k v w h e = let x : k + 0 ≡ k = omega arith in let y : v ≡ w = cc in rw (x, ← y) h
-digits-small (b ∷ rest) k v w h e = go (is_digit b) refl e (digits-small rest (suc k) (10 * v + (b - 48)) w)
+digits-small (b ∷ rest) k v w h e = go (is_digit b) refl e (digits-small rest (k + 1) (10 * v + (b - 48)) w)
   where
     go : (x : Bool) → is_digit b ≡ x → cond x (digits_from (10 * v + (b - 48)) rest) None ≡ Some w
-        → (10 * v + (b - 48) ≤ 10 * all_nines k + 9 → digits_from (10 * v + (b - 48)) rest ≡ Some w → w ≤ all_nines (suc k + length rest))
-        → w ≤ all_nines (k + suc (length rest))
+        → (10 * v + (b - 48) < 10 ^ (k + 1) → digits_from (10 * v + (b - 48)) rest ≡ Some w → w < 10 ^ (k + 1 + length rest))
+        → w < 10 ^ (k + suc (length rest))
     go true p e f =
-        let y : k + suc (length rest) ≡ suc k + length rest = omega arith in
-        rw y (f (omega (arith, leb-true b 57 (both_true (leb 48 b) (leb b 57) p))) e)
+        let y : k + suc (length rest) ≡ k + 1 + length rest = omega arith in
+        rw y (f (omega (arith, ten-next k, leb-true b 57 (both_true (leb 48 b) (leb b 57) p))) e)
     go false p e f = let z : ◌≡◌ {A = ℕ} 0 1 = cc in absurd (omega arith)
 
 -- what a number has
@@ -88,4 +80,4 @@ number-has most l v = go (leb 1 (length l)) (leb (length l) most) refl
 pub number-two : (l : List ℕ) (w : ℕ) → number_of 2 l ≡ Some w → w ≤ 99
 number-two l w e =
     let h = number-has 2 l w e in
-    omega (arith, digits-small l 0 0 w (omega arith) h.1, nines-two (0 + length l) (omega arith))
+    omega (arith, digits-small l 0 0 w (omega arith) h.1, ten-two (0 + length l) (omega arith))

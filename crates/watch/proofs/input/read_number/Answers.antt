@@ -2,7 +2,7 @@
 use Rattle.std.proofs.Common.{sym, ◌∙◌, arith}
 use Rattle.std.proofs.lemmas.Bool.Decides.{nat_tests}
 use Rattle.watch.specs.Input.{number_of}
-use Rattle.watch.proofs.NumberLaws.{digits-next, digits-stop, digits-done, number_digits, nines-next, nines-two}
+use Rattle.watch.proofs.NumberLaws.{digits-next, digits-stop, digits-done, number_digits, ten-next, ten-two}
 use Rattle.watch.proofs.input.read_number.Goals as goal
 
 pub returns-then-is_empty : goal.returns-then-is_empty
@@ -23,10 +23,10 @@ returns-then-not-is_ascii_digit c =
     sym (l.invariant.number ∙ digits-stop _ l.b-index l.value c.loop-b-test.true d)
 
 pub overflow_mul-value : goal.overflow_mul-value
-overflow_mul-value c = omega (arith, nines-two c.loop-b.b-index (omega arith))
+overflow_mul-value c = omega (arith, ten-two c.loop-b.b-index (omega arith))
 
 pub overflow_add-value : goal.overflow_add-value
-overflow_add-value c = omega (arith, nines-two c.loop-b.b-index (omega arith))
+overflow_add-value c = omega (arith, ten-two c.loop-b.b-index (omega arith))
 
 pub loop-b-preserved : goal.loop-b-preserved
 loop-b-preserved c =
@@ -34,7 +34,7 @@ loop-b-preserved c =
     let d = sym c.is_ascii_digit.ensures.value ∙ c.if-not-is_ascii_digit.false in
     record {
       few = l.invariant.few;
-      small = grind (arith, nat_tests, nines-next l.b-index);
+      small = grind (arith, nat_tests, ten-next l.b-index);
       number = l.invariant.number ∙ digits-next _ l.b-index l.value c.loop-b-test.true d;
     }
 
