@@ -41,7 +41,7 @@ lines-first (b ∷ []) h = go (is_line_feed b)
 lines-first (b ∷ c ∷ rest) h = one_more b (c ∷ rest) (is_line_feed b) (lines-first (c ∷ rest) (omega arith))
 
 -- a line ends where std's `position` finds a line feed first, or at the input's end
-pub line-position : (l : List ℕ) → position_or_len is_line_feed l ≡ line_length l
+line-position : (l : List ℕ) → position_or_len is_line_feed l ≡ line_length l
 unfolding line_length
 line-position [] = refl
 line-position (b ∷ rest) = go (is_line_feed b) (line-position rest)
@@ -52,7 +52,7 @@ line-position (b ∷ rest) = go (is_line_feed b) (line-position rest)
     go false e = omega arith
 
 pub line-found : (l : List ℕ) → unwrap_or (position is_line_feed l) (length l) ≡ line_length l
-line-found l = let w = line-within l in rw (line-position l) (go (dec_lt (line_length l) (length l)))
+line-found l = rw (line-position l) (go (dec_lt (line_length l) (length l)))
   where
     go : Dec (line_length l < length l) → unwrap_or (cond (ltb (line_length l) (length l)) (Some (line_length l)) None) (length l) ≡ line_length l
     go (yes h) = rw (lt-ltb (line_length l) (length l) h)

@@ -60,7 +60,7 @@ fn read_entries(input: &[u8], from: usize, n: usize, schedule: &mut [u8]) -> Par
 fn room_for(len: usize) -> usize
     ensures { result ≡ room_for len }
 {
-    if len / 2 < 4096 { len / 2 } else { 4096 }
+    (len / 2).min(4096)
 }
 
 // Writes entry k of a schedule.
@@ -88,7 +88,7 @@ fn line_after(input: &[u8], e: usize) -> usize
     requires { e ≤ length input.now }
     ensures { result ≡ min (e + 1) (length input.now) }
 {
-    if e < input.len() { e + 1 } else { e }
+    (e + 1).min(input.len())
 }
 
 // The entry of a line, where k entries were read and there is room for one more.
@@ -98,7 +98,7 @@ fn entry_with_room(k: usize, room: usize, line: &[u8]) -> Option<(u8, u8)>
     if k < room { read_entry(line) } else { None }
 }
 
-// The entry of a line: its kind and its station.
+// The entry of a line, if it is one: its kind and its station.
 fn read_entry(line: &[u8]) -> Option<(u8, u8)>
     ensures { result ≡ entry_of line.now }
 {
@@ -113,7 +113,7 @@ fn read_entry(line: &[u8]) -> Option<(u8, u8)>
     Some((kind, station as u8))
 }
 
-// The kind of a letter.
+// The kind of a letter, if it is T, L or C.
 #[tactic(auto, unfolding(crate::specs::Input::kind_of))]
 fn kind_of(letter: u8) -> Option<u8>
     ensures { result ≡ kind_of letter }
@@ -126,7 +126,7 @@ fn kind_of(letter: u8) -> Option<u8>
     }
 }
 
-// The value of one to `most` digits.
+// The value of one to `most` digits, if they are that.
 fn read_number(digits: &[u8], most: usize) -> Option<usize>
     requires { most ≤ 3 }
     ensures { result ≡ number_of most digits.now }
