@@ -7,7 +7,7 @@ use Rattle.std.specs.Prelude.{Option, None, Some, option_and_then, option_map}
 use Prim.Native.Nat.{ℕ, suc, ◌+◌, ◌*◌, ◌-◌, ◌≤◌, ◌<◌, min}
 use native.Mathlib.Numerals.{add-one}
 use native.Mathlib.Omega.{arith}
-use borrow.Author.Tests.{ltb-true}
+use borrow.Author.Tests.{eq-eqb, ne_eqb, ltb-true}
 use lib.Dec.{ltb, eqb}
 use lib.ListN.{length, get_or, set, take, drop, length-set, length-append, length-drop, drop_of_length-le, take-append-drop}
 use lib.Seq.{take_all, drop-drop, drop-set-lt, take-suc-set, length-take-le, sets}
@@ -24,12 +24,19 @@ entry-short [] h = refl
 entry-short (a ∷ []) h = refl
 entry-short (a ∷ b ∷ l) h = absurd (omega arith)
 
-pub entry-long : (l : List ℕ) → 2 ≤ length l
-    → entry_of l ≡ cond (eqb (get_or l 1 0) 32) (option_and_then (λ kind. option_map (λ station. (kind, station)) (number_of 2 (take (length l - 2) (drop 2 l)))) (kind_of (get_or l 0 0))) None
+pub entry-unspaced : (l : List ℕ) → 2 ≤ length l → (get_or l 1 0 ≡ 32 → ⊥) → entry_of l ≡ None
 unfolding entry_of
-entry-long [] h = absurd (omega arith)
-entry-long (a ∷ []) h = absurd (omega arith)
-entry-long (a ∷ b ∷ l) h = let e : take (suc (suc (length l)) - 2) l ≡ l = take_all _ l (omega arith) in rw e
+entry-unspaced [] h n = absurd (omega arith)
+entry-unspaced (a ∷ []) h n = absurd (omega arith)
+entry-unspaced (a ∷ b ∷ l) h n = rw (ne_eqb b 32 n)
+
+pub entry-spaced : (l : List ℕ) → 2 ≤ length l → get_or l 1 0 ≡ 32
+    → entry_of l
+    ≡ option_and_then (λ kind. option_map (λ station. (kind, station)) (number_of 2 (take (length l - 2) (drop 2 l)))) (kind_of (get_or l 0 0))
+unfolding entry_of
+entry-spaced [] h s = absurd (omega arith)
+entry-spaced (a ∷ []) h s = absurd (omega arith)
+entry-spaced (a ∷ b ∷ l) h s = let e : take (suc (suc (length l)) - 2) l ≡ l = take_all _ l (omega arith) in rw (eq-eqb b 32 s, e)
 
 -- an entry's line is short
 entry_has : (l : List ℕ) (e : ℕ × ℕ) → entry_of l ≡ Some e → length l ≤ 4
@@ -138,13 +145,13 @@ entries_fit : (room n k : ℕ) (s : List ℕ) (ls : List (List ℕ)) → k ≤ r
 unfolding read_entries
 entries_fit room n k s [] h p = record { within = h; pairs = p }
 entries_fit room n k s (l ∷ ls) h p =
-    go (cond (ltb k room) (entry_of l) None) (taken-has k room l) (λ e. entries_fit room n (suc k) (s ++ (e.0 ∷ e.1 ∷ [])) ls)
+    go (cond (ltb k room) (entry_of l) None) _ (taken-has k room l)
+    (λ e w. entries_fit room n (suc k) (s ++ (e.0 ∷ e.1 ∷ [])) ls w (simp length-append (omega arith)))
   where
-    go : (o : Option (ℕ × ℕ)) → ((e : ℕ × ℕ) → o ≡ Some e → (k < room) × (length l ≤ 4))
-        → ((e : ℕ × ℕ) → suc k ≤ room → length (s ++ (e.0 ∷ e.1 ∷ [])) ≡ 2 * suc k → ReadFits room (read_entries room n (suc k) (s ++ (e.0 ∷ e.1 ∷ [])) ls))
-        → ReadFits room (given o (λ e. read_entries room n (suc k) (s ++ (e.0 ∷ e.1 ∷ [])) ls) (reading_of (k + 2) n k s))
-    go None f on = record { within = h; pairs = p }
-    go (Some e) f on = let g = f e refl in on e (omega arith) (simp length-append (omega arith))
+    go : (o : Option (ℕ × ℕ)) (next : ℕ × ℕ → Reading) → ((e : ℕ × ℕ) → o ≡ Some e → (k < room) × (length l ≤ 4))
+        → ((e : ℕ × ℕ) → suc k ≤ room → ReadFits room (next e)) → ReadFits room (given o next (reading_of (k + 2) n k s))
+    go None next f on = record { within = h; pairs = p }
+    go (Some e) next f on = on e (f e refl).0
 
 pub read_fits : (room : ℕ) (l : List ℕ) → ReadFits room (read_up_to room l)
 unfolding read_up_to read_lines
