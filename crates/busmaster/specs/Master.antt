@@ -11,7 +11,8 @@ use Rattle.station.specs.Tests.{unsuspected, first_place, first, answer, due}
 use Rattle.station.specs.Rows.{union_byte, union, mark}
 use Rattle.table.specs.Fresh.{fresh_byte, fresh_table}
 use Rattle.lists.specs.Steps.{after_steps}
-use Rattle.turn.specs.Turn.{leave_told, next_test, makes_test, finish_pass, count_test, replies, is_told, exchange_rows, suspect, reply_outcome, test_outcome, after_outcome, self_or_suspected, is_alone, after_alone, testing, turn}
+use Rattle.turn.specs.Turn.{leave_told, next_test, makes_test, finish_pass, count_test, replies, is_told, exchange_rows, suspect, reply_outcome}
+use Rattle.turn.specs.Turn.{test_outcome, after_outcome, self_or_suspected, is_alone, after_alone, testing, turn}
 use Rattle.plant.specs.Round.{rounds_after, reset_line, reset_lines, after_round}
 use Rattle.plant.specs.Entry.{state_of, acted, after}
 use Rattle.granter.specs.Grant.{waits, first_from, following, granted, grant_number, grant_station}
@@ -90,9 +91,19 @@ abbrev pub AsSaid : List Example → Type 0
 AsSaid es = map (λ (e : Example). e.given) es ≡ map (λ (e : Example). e.said) es
 
 pub as_said : AsSaid examples
-unfolding rounds_after leave_told examples two_wait one_waits all_dead two_fresh two_suspecting drive outcome_after grants_made stops ended after_grants grant_turn grant_number grant_station granted following first_from waits table_number shape_number is_size table_length every line_rules exit_rule row_rule some_live live_finished cell line_start row set_row set_cell fresh_table fresh_byte list_of after acted turn reset_line reset_lines after_round after_steps next_test makes_test finish_pass count_test replies is_told exchange_rows suspect reply_outcome test_outcome after_outcome self_or_suspected is_alone after_alone testing answer due first first_place least unsuspected member width level dimension distances union union_byte joined_byte mark
+unfolding rounds_after leave_told examples two_wait one_waits all_dead two_fresh two_suspecting drive outcome_after grants_made stops ended
+    after_grants grant_turn grant_number grant_station granted following first_from waits table_number shape_number is_size table_length every
+    line_rules exit_rule row_rule some_live live_finished cell line_start row set_row set_cell fresh_table fresh_byte list_of after acted turn
+    reset_line reset_lines after_round after_steps next_test makes_test finish_pass count_test replies is_told exchange_rows suspect
+    reply_outcome test_outcome after_outcome self_or_suspected is_alone after_alone testing answer due first first_place least unsuspected member
+    width level dimension distances union union_byte joined_byte mark
 as_said = refl
 
 pub drives-as-said : AsSaid drives
-unfolding rounds_after leave_told drives two_wait one_waits all_dead two_fresh two_suspecting drive outcome_after grants_made stops ended after_grants grant_turn grant_number grant_station granted following first_from waits table_number shape_number is_size table_length every line_rules exit_rule row_rule some_live live_finished cell line_start row set_row set_cell fresh_table fresh_byte list_of after acted turn reset_line reset_lines after_round after_steps next_test makes_test finish_pass count_test replies is_told exchange_rows suspect reply_outcome test_outcome after_outcome self_or_suspected is_alone after_alone testing answer due first first_place least unsuspected member width level dimension distances union union_byte joined_byte mark
+unfolding rounds_after leave_told drives two_wait one_waits all_dead two_fresh two_suspecting drive outcome_after grants_made stops ended
+    after_grants grant_turn grant_number grant_station granted following first_from waits table_number shape_number is_size table_length every
+    line_rules exit_rule row_rule some_live live_finished cell line_start row set_row set_cell fresh_table fresh_byte list_of after acted turn
+    reset_line reset_lines after_round after_steps next_test makes_test finish_pass count_test replies is_told exchange_rows suspect
+    reply_outcome test_outcome after_outcome self_or_suspected is_alone after_alone testing answer due first first_place least unsuspected member
+    width level dimension distances union union_byte joined_byte mark
 drives-as-said = refl

@@ -3,7 +3,6 @@
 #![tactic(auto)]
 
 use granter::{Driven, drive, grant};
-use lists::bytes;
 use plant::{Tally, run};
 use table::{cells, fresh};
 
@@ -17,6 +16,7 @@ const ZERO_OF_ONE: usize = cells::HEAD as usize + 1;
 
 const ONE_OF_ZERO: usize = 2 + cells::HEAD as usize + cells::HEAD as usize;
 
+// What one print cannot write is left out, and the next is tried all the same.
 fn main(rt: HostRuntime) {
     eight_boards(&rt);
     four_crashed(&rt);
@@ -55,17 +55,13 @@ fn both_ways(rt: &impl Print, by_turns: &mut [u8], driven: &mut [u8]) {
 }
 
 fn tally_line(rt: &impl Print, tally: Tally) {
-    write(rt, b"rounds ");
-    print(rt, tally.rounds as u64);
-    write(rt, b" tests ");
-    print(rt, tally.tests as u64);
-    write(rt, b"\n");
+    let _ = println!(rt; "rounds {} tests {}", tally.rounds, tally.tests);
 }
 
 // Whether two tables hold the same bytes.
 fn tables_line(rt: &impl Print, first: &[u8], second: &[u8]) {
-    if bytes::same_bytes(first, second) {
-        write(rt, b"the same table\n");
+    if first == second {
+        let _ = println!(rt; "the same table");
     }
 }
 
@@ -73,8 +69,7 @@ fn tables_line(rt: &impl Print, first: &[u8], second: &[u8]) {
 fn granted_round(rt: &impl Print, table: &mut [u8]) -> Tally {
     let mut tally = tally_of(0, 0);
     let mut last: usize = 255;
-    let mut k: u8 = 0;
-    while k < 64 {
+    for _ in 0..64 {
         let granted = grant::grant(8, table, last);
         if (granted.number != 0) | (tally.rounds != 0) {
             return tally;
@@ -82,7 +77,6 @@ fn granted_round(rt: &impl Print, table: &mut [u8]) -> Tally {
         let to = granted.station;
         last = to.0 as usize;
         tally = entry_of(rt, table, tally, 1, to.0);
-        k += 1;
     }
     tally
 }
@@ -101,20 +95,9 @@ fn entry_of(rt: &impl Print, table: &mut [u8], tally: Tally, kind: u8, i: u8) ->
     let mut line = [0u8; 4];
     let answer = run::run(8, table, tally, &schedule, &mut line);
     if kind == 1 {
-        turn_line(rt, &line);
+        let _ = println!(rt; "{} {} {} {}", line[0], line[1], line[2], line[3]);
     }
     answer.tally
-}
-
-fn turn_line(rt: &impl Print, line: &[u8; 4]) {
-    byte(rt, line[0]);
-    write(rt, b" ");
-    byte(rt, line[1]);
-    write(rt, b" ");
-    byte(rt, line[2]);
-    write(rt, b" ");
-    byte(rt, line[3]);
-    write(rt, b"\n");
 }
 
 // Tests one below the top, tests at the top, and rounds that reach it when the round closes: 7 after one grant, 7 at once, 0.
@@ -155,48 +138,20 @@ fn number_line(rt: &impl Print, last: usize) {
     let mut table = [0u8; TWO];
     fresh::fresh_table(2, &mut table);
     let granted = grant::grant(2, &table, last);
-    let to = granted.station;
-    write(rt, b"last ");
-    print(rt, last as u64);
-    write(rt, b" number ");
-    byte(rt, granted.number);
-    write(rt, b" station ");
-    byte(rt, to.0);
-    write(rt, b"\n");
+    let _ = println!(rt;
+        "last {last} number {} station {}",
+        granted.number, granted.station.0
+    );
 }
 
 fn tally_of(rounds: u32, tests: u32) -> Tally {
-    Tally {
-        rounds: rounds,
-        tests: tests,
-    }
+    Tally { rounds, tests }
 }
 
 fn drive_line(rt: &impl Print, driven: Driven) {
-    write(rt, b"number ");
-    byte(rt, driven.number);
     let tally = driven.tally;
-    write(rt, b" rounds ");
-    print(rt, tally.rounds as u64);
-    write(rt, b" tests ");
-    print(rt, tally.tests as u64);
-    write(rt, b" last ");
-    print(rt, driven.last as u64);
-    write(rt, b" grants ");
-    print(rt, driven.grants as u64);
-    write(rt, b"\n");
-}
-
-fn byte(rt: &impl Print, x: u8) {
-    print(rt, x as u64);
-}
-
-// Writes a text. One that cannot be written is left out, and what follows is tried all the same.
-fn write(rt: &impl Print, text: &[u8]) {
-    let _ = rt.write_all(text);
-}
-
-// Writes a number's decimal digits, likewise.
-fn print(rt: &impl Print, x: u64) {
-    let _ = rt.print(x);
+    let _ = println!(rt;
+        "number {} rounds {} tests {} last {} grants {}",
+        driven.number, tally.rounds, tally.tests, driven.last, driven.grants
+    );
 }

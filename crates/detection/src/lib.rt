@@ -1,6 +1,9 @@
-// Demand 3 and the exact wait: the claims stand in specs/Claim.antt, their proof in proofs/Demand3.antt. The one function is the run itself
-// with the claims as its promise, so that they rest on what plant::run::run promises.
+// Demand 3 and the exact wait: the claims stand in specs/Claim.antt, their proof in proofs/Demand3.antt. The function here is the run itself
+// with the claims as its promise, so that they rest on what plant::run::run promises. Those of `claims` do nothing: their contracts are the
+// claims about every list of runs.
 #![tactic(auto)]
+
+pub mod claims;
 
 ghost use Rattle.std.specs.Prelude.{◌≡◌};
 ghost use Rattle.plant.specs.Entry.{state_with};
@@ -20,8 +23,8 @@ pub fn run_in_list(
     sheet: &mut [u8],
 ) -> Answer
     ensures sheet_after { outcome_with result table.new sheet.new ≡ run n (state_with table.old tally) schedule.now sheet.old }
-    ensures within_after { WithinAfter demand_wait (call_of n schedule.now sheet.old) (state_with table.old tally) (state_with table.new result.tally) }
-    ensures within_after_2 { WithinAfter exact_wait (call_of n schedule.now sheet.old) (state_with table.old tally) (state_with table.new result.tally) }
+    ensures within_demand_wait { WithinAfter demand_wait (call_of n schedule.now sheet.old) (state_with table.old tally) (state_with table.new result.tally) }
+    ensures within_exact_wait { WithinAfter exact_wait (call_of n schedule.now sheet.old) (state_with table.old tally) (state_with table.new result.tally) }
 {
     run::run(n, table, tally, schedule, sheet)
 }

@@ -1,6 +1,9 @@
-// The claims of request C-15 stand in specs/, their proofs in proofs/. The one function is the drive itself with demand 3 of driven plants as
-// its promise, and the same within the exact wait, so that they rest on what granter::drive::drive promises.
+// The claims of request C-15 stand in specs/, their proofs in proofs/. The function here is the drive itself with demand 3 of driven plants as
+// its promise, and the same within the exact wait, so that they rest on what granter::drive::drive promises. Those of `claims` do nothing:
+// their contracts are the claims.
 #![tactic(auto)]
+
+pub mod claims;
 
 ghost use Rattle.std.specs.Prelude.{◌≡◌};
 ghost use Rattle.plant.specs.Entry.{state_with};
@@ -15,8 +18,8 @@ use plant::Tally;
 // leaves, and holds within the exact wait too.
 pub fn drive_in_list(n: usize, table: &mut [u8], tally: Tally, last: usize) -> Driven
     ensures table_after { drive_outcome_with result table.new ≡ drive n (state_with table.old tally) last }
-    ensures driven_within_after { DrivenWithinAfter demand_wait n last (state_with table.old tally) (state_with table.new result.tally) }
-    ensures driven_within_after_2 { DrivenWithinAfter exact_wait n last (state_with table.old tally) (state_with table.new result.tally) }
+    ensures driven_within_demand_wait { DrivenWithinAfter demand_wait n last (state_with table.old tally) (state_with table.new result.tally) }
+    ensures driven_within_exact_wait { DrivenWithinAfter exact_wait n last (state_with table.old tally) (state_with table.new result.tally) }
 {
     drive::drive(n, table, tally, last)
 }

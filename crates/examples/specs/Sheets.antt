@@ -44,7 +44,8 @@ examples =
 
 -- each example holds
 pub as_said : map (λ (e : Example). e.given) examples ≡ map (λ (e : Example). e.said) examples
-unfolding examples empty_row tested untested_distances untested ahead tests_due greatest tests_with most_tests most_of_boards due_distances due answer first first_place unsuspected mark member width level dimension distances least list_of
+unfolding examples empty_row tested untested_distances untested ahead tests_due greatest tests_with most_tests most_of_boards due_distances due
+    answer first first_place unsuspected mark member width level dimension distances least list_of
 as_said = refl
 
 -- "19 boards, 10", which board 18 has

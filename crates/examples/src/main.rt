@@ -24,6 +24,7 @@ const ONE_ROUNDS_AGO: usize = 4 + cells::HEAD as usize + cells::ROUNDS_AGO as us
 // Where a table of eight has what 5 says of 4.
 const FIVE_OF_FOUR: usize = 5 * (8 + cells::HEAD as usize) + cells::HEAD as usize + 4;
 
+// What one print cannot write is left out, and the next is tried all the same.
 fn main(rt: HostRuntime) {
     table_1(&rt);
     sizes(&rt);
@@ -46,17 +47,15 @@ fn table_1(rt: &impl Print) {
 
 // The groups of stations 0 to 7 at level s, of w members each.
 fn group_line(rt: &impl Print, s: Level, w: u8) {
-    byte(rt, s.0);
-    let mut i: u8 = 0;
-    while i < 8 {
+    let _ = print!(rt; "{}", s.0);
+    for i in 0..8 {
         group_column(rt, Station(i), s, w);
-        i += 1;
     }
     line_end(rt);
 }
 
 fn line_end(rt: &impl Print) {
-    write(rt, b"\n");
+    let _ = println!(rt; "");
 }
 
 fn group_column(rt: &impl Print, i: Station, s: Level, w: u8) {
@@ -78,24 +77,10 @@ fn members(rt: &impl Print, n: usize, i: Station, s: Level, w: usize, list: &mut
 
 // The bytes, a space before the first and commas before the others.
 fn commas(rt: &impl Print, list: &[u8]) {
-    let mut k: usize = 0;
-    while k < list.len() {
-        separator(rt, k);
-        byte(rt, list[k]);
-        k += 1;
+    for (k, byte) in list.iter().enumerate() {
+        let separator = if k == 0 { " " } else { "," };
+        let _ = print!(rt; "{separator}{byte}");
     }
-}
-
-fn separator(rt: &impl Print, k: usize) {
-    if k == 0 {
-        write(rt, b" ");
-    } else {
-        write(rt, b",");
-    }
-}
-
-fn byte(rt: &impl Print, x: u8) {
-    print(rt, x as u64);
 }
 
 // "[..] N = 128: refusal 1. N = 2: table of 12 bytes; 11 and 13 give 2. N = 64: 4,352 bytes." By C-11 size 3 is taken, and 0, 1 and 65 are not.
@@ -119,13 +104,7 @@ fn sizes(rt: &impl Print) {
 fn size_line(rt: &impl Print, n: usize, len: usize) {
     let mut space = [0u8; cells::GREATEST_TABLE];
     let number = fresh_number(n, len, &mut space);
-    write(rt, b"size ");
-    print(rt, n as u64);
-    write(rt, b" bytes ");
-    print(rt, len as u64);
-    write(rt, b" number ");
-    byte(rt, number);
-    write(rt, b"\n");
+    let _ = println!(rt; "size {n} bytes {len} number {number}");
 }
 
 // A fresh table in the first len bytes of space; 255 where space is shorter.
@@ -182,12 +161,11 @@ fn table_3(rt: &impl Print) {
 fn messages_line(rt: &impl Print, n: u8, rounds: u8) {
     let mut space = [0u8; cells::GREATEST_TABLE];
     let tally = fresh_rounds(rt, n, rounds, cells::table_length(n), &mut space);
-    byte(rt, n);
-    write(rt, b" boards rounds ");
-    print(rt, tally.rounds as u64);
-    write(rt, b" messages ");
-    print(rt, 2 * tally.tests as u64);
-    line_end(rt);
+    let _ = println!(rt;
+        "{n} boards rounds {} messages {}",
+        tally.rounds,
+        2 * tally.tests as u64
+    );
 }
 
 // C-11, eleven boards: groups (10, level 1), (10, level 2) and (2, level 4); the assignment of station 10, nothing suspected; and the tests
@@ -219,21 +197,15 @@ fn eight_assigned(rt: &impl Print) {
 // The entries of an assignment, and how many of them are due.
 fn assignment_line(rt: &impl Print, n: usize, table: &[u8], i: u8, list: &mut [u8]) {
     let assigned = due::assignment(n, table, Station(i), list);
-    byte(rt, i);
-    write(rt, b" assigned");
+    let _ = print!(rt; "{i} assigned");
     commas(rt, list);
-    write(rt, b" due ");
-    byte(rt, assigned.count);
-    line_end(rt);
+    let _ = println!(rt; " due {}", assigned.count);
 }
 
 // The w members of the group of i at level s among eleven.
 fn eleven_line(rt: &impl Print, i: u8, s: Level, w: usize) {
     let mut list = [0u8; 4];
-    byte(rt, i);
-    write(rt, b" level ");
-    byte(rt, s.0);
-    write(rt, b":");
+    let _ = print!(rt; "{i} level {}:", s.0);
     members(rt, 11, Station(i), s, w, &mut list);
     line_end(rt);
 }
@@ -250,12 +222,7 @@ fn odd_sizes(rt: &impl Print) {
 fn round_line(rt: &impl Print, n: u8) {
     let mut space = [0u8; cells::GREATEST_TABLE];
     let tally = fresh_rounds(rt, n, 1, cells::table_length(n), &mut space);
-    byte(rt, n);
-    write(rt, b" boards rounds ");
-    print(rt, tally.rounds as u64);
-    write(rt, b" tests ");
-    print(rt, tally.tests as u64);
-    line_end(rt);
+    let _ = println!(rt; "{n} boards rounds {} tests {}", tally.rounds, tally.tests);
 }
 
 // C-13, four boards: 1, 2 and 3 take their passes. The reply of 1 to 0's first test comes late; 0 tests 2 and 3 and finishes its pass, which
@@ -272,15 +239,14 @@ fn late_reply(rt: &impl Print) {
     let schedule = [1u8, 0, 1, 1];
     let mut sheet = [0u8; 8];
     let answer = run::run(4, &mut table, closed, &schedule, &mut sheet);
-    write(rt, b"sheet");
+    let _ = print!(rt; "sheet");
     commas(rt, &sheet[0..4]);
     line_end(rt);
     answer_line(rt, answer);
-    write(rt, b"1 told by ");
-    byte(rt, table[ONE_TOLD_BY]);
-    write(rt, b" rounds ago ");
-    byte(rt, table[ONE_ROUNDS_AGO]);
-    line_end(rt);
+    let _ = println!(rt;
+        "1 told by {} rounds ago {}",
+        table[ONE_TOLD_BY], table[ONE_ROUNDS_AGO]
+    );
 }
 
 // The tally of so many rounds on a fresh table in the first len bytes of space; no rounds where space is shorter.
@@ -300,10 +266,8 @@ fn many_rounds(rt: &impl Print, n: u8, rounds: u8, table: &mut [u8]) -> Tally {
 // The tally of so many rounds, behind the tally before.
 fn some_rounds(rt: &impl Print, n: u8, rounds: u8, table: &mut [u8], before: Tally) -> Tally {
     let mut tally = before;
-    let mut k: u8 = 0;
-    while k < rounds {
+    for _ in 0..rounds {
         tally = one_round(rt, n, table, tally, 255);
-        k += 1;
     }
     tally
 }
@@ -318,10 +282,8 @@ fn no_tally() -> Tally {
 // A round: each board takes its turns until its pass is finished. The tests of board `shown` are printed.
 fn one_round(rt: &impl Print, n: u8, table: &mut [u8], before: Tally, shown: u8) -> Tally {
     let mut tally = before;
-    let mut i: u8 = 0;
-    while i < n {
+    for i in 0..n {
         tally = one_pass(rt, n, table, tally, i, i == shown);
-        i += 1;
     }
     tally
 }
@@ -329,14 +291,12 @@ fn one_round(rt: &impl Print, n: u8, table: &mut [u8], before: Tally, shown: u8)
 // The turns of board i until its pass is finished or a turn is refused.
 fn one_pass(rt: &impl Print, n: u8, table: &mut [u8], before: Tally, i: u8, shown: bool) -> Tally {
     let mut tally = before;
-    let mut k: u8 = 0;
-    while k < n {
+    for _ in 0..n {
         let done = turn_of(rt, n, table, tally, i, shown);
         tally = done.tally;
         if done.ended {
             return tally;
         }
-        k += 1;
     }
     tally
 }
@@ -362,7 +322,7 @@ fn turn_of(rt: &impl Print, n: u8, table: &mut [u8], tally: Tally, i: u8, shown:
         };
     }
     if shown {
-        test_line(rt, i, tested);
+        let _ = println!(rt; "{i} tests {tested}");
     }
     Turn {
         tally: after,
@@ -377,39 +337,18 @@ fn entry_of(n: u8, table: &mut [u8], tally: Tally, kind: u8, i: u8) -> Answer {
     run::run(n as usize, table, tally, &schedule, &mut line)
 }
 
-fn test_line(rt: &impl Print, i: u8, tested: u8) {
-    byte(rt, i);
-    write(rt, b" tests ");
-    byte(rt, tested);
-    line_end(rt);
-}
-
 // The tests and the rounds from one tally to a later one.
 fn tests_line(rt: &impl Print, before: Tally, after: Tally) {
-    write(rt, b"rounds ");
-    print(rt, after.rounds.wrapping_sub(before.rounds) as u64);
-    write(rt, b" tests ");
-    print(rt, after.tests.wrapping_sub(before.tests) as u64);
-    line_end(rt);
+    let _ = println!(rt;
+        "rounds {} tests {}",
+        after.rounds.wrapping_sub(before.rounds),
+        after.tests.wrapping_sub(before.tests)
+    );
 }
 
 fn answer_line(rt: &impl Print, answer: Answer) {
-    write(rt, b"number ");
-    byte(rt, answer.number);
-    write(rt, b" taken ");
-    print(rt, answer.taken as u64);
-    write(rt, b" tests ");
-    let tally = answer.tally;
-    print(rt, tally.tests as u64);
-    line_end(rt);
-}
-
-// Writes a text. One that cannot be written is left out, and what follows is tried all the same.
-fn write(rt: &impl Print, text: &[u8]) {
-    let _ = rt.write_all(text);
-}
-
-// Writes a number's decimal digits, likewise.
-fn print(rt: &impl Print, x: u64) {
-    let _ = rt.print(x);
+    let _ = println!(rt;
+        "number {} taken {} tests {}",
+        answer.number, answer.taken, answer.tally.tests
+    );
 }

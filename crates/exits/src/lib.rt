@@ -1,3 +1,10 @@
-// What request C-13 asks, sentence by sentence (specs/Exits.antt), proved of the definitions that the run promises (proofs/Told.antt). There
-// is no function here.
+// What request C-13 asks, sentence by sentence (specs/Exits.antt), proved of the definitions that the run promises (proofs/Told.antt). The
+// function does nothing: its contract is the claim.
 #![tactic(auto)]
+
+ghost use Rattle.exits.specs.Exits.{TestedHears};
+
+// Where a tested station replies: by who suspects whom, which of the two leaves, and what becomes of the rows.
+pub fn tested_hears()
+    ensures { TestedHears }
+{}

@@ -4,7 +4,7 @@ use mathlib.Core.Path.{◌≡◌, refl, ap, sym, ◌∙◌}
 use mathlib.Core.Logic.{◌⊎◌, inl, inr, by_cases}
 use mathlib.Core.List.Memᴰ
 use mathlib.Core.List.{List, [], ◌∷◌, ◌++◌, Memᴰ}
-use mathlib.Core.Option.{Option, none, some}
+use Rattle.std.specs.Prelude.{Option, Some, None}
 use Prim.Native.Nat.{ℕ, zero, suc, ◌+◌, ◌^◌, ◌≤◌, ◌<◌}
 use native.Mathlib.Decide.{dec_lt}
 use native.Mathlib.Omega.{arith}
@@ -52,22 +52,22 @@ first-bytes (a ∷ b ∷ c ∷ l) bytes h =
     rw (long, two_bytes b c (bytes 1) (bytes 2), ← rest, take-append-drop k l)
 
 -- a field in front of others
-infront-nil : (f : Field) (o : Option (List Field)) → infront f o ≡ some [] → ◌≡◌ {A = ℕ} 0 1
-infront-nil f none e = cc
-infront-nil f (some gs) e = cc
+infront-nil : (f : Field) (o : Option (List Field)) → infront f o ≡ Some [] → ◌≡◌ {A = ℕ} 0 1
+infront-nil f None e = cc
+infront-nil f (Some gs) e = cc
 
-infront-cons : (f g : Field) (o : Option (List Field)) (gs : List Field) → infront f o ≡ some (g ∷ gs) → (f ≡ g) × (o ≡ some gs)
-infront-cons f g none gs e = (cc, cc)
-infront-cons f g (some fs) gs e = (cc, cc)
+infront-cons : (f g : Field) (o : Option (List Field)) (gs : List Field) → infront f o ≡ Some (g ∷ gs) → (f ≡ g) × (o ≡ Some gs)
+infront-cons f g None gs e = (cc, cc)
+infront-cons f g (Some fs) gs e = (cc, cc)
 
 -- a file that has bytes, and fields
-module _ (file : List ℕ) (some_byte : 0 < length file) (fs : List Field) (e : fields file ≡ some fs) where
+module _ (file : List ℕ) (some_byte : 0 < length file) (fs : List Field) (e : fields file ≡ Some fs) where
   within : extent file ≤ length file
   within =
       by_cases (dec_lt (length file) (extent file))
       (λ h. let z : ◌≡◌ {A = ℕ} 0 1 = cc (fields-cut file some_byte h) in omega arith) (λ h. omega arith)
 
-  opened : infront (first file) (fields (drop (extent file) file)) ≡ some fs
+  opened : infront (first file) (fields (drop (extent file) file)) ≡ Some fs
   opened = sym (fields-cons file some_byte within) ∙ e
 
 pub bytes-of-fields : BytesOfFields

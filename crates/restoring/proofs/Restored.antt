@@ -3,7 +3,7 @@
 use mathlib.Core.Path.{◌≡◌, refl, ap, ◌∙◌}
 use mathlib.Core.Bool.{true, false, cond}
 use mathlib.Core.List.{List, [], ◌∷◌, ◌++◌, append-nil, append_assoc}
-use mathlib.Core.Option.{some}
+use Rattle.std.specs.Prelude.{Some}
 use Prim.Native.Nat.{ℕ, zero, suc, ◌^◌, ◌≤◌, ◌<◌}
 use native.Mathlib.Decide.{dec_lt}
 use native.Mathlib.Omega.{arith}
@@ -37,11 +37,11 @@ front g (suc k) l = front g k (g k ∷ l)
 
 -- the fields of fields one behind the other
 fields-front : (g : ℕ → Field) (k : ℕ) (rest : List ℕ) (fs : List Field) → ((i : ℕ) → i < k → length (g i).contents < 2 ^ 16)
-    → fields rest ≡ some fs → fields (concat_of (λ i. field_bytes (g i)) k ++ rest) ≡ some (front g k fs)
+    → fields rest ≡ Some fs → fields (concat_of (λ i. field_bytes (g i)) k ++ rest) ≡ Some (front g k fs)
 unfolding concat_of
 fields-front g zero rest fs short e = e
 fields-front g (suc k) rest fs short e =
-    let first : fields (field_bytes (g k) ++ rest) ≡ some (g k ∷ fs) = fields-first (g k) rest (short k (omega arith)) ∙ rw e in
+    let first : fields (field_bytes (g k) ++ rest) ≡ Some (g k ∷ fs) = fields-first (g k) rest (short k (omega arith)) ∙ rw e in
     rw append_assoc (fields-front g k (field_bytes (g k) ++ rest) (g k ∷ fs) (λ i h. short i (omega arith)) first)
 
 -- the lines of a table as fields
@@ -120,14 +120,14 @@ module _ (n : ℕ) (t : List ℕ) (tally : Tally) (z : table_number n t ≡ 0) (
   abbrev plant_fields : List Field
   plant_fields = size_field n ∷ tally_field tally ∷ front (line_field n t) n []
 
-  lines-fields : fields (saved_lines n t n) ≡ some (front (line_field n t) n [])
+  lines-fields : fields (saved_lines n t n) ≡ Some (front (line_field n t) n [])
   unfolding saved_lines
   lines-fields =
       let b = size-bounds n size in
       let short : (i : ℕ) → i < n → length (line n t i) < 2 ^ 16 = λ i h. omega (arith, line-length n t long i h) in
       rw append-nil at (fields-front (line_field n t) n [] [] short fields-nil)
 
-  saved-fields : fields (saved n t tally) ≡ some plant_fields
+  saved-fields : fields (saved n t tally) ≡ Some plant_fields
   unfolding saved
   saved-fields =
       let s = fields-first (size_field n) (field_bytes (tally_field tally) ++ saved_lines n t n) (omega arith) in

@@ -3,7 +3,7 @@
 use mathlib.Core.Path.{◌≡◌, sym, ◌∙◌}
 use mathlib.Core.Bool.{Bool, true, false, cond, not}
 use mathlib.Core.List.{List, [], ◌∷◌, ◌++◌}
-use mathlib.Core.Option.{Option, none, some}
+use Rattle.std.specs.Prelude.{Option, Some, None, unwrap_or}
 use Prim.Native.Nat.{ℕ, zero, suc, ◌+◌, ◌*◌, ◌^◌, ◌<◌}
 use native.Mathlib.Omega.{arith}
 use borrow.Author.Tests.{eqb-true, eq-eqb, not-false}
@@ -20,7 +20,7 @@ use Rattle.table.specs.Rules.{table_number}
 use Rattle.plant.specs.declared.Tally.{Tally}
 use Rattle.saved.specs.Bytes.{number_of, bytes_of, concat_of}
 use Rattle.saved.specs.Fields.{Field, field, field_bytes, infront, length_in, extent, fields_up_to, fields}
-use Rattle.saved.specs.Fields.{runs_past, or_empty, fields_of, tagged, single, first_of}
+use Rattle.saved.specs.Fields.{runs_past, fields_of, tagged, single, first_of}
 use Rattle.saved.specs.Plant.{size_tag, size_length, tally_tag, line_tag, line_field_length, size_in, rounds_in, tests_in, size_and_tally}
 use Rattle.saved.specs.Plant.{station_in, line_in, of_station, all_fit, lines_right, table_in}
 use Rattle.saved.specs.Load.{file_size, file_lines, file_table, size_number, rest_number, load_number, answer_of, load_answer, load_after}
@@ -42,7 +42,7 @@ take-bytes (suc k) (x ∷ l) small zero = small 0
 take-bytes (suc k) (x ∷ l) small (suc i) = take-bytes k l (λ j. small (suc j)) i
 
 -- the first contents with a tag, of a file of bytes, are bytes
-first-up_to : (k most : ℕ) (file : List ℕ) → AreBytes file → AreBytes (first_of (tagged k (or_empty (fields_up_to most file))))
+first-up_to : (k most : ℕ) (file : List ℕ) → AreBytes file → AreBytes (first_of (tagged k (unwrap_or (fields_up_to most file) [])))
 unfolding fields_up_to tagged
 first-up_to k zero file small = λ i. omega arith
 first-up_to k (suc most) file small =
@@ -53,13 +53,13 @@ first-up_to k (suc most) file small =
     first = field (get_or file 0 0) (take (length_in file) (drop 3 file))
 
     Fine : Option (List Field) → Type 0
-    Fine o = AreBytes (first_of (tagged k (or_empty o)))
+    Fine o = AreBytes (first_of (tagged k (unwrap_or o [])))
 
-    pick : (a b : Bool) (o : Option (List Field)) → Fine o → Fine (cond a (some []) (cond b none (infront first o)))
+    pick : (a b : Bool) (o : Option (List Field)) → Fine o → Fine (cond a (Some []) (cond b None (infront first o)))
     pick true b o rest = λ i. omega arith
     pick false true o rest = λ i. omega arith
-    pick false false none rest = rest
-    pick false false (some fs) rest =
+    pick false false None rest = rest
+    pick false false (Some fs) rest =
         let c = take-bytes (length_in file) (drop 3 file) (drop-bytes 3 file small) in
         by_bool (eqb first.tag k) (λ e. rw e c) (λ e. rw e rest)
 

@@ -1,8 +1,7 @@
 -- A file and its fields: a file has fields exactly where it is the bytes of them, one field behind the other.
 -- Assumes nothing.
-use Rattle.std.specs.Prelude.{◌≡◌, ℕ, ◌^◌, ◌<◌, length, get_or}
+use Rattle.std.specs.Prelude.{◌≡◌, ℕ, ◌^◌, ◌<◌, length, get_or, Some}
 use mathlib.Core.List.{List, [], ◌∷◌, ◌++◌, Memᴰ}
-use Rattle.std.proofs.Math.Option.{some}
 use Rattle.saved.specs.Fields.{Field, field_bytes, fields}
 
 -- the bytes of some fields, one field behind the other
@@ -19,7 +18,7 @@ abbrev pub Short : List Field → Type 0
 Short fs = (f : Field) → Memᴰ f fs → length f.contents < 2 ^ 16
 
 abbrev pub FieldsOfBytes : Type 0
-FieldsOfBytes = (fs : List Field) → Short fs → fields (fields_bytes fs) ≡ some fs
+FieldsOfBytes = (fs : List Field) → Short fs → fields (fields_bytes fs) ≡ Some fs
 
 abbrev pub BytesOfFields : Type 0
-BytesOfFields = (file : List ℕ) (fs : List Field) → AreBytes file → fields file ≡ some fs → (fields_bytes fs ≡ file) × Short fs
+BytesOfFields = (file : List ℕ) (fs : List Field) → AreBytes file → fields file ≡ Some fs → (fields_bytes fs ≡ file) × Short fs

@@ -2,15 +2,15 @@
 -- Assumes nothing.
 use mathlib.Core.Path.{◌≡◌, refl, sym, ap, ◌∙◌}
 use mathlib.Core.Bool.{Bool, true, false, cond}
-use mathlib.Core.List.{List}
-use mathlib.Core.Option.{Option, none, some}
+use mathlib.Core.List.{List, []}
+use Rattle.std.specs.Prelude.{Option, Some, None, is_none, unwrap_or}
 use Prim.Native.Nat.{ℕ, ◌+◌, ◌-◌, ◌≤◌, ◌<◌}
 use native.Mathlib.Omega.{arith}
 use borrow.Author.Tests.{eq-eqb, ne_eqb, lt-ltb, le-ltb}
 use lib.ListN.{length, get_or, set, take, drop, length-drop}
 use lib.Seq.{sets, take_all}
 use Rattle.table.specs.Table.{stride, line_start}
-use Rattle.saved.specs.Fields.{Field, infront, is_none, or_empty}
+use Rattle.saved.specs.Fields.{Field, infront}
 use Rattle.saved.specs.Plant.{line_field_length, station_in, line_in}
 use Rattle.saved.specs.Passes.{built, built_with, built_if, build}
 
@@ -50,20 +50,20 @@ module _ (n : ℕ) (f : Field) (all rest : Option (List Field)) (t seen t' seen'
   whole-rest = go rest (ap is_none (sym split) ∙ whole)
     where
       go : (rest : Option (List Field)) → is_none (infront f rest) ≡ false → is_none rest ≡ false
-      go none e = e
-      go (some fs) e = refl
+      go None e = e
+      go (Some fs) e = refl
 
-  both_ways : (fs : List Field) → rest ≡ some fs
-      → build n (or_empty all) (built true t seen) ≡ cond r (build n fs (built r t' seen')) (built r t' seen')
+  both_ways : (fs : List Field) → rest ≡ Some fs
+      → build n (unwrap_or all []) (built true t seen) ≡ cond r (build n fs (built r t' seen')) (built r t' seen')
   unfolding build
   both_ways fs e = rw (split, e, ← took)
 
-  some-rest : (rest : Option (List Field)) → is_none rest ≡ false → rest ≡ some (or_empty rest)
-  some-rest none e = cc
-  some-rest (some fs) e = refl
+  some-rest : (rest : Option (List Field)) → is_none rest ≡ false → rest ≡ Some (unwrap_or rest [])
+  some-rest None e = cc
+  some-rest (Some fs) e = refl
 
-  pub build-next : r ≡ true → build n (or_empty rest) (built true t' seen') ≡ build n (or_empty all) (built true t seen)
-  build-next e = sym (both_ways (or_empty rest) (some-rest rest whole-rest) ∙ rw e)
+  pub build-next : r ≡ true → build n (unwrap_or rest []) (built true t' seen') ≡ build n (unwrap_or all []) (built true t seen)
+  build-next e = sym (both_ways (unwrap_or rest []) (some-rest rest whole-rest) ∙ rw e)
 
-  pub build-stops : r ≡ false → built false t' seen' ≡ build n (or_empty all) (built true t seen)
-  build-stops e = sym (both_ways (or_empty rest) (some-rest rest whole-rest) ∙ rw e)
+  pub build-stops : r ≡ false → built false t' seen' ≡ build n (unwrap_or all []) (built true t seen)
+  build-stops e = sym (both_ways (unwrap_or rest []) (some-rest rest whole-rest) ∙ rw e)

@@ -2,7 +2,7 @@
 -- Assumes nothing.
 use mathlib.Core.Path.{◌≡◌, refl, sym, ◌∙◌}
 use mathlib.Core.List.{List, [], ◌++◌}
-use mathlib.Core.Option.{none, some}
+use Rattle.std.specs.Prelude.{Some, None}
 use Prim.Native.Nat.{ℕ, zero, suc, ◌+◌, ◌^◌, ◌≤◌, ◌<◌}
 use native.Mathlib.Omega.{arith}
 use borrow.Author.Tests.{lt-ltb, le-ltb, eq-eqb, ne_eqb}
@@ -12,7 +12,7 @@ use Rattle.saved.specs.Bytes.{number_of, bytes_of}
 use Rattle.saved.specs.Fields.{Field, field, field_bytes, infront, length_in, extent, fields_up_to, fields}
 
 -- an empty file has none
-up_to-empty : (k : ℕ) (file : List ℕ) → length file ≤ 0 → fields_up_to k file ≡ some []
+up_to-empty : (k : ℕ) (file : List ℕ) → length file ≤ 0 → fields_up_to k file ≡ Some []
 unfolding fields_up_to
 up_to-empty zero file h = refl
 up_to-empty (suc k) file h = rw (eq-eqb (length file) 0 (omega arith))
@@ -25,7 +25,7 @@ fields-more (suc m) zero file h h' = up_to-empty (suc m) file h'
 fields-more (suc m) (suc k) file h h' =
     let s = length-drop (extent file) file in rw (fields-more m k (drop (extent file) file) (omega arith) (omega arith))
 
-pub fields-nil : fields [] ≡ some []
+pub fields-nil : fields [] ≡ Some []
 unfolding fields fields_up_to
 fields-nil = refl
 
@@ -35,7 +35,7 @@ module _ (file : List ℕ) (some_byte : 0 < length file) where
   one_more = fields-more (length file) (suc (length file)) file (omega arith) (omega arith)
 
   -- the first field or its head runs past the end
-  pub fields-cut : length file < extent file → fields file ≡ none
+  pub fields-cut : length file < extent file → fields file ≡ None
   unfolding fields_up_to
   fields-cut h = one_more ∙ rw (ne_eqb (length file) 0 (λ e. omega arith), lt-ltb (length file) (extent file) h)
 

@@ -13,3 +13,4 @@ pub mod TableLines
 pub mod Gathering
 pub mod Numbers
 pub mod Loading
+pub mod OrderLaws

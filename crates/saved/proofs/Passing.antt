@@ -3,13 +3,13 @@
 use mathlib.Core.Path.{◌≡◌, refl, sym, ap, ap₂, subst, ◌∙◌}
 use mathlib.Core.Bool.{true, false}
 use mathlib.Core.List.{List, [], ◌∷◌}
-use mathlib.Core.Option.{Option, none, some}
+use Rattle.std.specs.Prelude.{Option, Some, None, is_none, unwrap_or}
 use Prim.Native.Nat.{ℕ, ◌+◌}
 use lib.ListN.{length, take, drop}
 use lib.Dec.{eqb}
 use Rattle.lists.proofs.BoolLaws.{by_bool}
 use Rattle.saved.specs.Bytes.{number_of}
-use Rattle.saved.specs.Fields.{Field, infront, is_none, or_empty, tagged, single, first_of}
+use Rattle.saved.specs.Fields.{Field, infront, tagged, single, first_of}
 use Rattle.saved.specs.Plant.{size_tag, tally_tag}
 use Rattle.saved.specs.Passes.{found_with, found_if, opening_with, scan, nothing_found}
 use Rattle.saved.specs.declared.opening.Found.{Found}
@@ -24,8 +24,8 @@ unfolding scan
 scan-next o f all rest e = ap (scan o) e ∙ step rest
   where
     step : (rest : Option (List Field)) → scan o (infront f rest) ≡ scan (opening_with o f) rest
-    step none = refl
-    step (some fs) = refl
+    step None = refl
+    step (Some fs) = refl
 
 -- what a tag's fields leave of what is found, by their contents
 found_over : ℕ → ℕ → Found → List (List ℕ) → Found
@@ -39,7 +39,7 @@ found-tag tag upper lower found f fs = by_bool (eqb f.tag tag) (λ e. rw e) (λ 
 
 -- the first pass over all fields
 scan-all : (o : Opening) (fs : List Field)
-    → scan o (some fs) ≡ Whole (record { size = found_over 0 1 o.size (tagged size_tag fs); tally = found_over 4 4 o.tally (tagged tally_tag fs) })
+    → scan o (Some fs) ≡ Whole (record { size = found_over 0 1 o.size (tagged size_tag fs); tally = found_over 4 4 o.tally (tagged tally_tag fs) })
 unfolding scan tagged found_over
 scan-all o [] = refl
 scan-all o (f ∷ fs) =
@@ -69,12 +69,12 @@ found-tells upper lower (c ∷ d ∷ cs) =
 abbrev pub ScanTells : Option (List Field) → Scan → Type 0
 ScanTells fs Cut = is_none fs ≡ true
 ScanTells fs (Whole o) =
-    (is_none fs ≡ false) × FoundTells 0 1 (tagged size_tag (or_empty fs)) o.size × FoundTells 4 4 (tagged tally_tag (or_empty fs)) o.tally
+    (is_none fs ≡ false) × FoundTells 0 1 (tagged size_tag (unwrap_or fs [])) o.size × FoundTells 4 4 (tagged tally_tag (unwrap_or fs [])) o.tally
 
 scan-tells : (fs : Option (List Field)) → ScanTells fs (scan nothing_found fs)
 unfolding scan
-scan-tells none = refl
-scan-tells (some fs) = rw (scan-all nothing_found fs) (refl, found-tells 0 1 (tagged size_tag fs), found-tells 4 4 (tagged tally_tag fs))
+scan-tells None = refl
+scan-tells (Some fs) = rw (scan-all nothing_found fs) (refl, found-tells 0 1 (tagged size_tag fs), found-tells 4 4 (tagged tally_tag fs))
 
 -- the same, by the answer of the call
 pub scan-told : (fs : Option (List Field)) (r s : Scan) → r ≡ scan nothing_found fs → r ≡ s → ScanTells fs s

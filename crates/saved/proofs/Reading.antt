@@ -2,7 +2,7 @@
 -- Assumes nothing.
 use mathlib.Core.Path.{◌≡◌, refl, sym, subst, ◌∙◌}
 use mathlib.Core.List.{List, [], ◌∷◌}
-use mathlib.Core.Option.{none, some}
+use Rattle.std.specs.Prelude.{Some, None}
 use Prim.Native.Nat.{ℕ, ◌+◌, ◌*◌, ◌-◌, ◌≤◌, ◌<◌}
 use native.Mathlib.Nat.{add-zero}
 use native.Mathlib.Decide.{dec_lt}
@@ -31,27 +31,23 @@ module _ (file : List ℕ) (at : ℕ) (inside : at < length file) where
   unfolding read_at
   at_head h = rw (lt-leb (length file) at inside, lt-ltb (length file - at) (extent (drop at file)) (omega arith))
 
-  -- the length that the head says
-  abbrev pub said : ℕ
-  said = get_or file (at + 1) 0 * 256 + get_or file (at + 2) 0
+  -- len is the length that the head says
+  module _ (len : ℕ) (said : len ≡ get_or file (at + 1) 0 * 256 + get_or file (at + 2) 0) (head : 3 ≤ length file - at) where
+    pub at-past : length file - at - 3 < len → Past ≡ read_at file at
+    unfolding read_at
+    at-past m = rw (lt-leb (length file) at inside, lt-ltb (length file - at) (extent (drop at file)) (omega (arith, length-said file at)))
 
-  pub at-past : 3 ≤ length file - at → length file - at - 3 < said → Past ≡ read_at file at
-  unfolding read_at
-  at-past m h =
-      rw (lt-leb (length file) at inside, lt-ltb (length file - at) (extent (drop at file)) (omega (arith, length-said file at)))
-
-  pub at_field : 3 ≤ length file - at → said ≤ length file - at - 3
-      → At (get_or file at 0) (at + 3) said (record { at = at + 3 + said }) ≡ read_at file at
-  unfolding read_at
-  at_field m h =
-      let s : at + 3 + said ≡ at + extent (drop at file) = omega (arith, length-said file at) in
-      let w = le-ltb (length file - at) (extent (drop at file)) (omega (arith, length-said file at)) in
-      rw (lt-leb (length file) at inside, w, s, ← length-said file at)
+    pub at_field : len ≤ length file - at - 3 → At (get_or file at 0) (at + 3) len (record { at = at + 3 + len }) ≡ read_at file at
+    unfolding read_at
+    at_field m =
+        let s : at + 3 + len ≡ at + extent (drop at file) = omega (arith, length-said file at) in
+        let w = le-ltb (length file - at) (extent (drop at file)) (omega (arith, length-said file at)) in
+        rw (lt-leb (length file) at inside, w, s, length-said file at, said)
 
 -- what reading at a place tells of the fields from there on
 abbrev pub Tells : List ℕ → ℕ → Read → Type 0
-Tells file at End = fields (drop at file) ≡ some []
-Tells file at Past = fields (drop at file) ≡ none
+Tells file at End = fields (drop at file) ≡ Some []
+Tells file at Past = fields (drop at file) ≡ None
 Tells file at (At tag start len next) =
     (fields (drop at file) ≡ infront (field tag (take len (drop start file))) (fields (drop next.at file)))
     × (at < next.at)

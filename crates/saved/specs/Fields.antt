@@ -1,7 +1,7 @@
 -- Request C-17: "tagged fields: a one-byte tag, a two-byte length (high byte first), then the contents".
 -- Assumes nothing.
-use Rattle.std.specs.Prelude.{ℕ, zero, suc, ◌+◌, Bool, true, false, cond, List, [], ◌∷◌, ◌++◌, length, get_or, take, drop, ltb, eqb}
-use Rattle.std.proofs.Math.Option.{Option, none, some}
+use Rattle.std.specs.Prelude.{ℕ, zero, suc, ◌+◌, Bool, false, cond, List, [], ◌∷◌, ◌++◌, length, get_or, take, drop, ltb, eqb}
+use Rattle.std.specs.Prelude.{Option, Some, None, is_none, unwrap_or, option_map}
 use Rattle.saved.specs.Bytes.{number_of, bytes_of}
 
 pub record Field : Type 0 where
@@ -18,8 +18,7 @@ field_bytes f = f.tag ∷ (bytes_of 2 (length f.contents) ++ f.contents)
 
 -- one field more in front, where there are fields
 abbrev pub infront : Field → Option (List Field) → Option (List Field)
-infront f none = none
-infront f (some fs) = some (f ∷ fs)
+infront f = option_map (λ fs. f ∷ fs)
 
 -- the length that the head of the first field says
 abbrev pub length_in : List ℕ → ℕ
@@ -32,33 +31,23 @@ extent file = 3 + length_in file
 -- the fields of a file that has at most so many; none where "a field or its head runs past the end". The bound is for the recursion only: from
 -- the file's length on it does not matter (`fields-more` of proofs/FieldLaws.antt)
 unfoldable pub fields_up_to : ℕ → List ℕ → Option (List Field)
-fields_up_to zero file = some []
+fields_up_to zero file = Some []
 fields_up_to (suc most) file =
-    cond (eqb (length file) 0) (some [])
-    (cond (ltb (length file) (extent file)) none
+    cond (eqb (length file) 0) (Some [])
+    (cond (ltb (length file) (extent file)) None
     (infront (field (get_or file 0 0) (take (length_in file) (drop 3 file))) (fields_up_to most (drop (extent file) file))))
 
 -- the fields of a file: no more than it has bytes
 unfoldable pub fields : List ℕ → Option (List Field)
 fields file = fields_up_to (length file) file
 
--- whether there are none
-abbrev pub is_none : Option (List Field) → Bool
-is_none none = true
-is_none (some fs) = false
-
 -- 18: "when a field or its head runs past the end"
 unfoldable pub runs_past : List ℕ → Bool
 runs_past file = is_none (fields file)
 
--- the fields, where there are
-abbrev pub or_empty : Option (List Field) → List Field
-or_empty none = []
-or_empty (some fs) = fs
-
 -- the fields of a file that is not refused by 18
 unfoldable pub fields_of : List ℕ → List Field
-fields_of file = or_empty (fields file)
+fields_of file = unwrap_or (fields file) []
 
 -- the contents of the fields with a tag, in the file's order; the reader "takes any order and passes over other tags"
 unfoldable pub tagged : ℕ → List Field → List (List ℕ)

@@ -1,8 +1,9 @@
 -- Request C-17 of document 02, "Saving the plant to the panel": tagged fields, what a file means, what the reader and the writer do; and what
--- the code answers on its way.
+-- the code answers on its way. Order is of request C-19, which is in preparation.
 pub mod Bytes
 pub mod Fields
 pub mod Plant
 pub mod Load
 pub mod Save
 pub mod Passes
+pub mod Order

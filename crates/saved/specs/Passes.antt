@@ -2,7 +2,7 @@
 -- makes of the lines. The promises of the three calls do not cite these; laws in proofs/ join them with the definitions that those cite.
 -- Assumes nothing.
 use Rattle.std.specs.Prelude.{ℕ, ◌+◌, ◌-◌, Bool, true, false, cond, ◌&&◌, List, [], ◌∷◌, length, get_or, set, take, drop, ltb, leb, eqb}
-use Rattle.std.proofs.Math.Option.{Option, none, some}
+use Rattle.std.specs.Prelude.{Option, Some, None}
 use Rattle.std.proofs.lemmas.List.Edits.{sets}
 use Rattle.table.specs.Table.{line_start}
 use Rattle.saved.specs.Bytes.{number_of}
@@ -38,9 +38,9 @@ opening_with o f = record { size = found_if size_tag 0 1 o.size f; tally = found
 
 -- the first pass over the rest of a file's fields
 unfoldable pub scan : Opening → Option (List Field) → Scan
-scan o none = Cut
-scan o (some []) = Whole o
-scan o (some (f ∷ fs)) = scan (opening_with o f) (some fs)
+scan o None = Cut
+scan o (Some []) = Whole o
+scan o (Some (f ∷ fs)) = scan (opening_with o f) (Some fs)
 
 abbrev pub nothing_found : Opening
 nothing_found = record { size = Absent; tally = Absent }

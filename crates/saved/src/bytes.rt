@@ -20,10 +20,7 @@ pub(crate) fn put_word(list: &mut [u8], at: usize, v: u32)
     requires { at + 4 ≤ length list.old }
     ensures { list.new ≡ sets list.old at (bytes_of 4 v) }
 {
-    list[at] = (v / 16777216) as u8;
-    list[at + 1] = (v / 65536 % 256) as u8;
-    list[at + 2] = (v / 256 % 256) as u8;
-    list[at + 3] = (v % 256) as u8;
+    put_list(list, at, &v.to_be_bytes());
 }
 
 // Writes the other list into the list.
@@ -31,7 +28,5 @@ pub(crate) fn put_list(list: &mut [u8], at: usize, other: &[u8])
     requires { at + length other.now ≤ length list.old }
     ensures { list.new ≡ sets list.old at other.now }
 {
-    for (k, byte) in other.iter().enumerate() {
-        list[at + k] = *byte;
-    }
+    list[at..at + other.len()].copy_from_slice(other);
 }

@@ -42,7 +42,7 @@ impl Cursor {
         if left < 3 {
             return Read::Past;
         }
-        let len = file[at + 1] as usize * 256 + file[at + 2] as usize;
+        let len = u16::from_be_bytes([file[at + 1], file[at + 2]]) as usize;
         if left - 3 < len {
             return Read::Past;
         }

@@ -1,6 +1,6 @@
 // Saving the plant to the panel (request C-17 of document 02): a writer and a reader of table and tally, as tagged fields.
 //
-// The calls are save::save, load::load and load::saved_size. None has a `requires`.
+// The calls are save::save, load::load and load::saved_size. None has a `requires`. Module order prepares request C-19; no call uses it yet.
 #![tactic(auto)]
 
 mod bytes;
@@ -8,6 +8,7 @@ mod fields;
 mod lines;
 pub mod load;
 mod opening;
+pub mod order;
 pub mod save;
 
 use plant::Tally;
@@ -33,3 +34,8 @@ const SIZE: u8 = 1;
 const TALLY: u8 = 2;
 
 const LINE: u8 = 3;
+
+const OPENING: u8 = 4;
+
+// The contents of the opening.
+const EDITION: u8 = 2;

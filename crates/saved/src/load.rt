@@ -6,7 +6,7 @@ ghost use Rattle.saved.specs.Fields.{runs_past, fields_of};
 ghost use Rattle.saved.specs.Plant.{table_in};
 ghost use Rattle.saved.specs.Load.{file_lines, size_number, rest_number, saved_size, answer_of, load_answer, load_after};
 
-use crate::{Loaded, SavedSize, bytes, lines, opening};
+use crate::{Loaded, SavedSize, lines, opening};
 use table::{cells, rules};
 
 // The size of a saved plant, or its refusal 18, 19 or 1.
@@ -46,7 +46,7 @@ fn load_opened(opened: Loaded, file: &[u8], table: &mut [u8], own: &mut [u8]) ->
     if number != 0 {
         return opening::refused(number);
     }
-    bytes::put_list(table, 0, &own[..length]);
+    table.copy_from_slice(&own[..length]);
     opened
 }
 

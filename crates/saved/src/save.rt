@@ -78,6 +78,5 @@ fn put_head(buffer: &mut [u8], at: usize, tag: u8, len: u16)
     ensures { buffer.new ≡ sets buffer.old at (tag ∷ bytes_of 2 len) }
 {
     buffer[at] = tag;
-    buffer[at + 1] = (len / 256) as u8;
-    buffer[at + 2] = (len % 256) as u8;
+    bytes::put_list(buffer, at + 1, &len.to_be_bytes());
 }

@@ -1,8 +1,9 @@
 // Computes examples of request C-12. What it writes is compared with the file `stdout`, whose figures were worked out by hand.
 #![tactic(auto)]
 
-use figures::{Figures, Fraction, Totalled, Totals, adding, batch};
+use figures::{Figures, Totalled, Totals, adding, batch};
 
+// What one print cannot write is left out, and the next is tried all the same.
 fn main(rt: HostRuntime) {
     short_lists(&rt);
     two_lists(&rt);
@@ -12,16 +13,16 @@ fn main(rt: HostRuntime) {
 
 fn short_lists(rt: &impl Print) {
     let eight = [2u16, 4, 4, 4, 5, 5, 7, 9];
-    figures_line(rt, b"2 4 4 4 5 5 7 9", batch::figures(&eight));
+    figures_line(rt, "2 4 4 4 5 5 7 9", batch::figures(&eight));
     let two = [1u16, 2];
-    figures_line(rt, b"1 2", batch::figures(&two));
+    figures_line(rt, "1 2", batch::figures(&two));
     let three = [1u16, 1, 2];
-    figures_line(rt, b"1 1 2", batch::figures(&three));
+    figures_line(rt, "1 1 2", batch::figures(&three));
     let zero = [0u16];
-    figures_line(rt, b"0", batch::figures(&zero));
+    figures_line(rt, "0", batch::figures(&zero));
     let greatest = [65535u16];
-    figures_line(rt, b"65535", batch::figures(&greatest));
-    figures_line(rt, b"none", batch::figures(&zero[0..0]));
+    figures_line(rt, "65535", batch::figures(&greatest));
+    figures_line(rt, "none", batch::figures(&zero[0..0]));
 }
 
 fn two_lists(rt: &impl Print) {
@@ -29,22 +30,22 @@ fn two_lists(rt: &impl Print) {
     let second = [1u16, 2];
     figures_line(
         rt,
-        b"1 and 2",
+        "1 and 2",
         batch::figures_of_two(&first[0..1], &second[1..2]),
     );
     figures_line(
         rt,
-        b"none and 1 2",
+        "none and 1 2",
         batch::figures_of_two(&first[0..0], &second),
     );
     figures_line(
         rt,
-        b"1 2 and none",
+        "1 2 and none",
         batch::figures_of_two(&first, &second[0..0]),
     );
     figures_line(
         rt,
-        b"none and none",
+        "none and none",
         batch::figures_of_two(&first[0..0], &second[0..0]),
     );
 }
@@ -52,26 +53,26 @@ fn two_lists(rt: &impl Print) {
 fn long_lists(rt: &impl Print) {
     let low = [0u16; 4097];
     let high = [65535u16; 4097];
-    figures_line(rt, b"4096 times 65535", batch::figures(&high[0..4096]));
-    figures_line(rt, b"4097 times 65535", batch::figures(&high));
+    figures_line(rt, "4096 times 65535", batch::figures(&high[0..4096]));
+    figures_line(rt, "4097 times 65535", batch::figures(&high));
     figures_line(
         rt,
-        b"2048 times 0 and 2048 times 65535",
+        "2048 times 0 and 2048 times 65535",
         batch::figures_of_two(&low[0..2048], &high[0..2048]),
     );
     figures_line(
         rt,
-        b"1 time 0 and 4095 times 65535",
+        "1 time 0 and 4095 times 65535",
         batch::figures_of_two(&low[0..1], &high[0..4095]),
     );
     figures_line(
         rt,
-        b"1 time 0 and 4096 times 65535",
+        "1 time 0 and 4096 times 65535",
         batch::figures_of_two(&low[0..1], &high[0..4096]),
     );
     figures_line(
         rt,
-        b"4097 times 0 and none",
+        "4097 times 0 and none",
         batch::figures_of_two(&low, &high[0..0]),
     );
 }
@@ -82,33 +83,33 @@ fn kept_totals(rt: &impl Print) {
     let three = adding::totals(&eight[0..3]);
     let five = adding::totals(&eight[3..8]);
     let none = adding::totals(&eight[0..0]);
-    totals_line(rt, b"2 4 4", three);
-    totals_line(rt, b"none", none);
+    totals_line(rt, "2 4 4", three);
+    totals_line(rt, "none", none);
     totals_line(
         rt,
-        b"2 4 4 and 4 5 5 7 9",
+        "2 4 4 and 4 5 5 7 9",
         adding::join(three.totals, five.totals),
     );
     totals_line(
         rt,
-        b"none and 4 5 5 7 9",
+        "none and 4 5 5 7 9",
         adding::join(none.totals, five.totals),
     );
     totals_line(
         rt,
-        b"4096 and 1 results",
+        "4096 and 1 results",
         adding::join(bare_totals(4096, 0), bare_totals(1, 0)),
     );
     let both = adding::join(three.totals, five.totals);
-    figures_line(rt, b"the eight", batch::figures_of_totals(both.totals));
+    figures_line(rt, "the eight", batch::figures_of_totals(both.totals));
     figures_line(
         rt,
-        b"no result with a sum",
+        "no result with a sum",
         batch::figures_of_totals(bare_totals(0, 268431361)),
     );
     figures_line(
         rt,
-        b"1 result with the sum of more than 4096",
+        "1 result with the sum of more than 4096",
         batch::figures_of_totals(bare_totals(1, 268431361)),
     );
 }
@@ -116,53 +117,32 @@ fn kept_totals(rt: &impl Print) {
 // Totals of so many results with a sum, all else 0.
 fn bare_totals(count: u64, sum: u64) -> Totals {
     Totals {
-        count: count,
-        sum: sum,
+        count,
+        sum,
         squares: 0,
         least: 0,
         greatest: 0,
     }
 }
 
-fn figures_line(rt: &impl Print, of: &[u8], f: Figures) {
-    write(rt, of);
-    named(rt, b": number ", f.number as u64);
-    named(rt, b" count ", f.count);
-    named(rt, b" least ", f.least);
-    named(rt, b" greatest ", f.greatest);
-    fraction(rt, b" mean ", f.mean);
-    fraction(rt, b" variance ", f.variance);
-    write(rt, b"\n");
+fn figures_line(rt: &impl Print, of: &str, f: Figures) {
+    let _ = println!(rt;
+        "{of}: number {} count {} least {} greatest {} mean {}/{} variance {}/{}",
+        f.number,
+        f.count,
+        f.least,
+        f.greatest,
+        f.mean.upper,
+        f.mean.lower,
+        f.variance.upper,
+        f.variance.lower
+    );
 }
 
-fn totals_line(rt: &impl Print, of: &[u8], answer: Totalled) {
+fn totals_line(rt: &impl Print, of: &str, answer: Totalled) {
     let t = answer.totals;
-    write(rt, of);
-    named(rt, b": number ", answer.number as u64);
-    named(rt, b" count ", t.count);
-    named(rt, b" sum ", t.sum);
-    named(rt, b" squares ", t.squares);
-    named(rt, b" least ", t.least);
-    named(rt, b" greatest ", t.greatest);
-    write(rt, b"\n");
-}
-
-fn fraction(rt: &impl Print, name: &[u8], f: Fraction) {
-    named(rt, name, f.upper);
-    named(rt, b"/", f.lower);
-}
-
-fn named(rt: &impl Print, name: &[u8], x: u64) {
-    write(rt, name);
-    decimal(rt, x);
-}
-
-// Writes a text. One that cannot be written is left out, and what follows is tried all the same.
-fn write(rt: &impl Print, text: &[u8]) {
-    let _ = rt.write_all(text);
-}
-
-// Writes a number's decimal digits, likewise.
-fn decimal(rt: &impl Print, x: u64) {
-    let _ = rt.print(x);
+    let _ = println!(rt;
+        "{of}: number {} count {} sum {} squares {} least {} greatest {}",
+        answer.number, t.count, t.sum, t.squares, t.least, t.greatest
+    );
 }

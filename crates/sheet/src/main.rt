@@ -10,6 +10,7 @@ mod text;
 
 use arguments::Asked;
 
+// What one print cannot write is left out, and the next is tried all the same.
 fn main(rt: HostRuntime) {
     let mut row = [0u8; 64];
     let asked = arguments::read(&rt, &rt.stderr(), &mut row);

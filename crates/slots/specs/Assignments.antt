@@ -1,8 +1,7 @@
 -- What is claimed besides of the answer of request C-16 and of its assignment: the run does not need it.
 -- Assumes nothing.
-use Rattle.std.specs.Prelude.{◌≡◌, true, List, ℕ, ◌*◌, ◌-◌, ◌≤◌, ◌<◌, length, eqb}
+use Rattle.std.specs.Prelude.{◌≡◌, true, List, ℕ, ◌*◌, ◌-◌, ◌≤◌, ◌<◌, length, eqb, Some}
 use Rattle.std.specs.List.{filter}
-use Rattle.std.proofs.Math.Option.{some}
 use Rattle.std.specs.Int.Bits.{bit_or}
 use Rattle.table.specs.Sizes.{is_size, level}
 use Rattle.station.specs.Groups.{distance, station_at, width}
@@ -19,7 +18,7 @@ OwnUnsuspected = (n : ℕ) (t : List ℕ) (i : ℕ) → table_number n t ≡ 0 �
 -- a row that does not suspect its own station: somebody is first at every distance but 0
 abbrev pub SomebodyFirst : Type 0
 SomebodyFirst =
-    (r : List ℕ) (i m : ℕ) → unsuspected r i ≡ true → 0 < m → (x : ℕ) × (first (unsuspected r) (station_at i m) (level m) ≡ some x)
+    (r : List ℕ) (i m : ℕ) → unsuspected r i ≡ true → 0 < m → (x : ℕ) × (first (unsuspected r) (station_at i m) (level m) ≡ Some x)
 
 -- who stands before i at distance m does so (by `BeforeByDigits`) at all distances up to m with its digits below the highest one of e all 1, where e
 -- is its distance from i. This is shown, and not used by the code

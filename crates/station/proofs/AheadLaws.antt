@@ -4,7 +4,7 @@ use mathlib.Core.Path.{◌≡◌, sym, ap, ◌∙◌, refl}
 use mathlib.Core.Logic.{by_cases}
 use mathlib.Core.Bool.{Bool, true, false, true≢false}
 use mathlib.Core.List.{List}
-use mathlib.Core.Option.{some}
+use Rattle.std.specs.Prelude.{Some}
 use Prim.Native.Nat.{ℕ, suc, ◌+◌, ◌*◌, ◌-◌, ◌/◌, ◌%◌, ◌^◌, ◌≤◌, ◌<◌}
 use native.Mathlib.Nat.{suc-mul, div-mul-le_self, le-div_iff_mul-le}
 use native.Mathlib.Decide.{dec_lt}
@@ -145,7 +145,7 @@ named-stands-before r i m x own pos here e = by_bool (eqb y i) (λ z. absurd (tr
     j : ℕ
     j = station_at i m
 
-    f : (a : ℕ) × (level a ≡ level m) × (a ≤ m) × (unsuspected r (station_at j a) ≡ true) × (first (unsuspected r) j (level m) ≡ some (station_at j a))
+    f : (a : ℕ) × (level a ≡ level m) × (a ≤ m) × (unsuspected r (station_at j a) ≡ true) × (first (unsuspected r) j (level m) ≡ Some (station_at j a))
     f = first_found (unsuspected r) j m pos (rw (xor-undo i m) own)
 
     y : ℕ

@@ -5,7 +5,7 @@ use mathlib.Core.Path.{◌≡◌, refl, sym, ap, ◌∙◌}
 use mathlib.Core.Logic.{by_cases}
 use mathlib.Core.Bool.{Bool, true, false, ◌&&◌, and-false, true≢false}
 use mathlib.Core.List.{List}
-use mathlib.Core.Option.{Option, none, some}
+use Rattle.std.specs.Prelude.{Option, Some, None}
 use Prim.Native.Nat.{ℕ, suc, ◌+◌, ◌-◌, ◌^◌, ◌≤◌, ◌<◌}
 use native.Mathlib.Decide.{dec_lt}
 use native.Mathlib.Omega.{arith}
@@ -31,19 +31,19 @@ unfolding unsuspected
 unsuspected-absent r x h = rw (get_or-eq_default r 1 {n = x} (omega arith))
 
 -- level 0 has no group
-pub first-zero : (q : ℕ → Bool) (j : ℕ) → first q j 0 ≡ none
+pub first-zero : (q : ℕ → Bool) (j : ℕ) → first q j 0 ≡ None
 unfolding first first_place least width
 first-zero q j = refl
 
 -- the group of j at level s as the code walks it: from distance w, which is its width, on
 module _ (q : ℕ → Bool) (j s w : ℕ) (e : w ≡ width s) where
-  pub first-at : (k : ℕ) → k < w → q (station_at j (w + k)) ≡ true → ((y : ℕ) → y < k → q (station_at j (w + y)) ≡ false) → first q j s ≡ some (station_at j (w + k))
+  pub first-at : (k : ℕ) → k < w → q (station_at j (w + k)) ≡ true → ((y : ℕ) → y < k → q (station_at j (w + y)) ≡ false) → first q j s ≡ Some (station_at j (w + k))
   unfolding first first_place member
   first-at k h p before =
       let l : first_place q j s ≡ k = least-is (λ y. q (member j s y)) (width s) 0 k (omega arith) (omega arith) (rw e at p) (λ y a b. rw e at (before y b)) in
       rw (l, lt-ltb k (width s) (omega arith), e)
 
-  pub first-nobody : ((y : ℕ) → y < w → q (station_at j (w + y)) ≡ false) → first q j s ≡ none
+  pub first-nobody : ((y : ℕ) → y < w → q (station_at j (w + y)) ≡ false) → first q j s ≡ None
   unfolding first first_place member
   first-nobody fails =
       let l : first_place q j s ≡ 0 + width s = least-none (λ y. q (member j s y)) (width s) 0 (λ y a b. rw e at (fails y (omega arith))) in
@@ -51,13 +51,13 @@ module _ (q : ℕ → Bool) (j s w : ℕ) (e : w ≡ width s) where
 
 -- whether a station was found and is i
 abbrev pub is_station : ℕ → Option ℕ → Bool
-is_station i none = false
-is_station i (some x) = eqb x i
+is_station i None = false
+is_station i (Some x) = eqb x i
 
 -- the answer is "due" where that is so
 says-due : (i : ℕ) (o : Option ℕ) → says_due (answer_of i o) ≡ is_station i o
-says-due i none = refl
-says-due i (some x) = by_bool (eqb x i) (λ e. rw e) (λ e. rw e)
+says-due i None = refl
+says-due i (Some x) = by_bool (eqb x i) (λ e. rw e) (λ e. rw e)
 
 -- the first station of the group of j at level s that passes q
 module _ (q : ℕ → Bool) (j s : ℕ) where
@@ -89,7 +89,7 @@ module _ (q : ℕ → Bool) (j s : ℕ) where
 
 -- by distance: where the station at distance m from j passes, somebody is first, at that distance or before it
 pub first_found : (q : ℕ → Bool) (j m : ℕ) → 0 < m → q (station_at j m) ≡ true
-    → (a : ℕ) × (level a ≡ level m) × (a ≤ m) × (q (station_at j a) ≡ true) × (first q j (level m) ≡ some (station_at j a))
+    → (a : ℕ) × (level a ≡ level m) × (a ≤ m) × (q (station_at j a) ≡ true) × (first q j (level m) ≡ Some (station_at j a))
 unfolding first member width
 first_found q j m pos passes =
     let t = level-split m pos in

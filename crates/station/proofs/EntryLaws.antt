@@ -1,7 +1,6 @@
 -- The entries of an assignment, as a loop that counts up writes them: their number, and that they fill the list.
 -- Assumes nothing.
 use mathlib.Core.Path.{◌≡◌, refl, sym, ◌∙◌}
-use Rattle.std.specs.List.{filter}
 use mathlib.Core.Logic.{by_cases}
 use mathlib.Core.Bool.{true, false, cond, true≢false}
 use mathlib.Core.List.{List, [], ◌∷◌, ◌++◌, append-nil}

@@ -2,7 +2,6 @@
 -- call gives, for all inputs.
 -- Assumes nothing.
 use Rattle.std.specs.Prelude.{ℕ, ◌*◌, ◌-◌, Bool, not, ◌&&◌, ◌||◌, List, [], ◌∷◌, length, ltb, eqb}
-use Rattle.std.proofs.Math.Option.{Option, none, some}
 use Rattle.lists.specs.Search.{select}
 use Rattle.table.specs.Sizes.{is_size, dimension, distances}
 use Rattle.station.specs.Groups.{station_at, is_present, group}
@@ -10,15 +9,8 @@ use Rattle.table.specs.Table.{row_start, row, live}
 use Rattle.lists.specs.Refusal.{refuse, ◌else◌, unless}
 use Rattle.table.specs.Rules.{table_number, length_refusal, station_refusal}
 use Rattle.station.specs.Tests.{DueAnswer, answer_due, answer_ahead, answer, due_distances}
-use Rattle.station.specs.declared.First.{First}
-use Rattle.station.specs.declared.First.TheVariants.{At, Nobody}
 use Rattle.station.specs.declared.DueOrAhead.{DueOrAhead}
 use Rattle.station.specs.declared.DueOrAhead.TheVariants.{Due, Ahead}
-
--- what the code's First stands for: the station, or none
-abbrev pub first_value : First → Option ℕ
-first_value (At x) = some x.0
-first_value Nobody = none
 
 -- C-16: what the code's DueOrAhead stands for
 abbrev pub answer_value : DueOrAhead → DueAnswer

@@ -1,7 +1,6 @@
 -- Document 01, step 1 of "What an entry does", with request C-16 of document 02: which distances are due, and who is first at the others.
 -- Assumes nothing.
-use Rattle.std.specs.Prelude.{ℕ, Bool, true, false, cond, List, length, get_or, ltb, eqb}
-use Rattle.std.proofs.Math.Option.{Option, none, some}
+use Rattle.std.specs.Prelude.{ℕ, Bool, true, false, cond, List, length, get_or, ltb, eqb, Option, Some, None}
 use Rattle.lists.specs.Search.{least, select}
 use Rattle.station.specs.Groups.{station_at, is_present, width, member}
 use Rattle.table.specs.Sizes.{level, distances}
@@ -16,7 +15,7 @@ first_place q j s = least (λ k. q (member j s k)) (width s) 0
 
 -- the first number in the full group of j at level s that passes q
 unfoldable pub first : (ℕ → Bool) → ℕ → ℕ → Option ℕ
-first q j s = cond (ltb (first_place q j s) (width s)) (some (member j s (first_place q j s))) none
+first q j s = cond (ltb (first_place q j s) (width s)) (Some (member j s (first_place q j s))) None
 
 -- C-16: "The question whether a distance is due must answer either that it is due, or the station that is first instead."
 pub data DueAnswer : Type 0 where
@@ -26,8 +25,8 @@ pub data DueAnswer : Type 0 where
 -- what is answered to i where the first station of the group is the one given. Where nobody is first (the group of level 0 is empty; the row leaves
 -- nobody of the group unsuspected, not even i) it names i itself, which no other case does
 abbrev pub answer_of : ℕ → Option ℕ → DueAnswer
-answer_of i none = answer_ahead i
-answer_of i (some x) = cond (eqb x i) answer_due (answer_ahead x)
+answer_of i None = answer_ahead i
+answer_of i (Some x) = cond (eqb x i) answer_due (answer_ahead x)
 
 -- whether a station stands at distance m from i, whose row is r
 abbrev pub stands : List ℕ → ℕ → ℕ → Bool

@@ -1,12 +1,11 @@
 // Which distances are due (document 01, step 1), who is first at the others (request C-16), and the assignment.
-ghost use Rattle.std.specs.Prelude.{◌≡◌, ◌+◌, ◌*◌, ◌<◌, true, cond, length, set};
-ghost use Rattle.std.proofs.Math.Option.{some};
+ghost use Rattle.std.specs.Prelude.{◌≡◌, ◌+◌, ◌*◌, ◌<◌, true, cond, length, set, Some, option_map};
 ghost use Rattle.table.specs.Sizes.{is_size, level};
 ghost use Rattle.station.specs.Tests.{unsuspected, first, answer_of, answer, says_due, stands, due, due_distances};
 ghost use Rattle.station.specs.Ahead.{block_end};
-ghost use Rattle.station.specs.Calls.{first_value, answer_value, answer_byte, other_distances, assignment_entries, assignment_number, assignment_after, assignment_count};
+ghost use Rattle.station.specs.Calls.{answer_value, answer_byte, other_distances, assignment_entries, assignment_number, assignment_after, assignment_count};
 
-use crate::{Assigned, DueOrAhead, First, groups, order, rows};
+use crate::{Assigned, DueOrAhead, groups, order, rows};
 use lists::{bytes, refusal};
 use table::{Distance, Station, inside, rules, sizes};
 
@@ -19,20 +18,20 @@ fn is_unsuspected(row: &[u8], x: Station) -> bool
 }
 
 // The first station that the row does not suspect in the group of j at the level of distance m.
-fn first_unsuspected(row: &[u8], j: Station, m: Distance) -> First
-    ensures { first_value result ≡ first (unsuspected row.now) j.0 (level m.0) }
+fn first_unsuspected(row: &[u8], j: Station, m: Distance) -> Option<Station>
+    ensures { option_map (λ x. x.0) result ≡ first (unsuspected row.now) j.0 (level m.0) }
 {
     if m.0 == 0 {
-        return First::Nobody;
+        return None;
     }
     let w = groups::width_of(sizes::level_of(m));
     for k in 0..w {
         let x = order::lookup(j, Distance(w + k));
         if is_unsuspected(row, x) {
-            return First::At(x);
+            return Some(x);
         }
     }
-    First::Nobody
+    None
 }
 
 // Whether a station stands at distance m from i, by the length of i's row.
@@ -53,14 +52,14 @@ pub fn due_or_ahead(row: &[u8], i: Station, m: Distance) -> DueOrAhead
         return DueOrAhead::Ahead(i);
     }
     match first_unsuspected(row, j, m) {
-        First::At(x) => answer_of(i, x),
-        First::Nobody => DueOrAhead::Ahead(i),
+        Some(x) => answer_of(i, x),
+        None => DueOrAhead::Ahead(i),
     }
 }
 
 // What is answered to i where x is first.
 fn answer_of(i: Station, x: Station) -> DueOrAhead
-    ensures { answer_value result ≡ answer_of i.0 (some x.0) }
+    ensures { answer_value result ≡ answer_of i.0 (Some x.0) }
 {
     if x.0 == i.0 {
         return DueOrAhead::Due;

@@ -2,22 +2,16 @@
 // The plant run stands above this crate and relies only on what is stated here.
 //
 // The calls of document 01: groups::group_list, due::assignment, rows::row and rows::row_number. The rest is open for the crates above. No function
-// open to a caller has a `requires`.
+// open to a caller has a `requires`. Those of `claims` do nothing: their contracts are the claims of specs/Ahead.antt.
 #![tactic(auto)]
 
+pub mod claims;
 pub mod due;
 pub mod groups;
 pub mod order;
 pub mod rows;
 
 use table::Station;
-
-// The first station not suspected in a group, if there is one.
-#[derive(Clone, Copy)]
-pub enum First {
-    At(Station),
-    Nobody,
-}
 
 // Request C-16: what the question whether a distance is due answers. Ahead names the station that is first instead; where nobody is first, or
 // nobody stands at the distance, the one that asks.

@@ -10,7 +10,8 @@ use native.Mathlib.Decide.{dec_lt}
 use lib.Dec.{ltb}
 use lib.ListN.{length, take, drop, length-take}
 use lib.Seq.{take-take, take-nil}
-use Rattle.watch.specs.Input.{given, is_line_feed, lines, line_length, size_of, entry_of, Reading, reading_of, read_entries, read_lines, read_up_to}
+use Rattle.watch.specs.Input.{given, is_line_feed, lines, line_length, size_of, entry_of, Reading, reading_of, read_entries, read_lines}
+use Rattle.watch.specs.Input.{read_up_to}
 use Rattle.watch.specs.Watched.{watched}
 use Rattle.watch.proofs.LineLaws.{line-within, lines-first}
 use Rattle.watch.proofs.NumberLaws.{number-has}
@@ -23,7 +24,8 @@ cut_line zero l = omega arith
 cut_line (suc m) [] = omega arith
 cut_line (suc m) (b ∷ l) = go (is_line_feed b) (cut_line m l)
   where
-    go : (x : Bool) → line_length (take m l) ≡ min (line_length l) m → cond x 0 (suc (line_length (take m l))) ≡ min (cond x 0 (suc (line_length l))) (suc m)
+    go : (x : Bool) → line_length (take m l) ≡ min (line_length l) m
+        → cond x 0 (suc (line_length (take m l))) ≡ min (cond x 0 (suc (line_length l))) (suc m)
     go true e = omega arith
     go false e = omega arith
 
@@ -105,7 +107,8 @@ cut-entry room n k m s h on =
     (λ l e r i t. on (e.0 ∷ e.1 ∷ []) r i (taken-has k room l e t).0)
 
 -- five bytes for each entry that there is room for, and six more
-cut-entries : (f room n k m : ℕ) (s l : List ℕ) → room ≤ k + f → 5 * f + 6 ≤ m → read_entries room n k s (lines (take m l)) ≡ read_entries room n k s (lines l)
+cut-entries : (f room n k m : ℕ) (s l : List ℕ) → room ≤ k + f → 5 * f + 6 ≤ m
+    → read_entries room n k s (lines (take m l)) ≡ read_entries room n k s (lines l)
 cut-entries zero room n k m s l a b = cut-entry room n k m s (omega arith) (λ e r i t h. absurd (omega arith)) l
 cut-entries (suc f) room n k m s l a b =
     cut-entry room n k m s (omega arith) (λ e r i t h. cut-entries f room n (suc k) i (s ++ e) r (omega arith) (omega arith)) l

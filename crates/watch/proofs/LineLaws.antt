@@ -25,7 +25,8 @@ line-within (b ∷ rest) = go (is_line_feed b) (line-within rest)
 
 -- the first line and the others
 one_more : (b : ℕ) (l : List ℕ) (x : Bool) → lines l ≡ take (line_length l) l ∷ lines (drop (suc (line_length l)) l)
-    → cond x ([] ∷ lines l) (on_first b (lines l)) ≡ take (cond x 0 (suc (line_length l))) (b ∷ l) ∷ lines (drop (suc (cond x 0 (suc (line_length l)))) (b ∷ l))
+    → cond x ([] ∷ lines l) (on_first b (lines l))
+    ≡ take (cond x 0 (suc (line_length l))) (b ∷ l) ∷ lines (drop (suc (cond x 0 (suc (line_length l)))) (b ∷ l))
 unfolding on_first
 one_more b l true e = refl
 one_more b l false e = ap (on_first b) e

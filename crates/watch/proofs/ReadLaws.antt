@@ -12,7 +12,8 @@ use lib.Dec.{ltb, eqb}
 use lib.ListN.{length, get_or, set, take, drop, length-set, length-append, length-drop, drop_of_length-le, take-append-drop}
 use lib.Seq.{take_all, drop-drop, drop-set-lt, take-suc-set, length-take-le, sets}
 use Rattle.watch.specs.declared.input.Parsed.{Parsed}
-use Rattle.watch.specs.Input.{given, lines, line_length, digits_from, number_of, size_of, kind_of, entry_of, Reading, reading_of, read_entries, read_lines, read_up_to, ReadAs}
+use Rattle.watch.specs.Input.{given, lines, line_length, digits_from, number_of, size_of, kind_of, entry_of, Reading, reading_of, read_entries}
+use Rattle.watch.specs.Input.{read_lines, read_up_to, ReadAs}
 use Rattle.watch.proofs.LineLaws.{lines-first, drop_min}
 use Rattle.watch.proofs.NumberLaws.{number-has}
 use Rattle.lists.proofs.Writing.{sets-front}
@@ -91,7 +92,8 @@ module _ (room n k : ℕ) (s l : List ℕ) (p : ℕ) where
     unfolding read_entries
     read-stop z = rw (lines-first (drop p l) (rw length-drop (omega arith)), read_as, z)
 
-    pub read_next : (x y q : ℕ) (s' : List ℕ) → o ≡ Some (x, y) → take (2 * k + 2) s' ≡ take (2 * k) s ++ (x ∷ y ∷ []) → q ≡ min (e + 1) (length l)
+    pub read_next : (x y q : ℕ) (s' : List ℕ) → o ≡ Some (x, y)
+        → take (2 * k + 2) s' ≡ take (2 * k) s ++ (x ∷ y ∷ []) → q ≡ min (e + 1) (length l)
         → read_entries room n (k + 1) (take (2 * (k + 1)) s') (lines (drop q l)) ≡ read_from
     unfolding read_entries
     read_next x y q s' z front next =
@@ -134,7 +136,8 @@ module _ (room e : ℕ) (l : List ℕ) (o : Option ℕ) (ends : e ≡ 0 + line_l
   unfolding read_up_to
   read-sized n q z next =
       let w : e ≡ line_length l = omega arith in
-      first-sized room n l (size-as ∙ z) ∙ ap (λ (d : List ℕ). read_entries room n 0 [] (lines d)) (ap (λ (k : ℕ). drop (suc k) l) (sym w) ∙ sym (drop_min l q e next))
+      let d : drop (suc (line_length l)) l ≡ drop q l = ap (λ (k : ℕ). drop (suc k) l) (sym w) ∙ sym (drop_min l q e next) in
+      first-sized room n l (size-as ∙ z) ∙ ap (λ (d : List ℕ). read_entries room n 0 [] (lines d)) d
 
 -- there are no more entries than there is room for, and each has two bytes
 pub record ReadFits (room : ℕ) (r : Reading) : Type 0 where

@@ -86,5 +86,6 @@ module _ (lent input schedule₀ schedule : List ℕ) (p : Parsed) (room : lengt
   watched-ran z =
       let s = (read_input input).schedule in
       let n : length s ≡ 2 * p.entries = rw whole.entries (read_fits 4096 input).pairs in
-      let t : take (2 * p.entries) schedule ≡ s = rw (whole.schedule, sets-front schedule₀ s (omega (arith, entries-within))) (take_at s _ (2 * p.entries) n) in
+      let f = sets-front schedule₀ s (omega (arith, entries-within)) in
+      let t : take (2 * p.entries) schedule ≡ s = rw (whole.schedule, f) (take_at s _ (2 * p.entries) n) in
       rw (← whole.unread, z, ← whole.size, t)

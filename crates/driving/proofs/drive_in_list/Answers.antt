@@ -7,16 +7,16 @@ use Rattle.driving.specs.Driven.{DrivenWithinAfter}
 use Rattle.driving.proofs.DrivenDemand.{driven-demand-3, driven-exact-wait, last-drive}
 use Rattle.driving.proofs.drive_in_list.Goals as goal
 
-pub returns-clause-driven_within_after : goal.returns-clause-driven_within_after
-returns-clause-driven_within_after c =
+pub returns-clause-driven_within_demand_wait : goal.returns-clause-driven_within_demand_wait
+returns-clause-driven_within_demand_wait c =
     let before = state_with c.args.table.now c.args.tally in
     subst
     (DrivenWithinAfter demand_wait c.args.n c.args.last before)
     (sym (ap (λ (o : DriveOutcome). o.state) c.drive.ensures.table_after))
     (last-drive demand_wait driven-demand-3 c.args.n c.args.last before)
 
-pub returns-clause-driven_within_after_2 : goal.returns-clause-driven_within_after_2
-returns-clause-driven_within_after_2 c =
+pub returns-clause-driven_within_exact_wait : goal.returns-clause-driven_within_exact_wait
+returns-clause-driven_within_exact_wait c =
     let before = state_with c.args.table.now c.args.tally in
     subst
     (DrivenWithinAfter exact_wait c.args.n c.args.last before)

@@ -1,7 +1,8 @@
 -- A field that stands at the cursor ends inside the file, and is the first of the rest.
 use Rattle.std.proofs.Common.{◌≡◌, refl, sym, ap, ◌∙◌, true, false, arith}
+use Rattle.std.specs.Prelude.{[], is_none, unwrap_or}
 use native.Mathlib.Nat.{add-sub_cancel_left}
-use Rattle.saved.specs.Fields.{is_none, or_empty, runs_past, fields_of}
+use Rattle.saved.specs.Fields.{runs_past, fields_of}
 use Rattle.saved.specs.Passes.{built, build}
 use Rattle.saved.proofs.Reading.{told}
 use Rattle.saved.proofs.Building.{whole-rest, build-next, build-stops}
@@ -47,4 +48,4 @@ pub returns-in-End : goal.returns-in-End
 unfolding fields_of build
 returns-in-End c =
     let t = told _ _ _ _ c.in-End.ensures refl in
-    sym (ap (λ fs. build c.args.n (or_empty fs) (built true c.loop-tag.table c.loop-tag.seen)) t) ∙ c.loop-tag.invariant.gives
+    sym (ap (λ fs. build c.args.n (unwrap_or fs []) (built true c.loop-tag.table c.loop-tag.seen)) t) ∙ c.loop-tag.invariant.gives

@@ -1,6 +1,6 @@
 -- What is built so far and the rest of the fields give the answer.
-use Rattle.std.proofs.Common.{◌≡◌, ◌-◌, true, false, length, drop}
-use Rattle.saved.specs.Fields.{fields, is_none, or_empty}
+use Rattle.std.specs.Prelude.{◌≡◌, ◌-◌, true, false, [], length, drop, is_none, unwrap_or}
+use Rattle.saved.specs.Fields.{fields}
 use Rattle.saved.specs.Passes.{built, build}
 use Rattle.saved.proofs.lines.take_fields.Given as goal
 
@@ -8,8 +8,8 @@ abbrev pub invariant-loop-tag : goal.invariant-loop-tag
 invariant-loop-tag l = record {
   whole : is_none (fields (drop l.cursor.at l.file)) ≡ false;
   gives :
-      build l.n (or_empty (fields (drop l.cursor.at l.file))) (built true l.table l.seen)
-      ≡ build l.n (or_empty (fields l.file)) (built true l.initial.table l.initial.seen);
+      build l.n (unwrap_or (fields (drop l.cursor.at l.file)) []) (built true l.table l.seen)
+      ≡ build l.n (unwrap_or (fields l.file) []) (built true l.initial.table l.initial.seen);
 }
 
 abbrev pub decreases-loop-tag : goal.decreases-loop-tag

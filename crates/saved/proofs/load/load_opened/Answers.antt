@@ -1,8 +1,6 @@
 -- The file's table stands at the front of our own buffer.
 use Rattle.std.proofs.Common.{◌≡◌, ℕ, ◌≤◌, ◌++◌, List, length, take, drop, sym, ap, ◌∙◌, length-append, arith}
-use Rattle.std.proofs.lemmas.List.Edits.{sets}
 use lib.Seq.{take_at, length-take-le}
-use Rattle.lists.proofs.Writing.{sets-all}
 use Rattle.table.specs.Sizes.{is_size}
 use Rattle.table.specs.Table.{table_length, greatest_table}
 use Rattle.saved.specs.Fields.{fields_of}
@@ -51,20 +49,20 @@ returns-then-number-ne0-clause-table_after c =
     let e = c.build_and_judge-number.ensures.value ∙ rest _ _ _ c.requires.0 in
     (load-turned c.args.file.now c.args.table.now c.requires.1 _ e c.if-number-ne0.true).1
 
-pub slice_bounds-put_list-end : goal.slice_bounds-put_list-end
-slice_bounds-put_list-end c =
+pub slice_bounds-copy_from_slice-end : goal.slice_bounds-copy_from_slice-end
+slice_bounds-copy_from_slice-end c =
     let f = fits _ _ c.args.own.now _ c.requires.0 c.requires.1 c.requires.2 c.table_length-length.ensures in
     let l = c.build_and_judge-number.ensures.own_len_unchanged ∙ f.2 in
     simp length-append (omega arith)
 
-pub slice_bounds-put_list-end-2 : goal.slice_bounds-put_list-end-2
-slice_bounds-put_list-end-2 c =
+pub slice_bounds-copy_from_slice-end-2 : goal.slice_bounds-copy_from_slice-end-2
+slice_bounds-copy_from_slice-end-2 c =
     let f = fits _ _ c.args.own.now _ c.requires.0 c.requires.1 c.requires.2 c.table_length-length.ensures in
     let e = c.build_and_judge-number.ensures.own_len_unchanged in
     sym (ap length (front c.args.own.now c.build_and_judge-number.new.own _ e f.2) ∙ (e ∙ f.2))
 
-pub put_list-requires : goal.put_list-requires
-put_list-requires c =
+pub copy_from_slice-requires : goal.copy_from_slice-requires
+copy_from_slice-requires c =
     let f = fits _ _ c.args.own.now _ c.requires.0 c.requires.1 c.requires.2 c.table_length-length.ensures in
     let e = c.build_and_judge-number.ensures.own_len_unchanged in
     let z = sym (c.build_and_judge-number.ensures.value ∙ rest _ _ _ c.requires.0) ∙ c.if-number-ne0.false in
@@ -82,6 +80,5 @@ returns c =
     let own = c.build_and_judge-number.ensures.own_after c.if-number-ne0.false
     ∙ ap (λ n. table_in n (file_lines c.args.file.now)) (opened-size _ _ c.requires.0) in
     let done = load-done c.args.file.now c.args.table.now c.requires.1 c.args.opened _ c.requires.0 z
-    (c.put_list.ensures ∙ (ap (sets c.args.table.now 0) (front c.args.own.now last _ e f.2)
-    ∙ (sets-all c.args.table.now last (t ∙ sym f.0 ∙ sym (e ∙ f.2)) ∙ own))) in
+    (c.copy_from_slice.ensures.after ∙ front c.args.own.now last _ e f.2 ∙ own) in
     record { value = done.0; table_after = done.1 }

@@ -1,5 +1,4 @@
 -- One field more is written.
-use Rattle.std.proofs.Common.{arith}
 use Rattle.saved.proofs.LineFields.{lines_start, lines_next}
 use Rattle.saved.proofs.save.write_lines.Goals as goal
 

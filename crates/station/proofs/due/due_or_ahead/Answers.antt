@@ -7,12 +7,12 @@ use Rattle.station.proofs.due.due_or_ahead.Goals as goal
 pub returns-then-row-j : goal.returns-then-row-j
 returns-then-row-j c = sym (answer-absent _ _ _ (le-ltb (station_at c.args.i.0 c.args.m.0) (length c.args.row.now) (omega arith)))
 
-pub returns-in-At : goal.returns-in-At
-returns-in-At c =
+pub returns-in-Some : goal.returns-in-Some
+returns-in-Some c =
     let here = lt-ltb (station_at c.args.i.0 c.args.m.0) (length c.args.row.now) (omega arith) in
-    rw (answer-here _ _ _ here, ← c.lookup-j.ensures, ← c.in-At.ensures) c.answer_of.ensures
+    rw (answer-here _ _ _ here, ← c.lookup-j.ensures, ← c.in-Some.ensures) c.answer_of.ensures
 
-pub returns-in-Nobody : goal.returns-in-Nobody
-returns-in-Nobody c =
+pub returns-in-None : goal.returns-in-None
+returns-in-None c =
     let here = lt-ltb (station_at c.args.i.0 c.args.m.0) (length c.args.row.now) (omega arith) in
-    rw (answer-here _ _ _ here, ← c.lookup-j.ensures, ← c.in-Nobody.ensures)
+    rw (answer-here _ _ _ here, ← c.lookup-j.ensures, ← c.in-None.ensures)

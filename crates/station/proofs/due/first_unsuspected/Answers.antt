@@ -1,6 +1,6 @@
 -- Distance 0 has level 0, whose group is empty; otherwise the stations passed so far are all suspected.
 use Rattle.std.proofs.Common.{sym, ap, ◌∙◌, arith}
-use Rattle.std.proofs.Math.Option.{some}
+use Rattle.std.specs.Prelude.{Some}
 use Rattle.table.proofs.Levels.{level-zero, level-split}
 use Rattle.station.specs.Groups.{width}
 use Rattle.station.specs.Tests.{unsuspected}
@@ -15,7 +15,7 @@ width_of-w-requires c = omega (arith, (level-split c.args.m.0 (omega arith)).1)
 
 pub returns-then-is_unsuspected : goal.returns-then-is_unsuspected
 returns-then-is_unsuspected c =
-    ap some c.lookup-x.ensures
+    ap Some c.lookup-x.ensures
     ∙ sym (first-at _ _ _ _ (c.width_of-w.ensures.value ∙ ap width c.level_of.ensures.result_value) _ c.loop-k-test.true
     (sym (ap (unsuspected _) c.lookup-x.ensures) ∙ sym c.is_unsuspected.ensures ∙ c.if-is_unsuspected.true) c.loop-k.invariant)
 

@@ -1,6 +1,5 @@
 -- At the end all places of the group are passed.
 use Rattle.std.proofs.Common.{◌≡◌, refl, ◌∙◌, ap, length, arith}
-use Rattle.std.specs.List.{filter}
 use Rattle.lists.specs.Search.{list_of}
 use Rattle.station.proofs.GroupWalk.{passed, passed-all, passed-le, passed-count}
 use Rattle.station.proofs.groups.group_length.Goals as goal

@@ -1,6 +1,5 @@
 -- At the end all places of the group are passed, and its stations fill the list.
 use Rattle.std.proofs.Common.{◌≡◌, refl, sym, ◌∙◌, ap, length, arith}
-use Rattle.std.specs.List.{filter}
 use Rattle.lists.specs.Search.{list_of}
 use Rattle.lists.proofs.Writing.{sets-all}
 use Rattle.station.proofs.GroupWalk.{passed, passed-all, passed-le, passed-count, passed-put}

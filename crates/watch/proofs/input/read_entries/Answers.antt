@@ -17,12 +17,13 @@ loop-p-preserved c =
     let o = c.in-Some.ensures in
     let h = has_room _ c.args.n l.k l.schedule _ l.p _ _ _ t l.invariant.room e o _ refl in
     let w = c.put_entry.ensures in
+    let next = read_next _ c.args.n l.k l.schedule _ l.p _ _ _ t l.invariant.room e o _ _ _ _ refl w.schedule_after c.line_after-p.ensures in
     record {
       within = omega arith;
       few = omega (arith, h);
       room = l.invariant.room;
       rest = rest-kept l.k l.schedule _ _ w.schedule_unchanged l.invariant.rest;
-      read = read_next _ c.args.n l.k l.schedule _ l.p _ _ _ t l.invariant.room e o _ _ _ _ refl w.schedule_after c.line_after-p.ensures ∙ l.invariant.read;
+      read = next ∙ l.invariant.read;
     }
 
 pub returns : goal.returns

@@ -9,7 +9,7 @@ pub returns-then-left-lt3 : goal.returns-then-left-lt3
 returns-then-left-lt3 c = at_head _ _ c.if-file-at.false c.if-left-lt3.true
 
 pub returns-then-left-len : goal.returns-then-left-len
-returns-then-left-len c = at-past _ _ c.if-file-at.false c.if-left-lt3.false c.if-left-len.true
+returns-then-left-len c = at-past _ _ c.if-file-at.false _ c.from_be_bytes-len.ensures c.if-left-lt3.false c.if-left-len.true
 
 pub returns : goal.returns
-returns c = at_field _ _ c.if-file-at.false c.if-left-lt3.false c.if-left-len.false
+returns c = at_field _ _ c.if-file-at.false _ c.from_be_bytes-len.ensures c.if-left-lt3.false c.if-left-len.false

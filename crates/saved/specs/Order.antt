@@ -1,0 +1,61 @@
+-- Request C-19, in preparation: the opening, and the order of the fields behind it. "edition 2 opens with tag 4, length 1, contents 2, then size,
+-- tally and lines ascending". No call goes by this yet.
+-- Assumes nothing.
+use Rattle.std.specs.Prelude.{ℕ, Bool, true, false, cond, not, ◌&&◌, ◌||◌, List, [], ◌∷◌, length, get_or, leb, eqb}
+use Rattle.lists.specs.Refusal.{refuse, ◌else◌}
+use Rattle.saved.specs.Fields.{Field, field}
+use Rattle.saved.specs.Plant.{size_tag, tally_tag, line_tag, station_in}
+use Rattle.saved.specs.declared.order.Before.{Before}
+
+-- "tag 4, length 1, contents 2"
+abbrev pub opening_tag : ℕ
+opening_tag = 4
+
+abbrev pub edition : ℕ
+edition = 2
+
+abbrev pub opening_field : Field
+opening_field = field opening_tag (edition ∷ [])
+
+-- whether a field is the opening
+abbrev pub is_opening : Field → Bool
+is_opening f = eqb f.tag opening_tag && (eqb (length f.contents) 1 && eqb (get_or f.contents 0 0) edition)
+
+-- not "21 for a missing or different opening": the first field is it
+abbrev pub opens : List Field → Bool
+opens [] = false
+opens (f ∷ fs) = is_opening f
+
+-- "the fields after the opening"
+abbrev pub after_opening : List Field → List Field
+after_opening [] = []
+after_opening (f ∷ fs) = fs
+
+-- the tag is that of size, tally or line; any other is "unknown"
+abbrev pub is_known : ℕ → Bool
+is_known tag = eqb tag size_tag || eqb tag tally_tag || eqb tag line_tag
+
+abbrev pub is_line : Field → Bool
+is_line f = eqb f.tag line_tag
+
+-- what a field is held against: the tag of "the one before" and the station of "the previous line". Where there is none it is 0, and nothing is
+-- below 0
+abbrev pub nothing_before : Before
+nothing_before = record { tag = 0; station = 0 }
+
+-- with one field more; "an empty line field counts as station 0", as station_in has it
+abbrev pub behind : Before → Field → Before
+behind b f = record { tag = f.tag; station = cond (is_line f) (station_in f.contents) b.station }
+
+-- neither out of order ("a tag below the one before, tag 4 again, or a line's station below the previous line's") nor of "an unknown tag"
+abbrev pub follows : Before → Field → Bool
+follows b f = is_known f.tag && (leb b.tag f.tag && (not (is_line f) || leb b.station (station_in f.contents)))
+
+-- not "22 for fields out of order or an unknown tag", of the fields behind some others
+unfoldable pub in_order : Before → List Field → Bool
+in_order b [] = true
+in_order b (f ∷ fs) = follows b f && in_order (behind b f) fs
+
+-- 21, then 22
+unfoldable pub order_number : List Field → ℕ
+order_number fs = refuse 21 (not (opens fs)) else refuse 22 (not (in_order nothing_before (after_opening fs)))
