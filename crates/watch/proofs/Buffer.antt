@@ -3,14 +3,14 @@
 use mathlib.Core.Path.{◌≡◌, refl, ◌∙◌}
 use mathlib.Core.Bool.{Bool, true, false, cond}
 use mathlib.Core.List.{List, [], ◌∷◌, ◌++◌}
-use mathlib.Core.Option.{Option, none, some}
+use Rattle.std.specs.Prelude.{Option, None, Some}
 use Prim.Native.Nat.{ℕ, zero, suc, ◌+◌, ◌*◌, ◌-◌, ◌≤◌, ◌<◌, min}
 use native.Mathlib.Omega.{arith}
 use native.Mathlib.Decide.{dec_lt}
 use lib.Dec.{ltb}
 use lib.ListN.{length, take, drop, length-take}
 use lib.Seq.{take-take, take-nil}
-use Rattle.watch.specs.Input.{given, is_line_feed, lines, line_length, size_of, entry_bytes, Reading, reading_of, read_entries, read_lines}
+use Rattle.watch.specs.Input.{given, is_line_feed, lines, line_length, size_of, entry_of, Reading, reading_of, read_entries, read_lines}
 use Rattle.watch.specs.Input.{read_up_to}
 use Rattle.watch.specs.Watched.{watched}
 use Rattle.watch.proofs.LineLaws.{line-within, lines-first}
@@ -52,23 +52,23 @@ module _ (m : ℕ) (l : List ℕ) (out : m ≤ line_length l) where
   whole_long = let w = line-within l in rw length-take (omega arith)
 
 -- what is read after a value goes by the value
-given-same : {A : Type 0} (o : Option A) (f g : A → Reading) (r : Reading) → ((a : A) → o ≡ some a → f a ≡ g a) → given o f r ≡ given o g r
-given-same none f g r same = refl
-given-same (some a) f g r same = same a refl
+given-same : {A : Type 0} (o : Option A) (f g : A → Reading) (r : Reading) → ((a : A) → o ≡ Some a → f a ≡ g a) → given o f r ≡ given o g r
+given-same None f g r same = refl
+given-same (Some a) f g r same = same a refl
 
 -- lines that are read so, and only where they have at most `most` bytes
-module _ {A : Type 0} (read : List ℕ → Option A) (most : ℕ) (short : (l : List ℕ) (a : A) → read l ≡ some a → length l ≤ most) where
-  long-none : (l : List ℕ) → most < length l → read l ≡ none
+module _ {A : Type 0} (read : List ℕ → Option A) (most : ℕ) (short : (l : List ℕ) (a : A) → read l ≡ Some a → length l ≤ most) where
+  long-none : (l : List ℕ) → most < length l → read l ≡ None
   long-none l h = go (read l) (short l)
     where
-      go : (o : Option A) → ((a : A) → o ≡ some a → length l ≤ most) → o ≡ none
-      go none f = refl
-      go (some a) f = let g = f a refl in absurd (omega arith)
+      go : (o : Option A) → ((a : A) → o ≡ Some a → length l ≤ most) → o ≡ None
+      go None f = refl
+      go (Some a) f = let g = f a refl in absurd (omega arith)
 
   -- an input whose first line is read so, cut after m bytes, where what follows that line may be cut
   module _ (m : ℕ) (enough : most < m) (next : A → List (List ℕ) → Reading) (stop : Reading) (all : List (List ℕ) → Reading)
       (first : (l : List ℕ) (ls : List (List ℕ)) → all (l ∷ ls) ≡ given (read l) (λ a. next a ls) stop)
-      (on : (l : List ℕ) (a : A) (r : List ℕ) (i : ℕ) → read l ≡ some a → m ≤ i + suc most
+      (on : (l : List ℕ) (a : A) (r : List ℕ) (i : ℕ) → read l ≡ Some a → m ≤ i + suc most
       → next a (lines (take i r)) ≡ next a (lines r)) where
     pick : (l : List ℕ) → 0 < length l → Dec (line_length l < m) → all (lines (take m l)) ≡ all (lines l)
     pick l h (yes p) =
@@ -102,9 +102,9 @@ cut-entry : (room n k m : ℕ) (s : List ℕ) → 4 < m
     → (l : List ℕ) → read_entries room n k s (lines (take m l)) ≡ read_entries room n k s (lines l)
 unfolding read_entries
 cut-entry room n k m s h on =
-    cut-first (λ l. cond (ltb k room) (entry_bytes l) none) 4 (λ l e t. (taken-has k room l e t).1)
-    m h (λ e. read_entries room n (suc k) (s ++ e)) (reading_of (k + 2) n k s) (read_entries room n k s) (λ l ls. refl)
-    (λ l e r i t. on e r i (taken-has k room l e t).0)
+    cut-first (λ l. cond (ltb k room) (entry_of l) None) 4 (λ l e t. (taken-has k room l e t).1)
+    m h (λ e. read_entries room n (suc k) (s ++ (e.0 ∷ e.1 ∷ []))) (reading_of (k + 2) n k s) (read_entries room n k s) (λ l ls. refl)
+    (λ l e r i t. on (e.0 ∷ e.1 ∷ []) r i (taken-has k room l e t).0)
 
 -- five bytes for each entry that there is room for, and six more
 cut-entries : (f room n k m : ℕ) (s l : List ℕ) → room ≤ k + f → 5 * f + 6 ≤ m

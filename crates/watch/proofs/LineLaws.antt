@@ -1,15 +1,16 @@
 -- Laws of the lines of an input: the first line, and the lines after it, by position.
 -- Assumes nothing.
 use mathlib.Core.Path.{◌≡◌, refl, ap}
-use mathlib.Core.Bool.{Bool, true, false, cond}
+use mathlib.Core.Bool.{Bool, true, false, cond, not}
 use mathlib.Core.List.{List, [], ◌∷◌}
 use Prim.Native.Nat.{ℕ, suc, ◌+◌, ◌≤◌, ◌<◌, min}
-use native.Mathlib.Numerals.{add-one}
 use native.Mathlib.Omega.{arith}
 use native.Mathlib.Decide.{dec_lt}
-use borrow.Author.Tests.{eq-eqb, ne_eqb}
-use lib.ListN.{length, get_or, take, drop, drop_of_length-le}
-use lib.Seq.{drop-cons}
+use Rattle.std.specs.Prelude.{None, Some, unwrap_or}
+use Rattle.std.specs.List.{position, position_or_len}
+use borrow.Author.Tests.{lt-ltb, le-ltb}
+use lib.Dec.{ltb}
+use lib.ListN.{length, take, drop, drop_of_length-le}
 use Rattle.watch.specs.Input.{is_line_feed, on_first, lines, line_length}
 
 -- a line ends within the input
@@ -40,18 +41,23 @@ lines-first (b ∷ []) h = go (is_line_feed b)
     go false = refl
 lines-first (b ∷ c ∷ rest) h = one_more b (c ∷ rest) (is_line_feed b) (lines-first (c ∷ rest) (omega arith))
 
--- the bytes of a line from position e on
-pub line-here : (l : List ℕ) (e : ℕ) → e < length l → get_or l e 0 ≡ 10 → line_length (drop e l) ≡ 0
+-- a line ends where std's `position` finds a line feed first, or at the input's end
+line-position : (l : List ℕ) → position_or_len is_line_feed l ≡ line_length l
 unfolding line_length
-line-here l e h f = rw (drop-cons l e 0, eq-eqb (get_or l e 0) 10 f)
+line-position [] = refl
+line-position (b ∷ rest) = go (is_line_feed b) (line-position rest)
+  where
+    go : (x : Bool) → position_or_len is_line_feed rest ≡ line_length rest
+        → cond (not x) (1 + position_or_len is_line_feed rest) 0 ≡ cond x 0 (suc (line_length rest))
+    go true e = refl
+    go false e = omega arith
 
-pub line-next : (l : List ℕ) (e : ℕ) → e < length l → (get_or l e 0 ≡ 10 → ⊥) → line_length (drop e l) ≡ suc (line_length (drop (e + 1) l))
-unfolding line_length
-line-next l e h f = rw (add-one, drop-cons l e 0, ne_eqb (get_or l e 0) 10 f)
-
-pub line-none : (l : List ℕ) (e : ℕ) → length l ≤ e → line_length (drop e l) ≡ 0
-unfolding line_length
-line-none l e h = rw (drop_of_length-le l {i = e} h)
+pub line-found : (l : List ℕ) → unwrap_or (position is_line_feed l) (length l) ≡ line_length l
+line-found l = rw (line-position l) (go (dec_lt (line_length l) (length l)))
+  where
+    go : Dec (line_length l < length l) → unwrap_or (cond (ltb (line_length l) (length l)) (Some (line_length l)) None) (length l) ≡ line_length l
+    go (yes h) = rw (lt-ltb (line_length l) (length l) h)
+    go (no h) = let w = line-within l in rw (le-ltb (line_length l) (length l) (omega arith)) (omega arith)
 
 -- past a line that the input's end cuts off there is nothing
 pub drop_min : (l : List ℕ) (a b : ℕ) → a ≡ min (b + 1) (length l) → drop a l ≡ drop (suc b) l

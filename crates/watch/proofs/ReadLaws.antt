@@ -1,57 +1,64 @@
 -- Laws of reading the entries of an input, from a position on, and of the bytes of an entry in a schedule.
 -- Assumes nothing.
 use mathlib.Core.Path.{◌≡◌, refl, sym, ap, ◌∙◌}
-use mathlib.Core.Bool.{Bool, true, false, cond, not, ◌&&◌}
+use mathlib.Core.Bool.{Bool, true, false, cond}
 use mathlib.Core.List.{List, [], ◌∷◌, ◌++◌, append_assoc}
-use mathlib.Core.Option.{Option, none, some}
+use Rattle.std.specs.Prelude.{Option, None, Some, option_and_then, option_map}
 use Prim.Native.Nat.{ℕ, suc, ◌+◌, ◌*◌, ◌-◌, ◌≤◌, ◌<◌, min}
 use native.Mathlib.Numerals.{add-one}
 use native.Mathlib.Omega.{arith}
-use borrow.Author.Tests.{ltb-true}
+use borrow.Author.Tests.{eq-eqb, ne_eqb, ltb-true}
 use lib.Dec.{ltb, eqb}
 use lib.ListN.{length, get_or, set, take, drop, length-set, length-append, length-drop, drop_of_length-le, take-append-drop}
 use lib.Seq.{take_all, drop-drop, drop-set-lt, take-suc-set, length-take-le, sets}
 use Rattle.watch.specs.declared.input.Parsed.{Parsed}
-use Rattle.watch.specs.Input.{given, lines, line_length, digits_from, number_of, size_of, kind_of, entry_bytes, Reading, reading_of, read_entries}
+use Rattle.watch.specs.Input.{given, lines, line_length, digits_from, number_of, size_of, kind_of, entry_of, Reading, reading_of, read_entries}
 use Rattle.watch.specs.Input.{read_lines, read_up_to, ReadAs}
 use Rattle.watch.proofs.LineLaws.{lines-first, drop_min}
 use Rattle.watch.proofs.NumberLaws.{number-has}
 use Rattle.lists.proofs.Writing.{sets-front}
 
 -- the entry of a line by the line's bytes
-pub entry-short : (l : List ℕ) → length l < 2 → entry_bytes l ≡ none
-unfolding entry_bytes
+pub entry-short : (l : List ℕ) → length l < 2 → entry_of l ≡ None
+unfolding entry_of
 entry-short [] h = refl
 entry-short (a ∷ []) h = refl
 entry-short (a ∷ b ∷ l) h = absurd (omega arith)
 
-pub entry-long : (l : List ℕ) → 2 ≤ length l
-    → entry_bytes l ≡ cond (not (eqb (kind_of (get_or l 0 0)) 0) && eqb (get_or l 1 0) 32)
-    (given (number_of 2 (drop 2 l)) (λ station. some (kind_of (get_or l 0 0) ∷ station ∷ [])) none) none
-unfolding entry_bytes
-entry-long [] h = absurd (omega arith)
-entry-long (a ∷ []) h = absurd (omega arith)
-entry-long (a ∷ b ∷ l) h = refl
+pub entry-unspaced : (l : List ℕ) → 2 ≤ length l → (get_or l 1 0 ≡ 32 → ⊥) → entry_of l ≡ None
+unfolding entry_of
+entry-unspaced [] h n = absurd (omega arith)
+entry-unspaced (a ∷ []) h n = absurd (omega arith)
+entry-unspaced (a ∷ b ∷ l) h n = rw (ne_eqb b 32 n)
 
--- an entry's line is short, and the entry has two bytes
-entry_has : (l e : List ℕ) → entry_bytes l ≡ some e → (length l ≤ 4) × (length e ≡ 2)
-unfolding entry_bytes
-entry_has [] e p = let z : ◌≡◌ {A = ℕ} 0 1 = cc in absurd (omega arith)
-entry_has (a ∷ []) e p = let z : ◌≡◌ {A = ℕ} 0 1 = cc in absurd (omega arith)
-entry_has (a ∷ b ∷ l) e p = go (not (eqb (kind_of a) 0) && eqb b 32) (number_of 2 l) (number-has 2 l) p
+pub entry-spaced : (l : List ℕ) → 2 ≤ length l → get_or l 1 0 ≡ 32
+    → entry_of l
+    ≡ option_and_then (λ kind. option_map (λ station. (kind, station)) (number_of 2 (take (length l - 2) (drop 2 l)))) (kind_of (get_or l 0 0))
+unfolding entry_of
+entry-spaced [] h s = absurd (omega arith)
+entry-spaced (a ∷ []) h s = absurd (omega arith)
+entry-spaced (a ∷ b ∷ l) h s = let e : take (suc (suc (length l)) - 2) l ≡ l = take_all _ l (omega arith) in rw (eq-eqb b 32 s, e)
+
+-- an entry's line is short
+entry_has : (l : List ℕ) (e : ℕ × ℕ) → entry_of l ≡ Some e → length l ≤ 4
+unfolding entry_of
+entry_has [] e p = omega arith
+entry_has (a ∷ []) e p = omega arith
+entry_has (a ∷ b ∷ l) e p = go (eqb b 32) (kind_of a) (number_of 2 l) (number-has 2 l) p
   where
-    go : (x : Bool) (o : Option ℕ) → ((v : ℕ) → o ≡ some v → (length l ≤ 2) × (digits_from 0 l ≡ some v))
-        → cond x (given o (λ station. some (kind_of a ∷ station ∷ [])) none) none ≡ some e → (suc (suc (length l)) ≤ 4) × (length e ≡ 2)
-    go true (some v) f p = let h = f v refl in let q : kind_of a ∷ v ∷ [] ≡ e = cc in (omega arith, rw (← q))
-    go true none f p = let z : ◌≡◌ {A = ℕ} 0 1 = cc in absurd (omega arith)
-    go false o f p = let z : ◌≡◌ {A = ℕ} 0 1 = cc in absurd (omega arith)
+    go : (x : Bool) (k o : Option ℕ) → ((v : ℕ) → o ≡ Some v → (length l ≤ 2) × (digits_from 0 l ≡ Some v))
+        → cond x (option_and_then (λ kind. option_map (λ station. (kind, station)) o) k) None ≡ Some e → suc (suc (length l)) ≤ 4
+    go true (Some k) (Some v) f p = let h = f v refl in omega arith
+    go true (Some k) None f p = let z : ◌≡◌ {A = ℕ} 0 1 = cc in absurd (omega arith)
+    go true None o f p = let z : ◌≡◌ {A = ℕ} 0 1 = cc in absurd (omega arith)
+    go false k o f p = let z : ◌≡◌ {A = ℕ} 0 1 = cc in absurd (omega arith)
 
 -- so too where it is read only if there is room for one more
-pub taken-has : (k room : ℕ) (l e : List ℕ) → cond (ltb k room) (entry_bytes l) none ≡ some e → (k < room) × (length l ≤ 4) × (length e ≡ 2)
+pub taken-has : (k room : ℕ) (l : List ℕ) (e : ℕ × ℕ) → cond (ltb k room) (entry_of l) None ≡ Some e → (k < room) × (length l ≤ 4)
 taken-has k room l e = go (ltb k room) refl
   where
-    go : (b : Bool) → ltb k room ≡ b → cond b (entry_bytes l) none ≡ some e → (k < room) × (length l ≤ 4) × (length e ≡ 2)
-    go true t p = let h = entry_has l e p in (ltb-true k room t, h.0, h.1)
+    go : (b : Bool) → ltb k room ≡ b → cond b (entry_of l) None ≡ Some e → (k < room) × (length l ≤ 4)
+    go true t p = (ltb-true k room t, entry_has l e p)
     go false t p = let z : ◌≡◌ {A = ℕ} 0 1 = cc in absurd (omega arith)
 
 -- two bytes written one by one
@@ -76,16 +83,16 @@ module _ (room n k : ℕ) (s l : List ℕ) (p : ℕ) where
   unfolding read_entries lines
   read_done h = rw (drop_of_length-le l {i = p} h)
 
-  module _ (r e : ℕ) (o : Option (List ℕ)) (h : p < length l) (same : r ≡ room) (ends : e ≡ p + line_length (drop p l))
-      (told : o ≡ cond (ltb k r) (entry_bytes (take (e - p) (drop p l))) none) where
-    read_as : cond (ltb k room) (entry_bytes (take (line_length (drop p l)) (drop p l))) none ≡ o
+  module _ (r e : ℕ) (o : Option (ℕ × ℕ)) (h : p < length l) (same : r ≡ room) (ends : e ≡ p + line_length (drop p l))
+      (told : o ≡ cond (ltb k r) (entry_of (take (e - p) (drop p l))) None) where
+    read_as : cond (ltb k room) (entry_of (take (line_length (drop p l)) (drop p l))) None ≡ o
     read_as = let w : e - p ≡ line_length (drop p l) = omega arith in rw (← same, ← w) (sym told)
 
-    pub read-stop : o ≡ none → read_from ≡ reading_of (k + 2) n k (take (2 * k) s)
+    pub read-stop : o ≡ None → read_from ≡ reading_of (k + 2) n k (take (2 * k) s)
     unfolding read_entries
     read-stop z = rw (lines-first (drop p l) (rw length-drop (omega arith)), read_as, z)
 
-    pub read_next : (x y q : ℕ) (s' : List ℕ) → o ≡ some (x ∷ y ∷ [])
+    pub read_next : (x y q : ℕ) (s' : List ℕ) → o ≡ Some (x, y)
         → take (2 * k + 2) s' ≡ take (2 * k) s ++ (x ∷ y ∷ []) → q ≡ min (e + 1) (length l)
         → read_entries room n (k + 1) (take (2 * (k + 1)) s') (lines (drop q l)) ≡ read_from
     unfolding read_entries
@@ -94,7 +101,7 @@ module _ (room n k : ℕ) (s l : List ℕ) (p : ℕ) where
         let d : 2 * (k + 1) ≡ 2 * k + 2 = omega arith in
         rw (d, front, drop_min l q e next, lines-first (drop p l) (rw length-drop (omega arith)), read_as, z, drop-drop, w, add-one)
 
-    pub has_room : (x : List ℕ) → o ≡ some x → k < r
+    pub has_room : (x : ℕ × ℕ) → o ≡ Some x → k < r
     has_room x z = (taken-has k r _ x (sym told ∙ z)).0
 
 -- what stands after k + 1 entries is as it was
@@ -104,17 +111,13 @@ rest-kept k s s' s₀ e f =
     let d : 2 * (k + 1) ≡ 2 * k + 2 = omega arith in
     rw d (e ∙ sym (drop-drop 2 (2 * k) s) ∙ ap (drop 2) f ∙ drop-drop 2 (2 * k) s₀)
 
--- the part of a line after its first two bytes
-pub after_two : (l : List ℕ) → take (length l - 2) (drop 2 l) ≡ drop 2 l
-after_two l = take_all (length l - 2) (drop 2 l) (rw length-drop (omega arith))
-
 -- what the first line decides
-first-unsized : (room : ℕ) (l : List ℕ) → size_of (take (line_length l) l) ≡ none → read_lines room (lines l) ≡ reading_of 1 0 0 []
+first-unsized : (room : ℕ) (l : List ℕ) → size_of (take (line_length l) l) ≡ None → read_lines room (lines l) ≡ reading_of 1 0 0 []
 unfolding read_lines lines
 first-unsized room [] e = refl
 first-unsized room (b ∷ l) e = rw (lines-first (b ∷ l) (omega arith), e)
 
-first-sized : (room n : ℕ) (l : List ℕ) → size_of (take (line_length l) l) ≡ some n
+first-sized : (room n : ℕ) (l : List ℕ) → size_of (take (line_length l) l) ≡ Some n
     → read_lines room (lines l) ≡ read_entries room n 0 [] (lines (drop (suc (line_length l)) l))
 unfolding read_lines lines line_length number_of
 first-sized room n [] e = cc
@@ -125,11 +128,11 @@ module _ (room e : ℕ) (l : List ℕ) (o : Option ℕ) (ends : e ≡ 0 + line_l
   size-as : size_of (take (line_length l) l) ≡ o
   size-as = let w : e ≡ line_length l = omega arith in rw (← w) (sym told)
 
-  pub read-unsized : o ≡ none → read_up_to room l ≡ reading_of 1 0 0 []
+  pub read-unsized : o ≡ None → read_up_to room l ≡ reading_of 1 0 0 []
   unfolding read_up_to
   read-unsized z = first-unsized room l (size-as ∙ z)
 
-  pub read-sized : (n q : ℕ) → o ≡ some n → q ≡ min (e + 1) (length l) → read_up_to room l ≡ read_entries room n 0 [] (lines (drop q l))
+  pub read-sized : (n q : ℕ) → o ≡ Some n → q ≡ min (e + 1) (length l) → read_up_to room l ≡ read_entries room n 0 [] (lines (drop q l))
   unfolding read_up_to
   read-sized n q z next =
       let w : e ≡ line_length l = omega arith in
@@ -145,21 +148,21 @@ entries_fit : (room n k : ℕ) (s : List ℕ) (ls : List (List ℕ)) → k ≤ r
 unfolding read_entries
 entries_fit room n k s [] h p = record { within = h; pairs = p }
 entries_fit room n k s (l ∷ ls) h p =
-    go (cond (ltb k room) (entry_bytes l) none) (taken-has k room l) (λ e. entries_fit room n (suc k) (s ++ e) ls)
+    go (cond (ltb k room) (entry_of l) None) _ (taken-has k room l)
+    (λ e w. entries_fit room n (suc k) (s ++ (e.0 ∷ e.1 ∷ [])) ls w (simp length-append (omega arith)))
   where
-    go : (o : Option (List ℕ)) → ((e : List ℕ) → o ≡ some e → (k < room) × (length l ≤ 4) × (length e ≡ 2))
-        → ((e : List ℕ) → suc k ≤ room → length (s ++ e) ≡ 2 * suc k → ReadFits room (read_entries room n (suc k) (s ++ e) ls))
-        → ReadFits room (given o (λ e. read_entries room n (suc k) (s ++ e) ls) (reading_of (k + 2) n k s))
-    go none f on = record { within = h; pairs = p }
-    go (some e) f on = let g = f e refl in on e (omega arith) (simp length-append (omega arith))
+    go : (o : Option (ℕ × ℕ)) (next : ℕ × ℕ → Reading) → ((e : ℕ × ℕ) → o ≡ Some e → (k < room) × (length l ≤ 4))
+        → ((e : ℕ × ℕ) → suc k ≤ room → ReadFits room (next e)) → ReadFits room (given o next (reading_of (k + 2) n k s))
+    go None next f on = record { within = h; pairs = p }
+    go (Some e) next f on = on e (f e refl).0
 
 pub read_fits : (room : ℕ) (l : List ℕ) → ReadFits room (read_up_to room l)
 unfolding read_up_to read_lines
 read_fits room l = go (lines l)
   where
     pick : (o : Option ℕ) (ls : List (List ℕ)) → ReadFits room (given o (λ n. read_entries room n 0 [] ls) (reading_of 1 0 0 []))
-    pick none ls = record { within = omega arith; pairs = refl }
-    pick (some n) ls = entries_fit room n 0 [] ls (omega arith) refl
+    pick None ls = record { within = omega arith; pairs = refl }
+    pick (Some n) ls = entries_fit room n 0 [] ls (omega arith) refl
 
     go : (ls : List (List ℕ)) → ReadFits room (read_lines room ls)
     go [] = record { within = omega arith; pairs = refl }

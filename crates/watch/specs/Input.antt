@@ -1,18 +1,14 @@
 -- Document 01, the run program: what its standard input means, for all inputs.
 -- Assumes nothing.
-use Rattle.std.specs.Prelude.{◌≡◌, ℕ, suc, ◌+◌, ◌*◌, ◌-◌, ◌/◌, min, Bool, cond, not, ◌&&◌, List, [], ◌∷◌, ◌++◌, length, ltb, leb, eqb}
-use Rattle.std.proofs.Math.Option.{Option, none, some}
+use Rattle.std.specs.Prelude.{◌≡◌, ℕ, suc, ◌+◌, ◌*◌, ◌-◌, ◌/◌, min, Bool, cond, ◌&&◌, List, [], ◌∷◌, ◌++◌, length, ltb, leb, eqb}
+use Rattle.std.specs.Prelude.{Option, None, Some, option_and_then, option_map}
 use Rattle.std.proofs.lemmas.List.Edits.{sets}
 use Rattle.watch.specs.declared.input.Parsed.{Parsed}
-use Rattle.watch.specs.declared.input.Number.{Number}
-use Rattle.watch.specs.declared.input.Number.TheVariants.{Value, NoNumber}
-use Rattle.watch.specs.declared.input.Entry.{Entry}
-use Rattle.watch.specs.declared.input.Entry.TheVariants.{Bytes, NoEntry}
 
 -- `read` of the value, or `other` where there is none
-abbrev pub given {ℓ ℓ'} : {A : Type ℓ} {B : Type ℓ'} → Option A → (A → B) → B → B
-given none read other = other
-given (some a) read other = read a
+abbrev pub given : {A B : Type 0} → Option A → (A → B) → B → B
+given None read other = other
+given (Some a) read other = read a
 
 -- "Lines end with a line feed"
 abbrev pub is_line_feed : ℕ → Bool
@@ -39,29 +35,27 @@ is_digit b = leb 48 b && leb b 57
 
 -- the value of digits that follow a value; "leading zeros are read"
 unfoldable pub digits_from : ℕ → List ℕ → Option ℕ
-digits_from v [] = some v
-digits_from v (b ∷ rest) = cond (is_digit b) (digits_from (10 * v + (b - 48)) rest) none
+digits_from v [] = Some v
+digits_from v (b ∷ rest) = cond (is_digit b) (digits_from (10 * v + (b - 48)) rest) None
 
 -- one to `most` digits and nothing else
 unfoldable pub number_of : ℕ → List ℕ → Option ℕ
-number_of most l = cond (leb 1 (length l) && leb (length l) most) (digits_from 0 l) none
+number_of most l = cond (leb 1 (length l) && leb (length l) most) (digits_from 0 l) None
 
 -- "the size (one to three digits)"
 abbrev pub size_of : List ℕ → Option ℕ
 size_of l = number_of 3 l
 
--- "T, L or C (kinds 1, 2, 3)"; 0 for any other byte
-unfoldable pub kind_of : ℕ → ℕ
-kind_of b = cond (eqb b 84) 1 (cond (eqb b 76) 2 (cond (eqb b 67) 3 0))
+-- "T, L or C (kinds 1, 2, 3)"
+unfoldable pub kind_of : ℕ → Option ℕ
+kind_of b = cond (eqb b 84) (Some 1) (cond (eqb b 76) (Some 2) (cond (eqb b 67) (Some 3) None))
 
--- "then per line T, L or C (kinds 1, 2, 3), a space and one or two digits": the entry's two bytes, kind and station
-unfoldable pub entry_bytes : List ℕ → Option (List ℕ)
-entry_bytes [] = none
-entry_bytes (letter ∷ []) = none
-entry_bytes (letter ∷ space ∷ digits) =
-    cond (not (eqb (kind_of letter) 0) && eqb space 32)
-    (given (number_of 2 digits) (λ station. some (kind_of letter ∷ station ∷ [])) none)
-    none
+-- "then per line T, L or C (kinds 1, 2, 3), a space and one or two digits": the entry's kind and station
+unfoldable pub entry_of : List ℕ → Option (ℕ × ℕ)
+entry_of [] = None
+entry_of (letter ∷ []) = None
+entry_of (letter ∷ space ∷ digits) =
+    cond (eqb space 32) (option_and_then (λ kind. option_map (λ station. (kind, station)) (number_of 2 digits)) (kind_of letter)) None
 
 -- what is read: the number of the first unreadable line, from 1, or 0 where there is none; the size; and the entries before that line, how
 -- many there are and their bytes, which are a schedule
@@ -79,8 +73,8 @@ reading_of u n k s = record { unread = u; size = n; entries = k; schedule = s }
 unfoldable pub read_entries : ℕ → ℕ → ℕ → List ℕ → List (List ℕ) → Reading
 read_entries room n k s [] = reading_of 0 n k s
 read_entries room n k s (l ∷ ls) =
-    given (cond (ltb k room) (entry_bytes l) none)
-    (λ e. read_entries room n (suc k) (s ++ e) ls)
+    given (cond (ltb k room) (entry_of l) None)
+    (λ e. read_entries room n (suc k) (s ++ (e.0 ∷ e.1 ∷ [])) ls)
     (reading_of (k + 2) n k s)
 
 -- "empty input is unreadable at line 1"
@@ -110,12 +104,3 @@ pub record ReadAs (p : Parsed) (after lent : List ℕ) (r : Reading) : Type 0 wh
   pub size : p.size ≡ r.size
   pub entries : p.entries ≡ r.entries
   pub schedule : after ≡ sets lent 0 r.schedule
-
--- what the answers Number and Entry stand for
-abbrev pub number_value : Number → Option ℕ
-number_value (Value v) = some v
-number_value NoNumber = none
-
-abbrev pub entry_value : Entry → Option (List ℕ)
-entry_value (Bytes k i) = some (k ∷ i ∷ [])
-entry_value NoEntry = none

@@ -1,8 +1,6 @@
 // What standard input holds (document 01, the run program): lines, the size, the entries. The one call is `parse`.
-ghost use Rattle.std.specs.Prelude.{◌≡◌, cond, ltb, [], ◌∷◌, ◌++◌, ◌+◌, ◌*◌, ◌≤◌, ◌<◌, min, length, take, drop};
-ghost use Rattle.std.proofs.Math.Option.{none};
-ghost use Rattle.watch.specs.Input.{lines, line_length, number_of, kind_of, entry_bytes, read_entries, room_for, read_into, ReadAs, number_value};
-ghost use Rattle.watch.specs.Input.{entry_value};
+ghost use Rattle.std.specs.Prelude.{◌≡◌, cond, ltb, [], ◌∷◌, ◌++◌, ◌+◌, ◌*◌, ◌≤◌, ◌<◌, min, length, take, drop, None};
+ghost use Rattle.watch.specs.Input.{lines, line_length, number_of, kind_of, entry_of, read_entries, room_for, read_into, ReadAs};
 
 // The answer of `parse`: the number of the first unreadable line, from 1, or 0 where there is none; the size and how many entries were
 // read, all of them or those before that line.
@@ -13,28 +11,13 @@ pub struct Parsed {
     pub entries: usize,
 }
 
-// A number of a few digits, if they are one.
-#[derive(Clone, Copy)]
-enum Number {
-    Value(usize),
-    NoNumber,
-}
-
-// The kind and the station of a line, if it is an entry.
-#[derive(Clone, Copy)]
-enum Entry {
-    Bytes(u8, u8),
-    NoEntry,
-}
-
 // Reads the whole input. The entries before the first unreadable line go into the schedule, two bytes each, and its rest is unchanged. An
 // entry for which the schedule has no room counts as unreadable.
 pub fn parse(input: &[u8], schedule: &mut [u8]) -> Parsed
     ensures { ReadAs result schedule.new schedule.old (read_into schedule.old input.now) }
 {
     let e = line_end(input, 0);
-    let size = read_number(&input[..e], 3);
-    let Number::Value(n) = size else {
+    let Some(n) = read_number(&input[..e], 3) else {
         return Parsed {
             unread: 1,
             size: 0,
@@ -55,8 +38,7 @@ fn read_entries(input: &[u8], from: usize, n: usize, schedule: &mut [u8]) -> Par
     let mut k: usize = 0;
     while p < input.len() {
         let e = line_end(input, p);
-        let entry = entry_with_room(k, room, &input[p..e]);
-        let Entry::Bytes(kind, station) = entry else {
+        let Some((kind, station)) = entry_with_room(k, room, &input[p..e]) else {
             return Parsed {
                 unread: k + 2,
                 size: n,
@@ -78,7 +60,7 @@ fn read_entries(input: &[u8], from: usize, n: usize, schedule: &mut [u8]) -> Par
 fn room_for(len: usize) -> usize
     ensures { result ≡ room_for len }
 {
-    if len / 2 < 4096 { len / 2 } else { 4096 }
+    (len / 2).min(4096)
 }
 
 // Writes entry k of a schedule.
@@ -97,14 +79,8 @@ fn line_end(input: &[u8], from: usize) -> usize
     ensures value { result ≡ from + line_length (drop from input.now) }
     ensures lower_bound { (from ≤ result) × (result ≤ length input.now) }
 {
-    let mut e = from;
-    while e < input.len() {
-        if input[e] == b'\n' {
-            return e;
-        }
-        e += 1;
-    }
-    e
+    let rest = &input[from..];
+    from + rest.iter().position(|b| *b == b'\n').unwrap_or(rest.len())
 }
 
 // Where the line after the one that ends at e begins.
@@ -112,80 +88,58 @@ fn line_after(input: &[u8], e: usize) -> usize
     requires { e ≤ length input.now }
     ensures { result ≡ min (e + 1) (length input.now) }
 {
-    if e < input.len() { e + 1 } else { e }
+    (e + 1).min(input.len())
 }
 
 // The entry of a line, where k entries were read and there is room for one more.
-fn entry_with_room(k: usize, room: usize, line: &[u8]) -> Entry
-    ensures { entry_value result ≡ cond (ltb k room) (entry_bytes line.now) none }
+fn entry_with_room(k: usize, room: usize, line: &[u8]) -> Option<(u8, u8)>
+    ensures { result ≡ cond (ltb k room) (entry_of line.now) None }
 {
-    if k < room {
-        read_entry(line)
-    } else {
-        Entry::NoEntry
-    }
+    if k < room { read_entry(line) } else { None }
 }
 
-// The entry of a line.
-fn read_entry(line: &[u8]) -> Entry
-    ensures { entry_value result ≡ entry_bytes line.now }
+// The entry of a line, if it is one: its kind and its station.
+fn read_entry(line: &[u8]) -> Option<(u8, u8)>
+    ensures { result ≡ entry_of line.now }
 {
-    if line.len() < 2 {
-        return Entry::NoEntry;
-    }
-    let kind = kind_of(line[0]);
-    if kind == 0 {
-        return Entry::NoEntry;
-    }
-    if line[1] != b' ' {
-        return Entry::NoEntry;
-    }
-    let number = read_number(&line[2..], 2);
-    let Number::Value(station) = number else {
-        return Entry::NoEntry;
+    let [letter, space, digits @ ..] = line else {
+        return None;
     };
-    Entry::Bytes(kind, station as u8)
+    if *space != b' ' {
+        return None;
+    }
+    let kind = kind_of(*letter)?;
+    let station = read_number(digits, 2)?;
+    Some((kind, station as u8))
 }
 
-// The kind of a letter; 0 for any other byte.
-fn kind_of(letter: u8) -> u8
+// The kind of a letter, if it is T, L or C.
+#[tactic(auto, unfolding(crate::specs::Input::kind_of))]
+fn kind_of(letter: u8) -> Option<u8>
     ensures { result ≡ kind_of letter }
 {
-    if letter == b'T' {
-        return 1;
+    match letter {
+        b'T' => Some(1),
+        b'L' => Some(2),
+        b'C' => Some(3),
+        _ => None,
     }
-    if letter == b'L' {
-        return 2;
-    }
-    if letter == b'C' {
-        return 3;
-    }
-    0
 }
 
-// The value of one to `most` digits.
-fn read_number(digits: &[u8], most: usize) -> Number
+// The value of one to `most` digits, if they are that.
+fn read_number(digits: &[u8], most: usize) -> Option<usize>
     requires { most ≤ 3 }
-    ensures { number_value result ≡ number_of most digits.now }
+    ensures { result ≡ number_of most digits.now }
 {
-    if digits.len() < 1 {
-        return Number::NoNumber;
-    }
-    if most < digits.len() {
-        return Number::NoNumber;
+    if digits.is_empty() || most < digits.len() {
+        return None;
     }
     let mut value: usize = 0;
-    let mut i: usize = 0;
-    while i < digits.len() {
-        let b = digits[i];
-        if b < b'0' {
-            return Number::NoNumber;
-        }
-        if b'9' < b {
-            return Number::NoNumber;
+    for &b in digits {
+        if !b.is_ascii_digit() {
+            return None;
         }
         value = 10 * value + (b - b'0') as usize;
-        i += 1;
     }
-    Number::Value(value)
+    Some(value)
 }

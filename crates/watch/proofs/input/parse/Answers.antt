@@ -10,5 +10,5 @@ returns-in_default c = read-as-parts _ _ _ _ _ (read-unsized _ _ _ _ c.line_end-
 pub returns : goal.returns
 returns c =
     let room = room_for (length c.args.schedule.now) in
-    rw (read-sized room _ c.args.input.now _ c.line_end-e.ensures.value c.in-Value.ensures _ _ refl c.line_after-p.ensures)
+    rw (read-sized room _ c.args.input.now _ c.line_end-e.ensures.value c.in-Some.ensures _ _ refl c.line_after-p.ensures)
     c.read_entries.ensures
