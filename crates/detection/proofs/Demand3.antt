@@ -5,7 +5,7 @@ use mathlib.Core.Path.{◌≡◌, refl, sym, ap}
 use mathlib.Core.Logic.{◌⊎◌, inl, inr, ◌≢◌}
 use mathlib.Core.Bool.{Bool, true, false, not, ◌&&◌}
 use mathlib.Core.List.{List, [], ◌∷◌, ◌++◌}
-use Prim.Native.Nat.{ℕ, ◌+◌, ◌*◌, ◌≤◌, ◌<◌, ◌-◌, ◌/◌}
+use Prim.Native.Nat.{ℕ, ◌≤◌, ◌<◌}
 use native.Mathlib.Nat.{le_trans}
 use native.Mathlib.Omega.{arith}
 use borrow.Author.Tests.{ltb-true, ltb-false, eqb-true, eqb-false, ne_eqb, not-true}
@@ -25,7 +25,7 @@ use Rattle.lists.specs.Sums.{bit}
 use Rattle.detection.specs.Runs.{Call, taken_all, after_run, after_runs}
 use Rattle.detection.specs.Rounds.{count_taken, cut, tests_of_all}
 use Rattle.table.specs.Properties.{line_at_start, at_start, live_count, no_live_suspicion, none_suspected}
-use Rattle.detection.specs.Claim.{rounds_of, Premises, Conclusion, Within, WithinAfter, demand_wait, Demand3, exact_wait}
+use Rattle.detection.specs.Claim.{rounds_of, Premises, Conclusion, Within, WithinAfter, demand_wait, Demand3, WithinPairs, exact_wait}
 use Rattle.lists.proofs.BoolLaws.{by_bool}
 use Rattle.lists.proofs.SumLaws.{sum-single}
 use Rattle.detection.proofs.Wait.{wait-pos, wait-le-pairs, wait-le-square}
@@ -160,7 +160,7 @@ within rounds enough n s calls given =
     }
 
 -- within 1 + d(d − 1)/2 rounds, an end in itself
-pub within-pairs : Within (λ d. 1 + d * (d - 1) / 2)
+pub within-pairs : WithinPairs
 within-pairs = within _ wait-le-pairs
 
 -- demand 3, an end in itself

@@ -100,6 +100,14 @@ demand_wait d = d * d
 abbrev pub Demand3 : Type 0
 Demand3 = Within demand_wait
 
+-- fewer rounds, and no fewer than the exact wait: 1, 2, 4, 7, 11, 16 for d = 1 to 6
+abbrev pub pairs_wait : ℕ → ℕ
+pairs_wait d = 1 + d * (d - 1) / 2
+
+-- the claim within these
+abbrev pub WithinPairs : Type 0
+WithinPairs = Within pairs_wait
+
 -- the rounds of our own claim: 1, 2, 3, 4, 6, 8 for d = 1 to 6. From 3 boards on fewer do not suffice (crate witness)
 unfoldable pub exact_wait : ℕ → ℕ
 exact_wait d = cond (ltb d 4) d (4 + (d - 3) * (d - 3) / 2)

@@ -1,11 +1,16 @@
 // The claims about every list of runs (specs/Claim.antt, specs/Boards.antt), each the contract of a function that does nothing.
 
-ghost use Rattle.detection.specs.Claim.{Demand3, Within, exact_wait, FreshMeetsPremises};
+ghost use Rattle.detection.specs.Claim.{Demand3, WithinPairs, Within, exact_wait, FreshMeetsPremises};
 ghost use Rattle.detection.specs.Boards.{BoardTests, BoardTestsAfterWait};
 
 // Demand 3: after d·d closed rounds the live boards suspect just those that are not live, and the tests are those counted.
 pub fn demand_3()
     ensures { Demand3 }
+{}
+
+// The same within 1 + d(d − 1)/2 rounds.
+pub fn within_pairs()
+    ensures { WithinPairs }
 {}
 
 // The same within the exact wait.

@@ -1,8 +1,5 @@
--- Lists of runs that compute: the definitions that a run unfolds, under one name, and runs of turns only.
+-- Lists of runs that compute: the definitions that a run unfolds, under one name.
 -- Assumes nothing.
-use mathlib.Core.List.{List, [], ◌∷◌}
-use Prim.Native.Nat.{ℕ, ◌*◌}
-use lib.ListN.{length, replicate}
 use Rattle.lists.specs.Search.{least, every, list_of}
 use Rattle.table.specs.Sizes.{is_size, level, dimension, distances}
 use Rattle.station.specs.Groups.{width, member}
@@ -17,7 +14,7 @@ use Rattle.plant.specs.Round.{rounds_after, reset_line, reset_lines, after_round
 use Rattle.plant.specs.Entry.{entry_number, acted, after, tested_of, outcome_of, sheet_line}
 use Rattle.plant.specs.Run.{entries, go_on, start_number, run}
 use Rattle.lists.specs.Sums.{sum_below}
-use Rattle.detection.specs.Runs.{Call, after_runs, taken_from, taken_in, taken_all}
+use Rattle.detection.specs.Runs.{after_runs, taken_from, taken_in, taken_all}
 use Rattle.detection.specs.Rounds.{any_taken, all_taken, count_taken, closes, cut}
 use Rattle.table.specs.Properties.{at_start, live_count, none_suspected}
 use Rattle.detection.specs.Claim.{dead_group, dead_pairs}
@@ -27,12 +24,3 @@ use Rattle.lists.specs.Bytes.{joined_byte}
 unfoldable pub whole_run : Unit {0}
 unfolding rounds_after leave_told at_start live_count none_suspected dead_pairs dead_group sum_below after_runs taken_from taken_in taken_all any_taken all_taken count_taken closes cut run start_number table_number shape_number is_size table_length every line_rules exit_rule row_rule some_live live_finished cell line_start row set_row set_cell fresh_table fresh_byte list_of go_on entries entry_number after acted sheet_line tested_of outcome_of turn turn_tested turn_outcome crash reset_line reset_lines after_round after_steps next_test makes_test finish_pass count_test replies is_told exchange_rows suspect reply_outcome test_outcome after_outcome self_or_suspected is_alone after_alone testing answer due first first_place least unsuspected member width level dimension distances union union_byte joined_byte mark
 whole_run = tt
-
--- a schedule of turns of the stations listed
-unfoldable pub turns_of : List ℕ → List ℕ
-turns_of [] = []
-turns_of (i ∷ is) = 1 ∷ i ∷ turns_of is
-
--- a run with a sheet of zeros
-abbrev pub call_with : ℕ → List ℕ → Call
-call_with n schedule = record { size = n; schedule = schedule; sheet = replicate (2 * length schedule) 0 }

@@ -1,44 +1,12 @@
--- The claim is not empty, ends in themselves. Four boards, board 3 dead, four runs, of which one is refused at its start and one at an
--- entry: the premises hold, d·d rounds close and one more, and each has the seven tests that demand 3 counts from the fifth on. And three
--- boards, a size that is no power of two.
+-- The claim is not empty, ends in themselves: the two plants of specs/Witness.antt, computed.
 -- Assumes nothing.
-use mathlib.Core.Path.{◌≡◌, refl}
-use mathlib.Core.List.{List, [], ◌∷◌, map}
-use Prim.Native.Nat.{ℕ}
+use mathlib.Core.Path.{refl}
 use native.Mathlib.Omega.{arith}
-use Rattle.table.specs.Table.{set_cell, status_column}
-use Rattle.table.specs.Fresh.{fresh_table}
-use Rattle.plant.specs.Entry.{State, state_of}
-use Rattle.detection.specs.Runs.{Call}
-use Rattle.detection.specs.Rounds.{tests_in}
-use Rattle.detection.specs.Claim.{demand_count, rounds_of, Premises}
-use Rattle.witness.proofs.Computing.{whole_run, turns_of, call_with}
+use Rattle.witness.specs.Witness.{turns_of, boards, calls, FourBoards, ThreeBoards}
+use Rattle.witness.proofs.Computing.{whole_run}
 
--- four boards, board 3 dead, nothing suspected
-unfoldable pub boards : State
-boards = record { table = set_cell 4 (fresh_table 4) 3 status_column 1; rounds = 0; tests = 0 }
-
--- the turns of one round: two tests each of 0 and 1, three of 2, and one turn of each that finishes
-abbrev pub one_pass : List ℕ → List ℕ
-one_pass rest = 0 ∷ 1 ∷ 2 ∷ 0 ∷ 1 ∷ 2 ∷ 2 ∷ 0 ∷ 1 ∷ 2 ∷ rest
-
--- the second run has another size, and the third a kind that is none, so its last entries are not reached
-unfoldable pub calls : List Call
-calls =
-    call_with 4 (turns_of (one_pass (0 ∷ 1 ∷ [])))
-    ∷ call_with 8 (turns_of (0 ∷ 1 ∷ []))
-    ∷ call_with 4 (1 ∷ 2 ∷ 9 ∷ 0 ∷ 1 ∷ 0 ∷ [])
-    ∷ call_with 4 (turns_of (0 ∷ 1 ∷ 2 ∷ 2 ∷ 0 ∷ 1 ∷ 2 ∷ one_pass (one_pass (one_pass (2 ∷ [])))))
-    ∷ []
-
--- the premises, the tests of the closed rounds, those of the open one, and the count of the claim
-pub record Computed (n : ℕ) (s : State) (runs : List Call) (closed : List ℕ) (open-tests count : ℕ) : Type 0 where
-  pub premises : Premises n s runs
-  pub closed_tests : map tests_in (rounds_of s runs).closed ≡ closed
-  pub open_tests : tests_in (rounds_of s runs).open_round ≡ open-tests
-  pub counted : demand_count n s.table ≡ count
-
-pub witness : Computed 4 boards calls (7 ∷ 7 ∷ 7 ∷ 7 ∷ 7 ∷ []) 1 7
+-- four boards
+pub witness : FourBoards
 unfolding whole_run boards turns_of calls
 witness = record {
   premises = record { size = refl; long = refl; start = refl; two_live = omega arith; trusted = refl; no_crash = refl; no_late = refl };
@@ -47,8 +15,8 @@ witness = record {
   counted = refl;
 }
 
--- three boards, none dead: one round of five tests
-pub witness-3 : Computed 3 (state_of (fresh_table 3) 0 0) (call_with 3 (turns_of (0 ∷ 0 ∷ 0 ∷ 1 ∷ 1 ∷ 2 ∷ 2 ∷ 2 ∷ [])) ∷ []) (5 ∷ []) 0 5
+-- three boards
+pub witness-3 : ThreeBoards
 unfolding whole_run turns_of
 witness-3 = record {
   premises = record { size = refl; long = refl; start = refl; two_live = omega arith; trusted = refl; no_crash = refl; no_late = refl };

@@ -1,2 +1,3 @@
 -- What is shown by computed plants.
+pub mod Witness
 pub mod Sooner
