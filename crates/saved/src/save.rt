@@ -12,7 +12,7 @@ use plant::Tally;
 use table::{Station, cells, rules};
 
 // The bytes of the size field and the tally field.
-const OPENING: usize = 15;
+const FRONT: usize = 15;
 
 // The bytes of a line field besides the line: the field's head and the station.
 const BESIDE_LINE: usize = 3 + 1;
@@ -26,7 +26,7 @@ pub fn save(n: usize, table: &[u8], tally: Tally, buffer: &mut [u8]) -> u8
     if number != 0 {
         return number;
     }
-    if buffer.len() != OPENING + n * (n + cells::HEAD as usize + BESIDE_LINE) {
+    if buffer.len() != FRONT + n * (n + cells::HEAD as usize + BESIDE_LINE) {
         return 13;
     }
     let size = n as u8;
@@ -64,7 +64,7 @@ fn write_line(n: u8, table: &[u8], i: Station, buffer: &mut [u8])
         (field_bytes (line_field n table.now i.0)) }
 {
     let stride = n as u16 + cells::HEAD;
-    let at = OPENING + i.0 as usize * (stride as usize + BESIDE_LINE);
+    let at = FRONT + i.0 as usize * (stride as usize + BESIDE_LINE);
     put_head(buffer, at, LINE, stride + 1);
     buffer[at + 3] = i.0;
     let start = cells::line_start(n, i);
