@@ -5,7 +5,7 @@
  * behind them (crates/vcube and the crates that it uses, docs/MAP.md) is proved in Rattle to do what its definitions say; this header and
  * the compiler's back end are not part of the proof.
  *
- * Build the archive with `rt staticlib vcube` and link target/staticlib/libvcube.a (x86-64 Linux), or install it by bindings/c/install.
+ * Build the archive with tests/archive and link target/staticlib/libvcube.a (x86-64 Linux), or install it by bindings/c/install.
  *
  * Numbers and lengths may be anything at all: nothing need be tested before a call. A buffer is a pointer to bytes and their number; the
  * pointer must be valid for that many bytes, at any alignment. A list of results is a pointer to uint16_t and the number of results (not
