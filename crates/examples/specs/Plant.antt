@@ -2,7 +2,6 @@
 -- tables: what the definitions give, and what is said. One statement covers each.
 -- Assumes nothing.
 use Rattle.std.specs.Prelude.{◌≡◌, ℕ, ◌+◌, List, [], ◌∷◌, map, drop, replicate, refl}
-use Rattle.std.specs.List.{filter}
 use Rattle.lists.specs.Search.{least, every, list_of}
 use Rattle.table.specs.Sizes.{is_size, level, dimension, distances}
 use Rattle.station.specs.Groups.{width, member, full_group, group, station_at}

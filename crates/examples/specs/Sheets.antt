@@ -2,7 +2,6 @@
 -- compute.
 -- Assumes nothing.
 use Rattle.std.specs.Prelude.{◌≡◌, ℕ, true, false, List, [], ◌∷◌, map, refl}
-use Rattle.std.specs.List.{filter}
 use Rattle.lists.specs.Search.{least, list_of, greatest}
 use Rattle.table.specs.Sizes.{level, dimension, distances}
 use Rattle.station.specs.Groups.{width, member}

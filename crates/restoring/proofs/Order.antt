@@ -14,7 +14,8 @@ use Rattle.saved.specs.Plant.{size_tag, size_length, tally_tag, tally_length, li
 use Rattle.saved.specs.Plant.{size_in, rounds_in, tests_in, size_and_tally, station_in, line_in, of_station, fits, all_fit, lines_right, table_in}
 use Rattle.saved.specs.Load.{file_lines, size_number, rest_number, load_number, saved_size, answer_of, load_answer, load_after}
 use Rattle.saved.proofs.ConcatLaws.{concat-same}
-use Rattle.restoring.specs.Restoring.{is_known, known, AnyOrder}
+use Rattle.saved.specs.Order.{is_known}
+use Rattle.restoring.specs.Restoring.{known, AnyOrder}
 
 -- an answer about a list that does not depend on the order of its elements
 record Blind {A B : Type 0} (F : List A → B) : Type 0 where

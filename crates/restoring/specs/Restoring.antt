@@ -1,13 +1,14 @@
 -- Request C-17: "Reading a saved plant restores table and tally; saving what was read gives the writer's form." "The reader takes any order and
 -- passes over other tags."
 -- Assumes nothing.
-use Rattle.std.specs.Prelude.{◌≡◌, Bool, false, cond, ◌||◌, ℕ, ◌+◌, ◌*◌, ◌^◌, ◌<◌, length, eqb}
+use Rattle.std.specs.Prelude.{◌≡◌, false, cond, ℕ, ◌+◌, ◌*◌, ◌^◌, ◌<◌, length}
 use mathlib.Core.List.{List, [], ◌∷◌, ◌++◌, Permᴰ}
 use Rattle.table.specs.Rules.{table_number}
 use Rattle.plant.specs.declared.Tally.{Tally}
 use Rattle.saved.specs.Bytes.{concat_of}
 use Rattle.saved.specs.Fields.{Field, field, field_bytes, runs_past, fields_of, tagged, first_of}
 use Rattle.saved.specs.Plant.{size_tag, tally_tag, line_tag, size_in, of_station}
+use Rattle.saved.specs.Order.{is_known}
 use Rattle.saved.specs.Load.{file_size, load_number, saved_size, load_answer, load_after}
 use Rattle.saved.specs.Save.{saved, save_number, save_after}
 use Rattle.restoring.specs.Files.{AreBytes}
@@ -45,11 +46,7 @@ SavedAgain =
     → (save_number (file_size file) (load_after file b) (load_answer file (length b)).tally (length b') ≡ 0)
     × (save_after (file_size file) (load_after file b) (load_answer file (length b)).tally b' ≡ writers_form (fields_of file))
 
--- one of the three tags
-abbrev pub is_known : ℕ → Bool
-is_known k = eqb k size_tag || eqb k tally_tag || eqb k line_tag
-
--- the fields with one of them
+-- the fields with one of the three tags
 unfoldable pub known : List Field → List Field
 known [] = []
 known (f ∷ fs) = cond (is_known f.tag) (f ∷ known fs) (known fs)

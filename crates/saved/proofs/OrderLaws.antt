@@ -1,27 +1,10 @@
 -- Laws of the opening and of the order, of specs/Order.
 -- Assumes nothing.
-use Rattle.std.proofs.Common.{◌≡◌, refl, sym, ap, ◌∙◌, ℕ, Bool, true, false, ◌&&◌, List, [], ◌∷◌, length, get_or, eqb-true, arith}
-use Rattle.std.proofs.lemmas.Bool.{and_parts}
+use Rattle.std.proofs.Common.{◌≡◌, refl, sym, ap, ◌∙◌, Bool, true, false, ◌&&◌, List, [], ◌∷◌}
 use Rattle.std.specs.Prelude.{Option, None, Some, is_none, unwrap_or}
 use Rattle.saved.specs.Fields.{Field, infront}
-use Rattle.saved.specs.Order.{opening_field, is_opening, nothing_before, behind, follows, in_order, order_number}
+use Rattle.saved.specs.Order.{is_opening, nothing_before, behind, follows, in_order, order_number}
 use Rattle.saved.specs.declared.order.Before.{Before}
-
--- the opening is just one field
-pub the_opening : is_opening opening_field ≡ true
-the_opening = refl
-
-pub only_opening : (f : Field) → is_opening f ≡ true → f ≡ opening_field
-only_opening f h =
-    let p = and_parts _ _ h in
-    let q = and_parts _ _ p.1 in
-    let c = one f.contents (eqb-true _ _ q.0) (eqb-true _ _ q.1) in
-    rw (eqb-true _ _ p.0, c) refl
-  where
-    one : (c : List ℕ) → length c ≡ 1 → get_or c 0 0 ≡ 2 → c ≡ 2 ∷ []
-    one [] e g = absurd (omega arith)
-    one (x ∷ []) e g = ap (λ y. y ∷ []) g
-    one (x ∷ y ∷ c) e g = absurd (omega arith)
 
 -- a field and the rest, where no field runs past the end
 module _ (f : Field) (all rest : Option (List Field)) (split : all ≡ infront f rest) (whole : is_none all ≡ false) where

@@ -3,7 +3,7 @@
 -- Assumes nothing.
 use Rattle.std.specs.Prelude.{ℕ, Bool, true, false, cond, not, ◌&&◌, ◌||◌, List, [], ◌∷◌, length, get_or, leb, eqb}
 use Rattle.lists.specs.Refusal.{refuse, ◌else◌}
-use Rattle.saved.specs.Fields.{Field, field}
+use Rattle.saved.specs.Fields.{Field}
 use Rattle.saved.specs.Plant.{size_tag, tally_tag, line_tag, station_in}
 use Rattle.saved.specs.declared.order.Before.{Before}
 
@@ -13,9 +13,6 @@ opening_tag = 4
 
 abbrev pub edition : ℕ
 edition = 2
-
-abbrev pub opening_field : Field
-opening_field = field opening_tag (edition ∷ [])
 
 -- whether a field is the opening
 abbrev pub is_opening : Field → Bool
