@@ -6,7 +6,7 @@ use Rattle.lists.specs.Search.{least, every, list_of}
 use Rattle.table.specs.Sizes.{is_size, level, dimension, distances}
 use Rattle.station.specs.Groups.{width, member}
 use Rattle.table.specs.Table.{head, table_length, line_start, cell, set_cell, status_column, row, set_row}
-use Rattle.table.specs.Rules.{exit_rule, row_rule, line_rules, some_live, live_finished, shape_number, table_number}
+use Rattle.table.specs.Rules.{exit_rule, row_rule, line_rules, some_live, live_finished, shape_check, table_check}
 use Rattle.station.specs.Tests.{unsuspected, first_place, first, answer, due}
 use Rattle.station.specs.Rows.{union_byte, union, mark}
 use Rattle.table.specs.Fresh.{fresh_byte, fresh_table}
@@ -15,7 +15,7 @@ use Rattle.turn.specs.Turn.{leave_told, next_test, makes_test, finish_pass, coun
 use Rattle.turn.specs.Turn.{test_outcome, after_outcome, self_or_suspected, is_alone, after_alone, testing, turn}
 use Rattle.plant.specs.Round.{rounds_after, reset_line, reset_lines, after_round}
 use Rattle.plant.specs.Entry.{state_of, acted, after}
-use Rattle.granter.specs.Grant.{waits, first_from, following, granted, grant_number, grant_station}
+use Rattle.granter.specs.Grant.{waits, first_from, following, granted, grant_check, grant_number, grant_answer, grant_station}
 use Rattle.granter.specs.Drive.{DriveOutcome, grant_turn, after_grants, ended, stops, grants_made, outcome_after, drive}
 use Rattle.lists.specs.Bytes.{joined_byte}
 
@@ -92,7 +92,7 @@ AsSaid es = map (λ (e : Example). e.given) es ≡ map (λ (e : Example). e.said
 
 pub as_said : AsSaid examples
 unfolding rounds_after leave_told examples two_wait one_waits all_dead two_fresh two_suspecting drive outcome_after grants_made stops ended
-    after_grants grant_turn grant_number grant_station granted following first_from waits table_number shape_number is_size table_length every
+    after_grants grant_turn grant_check grant_answer granted following first_from waits table_check shape_check is_size table_length every
     line_rules exit_rule row_rule some_live live_finished cell line_start row set_row set_cell fresh_table fresh_byte list_of after acted turn
     reset_line reset_lines after_round after_steps next_test makes_test finish_pass count_test replies is_told exchange_rows suspect
     reply_outcome test_outcome after_outcome self_or_suspected is_alone after_alone testing answer due first first_place least unsuspected member
@@ -101,7 +101,7 @@ as_said = refl
 
 pub drives-as-said : AsSaid drives
 unfolding rounds_after leave_told drives two_wait one_waits all_dead two_fresh two_suspecting drive outcome_after grants_made stops ended
-    after_grants grant_turn grant_number grant_station granted following first_from waits table_number shape_number is_size table_length every
+    after_grants grant_turn grant_check grant_answer granted following first_from waits table_check shape_check is_size table_length every
     line_rules exit_rule row_rule some_live live_finished cell line_start row set_row set_cell fresh_table fresh_byte list_of after acted turn
     reset_line reset_lines after_round after_steps next_test makes_test finish_pass count_test replies is_told exchange_rows suspect
     reply_outcome test_outcome after_outcome self_or_suspected is_alone after_alone testing answer due first first_place least unsuspected member

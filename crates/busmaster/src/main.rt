@@ -30,8 +30,8 @@ fn main(rt: HostRuntime) {
 fn eight_boards(rt: &impl Print) {
     let mut by_turns = [0u8; EIGHT];
     let mut driven = [0u8; EIGHT];
-    fresh::fresh_table(8, &mut by_turns);
-    fresh::fresh_table(8, &mut driven);
+    let _ = fresh::fresh_table(8, &mut by_turns);
+    let _ = fresh::fresh_table(8, &mut driven);
     both_ways(rt, &mut by_turns, &mut driven);
 }
 
@@ -39,8 +39,8 @@ fn eight_boards(rt: &impl Print) {
 fn four_crashed(rt: &impl Print) {
     let mut by_turns = [0u8; EIGHT];
     let mut driven = [0u8; EIGHT];
-    fresh::fresh_table(8, &mut by_turns);
-    fresh::fresh_table(8, &mut driven);
+    let _ = fresh::fresh_table(8, &mut by_turns);
+    let _ = fresh::fresh_table(8, &mut driven);
     entry_of(rt, &mut by_turns, tally_of(0, 0), 3, 4);
     entry_of(rt, &mut driven, tally_of(0, 0), 3, 4);
     both_ways(rt, &mut by_turns, &mut driven);
@@ -70,11 +70,12 @@ fn granted_round(rt: &impl Print, table: &mut [u8]) -> Tally {
     let mut tally = tally_of(0, 0);
     let mut last: usize = 255;
     for _ in 0..64 {
-        let granted = grant::grant(8, table, last);
-        if (granted.number != 0) | (tally.rounds != 0) {
+        if tally.rounds != 0 {
             return tally;
         }
-        let to = granted.station;
+        let Ok(to) = grant::grant(8, table, last) else {
+            return tally;
+        };
         last = to.0 as usize;
         tally = entry_of(rt, table, tally, 1, to.0);
     }
@@ -84,7 +85,7 @@ fn granted_round(rt: &impl Print, table: &mut [u8]) -> Tally {
 // Eight boards: board 5 takes a turn, and the rest of the round is driven.
 fn rest_of_a_round(rt: &impl Print) {
     let mut table = [0u8; EIGHT];
-    fresh::fresh_table(8, &mut table);
+    let _ = fresh::fresh_table(8, &mut table);
     let tally = entry_of(rt, &mut table, tally_of(0, 0), 1, 5);
     drive_line(rt, drive::drive(8, &mut table, tally, 255));
 }
@@ -110,14 +111,14 @@ fn top_tally(rt: &impl Print) {
 // A drive of two fresh boards.
 fn two_boards(rt: &impl Print, tally: Tally) {
     let mut table = [0u8; TWO];
-    fresh::fresh_table(2, &mut table);
+    let _ = fresh::fresh_table(2, &mut table);
     drive_line(rt, drive::drive(2, &mut table, tally, 255));
 }
 
 // Two boards that suspect one another: 0 tests 1, is told and leaves; 1 tests 0, which is not live, and leaves as alone.
 fn nobody_left(rt: &impl Print) {
     let mut table = [0u8; TWO];
-    fresh::fresh_table(2, &mut table);
+    let _ = fresh::fresh_table(2, &mut table);
     table[ZERO_OF_ONE] = 1;
     table[ONE_OF_ZERO] = 1;
     drive_line(rt, drive::drive(2, &mut table, tally_of(0, 0), 255));
@@ -136,12 +137,12 @@ fn last_numbers(rt: &impl Print) {
 
 fn number_line(rt: &impl Print, last: usize) {
     let mut table = [0u8; TWO];
-    fresh::fresh_table(2, &mut table);
-    let granted = grant::grant(2, &table, last);
-    let _ = println!(rt;
-        "last {last} number {} station {}",
-        granted.number, granted.station.0
-    );
+    let _ = fresh::fresh_table(2, &mut table);
+    let (number, station) = match grant::grant(2, &table, last) {
+        Ok(to) => (0, to.0),
+        Err(refusal) => (refusal.number(), 0),
+    };
+    let _ = println!(rt; "last {last} number {number} station {station}");
 }
 
 fn tally_of(rounds: u32, tests: u32) -> Tally {

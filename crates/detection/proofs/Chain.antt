@@ -10,10 +10,10 @@ use lib.ListN.{length}
 use lib.Dec.{eqb}
 use borrow.Author.Tests.{eqb-true}
 use Rattle.table.specs.Table.{stride, table_length}
-use Rattle.table.proofs.Accepting.{Accepted, accepted}
-use Rattle.lists.proofs.RefusalLaws.{else-zero}
+use Rattle.table.proofs.Accepting.{Accepted}
+use Rattle.plant.proofs.RunLaws.{start-facts}
 use Rattle.plant.specs.Entry.{Entry, State, entry_number, after, sheet_line}
-use Rattle.plant.specs.Run.{entries, write_line, go_on, start_number, run}
+use Rattle.plant.specs.Run.{entries, write_line, go_on, start_check, start_number, run}
 use Rattle.plant.proofs.RulesKept.{accepted-kept}
 use Rattle.detection.specs.Runs.{Call, Taken, after_run, after_runs, taken_from, taken_in, taken_all}
 use Rattle.lists.proofs.BoolLaws.{by_bool}
@@ -63,11 +63,11 @@ size-unique n m e = omega (arith, not-less n m e, not-less m n (sym e))
 
 -- the entries of one run: a run of another size, or on a table that is not accepted, is turned away, and takes none
 chain_run : (n : ℕ) (s : State) (c : Call) → length s.table ≡ table_length n → Chain n s (taken_in s c) (after_run s c)
-unfolding taken_in run start_number
+unfolding taken_in run start_check
 chain_run n s c long =
     by_bool (eqb (start_number c.size s.table (length c.schedule) (length c.sheet)) 0)
     (λ t.
-    let fits = accepted c.size s.table (else-zero _ _ (eqb-true _ 0 t)).0 in
+    let fits = (start-facts c.size s.table (length c.schedule) (length c.sheet) (eqb-true _ 0 t)).0 in
     let same : c.size ≡ n = size-unique c.size n (sym fits.long ∙ long) in
     rw (after_run, t, same) (chain-entries n 0 s c.sheet (entries c.schedule) (rw same at fits)))
     (λ t. rw (after_run, t) done)

@@ -10,7 +10,8 @@ use Rattle.lists.proofs.BoolLaws.{choice}
 use Rattle.lists.proofs.SearchLaws.{both}
 use Rattle.turn.specs.Turn.{kind_turn}
 use Rattle.plant.specs.Entry.{State, entry_of, entry_number, after}
-use Rattle.plant.specs.Run.{Outcome, entries, start_number}
+use Rattle.plant.specs.Run.{Outcome, entries, start_check, start_number}
+use Rattle.lists.proofs.RefusalLaws.{check_zero}
 use Rattle.plant.proofs.RunLaws.{start-one, go-one, run-goes}
 use Rattle.detection.specs.Runs.{Call, Taken, turn_run, after_run, after_runs, taken_from, taken_in, taken_all}
 use Rattle.detection.specs.Rounds.{all_taken}
@@ -36,8 +37,8 @@ module _ (n : ℕ) (s : State) (i : ℕ) (ok : table_number n s.table ≡ 0) (z 
       ∙ go-one n s (turn_run n i).sheet kind_turn i z
 
   pub one-taken : taken_in s (turn_run n i) ≡ taken_at n s (entry_of kind_turn i) ∷ []
-  unfolding taken_in start_number taken_from entries
-  one-taken = rw (ok, z)
+  unfolding taken_in start_check taken_from entries
+  one-taken = rw (check_zero _ ok, z)
 
 -- two lists whose entries pass
 pub all_append : (q : Taken → Bool) (xs ys : List Taken) → all_taken q xs ≡ true → all_taken q ys ≡ true → all_taken q (xs ++ ys) ≡ true

@@ -11,7 +11,7 @@ use lib.ListN.{length, length-append}
 use Rattle.table.specs.Rules.{table_number}
 use Rattle.lists.proofs.BoolLaws.{by_bool}
 use Rattle.turn.specs.Turn.{kind_turn}
-use Rattle.plant.specs.Entry.{State, entry_of, entry_number}
+use Rattle.plant.specs.Entry.{State, entry_of, entry_check, entry_number}
 use Rattle.plant.proofs.RunLaws.{accepted-number}
 use Rattle.detection.specs.Runs.{turn_run, after_runs, taken_all}
 use Rattle.detection.proofs.OneTurn.{after-append, taken-append, one_left, one-taken}
@@ -86,7 +86,7 @@ grants-taken n s last g k going =
 -- where a drive stops and has not ended, a tally is full
 full-number : (n : ℕ) (p : Stand) (k i : ℕ) → stops n p k ≡ true → ◌≡◌ {A = ℕ} (cond (ended_after n p k) 0 7) 7
     → entry_number n (after_grants n p k).state (entry_of kind_turn i) ≡ 7
-unfolding stops entry_number
+unfolding stops entry_check
 full-number n p k i stop seven =
     by_bool (ended_after n p k) (λ e. absurd (omega (arith, rw e at seven)))
     (λ e. let full : full_after n p k ≡ true = rw e at stop in rw full)

@@ -17,7 +17,8 @@ use Rattle.lists.proofs.BoolLaws.{by_bool}
 use Rattle.lists.proofs.SearchLaws.{every-not, least-between, least-before}
 use Rattle.table.proofs.SizeLaws.{size-bounds}
 use Rattle.table.proofs.Accepting.{Accepted, accepted}
-use Rattle.granter.specs.Grant.{no_grant, waits, first_from, following, granted, last_refusal, grant_number, grant_station}
+use Rattle.lists.proofs.RefusalLaws.{check_zero}
+use Rattle.granter.specs.Grant.{no_grant, waits, first_from, following, granted, last_refusal, grant_number, grant_answer, grant_station}
 use Rattle.granter.proofs.GrantLaws.{waits-parts, grantable, grant-zero, station-fits, last-below, granted-waits}
 use Rattle.driving.specs.Fairness.{stations_before, NextGoingRound, last_before, Grants, Fairness}
 
@@ -173,7 +174,7 @@ module _ (n : ℕ) (tables : ℕ → List ℕ) (last a i : ℕ) (fits : last_ref
 
   -- after j of them it was granted, or it is j nearer
   after : (j : ℕ) → j ≤ n → Granted j ⊎ (stations_before n (following (from (a + j))) i + j < n)
-  unfolding last_before grant_station
+  unfolding last_before grant_answer
   after zero le =
       let fits = last_fits n tables last fits (a + 0) in
       inr (omega (arith, before-most n (following (from (a + 0))) i (following-most n (from (a + 0)) fits) h))
@@ -201,7 +202,7 @@ module _ (n : ℕ) (tables : ℕ → List ℕ) (last a i : ℕ) (fits : last_ref
       step (inl g) = inl (g.0, g.1, omega (arith, g.2), g.3)
       step (inr near) =
           by_cases (ℕ_discrete i (granted n (tables k) (from k)))
-          (λ e. inl (k, omega arith, omega arith, (taken, rw taken (sym e))))
+          (λ e. inl (k, omega arith, omega arith, (taken, rw (check_zero _ taken) (sym e))))
           (λ e.
           let s : a + suc j ≡ suc k = omega arith in
           inr (rw (s, next) (omega (arith, near, nearer n (tables k) (from k) i z f h here e))))

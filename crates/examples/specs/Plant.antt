@@ -7,7 +7,7 @@ use Rattle.table.specs.Sizes.{is_size, level, dimension, distances}
 use Rattle.station.specs.Groups.{width, member, full_group, group, station_at}
 use Rattle.table.specs.Table.{head, table_length, line_start, cell, set_cell, status_column, next_column, told_by_column, rounds_ago_column}
 use Rattle.table.specs.Table.{told_by, row, set_row}
-use Rattle.table.specs.Rules.{exit_rule, row_rule, line_rules, some_live, live_finished, shape_number, table_number}
+use Rattle.table.specs.Rules.{exit_rule, row_rule, line_rules, some_live, live_finished, shape_check, table_check, table_number}
 use Rattle.station.specs.Tests.{unsuspected, first_place, first, answer, due, due_distances}
 use Rattle.station.specs.Rows.{union_byte, union, mark}
 use Rattle.table.specs.Fresh.{fresh_byte, fresh_table}
@@ -17,8 +17,8 @@ use Rattle.turn.specs.Turn.{leave_told, next_test, makes_test, finish_pass, coun
 use Rattle.turn.specs.Turn.{test_outcome, after_outcome, self_or_suspected, is_alone, after_alone, testing, turn, turn_tested, turn_outcome}
 use Rattle.turn.specs.Turn.{crash}
 use Rattle.plant.specs.Round.{rounds_after, reset_line, reset_lines, after_round}
-use Rattle.plant.specs.Entry.{state_of, entry_number, acted, after, tested_of, outcome_of, sheet_line}
-use Rattle.plant.specs.Run.{Outcome, entries, go_on, start_number, run}
+use Rattle.plant.specs.Entry.{state_of, entry_check, entry_number, acted, after, tested_of, outcome_of, sheet_line}
+use Rattle.plant.specs.Run.{Outcome, entries, go_on, start_check, start_number, run}
 use Rattle.lists.specs.Sums.{sum_below}
 use Rattle.detection.specs.Claim.{dead_group, dead_pairs, demand_count}
 use Rattle.lists.specs.Bytes.{joined_byte}
@@ -190,9 +190,9 @@ AsSaid es = map (λ (e : Example). e.given) es ≡ map (λ (e : Example). e.said
 
 pub as_said : AsSaid examples
 unfolding rounds_after leave_told examples four_boards four_dead four_and_five_dead four_dead_of_eleven zero_suspects_one station_two_finished
-    tested_told alone_of_two alone_of_three dead_pairs dead_group sum_below run start_number table_number shape_number is_size table_length every
+    tested_told alone_of_two alone_of_three dead_pairs dead_group sum_below run start_check table_check shape_check is_size table_length every
     line_rules exit_rule row_rule some_live live_finished cell line_start row set_row set_cell fresh_table fresh_byte list_of go_on entries
-    entry_number after acted sheet_line tested_of outcome_of turn turn_tested turn_outcome crash reset_line reset_lines after_round after_steps
+    entry_check after acted sheet_line tested_of outcome_of turn turn_tested turn_outcome crash reset_line reset_lines after_round after_steps
     next_test makes_test finish_pass count_test replies is_told exchange_rows suspect reply_outcome test_outcome after_outcome self_or_suspected
     is_alone after_alone testing answer due due_distances other_distances assignment_entries first first_place least unsuspected member width
     level dimension distances group full_group union union_byte joined_byte mark
@@ -200,9 +200,9 @@ as_said = refl
 
 pub requested-as-said : AsSaid requested
 unfolding rounds_after leave_told requested after_closing number_of four_boards four_dead four_and_five_dead four_dead_of_eleven
-    zero_suspects_one station_two_finished tested_told alone_of_two alone_of_three dead_pairs dead_group sum_below run start_number table_number
-    shape_number is_size table_length every line_rules exit_rule row_rule some_live live_finished cell line_start row set_row set_cell
-    fresh_table fresh_byte list_of go_on entries entry_number after acted sheet_line tested_of outcome_of turn turn_tested turn_outcome crash
+    zero_suspects_one station_two_finished tested_told alone_of_two alone_of_three dead_pairs dead_group sum_below run start_check table_check
+    shape_check is_size table_length every line_rules exit_rule row_rule some_live live_finished cell line_start row set_row set_cell
+    fresh_table fresh_byte list_of go_on entries entry_check after acted sheet_line tested_of outcome_of turn turn_tested turn_outcome crash
     reset_line reset_lines after_round after_steps next_test makes_test finish_pass count_test replies is_told exchange_rows suspect
     reply_outcome test_outcome after_outcome self_or_suspected is_alone after_alone testing answer due due_distances other_distances
     assignment_entries first first_place least unsuspected member width level dimension distances group full_group union union_byte joined_byte

@@ -3,6 +3,7 @@
 // what the documents and the papers say, and for C-11, C-13 and C-16 what their rules give by hand and by the simulator.
 #![tactic(auto)]
 
+use lists::refusal;
 use plant::{Answer, Tally, run};
 use station::{due, groups};
 use table::{Level, Station, cells, fresh};
@@ -68,8 +69,7 @@ fn members(rt: &impl Print, n: usize, i: Station, s: Level, w: usize, list: &mut
     if list.len() < w {
         return;
     }
-    let number = groups::group_list(n, i, s, &mut list[0..w]);
-    if number != 0 {
+    if groups::group_list(n, i, s, &mut list[0..w]).is_err() {
         return;
     }
     commas(rt, &list[0..w]);
@@ -112,13 +112,13 @@ fn fresh_number(n: usize, len: usize, space: &mut [u8]) -> u8 {
     if space.len() < len {
         return 255;
     }
-    fresh::fresh_table(n, &mut space[0..len])
+    refusal::number_of(fresh::fresh_table(n, &mut space[0..len]))
 }
 
 // "N = 64, none dead: 384 tests."
 fn sixty_four(rt: &impl Print) {
     let mut table = [0u8; cells::GREATEST_TABLE];
-    fresh::fresh_table(64, &mut table);
+    let _ = fresh::fresh_table(64, &mut table);
     let tally = one_round(rt, 64, &mut table, no_tally(), 255);
     tests_line(rt, no_tally(), tally);
 }
@@ -127,7 +127,7 @@ fn sixty_four(rt: &impl Print) {
 // board 5 tests 0 and 6 besides.
 fn eight_boards(rt: &impl Print) {
     let mut table = [0u8; EIGHT];
-    fresh::fresh_table(8, &mut table);
+    let _ = fresh::fresh_table(8, &mut table);
     let first = one_round(rt, 8, &mut table, no_tally(), 0);
     tests_line(rt, no_tally(), first);
     let crashed = entry_of(8, &mut table, first, 3, 4);
@@ -139,7 +139,7 @@ fn eight_boards(rt: &impl Print) {
 // "Tests at 4,294,967,294: a testing turn is taken, the next entry gets 7."
 fn top_tally(rt: &impl Print) {
     let mut table = [0u8; TWO];
-    fresh::fresh_table(2, &mut table);
+    let _ = fresh::fresh_table(2, &mut table);
     let top = Tally {
         rounds: 0,
         tests: 4294967294,
@@ -175,7 +175,7 @@ fn eleven_boards(rt: &impl Print) {
     eleven_line(rt, 10, Level(2), 2);
     eleven_line(rt, 2, Level(4), 3);
     let mut table = [0u8; ELEVEN];
-    fresh::fresh_table(11, &mut table);
+    let _ = fresh::fresh_table(11, &mut table);
     let mut list = [0u8; 20];
     assignment_line(rt, 11, &table, 10, &mut list);
     let crashed = entry_of(11, &mut table, no_tally(), 3, 4);
@@ -187,7 +187,7 @@ fn eleven_boards(rt: &impl Print) {
 // C-16, eight boards: the assignment of station 5, nothing suspected, and where it suspects 4.
 fn eight_assigned(rt: &impl Print) {
     let mut table = [0u8; EIGHT];
-    fresh::fresh_table(8, &mut table);
+    let _ = fresh::fresh_table(8, &mut table);
     let mut list = [0u8; 14];
     assignment_line(rt, 8, &table, 5, &mut list);
     table[FIVE_OF_FOUR] = 1;
@@ -196,10 +196,10 @@ fn eight_assigned(rt: &impl Print) {
 
 // The entries of an assignment, and how many of them are due.
 fn assignment_line(rt: &impl Print, n: usize, table: &[u8], i: u8, list: &mut [u8]) {
-    let assigned = due::assignment(n, table, Station(i), list);
+    let count = due::assignment(n, table, Station(i), list).unwrap_or(0);
     let _ = print!(rt; "{i} assigned");
     commas(rt, list);
-    let _ = println!(rt; " due {}", assigned.count);
+    let _ = println!(rt; " due {count}");
 }
 
 // The w members of the group of i at level s among eleven.
@@ -229,7 +229,7 @@ fn round_line(rt: &impl Print, n: u8) {
 // closes the round. In the next round 0 tests 1 again: 1 is told and leaves, and its own turn is refused. By C-18 its line names 0.
 fn late_reply(rt: &impl Print) {
     let mut table = [0u8; FOUR];
-    fresh::fresh_table(4, &mut table);
+    let _ = fresh::fresh_table(4, &mut table);
     let one = one_pass(rt, 4, &mut table, no_tally(), 1, false);
     let two = one_pass(rt, 4, &mut table, one, 2, false);
     let three = one_pass(rt, 4, &mut table, two, 3, false);
@@ -254,7 +254,7 @@ fn fresh_rounds(rt: &impl Print, n: u8, rounds: u8, len: usize, space: &mut [u8]
     if space.len() < len {
         return no_tally();
     }
-    fresh::fresh_table(n as usize, &mut space[0..len]);
+    let _ = fresh::fresh_table(n as usize, &mut space[0..len]);
     many_rounds(rt, n, rounds, &mut space[0..len])
 }
 

@@ -23,7 +23,11 @@ use Rattle.plant.specs.Entry.{Entry, State, entry_of, tally_full, entry_number, 
 use Rattle.plant.proofs.RulesKept.{accepted-kept}
 use Rattle.plant.proofs.RunLaws.{accepted-number}
 use Rattle.turn.proofs.StepLines.{Lines}
-use Rattle.granter.specs.Grant.{waits, granted, grant_number}
+use Rattle.granter.specs.Grant.{waits, granted, grant_check, grant_number}
+use Rattle.std.specs.Prelude.{Err}
+use Rattle.lists.specs.declared.refusal.Refusal.{Refusal}
+use Rattle.lists.specs.Refusal.{number_of}
+use Rattle.lists.proofs.RefusalLaws.{number_nonzero}
 use Rattle.granter.specs.Drive.{Stand, stand_at, granted_at, grant_turn, after_grants, ended, ended_after, full_after, stops, grants_made, drive_outcome, outcome_after, drive, Stopped}
 use Rattle.granter.proofs.GrantLaws.{Grantable, granted-waits, waits-parts, turn-taken}
 use Rattle.granter.proofs.TurnsLeft.{all_left, all-left-most, turn-left}
@@ -136,10 +140,10 @@ unfolding stops
 stopped-ended n p k d fits o = record { within = next-within n p k d; stopped = rw o; first = next-before n p k d fits }
 
 -- a drive that is refused
-pub drive-refused : (n : ℕ) (s : State) (last r : ℕ) → r ≡ grant_number n s.table last → (r ≡ 0 → ⊥)
-    → drive n s last ≡ drive_outcome r s last 0
+pub drive-refused : (n : ℕ) (s : State) (last : ℕ) (r : Refusal) → grant_check n s.table last ≡ Err r
+    → drive n s last ≡ drive_outcome (number_of r) s last 0
 unfolding drive
-drive-refused n s last r e z = rw (← e, ne_eqb r 0 z)
+drive-refused n s last r e = rw (e, ne_eqb (number_of r) 0 (number_nonzero r))
 
 -- the grants made are the first after which it stops
 pub made-is : (n : ℕ) (p : Stand) (k : ℕ) → Stopped n p k → grants_made n p ≡ k

@@ -1,23 +1,25 @@
 -- Laws of the granting rule: who waits, and that the granted station does.
 -- Assumes nothing.
-use mathlib.Core.Path.{◌≡◌, refl, ◌∙◌}
+use mathlib.Core.Path.{◌≡◌, refl, ap, ◌∙◌}
 use mathlib.Core.Bool.{Bool, true, false, not, ◌&&◌, ◌||◌, and-true, true≢false}
 use mathlib.Core.List.{List}
-use Prim.Native.Nat.{ℕ, ◌-◌, ◌<◌}
+use Prim.Native.Nat.{ℕ, ◌-◌, ◌≤◌, ◌<◌}
 use native.Mathlib.Omega.{arith}
-use borrow.Author.Tests.{ltb-true, ltb-false, lt-leb, leb-false, eqb-true, not-true, not-false}
+use borrow.Author.Tests.{ltb-true, ltb-false, lt-ltb, lt-leb, leb-false, eqb-true, not-true, not-false}
 use lib.Dec.{ltb, leb, eqb}
 use Rattle.lists.specs.Search.{least, every}
+use Rattle.lists.specs.Refusal.{Check, ◌and◌, number_of_result}
 use Rattle.table.specs.Table.{finished, live}
 use Rattle.table.specs.Rules.{some_live, finished_if_live, live_finished, table_number}
 use Rattle.lists.proofs.BoolLaws.{by_bool}
 use Rattle.lists.proofs.SearchLaws.{both, every-all, least-between, least-passes, least-before}
 use Rattle.table.proofs.SizeLaws.{size-bounds}
-use Rattle.table.proofs.Accepting.{Accepted, accepted}
-use Rattle.lists.proofs.RefusalLaws.{else-zero, refuse-zero}
+use Rattle.table.proofs.Accepting.{Accepted, table_ok}
+use Rattle.std.specs.Prelude.{Ok, Err}
+use Rattle.lists.proofs.RefusalLaws.{check_zero, ensure_ok, and_ok}
 use Rattle.turn.specs.Turn.{kind_turn}
-use Rattle.plant.specs.Entry.{State, entry_of, tally_full, entry_number}
-use Rattle.granter.specs.Grant.{no_grant, waits, first_from, following, granted, last_refusal, grant_number}
+use Rattle.plant.specs.Entry.{State, entry_of, tally_full, entry_check, entry_number}
+use Rattle.granter.specs.Grant.{no_grant, waits, first_from, following, granted, last_refusal, grant_check, grant_number, grant_answer}
 
 -- who waits is live and not finished
 pub waits-is : (n : ℕ) (t : List ℕ) (i : ℕ) → not (finished_if_live n t i) ≡ waits n t i
@@ -41,16 +43,27 @@ pub record Grantable (n : ℕ) (t : List ℕ) (last : ℕ) : Type 0 where
   pub last_fits : last_refusal n last ≡ 0
   pub someone : some_live n t ≡ true
 
+pub grant_ok : (n : ℕ) (t : List ℕ) (last : ℕ) (x : Unit {0}) → grant_check n t last ≡ Ok x → Grantable n t last
+unfolding grant_check
+grant_ok n t last x e =
+    let a = and_ok _ _ x e in
+    let b = and_ok _ _ x a.1 in
+    record { ok = table_ok n t _ a.0; last_fits = ap number_of_result b.0; someone = ensure_ok _ _ _ b.1 }
+
+pub grant_answer_number : (n : ℕ) (t : List ℕ) (last : ℕ) → number_of_result (grant_answer n t last) ≡ grant_number n t last
+unfolding grant_answer
+grant_answer_number n t last = pick (grant_check n t last)
+  where
+    pick : (c : Check) → number_of_result (c and Ok (granted n t last)) ≡ number_of_result c
+    pick (Ok x) = refl
+    pick (Err r) = refl
+
 pub grantable : (n : ℕ) (t : List ℕ) (last : ℕ) → grant_number n t last ≡ 0 → Grantable n t last
-unfolding grant_number
-grantable n t last z =
-    let a = else-zero _ _ z in
-    let b = else-zero _ _ a.1 in
-    record { ok = accepted n t a.0; last_fits = b.0; someone = not-false _ (refuse-zero 16 _ b.1) }
+grantable n t last z = grant_ok n t last _ (check_zero _ z)
 
 pub grant-zero : (n : ℕ) (t : List ℕ) (last : ℕ) → table_number n t ≡ 0 → last_refusal n last ≡ 0 → some_live n t ≡ true → grant_number n t last ≡ 0
-unfolding grant_number
-grant-zero n t last z fits someone = rw (z, fits, someone)
+unfolding grant_check
+grant-zero n t last z fits someone = rw (check_zero _ z, check_zero _ fits, someone)
 
 -- a station is a last number that is let through
 pub station-fits : (n g : ℕ) → g < n → last_refusal n g ≡ 0
@@ -59,8 +72,11 @@ station-fits n g h = rw (lt-leb n g h)
 -- a last number that is let through and is not 255 is a station
 pub last-below : (n last : ℕ) → last_refusal n last ≡ 0 → eqb last no_grant ≡ false → last < n
 last-below n last fits e =
-    let low : (leb n last && not (eqb last no_grant)) ≡ false = refuse-zero 15 _ fits in
+    let low : (leb n last && not (eqb last no_grant)) ≡ false = not-true _ (ensure_ok _ _ _ (check_zero _ fits)) in
     leb-false n last (simp and-true at (rw e at low))
+
+pub accepted_top : (n : ℕ) (t : List ℕ) → Accepted n t → n ≤ 64
+accepted_top n t a = (size-bounds n a.size).1
 
 -- size and last number are bytes
 pub fits_byte : (n : ℕ) (t : List ℕ) (last : ℕ) → Grantable n t last → (n < 256) × (last < 256)
@@ -107,5 +123,5 @@ module _ (n : ℕ) (t : List ℕ) (ok : Accepted n t) (someone : some_live n t �
 -- a station that waits takes its turn, where no tally is full
 pub turn-taken : (n : ℕ) (s : State) (i : ℕ) → tally_full s.rounds s.tests ≡ false → i < n → waits n s.table i ≡ true
     → entry_number n s (entry_of kind_turn i) ≡ 0
-unfolding entry_number
-turn-taken n s i fits h w = let b = waits-parts n s.table i w in rw (fits, lt-leb n i h, b.0, b.1)
+unfolding entry_check
+turn-taken n s i fits h w = let b = waits-parts n s.table i w in rw (fits, lt-ltb i n h, b.0, b.1)

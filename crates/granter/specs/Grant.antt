@@ -1,10 +1,13 @@
 -- Request C-15, "A bus master that grants the turns": which station is granted, for all inputs.
 -- Assumes nothing.
-use Rattle.std.specs.Prelude.{ℕ, ◌+◌, ◌-◌, Bool, cond, not, ◌&&◌, List, ltb, leb, eqb}
+use Rattle.std.specs.Prelude.{ℕ, ◌+◌, ◌-◌, Bool, cond, not, ◌&&◌, List, ltb, leb, eqb, Result, Ok}
+use Rattle.std.specs.Result.{result_unwrap_or}
 use Rattle.lists.specs.Search.{least}
 use Rattle.table.specs.Table.{finished, live}
-use Rattle.table.specs.Rules.{some_live, table_number}
-use Rattle.lists.specs.Refusal.{refuse, ◌else◌, unless}
+use Rattle.table.specs.Rules.{some_live, table_check}
+use Rattle.lists.specs.declared.refusal.Refusal.{Refusal}
+use Rattle.lists.specs.declared.refusal.Refusal.TheVariants.{LastGranted, NoneLive}
+use Rattle.lists.specs.Refusal.{Check, ensure, ◌and◌, number_of_result}
 
 -- the last granted number where none was granted yet: "255 at the start"
 abbrev pub no_grant : ℕ
@@ -29,17 +32,27 @@ granted n t last =
     cond (ltb (first_from n t (following last)) n) (first_from n t (following last)) (first_from n t 0)
 
 -- 16: "a last number of n or more that is not 255"
+abbrev pub last_check : ℕ → ℕ → Check
+last_check n last = ensure (not (leb n last && not (eqb last no_grant))) LastGranted
+
 abbrev pub last_refusal : ℕ → ℕ → ℕ
-last_refusal n last = refuse 16 (leb n last && not (eqb last no_grant))
+last_refusal n last = number_of_result (last_check n last)
 
 -- 17: "when no station is live"
-abbrev pub live_refusal : ℕ → List ℕ → ℕ
-live_refusal n t = refuse 17 (not (some_live n t))
+abbrev pub live_check : ℕ → List ℕ → Check
+live_check n t = ensure (some_live n t) NoneLive
 
 -- refusals of the grant, and of a drive at its start: "after numbers 1 to 4 come 16 [..], then 17"
-unfoldable pub grant_number : ℕ → List ℕ → ℕ → ℕ
-grant_number n t last = table_number n t else last_refusal n last else live_refusal n t
+unfoldable pub grant_check : ℕ → List ℕ → ℕ → Check
+grant_check n t last = table_check n t and last_check n last and live_check n t
 
--- the station that the grant answers, 0 where it is refused
-unfoldable pub grant_station : ℕ → List ℕ → ℕ → ℕ
-grant_station n t last = unless (grant_number n t last) 0 (granted n t last)
+abbrev pub grant_number : ℕ → List ℕ → ℕ → ℕ
+grant_number n t last = number_of_result (grant_check n t last)
+
+-- the station that the grant answers
+unfoldable pub grant_answer : ℕ → List ℕ → ℕ → Result ℕ Refusal
+grant_answer n t last = grant_check n t last and Ok (granted n t last)
+
+-- that station, 0 where the grant is refused
+abbrev pub grant_station : ℕ → List ℕ → ℕ → ℕ
+grant_station n t last = result_unwrap_or (grant_answer n t last) 0

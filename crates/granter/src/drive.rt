@@ -12,16 +12,15 @@ pub fn drive(n: usize, table: &mut [u8], tally: Tally, last: usize) -> Driven
     ensures table_after { drive_outcome_with result table.new ≡ drive n (state_with table.old tally) last }
     ensures stopped_if_taken { StoppedIfTaken n (state_with table.old tally) last result.grants }
 {
-    let number = grant::grant_number(n, table, last);
-    if number != 0 {
-        return Driven {
-            number: number,
+    match grant::check_grant(n, table, last) {
+        Err(refusal) => Driven {
+            number: refusal.number(),
             tally: tally,
             last: last,
             grants: 0,
-        };
+        },
+        Ok(()) => go_on(n as u8, table, tally, last as u8),
     }
-    go_on(n as u8, table, tally, last as u8)
 }
 
 // A drive that is not refused at its start: grant and turn until it stops.

@@ -1,58 +1,38 @@
 // The grant (request C-15): the next station, going round, that is live and unfinished.
 ghost use Rattle.std.specs.Prelude.{◌≡◌};
+ghost use Rattle.std.specs.Result.{result_map_both};
 ghost use Rattle.table.specs.Rules.{some_live};
-ghost use Rattle.granter.specs.Grant.{first_from, following, granted, last_refusal, live_refusal, grant_number, grant_station};
+ghost use Rattle.granter.specs.Grant.{first_from, following, granted, grant_check, grant_answer};
 
-use crate::Granted;
-use lists::{bytes, refusal};
+use lists::bytes;
+use lists::refusal::Refusal;
 use table::{Station, rules};
 
 // The last granted number where none was granted yet.
 const NO_GRANT: usize = 255;
 
 // The station that is granted after the last one.
-pub fn grant(n: usize, table: &[u8], last: usize) -> Granted
-    ensures number_value { result.number ≡ grant_number n table.now last }
-    ensures station_value { result.station.0 ≡ grant_station n table.now last }
+#[tactic(auto, using(crate::proofs::GrantLaws::grant_ok, crate::proofs::GrantLaws::fits_byte), unfolding(crate::specs::Grant::grant_answer))]
+pub fn grant(n: usize, table: &[u8], last: usize) -> Result<Station, Refusal>
+    ensures { result_map_both (λ x. x.0) (λ r. r) result ≡ grant_answer n table.now last }
 {
-    let number = grant_number(n, table, last);
-    if number != 0 {
-        return Granted {
-            number: number,
-            station: Station(0),
-        };
-    }
-    Granted {
-        number: 0,
-        station: next_station(n as u8, table, last as u8),
-    }
+    check_grant(n, table, last)?;
+    Ok(next_station(n as u8, table, last as u8))
 }
 
-// Refusals 1 to 4, 16 and 17, or 0.
-pub(crate) fn grant_number(n: usize, table: &[u8], last: usize) -> u8
-    ensures { result ≡ grant_number n table.now last }
+// Refusals 1 to 4, 16 and 17.
+#[tactic(auto, using(table::proofs::Accepting::table_ok, crate::proofs::GrantLaws::accepted_top), unfolding(crate::specs::Grant::grant_check))]
+pub(crate) fn check_grant(n: usize, table: &[u8], last: usize) -> Result<(), Refusal>
+    ensures { result ≡ grant_check n table.now last }
 {
-    let number = rules::check_table(n, table);
-    if number != 0 {
-        return number;
+    rules::check_table(n, table)?;
+    if (n <= last) & (last != NO_GRANT) {
+        return Err(Refusal::LastGranted);
     }
-    let sixteen = last_refusal(n, last);
-    let seventeen = live_refusal(n as u8, table);
-    refusal::first_of(sixteen, seventeen)
-}
-
-// Refusal 16, or 0.
-fn last_refusal(n: usize, last: usize) -> u8
-    ensures { result ≡ last_refusal n last }
-{
-    refusal::refuse(16, (n <= last) & (last != NO_GRANT))
-}
-
-// Refusal 17, or 0.
-fn live_refusal(n: u8, table: &[u8]) -> u8
-    ensures { result ≡ live_refusal n table.now }
-{
-    refusal::refuse(17, !some_live(n, table))
+    if !some_live(n as u8, table) {
+        return Err(Refusal::NoneLive);
+    }
+    Ok(())
 }
 
 // The next station after the last granted one, going round, that is live and unfinished.

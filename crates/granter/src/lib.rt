@@ -6,14 +6,6 @@ pub mod drive;
 pub mod grant;
 
 use plant::Tally;
-use table::Station;
-
-// What a grant answers: 0 or the refusal, and the granted station, 0 where it is refused.
-#[derive(Clone, Copy)]
-pub struct Granted {
-    pub number: u8,
-    pub station: Station,
-}
 
 // What a drive answers: 0 or the number it stopped or was refused with, the tally, the last granted number and the grants made.
 #[derive(Clone, Copy)]

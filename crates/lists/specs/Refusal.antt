@@ -1,6 +1,55 @@
--- Refusals as numbers, 0 for none: the first that applies, and what a refused call leaves or answers instead.
+-- Refusals in checking order, as values and as numbers, 0 for none: the first that applies, and what a refused call leaves or answers instead.
 -- Assumes nothing.
-use Rattle.std.specs.Prelude.{ℕ, zero, suc, Bool, cond, eqb}
+use Rattle.std.specs.Prelude.{ℕ, zero, suc, Bool, cond, eqb, Result, Ok, Err}
+use Rattle.std.specs.Result.{result_and}
+use Rattle.lists.specs.declared.refusal.Refusal.{Refusal}
+use Rattle.lists.specs.declared.refusal.Refusal.TheVariants.{SizeOutOfRange, TableLength, LineRule, RoundNotClosed, ScheduleLength, SheetLength, TallyFull, UnknownKind, NoSuchStation, NotLive, PassFinished, NoSuchLevel, ListLength, NoResult, TooManyResults, LastGranted, NoneLive, FieldPastEnd, SizeOrTallyField, LineField}
+
+-- its number in the refusal list
+abbrev pub number_of : Refusal → ℕ
+number_of SizeOutOfRange = 1
+number_of TableLength = 2
+number_of LineRule = 3
+number_of RoundNotClosed = 4
+number_of ScheduleLength = 5
+number_of SheetLength = 6
+number_of TallyFull = 7
+number_of UnknownKind = 8
+number_of NoSuchStation = 9
+number_of NotLive = 10
+number_of PassFinished = 11
+number_of NoSuchLevel = 12
+number_of ListLength = 13
+number_of NoResult = 14
+number_of TooManyResults = 15
+number_of LastGranted = 16
+number_of NoneLive = 17
+number_of FieldPastEnd = 18
+number_of SizeOrTallyField = 19
+number_of LineField = 20
+
+-- the number of an answer: 0 where the call is not refused
+abbrev pub number_of_result : {A : Type 0} → Result A Refusal → ℕ
+number_of_result (Ok x) = 0
+number_of_result (Err r) = number_of r
+
+-- what a test answers that brings no value
+abbrev pub Check : Type 0
+Check = Result (Unit {0}) Refusal
+
+-- refused unless the test holds
+abbrev pub ensure : Bool → Refusal → Check
+ensure b r = cond b (Ok tt) (Err r)
+
+-- "no earlier one that applies": the first check that refuses, else what the last one answers
+infixr 20 ◌and◌
+abbrev pub ◌and◌ : {A : Type 0} → Check → Result A Refusal → Result A Refusal
+a and b = result_and a b
+
+-- what a call leaves: what was there where it is refused, else what is made of its value
+abbrev pub unless_refused {ℓ} : {A : Type 0} → {B : Type ℓ} → Result A Refusal → B → B → B
+unless_refused (Ok x) was after = after
+unless_refused (Err r) was after = was
 
 -- refusal k where its sentence holds, else 0
 abbrev pub refuse : ℕ → Bool → ℕ

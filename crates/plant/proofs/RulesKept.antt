@@ -5,7 +5,7 @@ use mathlib.Core.Bool.{Bool, true, false, cond, not, ◌&&◌, ◌||◌, and-fal
 use mathlib.Core.List.{List, [], ◌∷◌}
 use Prim.Native.Nat.{ℕ, suc, ◌≤◌, ◌<◌}
 use native.Mathlib.Omega.{arith}
-use borrow.Author.Tests.{leb-true, leb-false, eqb-true, eqb-false, eq-eqb, ne_eqb, not-false}
+use borrow.Author.Tests.{leb-true, ltb-true, eqb-true, eqb-false, eq-eqb, ne_eqb, not-true}
 use lib.Dec.{eqb}
 use lib.ListN.{length}
 use Rattle.lists.specs.Search.{every}
@@ -14,12 +14,13 @@ use Rattle.table.specs.Rules.{line_rules, not_live, some_live, finished_if_live,
 use Rattle.lists.proofs.BoolLaws.{neither}
 use Rattle.lists.proofs.SearchLaws.{both, every-at, every-all}
 use Rattle.table.proofs.Accepting.{Accepted, accepted}
-use Rattle.lists.proofs.RefusalLaws.{else-zero, refuse-zero}
+use Rattle.std.specs.Prelude.{Ok}
+use Rattle.lists.proofs.RefusalLaws.{check_zero, ensure_ok, and_ok}
 use Rattle.table.proofs.CellLaws.{Line, line-holds, accepted-line}
 use Rattle.turn.specs.Turn.{turn, crash}
 use Rattle.plant.specs.Round.{reset_lines, after_round}
-use Rattle.plant.specs.Entry.{Entry, State, tally_top, is_crash, entry_number, acted, after, sheet_line}
-use Rattle.plant.specs.Run.{Outcome, entries, write_line, go_on, start_number, run}
+use Rattle.plant.specs.Entry.{Entry, State, tally_top, is_crash, entry_check, entry_number, acted, after, sheet_line}
+use Rattle.plant.specs.Run.{Outcome, entries, write_line, go_on, start_check, start_number, run}
 use Rattle.plant.proofs.RunLaws.{accepted-number}
 use Rattle.turn.proofs.StepLines.{Lines, leave-lines, turn_lines}
 use Rattle.plant.proofs.RoundLaws.{reset-lines, reset-cells}
@@ -34,28 +35,31 @@ pub record Takes (n : ℕ) (s : State) (e : Entry) : Type 0 where
   pub is_live : live n s.table e.station ≡ true
   pub unfinished : (e.kind ≡ 3 → ⊥) → finished n s.table e.station ≡ 1 → ⊥
 
-pub entry-facts : (n : ℕ) (s : State) (e : Entry) → entry_number n s e ≡ 0 → Takes n s e
-unfolding entry_number
-entry-facts n s e z =
-    let a = else-zero _ _ z in
-    let b = else-zero _ _ a.1 in
-    let c = else-zero _ _ b.1 in
-    let d = else-zero _ _ c.1 in
-    let tally = neither _ _ (refuse-zero 6 _ a.0) in
-    let kind = both _ _ (not-false _ (refuse-zero 7 _ b.0)) in
-    let last : (not (is_crash e) && eqb (finished n s.table e.station) 1) ≡ false = refuse-zero 10 _ d.1 in
+pub entry_ok : (n : ℕ) (s : State) (e : Entry) (x : Unit {0}) → entry_check n s e ≡ Ok x → Takes n s e
+unfolding entry_check
+entry_ok n s e x z =
+    let a = and_ok _ _ x z in
+    let b = and_ok _ _ x a.1 in
+    let c = and_ok _ _ x b.1 in
+    let d = and_ok _ _ x c.1 in
+    let tally = neither _ _ (not-true _ (ensure_ok _ _ _ a.0)) in
+    let kind = both _ _ (ensure_ok _ _ _ b.0) in
+    let last : (not (is_crash e) && eqb (finished n s.table e.station) 1) ≡ false = not-true _ (ensure_ok _ _ _ d.1) in
     record {
       rounds_fit = eqb-false _ _ tally.0;
       tests_fit = eqb-false _ _ tally.1;
       kind_low = leb-true _ _ kind.0;
       kind_high = leb-true _ _ kind.1;
-      below = leb-false _ _ (refuse-zero 8 _ c.0);
-      is_live = not-false _ (refuse-zero 9 _ d.0);
+      below = ltb-true _ _ (ensure_ok _ _ _ c.0);
+      is_live = ensure_ok _ _ _ d.0;
       unfinished = λ k f.
           let z : true ≡ false = rw (ne_eqb e.kind 3 k, eq-eqb (finished n s.table e.station) 1 f) at last in
           let z : ◌≡◌ {A = ℕ} 0 1 = cc in
           omega arith;
     }
+
+pub entry-facts : (n : ℕ) (s : State) (e : Entry) → entry_number n s e ≡ 0 → Takes n s e
+entry-facts n s e z = entry_ok n s e _ (check_zero _ z)
 
 pub acted-lines : (n : ℕ) (s : State) (e : Entry) → Accepted n s.table → entry_number n s e ≡ 0
     → (length (acted n s.table e) ≡ table_length n) × ((i : ℕ) → i < n → Line n (acted n s.table e) i)
@@ -105,8 +109,8 @@ accepted-kept n s e a z = pick (round_over n t) refl
 
 -- "An empty schedule is accepted and changes nothing": on a table that refusals 1 to 4 let through. An end in itself
 pub empty-run : (n : ℕ) (s : State) → table_number n s.table ≡ 0 → run n s [] [] ≡ record { number = 0; taken = 0; state = s; sheet = [] }
-unfolding run start_number go_on entries
-empty-run n s z = rw z
+unfolding run start_check go_on entries
+empty-run n s z = rw (check_zero _ z)
 
 -- the rest of a run
 accepted-on : (n k : ℕ) (s : State) (sheet : List ℕ) (es : List Entry) → Accepted n s.table → Accepted n (go_on n k s sheet es).state.table

@@ -6,23 +6,26 @@ use mathlib.Core.List.{List, [], ◌∷◌, ◌++◌, append_assoc}
 use Prim.Native.Nat.{ℕ, zero, suc, ◌+◌, ◌*◌, ◌-◌, ◌/◌, ◌%◌, ◌≤◌, ◌<◌}
 use native.Mathlib.Numerals.{add-one}
 use native.Mathlib.Omega.{arith}
-use borrow.Author.Tests.{eqb-true, eqb-false, eq-eqb, ne_eqb, not-false}
+use borrow.Author.Tests.{eqb-true, eqb-false, eq-eqb, ne_eqb, not-true}
 use lib.Dec.{eqb}
 use lib.ListN.{length, get_or, set, take, drop, drop_of_length-le}
 use lib.Seq.{drop-drop, sets-eq}
 use Rattle.station.specs.Groups.{station_at}
-use Rattle.table.specs.Rules.{shape_number, table_number}
+use Rattle.table.specs.Rules.{shape_check, table_check, table_number}
 use Rattle.table.specs.Table.{table_length}
 use Rattle.lists.proofs.BoolLaws.{choice}
-use Rattle.table.proofs.Accepting.{Accepted, accepted}
-use Rattle.lists.proofs.RefusalLaws.{else-zero, refuse-zero}
+use Rattle.table.proofs.Accepting.{Accepted, table_ok}
+use Rattle.std.specs.Prelude.{Ok, Err}
+use Rattle.lists.specs.declared.refusal.Refusal.{Refusal}
+use Rattle.lists.specs.Refusal.{number_of}
+use Rattle.lists.proofs.RefusalLaws.{number_nonzero, check_zero, ensure_ok, and_ok}
 use Rattle.turn.specs.Turn.{count_test, replies, is_told, reply_outcome, test_outcome, makes_test, next_test, turn_outcome}
-use Rattle.plant.specs.Entry.{Entry, State, entry_of, is_crash, is_test, entry_number, after, outcome_of, sheet_line}
-use Rattle.plant.specs.Run.{Outcome, entries, write_line, go_on, start_number, run}
+use Rattle.plant.specs.Entry.{Entry, State, entry_of, is_crash, is_test, entry_check, entry_number, after, outcome_of, sheet_line}
+use Rattle.plant.specs.Run.{Outcome, entries, write_line, go_on, start_check, start_number, run}
 
 -- a table that obeys the rules gets no refusal
 pub accepted-number : (n : ℕ) (t : List ℕ) → Accepted n t → table_number n t ≡ 0
-unfolding table_number shape_number
+unfolding table_check shape_check
 accepted-number n t a = rw (a.size, eq-eqb (length t) (table_length n) a.long, a.lines, a.unclosed)
 
 -- the entries of a schedule
@@ -98,10 +101,10 @@ module _ (n k : ℕ) (s : State) (sheet schedule : List ℕ) where
   unfolding go_on
   go-taken s' sheet' h z a b = rw (a, b, entries_at schedule k h, z, add-one k)
 
-  pub go-stopped : (r : ℕ) → k < length schedule / 2 → r ≡ entry_number n s (entry_at schedule k) → (r ≡ 0 → ⊥)
-      → from-here ≡ record { number = r; taken = k; state = s; sheet = sheet }
+  pub go-stopped : (r : Refusal) → k < length schedule / 2 → entry_check n s (entry_at schedule k) ≡ Err r
+      → from-here ≡ record { number = number_of r; taken = k; state = s; sheet = sheet }
   unfolding go_on
-  go-stopped r h e z = rw (entries_at schedule k h, ← e, ne_eqb r 0 z)
+  go-stopped r h e = rw (entries_at schedule k h, e, ne_eqb (number_of r) 0 (number_nonzero r))
 
   pub go-done : length schedule / 2 ≤ k → from-here ≡ record { number = 0; taken = k; state = s; sheet = sheet }
   unfolding go_on
@@ -109,8 +112,8 @@ module _ (n k : ℕ) (s : State) (sheet schedule : List ℕ) where
 
 -- a run of one entry, which is taken
 pub start-one : (n : ℕ) (t : List ℕ) → table_number n t ≡ 0 → start_number n t 2 4 ≡ 0
-unfolding start_number
-start-one n t z = rw z
+unfolding start_check
+start-one n t z = rw (check_zero _ z)
 
 pub go-one : (n : ℕ) (s : State) (sheet : List ℕ) (k i : ℕ) → entry_number n s (entry_of k i) ≡ 0
     → (go_on n 0 s sheet (entries (k ∷ i ∷ []))).state ≡ after n s (entry_of k i)
@@ -118,18 +121,21 @@ unfolding go_on entries
 go-one n s sheet k i z = rw z
 
 -- what a run has that refusals 1 to 6 let through
+pub start_ok : (n : ℕ) (t : List ℕ) (a b : ℕ) (x : Unit {0}) → start_check n t a b ≡ Ok x → Accepted n t × (a % 2 ≡ 1 → ⊥) × (b ≡ 2 * a)
+unfolding start_check
+start_ok n t a b x e =
+    let p = and_ok _ _ x e in
+    let q = and_ok _ _ x p.1 in
+    (table_ok n t _ p.0, eqb-false _ _ (not-true _ (ensure_ok _ _ _ q.0)), eqb-true _ _ (ensure_ok _ _ _ q.1))
+
 pub start-facts : (n : ℕ) (t : List ℕ) (a b : ℕ) → start_number n t a b ≡ 0 → Accepted n t × (a % 2 ≡ 1 → ⊥) × (b ≡ 2 * a)
-unfolding start_number
-start-facts n t a b z =
-    let p = else-zero _ _ z in
-    let q = else-zero _ _ p.1 in
-    (accepted n t p.0, eqb-false _ _ (refuse-zero 4 _ q.0), eqb-true _ _ (not-false _ (refuse-zero 5 _ q.1)))
+start-facts n t a b z = start_ok n t a b _ (check_zero _ z)
 
 module _ (n : ℕ) (s : State) (schedule sheet : List ℕ) where
-  pub run-refused : (r : ℕ) → r ≡ start_number n s.table (length schedule) (length sheet) → (r ≡ 0 → ⊥)
-      → run n s schedule sheet ≡ record { number = r; taken = 0; state = s; sheet = sheet }
+  pub run-refused : (r : Refusal) → start_check n s.table (length schedule) (length sheet) ≡ Err r
+      → run n s schedule sheet ≡ record { number = number_of r; taken = 0; state = s; sheet = sheet }
   unfolding run
-  run-refused r e z = rw (← e, ne_eqb r 0 z)
+  run-refused r e = rw (e, ne_eqb (number_of r) 0 (number_nonzero r))
 
   pub run-goes : start_number n s.table (length schedule) (length sheet) ≡ 0 → run n s schedule sheet ≡ go_on n 0 s sheet (entries schedule)
   unfolding run

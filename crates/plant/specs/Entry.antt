@@ -2,8 +2,9 @@
 -- Assumes nothing.
 use Rattle.std.specs.Prelude.{ℕ, ◌+◌, Bool, cond, not, ◌&&◌, ◌||◌, List, [], ◌∷◌, leb, eqb}
 use Rattle.table.specs.Table.{status, finished, live}
-use Rattle.lists.specs.Refusal.{refuse, ◌else◌}
-use Rattle.table.specs.Rules.{round_over, station_refusal}
+use Rattle.lists.specs.declared.refusal.Refusal.TheVariants.{TallyFull, UnknownKind, NotLive, PassFinished}
+use Rattle.lists.specs.Refusal.{Check, ensure, ◌and◌, number_of_result}
+use Rattle.table.specs.Rules.{round_over, station_check}
 use Rattle.plant.specs.declared.Tally.{Tally}
 use Rattle.turn.specs.Turn.{kind_crash, outcome_crash, no_station, makes_test, turn, turn_tested, turn_outcome, crash}
 use Rattle.plant.specs.Round.{after_round}
@@ -48,13 +49,16 @@ is_test n t e = not (is_crash e) && makes_test n t e.station
 
 -- refusals 7 to 11: "Either tally stands at 4,294,967,295 when an entry is reached." "The kind is not 1, 2 or 3." "The station number is
 -- N or more." "The station is not live." "The kind is 1 or 2 and the station has finished its pass."
-unfoldable pub entry_number : ℕ → State → Entry → ℕ
-entry_number n s e =
-    refuse 7 (tally_full s.rounds s.tests) else
-    refuse 8 (not (leb 1 e.kind && leb e.kind 3)) else
-    station_refusal n e.station else
-    refuse 10 (not (live n s.table e.station)) else
-    refuse 11 (not (is_crash e) && eqb (finished n s.table e.station) 1)
+unfoldable pub entry_check : ℕ → State → Entry → Check
+entry_check n s e =
+    ensure (not (tally_full s.rounds s.tests)) TallyFull
+    and ensure (leb 1 e.kind && leb e.kind 3) UnknownKind
+    and station_check n e.station
+    and ensure (live n s.table e.station) NotLive
+    and ensure (not (not (is_crash e) && eqb (finished n s.table e.station) 1)) PassFinished
+
+abbrev pub entry_number : ℕ → State → Entry → ℕ
+entry_number n s e = number_of_result (entry_check n s e)
 
 -- steps 2 to 7: the table before the round rule
 unfoldable pub acted : ℕ → List ℕ → Entry → List ℕ

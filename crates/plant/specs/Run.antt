@@ -2,8 +2,9 @@
 -- Assumes nothing.
 use Rattle.std.specs.Prelude.{◌≡◌, ℕ, suc, ◌*◌, ◌%◌, cond, not, List, [], ◌∷◌, length, eqb}
 use Rattle.std.proofs.lemmas.List.Edits.{sets}
-use Rattle.lists.specs.Refusal.{refuse, ◌else◌}
-use Rattle.table.specs.Rules.{table_number}
+use Rattle.lists.specs.declared.refusal.Refusal.TheVariants.{ScheduleLength, SheetLength}
+use Rattle.lists.specs.Refusal.{Check, ensure, ◌and◌, number_of_result}
+use Rattle.table.specs.Rules.{table_check, table_number}
 use Rattle.plant.specs.declared.Answer.{Answer}
 use Rattle.plant.specs.Entry.{Entry, State, state_with, entry_of, entry_number, after, sheet_line}
 
@@ -38,9 +39,14 @@ go_on n k s sheet (e ∷ es) =
     (record { number = entry_number n s e; taken = k; state = s; sheet = sheet })
 
 -- refusals 1 to 6: then "The schedule's length is odd." "The sheet's length is not twice the schedule's."
-unfoldable pub start_number : ℕ → List ℕ → ℕ → ℕ → ℕ
-start_number n t schedule_length sheet_length =
-    table_number n t else refuse 5 (eqb (schedule_length % 2) 1) else refuse 6 (not (eqb sheet_length (2 * schedule_length)))
+unfoldable pub start_check : ℕ → List ℕ → ℕ → ℕ → Check
+start_check n t schedule_length sheet_length =
+    table_check n t
+    and ensure (not (eqb (schedule_length % 2) 1)) ScheduleLength
+    and ensure (eqb sheet_length (2 * schedule_length)) SheetLength
+
+abbrev pub start_number : ℕ → List ℕ → ℕ → ℕ → ℕ
+start_number n t schedule_length sheet_length = number_of_result (start_check n t schedule_length sheet_length)
 
 -- the run of a schedule on a table and a tally with a lent sheet, for all inputs. "A run refused by 1 to 6 gives back the tally handed in."
 unfoldable pub run : ℕ → State → List ℕ → List ℕ → Outcome

@@ -2,35 +2,43 @@
 ghost use Rattle.std.specs.Prelude.{◌≡◌, ◌+◌, ◌<◌, cond, length};
 ghost use Rattle.table.specs.Table.{table_length};
 ghost use Rattle.table.specs.Rules.{table_number};
-ghost use Rattle.plant.specs.Entry.{state_with, entry_of, entry_number, acted, after, tested_of, outcome_of, sheet_line};
+ghost use Rattle.plant.specs.Entry.{state_with, entry_of, entry_check, entry_number, acted, after, tested_of, outcome_of, sheet_line};
 
 use crate::{Tally, rounds, single};
+use lists::refusal::Refusal;
 use table::{Station, cells, inside};
 use turn::steps::Turned;
 use turn::{codes, steps};
 
-// Refusals 7 to 11, or 0.
-pub(crate) fn entry_number(n: u8, table: &[u8], tally: Tally, kind: u8, i: Station) -> u8
+// Refusals 7 to 11.
+#[tactic(auto, unfolding(crate::specs::Entry::entry_check))]
+pub(crate) fn check_entry(
+    n: u8,
+    table: &[u8],
+    tally: Tally,
+    kind: u8,
+    i: Station,
+) -> Result<(), Refusal>
     requires { length table.now ≡ table_length n }
-    ensures { result ≡ entry_number n (state_with table.now tally) (entry_of kind i.0) }
+    ensures { result ≡ entry_check n (state_with table.now tally) (entry_of kind i.0) }
 {
     if single::is_full(tally) {
-        return 7;
+        return Err(Refusal::TallyFull);
     }
     if !((codes::TURN <= kind) & (kind <= codes::CRASH)) {
-        return 8;
+        return Err(Refusal::UnknownKind);
     }
     if n <= i.0 {
-        return 9;
+        return Err(Refusal::NoSuchStation);
     }
     if inside::get(n, table, i, cells::STATUS) != cells::LIVE {
-        return 10;
+        return Err(Refusal::NotLive);
     }
     let finished = inside::get(n, table, i, cells::FINISHED);
     if (kind != codes::CRASH) & (finished == 1) {
-        return 11;
+        return Err(Refusal::PassFinished);
     }
-    0
+    Ok(())
 }
 
 // An entry that is not refused: steps 1 to 8, and its line of the sheet. The answer is the tally after it.

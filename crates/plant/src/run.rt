@@ -1,9 +1,10 @@
 // The run (document 01, "What can be asked" and the refusal list).
 ghost use Rattle.std.specs.Prelude.{◌≡◌, length};
 ghost use Rattle.plant.specs.Entry.{state_with};
-ghost use Rattle.plant.specs.Run.{entries, go_on, start_number, outcome_with, run};
+ghost use Rattle.plant.specs.Run.{entries, go_on, start_check, start_number, outcome_with, run};
 
 use crate::{Answer, Tally, entry};
+use lists::refusal::Refusal;
 use table::{Station, rules};
 
 // Carries out a schedule on a table and a tally and fills the sheet, four bytes for each entry taken. A run refused at its start changes
@@ -11,35 +12,32 @@ use table::{Station, rules};
 pub fn run(n: usize, table: &mut [u8], tally: Tally, schedule: &[u8], sheet: &mut [u8]) -> Answer
     ensures { outcome_with result table.new sheet.new ≡ run n (state_with table.old tally) schedule.now sheet.old }
 {
-    let number = start_number(n, table, schedule.len(), sheet.len());
-    if number != 0 {
-        return Answer {
-            number: number,
+    match check_start(n, table, schedule.len(), sheet.len()) {
+        Err(refusal) => Answer {
+            number: refusal.number(),
             taken: 0,
             tally: tally,
-        };
+        },
+        Ok(()) => go_on(n as u8, table, tally, schedule, sheet),
     }
-    go_on(n as u8, table, tally, schedule, sheet)
 }
 
-// Refusals 1 to 6, or 0.
-fn start_number(n: usize, table: &[u8], schedule: usize, sheet: usize) -> u8
-    ensures { result ≡ start_number n table.now schedule sheet }
+// Refusals 1 to 6.
+#[tactic(auto, unfolding(crate::specs::Run::start_check))]
+fn check_start(n: usize, table: &[u8], schedule: usize, sheet: usize) -> Result<(), Refusal>
+    ensures { result ≡ start_check n table.now schedule sheet }
 {
-    let number = rules::check_table(n, table);
-    if number != 0 {
-        return number;
-    }
+    rules::check_table(n, table)?;
     if schedule % 2 == 1 {
-        return 5;
+        return Err(Refusal::ScheduleLength);
     }
     if sheet / 2 != schedule {
-        return 6;
+        return Err(Refusal::SheetLength);
     }
     if sheet % 2 == 1 {
-        return 6;
+        return Err(Refusal::SheetLength);
     }
-    0
+    Ok(())
 }
 
 // Takes the entries in order. `single` uses it too, so that an entry is taken in one place only, which the compiler then puts in line.
@@ -58,10 +56,9 @@ pub(crate) fn go_on(
     for k in 0..count {
         let kind = schedule[2 * k];
         let i = Station(schedule[2 * k + 1]);
-        let number = entry::entry_number(n, table, held, kind, i);
-        if number != 0 {
+        if let Err(refusal) = entry::check_entry(n, table, held, kind, i) {
             return Answer {
-                number: number,
+                number: refusal.number(),
                 taken: k,
                 tally: held,
             };

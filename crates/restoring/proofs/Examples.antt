@@ -4,7 +4,7 @@ use mathlib.Core.Path.{refl}
 use Rattle.lists.specs.Search.{every, list_of, least}
 use Rattle.table.specs.Sizes.{is_size, level, dimension, distances}
 use Rattle.table.specs.Table.{table_length, line_start, cell}
-use Rattle.table.specs.Rules.{exit_rule, row_rule, line_rules, some_live, live_finished, shape_number, table_number}
+use Rattle.table.specs.Rules.{exit_rule, row_rule, line_rules, some_live, live_finished, shape_check, table_check}
 use Rattle.table.specs.Fresh.{fresh_byte, fresh_table}
 use Rattle.saved.specs.Bytes.{number_of, bytes_of, concat_of}
 use Rattle.saved.specs.Fields.{field_bytes, fields_up_to, fields, runs_past, fields_of, tagged}
@@ -19,6 +19,6 @@ two-boards = refl
 
 pub examples-hold : ExamplesHold
 unfolding every list_of least is_size level dimension distances table_length line_start cell exit_rule row_rule line_rules some_live live_finished
-    shape_number table_number number_of bytes_of concat_of fields_up_to fields runs_past fields_of tagged size_in
+    shape_check table_check number_of bytes_of concat_of fields_up_to fields runs_past fields_of tagged size_in
     size_and_tally of_station all_fit lines_right table_in size_number rest_number load_number two_boards examples all_hold
 examples-hold = refl

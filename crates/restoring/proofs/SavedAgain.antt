@@ -13,7 +13,7 @@ use lib.Seq.{length-take-le, get_or-drop}
 use Rattle.lists.specs.Refusal.{refuse}
 use Rattle.lists.proofs.BoolLaws.{by_bool}
 use Rattle.lists.proofs.SearchLaws.{both, every-at}
-use Rattle.lists.proofs.RefusalLaws.{else-zero, refuse-zero}
+use Rattle.lists.proofs.RefusalLaws.{check_zero, else-zero, refuse-zero}
 use Rattle.table.specs.Sizes.{is_size}
 use Rattle.table.specs.Table.{stride, table_length, line_start}
 use Rattle.table.specs.Rules.{table_number}
@@ -24,7 +24,7 @@ use Rattle.saved.specs.Fields.{runs_past, fields_of, tagged, single, first_of}
 use Rattle.saved.specs.Plant.{size_tag, size_length, tally_tag, line_tag, line_field_length, size_in, rounds_in, tests_in, size_and_tally}
 use Rattle.saved.specs.Plant.{station_in, line_in, of_station, all_fit, lines_right, table_in}
 use Rattle.saved.specs.Load.{file_size, file_lines, file_table, size_number, rest_number, load_number, answer_of, load_answer, load_after}
-use Rattle.saved.specs.Save.{line_of, line_field, saved_lines, saved, save_number, save_after}
+use Rattle.saved.specs.Save.{line_of, line_field, saved_lines, saved, save_check, save_number, save_after}
 use Rattle.saved.proofs.NumberLaws.{bytes-number}
 use Rattle.saved.proofs.ConcatLaws.{concat-same, concat-at}
 use Rattle.restoring.specs.Files.{AreBytes}
@@ -181,7 +181,7 @@ unfolding load_answer answer_of
 tally-read file len z = rw z
 
 pub saved-again : SavedAgain
-unfolding save_number save_after
+unfolding save_check save_after
 saved-again file b b' small z long =
     let o = opened file (length b) z in
     let n : ℕ = file_size file in
@@ -190,4 +190,4 @@ saved-again file b b' small z long =
     let e : eqb (length b') (length (saved n t (file_tally file))) ≡ true = eq-eqb _ _ (long ∙ sym l) in
     let f = table-read file b z in
     let r = tally-read file (length b) z in
-    (rw (f, r, o.sound, e), rw (f, r, o.sound, e) (form file o small))
+    (rw (f, r, check_zero _ o.sound, e), rw (f, r, check_zero _ o.sound, e) (form file o small))

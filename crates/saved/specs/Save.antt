@@ -2,9 +2,9 @@
 -- not the saved plant's length".
 -- Assumes nothing.
 use Rattle.std.specs.Prelude.{ℕ, List, [], ◌∷◌, ◌++◌, length, take, drop}
-use Rattle.lists.specs.Refusal.{◌else◌, unless}
+use Rattle.lists.specs.Refusal.{Check, ◌and◌, number_of_result, unless_refused}
 use Rattle.table.specs.Table.{stride, line_start}
-use Rattle.table.specs.Rules.{table_number, length_refusal}
+use Rattle.table.specs.Rules.{table_check, length_check}
 use Rattle.plant.specs.declared.Tally.{Tally}
 use Rattle.saved.specs.Bytes.{bytes_of, concat_of}
 use Rattle.saved.specs.Fields.{Field, field, field_bytes}
@@ -32,9 +32,12 @@ saved_lines n t k = concat_of (λ i. field_bytes (line_field n t i)) k
 unfoldable pub saved : ℕ → List ℕ → Tally → List ℕ
 saved n t tally = field_bytes (size_field n) ++ (field_bytes (tally_field tally) ++ saved_lines n t n)
 
-unfoldable pub save_number : ℕ → List ℕ → Tally → ℕ → ℕ
-save_number n t tally len = table_number n t else length_refusal (length (saved n t tally)) len
+unfoldable pub save_check : ℕ → List ℕ → Tally → ℕ → Check
+save_check n t tally len = table_check n t and length_check (length (saved n t tally)) len
+
+abbrev pub save_number : ℕ → List ℕ → Tally → ℕ → ℕ
+save_number n t tally len = number_of_result (save_check n t tally len)
 
 -- the buffer after the call, given b
 unfoldable pub save_after : ℕ → List ℕ → Tally → List ℕ → List ℕ
-save_after n t tally b = unless (save_number n t tally (length b)) b (saved n t tally)
+save_after n t tally b = unless_refused (save_check n t tally (length b)) b (saved n t tally)

@@ -63,5 +63,5 @@ fn build_and_judge(n: u8, file: &[u8], len: usize, own: &mut [u8]) -> u8
     if len != own.len() {
         return 2;
     }
-    rules::check_table(n as usize, own)
+    rules::table_number(n as usize, own)
 }

@@ -5,9 +5,10 @@ ghost use Rattle.table.specs.Sizes.{is_size};
 ghost use Rattle.table.specs.Table.{HasLine, stride, table_length};
 ghost use Rattle.saved.specs.Bytes.{bytes_of};
 ghost use Rattle.saved.specs.Fields.{field_bytes};
-ghost use Rattle.saved.specs.Save.{size_field, tally_field, line_field, saved_lines, saved, save_number, save_after};
+ghost use Rattle.saved.specs.Save.{size_field, tally_field, line_field, saved_lines, saved, save_check, save_after};
 
 use crate::{LINE, SIZE, TALLY, bytes};
+use lists::refusal::Refusal;
 use plant::Tally;
 use table::{Station, cells, rules};
 
@@ -17,22 +18,20 @@ const FRONT: usize = 15;
 // The bytes of a line field besides the line: the field's head and the station.
 const BESIDE_LINE: usize = 3 + 1;
 
-// Writes the saved plant into the buffer, which has just its length. The answer is 0 or a refusal.
-pub fn save(n: usize, table: &[u8], tally: Tally, buffer: &mut [u8]) -> u8
-    ensures value { result ≡ save_number n table.now tally (length buffer.old) }
+// Writes the saved plant into the buffer, which has just its length.
+#[tactic(auto, using(crate::proofs::Saving::save_low, crate::proofs::Saving::save_table, crate::proofs::Saving::save_long, crate::proofs::Saving::save_done, crate::proofs::Saving::sets_long), unfolding(crate::specs::Save::save_check, crate::specs::Save::save_after))]
+pub fn save(n: usize, table: &[u8], tally: Tally, buffer: &mut [u8]) -> Result<(), Refusal>
+    ensures value { result ≡ save_check n table.now tally (length buffer.old) }
     ensures buffer_after { buffer.new ≡ save_after n table.now tally buffer.old }
 {
-    let number = rules::check_table(n, table);
-    if number != 0 {
-        return number;
-    }
+    rules::check_table(n, table)?;
     if buffer.len() != FRONT + n * (n + cells::HEAD as usize + BESIDE_LINE) {
-        return 13;
+        return Err(Refusal::ListLength);
     }
     let size = n as u8;
     write_opening(size, tally, buffer);
     write_lines(size, table, buffer);
-    0
+    Ok(())
 }
 
 // The size field and the tally field.

@@ -1,57 +1,68 @@
 -- What a group list, a row or an assignment has that is not refused.
 -- Assumes nothing.
-use mathlib.Core.Path.{◌≡◌, sym}
+use mathlib.Core.Path.{◌≡◌}
 use mathlib.Core.Bool.{true}
 use mathlib.Core.List.{List}
 use Prim.Native.Nat.{ℕ, ◌*◌, ◌-◌, ◌≤◌, ◌<◌}
 use native.Mathlib.Omega.{arith}
-use borrow.Author.Tests.{eqb-true, eqb-false, ltb-false, not-false, leb-false}
+use borrow.Author.Tests.{eqb-true, eqb-false, ltb-true, ltb-false, not-true}
 use lib.ListN.{length}
+use Rattle.std.specs.Prelude.{Ok}
 use Rattle.table.specs.Sizes.{is_size, dimension}
 use Rattle.station.specs.Groups.{group}
-use Rattle.table.specs.Table.{live, row_start}
-use Rattle.station.specs.Calls.{row_number, range_number, group_number, assignment_number, row_offset}
+use Rattle.table.specs.Table.{table_length, live}
+use Rattle.station.specs.Calls.{row_check, row_number, range_check, group_check, assignment_check}
 use Rattle.lists.proofs.BoolLaws.{neither}
-use Rattle.lists.proofs.RefusalLaws.{else-zero, refuse-zero, unless-refused, unless-accepted}
-use Rattle.table.proofs.Accepting.{Accepted, accepted}
+use Rattle.lists.proofs.RefusalLaws.{check_zero, ensure_ok, and_ok}
+use Rattle.table.proofs.SizeLaws.{size-bounds, size-dimension}
+use Rattle.table.proofs.Accepting.{Accepted, table_ok}
 
 -- what a group list has that its station and level do not refuse
-pub range-zero : (n i s : ℕ) → range_number n i s ≡ 0 → (i < n) × (0 < s) × (s ≤ dimension n)
-unfolding range_number
-range-zero n i s e =
-    let q = else-zero _ _ e in
-    let l = neither _ _ (refuse-zero 11 _ q.1) in
+pub range_ok : (n i s : ℕ) (x : Unit {0}) → range_check n i s ≡ Ok x → (i < n) × (0 < s) × (s ≤ dimension n)
+unfolding range_check
+range_ok n i s x e =
+    let q = and_ok _ _ x e in
+    let l = neither _ _ (not-true _ (ensure_ok _ _ _ q.1)) in
     let z : ¬ (s ≡ 0) = eqb-false s 0 l.0 in
-    (leb-false n i (refuse-zero 8 _ q.0), omega arith, ltb-false (dimension n) s l.1)
+    (ltb-true i n (ensure_ok _ _ _ q.0), omega arith, ltb-false (dimension n) s l.1)
+
+pub dimension_top : (n : ℕ) → is_size n ≡ true → dimension n ≤ 6
+dimension_top n e = size-dimension n e
 
 -- what a group list that is not refused has
-pub group-zero : (n i s len : ℕ) → group_number n i s len ≡ 0
-    → (is_size n ≡ true) × ((i < n) × (0 < s) × (s ≤ dimension n)) × (len ≡ length (group n i s))
-unfolding group_number
-group-zero n i s len e =
-    let p = else-zero _ _ e in
-    let q = else-zero _ _ p.1 in
-    (not-false _ (refuse-zero 0 _ p.0), range-zero n i s q.0, eqb-true len (length (group n i s)) (not-false _ (refuse-zero 12 _ q.1)))
+pub group_ok : (n i s len : ℕ) (x : Unit {0}) → group_check n i s len ≡ Ok x
+    → (n ≤ 64) × (i < n) × (0 < s) × (s ≤ 8) × (len ≡ length (group n i s))
+unfolding group_check
+group_ok n i s len x e =
+    let p = and_ok _ _ x e in
+    let q = and_ok _ _ x p.1 in
+    let size : is_size n ≡ true = ensure_ok _ _ _ p.0 in
+    let r = range_ok n i s _ q.0 in
+    ((size-bounds n size).1, r.0, r.1, omega (arith, r.2, size-dimension n size), eqb-true len (length (group n i s)) (ensure_ok _ _ _ q.1))
+
+pub row_ok : (n : ℕ) (t : List ℕ) (i : ℕ) (x : Unit {0}) → row_check n t i ≡ Ok x → Accepted n t × (i < n)
+unfolding row_check
+row_ok n t i x e =
+    let p = and_ok _ _ x e in
+    (table_ok n t _ p.0, ltb-true i n (ensure_ok _ _ _ p.1))
 
 pub row_zero : (n : ℕ) (t : List ℕ) (i : ℕ) → row_number n t i ≡ 0 → Accepted n t × (i < n)
-unfolding row_number
-row_zero n t i e =
-    let p = else-zero _ _ e in
-    (accepted n t p.0, leb-false n i (refuse-zero 8 _ p.1))
+row_zero n t i e = row_ok n t i _ (check_zero _ e)
 
-pub assignment-zero : (n : ℕ) (t : List ℕ) (i len : ℕ) → assignment_number n t i len ≡ 0 → Accepted n t × (i < n) × (live n t i ≡ true) × (len ≡ 2 * (n - 1))
-unfolding assignment_number
-assignment-zero n t i len e =
-    let p = else-zero _ _ e in
-    let r = row_zero n t i p.0 in
-    let q = else-zero _ _ p.1 in
-    (r.0, r.1, not-false _ (refuse-zero 9 _ q.0), eqb-true len (2 * (n - 1)) (not-false _ (refuse-zero 12 _ q.1)))
+pub accepted_size : (n : ℕ) (t : List ℕ) → Accepted n t → is_size n ≡ true
+accepted_size n t a = a.size
 
--- where the row's part begins
-pub offset-refused : (n : ℕ) (t : List ℕ) (i r : ℕ) → r ≡ row_number n t i → (r ≡ 0 → ⊥) → row_offset n t i ≡ 0
-unfolding row_offset
-offset-refused n t i r e h = sym (unless-refused r _ _ _ e h)
+pub accepted_top : (n : ℕ) (t : List ℕ) → Accepted n t → (2 ≤ n) × (n ≤ 64)
+accepted_top n t a = size-bounds n a.size
 
-pub offset-accepted : (n : ℕ) (t : List ℕ) (i : ℕ) → row_number n t i ≡ 0 → row_offset n t i ≡ row_start n i
-unfolding row_offset
-offset-accepted n t i z = sym (unless-accepted _ _ _ z)
+pub accepted_long : (n : ℕ) (t : List ℕ) → Accepted n t → length t ≡ table_length n
+accepted_long n t a = a.long
+
+pub assignment_ok : (n : ℕ) (t : List ℕ) (i len : ℕ) (x : Unit {0}) → assignment_check n t i len ≡ Ok x
+    → Accepted n t × (i < n) × (live n t i ≡ true) × (len ≡ 2 * (n - 1))
+unfolding assignment_check
+assignment_ok n t i len x e =
+    let p = and_ok _ _ x e in
+    let r = row_ok n t i _ p.0 in
+    let q = and_ok _ _ x p.1 in
+    (r.0, r.1, ensure_ok _ _ _ q.0, eqb-true len (2 * (n - 1)) (ensure_ok _ _ _ q.1))

@@ -3,10 +3,11 @@ ghost use Rattle.std.specs.Prelude.{◌≡◌, ◌+◌, ◌*◌, ◌<◌, true, 
 ghost use Rattle.table.specs.Sizes.{is_size, level};
 ghost use Rattle.station.specs.Tests.{unsuspected, first, answer_of, answer, says_due, stands, due, due_distances};
 ghost use Rattle.station.specs.Ahead.{block_end};
-ghost use Rattle.station.specs.Calls.{answer_value, answer_byte, other_distances, assignment_entries, assignment_number, assignment_after, assignment_count};
+ghost use Rattle.station.specs.Calls.{answer_value, answer_byte, other_distances, assignment_entries, assignment_check, assignment_after, assignment_answer};
 
-use crate::{Assigned, DueOrAhead, groups, order, rows};
-use lists::{bytes, refusal};
+use crate::{DueOrAhead, groups, order, rows};
+use lists::bytes;
+use lists::refusal::Refusal;
 use table::{Distance, Station, inside, rules, sizes};
 
 // Whether the row leaves station x not suspected. Past the row's end a station is absent.
@@ -80,36 +81,29 @@ pub fn block_end(m: Distance) -> Distance
 
 // The assignment of live station i (request C-16): for each other station, by ascending distance, the distance, and 255 if it is due or else the
 // one ahead; and how many are due.
-pub fn assignment(n: usize, table: &[u8], i: Station, list: &mut [u8]) -> Assigned
-    ensures number_value { result.number ≡ assignment_number n table.now i.0 (length list.old) }
-    ensures count_value { result.count ≡ assignment_count n table.now i.0 (length list.old) }
+#[tactic(auto, using(crate::proofs::Refusals::assignment_ok, crate::proofs::Refusals::accepted_top, crate::proofs::Refusals::accepted_long, crate::proofs::Refusals::accepted_size), unfolding(crate::specs::Calls::assignment_answer, crate::specs::Calls::assignment_after))]
+pub fn assignment(n: usize, table: &[u8], i: Station, list: &mut [u8]) -> Result<u8, Refusal>
+    ensures value { result ≡ assignment_answer n table.now i.0 (length list.old) }
     ensures list_after { list.new ≡ assignment_after n table.now i.0 list.old }
 {
-    let number = assignment_number(n, table, i, list.len());
-    if number != 0 {
-        return Assigned {
-            number: number,
-            count: 0,
-        };
-    }
+    check_assignment(n, table, i, list.len())?;
     let count = write_entries(n as u8, inside::row(n as u8, table, i), i, list);
-    Assigned {
-        number: 0,
-        count: count,
-    }
+    Ok(count)
 }
 
-// Refusals 1 to 4, 9, 10, 13, or 0.
-fn assignment_number(n: usize, table: &[u8], i: Station, len: usize) -> u8
-    ensures { result ≡ assignment_number n table.now i.0 len }
+// Refusals 1 to 4, 9, 10, 13.
+#[tactic(auto, using(crate::proofs::Refusals::row_ok, crate::proofs::Refusals::accepted_top), unfolding(crate::specs::Calls::assignment_check))]
+fn check_assignment(n: usize, table: &[u8], i: Station, len: usize) -> Result<(), Refusal>
+    ensures { result ≡ assignment_check n table.now i.0 len }
 {
-    let number = rows::row_number(n, table, i);
-    if number != 0 {
-        return number;
+    rows::check_row(n, table, i)?;
+    if !rules::is_live(n as u8, table, i) {
+        return Err(Refusal::NotLive);
     }
-    let ten = refusal::refuse(10, !rules::is_live(n as u8, table, i));
-    let thirteen = refusal::refuse(13, len != 2 * (n - 1));
-    refusal::first_of(ten, thirteen)
+    if len != 2 * (n - 1) {
+        return Err(Refusal::ListLength);
+    }
+    Ok(())
 }
 
 // How much of an assignment is written: the bytes, and how many entries are due.

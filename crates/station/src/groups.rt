@@ -1,10 +1,11 @@
 // Groups (document 01, "Groups by distance"; request C-11).
 ghost use Rattle.std.specs.Prelude.{◌≡◌, ◌+◌, ◌<◌, ◌≤◌, cond, length, set};
 ghost use Rattle.station.specs.Groups.{is_present, width, group};
-ghost use Rattle.station.specs.Calls.{range_number, group_number, group_after};
+ghost use Rattle.station.specs.Calls.{range_check, group_check, group_after};
 
 use crate::order;
-use lists::{bytes, refusal};
+use lists::bytes;
+use lists::refusal::Refusal;
 use table::{Distance, Level, Station, sizes};
 
 // How many numbers a full group at level s has, and its least distance.
@@ -17,41 +18,46 @@ pub(crate) fn width_of(s: Level) -> u8
     1u8 << h
 }
 
-// The group list of document 01: the members of the group of i at level s, in order. The answer is 0 or a refusal.
-pub fn group_list(n: usize, i: Station, s: Level, list: &mut [u8]) -> u8
-    ensures value { result ≡ group_number n i.0 s.0 (length list.old) }
+// The group list of document 01: the members of the group of i at level s, in order.
+#[tactic(auto, using(crate::proofs::Refusals::group_ok), unfolding(crate::specs::Calls::group_after))]
+pub fn group_list(n: usize, i: Station, s: Level, list: &mut [u8]) -> Result<(), Refusal>
+    ensures value { result ≡ group_check n i.0 s.0 (length list.old) }
     ensures list_after { list.new ≡ group_after n i.0 s.0 list.old }
 {
-    let number = group_number(n, i, s, list.len());
-    if number == 0 {
-        write_group(n as u8, i, s, list);
-    }
-    number
+    check_group(n, i, s, list.len())?;
+    write_group(n as u8, i, s, list);
+    Ok(())
 }
 
-// Refusals 1, 9, 12, 13, or 0.
-fn group_number(n: usize, i: Station, s: Level, len: usize) -> u8
-    ensures { result ≡ group_number n i.0 s.0 len }
+// Refusals 1, 9, 12, 13.
+#[tactic(auto, using(table::proofs::SizeLaws::size_top, crate::proofs::Refusals::range_ok, crate::proofs::Refusals::dimension_top), unfolding(crate::specs::Calls::group_check))]
+fn check_group(n: usize, i: Station, s: Level, len: usize) -> Result<(), Refusal>
+    ensures { result ≡ group_check n i.0 s.0 len }
 {
     if !sizes::is_size(n) {
-        return 1;
+        return Err(Refusal::SizeOutOfRange);
     }
-    let number = range_number(n as u8, i, s);
-    if number != 0 {
-        return number;
-    }
+    check_range(n as u8, i, s)?;
     let length = group_length(n as u8, i, s);
-    refusal::refuse(13, len != length as usize)
+    if len != length as usize {
+        return Err(Refusal::ListLength);
+    }
+    Ok(())
 }
 
-// Refusals 9 and 12, or 0.
-fn range_number(n: u8, i: Station, s: Level) -> u8
-    ensures { result ≡ range_number n i.0 s.0 }
+// Refusals 9 and 12.
+#[tactic(auto, unfolding(crate::specs::Calls::range_check))]
+fn check_range(n: u8, i: Station, s: Level) -> Result<(), Refusal>
+    ensures { result ≡ range_check n i.0 s.0 }
 {
-    let nine = refusal::refuse(9, n <= i.0);
+    if n <= i.0 {
+        return Err(Refusal::NoSuchStation);
+    }
     let d = sizes::dimension_of(n);
-    let twelve = refusal::refuse(12, (s.0 == 0) | (d.0 < s.0));
-    refusal::first_of(nine, twelve)
+    if (s.0 == 0) | (d.0 < s.0) {
+        return Err(Refusal::NoSuchLevel);
+    }
+    Ok(())
 }
 
 // How many stations the group of i at level s has among n.

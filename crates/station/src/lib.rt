@@ -1,7 +1,7 @@
 // The station rules of the vCube watch (document 01): groups, due tests and rows. They stand above `table`.
 // The plant run stands above this crate and relies only on what is stated here.
 //
-// The calls of document 01: groups::group_list, due::assignment, rows::row and rows::row_number. The rest is open for the crates above. No function
+// The calls of document 01: groups::group_list, due::assignment, rows::row and rows::check_row. The rest is open for the crates above. No function
 // open to a caller has a `requires`. Those of `claims` do nothing: their contracts are the claims of specs/Equation1.antt and specs/Ahead.antt.
 #![tactic(auto)]
 
@@ -19,11 +19,4 @@ use table::Station;
 pub enum DueOrAhead {
     Due,
     Ahead(Station),
-}
-
-// What the assignment answers: 0 or the refusal, and how many distances are due.
-#[derive(Clone, Copy)]
-pub struct Assigned {
-    pub number: u8,
-    pub count: u8,
 }

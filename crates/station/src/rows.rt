@@ -1,31 +1,35 @@
 // Rows: handed back as a part of the lent table, joined and marked (document 01, steps 4 and 5).
 ghost use Rattle.std.specs.Prelude.{◌≡◌, ◌+◌};
 ghost use Rattle.station.specs.Rows.{union, mark};
-ghost use Rattle.station.specs.Calls.{row_number, row_part, row_offset};
+ghost use Rattle.station.specs.Calls.{row_check, row_part, row_offset};
 
-use lists::{bytes, refusal};
+use lists::bytes;
+use lists::refusal::Refusal;
 use table::{Station, inside, rules};
 
 // The row of station i, as that very part of the table: its bytes, and its place in the lent memory. Refused: the empty part.
+#[tactic(auto, using(crate::proofs::Refusals::row_ok, crate::proofs::Refusals::accepted_top, crate::proofs::Refusals::accepted_long), unfolding(crate::specs::Calls::row_part, crate::specs::Calls::row_offset))]
 pub fn row(n: usize, table: &[u8], i: Station) -> &[u8]
     ensures result_value { result.now ≡ row_part n table.now i.0 }
     ensures ref_ptr_value { (result.ref_ptr.0 ≡ table.entry.ref_ptr.0) × (result.ref_ptr.1 ≡ table.entry.ref_ptr.1 + row_offset n table.now i.0) }
 {
-    let number = row_number(n, table, i);
-    if number != 0 {
-        return &table[0..0];
+    match check_row(n, table, i) {
+        Ok(()) => inside::row(n as u8, table, i),
+        Err(_) => &table[0..0],
     }
-    inside::row(n as u8, table, i)
 }
 
-// Refusals 1 to 4, 9, or 0, of the row on the same inputs.
-pub fn row_number(n: usize, table: &[u8], i: Station) -> u8
-    ensures { result ≡ row_number n table.now i.0 }
+// Refusals 1 to 4 and 9 of the row on the same inputs.
+#[tactic(auto, unfolding(crate::specs::Calls::row_check))]
+pub fn check_row(n: usize, table: &[u8], i: Station) -> Result<(), Refusal>
+    ensures { result ≡ row_check n table.now i.0 }
 {
-    let number = rules::check_table(n, table);
+    rules::check_table(n, table)?;
     let station = i.0;
-    let nine = refusal::refuse(9, n <= station as usize);
-    refusal::first_of(number, nine)
+    if n <= station as usize {
+        return Err(Refusal::NoSuchStation);
+    }
+    Ok(())
 }
 
 // Joins another row into the row of station own: the union, but for own's byte about itself.

@@ -4,20 +4,21 @@ use mathlib.Core.Path.{◌≡◌, sym, ap, ◌∙◌}
 use mathlib.Core.Bool.{Bool, true, false, not, ◌&&◌, ◌||◌, and-true, and-false}
 use mathlib.Core.Logic.{by_cases}
 use mathlib.Core.List.{List}
+use Rattle.std.specs.Prelude.{Ok}
 use Prim.Native.Nat.{ℕ, zero, suc, ◌-◌, ◌≤◌, ◌<◌}
 use native.Mathlib.Nat.{le_antisymm}
 use native.Mathlib.Decide.{ℕ_discrete}
 use native.Mathlib.Omega.{arith}
-use borrow.Author.Tests.{eqb-true, eqb-false, lt-ltb, le-ltb, le-leb, lt-leb, ne_eqb, not-false}
+use borrow.Author.Tests.{eqb-true, eqb-false, lt-ltb, le-ltb, le-leb, lt-leb, ne_eqb, not-true}
 use lib.ListN.{length}
 use lib.Dec.{ltb, leb, eqb, leb-suc-suc}
 use Rattle.lists.specs.Search.{every}
 use Rattle.table.specs.Sizes.{is_size, distances}
 use Rattle.table.specs.Table.{table_length, status_told, told_by_none, not_recorded}
-use Rattle.table.specs.Rules.{pass_rule, exit_rule, line_rules, not_live, some_live, finished_if_live, live_finished, shape_number, table_number}
+use Rattle.table.specs.Rules.{pass_rule, exit_rule, line_rules, not_live, some_live, finished_if_live, live_finished, shape_check, table_check, table_number}
 use Rattle.lists.proofs.BoolLaws.{by_bool}
 use Rattle.lists.proofs.Loops.{every-stop, every-done}
-use Rattle.lists.proofs.RefusalLaws.{else-zero, refuse-zero}
+use Rattle.lists.proofs.RefusalLaws.{check_zero, ensure_ok, and_ok}
 
 -- "byte 3 at most byte 1 less 1": below byte 1, where that is 1 or more
 pass-rule-is : (n next f tests : ℕ)
@@ -93,21 +94,24 @@ pub record Accepted (n : ℕ) (t : List ℕ) : Type 0 where
   pub lines : every (line_rules n t) n ≡ true
   pub unclosed : (some_live n t && live_finished n t) ≡ false
 
-pub shape-zero : (n len : ℕ) → shape_number n len ≡ 0 → (is_size n ≡ true) × (len ≡ table_length n)
-unfolding shape_number
-shape-zero n len e =
-    let p = else-zero _ _ e in
-    (not-false _ (refuse-zero 0 _ p.0), eqb-true len (table_length n) (not-false _ (refuse-zero 1 _ p.1)))
+pub shape_ok : (n len : ℕ) (x : Unit {0}) → shape_check n len ≡ Ok x → (is_size n ≡ true) × (len ≡ table_length n)
+unfolding shape_check
+shape_ok n len x e =
+    let p = and_ok _ _ x e in
+    (ensure_ok _ _ _ p.0, eqb-true len (table_length n) (ensure_ok _ _ _ p.1))
 
-pub accepted : (n : ℕ) (t : List ℕ) → table_number n t ≡ 0 → Accepted n t
-unfolding table_number
-accepted n t e =
-    let p = else-zero _ _ e in
-    let s = shape-zero n (length t) p.0 in
-    let q = else-zero _ _ p.1 in
+pub table_ok : (n : ℕ) (t : List ℕ) (x : Unit {0}) → table_check n t ≡ Ok x → Accepted n t
+unfolding table_check
+table_ok n t x e =
+    let p = and_ok _ _ x e in
+    let s = shape_ok n (length t) _ p.0 in
+    let q = and_ok _ _ x p.1 in
     record {
       size = s.0;
       long = s.1;
-      lines = not-false _ (refuse-zero 2 _ q.0);
-      unclosed = refuse-zero 3 _ q.1;
+      lines = ensure_ok _ _ _ q.0;
+      unclosed = not-true _ (ensure_ok _ _ _ q.1);
     }
+
+pub accepted : (n : ℕ) (t : List ℕ) → table_number n t ≡ 0 → Accepted n t
+accepted n t e = table_ok n t _ (check_zero _ e)

@@ -14,6 +14,9 @@ pub size-bounds : (n : ℕ) → is_size n ≡ true → (2 ≤ n) × (n ≤ 64)
 unfolding is_size
 size-bounds n e = let b = both _ _ e in (leb-true 2 n b.0, leb-true n 64 b.1)
 
+pub size_top : (n : ℕ) → is_size n ≡ true → n ≤ 64
+size_top n e = (size-bounds n e).1
+
 -- the logarithm rounded up: 2^(d−1) < n ≤ 2^d
 pub size-log : (n : ℕ) → is_size n ≡ true → (h : ℕ) × (dimension n ≡ suc h) × (2 ^ h < n) × (n ≤ 2 ^ suc h)
 unfolding dimension

@@ -3,8 +3,8 @@
 use Rattle.std.specs.Prelude.{ℕ, ◌%◌, cond, List, length, eqb}
 use Rattle.lists.specs.Search.{list_of}
 use Rattle.table.specs.Table.{stride, next_column, told_by_column, told_by_none, table_length}
-use Rattle.table.specs.Rules.{shape_number}
-use Rattle.lists.specs.Refusal.{unless}
+use Rattle.table.specs.Rules.{shape_check}
+use Rattle.lists.specs.Refusal.{unless_refused}
 
 -- Fresh table: "every line live, next distance 1, all else 0"; C-18: "a live line, fresh ones too, has 255 and 0"
 unfoldable pub fresh_byte : ℕ → ℕ → ℕ
@@ -15,4 +15,4 @@ fresh_table n = list_of (fresh_byte n) (table_length n)
 
 -- the table after the call, given t: refusals 1, 2
 unfoldable pub fresh_after : ℕ → List ℕ → List ℕ
-fresh_after n t = unless (shape_number n (length t)) t (fresh_table n)
+fresh_after n t = unless_refused (shape_check n (length t)) t (fresh_table n)

@@ -5,7 +5,8 @@ use Rattle.std.specs.Prelude.{ℕ, ◌-◌, Bool, cond, not, ◌&&◌, ◌||◌,
 use Rattle.lists.specs.Search.{every}
 use Rattle.table.specs.Sizes.{is_size, distances}
 use Rattle.table.specs.Table.{table_length, status, status_told, next_distance, finished, tests_made, told_by, told_by_none, not_recorded, rounds_ago, suspects, live}
-use Rattle.lists.specs.Refusal.{◌else◌, refuse}
+use Rattle.lists.specs.declared.refusal.Refusal.TheVariants.{SizeOutOfRange, TableLength, LineRule, RoundNotClosed, NoSuchStation, ListLength}
+use Rattle.lists.specs.Refusal.{Check, ensure, ◌and◌, number_of_result, refuse}
 
 -- status, "each byte in its range"
 abbrev pub status_rule : ℕ → Bool
@@ -63,17 +64,30 @@ round_over n t = some_live n t && live_finished n t
 
 -- refusals 1 and 2: by C-11 "a size outside 2 to 64"; "The table's length is not N times (N + 4)."; by C-18 it
 -- is n times (n + 6)
-unfoldable pub shape_number : ℕ → ℕ → ℕ
-shape_number n len = refuse 1 (not (is_size n)) else refuse 2 (not (eqb len (table_length n)))
+unfoldable pub shape_check : ℕ → ℕ → Check
+shape_check n len = ensure (is_size n) SizeOutOfRange and ensure (eqb len (table_length n)) TableLength
 
 -- refusals 1 to 4: then "A line breaks a line rule." "Some station is live and every live one is finished."
-unfoldable pub table_number : ℕ → List ℕ → ℕ
-table_number n t = shape_number n (length t) else refuse 3 (not (every (line_rules n t) n)) else refuse 4 (round_over n t)
+unfoldable pub table_check : ℕ → List ℕ → Check
+table_check n t = shape_check n (length t) and ensure (every (line_rules n t) n) LineRule and ensure (not (round_over n t)) RoundNotClosed
+
+-- their numbers
+abbrev pub shape_number : ℕ → ℕ → ℕ
+shape_number n len = number_of_result (shape_check n len)
+
+abbrev pub table_number : ℕ → List ℕ → ℕ
+table_number n t = number_of_result (table_check n t)
 
 -- refusal 9: "The station number is N or more."
+abbrev pub station_check : ℕ → ℕ → Check
+station_check n i = ensure (ltb i n) NoSuchStation
+
 abbrev pub station_refusal : ℕ → ℕ → ℕ
 station_refusal n i = refuse 9 (leb n i)
 
 -- refusal 13: "The lent list has not the length stated."
+abbrev pub length_check : ℕ → ℕ → Check
+length_check stated len = ensure (eqb len stated) ListLength
+
 abbrev pub length_refusal : ℕ → ℕ → ℕ
 length_refusal stated len = refuse 13 (not (eqb len stated))

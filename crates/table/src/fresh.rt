@@ -1,22 +1,21 @@
 // The fresh table (document 01, "What can be asked"; request C-18).
 ghost use Rattle.std.specs.Prelude.{◌≡◌, length};
 ghost use Rattle.table.specs.Table.{table_length};
-ghost use Rattle.table.specs.Rules.{shape_number};
+ghost use Rattle.table.specs.Rules.{shape_check};
 ghost use Rattle.table.specs.Fresh.{fresh_byte, fresh_table, fresh_after};
 
 use crate::{cells, rules};
+use lists::refusal::Refusal;
 
-// Fills the table: every line live, next distance 1, byte 4 255, all else 0. The answer is 0 or a refusal.
-pub fn fresh_table(n: usize, table: &mut [u8]) -> u8
-    ensures value { result ≡ shape_number n (length table.old) }
+// Fills the table: every line live, next distance 1, byte 4 255, all else 0.
+#[tactic(auto, using(crate::proofs::Accepting::shape_ok, crate::proofs::SizeLaws::size_top), unfolding(crate::specs::Fresh::fresh_after))]
+pub fn fresh_table(n: usize, table: &mut [u8]) -> Result<(), Refusal>
+    ensures value { result ≡ shape_check n (length table.old) }
     ensures table_after { table.new ≡ fresh_after n table.old }
 {
-    let number = rules::check_shape(n, table.len());
-    if number != 0 {
-        return number;
-    }
+    rules::check_shape(n, table.len())?;
     write_fresh(n as u8, table);
-    0
+    Ok(())
 }
 
 fn write_fresh(n: u8, table: &mut [u8])

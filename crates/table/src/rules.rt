@@ -2,40 +2,47 @@
 ghost use Rattle.std.specs.Prelude.{◌≡◌, ◌<◌, length};
 ghost use Rattle.lists.specs.Search.{every};
 ghost use Rattle.table.specs.Table.{HasLine, table_length, status, next_distance, finished, tests_made, told_by, rounds_ago, live};
-ghost use Rattle.table.specs.Rules.{pass_rule, exit_rule, row_rule, line_rules, finished_if_live, round_over, shape_number, table_number};
+ghost use Rattle.table.specs.Rules.{pass_rule, exit_rule, row_rule, line_rules, finished_if_live, round_over, shape_check, table_check, table_number};
 
 use crate::{Station, cells, inside, sizes};
-use lists::bytes;
+use lists::refusal::Refusal;
+use lists::{bytes, refusal};
 
-// Refusals 1 and 2, or 0.
-pub(crate) fn check_shape(n: usize, len: usize) -> u8
-    ensures { result ≡ shape_number n len }
+// Refusals 1 and 2.
+#[tactic(auto, using(crate::proofs::SizeLaws::size_top), unfolding(crate::specs::Rules::shape_check))]
+pub(crate) fn check_shape(n: usize, len: usize) -> Result<(), Refusal>
+    ensures { result ≡ shape_check n len }
 {
     if !sizes::is_size(n) {
-        return 1;
+        return Err(Refusal::SizeOutOfRange);
     }
     if len != cells::table_length(n as u8) {
-        return 2;
+        return Err(Refusal::TableLength);
     }
-    0
+    Ok(())
 }
 
-// Refusals 1 to 4, or 0.
-pub fn check_table(n: usize, table: &[u8]) -> u8
-    ensures { result ≡ table_number n table.now }
+// Refusals 1 to 4.
+#[tactic(auto, using(crate::proofs::Accepting::shape_ok, crate::proofs::SizeLaws::size_top), unfolding(crate::specs::Rules::table_check))]
+pub fn check_table(n: usize, table: &[u8]) -> Result<(), Refusal>
+    ensures { result ≡ table_check n table.now }
 {
-    let shape = check_shape(n, table.len());
-    if shape != 0 {
-        return shape;
-    }
+    check_shape(n, table.len())?;
     let size = n as u8;
     if !all_lines(size, table) {
-        return 3;
+        return Err(Refusal::LineRule);
     }
     if is_round_over(size, table) {
-        return 4;
+        return Err(Refusal::RoundNotClosed);
     }
-    0
+    Ok(())
+}
+
+// The number of that check, for the calls that answer a number.
+pub fn table_number(n: usize, table: &[u8]) -> u8
+    ensures { result ≡ table_number n table.now }
+{
+    refusal::number_of(check_table(n, table))
 }
 
 // Whether station i is live.

@@ -8,16 +8,22 @@ use mathlib.Core.List.{List}
 use Prim.Native.Nat.{ℕ, min, ◌≤◌, ◌<◌}
 use native.Mathlib.Decide.{dec_lt}
 use native.Mathlib.Omega.{arith}
-use borrow.Author.Tests.{ne_eqb, lt-ltb, le-leb, not-false}
+use borrow.Author.Tests.{ne_eqb, lt-ltb, le-ltb}
+use Rattle.std.specs.Prelude.{Ok, Err}
+use Rattle.lists.specs.declared.refusal.Refusal.{Refusal}
+use Rattle.lists.specs.declared.refusal.Refusal.TheVariants.{SizeOutOfRange, NoSuchStation, NoSuchLevel}
 use lib.Dec.{ltb, eqb}
 use lib.ListN.{length}
 use Rattle.table.specs.Sizes.{is_size, dimension}
 use Rattle.station.specs.Groups.{group}
-use Rattle.lists.specs.Refusal.{refuse, ◌else◌, unless}
-use Rattle.table.specs.Rules.{table_number, station_refusal, length_refusal}
-use Rattle.station.specs.Calls.{group_number, group_after, row_number, row_part, row_offset, assignment_number, assignment_after, assignment_count, range_number}
-use Rattle.lists.proofs.RefusalLaws.{else-first, else_same, else-not, refuse-zero, unless-refused}
-use Rattle.table.proofs.Accepting.{accepted}
+use Rattle.lists.specs.Refusal.{Check, ensure, ◌and◌, unless_refused}
+use Rattle.table.specs.Rules.{table_check, station_check, length_check}
+use Rattle.station.specs.Calls.{group_check, group_after, row_check, row_part, row_offset, assignment_check, assignment_answer, assignment_after, range_check}
+use Rattle.lists.proofs.RefusalLaws.{ensure_ok, and_ok, and_first, and_same, and_err, refused_leaves}
+use Rattle.table.proofs.Accepting.{table_ok}
+use Rattle.table.specs.Table.{row_start}
+use Rattle.table.proofs.CellLaws.{row-length}
+use Rattle.station.proofs.Refusals.{row_ok}
 use Rattle.table.proofs.SizeLaws.{size-bounds, size-dimension}
 
 -- f gives the same of a number and of its byte
@@ -33,83 +39,99 @@ narrow f v far x b e = pick (dec_lt x 255)
     pick (no h) = far b (omega arith) ∙ sym (far x (omega arith))
 
 -- so does what a call leaves that is refused from 255 on
-narrow-unless {ℓ} : {A : Type ℓ} (f : ℕ → ℕ) (v : ℕ) (a : A) (g : ℕ → A) → ((x : ℕ) → 255 ≤ x → f x ≡ v) → (v ≡ 0 → ⊥)
-    → Narrow (λ x. unless (f x) a (g x))
-narrow-unless f v a g far h = narrow (λ x. unless (f x) a (g x)) a (λ x l. sym (unless-refused v (f x) a (g x) (sym (far x l)) h))
+narrow-unless {ℓ} : {A : Type ℓ} (f : ℕ → Check) (v : Check) (a : A) (g : ℕ → A) → ((x : ℕ) → 255 ≤ x → f x ≡ v) → (v ≡ Ok tt → ⊥)
+    → Narrow (λ x. unless_refused (f x) a (g x))
+narrow-unless f v a g far h =
+    narrow (λ x. unless_refused (f x) a (g x)) a (λ x l. refused_leaves (f x) a (g x) (λ e. h (sym (far x l) ∙ e)))
 
-sized : (n : ℕ) → refuse 1 (not (is_size n)) ≡ 0 → is_size n ≡ true
-sized n z = not-false _ (refuse-zero 0 _ z)
-
-station-far : (n x : ℕ) → is_size n ≡ true → 255 ≤ x → station_refusal n x ≡ 9
-station-far n x e h = rw (le-leb n x (omega (arith, size-bounds n e)))
+station_far : (n x : ℕ) → is_size n ≡ true → 255 ≤ x → station_check n x ≡ Err NoSuchStation
+station_far n x e h = rw (le-ltb x n (omega (arith, size-bounds n e)))
 
 -- the row and the assignment of a station
 module _ (n : ℕ) (t : List ℕ) where
-  abbrev row-refused : ℕ
-  row-refused = table_number n t else 9
+  abbrev row_refused : Check
+  row_refused = table_check n t and Err NoSuchStation
 
-  refused : row-refused ≡ 0 → ⊥
-  refused = else-not (table_number n t) 9 (λ z. omega arith)
+  refused : row_refused ≡ Ok tt → ⊥
+  refused e = and_err (table_check n t) NoSuchStation tt e
 
-  row-far : (x : ℕ) → 255 ≤ x → row_number n t x ≡ row-refused
-  unfolding row_number
-  row-far x h = else_same _ _ _ (λ z. station-far n x (accepted n t z).size h)
+  row_far : (x : ℕ) → 255 ≤ x → row_check n t x ≡ row_refused
+  unfolding row_check
+  row_far x h = and_same (table_check n t) _ _ (λ z. station_far n x (table_ok n t tt z).size h)
 
-  pub row-number-narrow : Narrow (row_number n t)
-  row-number-narrow = narrow (row_number n t) row-refused row-far
+  pub row_check_narrow : (x b : ℕ) → b ≡ min x 255 → row_check n t b ≡ row_check n t x
+  row_check_narrow = narrow (row_check n t) row_refused row_far
 
-  pub row-offset-narrow : Narrow (row_offset n t)
+  pub row_offset_narrow : (x b : ℕ) → b ≡ min x 255 → row_offset n t b ≡ row_offset n t x
   unfolding row_offset
-  row-offset-narrow = narrow-unless (row_number n t) row-refused _ _ row-far refused
+  row_offset_narrow = narrow-unless (row_check n t) row_refused _ _ row_far refused
 
-  pub row-part-narrow : Narrow (row_part n t)
+  pub row_part_narrow : (x b : ℕ) → b ≡ min x 255 → row_part n t b ≡ row_part n t x
   unfolding row_part
-  row-part-narrow = narrow-unless (row_number n t) row-refused _ _ row-far refused
+  row_part_narrow = narrow-unless (row_check n t) row_refused _ _ row_far refused
 
-  assignment-far : (len x : ℕ) → 255 ≤ x → assignment_number n t x len ≡ row-refused
-  unfolding assignment_number
-  assignment-far len x h = sym (else-first row-refused (row_number n t x) _ (sym (row-far x h)) refused)
+  -- what a row answers, by its byte
+  pub row_offset_ok : (x b : ℕ) (y : Unit {0}) → b ≡ min x 255 → row_check n t b ≡ Ok y → row_offset n t x ≡ row_start n b
+  unfolding row_offset
+  row_offset_ok x b y e z = sym (row_offset_narrow x b e) ∙ rw z
 
-  pub assignment-number-narrow : (len : ℕ) → Narrow (λ x. assignment_number n t x len)
-  assignment-number-narrow len = narrow (λ x. assignment_number n t x len) row-refused (assignment-far len)
+  pub row_offset_err : (x b : ℕ) (r : Refusal) → b ≡ min x 255 → row_check n t b ≡ Err r → row_offset n t x ≡ 0
+  unfolding row_offset
+  row_offset_err x b r e z = sym (row_offset_narrow x b e) ∙ rw z
 
-  pub assignment-after-narrow : (list : List ℕ) → Narrow (λ x. assignment_after n t x list)
+  pub row_part_ok : (x b : ℕ) (y : Unit {0}) → b ≡ min x 255 → row_check n t b ≡ Ok y → length (row_part n t x) ≡ n
+  unfolding row_part
+  row_part_ok x b y e z =
+      let a = row_ok n t b y z in
+      ap length (sym (row_part_narrow x b e)) ∙ rw z (row-length n t b a.0.long a.1)
+
+  pub row_part_err : (x b : ℕ) (r : Refusal) → b ≡ min x 255 → row_check n t b ≡ Err r → length (row_part n t x) ≡ 0
+  unfolding row_part
+  row_part_err x b r e z = ap length (sym (row_part_narrow x b e)) ∙ rw z
+
+  assignment_far : (len x : ℕ) → 255 ≤ x → assignment_check n t x len ≡ row_refused
+  unfolding assignment_check
+  assignment_far len x h = rw (row_far x h) (sym (and_first row_refused _ refused))
+
+  pub assignment_answer_narrow : (x b len : ℕ) → b ≡ min x 255 → assignment_answer n t b len ≡ assignment_answer n t x len
+  unfolding assignment_answer
+  assignment_answer_narrow x b len e = narrow (λ x. assignment_answer n t x len) (row_refused and Err NoSuchStation) far x b e
+    where
+      far : (x : ℕ) → 255 ≤ x → assignment_answer n t x len ≡ (row_refused and Err NoSuchStation)
+      far x h = rw (assignment_far len x h) (and_same row_refused _ _ (λ z. absurd (refused z)))
+
+  pub assignment_after_narrow : (list : List ℕ) (x b : ℕ) → b ≡ min x 255 → assignment_after n t b list ≡ assignment_after n t x list
   unfolding assignment_after
-  assignment-after-narrow list =
-      narrow-unless (λ x. assignment_number n t x (length list)) row-refused _ _ (assignment-far (length list)) refused
-
-  pub assignment-count-narrow : (len : ℕ) → Narrow (λ x. assignment_count n t x len)
-  unfolding assignment_count
-  assignment-count-narrow len = narrow-unless (λ x. assignment_number n t x len) row-refused _ _ (assignment-far len) refused
+  assignment_after_narrow list =
+      narrow-unless (λ x. assignment_check n t x (length list)) row_refused _ _ (assignment_far (length list)) refused
 
 -- the group of a station at a level
 module _ (n : ℕ) where
-  abbrev unsized : ℕ
-  unsized = refuse 1 (not (is_size n))
+  abbrev sized : Check
+  sized = ensure (is_size n) SizeOutOfRange
 
-  group-far : (s len x : ℕ) → 255 ≤ x → group_number n x s len ≡ (unsized else 9)
-  unfolding group_number range_number
-  group-far s len x h = else_same _ _ _ (λ z. rw (station-far n x (sized n z) h))
+  group_far : (s len x : ℕ) → 255 ≤ x → group_check n x s len ≡ (sized and Err NoSuchStation)
+  unfolding group_check range_check
+  group_far s len x h = and_same sized _ _ (λ z. rw (station_far n x (ensure_ok _ _ tt z) h))
 
-  level-far : (i len s : ℕ) → 255 ≤ s → group_number n i s len ≡ (unsized else station_refusal n i else 12)
-  unfolding group_number range_number
-  level-far i len s h = else_same unsized _ _ (λ z. rw (twelve (sized n z)) (sym (else-first _ _ (length_refusal (length (group n i s)) len) refl met)))
+  level_far : (i len s : ℕ) → 255 ≤ s → group_check n i s len ≡ (sized and station_check n i and Err NoSuchLevel)
+  unfolding group_check range_check
+  level_far i len s h = and_same sized _ _ (λ z. rw (high (ensure_ok _ _ tt z)) (sym (and_first _ _ (λ e. met e))))
     where
-      twelve : is_size n ≡ true → refuse 12 (eqb s 0 || ltb (dimension n) s) ≡ 12
-      twelve e = rw (ne_eqb s 0 (omega arith), lt-ltb (dimension n) s (omega (arith, size-dimension n e)))
+      high : is_size n ≡ true → ensure (not (eqb s 0 || ltb (dimension n) s)) NoSuchLevel ≡ Err NoSuchLevel
+      high e = rw (ne_eqb s 0 (omega arith), lt-ltb (dimension n) s (omega (arith, size-dimension n e)))
 
-      met : ¬ ((station_refusal n i else 12) ≡ 0)
-      met = else-not (station_refusal n i) 12 (λ z. omega arith)
+      met : ¬ ((station_check n i and Err NoSuchLevel) ≡ Ok (tt {0}))
+      met e = and_err (station_check n i) NoSuchLevel tt e
 
-  module _ (i s i' s' : ℕ) (e : i' ≡ min i 255) (f : s' ≡ min s 255) where
-    pub group-number-narrow : (len : ℕ) → group_number n i' s' len ≡ group_number n i s len
-    group-number-narrow len =
-        narrow (λ x. group_number n x s' len) _ (group-far s' len) i i' e ∙ narrow (λ x. group_number n i x len) _ (level-far i len) s s' f
+  pub group_check_narrow : (i s i' s' len : ℕ) → i' ≡ min i 255 → s' ≡ min s 255 → group_check n i' s' len ≡ group_check n i s len
+  group_check_narrow i s i' s' len e f =
+      narrow (λ x. group_check n x s' len) _ (group_far s' len) i i' e ∙ narrow (λ x. group_check n i x len) _ (level_far i len) s s' f
 
-    pub group-after-narrow : (list : List ℕ) → group_after n i' s' list ≡ group_after n i s list
-    unfolding group_after
-    group-after-narrow list =
-        let h = else-not unsized 9 (λ z. omega arith) in
-        let k = else-not unsized _ (else-not (station_refusal n i) 12 (λ z. omega arith)) in
-        narrow-unless (λ x. group_number n x s' (length list)) _ list (λ x. group n x s') (group-far s' (length list)) h i i' e
-        ∙ narrow-unless (λ x. group_number n i x (length list)) _ list (group n i) (level-far i (length list)) k s s' f
+  pub group_after_narrow : (i s i' s' : ℕ) (list : List ℕ) → i' ≡ min i 255 → s' ≡ min s 255 → group_after n i' s' list ≡ group_after n i s list
+  unfolding group_after
+  group_after_narrow i s i' s' list e f =
+      let h : ¬ ((sized and Err NoSuchStation) ≡ Ok tt) = λ z. and_err sized NoSuchStation tt z in
+      let k : ¬ ((sized and station_check n i and Err NoSuchLevel) ≡ Ok tt) = λ z. and_err (station_check n i) NoSuchLevel tt (and_ok sized _ tt z).1 in
+      narrow-unless (λ x. group_check n x s' (length list)) _ list (λ x. group n x s') (group_far s' (length list)) h i i' e
+      ∙ narrow-unless (λ x. group_check n i x (length list)) _ list (group n i) (level_far i (length list)) k s s' f

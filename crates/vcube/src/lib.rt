@@ -18,6 +18,7 @@ ghost use Rattle.vcube.specs.Exports.{outcome_out, drive_out, tally_of, loaded_o
 
 use figures::{Figures, Totals, adding, batch};
 use granter::{drive, grant};
+use lists::refusal;
 use plant::{Tally, run};
 use saved::{load, save};
 use station::{due, groups, rows};
@@ -29,20 +30,23 @@ pub extern "C" fn vcube_fresh_table(n: usize, table: &mut [u8]) -> u8
     ensures value { result ≡ shape_number n (length table.old) }
     ensures table_after { table.new ≡ fresh_after n table.old }
 {
-    fresh::fresh_table(n, table)
+    refusal::number_of(fresh::fresh_table(n, table))
 }
 
 // Group list: the members of the station's group at that level, in order.
+#[tactic(auto, using(crate::proofs::Narrow::group_check_narrow, crate::proofs::Narrow::group_after_narrow))]
 #[unsafe(no_mangle)]
 pub extern "C" fn vcube_group_list(n: usize, station: usize, level: usize, list: &mut [u8]) -> u8
     ensures value { result ≡ group_number n station level (length list.old) }
     ensures list_after { list.new ≡ group_after n station level list.old }
 {
-    groups::group_list(n, Station(byte_of(station)), Level(byte_of(level)), list)
+    let check = groups::group_list(n, Station(byte_of(station)), Level(byte_of(level)), list);
+    refusal::number_of(check)
 }
 
 // Assignment of a live station: for each other station, by ascending distance, the distance, and 255 if it is due or else the one ahead; how many
 // are due into count, 0 where it is refused.
+#[tactic(auto, using(crate::proofs::Narrow::assignment_answer_narrow, crate::proofs::Narrow::assignment_after_narrow))]
 #[unsafe(no_mangle)]
 pub extern "C" fn vcube_assignment(
     n: usize,
@@ -55,12 +59,20 @@ pub extern "C" fn vcube_assignment(
     ensures count_after { count.new ≡ assignment_count n table.now station (length list.old) }
     ensures list_after { list.new ≡ assignment_after n table.now station list.old }
 {
-    let assigned = due::assignment(n, table, Station(byte_of(station)), list);
-    *count = assigned.count as usize;
-    assigned.number
+    match due::assignment(n, table, Station(byte_of(station)), list) {
+        Ok(due) => {
+            *count = due as usize;
+            0
+        }
+        Err(refusal) => {
+            *count = 0;
+            refusal.number()
+        }
+    }
 }
 
 // Row: where the station's row begins in the table, and how many bytes it has; both 0 where it is refused.
+#[tactic(auto, using(crate::proofs::Narrow::row_check_narrow, station::proofs::Refusals::row_ok, station::proofs::Refusals::accepted_top, crate::proofs::Narrow::row_offset_ok, crate::proofs::Narrow::row_offset_err, crate::proofs::Narrow::row_part_ok, crate::proofs::Narrow::row_part_err))]
 #[unsafe(no_mangle)]
 pub extern "C" fn vcube_row(
     n: usize,
@@ -74,15 +86,18 @@ pub extern "C" fn vcube_row(
     ensures bytes_after { bytes.new ≡ length (row_part n table.now station) }
 {
     let i = Station(byte_of(station));
-    let number = rows::row_number(n, table, i);
-    if number != 0 {
-        *start = 0;
-        *bytes = 0;
-        return number;
+    match rows::check_row(n, table, i) {
+        Ok(()) => {
+            *start = cells::row_start(n as u8, i);
+            *bytes = n;
+            0
+        }
+        Err(refusal) => {
+            *start = 0;
+            *bytes = 0;
+            refusal.number()
+        }
     }
-    *start = cells::row_start(n as u8, i);
-    *bytes = n;
-    0
 }
 
 // Run: carries out a schedule on a table and the tally that rounds and tests hold, and fills the sheet. The tally given back is left in
@@ -113,15 +128,22 @@ pub extern "C" fn vcube_run(
 }
 
 // Grant: the station that is granted after the last one, 0 where it is refused.
+#[tactic(auto, using(granter::proofs::GrantLaws::grant_answer_number))]
 #[unsafe(no_mangle)]
 pub extern "C" fn vcube_grant(n: usize, table: &[u8], last: usize, station: &mut usize) -> u8
     ensures value { result ≡ grant_number n table.now last }
     ensures station_after { station.new ≡ grant_station n table.now last }
 {
-    let granted = grant::grant(n, table, last);
-    let to = granted.station;
-    *station = to.0 as usize;
-    granted.number
+    match grant::grant(n, table, last) {
+        Ok(to) => {
+            *station = to.0 as usize;
+            0
+        }
+        Err(refusal) => {
+            *station = 0;
+            refusal.number()
+        }
+    }
 }
 
 // Drive: grants and turns on a table and the tally that rounds and tests hold, until a round closes, nobody is left live, or a tally is
@@ -164,7 +186,7 @@ pub extern "C" fn vcube_save(
     ensures value { result ≡ save_number n table.now (tally_of rounds tests) (length buffer.old) }
     ensures buffer_after { buffer.new ≡ save_after n table.now (tally_of rounds tests) buffer.old }
 {
-    save::save(n, table, Tally { rounds, tests }, buffer)
+    refusal::number_of(save::save(n, table, Tally { rounds, tests }, buffer))
 }
 
 // Load: a saved plant's table, into a buffer of just its length; its size and tally into n, rounds and tests, 0 where it is refused.

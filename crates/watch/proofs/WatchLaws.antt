@@ -11,11 +11,11 @@ use lib.Seq.{take_at, sets}
 use Rattle.lists.proofs.Writing.{sets-front}
 use Rattle.table.specs.Sizes.{is_size}
 use Rattle.table.specs.Table.{table_length}
-use Rattle.table.specs.Rules.{shape_number, table_number}
+use Rattle.table.specs.Rules.{shape_check, table_check}
 use Rattle.table.specs.Fresh.{fresh_table, fresh_after}
 use Rattle.plant.specs.declared.Answer.{Answer}
 use Rattle.plant.specs.Entry.{State, state_of}
-use Rattle.plant.specs.Run.{Outcome, outcome_with, start_number, run}
+use Rattle.plant.specs.Run.{Outcome, outcome_with, start_check, start_number, run}
 use Rattle.watch.specs.declared.input.Parsed.{Parsed}
 use Rattle.watch.specs.declared.watched.Report.TheVariants.{Unread, Ran}
 use Rattle.watch.specs.Input.{room_for, read_input, read_into, ReadAs}
@@ -25,7 +25,7 @@ use Rattle.watch.proofs.ReadLaws.{read_fits}
 -- a run of what is no size is refused, whatever the table
 size-refused : (n : ℕ) (s : State) (schedule sheet : List ℕ) → is_size n ≡ false
     → run n s schedule sheet ≡ record { number = 1; taken = 0; state = s; sheet = sheet }
-unfolding run start_number table_number shape_number
+unfolding run start_check table_check shape_check
 size-refused n s schedule sheet e = rw e
 
 -- a part that comes back as it was lent
@@ -51,7 +51,7 @@ pub carried : (n : ℕ) (t schedule lent : List ℕ) (r : Answer) (t' s' : List 
     → (is_size n ≡ true → length t ≡ table_length n) → k ≡ 2 * length schedule → length s' ≡ k → k ≤ length lent
     → outcome_with r t' s' ≡ run n (state_of (fresh_after n t) 0 0) schedule (take k lent)
     → watched_with (Ran r) (s' ++ drop k lent) ≡ carried_out n schedule lent
-unfolding fresh_after shape_number
+unfolding fresh_after shape_check
 carried n t schedule lent r t' s' k shaped twice long fits e = pick (is_size n) refl
   where
     front : sets lent 0 s' ≡ s' ++ drop k lent

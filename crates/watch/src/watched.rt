@@ -61,7 +61,7 @@ fn carry_out(
 fn run_fresh(size: usize, schedule: &[u8], table: &mut [u8], sheet: &mut [u8]) -> Answer
     ensures { outcome_with result table.new sheet.new ≡ run size (state_of (fresh_after size table.old) 0 0) schedule.now sheet.old }
 {
-    fresh::fresh_table(size, table);
+    let _ = fresh::fresh_table(size, table);
     let tally = Tally {
         rounds: 0,
         tests: 0,

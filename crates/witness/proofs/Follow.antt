@@ -24,7 +24,7 @@ use Rattle.turn.specs.Turn.{kind_turn, next_test, makes_test, turn}
 use Rattle.turn.proofs.NextTest.{next_test-low, not-due-before, test_below, test-due, none-due}
 use Rattle.turn.proofs.TurnHeads.{Heads, turn-heads}
 use Rattle.plant.specs.Round.{reset_lines, after_round}
-use Rattle.plant.specs.Entry.{Entry, State, entry_of, tally_top, tally_full, is_test, entry_number, acted, after}
+use Rattle.plant.specs.Entry.{Entry, State, entry_of, tally_top, tally_full, is_test, entry_check, entry_number, acted, after}
 use Rattle.plant.proofs.RulesKept.{Takes, entry-facts, accepted-kept}
 use Rattle.plant.proofs.RoundLaws.{reset-cells, reset-other}
 use Rattle.detection.proofs.TurnEffect.{Company}
@@ -130,11 +130,11 @@ module _ (n N : ℕ) (L : ℕ → Bool) (low : n ≤ N) (absent : (k : ℕ) → 
       h = omega (arith, below i li)
 
       taken : entry_number N w e ≡ 0
-      unfolding entry_number
+      unfolding entry_check
       taken =
           let full : tally_full w.rounds w.tests ≡ false =
           rw (ne_eqb w.rounds tally_top (λ q. facts.rounds_fit (sym b.rounds ∙ q)), ne_eqb w.tests tally_top (omega arith)) in
-          rw (full, lt-leb N i h, b.like.big.lives i h ∙ li, b.like.finish i li ∙ going)
+          rw (full, lt-ltb i N h, b.like.big.lives i h ∙ li, b.like.finish i li ∙ going)
 
       small-due : (y : ℕ) → due (row N u i) i y ≡ false → due (row n t i) i y ≡ false
       small-due y none =

@@ -1,5 +1,6 @@
 -- The rest of the run, from where it stands, gives what the whole gives, and the table obeys the rules.
 use Rattle.std.proofs.Common.{◌≡◌, ◌/◌, length, refl, sym, ap, ◌∙◌, arith, length-take, length-drop}
+use Rattle.lists.specs.Refusal.{number_of_result}
 use Rattle.plant.specs.Entry.{State, state_with}
 use Rattle.plant.proofs.RulesKept.{accepted-kept}
 use Rattle.plant.proofs.RunLaws.{accepted-number, entry_at, line-back, go-taken, go-stopped, go-done, start-facts}
@@ -10,18 +11,18 @@ loop-k-init c =
     let f = start-facts _ _ _ _ c.requires in
     record { twice = f.2; rules = f.0; same = refl }
 
-pub returns-then-number-ne0 : goal.returns-then-number-ne0
-returns-then-number-ne0 c =
+pub returns-in-Err : goal.returns-in-Err
+returns-in-Err c =
     let l = c.loop-k in
     let s = state_with l.table l.held in
-    let r = c.entry_number-number.ensures in
-    sym (sym l.invariant.same ∙ go-stopped c.args.n l.k s l.sheet c.args.schedule.now _ c.loop-k-test.true r c.if-number-ne0.true)
+    let r = sym c.check_entry.ensures ∙ c.in-Err.is in
+    rw c.number.ensures (sym (sym l.invariant.same ∙ go-stopped c.args.n l.k s l.sheet c.args.schedule.now _ c.loop-k-test.true r))
 
 pub take_entry-held-requires : goal.take_entry-held-requires
 take_entry-held-requires c =
     let i = c.loop-k.invariant in
     let h = c.loop-k-test.true in
-    let z = sym c.entry_number-number.ensures ∙ c.if-number-ne0.false in
+    let z = ap number_of_result (sym c.check_entry.ensures ∙ c.in_default.is) in
     (accepted-number _ _ i.rules, z, simp (length-take, length-drop) (omega (arith, i.twice, h)))
 
 pub loop-k-preserved : goal.loop-k-preserved
@@ -32,7 +33,7 @@ loop-k-preserved c =
     let h = c.loop-k-test.true in
     let s = state_with l.table l.held in
     let e = entry_at c.args.schedule.now l.k in
-    let z = sym c.entry_number-number.ensures ∙ c.if-number-ne0.false in
+    let z = ap number_of_result (sym c.check_entry.ensures ∙ c.in_default.is) in
     let p = c.take_entry-held.ensures in
     let w = line-back n s e l.sheet l.k _ p.line_after (omega (arith, i.twice, h)) in
     record {

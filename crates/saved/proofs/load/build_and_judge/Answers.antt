@@ -16,7 +16,7 @@ pub returns-clause-value : goal.returns-clause-value
 returns-clause-value c =
     let l = c.if-len-own.false ∙ (c.build_table.ensures.table_len_unchanged ∙ c.requires.1) in
     let t = c.build_table.ensures.table_after c.if-not-build_table.false in
-    c.check_table.ensures ∙ (ap (table_number _) t ∙ sym (by-rules _ _ _ (sym c.if-not-build_table.ensures.value) l))
+    c.table_number.ensures ∙ (ap (table_number _) t ∙ sym (by-rules _ _ _ (sym c.if-not-build_table.ensures.value) l))
 
 pub returns-clause-own_after : goal.returns-clause-own_after
 returns-clause-own_after c = λ z. c.build_table.ensures.table_after c.if-not-build_table.false
