@@ -7,6 +7,7 @@
 pub mod cells;
 pub mod fresh;
 pub mod inside;
+pub mod lent;
 pub mod rules;
 pub mod sizes;
 

@@ -11,22 +11,29 @@ returns-then-status-gt3 c = rw (← c.get-status.ensures, lt-leb _ 3 c.if-status
 
 pub returns-then-not-pass_rule : goal.returns-then-not-pass_rule
 unfolding line_rules
-returns-then-not-pass_rule c = rw (← c.pass_rule.ensures, c.if-not-pass_rule.true, and-false)
+returns-then-not-pass_rule c =
+    rw (← c.get-next.ensures, ← c.get-finished.ensures, ← c.get-tests.ensures, ← c.pass_rule.ensures, c.if-not-pass_rule.true, and-false)
 
 pub returns-then-not-exit_rule : goal.returns-then-not-exit_rule
 unfolding line_rules
-returns-then-not-exit_rule c = rw (← c.exit_rule.ensures, c.if-not-exit_rule.true, and-false)
+returns-then-not-exit_rule c =
+    rw (← c.get-status.ensures, ← c.get-by.ensures, ← c.get-ago.ensures, ← c.exit_rule.ensures, c.if-not-exit_rule.true, and-false)
 
 pub returns : goal.returns
 unfolding line_rules
 returns c =
     let low = le-leb c.get-status.result 3 c.if-status-gt3.false in
     rw (
+      ← c.get-status.ensures,
+      ← c.get-next.ensures,
+      ← c.get-finished.ensures,
+      ← c.get-tests.ensures,
+      ← c.get-by.ensures,
+      ← c.get-ago.ensures,
       ← c.pass_rule.ensures,
       c.if-not-pass_rule.false,
       ← c.exit_rule.ensures,
       c.if-not-exit_rule.false,
       ← c.row_rule.ensures,
-      ← c.get-status.ensures,
       low,
     )

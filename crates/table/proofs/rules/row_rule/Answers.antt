@@ -10,15 +10,15 @@ loop-byte-init c = sym (every-start _)
 
 pub loop-byte-preserved : goal.loop-byte-preserved
 loop-byte-preserved c =
-    range-next _ _ _ _ _ _ _ c.row-row.ensures.result_value (omega arith) c.loop-byte.invariant c.greater-greatest.ensures
+    range-next _ _ _ _ _ _ _ c.row-row.ensures.value (omega arith) c.loop-byte.invariant c.greater-greatest.ensures
 
 pub returns : goal.returns
 unfolding row_rule
 returns c =
-    let e : c.loop-byte.byte-index ≡ c.args.n = omega arith in
+    let e : c.loop-byte.byte-index ≡ c.args.table.now.n = omega arith in
     rw (
-      c.row-row.ensures.result_value,
-      row_at c.args.n c.args.table.now c.args.i.0 c.args.i.0 (omega arith),
+      c.row-row.ensures.value,
+      row_at c.args.table.now.n c.args.table.now.bytes.now c.args.i.0 c.args.i.0 (omega arith),
       c.loop-byte.invariant,
       e,
     )

@@ -1,0 +1,60 @@
+// The lent table as a type: a size and the bytes of a table of that size. That the length fits is a ghost field, so that no method asks for it.
+ghost use Rattle.std.specs.Prelude.{◌≡◌, ◌+◌, ◌<◌, eqb, length, IfOk};
+ghost use Rattle.table.specs.Table.{stride, table_length, cell, set_cell, row_start, row, live, finished, suspects};
+ghost use Rattle.std.specs.Result.{result_map_both};
+ghost use Rattle.table.specs.Rules.{shape_check};
+
+use crate::{Station, cells, rules};
+use lists::refusal::Refusal;
+
+// A table of n stations, to be read.
+#[derive(Clone, Copy)]
+pub struct Table<'a> {
+    pub n: u8,
+    pub bytes: &'a [u8],
+    ghost fits: { length bytes.now ≡ table_length n },
+}
+
+// A table of n stations, to be written.
+#[derive(Drop)]
+pub struct TableMut<'a> {
+    pub n: u8,
+    pub bytes: &'a mut [u8],
+    ghost fits: { length bytes.now ≡ table_length n },
+}
+
+impl<'a> Table<'a> {
+    // The lent bytes as a table of n stations: refusals 1 and 2.
+    #[tactic(auto, using(crate::proofs::Accepting::shape_ok, crate::proofs::SizeLaws::size_top))]
+    pub fn of(n: usize, bytes: &'a [u8]) -> Result<Table<'a>, Refusal>
+        ensures check { result_map_both (λ t. tt) (λ r. r) result ≡ shape_check n (length bytes.now) }
+        ensures size { IfOk result (λ t. t.n ≡ n) }
+        ensures bytes { IfOk result (λ t. t.bytes.now ≡ bytes.now) }
+    {
+        rules::check_shape(n, bytes.len())?;
+        Ok(Table { n: n as u8, bytes })
+    }
+
+    // Byte c of line i.
+    pub fn get(&self, i: Station, c: u16) -> u8
+        requires line { i.0 < self.now.n }
+        requires column { c < stride self.now.n }
+        ensures { result ≡ cell self.now.n self.now.bytes.now i.0 c }
+    {
+        let at = cells::line_start(self.n, i) + c as usize;
+        self.bytes[at]
+    }
+
+    // The row of line i, as that part of the table.
+    pub fn row(&self, i: Station) -> &'a [u8]
+        requires { i.0 < self.now.n }
+        ensures value { result.now ≡ row self.now.n self.now.bytes.now i.0 }
+        ensures len { length result.now ≡ self.now.n }
+        ensures memory { result.ref_ptr.0 ≡ self.now.bytes.ref_ptr.0 }
+        ensures place { result.ref_ptr.1 ≡ self.now.bytes.ref_ptr.1 + row_start self.now.n i.0 }
+    {
+        let a = cells::row_start(self.n, i);
+        let e = a + self.n as usize;
+        &self.bytes[a..e]
+    }
+}
