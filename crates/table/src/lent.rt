@@ -1,6 +1,6 @@
 // The lent table as a type: a size and the bytes of a table of that size. That the length fits is a ghost field, so that no method asks for it.
 ghost use Rattle.std.specs.Prelude.{◌≡◌, ◌+◌, ◌<◌, eqb, length, IfOk};
-ghost use Rattle.table.specs.Table.{stride, table_length, cell, set_cell, row_start, row, live, finished, suspects};
+ghost use Rattle.table.specs.Table.{head, stride, table_length, cell, set_cell, row_start, row, live, finished, suspects};
 ghost use Rattle.std.specs.Result.{result_map_both};
 ghost use Rattle.table.specs.Rules.{shape_check};
 
@@ -45,6 +45,31 @@ impl<'a> Table<'a> {
         self.bytes[at]
     }
 
+    // Whether station i is live.
+    pub fn is_live(&self, i: Station) -> bool
+        requires { i.0 < self.now.n }
+        ensures { result ≡ live self.now.n self.now.bytes.now i.0 }
+    {
+        self.get(i, cells::STATUS) == cells::LIVE
+    }
+
+    // Whether station i has finished its pass.
+    pub fn is_finished(&self, i: Station) -> bool
+        requires { i.0 < self.now.n }
+        ensures { result ≡ eqb (finished self.now.n self.now.bytes.now i.0) 1 }
+    {
+        self.get(i, cells::FINISHED) == 1
+    }
+
+    // Whether station i suspects station k.
+    pub fn suspects(&self, i: Station, k: Station) -> bool
+        requires line { i.0 < self.now.n }
+        requires suspected { k.0 < self.now.n }
+        ensures { result ≡ eqb (suspects self.now.n self.now.bytes.now i.0 k.0) 1 }
+    {
+        self.get(i, cells::HEAD + k.0 as u16) == 1
+    }
+
     // The row of line i, as that part of the table.
     pub fn row(&self, i: Station) -> &'a [u8]
         requires { i.0 < self.now.n }
@@ -56,5 +81,41 @@ impl<'a> Table<'a> {
         let a = cells::row_start(self.n, i);
         let e = a + self.n as usize;
         &self.bytes[a..e]
+    }
+}
+
+impl<'a> TableMut<'a> {
+    ghost use Rattle.table.specs.Lent.{IsSameLoan};
+
+    // The table, to be read.
+    pub fn read(&self) -> Table<'_>
+        ensures size { result.n ≡ self.now.n }
+        ensures bytes { result.bytes.now ≡ self.now.bytes.now }
+    {
+        Table {
+            n: self.n,
+            bytes: &*self.bytes,
+        }
+    }
+
+    // Writes byte c of line i.
+    pub fn put(&mut self, i: Station, c: u16, v: u8)
+        requires line { i.0 < self.old.n }
+        requires column { c < stride self.old.n }
+        ensures same { IsSameLoan self.old self.new }
+        ensures bytes { self.new.bytes.now ≡ set_cell self.old.n self.old.bytes.now i.0 c v }
+    {
+        let at = cells::line_start(self.n, i) + c as usize;
+        self.bytes[at] = v;
+    }
+
+    // Station i suspects station k.
+    pub fn suspect(&mut self, i: Station, k: Station)
+        requires line { i.0 < self.old.n }
+        requires suspected { k.0 < self.old.n }
+        ensures same { IsSameLoan self.old self.new }
+        ensures bytes { self.new.bytes.now ≡ set_cell self.old.n self.old.bytes.now i.0 (head + k.0) 1 }
+    {
+        self.put(i, cells::HEAD + k.0 as u16, 1);
     }
 }
