@@ -2,7 +2,7 @@
 ghost use Rattle.std.specs.Prelude.{◌≡◌, ◌+◌, ◌<◌, eqb, length, IfOk};
 ghost use Rattle.table.specs.Table.{head, stride, table_length, cell, set_cell, row_start, row, live, finished, suspects};
 ghost use Rattle.std.specs.Result.{result_map_both};
-ghost use Rattle.table.specs.Rules.{shape_check};
+ghost use Rattle.table.specs.Rules.{shape_check, finished_if_live, round_over};
 
 use crate::{Station, cells, rules};
 use lists::refusal::Refusal;
@@ -59,6 +59,28 @@ impl<'a> Table<'a> {
         ensures { result ≡ eqb (finished self.now.n self.now.bytes.now i.0) 1 }
     {
         self.get(i, cells::FINISHED) == 1
+    }
+
+    // Whether station i, if it is live, has finished its pass.
+    pub fn finished_if_live(&self, i: Station) -> bool
+        requires { i.0 < self.now.n }
+        ensures { result ≡ finished_if_live self.now.n self.now.bytes.now i.0 }
+    {
+        !self.is_live(i) | self.is_finished(i)
+    }
+
+    // Whether some station is live and every live one has finished its pass.
+    pub fn is_round_over(&self) -> bool
+        ensures { result ≡ round_over self.now.n self.now.bytes.now }
+    {
+        let mut some = false;
+        for i in 0..self.n {
+            if !self.finished_if_live(Station(i)) {
+                return false;
+            }
+            some |= self.is_live(Station(i));
+        }
+        some
     }
 
     // Whether station i suspects station k.

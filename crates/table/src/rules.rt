@@ -32,7 +32,7 @@ pub fn check_table(n: usize, table: &[u8]) -> Result<(), Refusal>
     if !all_lines(&lent) {
         return Err(Refusal::LineRule);
     }
-    if is_round_over(lent.n, table) {
+    if lent.is_round_over() {
         return Err(Refusal::RoundNotClosed);
     }
     Ok(())
