@@ -3,6 +3,7 @@ ghost use Rattle.std.specs.Prelude.{◌≡◌, ◌+◌, ◌*◌, ◌≤◌};
 ghost use Rattle.table.specs.Table.{head, stride, table_length, line_start, cell, row_start};
 
 use crate::Station;
+use crate::status::Status;
 
 // The columns of a line's head.
 pub const STATUS: u16 = 0;
@@ -17,14 +18,14 @@ pub const TOLD_BY: u16 = 4;
 
 pub const ROUNDS_AGO: u16 = 5;
 
-// The statuses of a station.
-pub const LIVE: u8 = 0;
+// The statuses of a station as bytes.
+pub const LIVE: u8 = Status::Live as u8;
 
-pub const CRASHED: u8 = 1;
+pub const CRASHED: u8 = Status::Crashed as u8;
 
-pub const LEFT_TOLD: u8 = 2;
+pub const LEFT_TOLD: u8 = Status::LeftTold as u8;
 
-pub const LEFT_ALONE: u8 = 3;
+pub const LEFT_ALONE: u8 = Status::LeftAlone as u8;
 
 // Byte 4 where no station told this one to leave, and where that was never recorded.
 pub const TOLD_BY_NONE: u8 = 255;

@@ -10,6 +10,7 @@ pub mod inside;
 pub mod lent;
 pub mod rules;
 pub mod sizes;
+pub mod status;
 
 // The number of a station, 0 to N − 1.
 #[derive(Clone, Copy)]

@@ -1,10 +1,12 @@
 // The line rules and the check of a table: refusals 1 to 4 (document 01, "The lent table" and "Refusal list"; request C-18).
 ghost use Rattle.std.specs.Prelude.{◌≡◌, ◌<◌, length};
 ghost use Rattle.lists.specs.Search.{every};
+ghost use Rattle.table.specs.Status.{status_byte};
 ghost use Rattle.table.specs.Table.{live};
 ghost use Rattle.table.specs.Rules.{pass_rule, exit_rule, row_rule, line_rules, finished_if_live, round_over, shape_check, table_check, table_number};
 
 use crate::lent::Table;
+use crate::status::Status;
 use crate::{Station, cells, sizes};
 use lists::refusal::Refusal;
 use lists::{bytes, refusal};
@@ -90,10 +92,9 @@ fn line_rules(table: &Table, i: Station) -> bool
     requires { i.0 < table.now.n }
     ensures { result ≡ line_rules table.now.n table.now.bytes.now i.0 }
 {
-    let status = table.get(i, cells::STATUS);
-    if 3 < status {
+    let Ok(status) = Status::try_from(table.get(i, cells::STATUS)) else {
         return false;
-    }
+    };
     let next = table.get(i, cells::NEXT);
     let finished = table.get(i, cells::FINISHED);
     let tests = table.get(i, cells::TESTS);
@@ -122,15 +123,16 @@ fn pass_rule(n: u8, next: u8, finished: u8, tests: u8) -> bool
     (finished == 0) | ((finished == 1) & (next as u16 == last))
 }
 
-// The rules of bytes 4 and 5, by the status. Byte 4 is asked first, since most often it is 255.
-fn exit_rule(n: u8, i: Station, status: u8, by: u8, ago: u8) -> bool
-    ensures { result ≡ exit_rule n i.0 status by ago }
+// The rules of bytes 4 and 5, by the status.
+#[tactic(auto, unfolding(crate::specs::Rules::exit_rule))]
+fn exit_rule(n: u8, i: Station, status: Status, by: u8, ago: u8) -> bool
+    ensures { result ≡ exit_rule n i.0 (status_byte status) by ago }
 {
-    if by == cells::TOLD_BY_NONE {
-        return (status != cells::LEFT_TOLD) & ((status != cells::LIVE) | (ago == 0));
+    match status {
+        Status::Live => (by == cells::TOLD_BY_NONE) & (ago == 0),
+        Status::LeftTold => (by == cells::NOT_RECORDED) | ((by < n) & (by != i.0)),
+        Status::Crashed | Status::LeftAlone => by == cells::TOLD_BY_NONE,
     }
-    let own = i.0;
-    (status == cells::LEFT_TOLD) & ((by == cells::NOT_RECORDED) | ((by < n) & (by != own)))
 }
 
 // The rules of the row: the station's byte about itself, and every byte, by the greatest one. The loop has no exit, so that the compiler

@@ -1,13 +1,13 @@
 -- The first rule that is broken decides.
-use Rattle.std.proofs.Common.{le-leb}
+use Rattle.std.proofs.Common.{sym, ◌∙◌}
 use mathlib.Core.Bool.{and-false}
-use borrow.Author.Tests.{lt-leb}
 use Rattle.table.specs.Rules.{line_rules}
+use Rattle.table.proofs.StatusLaws.{status_ok, status_err}
 use Rattle.table.proofs.rules.line_rules.Goals as goal
 
-pub returns-then-status-gt3 : goal.returns-then-status-gt3
+pub returns-in_default : goal.returns-in_default
 unfolding line_rules
-returns-then-status-gt3 c = rw (← c.get-status.ensures, lt-leb _ 3 c.if-status-gt3.true)
+returns-in_default c = rw (← c.get.ensures, status_err _ _ (sym c.try_from.ensures ∙ c.in_default.is))
 
 pub returns-then-not-pass_rule : goal.returns-then-not-pass_rule
 unfolding line_rules
@@ -17,23 +17,34 @@ returns-then-not-pass_rule c =
 pub returns-then-not-exit_rule : goal.returns-then-not-exit_rule
 unfolding line_rules
 returns-then-not-exit_rule c =
-    rw (← c.get-status.ensures, ← c.get-by.ensures, ← c.get-ago.ensures, ← c.exit_rule.ensures, c.if-not-exit_rule.true, and-false)
+    let s = status_ok c.get.result c.in-Ok.status (sym c.try_from.ensures ∙ c.in-Ok.is) in
+    rw (
+      ← c.get.ensures,
+      ← c.get-by.ensures,
+      ← c.get-ago.ensures,
+      s.1,
+      ← s.0,
+      ← c.exit_rule.ensures,
+      c.if-not-exit_rule.true,
+      and-false,
+    )
 
 pub returns : goal.returns
 unfolding line_rules
 returns c =
-    let low = le-leb c.get-status.result 3 c.if-status-gt3.false in
+    let s = status_ok c.get.result c.in-Ok.status (sym c.try_from.ensures ∙ c.in-Ok.is) in
     rw (
-      ← c.get-status.ensures,
+      ← c.get.ensures,
       ← c.get-next.ensures,
       ← c.get-finished.ensures,
       ← c.get-tests.ensures,
       ← c.get-by.ensures,
       ← c.get-ago.ensures,
+      s.1,
+      ← s.0,
       ← c.pass_rule.ensures,
       c.if-not-pass_rule.false,
       ← c.exit_rule.ensures,
       c.if-not-exit_rule.false,
       ← c.row_rule.ensures,
-      low,
     )
