@@ -22,8 +22,8 @@ fn write_fresh(n: u8, table: &mut [u8])
     requires { length table.old ≡ table_length n }
     ensures { table.new ≡ fresh_table n }
 {
-    for p in 0..table.len() {
-        table[p] = fresh_byte(n, p);
+    for (p, byte) in table.iter_mut().enumerate() {
+        *byte = fresh_byte(n, p);
     }
 }
 
