@@ -13,13 +13,13 @@ pub mod sizes;
 pub mod status;
 
 // The number of a station, 0 to N − 1.
-#[derive(Clone, Copy)]
+#[derive(Clone, Copy, Debug, PartialEq, Eq, PartialOrd, Ord)]
 pub struct Station(pub u8);
 
 // The distance of two stations: the exclusive or of their numbers.
-#[derive(Clone, Copy)]
+#[derive(Clone, Copy, Debug, PartialEq, Eq, PartialOrd, Ord)]
 pub struct Distance(pub u8);
 
 // The level of a group (the papers' cluster), 1 to d.
-#[derive(Clone, Copy)]
+#[derive(Clone, Copy, Debug, PartialEq, Eq, PartialOrd, Ord)]
 pub struct Level(pub u8);
