@@ -42,6 +42,7 @@ pub const HEAD: u16 = 6;
 pub const GREATEST_TABLE: usize = 64 * (64 + HEAD as usize);
 
 // The length of a table of n stations.
+#[tactic(auto, unfolding(crate::specs::Table::table_length, crate::specs::Table::line_start))]
 pub fn table_length(n: u8) -> usize
     ensures { result ≡ table_length n }
 {
@@ -49,6 +50,7 @@ pub fn table_length(n: u8) -> usize
 }
 
 // The length of some lines of a table of n stations.
+#[tactic(auto, unfolding(crate::specs::Table::line_start))]
 fn lines_length(lines: u8, n: u8) -> usize
     ensures value { result ≡ line_start n lines }
     ensures upper_bound { result ≤ 255 * stride 255 }
@@ -73,6 +75,7 @@ pub fn row_start(n: u8, i: Station) -> usize
 }
 
 // Byte c of line i; 0 past the table's end.
+#[tactic(auto, unfolding(crate::specs::Table::cell))]
 pub(crate) fn get_cell(n: u8, table: &[u8], i: Station, c: u16) -> u8
     ensures { result ≡ cell n table.now i.0 c }
 {

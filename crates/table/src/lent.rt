@@ -36,6 +36,7 @@ impl<'a> Table<'a> {
     }
 
     // Byte c of line i.
+    #[tactic(auto, using(crate::proofs::CellLaws::byte_inside), unfolding(crate::specs::Table::cell))]
     pub fn get(&self, i: Station, c: u16) -> u8
         requires line { i.0 < self.now.n }
         requires column { c < stride self.now.n }
@@ -93,6 +94,7 @@ impl<'a> Table<'a> {
     }
 
     // The row of line i, as that part of the table.
+    #[tactic(auto, using(crate::proofs::CellLaws::row_inside), unfolding(crate::specs::Table::row))]
     pub fn row(&self, i: Station) -> &'a [u8]
         requires { i.0 < self.now.n }
         ensures value { result.now ≡ row self.now.n self.now.bytes.now i.0 }
@@ -121,6 +123,7 @@ impl<'a> TableMut<'a> {
     }
 
     // Writes byte c of line i.
+    #[tactic(auto, using(crate::proofs::CellLaws::byte_inside), unfolding(crate::specs::Table::set_cell))]
     pub fn put(&mut self, i: Station, c: u16, v: u8)
         requires line { i.0 < self.old.n }
         requires column { c < stride self.old.n }

@@ -77,6 +77,7 @@ pub fn finished_if_live(n: u8, table: &[u8], i: Station) -> bool
 }
 
 // Whether every line obeys the line rules.
+#[tactic(auto, using(lists::proofs::Loops::loops))]
 fn all_lines(table: &Table) -> bool
     ensures { result ≡ every (line_rules table.now.n table.now.bytes.now) table.now.n }
 {
@@ -88,6 +89,7 @@ fn all_lines(table: &Table) -> bool
     true
 }
 
+#[tactic(auto, using(crate::proofs::StatusLaws::status_ok, crate::proofs::StatusLaws::status_err), unfolding(crate::specs::Rules::line_rules))]
 fn line_rules(table: &Table, i: Station) -> bool
     requires { i.0 < table.now.n }
     ensures { result ≡ line_rules table.now.n table.now.bytes.now i.0 }
