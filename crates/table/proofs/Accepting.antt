@@ -1,22 +1,17 @@
 -- The line rules as the code asks them, the rules of a round that is over, and a table that refusals 1 to 4 let through.
 -- Assumes nothing.
-use mathlib.Core.Path.{◌≡◌, sym, ap, ◌∙◌}
-use mathlib.Core.Bool.{Bool, true, false, not, ◌&&◌, ◌||◌, and-true, and-false}
-use mathlib.Core.Logic.{by_cases}
+use mathlib.Core.Path.{◌≡◌, ap, ◌∙◌}
+use mathlib.Core.Bool.{Bool, true, false, not, ◌&&◌, and-true, and-false}
 use mathlib.Core.List.{List}
 use Rattle.std.specs.Prelude.{Ok}
-use Prim.Native.Nat.{ℕ, zero, suc, ◌-◌, ◌≤◌, ◌<◌}
+use Prim.Native.Nat.{ℕ, ◌≤◌, ◌<◌}
 use native.Mathlib.Nat.{le_antisymm}
-use native.Mathlib.Decide.{ℕ_discrete}
-use native.Mathlib.Omega.{arith}
-use borrow.Author.Tests.{eqb-true, eqb-false, lt-ltb, le-ltb, le-leb, lt-leb, ne_eqb, not-true}
+use borrow.Author.Tests.{eqb-true, not-true}
 use lib.ListN.{length}
-use lib.Dec.{ltb, leb, eqb, leb-suc-suc}
 use Rattle.lists.specs.Search.{every}
-use Rattle.table.specs.Sizes.{is_size, distances}
-use Rattle.table.specs.Table.{table_length, status_told, told_by_none, not_recorded}
-use Rattle.table.specs.Rules.{pass_rule, exit_rule, line_rules, not_live, some_live, finished_if_live, live_finished, shape_check, table_check, table_number}
-use Rattle.lists.proofs.BoolLaws.{by_bool}
+use Rattle.table.specs.Sizes.{is_size}
+use Rattle.table.specs.Table.{table_length}
+use Rattle.table.specs.Rules.{line_rules, not_live, some_live, finished_if_live, live_finished, shape_check, table_check, table_number}
 use Rattle.lists.proofs.Loops.{every-stop, every-done}
 use Rattle.lists.proofs.RefusalLaws.{check_zero, ensure_ok, and_ok}
 
@@ -60,3 +55,6 @@ table_ok n t x e =
 
 pub accepted : (n : ℕ) (t : List ℕ) → table_number n t ≡ 0 → Accepted n t
 accepted n t e = table_ok n t _ (check_zero _ e)
+
+-- what the loop over a round asks
+pub ruleset rounds = (round-open, round-done)

@@ -1,7 +1,6 @@
 -- Byte 0 as a value.
 -- Assumes nothing.
-use Rattle.std.proofs.Common.{◌≡◌, ℕ, true, false, arith, Result, Ok, Err}
-use borrow.Author.Tests.{eqb-true, eqb-false, le-leb, lt-leb}
+use Rattle.std.proofs.Common.{◌≡◌, ℕ, true, false, arith, Ok, Err}
 use Rattle.std.proofs.lemmas.Bool.Decides.{nat_tests}
 use Rattle.lists.specs.declared.refusal.Refusal.{Refusal}
 use Rattle.table.specs.declared.status.Status.{Status}

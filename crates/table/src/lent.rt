@@ -71,6 +71,7 @@ impl<'a> Table<'a> {
     }
 
     // Whether some station is live and every live one has finished its pass.
+    #[tactic(auto, using(lists::proofs::Loops::loops, crate::proofs::Accepting::rounds))]
     pub fn is_round_over(&self) -> bool
         ensures { result ≡ round_over self.now.n self.now.bytes.now }
     {

@@ -55,6 +55,7 @@ pub fn is_live(n: u8, table: &[u8], i: Station) -> bool
 }
 
 // Whether some station is live and every live one has finished its pass.
+#[tactic(auto, using(lists::proofs::Loops::loops, crate::proofs::Accepting::rounds))]
 pub fn is_round_over(n: u8, table: &[u8]) -> bool
     ensures { result ≡ round_over n table.now }
 {
@@ -132,7 +133,8 @@ fn exit_rule(n: u8, i: Station, status: Status, by: u8, ago: u8) -> bool
     ensures { result ≡ exit_rule n i.0 (status_byte status) by ago }
 {
     match by {
-        cells::TOLD_BY_NONE => (status != Status::LeftTold) & ((status != Status::Live) | (ago == 0)),
+        cells::TOLD_BY_NONE => (status != Status::LeftTold)
+            & ((status != Status::Live) | (ago == 0)),
         cells::NOT_RECORDED => status == Status::LeftTold,
         station => (status == Status::LeftTold) & (station < n) & (station != i.0),
     }
@@ -140,6 +142,7 @@ fn exit_rule(n: u8, i: Station, status: Status, by: u8, ago: u8) -> bool
 
 // The rules of the row: the station's byte about itself, and every byte, by the greatest one. The loop has no exit, so that the compiler
 // takes many bytes at a time.
+#[tactic(auto, using(lists::proofs::Loops::loops, crate::proofs::CellLaws::row_at), unfolding(crate::specs::Rules::row_rule))]
 fn row_rule(table: &Table, i: Station) -> bool
     requires { i.0 < table.now.n }
     ensures { result ≡ row_rule table.now.n table.now.bytes.now i.0 }
