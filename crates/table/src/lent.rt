@@ -1,5 +1,6 @@
 // The lent table as a type: a size and the bytes of a table of that size. That the length fits is a ghost field, so that no method asks for it.
-ghost use Rattle.std.specs.Prelude.{◌≡◌, ◌+◌, ◌<◌, eqb, length, IfOk};
+// That a line or column is there a method does ask, since it makes no test of its place.
+ghost use Rattle.std.specs.Prelude.{◌≡◌, ◌+◌, ◌<◌, ◌==◌, length, IfOk};
 ghost use Rattle.table.specs.Table.{head, stride, table_length, cell, set_cell, row_start, row, live, finished, suspects};
 ghost use Rattle.std.specs.Result.{result_map_both};
 ghost use Rattle.table.specs.Rules.{shape_check, finished_if_live, round_over};
@@ -57,7 +58,7 @@ impl<'a> Table<'a> {
     // Whether station i has finished its pass.
     pub fn is_finished(&self, i: Station) -> bool
         requires { i.0 < self.now.n }
-        ensures { result ≡ eqb (finished self.now.n self.now.bytes.now i.0) 1 }
+        ensures { result ≡ (finished self.now.n self.now.bytes.now i.0 == 1) }
     {
         self.get(i, cells::FINISHED) == 1
     }
@@ -89,7 +90,7 @@ impl<'a> Table<'a> {
     pub fn suspects(&self, i: Station, k: Station) -> bool
         requires line { i.0 < self.now.n }
         requires suspected { k.0 < self.now.n }
-        ensures { result ≡ eqb (suspects self.now.n self.now.bytes.now i.0 k.0) 1 }
+        ensures { result ≡ (suspects self.now.n self.now.bytes.now i.0 k.0 == 1) }
     {
         self.get(i, cells::HEAD + k.0 as u16) == 1
     }

@@ -1,4 +1,5 @@
 // The line rules and the check of a table: refusals 1 to 4 (document 01, "The lent table" and "Refusal list"; request C-18).
+// Within a line bools are joined by `&` and `|`, which make no branch: where a branch was measured to be faster an `if` stands.
 ghost use Rattle.std.specs.Prelude.{◌≡◌, ◌<◌, length};
 ghost use Rattle.lists.specs.Search.{every};
 ghost use Rattle.table.specs.Status.{status_byte};
@@ -51,7 +52,7 @@ pub fn table_number(n: usize, table: &[u8]) -> u8
 pub fn is_live(n: u8, table: &[u8], i: Station) -> bool
     ensures { result ≡ live n table.now i.0 }
 {
-    cells::get_cell(n, table, i, cells::STATUS) == 0
+    cells::get_cell(n, table, i, cells::STATUS) == cells::LIVE
 }
 
 // Whether some station is live and every live one has finished its pass.
@@ -64,7 +65,7 @@ pub fn is_round_over(n: u8, table: &[u8]) -> bool
         if !finished_if_live(n, table, Station(i)) {
             return false;
         }
-        some = some | is_live(n, table, Station(i));
+        some |= is_live(n, table, Station(i));
     }
     some
 }
