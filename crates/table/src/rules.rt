@@ -9,8 +9,7 @@ ghost use Rattle.table.specs.Rules.{pass_rule, exit_rule, row_rule, line_rules, 
 use crate::lent::Table;
 use crate::status::Status;
 use crate::{Station, cells, sizes};
-use lists::refusal::Refusal;
-use lists::{bytes, refusal};
+use lists::refusal::{self, Refusal};
 
 // Refusals 1 and 2.
 #[tactic(auto, using(crate::proofs::SizeLaws::size_top), unfolding(crate::specs::Rules::shape_check))]
@@ -153,7 +152,7 @@ fn row_rule(table: &Table, i: Station) -> bool
     let own = row[of];
     let mut greatest: u8 = 0;
     for byte in row {
-        greatest = bytes::greater(greatest, *byte);
+        greatest = greatest.max(*byte);
     }
     (own == 0) & (greatest <= 1)
 }
