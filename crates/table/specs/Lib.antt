@@ -1,6 +1,8 @@
 -- What the contracts and theorems of `table` cite, in the order of document 01; properties serve the crates above.
 pub mod Sizes
+pub mod Status
 pub mod Table
+pub mod Lent
 pub mod Rules
 pub mod Fresh
 pub mod Properties

@@ -3,6 +3,7 @@ ghost use Rattle.std.specs.Prelude.{◌≡◌, ◌+◌, ◌*◌, ◌≤◌};
 ghost use Rattle.table.specs.Table.{head, stride, table_length, line_start, cell, row_start};
 
 use crate::Station;
+use crate::status::Status;
 
 // The columns of a line's head.
 pub const STATUS: u16 = 0;
@@ -17,14 +18,14 @@ pub const TOLD_BY: u16 = 4;
 
 pub const ROUNDS_AGO: u16 = 5;
 
-// The statuses of a station.
-pub const LIVE: u8 = 0;
+// The statuses of a station as bytes.
+pub const LIVE: u8 = Status::Live as u8;
 
-pub const CRASHED: u8 = 1;
+pub const CRASHED: u8 = Status::Crashed as u8;
 
-pub const LEFT_TOLD: u8 = 2;
+pub const LEFT_TOLD: u8 = Status::LeftTold as u8;
 
-pub const LEFT_ALONE: u8 = 3;
+pub const LEFT_ALONE: u8 = Status::LeftAlone as u8;
 
 // Byte 4 where no station told this one to leave, and where that was never recorded.
 pub const TOLD_BY_NONE: u8 = 255;
@@ -41,6 +42,7 @@ pub const HEAD: u16 = 6;
 pub const GREATEST_TABLE: usize = 64 * (64 + HEAD as usize);
 
 // The length of a table of n stations.
+#[tactic(auto, unfolding(crate::specs::Table::table_length, crate::specs::Table::line_start))]
 pub fn table_length(n: u8) -> usize
     ensures { result ≡ table_length n }
 {
@@ -48,6 +50,7 @@ pub fn table_length(n: u8) -> usize
 }
 
 // The length of some lines of a table of n stations.
+#[tactic(auto, unfolding(crate::specs::Table::line_start))]
 fn lines_length(lines: u8, n: u8) -> usize
     ensures value { result ≡ line_start n lines }
     ensures upper_bound { result ≤ 255 * stride 255 }
@@ -72,6 +75,7 @@ pub fn row_start(n: u8, i: Station) -> usize
 }
 
 // Byte c of line i; 0 past the table's end.
+#[tactic(auto, unfolding(crate::specs::Table::cell))]
 pub(crate) fn get_cell(n: u8, table: &[u8], i: Station, c: u16) -> u8
     ensures { result ≡ cell n table.now i.0 c }
 {

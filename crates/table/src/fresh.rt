@@ -18,16 +18,18 @@ pub fn fresh_table(n: usize, table: &mut [u8]) -> Result<(), Refusal>
     Ok(())
 }
 
+#[tactic(auto, using(lists::proofs::Loops::loops), unfolding(crate::specs::Fresh::fresh_table))]
 fn write_fresh(n: u8, table: &mut [u8])
     requires { length table.old ≡ table_length n }
     ensures { table.new ≡ fresh_table n }
 {
-    for p in 0..table.len() {
-        table[p] = fresh_byte(n, p);
+    for (p, byte) in table.iter_mut().enumerate() {
+        *byte = fresh_byte(n, p);
     }
 }
 
 // Byte p of a fresh table.
+#[tactic(auto, unfolding(crate::specs::Fresh::fresh_byte))]
 fn fresh_byte(n: u8, p: usize) -> u8
     ensures { result ≡ fresh_byte n p }
 {

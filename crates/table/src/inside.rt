@@ -3,15 +3,15 @@
 ghost use Rattle.std.specs.Prelude.{◌≡◌, ◌+◌, ◌<◌, length};
 ghost use Rattle.table.specs.Table.{HasLine, stride, table_length, cell, set_cell, row_start, row};
 
-use crate::{Station, cells};
+use crate::Station;
+use crate::lent::{Table, TableMut};
 
 // Byte c of line i.
 pub fn get(n: u8, table: &[u8], i: Station, c: u16) -> u8
     requires { (length table.now ≡ table_length n) × (i.0 < n) × (c < stride n) }
     ensures { result ≡ cell n table.now i.0 c }
 {
-    let at = cells::line_start(n, i) + c as usize;
-    table[at]
+    Table { n, bytes: table }.get(i, c)
 }
 
 // Writes byte c of line i.
@@ -19,8 +19,7 @@ pub fn put(n: u8, table: &mut [u8], i: Station, c: u16, v: u8)
     requires { (length table.old ≡ table_length n) × (i.0 < n) × (c < stride n) }
     ensures { table.new ≡ set_cell n table.old i.0 c v }
 {
-    let at = cells::line_start(n, i) + c as usize;
-    table[at] = v;
+    TableMut { n, bytes: table }.put(i, c, v);
 }
 
 // The row of line i, as that part of the table.
@@ -30,7 +29,5 @@ pub fn row(n: u8, table: &[u8], i: Station) -> &[u8]
     ensures result_len { length result.now ≡ n }
     ensures ref_ptr_value { (result.ref_ptr.0 ≡ table.entry.ref_ptr.0) × (result.ref_ptr.1 ≡ table.entry.ref_ptr.1 + row_start n i.0) }
 {
-    let a = cells::row_start(n, i);
-    let e = a + n as usize;
-    &table[a..e]
+    Table { n, bytes: table }.row(i)
 }

@@ -1,23 +1,25 @@
 // The lent table of the vCube watch (document 01, "The lent table"): its layout, line rules, refusals 1 to 4, the fresh table, bytes and rows.
 //
 // The call of document 01 is fresh::fresh_table. The rest is open for the crates above. No function open to a caller has a `requires`, but for
-// those of `inside`, which are meant for crates that have checked the table.
+// those of `lent` and `inside`, which are meant for crates that have checked the table.
 #![tactic(auto)]
 
 pub mod cells;
 pub mod fresh;
 pub mod inside;
+pub mod lent;
 pub mod rules;
 pub mod sizes;
+pub mod status;
 
 // The number of a station, 0 to N − 1.
-#[derive(Clone, Copy)]
+#[derive(Clone, Copy, Debug, PartialEq, Eq, PartialOrd, Ord)]
 pub struct Station(pub u8);
 
 // The distance of two stations: the exclusive or of their numbers.
-#[derive(Clone, Copy)]
+#[derive(Clone, Copy, Debug, PartialEq, Eq, PartialOrd, Ord)]
 pub struct Distance(pub u8);
 
 // The level of a group (the papers' cluster), 1 to d.
-#[derive(Clone, Copy)]
+#[derive(Clone, Copy, Debug, PartialEq, Eq, PartialOrd, Ord)]
 pub struct Level(pub u8);

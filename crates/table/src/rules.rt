@@ -1,12 +1,15 @@
 // The line rules and the check of a table: refusals 1 to 4 (document 01, "The lent table" and "Refusal list"; request C-18).
+// Within a line bools are joined by `&` and `|`, which make no branch: where a branch was measured to be faster an `if` stands.
 ghost use Rattle.std.specs.Prelude.{◌≡◌, ◌<◌, length};
 ghost use Rattle.lists.specs.Search.{every};
-ghost use Rattle.table.specs.Table.{HasLine, table_length, status, next_distance, finished, tests_made, told_by, rounds_ago, live};
+ghost use Rattle.table.specs.Status.{status_byte};
+ghost use Rattle.table.specs.Table.{live};
 ghost use Rattle.table.specs.Rules.{pass_rule, exit_rule, row_rule, line_rules, finished_if_live, round_over, shape_check, table_check, table_number};
 
-use crate::{Station, cells, inside, sizes};
-use lists::refusal::Refusal;
-use lists::{bytes, refusal};
+use crate::lent::Table;
+use crate::status::Status;
+use crate::{Station, cells, sizes};
+use lists::refusal::{self, Refusal};
 
 // Refusals 1 and 2.
 #[tactic(auto, using(crate::proofs::SizeLaws::size_top), unfolding(crate::specs::Rules::shape_check))]
@@ -27,12 +30,11 @@ pub(crate) fn check_shape(n: usize, len: usize) -> Result<(), Refusal>
 pub fn check_table(n: usize, table: &[u8]) -> Result<(), Refusal>
     ensures { result ≡ table_check n table.now }
 {
-    check_shape(n, table.len())?;
-    let size = n as u8;
-    if !all_lines(size, table) {
+    let lent = Table::of(n, table)?;
+    if !all_lines(&lent) {
         return Err(Refusal::LineRule);
     }
-    if is_round_over(size, table) {
+    if lent.is_round_over() {
         return Err(Refusal::RoundNotClosed);
     }
     Ok(())
@@ -49,10 +51,11 @@ pub fn table_number(n: usize, table: &[u8]) -> u8
 pub fn is_live(n: u8, table: &[u8], i: Station) -> bool
     ensures { result ≡ live n table.now i.0 }
 {
-    cells::get_cell(n, table, i, cells::STATUS) == 0
+    cells::get_cell(n, table, i, cells::STATUS) == cells::LIVE
 }
 
 // Whether some station is live and every live one has finished its pass.
+#[tactic(auto, using(lists::proofs::Loops::loops, crate::proofs::Accepting::rounds))]
 pub fn is_round_over(n: u8, table: &[u8]) -> bool
     ensures { result ≡ round_over n table.now }
 {
@@ -61,7 +64,7 @@ pub fn is_round_over(n: u8, table: &[u8]) -> bool
         if !finished_if_live(n, table, Station(i)) {
             return false;
         }
-        some = some | is_live(n, table, Station(i));
+        some |= is_live(n, table, Station(i));
     }
     some
 }
@@ -75,44 +78,44 @@ pub fn finished_if_live(n: u8, table: &[u8], i: Station) -> bool
 }
 
 // Whether every line obeys the line rules.
-fn all_lines(n: u8, table: &[u8]) -> bool
-    requires { length table.now ≡ table_length n }
-    ensures { result ≡ every (line_rules n table.now) n }
+#[tactic(auto, using(lists::proofs::Loops::loops))]
+fn all_lines(table: &Table) -> bool
+    ensures { result ≡ every (line_rules table.now.n table.now.bytes.now) table.now.n }
 {
-    for i in 0..n {
-        if !line_rules(n, table, Station(i)) {
+    for i in 0..table.n {
+        if !line_rules(table, Station(i)) {
             return false;
         }
     }
     true
 }
 
-fn line_rules(n: u8, table: &[u8], i: Station) -> bool
-    requires { HasLine n table.now i.0 }
-    ensures { result ≡ line_rules n table.now i.0 }
+#[tactic(auto, using(crate::proofs::StatusLaws::status_ok, crate::proofs::StatusLaws::status_err), unfolding(crate::specs::Rules::line_rules))]
+fn line_rules(table: &Table, i: Station) -> bool
+    requires { i.0 < table.now.n }
+    ensures { result ≡ line_rules table.now.n table.now.bytes.now i.0 }
 {
-    let status = inside::get(n, table, i, cells::STATUS);
-    if 3 < status {
+    let Ok(status) = Status::try_from(table.get(i, cells::STATUS)) else {
+        return false;
+    };
+    let next = table.get(i, cells::NEXT);
+    let finished = table.get(i, cells::FINISHED);
+    let tests = table.get(i, cells::TESTS);
+    if !pass_rule(table.n, next, finished, tests) {
         return false;
     }
-    if !pass_rule(n, table, i) {
+    let by = table.get(i, cells::TOLD_BY);
+    let ago = table.get(i, cells::ROUNDS_AGO);
+    if !exit_rule(table.n, i, status, by, ago) {
         return false;
     }
-    if !exit_rule(n, table, i) {
-        return false;
-    }
-    row_rule(n, table, i)
+    row_rule(table, i)
 }
 
 // The rules of bytes 1 to 3. Byte 1 is 1 or more where byte 3 is below it.
-fn pass_rule(n: u8, table: &[u8], i: Station) -> bool
-    requires { HasLine n table.now i.0 }
-    ensures { result ≡ pass_rule n (next_distance n table.now i.0) (finished n table.now i.0)
-        (tests_made n table.now i.0) }
+fn pass_rule(n: u8, next: u8, finished: u8, tests: u8) -> bool
+    ensures { result ≡ pass_rule n next finished tests }
 {
-    let next = inside::get(n, table, i, cells::NEXT);
-    let finished = inside::get(n, table, i, cells::FINISHED);
-    let tests = inside::get(n, table, i, cells::TESTS);
     let last = sizes::distances(n);
     if last < next as u16 {
         return false;
@@ -123,34 +126,31 @@ fn pass_rule(n: u8, table: &[u8], i: Station) -> bool
     (finished == 0) | ((finished == 1) & (next as u16 == last))
 }
 
-// The rules of bytes 4 and 5, by the status. Byte 4 is asked first, since most often it is 255.
-fn exit_rule(n: u8, table: &[u8], i: Station) -> bool
-    requires { HasLine n table.now i.0 }
-    ensures { result ≡ exit_rule n i.0 (status n table.now i.0) (told_by n table.now i.0)
-        (rounds_ago n table.now i.0) }
+// The rules of bytes 4 and 5, by the status. Byte 4 is asked first, since most often it is 255, and the rest makes no branch: measured, a save
+// of 8 boards was 0.95 times as fast by a match on byte 4, and 0.86 times by one on the status.
+#[tactic(auto, unfolding(crate::specs::Rules::exit_rule))]
+fn exit_rule(n: u8, i: Station, status: Status, by: u8, ago: u8) -> bool
+    ensures { result ≡ exit_rule n i.0 (status_byte status) by ago }
 {
-    let status = inside::get(n, table, i, cells::STATUS);
-    let by = inside::get(n, table, i, cells::TOLD_BY);
-    let ago = inside::get(n, table, i, cells::ROUNDS_AGO);
-    let own = i.0;
     if by == cells::TOLD_BY_NONE {
-        return (status != cells::LEFT_TOLD) & ((status != cells::LIVE) | (ago == 0));
+        return (status != Status::LeftTold) & ((status != Status::Live) | (ago == 0));
     }
-    (status == cells::LEFT_TOLD) & ((by == cells::NOT_RECORDED) | ((by < n) & (by != own)))
+    (status == Status::LeftTold) & ((by == cells::NOT_RECORDED) | ((by < n) & (by != i.0)))
 }
 
 // The rules of the row: the station's byte about itself, and every byte, by the greatest one. The loop has no exit, so that the compiler
 // takes many bytes at a time.
-fn row_rule(n: u8, table: &[u8], i: Station) -> bool
-    requires { HasLine n table.now i.0 }
-    ensures { result ≡ row_rule n table.now i.0 }
+#[tactic(auto, using(lists::proofs::Loops::loops, crate::proofs::CellLaws::row_at), unfolding(crate::specs::Rules::row_rule))]
+fn row_rule(table: &Table, i: Station) -> bool
+    requires { i.0 < table.now.n }
+    ensures { result ≡ row_rule table.now.n table.now.bytes.now i.0 }
 {
-    let row = inside::row(n, table, i);
+    let row = table.row(i);
     let of = i.0 as usize;
     let own = row[of];
     let mut greatest: u8 = 0;
     for byte in row {
-        greatest = bytes::greater(greatest, *byte);
+        greatest = greatest.max(*byte);
     }
     (own == 0) & (greatest <= 1)
 }

@@ -5,10 +5,11 @@ ghost use Rattle.table.specs.Sizes.{is_size, level, dimension, distances};
 use crate::{Distance, Level};
 
 // Whether n is a plant's size.
+#[tactic(auto, unfolding(crate::specs::Sizes::is_size))]
 pub fn is_size(n: usize) -> bool
     ensures { result ≡ is_size n }
 {
-    (2 <= n) & (n <= 64)
+    (2..=64).contains(&n)
 }
 
 // The level of a distance.
@@ -21,13 +22,11 @@ pub fn level_of(m: Distance) -> Level
 }
 
 // d, the greatest level of a plant of n stations.
+#[tactic(auto, unfolding(crate::specs::Sizes::dimension))]
 pub fn dimension_of(n: u8) -> Level
     ensures { result.0 ≡ dimension n }
 {
-    if n == 0 {
-        return level_of(Distance(0));
-    }
-    level_of(Distance(n - 1))
+    level_of(Distance(n.saturating_sub(1)))
 }
 
 // How many distances there are in a plant of n stations, 0 included.

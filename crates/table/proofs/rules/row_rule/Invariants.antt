@@ -6,4 +6,4 @@ use Rattle.table.specs.Rules.{suspicion_rule}
 use Rattle.table.proofs.rules.row_rule.Given as goal
 
 abbrev pub invariant-loop-byte : goal.invariant-loop-byte
-invariant-loop-byte l = leb l.greatest 1 ≡ every (suspicion_rule l.n l.table l.fn.i.0) l.byte-index
+invariant-loop-byte l = leb l.greatest 1 ≡ every (suspicion_rule l.table.n l.table.bytes.now l.fn.i.0) l.byte-index

@@ -1,0 +1,148 @@
+// The lent table as a type: a size and the bytes of a table of that size. That the length fits is a ghost field, so that no method asks for it.
+// That a line or column is there a method does ask, since it makes no test of its place.
+ghost use Rattle.std.specs.Prelude.{◌≡◌, ◌+◌, ◌<◌, ◌==◌, length, IfOk};
+ghost use Rattle.table.specs.Table.{head, stride, table_length, cell, set_cell, row_start, row, live, finished, suspects};
+ghost use Rattle.std.specs.Result.{result_map_both};
+ghost use Rattle.table.specs.Rules.{shape_check, finished_if_live, round_over};
+
+use crate::{Station, cells, rules};
+use lists::refusal::Refusal;
+
+// A table of n stations, to be read.
+#[derive(Clone, Copy)]
+pub struct Table<'a> {
+    pub n: u8,
+    pub bytes: &'a [u8],
+    ghost fits: { length bytes.now ≡ table_length n },
+}
+
+// A table of n stations, to be written.
+#[derive(Drop)]
+pub struct TableMut<'a> {
+    pub n: u8,
+    pub bytes: &'a mut [u8],
+    ghost fits: { length bytes.now ≡ table_length n },
+}
+
+impl<'a> Table<'a> {
+    // The lent bytes as a table of n stations: refusals 1 and 2.
+    #[tactic(auto, using(crate::proofs::Accepting::shape_ok, crate::proofs::SizeLaws::size_top))]
+    pub fn of(n: usize, bytes: &'a [u8]) -> Result<Table<'a>, Refusal>
+        ensures check { result_map_both (λ t. tt) (λ r. r) result ≡ shape_check n (length bytes.now) }
+        ensures size { IfOk result (λ t. t.n ≡ n) }
+        ensures bytes { IfOk result (λ t. t.bytes.now ≡ bytes.now) }
+    {
+        rules::check_shape(n, bytes.len())?;
+        Ok(Table { n: n as u8, bytes })
+    }
+
+    // Byte c of line i.
+    #[tactic(auto, using(crate::proofs::CellLaws::byte_inside), unfolding(crate::specs::Table::cell))]
+    pub fn get(&self, i: Station, c: u16) -> u8
+        requires line { i.0 < self.now.n }
+        requires column { c < stride self.now.n }
+        ensures { result ≡ cell self.now.n self.now.bytes.now i.0 c }
+    {
+        let at = cells::line_start(self.n, i) + c as usize;
+        self.bytes[at]
+    }
+
+    // Whether station i is live.
+    pub fn is_live(&self, i: Station) -> bool
+        requires { i.0 < self.now.n }
+        ensures { result ≡ live self.now.n self.now.bytes.now i.0 }
+    {
+        self.get(i, cells::STATUS) == cells::LIVE
+    }
+
+    // Whether station i has finished its pass.
+    pub fn is_finished(&self, i: Station) -> bool
+        requires { i.0 < self.now.n }
+        ensures { result ≡ (finished self.now.n self.now.bytes.now i.0 == 1) }
+    {
+        self.get(i, cells::FINISHED) == 1
+    }
+
+    // Whether station i, if it is live, has finished its pass.
+    pub fn finished_if_live(&self, i: Station) -> bool
+        requires { i.0 < self.now.n }
+        ensures { result ≡ finished_if_live self.now.n self.now.bytes.now i.0 }
+    {
+        !self.is_live(i) | self.is_finished(i)
+    }
+
+    // Whether some station is live and every live one has finished its pass.
+    #[tactic(auto, using(lists::proofs::Loops::loops, crate::proofs::Accepting::rounds))]
+    pub fn is_round_over(&self) -> bool
+        ensures { result ≡ round_over self.now.n self.now.bytes.now }
+    {
+        let mut some = false;
+        for i in 0..self.n {
+            if !self.finished_if_live(Station(i)) {
+                return false;
+            }
+            some |= self.is_live(Station(i));
+        }
+        some
+    }
+
+    // Whether station i suspects station k.
+    pub fn suspects(&self, i: Station, k: Station) -> bool
+        requires line { i.0 < self.now.n }
+        requires suspected { k.0 < self.now.n }
+        ensures { result ≡ (suspects self.now.n self.now.bytes.now i.0 k.0 == 1) }
+    {
+        self.get(i, cells::HEAD + k.0 as u16) == 1
+    }
+
+    // The row of line i, as that part of the table.
+    #[tactic(auto, using(crate::proofs::CellLaws::row_inside), unfolding(crate::specs::Table::row))]
+    pub fn row(&self, i: Station) -> &'a [u8]
+        requires { i.0 < self.now.n }
+        ensures value { result.now ≡ row self.now.n self.now.bytes.now i.0 }
+        ensures len { length result.now ≡ self.now.n }
+        ensures memory { result.ref_ptr.0 ≡ self.now.bytes.ref_ptr.0 }
+        ensures place { result.ref_ptr.1 ≡ self.now.bytes.ref_ptr.1 + row_start self.now.n i.0 }
+    {
+        let a = cells::row_start(self.n, i);
+        let e = a + self.n as usize;
+        &self.bytes[a..e]
+    }
+}
+
+impl<'a> TableMut<'a> {
+    ghost use Rattle.table.specs.Lent.{IsSameLoan};
+
+    // The table, to be read.
+    pub fn read(&self) -> Table<'_>
+        ensures size { result.n ≡ self.now.n }
+        ensures bytes { result.bytes.now ≡ self.now.bytes.now }
+    {
+        Table {
+            n: self.n,
+            bytes: &*self.bytes,
+        }
+    }
+
+    // Writes byte c of line i.
+    #[tactic(auto, using(crate::proofs::CellLaws::byte_inside), unfolding(crate::specs::Table::set_cell))]
+    pub fn put(&mut self, i: Station, c: u16, v: u8)
+        requires line { i.0 < self.old.n }
+        requires column { c < stride self.old.n }
+        ensures same { IsSameLoan self.old self.new }
+        ensures bytes { self.new.bytes.now ≡ set_cell self.old.n self.old.bytes.now i.0 c v }
+    {
+        let at = cells::line_start(self.n, i) + c as usize;
+        self.bytes[at] = v;
+    }
+
+    // Station i suspects station k.
+    pub fn suspect(&mut self, i: Station, k: Station)
+        requires line { i.0 < self.old.n }
+        requires suspected { k.0 < self.old.n }
+        ensures same { IsSameLoan self.old self.new }
+        ensures bytes { self.new.bytes.now ≡ set_cell self.old.n self.old.bytes.now i.0 (head + k.0) 1 }
+    {
+        self.put(i, cells::HEAD + k.0 as u16, 1);
+    }
+}

@@ -1,0 +1,42 @@
+// The status of a station, as a value and as byte 0 of its line (document 01, "The lent table").
+ghost use Rattle.std.specs.Prelude.{◌≡◌};
+ghost use Rattle.table.specs.Status.{status_of, status_byte};
+
+use lists::refusal::Refusal;
+
+// The status of a station.
+#[derive(Clone, Copy, Debug, PartialEq, Eq)]
+pub enum Status {
+    Live = 0,
+    Crashed = 1,
+    // It left because a station that suspects it told it.
+    LeftTold = 2,
+    // It left because it suspected all others.
+    LeftAlone = 3,
+}
+
+// The status that byte 0 stands for; refusal 3 where there is none.
+impl TryFrom<u8> for Status {
+    type Error = Refusal;
+
+    ghost try_from_gives = { λ byte result. result ≡ status_of byte };
+
+    fn try_from(byte: u8) -> Result<Self, Refusal> {
+        match byte {
+            0 => Ok(Status::Live),
+            1 => Ok(Status::Crashed),
+            2 => Ok(Status::LeftTold),
+            3 => Ok(Status::LeftAlone),
+            _ => Err(Refusal::LineRule),
+        }
+    }
+}
+
+// The byte of a status.
+impl From<Status> for u8 {
+    ghost from_gives = { λ status byte. byte ≡ status_byte status };
+
+    fn from(status: Status) -> u8 {
+        status as u8
+    }
+}
