@@ -7,44 +7,36 @@ ghost use Rattle.lists.specs.Bytes.{with_joined, same_bytes};
 ghost use Rattle.station.specs.Rows.{union};
 ghost use Rattle.table.specs.Rules.{table_number};
 ghost use Rattle.station.specs.Tests.{due};
+ghost use Rattle.turn.specs.Outcome.{test_byte, tested_byte, outcome_byte};
 ghost use Rattle.turn.specs.Turn.{next_test, finish_pass, count_test, replies, is_told, exchange_rows, suspect, set_status, leave_told, reply_outcome, test_outcome, after_outcome, self_or_suspected, is_alone, after_alone, testing, turn, turn_tested, turn_outcome};
 
-use crate::codes;
+use crate::kind::Kind;
+use crate::outcome::{Outcome, TestOutcome};
 use lists::bytes;
 use station::{DueOrAhead, due, order, rows};
 use table::{Distance, Station, cells, inside, sizes};
 
-// What a turn puts on the sheet: the tested station or 255, and the outcome.
-#[derive(Clone, Copy)]
-pub struct Turned {
-    pub tested: u8,
-    pub outcome: u8,
-}
-
 // Steps 2 to 6: the turn of station i.
-pub fn take_turn(n: u8, table: &mut [u8], kind: u8, i: Station) -> Turned
+pub fn take_turn(n: u8, table: &mut [u8], kind: u8, i: Station) -> Outcome
     requires { (table_number n table.old ≡ 0) × (i.0 < n) }
-    ensures tested_value { result.tested ≡ turn_tested n table.old i.0 }
-    ensures outcome_value { result.outcome ≡ turn_outcome n table.old kind i.0 }
+    ensures tested_value { tested_byte result ≡ turn_tested n table.old i.0 }
+    ensures outcome_value { outcome_byte result ≡ turn_outcome n table.old kind i.0 }
     ensures table_after { table.new ≡ turn n table.old kind i.0 }
 {
     let m = next_test(n, table, i);
     if sizes::distances(n) <= m.0 as u16 {
         finish_pass(n, table, i);
-        return Turned {
-            tested: codes::NO_STATION,
-            outcome: codes::PASS_FINISHED,
-        };
+        return Outcome::PassFinished;
     }
-    let j = order::lookup(i, m);
     let outcome = make_test(n, table, kind, i, m);
-    Turned {
-        tested: j.0,
-        outcome: outcome,
+    Outcome::Test {
+        tested: order::lookup(i, m),
+        outcome,
     }
 }
 
 // Step 2: the least due distance not below the next one; the number of distances where there is none.
+#[tactic(auto, unfolding(crate::specs::Turn::next_test))]
 fn next_test(n: u8, table: &[u8], i: Station) -> Distance
     requires { (n ≤ 64) × HasLine n table.now i.0 }
     ensures { result.0 ≡ next_test n table.now i.0 }
@@ -78,6 +70,7 @@ fn scan(row: &[u8], i: Station, end: u8, from: Distance) -> Distance
 }
 
 // Step 2: no distance is due any more.
+#[tactic(auto, unfolding(crate::specs::Turn::finish_pass))]
 fn finish_pass(n: u8, table: &mut [u8], i: Station)
     requires { (n ≤ 64) × HasLine n table.old i.0 }
     ensures { table.new ≡ finish_pass n table.old i.0 }
@@ -86,10 +79,10 @@ fn finish_pass(n: u8, table: &mut [u8], i: Station)
     inside::put(n, table, i, cells::FINISHED, 1);
 }
 
-// Steps 3 to 6: station i tests the station at distance m. The answer is the outcome.
-fn make_test(n: u8, table: &mut [u8], kind: u8, i: Station, m: Distance) -> u8
+// Steps 3 to 6: station i tests the station at distance m.
+fn make_test(n: u8, table: &mut [u8], kind: u8, i: Station, m: Distance) -> TestOutcome
     requires { (table_number n table.old ≡ 0) × (i.0 < n) × (0 < m.0) × (m.0 < 64) × (station_at i.0 m.0 < n) }
-    ensures value { result ≡ test_outcome n (count_test n table.old i.0 m.0) kind i.0 (station_at i.0 m.0) }
+    ensures value { test_byte result ≡ test_outcome n (count_test n table.old i.0 m.0) kind i.0 (station_at i.0 m.0) }
     ensures table_after { table.new ≡ testing n table.old kind i.0 m.0 }
 {
     let j = order::lookup(i, m);
@@ -101,6 +94,7 @@ fn make_test(n: u8, table: &mut [u8], kind: u8, i: Station, m: Distance) -> u8
 }
 
 // Step 3: next distance and tests of i.
+#[tactic(auto, unfolding(crate::specs::Turn::count_test))]
 fn count_test(n: u8, table: &mut [u8], i: Station, m: Distance)
     requires { (length table.old ≡ table_length n) × (i.0 < n) × (m.0 < 255) × (tests_made n table.old i.0 < 255) }
     ensures { table.new ≡ count_test n table.old i.0 m.0 }
@@ -111,51 +105,48 @@ fn count_test(n: u8, table: &mut [u8], i: Station, m: Distance)
 }
 
 // Steps 4 and 5: the outcome of the test of j.
-fn test_outcome(n: u8, table: &[u8], kind: u8, i: Station, j: Station) -> u8
+#[tactic(auto, unfolding(crate::specs::Turn::test_outcome))]
+fn test_outcome(n: u8, table: &[u8], kind: u8, i: Station, j: Station) -> TestOutcome
     requires { (length table.now ≡ table_length n) × (i.0 < n) × (j.0 < n) }
-    ensures { result ≡ test_outcome n table.now kind i.0 j.0 }
+    ensures { test_byte result ≡ test_outcome n table.now kind i.0 j.0 }
 {
     if !does_reply(n, table, kind, j) {
-        return codes::NO_REPLY;
+        return TestOutcome::NoReply;
     }
     reply_outcome(n, table, i, j)
 }
 
 // Step 4: the outcome where j replies. The row of j is asked first.
-fn reply_outcome(n: u8, table: &[u8], i: Station, j: Station) -> u8
+#[tactic(auto, unfolding(crate::specs::Turn::reply_outcome))]
+fn reply_outcome(n: u8, table: &[u8], i: Station, j: Station) -> TestOutcome
     requires { (length table.now ≡ table_length n) × (i.0 < n) × (j.0 < n) }
-    ensures { result ≡ reply_outcome n table.now i.0 j.0 }
+    ensures { test_byte result ≡ reply_outcome n table.now i.0 j.0 }
 {
     if is_told(n, table, i, j) {
-        return codes::TOLD;
+        return TestOutcome::Told;
     }
     if is_told(n, table, j, i) {
-        return codes::TESTED_TOLD;
+        return TestOutcome::TestedTold;
     }
-    codes::EXCHANGED
+    TestOutcome::Exchanged
 }
 
 // Steps 4 and 5: what the outcome of the test of j does to the table.
-fn apply_outcome(n: u8, table: &mut [u8], i: Station, j: Station, outcome: u8)
+#[tactic(auto, unfolding(crate::specs::Turn::after_outcome))]
+fn apply_outcome(n: u8, table: &mut [u8], i: Station, j: Station, outcome: TestOutcome)
     requires { (n ≤ 64) × (length table.old ≡ table_length n) × (i.0 < n) × (j.0 < n) × (i.0 ≡ j.0 → ⊥) }
-    ensures { table.new ≡ after_outcome n table.old i.0 j.0 outcome }
+    ensures { table.new ≡ after_outcome n table.old i.0 j.0 (test_byte outcome) }
 {
-    if outcome == codes::TOLD {
-        leave_told(n, table, i, j);
-        return;
+    match outcome {
+        TestOutcome::Told => leave_told(n, table, i, j),
+        TestOutcome::TestedTold => leave_told(n, table, j, i),
+        TestOutcome::Exchanged => exchange_rows(n, table, i, j),
+        TestOutcome::NoReply => suspect_station(n, table, i, j),
     }
-    if outcome == codes::TESTED_TOLD {
-        leave_told(n, table, j, i);
-        return;
-    }
-    if outcome == codes::EXCHANGED {
-        exchange_rows(n, table, i, j);
-        return;
-    }
-    suspect_station(n, table, i, j);
 }
 
 // Step 4: a leaves because told by b, which byte 4 names.
+#[tactic(auto, unfolding(crate::specs::Turn::leave_told))]
 fn leave_told(n: u8, table: &mut [u8], a: Station, b: Station)
     requires { HasLine n table.old a.0 }
     ensures { table.new ≡ leave_told n table.old a.0 b.0 }
@@ -173,15 +164,17 @@ pub fn leave(n: u8, table: &mut [u8], i: Station, status: u8)
 }
 
 // Step 4: whether j replies in time.
+#[tactic(auto, unfolding(crate::specs::Turn::replies))]
 fn does_reply(n: u8, table: &[u8], kind: u8, j: Station) -> bool
     requires { HasLine n table.now j.0 }
     ensures { result ≡ replies n table.now kind j.0 }
 {
     let status = inside::get(n, table, j, cells::STATUS);
-    (status == cells::LIVE) & (kind == codes::TURN)
+    (status == cells::LIVE) & (kind == u8::from(Kind::Turn))
 }
 
 // Step 4: whether a is told by b: b suspects a.
+#[tactic(auto, unfolding(crate::specs::Turn::is_told))]
 fn is_told(n: u8, table: &[u8], a: Station, b: Station) -> bool
     requires { (length table.now ≡ table_length n) × (a.0 < n) × (b.0 < n) }
     ensures { result ≡ is_told n table.now a.0 b.0 }
@@ -243,6 +236,7 @@ fn join_into(n: u8, table: &mut [u8], i: Station, other: &[u8])
 }
 
 // Step 6: i leaves if it is live and suspects all others.
+#[tactic(auto, unfolding(crate::specs::Turn::after_alone))]
 fn leave_if_alone(n: u8, table: &mut [u8], i: Station)
     requires { HasLine n table.old i.0 }
     ensures { table.new ≡ after_alone n table.old i.0 }
@@ -269,6 +263,7 @@ fn suspects_all(n: u8, table: &[u8], i: Station) -> bool
 }
 
 // Whether k is i or i suspects it.
+#[tactic(auto, unfolding(crate::specs::Turn::self_or_suspected))]
 fn self_or_suspected(n: u8, table: &[u8], i: Station, k: Station) -> bool
     requires { (length table.now ≡ table_length n) × (i.0 < n) × (k.0 < n) }
     ensures { result ≡ self_or_suspected n table.now i.0 k.0 }

@@ -46,4 +46,4 @@ unfolding turn turn_tested turn_outcome makes_test
 returns c =
     let e = lt-ltb _ _ (rw c.distances.ensures at c.if-distances-m.false) in
     let o = c.make_test-outcome.ensures in
-    rw (← c.next_test-m.ensures, e) (record { tested_value = c.lookup-j.ensures; outcome_value = o.value; table_after = o.table_after })
+    rw (← c.next_test-m.ensures, e) (record { tested_value = c.lookup.ensures; outcome_value = o.value; table_after = o.table_after })
