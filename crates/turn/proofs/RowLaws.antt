@@ -48,21 +48,6 @@ same_exchange n t i j e =
         pick k (no d) = union-others r r own k d ∙ max-eq_left (le_refl (get_or r k 0))
 
 
--- a row joined with another one that was joined with it before
-pub union-again : (r o : List ℕ) (a b : ℕ) → length r ≡ length o → union o (union r o a) b ≡ union o r b
-unfolding union joined_byte
-union-again r o a b w = list_of-same _ _ (length o) (λ k h. pick k (omega arith) (ℕ_discrete k b) (ℕ_discrete k a))
-  where
-    pick : (k : ℕ) → k < length r → Dec (k ≡ b) → Dec (k ≡ a) → union_byte o (union r o a) b k ≡ union_byte o r b k
-    pick k h (yes e) d = rw e (union-own o (union r o a) b ∙ sym (union-own o r b))
-    pick k h (no e) (yes d) =
-        let u : get_or (union r o a) k 0 ≡ get_or r k 0 = union-at r o a k h ∙ rw d (union-own r o a) in
-        union-others o (union r o a) b k e ∙ ap (max (get_or o k 0)) u ∙ sym (union-others o r b k e)
-    pick k h (no e) (no d) =
-        let u : get_or (union r o a) k 0 ≡ max (get_or r k 0) (get_or o k 0) = union-at r o a k h ∙ union-others r o a k d in
-        let m : max (get_or o k 0) (get_or (union r o a) k 0) ≡ max (get_or o k 0) (get_or r k 0) = omega (arith, u) in
-        union-others o (union r o a) b k e ∙ m ∙ sym (union-others o r b k e)
-
 -- where a table is cut before a row, that row stands at the front of what is behind the cut, and all earlier ones stand before it
 pub row-order : (n i j : ℕ) → i < j → row_start n i + n ≤ row_start n j
 unfolding line_start
@@ -120,16 +105,15 @@ set_row-turned n t i j r o long h hj hr =
 
 -- both rows lent at once, as they come back: f is the part of the table before the row of j, k the part from there on
 pub joined-back : (n : ℕ) (t f k : List ℕ) (i j a w : ℕ) (r o : List ℕ) → a ≡ row_start n i → w ≡ n → t ≡ f ++ k → length f ≡ row_start n j → i < j
-    → n ≤ length k → r ≡ union (take w (drop a f)) (take n k) i → o ≡ union (take n k) r j
+    → r ≡ union (take w (drop a f)) (take n k) i → o ≡ union (take n k) (take w (drop a f)) j
     → (take a f ++ (r ++ drop w (drop a f))) ++ (o ++ drop n k) ≡ exchange_rows n t i j
 unfolding exchange_rows
-joined-back n t f k i j a w r o ea ew et ef h hk er eo =
+joined-back n t f k i j a w r o ea ew et ef h er eo =
     let x : List ℕ = take n (drop (row_start n i) f) in
     let y : List ℕ = take n k in
     let hx : length x ≡ n = length-take-le n (drop (row_start n i) f) (omega (arith, length-drop (row_start n i) f, row-order n i j h)) in
-    let hy : length y ≡ n = length-take-le n k hk in
     let u : r ≡ union x y i = rw (ew, ea) at er in
-    let v : o ≡ union y x j = eo ∙ ap (λ (z : List ℕ). union y z j) u ∙ union-again x y i j (hx ∙ sym hy) in
+    let v : o ≡ union y x j = rw (ew, ea) at eo in
     let p = set_rows-parts n f k (union x y i) (union y x j) i j ef h (union-length x y i ∙ hx) in
     rw (ew, ea, et, u, v, row-front n f k i j ef h, row-behind n f k j ef) (sym p)
 

@@ -3,6 +3,7 @@ ghost use Rattle.std.specs.Prelude.{◌≡◌, ◌≢◌, ◌-◌, ◌<◌, ◌�
 ghost use Rattle.table.specs.Table.{HasLine, table_length, tests_made, row};
 ghost use Rattle.station.specs.Groups.{station_at};
 ghost use Rattle.lists.specs.Bytes.{same_bytes};
+ghost use Rattle.station.specs.Rows.{union};
 ghost use Rattle.table.specs.Rules.{table_number};
 ghost use Rattle.turn.specs.Outcome.{test_byte, tested_byte, outcome_byte};
 ghost use Rattle.turn.specs.Turn.{first_due, tested_distance, finish_pass, count_test, replies, is_told, exchange_rows, suspect, set_status, leave_told, reply_outcome, test_outcome, after_outcome, self_or_suspected, is_alone, after_alone, testing, turn, turn_tested, turn_outcome};
@@ -211,10 +212,27 @@ fn join_both(n: u8, table: &mut [u8], low: Station, high: Station)
     let size = n as usize;
     let at = cells::row_start(n, low);
     let (front, back) = table.split_at_mut(cells::row_start(n, high));
-    let row = &mut front[at..at + size];
-    let other = &mut back[..size];
-    rows::join_row(row, other, low);
-    rows::join_row(other, row, high);
+    join_rows(&mut front[at..at + size], &mut back[..size], low, high);
+}
+
+// Both rows become the union of the two, except that station i or j never writes the byte about itself.
+fn join_rows(row: &mut [u8], other: &mut [u8], i: Station, j: Station)
+    requires same_length { length row.old ≡ length other.old }
+    requires own_inside { i.0 < length row.old }
+    requires other_own_inside { j.0 < length other.old }
+    ensures row_after { row.new ≡ union row.old other.old i.0 }
+    ensures other_after { other.new ≡ union other.old row.old j.0 }
+{
+    let own = row[i.0 as usize];
+    let other_own = other[j.0 as usize];
+    // By an index: of what a loop over two `iter_mut` writes no proof knows anything afterwards.
+    for k in 0..row.len() {
+        let both = row[k].max(other[k]);
+        row[k] = both;
+        other[k] = both;
+    }
+    row[i.0 as usize] = own;
+    other[j.0 as usize] = other_own;
 }
 
 // Whether the rows of i and j hold the same bytes.
