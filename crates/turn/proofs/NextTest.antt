@@ -1,6 +1,6 @@
 -- Laws of the distance that a turn tests, step 2 of document 01.
 -- Assumes nothing.
-use mathlib.Core.Path.{◌≡◌, sym}
+use mathlib.Core.Path.{◌≡◌}
 use mathlib.Core.Bool.{true, false}
 use mathlib.Core.List.{List}
 use Prim.Native.Nat.{ℕ, ◌-◌, ◌≤◌, ◌<◌}
@@ -14,10 +14,7 @@ use Rattle.station.specs.Tests.{due}
 use Rattle.lists.proofs.SearchLaws.{least-between, least-passes, least-before}
 use Rattle.table.proofs.CellLaws.{row-length}
 use Rattle.station.proofs.DueLaws.{due-present}
-use Rattle.lists.proofs.BoolLaws.{by_bool}
-use Rattle.std.specs.Prelude.{Some, None}
-use Rattle.std.proofs.lemmas.Option.{none-some, cond_some}
-use Rattle.turn.specs.Turn.{next_test, makes_test, tested_distance}
+use Rattle.turn.specs.Turn.{next_test, makes_test}
 
 module _ (n : ℕ) (t : List ℕ) (i : ℕ) where
   pub next_test-low : next_distance n t i ≤ next_test n t i
@@ -54,10 +51,3 @@ module _ (n : ℕ) (t : List ℕ) (i : ℕ) where
 
   pub none-due : makes_test n t i ≡ false → next_distance n t i ≤ distances n → (y : ℕ) → next_distance n t i ≤ y → y < distances n → due (row n t i) i y ≡ false
   none-due e h y lo hi = not-due-before y lo (omega (arith, no_test e h))
-
-  -- what the search for a test answers
-  pub none-made : None ≡ tested_distance n t i → makes_test n t i ≡ false
-  none-made e = by_bool (makes_test n t i) (λ y. absurd (none-some _ (rw y at e))) (λ y. y)
-
-  pub test-made : (m : ℕ) → Some m ≡ tested_distance n t i → (makes_test n t i ≡ true) × (next_test n t i ≡ m)
-  test-made m e = cond_some (makes_test n t i) (next_test n t i) m (sym e)

@@ -1,7 +1,7 @@
 -- Document 01, steps 2 to 7 of "What an entry does", with step 4 as request C-13 has it and byte 4 of request C-18, as functions of the
 -- table. Station i is the entry's, kind its kind, j the tested station.
 -- Assumes nothing.
-use Rattle.std.specs.Prelude.{ℕ, ◌+◌, ◌-◌, Bool, cond, ◌&&◌, ◌||◌, List, ltb, eqb, nat_lt, if◌then◌else◌, Option, Some, None}
+use Rattle.std.specs.Prelude.{ℕ, ◌+◌, ◌-◌, Bool, cond, ◌&&◌, ◌||◌, List, ltb, eqb}
 use Rattle.lists.specs.Search.{least, every}
 use Rattle.station.specs.Groups.{station_at}
 use Rattle.table.specs.Sizes.{distances}
@@ -57,16 +57,6 @@ next_test n t i = least (due (row n t i) i) (distances n - next_distance n t i) 
 -- whether there is one
 unfoldable pub makes_test : ℕ → List ℕ → ℕ → Bool
 makes_test n t i = ltb (next_test n t i) (distances n)
-
--- the distance tested, if there is one
-abbrev pub tested_distance : ℕ → List ℕ → ℕ → Option ℕ
-tested_distance n t i = if makes_test n t i then Some (next_test n t i) else None
-
--- the least distance from a first one on, and below an end, that is due for i by its row r, if there is one
-unfoldable pub first_due : List ℕ → ℕ → ℕ → ℕ → Option ℕ
-first_due r i from end =
-    let m = least (due r i) (end - from) from in
-    if nat_lt m end then Some m else None
 
 -- "If there is none, next distance becomes N and the pass is finished; no test is made." By C-11 it becomes 2^d
 unfoldable pub finish_pass : ℕ → List ℕ → ℕ → List ℕ

@@ -1,12 +1,14 @@
 // A turn of one station (document 01, steps 2 to 6; step 4 as request C-13 has it, byte 4 as C-18).
-ghost use Rattle.std.specs.Prelude.{◌≡◌, ◌≢◌, ◌-◌, ◌<◌, ◌≤◌, length, option_map};
+ghost use Rattle.std.specs.Prelude.{◌≡◌, ◌≢◌, ◌-◌, ◌<◌, ◌≤◌, length};
+ghost use Rattle.lists.specs.Search.{least};
 ghost use Rattle.table.specs.Table.{HasLine, table_length, tests_made, row};
 ghost use Rattle.station.specs.Groups.{station_at};
 ghost use Rattle.lists.specs.Bytes.{same_bytes};
 ghost use Rattle.station.specs.Rows.{union};
 ghost use Rattle.table.specs.Rules.{table_number};
+ghost use Rattle.station.specs.Tests.{due};
 ghost use Rattle.turn.specs.Outcome.{test_byte, tested_byte, outcome_byte};
-ghost use Rattle.turn.specs.Turn.{first_due, tested_distance, finish_pass, count_test, replies, is_told, exchange_rows, suspect, set_status, leave_told, reply_outcome, test_outcome, after_outcome, self_or_suspected, is_alone, after_alone, testing, turn, turn_tested, turn_outcome};
+ghost use Rattle.turn.specs.Turn.{next_test, finish_pass, count_test, replies, is_told, exchange_rows, suspect, set_status, leave_told, reply_outcome, test_outcome, after_outcome, self_or_suspected, is_alone, after_alone, testing, turn, turn_tested, turn_outcome};
 
 use crate::kind::Kind;
 use crate::outcome::{Outcome, TestOutcome};
@@ -21,45 +23,50 @@ pub fn take_turn(n: u8, table: &mut [u8], kind: u8, i: Station) -> Outcome
     ensures outcome_value { outcome_byte result ≡ turn_outcome n table.old kind i.0 }
     ensures table_after { table.new ≡ turn n table.old kind i.0 }
 {
-    match next_test(n, table, i) {
-        None => {
-            finish_pass(n, table, i);
-            Outcome::PassFinished
-        }
-        Some(m) => Outcome::Test {
-            tested: order::lookup(i, m),
-            outcome: make_test(n, table, kind, i, m),
-        },
+    let m = next_test(n, table, i);
+    if sizes::distances(n) <= m.0 as u16 {
+        finish_pass(n, table, i);
+        return Outcome::PassFinished;
+    }
+    let outcome = make_test(n, table, kind, i, m);
+    Outcome::Test {
+        tested: order::lookup(i, m),
+        outcome,
     }
 }
 
-// Step 2: the least due distance not below the next one, if there is one.
-#[tactic(auto, unfolding(crate::specs::Turn::first_due, crate::specs::Turn::makes_test, crate::specs::Turn::next_test))]
-fn next_test(n: u8, table: &[u8], i: Station) -> Option<Distance>
-    requires size { n ≤ 64 }
-    requires line { HasLine n table.now i.0 }
-    ensures { option_map (λ m. m.0) result ≡ tested_distance n table.now i.0 }
+// Step 2: the least due distance not below the next one; the number of distances where there is none.
+#[tactic(auto, unfolding(crate::specs::Turn::next_test))]
+fn next_test(n: u8, table: &[u8], i: Station) -> Distance
+    requires { (n ≤ 64) × HasLine n table.now i.0 }
+    ensures { result.0 ≡ next_test n table.now i.0 }
 {
-    let next = Distance(inside::get(n, table, i, cells::NEXT));
-    let end = Distance(sizes::distances(n) as u8);
-    first_due(inside::row(n, table, i), i, next, end)
+    let next = inside::get(n, table, i, cells::NEXT);
+    let end = sizes::distances(n) as u8;
+    scan(inside::row(n, table, i), i, end, Distance(next))
 }
 
-// The least distance from `from` on, and below `end`, that is due for i by its row. Where the answer names another station, no distance of
-// the block that begins there is due (request C-16). It names i where no station stands.
-fn first_due(row: &[u8], i: Station, from: Distance, end: Distance) -> Option<Distance>
-    ensures { option_map (λ m. m.0) result ≡ first_due row.now i.0 from.0 end.0 }
+// The least distance from `from` on, and below `end`, that is due for i by its row; `end`, or `from` if that is greater, where there is none.
+// Where the answer is not "due", no distance of the block that begins there is due, and the scan goes on behind it (request C-16).
+fn scan(row: &[u8], i: Station, end: u8, from: Distance) -> Distance
+    ensures { result.0 ≡ least (due row.now i.0) (end - from.0) from.0 }
 {
     let mut m = from.0 as u16;
-    while m < end.0 as u16 {
+    while m < end as u16 {
         let at = Distance(m as u8);
-        m = match due::due_or_ahead(row, i, at) {
-            DueOrAhead::Due => return Some(at),
-            DueOrAhead::Ahead(x) if x.0 == i.0 => m + 1,
-            DueOrAhead::Ahead(_) => due::block_end(at).0 as u16 + 1,
+        if !due::stands(row, i, at) {
+            m += 1;
+            continue;
+        }
+        let answer = due::due_or_ahead(row, i, at);
+        let DueOrAhead::Due = answer else {
+            let last = due::block_end(at);
+            m = last.0 as u16 + 1;
+            continue;
         };
+        return at;
     }
-    None
+    if from.0 < end { Distance(end) } else { from }
 }
 
 // Step 2: no distance is due any more.

@@ -1,45 +1,49 @@
--- The next distance is at least 1, and a test is made where a distance is due.
+-- The next distance is at least 1, and a test is made where the distance found is one of the plant's.
 use Rattle.std.proofs.Common.{refl, arith}
+use borrow.Author.Tests.{lt-ltb, le-ltb}
 use Rattle.table.proofs.Accepting.{accepted}
 use Rattle.table.proofs.SizeLaws.{size-bounds, size-distances}
 use Rattle.table.proofs.CellLaws.{accepted-line}
 use Rattle.turn.specs.Turn.{makes_test, turn, turn_tested, turn_outcome}
-use Rattle.turn.proofs.NextTest.{next_test-low, test-station, test_below, none-made, test-made}
+use Rattle.turn.proofs.NextTest.{next_test-low, test-station}
 use Rattle.turn.proofs.steps.take_turn.Goals as goal
 
-pub next_test-requires : goal.next_test-requires
-next_test-requires c =
+pub next_test-m-requires : goal.next_test-m-requires
+next_test-m-requires c =
     let t = accepted c.args.n c.args.table.now c.requires.0 in
-    record { size = (size-bounds c.args.n t.size).1; line = (t.long, c.requires.1) }
+    ((size-bounds c.args.n t.size).1, (t.long, c.requires.1))
 
 pub finish_pass-requires : goal.finish_pass-requires
 finish_pass-requires c =
     let t = accepted c.args.n c.args.table.now c.requires.0 in
     ((size-bounds c.args.n t.size).1, (t.long, c.requires.1))
 
-pub returns-in-None : goal.returns-in-None
-unfolding turn turn_tested turn_outcome
-returns-in-None c =
-    let e = none-made _ _ _ c.in-None.ensures in
-    rw e (record { tested_value = refl; outcome_value = refl; table_after = c.finish_pass.ensures })
+pub returns-then-distances-m : goal.returns-then-distances-m
+unfolding turn turn_tested turn_outcome makes_test
+returns-then-distances-m c =
+    let e = le-ltb _ _ (rw c.distances.ensures at c.if-distances-m.true) in
+    rw (← c.next_test-m.ensures, e) (record { tested_value = refl; outcome_value = refl; table_after = c.finish_pass.ensures })
 
-pub make_test-requires : goal.make_test-requires
-make_test-requires c =
+pub make_test-outcome-requires : goal.make_test-outcome-requires
+unfolding makes_test
+make_test-outcome-requires c =
     let a = c.args in
     let p = c.requires in
     let t = accepted a.n a.table.now p.0 in
     let l = accepted-line a.n a.table.now t a.i.0 p.1 in
-    let e = test-made a.n a.table.now a.i.0 _ c.in-Some.ensures in (
+    let m = c.next_test-m.ensures in
+    let end = c.distances.ensures in
+    let e = lt-ltb _ _ (rw (end, m) at c.if-distances-m.false) in (
       p.0,
       p.1,
-      omega (arith, e.1, next_test-low a.n a.table.now a.i.0, l.pass.next_low),
-      omega (arith, e.1, test_below a.n a.table.now a.i.0 e.0, size-distances a.n t.size),
-      rw (← e.1) (test-station a.n a.table.now a.i.0 e.0 t.long p.1),
+      omega (arith, m, next_test-low a.n a.table.now a.i.0, l.pass.next_low),
+      omega (arith, end, size-distances a.n t.size),
+      rw m (test-station a.n a.table.now a.i.0 e t.long p.1),
     )
 
-pub returns-in-Some : goal.returns-in-Some
-unfolding turn turn_tested turn_outcome
-returns-in-Some c =
-    let e = test-made _ _ _ _ c.in-Some.ensures in
-    let o = c.make_test.ensures in
-    rw (e.0, e.1) (record { tested_value = c.lookup.ensures; outcome_value = o.value; table_after = o.table_after })
+pub returns : goal.returns
+unfolding turn turn_tested turn_outcome makes_test
+returns c =
+    let e = lt-ltb _ _ (rw c.distances.ensures at c.if-distances-m.false) in
+    let o = c.make_test-outcome.ensures in
+    rw (← c.next_test-m.ensures, e) (record { tested_value = c.lookup.ensures; outcome_value = o.value; table_after = o.table_after })
