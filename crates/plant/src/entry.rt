@@ -55,10 +55,12 @@ pub(crate) fn take_entry(
     ensures line_after { line.new ≡ sheet_line n (state_with table.old tally) (entry_of kind i.0) }
 {
     let done = act(n, table, kind, i);
+    // As bytes at once: after the round they cost the run up to a tenth of its speed.
+    let tested = done.tested_byte();
+    let outcome = done.outcome_byte();
     let over = rounds::close_round(n, table, i);
     line[0] = i.0;
-    line[1] = done.tested_byte();
-    let outcome = done.outcome_byte();
+    line[1] = tested;
     line[2] = outcome;
     line[3] = inside::get(n, table, i, cells::STATUS);
     let made = outcome != Outcome::PassFinished.outcome_byte();

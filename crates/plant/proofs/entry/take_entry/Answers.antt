@@ -40,4 +40,4 @@ unfolding after sheet_line
 returns-clause-line_after c =
     let e = c.act-done.ensures in
     line-written c.args.line.now c.args.i.0 _ _ c.get.result c.requires.2
-    ∙ rw (c.tested_byte.ensures, c.outcome_byte-outcome.ensures, e.tested_value, e.outcome_value, c.get.ensures, c.close_round-over.ensures.table_after, e.table_after)
+    ∙ rw (c.tested_byte-tested.ensures, c.outcome_byte-outcome.ensures, e.tested_value, e.outcome_value, c.get.ensures, c.close_round-over.ensures.table_after, e.table_after)
