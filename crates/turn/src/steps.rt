@@ -7,11 +7,11 @@ ghost use Rattle.lists.specs.Bytes.{same_bytes};
 ghost use Rattle.station.specs.Rows.{union};
 ghost use Rattle.table.specs.Rules.{table_number};
 ghost use Rattle.station.specs.Tests.{due};
-ghost use Rattle.turn.specs.Outcome.{test_byte, tested_byte, outcome_byte};
+ghost use Rattle.turn.specs.Outcome.{tested_byte, outcome_byte};
 ghost use Rattle.turn.specs.Turn.{next_test, finish_pass, count_test, replies, is_told, exchange_rows, suspect, set_status, leave_told, reply_outcome, test_outcome, after_outcome, self_or_suspected, is_alone, after_alone, testing, turn, turn_tested, turn_outcome};
 
 use crate::kind::Kind;
-use crate::outcome::{Outcome, TestOutcome};
+use crate::outcome::Outcome;
 use lists::bytes;
 use station::{DueOrAhead, due, order, rows};
 use table::{Distance, Station, cells, inside, sizes};
@@ -28,11 +28,7 @@ pub fn take_turn(n: u8, table: &mut [u8], kind: u8, i: Station) -> Outcome
         finish_pass(n, table, i);
         return Outcome::PassFinished;
     }
-    let outcome = make_test(n, table, kind, i, m);
-    Outcome::Test {
-        tested: order::lookup(i, m),
-        outcome,
-    }
+    make_test(n, table, kind, i, m)
 }
 
 // Step 2: the least due distance not below the next one; the number of distances where there is none.
@@ -80,15 +76,16 @@ fn finish_pass(n: u8, table: &mut [u8], i: Station)
 }
 
 // Steps 3 to 6: station i tests the station at distance m.
-fn make_test(n: u8, table: &mut [u8], kind: u8, i: Station, m: Distance) -> TestOutcome
+fn make_test(n: u8, table: &mut [u8], kind: u8, i: Station, m: Distance) -> Outcome
     requires { (table_number n table.old ≡ 0) × (i.0 < n) × (0 < m.0) × (m.0 < 64) × (station_at i.0 m.0 < n) }
-    ensures value { test_byte result ≡ test_outcome n (count_test n table.old i.0 m.0) kind i.0 (station_at i.0 m.0) }
+    ensures tested_value { tested_byte result ≡ station_at i.0 m.0 }
+    ensures outcome_value { outcome_byte result ≡ test_outcome n (count_test n table.old i.0 m.0) kind i.0 (station_at i.0 m.0) }
     ensures table_after { table.new ≡ testing n table.old kind i.0 m.0 }
 {
     let j = order::lookup(i, m);
     count_test(n, table, i, m);
     let outcome = test_outcome(n, table, kind, i, j);
-    apply_outcome(n, table, i, j, outcome);
+    apply_outcome(n, table, i, outcome);
     leave_if_alone(n, table, i);
     outcome
 }
@@ -106,42 +103,50 @@ fn count_test(n: u8, table: &mut [u8], i: Station, m: Distance)
 
 // Steps 4 and 5: the outcome of the test of j.
 #[tactic(auto, unfolding(crate::specs::Turn::test_outcome))]
-fn test_outcome(n: u8, table: &[u8], kind: u8, i: Station, j: Station) -> TestOutcome
+fn test_outcome(n: u8, table: &[u8], kind: u8, i: Station, j: Station) -> Outcome
     requires { (length table.now ≡ table_length n) × (i.0 < n) × (j.0 < n) }
-    ensures { test_byte result ≡ test_outcome n table.now kind i.0 j.0 }
+    ensures tested_value { tested_byte result ≡ j.0 }
+    ensures outcome_value { outcome_byte result ≡ test_outcome n table.now kind i.0 j.0 }
 {
     if !does_reply(n, table, kind, j) {
-        return TestOutcome::NoReply;
+        return Outcome::NoReply(j);
     }
     reply_outcome(n, table, i, j)
 }
 
 // Step 4: the outcome where j replies. The row of j is asked first.
 #[tactic(auto, unfolding(crate::specs::Turn::reply_outcome))]
-fn reply_outcome(n: u8, table: &[u8], i: Station, j: Station) -> TestOutcome
+fn reply_outcome(n: u8, table: &[u8], i: Station, j: Station) -> Outcome
     requires { (length table.now ≡ table_length n) × (i.0 < n) × (j.0 < n) }
-    ensures { test_byte result ≡ reply_outcome n table.now i.0 j.0 }
+    ensures tested_value { tested_byte result ≡ j.0 }
+    ensures outcome_value { outcome_byte result ≡ reply_outcome n table.now i.0 j.0 }
 {
     if is_told(n, table, i, j) {
-        return TestOutcome::Told;
+        return Outcome::Told(j);
     }
     if is_told(n, table, j, i) {
-        return TestOutcome::TestedTold;
+        return Outcome::TestedTold(j);
     }
-    TestOutcome::Exchanged
+    Outcome::Exchanged(j)
 }
 
 // Steps 4 and 5: what the outcome of the test of j does to the table.
 #[tactic(auto, unfolding(crate::specs::Turn::after_outcome))]
-fn apply_outcome(n: u8, table: &mut [u8], i: Station, j: Station, outcome: TestOutcome)
-    requires { (n ≤ 64) × (length table.old ≡ table_length n) × (i.0 < n) × (j.0 < n) × (i.0 ≡ j.0 → ⊥) }
-    ensures { table.new ≡ after_outcome n table.old i.0 j.0 (test_byte outcome) }
+fn apply_outcome(n: u8, table: &mut [u8], i: Station, outcome: Outcome)
+    requires size { n ≤ 64 }
+    requires table_length { length table.old ≡ table_length n }
+    requires tester_below { i.0 < n }
+    requires tested_below { tested_byte outcome < n }
+    requires apart { i.0 ≢ tested_byte outcome }
+    ensures { table.new ≡ after_outcome n table.old i.0 (tested_byte outcome) (outcome_byte outcome) }
 {
     match outcome {
-        TestOutcome::Told => leave_told(n, table, i, j),
-        TestOutcome::TestedTold => leave_told(n, table, j, i),
-        TestOutcome::Exchanged => exchange_rows(n, table, i, j),
-        TestOutcome::NoReply => suspect_station(n, table, i, j),
+        Outcome::Told(j) => leave_told(n, table, i, j),
+        Outcome::TestedTold(j) => leave_told(n, table, j, i),
+        Outcome::Exchanged(j) => exchange_rows(n, table, i, j),
+        Outcome::NoReply(j) => suspect_station(n, table, i, j),
+        // No outcome of a test.
+        Outcome::PassFinished | Outcome::Crashed => {}
     }
 }
 

@@ -28,13 +28,14 @@ apply_outcome-requires c =
     let a = c.args in
     let p = c.requires in
     let t = accepted a.n a.table.now p.0 in
-    let e = c.lookup-j.ensures in (
-      (size-bounds a.n t.size).1,
-      ap length c.count_test.ensures ∙ (count_test-length a.n a.table.now a.i.0 a.m.0 ∙ t.long),
-      p.1,
-      rw e p.4,
-      λ q. station-apart a.i.0 a.m.0 p.2 (q ∙ e),
-    )
+    let e = c.test_outcome-outcome.ensures.tested_value ∙ c.lookup-j.ensures in
+    record {
+      size = (size-bounds a.n t.size).1;
+      table_length = ap length c.count_test.ensures ∙ (count_test-length a.n a.table.now a.i.0 a.m.0 ∙ t.long);
+      tester_below = p.1;
+      tested_below = rw e p.4;
+      apart = λ q. station-apart a.i.0 a.m.0 p.2 (q ∙ e);
+    }
 
 pub leave_if_alone-requires : goal.leave_if_alone-requires
 leave_if_alone-requires c = (omega (arith, (accepted c.args.n c.args.table.now c.requires.0).long), c.requires.1)
@@ -42,4 +43,5 @@ leave_if_alone-requires c = (omega (arith, (accepted c.args.n c.args.table.now c
 pub returns-clause-table_after : goal.returns-clause-table_after
 unfolding testing
 returns-clause-table_after c =
-    rw (c.leave_if_alone.ensures, c.apply_outcome.ensures, c.test_outcome-outcome.ensures, c.count_test.ensures, c.lookup-j.ensures)
+    let o = c.test_outcome-outcome.ensures in
+    rw (c.leave_if_alone.ensures, c.apply_outcome.ensures, o.tested_value, o.outcome_value, c.count_test.ensures, c.lookup-j.ensures)

@@ -24,9 +24,9 @@ returns-then-distances-m c =
     let e = le-ltb _ _ (rw c.distances.ensures at c.if-distances-m.true) in
     rw (← c.next_test-m.ensures, e) (record { tested_value = refl; outcome_value = refl; table_after = c.finish_pass.ensures })
 
-pub make_test-outcome-requires : goal.make_test-outcome-requires
+pub make_test-requires : goal.make_test-requires
 unfolding makes_test
-make_test-outcome-requires c =
+make_test-requires c =
     let a = c.args in
     let p = c.requires in
     let t = accepted a.n a.table.now p.0 in
@@ -45,5 +45,5 @@ pub returns : goal.returns
 unfolding turn turn_tested turn_outcome makes_test
 returns c =
     let e = lt-ltb _ _ (rw c.distances.ensures at c.if-distances-m.false) in
-    let o = c.make_test-outcome.ensures in
-    rw (← c.next_test-m.ensures, e) (record { tested_value = c.lookup.ensures; outcome_value = o.value; table_after = o.table_after })
+    let o = c.make_test.ensures in
+    rw (← c.next_test-m.ensures, e) (record { tested_value = o.tested_value; outcome_value = o.outcome_value; table_after = o.table_after })
