@@ -18,7 +18,8 @@ use table::{Distance, Station, cells, inside, sizes};
 
 // Steps 2 to 6: the turn of station i.
 pub fn take_turn(n: u8, table: &mut [u8], kind: u8, i: Station) -> Outcome
-    requires { (table_number n table.old ≡ 0) × (i.0 < n) }
+    requires table_obeys { table_number n table.old ≡ 0 }
+    requires station_below { i.0 < n }
     ensures tested_value { tested_byte result ≡ turn_tested n table.old i.0 }
     ensures outcome_value { outcome_byte result ≡ turn_outcome n table.old kind i.0 }
     ensures table_after { table.new ≡ turn n table.old kind i.0 }
@@ -34,7 +35,8 @@ pub fn take_turn(n: u8, table: &mut [u8], kind: u8, i: Station) -> Outcome
 // Step 2: the least due distance not below the next one; the number of distances where there is none.
 #[tactic(auto, unfolding(crate::specs::Turn::next_test))]
 fn next_test(n: u8, table: &[u8], i: Station) -> Distance
-    requires { (n ≤ 64) × HasLine n table.now i.0 }
+    requires size { n ≤ 64 }
+    requires line { HasLine n table.now i.0 }
     ensures { result.0 ≡ next_test n table.now i.0 }
 {
     let next = inside::get(n, table, i, cells::NEXT);
@@ -68,7 +70,8 @@ fn scan(row: &[u8], i: Station, end: u8, from: Distance) -> Distance
 // Step 2: no distance is due any more.
 #[tactic(auto, unfolding(crate::specs::Turn::finish_pass))]
 fn finish_pass(n: u8, table: &mut [u8], i: Station)
-    requires { (n ≤ 64) × HasLine n table.old i.0 }
+    requires size { n ≤ 64 }
+    requires line { HasLine n table.old i.0 }
     ensures { table.new ≡ finish_pass n table.old i.0 }
 {
     inside::put(n, table, i, cells::NEXT, sizes::distances(n) as u8);
@@ -77,7 +80,11 @@ fn finish_pass(n: u8, table: &mut [u8], i: Station)
 
 // Steps 3 to 6: station i tests the station at distance m.
 fn make_test(n: u8, table: &mut [u8], kind: u8, i: Station, m: Distance) -> Outcome
-    requires { (table_number n table.old ≡ 0) × (i.0 < n) × (0 < m.0) × (m.0 < 64) × (station_at i.0 m.0 < n) }
+    requires table_obeys { table_number n table.old ≡ 0 }
+    requires tester_below { i.0 < n }
+    requires distance_above_0 { 0 < m.0 }
+    requires distance_below { m.0 < 64 }
+    requires tested_below { station_at i.0 m.0 < n }
     ensures tested_value { tested_byte result ≡ station_at i.0 m.0 }
     ensures outcome_value { outcome_byte result ≡ test_outcome n (count_test n table.old i.0 m.0) kind i.0 (station_at i.0 m.0) }
     ensures table_after { table.new ≡ testing n table.old kind i.0 m.0 }
@@ -93,7 +100,9 @@ fn make_test(n: u8, table: &mut [u8], kind: u8, i: Station, m: Distance) -> Outc
 // Step 3: next distance and tests of i.
 #[tactic(auto, unfolding(crate::specs::Turn::count_test))]
 fn count_test(n: u8, table: &mut [u8], i: Station, m: Distance)
-    requires { (length table.old ≡ table_length n) × (i.0 < n) × (m.0 < 255) × (tests_made n table.old i.0 < 255) }
+    requires line { HasLine n table.old i.0 }
+    requires distance_fits { m.0 < 255 }
+    requires tests_fit { tests_made n table.old i.0 < 255 }
     ensures { table.new ≡ count_test n table.old i.0 m.0 }
 {
     let tests = inside::get(n, table, i, cells::TESTS);
@@ -104,7 +113,9 @@ fn count_test(n: u8, table: &mut [u8], i: Station, m: Distance)
 // Steps 4 and 5: the outcome of the test of j.
 #[tactic(auto, unfolding(crate::specs::Turn::test_outcome))]
 fn test_outcome(n: u8, table: &[u8], kind: u8, i: Station, j: Station) -> Outcome
-    requires { (length table.now ≡ table_length n) × (i.0 < n) × (j.0 < n) }
+    requires table_length { length table.now ≡ table_length n }
+    requires tester_below { i.0 < n }
+    requires tested_below { j.0 < n }
     ensures tested_value { tested_byte result ≡ j.0 }
     ensures outcome_value { outcome_byte result ≡ test_outcome n table.now kind i.0 j.0 }
 {
@@ -117,7 +128,9 @@ fn test_outcome(n: u8, table: &[u8], kind: u8, i: Station, j: Station) -> Outcom
 // Step 4: the outcome where j replies. The row of j is asked first.
 #[tactic(auto, unfolding(crate::specs::Turn::reply_outcome))]
 fn reply_outcome(n: u8, table: &[u8], i: Station, j: Station) -> Outcome
-    requires { (length table.now ≡ table_length n) × (i.0 < n) × (j.0 < n) }
+    requires table_length { length table.now ≡ table_length n }
+    requires tester_below { i.0 < n }
+    requires tested_below { j.0 < n }
     ensures tested_value { tested_byte result ≡ j.0 }
     ensures outcome_value { outcome_byte result ≡ reply_outcome n table.now i.0 j.0 }
 {
@@ -181,7 +194,9 @@ fn does_reply(n: u8, table: &[u8], kind: u8, j: Station) -> bool
 // Step 4: whether a is told by b: b suspects a.
 #[tactic(auto, unfolding(crate::specs::Turn::is_told))]
 fn is_told(n: u8, table: &[u8], a: Station, b: Station) -> bool
-    requires { (length table.now ≡ table_length n) × (a.0 < n) × (b.0 < n) }
+    requires table_length { length table.now ≡ table_length n }
+    requires told_below { a.0 < n }
+    requires teller_below { b.0 < n }
     ensures { result ≡ is_told n table.now a.0 b.0 }
 {
     let of = a.0;
@@ -249,7 +264,9 @@ fn join_rows(row: &mut [u8], other: &mut [u8], i: Station, j: Station)
 
 // Whether the rows of i and j hold the same bytes.
 fn same_rows(n: u8, table: &[u8], i: Station, j: Station) -> bool
-    requires { (length table.now ≡ table_length n) × (i.0 < n) × (j.0 < n) }
+    requires table_length { length table.now ≡ table_length n }
+    requires tester_below { i.0 < n }
+    requires tested_below { j.0 < n }
     ensures { result ≡ same_bytes (row n table.now i.0) (row n table.now j.0) }
 {
     bytes::same_bytes(inside::row(n, table, i), inside::row(n, table, j))
@@ -285,7 +302,9 @@ fn suspects_all(n: u8, table: &[u8], i: Station) -> bool
 // Whether k is i or i suspects it.
 #[tactic(auto, unfolding(crate::specs::Turn::self_or_suspected))]
 fn self_or_suspected(n: u8, table: &[u8], i: Station, k: Station) -> bool
-    requires { (length table.now ≡ table_length n) × (i.0 < n) × (k.0 < n) }
+    requires table_length { length table.now ≡ table_length n }
+    requires station_below { i.0 < n }
+    requires other_below { k.0 < n }
     ensures { result ≡ self_or_suspected n table.now i.0 k.0 }
 {
     let of = k.0;

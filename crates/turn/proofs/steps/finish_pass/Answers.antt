@@ -4,4 +4,4 @@ use Rattle.table.proofs.SizeLaws.{distances-top}
 use Rattle.turn.proofs.steps.finish_pass.Goals as goal
 
 pub overflow_cast-distances : goal.overflow_cast-distances
-overflow_cast-distances c = omega (arith, c.distances.ensures, distances-top _ c.requires.0)
+overflow_cast-distances c = omega (arith, c.distances.ensures, distances-top _ c.requires.size)

@@ -4,4 +4,4 @@ use Rattle.table.proofs.SizeLaws.{distances-top}
 use Rattle.turn.proofs.steps.next_test.Goals as goal
 
 pub overflow_cast-end : goal.overflow_cast-end
-overflow_cast-end c = omega (arith, c.distances-end.ensures, distances-top _ c.requires.0)
+overflow_cast-end c = omega (arith, c.distances-end.ensures, distances-top _ c.requires.size)
