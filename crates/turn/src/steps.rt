@@ -284,6 +284,7 @@ fn leave_if_alone(n: u8, table: &mut [u8], i: Station)
 }
 
 // Step 6: whether i is live and suspects all others.
+#[tactic(auto, using(lists::proofs::Loops::loops), unfolding(crate::specs::Turn::is_alone))]
 fn suspects_all(n: u8, table: &[u8], i: Station) -> bool
     requires { HasLine n table.now i.0 }
     ensures { result ≡ is_alone n table.now i.0 }
