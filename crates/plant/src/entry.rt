@@ -55,7 +55,6 @@ pub(crate) fn take_entry(
     ensures line_after { line.new ≡ sheet_line n (state_with table.old tally) (entry_of kind i.0) }
 {
     let done = act(n, table, kind, i);
-    // As bytes at once: after the round they cost the run up to a tenth of its speed.
     let tested = done.tested_byte();
     let outcome = done.outcome_byte();
     let over = rounds::close_round(n, table, i);

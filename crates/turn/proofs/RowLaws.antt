@@ -4,7 +4,7 @@ use mathlib.Core.Path.{◌≡◌, sym, ap, ◌∙◌}
 use mathlib.Core.Bool.{true}
 use mathlib.Core.Logic.{◌≢◌}
 use mathlib.Core.List.{List, ◌++◌}
-use Prim.Native.Nat.{ℕ, ◌+◌, ◌-◌, max, ◌≤◌, ◌<◌}
+use Prim.Native.Nat.{ℕ, ◌+◌, ◌-◌, ◌≤◌, ◌<◌}
 use native.Mathlib.Decide.{dec_lt, ℕ_discrete}
 use native.Mathlib.Nat.{max-eq_left, le_refl, suc-mul, mul-le-mul_right}
 use native.Mathlib.Omega.{arith}
@@ -15,11 +15,10 @@ use Rattle.std.proofs.lemmas.List.{take-append-le, drop-append-le}
 use Rattle.std.proofs.Math.Seq.{take-append_seam, drop-append_seam}
 use Rattle.table.specs.Table.{stride, table_length, line_start, row_start, row, set_row}
 use Rattle.station.specs.Rows.{union_byte, union}
-use Rattle.lists.proofs.SearchLaws.{list_of-same}
-use Rattle.table.proofs.CellLaws.{row_inside, row-length, row_same, set_row-length, set_row-out}
+use Rattle.table.proofs.CellLaws.{row_inside, row-length}
 use Rattle.station.proofs.UnionLaws.{union-length, union-at, union-own, union-others}
-use Rattle.lists.specs.Bytes.{joined_byte, joined_bytes, with_joined, same_bytes}
-use Rattle.lists.proofs.ByteLaws.{joined_length, joined_at, into-fits, equal_bytes}
+use Rattle.lists.specs.Bytes.{joined_byte, same_bytes}
+use Rattle.lists.proofs.ByteLaws.{equal_bytes}
 use Rattle.turn.specs.Turn.{exchange_rows}
 
 -- the table with the row as it comes back
@@ -46,7 +45,6 @@ same_exchange n t i j e =
         pick : (k : ℕ) → Dec (k ≡ own) → union_byte r r own k ≡ get_or r k 0
         pick k (yes q) = rw q (union-own r r own)
         pick k (no d) = union-others r r own k d ∙ max-eq_left (le_refl (get_or r k 0))
-
 
 -- where a table is cut before a row, that row stands at the front of what is behind the cut, and all earlier ones stand before it
 pub row-order : (n i j : ℕ) → i < j → row_start n i + n ≤ row_start n j

@@ -4,8 +4,8 @@ ghost use Rattle.turn.specs.Outcome.{tested_byte, outcome_byte};
 
 use table::Station;
 
-// What an entry did, with the tested station where it made a test. The order is that of the outcome's numbers: so the number costs the run
-// nothing (an enum of its own for the tests was tried: 4 to 14 % slower).
+// What an entry did, with the tested station where it made a test. The order is that of the outcomes' numbers, so that the number costs
+// nothing: with an enum of its own for the tests the runs of tests/bench took 1 to 20 % more time.
 #[derive(Clone, Copy)]
 pub enum Outcome {
     // No distance was due: the pass is finished.

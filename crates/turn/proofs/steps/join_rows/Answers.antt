@@ -1,5 +1,5 @@
 -- All bytes are joined, and then each row has the byte about its own station back.
-use Rattle.std.proofs.Common.{◌≡◌, ◌+◌, ℕ, List, max, get_or, set, arith}
+use Rattle.std.proofs.Common.{◌≡◌, ℕ, List, max, get_or, arith}
 use Rattle.std.proofs.lemmas.List.Edits.{sets}
 use Rattle.lists.specs.Search.{list_of}
 use Rattle.lists.specs.Bytes.{joined_byte}
