@@ -2,13 +2,15 @@
 ghost use Rattle.std.specs.Prelude.{◌≡◌, ◌+◌, ◌<◌, cond, length};
 ghost use Rattle.table.specs.Table.{table_length};
 ghost use Rattle.table.specs.Rules.{table_number};
+ghost use Rattle.turn.specs.Outcome.{tested_byte, outcome_byte};
 ghost use Rattle.plant.specs.Entry.{state_with, entry_of, entry_check, entry_number, acted, after, tested_of, outcome_of, sheet_line};
 
 use crate::{Tally, rounds, single};
 use lists::refusal::Refusal;
 use table::{Station, cells, inside};
-use turn::steps::Turned;
-use turn::{codes, steps};
+use turn::kind::Kind;
+use turn::outcome::Outcome;
+use turn::steps;
 
 // Refusals 7 to 11.
 #[tactic(auto, unfolding(crate::specs::Entry::entry_check))]
@@ -25,9 +27,7 @@ pub(crate) fn check_entry(
     if single::is_full(tally) {
         return Err(Refusal::TallyFull);
     }
-    if !((codes::TURN <= kind) & (kind <= codes::CRASH)) {
-        return Err(Refusal::UnknownKind);
-    }
+    let kind = Kind::try_from(kind)?;
     if n <= i.0 {
         return Err(Refusal::NoSuchStation);
     }
@@ -35,7 +35,7 @@ pub(crate) fn check_entry(
         return Err(Refusal::NotLive);
     }
     let finished = inside::get(n, table, i, cells::FINISHED);
-    if (kind != codes::CRASH) & (finished == 1) {
+    if (kind != Kind::Crash) & (finished == 1) {
         return Err(Refusal::PassFinished);
     }
     Ok(())
@@ -55,31 +55,31 @@ pub(crate) fn take_entry(
     ensures line_after { line.new ≡ sheet_line n (state_with table.old tally) (entry_of kind i.0) }
 {
     let done = act(n, table, kind, i);
+    let tested = done.tested_byte();
+    let outcome = done.outcome_byte();
     let over = rounds::close_round(n, table, i);
     line[0] = i.0;
-    line[1] = done.tested;
-    line[2] = done.outcome;
+    line[1] = tested;
+    line[2] = outcome;
     line[3] = inside::get(n, table, i, cells::STATUS);
-    let made = done.outcome != codes::PASS_FINISHED;
+    let made = outcome != Outcome::PassFinished.outcome_byte();
     Tally {
         rounds: grown(tally.rounds, over),
-        tests: grown(tally.tests, made & (kind != codes::CRASH)),
+        tests: grown(tally.tests, made & (kind != u8::from(Kind::Crash))),
     }
 }
 
 // Steps 2 to 7: a crash or a turn.
-fn act(n: u8, table: &mut [u8], kind: u8, i: Station) -> Turned
+#[tactic(auto, unfolding(crate::specs::Entry::acted, crate::specs::Entry::tested_of, crate::specs::Entry::outcome_of, turn::specs::Turn::crash))]
+fn act(n: u8, table: &mut [u8], kind: u8, i: Station) -> Outcome
     requires { (table_number n table.old ≡ 0) × (i.0 < n) }
-    ensures tested_value { result.tested ≡ tested_of n table.old (entry_of kind i.0) }
-    ensures outcome_value { result.outcome ≡ outcome_of n table.old (entry_of kind i.0) }
+    ensures tested_value { tested_byte result ≡ tested_of n table.old (entry_of kind i.0) }
+    ensures outcome_value { outcome_byte result ≡ outcome_of n table.old (entry_of kind i.0) }
     ensures table_after { table.new ≡ acted n table.old (entry_of kind i.0) }
 {
-    if kind == codes::CRASH {
+    if kind == u8::from(Kind::Crash) {
         steps::leave(n, table, i, cells::CRASHED);
-        return Turned {
-            tested: codes::NO_STATION,
-            outcome: codes::CRASH_MADE,
-        };
+        return Outcome::Crashed;
     }
     steps::take_turn(n, table, kind, i)
 }

@@ -7,7 +7,7 @@ ghost use Rattle.plant.specs.Entry.{state_with, entry_of, tally_full, entry_numb
 
 use crate::{Tally, run};
 use table::Station;
-use turn::codes;
+use turn::kind::Kind;
 
 // Where a tally is full.
 const TALLY_TOP: u32 = 4294967295;
@@ -24,7 +24,7 @@ pub fn take_turn(n: u8, table: &mut [u8], tally: Tally, i: Station) -> Tally
     requires { (table_number n table.old ≡ 0) × (entry_number n (state_with table.old tally) (entry_of kind_turn i.0) ≡ 0) }
     ensures { state_with table.new result ≡ after n (state_with table.old tally) (entry_of kind_turn i.0) }
 {
-    let schedule = [codes::TURN, i.0];
+    let schedule = [u8::from(Kind::Turn), i.0];
     let mut line = [0u8; 4];
     let answer = run::go_on(n, table, tally, &schedule, &mut line);
     answer.tally

@@ -3,5 +3,6 @@
 // table.
 #![tactic(auto)]
 
-pub mod codes;
+pub mod kind;
+pub mod outcome;
 pub mod steps;

@@ -33,12 +33,11 @@ returns-clause-result_after c =
     let m = made-test c.args.n c.args.table.now (entry_of c.args.kind c.args.i.0) in
     let e = c.act-done.ensures in
     let f = c.close_round-over.ensures in
-    rw (c.grown.ensures, c.grown-2.ensures, f.value, f.table_after, e.table_after, e.outcome_value, m)
+    rw (c.grown.ensures, c.grown-2.ensures, f.value, f.table_after, e.table_after, c.outcome_byte.ensures, c.outcome_byte-outcome.ensures, c.from.ensures, e.outcome_value, m)
 
 pub returns-clause-line_after : goal.returns-clause-line_after
 unfolding after sheet_line
 returns-clause-line_after c =
-    let d = c.act-done.result in
     let e = c.act-done.ensures in
-    line-written c.args.line.now c.args.i.0 d.tested d.outcome c.get.result c.requires.2
-    ∙ rw (e.tested_value, e.outcome_value, c.get.ensures, c.close_round-over.ensures.table_after, e.table_after)
+    line-written c.args.line.now c.args.i.0 _ _ c.get.result c.requires.2
+    ∙ rw (c.tested_byte-tested.ensures, c.outcome_byte-outcome.ensures, e.tested_value, e.outcome_value, c.get.ensures, c.close_round-over.ensures.table_after, e.table_after)

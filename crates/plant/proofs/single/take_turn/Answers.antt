@@ -8,4 +8,6 @@ pub go_on-answer-requires : goal.go_on-answer-requires
 go_on-answer-requires c = start-one _ _ c.requires.0
 
 pub returns : goal.returns
-returns c = ap (λ (o : Outcome). o.state) c.go_on-answer.ensures ∙ go-one _ _ _ _ _ c.requires.1
+returns c =
+    let run = rw c.from.ensures at c.go_on-answer.ensures in
+    ap (λ (o : Outcome). o.state) run ∙ go-one _ _ _ _ _ c.requires.1

@@ -10,13 +10,13 @@ use Rattle.turn.proofs.steps.take_turn.Goals as goal
 
 pub next_test-m-requires : goal.next_test-m-requires
 next_test-m-requires c =
-    let t = accepted c.args.n c.args.table.now c.requires.0 in
-    ((size-bounds c.args.n t.size).1, (t.long, c.requires.1))
+    let t = accepted c.args.n c.args.table.now c.requires.table_obeys in
+    record { size = (size-bounds c.args.n t.size).1; line = (t.long, c.requires.station_below) }
 
 pub finish_pass-requires : goal.finish_pass-requires
 finish_pass-requires c =
-    let t = accepted c.args.n c.args.table.now c.requires.0 in
-    ((size-bounds c.args.n t.size).1, (t.long, c.requires.1))
+    let t = accepted c.args.n c.args.table.now c.requires.table_obeys in
+    record { size = (size-bounds c.args.n t.size).1; line = (t.long, c.requires.station_below) }
 
 pub returns-then-distances-m : goal.returns-then-distances-m
 unfolding turn turn_tested turn_outcome makes_test
@@ -24,26 +24,27 @@ returns-then-distances-m c =
     let e = le-ltb _ _ (rw c.distances.ensures at c.if-distances-m.true) in
     rw (← c.next_test-m.ensures, e) (record { tested_value = refl; outcome_value = refl; table_after = c.finish_pass.ensures })
 
-pub make_test-outcome-requires : goal.make_test-outcome-requires
+pub make_test-requires : goal.make_test-requires
 unfolding makes_test
-make_test-outcome-requires c =
+make_test-requires c =
     let a = c.args in
     let p = c.requires in
-    let t = accepted a.n a.table.now p.0 in
-    let l = accepted-line a.n a.table.now t a.i.0 p.1 in
+    let t = accepted a.n a.table.now p.table_obeys in
+    let l = accepted-line a.n a.table.now t a.i.0 p.station_below in
     let m = c.next_test-m.ensures in
     let end = c.distances.ensures in
-    let e = lt-ltb _ _ (rw (end, m) at c.if-distances-m.false) in (
-      p.0,
-      p.1,
-      omega (arith, m, next_test-low a.n a.table.now a.i.0, l.pass.next_low),
-      omega (arith, end, size-distances a.n t.size),
-      rw m (test-station a.n a.table.now a.i.0 e t.long p.1),
-    )
+    let e = lt-ltb _ _ (rw (end, m) at c.if-distances-m.false) in
+    record {
+      table_obeys = p.table_obeys;
+      tester_below = p.station_below;
+      distance_above_0 = omega (arith, m, next_test-low a.n a.table.now a.i.0, l.pass.next_low);
+      distance_below = omega (arith, end, size-distances a.n t.size);
+      tested_below = rw m (test-station a.n a.table.now a.i.0 e t.long p.station_below);
+    }
 
 pub returns : goal.returns
 unfolding turn turn_tested turn_outcome makes_test
 returns c =
     let e = lt-ltb _ _ (rw c.distances.ensures at c.if-distances-m.false) in
-    let o = c.make_test-outcome.ensures in
-    rw (← c.next_test-m.ensures, e) (record { tested_value = c.lookup-j.ensures; outcome_value = o.value; table_after = o.table_after })
+    let o = c.make_test.ensures in
+    rw (← c.next_test-m.ensures, e) (record { tested_value = o.tested_value; outcome_value = o.outcome_value; table_after = o.table_after })
