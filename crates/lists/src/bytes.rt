@@ -1,25 +1,19 @@
 // Bytes: the greater of two, a byte put into a list, and two lists place by place.
-ghost use Rattle.std.specs.Prelude.{◌≡◌, min, max, set};
+ghost use Rattle.std.specs.Prelude.{◌≡◌, max, set};
 ghost use Rattle.lists.specs.Bytes.{joined_bytes, with_joined, same_bytes};
 
 // The greater of two bytes.
 pub fn greater(a: u8, b: u8) -> u8
     ensures { result ≡ max a b }
 {
-    if a < b { b } else { a }
-}
-
-// The lesser of two lengths.
-fn lesser(a: usize, b: usize) -> usize
-    ensures { result ≡ min a b }
-{
-    if a < b { a } else { b }
+    a.max(b)
 }
 
 // Puts a byte at place k of the list; past its end nothing is written.
 pub fn put(list: &mut [u8], k: u8, byte: u8)
     ensures { list.new ≡ set list.old k byte }
 {
+    // By an index: of what is written through `get_mut` no proof knows anything afterwards.
     let at = k as usize;
     if at < list.len() {
         list[at] = byte;
@@ -30,9 +24,9 @@ pub fn put(list: &mut [u8], k: u8, byte: u8)
 pub fn join_bytes(list: &mut [u8], other: &[u8])
     ensures { list.new ≡ joined_bytes list.old other.now }
 {
-    let end = lesser(list.len(), other.len());
-    for k in 0..end {
-        list[k] = greater(list[k], other[k]);
+    // By an index: of what a loop over `iter_mut().zip(other)` writes no proof knows anything afterwards.
+    for k in 0..list.len().min(other.len()) {
+        list[k] = list[k].max(other[k]);
     }
 }
 
@@ -47,7 +41,7 @@ pub fn write_joined(list: &[u8], other: &[u8], out: &mut [u8])
         return;
     }
     for k in 0..list.len() {
-        out[k] = greater(list[k], other[k]);
+        out[k] = list[k].max(other[k]);
     }
 }
 
@@ -55,12 +49,5 @@ pub fn write_joined(list: &[u8], other: &[u8], out: &mut [u8])
 pub fn same_bytes(list: &[u8], other: &[u8]) -> bool
     ensures { result ≡ same_bytes list.now other.now }
 {
-    if list.len() != other.len() {
-        return false;
-    }
-    let mut apart: u8 = 0;
-    for k in 0..list.len() {
-        apart = greater(apart, list[k] ^ other[k]);
-    }
-    apart == 0
+    list == other
 }
