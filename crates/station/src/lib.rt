@@ -5,6 +5,10 @@
 // open to a caller has a `requires`. Those of `claims` do nothing: their contracts are the claims of specs/Equation1.antt and specs/Ahead.antt.
 #![tactic(auto)]
 
+ghost use Rattle.std.specs.Prelude.{◌≡◌};
+ghost use Rattle.station.specs.Tests.{says_due};
+ghost use Rattle.station.specs.Calls.{answer_value, answer_byte};
+
 pub mod claims;
 pub mod due;
 pub mod groups;
@@ -13,10 +17,30 @@ pub mod rows;
 
 use table::Station;
 
-// Request C-16: what the question whether a distance is due answers. Ahead names the station that is first instead; where nobody is first, or
-// nobody stands at the distance, the one that asks.
+// Request C-16: what the question whether a distance is due answers.
 #[derive(Clone, Copy)]
 pub enum DueOrAhead {
+    // The distance is due.
     Due,
+    // It is not: the station that is first instead. Where nobody is first, or nobody stands at the distance, the one that asks.
     Ahead(Station),
+}
+
+impl DueOrAhead {
+    // Whether the distance is due.
+    pub fn is_due(self) -> bool
+        ensures { result ≡ says_due (answer_value self) }
+    {
+        matches!(self, DueOrAhead::Due)
+    }
+
+    // The second byte of an entry of an assignment: 255 if due or else the one ahead.
+    pub fn byte(self) -> u8
+        ensures { result ≡ answer_byte (answer_value self) }
+    {
+        match self {
+            DueOrAhead::Due => 255,
+            DueOrAhead::Ahead(x) => x.0,
+        }
+    }
 }
