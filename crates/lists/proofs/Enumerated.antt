@@ -1,7 +1,7 @@
 -- Lists over ranges as std's iterators give them, and a loop over the pairs of an `enumerate` that writes at the place that it is given.
 -- Assumes nothing.
 use mathlib.Core.Path.{◌≡◌, refl, sym, ap, ◌∙◌}
-use mathlib.Core.Bool.{Bool, false}
+use mathlib.Core.Bool.{Bool, false, not}
 use mathlib.Core.List.{List, [], ◌∷◌, ◌++◌, map, map-append}
 use Prim.Native.Nat.{ℕ, zero, suc, ◌+◌, ◌-◌, ◌≤◌, ◌<◌}
 use native.Mathlib.Nat.{zero-add}
@@ -10,7 +10,9 @@ use native.Mathlib.Omega.{arith}
 use lib.ListN.{length, get_or, set, length-map}
 use lib.Seq.{sets}
 use Rattle.std.specs.List.{filter, range_with_len, enumerate_from}
-use Rattle.std.proofs.lemmas.List.FromFn.{map-range_with_len_more, length-enumerate_from, get_or-enumerate_from}
+use Rattle.std.proofs.lemmas.List.FromFn.{map-range_with_len_more, length-range_with_len, length-enumerate_from, get_or-enumerate_from}
+use Rattle.std.proofs.lemmas.List.Filters.{length-filter_both}
+use Rattle.lists.proofs.BoolLaws.{by_bool}
 use Rattle.lists.specs.Search.{list_of, select}
 use Rattle.lists.proofs.SearchLaws.{list_of-same}
 use Rattle.lists.proofs.Writing.{sets-next}
@@ -21,17 +23,36 @@ unfolding list_of
 map-range f zero = refl
 map-range f (suc n) = rw add-one at (map-range_with_len_more f 0 n n (zero-add n)) ∙ ap (λ (l : List ℕ). l ++ (f n ∷ [])) (map-range f n)
 
-map-same : (xs : List ℕ) → map (λ k. k) xs ≡ xs
+pub map-same : (xs : List ℕ) → map (λ k. k) xs ≡ xs
 map-same [] = refl
 map-same (x ∷ xs) = ap (λ (l : List ℕ). x ∷ l) (map-same xs)
+
+pub range-list : (n : ℕ) → range_with_len 0 n ≡ list_of (λ k. k) n
+range-list n = sym (map-same (range_with_len 0 n)) ∙ map-range (λ k. k) n
 
 -- the numbers from 1 on that pass a test that 0 fails
 pub filter-range : (q : ℕ → Bool) (n : ℕ) → q 0 ≡ false → 1 ≤ n → filter q (range_with_len 1 (n - 1)) ≡ select q n
 filter-range q zero none h = absurd (omega arith)
-filter-range q (suc n) none h =
-    let all : range_with_len 0 (suc n) ≡ list_of (λ k. k) (suc n) = sym (map-same (range_with_len 0 (suc n))) ∙ map-range (λ k. k) (suc n) in
-    let less : suc n - 1 ≡ n = omega arith in
-    rw (less, ← all, none)
+filter-range q (suc n) none h = let less : suc n - 1 ≡ n = omega arith in rw (less, ← range-list (suc n), none)
+
+-- what passes a test is in the range, and is fewer than the range where 0 fails
+pub filter-below : (q : ℕ → Bool) (a n k d : ℕ) → k < length (filter q (range_with_len a n)) → get_or (filter q (range_with_len a n)) k d < a + n
+filter-below q a zero k d = λ h. absurd (omega arith)
+filter-below q a (suc n) k d =
+    by_bool (q a) (λ p. rw p (first k (λ j h. omega (arith, filter-below q (a + 1) n j d h))))
+    (λ p. rw p (λ h. omega (arith, filter-below q (a + 1) n k d h)))
+  where
+    rest : List ℕ
+    rest = filter q (range_with_len (a + 1) n)
+
+    first : (k : ℕ) → ((j : ℕ) → j < length rest → get_or rest j d < a + suc n) → k < length (a ∷ rest) → get_or (a ∷ rest) k d < a + suc n
+    first zero below h = omega arith
+    first (suc k) below h = below k (omega (arith, h))
+
+pub filter-few : (q : ℕ → Bool) (n : ℕ) → q 0 ≡ false → length (filter q (range_with_len 0 n)) ≤ n - 1
+filter-few q zero none = omega arith
+filter-few q (suc n) none =
+    rw none (omega (arith, length-filter_both q (λ k. not (q k)) (λ k. refl) (range_with_len 1 n), length-range_with_len 1 n))
 
 -- tests that agree on all numbers from a on
 pub filter-from : (p q : ℕ → Bool) (a n : ℕ) → ((x : ℕ) → a ≤ x → p x ≡ q x) → filter p (range_with_len a n) ≡ filter q (range_with_len a n)

