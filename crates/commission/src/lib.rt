@@ -42,7 +42,9 @@ fn tests(n: u8, row: &[u8], i: Station) -> u8
     ensures { result ≡ tests_due n row.now i.0 }
 {
     let end = distances(n);
-    (0..end).filter(|m| is_due(row, i, Distance(*m as u8))).count() as u8
+    (0..end)
+        .filter(|m| is_due(row, i, Distance(*m as u8)))
+        .count() as u8
 }
 
 // Whether distance m is due for i, by its row.

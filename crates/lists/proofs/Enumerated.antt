@@ -14,7 +14,6 @@ use Rattle.std.proofs.lemmas.List.FromFn.{map-range_with_len_more, length-range_
 use Rattle.std.proofs.lemmas.List.Filters.{length-filter_both}
 use Rattle.lists.proofs.BoolLaws.{by_bool}
 use Rattle.lists.specs.Search.{list_of, select}
-use Rattle.lists.proofs.SearchLaws.{list_of-same}
 use Rattle.lists.proofs.Writing.{sets-next}
 
 -- f of each number of a range

@@ -5,14 +5,13 @@ use Rattle.std.specs.List.{filter}
 use mathlib.Core.Logic.{◌⊎◌, inl, inr}
 use mathlib.Core.List.Memᴰ
 use mathlib.Core.List.{[], ◌∷◌, ◌++◌, Memᴰ}
-use Prim.Native.Nat.{ℕ, zero, suc, ◌+◌, ◌-◌, ◌^◌, ◌≤◌, ◌<◌}
+use Prim.Native.Nat.{ℕ, zero, suc, ◌+◌, ◌-◌, ◌^◌, ◌<◌}
 use native.Mathlib.Nat.{eq-or-lt_of_le, le_of_suc-le-suc, one-mul, two-pow-succ}
 use native.Mathlib.Omega.{arith}
 use lib.Bits.{xor_self, xor_zero_r, xor_lt, xor_shifted}
 use borrow.Author.Tests.{ltb-true, lt-ltb}
-use mathlib.Core.Bool.{true}
 use Rattle.lists.specs.Search.{list_of}
-use Rattle.table.specs.Sizes.{is_size, level, dimension, distances}
+use Rattle.table.specs.Sizes.{level, dimension, distances}
 use Rattle.station.specs.Groups.{distance, station_at, is_present, width, member, full_group, group}
 use Rattle.station.specs.Partition.{NotInOwnGroup, InOneGroup}
 use Rattle.station.specs.Equation1.{groups_to, remaining_to}

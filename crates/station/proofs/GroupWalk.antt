@@ -4,7 +4,6 @@ use mathlib.Core.Path.{◌≡◌, refl, ap, ◌∙◌}
 use mathlib.Core.List.{map}
 use Prim.Native.Nat.{ℕ, ◌+◌}
 use Rattle.std.specs.List.{filter, range_with_len}
-use Rattle.lists.specs.Search.{list_of}
 use Rattle.lists.proofs.Enumerated.{map-range}
 use Rattle.station.specs.Groups.{station_at, is_present, width, member, full_group, group}
 

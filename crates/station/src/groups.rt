@@ -66,7 +66,10 @@ fn group_length(n: u8, i: Station, s: Level) -> usize
     ensures { result ≡ length (group n i.0 s.0) }
 {
     let w = width_of(s);
-    (0..w).map(|k| order::lookup(i, Distance(w + k)).0).filter(|x| *x < n).count()
+    (0..w)
+        .map(|k| order::lookup(i, Distance(w + k)).0)
+        .filter(|x| *x < n)
+        .count()
 }
 
 // Writes the members of the group of i at level s among n.
@@ -77,7 +80,9 @@ fn write_group(n: u8, i: Station, s: Level, list: &mut [u8])
     ensures { list.new ≡ group n i.0 s.0 }
 {
     let w = width_of(s);
-    let members = (0..w).map(|k| order::lookup(i, Distance(w + k)).0).filter(|x| *x < n);
+    let members = (0..w)
+        .map(|k| order::lookup(i, Distance(w + k)).0)
+        .filter(|x| *x < n);
     for (k, x) in members.enumerate() {
         list[k] = x;
     }

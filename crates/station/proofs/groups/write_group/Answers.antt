@@ -1,5 +1,5 @@
 -- The members of the group are gone through in order, and fill the list.
-use Rattle.std.proofs.Common.{refl, sym, ◌∙◌, ap, length, arith, rules, tests}
+use Rattle.std.proofs.Common.{refl, ◌∙◌, ap, length, arith, rules, tests}
 use Rattle.std.proofs.lemmas.Iterator.{YieldsList-from_range, YieldsList-from_map}
 use Rattle.std.proofs.lemmas.Iterator.Consumers.{YieldsList-at, YieldsList-from_filter, YieldsList-from_enumerate, YieldsList-turn, YieldsList-end}
 use Rattle.lists.proofs.Writing.{sets-all}
