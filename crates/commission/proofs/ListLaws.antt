@@ -1,17 +1,26 @@
--- A lent list that a loop fills with what it finds at the distances that pass a test.
+-- The distances that a loop or a count goes through.
 -- Assumes nothing.
-use mathlib.Core.Path.{◌≡◌}
-use mathlib.Core.Bool.{Bool, cond}
-use Prim.Native.Nat.{ℕ, ◌+◌, ◌≤◌, ◌<◌}
+use mathlib.Core.Path.{◌≡◌, sym, ap, ◌∙◌}
+use mathlib.Core.Bool.{Bool, false}
+use mathlib.Core.List.{List}
+use Prim.Native.Nat.{ℕ, suc, ◌+◌, ◌≤◌, ◌<◌}
 use native.Mathlib.Omega.{arith}
+use lib.ListN.{length, get_or}
+use Rattle.std.specs.List.{filter, range_with_len}
+use Rattle.lists.specs.Search.{select}
 use Rattle.table.specs.Sizes.{distances}
-use Rattle.lists.proofs.BoolLaws.{by_bool}
-use Rattle.table.proofs.SizeLaws.{distances-pos, distances-le}
+use Rattle.lists.proofs.Enumerated.{range-list, filter-below, filter-few}
 
--- as the code asks for it, of a size that is a byte: there is a distance, and each is a byte
-pub distance-range : (n end : ℕ) → n < 256 → end ≡ distances n → (1 ≤ end) × (end ≤ 256)
-distance-range n end h e = (omega (arith, distances-pos n), omega (arith, distances-le 8 n (omega arith)))
+module _ (q : ℕ → Bool) (n end : ℕ) (e : end ≡ distances n) (fits : end ≤ 256) where
+  pub walked-is : filter q (range_with_len 0 end) ≡ select q (distances n)
+  walked-is = ap (filter q) (range-list end) ∙ ap (select q) e
 
--- no more are counted than distances are passed
-pub count-below : (q : ℕ → Bool) (m count r : ℕ) → count < m → r ≡ cond (q m) (count + 1) count → r < m + 1
-count-below q m count r l e = by_bool (q m) (λ p. omega (arith, rw p at e)) (λ p. omega (arith, rw p at e))
+  -- the one after the distances ms: it is a byte, and those before it and it are no more than a byte can count
+  pub walked-turn : q 0 ≡ false → (ms : List ℕ) (m : ℕ)
+      → (length ms < length (filter q (range_with_len 0 end))) × (m ≡ get_or (filter q (range_with_len 0 end)) (length ms) m)
+      → (m < 256) × (length ms + 1 < 256)
+  walked-turn none ms m t =
+      (omega (arith, t.1, filter-below q 0 end (length ms) m t.0, fits), omega (arith, t.0, filter-few q end none, fits))
+
+  pub walked-few : q 0 ≡ false → length (filter q (range_with_len 0 end)) < 256
+  walked-few none = omega (arith, filter-few q end none, fits)

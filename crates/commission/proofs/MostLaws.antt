@@ -1,11 +1,15 @@
--- The greatest number of tests, as a loop that counts up finds it, and the row that is marked and given back.
+-- The greatest number of tests, as an iterator finds it, and the row that is marked and given back.
 -- Assumes nothing.
-use mathlib.Core.Path.{◌≡◌, ap, ◌∙◌}
+use mathlib.Core.Path.{◌≡◌, refl, sym, ap, ◌∙◌}
 use mathlib.Core.Logic.{◌≢◌}
-use mathlib.Core.List.{List}
-use Prim.Native.Nat.{ℕ, ◌≤◌}
+use mathlib.Core.List.{List, [], ◌∷◌, ◌++◌}
+use Prim.Native.Nat.{ℕ, zero, suc, max, ◌≤◌}
+use native.Mathlib.Nat.{zero-max}
 use lib.ListN.{length, get_or, set}
 use lib.Seq.{set_out, set-set, set-get_or}
+use Rattle.std.specs.List.{fold, reduce}
+use Rattle.std.specs.Prelude.{unwrap_or}
+use Rattle.lists.specs.Search.{list_of, greatest}
 use Rattle.station.specs.Rows.{mark}
 use Rattle.slots.specs.Slots.{tests_due, tests_with}
 use Rattle.slots.proofs.MoreTests.{with-other}
@@ -19,3 +23,17 @@ with-beyond n r i j apart h = with-other n r i j apart ∙ ap (λ (l : List ℕ)
 pub mark-back : (r : List ℕ) (j : ℕ) → set (mark r j) j (get_or r j 0) ≡ r
 unfolding mark
 mark-back r j = set-set r j 1 (get_or r j 0) ∙ set-get_or r j 0
+
+-- the greatest as std's `max` of an iterator finds it, 0 where there is none
+fold-more : (xs : List ℕ) (x y : ℕ) → fold max x (xs ++ (y ∷ [])) ≡ max (fold max x xs) y
+fold-more [] x y = refl
+fold-more (z ∷ zs) x y = fold-more zs (max x z) y
+
+reduce-more : (xs : List ℕ) (y : ℕ) → unwrap_or (reduce max (xs ++ (y ∷ []))) 0 ≡ max (unwrap_or (reduce max xs) 0) y
+reduce-more [] y = sym (zero-max y)
+reduce-more (x ∷ xs) y = fold-more xs x y
+
+pub greatest-is : (f : ℕ → ℕ) (n : ℕ) → unwrap_or (reduce max (list_of f n)) 0 ≡ greatest f n
+unfolding list_of greatest
+greatest-is f zero = refl
+greatest-is f (suc n) = reduce-more (list_of f n) (f n) ∙ ap (λ (m : ℕ). max m (f n)) (greatest-is f n)

@@ -3,8 +3,8 @@
 // `slots`.
 #![tactic(auto)]
 
-ghost use Rattle.std.specs.Prelude.{◌≡◌, ◌+◌, ◌<◌, cond, set};
-ghost use Rattle.station.specs.Groups.{station_at};
+ghost use Rattle.std.specs.Prelude.{◌≡◌, ◌≤◌, true, false};
+ghost use Rattle.table.specs.Sizes.{distances};
 ghost use Rattle.station.specs.Tests.{due};
 ghost use Rattle.slots.specs.Slots.{tested, tests_due, tests_with, most_tests, most_of_boards};
 ghost use Rattle.std.proofs.lemmas.List.Edits.{sets};
@@ -12,7 +12,7 @@ ghost use Rattle.std.proofs.lemmas.List.Edits.{sets};
 pub mod untested;
 
 use lists::bytes;
-use station::{DueOrAhead, due, order, rows};
+use station::{due, order, rows};
 use table::{Distance, Station, sizes};
 
 // Whom i of n stations tests by its row of n bytes, in order, into a lent list; answers how many these are. Past the list's end nothing is written.
@@ -20,45 +20,38 @@ pub fn list_tests(n: u8, row: &[u8], i: Station, list: &mut [u8]) -> u8
     ensures value { result ≡ tests_due n row.now i.0 }
     ensures list_after { list.new ≡ sets list.old 0 (tested n row.now i.0) }
 {
-    let end = sizes::distances(n);
-    let mut count: u8 = 0;
-    for m in 1..end {
-        count = put_test(row, i, Distance(m as u8), list, count);
+    let end = distances(n);
+    let mut count = 0;
+    for m in (0..end).filter(|m| is_due(row, i, Distance(*m as u8))) {
+        bytes::put(list, count, order::lookup(i, Distance(m as u8)).0);
+        count += 1;
     }
     count
 }
 
-// Puts the station at distance m into place `count` of the list, if i tests it; answers how many i tests so far.
-fn put_test(row: &[u8], i: Station, m: Distance, list: &mut [u8], count: u8) -> u8
-    requires { count < 255 }
-    ensures value { result ≡ cond (due row.now i.0 m.0) (count + 1) count }
-    ensures list_after { list.new ≡ cond (due row.now i.0 m.0) (set list.old count (station_at i.0 m.0)) list.old }
+// How many distances there are in a plant of n stations, 0 included.
+fn distances(n: u8) -> u16
+    ensures value { result ≡ distances n }
+    ensures upper_bound { result ≤ 256 }
 {
-    if !is_due(row, i, m) {
-        return count;
-    }
-    let j = order::lookup(i, m);
-    bytes::put(list, count, j.0);
-    count + 1
+    sizes::distances(n)
 }
 
-// How many distances are due for i of n stations, by its row. The list is not used.
+// How many distances are due for i of n stations, by its row.
 fn tests(n: u8, row: &[u8], i: Station) -> u8
     ensures { result ≡ tests_due n row.now i.0 }
 {
-    let mut list = [0u8; 1];
-    list_tests(n, row, i, &mut list)
+    let end = distances(n);
+    (0..end)
+        .filter(|m| is_due(row, i, Distance(*m as u8)))
+        .count() as u8
 }
 
 // Whether distance m is due for i, by its row.
 fn is_due(row: &[u8], i: Station, m: Distance) -> bool
     ensures { result ≡ due row.now i.0 m.0 }
 {
-    let answer = due::due_or_ahead(row, i, m);
-    let DueOrAhead::Due = answer else {
-        return false;
-    };
-    true
+    due::due_or_ahead(row, i, m).is_due()
 }
 
 // The most tests of i where its row suspects one station more. The row is as before afterwards.
@@ -68,7 +61,7 @@ pub fn most_tests(n: u8, row: &mut [u8], i: Station) -> u8
 {
     let mut most: u8 = 0;
     for j in 0..n {
-        most = bytes::greater(most, tests_with(n, row, i, Station(j)));
+        most = most.max(tests_with(n, row, i, Station(j)));
     }
     most
 }
@@ -97,20 +90,27 @@ pub fn most_of_boards(n: u8, row: &mut [u8], more: bool) -> u8
     ensures value { result ≡ most_of_boards n row.old more }
     ensures row_unchanged { row.new ≡ row.old }
 {
-    let mut most: u8 = 0;
-    for i in 0..n {
-        most = bytes::greater(most, tests_of(n, row, Station(i), more));
+    if more {
+        return most_with_one_more(n, row);
     }
-    most
+    most_by_row(n, row)
 }
 
-// The tests of i by the row or, if `more`, the most where it suspects one station more. The row is as before afterwards.
-fn tests_of(n: u8, row: &mut [u8], i: Station, more: bool) -> u8
-    ensures value { result ≡ cond more (most_tests n row.old) (tests_due n row.old) i.0 }
+// The most tests of any of n boards by the row.
+fn most_by_row(n: u8, row: &[u8]) -> u8
+    ensures { result ≡ most_of_boards n row.now false }
+{
+    (0..n).map(|i| tests(n, row, Station(i))).max().unwrap_or(0)
+}
+
+// The most tests of any of n boards where the row suspects one station more. The row is as before afterwards.
+fn most_with_one_more(n: u8, row: &mut [u8]) -> u8
+    ensures value { result ≡ most_of_boards n row.old true }
     ensures row_unchanged { row.new ≡ row.old }
 {
-    if more {
-        return most_tests(n, row, i);
+    let mut most: u8 = 0;
+    for i in 0..n {
+        most = most.max(most_tests(n, row, Station(i)));
     }
-    tests(n, row, i)
+    most
 }

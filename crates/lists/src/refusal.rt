@@ -63,32 +63,31 @@ impl Refusal {
 impl fmt::Display for Refusal {
     fn fmt<W: fmt::Write>(&self, f: &mut fmt::Formatter<W>) -> fmt::Result {
         f.write_str(match self {
-            Refusal::SizeOutOfRange => "the size is not from 2 to 64",
-            Refusal::TableLength => "the table's length is not n times (n + 6)",
+            Refusal::SizeOutOfRange => "a plant has 2 to 64 boards",
+            Refusal::TableLength => "the table has not n·(n + 6) bytes",
             Refusal::LineRule => "a line of the table breaks a line rule",
-            Refusal::RoundNotClosed => "some station is live and every live one is finished",
-            Refusal::ScheduleLength => "the schedule's length is odd",
-            Refusal::SheetLength => "the sheet's length is not twice the schedule's",
-            Refusal::TallyFull =>
-                "either tally stands at 4294967295 when an entry, or a grant of a drive, is reached",
-            Refusal::UnknownKind => "the kind is not 1, 2 or 3",
-            Refusal::NoSuchStation => "the station number is n or more",
-            Refusal::NotLive => "the station is not live",
-            Refusal::PassFinished => "the kind is 1 or 2 and the station has finished its pass",
-            Refusal::NoSuchLevel =>
-                "the level is 0 or above d, the size's logarithm to base 2, rounded up",
+            Refusal::RoundNotClosed =>
+                "every live board has finished its pass, and the round was not closed",
+            Refusal::ScheduleLength => "the schedule has an odd number of bytes",
+            Refusal::SheetLength => "the sheet has not twice the bytes of the schedule",
+            Refusal::TallyFull => "a counter is full: rounds or tests stand at 4,294,967,295",
+            Refusal::UnknownKind => "there is no such kind of entry",
+            Refusal::NoSuchStation => "there is no board with this number: they go from 0 to n − 1",
+            Refusal::NotLive => "this board is not live",
+            Refusal::PassFinished => "this board has finished its pass in this round",
+            Refusal::NoSuchLevel => "there is no such level: they go from 1 to d",
             Refusal::ListLength =>
-                "the lent list, or the buffer for a saved plant, has not the length stated",
-            Refusal::NoResult => "there is no result at all",
+                "the list or buffer for the answer has another length than the answer",
+            Refusal::NoResult => "there is no result to take figures of",
             Refusal::TooManyResults =>
-                "there are more than 4096 results in all, or totals that 4096 results cannot have",
-            Refusal::LastGranted => "the last granted number is n or more and not 255",
-            Refusal::NoneLive => "no station is live",
-            Refusal::FieldPastEnd => "a field of the saved plant, or its head, runs past the end",
+                "more than 4,096 results, or totals that so many cannot have",
+            Refusal::LastGranted => "the last granted number is neither a board nor 255",
+            Refusal::NoneLive => "no board is live",
+            Refusal::FieldPastEnd => "the file is cut off: a field or its head goes past the end",
             Refusal::SizeOrTallyField =>
-                "the size or tally field of the saved plant is absent, twice or of wrong length",
+                "the field with the size or the tally is missing, there twice or of a wrong length",
             Refusal::LineField =>
-                "a line field of the saved plant has the wrong length, or a station is absent, twice or too high",
+                "a board's line in the file is missing, there twice, of a wrong length or of no board",
         })
     }
 }

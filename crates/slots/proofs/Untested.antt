@@ -29,20 +29,9 @@ use Rattle.slots.specs.Slots.{tested, is_untested, untested_distances, untested,
 use Rattle.slots.specs.Law.{NobodyLeftOut, ListsCounted}
 use Rattle.slots.proofs.DigitLaws.{due-nobody}
 
--- where nobody stands, where the answer is "due", and where it is who stands ahead
-pub untested-absent : (r : List ℕ) (i m : ℕ) → stands r i m ≡ false → is_untested r i m ≡ false
-untested-absent r i m absent = rw (absent, and-false)
-
-pub untested-due : (r : List ℕ) (i m : ℕ) → says_due (answer r i m) ≡ true → is_untested r i m ≡ false
-untested-due r i m says = rw (due-is r i m, says, and-false)
-
-pub untested-ahead : (r : List ℕ) (i m : ℕ) → 0 < m → stands r i m ≡ true → says_due (answer r i m) ≡ false → is_untested r i m ≡ true
-untested-ahead r i m pos here says = rw (due-is r i m, says, lt-ltb 0 m pos, here)
-
--- below distance 1 there is nobody
-pub untested-start : (r : List ℕ) (i : ℕ) → select (is_untested r i) 1 ≡ []
-unfolding list_of
-untested-start r i = refl
+-- distance 0 is that of the board itself
+pub untested-zero : (r : List ℕ) (i : ℕ) → is_untested r i 0 ≡ false
+untested-zero r i = refl
 
 -- another station is tested or not
 other-counted : (r : List ℕ) (i m : ℕ) → bit (due r i m) + bit (is_untested r i m) ≡ bit (is_other (length r) i m)

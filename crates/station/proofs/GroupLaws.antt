@@ -5,15 +5,15 @@ use Rattle.std.specs.List.{filter}
 use mathlib.Core.Logic.{◌⊎◌, inl, inr}
 use mathlib.Core.List.Memᴰ
 use mathlib.Core.List.{[], ◌∷◌, ◌++◌, Memᴰ}
-use Prim.Native.Nat.{ℕ, zero, suc, ◌+◌, ◌-◌, ◌^◌, ◌≤◌, ◌<◌}
+use Prim.Native.Nat.{ℕ, zero, suc, ◌+◌, ◌-◌, ◌^◌, ◌<◌}
 use native.Mathlib.Nat.{eq-or-lt_of_le, le_of_suc-le-suc, one-mul, two-pow-succ}
 use native.Mathlib.Omega.{arith}
 use lib.Bits.{xor_self, xor_zero_r, xor_lt, xor_shifted}
 use borrow.Author.Tests.{ltb-true, lt-ltb}
-use mathlib.Core.Bool.{true}
 use Rattle.lists.specs.Search.{list_of}
-use Rattle.table.specs.Sizes.{is_size, level, dimension, distances}
+use Rattle.table.specs.Sizes.{level, dimension, distances}
 use Rattle.station.specs.Groups.{distance, station_at, is_present, width, member, full_group, group}
+use Rattle.station.specs.Partition.{NotInOwnGroup, InOneGroup}
 use Rattle.station.specs.Equation1.{groups_to, remaining_to}
 use Rattle.lists.proofs.Xor.{xor_assoc, xor-cancel, xor-zero-eq}
 use Rattle.lists.proofs.SearchLaws.{list_of-same, list_of-append}
@@ -77,14 +77,13 @@ unfolding group
 members-group n i s x pos h e = mem-filter (is_present n) (full_group i s) x (level-members i s x pos e) (lt-ltb x n h)
 
 -- no station is in a group of its own
-pub not-in-own : (n i s : ℕ) → Memᴰ i (group n i s) → ⊥
+pub not-in-own : NotInOwnGroup
 unfolding group
 not-in-own n i zero m = no-group-zero i i (filter-mem (is_present n) (full_group i 0) i m).0
 not-in-own n i (suc h) m = let e : 0 ≡ suc h = cc ((group-members n i (suc h) i m).1, xor_self i, level-zero) in omega arith
 
 -- each other station is in exactly one group of i, at a level from 1 to d
-pub in-one-group : (n i x : ℕ) → is_size n ≡ true → i < n → x < n → (i ≡ x → ⊥)
-    → (s : ℕ) × (0 < s) × (s ≤ dimension n) × Memᴰ x (group n i s) × ((s' : ℕ) → Memᴰ x (group n i s') → s' ≡ s)
+pub in-one-group : InOneGroup
 unfolding distances
 in-one-group n i x size hi hx other =
     let m : ℕ = distance i x in

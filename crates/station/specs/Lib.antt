@@ -1,5 +1,6 @@
 -- What the contracts and theorems of `station` cite, in the order of document 01.
 pub mod Groups
+pub mod Partition
 pub mod Equation1
 pub mod Tests
 pub mod Rows

@@ -1,8 +1,19 @@
-// Equation 1 of paper 001 (specs/Equation1.antt) and what is claimed of the answer of request C-16 (specs/Ahead.antt), each the contract of a
-// function that does nothing.
+// That groups part the other stations (specs/Partition.antt), equation 1 of paper 001 (specs/Equation1.antt) and what is claimed of the answer of
+// request C-16 (specs/Ahead.antt), each the contract of a function that does nothing.
 
+ghost use Rattle.station.specs.Partition.{NotInOwnGroup, InOneGroup};
 ghost use Rattle.station.specs.Equation1.{Equation1, Equation1Remaining};
 ghost use Rattle.station.specs.Ahead.{NamedStandsBefore, DueIfNobodyBefore, BeforeByDigits, BeforeInBlock, NoneDueInBlock};
+
+// No station is in a group of its own.
+pub fn not_in_own_group()
+    ensures { NotInOwnGroup }
+{}
+
+// Each other station is in just one group of a station.
+pub fn in_one_group()
+    ensures { InOneGroup }
+{}
 
 // A full group is its first station and that station's full groups at all lower levels.
 pub fn equation_1()

@@ -1,12 +1,12 @@
 // Which distances are due (document 01, step 1), who is first at the others (request C-16), and the assignment.
-ghost use Rattle.std.specs.Prelude.{◌≡◌, ◌+◌, ◌*◌, ◌<◌, true, cond, length, set, Some, option_map};
+ghost use Rattle.std.specs.Prelude.{◌≡◌, ◌+◌, ◌*◌, ◌<◌, true, length, Some, option_map};
 ghost use Rattle.table.specs.Sizes.{is_size, level};
-ghost use Rattle.station.specs.Tests.{unsuspected, first, answer_of, answer, says_due, stands, due, due_distances};
+ghost use Rattle.station.specs.Groups.{station_at};
+ghost use Rattle.station.specs.Tests.{unsuspected, first, answer_of, answer, stands, due_distances};
 ghost use Rattle.station.specs.Ahead.{block_end};
-ghost use Rattle.station.specs.Calls.{answer_value, answer_byte, other_distances, assignment_entries, assignment_check, assignment_after, assignment_answer};
+ghost use Rattle.station.specs.Calls.{answer_value, other_distances, assignment_entries, assignment_check, assignment_after, assignment_answer};
 
 use crate::{DueOrAhead, groups, order, rows};
-use lists::bytes;
 use lists::refusal::Refusal;
 use table::{Distance, Station, inside, rules, sizes};
 
@@ -48,11 +48,18 @@ pub fn stands(row: &[u8], i: Station, m: Distance) -> bool
 pub fn due_or_ahead(row: &[u8], i: Station, m: Distance) -> DueOrAhead
     ensures { answer_value result ≡ answer row.now i.0 m.0 }
 {
-    let j = order::lookup(i, m);
-    if row.len() <= j.0 as usize {
+    if !stands(row, i, m) {
         return DueOrAhead::Ahead(i);
     }
-    match first_unsuspected(row, j, m) {
+    due_or_ahead_of(row, i, m)
+}
+
+// The same for a caller that knows that a station stands at distance m.
+pub fn due_or_ahead_of(row: &[u8], i: Station, m: Distance) -> DueOrAhead
+    ensures { answer_value result
+        ≡ answer_of i.0 (first (unsuspected row.now) (station_at i.0 m.0) (level m.0)) }
+{
+    match first_unsuspected(row, order::lookup(i, m), m) {
         Some(x) => answer_of(i, x),
         None => DueOrAhead::Ahead(i),
     }
@@ -106,63 +113,23 @@ fn check_assignment(n: usize, table: &[u8], i: Station, len: usize) -> Result<()
     Ok(())
 }
 
-// How much of an assignment is written: the bytes, and how many entries are due.
-#[derive(Clone, Copy)]
-struct Written {
-    bytes: u8,
-    due: u8,
-}
-
 // Writes the entries of i of n stations, by its row; answers how many are due.
 fn write_entries(n: u8, row: &[u8], i: Station, list: &mut [u8]) -> u8
-    requires { (is_size n ≡ true) × (length row.now ≡ n) × (i.0 < n) × (length list.old + 2 ≡ 2 * n) }
+    requires size { is_size n ≡ true }
+    requires row_len { length row.now ≡ n }
+    requires station { i.0 < n }
+    requires list_len { length list.old + 2 ≡ 2 * n }
     ensures value { result ≡ length (due_distances row.now i.0 n) }
     ensures list_after { list.new ≡ assignment_entries row.now i.0 (other_distances n i.0) }
 {
     let end = sizes::distances(n) as u8;
-    let mut written = Written { bytes: 0, due: 0 };
-    for m in 1..end {
-        written = put_entry(row, i, Distance(m), list, written);
+    let others = (1..end).filter(|m| stands(row, i, Distance(*m)));
+    let mut due = 0;
+    for (k, m) in others.enumerate() {
+        let answer = due_or_ahead(row, i, Distance(m));
+        list[2 * k] = m;
+        list[2 * k + 1] = answer.byte();
+        due += u8::from(answer.is_due());
     }
-    written.due
-}
-
-// Puts the entry of distance m behind what is written, if a station stands there.
-fn put_entry(row: &[u8], i: Station, m: Distance, list: &mut [u8], written: Written) -> Written
-    requires { (written.bytes < 254) × (written.due < 255) }
-    ensures bytes_value { result.bytes ≡ cond (stands row.now i.0 m.0) (written.bytes + 2) written.bytes }
-    ensures due_value { result.due ≡ cond (due row.now i.0 m.0) (written.due + 1) written.due }
-    ensures list_after { list.new ≡ cond (stands row.now i.0 m.0) (set (set list.old written.bytes m.0) (written.bytes + 1) (answer_byte (answer row.now i.0 m.0))) list.old }
-{
-    if !stands(row, i, m) {
-        return written;
-    }
-    let answer = due_or_ahead(row, i, m);
-    bytes::put(list, written.bytes, m.0);
-    bytes::put(list, written.bytes + 1, answer_byte(answer));
-    Written {
-        bytes: written.bytes + 2,
-        due: count_due(answer, written.due),
-    }
-}
-
-// One more where the answer is that the distance is due.
-fn count_due(answer: DueOrAhead, count: u8) -> u8
-    requires { count < 255 }
-    ensures { result ≡ cond (says_due (answer_value answer)) (count + 1) count }
-{
-    let DueOrAhead::Due = answer else {
-        return count;
-    };
-    count + 1
-}
-
-// The second byte of an entry: 255 if due or else the one ahead.
-fn answer_byte(answer: DueOrAhead) -> u8
-    ensures { result ≡ answer_byte (answer_value answer) }
-{
-    match answer {
-        DueOrAhead::Due => 255,
-        DueOrAhead::Ahead(x) => x.0,
-    }
+    due
 }

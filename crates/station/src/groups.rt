@@ -1,16 +1,16 @@
 // Groups (document 01, "Groups by distance"; request C-11).
-ghost use Rattle.std.specs.Prelude.{◌≡◌, ◌+◌, ◌<◌, ◌≤◌, cond, length, set};
-ghost use Rattle.station.specs.Groups.{is_present, width, group};
+ghost use Rattle.std.specs.Prelude.{◌≡◌, ◌<◌, ◌≤◌, length};
+ghost use Rattle.station.specs.Groups.{width, group};
 ghost use Rattle.station.specs.Calls.{range_check, group_check, group_after};
 
 use crate::order;
-use lists::bytes;
 use lists::refusal::Refusal;
 use table::{Distance, Level, Station, sizes};
 
 // How many numbers a full group at level s has, and its least distance.
 pub(crate) fn width_of(s: Level) -> u8
-    requires { (0 < s.0) × (s.0 ≤ 8) }
+    requires s_nonzero { 0 < s.0 }
+    requires s_top { s.0 ≤ 8 }
     ensures value { result ≡ width s.0 }
     ensures upper_bound { result ≤ 128 }
 {
@@ -38,8 +38,7 @@ fn check_group(n: usize, i: Station, s: Level, len: usize) -> Result<(), Refusal
         return Err(Refusal::SizeOutOfRange);
     }
     check_range(n as u8, i, s)?;
-    let length = group_length(n as u8, i, s);
-    if len != length as usize {
+    if len != group_length(n as u8, i, s) {
         return Err(Refusal::ListLength);
     }
     Ok(())
@@ -61,49 +60,30 @@ fn check_range(n: u8, i: Station, s: Level) -> Result<(), Refusal>
 }
 
 // How many stations the group of i at level s has among n.
-fn group_length(n: u8, i: Station, s: Level) -> u8
-    requires { (0 < s.0) × (s.0 ≤ 8) }
+fn group_length(n: u8, i: Station, s: Level) -> usize
+    requires s_nonzero { 0 < s.0 }
+    requires s_top { s.0 ≤ 8 }
     ensures { result ≡ length (group n i.0 s.0) }
 {
     let w = width_of(s);
-    let mut count: u8 = 0;
-    for k in 0..w {
-        let x = order::lookup(i, Distance(w + k));
-        count = count_if(count, x.0 < n);
-    }
-    count
-}
-
-// One more where `more` holds.
-fn count_if(count: u8, more: bool) -> u8
-    requires { count < 255 }
-    ensures { result ≡ cond more (count + 1) count }
-{
-    if more { count + 1 } else { count }
+    (0..w)
+        .map(|k| order::lookup(i, Distance(w + k)).0)
+        .filter(|x| *x < n)
+        .count()
 }
 
 // Writes the members of the group of i at level s among n.
 fn write_group(n: u8, i: Station, s: Level, list: &mut [u8])
-    requires s_nonzero { (0 < s.0) × (s.0 ≤ 8) }
+    requires s_nonzero { 0 < s.0 }
+    requires s_top { s.0 ≤ 8 }
     requires list_len { length list.old ≡ length (group n i.0 s.0) }
     ensures { list.new ≡ group n i.0 s.0 }
 {
     let w = width_of(s);
-    let mut count: u8 = 0;
-    for k in 0..w {
-        count = put_member(n, order::lookup(i, Distance(w + k)), list, count);
+    let members = (0..w)
+        .map(|k| order::lookup(i, Distance(w + k)).0)
+        .filter(|x| *x < n);
+    for (k, x) in members.enumerate() {
+        list[k] = x;
     }
-}
-
-// Puts station x at place count of the list if it is one of n; answers how many are there now.
-fn put_member(n: u8, x: Station, list: &mut [u8], count: u8) -> u8
-    requires { count < 255 }
-    ensures value { result ≡ cond (is_present n x.0) (count + 1) count }
-    ensures list_after { list.new ≡ cond (is_present n x.0) (set list.old count x.0) list.old }
-{
-    if n <= x.0 {
-        return count;
-    }
-    bytes::put(list, count, x.0);
-    count + 1
 }

@@ -2,8 +2,13 @@
 // The plant run stands above this crate and relies only on what is stated here.
 //
 // The calls of document 01: groups::group_list, due::assignment, rows::row and rows::check_row. The rest is open for the crates above. No function
-// open to a caller has a `requires`. Those of `claims` do nothing: their contracts are the claims of specs/Equation1.antt and specs/Ahead.antt.
+// open to a caller has a `requires`. Those of `claims` do nothing: their contracts are the claims of specs/Partition.antt, specs/Equation1.antt
+// and specs/Ahead.antt.
 #![tactic(auto)]
+
+ghost use Rattle.std.specs.Prelude.{◌≡◌};
+ghost use Rattle.station.specs.Tests.{says_due};
+ghost use Rattle.station.specs.Calls.{answer_value, answer_byte};
 
 pub mod claims;
 pub mod due;
@@ -13,10 +18,30 @@ pub mod rows;
 
 use table::Station;
 
-// Request C-16: what the question whether a distance is due answers. Ahead names the station that is first instead; where nobody is first, or
-// nobody stands at the distance, the one that asks.
+// Request C-16: what the question whether a distance is due answers.
 #[derive(Clone, Copy)]
 pub enum DueOrAhead {
+    // The distance is due.
     Due,
+    // It is not: the station that is first instead. Where nobody is first, or nobody stands at the distance, the one that asks.
     Ahead(Station),
+}
+
+impl DueOrAhead {
+    // Whether the distance is due.
+    pub fn is_due(self) -> bool
+        ensures { result ≡ says_due (answer_value self) }
+    {
+        matches!(self, DueOrAhead::Due)
+    }
+
+    // The second byte of an entry of an assignment: 255 if due or else the one ahead.
+    pub fn byte(self) -> u8
+        ensures { result ≡ answer_byte (answer_value self) }
+    {
+        match self {
+            DueOrAhead::Due => 255,
+            DueOrAhead::Ahead(x) => x.0,
+        }
+    }
 }

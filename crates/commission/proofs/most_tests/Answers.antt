@@ -12,7 +12,7 @@ loop-j-preserved c =
     let i = c.loop-j.invariant in
     let t = c.tests_with.ensures in
     record {
-      most = c.greater-most.ensures ∙ greatest-next _ _ _ _ i.most (rw i.same at t.value);
+      most = c.max-most.ensures ∙ greatest-next _ _ _ _ i.most (rw i.same at t.value);
       same = t.row_unchanged ∙ i.same;
     }
 

@@ -13,7 +13,7 @@ pub loop-k-init : goal.loop-k-init
 loop-k-init c = fill_start _ _
 
 pub loop-k-preserved : goal.loop-k-preserved
-loop-k-preserved c = fill-next _ _ _ _ _ c.loop-k.invariant (joined-byte _ _ _ _ _ refl c.greater.ensures)
+loop-k-preserved c = fill-next _ _ _ _ _ c.loop-k.invariant (joined-byte _ _ _ _ _ refl c.max.ensures)
 
 pub returns : goal.returns
 returns c =

@@ -1,44 +1,95 @@
--- Few entries are written and few are due, so the counts fit; the others of n stations are n - 1, so the entries fill the list.
-use Rattle.std.proofs.Common.{◌≡◌, ◌∙◌, arith}
+-- The distances of the other stations are gone through in order; their entries fill the list.
+use Rattle.std.proofs.Common.{◌≡◌, ℕ, Bool, true, false, map, length-set, ◌≤◌, ◌<◌, ◌-◌, ◌*◌, ◌+◌, refl, sym, ◌∙◌, ap, length, arith, rules, tests}
+use Rattle.std.specs.List.{filter}
+use Rattle.std.specs.Int.{from_bool}
+use Rattle.std.proofs.lemmas.Iterator.{YieldsList-from_range}
+use Rattle.std.proofs.lemmas.Iterator.Consumers.{YieldsList-at, YieldsList-from_filter, YieldsList-from_enumerate, YieldsList-turn, YieldsList-end}
+use Rattle.lists.proofs.Enumerated.{enumerated, enumerated-all}
 use Rattle.table.specs.Sizes.{distances}
-use Rattle.table.proofs.SizeLaws.{size-distances, distances-pos}
-use Rattle.lists.proofs.FilterLaws.{count_next}
-use Rattle.station.specs.Tests.{due_distances}
-use Rattle.station.specs.Calls.{other_distances}
-use Rattle.station.proofs.EntryLaws.{entries-start, due-start, due-count, entry-bytes, entry_next, entry_done}
+use Rattle.table.proofs.SizeLaws.{size-distances, size-bounds}
+use Rattle.station.specs.Tests.{stands, says_due, due}
+use Rattle.station.specs.Calls.{other_distances, assignment_entries}
+use Rattle.station.proofs.DueLaws.{due-is}
+use Rattle.station.proofs.EntryLaws.{others-walk, others-due, entry-fits, entry-written, entry-counted, entry-few, entry_done}
 use Rattle.station.proofs.due.write_entries.Goals as goal
-
-pub loop-m-init : goal.loop-m-init
-loop-m-init c =
-    let none = entries-start c.args.n c.args.row.now c.args.i.0 in
-    record {
-      counted = rw (due-start c.args.row.now c.args.i.0);
-      written = (rw none.0, rw none.1);
-    }
-
-pub put_entry-written-requires : goal.put_entry-written-requires
-put_entry-written-requires c =
-    let i = c.loop-m.invariant in
-    omega (arith, size-distances _ c.requires.0, due-count _ _ _ _ i.counted, entry-bytes _ _ _ _ i.written.0)
+use Rattle.station.proofs.due.write_entries.Goals.{In-Some, In-None}
 
 pub overflow_cast-end : goal.overflow_cast-end
-overflow_cast-end c = omega (arith, size-distances _ c.requires.0)
+overflow_cast-end c = omega (arith, size-distances _ c.requires.size)
 
-pub loop-m-preserved : goal.loop-m-preserved
-loop-m-preserved c =
-    let i = c.loop-m.invariant in
-    let s = c.put_entry-written.ensures in
+pub loop-k-init : goal.loop-k-init
+unfolding assignment_entries
+loop-k-init c = record { counted = refl; written = refl }
+
+bool-few : (b : Bool) → from_bool b ≤ 1
+bool-few true = omega arith
+bool-few false = omega arith
+
+-- the place of an entry, and that it is in the list
+turn : (c : In-Some) → (c.in-Some.k ≡ length c.loop-k.yielded) × (2 * c.in-Some.k + 1 < length c.args.list.now)
+turn c =
+    let t = YieldsList-turn
+    (YieldsList-at c.into_iter-k-iterator.ensures.into_iter_gives
+    (YieldsList-from_enumerate (YieldsList-at c.enumerate-k-items.ensures.source
+    (YieldsList-from_filter _ (stands c.args.row.now c.args.i.0) (YieldsList-at c.filter-others.ensures.source
+    (YieldsList-from_range 1 c.distances-end.result (distances c.args.n - 1) (search rules) (omega (arith, c.distances-end.ensures))))
+    c.filter-others.ensures.closure (λ x r q k. search (rules, tests))))
+    c.enumerate-k-items.ensures.count))
+    c.loop-k.yielded _ c.loop-k.yielded_by _ _ _ c.in-Some.is c.next.ensures.steps in
+    let p = enumerated _ _ _ _ t in
+    let q = c.requires in
+    (p.0, entry-fits _ _ _ q.size q.row_len q.station _ c.args.list.now c.loop-k.yielded _ c.in-Some.m q.list_len p.0 p.1)
+
+pub overflow_mul-list : goal.overflow_mul-list
+overflow_mul-list c = omega (arith, (turn (goal.at.overflow_mul-list c).In-Some).1, c.requires.list_len, size-bounds _ c.requires.size)
+
+pub bounds-list-k : goal.bounds-list-k
+bounds-list-k c = omega (arith, (turn (goal.at.bounds-list-k c).In-Some).1, c.loop-k.auto.list)
+
+pub overflow_mul-list-in-loop-k : goal.overflow_mul-list-in-loop-k
+overflow_mul-list-in-loop-k c = omega (arith, (turn (goal.at.overflow_mul-list-in-loop-k c).In-Some).1, c.requires.list_len, size-bounds _ c.requires.size)
+
+pub overflow_add-list : goal.overflow_add-list
+overflow_add-list c = omega (arith, (turn (goal.at.overflow_add-list c).In-Some).1, c.requires.list_len, size-bounds _ c.requires.size)
+
+pub bounds-list-k-in-loop-k : goal.bounds-list-k-in-loop-k
+bounds-list-k-in-loop-k c = omega (arith, (turn (goal.at.bounds-list-k-in-loop-k c).In-Some).1, c.loop-k.auto.list, length-set c.loop-k.list (2 * c.in-Some.k) c.in-Some.m)
+
+pub overflow_add-due : goal.overflow_add-due
+overflow_add-due c =
+    let t = turn (goal.at.overflow_add-due c).In-Some in
+    omega (arith, t.0, t.1, c.requires.list_len, size-bounds _ c.requires.size, entry-few _ c.loop-k.yielded _ c.loop-k.invariant.counted, bool-few c.is_due.result, c.from-due.ensures)
+
+pub loop-k-preserved : goal.loop-k-preserved
+loop-k-preserved c =
+    let i = c.loop-k.invariant in
+    let t = turn (goal.at.loop-k-preserved c).In-Some in
+    let q = c.requires in
     record {
-      counted = count_next _ (λ k. k) _ _ _ i.counted s.due_value;
-      written = entry_next _ _ _ c.requires.1 _ _ _ _ _ _ (omega arith) i.written s.bytes_value s.list_after;
+      counted = rw c.from-due.ensures (entry-counted (due c.args.row.now c.args.i.0) c.loop-k.yielded c.in-Some.k c.in-Some.m _ c.is_due.result (c.is_due.ensures ∙ ap says_due c.due_or_ahead-answer.ensures ∙ sym (due-is _ _ _)) i.counted);
+      written = rw (c.byte.ensures, c.due_or_ahead-answer.ensures) (entry-written _ _ _ q.size q.row_len q.station _ _ c.loop-k.yielded _ _ q.list_len t.0 i.written);
     }
 
+-- in the end all distances of the others were gone through
+all : (c : In-None) → map (λ (p : ℕ × ℕ). p.1) c.loop-k.yielded ≡ other_distances c.args.n c.args.i.0
+all c =
+    let e = YieldsList-end
+    (YieldsList-at c.into_iter-k-iterator.ensures.into_iter_gives
+    (YieldsList-from_enumerate (YieldsList-at c.enumerate-k-items.ensures.source
+    (YieldsList-from_filter _ (stands c.args.row.now c.args.i.0) (YieldsList-at c.filter-others.ensures.source
+    (YieldsList-from_range 1 c.distances-end.result (distances c.args.n - 1) (search rules) (omega (arith, c.distances-end.ensures))))
+    c.filter-others.ensures.closure (λ x r q k. search (rules, tests))))
+    c.enumerate-k-items.ensures.count))
+    c.loop-k.yielded _ c.loop-k.yielded_by _ _ c.in-None.is c.next.ensures.steps in
+    let q = c.requires in
+    enumerated-all 0 _ c.loop-k.yielded e.0 ∙ others-walk _ _ _ q.size q.row_len q.station
+
 pub returns-clause-value : goal.returns-clause-value
-unfolding due_distances
-returns-clause-value c = let e : c.loop-m.m ≡ distances c.args.n = omega (arith, distances-pos c.args.n) in rw e at c.loop-m.invariant.counted
+returns-clause-value c =
+    let q = c.requires in
+    c.loop-k.invariant.counted ∙ ap length (ap (filter (due c.args.row.now c.args.i.0)) (all c) ∙ others-due _ _ _ q.size q.row_len q.station)
 
 pub returns-clause-list_after : goal.returns-clause-list_after
-unfolding other_distances
 returns-clause-list_after c =
-    let e : c.loop-m.m ≡ distances c.args.n = omega (arith, distances-pos c.args.n) in
-    rw e at c.loop-m.invariant.written.1 ∙ entry_done _ _ _ c.requires.0 c.requires.2 _ c.requires.3
+    let q = c.requires in
+    rw (all c) at c.loop-k.invariant.written ∙ entry_done _ _ _ q.size q.station _ q.list_len

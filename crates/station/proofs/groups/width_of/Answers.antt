@@ -12,4 +12,4 @@ shifted (suc k) p h =
     rw (e, (shift_one k 7 256 (omega arith) (omega arith)).0)
 
 pub returns-clause-value : goal.returns-clause-value
-returns-clause-value c = shifted c.args.s.0 c.requires.0 c.requires.1
+returns-clause-value c = shifted c.args.s.0 c.requires.s_nonzero c.requires.s_top

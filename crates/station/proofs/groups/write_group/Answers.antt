@@ -1,29 +1,56 @@
--- At the end all places of the group are passed, and its stations fill the list.
-use Rattle.std.proofs.Common.{◌≡◌, refl, sym, ◌∙◌, ap, length, arith}
-use Rattle.lists.specs.Search.{list_of}
+-- The members of the group are gone through in order, and fill the list.
+use Rattle.std.proofs.Common.{refl, ◌∙◌, ap, length, arith, rules, tests}
+use Rattle.std.proofs.lemmas.Iterator.{YieldsList-from_range, YieldsList-from_map}
+use Rattle.std.proofs.lemmas.Iterator.Consumers.{YieldsList-at, YieldsList-from_filter, YieldsList-from_enumerate, YieldsList-turn, YieldsList-end}
 use Rattle.lists.proofs.Writing.{sets-all}
-use Rattle.station.proofs.GroupWalk.{passed, passed-all, passed-le, passed-count, passed-put}
+use Rattle.lists.proofs.Enumerated.{enumerated, enumerated-all, write-next}
+use Rattle.station.specs.Groups.{is_present}
+use Rattle.station.proofs.GroupWalk.{placed, group-walk}
 use Rattle.station.proofs.groups.write_group.Goals as goal
 
 pub loop-k-init : goal.loop-k-init
-unfolding passed list_of
-loop-k-init c = record { counted = refl; written = refl }
+loop-k-init c = refl
 
-pub put_member-count-requires : goal.put_member-count-requires
-put_member-count-requires c = omega (arith, passed-le _ _ _ _ _ c.loop-k.invariant.counted)
+pub bounds-list-k : goal.bounds-list-k
+bounds-list-k c =
+    let t = YieldsList-turn
+    (YieldsList-at c.into_iter-k-iterator.ensures.into_iter_gives
+    (YieldsList-from_enumerate (YieldsList-at c.enumerate-k-items.ensures.source
+    (YieldsList-from_filter _ (is_present c.args.n) (YieldsList-at c.filter-members.ensures.source
+    (YieldsList-from_map _ (placed c.args.i.0 c.width_of-w.result) (YieldsList-at c.map.ensures.source
+    (YieldsList-from_range 0 c.width_of-w.result c.width_of-w.result refl (omega arith)))
+    c.map.ensures.closure (λ x r q k. search rules)))
+    c.filter-members.ensures.closure (λ x r q k. search (rules, tests))))
+    c.enumerate-k-items.ensures.count))
+    c.loop-k.yielded _ c.loop-k.yielded_by _ _ _ c.in-Some.is c.next.ensures.steps in
+    let p = enumerated _ _ _ _ t in
+    omega (arith, p.0, p.1, c.requires.list_len, c.loop-k.auto.list, ap length (group-walk c.args.n c.args.i.0 c.args.s.0 c.width_of-w.result c.width_of-w.ensures.value))
 
 pub loop-k-preserved : goal.loop-k-preserved
 loop-k-preserved c =
-    let i = c.loop-k.invariant in
-    let p = c.put_member-count.ensures in
-    let x = c.lookup.ensures in
-    record {
-      counted = passed-count _ _ _ _ _ x _ _ i.counted p.value;
-      written = passed-put _ _ _ _ _ x _ _ _ _ i.written i.counted p.list_after;
-    }
+    let t = YieldsList-turn
+    (YieldsList-at c.into_iter-k-iterator.ensures.into_iter_gives
+    (YieldsList-from_enumerate (YieldsList-at c.enumerate-k-items.ensures.source
+    (YieldsList-from_filter _ (is_present c.args.n) (YieldsList-at c.filter-members.ensures.source
+    (YieldsList-from_map _ (placed c.args.i.0 c.width_of-w.result) (YieldsList-at c.map.ensures.source
+    (YieldsList-from_range 0 c.width_of-w.result c.width_of-w.result refl (omega arith)))
+    c.map.ensures.closure (λ x r q k. search rules)))
+    c.filter-members.ensures.closure (λ x r q k. search (rules, tests))))
+    c.enumerate-k-items.ensures.count))
+    c.loop-k.yielded _ c.loop-k.yielded_by _ _ _ c.in-Some.is c.next.ensures.steps in
+    write-next (λ p. p.1) _ _ c.loop-k.yielded _ _ (enumerated _ _ _ _ t).0 c.loop-k.invariant
 
 pub returns : goal.returns
 returns c =
-    let all : c.loop-k.k ≡ c.width_of-w.result = omega arith in
-    let whole = passed-all _ _ _ _ c.width_of-w.ensures.value in
-    rw all at c.loop-k.invariant.written ∙ sets-all _ _ (c.requires.list_len ∙ sym (ap length whole)) ∙ whole
+    let e = YieldsList-end
+    (YieldsList-at c.into_iter-k-iterator.ensures.into_iter_gives
+    (YieldsList-from_enumerate (YieldsList-at c.enumerate-k-items.ensures.source
+    (YieldsList-from_filter _ (is_present c.args.n) (YieldsList-at c.filter-members.ensures.source
+    (YieldsList-from_map _ (placed c.args.i.0 c.width_of-w.result) (YieldsList-at c.map.ensures.source
+    (YieldsList-from_range 0 c.width_of-w.result c.width_of-w.result refl (omega arith)))
+    c.map.ensures.closure (λ x r q k. search rules)))
+    c.filter-members.ensures.closure (λ x r q k. search (rules, tests))))
+    c.enumerate-k-items.ensures.count))
+    c.loop-k.yielded _ c.loop-k.yielded_by _ _ c.in-None.is c.next.ensures.steps in
+    let all = enumerated-all 0 _ c.loop-k.yielded e.0 ∙ group-walk _ _ _ _ c.width_of-w.ensures.value in
+    rw all at c.loop-k.invariant ∙ sets-all _ _ c.requires.list_len

@@ -2,7 +2,7 @@
 use Rattle.std.proofs.Common.{◌≡◌, refl, ◌∙◌, arith}
 use Rattle.lists.proofs.Loops.{greatest-start, greatest-next}
 use Rattle.slots.specs.Slots.{most_of_boards}
-use Rattle.commission.proofs.most_of_boards.Goals as goal
+use Rattle.commission.proofs.most_with_one_more.Goals as goal
 
 pub loop-i-init : goal.loop-i-init
 loop-i-init c = record { most = greatest-start _; same = refl }
@@ -10,9 +10,9 @@ loop-i-init c = record { most = greatest-start _; same = refl }
 pub loop-i-preserved : goal.loop-i-preserved
 loop-i-preserved c =
     let i = c.loop-i.invariant in
-    let t = c.tests_of.ensures in
+    let t = c.most_tests.ensures in
     record {
-      most = c.greater-most.ensures ∙ greatest-next _ _ _ _ i.most (rw i.same at t.value);
+      most = c.max-most.ensures ∙ greatest-next _ _ _ _ i.most (rw i.same at t.value);
       same = t.row_unchanged ∙ i.same;
     }
 
