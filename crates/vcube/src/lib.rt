@@ -3,6 +3,8 @@
 #![tactic(auto)]
 
 ghost use Rattle.std.specs.Prelude.{◌≡◌, min, ◌++◌, length};
+ghost use Rattle.std.specs.Result.{result_unwrap_or};
+ghost use Rattle.lists.specs.Refusal.{number_of_result};
 ghost use Rattle.table.specs.Rules.{shape_number};
 ghost use Rattle.table.specs.Fresh.{fresh_after};
 ghost use Rattle.station.specs.Calls.{group_number, group_after, row_number, row_part, row_offset, assignment_number, assignment_after, assignment_count};
@@ -19,6 +21,7 @@ ghost use Rattle.vcube.specs.Exports.{outcome_out, drive_out, tally_of, loaded_o
 use figures::{Figures, Totals, adding, batch};
 use granter::{drive, grant};
 use lists::refusal;
+use lists::refusal::Refusal;
 use plant::{Tally, run};
 use saved::{load, save};
 use station::{due, groups, rows};
@@ -59,16 +62,12 @@ pub extern "C" fn vcube_assignment(
     ensures count_after { count.new ≡ assignment_count n table.now station (length list.old) }
     ensures list_after { list.new ≡ assignment_after n table.now station list.old }
 {
-    match due::assignment(n, table, Station(byte_of(station)), list) {
-        Ok(due) => {
-            *count = due as usize;
-            0
-        }
-        Err(refusal) => {
-            *count = 0;
-            refusal.number()
-        }
-    }
+    let (number, due) = parts(
+        due::assignment(n, table, Station(byte_of(station)), list),
+        0,
+    );
+    *count = due as usize;
+    number
 }
 
 // Row: where the station's row begins in the table, and how many bytes it has; both 0 where it is refused.
@@ -134,16 +133,9 @@ pub extern "C" fn vcube_grant(n: usize, table: &[u8], last: usize, station: &mut
     ensures value { result ≡ grant_number n table.now last }
     ensures station_after { station.new ≡ grant_station n table.now last }
 {
-    match grant::grant(n, table, last) {
-        Ok(to) => {
-            *station = to.0 as usize;
-            0
-        }
-        Err(refusal) => {
-            *station = 0;
-            refusal.number()
-        }
-    }
+    let (number, to) = parts(grant::grant(n, table, last), Station(0));
+    *station = to.0 as usize;
+    number
 }
 
 // Drive: grants and turns on a table and the tally that rounds and tests hold, until a round closes, nobody is left live, or a tally is
@@ -276,6 +268,17 @@ pub extern "C" fn vcube_figures_of_totals(kept: &[u64; 5], answer: &mut [u64; 7]
     let of_kept = batch::figures_of_totals(totals_with(kept));
     *answer = figures_members(of_kept);
     of_kept.number
+}
+
+// An answer as C has it: its number, and its value, or where it is refused what is left in the value's place.
+fn parts<T: Copy>(answer: Result<T, Refusal>, refused: T) -> (u8, T)
+    ensures number { result.0 ≡ number_of_result answer }
+    ensures value { result.1 ≡ result_unwrap_or answer refused }
+{
+    match answer {
+        Ok(value) => (0, value),
+        Err(refusal) => (refusal.number(), refused),
+    }
 }
 
 // The members of a struct of figures, in their order.
