@@ -6,8 +6,9 @@ use Prim.Native.Nat.{ℕ, ◌*◌, ◌<◌}
 use native.Mathlib.Nat.{mul-pos, le_of_dvd, pos_of_dvd_of_pos}
 use native.Mathlib.Omega.{arith}
 use lib.ListN.{length}
+use Rattle.std.specs.List.{sum_by}
 use Rattle.figures.specs.Fractions.{lowest, LowestTerms}
-use Rattle.figures.specs.Batch.{sum_of, sum_of_results, squared_difference, mean, variance}
+use Rattle.figures.specs.Batch.{sum_of_results, squared_difference, mean, variance}
 use Rattle.figures.proofs.LowestTerms.{lowest-terms, lowest-unique}
 
 -- the mean of at least one result
@@ -17,7 +18,7 @@ mean-lowest xs pos = lowest-terms (sum_of_results xs) (length xs) pos
 
 -- the variance of at least one result
 pub variance-lowest : (xs : List ℕ) → 0 < length xs →
-    LowestTerms (sum_of (λ x. squared_difference (length xs * x) (sum_of_results xs)) xs) (length xs * length xs * length xs) (variance xs)
+    LowestTerms (sum_by (λ x. squared_difference (length xs * x) (sum_of_results xs)) xs) (length xs * length xs * length xs) (variance xs)
 unfolding variance
 variance-lowest xs pos = lowest-terms _ _ (mul-pos (mul-pos pos pos) pos)
 

@@ -18,7 +18,7 @@ use native.Mathlib.Nat.{
 use native.Mathlib.Omega.{arith}
 use Rattle.figures.specs.declared.Fraction.{Fraction}
 use Rattle.figures.specs.Fractions.{gcd, lowest, LowestTerms}
-use Rattle.figures.proofs.Gcd.{gcd-greatest, gcd-positive, gcd-scaled}
+use Rattle.figures.proofs.Gcd.{gcd-greatest, gcd_positive, gcd-scaled}
 
 -- the fraction that `lowest` gives stands for upper / lower and is in lowest terms
 pub lowest-terms : (upper lower : ℕ) → 0 < lower → LowestTerms upper lower (lowest upper lower)
@@ -26,7 +26,7 @@ unfolding lowest
 lowest-terms upper lower pos =
     let g = gcd upper lower in
     let both = gcd-greatest upper lower in
-    let gpos : 0 < g = gcd-positive upper pos in
+    let gpos : 0 < g = gcd_positive upper lower pos in
     let u : g * (upper / g) ≡ upper = mul-div_cancel' g both.left in
     let l : g * (lower / g) ≡ lower = mul-div_cancel' g both.right in
     let l-divides : lower / g ∣ lower = rw l at (dvd-mul_left (lower / g) g) in

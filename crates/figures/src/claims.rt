@@ -2,7 +2,7 @@
 // nothing.
 
 ghost use Rattle.figures.specs.Fractions.{LowestIsLowest, OnlyOneLowest, ZeroLowest};
-ghost use Rattle.figures.specs.Claims.{MeanLowest, VarianceLowest, LeastExtreme, GreatestExtreme};
+ghost use Rattle.figures.specs.Claims.{MeanLowest, VarianceLowest, LeastExtreme, GreatestExtreme, KeptFigures, NotNegative};
 
 // The mean of at least one result is in lowest terms, and stands for the sum by the count.
 pub fn mean_lowest()
@@ -22,6 +22,16 @@ pub fn least_extreme()
 // The greatest result is one of the results, and none is greater.
 pub fn greatest_extreme()
     ensures { GreatestExtreme }
+{}
+
+// The figures of kept totals are those of the list that they were taken of.
+pub fn kept_figures()
+    ensures { KeptFigures }
+{}
+
+// By the count, the sum and the sum of squares of at least one result, the upper part of the variance is not negative.
+pub fn not_negative()
+    ensures { NotNegative }
 {}
 
 // The fraction that the definition `lowest` gives is in lowest terms and has the same value.

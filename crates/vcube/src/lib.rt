@@ -217,9 +217,9 @@ pub extern "C" fn vcube_saved_size(file: &[u8], n: &mut usize) -> u8
 pub extern "C" fn vcube_figures_of_list(results: &[u16], answer: &mut [u64; 7]) -> u8
     ensures { filled result answer.new ≡ figures_out (figures results.now) }
 {
-    let of_list = batch::figures(results);
+    let (number, of_list) = parts(batch::figures(results), Figures::default());
     *answer = figures_members(of_list);
-    of_list.number
+    number
 }
 
 // Figures of two lists: those of the one list that holds both.
@@ -231,9 +231,9 @@ pub extern "C" fn vcube_figures_of_two_lists(
 ) -> u8
     ensures { filled result answer.new ≡ figures_out (figures (first.now ++ second.now)) }
 {
-    let of_two = batch::figures_of_two(first, second);
+    let (number, of_two) = parts(batch::figures_of_two(first, second), Figures::default());
     *answer = figures_members(of_two);
-    of_two.number
+    number
 }
 
 // Totals of a list: count, sum, sum of squares, least, greatest, all 0 where it is refused.
@@ -241,9 +241,9 @@ pub extern "C" fn vcube_figures_of_two_lists(
 pub extern "C" fn vcube_totals_of_list(results: &[u16], answer: &mut [u64; 5]) -> u8
     ensures { filled result answer.new ≡ totals_out (totals results.now) }
 {
-    let summed = adding::totals(results);
-    *answer = totals_members(summed.totals);
-    summed.number
+    let (number, summed) = parts(adding::totals(results), Totals::default());
+    *answer = totals_members(summed);
+    number
 }
 
 // Join: the totals of the results of both.
@@ -255,9 +255,10 @@ pub extern "C" fn vcube_join_totals(
 ) -> u8
     ensures { filled result answer.new ≡ totals_out (join (totals_with first.now) (totals_with second.now)) }
 {
-    let joined = adding::join(totals_with(first), totals_with(second));
-    *answer = totals_members(joined.totals);
-    joined.number
+    let both = adding::join(totals_with(first), totals_with(second));
+    let (number, joined) = parts(both, Totals::default());
+    *answer = totals_members(joined);
+    number
 }
 
 // Figures of totals that the caller kept.
@@ -266,8 +267,9 @@ pub extern "C" fn vcube_figures_of_totals(kept: &[u64; 5], answer: &mut [u64; 7]
     ensures { filled result answer.new ≡ figures_out (figures_of_totals (totals_with kept.now)) }
 {
     let of_kept = batch::figures_of_totals(totals_with(kept));
-    *answer = figures_members(of_kept);
-    of_kept.number
+    let (number, figures) = parts(of_kept, Figures::default());
+    *answer = figures_members(figures);
+    number
 }
 
 // An answer as C has it: its number, and its value, or where it is refused what is left in the value's place.
