@@ -14,7 +14,6 @@ use Rattle.std.specs.Prelude.{Result, Ok, Err}
 use Rattle.lists.specs.declared.refusal.Refusal.{Refusal}
 use Rattle.lists.specs.declared.refusal.Refusal.TheVariants.{TooManyResults}
 use Rattle.figures.specs.declared.Totals.{Totals}
-use Rattle.figures.specs.declared.Figures.{Figures}
 use Rattle.figures.specs.Batch.{most_results, mean, batch_check, figures}
 use Rattle.figures.specs.Totals.{totals_of, joined, overfull, totals, join, figures_of_totals}
 use Rattle.figures.specs.Claims.{Small}

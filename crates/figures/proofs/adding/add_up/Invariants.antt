@@ -1,5 +1,5 @@
 -- The totals so far are those of the results passed, and such as results of 16 bits can have.
-use Rattle.std.proofs.Common.{◌≡◌, ℕ, ◌*◌, ◌≤◌, min, max, take, get_or, fold}
+use Rattle.std.proofs.Common.{◌≡◌, ◌*◌, ◌≤◌, min, max, take, get_or, fold}
 use Rattle.std.specs.List.{sum_by}
 use Rattle.figures.specs.Totals.{greatest_result}
 use Rattle.figures.proofs.adding.add_up.Given as goal
