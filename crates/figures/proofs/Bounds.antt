@@ -4,7 +4,7 @@ use mathlib.Core.Path.{◌≡◌, refl, sym, ◌∙◌}
 use mathlib.Core.List.{List}
 use mathlib.Core.Bool.{Bool, true, false, ◌||◌}
 use mathlib.Core.Logic.{by_cases}
-use Prim.Native.Nat.{ℕ, ◌*◌, ◌≤◌}
+use Prim.Native.Nat.{ℕ, ◌*◌, ◌^◌, ◌<◌, ◌≤◌}
 use native.Mathlib.Nat.{mul-le-mul}
 use native.Mathlib.Decide.{dec_le}
 use native.Mathlib.Omega.{arith}
@@ -63,6 +63,15 @@ overfull_fits t e =
     let f = neither (count || sum) squares e in
     let g = neither count sum f.0 in
     record { count_fits = ltb-false _ _ g.0; sum_fits = ltb-false _ _ g.1; squares-fit = ltb-false _ _ f.1 }
+
+-- the products of its variance fit 64 bits
+pub count_squares_fit : (t : Totals) → overfull t ≡ false → (t.count * t.squares < 2 ^ 64) × (t.count * t.count < 2 ^ 64)
+count_squares_fit t e =
+    let f = overfull_fits t e in
+    (omega (arith, mul-le-mul f.count_fits f.squares-fit), omega (arith, mul-le-mul f.count_fits f.count_fits))
+
+pub sum_squared_fits : (t : Totals) → overfull t ≡ false → t.sum * t.sum < 2 ^ 64
+sum_squared_fits t e = let f = overfull_fits t e in omega (arith, mul-le-mul f.sum_fits f.sum_fits)
 
 fits-overfull : (t : Totals) → TotalsFit t → overfull t ≡ false
 unfolding overfull

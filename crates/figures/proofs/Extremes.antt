@@ -45,8 +45,8 @@ min-one a b = by_cases (dec_le a b) (λ h. inl (omega arith)) (λ h. inr (omega 
 max-one : (a b : ℕ) → (max a b ≡ a) ⊎ (max a b ≡ b)
 max-one a b = by_cases (dec_le a b) (λ h. inr (omega arith)) (λ h. inl (omega arith))
 
-pub least-extreme : (x : ℕ) (xs : List ℕ) → Extreme (λ m y. m ≤ y) (x ∷ xs) (least_of_results (x ∷ xs))
-least-extreme = fold-extreme min (λ m y. m ≤ y) (λ a. omega arith) (λ m a b h. (omega arith, omega arith)) min-one
+pub least_extreme : (x : ℕ) (xs : List ℕ) → Extreme (λ m y. m ≤ y) (x ∷ xs) (least_of_results (x ∷ xs))
+least_extreme = fold-extreme min (λ m y. m ≤ y) (λ a. omega arith) (λ m a b h. (omega arith, omega arith)) min-one
 
-pub greatest-extreme : (x : ℕ) (xs : List ℕ) → Extreme (λ m y. y ≤ m) (x ∷ xs) (greatest_of_results (x ∷ xs))
-greatest-extreme = fold-extreme max (λ m y. y ≤ m) (λ a. omega arith) (λ m a b h. (omega arith, omega arith)) max-one
+pub greatest_extreme : (x : ℕ) (xs : List ℕ) → Extreme (λ m y. y ≤ m) (x ∷ xs) (greatest_of_results (x ∷ xs))
+greatest_extreme = fold-extreme max (λ m y. y ≤ m) (λ a. omega arith) (λ m a b h. (omega arith, omega arith)) max-one

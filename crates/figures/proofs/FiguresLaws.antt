@@ -32,8 +32,8 @@ unfolding figures figures_of_totals totals_of mean
 figures-by-totals xs small = rw (overfull-count (totals_of xs) small, variance-by-totals xs)
 
 -- the figures of kept totals are those of the list that they were taken of
-pub kept-figures : (xs : List ℕ) → Small xs → figures_of_totals (totals_of xs) ≡ figures xs
-kept-figures xs p = sym (figures-by-totals xs (list-of-results xs p))
+pub kept_figures : (xs : List ℕ) → Small xs → figures_of_totals (totals_of xs) ≡ figures xs
+kept_figures xs p = sym (figures-by-totals xs (list-of-results xs p))
 
 -- a list that is too long
 too_long : (xs : List ℕ) → most_results < length xs → figures xs ≡ Err TooManyResults

@@ -45,6 +45,7 @@ pub fn figures_of_totals(t: Totals) -> Result<Figures, Refusal>
 }
 
 // The variance by the totals: (count * squares - sum * sum) / (count * count).
+#[tactic(auto, using(crate::proofs::Bounds::count_squares_fit, crate::proofs::Bounds::sum_squared_fits), unfolding(crate::specs::Totals::variance_of))]
 fn variance_of(t: Totals) -> Fraction
     requires count_nonzero { 0 < t.count }
     requires t_value { overfull t ≡ false }
@@ -52,6 +53,5 @@ fn variance_of(t: Totals) -> Fraction
 {
     let whole = t.count * t.squares;
     let part = t.sum * t.sum;
-    let upper = if part < whole { whole - part } else { 0 };
-    fractions::lowest(upper, t.count * t.count)
+    fractions::lowest(whole.saturating_sub(part), t.count * t.count)
 }

@@ -18,25 +18,25 @@ use Rattle.watch.proofs.NumberLaws.{number-has}
 use Rattle.lists.proofs.Writing.{sets-front}
 
 -- the entry of a line by the line's bytes
-pub entry-short : (l : List ℕ) → length l < 2 → entry_of l ≡ None
+pub entry_short : (l : List ℕ) → length l < 2 → entry_of l ≡ None
 unfolding entry_of
-entry-short [] h = refl
-entry-short (a ∷ []) h = refl
-entry-short (a ∷ b ∷ l) h = absurd (omega arith)
+entry_short [] h = refl
+entry_short (a ∷ []) h = refl
+entry_short (a ∷ b ∷ l) h = absurd (omega arith)
 
-pub entry-unspaced : (l : List ℕ) → 2 ≤ length l → (get_or l 1 0 ≡ 32 → ⊥) → entry_of l ≡ None
+pub entry_unspaced : (l : List ℕ) → 2 ≤ length l → (get_or l 1 0 ≡ 32 → ⊥) → entry_of l ≡ None
 unfolding entry_of
-entry-unspaced [] h n = absurd (omega arith)
-entry-unspaced (a ∷ []) h n = absurd (omega arith)
-entry-unspaced (a ∷ b ∷ l) h n = rw (ne_eqb b 32 n)
+entry_unspaced [] h n = absurd (omega arith)
+entry_unspaced (a ∷ []) h n = absurd (omega arith)
+entry_unspaced (a ∷ b ∷ l) h n = rw (ne_eqb b 32 n)
 
-pub entry-spaced : (l : List ℕ) → 2 ≤ length l → get_or l 1 0 ≡ 32
+pub entry_spaced : (l : List ℕ) → 2 ≤ length l → get_or l 1 0 ≡ 32
     → entry_of l
     ≡ option_and_then (λ kind. option_map (λ station. (kind, station)) (number_of 2 (take (length l - 2) (drop 2 l)))) (kind_of (get_or l 0 0))
 unfolding entry_of
-entry-spaced [] h s = absurd (omega arith)
-entry-spaced (a ∷ []) h s = absurd (omega arith)
-entry-spaced (a ∷ b ∷ l) h s = let e : take (suc (suc (length l)) - 2) l ≡ l = take_all _ l (omega arith) in rw (eq-eqb b 32 s, e)
+entry_spaced [] h s = absurd (omega arith)
+entry_spaced (a ∷ []) h s = absurd (omega arith)
+entry_spaced (a ∷ b ∷ l) h s = let e : take (suc (suc (length l)) - 2) l ≡ l = take_all _ l (omega arith) in rw (eq-eqb b 32 s, e)
 
 -- an entry's line is short
 entry_has : (l : List ℕ) (e : ℕ × ℕ) → entry_of l ≡ Some e → length l ≤ 4

@@ -118,15 +118,13 @@ fn entry_with_room(k: usize, room: usize, line: &[u8]) -> Option<(u8, u8)>
 }
 
 // The entry of a line, if it is one: its kind and its station.
+#[tactic(auto, using(crate::proofs::ReadLaws::entry_short, crate::proofs::ReadLaws::entry_unspaced, crate::proofs::ReadLaws::entry_spaced, crate::proofs::NumberLaws::number_two))]
 fn read_entry(line: &[u8]) -> Option<(u8, u8)>
     ensures { result ≡ entry_of line.now }
 {
-    let [letter, space, digits @ ..] = line else {
+    let [letter, b' ', digits @ ..] = line else {
         return None;
     };
-    if *space != b' ' {
-        return None;
-    }
     let kind = kind_of(*letter)?;
     let station = read_number(digits, 2)?;
     Some((kind, station as u8))
