@@ -1,10 +1,10 @@
 -- The totals of results of 16 bits: at most 65,535 for each result, and the square of it. So a list of at most 4,096 is not overfull.
 -- Assumes nothing.
 use mathlib.Core.Path.{◌≡◌, refl, sym, ◌∙◌}
-use mathlib.Core.List.{List, [], ◌∷◌}
+use mathlib.Core.List.{List}
 use mathlib.Core.Bool.{Bool, true, false, ◌||◌}
 use mathlib.Core.Logic.{by_cases}
-use Prim.Native.Nat.{ℕ, suc, ◌*◌, ◌<◌, ◌≤◌}
+use Prim.Native.Nat.{ℕ, ◌*◌, ◌^◌, ◌<◌, ◌≤◌}
 use native.Mathlib.Nat.{mul-le-mul}
 use native.Mathlib.Decide.{dec_le}
 use native.Mathlib.Omega.{arith}
@@ -12,23 +12,20 @@ use borrow.Author.Tests.{ltb-false, le-ltb, lt-ltb}
 use lib.Dec.{ltb}
 use lib.ListN.{length, get_or}
 use Rattle.figures.specs.declared.Totals.{Totals}
-use Rattle.figures.specs.Batch.{most_results, sum_of}
+use Rattle.std.specs.List.{sum_by}
+use Rattle.std.proofs.lemmas.List.Sums.{sum_by-le}
+use Rattle.std.proofs.lemmas.List.Elements.{All-from_get_or}
+use Rattle.figures.specs.Batch.{most_results}
+use Rattle.figures.specs.Claims.{Small}
 use Rattle.figures.specs.Totals.{totals_of, joined, greatest_result, overfull}
-use Rattle.figures.specs.Steps.{single}
-
--- the numbers of a list have 16 bits
-abbrev pub Small : List ℕ → Type 0
-Small xs = (k : ℕ) → get_or xs k 0 < 65536
 
 -- totals that as many results of 16 bits can have
 pub record OfResults (t : Totals) : Type 0 where
   pub sum-most : t.sum ≤ greatest_result * t.count
   pub squares-most : t.squares ≤ greatest_result * greatest_result * t.count
 
-sum-most-of : (f : ℕ → ℕ) (m : ℕ) (xs : List ℕ) → ((k : ℕ) → f (get_or xs k 0) ≤ m) → sum_of f xs ≤ m * length xs
-unfolding sum_of
-sum-most-of f m [] h = omega arith
-sum-most-of f m (x ∷ xs) h = omega (arith, h 0, sum-most-of f m xs (λ k. h (suc k)))
+sum-most-of : (f : ℕ → ℕ) (m : ℕ) (xs : List ℕ) → ((k : ℕ) → f (get_or xs k 0) ≤ m) → sum_by f xs ≤ m * length xs
+sum-most-of f m xs h = omega (arith, sum_by-le f m xs (All-from_get_or (λ x. f x ≤ m) xs 0 (λ k l. h k)))
 
 pub square-most : {x : ℕ} → x ≤ greatest_result → x * x ≤ greatest_result * greatest_result
 square-most h = mul-le-mul h h
@@ -40,14 +37,6 @@ list-of-results xs small =
       sum-most = sum-most-of (λ x. x) greatest_result xs (λ k. omega (arith, small k));
       squares-most = sum-most-of (λ x. x * x) (greatest_result * greatest_result) xs (λ k. square-most (omega (arith, small k)));
     }
-
-pub single-of-results : (x : ℕ) → x < 65536 → OfResults (single x)
-unfolding single
-single-of-results x h = record { sum-most = omega arith; squares-most = omega (arith, square-most {x = x} (omega arith)) }
-
-pub single-count : (x : ℕ) → (single x).count ≤ most_results
-unfolding single
-single-count x = omega arith
 
 pub joined-of-results : (a b : Totals) → OfResults a → OfResults b → OfResults (joined a b)
 unfolding joined
@@ -65,15 +54,24 @@ pub neither : (a b : Bool) → (a || b) ≡ false → (a ≡ false) × (b ≡ fa
 neither true b e = (e, cc)
 neither false b e = (refl, e)
 
-pub overfull-fits : (t : Totals) → overfull t ≡ false → TotalsFit t
+pub overfull_fits : (t : Totals) → overfull t ≡ false → TotalsFit t
 unfolding overfull
-overfull-fits t e =
+overfull_fits t e =
     let count = ltb most_results t.count in
     let sum = ltb (most_results * greatest_result) t.sum in
     let squares = ltb (most_results * (greatest_result * greatest_result)) t.squares in
     let f = neither (count || sum) squares e in
     let g = neither count sum f.0 in
     record { count_fits = ltb-false _ _ g.0; sum_fits = ltb-false _ _ g.1; squares-fit = ltb-false _ _ f.1 }
+
+-- the products of its variance fit 64 bits
+pub count_squares_fit : (t : Totals) → overfull t ≡ false → (t.count * t.squares < 2 ^ 64) × (t.count * t.count < 2 ^ 64)
+count_squares_fit t e =
+    let f = overfull_fits t e in
+    (omega (arith, mul-le-mul f.count_fits f.squares-fit), omega (arith, mul-le-mul f.count_fits f.count_fits))
+
+pub sum_squared_fits : (t : Totals) → overfull t ≡ false → t.sum * t.sum < 2 ^ 64
+sum_squared_fits t e = let f = overfull_fits t e in omega (arith, mul-le-mul f.sum_fits f.sum_fits)
 
 fits-overfull : (t : Totals) → TotalsFit t → overfull t ≡ false
 unfolding overfull
@@ -97,7 +95,7 @@ not-overfull t h l = overfull-count t h ∙ le-ltb _ _ l
 pub overfull-joined : (a b : Totals) → overfull (joined a b) ≡ false → (overfull a ≡ false) × (overfull b ≡ false)
 unfolding joined
 overfull-joined a b e =
-    let f = overfull-fits (joined a b) e in
+    let f = overfull_fits (joined a b) e in
     let c = f.count_fits in
     let s = f.sum_fits in
     let q = f.squares-fit in (

@@ -2,7 +2,7 @@
 -- Assumes nothing.
 use mathlib.Core.Path.{◌≡◌, sym}
 use Prim.Native.Nat.{ℕ, zero, suc, ◌*◌, ◌/◌, ◌%◌, ◌<◌, ◌≤◌, ◌∣◌}
-use native.Mathlib.Nat.{dvd_refl, dvd-zero, dvd_antisymm, dvd-mod_iff, dvd-mul_right, mul-dvd-mul_left, dvd_of_mul-dvd-mul_left, mul-div_cancel', pos_of_dvd_of_pos, mod-lt, zero-lt-suc}
+use native.Mathlib.Nat.{dvd_refl, one-dvd, dvd-zero, dvd_antisymm, dvd-mod_iff, dvd-mul_right, mul-dvd-mul_left, dvd_of_mul-dvd-mul_left, mul-div_cancel', pos_of_dvd_of_pos, mod-lt, zero-lt-suc}
 use native.Mathlib.Omega.{arith}
 use lib.Dec.{eqb-suc-zero}
 use Rattle.figures.specs.Fractions.{euclid, gcd}
@@ -40,16 +40,19 @@ pub gcd-greatest : (a b : ℕ) → Greatest a b (gcd a b)
 unfolding gcd
 gcd-greatest a b = euclid-greatest b a b (omega arith)
 
-pub gcd-zero : (a : ℕ) → gcd a 0 ≡ a
-gcd-zero a =
+pub gcd_zero : (a : ℕ) → gcd a 0 ≡ a
+gcd_zero a =
     greatest-same (gcd-greatest a 0) (record { left = dvd_refl a; right = dvd-zero a; greatest = λ k u v. u })
 
--- Euclid's step
-pub gcd-step : (a b : ℕ) → gcd b (a % b) ≡ gcd a b
-gcd-step a b = greatest-same (divided a b (gcd-greatest b (a % b))) (gcd-greatest a b)
+pub gcd_one : (a b : ℕ) → b ≡ 1 → gcd a b ≡ 1
+gcd_one a b e = rw e (greatest-same (gcd-greatest a 1) (record { left = one-dvd a; right = dvd_refl 1; greatest = λ k u v. v }))
 
-pub gcd-positive : (a : ℕ) {b : ℕ} → 0 < b → 0 < gcd a b
-gcd-positive a {b} h = pos_of_dvd_of_pos (gcd-greatest a b).right h
+-- Euclid's step
+pub gcd_step : (a b : ℕ) → gcd b (a % b) ≡ gcd a b
+gcd_step a b = greatest-same (divided a b (gcd-greatest b (a % b))) (gcd-greatest a b)
+
+pub gcd_positive : (a b : ℕ) → 0 < b → 0 < gcd a b
+gcd_positive a b h = pos_of_dvd_of_pos (gcd-greatest a b).right h
 
 -- what divides a multiple of k, and is one, divides without k too
 without : (k m h : ℕ) → 0 < k → k ∣ h → h ∣ k * m → h / k ∣ m

@@ -18,15 +18,15 @@ use native.Mathlib.Nat.{
 use native.Mathlib.Omega.{arith}
 use Rattle.figures.specs.declared.Fraction.{Fraction}
 use Rattle.figures.specs.Fractions.{gcd, lowest, LowestTerms}
-use Rattle.figures.proofs.Gcd.{gcd-greatest, gcd-positive, gcd-scaled}
+use Rattle.figures.proofs.Gcd.{gcd-greatest, gcd_positive, gcd-scaled}
 
 -- the fraction that `lowest` gives stands for upper / lower and is in lowest terms
-pub lowest-terms : (upper lower : ℕ) → 0 < lower → LowestTerms upper lower (lowest upper lower)
+pub lowest_terms : (upper lower : ℕ) → 0 < lower → LowestTerms upper lower (lowest upper lower)
 unfolding lowest
-lowest-terms upper lower pos =
+lowest_terms upper lower pos =
     let g = gcd upper lower in
     let both = gcd-greatest upper lower in
-    let gpos : 0 < g = gcd-positive upper pos in
+    let gpos : 0 < g = gcd_positive upper lower pos in
     let u : g * (upper / g) ≡ upper = mul-div_cancel' g both.left in
     let l : g * (lower / g) ≡ lower = mul-div_cancel' g both.right in
     let l-divides : lower / g ∣ lower = rw l at (dvd-mul_left (lower / g) g) in
@@ -58,8 +58,8 @@ lower-divides upper lower f g pos p q =
     coprime-divides f.upper f.lower g.lower q.positive p.no-common-divisor (rw cross (dvd-mul_right f.lower g.upper))
 
 -- there is only one
-pub lowest-unique : (upper lower : ℕ) (f g : Fraction) → 0 < lower → LowestTerms upper lower f → LowestTerms upper lower g → f ≡ g
-lowest-unique upper lower f g pos p q =
+pub lowest_unique : (upper lower : ℕ) (f g : Fraction) → 0 < lower → LowestTerms upper lower f → LowestTerms upper lower g → f ≡ g
+lowest_unique upper lower f g pos p q =
     let same : f.lower ≡ g.lower = dvd_antisymm (lower-divides upper lower f g pos p q) (lower-divides upper lower g f pos q p) in
     let over : f.upper ≡ g.upper =
     eq_of_mul-eq-mul_right lower pos _ _ (p.same-value ∙ ap (λ (x : ℕ). upper * x) same ∙ sym q.same-value) in

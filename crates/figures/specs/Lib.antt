@@ -2,5 +2,4 @@
 pub mod Fractions
 pub mod Batch
 pub mod Totals
-pub mod Steps
 pub mod Claims

@@ -1,9 +1,12 @@
 -- Request C-12: totals of results, their join, and the figures that follow from totals.
 -- Assumes nothing.
-use Rattle.std.specs.Prelude.{ℕ, ◌+◌, ◌*◌, ◌-◌, min, max, Bool, cond, ◌||◌, List, length, eqb, ltb}
+use Rattle.std.specs.Prelude.{ℕ, ◌+◌, ◌*◌, ◌-◌, min, max, Bool, not, cond, ◌||◌, List, length, eqb, ltb, Result, Ok}
+use Rattle.std.specs.List.{sum_by}
+use Rattle.lists.specs.declared.refusal.Refusal.{Refusal}
+use Rattle.lists.specs.declared.refusal.Refusal.TheVariants.{TooManyResults}
+use Rattle.lists.specs.Refusal.{Check, ensure, ◌and◌}
 use Rattle.figures.specs.declared.Fraction.{Fraction}
 use Rattle.figures.specs.declared.Totals.{Totals}
-use Rattle.figures.specs.declared.Totalled.{Totalled}
 use Rattle.figures.specs.declared.Figures.{Figures}
 use Rattle.figures.specs.Fractions.{lowest}
 use Rattle.figures.specs.Batch as batch
@@ -14,7 +17,7 @@ totals_of xs =
     record {
       count = length xs;
       sum = batch.sum_of_results xs;
-      squares = batch.sum_of (λ x. x * x) xs;
+      squares = sum_by (λ x. x * x) xs;
       least = batch.least_of_results xs;
       greatest = batch.greatest_of_results xs;
     }
@@ -46,21 +49,13 @@ overfull t =
     || ltb (batch.most_results * greatest_result) t.sum
     || ltb (batch.most_results * (greatest_result * greatest_result)) t.squares
 
--- the totals of no result
-abbrev pub no_totals : Totals
-no_totals = record { count = 0; sum = 0; squares = 0; least = 0; greatest = 0 }
-
--- a refused call gives its number, and 0 for every total
-abbrev pub refused_totals : ℕ → Totalled
-refused_totals number = record { number = number; totals = no_totals }
-
 -- the totals of a list, for all lists: 15 for more than 4,096 results. A list with no result is accepted.
-unfoldable pub totals : List ℕ → Totalled
-totals xs = cond (ltb batch.most_results (length xs)) (refused_totals 15) (record { number = 0; totals = totals_of xs })
+unfoldable pub totals : List ℕ → Result Totals Refusal
+totals xs = ensure (not (ltb batch.most_results (length xs))) TooManyResults and Ok (totals_of xs)
 
 -- the join of any two totals: 15 where the joined totals are overfull
-unfoldable pub join : Totals → Totals → Totalled
-join a b = cond (overfull (joined a b)) (refused_totals 15) (record { number = 0; totals = joined a b })
+unfoldable pub join : Totals → Totals → Result Totals Refusal
+join a b = ensure (not (overfull (joined a b))) TooManyResults and Ok (joined a b)
 
 -- the variance by totals: with c results, their sum s and the sum q of their squares, (c·q − s·s) / (c·c),
 -- zero where s·s is greater, which is so of no list
@@ -68,19 +63,18 @@ unfoldable pub variance_of : Totals → Fraction
 variance_of t = lowest (t.count * t.squares - t.sum * t.sum) (t.count * t.count)
 
 -- refusals 14 and 15 of any totals
-abbrev pub totals_number : Totals → ℕ
-totals_number t = batch.batch_number (eqb t.count 0) (overfull t)
+abbrev pub totals_check : Totals → Check
+totals_check t = batch.batch_check (eqb t.count 0) (overfull t)
 
 -- the figures of any totals
-unfoldable pub figures_of_totals : Totals → Figures
+unfoldable pub figures_of_totals : Totals → Result Figures Refusal
 figures_of_totals t =
-    cond (eqb (totals_number t) 0)
+    totals_check t
+    and Ok
     (record {
-      number = 0;
       count = t.count;
       least = t.least;
       greatest = t.greatest;
       mean = lowest t.sum t.count;
       variance = variance_of t;
     })
-    (batch.refused_figures (totals_number t))

@@ -1,10 +1,10 @@
 // Totals of a list of results, and their join (request C-12).
-ghost use Rattle.std.specs.Prelude.{◌≡◌, false, ◌≤◌, min, max, length};
+ghost use Rattle.std.specs.Prelude.{◌≡◌, false, ◌≤◌, length};
 ghost use Rattle.figures.specs.Batch.{most_results};
-ghost use Rattle.figures.specs.Totals.{totals_of, of_both, joined, overfull, no_totals, refused_totals, totals, join};
-ghost use Rattle.figures.specs.Steps.{single, join_answers};
+ghost use Rattle.figures.specs.Totals.{totals_of, of_both, joined, overfull, totals, join};
 
-use crate::{Totalled, Totals};
+use crate::Totals;
+use lists::refusal::Refusal;
 
 // How many results are taken at most.
 pub const MOST_RESULTS: u64 = 4096;
@@ -14,49 +14,30 @@ const MOST_SUM: u64 = 268431360;
 
 const MOST_SQUARES: u64 = 17591649177600;
 
-// Totals of a list: those of no result are all 0.
+// Totals of a list: those of no result are all 0. Refused for more than 4,096 results.
 #[tactic(auto, unfolding(crate::specs::Totals::totals))]
-pub fn totals(results: &[u16]) -> Totalled
+pub fn totals(results: &[u16]) -> Result<Totals, Refusal>
     ensures { result ≡ totals results.now }
 {
     if MOST_RESULTS < results.len() as u64 {
-        return refused_totals(15);
+        return Err(Refusal::TooManyResults);
     }
-    Totalled {
-        number: 0,
-        totals: add_up(results),
-    }
+    Ok(add_up(results))
 }
 
-// Join: the totals of the results of both.
-pub fn join(a: Totals, b: Totals) -> Totalled
+// Join: the totals of the results of both. Refused where they are more than 4,096 results can have.
+#[tactic(auto, using(crate::proofs::FiguresLaws::join_refused), unfolding(crate::specs::Totals::join))]
+pub fn join(a: Totals, b: Totals) -> Result<Totals, Refusal>
     ensures { result ≡ join a b }
 {
     if is_overfull(a) | is_overfull(b) {
-        return refused_totals(15);
+        return Err(Refusal::TooManyResults);
     }
     let both = joined(a, b);
     if is_overfull(both) {
-        return refused_totals(15);
+        return Err(Refusal::TooManyResults);
     }
-    Totalled {
-        number: 0,
-        totals: both,
-    }
-}
-
-// The join of the totals of two answers; a refusal is handed on.
-#[tactic(auto, unfolding(crate::specs::Steps::join_answers))]
-pub(crate) fn join_answers(a: Totalled, b: Totalled) -> Totalled
-    ensures { result ≡ join_answers a b }
-{
-    if a.number != 0 {
-        return a;
-    }
-    if b.number != 0 {
-        return b;
-    }
-    join(a.totals, b.totals)
+    Ok(both)
 }
 
 // Whether the totals are more than 4,096 results can have.
@@ -68,33 +49,36 @@ pub(crate) fn is_overfull(t: Totals) -> bool
 }
 
 // The totals of at most 4,096 results.
+#[tactic(auto, using(crate::proofs::Joining::least_from_first, crate::proofs::Joining::greatest_from_zero), unfolding(crate::specs::Totals::totals_of))]
 fn add_up(results: &[u16]) -> Totals
     requires { length results.now ≤ most_results }
     ensures { result ≡ totals_of results.now }
 {
-    let mut sofar = no_totals();
-    for k in 0..results.len() {
-        sofar = joined(sofar, single(results[k]));
+    if results.is_empty() {
+        return Totals::default();
     }
-    sofar
-}
-
-// The totals of one result.
-#[tactic(auto, unfolding(crate::specs::Steps::single))]
-fn single(x: u16) -> Totals
-    ensures { result ≡ single x }
-{
-    let result = x as u64;
+    let mut sum = 0;
+    let mut squares = 0;
+    let mut least = results[0];
+    let mut greatest = 0;
+    for &result in results {
+        let x = u64::from(result);
+        sum += x;
+        squares += x * x;
+        least = least.min(result);
+        greatest = greatest.max(result);
+    }
     Totals {
-        count: 1,
-        sum: result,
-        squares: result * result,
-        least: result,
-        greatest: result,
+        count: results.len() as u64,
+        sum,
+        squares,
+        least: u64::from(least),
+        greatest: u64::from(greatest),
     }
 }
 
 // The join of totals that are not overfull.
+#[tactic(auto, using(crate::proofs::Bounds::overfull_fits), unfolding(crate::specs::Totals::joined))]
 fn joined(a: Totals, b: Totals) -> Totals
     requires a_value { overfull a ≡ false }
     requires b_value { overfull b ≡ false }
@@ -104,13 +88,13 @@ fn joined(a: Totals, b: Totals) -> Totals
         count: a.count + b.count,
         sum: a.sum + b.sum,
         squares: a.squares + b.squares,
-        least: of_both(a.count, a.least, b.count, b.least, lesser(a.least, b.least)),
+        least: of_both(a.count, a.least, b.count, b.least, a.least.min(b.least)),
         greatest: of_both(
             a.count,
             a.greatest,
             b.count,
             b.greatest,
-            greater(a.greatest, b.greatest),
+            a.greatest.max(b.greatest),
         ),
     }
 }
@@ -128,39 +112,4 @@ fn of_both(m: u64, a: u64, n: u64, b: u64, both: u64) -> u64
         return a;
     }
     both
-}
-
-fn lesser(a: u64, b: u64) -> u64
-    ensures { result ≡ min a b }
-{
-    if a < b { a } else { b }
-}
-
-fn greater(a: u64, b: u64) -> u64
-    ensures { result ≡ max a b }
-{
-    if a < b { b } else { a }
-}
-
-// The totals of no result.
-fn no_totals() -> Totals
-    ensures { result ≡ no_totals }
-{
-    Totals {
-        count: 0,
-        sum: 0,
-        squares: 0,
-        least: 0,
-        greatest: 0,
-    }
-}
-
-// A refusal: its number, and 0 for every total.
-fn refused_totals(number: u8) -> Totalled
-    ensures { result ≡ refused_totals number }
-{
-    Totalled {
-        number: number,
-        totals: no_totals(),
-    }
 }

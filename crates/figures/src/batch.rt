@@ -1,61 +1,51 @@
 // Figures of one list of results, of two, and of kept totals (request C-12).
 ghost use Rattle.std.specs.Prelude.{◌≡◌, ◌++◌, false, ◌<◌};
-ghost use Rattle.figures.specs.Batch.{refused_figures, figures};
+ghost use Rattle.figures.specs.Batch.{figures};
 ghost use Rattle.figures.specs.Totals.{overfull, variance_of, figures_of_totals};
-ghost use Rattle.figures.specs.Steps.{figures_of_answer};
 
-use crate::{Figures, Fraction, Totalled, Totals, adding, fractions};
+use crate::{Figures, Fraction, Totals, adding, fractions};
+use lists::refusal::Refusal;
 
 // Figures of one list.
-pub fn figures(results: &[u16]) -> Figures
+#[tactic(auto, using(crate::proofs::FiguresLaws::figures_ok, crate::proofs::FiguresLaws::figures_err))]
+pub fn figures(results: &[u16]) -> Result<Figures, Refusal>
     ensures { result ≡ figures results.now }
 {
-    figures_of_answer(adding::totals(results))
+    figures_of_totals(adding::totals(results)?)
 }
 
 // Figures of two lists: those of the one list that holds both. Their totals are joined; no list is read twice.
-pub fn figures_of_two(first: &[u16], second: &[u16]) -> Figures
+#[tactic(auto, using(crate::proofs::FiguresLaws::first_err, crate::proofs::FiguresLaws::second_err, crate::proofs::FiguresLaws::join_err, crate::proofs::FiguresLaws::join_ok))]
+pub fn figures_of_two(first: &[u16], second: &[u16]) -> Result<Figures, Refusal>
     ensures { result ≡ figures (first.now ++ second.now) }
 {
-    let of_first = adding::totals(first);
-    let of_second = adding::totals(second);
-    let both = adding::join_answers(of_first, of_second);
-    figures_of_answer(both)
+    let of_first = adding::totals(first)?;
+    let of_second = adding::totals(second)?;
+    figures_of_totals(adding::join(of_first, of_second)?)
 }
 
 // Figures of kept totals.
-#[tactic(auto, unfolding(crate::specs::Totals::figures_of_totals, crate::specs::Batch::batch_number))]
-pub fn figures_of_totals(t: Totals) -> Figures
+#[tactic(auto, unfolding(crate::specs::Totals::figures_of_totals, crate::specs::Batch::batch_check))]
+pub fn figures_of_totals(t: Totals) -> Result<Figures, Refusal>
     ensures { result ≡ figures_of_totals t }
 {
     if t.count == 0 {
-        return refused_figures(14);
+        return Err(Refusal::NoResult);
     }
     if adding::is_overfull(t) {
-        return refused_figures(15);
+        return Err(Refusal::TooManyResults);
     }
-    Figures {
-        number: 0,
+    Ok(Figures {
         count: t.count,
         least: t.least,
         greatest: t.greatest,
         mean: fractions::lowest(t.sum, t.count),
         variance: variance_of(t),
-    }
-}
-
-// The figures of the totals of an answer; a refusal is handed on.
-#[tactic(auto, unfolding(crate::specs::Steps::figures_of_answer))]
-fn figures_of_answer(a: Totalled) -> Figures
-    ensures { result ≡ figures_of_answer a }
-{
-    if a.number != 0 {
-        return refused_figures(a.number);
-    }
-    figures_of_totals(a.totals)
+    })
 }
 
 // The variance by the totals: (count * squares - sum * sum) / (count * count).
+#[tactic(auto, using(crate::proofs::Bounds::count_squares_fit, crate::proofs::Bounds::sum_squared_fits), unfolding(crate::specs::Totals::variance_of))]
 fn variance_of(t: Totals) -> Fraction
     requires count_nonzero { 0 < t.count }
     requires t_value { overfull t ≡ false }
@@ -63,20 +53,5 @@ fn variance_of(t: Totals) -> Fraction
 {
     let whole = t.count * t.squares;
     let part = t.sum * t.sum;
-    let upper = if part < whole { whole - part } else { 0 };
-    fractions::lowest(upper, t.count * t.count)
-}
-
-// A refusal: its number, and 0 for every figure.
-fn refused_figures(number: u8) -> Figures
-    ensures { result ≡ refused_figures number }
-{
-    Figures {
-        number: number,
-        count: 0,
-        least: 0,
-        greatest: 0,
-        mean: Fraction { upper: 0, lower: 0 },
-        variance: Fraction { upper: 0, lower: 0 },
-    }
+    fractions::lowest(whole.saturating_sub(part), t.count * t.count)
 }

@@ -2,7 +2,7 @@
 // nothing.
 
 ghost use Rattle.figures.specs.Fractions.{LowestIsLowest, OnlyOneLowest, ZeroLowest};
-ghost use Rattle.figures.specs.Claims.{MeanLowest, VarianceLowest, LeastExtreme, GreatestExtreme};
+ghost use Rattle.figures.specs.Claims.{MeanLowest, VarianceLowest, LeastExtreme, GreatestExtreme, KeptFigures, NotNegative};
 
 // The mean of at least one result is in lowest terms, and stands for the sum by the count.
 pub fn mean_lowest()
@@ -15,13 +15,27 @@ pub fn variance_lowest()
 {}
 
 // The least result is one of the results, and none is less.
+#[tactic(auto, using(crate::proofs::Extremes::least_extreme))]
 pub fn least_extreme()
     ensures { LeastExtreme }
 {}
 
 // The greatest result is one of the results, and none is greater.
+#[tactic(auto, using(crate::proofs::Extremes::greatest_extreme))]
 pub fn greatest_extreme()
     ensures { GreatestExtreme }
+{}
+
+// The figures of kept totals are those of the list that they were taken of.
+#[tactic(auto, using(crate::proofs::FiguresLaws::kept_figures))]
+pub fn kept_figures()
+    ensures { KeptFigures }
+{}
+
+// By the count, the sum and the sum of squares of at least one result, the upper part of the variance is not negative.
+#[tactic(auto, using(crate::proofs::Deviations::not_negative))]
+pub fn not_negative()
+    ensures { NotNegative }
 {}
 
 // The fraction that the definition `lowest` gives is in lowest terms and has the same value.
@@ -30,11 +44,13 @@ pub fn lowest_terms()
 {}
 
 // There is only one fraction in lowest terms of a value.
+#[tactic(auto, using(crate::proofs::LowestTerms::lowest_unique))]
 pub fn lowest_unique()
     ensures { OnlyOneLowest }
 {}
 
 // Zero is 0/1.
+#[tactic(auto, using(crate::proofs::Answers::zero_lowest))]
 pub fn zero_lowest()
     ensures { ZeroLowest }
 {}

@@ -5,6 +5,7 @@ ghost use Rattle.figures.specs.Fractions.{gcd, lowest};
 use crate::Fraction;
 
 // The fraction upper / lower in lowest terms.
+#[tactic(auto, using(crate::proofs::Gcd::gcd_positive), unfolding(crate::specs::Fractions::lowest))]
 pub(crate) fn lowest(upper: u64, lower: u64) -> Fraction
     requires { 0 < lower }
     ensures { result ≡ lowest upper lower }
@@ -16,16 +17,15 @@ pub(crate) fn lowest(upper: u64, lower: u64) -> Fraction
     }
 }
 
-// The greatest common divisor, by Euclid's algorithm.
+// The greatest common divisor, by Euclid's algorithm. By 1 nothing need be divided.
+#[tactic(auto, using(crate::proofs::Gcd::gcd_zero, crate::proofs::Gcd::gcd_one, crate::proofs::Gcd::gcd_step))]
 fn gcd(a: u64, b: u64) -> u64
     ensures { result ≡ gcd a b }
 {
     let mut x = a;
     let mut y = b;
-    while y != 0 {
-        let rest = x % y;
-        x = y;
-        y = rest;
+    while y > 1 {
+        (x, y) = (y, x % y);
     }
-    x
+    if y == 0 { x } else { 1 }
 }

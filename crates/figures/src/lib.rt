@@ -9,15 +9,15 @@ pub mod batch;
 pub mod claims;
 mod fractions;
 
-// A fraction. In an answer it is in lowest terms with a positive lower part, and 0/0 where the call is refused.
-#[derive(Clone, Copy)]
+// A fraction. In an answer it is in lowest terms with a positive lower part.
+#[derive(Clone, Copy, Debug, Default, PartialEq, Eq)]
 pub struct Fraction {
     pub upper: u64,
     pub lower: u64,
 }
 
 // The totals of a batch: how many results, their sum, the sum of their squares, the least and the greatest, which are 0 for no result.
-#[derive(Clone, Copy)]
+#[derive(Clone, Copy, Debug, Default, PartialEq, Eq)]
 pub struct Totals {
     pub count: u64,
     pub sum: u64,
@@ -26,17 +26,9 @@ pub struct Totals {
     pub greatest: u64,
 }
 
-// What totals and their join answer: 0 or the refusal, and the totals, all 0 where refused.
-#[derive(Clone, Copy)]
-pub struct Totalled {
-    pub number: u8,
-    pub totals: Totals,
-}
-
-// What is answered of a batch: 0 or the refusal, and the seven figures, all 0 where refused.
-#[derive(Clone, Copy)]
+// What is answered of a batch: the seven figures.
+#[derive(Clone, Copy, Debug, Default, PartialEq, Eq)]
 pub struct Figures {
-    pub number: u8,
     pub count: u64,
     pub least: u64,
     pub greatest: u64,

@@ -1,15 +1,24 @@
 -- Examples of request C-12 in one table: what the definitions give, and what is said. One statement covers it.
 -- Assumes nothing.
-use Rattle.std.specs.Prelude.{◌≡◌, refl, List, [], ◌∷◌, map, ℕ}
+use Rattle.std.specs.Prelude.{◌≡◌, refl, List, [], ◌∷◌, map, ℕ, Result, Ok, Err}
+use Rattle.lists.specs.declared.refusal.Refusal.{Refusal}
+use Rattle.lists.specs.Refusal.{number_of}
 use Rattle.figures.specs.declared.Figures.{Figures}
+use Rattle.figures.specs.declared.Totals.{Totals}
 use Rattle.figures.specs.Fractions.{euclid, gcd, lowest}
-use Rattle.figures.specs.Batch.{sum_of, reduce, mean, squared_difference, variance, batch_number, figures}
+use Rattle.figures.specs.Batch.{mean, squared_difference, variance, batch_check, figures}
 use Rattle.figures.specs.Totals.{totals_of, of_both, joined, overfull, variance_of, join, figures_of_totals}
 
--- the number and the seven figures
-abbrev pub line : Figures → List ℕ
-line f =
-    f.number ∷ f.count ∷ f.least ∷ f.greatest ∷ f.mean.upper ∷ f.mean.lower ∷ f.variance.upper ∷ f.variance.lower ∷ []
+-- the number and the seven figures, all 0 where refused
+abbrev pub line : Result Figures Refusal → List ℕ
+line (Ok f) =
+    0 ∷ f.count ∷ f.least ∷ f.greatest ∷ f.mean.upper ∷ f.mean.lower ∷ f.variance.upper ∷ f.variance.lower ∷ []
+line (Err r) = number_of r ∷ 0 ∷ 0 ∷ 0 ∷ 0 ∷ 0 ∷ 0 ∷ 0 ∷ []
+
+-- the figures of the totals that a join answers
+abbrev pub figures_of_join : Result Totals Refusal → Result Figures Refusal
+figures_of_join (Ok t) = figures_of_totals t
+figures_of_join (Err r) = Err r
 
 abbrev pub eight : List ℕ
 eight = 2 ∷ 4 ∷ 4 ∷ 4 ∷ 5 ∷ 5 ∷ 7 ∷ 9 ∷ []
@@ -26,12 +35,12 @@ examples =
     -- "14 for no result at all"
     ∷ (line (figures []), 14 ∷ 0 ∷ 0 ∷ 0 ∷ 0 ∷ 0 ∷ 0 ∷ 0 ∷ [])
     -- the join of the totals of 2, 4, 4 and of 4, 5, 5, 7, 9
-    ∷ (line (figures_of_totals (join (totals_of (2 ∷ 4 ∷ 4 ∷ [])) (totals_of (4 ∷ 5 ∷ 5 ∷ 7 ∷ 9 ∷ []))).totals), line (figures eight))
+    ∷ (line (figures_of_join (join (totals_of (2 ∷ 4 ∷ 4 ∷ [])) (totals_of (4 ∷ 5 ∷ 5 ∷ 7 ∷ 9 ∷ [])))), line (figures eight))
     -- "then 15 for more than 4,096 in all"
     ∷ (line (figures_of_totals (record { count = 4097; sum = 0; squares = 0; least = 0; greatest = 0 })), 15 ∷ 0 ∷ 0 ∷ 0 ∷ 0 ∷ 0 ∷ 0 ∷ 0 ∷ [])
     ∷ []
 
 -- each example holds
 pub as_said : map (λ (e : List ℕ × List ℕ). e.0) examples ≡ map (λ (e : List ℕ × List ℕ). e.1) examples
-unfolding examples euclid gcd lowest sum_of reduce mean squared_difference variance batch_number figures totals_of of_both joined overfull variance_of join figures_of_totals
+unfolding examples euclid gcd lowest mean squared_difference variance batch_check figures totals_of of_both joined overfull variance_of join figures_of_totals
 as_said = refl

@@ -1,7 +1,8 @@
 // Computes examples of request C-12. What it writes is compared with the file `stdout`, whose figures were worked out by hand.
 #![tactic(auto)]
 
-use figures::{Figures, Totalled, Totals, adding, batch};
+use figures::{Figures, Totals, adding, batch};
+use lists::refusal::Refusal;
 
 // What one print cannot write is left out, and the next is tried all the same.
 fn main(rt: HostRuntime) {
@@ -85,23 +86,14 @@ fn kept_totals(rt: &impl Print) {
     let none = adding::totals(&eight[0..0]);
     totals_line(rt, "2 4 4", three);
     totals_line(rt, "none", none);
-    totals_line(
-        rt,
-        "2 4 4 and 4 5 5 7 9",
-        adding::join(three.totals, five.totals),
-    );
-    totals_line(
-        rt,
-        "none and 4 5 5 7 9",
-        adding::join(none.totals, five.totals),
-    );
+    totals_line(rt, "2 4 4 and 4 5 5 7 9", joined(three, five));
+    totals_line(rt, "none and 4 5 5 7 9", joined(none, five));
     totals_line(
         rt,
         "4096 and 1 results",
         adding::join(bare_totals(4096, 0), bare_totals(1, 0)),
     );
-    let both = adding::join(three.totals, five.totals);
-    figures_line(rt, "the eight", batch::figures_of_totals(both.totals));
+    figures_line(rt, "the eight", figures_of_both(three, five));
     figures_line(
         rt,
         "no result with a sum",
@@ -125,24 +117,39 @@ fn bare_totals(count: u64, sum: u64) -> Totals {
     }
 }
 
-fn figures_line(rt: &impl Print, of: &str, f: Figures) {
+// The join of the totals of two answers.
+fn joined(a: Result<Totals, Refusal>, b: Result<Totals, Refusal>) -> Result<Totals, Refusal> {
+    adding::join(a?, b?)
+}
+
+// The figures of the join of the totals of two answers.
+fn figures_of_both(
+    a: Result<Totals, Refusal>,
+    b: Result<Totals, Refusal>,
+) -> Result<Figures, Refusal> {
+    batch::figures_of_totals(joined(a, b)?)
+}
+
+// The number of an answer, and its value, which is all 0 where it is refused.
+fn parts<T: Copy + Default>(answer: Result<T, Refusal>) -> (u8, T) {
+    match answer {
+        Ok(value) => (0, value),
+        Err(refusal) => (refusal.number(), T::default()),
+    }
+}
+
+fn figures_line(rt: &impl Print, of: &str, answer: Result<Figures, Refusal>) {
+    let (number, f) = parts(answer);
     let _ = println!(rt;
-        "{of}: number {} count {} least {} greatest {} mean {}/{} variance {}/{}",
-        f.number,
-        f.count,
-        f.least,
-        f.greatest,
-        f.mean.upper,
-        f.mean.lower,
-        f.variance.upper,
-        f.variance.lower
+        "{of}: number {number} count {} least {} greatest {} mean {}/{} variance {}/{}",
+        f.count, f.least, f.greatest, f.mean.upper, f.mean.lower, f.variance.upper, f.variance.lower
     );
 }
 
-fn totals_line(rt: &impl Print, of: &str, answer: Totalled) {
-    let t = answer.totals;
+fn totals_line(rt: &impl Print, of: &str, answer: Result<Totals, Refusal>) {
+    let (number, t) = parts(answer);
     let _ = println!(rt;
-        "{of}: number {} count {} sum {} squares {} least {} greatest {}",
-        answer.number, t.count, t.sum, t.squares, t.least, t.greatest
+        "{of}: number {number} count {} sum {} squares {} least {} greatest {}",
+        t.count, t.sum, t.squares, t.least, t.greatest
     );
 }

@@ -1,91 +1,120 @@
-// What the arguments ask for. What is wrong with them gets a line on standard error, and nothing else is printed.
+// What the arguments ask for, or what is wrong with them.
 ghost use Rattle.std.specs.Prelude.{◌≤◌, length};
 
 use std::env::{Env, FillError};
+use std::error::Error;
+use std::fmt;
 use table::sizes;
 
-// The sheet of so many boards, the table over all sizes, or nothing, where an argument is wrong.
-#[derive(Clone, Copy)]
+// The sheet of so many boards, or the table over all sizes.
+#[derive(Clone, Copy, Debug, PartialEq, Eq)]
 pub enum Asked {
     Sheet(u8),
     Sizes,
-    Nothing,
 }
 
-// No number: more than three digits can say.
-const NO_NUMBER: u16 = 1000;
+// What is wrong with the arguments.
+#[derive(Clone, Copy, Debug, PartialEq, Eq)]
+pub enum ArgumentError {
+    NoSize,
+    NotASize,
+    MoreThanSizes,
+    NotABoard { argument: usize, last: usize },
+    NamedAgain { argument: usize },
+    TooFewLive,
+}
+
+impl fmt::Display for ArgumentError {
+    fn fmt<W: fmt::Write>(&self, f: &mut fmt::Formatter<W>) -> fmt::Result {
+        match self {
+            ArgumentError::NoSize => f.write_str("a size is needed, from 2 to 64"),
+            ArgumentError::NotASize => f.write_str("argument 1 is not a size from 2 to 64"),
+            ArgumentError::MoreThanSizes => f.write_str("nothing may follow --sizes"),
+            ArgumentError::NotABoard { argument, last } => {
+                write!(f, "argument {argument} is not a board from 0 to {last}")
+            }
+            ArgumentError::NamedAgain { argument } => {
+                write!(f, "argument {argument} names a board again")
+            }
+            ArgumentError::TooFewLive => f.write_str("at least two boards must be live"),
+        }
+    }
+}
+
+impl Error for ArgumentError {}
 
 // Reads the arguments. The row gets 1 at each dead board.
-pub fn read(rt: &impl Env, err: &impl Print, row: &mut [u8]) -> Asked
+pub fn read(rt: &impl Env, row: &mut [u8]) -> Result<Asked, ArgumentError>
     requires { 64 ≤ length row.old }
 {
     let count = arg_count(rt);
     if count < 2 {
-        complain(err, "a size is needed, from 2 to 64");
-        return Asked::Nothing;
+        return Err(ArgumentError::NoSize);
     }
     let mut word = [0u8; 8];
     let length = arg(rt, 1, &mut word);
     if &word[..length] == b"--sizes".as_slice() {
-        return read_sizes(err, count);
+        return read_sizes(count);
     }
-    read_sheet(rt, err, number(&word[..length], 3), count, row)
+    read_sheet(rt, number(&word[..length], 3), count, row)
 }
 
 // `--sizes` stands alone.
-fn read_sizes(err: &impl Print, count: usize) -> Asked {
+fn read_sizes(count: usize) -> Result<Asked, ArgumentError> {
     if count != 2 {
-        complain(err, "nothing may follow --sizes");
-        return Asked::Nothing;
+        return Err(ArgumentError::MoreThanSizes);
     }
-    Asked::Sizes
+    Ok(Asked::Sizes)
 }
 
 // The size, as it was read, and the dead boards behind it.
-fn read_sheet(rt: &impl Env, err: &impl Print, size: u16, count: usize, row: &mut [u8]) -> Asked
+#[tactic(auto, using(table::proofs::SizeLaws::size_top))]
+fn read_sheet(
+    rt: &impl Env,
+    size: Option<usize>,
+    count: usize,
+    row: &mut [u8],
+) -> Result<Asked, ArgumentError>
     requires { 64 ≤ length row.old }
 {
-    if !sizes::is_size(size as usize) {
-        complain(err, "argument 1 is not a size from 2 to 64");
-        return Asked::Nothing;
+    let Some(n) = size else {
+        return Err(ArgumentError::NotASize);
+    };
+    if !sizes::is_size(n) {
+        return Err(ArgumentError::NotASize);
     }
-    let n = size as usize;
-    if !read_boards(rt, err, count, &mut row[0..n]) {
-        return Asked::Nothing;
+    let row = &mut row[..n];
+    read_boards(rt, count, row)?;
+    if live_boards(row) < 2 {
+        return Err(ArgumentError::TooFewLive);
     }
-    if live_boards(&row[0..n]) < 2 {
-        complain(err, "at least two boards must be live");
-        return Asked::Nothing;
-    }
-    Asked::Sheet(size as u8)
+    Ok(Asked::Sheet(n as u8))
 }
 
-// Reads the arguments from the second on; whether all of them name boards, each once.
-fn read_boards(rt: &impl Env, err: &impl Print, count: usize, row: &mut [u8]) -> bool {
-    for k in 2..count {
-        if !read_board(rt, err, k, row) {
-            return false;
-        }
+// Reads the arguments from the second on, each of which names another board.
+fn read_boards(rt: &impl Env, count: usize, row: &mut [u8]) -> Result<(), ArgumentError> {
+    for argument in 2..count {
+        read_board(rt, argument, row)?;
     }
-    true
+    Ok(())
 }
 
-// Reads argument k; whether it names a board that no argument named before.
-fn read_board(rt: &impl Env, err: &impl Print, k: usize, row: &mut [u8]) -> bool {
+// Reads an argument that names a board which no argument named before.
+fn read_board(rt: &impl Env, argument: usize, row: &mut [u8]) -> Result<(), ArgumentError> {
     let mut word = [0u8; 8];
-    let length = arg(rt, k, &mut word);
-    let board = number(&word[..length], 2) as usize;
+    let length = arg(rt, argument, &mut word);
+    let last = row.len().saturating_sub(1);
+    let Some(board) = number(&word[..length], 2) else {
+        return Err(ArgumentError::NotABoard { argument, last });
+    };
     if row.len() <= board {
-        let last = row.len().saturating_sub(1);
-        let _ = println!(err; "sheet: argument {k} is not a board from 0 to {last}");
-        return false;
+        return Err(ArgumentError::NotABoard { argument, last });
     }
     if row[board] != 0 {
-        let _ = println!(err; "sheet: argument {k} names a board again");
-        return false;
+        return Err(ArgumentError::NamedAgain { argument });
     }
     row[board] = 1;
-    true
+    Ok(())
 }
 
 // How many boards are live.
@@ -93,29 +122,17 @@ fn live_boards(row: &[u8]) -> usize {
     row.iter().filter(|x| **x == 0).count()
 }
 
-// What a word of one to `most` digits says, where `most` is 3 at most, with leading zeros or without; NO_NUMBER for any other word.
-fn number(word: &[u8], most: usize) -> u16 {
+// What a word of one to `most` digits says, with leading zeros or without.
+fn number(word: &[u8], most: usize) -> Option<usize> {
     if word.is_empty() || most < word.len() {
-        return NO_NUMBER;
+        return None;
     }
-    let mut value: u16 = 0;
+    let mut value: usize = 0;
     for byte in word {
-        value = append(value, *byte);
+        let digit = char::from(*byte).to_digit(10)?;
+        value = value.checked_mul(10)?.checked_add(digit as usize)?;
     }
-    value
-}
-
-// The number with a digit more; NO_NUMBER where the byte is no digit or there is no number.
-fn append(value: u16, byte: u8) -> u16 {
-    if 99 < value || !byte.is_ascii_digit() {
-        return NO_NUMBER;
-    }
-    10 * value + (byte - b'0') as u16
-}
-
-// A line on standard error.
-fn complain(err: &impl Print, what: &str) {
-    let _ = println!(err; "sheet: {what}");
+    Some(value)
 }
 
 // How many arguments the program was started with, its own name among them.

@@ -7,26 +7,23 @@ const LIST_HEAD: &str = "whom it tests, in order";
 
 // The sheet of n boards, by the first n bytes of the row. For a shorter row nothing is printed.
 pub fn print_sheet(rt: &impl Print, n: u8, row: &mut [u8]) {
-    let end = n as usize;
-    if row.len() < end {
+    let Some(row) = row.get_mut(..n as usize) else {
         return;
-    }
-    print_plant(rt, n, &row[0..end]);
-    print_tests(rt, n, &mut row[0..end]);
-    print_ahead(rt, n, &row[0..end]);
+    };
+    print_plant(rt, n, row);
+    print_tests(rt, n, row);
+    print_ahead(rt, n, row);
 }
 
 // The size and the dead boards.
 fn print_plant(rt: &impl Print, n: u8, row: &[u8]) {
     let _ = print!(rt; "{n} boards, dead:");
-    let mut none = true;
-    for x in 0..n {
-        if !is_live(row, Station(x)) {
-            let _ = print!(rt; " {x}");
-            none = false;
+    for (board, dead) in row.iter().enumerate() {
+        if *dead != 0 {
+            let _ = print!(rt; " {board}");
         }
     }
-    if none {
+    if row.iter().all(|dead| *dead == 0) {
         let _ = print!(rt; " none");
     }
     let _ = println!(rt; "\n");
@@ -48,11 +45,9 @@ fn print_tests(rt: &impl Print, n: u8, row: &mut [u8]) {
 
 // The width of the widest list of tests, or of its head.
 fn widest(n: u8, row: &[u8]) -> usize {
-    let mut columns = LIST_HEAD.len();
-    for i in 0..n {
-        columns = columns.max(tests_width(n, row, Station(i)));
-    }
-    columns
+    (0..n).fold(LIST_HEAD.len(), |columns, i| {
+        columns.max(tests_width(n, row, Station(i)))
+    })
 }
 
 // The width of the list of the live board i; 0 where it is not live.
@@ -60,9 +55,13 @@ fn tests_width(n: u8, row: &[u8], i: Station) -> usize {
     if !is_live(row, i) {
         return 0;
     }
-    let mut list = [0u8; 256];
-    let count = commission::list_tests(n, row, i, &mut list);
-    text::list_width(&list, count)
+    text::list_width(list_tests(n, row, i, &mut [0; 256]))
+}
+
+// Whom board i tests, in order, at the front of the lent list.
+fn list_tests<'a>(n: u8, row: &[u8], i: Station, list: &'a mut [u8; 256]) -> &'a [u8] {
+    let count = commission::list_tests(n, row, i, list);
+    &list[..count as usize]
 }
 
 // The line of board i, if it is live.
@@ -70,13 +69,13 @@ fn print_tests_of(rt: &impl Print, n: u8, row: &mut [u8], i: Station, columns: u
     if !is_live(row, i) {
         return;
     }
-    let mut list = [0u8; 256];
-    let count = commission::list_tests(n, row, i, &mut list);
+    let mut list = [0; 256];
+    let tests = list_tests(n, row, i, &mut list);
     let most = commission::most_tests(n, row, i);
-    let rest = columns.saturating_sub(text::list_width(&list, count));
+    let rest = columns.saturating_sub(text::list_width(tests));
     let _ = print!(rt; "{:>5}  ", i.0);
-    text::list(rt, &list, count);
-    let _ = println!(rt; "{:rest$}  {count:>13}  {most:>23}", "");
+    text::list(rt, tests);
+    let _ = println!(rt; "{:rest$}  {:>13}  {most:>23}", "", tests.len());
 }
 
 // A line for each live board: whom it does not test, and who stands ahead.
@@ -92,13 +91,13 @@ fn print_ahead_of(rt: &impl Print, n: u8, row: &[u8], i: Station) {
     if !is_live(row, i) {
         return;
     }
-    let mut list = [0u8; 256];
-    let mut firsts = [0u8; 256];
-    let count = commission::untested::list_untested(n, row, i, &mut list, &mut firsts);
+    let mut list = [0; 256];
+    let mut firsts = [0; 256];
+    let count = commission::untested::list_untested(n, row, i, &mut list, &mut firsts) as usize;
     let _ = print!(rt; "{:>5}  ", i.0);
     if count == 0 {
         let _ = print!(rt; "-");
     }
-    text::pairs(rt, &list, &firsts, count);
+    text::pairs(rt, &list[..count], &firsts[..count]);
     let _ = println!(rt; "");
 }

@@ -10,13 +10,15 @@ mod text;
 
 use arguments::Asked;
 
-// What one print cannot write is left out, and the next is tried all the same.
+// What one print cannot write is left out, and the next is tried all the same. What is wrong with the arguments gets a line on standard
+// error, and nothing else is printed.
 fn main(rt: HostRuntime) {
     let mut row = [0u8; 64];
-    let asked = arguments::read(&rt, &rt.stderr(), &mut row);
-    match asked {
-        Asked::Sheet(n) => boards::print_sheet(&rt, n, &mut row),
-        Asked::Sizes => sizes::print_sizes(&rt),
-        Asked::Nothing => {}
+    match arguments::read(&rt, &mut row) {
+        Ok(Asked::Sheet(n)) => boards::print_sheet(&rt, n, &mut row),
+        Ok(Asked::Sizes) => sizes::print_sizes(&rt),
+        Err(error) => {
+            let _ = println!(&rt.stderr(); "sheet: {error}");
+        }
     }
 }

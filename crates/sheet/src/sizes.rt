@@ -4,10 +4,10 @@ pub fn print_sizes(rt: &impl Print) {
     print_head(rt, "| boards | nobody dead | one dead ");
     print_head(rt, "|--:|--:|--:");
     let mut row = [0u8; 64];
-    for r in 0..21 {
-        print_size(rt, 2 + r, &mut row);
-        print_size(rt, 23 + r, &mut row);
-        print_size(rt, 44 + r, &mut row);
+    for first in 2..23 {
+        for n in [first, first + 21, first + 42] {
+            print_size(rt, n, &mut row);
+        }
         let _ = println!(rt; "|");
     }
 }
@@ -20,11 +20,9 @@ fn print_head(rt: &impl Print, cells: &str) {
 // The three cells of size n, by the first n bytes of a row that suspects nobody: the size and the most tests of a board by the row, and with one
 // more dead. For a shorter row nothing is printed.
 fn print_size(rt: &impl Print, n: u8, row: &mut [u8]) {
-    let end = n as usize;
-    if row.len() < end {
+    let Some(row) = row.get_mut(..n as usize) else {
         return;
-    }
-    let row = &mut row[0..end];
+    };
     let none_dead = commission::most_of_boards(n, row, false);
     let one_dead = commission::most_of_boards(n, row, true);
     let _ = print!(rt; "| {n} | {none_dead} | {one_dead} ");

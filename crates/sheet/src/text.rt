@@ -1,40 +1,31 @@
 // Lists of boards on standard output. No contract can say what is written; these functions are safe.
-ghost use Rattle.std.specs.Prelude.{◌≤◌};
 
-// The first `count` numbers of a list, with a space between.
-pub fn list(rt: &impl Print, list: &[u8; 256], count: u8) {
-    for k in 0..count {
+// The boards of a list, with a space between.
+pub fn list(rt: &impl Print, boards: &[u8]) {
+    for (k, board) in boards.iter().enumerate() {
         let gap = if k == 0 { "" } else { " " };
-        let _ = print!(rt; "{gap}{}", list[k as usize]);
+        let _ = print!(rt; "{gap}{board}");
     }
 }
 
 // How wide that is.
-pub fn list_width(list: &[u8; 256], count: u8) -> usize {
-    let mut columns = count.saturating_sub(1) as usize;
-    for k in 0..count {
-        columns += digits(list[k as usize]);
-    }
-    columns
+pub fn list_width(boards: &[u8]) -> usize {
+    let gaps = boards.len().saturating_sub(1);
+    boards.iter().fold(
+        gaps,
+        |columns, board| columns.saturating_add(digits(*board)),
+    )
 }
 
 // How many digits a number has.
-fn digits(x: u8) -> usize
-    ensures { result ≤ 3 }
-{
-    if x < 10 {
-        1
-    } else if x < 100 {
-        2
-    } else {
-        3
-    }
+fn digits(x: u8) -> usize {
+    x.checked_ilog10().map_or(1, |power| power as usize + 1)
 }
 
-// The first `count` numbers of a list, with those of another in brackets, and commas between.
-pub fn pairs(rt: &impl Print, list: &[u8; 256], other: &[u8; 256], count: u8) {
-    for k in 0..count {
+// The boards of a list, each with that of another list in brackets, and commas between.
+pub fn pairs(rt: &impl Print, boards: &[u8], others: &[u8]) {
+    for (k, (board, other)) in boards.iter().zip(others).enumerate() {
         let gap = if k == 0 { "" } else { ", " };
-        let _ = print!(rt; "{gap}{} ({})", list[k as usize], other[k as usize]);
+        let _ = print!(rt; "{gap}{board} ({other})");
     }
 }

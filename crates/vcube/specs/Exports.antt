@@ -4,7 +4,10 @@
 -- members of a struct in their order.
 -- A station, level or last number may be any; the definitions of `station` and `granter` refuse it as they refuse any that is too high.
 -- Assumes nothing.
-use Rattle.std.specs.Prelude.{ℕ, List, [], ◌∷◌, get_or}
+use Rattle.std.specs.Prelude.{ℕ, List, [], ◌∷◌, get_or, Result}
+use Rattle.std.specs.Result.{result_unwrap_or}
+use Rattle.lists.specs.declared.refusal.Refusal.{Refusal}
+use Rattle.lists.specs.Refusal.{number_of_result}
 use Rattle.plant.specs.declared.Tally.{Tally}
 use Rattle.plant.specs.Entry.{state_of}
 use Rattle.plant.specs.Run.{Outcome}
@@ -13,7 +16,6 @@ use Rattle.saved.specs.declared.Loaded.{Loaded}
 use Rattle.saved.specs.declared.SavedSize.{SavedSize}
 use Rattle.figures.specs.declared.Figures.{Figures}
 use Rattle.figures.specs.declared.Totals.{Totals}
-use Rattle.figures.specs.declared.Totalled.{Totalled}
 
 -- Run: the outcome by its parts: the number, the entries taken, table, rounds and tests, and the sheet
 abbrev pub outcome_out : ℕ → ℕ → List ℕ → ℕ → ℕ → List ℕ → Outcome
@@ -56,8 +58,22 @@ totals_members t = t.count ∷ t.sum ∷ t.squares ∷ t.least ∷ t.greatest �
 abbrev pub totals_with : List ℕ → Totals
 totals_with m = record { count = get_or m 0 0; sum = get_or m 1 0; squares = get_or m 2 0; least = get_or m 3 0; greatest = get_or m 4 0 }
 
-abbrev pub figures_out : Figures → Filled
-figures_out f = filled f.number (figures_members f)
+-- the figures and the totals that are given where the call is refused: "all 0"
+abbrev pub no_figures : Figures
+no_figures =
+    record {
+      count = 0;
+      least = 0;
+      greatest = 0;
+      mean = record { upper = 0; lower = 0 };
+      variance = record { upper = 0; lower = 0 };
+    }
 
-abbrev pub totals_out : Totalled → Filled
-totals_out t = filled t.number (totals_members t.totals)
+abbrev pub no_totals : Totals
+no_totals = record { count = 0; sum = 0; squares = 0; least = 0; greatest = 0 }
+
+abbrev pub figures_out : Result Figures Refusal → Filled
+figures_out answer = filled (number_of_result answer) (figures_members (result_unwrap_or answer no_figures))
+
+abbrev pub totals_out : Result Totals Refusal → Filled
+totals_out answer = filled (number_of_result answer) (totals_members (result_unwrap_or answer no_totals))

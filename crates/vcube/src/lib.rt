@@ -3,6 +3,8 @@
 #![tactic(auto)]
 
 ghost use Rattle.std.specs.Prelude.{◌≡◌, min, ◌++◌, length};
+ghost use Rattle.std.specs.Result.{result_unwrap_or};
+ghost use Rattle.lists.specs.Refusal.{number_of_result};
 ghost use Rattle.table.specs.Rules.{shape_number};
 ghost use Rattle.table.specs.Fresh.{fresh_after};
 ghost use Rattle.station.specs.Calls.{group_number, group_after, row_number, row_part, row_offset, assignment_number, assignment_after, assignment_count};
@@ -19,6 +21,7 @@ ghost use Rattle.vcube.specs.Exports.{outcome_out, drive_out, tally_of, loaded_o
 use figures::{Figures, Totals, adding, batch};
 use granter::{drive, grant};
 use lists::refusal;
+use lists::refusal::Refusal;
 use plant::{Tally, run};
 use saved::{load, save};
 use station::{due, groups, rows};
@@ -59,16 +62,12 @@ pub extern "C" fn vcube_assignment(
     ensures count_after { count.new ≡ assignment_count n table.now station (length list.old) }
     ensures list_after { list.new ≡ assignment_after n table.now station list.old }
 {
-    match due::assignment(n, table, Station(byte_of(station)), list) {
-        Ok(due) => {
-            *count = due as usize;
-            0
-        }
-        Err(refusal) => {
-            *count = 0;
-            refusal.number()
-        }
-    }
+    let (number, due) = parts(
+        due::assignment(n, table, Station(byte_of(station)), list),
+        0,
+    );
+    *count = due as usize;
+    number
 }
 
 // Row: where the station's row begins in the table, and how many bytes it has; both 0 where it is refused.
@@ -134,16 +133,9 @@ pub extern "C" fn vcube_grant(n: usize, table: &[u8], last: usize, station: &mut
     ensures value { result ≡ grant_number n table.now last }
     ensures station_after { station.new ≡ grant_station n table.now last }
 {
-    match grant::grant(n, table, last) {
-        Ok(to) => {
-            *station = to.0 as usize;
-            0
-        }
-        Err(refusal) => {
-            *station = 0;
-            refusal.number()
-        }
-    }
+    let (number, to) = parts(grant::grant(n, table, last), Station(0));
+    *station = to.0 as usize;
+    number
 }
 
 // Drive: grants and turns on a table and the tally that rounds and tests hold, until a round closes, nobody is left live, or a tally is
@@ -225,9 +217,9 @@ pub extern "C" fn vcube_saved_size(file: &[u8], n: &mut usize) -> u8
 pub extern "C" fn vcube_figures_of_list(results: &[u16], answer: &mut [u64; 7]) -> u8
     ensures { filled result answer.new ≡ figures_out (figures results.now) }
 {
-    let of_list = batch::figures(results);
+    let (number, of_list) = parts(batch::figures(results), Figures::default());
     *answer = figures_members(of_list);
-    of_list.number
+    number
 }
 
 // Figures of two lists: those of the one list that holds both.
@@ -239,9 +231,9 @@ pub extern "C" fn vcube_figures_of_two_lists(
 ) -> u8
     ensures { filled result answer.new ≡ figures_out (figures (first.now ++ second.now)) }
 {
-    let of_two = batch::figures_of_two(first, second);
+    let (number, of_two) = parts(batch::figures_of_two(first, second), Figures::default());
     *answer = figures_members(of_two);
-    of_two.number
+    number
 }
 
 // Totals of a list: count, sum, sum of squares, least, greatest, all 0 where it is refused.
@@ -249,9 +241,9 @@ pub extern "C" fn vcube_figures_of_two_lists(
 pub extern "C" fn vcube_totals_of_list(results: &[u16], answer: &mut [u64; 5]) -> u8
     ensures { filled result answer.new ≡ totals_out (totals results.now) }
 {
-    let summed = adding::totals(results);
-    *answer = totals_members(summed.totals);
-    summed.number
+    let (number, summed) = parts(adding::totals(results), Totals::default());
+    *answer = totals_members(summed);
+    number
 }
 
 // Join: the totals of the results of both.
@@ -263,9 +255,10 @@ pub extern "C" fn vcube_join_totals(
 ) -> u8
     ensures { filled result answer.new ≡ totals_out (join (totals_with first.now) (totals_with second.now)) }
 {
-    let joined = adding::join(totals_with(first), totals_with(second));
-    *answer = totals_members(joined.totals);
-    joined.number
+    let both = adding::join(totals_with(first), totals_with(second));
+    let (number, joined) = parts(both, Totals::default());
+    *answer = totals_members(joined);
+    number
 }
 
 // Figures of totals that the caller kept.
@@ -274,8 +267,20 @@ pub extern "C" fn vcube_figures_of_totals(kept: &[u64; 5], answer: &mut [u64; 7]
     ensures { filled result answer.new ≡ figures_out (figures_of_totals (totals_with kept.now)) }
 {
     let of_kept = batch::figures_of_totals(totals_with(kept));
-    *answer = figures_members(of_kept);
-    of_kept.number
+    let (number, figures) = parts(of_kept, Figures::default());
+    *answer = figures_members(figures);
+    number
+}
+
+// An answer as C has it: its number, and its value, or where it is refused what is left in the value's place.
+fn parts<T: Copy>(answer: Result<T, Refusal>, refused: T) -> (u8, T)
+    ensures number { result.0 ≡ number_of_result answer }
+    ensures value { result.1 ≡ result_unwrap_or answer refused }
+{
+    match answer {
+        Ok(value) => (0, value),
+        Err(refusal) => (refusal.number(), refused),
+    }
 }
 
 // The members of a struct of figures, in their order.

@@ -9,10 +9,10 @@ use native.Mathlib.Omega.{arith}
 use native.Mathlib.Decide.{dec_lt}
 use lib.Dec.{ltb}
 use lib.ListN.{length, take, drop, length-take}
-use lib.Seq.{take-take, take-nil}
+use lib.Seq.{take-take, take-nil, take_at}
 use Rattle.watch.specs.Input.{given, is_line_feed, lines, line_length, size_of, entry_of, Reading, reading_of, read_entries, read_lines}
 use Rattle.watch.specs.Input.{read_up_to}
-use Rattle.watch.specs.Watched.{watched}
+use Rattle.watch.specs.Watched.{watched, deciding}
 use Rattle.watch.proofs.LineLaws.{line-within, lines-first}
 use Rattle.watch.proofs.NumberLaws.{number-has}
 use Rattle.watch.proofs.ReadLaws.{taken-has}
@@ -122,6 +122,10 @@ cut-input room m l b =
     (λ _ n r i _ h. cut-entries room room n 0 i [] r (omega arith) (omega arith)) l
 
 -- what the program answers
-pub program-watches : (lent input : List ℕ) → watched lent (take 20490 input) ≡ watched lent input
+program-watches : (lent input : List ℕ) → watched lent (take deciding input) ≡ watched lent input
 unfolding watched
-program-watches lent input = rw (cut-input 4096 20490 input (omega arith))
+program-watches lent input = rw (cut-input 4096 deciding input (omega arith))
+
+-- the same of an input that goes on behind these bytes
+pub decided : (lent input rest : List ℕ) → length input ≡ deciding → watched lent input ≡ watched lent (input ++ rest)
+decided lent input rest n = rw (take_at input rest deciding n) at (program-watches lent (input ++ rest))

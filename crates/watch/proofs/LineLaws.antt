@@ -3,14 +3,14 @@
 use mathlib.Core.Path.{◌≡◌, refl, ap}
 use mathlib.Core.Bool.{Bool, true, false, cond, not}
 use mathlib.Core.List.{List, [], ◌∷◌}
-use Prim.Native.Nat.{ℕ, suc, ◌+◌, ◌≤◌, ◌<◌, min}
+use Prim.Native.Nat.{ℕ, suc, ◌+◌, ◌≤◌, ◌<◌}
 use native.Mathlib.Omega.{arith}
 use native.Mathlib.Decide.{dec_lt}
 use Rattle.std.specs.Prelude.{None, Some, unwrap_or}
 use Rattle.std.specs.List.{position, position_or_len}
 use borrow.Author.Tests.{lt-ltb, le-ltb}
 use lib.Dec.{ltb}
-use lib.ListN.{length, take, drop, drop_of_length-le}
+use lib.ListN.{length, take, drop}
 use Rattle.watch.specs.Input.{is_line_feed, on_first, lines, line_length}
 
 -- a line ends within the input
@@ -58,11 +58,3 @@ line-found l = rw (line-position l) (go (dec_lt (line_length l) (length l)))
     go : Dec (line_length l < length l) → unwrap_or (cond (ltb (line_length l) (length l)) (Some (line_length l)) None) (length l) ≡ line_length l
     go (yes h) = rw (lt-ltb (line_length l) (length l) h)
     go (no h) = let w = line-within l in rw (le-ltb (line_length l) (length l) (omega arith)) (omega arith)
-
--- past a line that the input's end cuts off there is nothing
-pub drop_min : (l : List ℕ) (a b : ℕ) → a ≡ min (b + 1) (length l) → drop a l ≡ drop (suc b) l
-drop_min l a b e = pick (dec_lt b (length l))
-  where
-    pick : Dec (b < length l) → drop a l ≡ drop (suc b) l
-    pick (yes h) = let x : a ≡ suc b = omega arith in rw x
-    pick (no h) = let x : length l ≤ a = omega arith in cc (drop_of_length-le l {i = a} x, drop_of_length-le l {i = suc b} (omega arith))

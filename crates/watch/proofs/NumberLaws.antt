@@ -77,7 +77,7 @@ number-has most l v = go (leb 1 (length l)) (leb (length l) most) refl
     go false b p e = let z : ◌≡◌ {A = ℕ} 0 1 = cc in absurd (omega arith)
 
 -- a number of at most two digits fits a byte
-pub number-two : (l : List ℕ) (w : ℕ) → number_of 2 l ≡ Some w → w ≤ 99
-number-two l w e =
+pub number_two : (l : List ℕ) (w : ℕ) → number_of 2 l ≡ Some w → w ≤ 99
+number_two l w e =
     let h = number-has 2 l w e in
     omega (arith, digits-small l 0 0 w (omega arith) h.1, ten-two (0 + length l) (omega arith))

@@ -3,41 +3,40 @@
 use mathlib.Core.Path.{◌≡◌, refl, sym, ap, ◌∙◌}
 use mathlib.Core.Bool.{Bool, true, false, cond}
 use mathlib.Core.List.{List, [], ◌∷◌, ◌++◌, append_assoc}
-use Rattle.std.specs.Prelude.{Option, None, Some, option_and_then, option_map}
-use Prim.Native.Nat.{ℕ, suc, ◌+◌, ◌*◌, ◌-◌, ◌≤◌, ◌<◌, min}
+use Rattle.std.specs.Prelude.{Option, None, Some, option_and_then, option_map, Err}
+use Prim.Native.Nat.{ℕ, suc, ◌+◌, ◌*◌, ◌-◌, ◌≤◌, ◌<◌}
 use native.Mathlib.Numerals.{add-one}
 use native.Mathlib.Omega.{arith}
 use borrow.Author.Tests.{eq-eqb, ne_eqb, ltb-true}
 use lib.Dec.{ltb, eqb}
-use lib.ListN.{length, get_or, set, take, drop, length-set, length-append, length-drop, drop_of_length-le, take-append-drop}
+use lib.ListN.{length, get_or, set, take, drop, length-set, length-append, drop_of_length-le, take-append-drop}
 use lib.Seq.{take_all, drop-drop, drop-set-lt, take-suc-set, length-take-le, sets}
-use Rattle.watch.specs.declared.input.Parsed.{Parsed}
 use Rattle.watch.specs.Input.{given, lines, line_length, digits_from, number_of, size_of, kind_of, entry_of, Reading, reading_of, read_entries}
-use Rattle.watch.specs.Input.{read_lines, read_up_to, ReadAs}
-use Rattle.watch.proofs.LineLaws.{lines-first, drop_min}
+use Rattle.watch.specs.Input.{read_lines, read_up_to, answer_of}
+use Rattle.watch.proofs.LineLaws.{lines-first}
 use Rattle.watch.proofs.NumberLaws.{number-has}
 use Rattle.lists.proofs.Writing.{sets-front}
 
 -- the entry of a line by the line's bytes
-pub entry-short : (l : List ℕ) → length l < 2 → entry_of l ≡ None
+pub entry_short : (l : List ℕ) → length l < 2 → entry_of l ≡ None
 unfolding entry_of
-entry-short [] h = refl
-entry-short (a ∷ []) h = refl
-entry-short (a ∷ b ∷ l) h = absurd (omega arith)
+entry_short [] h = refl
+entry_short (a ∷ []) h = refl
+entry_short (a ∷ b ∷ l) h = absurd (omega arith)
 
-pub entry-unspaced : (l : List ℕ) → 2 ≤ length l → (get_or l 1 0 ≡ 32 → ⊥) → entry_of l ≡ None
+pub entry_unspaced : (l : List ℕ) → 2 ≤ length l → (get_or l 1 0 ≡ 32 → ⊥) → entry_of l ≡ None
 unfolding entry_of
-entry-unspaced [] h n = absurd (omega arith)
-entry-unspaced (a ∷ []) h n = absurd (omega arith)
-entry-unspaced (a ∷ b ∷ l) h n = rw (ne_eqb b 32 n)
+entry_unspaced [] h n = absurd (omega arith)
+entry_unspaced (a ∷ []) h n = absurd (omega arith)
+entry_unspaced (a ∷ b ∷ l) h n = rw (ne_eqb b 32 n)
 
-pub entry-spaced : (l : List ℕ) → 2 ≤ length l → get_or l 1 0 ≡ 32
+pub entry_spaced : (l : List ℕ) → 2 ≤ length l → get_or l 1 0 ≡ 32
     → entry_of l
     ≡ option_and_then (λ kind. option_map (λ station. (kind, station)) (number_of 2 (take (length l - 2) (drop 2 l)))) (kind_of (get_or l 0 0))
 unfolding entry_of
-entry-spaced [] h s = absurd (omega arith)
-entry-spaced (a ∷ []) h s = absurd (omega arith)
-entry-spaced (a ∷ b ∷ l) h s = let e : take (suc (suc (length l)) - 2) l ≡ l = take_all _ l (omega arith) in rw (eq-eqb b 32 s, e)
+entry_spaced [] h s = absurd (omega arith)
+entry_spaced (a ∷ []) h s = absurd (omega arith)
+entry_spaced (a ∷ b ∷ l) h s = let e : take (suc (suc (length l)) - 2) l ≡ l = take_all _ l (omega arith) in rw (eq-eqb b 32 s, e)
 
 -- an entry's line is short
 entry_has : (l : List ℕ) (e : ℕ × ℕ) → entry_of l ≡ Some e → length l ≤ 4
@@ -73,33 +72,32 @@ module _ (s : List ℕ) (a x y : ℕ) (h : a + 2 ≤ length s) where
   pub pair-drop : drop (a + 2) (set (set s a x) (a + 1) y) ≡ drop (a + 2) s
   pair-drop = drop-set-lt (a + 2) (set s a x) (a + 1) y (omega arith) ∙ drop-set-lt (a + 2) s a x (omega arith)
 
--- reading goes on at position p, where k entries are the front of the schedule s. In the shapes of the loop: the line ends at e, `o` is what
--- it was read as where there is room for r entries, and the next line begins at q
-module _ (room n k : ℕ) (s l : List ℕ) (p : ℕ) where
+-- reading goes on at the bytes `rest`, where k entries are the front of the schedule s. In the shapes of the loop: `o` is what the first line
+-- was read as where there is room for r entries, and `after` is what follows that line
+module _ (room n k : ℕ) (s rest : List ℕ) where
   abbrev pub read_from : Reading
-  read_from = read_entries room n k (take (2 * k) s) (lines (drop p l))
+  read_from = read_entries room n k (take (2 * k) s) (lines rest)
 
-  pub read_done : length l ≤ p → read_from ≡ reading_of 0 n k (take (2 * k) s)
+  pub read_done : length rest ≡ 0 → read_from ≡ reading_of 0 n k (take (2 * k) s)
   unfolding read_entries lines
-  read_done h = rw (drop_of_length-le l {i = p} h)
+  read_done h = rw (drop_of_length-le rest {i = 0} (omega arith))
 
-  module _ (r e : ℕ) (o : Option (ℕ × ℕ)) (h : p < length l) (same : r ≡ room) (ends : e ≡ p + line_length (drop p l))
-      (told : o ≡ cond (ltb k r) (entry_of (take (e - p) (drop p l))) None) where
-    read_as : cond (ltb k room) (entry_of (take (line_length (drop p l)) (drop p l))) None ≡ o
-    read_as = let w : e - p ≡ line_length (drop p l) = omega arith in rw (← same, ← w) (sym told)
+  module _ (r : ℕ) (line after : List ℕ) (o : Option (ℕ × ℕ)) (some : 0 < length rest) (same : r ≡ room)
+      (first : line ≡ take (line_length rest) rest) (told : o ≡ cond (ltb k r) (entry_of line) None) where
+    read_as : cond (ltb k room) (entry_of (take (line_length rest) rest)) None ≡ o
+    read_as = rw (← same, ← first) (sym told)
 
     pub read-stop : o ≡ None → read_from ≡ reading_of (k + 2) n k (take (2 * k) s)
     unfolding read_entries
-    read-stop z = rw (lines-first (drop p l) (rw length-drop (omega arith)), read_as, z)
+    read-stop z = rw (lines-first rest some, read_as, z)
 
-    pub read_next : (x y q : ℕ) (s' : List ℕ) → o ≡ Some (x, y)
-        → take (2 * k + 2) s' ≡ take (2 * k) s ++ (x ∷ y ∷ []) → q ≡ min (e + 1) (length l)
-        → read_entries room n (k + 1) (take (2 * (k + 1)) s') (lines (drop q l)) ≡ read_from
+    pub read_next : (x y : ℕ) (s' : List ℕ) → o ≡ Some (x, y) → after ≡ drop (suc (line_length rest)) rest
+        → take (2 * k + 2) s' ≡ take (2 * k) s ++ (x ∷ y ∷ [])
+        → read_entries room n (k + 1) (take (2 * (k + 1)) s') (lines after) ≡ read_from
     unfolding read_entries
-    read_next x y q s' z front next =
-        let w : p + suc (line_length (drop p l)) ≡ suc e = omega arith in
+    read_next x y s' z next front =
         let d : 2 * (k + 1) ≡ 2 * k + 2 = omega arith in
-        rw (d, front, drop_min l q e next, lines-first (drop p l) (rw length-drop (omega arith)), read_as, z, drop-drop, w, add-one)
+        rw (d, front, next, lines-first rest some, read_as, z, add-one)
 
     pub has_room : (x : ℕ × ℕ) → o ≡ Some x → k < r
     has_room x z = (taken-has k r _ x (sym told ∙ z)).0
@@ -123,21 +121,15 @@ unfolding read_lines lines line_length number_of
 first-sized room n [] e = cc
 first-sized room n (b ∷ l) e = rw (lines-first (b ∷ l) (omega arith), e)
 
--- the size's line, which ends at e and was read as `o`, and what follows it from q on
-module _ (room e : ℕ) (l : List ℕ) (o : Option ℕ) (ends : e ≡ 0 + line_length l) (told : o ≡ number_of 3 (take e l)) where
-  size-as : size_of (take (line_length l) l) ≡ o
-  size-as = let w : e ≡ line_length l = omega arith in rw (← w) (sym told)
+-- the size's line, and what follows it
+pub read_unsized : (room : ℕ) (l line : List ℕ) → line ≡ take (line_length l) l → number_of 3 line ≡ None → read_up_to room l ≡ reading_of 1 0 0 []
+unfolding read_up_to
+read_unsized room l line e z = first-unsized room l (ap size_of (sym e) ∙ z)
 
-  pub read-unsized : o ≡ None → read_up_to room l ≡ reading_of 1 0 0 []
-  unfolding read_up_to
-  read-unsized z = first-unsized room l (size-as ∙ z)
-
-  pub read-sized : (n q : ℕ) → o ≡ Some n → q ≡ min (e + 1) (length l) → read_up_to room l ≡ read_entries room n 0 [] (lines (drop q l))
-  unfolding read_up_to
-  read-sized n q z next =
-      let w : e ≡ line_length l = omega arith in
-      let d : drop (suc (line_length l)) l ≡ drop q l = ap (λ (k : ℕ). drop (suc k) l) (sym w) ∙ sym (drop_min l q e next) in
-      first-sized room n l (size-as ∙ z) ∙ ap (λ (d : List ℕ). read_entries room n 0 [] (lines d)) d
+pub read_sized : (room n : ℕ) (l line rest : List ℕ) → line ≡ take (line_length l) l → number_of 3 line ≡ Some n
+    → rest ≡ drop (suc (line_length l)) l → read_up_to room l ≡ read_entries room n 0 [] (lines rest)
+unfolding read_up_to
+read_sized room n l line rest e z f = rw f (first-sized room n l (ap size_of (sym e) ∙ z))
 
 -- there are no more entries than there is room for, and each has two bytes
 pub record ReadFits (room : ℕ) (r : Reading) : Type 0 where
@@ -174,7 +166,7 @@ sets-part s s₀ a h long e =
     let len : length (take a s) ≡ a = length-take-le a s h in
     rw (sets-front s₀ (take a s) (omega arith), len, ← e) (sym (take-append-drop a s))
 
--- a reading by its parts
-pub read-as-parts : (r : Reading) (p : Parsed) (s after lent : List ℕ) → r ≡ reading_of p.unread p.size p.entries s
-    → after ≡ sets lent 0 s → ReadAs p after lent r
-read-as-parts r p s after lent e w = rw e (record { unread = refl; size = refl; entries = refl; schedule = w })
+-- what is answered where the line of entry k is unreadable
+pub answer_stop : (n k : ℕ) (s : List ℕ)
+    → Err (record { line = k + 2; before = record { size = n; entries = k } }) ≡ answer_of (reading_of (k + 2) n k s)
+answer_stop n k s = let e : eqb (k + 2) 0 ≡ false = ne_eqb (k + 2) 0 (λ (z : k + 2 ≡ 0). omega arith) in rw e

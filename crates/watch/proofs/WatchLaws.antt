@@ -1,11 +1,13 @@
 -- Laws of what comes of an input: the table that is made fresh, a refused size, and the reading.
 -- Assumes nothing.
 use mathlib.Core.Path.{◌≡◌, refl, ap, ◌∙◌, sym}
-use mathlib.Core.Bool.{Bool, true, false}
+use mathlib.Core.Bool.{Bool, true, false, cond}
 use mathlib.Core.List.{List, [], ◌∷◌, ◌++◌}
+use Rattle.std.specs.Prelude.{Ok, Err}
+use lib.Dec.{eqb}
 use Prim.Native.Nat.{ℕ, zero, suc, ◌*◌, ◌≤◌}
 use native.Mathlib.Omega.{arith}
-use borrow.Author.Tests.{eq-eqb, ne_eqb}
+use borrow.Author.Tests.{eq-eqb, eqb-true}
 use lib.ListN.{length, take, drop, length-take, take-append-drop}
 use lib.Seq.{take_at, sets}
 use Rattle.lists.proofs.Writing.{sets-front}
@@ -15,10 +17,11 @@ use Rattle.table.specs.Rules.{shape_check, table_check}
 use Rattle.table.specs.Fresh.{fresh_table, fresh_after}
 use Rattle.plant.specs.declared.Answer.{Answer}
 use Rattle.plant.specs.Entry.{State, state_of}
-use Rattle.plant.specs.Run.{Outcome, outcome_with, start_check, start_number, run}
+use Rattle.plant.specs.Run.{Outcome, outcome_with, start_check, run}
 use Rattle.watch.specs.declared.input.Parsed.{Parsed}
-use Rattle.watch.specs.declared.watched.Report.TheVariants.{Unread, Ran}
-use Rattle.watch.specs.Input.{room_for, read_input, read_into, ReadAs}
+use Rattle.watch.specs.declared.input.Unread.{Unread}
+use Rattle.watch.specs.declared.watched.Report.TheVariants.{Unread as ReportUnread, Ran}
+use Rattle.watch.specs.Input.{Reading, room_for, read_input, read_into, answer_of}
 use Rattle.watch.specs.Watched.{watched_with, run_answer, carried_out, watched}
 use Rattle.watch.proofs.ReadLaws.{read_fits}
 
@@ -68,24 +71,56 @@ carried n t schedule lent r t' s' k shaped twice long fits e = pick (is_size n) 
         let q : s' ≡ take k lent = ap (λ (o : Outcome). o.sheet) g in
         rw (carried-refused n schedule lent y, p, q, take-append-drop)
 
--- an input that is read as p into a schedule with room for all that the document allows
-module _ (lent input schedule₀ schedule : List ℕ) (p : Parsed) (room : length schedule₀ ≡ 8192)
-    (read : ReadAs p schedule schedule₀ (read_into schedule₀ input)) where
-  whole : ReadAs p schedule schedule₀ (read_input input)
-  whole = let e : room_for (length schedule₀) ≡ 4096 = omega arith in rw e at read
+-- what an answer says of the reading
+answer-ok : (r : Reading) (p : Parsed) → Ok p ≡ answer_of r → (r.unread ≡ 0) × (p.size ≡ r.size) × (p.entries ≡ r.entries)
+answer-ok r p = go (eqb r.unread 0) refl
+  where
+    whole : Parsed
+    whole = record { size = r.size; entries = r.entries }
 
-  pub entries-within : p.entries ≤ 4096
-  entries-within = let h = whole in let f = read_fits 4096 input in omega arith
+    stop : Unread
+    stop = record { line = r.unread; before = whole }
 
-  pub watched-unread : (p.unread ≡ 0 → ⊥) → watched_with (Unread p.unread) lent ≡ watched lent input
+    go : (b : Bool) → eqb r.unread 0 ≡ b → Ok p ≡ cond b (Ok whole) (Err stop)
+        → (r.unread ≡ 0) × (p.size ≡ r.size) × (p.entries ≡ r.entries)
+    go true e f = let g : ◌≡◌ {A = Parsed} p whole = cc in (eqb-true r.unread 0 e, ap (λ (q : Parsed). q.size) g, ap (λ (q : Parsed). q.entries) g)
+    go false e f = cc
+
+answer-err : (r : Reading) (u : Unread) → Err u ≡ answer_of r → (eqb r.unread 0 ≡ false) × (u.line ≡ r.unread)
+answer-err r u = go (eqb r.unread 0) refl
+  where
+    whole : Parsed
+    whole = record { size = r.size; entries = r.entries }
+
+    stop : Unread
+    stop = record { line = r.unread; before = whole }
+
+    go : (b : Bool) → eqb r.unread 0 ≡ b → Err u ≡ cond b (Ok whole) (Err stop) → (eqb r.unread 0 ≡ false) × (u.line ≡ r.unread)
+    go true e f = cc
+    go false e f = let g : ◌≡◌ {A = Unread} u stop = cc in (e, ap (λ (v : Unread). v.line) g)
+
+-- an input that is read into a schedule with room for all that the document allows
+module _ (lent input schedule₀ schedule : List ℕ) (room : length schedule₀ ≡ 8192)
+    (read : schedule ≡ sets schedule₀ 0 (read_into schedule₀ input).schedule) where
+  whole : read_into schedule₀ input ≡ read_input input
+  whole = let e : room_for (length schedule₀) ≡ 4096 = omega arith in rw e
+
+  pub watched_unread : (u : Unread) → Err u ≡ answer_of (read_into schedule₀ input) → watched_with (ReportUnread u.line) lent ≡ watched lent input
   unfolding watched
-  watched-unread h = rw (← whole.unread, ne_eqb p.unread 0 h)
+  watched_unread u e = let f = answer-err (read_input input) u (rw whole at e) in rw (f.0, f.1)
 
-  pub watched-ran : p.unread ≡ 0 → carried_out p.size (take (2 * p.entries) schedule) lent ≡ watched lent input
-  unfolding watched
-  watched-ran z =
-      let s = (read_input input).schedule in
-      let n : length s ≡ 2 * p.entries = rw whole.entries (read_fits 4096 input).pairs in
-      let f = sets-front schedule₀ s (omega (arith, entries-within)) in
-      let t : take (2 * p.entries) schedule ≡ s = rw (whole.schedule, f) (take_at s _ (2 * p.entries) n) in
-      rw (← whole.unread, z, ← whole.size, t)
+  module _ (p : Parsed) (e : Ok p ≡ answer_of (read_into schedule₀ input)) where
+    parts : ((read_input input).unread ≡ 0) × (p.size ≡ (read_input input).size) × (p.entries ≡ (read_input input).entries)
+    parts = answer-ok (read_input input) p (rw whole at e)
+
+    pub entries_within : p.entries ≤ 4096
+    entries_within = let f = read_fits 4096 input in omega (arith, parts.2)
+
+    pub watched_ran : carried_out p.size (take (2 * p.entries) schedule) lent ≡ watched lent input
+    unfolding watched
+    watched_ran =
+        let s = (read_input input).schedule in
+        let n : length s ≡ 2 * p.entries = rw parts.2 (read_fits 4096 input).pairs in
+        let f = sets-front schedule₀ s (omega (arith, entries_within)) in
+        let t : take (2 * p.entries) schedule ≡ s = rw (read, whole, f) (take_at s _ (2 * p.entries) n) in
+        rw (parts.0, parts.1, t)

@@ -1,9 +1,9 @@
 -- Document 01, the run program: what its standard input means, for all inputs.
 -- Assumes nothing.
-use Rattle.std.specs.Prelude.{◌≡◌, ℕ, suc, ◌+◌, ◌*◌, ◌-◌, ◌/◌, min, Bool, cond, ◌&&◌, List, [], ◌∷◌, ◌++◌, length, ltb, leb, eqb}
-use Rattle.std.specs.Prelude.{Option, None, Some, option_and_then, option_map}
-use Rattle.std.proofs.lemmas.List.Edits.{sets}
+use Rattle.std.specs.Prelude.{ℕ, suc, ◌+◌, ◌*◌, ◌-◌, ◌/◌, min, Bool, cond, ◌&&◌, List, [], ◌∷◌, ◌++◌, length, ltb, leb, eqb}
+use Rattle.std.specs.Prelude.{Option, None, Some, option_and_then, option_map, Result, Ok, Err, if◌then◌else◌, ◌==◌}
 use Rattle.watch.specs.declared.input.Parsed.{Parsed}
+use Rattle.watch.specs.declared.input.Unread.{Unread}
 
 -- `read` of the value, or `other` where there is none
 abbrev pub given : {A B : Type 0} → Option A → (A → B) → B → B
@@ -98,9 +98,8 @@ read_input input = read_up_to 4096 input
 abbrev pub read_into : List ℕ → List ℕ → Reading
 read_into lent input = read_up_to (room_for (length lent)) input
 
--- the answer p and the lent schedule after a call that read r
-pub record ReadAs (p : Parsed) (after lent : List ℕ) (r : Reading) : Type 0 where
-  pub unread : p.unread ≡ r.unread
-  pub size : p.size ≡ r.size
-  pub entries : p.entries ≡ r.entries
-  pub schedule : after ≡ sets lent 0 r.schedule
+-- what is answered of a reading: what was read, or the first unreadable line with what was read before it
+abbrev pub answer_of : Reading → Result Parsed Unread
+answer_of r =
+    if r.unread == 0 then Ok (record { size = r.size; entries = r.entries })
+    else Err (record { line = r.unread; before = record { size = r.size; entries = r.entries } })

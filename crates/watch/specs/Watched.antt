@@ -38,3 +38,7 @@ watched_of lent r = cond (eqb r.unread 0) (carried_out r.size r.schedule lent) (
 -- the whole input, with a lent sheet: the program lends 16,384 zeros
 unfoldable pub watched : List ℕ → List ℕ → Watched
 watched lent input = watched_of lent (read_input input)
+
+-- how many bytes at the front of an input decide what comes of it
+abbrev pub deciding : ℕ
+deciding = 20490

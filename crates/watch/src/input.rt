@@ -1,59 +1,74 @@
 // What standard input holds (document 01, the run program): lines, the size, the entries. The one call is `parse`.
-ghost use Rattle.std.specs.Prelude.{◌≡◌, cond, ltb, [], ◌∷◌, ◌++◌, ◌+◌, ◌*◌, ◌≤◌, ◌<◌, min, length, take, drop, None};
-ghost use Rattle.watch.specs.Input.{lines, line_length, number_of, kind_of, entry_of, read_entries, room_for, read_into, ReadAs};
+ghost use Rattle.std.specs.Prelude.{◌≡◌, cond, ltb, [], ◌∷◌, ◌++◌, ◌+◌, ◌*◌, ◌≤◌, suc, length, take, drop, None};
+ghost use Rattle.std.proofs.lemmas.List.Edits.{sets};
+ghost use Rattle.watch.specs.Input.{lines, line_length, number_of, kind_of, entry_of, answer_of, read_entries, room_for, read_into};
 
-// The answer of `parse`: the number of the first unreadable line, from 1, or 0 where there is none; the size and how many entries were
-// read, all of them or those before that line.
-#[derive(Clone, Copy)]
+use std::error::Error;
+use std::fmt;
+
+// What was read: the size, and how many entries.
+#[derive(Clone, Copy, Debug, PartialEq, Eq)]
 pub struct Parsed {
-    pub unread: usize,
     pub size: usize,
     pub entries: usize,
 }
 
+// The first unreadable line: its number, from 1, and what was read before it.
+#[derive(Clone, Copy, Debug, PartialEq, Eq)]
+pub struct Unread {
+    pub line: usize,
+    pub before: Parsed,
+}
+
+impl fmt::Display for Unread {
+    fn fmt<W: fmt::Write>(&self, f: &mut fmt::Formatter<W>) -> fmt::Result {
+        write!(f, "unread {}", self.line)
+    }
+}
+
+impl Error for Unread {}
+
 // Reads the whole input. The entries before the first unreadable line go into the schedule, two bytes each, and its rest is unchanged. An
 // entry for which the schedule has no room counts as unreadable.
-pub fn parse(input: &[u8], schedule: &mut [u8]) -> Parsed
-    ensures { ReadAs result schedule.new schedule.old (read_into schedule.old input.now) }
+#[tactic(auto, using(crate::proofs::ReadLaws::read_unsized, crate::proofs::ReadLaws::read_sized))]
+pub fn parse(input: &[u8], schedule: &mut [u8]) -> Result<Parsed, Unread>
+    ensures answer { result ≡ answer_of (read_into schedule.old input.now) }
+    ensures schedule_after { schedule.new ≡ sets schedule.old 0 (read_into schedule.old input.now).schedule }
 {
-    let e = line_end(input, 0);
-    let Some(n) = read_number(&input[..e], 3) else {
-        return Parsed {
-            unread: 1,
+    let (line, rest) = split_line(input);
+    let Some(size) = read_number(line, 3) else {
+        let before = Parsed {
             size: 0,
             entries: 0,
         };
+        return Err(Unread { line: 1, before });
     };
-    let p = line_after(input, e);
-    read_entries(input, p, n, schedule)
+    read_entries(rest, size, schedule)
 }
 
-// Reads the entries of the lines from `from` on, after the size n.
-fn read_entries(input: &[u8], from: usize, n: usize, schedule: &mut [u8]) -> Parsed
-    requires { from ≤ length input.now }
-    ensures { ReadAs result schedule.new schedule.old (read_entries (room_for (length schedule.old)) n 0 [] (lines (drop from input.now))) }
+// Reads the entries of the lines, after the size.
+fn read_entries(input: &[u8], size: usize, schedule: &mut [u8]) -> Result<Parsed, Unread>
+    ensures answer { result ≡ answer_of (read_entries (room_for (length schedule.old)) size 0 [] (lines input.now)) }
+    ensures schedule_after { schedule.new
+        ≡ sets schedule.old 0 (read_entries (room_for (length schedule.old)) size 0 [] (lines input.now)).schedule }
 {
     let room = room_for(schedule.len());
-    let mut p = from;
-    let mut k: usize = 0;
-    while p < input.len() {
-        let e = line_end(input, p);
-        let Some((kind, station)) = entry_with_room(k, room, &input[p..e]) else {
-            return Parsed {
-                unread: k + 2,
-                size: n,
-                entries: k,
-            };
+    let mut rest = input;
+    let mut entries: usize = 0;
+    while !rest.is_empty() {
+        let (line, after) = split_line(rest);
+        let Some((kind, station)) = entry_with_room(entries, room, line) else {
+            let before = Parsed { size, entries };
+            return Err(Unread {
+                line: entries + 2,
+                before,
+            });
         };
-        put_entry(schedule, k, kind, station);
-        k += 1;
-        p = line_after(input, e);
+        put_entry(schedule, entries, kind, station);
+        entries += 1;
+        rest = after;
     }
-    Parsed {
-        unread: 0,
-        size: n,
-        entries: k,
-    }
+    Ok(Parsed { size, entries })
 }
 
 // How many entries a schedule of len bytes takes.
@@ -73,22 +88,26 @@ fn put_entry(schedule: &mut [u8], k: usize, kind: u8, station: u8)
     schedule[2 * k + 1] = station;
 }
 
-// Where the line that begins at `from` ends: at its line feed, or at the input's end.
-fn line_end(input: &[u8], from: usize) -> usize
-    requires { from ≤ length input.now }
-    ensures value { result ≡ from + line_length (drop from input.now) }
-    ensures lower_bound { (from ≤ result) × (result ≤ length input.now) }
+// The first line, and what follows its line feed: nothing where it has none.
+fn split_line(bytes: &[u8]) -> (&[u8], &[u8])
+    ensures line { result.0.now ≡ take (line_length bytes.now) bytes.now }
+    ensures rest { result.1.now ≡ drop (suc (line_length bytes.now)) bytes.now }
 {
-    let rest = &input[from..];
-    from + rest.iter().position(|b| *b == b'\n').unwrap_or(rest.len())
+    let end = line_end(bytes);
+    if end < bytes.len() {
+        (&bytes[..end], &bytes[end + 1..])
+    } else {
+        (bytes, &[])
+    }
 }
 
-// Where the line after the one that ends at e begins.
-fn line_after(input: &[u8], e: usize) -> usize
-    requires { e ≤ length input.now }
-    ensures { result ≡ min (e + 1) (length input.now) }
+// Where the first line ends: at its line feed, or at the end.
+fn line_end(bytes: &[u8]) -> usize
+    ensures value { result ≡ line_length bytes.now }
+    ensures upper_bound { result ≤ length bytes.now }
 {
-    (e + 1).min(input.len())
+    let found = bytes.iter().position(|b| *b == b'\n');
+    found.unwrap_or(bytes.len())
 }
 
 // The entry of a line, where k entries were read and there is room for one more.
@@ -99,15 +118,13 @@ fn entry_with_room(k: usize, room: usize, line: &[u8]) -> Option<(u8, u8)>
 }
 
 // The entry of a line, if it is one: its kind and its station.
+#[tactic(auto, using(crate::proofs::ReadLaws::entry_short, crate::proofs::ReadLaws::entry_unspaced, crate::proofs::ReadLaws::entry_spaced, crate::proofs::NumberLaws::number_two))]
 fn read_entry(line: &[u8]) -> Option<(u8, u8)>
     ensures { result ≡ entry_of line.now }
 {
-    let [letter, space, digits @ ..] = line else {
+    let [letter, b' ', digits @ ..] = line else {
         return None;
     };
-    if *space != b' ' {
-        return None;
-    }
     let kind = kind_of(*letter)?;
     let station = read_number(digits, 2)?;
     Some((kind, station as u8))

@@ -15,8 +15,8 @@ use table::cells;
 // The first 20,490 bytes decide every input. A readable line has at most three bytes (the size) or four (an entry) and its line feed, so
 // the size and 4,096 entries have at most 4 + 5 · 4,096 = 20,484. Where those bytes hold an unreadable line whole, or begin a 4,097th
 // entry's, that line's number is the answer, whatever follows. Else, in a longer input, at least six bytes with no line feed follow the
-// last whole line; the line that they begin is longer than four bytes and so unreadable, cut or not. `program-watches` of
-// proofs/Buffer.antt shows it.
+// last whole line; the line that they begin is longer than four bytes and so unreadable, cut or not. The clause `decided` of
+// `watched::watch_plant` says it.
 fn main(rt: HostRuntime) {
     let mut buffer = [0u8; 20490];
     let mut schedule = [0u8; 8192];

@@ -1,11 +1,11 @@
 // What comes of an input (document 01, the run program): it is read, and its schedule is carried out on a fresh table with zero tallies.
-ghost use Rattle.std.specs.Prelude.{◌≡◌, true, ◌*◌, ◌≤◌, length, take};
+ghost use Rattle.std.specs.Prelude.{◌≡◌, ℕ, List, ◌++◌, true, ◌*◌, ◌≤◌, length, take};
 ghost use Rattle.table.specs.Sizes.{is_size};
 ghost use Rattle.table.specs.Table.{greatest_table, table_length};
 ghost use Rattle.table.specs.Fresh.{fresh_after};
 ghost use Rattle.plant.specs.Entry.{state_of};
 ghost use Rattle.plant.specs.Run.{outcome_with, run};
-ghost use Rattle.watch.specs.Watched.{watched_with, carried_out, watched};
+ghost use Rattle.watch.specs.Watched.{watched_with, carried_out, watched, deciding};
 
 use crate::input;
 use plant::{Answer, Tally, run};
@@ -25,12 +25,16 @@ pub fn watch_plant(
     table: &mut [u8; cells::GREATEST_TABLE],
     sheet: &mut [u8; 16384],
 ) -> Report
-    ensures { watched_with result sheet.new ≡ watched sheet.old input.now }
+    ensures value { watched_with result sheet.new ≡ watched sheet.old input.now }
+
+    // What follows so many bytes does not matter.
+    ensures decided { (rest : List ℕ) → length input.now ≡ deciding
+        → watched_with result sheet.new ≡ watched sheet.old (input.now ++ rest) }
 {
-    let parsed = input::parse(input, schedule);
-    if parsed.unread != 0 {
-        return Report::Unread(parsed.unread);
-    }
+    let parsed = match input::parse(input, schedule) {
+        Ok(parsed) => parsed,
+        Err(unread) => return Report::Unread(unread.line),
+    };
     carry_out(parsed.size, parsed.entries, schedule, table, sheet)
 }
 

@@ -1,6 +1,6 @@
 -- The claim is proved in proofs/LowestTerms.antt.
-use Rattle.figures.proofs.LowestTerms.{lowest-terms}
+use Rattle.figures.proofs.LowestTerms.{lowest_terms}
 use Rattle.figures.proofs.claims.lowest_terms.Goals as goal
 
 pub returns : goal.returns
-returns c = lowest-terms
+returns c = lowest_terms

@@ -1,33 +1,54 @@
 -- Where reading stops, the entries read are the front of the schedule; else the entry's bytes stand behind them.
-use Rattle.std.proofs.Common.{◌*◌, refl, sym, ◌∙◌, arith}
-use Rattle.watch.proofs.ReadLaws.{read_done, read-stop, read_next, has_room, rest-kept, sets-part, read-as-parts}
+use Rattle.std.proofs.Common.{◌≡◌, ◌<◌, ◌*◌, [], length, take, ◌+◌, sym, ◌∙◌, arith}
+use Rattle.watch.specs.Input.{lines, reading_of, room_for, read_entries}
+use Rattle.watch.proofs.ReadLaws.{read_done, read-stop, read_next, has_room, rest-kept, sets-part, answer_stop}
 use Rattle.watch.proofs.input.read_entries.Goals as goal
 
-pub returns-in_default : goal.returns-in_default
-returns-in_default c =
-    let l = c.loop-p in
-    let e = read-stop _ _ l.k l.schedule _ l.p _ _ _ c.loop-p-test.true l.invariant.room c.line_end-e.ensures.value c.in_default.ensures refl in
-    read-as-parts _ _ _ _ _ (sym l.invariant.read ∙ e) (sets-part l.schedule _ (2 * l.k) (omega arith) (omega arith) l.invariant.rest)
+-- what was read where a line is unreadable, and where no line is left
+stopped : (c : goal.In_default)
+    → read_entries (room_for (length c.args.schedule.now)) c.args.size 0 [] (lines c.args.input.now)
+    ≡ reading_of (c.loop-rest.entries + 2) c.args.size c.loop-rest.entries (take (2 * c.loop-rest.entries) c.loop-rest.schedule)
+stopped c =
+    let l = c.loop-rest in
+    let some : 0 < length l.rest.now = grind arith in
+    sym l.invariant.read ∙ read-stop _ _ l.entries l.schedule l.rest.now _ _ c.split_line.result.1.now _ some l.invariant.room c.split_line.ensures.line c.entry_with_room.ensures c.in_default.is
 
-pub loop-p-preserved : goal.loop-p-preserved
-loop-p-preserved c =
-    let l = c.loop-p in
-    let t = c.loop-p-test.true in
-    let e = c.line_end-e.ensures.value in
-    let o = c.in-Some.ensures in
-    let h = has_room _ c.args.n l.k l.schedule _ l.p _ _ _ t l.invariant.room e o _ refl in
+pub returns-in_default-clause-answer : goal.returns-in_default-clause-answer
+returns-in_default-clause-answer c = rw (stopped c) (answer_stop c.args.size c.loop-rest.entries (take (2 * c.loop-rest.entries) c.loop-rest.schedule))
+
+pub returns-in_default-clause-schedule_after : goal.returns-in_default-clause-schedule_after
+returns-in_default-clause-schedule_after c =
+    let l = c.loop-rest in
+    rw (stopped c) (sets-part l.schedule _ (2 * l.entries) (omega arith) (omega arith) l.invariant.kept)
+
+pub loop-rest-preserved : goal.loop-rest-preserved
+loop-rest-preserved c =
+    let l = c.loop-rest in
+    let some : 0 < length l.rest.now = grind arith in
+    let first = c.split_line.ensures in
+    let told = c.entry_with_room.ensures in
+    let h = has_room _ c.args.size l.entries l.schedule l.rest.now _ _ c.split_line.result.1.now _ some l.invariant.room first.line told _ c.in-Some.is in
     let w = c.put_entry.ensures in
-    let next = read_next _ c.args.n l.k l.schedule _ l.p _ _ _ t l.invariant.room e o _ _ _ _ refl w.schedule_after c.line_after-p.ensures in
+    let next = read_next _ c.args.size l.entries l.schedule l.rest.now _ _ _ _ some l.invariant.room first.line told _ _ _ c.in-Some.is first.rest w.schedule_after in
     record {
-      within = omega arith;
       few = omega (arith, h);
       room = l.invariant.room;
-      rest = rest-kept l.k l.schedule _ _ w.schedule_unchanged l.invariant.rest;
+      kept = rest-kept l.entries l.schedule _ _ w.schedule_unchanged l.invariant.kept;
       read = next ∙ l.invariant.read;
     }
 
-pub returns : goal.returns
-returns c =
-    let l = c.loop-p in
-    let e = read_done _ _ l.k l.schedule _ l.p c.loop-p-test.false in
-    read-as-parts _ _ _ _ _ (sym l.invariant.read ∙ e) (sets-part l.schedule _ (2 * l.k) (omega arith) (omega arith) l.invariant.rest)
+finished : (c : goal.After-loop-rest)
+    → read_entries (room_for (length c.args.schedule.now)) c.args.size 0 [] (lines c.args.input.now)
+    ≡ reading_of 0 c.args.size c.loop-rest.entries (take (2 * c.loop-rest.entries) c.loop-rest.schedule)
+finished c =
+    let l = c.loop-rest in
+    let none : length l.rest.now ≡ 0 = grind arith in
+    sym l.invariant.read ∙ read_done _ _ l.entries l.schedule l.rest.now none
+
+pub returns-clause-answer : goal.returns-clause-answer
+returns-clause-answer c = rw (finished c)
+
+pub returns-clause-schedule_after : goal.returns-clause-schedule_after
+returns-clause-schedule_after c =
+    let l = c.loop-rest in
+    rw (finished c) (sets-part l.schedule _ (2 * l.entries) (omega arith) (omega arith) l.invariant.kept)

@@ -1,7 +1,0 @@
--- The members of the figures answered, in their order.
-use Rattle.std.proofs.Common.{◌∙◌, ap}
-use Rattle.vcube.specs.Exports.{filled, figures_out}
-use Rattle.vcube.proofs.vcube_figures_of_two_lists.Goals as goal
-
-pub returns : goal.returns
-returns c = ap (filled _) c.figures_members.ensures ∙ ap figures_out c.figures_of_two-of_two.ensures
