@@ -28,6 +28,8 @@ pub enum Refusal {
     FieldPastEnd,
     SizeOrTallyField,
     LineField,
+    NoOpening,
+    FieldOrder,
 }
 
 impl Refusal {
@@ -56,6 +58,8 @@ impl Refusal {
             Refusal::FieldPastEnd => 18,
             Refusal::SizeOrTallyField => 19,
             Refusal::LineField => 20,
+            Refusal::NoOpening => 21,
+            Refusal::FieldOrder => 22,
         }
     }
 }
@@ -89,6 +93,8 @@ impl fmt::Display for Refusal {
                 "the size or tally field of the saved plant is absent, twice or of wrong length",
             Refusal::LineField =>
                 "a line field of the saved plant has the wrong length, or a station is absent, twice or too high",
+            Refusal::NoOpening => "the file does not begin as edition 2 does",
+            Refusal::FieldOrder => "a field is out of order, or of an unknown tag",
         })
     }
 }
