@@ -1,12 +1,12 @@
 -- Saving what was read gives the writer's form.
 -- Assumes nothing.
 use mathlib.Core.Path.{◌≡◌, sym, ap, ◌∙◌}
-use mathlib.Core.Bool.{Bool, true, false, cond, not}
+use mathlib.Core.Bool.{Bool, true, false, cond}
 use mathlib.Core.List.{List, [], ◌∷◌, ◌++◌}
 use Rattle.std.specs.Prelude.{Option, Some, None, unwrap_or, Ok}
 use Prim.Native.Nat.{ℕ, zero, suc, ◌+◌, ◌*◌, ◌^◌, ◌<◌}
 use native.Mathlib.Omega.{arith}
-use borrow.Author.Tests.{eqb-true, eq-eqb, not-false}
+use borrow.Author.Tests.{eqb-true, eq-eqb}
 use lib.Dec.{ltb, eqb}
 use lib.ListN.{length, get_or, take, drop, length-drop, take-append-drop}
 use lib.Seq.{length-take-le, get_or-drop}
@@ -14,17 +14,16 @@ use Rattle.lists.specs.Refusal.{number_of_result}
 use Rattle.lists.proofs.BoolLaws.{by_bool}
 use Rattle.lists.proofs.SearchLaws.{both, every-at}
 use Rattle.lists.proofs.RefusalLaws.{check_zero, ensure_ok, and_ok}
-use Rattle.table.specs.Sizes.{is_size}
-use Rattle.table.specs.Table.{stride, table_length, line_start}
+use Rattle.table.specs.Table.{stride, line_start}
 use Rattle.table.specs.Rules.{table_number}
 use Rattle.plant.specs.declared.Tally.{Tally}
 use Rattle.saved.specs.Bytes.{number_of, bytes_of, concat_of}
 use Rattle.saved.specs.Fields.{Field, field, field_bytes, infront, length_in, extent, fields_up_to, fields}
-use Rattle.saved.specs.Fields.{runs_past, fields_of, tagged, single, first_of}
+use Rattle.saved.specs.Fields.{fields_of, tagged, single, first_of}
 use Rattle.saved.specs.Plant.{size_tag, size_length, tally_tag, line_tag, line_field_length, size_in, rounds_in, tests_in, size_and_tally}
 use Rattle.saved.specs.Plant.{station_in, line_in, of_station, all_fit, lines_right, table_in}
 use Rattle.saved.specs.Load.{file_size, file_lines, file_table, size_check, rest_check, load_check, load_answer, loaded_figures, load_after}
-use Rattle.saved.specs.Save.{line_of, line_field, saved_lines, saved, save_check, save_number, save_after}
+use Rattle.saved.specs.Save.{line_of, line_field, saved_lines, saved, save_check, save_after}
 use Rattle.saved.proofs.NumberLaws.{bytes-number}
 use Rattle.saved.proofs.ConcatLaws.{concat-same, concat-at}
 use Rattle.restoring.specs.Files.{AreBytes}

@@ -1,7 +1,7 @@
 -- Laws of the first pass over a file's fields: what it finds of size and tally, and what it answers.
 -- Assumes nothing.
 use mathlib.Core.Path.{◌≡◌, refl, sym, ap, ap₂, ◌∙◌}
-use mathlib.Core.Bool.{Bool, true, false, not, ◌&&◌, cond, and-false, and-true}
+use mathlib.Core.Bool.{Bool, true, false, ◌&&◌, and-false, and-true}
 use mathlib.Core.List.{List, [], ◌∷◌}
 use Rattle.std.specs.Int.{w32, from_be_bytes}
 use native.Mathlib.Omega.{arith}
@@ -12,10 +12,9 @@ use lib.ListN.{length, get_or, take, drop, length-drop}
 use lib.Seq.{drop-cons}
 use lib.Dec.{eqb}
 use Rattle.lists.specs.declared.refusal.Refusal.{Refusal}
-use Rattle.lists.specs.declared.refusal.Refusal.TheVariants.{FieldPastEnd, SizeOrTallyField, SizeOutOfRange}
+use Rattle.lists.specs.declared.refusal.Refusal.TheVariants.{FieldPastEnd, SizeOrTallyField}
 use Rattle.lists.specs.Refusal.{ensure, ◌and◌}
 use Rattle.lists.proofs.BoolLaws.{by_bool}
-use Rattle.table.specs.Sizes.{is_size}
 use Rattle.plant.specs.declared.Tally.{Tally}
 use Rattle.saved.specs.Bytes.{number_of}
 use Rattle.saved.specs.Fields.{Field, runs_past, fields_of, tagged, single, first_of}

@@ -1,6 +1,6 @@
 -- Laws of the opening and of the order, of specs/Order.
 -- Assumes nothing.
-use Rattle.std.proofs.Common.{◌≡◌, refl, sym, ap, ◌∙◌, Bool, true, false, List, [], ◌∷◌, Ok, Err}
+use Rattle.std.proofs.Common.{◌≡◌, sym, ◌∙◌, Bool, true, false, List, [], ◌∷◌, Err}
 use Rattle.lists.specs.declared.refusal.Refusal.TheVariants.{NoOpening, FieldOrder}
 use Rattle.lists.specs.Refusal.{ensure}
 use Rattle.saved.specs.Fields.{Field}

@@ -1,14 +1,14 @@
 -- Laws of the second pass over a file's fields: which lines are taken, and what the table is in the end.
 -- Assumes nothing.
-use mathlib.Core.Path.{◌≡◌, refl, sym, ap, ◌∙◌}
+use mathlib.Core.Path.{◌≡◌, refl, sym, ◌∙◌}
 use mathlib.Core.Logic.{by_cases}
-use mathlib.Core.Bool.{Bool, true, false, cond, not, ◌&&◌, and-true, and-false}
+use mathlib.Core.Bool.{Bool, true, false, cond, not, ◌&&◌, and-false}
 use mathlib.Core.List.{List, [], ◌∷◌}
 use Prim.Native.Nat.{ℕ, ◌≤◌, ◌<◌}
 use native.Mathlib.Decide.{ℕ_discrete}
 use native.Mathlib.Omega.{arith}
 use borrow.Author.Tests.{eqb-true, eq-eqb, ne_eqb, ltb-true, not-true}
-use lib.ListN.{length, get_or, set, take, length-set, length-drop}
+use lib.ListN.{length, get_or, set, take, length-drop}
 use lib.Seq.{sets, length-take-le, get_or-take, get_or-set_same, get_or-set_other}
 use lib.Dec.{eqb}
 use Rattle.std.specs.Prelude.{Err, IsTrue, EachIndex, ◌↔◌}

@@ -1,5 +1,5 @@
 -- Each line is taken, or the lines are not right; in the end every station was seen, or they are not.
-use Rattle.std.proofs.Common.{◌≡◌, ℕ, ◌≤◌, Bool, false, length, arith, refl, sym, ◌∙◌, replicate}
+use Rattle.std.proofs.Common.{◌≡◌, ◌≤◌, Bool, false, length, arith, refl, sym, ◌∙◌}
 use Rattle.std.proofs.Math.ListN.{get_or-replicate}
 use Rattle.std.proofs.lemmas.List.{length-replicate}
 use lib.Seq.{length-take-le}

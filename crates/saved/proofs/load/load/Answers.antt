@@ -1,5 +1,4 @@
 -- A file whose size is refused is refused; else the rest is read_table's.
-use Rattle.std.proofs.Common.{refl}
 use Rattle.std.proofs.lemmas.Result.{err_from_is_err_and}
 use Rattle.saved.proofs.Loading.{load_err, opened_right, rest_err, rest_ok}
 use Rattle.saved.proofs.load.load.Goals as goal

@@ -1,5 +1,5 @@
 -- The file's lines are not right, the buffer is of another length, or the table's rules judge.
-use Rattle.std.proofs.Common.{◌≡◌, ◌≤◌, length, take, arith, refl, sym, ◌∙◌}
+use Rattle.std.proofs.Common.{arith, refl, sym, ◌∙◌}
 use Rattle.std.proofs.lemmas.Result.{err_from_is_err_and}
 use lib.Seq.{length-take-le}
 use Rattle.saved.proofs.Loading.{table_fits, lines_err, long_err, rules_err, rules_ok}

@@ -1,7 +1,6 @@
 -- What is found of the whole file settles 18, 19 and 1, and size and tally.
-use Rattle.std.proofs.Common.{sym, ap, ap₂, ◌∙◌}
+use Rattle.std.proofs.Common.{sym, ap₂, ◌∙◌}
 use Rattle.std.proofs.lemmas.Result.{err_from_is_err_and}
-use Rattle.saved.specs.Fields.{fields_of}
 use Rattle.saved.proofs.Reading.{tells_more, tells_none, tells_cut}
 use Rattle.saved.proofs.FirstPass.{completed, pass_on, opened_cut, opened_wrong, opened_found}
 use Rattle.saved.proofs.opening.open.Goals as goal
