@@ -4,6 +4,7 @@ use Rattle.std.specs.Prelude.{ℕ, zero, suc, Bool, cond, eqb, Result, Ok, Err}
 use Rattle.std.specs.Result.{result_and}
 use Rattle.lists.specs.declared.refusal.Refusal.{Refusal}
 use Rattle.lists.specs.declared.refusal.Refusal.TheVariants.{SizeOutOfRange, TableLength, LineRule, RoundNotClosed, ScheduleLength, SheetLength, TallyFull, UnknownKind, NoSuchStation, NotLive, PassFinished, NoSuchLevel, ListLength, NoResult, TooManyResults, LastGranted, NoneLive, FieldPastEnd, SizeOrTallyField, LineField}
+use Rattle.lists.specs.declared.refusal.Refusal.TheVariants.{NoOpening, FieldOrder}
 
 -- its number in the refusal list
 abbrev pub number_of : Refusal → ℕ
@@ -27,6 +28,8 @@ number_of NoneLive = 17
 number_of FieldPastEnd = 18
 number_of SizeOrTallyField = 19
 number_of LineField = 20
+number_of NoOpening = 21
+number_of FieldOrder = 22
 
 -- the number of an answer: 0 where the call is not refused
 abbrev pub number_of_result : {A : Type 0} → Result A Refusal → ℕ

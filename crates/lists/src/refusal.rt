@@ -28,6 +28,8 @@ pub enum Refusal {
     FieldPastEnd,
     SizeOrTallyField,
     LineField,
+    NoOpening,
+    FieldOrder,
 }
 
 impl Refusal {
@@ -56,6 +58,8 @@ impl Refusal {
             Refusal::FieldPastEnd => 18,
             Refusal::SizeOrTallyField => 19,
             Refusal::LineField => 20,
+            Refusal::NoOpening => 21,
+            Refusal::FieldOrder => 22,
         }
     }
 }
@@ -88,6 +92,8 @@ impl fmt::Display for Refusal {
                 "the field with the size or the tally is missing, there twice or of a wrong length",
             Refusal::LineField =>
                 "a board's line in the file is missing, there twice, of a wrong length or of no board",
+            Refusal::NoOpening => "the file does not begin as edition 2 does",
+            Refusal::FieldOrder => "a field is out of order, or of an unknown tag",
         })
     }
 }

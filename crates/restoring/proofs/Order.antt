@@ -12,7 +12,7 @@ use Rattle.table.specs.Sizes.{is_size}
 use Rattle.saved.specs.Fields.{Field, fields_of, tagged, single, first_of}
 use Rattle.saved.specs.Plant.{size_tag, size_length, tally_tag, tally_length, line_tag, line_field_length}
 use Rattle.saved.specs.Plant.{size_in, rounds_in, tests_in, size_and_tally, station_in, line_in, of_station, fits, all_fit, lines_right, table_in}
-use Rattle.saved.specs.Load.{file_lines, size_number, rest_number, load_number, saved_size, answer_of, load_answer, load_after}
+use Rattle.saved.specs.Load.{file_lines, size_check, rest_check, load_check, saved_size, load_answer, load_after}
 use Rattle.saved.proofs.ConcatLaws.{concat-same}
 use Rattle.saved.specs.Order.{is_known}
 use Rattle.restoring.specs.Restoring.{known, AnyOrder}
@@ -184,7 +184,7 @@ module _ (fs fs' : List Field) (perm : Permᴰ (known fs) (known fs')) where
 
 -- the claim, an end in itself: the files are both read, or refused by 2 to 4, by 20, by 1, or by 19
 pub any_order : AnyOrder
-unfolding saved_size load_answer load_after size_number load_number rest_number answer_of rounds_in tests_in
+unfolding saved_size load_answer load_after size_check load_check rest_check rounds_in tests_in
 any_order file file' past past' perm t =
     let fs : List Field = fields_of file in
     let fs' : List Field = fields_of file' in

@@ -3,7 +3,7 @@
 use mathlib.Core.Path.{◌≡◌, refl, ap, ◌∙◌}
 use mathlib.Core.Bool.{true, false, cond}
 use mathlib.Core.List.{List, [], ◌∷◌, ◌++◌, append-nil, append_assoc}
-use Rattle.std.specs.Prelude.{Some}
+use Rattle.std.specs.Prelude.{Some, Ok}
 use Prim.Native.Nat.{ℕ, zero, suc, ◌^◌, ◌≤◌, ◌<◌}
 use native.Mathlib.Decide.{dec_lt}
 use native.Mathlib.Omega.{arith}
@@ -12,9 +12,10 @@ use lib.Dec.{eqb}
 use lib.ListN.{length}
 use lib.Seq.{take_at, drop_at}
 use Rattle.lists.proofs.SearchLaws.{every-all}
+use Rattle.lists.proofs.RefusalLaws.{check_zero}
 use Rattle.table.specs.Sizes.{is_size}
 use Rattle.table.specs.Table.{stride, table_length, line_start}
-use Rattle.table.specs.Rules.{table_number}
+use Rattle.table.specs.Rules.{table_check, table_number}
 use Rattle.table.proofs.Accepting.{accepted}
 use Rattle.table.proofs.SizeLaws.{size-bounds}
 use Rattle.plant.specs.declared.Tally.{Tally}
@@ -22,7 +23,7 @@ use Rattle.saved.specs.Bytes.{number_of, bytes_of, concat_of}
 use Rattle.saved.specs.Fields.{Field, field_bytes, fields, runs_past, fields_of, tagged, single, first_of}
 use Rattle.saved.specs.Plant.{size_tag, tally_tag, line_tag, line_field_length, size_in, rounds_in, tests_in, size_and_tally}
 use Rattle.saved.specs.Plant.{of_station, line_in, all_fit, lines_right, table_in}
-use Rattle.saved.specs.Load.{size_number, rest_number, load_number, saved_size, answer_of, load_answer, load_after}
+use Rattle.saved.specs.Load.{size_check, rest_check, load_check, saved_size, load_answer, load_after}
 use Rattle.saved.specs.Save.{line_of, size_field, tally_field, line_field, saved_lines, saved}
 use Rattle.saved.proofs.NumberLaws.{bytes-length, number-bytes}
 use Rattle.saved.proofs.ConcatLaws.{concat-same, concat-parts}
@@ -170,26 +171,26 @@ module _ (n : ℕ) (t : List ℕ) (tally : Tally) (z : table_number n t ≡ 0) (
   unfolding size_and_tally
   both-single = rw (size-contents, tally-contents) (eq-eqb (length (tally_field tally).contents) 8 (tally-length tally))
 
-  size-zero : size_number (saved n t tally) ≡ 0
-  unfolding size_number runs_past
-  size-zero = rw (saved-fields, of-saved, both-single, size-restored, size)
+  size-ok : size_check (saved n t tally) ≡ Ok tt
+  unfolding size_check runs_past
+  size-ok = rw (saved-fields, of-saved, both-single, size-restored, size)
 
   table-restored : table_in (size_in plant_fields) (tagged line_tag plant_fields) ≡ t
   table-restored = rw (size-restored, line-contents) (lines-table n t long)
 
-  load-zero : (len : ℕ) → len ≡ length t → load_number (saved n t tally) len ≡ 0
-  unfolding load_number rest_number
-  load-zero len e =
+  load-ok : (len : ℕ) → len ≡ length t → load_check (saved n t tally) len ≡ Ok tt
+  unfolding load_check rest_check
+  load-ok len e =
       let right : lines_right n (tagged line_tag plant_fields) ≡ true = rw line-contents (lines-right n t long) in
       let same : eqb len (table_length n) ≡ true = eq-eqb len (table_length n) (e ∙ long) in
-      rw (size-zero, of-saved, table-restored, size-restored, right, same) z
+      rw (size-ok, of-saved, table-restored, size-restored, right, same) (check_zero (table_check n t) z)
 
 pub restores : Restores
-unfolding saved_size load_answer answer_of load_after
+unfolding saved_size load_answer load_after
 restores n t tally b z small e =
-    let s = size-zero n t tally z small in
+    let s = size-ok n t tally z small in
     let f = of-saved n t tally z small in
-    let l = load-zero n t tally z small (length b) e in
+    let l = load-ok n t tally z small (length b) e in
     let i = size-restored n t tally z small in
     let r = rounds-restored n t tally z small in
     let q = tests-restored n t tally z small in

@@ -1,30 +1,29 @@
 -- Saving what was read gives the writer's form.
 -- Assumes nothing.
-use mathlib.Core.Path.{◌≡◌, sym, ◌∙◌}
-use mathlib.Core.Bool.{Bool, true, false, cond, not}
+use mathlib.Core.Path.{◌≡◌, sym, ap, ◌∙◌}
+use mathlib.Core.Bool.{Bool, true, false, cond}
 use mathlib.Core.List.{List, [], ◌∷◌, ◌++◌}
-use Rattle.std.specs.Prelude.{Option, Some, None, unwrap_or}
+use Rattle.std.specs.Prelude.{Option, Some, None, unwrap_or, Ok}
 use Prim.Native.Nat.{ℕ, zero, suc, ◌+◌, ◌*◌, ◌^◌, ◌<◌}
 use native.Mathlib.Omega.{arith}
-use borrow.Author.Tests.{eqb-true, eq-eqb, not-false}
+use borrow.Author.Tests.{eqb-true, eq-eqb}
 use lib.Dec.{ltb, eqb}
 use lib.ListN.{length, get_or, take, drop, length-drop, take-append-drop}
 use lib.Seq.{length-take-le, get_or-drop}
-use Rattle.lists.specs.Refusal.{refuse}
+use Rattle.lists.specs.Refusal.{number_of_result}
 use Rattle.lists.proofs.BoolLaws.{by_bool}
 use Rattle.lists.proofs.SearchLaws.{both, every-at}
-use Rattle.lists.proofs.RefusalLaws.{check_zero, else-zero, refuse-zero}
-use Rattle.table.specs.Sizes.{is_size}
-use Rattle.table.specs.Table.{stride, table_length, line_start}
+use Rattle.lists.proofs.RefusalLaws.{check_zero, ensure_ok, and_ok}
+use Rattle.table.specs.Table.{stride, line_start}
 use Rattle.table.specs.Rules.{table_number}
 use Rattle.plant.specs.declared.Tally.{Tally}
 use Rattle.saved.specs.Bytes.{number_of, bytes_of, concat_of}
 use Rattle.saved.specs.Fields.{Field, field, field_bytes, infront, length_in, extent, fields_up_to, fields}
-use Rattle.saved.specs.Fields.{runs_past, fields_of, tagged, single, first_of}
+use Rattle.saved.specs.Fields.{fields_of, tagged, single, first_of}
 use Rattle.saved.specs.Plant.{size_tag, size_length, tally_tag, line_tag, line_field_length, size_in, rounds_in, tests_in, size_and_tally}
 use Rattle.saved.specs.Plant.{station_in, line_in, of_station, all_fit, lines_right, table_in}
-use Rattle.saved.specs.Load.{file_size, file_lines, file_table, size_number, rest_number, load_number, answer_of, load_answer, load_after}
-use Rattle.saved.specs.Save.{line_of, line_field, saved_lines, saved, save_check, save_number, save_after}
+use Rattle.saved.specs.Load.{file_size, file_lines, file_table, size_check, rest_check, load_check, load_answer, loaded_figures, load_after}
+use Rattle.saved.specs.Save.{line_of, line_field, saved_lines, saved, save_check, save_after}
 use Rattle.saved.proofs.NumberLaws.{bytes-number}
 use Rattle.saved.proofs.ConcatLaws.{concat-same, concat-at}
 use Rattle.restoring.specs.Files.{AreBytes}
@@ -104,18 +103,16 @@ record Opened (file : List ℕ) : Type 0 where
   right : lines_right (file_size file) (file_lines file) ≡ true
   sound : table_number (file_size file) (file_table file) ≡ 0
 
-opened : (file : List ℕ) (len : ℕ) → load_number file len ≡ 0 → Opened file
-unfolding load_number size_number rest_number
-opened file len z =
-    let p = else-zero (size_number file) (rest_number (file_size file) (file_lines file) len) z in
-    let q = else-zero (refuse 18 (runs_past file)) _ p.0 in
-    let s = else-zero _ (refuse 1 (not (is_size (file_size file)))) q.1 in
-    let r = else-zero _ _ p.1 in
-    let t = else-zero (refuse 2 (not (eqb len (table_length (file_size file))))) _ r.1 in
+opened : (file : List ℕ) (len : ℕ) → load_check file len ≡ Ok tt → Opened file
+unfolding load_check size_check rest_check
+opened file len e =
+    let p = and_ok (size_check file) _ tt e in
+    let s = and_ok _ _ tt (and_ok _ _ tt p.0).1 in
+    let r = and_ok _ _ tt p.1 in
     record {
-      singles = not-false _ (refuse-zero 18 _ s.0);
-      right = not-false _ (refuse-zero 19 _ r.0);
-      sound = t.1;
+      singles = ensure_ok _ _ tt s.0;
+      right = ensure_ok _ _ tt r.0;
+      sound = ap number_of_result (and_ok _ _ tt r.1).1;
     }
 
 -- the tally it says
@@ -172,22 +169,23 @@ module _ (file : List ℕ) (o : Opened file) where
   form small = rw (size-again, tally-again small, lines-again)
 
 -- table and tally after reading
-table-read : (file b : List ℕ) → load_number file (length b) ≡ 0 → load_after file b ≡ file_table file
+table-read : (file b : List ℕ) → load_check file (length b) ≡ Ok tt → load_after file b ≡ file_table file
 unfolding load_after
-table-read file b z = rw z
+table-read file b e = rw e
 
-tally-read : (file : List ℕ) (len : ℕ) → load_number file len ≡ 0 → (load_answer file len).tally ≡ file_tally file
-unfolding load_answer answer_of
-tally-read file len z = rw z
+tally-read : (file : List ℕ) (len : ℕ) → load_check file len ≡ Ok tt → (loaded_figures (load_answer file len)).tally ≡ file_tally file
+unfolding load_answer
+tally-read file len e = rw e
 
 pub saved-again : SavedAgain
 unfolding save_check save_after
 saved-again file b b' small z long =
-    let o = opened file (length b) z in
+    let c = check_zero (load_check file (length b)) z in
+    let o = opened file (length b) c in
     let n : ℕ = file_size file in
     let t : List ℕ = file_table file in
     let l = saved-length n t (file_tally file) o.sound in
     let e : eqb (length b') (length (saved n t (file_tally file))) ≡ true = eq-eqb _ _ (long ∙ sym l) in
-    let f = table-read file b z in
-    let r = tally-read file (length b) z in
+    let f = table-read file b c in
+    let r = tally-read file (length b) c in
     (rw (f, r, check_zero _ o.sound, e), rw (f, r, check_zero _ o.sound, e) (form file o small))

@@ -1,7 +1,7 @@
 -- Request C-17: "Reading a saved plant restores table and tally; saving what was read gives the writer's form." "The reader takes any order and
 -- passes over other tags."
 -- Assumes nothing.
-use Rattle.std.specs.Prelude.{◌≡◌, false, cond, ℕ, ◌+◌, ◌*◌, ◌^◌, ◌<◌, length}
+use Rattle.std.specs.Prelude.{◌≡◌, false, cond, ℕ, ◌+◌, ◌*◌, ◌^◌, ◌<◌, length, Ok}
 use mathlib.Core.List.{List, [], ◌∷◌, ◌++◌, Permᴰ}
 use Rattle.table.specs.Rules.{table_number}
 use Rattle.plant.specs.declared.Tally.{Tally}
@@ -9,7 +9,7 @@ use Rattle.saved.specs.Bytes.{concat_of}
 use Rattle.saved.specs.Fields.{Field, field, field_bytes, runs_past, fields_of, tagged, first_of}
 use Rattle.saved.specs.Plant.{size_tag, tally_tag, line_tag, size_in, of_station}
 use Rattle.saved.specs.Order.{is_known}
-use Rattle.saved.specs.Load.{file_size, load_number, saved_size, load_answer, load_after}
+use Rattle.saved.specs.Load.{file_size, load_number, saved_size, load_answer, loaded_figures, load_after}
 use Rattle.saved.specs.Save.{saved, save_number, save_after}
 use Rattle.restoring.specs.Files.{AreBytes}
 
@@ -28,8 +28,8 @@ IsTally tally = (tally.rounds < 2 ^ 32) × (tally.tests < 2 ^ 32)
 abbrev pub Restores : Type 0
 Restores =
     (n : ℕ) (t : List ℕ) (tally : Tally) (b : List ℕ) → table_number n t ≡ 0 → IsTally tally → length b ≡ length t
-    → (saved_size (saved n t tally) ≡ record { number = 0; size = n })
-    × (load_answer (saved n t tally) (length b) ≡ record { number = 0; size = n; tally = tally })
+    → (saved_size (saved n t tally) ≡ Ok n)
+    × (load_answer (saved n t tally) (length b) ≡ Ok (record { size = n; tally = tally }))
     × (load_after (saved n t tally) b ≡ t)
 
 -- the writer's form of some fields: those with the three tags, as they are, in the writer's order
@@ -43,8 +43,8 @@ writers_form fs =
 abbrev pub SavedAgain : Type 0
 SavedAgain =
     (file b b' : List ℕ) → AreBytes file → load_number file (length b) ≡ 0 → length b' ≡ saved_length (file_size file)
-    → (save_number (file_size file) (load_after file b) (load_answer file (length b)).tally (length b') ≡ 0)
-    × (save_after (file_size file) (load_after file b) (load_answer file (length b)).tally b' ≡ writers_form (fields_of file))
+    → (save_number (file_size file) (load_after file b) (loaded_figures (load_answer file (length b))).tally (length b') ≡ 0)
+    × (save_after (file_size file) (load_after file b) (loaded_figures (load_answer file (length b))).tally b' ≡ writers_form (fields_of file))
 
 -- the fields with one of the three tags
 unfoldable pub known : List Field → List Field

@@ -7,10 +7,8 @@ pub mod LineFields
 pub mod Saving
 pub mod Copying
 pub mod Reading
-pub mod Passing
-pub mod Building
-pub mod TableLines
-pub mod Gathering
-pub mod Numbers
-pub mod Loading
+pub mod FirstPass
+pub mod SecondPass
 pub mod OrderLaws
+pub mod Loading
+pub mod TableLines

@@ -1,111 +1,126 @@
 -- Laws of what the reader answers and leaves, of specs/Load.
 -- Assumes nothing.
 use mathlib.Core.Path.{◌≡◌, refl, sym, ap, ◌∙◌}
-use mathlib.Core.Bool.{true, false, not}
+use mathlib.Core.Bool.{true, false}
 use mathlib.Core.List.{List}
-use Prim.Native.Nat.{ℕ, zero, suc, ◌≤◌}
+use Rattle.std.specs.Prelude.{Result, Ok, Err}
+use Prim.Native.Nat.{ℕ, ◌≤◌}
 use native.Mathlib.Nat.{mul-le-mul}
 use native.Mathlib.Omega.{arith}
-use borrow.Author.Tests.{not-false, eqb-true, eq-eqb, ne_eqb}
+use borrow.Author.Tests.{not-true, eq-eqb, ne_eqb}
 use lib.ListN.{length}
-use lib.Dec.{eqb}
-use Rattle.lists.specs.Refusal.{refuse, unless}
-use Rattle.lists.proofs.RefusalLaws.{else-first, else-zero, refuse-zero, unless-refused, unless-accepted}
+use Rattle.lists.specs.declared.refusal.Refusal.{Refusal}
+use Rattle.lists.specs.declared.refusal.Refusal.TheVariants.{TableLength, LineField}
+use Rattle.lists.specs.Refusal.{Check, ensure, ◌and◌, number_of_result}
+use Rattle.lists.proofs.RefusalLaws.{ensure_ok, and_ok}
 use Rattle.table.specs.Sizes.{is_size}
 use Rattle.table.specs.Table.{stride, table_length, greatest_table}
-use Rattle.table.specs.Rules.{table_number}
+use Rattle.table.specs.Rules.{table_check}
 use Rattle.table.proofs.SizeLaws.{size-bounds}
-use Rattle.saved.specs.Fields.{Field, runs_past, fields_of}
-use Rattle.saved.specs.Plant.{size_in, size_and_tally, lines_right, table_in}
-use Rattle.saved.specs.Load.{file_size, file_lines, file_table, size_number, rest_number, load_number, saved_size, refused_by}
-use Rattle.saved.specs.Load.{answer_of, load_answer, load_after}
+use Rattle.saved.specs.Fields.{runs_past, fields_of}
+use Rattle.saved.specs.Plant.{lines_right, table_in}
+use Rattle.saved.specs.Load.{file_size, file_lines, size_check, rest_check, rest_after, load_check, size_number, load_number, saved_size, loaded_of, load_answer, opened, load_after}
 use Rattle.saved.specs.declared.Loaded.{Loaded}
-use Rattle.saved.proofs.Numbers.{answer-refused}
-
--- the number and the size of an answer
-pub answer-number : (x : ℕ) (fs : List Field) → (answer_of x fs).number ≡ x
-unfolding answer_of
-answer-number zero fs = refl
-answer-number (suc x) fs = rw (ne_eqb (suc x) 0 (λ e. omega arith))
-
-answer-size : (x : ℕ) (fs : List Field) → (answer_of x fs).size ≡ unless x 0 (size_in fs)
-unfolding answer_of
-answer-size zero fs = refl
-answer-size (suc x) fs = rw (ne_eqb (suc x) 0 (λ e. omega arith))
-
-pub opened-size : (file : List ℕ) (r : Loaded) → r ≡ answer_of 0 (fields_of file) → r.size ≡ file_size file
-opened-size file r e = ap (λ x. x.size) e ∙ answer-size 0 (fields_of file)
-
-pub size-answer : (file : List ℕ) (r : Loaded) → r ≡ answer_of (size_number file) (fields_of file)
-    → record { number = r.number; size = r.size } ≡ saved_size file
-unfolding saved_size
-size-answer file r e = rw (e, answer-number (size_number file) (fields_of file), answer-size (size_number file) (fields_of file))
-
--- a file whose size is not refused
-pub size-zero : (file : List ℕ) → size_number file ≡ 0 → (runs_past file ≡ false) × (is_size (file_size file) ≡ true)
-unfolding size_number
-size-zero file z =
-    let a = else-zero (refuse 18 (runs_past file)) _ z in
-    let b = else-zero (refuse 19 (not (size_and_tally (fields_of file)))) _ a.1 in
-    (refuse-zero 17 _ a.0, not-false _ (refuse-zero 0 _ b.1))
 
 pub table_fits : (n : ℕ) → is_size n ≡ true → table_length n ≤ greatest_table
 unfolding table_length
 table_fits n e = let s = size-bounds n e in mul-le-mul {n₁ = n} {m₁ = stride n} {n₂ = 64} {m₂ = stride 64} s.1 (omega arith)
 
--- the refusals after the size's, one after the other
-module _ (n : ℕ) (cs : List (List ℕ)) (len : ℕ) where
-  pub not_right : lines_right n cs ≡ false → rest_number n cs len ≡ 20
-  unfolding rest_number
-  not_right e = rw e
+-- an answer with a value, by its check
+answer_ok : {A : Type 0} (c : Result (Unit {0}) Refusal) (v x : A) → Ok x ≡ (c and Ok v) → (c ≡ Ok tt) × (x ≡ v)
+answer_ok (Ok u) v x e = (refl, cc)
+answer_ok (Err r) v x e = cc
 
-  module _ (right : lines_right n cs ≡ true) where
-    pub not-long : (len ≡ table_length n → ⊥) → rest_number n cs len ≡ 2
-    unfolding rest_number
-    not-long h = rw (right, ne_eqb len (table_length n) h)
+answer_err : {A : Type 0} (c : Result (Unit {0}) Refusal) (v : A) (r : Refusal) → Err r ≡ (c and Ok v) → c ≡ Err r
+answer_err (Ok u) v r e = cc
+answer_err (Err s) v r e = cc
 
-    pub by-rules : len ≡ table_length n → rest_number n cs len ≡ table_number n (table_in n cs)
-    unfolding rest_number
-    by-rules h = rw (right, eq-eqb len (table_length n) h)
+-- the numbers of the answers are those of the checks
+answer_number : {A : Type 0} (c : Check) (v : A) → number_of_result c ≡ number_of_result {A = A} (c and Ok v)
+answer_number (Ok u) v = refl
+answer_number (Err r) v = refl
 
+pub load_numbered : (file : List ℕ) (len : ℕ) → load_number file len ≡ number_of_result (load_answer file len)
+unfolding load_answer
+load_numbered file len = answer_number (load_check file len) (loaded_of (fields_of file))
+
+pub size_numbered : (file : List ℕ) → size_number file ≡ number_of_result (saved_size file)
+unfolding saved_size
+size_numbered file = answer_number (size_check file) (file_size file)
+
+-- a file whose size is refused, and one whose size is not
+pub size_err : (file : List ℕ) (r : Refusal) → Err r ≡ opened file → Err r ≡ saved_size file
+unfolding opened saved_size
+size_err file r e = rw (answer_err (size_check file) _ r e)
+
+pub size_ok : (file : List ℕ) (x : Loaded) → Ok x ≡ opened file → Ok x.size ≡ saved_size file
+unfolding opened saved_size
+size_ok file x e = let p = answer_ok (size_check file) _ x e in rw (p.0, p.1)
+
+-- what a call answers and leaves
 module _ (file t : List ℕ) where
-  -- the answer, and the table after the call
-  abbrev Gives : Loaded → List ℕ → Type 0
-  Gives r l = (r ≡ load_answer file (length t)) × (l ≡ load_after file t)
+  abbrev Gives : Result Loaded Refusal → List ℕ → Type 0
+  Gives answer after = (answer ≡ load_answer file (length t)) × (after ≡ load_after file t)
 
-  refused : (x : ℕ) → x ≡ load_number file (length t) → (x ≡ 0 → ⊥) → Gives (refused_by x) t
+  refused : (r : Refusal) → load_check file (length t) ≡ Err r → Gives (Err r) t
   unfolding load_answer load_after
-  refused x e h = (
-    answer-refused (load_number file (length t)) x (fields_of file) (sym e) h,
-    unless-refused x (load_number file (length t)) t (file_table file) e h,
-  )
+  refused r e = rw e (refl, refl)
 
-  pub load-refused : (r : Loaded) → r ≡ answer_of (size_number file) (fields_of file) → (r.number ≡ 0 → ⊥) → Gives r t
-  unfolding load_number
-  load-refused r e h =
-      let m : size_number file ≡ 0 → ⊥ = λ z. h (ap (λ x. x.number) e ∙ answer-number (size_number file) (fields_of file) ∙ z) in
-      let g = refused (size_number file) (else-first (size_number file) (size_number file) _ refl m) m in
-      (e ∙ sym (answer-refused (size_number file) (size_number file) (fields_of file) refl m) ∙ g.0, g.1)
+  pub load_err : (r : Refusal) → Err r ≡ opened file → Gives (Err r) t
+  unfolding opened load_check
+  load_err r e = refused r (rw (answer_err (size_check file) _ r e))
 
-  module _ (zero : size_number file ≡ 0) where
-    rest-is : load_number file (length t) ≡ rest_number (file_size file) (file_lines file) (length t)
-    unfolding load_number
-    rest-is = rw zero
+  module _ (x : Loaded) (e : Ok x ≡ opened file) where
+    known : (size_check file ≡ Ok tt) × (x ≡ loaded_of (fields_of file))
+    unfolding opened
+    known = answer_ok (size_check file) _ x e
 
-    pub load-turned : (x : ℕ) → x ≡ rest_number (file_size file) (file_lines file) (length t) → (x ≡ 0 → ⊥) → Gives (refused_by x) t
-    load-turned x e h = refused x (e ∙ sym rest-is) h
+    pub opened_right : (runs_past file ≡ false) × (is_size x.size ≡ true)
+    unfolding size_check
+    opened_right =
+        let p = and_ok _ _ tt known.0 in
+        (not-true _ (ensure_ok _ _ tt p.0), ap (λ l. is_size l.size) known.1 ∙ ensure_ok _ _ tt (and_ok _ _ tt p.1).1)
 
-    pub load-done : (r : Loaded) (l : List ℕ) → r ≡ answer_of 0 (fields_of file) → rest_number (file_size file) (file_lines file) (length t) ≡ 0
-        → l ≡ file_table file → Gives r l
+    by_rest : load_check file (length t) ≡ rest_check x.size (file_lines file) (length t)
+    unfolding load_check
+    by_rest = rw (known.0, known.1)
+
+    -- the rest of the call
+    pub rest_err : (r : Refusal) (l : List ℕ) → Err r ≡ rest_check x.size (file_lines file) (length t) → l ≡ rest_after x.size (file_lines file) t
+        → Gives (Err r) l
+    rest_err r l h k = let g = refused r (by_rest ∙ sym h) in (g.0, k ∙ rw (sym h) g.1)
+
+    pub rest_ok : (u : Unit {0}) (l : List ℕ) → Ok u ≡ rest_check x.size (file_lines file) (length t) → l ≡ rest_after x.size (file_lines file) t
+        → Gives (Ok x) l
     unfolding load_answer load_after
-    load-done r l e z f =
-        let y = rest-is ∙ z in
-        (e ∙ ap (λ x. answer_of x (fields_of file)) (sym y), f ∙ unless-accepted (load_number file (length t)) t (file_table file) y)
+    rest_ok u l h k =
+        let z : load_check file (length t) ≡ Ok tt = by_rest ∙ sym h in
+        rw z (ap Ok known.1, k ∙ rw (sym h) (ap (λ l. table_in l.size (file_lines file)) known.1))
 
-    -- a table that is taken has the buffer's length
-    pub load-long : rest_number (file_size file) (file_lines file) (length t) ≡ 0 → length t ≡ table_length (file_size file)
-    unfolding rest_number
-    load-long z =
-        let a = else-zero (refuse 20 (not (lines_right (file_size file) (file_lines file)))) _ z in
-        let b = else-zero (refuse 2 (not (eqb (length t) (table_length (file_size file))))) _ a.1 in
-        eqb-true (length t) (table_length (file_size file)) (not-false _ (refuse-zero 1 _ b.0))
+-- the refusals after the size's, one after the other, and what they leave
+module _ (n : ℕ) (cs : List (List ℕ)) (t : List ℕ) where
+  abbrev Leaves : Check → List ℕ → Type 0
+  Leaves answer after = (answer ≡ rest_check n cs (length t)) × (after ≡ rest_after n cs t)
+
+  turned : (r : Refusal) → rest_check n cs (length t) ≡ Err r → Leaves (Err r) t
+  turned r e = rw e (refl, refl)
+
+  pub lines_err : (r : Refusal) → Err r ≡ ensure (lines_right n cs) LineField → Leaves (Err r) t
+  unfolding rest_check
+  lines_err r h = turned r (rw (← h))
+
+  module _ (u : Unit {0}) (right : Ok u ≡ ensure (lines_right n cs) LineField) where
+    pub long_err : (length t ≡ table_length n → ⊥) → Leaves (Err TableLength) t
+    unfolding rest_check
+    long_err h = turned TableLength (rw (← right, ne_eqb (length t) (table_length n) h))
+
+    module _ (own : List ℕ) (long : length t ≡ table_length n) (built : own ≡ table_in n cs) where
+      by_rules : rest_check n cs (length t) ≡ table_check n own
+      unfolding rest_check
+      by_rules = rw (← right, eq-eqb (length t) (table_length n) long, built)
+
+      pub rules_err : (r : Refusal) → Err r ≡ table_check n own → Leaves (Err r) t
+      rules_err r h = turned r (by_rules ∙ sym h)
+
+      pub rules_ok : (v : Unit {0}) → Ok v ≡ table_check n own → Leaves (Ok v) own
+      rules_ok v h = let z : rest_check n cs (length t) ≡ Ok v = by_rules ∙ sym h in rw z (refl, built)

@@ -1,55 +1,36 @@
 -- Laws of the opening and of the order, of specs/Order.
 -- Assumes nothing.
-use Rattle.std.proofs.Common.{◌≡◌, refl, sym, ap, ◌∙◌, Bool, true, false, ◌&&◌, List, [], ◌∷◌}
-use Rattle.std.specs.Prelude.{Option, None, Some, is_none, unwrap_or}
-use Rattle.saved.specs.Fields.{Field, infront}
-use Rattle.saved.specs.Order.{is_opening, nothing_before, behind, follows, in_order, order_number}
+use Rattle.std.proofs.Common.{◌≡◌, sym, ◌∙◌, Bool, true, false, List, [], ◌∷◌, Err}
+use Rattle.lists.specs.declared.refusal.Refusal.TheVariants.{NoOpening, FieldOrder}
+use Rattle.lists.specs.Refusal.{ensure}
+use Rattle.saved.specs.Fields.{Field}
+use Rattle.saved.specs.Order.{is_opening, nothing_before, behind, follows, in_order, order_check}
 use Rattle.saved.specs.declared.order.Before.{Before}
 
--- a field and the rest, where no field runs past the end
-module _ (f : Field) (all rest : Option (List Field)) (split : all ≡ infront f rest) (whole : is_none all ≡ false) where
-  parts : (is_none rest ≡ false) × (unwrap_or all [] ≡ f ∷ unwrap_or rest [])
-  parts = rw split (go rest (ap is_none (sym split) ∙ whole))
-    where
-      go : (rest : Option (List Field)) → is_none (infront f rest) ≡ false
-          → (is_none rest ≡ false) × (unwrap_or (infront f rest) [] ≡ f ∷ unwrap_or rest [])
-      go None e = (e, cc)
-      go (Some fs) e = (refl, refl)
+-- 21: no field, or another first one
+pub order_none : (fs : List Field) → fs ≡ [] → Err NoOpening ≡ order_check fs
+unfolding order_check
+order_none fs e = rw e
 
-  pub none-past : is_none rest ≡ false
-  none-past = parts.0
+pub order_other : (f : Field) (fs all : List Field) (r : Bool) → all ≡ f ∷ fs → r ≡ is_opening f → r ≡ false → Err NoOpening ≡ order_check all
+unfolding order_check
+order_other f fs all r e h n = rw (e, sym h ∙ n)
 
-  -- the order, one field more
-  module _ (b : Before) where
-    order-one : in_order b (unwrap_or all []) ≡ (follows b f && in_order (behind b f) (unwrap_or rest []))
-    unfolding in_order
-    order-one = rw parts.1
+-- 22: what stands before and the fields that are left
+pub order_opened : (f : Field) (fs all : List Field) (r : Bool) → all ≡ f ∷ fs → r ≡ is_opening f → r ≡ true → (b : Bool)
+    → in_order nothing_before fs ≡ b → order_check all ≡ ensure b FieldOrder
+unfolding order_check
+order_opened f fs all r e h y b o = rw (e, sym h ∙ y, o)
 
-    pub order-stops : (r : Bool) → r ≡ follows b f → r ≡ false → false ≡ in_order b (unwrap_or all [])
-    order-stops r e h = sym (order-one ∙ rw (sym e ∙ h))
+pub order_more : (b b' : Before) (f : Field) (fs all : List Field) (r : Bool) → all ≡ f ∷ fs → r ≡ follows b f → r ≡ true → b' ≡ behind b f
+    → in_order b' fs ≡ in_order b all
+unfolding in_order
+order_more b b' f fs all r e h y g = rw (e, sym h ∙ y, g)
 
-    pub order-next : (r : Bool) (b' : Before) → r ≡ follows b f → r ≡ true → b' ≡ behind b f
-        → in_order b' (unwrap_or rest []) ≡ in_order b (unwrap_or all [])
-    order-next r b' e h g = sym (order-one ∙ rw (sym e ∙ h, g))
+pub order_not : (b : Before) (f : Field) (fs all : List Field) (r : Bool) → all ≡ f ∷ fs → r ≡ follows b f → r ≡ false → in_order b all ≡ false
+unfolding in_order
+order_not b f fs all r e h n = rw (e, sym h ∙ n)
 
-  -- 21 and 22, by the first field
-  by_first : order_number (unwrap_or all []) ≡ order_number (f ∷ unwrap_or rest [])
-  by_first = ap order_number parts.1
-
-  pub other-opening : (r : Bool) → r ≡ is_opening f → r ≡ false → 21 ≡ order_number (unwrap_or all [])
-  unfolding order_number
-  other-opening r e h = sym (by_first ∙ rw (sym e ∙ h))
-
-  module _ (r s : Bool) (opened : r ≡ is_opening f) (yes : r ≡ true) (ordered : s ≡ in_order nothing_before (unwrap_or rest [])) where
-    pub out_of_order : s ≡ false → 22 ≡ order_number (unwrap_or all [])
-    unfolding order_number
-    out_of_order h = sym (by_first ∙ rw (sym opened ∙ yes, sym ordered ∙ h))
-
-    pub all-ordered : s ≡ true → 0 ≡ order_number (unwrap_or all [])
-    unfolding order_number
-    all-ordered h = sym (by_first ∙ rw (sym opened ∙ yes, sym ordered ∙ h))
-
--- an empty file
-pub no-opening : (all : Option (List Field)) → all ≡ Some [] → 21 ≡ order_number (unwrap_or all [])
-unfolding order_number
-no-opening all e = sym (ap (λ fs. order_number (unwrap_or fs [])) e)
+pub order_end : (b : Before) (all : List Field) → all ≡ [] → in_order b all ≡ true
+unfolding in_order
+order_end b all e = rw e

@@ -1,85 +1,71 @@
--- Laws of what stands at a place of a file, of specs/Passes.
+-- Laws of reading one field of a file's rest, of specs/Reading.
 -- Assumes nothing.
-use mathlib.Core.Path.{◌≡◌, refl, sym, subst, ◌∙◌}
+use mathlib.Core.Path.{◌≡◌, refl, sym, ◌∙◌}
+use mathlib.Core.Bool.{true, false}
 use mathlib.Core.List.{List, [], ◌∷◌}
-use Rattle.std.specs.Prelude.{Some, None}
+use Rattle.std.specs.Prelude.{Option, Some, None, is_none, unwrap_or, Ok}
+use Rattle.std.specs.List.{IsSplitAt}
 use Prim.Native.Nat.{ℕ, ◌+◌, ◌*◌, ◌-◌, ◌≤◌, ◌<◌}
-use native.Mathlib.Nat.{add-zero}
-use native.Mathlib.Decide.{dec_lt}
 use native.Mathlib.Omega.{arith}
-use borrow.Author.Tests.{le-leb, lt-leb, lt-ltb, le-ltb}
 use lib.ListN.{length, get_or, take, drop, length-drop}
-use lib.Seq.{get_or-drop, drop-drop}
+use lib.Seq.{take_all, drop-drop}
 use Rattle.saved.specs.Bytes.{number_of}
-use Rattle.saved.specs.Fields.{field, infront, length_in, extent, fields}
-use Rattle.saved.specs.Passes.{read_at}
+use Rattle.saved.specs.Fields.{Field, field, infront, length_in, fields, runs_past, fields_of}
+use Rattle.saved.specs.Reading.{field_value, Reads}
+use Rattle.saved.specs.declared.fields.Field.{Field as FieldRead}
 use Rattle.saved.proofs.FieldLaws.{fields-nil, fields-cut, fields-cons}
-use Rattle.saved.specs.declared.fields.Read.{Read}
-use Rattle.saved.specs.declared.fields.Read.TheVariants.{At, Past, End}
 
--- the length that a head says, from its two bytes
-length-said : (file : List ℕ) (at : ℕ) → length_in (drop at file) ≡ get_or file (at + 1) 0 * 256 + get_or file (at + 2) 0
-unfolding number_of
-length-said file at = rw (get_or-drop at file 1 0, get_or-drop at file 2 0) (omega arith)
+pub read_end : (rest : List ℕ) → length rest < 1 → fields rest ≡ Some []
+read_end [] h = fields-nil
+read_end (x ∷ rest) h = absurd (omega arith)
 
-pub at-end : (file : List ℕ) (at : ℕ) → length file ≤ at → End ≡ read_at file at
-unfolding read_at
-at-end file at h = rw (le-leb (length file) at h)
+pub read_cut : (rest : List ℕ) → 1 ≤ length rest → length rest < 3 → fields rest ≡ None
+read_cut rest h l = fields-cut rest h (omega arith)
 
-module _ (file : List ℕ) (at : ℕ) (inside : at < length file) where
-  pub at_head : length file - at < 3 → Past ≡ read_at file at
-  unfolding read_at
-  at_head h = rw (lt-leb (length file) at inside, lt-ltb (length file - at) (extent (drop at file)) (omega arith))
+-- what follows the head of three bytes
+abbrev pub behind_head : List ℕ → List ℕ
+behind_head rest = take (length rest - 3) (drop 3 rest)
 
-  -- len is the length that the head says
-  module _ (len : ℕ) (said : len ≡ get_or file (at + 1) 0 * 256 + get_or file (at + 2) 0) (head : 3 ≤ length file - at) where
-    pub at-past : length file - at - 3 < len → Past ≡ read_at file at
-    unfolding read_at
-    at-past m = rw (lt-leb (length file) at inside, lt-ltb (length file - at) (extent (drop at file)) (omega (arith, length-said file at)))
+-- len is the length that the head says
+module _ (rest : List ℕ) (len : ℕ) (head : 3 ≤ length rest) (said : len ≡ get_or rest 1 0 * 256 + get_or rest 2 0) where
+  says : length_in rest ≡ len
+  unfolding number_of
+  says = omega arith
 
-    pub at_field : len ≤ length file - at - 3 → At (get_or file at 0) (at + 3) len (record { at = at + 3 + len }) ≡ read_at file at
-    unfolding read_at
-    at_field m =
-        let s : at + 3 + len ≡ at + extent (drop at file) = omega (arith, length-said file at) in
-        let w = le-ltb (length file - at) (extent (drop at file)) (omega (arith, length-said file at)) in
-        rw (lt-leb (length file) at inside, w, s, length-said file at, said)
+  whole : behind_head rest ≡ drop 3 rest
+  whole = take_all (length rest - 3) (drop 3 rest) (omega (arith, length-drop 3 rest))
 
--- what reading at a place tells of the fields from there on
-abbrev pub Tells : List ℕ → ℕ → Read → Type 0
-Tells file at End = fields (drop at file) ≡ Some []
-Tells file at Past = fields (drop at file) ≡ None
-Tells file at (At tag start len next) =
-    (fields (drop at file) ≡ infront (field tag (take len (drop start file))) (fields (drop next.at file)))
-    × (at < next.at)
-    × (start + len ≡ next.at)
-    × (next.at ≤ length file)
+  pub read_past : length (behind_head rest) < len → fields rest ≡ None
+  read_past h = fields-cut rest (omega arith) (omega (arith, says, length-drop 3 rest, rw whole at h))
 
-empty : (l : List ℕ) → length l ≤ 0 → l ≡ []
-empty [] h = refl
-empty (x ∷ l) h = absurd (omega arith)
+  pub read_field : (contents left : List ℕ) → IsSplitAt (behind_head rest) len contents left
+      → (fields rest ≡ infront (field (get_or rest 0 0) contents) (fields left)) × (length left < length rest)
+  read_field contents left s =
+      let t = rw whole at s in (
+        fields-cons rest (omega arith) (omega (arith, says, length-drop 3 rest, t.0)) ∙ rw (says, t.1, t.2, drop-drop),
+        omega (arith, length-drop 3 rest, t.4),
+      )
 
-tells : (file : List ℕ) (at : ℕ) → Tells file at (read_at file at)
-unfolding read_at
-tells file at = pick (dec_lt at (length file)) (dec_lt (length file - at) (extent (drop at file)))
-  where
-    rest : List ℕ
-    rest = drop at file
+-- what an answer of the cursor tells of the fields of the rest: a field and those of what is left; none
+module _ (rest left : List ℕ) (o : Option FieldRead) (reads : Reads rest (Ok o) left) where
+  pub tells_more : (f : FieldRead) → o ≡ Some f
+      → (runs_past left ≡ runs_past rest) × (runs_past rest ≡ false → fields_of rest ≡ field_value f ∷ fields_of left)
+  unfolding runs_past fields_of
+  tells_more f e = go (fields rest) (fields left) (rw e at reads).0
+    where
+      go : (all behind : Option (List Field)) → all ≡ infront (field_value f) behind
+          → (is_none behind ≡ is_none all) × (is_none all ≡ false → unwrap_or all [] ≡ field_value f ∷ unwrap_or behind [])
+      go all None h = rw h (refl, λ w. cc)
+      go all (Some fs) h = rw h (refl, λ w. refl)
 
-    long : length rest ≡ length file - at
-    long = length-drop at file
+  pub tells_none : o ≡ None → (runs_past rest ≡ false) × (fields_of rest ≡ [])
+  unfolding runs_past fields_of
+  tells_none e = let h : fields rest ≡ Some [] = rw e at reads in rw h (refl, refl)
 
-    pick : Dec (at < length file) → Dec (length file - at < extent rest) → Tells file at (read_at file at)
-    pick (no h) d = rw (le-leb (length file) at (omega arith), empty rest (omega (arith, long))) fields-nil
-    pick (yes h) (yes l) =
-        rw (lt-leb (length file) at h, lt-ltb (length file - at) (extent rest) l) (fields-cut rest (omega (arith, long)) (omega (arith, long)))
-    pick (yes h) (no l) =
-        rw (lt-leb (length file) at h, le-ltb (length file - at) (extent rest) (omega arith)) (
-          fields-cons rest (omega (arith, long)) (omega (arith, long)) ∙ rw (drop-drop, drop-drop, get_or-drop, add-zero),
-          omega arith,
-          omega arith,
-          omega arith,
-        )
+-- a field or its head that runs past the end
+pub tells_cut : (rest : List ℕ) → fields rest ≡ None → runs_past rest ≡ true
+unfolding runs_past
+tells_cut rest e = rw e
 
--- the same, by the answer of the call
-pub told : (file : List ℕ) (at : ℕ) (r s : Read) → r ≡ read_at file at → r ≡ s → Tells file at s
-told file at r s e f = subst (Tells file at) (sym e ∙ f) (tells file at)
+pub cut_not : (rest : List ℕ) → runs_past rest ≡ false → fields rest ≡ None → ⊥
+cut_not rest w e = let z : true ≡ false = sym (tells_cut rest e) ∙ w in cc

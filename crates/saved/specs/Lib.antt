@@ -5,5 +5,5 @@ pub mod Fields
 pub mod Plant
 pub mod Load
 pub mod Save
-pub mod Passes
+pub mod Reading
 pub mod Order

@@ -1,14 +1,16 @@
 -- Request C-17: the reader, for all files and buffers. "Turned away, in this order": 18, 19, 1, 20, 2, 3, 4.
 -- Assumes nothing.
-use Rattle.std.specs.Prelude.{ℕ, not, List, length, eqb}
-use Rattle.lists.specs.Refusal.{refuse, ◌else◌, unless}
+use Rattle.std.specs.Prelude.{ℕ, not, List, length, eqb, Result, Ok}
+use Rattle.std.specs.Result.{result_unwrap_or}
+use Rattle.lists.specs.declared.refusal.Refusal.{Refusal}
+use Rattle.lists.specs.declared.refusal.Refusal.TheVariants.{SizeOutOfRange, TableLength, FieldPastEnd, SizeOrTallyField, LineField}
+use Rattle.lists.specs.Refusal.{Check, ensure, ◌and◌, number_of_result, unless_refused}
 use Rattle.table.specs.Sizes.{is_size}
 use Rattle.table.specs.Table.{table_length}
-use Rattle.table.specs.Rules.{table_number}
+use Rattle.table.specs.Rules.{table_check}
 use Rattle.saved.specs.Fields.{Field, runs_past, fields_of, tagged}
 use Rattle.saved.specs.Plant.{size_in, rounds_in, tests_in, size_and_tally, line_tag, lines_right, table_in}
 use Rattle.saved.specs.declared.Loaded.{Loaded}
-use Rattle.saved.specs.declared.SavedSize.{SavedSize}
 
 -- what a file says: size, the contents with tag 3, and the table
 abbrev pub file_size : List ℕ → ℕ
@@ -21,34 +23,56 @@ abbrev pub file_table : List ℕ → List ℕ
 file_table file = table_in (file_size file) (file_lines file)
 
 -- the size's own refusals: 18, 19, 1
-unfoldable pub size_number : List ℕ → ℕ
-size_number file = refuse 18 (runs_past file) else refuse 19 (not (size_and_tally (fields_of file))) else refuse 1 (not (is_size (file_size file)))
+unfoldable pub size_check : List ℕ → Check
+size_check file =
+    ensure (not (runs_past file)) FieldPastEnd and ensure (size_and_tally (fields_of file)) SizeOrTallyField
+    and ensure (is_size (file_size file)) SizeOutOfRange
 
 -- of a file of that size with those contents of tag 3, for a table buffer of length len: 20, 2, 3, 4. The file's own table has that size and the
--- right length, so that of table_number's refusals only 3 and 4 are left
-unfoldable pub rest_number : ℕ → List (List ℕ) → ℕ → ℕ
-rest_number n cs len =
-    refuse 20 (not (lines_right n cs)) else refuse 2 (not (eqb len (table_length n))) else table_number n (table_in n cs)
+-- right length, so that of table_check's refusals only 3 and 4 are left
+unfoldable pub rest_check : ℕ → List (List ℕ) → ℕ → Check
+rest_check n cs len =
+    ensure (lines_right n cs) LineField and ensure (eqb len (table_length n)) TableLength and table_check n (table_in n cs)
 
 -- all of the reader's
-unfoldable pub load_number : List ℕ → ℕ → ℕ
-load_number file len = size_number file else rest_number (file_size file) (file_lines file) len
+unfoldable pub load_check : List ℕ → ℕ → Check
+load_check file len = size_check file and rest_check (file_size file) (file_lines file) len
 
--- the size of a saved plant: its number, and the size, 0 where it is refused
-unfoldable pub saved_size : List ℕ → SavedSize
-saved_size file = record { number = size_number file; size = unless (size_number file) 0 (file_size file) }
+-- their numbers
+abbrev pub size_number : List ℕ → ℕ
+size_number file = number_of_result (size_check file)
 
--- what the reader answers: "a refusal [..] gives its number, with 0 for every other figure of the answer" (document 01)
-abbrev pub refused_by : ℕ → Loaded
-refused_by number = record { number = number; size = 0; tally = record { rounds = 0; tests = 0 } }
+abbrev pub rest_number : ℕ → List (List ℕ) → ℕ → ℕ
+rest_number n cs len = number_of_result (rest_check n cs len)
 
-unfoldable pub answer_of : ℕ → List Field → Loaded
-answer_of number fs =
-    unless number (refused_by number) (record { number = 0; size = size_in fs; tally = record { rounds = rounds_in fs; tests = tests_in fs } })
+abbrev pub load_number : List ℕ → ℕ → ℕ
+load_number file len = number_of_result (load_check file len)
 
-unfoldable pub load_answer : List ℕ → ℕ → Loaded
-load_answer file len = answer_of (load_number file len) (fields_of file)
+-- the size of a saved plant
+unfoldable pub saved_size : List ℕ → Result ℕ Refusal
+saved_size file = size_check file and Ok (file_size file)
 
--- the table after the call, given t
+-- what the reader answers: size and tally
+abbrev pub loaded_of : List Field → Loaded
+loaded_of fs = record { size = size_in fs; tally = record { rounds = rounds_in fs; tests = tests_in fs } }
+
+unfoldable pub load_answer : List ℕ → ℕ → Result Loaded Refusal
+load_answer file len = load_check file len and Ok (loaded_of (fields_of file))
+
+-- the same before the lines are read
+unfoldable pub opened : List ℕ → Result Loaded Refusal
+opened file = size_check file and Ok (loaded_of (fields_of file))
+
+-- "a refusal [..] gives its number, with 0 for every other figure of the answer" (document 01)
+abbrev pub size_figure : Result ℕ Refusal → ℕ
+size_figure answer = result_unwrap_or answer 0
+
+abbrev pub loaded_figures : Result Loaded Refusal → Loaded
+loaded_figures answer = result_unwrap_or answer (record { size = 0; tally = record { rounds = 0; tests = 0 } })
+
+-- the table after the call, given t; and after the part of it that follows the size's refusals
 unfoldable pub load_after : List ℕ → List ℕ → List ℕ
-load_after file t = unless (load_number file (length t)) t (file_table file)
+load_after file t = unless_refused (load_check file (length t)) t (file_table file)
+
+abbrev pub rest_after : ℕ → List (List ℕ) → List ℕ → List ℕ
+rest_after n cs t = unless_refused (rest_check n cs (length t)) t (table_in n cs)

@@ -1,19 +1,7 @@
-// Bytes: a number in bytes, high byte first, and a list written into another from a place on.
+// Bytes: a number of four bytes, and a list, written into another list from a place on.
 ghost use Rattle.std.specs.Prelude.{◌≡◌, ◌+◌, ◌≤◌, length};
 ghost use Rattle.std.proofs.lemmas.List.Edits.{sets};
-ghost use Rattle.saved.specs.Bytes.{number_of, bytes_of};
-
-// The number that at most four bytes hold, high byte first.
-pub(crate) fn number_of(bytes: &[u8]) -> u32
-    requires { length bytes.now ≤ 4 }
-    ensures { result ≡ number_of bytes.now }
-{
-    let mut v: u32 = 0;
-    for byte in bytes {
-        v = v * 256 + *byte as u32;
-    }
-    v
-}
+ghost use Rattle.saved.specs.Bytes.{bytes_of};
 
 // Writes a number into four bytes of the list, high byte first.
 pub(crate) fn put_word(list: &mut [u8], at: usize, v: u32)

@@ -1,56 +1,40 @@
-// Tagged fields: a one-byte tag, a two-byte length (high byte first), then the contents. A cursor by value reads them one after the other.
-ghost use Rattle.std.specs.Prelude.{◌≡◌};
-ghost use Rattle.saved.specs.Passes.{read_at};
+// Tagged fields: a one-byte tag, a two-byte length (high byte first), then the contents. A cursor reads them one after the other.
+ghost use Rattle.saved.specs.Reading.{Reads};
 
-// A place in a file.
+use lists::refusal::Refusal;
+
+// A field of a file.
 #[derive(Clone, Copy)]
-pub struct Cursor {
-    pub at: usize,
+pub struct Field<'a> {
+    pub tag: u8,
+    pub contents: &'a [u8],
 }
 
-// What stands at a cursor.
+// The fields of a file that are still to be read.
 #[derive(Clone, Copy)]
-pub enum Read {
-    // A field: its tag, where its contents begin and how many bytes they have, and the place behind it.
-    At {
-        tag: u8,
-        start: usize,
-        len: usize,
-        next: Cursor,
-    },
-    // A field or its head that runs past the end.
-    Past,
-    // Nothing is left.
-    End,
+pub struct Fields<'a> {
+    pub rest: &'a [u8],
 }
 
-impl Cursor {
-    pub fn new() -> Self
-        ensures { result.at ≡ 0 }
+impl<'a> Fields<'a> {
+    // The next field, or none at the end. Refusal 18: it or its head runs past the end.
+    pub fn next(&mut self) -> Result<Option<Field<'a>>, Refusal>
+        ensures { Reads self.old.rest.now result self.new.rest.now }
     {
-        Cursor { at: 0 }
-    }
-
-    pub fn read(self, file: &[u8]) -> Read
-        ensures { result ≡ read_at file.now self.at }
-    {
-        let at = self.at;
-        if file.len() <= at {
-            return Read::End;
-        }
-        let left = file.len() - at;
-        if left < 3 {
-            return Read::Past;
-        }
-        let len = u16::from_be_bytes([file[at + 1], file[at + 2]]) as usize;
-        if left - 3 < len {
-            return Read::Past;
-        }
-        Read::At {
-            tag: file[at],
-            start: at + 3,
-            len,
-            next: Cursor { at: at + 3 + len },
+        match self.rest {
+            [] => Ok(None),
+            [tag, high, low, behind @ ..] => {
+                let len = u16::from_be_bytes([*high, *low]) as usize;
+                let Some((contents, rest)) = behind.split_at_checked(len) else {
+                    return Err(Refusal::FieldPastEnd);
+                };
+                self.rest = rest;
+                Ok(Some(Field {
+                    tag: *tag,
+                    contents,
+                }))
+            }
+            _ => Err(Refusal::FieldPastEnd),
         }
     }
 }

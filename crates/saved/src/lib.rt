@@ -13,19 +13,11 @@ pub mod save;
 
 use plant::Tally;
 
-// What the reader answers: 0 or the refusal, the size and the tally; these are 0 where it is refused.
+// What the reader reads of a saved plant besides its table.
 #[derive(Clone, Copy)]
 pub struct Loaded {
-    pub number: u8,
     pub size: u8,
     pub tally: Tally,
-}
-
-// The size of a saved plant: 0 or the refusal, and the size, 0 where it is refused.
-#[derive(Clone, Copy)]
-pub struct SavedSize {
-    pub number: u8,
-    pub size: u8,
 }
 
 // The tags of the fields.

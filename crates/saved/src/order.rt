@@ -2,13 +2,15 @@
 //
 // Request C-19, in preparation: no call uses this module yet. The reader and the writer are those of C-17, which know no opening and take the
 // fields in any order.
-ghost use Rattle.std.specs.Prelude.{◌≡◌, false, [], drop, is_none, unwrap_or};
-ghost use Rattle.saved.specs.Fields.{field, fields, runs_past, fields_of};
+ghost use Rattle.std.specs.Prelude.{◌≡◌, false};
+ghost use Rattle.saved.specs.Fields.{runs_past, fields_of};
 ghost use Rattle.saved.specs.Plant.{station_in};
-ghost use Rattle.saved.specs.Order.{is_known, is_opening, nothing_before, behind, follows, in_order, order_number};
+ghost use Rattle.saved.specs.Reading.{field_value};
+ghost use Rattle.saved.specs.Order.{is_known, is_opening, behind, follows, order_check};
 
-use crate::fields::{Cursor, Read};
+use crate::fields::{Field, Fields};
 use crate::{EDITION, LINE, OPENING, SIZE, TALLY};
+use lists::refusal::Refusal;
 
 // What a field is held against: the tag of the one before and the station of the previous line, 0 where there is none.
 #[derive(Clone, Copy)]
@@ -28,99 +30,59 @@ fn is_known(tag: u8) -> bool
 fn station_of(contents: &[u8]) -> u8
     ensures { result ≡ station_in contents.now }
 {
-    if contents.len() == 0 {
-        return 0;
-    }
-    contents[0]
+    contents.first().copied().unwrap_or(0)
 }
 
-// Whether a field is in order and its tag known.
-fn follows_it(before: Before, tag: u8, contents: &[u8]) -> bool
-    ensures { result ≡ follows before (field tag contents.now) }
-{
-    let station = station_of(contents);
-    is_known(tag) & ((before.tag <= tag) & ((tag != LINE) | (before.station <= station)))
-}
-
-// What the next field is held against.
-fn behind_it(before: Before, tag: u8, contents: &[u8]) -> Before
-    ensures { result ≡ behind before (field tag contents.now) }
-{
-    if tag == LINE {
-        return Before {
-            tag,
-            station: station_of(contents),
-        };
+impl Before {
+    // Whether a field is in order and its tag known.
+    fn allows(self, field: Field) -> bool
+        ensures { result ≡ follows self (field_value field.entry) }
+    {
+        is_known(field.tag)
+            & (self.tag <= field.tag)
+            & ((field.tag != LINE) | (self.station <= station_of(field.contents)))
     }
-    Before {
-        tag,
-        station: before.station,
-    }
-}
 
-// Whether all fields from a place on are in order and their tags known.
-fn in_order(file: &[u8], from: Cursor) -> bool
-    requires { is_none (fields (drop from.at file.now)) ≡ false }
-    ensures { result ≡ in_order nothing_before (unwrap_or (fields (drop from.at file.now)) []) }
-{
-    let mut before = Before { tag: 0, station: 0 };
-    let mut cursor = from;
-    loop {
-        match cursor.read(file) {
-            Read::At {
-                tag,
-                start,
-                len,
-                next,
-            } => {
-                let contents = &file[start..start + len];
-                if !follows_it(before, tag, contents) {
-                    return false;
-                }
-                before = behind_it(before, tag, contents);
-                cursor = next;
-            }
-            Read::Past => {
-                return false;
-            }
-            Read::End => {
-                return true;
-            }
+    // What the next field is held against.
+    fn behind(self, field: Field) -> Before
+        ensures { result ≡ behind self (field_value field.entry) }
+    {
+        Before {
+            tag: field.tag,
+            station: if field.tag == LINE {
+                station_of(field.contents)
+            } else {
+                self.station
+            },
         }
     }
 }
 
 // Whether a field is the opening.
-fn is_opening(tag: u8, contents: &[u8]) -> bool
-    ensures { result ≡ is_opening (field tag contents.now) }
+fn is_opening(field: Field) -> bool
+    ensures { result ≡ is_opening (field_value field.entry) }
 {
-    if contents.len() != 1 {
-        return false;
-    }
-    (tag == OPENING) & (contents[0] == EDITION)
+    field.tag == OPENING && matches!(field.contents, [EDITION])
 }
 
 // Refusals 21 and 22 of a file in which no field runs past the end.
-pub fn order_number(file: &[u8]) -> u8
+pub fn check_order(file: &[u8]) -> Result<(), Refusal>
     requires { runs_past file.now ≡ false }
-    ensures { result ≡ order_number (fields_of file.now) }
+    ensures { result ≡ order_check (fields_of file.now) }
 {
-    match Cursor::new().read(file) {
-        Read::At {
-            tag,
-            start,
-            len,
-            next,
-        } => {
-            if !is_opening(tag, &file[start..start + len]) {
-                return 21;
-            }
-            if !in_order(file, next) {
-                return 22;
-            }
-            0
-        }
-        Read::Past => 21,
-        Read::End => 21,
+    let mut fields = Fields { rest: file };
+    let Some(opening) = fields.next()? else {
+        return Err(Refusal::NoOpening);
+    };
+    if !is_opening(opening) {
+        return Err(Refusal::NoOpening);
     }
+    let mut before = Before { tag: 0, station: 0 };
+    while let Some(field) = fields.next()? {
+        if !before.allows(field) {
+            return Err(Refusal::FieldOrder);
+        }
+        before = before.behind(field);
+    }
+    Ok(())
 }

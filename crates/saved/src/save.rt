@@ -48,7 +48,9 @@ fn write_opening(n: u8, tally: Tally, buffer: &mut [u8])
 
 // The line fields behind them, ascending.
 fn write_lines(n: u8, table: &[u8], buffer: &mut [u8])
-    requires { (is_size n ≡ true) × (length table.now ≡ table_length n) × (length buffer.old ≡ 15 + n * (stride n + 4)) }
+    requires size { is_size n ≡ true }
+    requires table_long { length table.now ≡ table_length n }
+    requires buffer_long { length buffer.old ≡ 15 + n * (stride n + 4) }
     ensures { buffer.new ≡ sets buffer.old 15 (saved_lines n table.now n) }
 {
     for i in 0..n {
@@ -58,7 +60,9 @@ fn write_lines(n: u8, table: &[u8], buffer: &mut [u8])
 
 // The field of line i.
 fn write_line(n: u8, table: &[u8], i: Station, buffer: &mut [u8])
-    requires { (is_size n ≡ true) × HasLine n table.now i.0 × (length buffer.old ≡ 15 + n * (stride n + 4)) }
+    requires size { is_size n ≡ true }
+    requires line { HasLine n table.now i.0 }
+    requires buffer_long { length buffer.old ≡ 15 + n * (stride n + 4) }
     ensures { buffer.new ≡ sets buffer.old (15 + i.0 * (stride n + 4))
         (field_bytes (line_field n table.now i.0)) }
 {

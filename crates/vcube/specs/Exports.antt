@@ -1,7 +1,7 @@
 -- The calls of document 01 and of requests C-12, C-15 and C-17 as C has them (include/vcube.h), where they differ from those of `station`,
--- `plant`, `granter`, `saved` and `figures`, for all inputs: the outcome of a run, a drive or a load, and the size of a saved plant, are given by
--- the number and what the call leaves in the variables and buffers lent to it, a tally is handed in by its parts, and figures and totals are the
--- members of a struct in their order.
+-- `plant`, `granter`, `saved` and `figures`, for all inputs: the outcome of a run or a drive is given by the number and what the call leaves in the
+-- variables and buffers lent to it, what a load reads by what it leaves in the variables, a tally is handed in by its parts, and figures and totals
+-- are the members of a struct in their order.
 -- A station, level or last number may be any; the definitions of `station` and `granter` refuse it as they refuse any that is too high.
 -- Assumes nothing.
 use Rattle.std.specs.Prelude.{ℕ, List, [], ◌∷◌, get_or, Result}
@@ -13,7 +13,6 @@ use Rattle.plant.specs.Entry.{state_of}
 use Rattle.plant.specs.Run.{Outcome}
 use Rattle.granter.specs.Drive.{DriveOutcome, drive_outcome}
 use Rattle.saved.specs.declared.Loaded.{Loaded}
-use Rattle.saved.specs.declared.SavedSize.{SavedSize}
 use Rattle.figures.specs.declared.Figures.{Figures}
 use Rattle.figures.specs.declared.Totals.{Totals}
 
@@ -29,13 +28,9 @@ drive_out number t rounds tests last grants = drive_outcome number (state_of t r
 abbrev pub tally_of : ℕ → ℕ → Tally
 tally_of rounds tests = record { rounds = rounds; tests = tests }
 
--- Load: the answer by its parts: the number, the size, rounds and tests
-abbrev pub loaded_out : ℕ → ℕ → ℕ → ℕ → Loaded
-loaded_out number n rounds tests = record { number = number; size = n; tally = tally_of rounds tests }
-
--- the size of a saved plant: the number and the size
-abbrev pub size_out : ℕ → ℕ → SavedSize
-size_out number n = record { number = number; size = n }
+-- Load: what is read by its parts: the size, rounds and tests
+abbrev pub loaded_out : ℕ → ℕ → ℕ → Loaded
+loaded_out n rounds tests = record { size = n; tally = tally_of rounds tests }
 
 -- C-12: what a call answers: its number, and the members of the struct that it fills, in their order
 pub record Filled : Type 0 where

@@ -12,18 +12,18 @@ ghost use Rattle.plant.specs.Entry.{state_of};
 ghost use Rattle.plant.specs.Run.{run};
 ghost use Rattle.granter.specs.Grant.{grant_number, grant_station};
 ghost use Rattle.granter.specs.Drive.{drive, StoppedIfTaken};
-ghost use Rattle.saved.specs.Load.{saved_size, load_answer, load_after};
+ghost use Rattle.saved.specs.Load.{size_number, saved_size, size_figure, load_number, load_answer, loaded_figures, load_after};
 ghost use Rattle.saved.specs.Save.{save_number, save_after};
 ghost use Rattle.figures.specs.Batch.{figures};
 ghost use Rattle.figures.specs.Totals.{totals, join, figures_of_totals};
-ghost use Rattle.vcube.specs.Exports.{outcome_out, drive_out, tally_of, loaded_out, size_out, filled, figures_members, totals_members, totals_with, figures_out, totals_out};
+ghost use Rattle.vcube.specs.Exports.{outcome_out, drive_out, tally_of, loaded_out, filled, figures_members, totals_members, totals_with, figures_out, totals_out};
 
 use figures::{Figures, Totals, adding, batch};
 use granter::{drive, grant};
 use lists::refusal;
 use lists::refusal::Refusal;
 use plant::{Tally, run};
-use saved::{load, save};
+use saved::{Loaded, load, save};
 use station::{due, groups, rows};
 use table::{Level, Station, cells, fresh};
 
@@ -181,7 +181,17 @@ pub extern "C" fn vcube_save(
     refusal::number_of(save::save(n, table, Tally { rounds, tests }, buffer))
 }
 
+// What a refused load leaves.
+const NOTHING_LOADED: Loaded = Loaded {
+    size: 0,
+    tally: Tally {
+        rounds: 0,
+        tests: 0,
+    },
+};
+
 // Load: a saved plant's table, into a buffer of just its length; its size and tally into n, rounds and tests, 0 where it is refused.
+#[tactic(auto, using(saved::proofs::Loading::load_numbered))]
 #[unsafe(no_mangle)]
 pub extern "C" fn vcube_load(
     file: &[u8],
@@ -190,26 +200,34 @@ pub extern "C" fn vcube_load(
     rounds: &mut u32,
     tests: &mut u32,
 ) -> u8
-    ensures tests_after { loaded_out result n.new rounds.new tests.new
-        ≡ load_answer file.now (length table.old) }
+    ensures value { result ≡ load_number file.now (length table.old) }
+    ensures loaded_after { loaded_out n.new rounds.new tests.new
+        ≡ loaded_figures (load_answer file.now (length table.old)) }
     ensures table_after { table.new ≡ load_after file.now table.old }
 {
-    let loaded = load::load(file, table);
-    let tally = loaded.tally;
+    let (number, loaded) = match load::load(file, table) {
+        Ok(loaded) => (0, loaded),
+        Err(refusal) => (refusal.number(), NOTHING_LOADED),
+    };
     *n = loaded.size as usize;
-    *rounds = tally.rounds;
-    *tests = tally.tests;
-    loaded.number
+    *rounds = loaded.tally.rounds;
+    *tests = loaded.tally.tests;
+    number
 }
 
 // The size of a saved plant into n, 0 where it is refused.
+#[tactic(auto, using(saved::proofs::Loading::size_numbered))]
 #[unsafe(no_mangle)]
 pub extern "C" fn vcube_saved_size(file: &[u8], n: &mut usize) -> u8
-    ensures { size_out result n.new ≡ saved_size file.now }
+    ensures value { result ≡ size_number file.now }
+    ensures n_after { n.new ≡ size_figure (saved_size file.now) }
 {
-    let asked = load::saved_size(file);
-    *n = asked.size as usize;
-    asked.number
+    let (number, size) = match load::saved_size(file) {
+        Ok(size) => (0, size),
+        Err(refusal) => (refusal.number(), 0),
+    };
+    *n = size as usize;
+    number
 }
 
 // Figures of one list: count, least, greatest, the upper and lower part of the mean and those of the variance, all 0 where it is refused.

@@ -1,38 +1,83 @@
--- All went well and every station was seen.
-use Rattle.std.proofs.Common.{ℕ, ◌∙◌, length-take, replicate, arith}
+-- Each line is taken, or the lines are not right; in the end every station was seen, or they are not.
+use Rattle.std.proofs.Common.{◌≡◌, ◌≤◌, Bool, false, length, arith, refl, sym, ◌∙◌}
 use Rattle.std.proofs.Math.ListN.{get_or-replicate}
+use Rattle.std.proofs.lemmas.List.{length-replicate}
+use lib.Seq.{length-take-le}
+use Rattle.std.proofs.lemmas.Result.{err_from_is_err_and}
+use Rattle.lists.proofs.RefusalLaws.{ensure_ok}
+use Rattle.table.specs.Table.{table_length}
 use Rattle.table.proofs.SizeLaws.{size-bounds}
-use Rattle.saved.specs.Fields.{fields_of}
-use Rattle.saved.proofs.Gathering.{ends-not, ends-well, all-marked}
+use Rattle.saved.proofs.Reading.{tells_more, tells_none, cut_not}
+use Rattle.saved.proofs.SecondPass.{passed_none, passed_end, passed_line, passed_other, passed_not, line_err, passed_more, passed_all, passed_table}
 use Rattle.saved.proofs.lines.build_table.Goals as goal
 
-pub returns-then-not-take_fields-clause-value : goal.returns-then-not-take_fields-clause-value
-returns-then-not-take_fields-clause-value c =
-    ends-not c.args.n (fields_of c.args.file.now) c.args.table.now (replicate 64 0) (size-bounds _ c.requires.0).1
-    (λ i h. get_or-replicate {A = ℕ} 64 i 0 0 (omega (arith, size-bounds _ c.requires.0))) _ _ _ c.take_fields.ensures c.if-not-take_fields.true
+pub loop-field-init : goal.loop-field-init
+loop-field-init c =
+    let b = size-bounds _ c.requires.size in
+    record {
+      whole = c.requires.whole;
+      wide = length-replicate 64 false;
+      passed = passed_none _ _ _ _ (λ i h. get_or-replicate {A = Bool} 64 i false false (omega arith));
+    }
+
+pub returns-in_err-field-clause-value : goal.returns-in_err-field-clause-value
+returns-in_err-field-clause-value c = absurd (cut_not _ c.loop-field.invariant.whole c.in_err-field.ensures.0)
+
+pub loop-field-preserved-then-field-ne-LINE : goal.loop-field-preserved-then-field-ne-LINE
+loop-field-preserved-then-field-ne-LINE c =
+    let i = c.loop-field.invariant in
+    let t = tells_more _ _ _ c.in_ok-field.ensures _ c.in-Some.is in
+    record { whole = t.0 ∙ i.whole; wide = i.wide; passed = passed_other _ _ _ _ _ _ _ (t.1 i.whole) c.if-field-ne-LINE.true i.passed }
+
+pub returns-in_err-take_line-clause-value : goal.returns-in_err-take_line-clause-value
+returns-in_err-take_line-clause-value c =
+    let q = err_from_is_err_and c.from_residual-in_err-take_line.result c.from_residual-in_err-take_line.ensures.1 in
+    let i = c.loop-field.invariant in
+    let t = tells_more _ _ _ c.in_ok-field.ensures _ c.in-Some.is in
+    let p = passed_line _ _ _ _ _ _ _ (t.1 i.whole) c.if-field-ne-LINE.false i.passed in
+    let e = line_err _ _ _ c.in_err-take_line.ensures.value in
+    rw (q.1, q.2, e.1, passed_not _ _ _ _ _ _ p e.0)
+
+pub loop-field-preserved : goal.loop-field-preserved
+loop-field-preserved c =
+    let i = c.loop-field.invariant in
+    let wide : c.args.n ≤ length c.loop-field.seen = omega (arith, i.wide, size-bounds _ c.requires.size) in
+    let long : length c.loop-field.table ≡ table_length c.args.n = omega arith in
+    let t = tells_more _ _ _ c.in_ok-field.ensures _ c.in-Some.is in
+    let p = passed_line _ _ _ _ _ _ _ (t.1 i.whole) c.if-field-ne-LINE.false i.passed in
+    let e = ensure_ok _ _ _ (sym c.in_ok-take_line.ensures.value) in
+    record {
+      whole = t.0 ∙ i.whole;
+      wide = c.type_inv.seen;
+      passed = rw (c.in_ok-take_line.ensures.table_after refl, c.in_ok-take_line.ensures.seen_after refl) (passed_more _ _ _ _ _ _ p e wide long);
+    }
+
+pub slice_bounds-all_seen-end : goal.slice_bounds-all_seen-end
+slice_bounds-all_seen-end c = sym (length-take-le c.args.n c.loop-field.seen (omega (arith, c.loop-field.invariant.wide, size-bounds _ c.requires.size)))
 
 pub slice_bounds-seen-end : goal.slice_bounds-seen-end
-slice_bounds-seen-end c = omega (arith, size-bounds _ c.requires.0)
+slice_bounds-seen-end c = omega (arith, c.loop-field.invariant.wide, size-bounds _ c.requires.size)
 
-pub slice_bounds-same_bytes-end : goal.slice_bounds-same_bytes-end
-slice_bounds-same_bytes-end c = simp length-take (omega (arith, size-bounds _ c.requires.0))
+pub returns-then-all_seen-clause-value : goal.returns-then-all_seen-clause-value
+returns-then-all_seen-clause-value c =
+    let i = c.loop-field.invariant in
+    let t = tells_none _ _ _ c.in_ok-field.ensures c.in_default.is in
+    let p = passed_end _ _ _ _ _ t.1 i.passed in
+    let wide : c.args.n ≤ length c.loop-field.seen = omega (arith, i.wide, size-bounds _ c.requires.size) in
+    rw (← passed_all _ _ _ _ _ p c.if-all_seen.ensures wide)
 
-pub slice_bounds-all-end : goal.slice_bounds-all-end
-slice_bounds-all-end c = omega (arith, size-bounds _ c.requires.0)
+pub returns-then-all_seen-clause-table_after : goal.returns-then-all_seen-clause-table_after
+returns-then-all_seen-clause-table_after c = λ e.
+    let i = c.loop-field.invariant in
+    let t = tells_none _ _ _ c.in_ok-field.ensures c.in_default.is in
+    let p = passed_end _ _ _ _ _ t.1 i.passed in
+    let wide : c.args.n ≤ length c.loop-field.seen = omega (arith, i.wide, size-bounds _ c.requires.size) in
+    passed_table _ _ _ _ p (omega arith) (sym (passed_all _ _ _ _ _ p c.if-all_seen.ensures wide))
 
-pub slice_bounds-same_bytes-end-2 : goal.slice_bounds-same_bytes-end-2
-slice_bounds-same_bytes-end-2 c = simp length-take (omega (arith, size-bounds _ c.requires.0))
-
-pub returns-clause-value : goal.returns-clause-value
-returns-clause-value c =
-    let s = size-bounds _ c.requires.0 in
-    (ends-well c.args.n (fields_of c.args.file.now) c.args.table.now (replicate 64 0) s.1
-    (λ i h. get_or-replicate {A = ℕ} 64 i 0 0 (omega arith)) _ _ _ c.take_fields.ensures _ c.if-not-take_fields.false
-    (c.same_bytes.ensures ∙ all-marked c.args.n _ (omega arith) s.1) c.requires.1).0
-
-pub returns-clause-table_after : goal.returns-clause-table_after
-returns-clause-table_after c =
-    let s = size-bounds _ c.requires.0 in
-    (ends-well c.args.n (fields_of c.args.file.now) c.args.table.now (replicate 64 0) s.1
-    (λ i h. get_or-replicate {A = ℕ} 64 i 0 0 (omega arith)) _ _ _ c.take_fields.ensures _ c.if-not-take_fields.false
-    (c.same_bytes.ensures ∙ all-marked c.args.n _ (omega arith) s.1) c.requires.1).1
+pub returns-else-all_seen-clause-value : goal.returns-else-all_seen-clause-value
+returns-else-all_seen-clause-value c =
+    let i = c.loop-field.invariant in
+    let t = tells_none _ _ _ c.in_ok-field.ensures c.in_default.is in
+    let p = passed_end _ _ _ _ _ t.1 i.passed in
+    let wide : c.args.n ≤ length c.loop-field.seen = omega (arith, i.wide, size-bounds _ c.requires.size) in
+    rw (← passed_all _ _ _ _ _ p c.if-all_seen.ensures wide)

@@ -1,20 +1,28 @@
--- A file whose size is refused is refused; else the rest is load_opened's.
-use Rattle.std.proofs.Common.{refl, sym, ap, ◌∙◌}
-use Rattle.saved.specs.Fields.{fields_of}
-use Rattle.saved.specs.Load.{size_number, answer_of}
-use Rattle.saved.proofs.Loading.{answer-number, load-refused}
+-- A file whose size is refused is refused; else the rest is read_table's.
+use Rattle.std.proofs.lemmas.Result.{err_from_is_err_and}
+use Rattle.saved.proofs.Loading.{load_err, opened_right, rest_err, rest_ok}
 use Rattle.saved.proofs.load.load.Goals as goal
 
-pub returns-then-opened-ne0-clause-value : goal.returns-then-opened-ne0-clause-value
-returns-then-opened-ne0-clause-value c = (load-refused c.args.file.now c.args.table.now _ c.open-opened.ensures c.if-opened-ne0.true).0
+pub returns-in_err-opened-clause-value : goal.returns-in_err-opened-clause-value
+returns-in_err-opened-clause-value c =
+    let p = err_from_is_err_and c.from_residual.result c.from_residual.ensures.1 in rw (p.1, p.2) (load_err _ _ _ c.in_err-opened.ensures).0
 
-pub returns-then-opened-ne0-clause-table_after : goal.returns-then-opened-ne0-clause-table_after
-returns-then-opened-ne0-clause-table_after c =
-    (load-refused c.args.file.now c.args.table.now _ c.open-opened.ensures c.if-opened-ne0.true).1
+pub returns-in_err-opened-clause-table_after : goal.returns-in_err-opened-clause-table_after
+returns-in_err-opened-clause-table_after c = (load_err _ _ _ c.in_err-opened.ensures).1
 
-pub load_opened-requires : goal.load_opened-requires
-load_opened-requires c =
-    let file = c.args.file.now in
-    let e = c.open-opened.ensures in
-    let z = sym (ap (λ x. x.number) e ∙ answer-number (size_number file) (fields_of file)) ∙ c.if-opened-ne0.false in
-    (e ∙ ap (λ x. answer_of x (fields_of file)) z, z, refl)
+pub read_table-requires-clause-size : goal.read_table-requires-clause-size
+read_table-requires-clause-size c = (opened_right c.args.file.now c.args.table.now _ c.in_ok-opened.ensures).1
+
+pub read_table-requires-clause-whole : goal.read_table-requires-clause-whole
+read_table-requires-clause-whole c = (opened_right c.args.file.now c.args.table.now _ c.in_ok-opened.ensures).0
+
+pub returns-in_err-read_table : goal.returns-in_err-read_table
+returns-in_err-read_table c =
+    let p = err_from_is_err_and c.from_residual-in_err-read_table.result c.from_residual-in_err-read_table.ensures.1 in
+    let g = rest_err _ c.args.table.now _ c.in_ok-opened.ensures _ _ c.in_err-read_table.ensures.value c.in_err-read_table.ensures.table_after in
+    record { value = rw (p.1, p.2) g.0; table_after = g.1 }
+
+pub returns : goal.returns
+returns c =
+    let g = rest_ok _ c.args.table.now _ c.in_ok-opened.ensures _ _ c.in_ok-read_table.ensures.value c.in_ok-read_table.ensures.table_after in
+    record { value = g.0; table_after = g.1 }

@@ -1,6 +1,11 @@
--- The opening's number and size.
-use Rattle.saved.proofs.Loading.{size-answer}
+-- The opening's refusal or size.
+use Rattle.std.proofs.lemmas.Result.{err_from_is_err_and}
+use Rattle.saved.proofs.Loading.{size_err, size_ok}
 use Rattle.saved.proofs.load.saved_size.Goals as goal
 
+pub returns-in_err-opened : goal.returns-in_err-opened
+returns-in_err-opened c =
+    let p = err_from_is_err_and c.from_residual.result c.from_residual.ensures.1 in rw (p.1, p.2) (size_err _ _ c.in_err-opened.ensures)
+
 pub returns : goal.returns
-returns c = size-answer _ _ c.open-opened.ensures
+returns c = size_ok _ _ c.in_ok-opened.ensures

@@ -5,9 +5,9 @@ use Rattle.saved.proofs.LineFields.{line-written}
 use Rattle.saved.proofs.save.write_line.Goals as goal
 
 pub slice_bounds-put_list-end : goal.slice_bounds-put_list-end
-slice_bounds-put_list-end c = omega (arith, line-inside _ _ c.requires.1.1, c.line_start-start.ensures.value)
+slice_bounds-put_list-end c = omega (arith, line-inside _ _ c.requires.line.1, c.line_start-start.ensures.value)
 
 pub returns : goal.returns
 returns c =
     rw (c.put_list.ensures, c.put_head.ensures)
-    (line-written _ _ _ _ _ _ c.requires.1.0 c.requires.1.1 c.line_start-start.ensures.value)
+    (line-written _ _ _ _ _ _ c.requires.line.0 c.requires.line.1 c.line_start-start.ensures.value)

@@ -6,4 +6,4 @@ pub loop-i-init : goal.loop-i-init
 loop-i-init c = lines_start _ _ _
 
 pub loop-i-preserved : goal.loop-i-preserved
-loop-i-preserved c = lines_next _ _ _ _ _ _ c.requires.1 c.loop-i-test.true c.loop-i.invariant c.write_line.ensures
+loop-i-preserved c = lines_next _ _ _ _ _ _ c.requires.table_long c.loop-i-test.true c.loop-i.invariant c.write_line.ensures

@@ -1,0 +1,178 @@
+-- Laws of the first pass over a file's fields: what it finds of size and tally, and what it answers.
+-- Assumes nothing.
+use mathlib.Core.Path.{◌≡◌, refl, sym, ap, ap₂, ◌∙◌}
+use mathlib.Core.Bool.{Bool, true, false, ◌&&◌, and-false, and-true}
+use mathlib.Core.List.{List, [], ◌∷◌}
+use Rattle.std.specs.Int.{w32, from_be_bytes}
+use native.Mathlib.Omega.{arith}
+use Rattle.std.specs.Prelude.{Option, Some, None, is_none, Result, Ok, Err}
+use Prim.Native.Nat.{ℕ}
+use borrow.Author.Tests.{eqb-true}
+use lib.ListN.{length, get_or, take, drop, length-drop}
+use lib.Seq.{drop-cons}
+use lib.Dec.{eqb}
+use Rattle.lists.specs.declared.refusal.Refusal.{Refusal}
+use Rattle.lists.specs.declared.refusal.Refusal.TheVariants.{FieldPastEnd, SizeOrTallyField}
+use Rattle.lists.specs.Refusal.{ensure, ◌and◌}
+use Rattle.lists.proofs.BoolLaws.{by_bool}
+use Rattle.plant.specs.declared.Tally.{Tally}
+use Rattle.saved.specs.Bytes.{number_of}
+use Rattle.saved.specs.Fields.{Field, runs_past, fields_of, tagged, single, first_of}
+use Rattle.saved.specs.Plant.{size_tag, size_length, tally_tag, tally_length, size_in, rounds_in, tests_in, size_and_tally}
+use Rattle.saved.specs.Load.{size_check, loaded_of, opened}
+use Rattle.saved.specs.Reading.{found_with, with_size, both_found, complete}
+use Rattle.saved.specs.declared.Loaded.{Loaded}
+use Rattle.saved.specs.declared.opening.Found.{Found}
+
+-- there is none
+abbrev pub is_empty : List (List ℕ) → Bool
+is_empty [] = true
+is_empty (c ∷ cs) = false
+
+-- whether the contents with a tag that are left complete what is found: one of that length, or none where one is found
+abbrev completes : {A : Type 0} → ℕ → Option A → List (List ℕ) → Bool
+completes len None cs = single len cs
+completes len (Some v) cs = is_empty cs
+
+-- what is found then
+abbrev found_then : {A : Type 0} → (List ℕ → A) → Option A → List (List ℕ) → A
+found_then read None cs = read (first_of cs)
+found_then read (Some v) cs = v
+
+abbrev tally_read : List ℕ → Tally
+tally_read c = record { rounds = number_of (take 4 c); tests = number_of (drop 4 c) }
+
+-- size and tally where both are right
+abbrev pub gives : Bool → Bool → ℕ → Tally → Result Loaded Refusal
+gives a b size tally = ensure (a && b) SizeOrTallyField and Ok (record { size = size; tally = tally })
+
+-- what is found of a file in the end, by what is found so far and the fields that are left
+abbrev pub completed : Result Found Refusal → List Field → Result Loaded Refusal
+completed (Err r) fs = Err r
+completed (Ok o) fs =
+    gives (completes size_length o.size (tagged size_tag fs)) (completes tally_length o.tally (tagged tally_tag fs))
+    (found_then number_of o.size (tagged size_tag fs)) (found_then tally_read o.tally (tagged tally_tag fs))
+
+abbrev pub nothing_found : Found
+nothing_found = record { size = None; tally = None }
+
+pub completed_start : (fs : List Field) → completed (Ok nothing_found) fs ≡ (ensure (size_and_tally fs) SizeOrTallyField and Ok (loaded_of fs))
+unfolding size_and_tally size_in rounds_in tests_in
+completed_start fs = refl
+
+-- one more with a tag: the first, of the right length, or not
+found_one : {A : Type 0} (len : ℕ) (o : Option A) (c : List ℕ) (cs : List (List ℕ))
+    → (eqb (length c) len && is_none o) ≡ true → is_empty cs ≡ completes len o (c ∷ cs)
+found_one len None c [] e = sym (rw and-true at e)
+found_one len None c (d ∷ cs) e = refl
+found_one len (Some w) c cs e = let z : false ≡ true = rw and-false at e in cc
+
+found_then_one : {A : Type 0} (read : List ℕ → A) (len : ℕ) (o : Option A) (c : List ℕ) (cs : List (List ℕ))
+    → (eqb (length c) len && is_none o) ≡ true → read c ≡ found_then read o (c ∷ cs)
+found_then_one read len None c cs e = refl
+found_then_one read len (Some w) c cs e = let z : false ≡ true = rw and-false at e in cc
+
+found_not : {A : Type 0} (len : ℕ) (o : Option A) (c : List ℕ) (cs : List (List ℕ))
+    → (eqb (length c) len && is_none o) ≡ false → completes len o (c ∷ cs) ≡ false
+found_not len None c [] e = rw and-true at e
+found_not len None c (d ∷ cs) e = refl
+found_not len (Some w) c cs e = refl
+
+-- the pass, one field more
+completed_more : (o : Found) (f : Field) (fs : List Field) → completed (found_with o f) fs ≡ completed (Ok o) (f ∷ fs)
+unfolding found_with tagged
+completed_more o f fs =
+    by_bool (eqb f.tag size_tag) sized (λ e. by_bool (eqb f.tag tally_tag) (tallied e) (λ h. rw (e, h)))
+  where
+    sizes : List (List ℕ)
+    sizes = tagged size_tag fs
+
+    tallies : List (List ℕ)
+    tallies = tagged tally_tag fs
+
+    other : eqb f.tag size_tag ≡ true → eqb f.tag tally_tag ≡ false
+    other e = let t : f.tag ≡ size_tag = eqb-true f.tag size_tag e in rw t
+
+    sized : eqb f.tag size_tag ≡ true → completed (found_with o f) fs ≡ completed (Ok o) (f ∷ fs)
+    sized e =
+        by_bool (eqb (length f.contents) size_length && is_none o.size)
+        (λ h. rw (e, other e, h)
+        (ap₂ (λ a s. gives a (completes tally_length o.tally tallies) s (found_then tally_read o.tally tallies))
+        (found_one size_length o.size f.contents sizes h) (found_then_one number_of size_length o.size f.contents sizes h)))
+        (λ h. rw (e, other e, h, found_not size_length o.size f.contents sizes h))
+
+    tallied : eqb f.tag size_tag ≡ false → eqb f.tag tally_tag ≡ true → completed (found_with o f) fs ≡ completed (Ok o) (f ∷ fs)
+    tallied e g =
+        by_bool (eqb (length f.contents) tally_length && is_none o.tally)
+        (λ h. rw (e, g, h)
+        (ap₂ (λ a t. gives (completes size_length o.size sizes) a (found_then number_of o.size sizes) t)
+        (found_one tally_length o.tally f.contents tallies h) (found_then_one tally_read tally_length o.tally f.contents tallies h)))
+        (λ h. rw (e, g, h, found_not tally_length o.tally f.contents tallies h, and-false))
+
+-- a list of eight, by its elements
+none_behind : (c : List ℕ) → length c ≡ 0 → c ≡ []
+none_behind [] e = refl
+none_behind (x ∷ c) e = absurd (omega arith)
+
+eight : (c : List ℕ) → length c ≡ 8
+    → c ≡ get_or c 0 0 ∷ get_or c 1 0 ∷ get_or c 2 0 ∷ get_or c 3 0 ∷ get_or c 4 0 ∷ get_or c 5 0 ∷ get_or c 6 0 ∷ get_or c 7 0 ∷ []
+eight c e =
+    let d0 : c ≡ get_or c 0 0 ∷ drop 1 c = drop-cons c 0 0 (omega arith) in
+    let d1 : drop 1 c ≡ get_or c 1 0 ∷ drop 2 c = drop-cons c 1 0 (omega arith) in
+    let d2 : drop 2 c ≡ get_or c 2 0 ∷ drop 3 c = drop-cons c 2 0 (omega arith) in
+    let d3 : drop 3 c ≡ get_or c 3 0 ∷ drop 4 c = drop-cons c 3 0 (omega arith) in
+    let d4 : drop 4 c ≡ get_or c 4 0 ∷ drop 5 c = drop-cons c 4 0 (omega arith) in
+    let d5 : drop 5 c ≡ get_or c 5 0 ∷ drop 6 c = drop-cons c 5 0 (omega arith) in
+    let d6 : drop 6 c ≡ get_or c 6 0 ∷ drop 7 c = drop-cons c 6 0 (omega arith) in
+    let d7 : drop 7 c ≡ get_or c 7 0 ∷ drop 8 c = drop-cons c 7 0 (omega arith) in
+    let d8 : drop 8 c ≡ [] = none_behind (drop 8 c) (omega (arith, length-drop 8 c)) in
+    cc
+
+pub pass_on : (found next : Result Found Refusal) (o : Found) (f : Field) (fs rest : List Field)
+    → found ≡ Ok o → next ≡ found_with o f → rest ≡ f ∷ fs → completed next fs ≡ completed found rest
+pass_on found next o f fs rest e h k = rw (e, h, k) (completed_more o f fs)
+
+-- size and tally, as the code reads them
+bytes_four : (a b c d : ℕ) → from_be_bytes w32 (a ∷ b ∷ c ∷ d ∷ []) ≡ number_of (a ∷ b ∷ c ∷ d ∷ [])
+unfolding number_of
+bytes_four a b c d = omega arith
+
+pub rounds_read : (c : List ℕ) → length c ≡ 8
+    → from_be_bytes w32 (get_or c 0 0 ∷ get_or c 1 0 ∷ get_or c 2 0 ∷ get_or c 3 0 ∷ []) ≡ number_of (take 4 c)
+rounds_read c e = bytes_four _ _ _ _ ∙ ap (λ l. number_of (take 4 l)) (sym (eight c e))
+
+pub tests_read : (c : List ℕ) → length c ≡ 8
+    → from_be_bytes w32 (get_or c 4 0 ∷ get_or c 5 0 ∷ get_or c 6 0 ∷ get_or c 7 0 ∷ []) ≡ number_of (drop 4 c)
+tests_read c e = bytes_four _ _ _ _ ∙ ap (λ l. number_of (drop 4 l)) (sym (eight c e))
+
+pub size_read : (c : List ℕ) → length c ≡ 1 → get_or c 0 0 ≡ number_of c
+unfolding number_of
+size_read [] e = absurd (omega arith)
+size_read (x ∷ []) e = omega arith
+size_read (x ∷ y ∷ c) e = absurd (omega arith)
+
+-- what is found of the whole file settles 18, 19 and 1, and size and tally
+pub opened_cut : (file : List ℕ) → runs_past file ≡ true → Err FieldPastEnd ≡ opened file
+unfolding opened size_check tagged
+opened_cut file e = rw e
+
+opened_is : (file : List ℕ) (found : Result Found Refusal) → runs_past file ≡ false
+    → completed found [] ≡ completed (Ok nothing_found) (fields_of file) → with_size (completed found []) ≡ opened file
+unfolding opened size_check tagged
+opened_is file found whole e =
+    rw (e, completed_start (fields_of file), whole)
+    (by_bool (size_and_tally (fields_of file)) (λ h. rw h) (λ h. rw h))
+
+module _ (file : List ℕ) (whole : runs_past file ≡ false) where
+  pub opened_wrong : (r : Refusal) → completed (Err r) [] ≡ completed (Ok nothing_found) (fields_of file) → Err r ≡ opened file
+  opened_wrong r e = opened_is file (Err r) whole e
+
+  pub opened_found : (o : Found) → completed (Ok o) [] ≡ completed (Ok nothing_found) (fields_of file) → complete o ≡ opened file
+  unfolding tagged
+  opened_found o e = ap with_size (all o.size o.tally) ∙ opened_is file (Ok o) whole e
+    where
+      all : (a : Option ℕ) (b : Option Tally) → both_found a b ≡ completed (Ok (record { size = a; tally = b })) []
+      all (Some a) (Some b) = refl
+      all (Some a) None = refl
+      all None (Some b) = refl
+      all None None = refl
