@@ -1,7 +1,7 @@
 -- What the contracts and theorems of `table` cite, in the order of document 01; properties serve the crates above.
 pub mod Sizes
-pub mod Status
 pub mod Table
+pub mod Status
 pub mod Lent
 pub mod Rules
 pub mod Fresh

@@ -9,7 +9,8 @@ ghost use Rattle.table.specs.Rules.{pass_rule, exit_rule, row_rule, line_rules, 
 use crate::lent::Table;
 use crate::status::Status;
 use crate::{Station, cells, sizes};
-use lists::refusal::{self, Refusal};
+use lists::refusal::Refusal;
+use lists::{bytes, refusal};
 
 // Refusals 1 and 2.
 #[tactic(auto, using(crate::proofs::SizeLaws::size_top), unfolding(crate::specs::Rules::shape_check))]
@@ -139,7 +140,7 @@ fn exit_rule(n: u8, i: Station, status: Status, by: u8, ago: u8) -> bool
 }
 
 // The rules of the row: the station's byte about itself, and every byte, by the greatest one. The loop has no exit, so that the compiler
-// takes many bytes at a time.
+// takes many bytes at a time. By std's `max` a save of 8 boards was 0.96 times as fast.
 #[tactic(auto, using(lists::proofs::Loops::loops, crate::proofs::CellLaws::row_at), unfolding(crate::specs::Rules::row_rule))]
 fn row_rule(table: &Table, i: Station) -> bool
     requires { i.0 < table.now.n }
@@ -150,7 +151,7 @@ fn row_rule(table: &Table, i: Station) -> bool
     let own = row[of];
     let mut greatest: u8 = 0;
     for byte in row {
-        greatest = greatest.max(*byte);
+        greatest = bytes::greater(greatest, *byte);
     }
     (own == 0) & (greatest <= 1)
 }
