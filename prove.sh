@@ -36,15 +36,12 @@ all_needed() { # NAME
     needed "$1" | awk '!seen[$0]++'
 }
 
-# The sum of what a proof of NAME reads in this repository, and of the toolchain's version.
+# The sum of what a proof of NAME reads in this repository.
 sum_of() { # NAME
     local folders
     mapfile -t folders < <(all_needed "$1" | sed 's|^|crates/|')
-    {
-        echo "$toolchain"
-        find "${folders[@]}" \( -path '*/src/*' -o -path '*/specs/*' -o -path '*/proofs/*' \) ! -path '*/out/*' -type f -print0 |
-            LC_ALL=C sort -z | xargs -0 sha256sum
-    } | sha256sum
+    find "${folders[@]}" \( -path '*/src/*' -o -path '*/specs/*' -o -path '*/proofs/*' \) ! -path '*/out/*' -type f -print0 |
+        LC_ALL=C sort -z | xargs -0 sha256sum | sha256sum
 }
 
 # What rt makes of NAME: the program, or a library for the crates above it. Both prove it first.
@@ -75,10 +72,9 @@ prove() { # NAME PLACE
 
 # Proves and builds the program, and first what it needs. Stays in the folder of this repository.
 prove_program() {
-    local crates k toolchain
+    local crates k
     command -v rt >/dev/null || refuse "rt, the command of the Rattle toolchain, is not found"
     cd "$root" || exit
-    toolchain=$(rt version)
     mkdir -p target/proved
     mapfile -t crates < <(all_needed "$program")
     for k in "${!crates[@]}"; do
