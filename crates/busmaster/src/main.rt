@@ -94,11 +94,11 @@ fn rest_of_a_round(rt: &impl Print) {
 fn entry_of(rt: &impl Print, table: &mut [u8], tally: Tally, kind: u8, i: u8) -> Tally {
     let schedule = [kind, i];
     let mut line = [0u8; 4];
-    let answer = run::run(8, table, tally, &schedule, &mut line);
+    let ran = run::run(8, table, tally, &schedule, &mut line);
     if kind == 1 {
         let _ = println!(rt; "{} {} {} {}", line[0], line[1], line[2], line[3]);
     }
-    answer.tally
+    ran.tally
 }
 
 // Tests one below the top, tests at the top, and rounds that reach it when the round closes: 7 after one grant, 7 at once, 0.
@@ -153,6 +153,10 @@ fn drive_line(rt: &impl Print, driven: Driven) {
     let tally = driven.tally;
     let _ = println!(rt;
         "number {} rounds {} tests {} last {} grants {}",
-        driven.number, tally.rounds, tally.tests, driven.last, driven.grants
+        driven.number(),
+        tally.rounds,
+        tally.tests,
+        driven.last,
+        driven.grants
     );
 }

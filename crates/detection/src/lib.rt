@@ -11,7 +11,7 @@ ghost use Rattle.plant.specs.Run.{outcome_with, run};
 ghost use Rattle.detection.specs.Runs.{call_of};
 ghost use Rattle.detection.specs.Claim.{WithinAfter, demand_wait, exact_wait};
 
-use plant::{Answer, Tally, run};
+use plant::{Ran, Tally, run};
 
 // The run, wherever it stands in a list of runs: what demand 3 says of the list that ends with it holds of the table and tally that it
 // leaves, and holds within the exact wait too.
@@ -21,7 +21,7 @@ pub fn run_in_list(
     tally: Tally,
     schedule: &[u8],
     sheet: &mut [u8],
-) -> Answer
+) -> Ran
     ensures sheet_after { outcome_with result table.new sheet.new ≡ run n (state_with table.old tally) schedule.now sheet.old }
     ensures within_demand_wait { WithinAfter demand_wait (call_of n schedule.now sheet.old) (state_with table.old tally) (state_with table.new result.tally) }
     ensures within_exact_wait { WithinAfter exact_wait (call_of n schedule.now sheet.old) (state_with table.old tally) (state_with table.new result.tally) }

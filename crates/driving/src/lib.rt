@@ -8,7 +8,7 @@ pub mod claims;
 ghost use Rattle.std.specs.Prelude.{◌≡◌};
 ghost use Rattle.plant.specs.Entry.{state_with};
 ghost use Rattle.detection.specs.Claim.{demand_wait, exact_wait};
-ghost use Rattle.granter.specs.Drive.{drive_outcome_with, drive};
+ghost use Rattle.granter.specs.Drive.{drive_outcome_with, drive, StoppedIfTaken};
 ghost use Rattle.driving.specs.Driven.{DrivenWithinAfter};
 
 use granter::{Driven, drive};
@@ -18,6 +18,7 @@ use plant::Tally;
 // leaves, and holds within the exact wait too.
 pub fn drive_in_list(n: usize, table: &mut [u8], tally: Tally, last: usize) -> Driven
     ensures table_after { drive_outcome_with result table.new ≡ drive n (state_with table.old tally) last }
+    ensures stopped_if_taken { StoppedIfTaken n (state_with table.old tally) last result.grants }
     ensures driven_within_demand_wait { DrivenWithinAfter demand_wait n last (state_with table.old tally) (state_with table.new result.tally) }
     ensures driven_within_exact_wait { DrivenWithinAfter exact_wait n last (state_with table.old tally) (state_with table.new result.tally) }
 {

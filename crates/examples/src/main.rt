@@ -4,7 +4,7 @@
 #![tactic(auto)]
 
 use lists::refusal;
-use plant::{Answer, Tally, run};
+use plant::{Ran, Tally, run};
 use station::{due, groups};
 use table::{Level, Station, cells, fresh};
 
@@ -146,7 +146,7 @@ fn top_tally(rt: &impl Print) {
     };
     let schedule = [1u8, 0, 1, 1];
     let mut sheet = [0u8; 8];
-    answer_line(rt, run::run(2, &mut table, top, &schedule, &mut sheet));
+    run_line(rt, run::run(2, &mut table, top, &schedule, &mut sheet));
 }
 
 // Table 3 of paper 001, column vCube: the messages of d·d rounds with nobody dead, two a test.
@@ -238,11 +238,11 @@ fn late_reply(rt: &impl Print) {
     tests_line(rt, no_tally(), closed);
     let schedule = [1u8, 0, 1, 1];
     let mut sheet = [0u8; 8];
-    let answer = run::run(4, &mut table, closed, &schedule, &mut sheet);
+    let ran = run::run(4, &mut table, closed, &schedule, &mut sheet);
     let _ = print!(rt; "sheet");
     commas(rt, &sheet[0..4]);
     line_end(rt);
-    answer_line(rt, answer);
+    run_line(rt, ran);
     let _ = println!(rt;
         "1 told by {} rounds ago {}",
         table[ONE_TOLD_BY], table[ONE_ROUNDS_AGO]
@@ -311,27 +311,20 @@ struct Turn {
 fn turn_of(rt: &impl Print, n: u8, table: &mut [u8], tally: Tally, i: u8, shown: bool) -> Turn {
     let schedule = [1u8, i];
     let mut line = [0u8; 4];
-    let answer = run::run(n as usize, table, tally, &schedule, &mut line);
-    let after = answer.tally;
-    let tested = line[1];
-    let outcome = line[2];
-    if (answer.number != 0) | (outcome == 0) {
-        return Turn {
-            tally: after,
-            ended: true,
-        };
-    }
-    if shown {
+    let ran = run::run(n as usize, table, tally, &schedule, &mut line);
+    let [_, tested, outcome, _] = line;
+    let ended = ran.stopped.is_some() || outcome == 0;
+    if shown && !ended {
         let _ = println!(rt; "{i} tests {tested}");
     }
     Turn {
-        tally: after,
-        ended: false,
+        tally: ran.tally,
+        ended,
     }
 }
 
 // One entry: kind and station.
-fn entry_of(n: u8, table: &mut [u8], tally: Tally, kind: u8, i: u8) -> Answer {
+fn entry_of(n: u8, table: &mut [u8], tally: Tally, kind: u8, i: u8) -> Ran {
     let schedule = [kind, i];
     let mut line = [0u8; 4];
     run::run(n as usize, table, tally, &schedule, &mut line)
@@ -346,9 +339,11 @@ fn tests_line(rt: &impl Print, before: Tally, after: Tally) {
     );
 }
 
-fn answer_line(rt: &impl Print, answer: Answer) {
+fn run_line(rt: &impl Print, ran: Ran) {
     let _ = println!(rt;
         "number {} taken {} tests {}",
-        answer.number, answer.taken, answer.tally.tests
+        ran.number(),
+        ran.taken,
+        ran.tally.tests
     );
 }

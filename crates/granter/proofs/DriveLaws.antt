@@ -180,6 +180,10 @@ module _ (n : ℕ) (p : Stand) (k : ℕ) (q : Stand) (at-k : q ≡ after_grants 
   unfolding outcome_after
   full-stop full = (rw (at-k, d.open-still), stopped-full n p k d (rw at-k at full))
 
+  -- somebody is live, so that a station can be granted
+  pub grant-ready : (table_number n q.state.table ≡ 0) × (some_live n q.state.table ≡ true)
+  grant-ready = rw at-k (accepted-number n _ d.ok, (still n p k d).1)
+
   module _ (fits : tally_full q.state.rounds q.state.tests ≡ false) where
     pub turn-ready : (table_number n q.state.table ≡ 0) × (entry_number n q.state (entry_of kind_turn (granted_at n q)) ≡ 0)
     turn-ready = rw at-k (accepted-number n _ d.ok, next-taken n p k d (rw at-k at fits))

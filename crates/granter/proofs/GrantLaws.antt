@@ -18,6 +18,7 @@ use Rattle.table.proofs.Accepting.{Accepted, table_ok}
 use Rattle.std.specs.Prelude.{Ok, Err}
 use Rattle.lists.proofs.RefusalLaws.{check_zero, ensure_ok, and_ok}
 use Rattle.turn.specs.Turn.{kind_turn}
+use Rattle.plant.proofs.RunLaws.{accepted-number}
 use Rattle.plant.specs.Entry.{State, entry_of, tally_full, entry_check, entry_number}
 use Rattle.granter.specs.Grant.{no_grant, waits, first_from, following, granted, last_refusal, grant_check, grant_number, grant_answer}
 
@@ -49,6 +50,10 @@ grant_ok n t last x e =
     let a = and_ok _ _ x e in
     let b = and_ok _ _ x a.1 in
     record { ok = table_ok n t _ a.0; last_fits = ap number_of_result b.0; someone = ensure_ok _ _ _ b.1 }
+
+-- the table that is granted on obeys the rules
+pub grantable_obeys : (n : ℕ) (t : List ℕ) (last : ℕ) → Grantable n t last → table_number n t ≡ 0
+grantable_obeys n t last g = accepted-number n t g.ok
 
 pub grant_answer_number : (n : ℕ) (t : List ℕ) (last : ℕ) → number_of_result (grant_answer n t last) ≡ grant_number n t last
 unfolding grant_answer
@@ -88,7 +93,7 @@ fits_byte n t last g =
 -- in a table that refusals 1 to 4 let through, with a live station
 module _ (n : ℕ) (t : List ℕ) (ok : Accepted n t) (someone : some_live n t ≡ true) where
   -- somebody waits
-  first-waits : first_from n t 0 < n
+  pub first-waits : first_from n t 0 < n
   unfolding first_from live_finished
   first-waits = by_bool (ltb q n) (ltb-true q n) (λ e. absurd (closed (every-all (finished_if_live n t) n (λ i h. done e i h))))
     where

@@ -6,6 +6,7 @@ use Rattle.table.specs.Rules.{some_live}
 use Rattle.lists.specs.Refusal.{unless}
 use Rattle.turn.specs.Turn.{kind_turn}
 use Rattle.plant.specs.Entry.{State, state_with, entry_of, tally_full, after}
+use Rattle.plant.specs.Run.{stop_number}
 use Rattle.granter.specs.declared.Driven.{Driven}
 use Rattle.granter.specs.Grant.{granted, grant_number}
 
@@ -62,9 +63,9 @@ pub record DriveOutcome : Type 0 where
 abbrev pub drive_outcome : ℕ → State → ℕ → ℕ → DriveOutcome
 drive_outcome number s last grants = record { number = number; state = s; last = last; grants = grants }
 
--- the outcome of a call: its answer, and the table as it left it
+-- the outcome of a call: what it answers, and the table as it left it
 abbrev pub drive_outcome_with : Driven → List ℕ → DriveOutcome
-drive_outcome_with d t = drive_outcome d.number (state_with t d.tally) d.last d.grants
+drive_outcome_with d t = drive_outcome (stop_number d.stopped) (state_with t d.tally) d.last d.grants
 
 -- the outcome after k grants: 0 where the drive ended, and otherwise 7, "keeping the turns made"
 unfoldable pub outcome_after : ℕ → Stand → ℕ → DriveOutcome

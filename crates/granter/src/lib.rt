@@ -5,13 +5,27 @@
 pub mod drive;
 pub mod grant;
 
+use lists::refusal::Refusal;
 use plant::Tally;
 
-// What a drive answers: 0 or the number it stopped or was refused with, the tally, the last granted number and the grants made.
-#[derive(Clone, Copy)]
+// How a drive went: the tally it leaves, the last granted number, how many grants it made, and the refusal that it was turned away with or
+// stopped at, if there was one.
+#[derive(Clone, Copy, Debug, PartialEq, Eq)]
 pub struct Driven {
-    pub number: u8,
     pub tally: Tally,
     pub last: usize,
     pub grants: usize,
+    pub stopped: Option<Refusal>,
+}
+
+impl Driven {
+    ghost use Rattle.std.specs.Prelude.{◌≡◌};
+    ghost use Rattle.plant.specs.Run.{stop_number};
+
+    // The number of that refusal, 0 where there was none.
+    pub fn number(self) -> u8
+        ensures { result ≡ stop_number self.stopped }
+    {
+        self.stopped.map_or(0, Refusal::number)
+    }
 }

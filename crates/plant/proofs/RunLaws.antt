@@ -73,15 +73,6 @@ made-test n t e = pick (is_crash e) (makes_test n t e.station)
     pick false true = rw (some-outcome n u e.kind e.station j)
     pick false false = refl
 
--- four bytes written one by one
-pub line-written : (l : List ℕ) (a b c d : ℕ) → length l ≡ 4 → set (set (set (set l 0 a) 1 b) 2 c) 3 d ≡ a ∷ b ∷ c ∷ d ∷ []
-line-written [] a b c d h = absurd (omega arith)
-line-written (w ∷ []) a b c d h = absurd (omega arith)
-line-written (w ∷ x ∷ []) a b c d h = absurd (omega arith)
-line-written (w ∷ x ∷ y ∷ []) a b c d h = absurd (omega arith)
-line-written (w ∷ x ∷ y ∷ z ∷ []) a b c d h = refl
-line-written (w ∷ x ∷ y ∷ z ∷ v ∷ l) a b c d h = absurd (omega arith)
-
 -- a line that is lent as a part of the sheet and comes back as that of an entry
 pub line-back : (n : ℕ) (s : State) (e : Entry) (sheet : List ℕ) (k : ℕ) (line : List ℕ) → line ≡ sheet_line n s e → 4 * k + 4 ≤ length sheet
     → take (4 * k) sheet ++ (line ++ drop (4 * k + 4 - 4 * k) (drop (4 * k) sheet)) ≡ write_line sheet k (sheet_line n s e)

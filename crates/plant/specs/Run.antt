@@ -1,11 +1,12 @@
 -- Document 01, the run: refusals 1 to 6, then the entries in order; and two claims of it.
 -- Assumes nothing.
-use Rattle.std.specs.Prelude.{◌≡◌, ℕ, suc, ◌*◌, ◌%◌, cond, not, List, [], ◌∷◌, length, eqb}
+use Rattle.std.specs.Prelude.{◌≡◌, ℕ, suc, ◌*◌, ◌%◌, cond, not, List, [], ◌∷◌, length, eqb, Option, Some, None}
 use Rattle.std.proofs.lemmas.List.Edits.{sets}
 use Rattle.lists.specs.declared.refusal.Refusal.TheVariants.{ScheduleLength, SheetLength}
-use Rattle.lists.specs.Refusal.{Check, ensure, ◌and◌, number_of_result}
+use Rattle.lists.specs.declared.refusal.Refusal.{Refusal}
+use Rattle.lists.specs.Refusal.{number_of, Check, ensure, ◌and◌, number_of_result}
 use Rattle.table.specs.Rules.{table_check, table_number}
-use Rattle.plant.specs.declared.Answer.{Answer}
+use Rattle.plant.specs.declared.Ran.{Ran}
 use Rattle.plant.specs.Entry.{Entry, State, state_with, entry_of, entry_number, after, sheet_line}
 
 -- the entries of a schedule, two bytes each
@@ -21,9 +22,14 @@ pub record Outcome : Type 0 where
   pub state : State
   pub sheet : List ℕ
 
--- the outcome of a call: its answer, and table and sheet as it left them
-abbrev pub outcome_with : Answer → List ℕ → List ℕ → Outcome
-outcome_with a t sheet = record { number = a.number; taken = a.taken; state = state_with t a.tally; sheet = sheet }
+-- the number of the refusal that stopped a run: 0 where none did
+abbrev pub stop_number : Option Refusal → ℕ
+stop_number None = 0
+stop_number (Some r) = number_of r
+
+-- the outcome of a call: what it answers, and table and sheet as it left them
+abbrev pub outcome_with : Ran → List ℕ → List ℕ → Outcome
+outcome_with r t sheet = record { number = stop_number r.stopped; taken = r.taken; state = state_with t r.tally; sheet = sheet }
 
 -- the sheet with a line written as the kth, from 0, of four bytes each
 abbrev pub write_line : List ℕ → ℕ → List ℕ → List ℕ

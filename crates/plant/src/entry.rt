@@ -5,7 +5,7 @@ ghost use Rattle.table.specs.Rules.{table_number};
 ghost use Rattle.turn.specs.Outcome.{tested_byte, outcome_byte};
 ghost use Rattle.plant.specs.Entry.{state_with, entry_of, entry_check, entry_number, acted, after, tested_of, outcome_of, sheet_line};
 
-use crate::{Tally, rounds, single};
+use crate::{Tally, rounds};
 use lists::refusal::Refusal;
 use table::{Station, cells, inside};
 use turn::kind::Kind;
@@ -24,7 +24,7 @@ pub(crate) fn check_entry(
     requires { length table.now ≡ table_length n }
     ensures { result ≡ entry_check n (state_with table.now tally) (entry_of kind i.0) }
 {
-    if single::is_full(tally) {
+    if tally.is_full() {
         return Err(Refusal::TallyFull);
     }
     let kind = Kind::try_from(kind)?;
@@ -50,7 +50,9 @@ pub(crate) fn take_entry(
     i: Station,
     line: &mut [u8],
 ) -> Tally
-    requires { (table_number n table.old ≡ 0) × (entry_number n (state_with table.old tally) (entry_of kind i.0) ≡ 0) × (length line.old ≡ 4) }
+    requires table_obeys { table_number n table.old ≡ 0 }
+    requires entry_taken { entry_number n (state_with table.old tally) (entry_of kind i.0) ≡ 0 }
+    requires line_length { length line.old ≡ 4 }
     ensures result_after { state_with table.new result ≡ after n (state_with table.old tally) (entry_of kind i.0) }
     ensures line_after { line.new ≡ sheet_line n (state_with table.old tally) (entry_of kind i.0) }
 {
@@ -58,21 +60,20 @@ pub(crate) fn take_entry(
     let tested = done.tested_byte();
     let outcome = done.outcome_byte();
     let over = rounds::close_round(n, table, i);
-    line[0] = i.0;
-    line[1] = tested;
-    line[2] = outcome;
-    line[3] = inside::get(n, table, i, cells::STATUS);
+    let status = inside::get(n, table, i, cells::STATUS);
+    line.copy_from_slice(&[i.0, tested, outcome, status]);
     let made = outcome != Outcome::PassFinished.outcome_byte();
     Tally {
-        rounds: grown(tally.rounds, over),
-        tests: grown(tally.tests, made & (kind != u8::from(Kind::Crash))),
+        rounds: tally.rounds + u32::from(over),
+        tests: tally.tests + u32::from(made & (kind != u8::from(Kind::Crash))),
     }
 }
 
 // Steps 2 to 7: a crash or a turn.
 #[tactic(auto, unfolding(crate::specs::Entry::acted, crate::specs::Entry::tested_of, crate::specs::Entry::outcome_of, turn::specs::Turn::crash))]
 fn act(n: u8, table: &mut [u8], kind: u8, i: Station) -> Outcome
-    requires { (table_number n table.old ≡ 0) × (i.0 < n) }
+    requires table_obeys { table_number n table.old ≡ 0 }
+    requires station_below { i.0 < n }
     ensures tested_value { tested_byte result ≡ tested_of n table.old (entry_of kind i.0) }
     ensures outcome_value { outcome_byte result ≡ outcome_of n table.old (entry_of kind i.0) }
     ensures table_after { table.new ≡ acted n table.old (entry_of kind i.0) }
@@ -82,12 +83,4 @@ fn act(n: u8, table: &mut [u8], kind: u8, i: Station) -> Outcome
         return Outcome::Crashed;
     }
     steps::take_turn(n, table, kind, i)
-}
-
-// One more where `more` holds.
-fn grown(x: u32, more: bool) -> u32
-    requires { x < 4294967295 }
-    ensures { result ≡ cond more (x + 1) x }
-{
-    if more { x + 1 } else { x }
 }

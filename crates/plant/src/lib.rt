@@ -9,17 +9,43 @@ mod rounds;
 pub mod run;
 pub mod single;
 
+use lists::refusal::Refusal;
+
 // The tally of closed rounds and of tests.
-#[derive(Clone, Copy)]
+#[derive(Clone, Copy, Debug, Default, PartialEq, Eq)]
 pub struct Tally {
     pub rounds: u32,
     pub tests: u32,
 }
 
-// What a run answers: 0 or the refusal, how many entries were taken, and the tally.
-#[derive(Clone, Copy)]
-pub struct Answer {
-    pub number: u8,
+impl Tally {
+    ghost use Rattle.std.specs.Prelude.{◌≡◌};
+    ghost use Rattle.plant.specs.Entry.{tally_full};
+
+    // Whether either of the two can grow no more.
+    pub fn is_full(self) -> bool
+        ensures { result ≡ tally_full self.rounds self.tests }
+    {
+        (self.rounds == u32::MAX) | (self.tests == u32::MAX)
+    }
+}
+
+// How a run went: how many entries were taken, the tally after them, and the refusal that stopped it, if one did.
+#[derive(Clone, Copy, Debug, PartialEq, Eq)]
+pub struct Ran {
     pub taken: usize,
     pub tally: Tally,
+    pub stopped: Option<Refusal>,
+}
+
+impl Ran {
+    ghost use Rattle.std.specs.Prelude.{◌≡◌};
+    ghost use Rattle.plant.specs.Run.{stop_number};
+
+    // The number of the refusal that stopped the run, 0 where none did.
+    pub fn number(self) -> u8
+        ensures { result ≡ stop_number self.stopped }
+    {
+        self.stopped.map_or(0, Refusal::number)
+    }
 }

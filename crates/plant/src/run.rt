@@ -3,23 +3,23 @@ ghost use Rattle.std.specs.Prelude.{◌≡◌, length};
 ghost use Rattle.plant.specs.Entry.{state_with};
 ghost use Rattle.plant.specs.Run.{entries, go_on, start_check, start_number, outcome_with, run};
 
-use crate::{Answer, Tally, entry};
+use crate::{Ran, Tally, entry};
 use lists::refusal::Refusal;
 use table::{Station, rules};
 
 // Carries out a schedule on a table and a tally and fills the sheet, four bytes for each entry taken. A run refused at its start changes
 // no byte; one stopped at an entry keeps the work of the entries before it and no other.
-pub fn run(n: usize, table: &mut [u8], tally: Tally, schedule: &[u8], sheet: &mut [u8]) -> Answer
+pub fn run(n: usize, table: &mut [u8], tally: Tally, schedule: &[u8], sheet: &mut [u8]) -> Ran
     ensures { outcome_with result table.new sheet.new ≡ run n (state_with table.old tally) schedule.now sheet.old }
 {
-    match check_start(n, table, schedule.len(), sheet.len()) {
-        Err(refusal) => Answer {
-            number: refusal.number(),
+    if let Err(refusal) = check_start(n, table, schedule.len(), sheet.len()) {
+        return Ran {
             taken: 0,
-            tally: tally,
-        },
-        Ok(()) => go_on(n as u8, table, tally, schedule, sheet),
+            tally,
+            stopped: Some(refusal),
+        };
     }
+    go_on(n as u8, table, tally, schedule, sheet)
 }
 
 // Refusals 1 to 6.
@@ -41,35 +41,29 @@ fn check_start(n: usize, table: &[u8], schedule: usize, sheet: usize) -> Result<
 }
 
 // Takes the entries in order. `single` uses it too, so that an entry is taken in one place only, which the compiler then puts in line.
-pub(crate) fn go_on(
-    n: u8,
-    table: &mut [u8],
-    tally: Tally,
-    schedule: &[u8],
-    sheet: &mut [u8],
-) -> Answer
+pub(crate) fn go_on(n: u8, table: &mut [u8], tally: Tally, schedule: &[u8], sheet: &mut [u8]) -> Ran
     requires { start_number n table.old (length schedule.now) (length sheet.old) ≡ 0 }
     ensures { outcome_with result table.new sheet.new ≡ go_on n 0 (state_with table.old tally) sheet.old (entries schedule.now) }
 {
-    let mut held = tally;
+    let mut ran = Ran {
+        taken: 0,
+        tally,
+        stopped: None,
+    };
     let count = schedule.len() / 2;
     for k in 0..count {
         let kind = schedule[2 * k];
         let i = Station(schedule[2 * k + 1]);
-        if let Err(refusal) = entry::check_entry(n, table, held, kind, i) {
-            return Answer {
-                number: refusal.number(),
-                taken: k,
-                tally: held,
+        if let Err(refusal) = entry::check_entry(n, table, ran.tally, kind, i) {
+            return Ran {
+                stopped: Some(refusal),
+                ..ran
             };
         }
         let a = 4 * k;
         let e = a + 4;
-        held = entry::take_entry(n, table, held, kind, i, &mut sheet[a..e]);
+        ran.tally = entry::take_entry(n, table, ran.tally, kind, i, &mut sheet[a..e]);
+        ran.taken = k + 1;
     }
-    Answer {
-        number: 0,
-        taken: count,
-        tally: held,
-    }
+    ran
 }

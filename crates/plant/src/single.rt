@@ -3,29 +3,20 @@
 ghost use Rattle.std.specs.Prelude.{◌≡◌};
 ghost use Rattle.table.specs.Rules.{table_number};
 ghost use Rattle.turn.specs.Turn.{kind_turn};
-ghost use Rattle.plant.specs.Entry.{state_with, entry_of, tally_full, entry_number, after};
+ghost use Rattle.plant.specs.Entry.{state_with, entry_of, entry_number, after};
 
 use crate::{Tally, run};
 use table::Station;
 use turn::kind::Kind;
 
-// Where a tally is full.
-const TALLY_TOP: u32 = 4294967295;
-
-// Whether either tally is full.
-pub fn is_full(tally: Tally) -> bool
-    ensures { result ≡ tally_full tally.rounds tally.tests }
-{
-    (tally.rounds == TALLY_TOP) | (tally.tests == TALLY_TOP)
-}
-
 // A turn of kind 1 of station i, with no line of a sheet: the rest of a run that has this one entry. The answer is the tally after it.
 pub fn take_turn(n: u8, table: &mut [u8], tally: Tally, i: Station) -> Tally
-    requires { (table_number n table.old ≡ 0) × (entry_number n (state_with table.old tally) (entry_of kind_turn i.0) ≡ 0) }
+    requires table_obeys { table_number n table.old ≡ 0 }
+    requires turn_taken { entry_number n (state_with table.old tally) (entry_of kind_turn i.0) ≡ 0 }
     ensures { state_with table.new result ≡ after n (state_with table.old tally) (entry_of kind_turn i.0) }
 {
     let schedule = [u8::from(Kind::Turn), i.0];
     let mut line = [0u8; 4];
-    let answer = run::go_on(n, table, tally, &schedule, &mut line);
-    answer.tally
+    let ran = run::go_on(n, table, tally, &schedule, &mut line);
+    ran.tally
 }

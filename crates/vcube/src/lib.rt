@@ -10,6 +10,9 @@ ghost use Rattle.table.specs.Fresh.{fresh_after};
 ghost use Rattle.station.specs.Calls.{group_number, group_after, row_number, row_part, row_offset, assignment_number, assignment_after, assignment_count};
 ghost use Rattle.plant.specs.Entry.{state_of};
 ghost use Rattle.plant.specs.Run.{run};
+ghost use Rattle.detection.specs.Runs.{call_of};
+ghost use Rattle.detection.specs.Claim.{WithinAfter, demand_wait, exact_wait};
+ghost use Rattle.driving.specs.Driven.{DrivenWithinAfter};
 ghost use Rattle.granter.specs.Grant.{grant_number, grant_station};
 ghost use Rattle.granter.specs.Drive.{drive, StoppedIfTaken};
 ghost use Rattle.saved.specs.Load.{size_number, saved_size, size_figure, load_number, load_answer, loaded_figures, load_after};
@@ -19,10 +22,10 @@ ghost use Rattle.figures.specs.Totals.{totals, join, figures_of_totals};
 ghost use Rattle.vcube.specs.Exports.{outcome_out, drive_out, tally_of, loaded_out, filled, figures_members, totals_members, totals_with, figures_out, totals_out};
 
 use figures::{Figures, Totals, adding, batch};
-use granter::{drive, grant};
+use granter::grant;
 use lists::refusal;
 use lists::refusal::Refusal;
-use plant::{Tally, run};
+use plant::Tally;
 use saved::{Loaded, load, save};
 use station::{due, groups, rows};
 use table::{Level, Station, cells, fresh};
@@ -111,19 +114,22 @@ pub extern "C" fn vcube_run(
     sheet: &mut [u8],
     taken: &mut usize,
 ) -> u8
-    ensures { outcome_out result taken.new table.new rounds.new tests.new sheet.new
+    ensures outcome { outcome_out result taken.new table.new rounds.new tests.new sheet.new
         ≡ run n (state_of table.old rounds.old tests.old) schedule.now sheet.old }
+    ensures within_demand_wait { WithinAfter demand_wait (call_of n schedule.now sheet.old)
+        (state_of table.old rounds.old tests.old) (state_of table.new rounds.new tests.new) }
+    ensures within_exact_wait { WithinAfter exact_wait (call_of n schedule.now sheet.old)
+        (state_of table.old rounds.old tests.old) (state_of table.new rounds.new tests.new) }
 {
     let tally = Tally {
         rounds: *rounds,
         tests: *tests,
     };
-    let done = run::run(n, table, tally, schedule, sheet);
-    let after = done.tally;
-    *rounds = after.rounds;
-    *tests = after.tests;
-    *taken = done.taken;
-    done.number
+    let ran = detection::run_in_list(n, table, tally, schedule, sheet);
+    *rounds = ran.tally.rounds;
+    *tests = ran.tally.tests;
+    *taken = ran.taken;
+    ran.number()
 }
 
 // Grant: the station that is granted after the last one, 0 where it is refused.
@@ -152,18 +158,21 @@ pub extern "C" fn vcube_drive(
     ensures grants_after { drive_out result table.new rounds.new tests.new last.new grants.new
         ≡ drive n (state_of table.old rounds.old tests.old) last.old }
     ensures stopped_if_taken { StoppedIfTaken n (state_of table.old rounds.old tests.old) last.old grants.new }
+    ensures driven_within_demand_wait { DrivenWithinAfter demand_wait n last.old
+        (state_of table.old rounds.old tests.old) (state_of table.new rounds.new tests.new) }
+    ensures driven_within_exact_wait { DrivenWithinAfter exact_wait n last.old
+        (state_of table.old rounds.old tests.old) (state_of table.new rounds.new tests.new) }
 {
-    let held = Tally {
+    let tally = Tally {
         rounds: *rounds,
         tests: *tests,
     };
-    let driven = drive::drive(n, table, held, *last);
-    let left = driven.tally;
-    *rounds = left.rounds;
-    *tests = left.tests;
+    let driven = driving::drive_in_list(n, table, tally, *last);
+    *rounds = driven.tally.rounds;
+    *tests = driven.tally.tests;
     *last = driven.last;
     *grants = driven.grants;
-    driven.number
+    driven.number()
 }
 
 // Save: the table and the tally as a saved plant, into a buffer of just its length.

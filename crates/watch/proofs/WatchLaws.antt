@@ -15,7 +15,7 @@ use Rattle.table.specs.Sizes.{is_size}
 use Rattle.table.specs.Table.{table_length}
 use Rattle.table.specs.Rules.{shape_check, table_check}
 use Rattle.table.specs.Fresh.{fresh_table, fresh_after}
-use Rattle.plant.specs.declared.Answer.{Answer}
+use Rattle.plant.specs.declared.Ran.{Ran as RanPlant}
 use Rattle.plant.specs.Entry.{State, state_of}
 use Rattle.plant.specs.Run.{Outcome, outcome_with, start_check, run}
 use Rattle.watch.specs.declared.input.Parsed.{Parsed}
@@ -46,11 +46,11 @@ part-back k l =
 abbrev refused : Answer
 refused = record { number = 1; taken = 0; tally = record { rounds = 0; tests = 0 } }
 
-carried-refused : (n : ℕ) (schedule lent : List ℕ) → is_size n ≡ false → carried_out n schedule lent ≡ watched_with (Ran refused) lent
+carried-refused : (n : ℕ) (schedule lent : List ℕ) → is_size n ≡ false → carried_out n schedule lent ≡ said_with (says_run refused) lent
 carried-refused n schedule lent e = rw (size-refused n (state_of (fresh_table n) 0 0) schedule (take (2 * length schedule) lent) e, part-back)
 
 -- a run on the lent table after it was made fresh, with the first k bytes of a lent sheet, answers what a run of a fresh table answers
-pub carried : (n : ℕ) (t schedule lent : List ℕ) (r : Answer) (t' s' : List ℕ) (k : ℕ)
+pub carried : (n : ℕ) (t schedule lent : List ℕ) (r : RanPlant) (t' s' : List ℕ) (k : ℕ)
     → (is_size n ≡ true → length t ≡ table_length n) → k ≡ 2 * length schedule → length s' ≡ k → k ≤ length lent
     → outcome_with r t' s' ≡ run n (state_of (fresh_after n t) 0 0) schedule (take k lent)
     → watched_with (Ran r) (s' ++ drop k lent) ≡ carried_out n schedule lent
@@ -67,7 +67,7 @@ carried n t schedule lent r t' s' k shaped twice long fits e = pick (is_size n) 
         rw (← twice, ← g) (rw (sym front))
     pick false y =
         let g = e ∙ size-refused n (state_of (fresh_after n t) 0 0) schedule (take k lent) y in
-        let p : r ≡ refused = ap run_answer g in
+        let p : said (Ran r) ≡ says_run refused = ap (λ (o : Outcome). says_run (run_answer o)) g in
         let q : s' ≡ take k lent = ap (λ (o : Outcome). o.sheet) g in
         rw (carried-refused n schedule lent y, p, q, take-append-drop)
 

@@ -3,28 +3,48 @@
 use Rattle.std.specs.Prelude.{ℕ, ◌*◌, cond, List, length, take, eqb}
 use Rattle.std.proofs.lemmas.List.Edits.{sets}
 use Rattle.table.specs.Fresh.{fresh_table}
-use Rattle.plant.specs.declared.Answer.{Answer}
+use Rattle.plant.specs.declared.Tally.{Tally}
 use Rattle.plant.specs.Entry.{state_of}
-use Rattle.plant.specs.Run.{Outcome, run}
+use Rattle.plant.specs.Run.{Outcome, stop_number, run}
 use Rattle.watch.specs.declared.watched.Report.{Report}
 use Rattle.watch.specs.declared.watched.Report.TheVariants.{Unread, Ran}
 use Rattle.watch.specs.Input.{Reading, read_input}
 
--- what comes of an input: the report, which is printed, and the sheet, of which the lines of the entries taken are printed
+-- a run "answers the number (0 or a refusal), how many entries were taken, and the tally"
+pub record Answer : Type 0 where
+  pub number : ℕ
+  pub taken : ℕ
+  pub tally : Tally
+
+-- what is printed: "that line's number from 1", or what the run answers
+pub data Said : Type 0 where
+  says_unread : ℕ → Said
+  says_run : Answer → Said
+
+-- what a report says
+abbrev pub said : Report → Said
+said (Unread line) = says_unread line
+said (Ran r) = says_run (record { number = stop_number r.stopped; taken = r.taken; tally = r.tally })
+
+-- what comes of an input: what is printed, and the sheet, of which the lines of the entries taken are printed
 pub record Watched : Type 0 where
-  pub report : Report
+  pub report : Said
   pub sheet : List ℕ
 
-abbrev pub watched_with : Report → List ℕ → Watched
-watched_with r sheet = record { report = r; sheet = sheet }
+abbrev pub said_with : Said → List ℕ → Watched
+said_with r sheet = record { report = r; sheet = sheet }
 
--- "answers the number (0 or a refusal), how many entries were taken, and the tally"
+-- a report, and the sheet as it is left
+abbrev pub watched_with : Report → List ℕ → Watched
+watched_with r sheet = said_with (said r) sheet
+
+-- what a run with this outcome answers
 abbrev pub run_answer : Outcome → Answer
 run_answer o = record { number = o.number; taken = o.taken; tally = record { rounds = o.state.rounds; tests = o.state.tests } }
 
 -- an outcome, with the sheet of the run as the first part of the lent one
 abbrev ran_on : List ℕ → Outcome → Watched
-ran_on lent o = watched_with (Ran (run_answer o)) (sets lent 0 o.sheet)
+ran_on lent o = said_with (says_run (run_answer o)) (sets lent 0 o.sheet)
 
 -- "It starts from a fresh table and zero tallies." The run takes a part of the lent sheet, of twice the schedule's length
 abbrev pub carried_out : ℕ → List ℕ → List ℕ → Watched
@@ -33,7 +53,7 @@ carried_out n schedule lent = ran_on lent (run n (state_of (fresh_table n) 0 0) 
 -- "At the first unreadable line or a 4,097th entry, whichever comes first, the program prints only `unread`, a space and that line's
 -- number from 1"
 abbrev watched_of : List ℕ → Reading → Watched
-watched_of lent r = cond (eqb r.unread 0) (carried_out r.size r.schedule lent) (watched_with (Unread r.unread) lent)
+watched_of lent r = cond (eqb r.unread 0) (carried_out r.size r.schedule lent) (said_with (says_unread r.unread) lent)
 
 -- the whole input, with a lent sheet: the program lends 16,384 zeros
 unfoldable pub watched : List ℕ → List ℕ → Watched

@@ -1,7 +1,7 @@
 // What the run program prints (document 01). No contract can say what is written; these functions are safe. What cannot be written is left
 // out, and what follows is tried all the same.
 use crate::watched::Report;
-use plant::{Answer, Tally};
+use plant::{Ran, Tally};
 
 // What is printed of a report and the sheet.
 pub fn print_report(rt: &impl Print, sheet: &[u8; 16384], report: Report) {
@@ -9,32 +9,30 @@ pub fn print_report(rt: &impl Print, sheet: &[u8; 16384], report: Report) {
         Report::Unread(line) => {
             let _ = println!(rt; "unread {line}");
         }
-        Report::Ran(answer) => print_answer(rt, sheet, answer),
+        Report::Ran(ran) => print_run(rt, sheet, ran),
     }
 }
 
 // The header, a line for each entry taken, and the last line.
-fn print_answer(rt: &impl Print, sheet: &[u8], answer: Answer) {
+fn print_run(rt: &impl Print, sheet: &[u8], ran: Ran) {
     let _ = println!(rt; "station tested outcome status");
-    for k in 0..answer.taken {
-        print_line(rt, sheet, k);
+    for line in sheet.chunks_exact(4).take(ran.taken) {
+        print_line(rt, line);
     }
-    let Tally { rounds, tests } = answer.tally;
+    let Tally { rounds, tests } = ran.tally;
     let _ = println!(rt;
         "rounds {rounds} tests {tests} refused {} at {}",
-        answer.number, answer.taken
+        ran.number(),
+        ran.taken
     );
 }
 
-// Line k of the sheet, of four bytes, if there is one; - where no station was tested.
-fn print_line(rt: &impl Print, sheet: &[u8], k: usize) {
-    if sheet.len() / 4 <= k {
+// A line of the sheet, of four bytes; - where no station was tested.
+fn print_line(rt: &impl Print, line: &[u8]) {
+    let [station, tested, outcome, status] = line else {
         return;
-    }
-    let at = 4 * k;
-    let (station, tested) = (sheet[at], sheet[at + 1]);
-    let (outcome, status) = (sheet[at + 2], sheet[at + 3]);
-    let _ = if tested == 255 {
+    };
+    let _ = if *tested == 255 {
         println!(rt; "{station} - {outcome} {status}")
     } else {
         println!(rt; "{station} {tested} {outcome} {status}")

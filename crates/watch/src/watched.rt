@@ -8,14 +8,14 @@ ghost use Rattle.plant.specs.Run.{outcome_with, run};
 ghost use Rattle.watch.specs.Watched.{watched_with, carried_out, watched, deciding};
 
 use crate::input;
-use plant::{Answer, Tally, run};
+use plant::{Ran, Tally, run};
 use table::{cells, fresh, sizes};
 
-// What is printed: the number of the first unreadable line, or what the run answers.
-#[derive(Clone, Copy)]
+// What is printed: the number of the first unreadable line, or how the run went.
+#[derive(Clone, Copy, Debug, PartialEq, Eq)]
 pub enum Report {
     Unread(usize),
-    Ran(Answer),
+    Ran(Ran),
 }
 
 // Reads an input and carries its schedule out.
@@ -52,25 +52,21 @@ fn carry_out(
     let used = 2 * entries;
     let long = table_part(size);
     let filled = 4 * entries;
-    let answer = run_fresh(
+    let ran = run_fresh(
         size,
         &schedule[..used],
         &mut table[..long],
         &mut sheet[..filled],
     );
-    Report::Ran(answer)
+    Report::Ran(ran)
 }
 
 // Makes the table fresh and runs the schedule with zero tallies.
-fn run_fresh(size: usize, schedule: &[u8], table: &mut [u8], sheet: &mut [u8]) -> Answer
+fn run_fresh(size: usize, schedule: &[u8], table: &mut [u8], sheet: &mut [u8]) -> Ran
     ensures { outcome_with result table.new sheet.new ≡ run size (state_of (fresh_after size table.old) 0 0) schedule.now sheet.old }
 {
     let _ = fresh::fresh_table(size, table);
-    let tally = Tally {
-        rounds: 0,
-        tests: 0,
-    };
-    run::run(size, table, tally, schedule, sheet)
+    run::run(size, table, Tally::default(), schedule, sheet)
 }
 
 // The length of the part of the table that a plant of this size has; 0 for what is no size.

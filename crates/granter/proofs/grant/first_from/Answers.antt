@@ -9,7 +9,7 @@ pub returns-then-not-finished_if_live : goal.returns-then-not-finished_if_live
 unfolding first_from
 returns-then-not-finished_if_live c =
     let w = sym (waits-is _ _ _) ∙ ap not (sym c.finished_if_live.ensures ∙ c.if-not-finished_if_live.true) in
-    sym (least-is _ _ _ _ (omega arith) (omega arith) w (λ y a b. c.loop-i.invariant y b a))
+    (sym (least-is _ _ _ _ (omega arith) (omega arith) w (λ y a b. c.loop-i.invariant y b a)), c.loop-i-test.true)
 
 pub loop-i-preserved : goal.loop-i-preserved
 loop-i-preserved c =
@@ -20,5 +20,4 @@ pub returns : goal.returns
 unfolding first_from
 returns c =
     let a = c.args in
-    let e : c.greater.result ≡ a.from.0 + (a.n - a.from.0) = omega arith in
-    e ∙ sym (least-none (waits a.n a.table.now) (a.n - a.from.0) a.from.0 (λ y lo hi. c.loop-i.invariant y (omega arith) lo))
+    omega (arith, least-none (waits a.n a.table.now) (a.n - a.from.0) a.from.0 (λ y lo hi. c.loop-i.invariant y (omega arith) lo))

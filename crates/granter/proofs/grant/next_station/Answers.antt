@@ -1,12 +1,26 @@
 -- The first one that waits behind the last one, or else the first one of all.
-use Rattle.std.proofs.Common.{lt-ltb, le-ltb}
+use Rattle.std.proofs.Common.{refl, lt-ltb, le-ltb, arith}
+use Rattle.std.specs.Prelude.{Option, Some, None, MatchOption, IsSome}
+use Rattle.table.proofs.Accepting.{accepted}
 use Rattle.granter.specs.Grant.{granted}
+use Rattle.granter.proofs.GrantLaws.{first-waits}
 use Rattle.granter.proofs.grant.next_station.Goals as goal
 
-pub returns-then-next-n : goal.returns-then-next-n
+is-some : {A : Type 0} (r : Option A) (P : Type 0) (Q : A → Type 0) → MatchOption r P Q → (P → ⊥) → IsSome r
+is-some None P Q m h = absurd (h m)
+is-some (Some x) P Q m h = refl
+
+pub returns-in-Some : goal.returns-in-Some
 unfolding granted
-returns-then-next-n c = rw (← c.following.ensures, ← c.first_from-next.ensures, lt-ltb _ _ c.if-next-n.true)
+returns-in-Some c = let f = c.in-Some.ensures in rw (← c.following.ensures, ← f.0, lt-ltb _ _ f.1)
+
+pub unwrap-requires : goal.unwrap-requires
+unwrap-requires c =
+    let some = first-waits _ _ (accepted c.args.n c.args.table.now c.requires.table_obeys) c.requires.someone_live in
+    is-some _ _ _ c.first_from-2.ensures (λ none. omega arith)
 
 pub returns : goal.returns
 unfolding granted
-returns c = rw (← c.following.ensures, ← c.first_from-next.ensures, le-ltb _ _ c.if-next-n.false) c.first_from.ensures
+returns c =
+    let f = rw c.unwrap.ensures at c.first_from-2.ensures in
+    rw (← c.following.ensures, le-ltb _ _ c.in_default.ensures) f.0

@@ -9,21 +9,25 @@ use Rattle.plant.proofs.run.go_on.Goals as goal
 pub loop-k-init : goal.loop-k-init
 loop-k-init c =
     let f = start-facts _ _ _ _ c.requires in
-    record { twice = f.2; rules = f.0; same = refl }
+    record { twice = f.2; rules = f.0; count = refl; going = refl; same = refl }
 
 pub returns-in-Err : goal.returns-in-Err
 returns-in-Err c =
     let l = c.loop-k in
-    let s = state_with l.table l.held in
+    let s = state_with l.table l.ran.tally in
     let r = sym c.check_entry.ensures ∙ c.in-Err.is in
-    rw c.number.ensures (sym (sym l.invariant.same ∙ go-stopped c.args.n l.k s l.sheet c.args.schedule.now _ c.loop-k-test.true r))
+    rw l.invariant.count (sym (sym l.invariant.same ∙ go-stopped c.args.n l.k s l.sheet c.args.schedule.now _ c.loop-k-test.true r))
 
-pub take_entry-held-requires : goal.take_entry-held-requires
-take_entry-held-requires c =
+pub take_entry-ran-requires : goal.take_entry-ran-requires
+take_entry-ran-requires c =
     let i = c.loop-k.invariant in
     let h = c.loop-k-test.true in
     let z = ap number_of_result (sym c.check_entry.ensures ∙ c.in_default.is) in
-    (accepted-number _ _ i.rules, z, simp (length-take, length-drop) (omega (arith, i.twice, h)))
+    record {
+      table_obeys = accepted-number _ _ i.rules;
+      entry_taken = z;
+      line_length = simp (length-take, length-drop) (omega (arith, i.twice, h));
+    }
 
 pub loop-k-preserved : goal.loop-k-preserved
 loop-k-preserved c =
@@ -31,21 +35,21 @@ loop-k-preserved c =
     let l = c.loop-k in
     let i = l.invariant in
     let h = c.loop-k-test.true in
-    let s = state_with l.table l.held in
+    let s = state_with l.table l.ran.tally in
     let e = entry_at c.args.schedule.now l.k in
     let z = ap number_of_result (sym c.check_entry.ensures ∙ c.in_default.is) in
-    let p = c.take_entry-held.ensures in
+    let p = c.take_entry-ran.ensures in
     let w = line-back n s e l.sheet l.k _ p.line_after (omega (arith, i.twice, h)) in
     record {
       twice = omega arith;
       rules = rw (ap (λ (z : State). z.table) p.result_after) (accepted-kept n s e i.rules z);
+      count = refl;
+      going = i.going;
       same = go-taken n l.k s l.sheet c.args.schedule.now _ _ h z p.result_after w ∙ i.same;
     }
 
 pub returns : goal.returns
 returns c =
     let l = c.loop-k in
-    let s = state_with l.table l.held in
-    let all : l.k ≡ length c.args.schedule.now / 2 = omega arith in
-    let done = sym l.invariant.same ∙ go-done c.args.n l.k s l.sheet c.args.schedule.now c.loop-k-test.false in
-    rw all at (sym done)
+    let s = state_with l.table l.ran.tally in
+    rw (l.invariant.going, l.invariant.count) (sym (sym l.invariant.same ∙ go-done c.args.n l.k s l.sheet c.args.schedule.now c.loop-k-test.false))

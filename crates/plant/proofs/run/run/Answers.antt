@@ -9,16 +9,16 @@ use Rattle.plant.proofs.run.run.Goals as goal
 pub returns-in-Err : goal.returns-in-Err
 returns-in-Err c =
     let a = c.args in
-    rw c.number.ensures (sym (run-refused a.n (state_with a.table.now a.tally) a.schedule.now a.sheet.now _ (sym c.check_start.ensures ∙ c.in-Err.is)))
+    sym (run-refused a.n (state_with a.table.now a.tally) a.schedule.now a.sheet.now _ (sym c.check_start.ensures ∙ c.in-Err.is))
 
 pub overflow_cast-n : goal.overflow_cast-n
-overflow_cast-n c = omega (arith, size-bounds _ (start_ok _ _ _ _ _ (sym c.check_start.ensures ∙ c.in-Ok.is)).0.size)
+overflow_cast-n c = omega (arith, size-bounds _ (start_ok _ _ _ _ _ (sym c.check_start.ensures ∙ c.in_default.is)).0.size)
 
 pub go_on-requires : goal.go_on-requires
-go_on-requires c = ap number_of_result (sym c.check_start.ensures ∙ c.in-Ok.is)
+go_on-requires c = ap number_of_result (sym c.check_start.ensures ∙ c.in_default.is)
 
-pub returns-in-Ok : goal.returns-in-Ok
-returns-in-Ok c =
+pub returns : goal.returns
+returns c =
     let a = c.args in
-    let z = ap number_of_result (sym c.check_start.ensures ∙ c.in-Ok.is) in
+    let z = ap number_of_result (sym c.check_start.ensures ∙ c.in_default.is) in
     rw (run-goes a.n (state_with a.table.now a.tally) a.schedule.now a.sheet.now z) c.go_on.ensures

@@ -4,10 +4,10 @@ use Rattle.plant.specs.Run.{Outcome}
 use Rattle.plant.proofs.RunLaws.{start-one, go-one}
 use Rattle.plant.proofs.single.take_turn.Goals as goal
 
-pub go_on-answer-requires : goal.go_on-answer-requires
-go_on-answer-requires c = start-one _ _ c.requires.0
+pub go_on-ran-requires : goal.go_on-ran-requires
+go_on-ran-requires c = start-one _ _ c.requires.table_obeys
 
 pub returns : goal.returns
 returns c =
-    let run = rw c.from.ensures at c.go_on-answer.ensures in
-    ap (λ (o : Outcome). o.state) run ∙ go-one _ _ _ _ _ c.requires.1
+    let run = rw c.from.ensures at c.go_on-ran.ensures in
+    ap (λ (o : Outcome). o.state) run ∙ go-one _ _ _ _ _ c.requires.turn_taken

@@ -7,7 +7,7 @@ use Rattle.watch.proofs.watched.carry_out.Goals as goal
 pub returns : goal.returns
 returns c =
     let a = c.args in
-    let r = c.run_fresh-answer in
+    let r = c.run_fresh-ran in
     let p = c.table_part-long in
     let long : length (take (2 * a.entries) a.schedule.now) ≡ 2 * a.entries = length-take-le _ _ (omega arith) in
     carried a.size _ _ a.sheet.now r.result _ _ (4 * a.entries)
