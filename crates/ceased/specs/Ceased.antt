@@ -1,7 +1,7 @@
 -- Request C-18, "Who told it, and how long ago": bytes 4 and 5 after a taken entry, after a list of runs, and after one that mixes runs and
 -- drives.
 -- Assumes nothing.
-use Rattle.std.specs.Prelude.{◌≡◌, ◌≢◌, Bool, true, false, cond, List, [], ◌∷◌, ℕ, ◌+◌, min, ◌≤◌, ◌<◌, length}
+use Rattle.std.specs.Prelude.{◌≡◌, ◌≢◌, Bool, true, false, List, [], ◌∷◌, ℕ, ◌+◌, min, ◌≤◌, ◌<◌, length, if◌then◌else◌}
 use Rattle.table.specs.Table.{table_length, status, status_told, told_by, not_recorded, rounds_ago, rounds_ago_top, suspects, live}
 use Rattle.table.specs.Rules.{table_number, round_over}
 use Rattle.turn.specs.Turn.{outcome_told, outcome_tested_told}
@@ -45,7 +45,7 @@ rounds_closed xs = count_taken closes_round xs
 -- of a station that is live at first: the entries from the one at which it ceased to be live on
 unfoldable pub since_ceased : ℕ → List Taken → List Taken
 since_ceased i [] = []
-since_ceased i (x ∷ xs) = cond (live x.size (table_after x) i) (since_ceased i xs) (x ∷ xs)
+since_ceased i (x ∷ xs) = if live x.size (table_after x) i then since_ceased i xs else x ∷ xs
 
 -- station i left because told by b with the first of these entries
 abbrev pub FirstTold : ℕ → List Taken → ℕ → ℕ → Type 0

@@ -1,6 +1,6 @@
 -- Which tests each board makes in a round that begins with exact rows.
 -- Assumes nothing.
-use Rattle.std.specs.Prelude.{ℕ, ◌≤◌, ◌<◌, ◌≡◌, Bool, true, cond, ◌&&◌, List, [], ◌∷◌, map, length, get_or, eqb}
+use Rattle.std.specs.Prelude.{ℕ, ◌≤◌, ◌<◌, ◌≡◌, Bool, true, ◌&&◌, List, [], ◌∷◌, map, length, if◌then◌else◌, ◌==◌, slice_index_or}
 use Rattle.station.specs.Groups.{station_at}
 use Rattle.table.specs.Sizes.{dimension}
 use Rattle.table.specs.Table.{live}
@@ -16,12 +16,12 @@ station_tested x = tested_of x.size x.before.table x.entry
 
 -- whether the taken entry is a turn of station i that makes a test
 abbrev pub is_test_of : ℕ → Taken → Bool
-is_test_of i x = eqb x.entry.station i && taken_test x
+is_test_of i x = x.entry.station == i && taken_test x
 
 -- the stations that station i tests in the round, in order
 unfoldable pub tested_in : ℕ → List Taken → List ℕ
 tested_in i [] = []
-tested_in i (x ∷ xs) = cond (is_test_of i x) (station_tested x ∷ tested_in i xs) (tested_in i xs)
+tested_in i (x ∷ xs) = if is_test_of i x then station_tested x ∷ tested_in i xs else tested_in i xs
 
 -- the table with which a round begins, that before its first entry
 unfoldable pub first_table : List Taken → List ℕ
@@ -33,13 +33,13 @@ first_table (x ∷ xs) = x.before.table
 abbrev pub TestsJustDue : ℕ → State → List Call → ℕ → Type 0
 TestsJustDue n s calls k =
     (i : ℕ) → i < n → live n s.table i ≡ true
-    → tested_in i (get_or (rounds_of s calls).closed k []) ≡ map (station_at i) (due_distances (exact_row n s.table) i n)
+    → tested_in i (slice_index_or (rounds_of s calls).closed k []) ≡ map (station_at i) (due_distances (exact_row n s.table) i n)
 
 -- "In a round that begins with exact rows, a board that stays live makes just these tests". By demand 3 the live boards stay live
 abbrev pub BoardTests : Type 0
 BoardTests =
     (n : ℕ) (s : State) (calls : List Call) → Premises n s calls → (k : ℕ) → k < length (rounds_of s calls).closed
-    → ExactRows n (first_table (get_or (rounds_of s calls).closed k [])) → TestsJustDue n s calls k
+    → ExactRows n (first_table (slice_index_or (rounds_of s calls).closed k [])) → TestsJustDue n s calls k
 
 -- after the exact wait that is so in every closed round
 abbrev pub BoardTestsAfterWait : Type 0

@@ -1,6 +1,6 @@
 -- Demand 3: the claim, whole, and the same claim within fewer rounds.
 -- Assumes nothing.
-use Rattle.std.specs.Prelude.{ℕ, suc, ◌+◌, ◌-◌, ◌*◌, ◌/◌, ◌≤◌, ◌<◌, ◌≡◌, Bool, true, cond, not, ◌&&◌, List, [], ◌∷◌, ◌++◌, length, get_or, ltb}
+use Rattle.std.specs.Prelude.{ℕ, suc, ◌+◌, ◌-◌, ◌*◌, ◌/◌, ◌≤◌, ◌<◌, ◌≡◌, Bool, true, not, ◌&&◌, List, [], ◌∷◌, ◌++◌, length, if◌then◌else◌, nat_lt, slice_index_or}
 use Rattle.lists.specs.Search.{every}
 use Rattle.table.specs.Sizes.{is_size, dimension}
 use Rattle.station.specs.Groups.{is_present, width, member}
@@ -39,7 +39,7 @@ all_rounds r = r.closed ++ (r.open_round ∷ [])
 
 -- the kth round, from 0; after the closed ones the open one
 abbrev pub round_at : State → List Call → ℕ → List Taken
-round_at s calls k = get_or (all_rounds (rounds_of s calls)) k []
+round_at s calls k = slice_index_or (all_rounds (rounds_of s calls)) k []
 
 -- station i has at most n turns in a round, and an nth finished its pass
 abbrev pub TurnsOk : ℕ → ℕ → List Taken → Type 0
@@ -72,7 +72,7 @@ pub record Conclusion (enough n : ℕ) (s : State) (calls : List Call) (end : St
       → (i j : ℕ) → i < n → j < n → live n s.table i ≡ true → suspects n end.table i j ≡ bit (not_live n s.table j)
   -- each closed round after these has exactly the tests that the demand counts
   pub tests : (k : ℕ) → enough ≤ k → k < length (rounds_of s calls).closed
-      → tests_in (get_or (rounds_of s calls).closed k []) ≡ demand_count n s.table
+      → tests_in (slice_index_or (rounds_of s calls).closed k []) ≡ demand_count n s.table
   -- the tally: the closed rounds are added to its rounds, and the tests of all rounds, the open one included, to its tests
   pub rounds_tally : end.rounds ≡ s.rounds + length (rounds_of s calls).closed
   pub tests_tally : end.tests ≡ s.tests + tests_of_all (all_rounds (rounds_of s calls))
@@ -110,4 +110,4 @@ WithinPairs = Within pairs_wait
 
 -- the rounds of our own claim: 1, 2, 3, 4, 6, 8 for d = 1 to 6. From 3 boards on fewer do not suffice (crate witness)
 unfoldable pub exact_wait : ℕ → ℕ
-exact_wait d = cond (ltb d 4) d (4 + (d - 3) * (d - 3) / 2)
+exact_wait d = if nat_lt d 4 then d else 4 + (d - 3) * (d - 3) / 2

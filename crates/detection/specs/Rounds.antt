@@ -1,6 +1,6 @@
 -- The rounds of a list of taken entries, cut by what the entries did.
 -- Assumes nothing.
-use Rattle.std.specs.Prelude.{ℕ, ◌+◌, ◌-◌, Bool, true, false, cond, ◌&&◌, ◌||◌, List, [], ◌∷◌, ◌++◌, eqb}
+use Rattle.std.specs.Prelude.{ℕ, ◌+◌, ◌-◌, Bool, true, false, ◌&&◌, ◌||◌, List, [], ◌∷◌, ◌++◌, if◌then◌else◌, ◌==◌}
 use Rattle.lists.specs.Search.{every}
 use Rattle.table.specs.Rules.{not_live, some_live}
 use Rattle.lists.specs.Sums.{bit}
@@ -21,7 +21,7 @@ count_taken q (x ∷ xs) = bit (q x) + count_taken q xs
 
 -- whether station i finished its pass with the entry
 abbrev pub finishes_of : ℕ → Taken → Bool
-finishes_of i x = eqb x.entry.station i && finishes x
+finishes_of i x = x.entry.station == i && finishes x
 
 -- "each live one has finished its pass in that round": station i is not live after x, or finished its pass in the round
 abbrev pub finished_or_not_live : List Taken → Taken → ℕ → Bool
@@ -47,7 +47,7 @@ cut round (x ∷ xs) =
     let here = round ++ (x ∷ []) in
     let closing = round_before here (cut [] xs) in
     let going = cut here xs in
-    cond (closes here x) closing going
+    if closes here x then closing else going
 
 -- "A round's tests are the turns in it that make a test."
 abbrev pub tests_in : List Taken → ℕ
@@ -65,4 +65,4 @@ turns_in i round = count_taken (is_turn_of i) round
 -- whether the kth turn of station i in the list, from 1, finishes its pass; where there is no kth, it does not
 unfoldable pub nth_turn_finishes : ℕ → ℕ → List Taken → Bool
 nth_turn_finishes i k [] = false
-nth_turn_finishes i k (x ∷ xs) = cond (is_turn_of i x) (cond (eqb k 1) (finishes x) (nth_turn_finishes i (k - 1) xs)) (nth_turn_finishes i k xs)
+nth_turn_finishes i k (x ∷ xs) = if is_turn_of i x then (if k == 1 then finishes x else nth_turn_finishes i (k - 1) xs) else nth_turn_finishes i k xs

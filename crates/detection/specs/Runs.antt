@@ -1,6 +1,6 @@
 -- The list of runs and its taken entries.
 -- Assumes nothing.
-use Rattle.std.specs.Prelude.{ℕ, Bool, cond, not, ◌&&◌, List, [], ◌∷◌, ◌++◌, length, eqb}
+use Rattle.std.specs.Prelude.{ℕ, Bool, not, ◌&&◌, List, [], ◌∷◌, ◌++◌, length, if◌then◌else◌, ◌==◌}
 use Rattle.table.specs.Table.{live}
 use Rattle.turn.specs.Turn.{kind_turn, kind_late}
 use Rattle.plant.specs.Entry.{Entry, State, is_crash, is_test, entry_number, after, tested_of}
@@ -39,11 +39,11 @@ pub record Taken : Type 0 where
 -- reaches it and none of 7 to 11 applies"
 unfoldable pub taken_from : ℕ → State → List Entry → List Taken
 taken_from n s [] = []
-taken_from n s (e ∷ es) = cond (eqb (entry_number n s e) 0) (record { size = n; before = s; entry = e } ∷ taken_from n (after n s e) es) []
+taken_from n s (e ∷ es) = if entry_number n s e == 0 then (record { size = n; before = s; entry = e } ∷ taken_from n (after n s e) es) else []
 
 -- the taken entries of one run
 unfoldable pub taken_in : State → Call → List Taken
-taken_in s c = cond (eqb (start_number c.size s.table (length c.schedule) (length c.sheet)) 0) (taken_from c.size s (entries c.schedule)) []
+taken_in s c = if start_number c.size s.table (length c.schedule) (length c.sheet) == 0 then taken_from c.size s (entries c.schedule) else []
 
 -- "the taken entries of all runs, one run's behind the other's"
 unfoldable pub taken_all : State → List Call → List Taken
@@ -56,7 +56,7 @@ table_after x = (after x.size x.before x.entry).table
 
 -- "A station's turns are its taken entries of kind 1 or 2."
 abbrev pub is_turn_of : ℕ → Taken → Bool
-is_turn_of i x = not (is_crash x.entry) && eqb x.entry.station i
+is_turn_of i x = not (is_crash x.entry) && x.entry.station == i
 
 -- "the turns in it that make a test"
 abbrev pub taken_test : Taken → Bool
@@ -72,4 +72,4 @@ crashes x = is_crash x.entry
 
 -- "A live board's reply is late at a taken entry of kind 2 that tests a live station."
 abbrev pub is_late : Taken → Bool
-is_late x = eqb x.entry.kind kind_late && taken_test x && live x.size x.before.table (tested_of x.size x.before.table x.entry)
+is_late x = x.entry.kind == kind_late && taken_test x && live x.size x.before.table (tested_of x.size x.before.table x.entry)

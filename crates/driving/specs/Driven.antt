@@ -1,6 +1,6 @@
 -- Request C-15: a drive is "the granting rule followed turn by turn", and so demand 3 speaks of plants that are driven.
 -- Assumes nothing.
-use Rattle.std.specs.Prelude.{◌≡◌, true, List, [], ◌∷◌, ◌++◌, map, ℕ, zero, suc, ◌+◌, ◌≤◌, ◌<◌, eqb, length}
+use Rattle.std.specs.Prelude.{◌≡◌, true, List, [], ◌∷◌, ◌++◌, map, ℕ, zero, suc, ◌+◌, ◌≤◌, ◌<◌, length, ◌==◌}
 use Rattle.lists.specs.Sums.{bit}
 use Rattle.table.specs.Sizes.{dimension}
 use Rattle.table.specs.Table.{suspects, live}
@@ -78,7 +78,7 @@ runs_of_drives n s lasts = runs_of_mixed s (map (a_drive n) lasts)
 
 unfoldable pub ending : ℕ → State → List ℕ → ℕ
 ending n s [] = 0
-ending n s (last ∷ lasts) = bit (eqb (drive n s last).number 0) + ending n (drive n s last).state lasts
+ending n s (last ∷ lasts) = bit ((drive n s last).number == 0) + ending n (drive n s last).state lasts
 
 -- what demand 3 says of driven plants, where so many rounds are enough
 pub record DrivenConclusion (enough n : ℕ) (s : State) (lasts : List ℕ) (end : State) : Type 0 where

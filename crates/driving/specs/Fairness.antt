@@ -1,14 +1,14 @@
 -- Request C-15: the granted station is "the next station after it, going round, that is live and unfinished"; and fairness, "A station that
 -- stays live and unfinished is granted after at most n − 1 grants to others."
 -- Assumes nothing.
-use Rattle.std.specs.Prelude.{◌≡◌, true, cond, List, ℕ, zero, suc, ◌+◌, ◌-◌, ◌≤◌, ◌<◌, ltb}
+use Rattle.std.specs.Prelude.{◌≡◌, true, List, ℕ, zero, suc, ◌+◌, ◌-◌, ◌≤◌, ◌<◌, if◌then◌else◌, nat_lt}
 use Rattle.table.specs.Rules.{table_number}
 use Rattle.lists.specs.Refusal.{unless}
 use Rattle.granter.specs.Grant.{waits, following, granted, last_refusal, grant_number, grant_station}
 
 -- how many stations come before station i in the going round b, b + 1, .., n − 1, 0, 1, .., b − 1
 unfoldable pub stations_before : ℕ → ℕ → ℕ → ℕ
-stations_before n b i = cond (ltb i b) (i + n - b) (i - b)
+stations_before n b i = if nat_lt i b then i + n - b else i - b
 
 -- the granted station is live and unfinished, and no other such station comes before it in the going round that begins behind the last one
 abbrev pub NextGoingRound : Type 0

@@ -1,6 +1,6 @@
 -- Request C-12: the figures of a list of results, as its sentences read.
 -- Assumes nothing.
-use Rattle.std.specs.Prelude.{ℕ, ◌+◌, ◌*◌, ◌-◌, min, max, Bool, not, List, length, eqb, ltb, Result, Ok, unwrap_or}
+use Rattle.std.specs.Prelude.{ℕ, ◌+◌, ◌*◌, ◌-◌, min, max, Bool, not, List, length, Result, Ok, unwrap_or, ◌==◌, nat_lt}
 use Rattle.std.specs.List.{sum_by, reduce}
 use Rattle.lists.specs.declared.refusal.Refusal.{Refusal}
 use Rattle.lists.specs.declared.refusal.Refusal.TheVariants.{NoResult, TooManyResults}
@@ -45,7 +45,7 @@ batch_check none too_many = ensure (not none) NoResult and ensure (not too_many)
 
 -- the refusals of a list of results
 abbrev pub list_check : List ℕ → Check
-list_check xs = batch_check (eqb (length xs) 0) (ltb most_results (length xs))
+list_check xs = batch_check (length xs == 0) (nat_lt most_results (length xs))
 
 -- the figures of a list, for all lists. Those of two lists are the figures of the one list that holds both.
 unfoldable pub figures : List ℕ → Result Figures Refusal

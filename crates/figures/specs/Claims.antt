@@ -1,7 +1,7 @@
 -- What is claimed of the figures of request C-12 of a list with at least one result: mean and variance are in lowest terms, least and greatest
 -- are what they are called; and of the figures of kept totals.
 -- Assumes nothing.
-use Rattle.std.specs.Prelude.{◌≡◌, ℕ, ◌*◌, ◌≤◌, ◌<◌, List, ◌∷◌, length, get_or}
+use Rattle.std.specs.Prelude.{◌≡◌, ℕ, ◌*◌, ◌≤◌, ◌<◌, List, ◌∷◌, length, slice_index}
 use Rattle.std.specs.List.{sum_by}
 use Rattle.figures.specs.Fractions.{LowestTerms}
 use Rattle.figures.specs.Batch.{sum_of_results, least_of_results, greatest_of_results, squared_difference, mean, variance, figures}
@@ -21,8 +21,8 @@ VarianceLowest =
 pub record Extreme (R : ℕ → ℕ → Type 0) (xs : List ℕ) (m : ℕ) : Type 0 where
   pub place : ℕ
   pub inside : place < length xs
-  pub stands : get_or xs place 0 ≡ m
-  pub all : (k : ℕ) → k < length xs → R m (get_or xs k 0)
+  pub stands : slice_index xs place ≡ m
+  pub all : (k : ℕ) → k < length xs → R m (slice_index xs k)
 
 -- the least result is one of the results, and none is less
 abbrev pub LeastExtreme : Type 0
@@ -34,7 +34,7 @@ GreatestExtreme = (x : ℕ) (xs : List ℕ) → Extreme (λ m y. y ≤ m) (x ∷
 
 -- the numbers of a list have 16 bits
 abbrev pub Small : List ℕ → Type 0
-Small xs = (k : ℕ) → get_or xs k 0 < 65536
+Small xs = (k : ℕ) → slice_index xs k < 65536
 
 -- the figures of kept totals are those of the list that they were taken of
 abbrev pub KeptFigures : Type 0

@@ -1,13 +1,13 @@
 -- Request C-12: fractions in lowest terms.
 -- Assumes nothing.
-use Rattle.std.specs.Prelude.{◌≡◌, ℕ, zero, suc, ◌*◌, ◌/◌, ◌%◌, ◌<◌, cond, eqb}
+use Rattle.std.specs.Prelude.{◌≡◌, ℕ, zero, suc, ◌*◌, ◌/◌, ◌%◌, ◌<◌, if◌then◌else◌, ◌==◌}
 use Rattle.std.specs.Int.{◌∣◌}
 use Rattle.figures.specs.declared.Fraction.{Fraction}
 
 -- Euclid's algorithm, in at most so many divisions
 unfoldable pub euclid : ℕ → ℕ → ℕ → ℕ
 euclid zero a b = a
-euclid (suc steps) a b = cond (eqb b 0) a (euclid steps b (a % b))
+euclid (suc steps) a b = if b == 0 then a else euclid steps b (a % b)
 
 -- the greatest common divisor; the second number gets less at each division, so that it is 0 after b of them at the latest
 unfoldable pub gcd : ℕ → ℕ → ℕ

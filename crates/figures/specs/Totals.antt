@@ -1,6 +1,6 @@
 -- Request C-12: totals of results, their join, and the figures that follow from totals.
 -- Assumes nothing.
-use Rattle.std.specs.Prelude.{ℕ, ◌+◌, ◌*◌, ◌-◌, min, max, Bool, not, cond, ◌||◌, List, length, eqb, ltb, Result, Ok}
+use Rattle.std.specs.Prelude.{ℕ, ◌+◌, ◌*◌, ◌-◌, min, max, Bool, not, ◌||◌, List, length, Result, Ok, if◌then◌else◌, ◌==◌, nat_lt}
 use Rattle.std.specs.List.{sum_by}
 use Rattle.lists.specs.declared.refusal.Refusal.{Refusal}
 use Rattle.lists.specs.declared.refusal.Refusal.TheVariants.{TooManyResults}
@@ -25,7 +25,7 @@ totals_of xs =
 -- the least or the greatest of two batches, of which one has m results and the value a, the other n and b: `both` is what a and b give
 -- together; a batch with no result does not count
 unfoldable pub of_both : ℕ → ℕ → ℕ → ℕ → ℕ → ℕ
-of_both m a n b both = cond (eqb m 0) b (cond (eqb n 0) a both)
+of_both m a n b both = if m == 0 then b else (if n == 0 then a else both)
 
 -- "their totals are joined, not counted again"
 unfoldable pub joined : Totals → Totals → Totals
@@ -45,13 +45,13 @@ greatest_result = 65535
 -- whether totals are more than 4,096 results can have: by their count, their sum or the sum of their squares
 unfoldable pub overfull : Totals → Bool
 overfull t =
-    ltb batch.most_results t.count
-    || ltb (batch.most_results * greatest_result) t.sum
-    || ltb (batch.most_results * (greatest_result * greatest_result)) t.squares
+    nat_lt batch.most_results t.count
+    || nat_lt (batch.most_results * greatest_result) t.sum
+    || nat_lt (batch.most_results * (greatest_result * greatest_result)) t.squares
 
 -- the totals of a list, for all lists: 15 for more than 4,096 results. A list with no result is accepted.
 unfoldable pub totals : List ℕ → Result Totals Refusal
-totals xs = ensure (not (ltb batch.most_results (length xs))) TooManyResults and Ok (totals_of xs)
+totals xs = ensure (not (nat_lt batch.most_results (length xs))) TooManyResults and Ok (totals_of xs)
 
 -- the join of any two totals: 15 where the joined totals are overfull
 unfoldable pub join : Totals → Totals → Result Totals Refusal
@@ -64,7 +64,7 @@ variance_of t = lowest (t.count * t.squares - t.sum * t.sum) (t.count * t.count)
 
 -- refusals 14 and 15 of any totals
 abbrev pub totals_check : Totals → Check
-totals_check t = batch.batch_check (eqb t.count 0) (overfull t)
+totals_check t = batch.batch_check (t.count == 0) (overfull t)
 
 -- the figures of any totals
 unfoldable pub figures_of_totals : Totals → Result Figures Refusal

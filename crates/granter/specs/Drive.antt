@@ -1,6 +1,6 @@
 -- Request C-15, the drive: "A drive over the lent table repeats grant and turn (kind 1) until one of these happens", for all inputs.
 -- Assumes nothing.
-use Rattle.std.specs.Prelude.{◌≡◌, ℕ, zero, suc, ◌*◌, ◌≤◌, ◌<◌, Bool, true, false, cond, not, ◌||◌, List, eqb}
+use Rattle.std.specs.Prelude.{◌≡◌, ℕ, zero, suc, ◌*◌, ◌≤◌, ◌<◌, Bool, true, false, not, ◌||◌, List, if◌then◌else◌, ◌==◌}
 use Rattle.lists.specs.Search.{least}
 use Rattle.table.specs.Rules.{some_live}
 use Rattle.lists.specs.Refusal.{unless}
@@ -34,7 +34,7 @@ after_grants n p (suc k) = grant_turn n (after_grants n p k)
 
 -- "a round closes, or nobody is left live": a round has closed when the tally has other rounds than the drive began with
 unfoldable pub ended : ℕ → ℕ → State → Bool
-ended n rounds s = not (eqb s.rounds rounds) || not (some_live n s.table)
+ended n rounds s = not (s.rounds == rounds) || not (some_live n s.table)
 
 -- whether it has, after k grants
 abbrev pub ended_after : ℕ → Stand → ℕ → Bool
@@ -69,7 +69,7 @@ drive_outcome_with d t = drive_outcome (stop_number d.stopped) (state_with t d.t
 
 -- the outcome after k grants: 0 where the drive ended, and otherwise 7, "keeping the turns made"
 unfoldable pub outcome_after : ℕ → Stand → ℕ → DriveOutcome
-outcome_after n p k = drive_outcome (cond (ended_after n p k) 0 7) (after_grants n p k).state (after_grants n p k).last k
+outcome_after n p k = drive_outcome (if ended_after n p k then 0 else 7) (after_grants n p k).state (after_grants n p k).last k
 
 -- the drive, for all inputs: refused by 1 to 4, 16 and 17 it "gives back the tally and last number handed in, and 0 grants"
 unfoldable pub drive : ℕ → State → ℕ → DriveOutcome

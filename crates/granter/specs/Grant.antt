@@ -1,6 +1,6 @@
 -- Request C-15, "A bus master that grants the turns": which station is granted, for all inputs.
 -- Assumes nothing.
-use Rattle.std.specs.Prelude.{ℕ, ◌+◌, ◌-◌, Bool, cond, not, ◌&&◌, List, ltb, leb, eqb, Result, Ok}
+use Rattle.std.specs.Prelude.{ℕ, ◌+◌, ◌-◌, Bool, not, ◌&&◌, List, Result, Ok, if◌then◌else◌, ◌==◌, nat_lt, nat_le}
 use Rattle.std.specs.Result.{result_unwrap_or}
 use Rattle.lists.specs.Search.{least}
 use Rattle.table.specs.Table.{finished, live}
@@ -15,7 +15,7 @@ no_grant = 255
 
 -- station i is "live and unfinished": it waits for a turn. (`finished_if_live` of station says the opposite)
 unfoldable pub waits : ℕ → List ℕ → ℕ → Bool
-waits n t i = live n t i && not (eqb (finished n t i) 1)
+waits n t i = live n t i && not (finished n t i == 1)
 
 -- the first station that waits, from station b on; n, or b if that is greater, where there is none
 unfoldable pub first_from : ℕ → List ℕ → ℕ → ℕ
@@ -23,17 +23,17 @@ first_from n t b = least (waits n t) (n - b) b
 
 -- "the next station after it"; "from 255 it begins at station 0"
 unfoldable pub following : ℕ → ℕ
-following last = cond (eqb last no_grant) 0 (last + 1)
+following last = if last == no_grant then 0 else last + 1
 
 -- "grants the next station after it, going round, that is live and unfinished": behind station n − 1 comes station 0, so that the last
 -- granted station itself comes last
 unfoldable pub granted : ℕ → List ℕ → ℕ → ℕ
 granted n t last =
-    cond (ltb (first_from n t (following last)) n) (first_from n t (following last)) (first_from n t 0)
+    if nat_lt (first_from n t (following last)) n then first_from n t (following last) else first_from n t 0
 
 -- 16: "a last number of n or more that is not 255"
 abbrev pub last_check : ℕ → ℕ → Check
-last_check n last = ensure (not (leb n last && not (eqb last no_grant))) LastGranted
+last_check n last = ensure (not (nat_le n last && not (last == no_grant))) LastGranted
 
 abbrev pub last_refusal : ℕ → ℕ → ℕ
 last_refusal n last = number_of_result (last_check n last)

@@ -1,6 +1,6 @@
 -- Refusals in checking order, as values and as numbers, 0 for none: the first that applies, and what a refused call leaves or answers instead.
 -- Assumes nothing.
-use Rattle.std.specs.Prelude.{ℕ, zero, suc, Bool, cond, eqb, Result, Ok, Err}
+use Rattle.std.specs.Prelude.{ℕ, zero, suc, Bool, cond, eqb, Result, Ok, Err, if◌then◌else◌}
 use Rattle.std.specs.Result.{result_and}
 use Rattle.lists.specs.declared.refusal.Refusal.{Refusal}
 use Rattle.lists.specs.declared.refusal.Refusal.TheVariants.{SizeOutOfRange, TableLength, LineRule, RoundNotClosed, ScheduleLength, SheetLength, TallyFull, UnknownKind, NoSuchStation, NotLive, PassFinished, NoSuchLevel, ListLength, NoResult, TooManyResults, LastGranted, NoneLive, FieldPastEnd, SizeOrTallyField, LineField}
@@ -42,7 +42,7 @@ Check = Result (Unit {0}) Refusal
 
 -- refused unless the test holds
 abbrev pub ensure : Bool → Refusal → Check
-ensure b r = cond b (Ok tt) (Err r)
+ensure b r = if b then Ok tt else Err r
 
 -- "no earlier one that applies": the first check that refuses, else what the last one answers
 infixr 20 ◌and◌
@@ -56,7 +56,7 @@ unless_refused (Err r) was after = was
 
 -- refusal k where its sentence holds, else 0
 abbrev pub refuse : ℕ → Bool → ℕ
-refuse k b = cond b k 0
+refuse k b = if b then k else 0
 
 -- "no earlier one that applies": the first of two refusals that is not 0
 infixr 20 ◌else◌

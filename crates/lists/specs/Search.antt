@@ -1,12 +1,12 @@
 -- Searches and lists over numbers, by which the other definitions are stated.
 -- Assumes nothing.
 use Rattle.std.specs.List.{filter}
-use Rattle.std.specs.Prelude.{ℕ, zero, suc, max, Bool, true, cond, ◌&&◌, List, [], ◌∷◌, ◌++◌}
+use Rattle.std.specs.Prelude.{ℕ, zero, suc, max, Bool, true, ◌&&◌, List, [], ◌∷◌, ◌++◌, if◌then◌else◌}
 
 -- the least of k, k + 1, .., k + n − 1 that passes q; k + n where none does
 unfoldable pub least : (ℕ → Bool) → ℕ → ℕ → ℕ
 least q zero k = k
-least q (suc n) k = cond (q k) k (least q n (suc k))
+least q (suc n) k = if q k then k else least q n (suc k)
 
 -- whether every number below n passes q
 unfoldable pub every : (ℕ → Bool) → ℕ → Bool

@@ -1,6 +1,6 @@
 -- Document 01, one entry of a schedule: refusals 7 to 11, then steps 1 to 8, for all inputs.
 -- Assumes nothing.
-use Rattle.std.specs.Prelude.{ℕ, ◌+◌, Bool, cond, not, ◌&&◌, ◌||◌, List, [], ◌∷◌, leb, eqb}
+use Rattle.std.specs.Prelude.{ℕ, ◌+◌, Bool, not, ◌&&◌, ◌||◌, List, [], ◌∷◌, if◌then◌else◌, ◌==◌, nat_le}
 use Rattle.table.specs.Table.{status, finished, live}
 use Rattle.lists.specs.declared.refusal.Refusal.TheVariants.{TallyFull, UnknownKind, NotLive, PassFinished}
 use Rattle.lists.specs.Refusal.{Check, ensure, ◌and◌, number_of_result}
@@ -38,11 +38,11 @@ tally_top = 4294967295
 
 -- refusal 7: "Either tally stands at 4,294,967,295"
 abbrev pub tally_full : ℕ → ℕ → Bool
-tally_full rounds tests = eqb rounds tally_top || eqb tests tally_top
+tally_full rounds tests = rounds == tally_top || tests == tally_top
 
 -- whether the entry is a crash, and whether it is a turn that makes a test
 abbrev pub is_crash : Entry → Bool
-is_crash e = eqb e.kind kind_crash
+is_crash e = e.kind == kind_crash
 
 abbrev pub is_test : ℕ → List ℕ → Entry → Bool
 is_test n t e = not (is_crash e) && makes_test n t e.station
@@ -52,32 +52,32 @@ is_test n t e = not (is_crash e) && makes_test n t e.station
 unfoldable pub entry_check : ℕ → State → Entry → Check
 entry_check n s e =
     ensure (not (tally_full s.rounds s.tests)) TallyFull
-    and ensure (leb 1 e.kind && leb e.kind 3) UnknownKind
+    and ensure (nat_le 1 e.kind && nat_le e.kind 3) UnknownKind
     and station_check n e.station
     and ensure (live n s.table e.station) NotLive
-    and ensure (not (not (is_crash e) && eqb (finished n s.table e.station) 1)) PassFinished
+    and ensure (not (not (is_crash e) && finished n s.table e.station == 1)) PassFinished
 
 abbrev pub entry_number : ℕ → State → Entry → ℕ
 entry_number n s e = number_of_result (entry_check n s e)
 
 -- steps 2 to 7: the table before the round rule
 unfoldable pub acted : ℕ → List ℕ → Entry → List ℕ
-acted n t e = cond (is_crash e) (crash n t e.station) (turn n t e.kind e.station)
+acted n t e = if is_crash e then crash n t e.station else turn n t e.kind e.station
 
 -- an accepted entry: table and tally after it, the round rule (step 8) included
 unfoldable pub after : ℕ → State → Entry → State
 after n s e = record {
   table = after_round n (acted n s.table e);
-  rounds = cond (round_over n (acted n s.table e)) (s.rounds + 1) s.rounds;
-  tests = cond (is_test n s.table e) (s.tests + 1) s.tests;
+  rounds = if round_over n (acted n s.table e) then s.rounds + 1 else s.rounds;
+  tests = if is_test n s.table e then s.tests + 1 else s.tests;
 }
 
 -- the tested station or 255, and the outcome
 unfoldable pub tested_of : ℕ → List ℕ → Entry → ℕ
-tested_of n t e = cond (is_crash e) no_station (turn_tested n t e.station)
+tested_of n t e = if is_crash e then no_station else turn_tested n t e.station
 
 unfoldable pub outcome_of : ℕ → List ℕ → Entry → ℕ
-outcome_of n t e = cond (is_crash e) outcome_crash (turn_outcome n t e.kind e.station)
+outcome_of n t e = if is_crash e then outcome_crash else turn_outcome n t e.kind e.station
 
 -- "four bytes of the sheet: i; the tested station or 255; the outcome [..]; i's status after the entry"
 unfoldable pub sheet_line : ℕ → State → Entry → List ℕ

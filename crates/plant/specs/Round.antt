@@ -1,6 +1,6 @@
 -- Document 01, step 8 of "What an entry does": the round, with byte 5 of request C-18.
 -- Assumes nothing.
-use Rattle.std.specs.Prelude.{ℕ, ◌+◌, min, cond, List}
+use Rattle.std.specs.Prelude.{ℕ, ◌+◌, min, List, if◌then◌else◌}
 use Rattle.table.specs.Table.{set_cell, next_column, finished_column, tests_column, rounds_ago_column, rounds_ago, rounds_ago_top, live}
 use Rattle.table.specs.Rules.{round_over}
 use Rattle.lists.specs.Steps.{after_steps}
@@ -8,7 +8,7 @@ use Rattle.lists.specs.Steps.{after_steps}
 -- byte 5 of line i after a closing. C-18: it "counts rounds closed since the station ceased to be live, and stops at 255". Of a live line it
 -- stays, 0 by the rules
 unfoldable pub rounds_after : ℕ → List ℕ → ℕ → ℕ
-rounds_after n t i = cond (live n t i) (rounds_ago n t i) (min (rounds_ago n t i + 1) rounds_ago_top)
+rounds_after n t i = if live n t i then rounds_ago n t i else min (rounds_ago n t i + 1) rounds_ago_top
 
 -- Step 8, where the round is over: "Every line, live or not, gets next distance 1, finished 0, tests 0"; and byte 5
 unfoldable pub reset_line : ℕ → ℕ → List ℕ → List ℕ
@@ -19,4 +19,4 @@ unfoldable pub reset_lines : ℕ → List ℕ → List ℕ
 reset_lines n t = after_steps (reset_line n) n t
 
 unfoldable pub after_round : ℕ → List ℕ → List ℕ
-after_round n t = cond (round_over n t) (reset_lines n t) t
+after_round n t = if round_over n t then reset_lines n t else t

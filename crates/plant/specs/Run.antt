@@ -1,6 +1,6 @@
 -- Document 01, the run: refusals 1 to 6, then the entries in order; and two claims of it.
 -- Assumes nothing.
-use Rattle.std.specs.Prelude.{◌≡◌, ℕ, suc, ◌*◌, ◌%◌, cond, not, List, [], ◌∷◌, length, eqb, Option, Some, None}
+use Rattle.std.specs.Prelude.{◌≡◌, ℕ, suc, ◌*◌, ◌%◌, not, List, [], ◌∷◌, length, Option, Some, None, if◌then◌else◌, ◌==◌}
 use Rattle.std.proofs.lemmas.List.Edits.{sets}
 use Rattle.lists.specs.declared.refusal.Refusal.TheVariants.{ScheduleLength, SheetLength}
 use Rattle.lists.specs.declared.refusal.Refusal.{Refusal}
@@ -40,16 +40,16 @@ write_line sheet k line = sets sheet (4 * k) line
 unfoldable pub go_on : ℕ → ℕ → State → List ℕ → List Entry → Outcome
 go_on n k s sheet [] = record { number = 0; taken = k; state = s; sheet = sheet }
 go_on n k s sheet (e ∷ es) =
-    cond (eqb (entry_number n s e) 0)
-    (go_on n (suc k) (after n s e) (write_line sheet k (sheet_line n s e)) es)
-    (record { number = entry_number n s e; taken = k; state = s; sheet = sheet })
+    if entry_number n s e == 0
+    then go_on n (suc k) (after n s e) (write_line sheet k (sheet_line n s e)) es
+    else (record { number = entry_number n s e; taken = k; state = s; sheet = sheet })
 
 -- refusals 1 to 6: then "The schedule's length is odd." "The sheet's length is not twice the schedule's."
 unfoldable pub start_check : ℕ → List ℕ → ℕ → ℕ → Check
 start_check n t schedule_length sheet_length =
     table_check n t
-    and ensure (not (eqb (schedule_length % 2) 1)) ScheduleLength
-    and ensure (eqb sheet_length (2 * schedule_length)) SheetLength
+    and ensure (not (schedule_length % 2 == 1)) ScheduleLength
+    and ensure (sheet_length == 2 * schedule_length) SheetLength
 
 abbrev pub start_number : ℕ → List ℕ → ℕ → ℕ → ℕ
 start_number n t schedule_length sheet_length = number_of_result (start_check n t schedule_length sheet_length)
@@ -57,9 +57,9 @@ start_number n t schedule_length sheet_length = number_of_result (start_check n 
 -- the run of a schedule on a table and a tally with a lent sheet, for all inputs. "A run refused by 1 to 6 gives back the tally handed in."
 unfoldable pub run : ℕ → State → List ℕ → List ℕ → Outcome
 run n s schedule sheet =
-    cond (eqb (start_number n s.table (length schedule) (length sheet)) 0)
-    (go_on n 0 s sheet (entries schedule))
-    (record { number = start_number n s.table (length schedule) (length sheet); taken = 0; state = s; sheet = sheet })
+    if start_number n s.table (length schedule) (length sheet) == 0
+    then go_on n 0 s sheet (entries schedule)
+    else (record { number = start_number n s.table (length schedule) (length sheet); taken = 0; state = s; sheet = sheet })
 
 -- "An empty schedule is accepted and changes nothing": on a table that refusals 1 to 4 let through
 abbrev pub EmptyRun : Type 0

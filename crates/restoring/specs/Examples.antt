@@ -1,7 +1,7 @@
 -- Examples of C-17 with the six-byte heads of C-18, worked out by hand from their sentences: the saved form of two fresh boards
 -- (docs/PANEL.md), and the reader's number for some files.
 -- Assumes nothing.
-use Rattle.std.specs.Prelude.{ℕ, ◌≡◌, Bool, true, ◌&&◌, List, [], ◌∷◌, ◌++◌, eqb}
+use Rattle.std.specs.Prelude.{ℕ, ◌≡◌, Bool, true, ◌&&◌, List, [], ◌∷◌, ◌++◌, ◌==◌}
 use Rattle.table.specs.Fresh.{fresh_table}
 use Rattle.saved.specs.Load.{load_number}
 use Rattle.saved.specs.Save.{saved}
@@ -76,7 +76,7 @@ examples =
 -- all have that number
 unfoldable pub all_hold : List Example → Bool
 all_hold [] = true
-all_hold (e ∷ es) = eqb (load_number e.file e.len) e.number && all_hold es
+all_hold (e ∷ es) = load_number e.file e.len == e.number && all_hold es
 
 abbrev pub ExamplesHold : Type 0
 ExamplesHold = all_hold examples ≡ true

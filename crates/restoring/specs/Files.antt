@@ -1,6 +1,6 @@
 -- A file and its fields: a file has fields exactly where it is the bytes of them, one field behind the other.
 -- Assumes nothing.
-use Rattle.std.specs.Prelude.{◌≡◌, ℕ, ◌^◌, ◌<◌, length, get_or, Some}
+use Rattle.std.specs.Prelude.{◌≡◌, ℕ, ◌^◌, ◌<◌, length, Some, slice_index}
 use mathlib.Core.List.{List, [], ◌∷◌, ◌++◌, Memᴰ}
 use Rattle.saved.specs.Fields.{Field, field_bytes, fields}
 
@@ -11,7 +11,7 @@ fields_bytes (f ∷ fs) = field_bytes f ++ fields_bytes fs
 
 -- a list of bytes: each is below 256
 abbrev pub AreBytes : List ℕ → Type 0
-AreBytes l = (k : ℕ) → get_or l k 0 < 256
+AreBytes l = (k : ℕ) → slice_index l k < 256
 
 -- the lengths fit into two bytes
 abbrev pub Short : List Field → Type 0

@@ -1,7 +1,7 @@
 -- Request C-17: "Reading a saved plant restores table and tally; saving what was read gives the writer's form." "The reader takes any order and
 -- passes over other tags."
 -- Assumes nothing.
-use Rattle.std.specs.Prelude.{◌≡◌, false, cond, ℕ, ◌+◌, ◌*◌, ◌^◌, ◌<◌, length, Ok}
+use Rattle.std.specs.Prelude.{◌≡◌, false, ℕ, ◌+◌, ◌*◌, ◌^◌, ◌<◌, length, Ok, if◌then◌else◌}
 use mathlib.Core.List.{List, [], ◌∷◌, ◌++◌, Permᴰ}
 use Rattle.table.specs.Rules.{table_number}
 use Rattle.plant.specs.declared.Tally.{Tally}
@@ -49,7 +49,7 @@ SavedAgain =
 -- the fields with one of the three tags
 unfoldable pub known : List Field → List Field
 known [] = []
-known (f ∷ fs) = cond (is_known f.tag) (f ∷ known fs) (known fs)
+known (f ∷ fs) = if is_known f.tag then f ∷ known fs else known fs
 
 -- "takes any order and passes over other tags": two files in which no field runs past the end, and whose fields with the three tags are the same in
 -- some order, whatever other fields stand between them, are read alike, refused ones too

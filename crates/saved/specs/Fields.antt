@@ -1,6 +1,6 @@
 -- Request C-17: "tagged fields: a one-byte tag, a two-byte length (high byte first), then the contents".
 -- Assumes nothing.
-use Rattle.std.specs.Prelude.{ℕ, zero, suc, ◌+◌, Bool, false, cond, List, [], ◌∷◌, ◌++◌, length, get_or, take, drop, ltb, eqb}
+use Rattle.std.specs.Prelude.{ℕ, zero, suc, ◌+◌, Bool, false, List, [], ◌∷◌, ◌++◌, length, take, drop, if◌then◌else◌, ◌==◌, nat_lt, slice_index}
 use Rattle.std.specs.Prelude.{Option, Some, None, is_none, unwrap_or, option_map}
 use Rattle.saved.specs.Bytes.{number_of, bytes_of}
 
@@ -22,7 +22,7 @@ infront f = option_map (λ fs. f ∷ fs)
 
 -- the length that the head of the first field says
 abbrev pub length_in : List ℕ → ℕ
-length_in file = number_of (get_or file 1 0 ∷ get_or file 2 0 ∷ [])
+length_in file = number_of (slice_index file 1 ∷ slice_index file 2 ∷ [])
 
 -- the bytes of the first field, its head of three included
 abbrev pub extent : List ℕ → ℕ
@@ -33,9 +33,9 @@ extent file = 3 + length_in file
 unfoldable pub fields_up_to : ℕ → List ℕ → Option (List Field)
 fields_up_to zero file = Some []
 fields_up_to (suc most) file =
-    cond (eqb (length file) 0) (Some [])
-    (cond (ltb (length file) (extent file)) None
-    (infront (field (get_or file 0 0) (take (length_in file) (drop 3 file))) (fields_up_to most (drop (extent file) file))))
+    if length file == 0 then Some []
+    else (if nat_lt (length file) (extent file) then None
+    else infront (field (slice_index file 0) (take (length_in file) (drop 3 file))) (fields_up_to most (drop (extent file) file)))
 
 -- the fields of a file: no more than it has bytes
 unfoldable pub fields : List ℕ → Option (List Field)
@@ -52,12 +52,12 @@ fields_of file = unwrap_or (fields file) []
 -- the contents of the fields with a tag, in the file's order; the reader "takes any order and passes over other tags"
 unfoldable pub tagged : ℕ → List Field → List (List ℕ)
 tagged k [] = []
-tagged k (f ∷ fs) = cond (eqb f.tag k) (f.contents ∷ tagged k fs) (tagged k fs)
+tagged k (f ∷ fs) = if f.tag == k then f.contents ∷ tagged k fs else tagged k fs
 
 -- of such contents: there is one, and it has that length; not "absent, twice or of wrong length"
 abbrev pub single : ℕ → List (List ℕ) → Bool
 single len [] = false
-single len (c ∷ []) = eqb (length c) len
+single len (c ∷ []) = length c == len
 single len (c ∷ d ∷ cs) = false
 
 -- the first of such contents

@@ -1,6 +1,6 @@
 -- Request C-17: the reader, for all files and buffers. "Turned away, in this order": 18, 19, 1, 20, 2, 3, 4.
 -- Assumes nothing.
-use Rattle.std.specs.Prelude.{ℕ, not, List, length, eqb, Result, Ok}
+use Rattle.std.specs.Prelude.{ℕ, not, List, length, Result, Ok, ◌==◌}
 use Rattle.std.specs.Result.{result_unwrap_or}
 use Rattle.lists.specs.declared.refusal.Refusal.{Refusal}
 use Rattle.lists.specs.declared.refusal.Refusal.TheVariants.{SizeOutOfRange, TableLength, FieldPastEnd, SizeOrTallyField, LineField}
@@ -32,7 +32,7 @@ size_check file =
 -- right length, so that of table_check's refusals only 3 and 4 are left
 unfoldable pub rest_check : ℕ → List (List ℕ) → ℕ → Check
 rest_check n cs len =
-    ensure (lines_right n cs) LineField and ensure (eqb len (table_length n)) TableLength and table_check n (table_in n cs)
+    ensure (lines_right n cs) LineField and ensure (len == table_length n) TableLength and table_check n (table_in n cs)
 
 -- all of the reader's
 unfoldable pub load_check : List ℕ → ℕ → Check

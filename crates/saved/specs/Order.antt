@@ -1,7 +1,7 @@
 -- Request C-19, in preparation: the opening, and the order of the fields behind it. "edition 2 opens with tag 4, length 1, contents 2, then size,
 -- tally and lines ascending". No call goes by this yet.
 -- Assumes nothing.
-use Rattle.std.specs.Prelude.{ℕ, Bool, true, false, cond, not, ◌&&◌, ◌||◌, List, [], ◌∷◌, length, get_or, leb, eqb}
+use Rattle.std.specs.Prelude.{ℕ, Bool, true, false, not, ◌&&◌, ◌||◌, List, [], ◌∷◌, length, if◌then◌else◌, ◌==◌, nat_le, slice_index}
 use Rattle.lists.specs.declared.refusal.Refusal.TheVariants.{NoOpening, FieldOrder}
 use Rattle.lists.specs.Refusal.{Check, ensure, ◌and◌, number_of_result}
 use Rattle.saved.specs.Fields.{Field}
@@ -17,7 +17,7 @@ edition = 2
 
 -- whether a field is the opening
 abbrev pub is_opening : Field → Bool
-is_opening f = eqb f.tag opening_tag && (eqb (length f.contents) 1 && eqb (get_or f.contents 0 0) edition)
+is_opening f = f.tag == opening_tag && (length f.contents == 1 && slice_index f.contents 0 == edition)
 
 -- not "21 for a missing or different opening": the first field is it
 abbrev pub opens : List Field → Bool
@@ -31,10 +31,10 @@ after_opening (f ∷ fs) = fs
 
 -- the tag is that of size, tally or line; any other is "unknown"
 abbrev pub is_known : ℕ → Bool
-is_known tag = eqb tag size_tag || eqb tag tally_tag || eqb tag line_tag
+is_known tag = tag == size_tag || tag == tally_tag || tag == line_tag
 
 abbrev pub is_line : Field → Bool
-is_line f = eqb f.tag line_tag
+is_line f = f.tag == line_tag
 
 -- what a field is held against: the tag of "the one before" and the station of "the previous line". Where there is none it is 0, and nothing is
 -- below 0
@@ -43,11 +43,11 @@ nothing_before = record { tag = 0; station = 0 }
 
 -- with one field more; "an empty line field counts as station 0", as station_in has it
 abbrev pub behind : Before → Field → Before
-behind b f = record { tag = f.tag; station = cond (is_line f) (station_in f.contents) b.station }
+behind b f = record { tag = f.tag; station = if is_line f then station_in f.contents else b.station }
 
 -- neither out of order ("a tag below the one before, tag 4 again, or a line's station below the previous line's") nor of "an unknown tag"
 abbrev pub follows : Before → Field → Bool
-follows b f = is_known f.tag && (leb b.tag f.tag && (not (is_line f) || leb b.station (station_in f.contents)))
+follows b f = is_known f.tag && (nat_le b.tag f.tag && (not (is_line f) || nat_le b.station (station_in f.contents)))
 
 -- not "22 for fields out of order or an unknown tag", of the fields behind some others
 unfoldable pub in_order : Before → List Field → Bool

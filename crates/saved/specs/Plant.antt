@@ -1,6 +1,6 @@
 -- Request C-17: what the fields of a file say of a plant. Tags 1, 2 and 3.
 -- Assumes nothing.
-use Rattle.std.specs.Prelude.{ℕ, ◌+◌, Bool, true, cond, ◌&&◌, List, [], ◌∷◌, length, get_or, take, drop, ltb, eqb}
+use Rattle.std.specs.Prelude.{ℕ, ◌+◌, Bool, true, ◌&&◌, List, [], ◌∷◌, length, take, drop, if◌then◌else◌, ◌==◌, nat_lt, slice_index}
 use Rattle.lists.specs.Search.{every}
 use Rattle.table.specs.Table.{stride}
 use Rattle.saved.specs.Bytes.{number_of, concat_of}
@@ -42,7 +42,7 @@ line_field_length n = 1 + stride n
 
 -- contents with tag 3: the station, and its line
 abbrev pub station_in : List ℕ → ℕ
-station_in c = get_or c 0 0
+station_in c = slice_index c 0
 
 abbrev pub line_in : List ℕ → List ℕ
 line_in c = drop 1 c
@@ -50,11 +50,11 @@ line_in c = drop 1 c
 -- those of station i
 unfoldable pub of_station : ℕ → List (List ℕ) → List (List ℕ)
 of_station i [] = []
-of_station i (c ∷ cs) = cond (eqb (station_in c) i) (c ∷ of_station i cs) (of_station i cs)
+of_station i (c ∷ cs) = if station_in c == i then c ∷ of_station i cs else of_station i cs
 
 -- not "a line field has the wrong length", and no station is "too high"
 abbrev pub fits : ℕ → List ℕ → Bool
-fits n c = eqb (length c) (line_field_length n) && ltb (station_in c) n
+fits n c = length c == line_field_length n && nat_lt (station_in c) n
 
 unfoldable pub all_fit : ℕ → List (List ℕ) → Bool
 all_fit n [] = true

@@ -1,7 +1,7 @@
 -- What the code of the reader answers on its way: the next field of a file; what is found of size and tally with one field more; which lines are
 -- new. The promises of the calls do not cite these.
 -- Assumes nothing.
-use Rattle.std.specs.Prelude.{◌≡◌, ℕ, ◌<◌, Bool, false, not, cond, ◌&&◌, List, [], length, eqb, get_or, take, drop}
+use Rattle.std.specs.Prelude.{◌≡◌, ℕ, ◌<◌, Bool, false, not, ◌&&◌, List, [], length, take, drop, if◌then◌else◌, ◌==◌, slice_index_or}
 use Rattle.std.specs.Prelude.{Option, Some, None, is_none, Result, Ok, Err}
 use Rattle.lists.specs.declared.refusal.Refusal.{Refusal}
 use Rattle.lists.specs.declared.refusal.Refusal.TheVariants.{SizeOutOfRange, FieldPastEnd, SizeOrTallyField}
@@ -28,13 +28,13 @@ Reads rest (Ok (Some f)) left = (fields rest ≡ infront (field_value f) (fields
 -- what is found of size and tally, with one field more: refused where that is not the first with its tag, or has the wrong length
 unfoldable pub found_with : Found → Field → Result Found Refusal
 found_with o f =
-    cond (eqb f.tag size_tag)
-    (ensure (eqb (length f.contents) size_length && is_none o.size) SizeOrTallyField
+    if f.tag == size_tag
+    then (ensure (length f.contents == size_length && is_none o.size) SizeOrTallyField
     and Ok (record { size = Some (number_of f.contents); tally = o.tally }))
-    (cond (eqb f.tag tally_tag)
-    (ensure (eqb (length f.contents) tally_length && is_none o.tally) SizeOrTallyField
+    else (if f.tag == tally_tag
+    then (ensure (length f.contents == tally_length && is_none o.tally) SizeOrTallyField
     and Ok (record { size = o.size; tally = Some (record { rounds = number_of (take 4 f.contents); tests = number_of (drop 4 f.contents) }) }))
-    (Ok o))
+    else Ok o)
 
 -- size and tally, where both are found
 abbrev pub both_found : Option ℕ → Option Tally → Result Loaded Refusal
@@ -52,4 +52,4 @@ complete o = with_size (both_found o.size o.tally)
 
 -- contents that fit, of a station not yet seen
 abbrev pub is_new : ℕ → List ℕ → List Bool → Bool
-is_new n c seen = fits n c && not (get_or seen (station_in c) false)
+is_new n c seen = fits n c && not (slice_index_or seen (station_in c) false)

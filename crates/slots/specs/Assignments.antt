@@ -1,6 +1,6 @@
 -- What is claimed besides of the answer of request C-16 and of its assignment: the run does not need it.
 -- Assumes nothing.
-use Rattle.std.specs.Prelude.{◌≡◌, true, List, ℕ, ◌*◌, ◌-◌, ◌≤◌, ◌<◌, length, eqb, Some}
+use Rattle.std.specs.Prelude.{◌≡◌, true, List, ℕ, ◌*◌, ◌-◌, ◌≤◌, ◌<◌, length, Some, ◌==◌}
 use Rattle.std.specs.List.{filter}
 use Rattle.std.specs.Int.Bits.{bit_or}
 use Rattle.table.specs.Sizes.{is_size, level}
@@ -37,4 +37,4 @@ NothingLeftOver =
 abbrev pub DueHave255 : Type 0
 DueHave255 =
     (n : ℕ) (r : List ℕ) (i : ℕ) → is_size n ≡ true → length r ≡ n → unsuspected r i ≡ true
-    → due_distances r i n ≡ filter (λ m. eqb (answer_byte (answer r i m)) 255) (other_distances n i)
+    → due_distances r i n ≡ filter (λ m. answer_byte (answer r i m) == 255) (other_distances n i)

@@ -1,6 +1,6 @@
 -- The law of the due distances by binary digits, and what follows from it for the number of tests.
 -- Assumes nothing.
-use Rattle.std.specs.Prelude.{◌≡◌, ◌↔◌, ◌≢◌, ◌⊎◌, Bool, true, false, cond, not, ℕ, suc, ◌+◌, ◌*◌, ◌-◌, ◌/◌, ◌%◌, ◌^◌, ◌≤◌, ◌<◌, length, eqb}
+use Rattle.std.specs.Prelude.{◌≡◌, ◌↔◌, ◌≢◌, ◌⊎◌, Bool, true, false, not, ℕ, suc, ◌+◌, ◌*◌, ◌-◌, ◌/◌, ◌%◌, ◌^◌, ◌≤◌, ◌<◌, length, if◌then◌else◌, ◌==◌}
 use mathlib.Core.List.{List, Memᴰ}
 use Rattle.lists.specs.Search.{every}
 use Rattle.lists.specs.Sums.{sum_below, bit}
@@ -17,7 +17,7 @@ suspects_group r i t = every (λ k. not (unsuspected r (member i t k))) (width t
 
 -- bit h of k is set
 abbrev pub bit_set : ℕ → ℕ → Bool
-bit_set k h = eqb (k / 2 ^ h % 2) 1
+bit_set k h = k / 2 ^ h % 2 == 1
 
 -- "distance m = 2^(s−1) + k is due for i exactly when somebody stands at it and i suspects its whole own group (absent numbers aside) at each
 -- level t for which bit t−1 of k is set". For all rows: nothing is due for a row that suspects its own station, which refusal 3 turns away
@@ -66,7 +66,7 @@ pub record SuspectsOne (d : ℕ) (r : List ℕ) (i j : ℕ) : Type 0 where
   pub here : i < 2 ^ d
   pub there : j < 2 ^ d
   pub apart : i ≢ j
-  pub one : (x : ℕ) → x < 2 ^ d → unsuspected r x ≡ not (eqb x j)
+  pub one : (x : ℕ) → x < 2 ^ d → unsuspected r x ≡ not (x == j)
 
 -- "with one suspected, at most 2d − 1"
 abbrev pub OneSuspected : Type 0
@@ -75,7 +75,7 @@ OneSuspected = (d : ℕ) (r : List ℕ) (i j : ℕ) → SuspectsOne d r i j → 
 -- "and the board at distance 1 from it has them"; every other board has d
 abbrev pub OneSuspectedExactly : Type 0
 OneSuspectedExactly =
-    (d : ℕ) (r : List ℕ) (i j : ℕ) → SuspectsOne d r i j → tests_due (2 ^ d) r i ≡ cond (eqb (distance i j) 1) (2 * d - 1) d
+    (d : ℕ) (r : List ℕ) (i j : ℕ) → SuspectsOne d r i j → tests_due (2 ^ d) r i ≡ (if distance i j == 1 then 2 * d - 1 else d)
 
 -- so the most of any of 2^d boards is d with nobody dead, and 2d − 1 with any one dead
 abbrev pub MostOfPowers : Type 0

@@ -1,7 +1,7 @@
 -- What the commissioning sheet says of a board, by its row: which tests it makes in a round, who stands ahead at the others, how many tests these
 -- are, and the most that one more dead board can make of them. By this last number its slot on the cable is timed.
 -- Assumes nothing.
-use Rattle.std.specs.Prelude.{ℕ, Bool, cond, not, ◌&&◌, List, map, length, eqb}
+use Rattle.std.specs.Prelude.{ℕ, Bool, not, ◌&&◌, List, map, length, if◌then◌else◌, ◌==◌}
 use Rattle.lists.specs.Search.{select, greatest}
 use Rattle.station.specs.Groups.{station_at}
 use Rattle.table.specs.Sizes.{distances}
@@ -33,7 +33,7 @@ tests_due n r i = length (due_distances r i n)
 
 -- the tests of i where its row suspects j too; i itself is not one that can be dead
 unfoldable pub tests_with : ℕ → List ℕ → ℕ → ℕ → ℕ
-tests_with n r i j = cond (eqb j i) 0 (tests_due n (mark r j) i)
+tests_with n r i j = if j == i then 0 else tests_due n (mark r j) i
 
 -- "the most that any one more dead board can make of it". One that r suspects already changes nothing
 unfoldable pub most_tests : ℕ → List ℕ → ℕ → ℕ
@@ -42,4 +42,4 @@ most_tests n r i = greatest (tests_with n r i) n
 -- "most tests of a board with nobody dead, and with any one dead": the greatest number of tests of any of n boards that all have row r, and, if
 -- `more` is true, also suspect any one other board. For the table over all sizes r suspects nobody. A board that r suspects has no tests
 unfoldable pub most_of_boards : ℕ → List ℕ → Bool → ℕ
-most_of_boards n r more = greatest (cond more (most_tests n r) (tests_due n r)) n
+most_of_boards n r more = greatest (if more then most_tests n r else tests_due n r) n

@@ -1,7 +1,7 @@
 -- Document 01, "What can be asked", all but the fresh table and the run, with requests C-11 and C-16 of document 02: the number, the figures and the bytes that each
 -- call gives, for all inputs.
 -- Assumes nothing.
-use Rattle.std.specs.Prelude.{ℕ, ◌*◌, ◌-◌, Bool, not, ◌&&◌, ◌||◌, List, [], ◌∷◌, length, ltb, eqb, Result, Ok}
+use Rattle.std.specs.Prelude.{ℕ, ◌*◌, ◌-◌, Bool, not, ◌&&◌, ◌||◌, List, [], ◌∷◌, length, Result, Ok, ◌==◌, nat_lt}
 use Rattle.std.specs.Result.{result_unwrap_or}
 use Rattle.lists.specs.Search.{select}
 use Rattle.table.specs.Sizes.{is_size, dimension, distances}
@@ -22,7 +22,7 @@ answer_value (Ahead x) = answer_ahead x.0
 
 -- refusals 9 and 12, station and level in their ranges: "The level is 0 or above d."
 unfoldable pub range_check : ℕ → ℕ → ℕ → Check
-range_check n i s = station_check n i and ensure (not (eqb s 0 || ltb (dimension n) s)) NoSuchLevel
+range_check n i s = station_check n i and ensure (not (s == 0 || nat_lt (dimension n) s)) NoSuchLevel
 
 -- Group list: refusals 1, 9, 12, 13. C-11: "number 13 uses the group's remaining length"
 unfoldable pub group_check : ℕ → ℕ → ℕ → ℕ → Check
@@ -50,7 +50,7 @@ assignment_check n t i len = row_check n t i and ensure (live n t i) NotLive and
 
 -- C-16: "one for each other station in ascending distance": whether another of n stations stands at distance m from i
 abbrev pub is_other : ℕ → ℕ → ℕ → Bool
-is_other n i m = ltb 0 m && is_present n (station_at i m)
+is_other n i m = nat_lt 0 m && is_present n (station_at i m)
 
 -- the distances of the other stations, ascending
 unfoldable pub other_distances : ℕ → ℕ → List ℕ

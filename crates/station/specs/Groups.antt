@@ -1,6 +1,6 @@
 -- Document 01, "Groups by distance", with request C-11 of document 02. A group is the papers' cluster.
 -- Assumes nothing.
-use Rattle.std.specs.Prelude.{ℕ, zero, suc, ◌+◌, ◌^◌, Bool, List, ltb}
+use Rattle.std.specs.Prelude.{ℕ, zero, suc, ◌+◌, ◌^◌, Bool, List, nat_lt}
 use Rattle.std.specs.List.{filter}
 use Rattle.std.specs.Int.Bits.{bit_xor}
 use Rattle.lists.specs.Search.{list_of}
@@ -15,7 +15,7 @@ station_at i m = bit_xor i m
 
 -- whether a station stands at a number: "numbers of n or more are left out"
 abbrev pub is_present : ℕ → ℕ → Bool
-is_present n x = ltb x n
+is_present n x = nat_lt x n
 
 -- how many numbers a full group at level s has, 2^(s−1), which is also its least distance; level 0 has none
 unfoldable pub width : ℕ → ℕ

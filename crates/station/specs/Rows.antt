@@ -1,12 +1,12 @@
 -- Document 01, steps 4 and 5: what is done to a row.
 -- Assumes nothing.
-use Rattle.std.specs.Prelude.{ℕ, cond, List, length, get_or, set, eqb}
+use Rattle.std.specs.Prelude.{ℕ, List, length, set, if◌then◌else◌, ◌==◌, slice_index}
 use Rattle.lists.specs.Search.{list_of}
 use Rattle.lists.specs.Bytes.{joined_byte}
 
 -- byte k of the union: 1 if either row has 1, and the byte about the row's own station as it was
 unfoldable pub union_byte : List ℕ → List ℕ → ℕ → ℕ → ℕ
-union_byte r other own k = cond (eqb k own) (get_or r k 0) (joined_byte r other k)
+union_byte r other own k = if k == own then slice_index r k else joined_byte r other k
 
 -- "the union of the two, except that a station never writes the byte about itself": row r of station own
 unfoldable pub union : List ℕ → List ℕ → ℕ → List ℕ

@@ -1,13 +1,13 @@
 -- Document 01, step 1 of "What an entry does", with request C-16 of document 02: which distances are due, and who is first at the others.
 -- Assumes nothing.
-use Rattle.std.specs.Prelude.{ℕ, Bool, true, false, cond, List, length, get_or, ltb, eqb, Option, Some, None}
+use Rattle.std.specs.Prelude.{ℕ, Bool, true, false, List, length, Option, Some, None, if◌then◌else◌, ◌==◌, nat_lt, slice_index_or}
 use Rattle.lists.specs.Search.{least, select}
 use Rattle.station.specs.Groups.{station_at, is_present, width, member}
 use Rattle.table.specs.Sizes.{level, distances}
 
 -- whether a row leaves station x not suspected. A number that is not below the row's length is absent (C-11): never "not suspected"
 unfoldable pub unsuspected : List ℕ → ℕ → Bool
-unsuspected r x = eqb (get_or r x 1) 0
+unsuspected r x = slice_index_or r x 1 == 0
 
 -- the least place in the full group of j at level s whose number passes q; the full group's width where there is none
 unfoldable pub first_place : (ℕ → Bool) → ℕ → ℕ → ℕ
@@ -15,7 +15,7 @@ first_place q j s = least (λ k. q (member j s k)) (width s) 0
 
 -- the first number in the full group of j at level s that passes q
 unfoldable pub first : (ℕ → Bool) → ℕ → ℕ → Option ℕ
-first q j s = cond (ltb (first_place q j s) (width s)) (Some (member j s (first_place q j s))) None
+first q j s = if nat_lt (first_place q j s) (width s) then Some (member j s (first_place q j s)) else None
 
 -- C-16: "The question whether a distance is due must answer either that it is due, or the station that is first instead."
 pub data DueAnswer : Type 0 where
@@ -26,7 +26,7 @@ pub data DueAnswer : Type 0 where
 -- nobody of the group unsuspected, not even i) it names i itself, which no other case does
 abbrev pub answer_of : ℕ → Option ℕ → DueAnswer
 answer_of i None = answer_ahead i
-answer_of i (Some x) = cond (eqb x i) answer_due (answer_ahead x)
+answer_of i (Some x) = if x == i then answer_due else answer_ahead x
 
 -- whether a station stands at distance m from i, whose row is r
 abbrev pub stands : List ℕ → ℕ → ℕ → Bool
@@ -36,7 +36,7 @@ stands r i m = is_present (length r) (station_at i m)
 -- instead. r is the row of i. C-11: "numbers of n or more are .. never tested": where no station stands at distance m it names i itself, as where
 -- nobody is first
 unfoldable pub answer : List ℕ → ℕ → ℕ → DueAnswer
-answer r i m = cond (stands r i m) (answer_of i (first (unsuspected r) (station_at i m) (level m))) (answer_ahead i)
+answer r i m = if stands r i m then answer_of i (first (unsuspected r) (station_at i m) (level m)) else answer_ahead i
 
 -- C-16: "a caller that only wants due tests takes the answer apart"
 abbrev pub says_due : DueAnswer → Bool

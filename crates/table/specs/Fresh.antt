@@ -1,6 +1,6 @@
 -- Document 01, "What can be asked": the fresh table, with bytes 4 and 5 of request C-18 of document 02.
 -- Assumes nothing.
-use Rattle.std.specs.Prelude.{ℕ, ◌%◌, cond, List, length, eqb}
+use Rattle.std.specs.Prelude.{ℕ, ◌%◌, List, length, if◌then◌else◌, ◌==◌}
 use Rattle.lists.specs.Search.{list_of}
 use Rattle.table.specs.Table.{stride, next_column, told_by_column, told_by_none, table_length}
 use Rattle.table.specs.Rules.{shape_check}
@@ -8,7 +8,7 @@ use Rattle.lists.specs.Refusal.{unless_refused}
 
 -- Fresh table: "every line live, next distance 1, all else 0"; C-18: "a live line, fresh ones too, has 255 and 0"
 unfoldable pub fresh_byte : ℕ → ℕ → ℕ
-fresh_byte n p = cond (eqb (p % stride n) next_column) 1 (cond (eqb (p % stride n) told_by_column) told_by_none 0)
+fresh_byte n p = if p % stride n == next_column then 1 else (if p % stride n == told_by_column then told_by_none else 0)
 
 unfoldable pub fresh_table : ℕ → List ℕ
 fresh_table n = list_of (fresh_byte n) (table_length n)

@@ -1,6 +1,6 @@
 -- What can be said of a table alone: that it stands at the start of a round, how many are live, whom the live ones suspect.
 -- Assumes nothing.
-use Rattle.std.specs.Prelude.{ℕ, ◌<◌, ◌≡◌, Bool, true, not, ◌&&◌, ◌||◌, List, eqb}
+use Rattle.std.specs.Prelude.{ℕ, ◌<◌, ◌≡◌, Bool, true, not, ◌&&◌, ◌||◌, List, ◌==◌}
 use Rattle.lists.specs.Search.{every, list_of}
 use Rattle.table.specs.Table.{next_distance, finished, tests_made, suspects, live, row}
 use Rattle.table.specs.Rules.{not_live}
@@ -8,7 +8,7 @@ use Rattle.lists.specs.Sums.{sum_below, bit}
 
 -- "A table stands at the start of a round when every line has these three": next distance 1, finished 0, tests 0
 abbrev pub line_at_start : ℕ → List ℕ → ℕ → Bool
-line_at_start n t i = eqb (next_distance n t i) 1 && eqb (finished n t i) 0 && eqb (tests_made n t i) 0
+line_at_start n t i = next_distance n t i == 1 && finished n t i == 0 && tests_made n t i == 0
 
 unfoldable pub at_start : ℕ → List ℕ → Bool
 at_start n t = every (line_at_start n t) n
@@ -19,7 +19,7 @@ live_count n t = sum_below (λ i. bit (live n t i)) n
 
 -- i and j are not both live, or i does not suspect j: byte j of its row is not 1
 abbrev pub no_live_suspicion : ℕ → List ℕ → ℕ → ℕ → Bool
-no_live_suspicion n t i j = not_live n t i || not_live n t j || not (eqb (suspects n t i j) 1)
+no_live_suspicion n t i j = not_live n t i || not_live n t j || not (suspects n t i j == 1)
 
 -- no live station suspects a live one
 unfoldable pub none_suspected : ℕ → List ℕ → Bool

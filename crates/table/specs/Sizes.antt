@@ -1,15 +1,15 @@
 -- Document 01, "What the watch covers", with request C-11 of document 02: sizes, levels, d and the number of distances.
 -- Assumes nothing.
-use Rattle.std.specs.Prelude.{ℕ, ◌-◌, ◌^◌, Bool, ◌&&◌, ltb, leb}
+use Rattle.std.specs.Prelude.{ℕ, ◌-◌, ◌^◌, Bool, ◌&&◌, nat_lt, nat_le}
 use Rattle.lists.specs.Search.{least}
 
 -- C-11: "Sizes 2 to 64 are to be taken."
 unfoldable pub is_size : ℕ → Bool
-is_size n = leb 2 n && leb n 64
+is_size n = nat_le 2 n && nat_le n 64
 
 -- the level of distance m: the least s with m < 2^s, so that 2^(s−1) ≤ m < 2^s; 0 for distance 0
 unfoldable pub level : ℕ → ℕ
-level m = least (λ s. ltb m (2 ^ s)) m 0
+level m = least (λ s. nat_lt m (2 ^ s)) m 0
 
 -- C-11: "With n boards, d is the logarithm rounded up": the level of the greatest number, n − 1
 unfoldable pub dimension : ℕ → ℕ

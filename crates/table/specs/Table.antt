@@ -1,7 +1,7 @@
 -- Document 01, "The lent table", with the six-byte heads of request C-18 of document 02: N lines of N + 6 bytes, in station order. A byte is
 -- read and written by line and column.
 -- Assumes nothing.
-use Rattle.std.specs.Prelude.{◌≡◌, ℕ, ◌+◌, ◌*◌, ◌<◌, Bool, List, ◌++◌, length, get_or, set, take, drop, eqb}
+use Rattle.std.specs.Prelude.{◌≡◌, ℕ, ◌+◌, ◌*◌, ◌<◌, Bool, List, ◌++◌, length, set, take, drop, ◌==◌, slice_index}
 
 -- how many bytes of a line stand before its row. C-18: "The head of each line grows from four to six bytes."
 abbrev pub head : ℕ
@@ -29,7 +29,7 @@ HasLine n t i = (length t ≡ table_length n) × (i < n)
 
 -- byte c of line i
 unfoldable pub cell : ℕ → List ℕ → ℕ → ℕ → ℕ
-cell n t i c = get_or t (line_start n i + c) 0
+cell n t i c = slice_index t (line_start n i + c)
 
 -- the table with v at byte c of line i
 unfoldable pub set_cell : ℕ → List ℕ → ℕ → ℕ → ℕ → List ℕ
@@ -103,7 +103,7 @@ suspects n t i k = cell n t i (head + k)
 
 -- whether station i is live
 abbrev pub live : ℕ → List ℕ → ℕ → Bool
-live n t i = eqb (status n t i) 0
+live n t i = status n t i == 0
 
 -- where the row of line i begins
 abbrev pub row_start : ℕ → ℕ → ℕ

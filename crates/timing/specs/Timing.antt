@@ -2,7 +2,7 @@
 -- live board tests just whom the sheet says. And in any round, with any crashes, late replies and suspicions: how many tests a board makes at
 -- most, which is what slots are timed by.
 -- Assumes nothing.
-use Rattle.std.specs.Prelude.{◌≡◌, ◌≢◌, ◌⊎◌, true, false, List, [], ◌∷◌, ℕ, ◌≤◌, ◌<◌, length, get_or}
+use Rattle.std.specs.Prelude.{◌≡◌, ◌≢◌, ◌⊎◌, true, false, List, [], ◌∷◌, ℕ, ◌≤◌, ◌<◌, length, slice_index_or}
 use Rattle.table.specs.Table.{table_length, tests_made, suspects, row, live}
 use Rattle.station.specs.Tests.{unsuspected}
 use Rattle.plant.specs.Entry.{State}
@@ -18,8 +18,8 @@ use Rattle.slots.specs.Slots.{tested, tests_due, most_tests}
 abbrev pub TestsOfTheSheet : Type 0
 TestsOfTheSheet =
     (n : ℕ) (s : State) (calls : List Call) → Premises n s calls → (k : ℕ) → k < length (rounds_of s calls).closed
-    → ExactRows n (first_table (get_or (rounds_of s calls).closed k [])) → (i : ℕ) → i < n → live n s.table i ≡ true
-    → tested_in i (get_or (rounds_of s calls).closed k []) ≡ tested n (exact_row n s.table) i
+    → ExactRows n (first_table (slice_index_or (rounds_of s calls).closed k [])) → (i : ℕ) → i < n → live n s.table i ≡ true
+    → tested_in i (slice_index_or (rounds_of s calls).closed k []) ≡ tested n (exact_row n s.table) i
 
 -- the tests that board i makes in a round: its testing entries
 abbrev pub tests_by : ℕ → List Taken → ℕ

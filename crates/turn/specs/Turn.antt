@@ -1,7 +1,7 @@
 -- Document 01, steps 2 to 7 of "What an entry does", with step 4 as request C-13 has it and byte 4 of request C-18, as functions of the
 -- table. Station i is the entry's, kind its kind, j the tested station.
 -- Assumes nothing.
-use Rattle.std.specs.Prelude.{ℕ, ◌+◌, ◌-◌, Bool, cond, ◌&&◌, ◌||◌, List, ltb, eqb}
+use Rattle.std.specs.Prelude.{ℕ, ◌+◌, ◌-◌, Bool, ◌&&◌, ◌||◌, List, if◌then◌else◌, ◌==◌, nat_lt}
 use Rattle.lists.specs.Search.{least, every}
 use Rattle.station.specs.Groups.{station_at}
 use Rattle.table.specs.Sizes.{distances}
@@ -56,7 +56,7 @@ next_test n t i = least (due (row n t i) i) (distances n - next_distance n t i) 
 
 -- whether there is one
 unfoldable pub makes_test : ℕ → List ℕ → ℕ → Bool
-makes_test n t i = ltb (next_test n t i) (distances n)
+makes_test n t i = nat_lt (next_test n t i) (distances n)
 
 -- "If there is none, next distance becomes N and the pass is finished; no test is made." By C-11 it becomes 2^d
 unfoldable pub finish_pass : ℕ → List ℕ → ℕ → List ℕ
@@ -68,11 +68,11 @@ count_test n t i m = set_cell n (set_cell n t i next_column (m + 1)) i tests_col
 
 -- Step 4, "Reply (j live, kind 1)"
 unfoldable pub replies : ℕ → List ℕ → ℕ → ℕ → Bool
-replies n t kind j = live n t j && eqb kind kind_turn
+replies n t kind j = live n t j && kind == kind_turn
 
 -- station a is told by b: b suspects a
 unfoldable pub is_told : ℕ → List ℕ → ℕ → ℕ → Bool
-is_told n t a b = eqb (suspects n t b a) 1
+is_told n t a b = suspects n t b a == 1
 
 -- "both rows become the union of the two, except that a station never writes the byte about itself"
 unfoldable pub exchange_rows : ℕ → List ℕ → ℕ → ℕ → List ℕ
@@ -84,19 +84,19 @@ suspect n t i j = set_row n t i (mark (row n t i) j)
 
 -- C-13 in place of step 4, where j replies: "if j suspects i", "Otherwise, if i suspects j", "Where neither suspects the other"
 unfoldable pub reply_outcome : ℕ → List ℕ → ℕ → ℕ → ℕ
-reply_outcome n t i j = cond (is_told n t i j) outcome_told (cond (is_told n t j i) outcome_tested_told outcome_exchanged)
+reply_outcome n t i j = if is_told n t i j then outcome_told else (if is_told n t j i then outcome_tested_told else outcome_exchanged)
 
 -- the outcome of the test of j, by steps 4 and 5
 unfoldable pub test_outcome : ℕ → List ℕ → ℕ → ℕ → ℕ → ℕ
-test_outcome n t kind i j = cond (replies n t kind j) (reply_outcome n t i j) outcome_no_reply
+test_outcome n t kind i j = if replies n t kind j then reply_outcome n t i j else outcome_no_reply
 
 -- what steps 4 and 5 do to the table, by the outcome of the test of j. C-13: "i leaves as before and j is given nothing", "j leaves with
 -- status 2, no row changes", "both rows become the union as before"; step 5: "i suspects j"
 unfoldable pub after_outcome : ℕ → List ℕ → ℕ → ℕ → ℕ → List ℕ
 after_outcome n t i j outcome =
-    cond (eqb outcome outcome_told) (leave_told n t i j)
-    (cond (eqb outcome outcome_tested_told) (leave_told n t j i)
-    (cond (eqb outcome outcome_exchanged) (exchange_rows n t i j) (suspect n t i j)))
+    if outcome == outcome_told then leave_told n t i j
+    else (if outcome == outcome_tested_told then leave_told n t j i
+    else (if outcome == outcome_exchanged then exchange_rows n t i j else suspect n t i j))
 
 -- the table after the test of j
 abbrev pub after_test : ℕ → List ℕ → ℕ → ℕ → ℕ → List ℕ
@@ -104,13 +104,13 @@ after_test n t kind i j = after_outcome n t i j (test_outcome n t kind i j)
 
 -- Step 6: "i, if still live, leaves with status 3 if it suspects all others". Byte 4 is 255 then, which a live line has by C-18's rules
 unfoldable pub self_or_suspected : ℕ → List ℕ → ℕ → ℕ → Bool
-self_or_suspected n t i k = eqb k i || eqb (suspects n t i k) 1
+self_or_suspected n t i k = k == i || suspects n t i k == 1
 
 unfoldable pub is_alone : ℕ → List ℕ → ℕ → Bool
 is_alone n t i = live n t i && every (self_or_suspected n t i) n
 
 unfoldable pub after_alone : ℕ → List ℕ → ℕ → List ℕ
-after_alone n t i = cond (is_alone n t i) (set_status n t i status_alone) t
+after_alone n t i = if is_alone n t i then set_status n t i status_alone else t
 
 -- steps 3 to 6: a turn that tests the station at distance m
 unfoldable pub testing : ℕ → List ℕ → ℕ → ℕ → ℕ → List ℕ
@@ -118,15 +118,15 @@ testing n t kind i m = after_alone n (after_test n (count_test n t i m) kind i (
 
 -- Steps 2 to 6: a turn of station i
 unfoldable pub turn : ℕ → List ℕ → ℕ → ℕ → List ℕ
-turn n t kind i = cond (makes_test n t i) (testing n t kind i (next_test n t i)) (finish_pass n t i)
+turn n t kind i = if makes_test n t i then testing n t kind i (next_test n t i) else finish_pass n t i
 
 -- the tested station or 255
 unfoldable pub turn_tested : ℕ → List ℕ → ℕ → ℕ
-turn_tested n t i = cond (makes_test n t i) (station_at i (next_test n t i)) no_station
+turn_tested n t i = if makes_test n t i then station_at i (next_test n t i) else no_station
 
 -- the outcome of the turn
 unfoldable pub turn_outcome : ℕ → List ℕ → ℕ → ℕ → ℕ
-turn_outcome n t kind i = cond (makes_test n t i) (test_outcome n (count_test n t i (next_test n t i)) kind i (station_at i (next_test n t i))) outcome_finished
+turn_outcome n t kind i = if makes_test n t i then test_outcome n (count_test n t i (next_test n t i)) kind i (station_at i (next_test n t i)) else outcome_finished
 
 -- Step 7: "Status becomes 1, nothing else on the line." Byte 4 is 255 then, which a live line has by C-18's rules
 unfoldable pub crash : ℕ → List ℕ → ℕ → List ℕ

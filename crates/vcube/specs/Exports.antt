@@ -4,7 +4,7 @@
 -- are the members of a struct in their order.
 -- A station, level or last number may be any; the definitions of `station` and `granter` refuse it as they refuse any that is too high.
 -- Assumes nothing.
-use Rattle.std.specs.Prelude.{ℕ, List, [], ◌∷◌, get_or, Result}
+use Rattle.std.specs.Prelude.{ℕ, List, [], ◌∷◌, Result, slice_index}
 use Rattle.std.specs.Result.{result_unwrap_or}
 use Rattle.lists.specs.declared.refusal.Refusal.{Refusal}
 use Rattle.lists.specs.Refusal.{number_of_result}
@@ -51,7 +51,7 @@ totals_members t = t.count ∷ t.sum ∷ t.squares ∷ t.least ∷ t.greatest �
 
 -- the totals with these five members
 abbrev pub totals_with : List ℕ → Totals
-totals_with m = record { count = get_or m 0 0; sum = get_or m 1 0; squares = get_or m 2 0; least = get_or m 3 0; greatest = get_or m 4 0 }
+totals_with m = record { count = slice_index m 0; sum = slice_index m 1; squares = slice_index m 2; least = slice_index m 3; greatest = slice_index m 4 }
 
 -- the figures and the totals that are given where the call is refused: "all 0"
 abbrev pub no_figures : Figures

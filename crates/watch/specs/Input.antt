@@ -1,6 +1,6 @@
 -- Document 01, the run program: what its standard input means, for all inputs.
 -- Assumes nothing.
-use Rattle.std.specs.Prelude.{ℕ, suc, ◌+◌, ◌*◌, ◌-◌, ◌/◌, min, Bool, cond, ◌&&◌, List, [], ◌∷◌, ◌++◌, length, ltb, leb, eqb}
+use Rattle.std.specs.Prelude.{ℕ, suc, ◌+◌, ◌*◌, ◌-◌, ◌/◌, min, Bool, ◌&&◌, List, [], ◌∷◌, ◌++◌, length, nat_lt, nat_le}
 use Rattle.std.specs.Prelude.{Option, None, Some, option_and_then, option_map, Result, Ok, Err, if◌then◌else◌, ◌==◌}
 use Rattle.watch.specs.declared.input.Parsed.{Parsed}
 use Rattle.watch.specs.declared.input.Unread.{Unread}
@@ -12,7 +12,7 @@ given (Some a) read other = read a
 
 -- "Lines end with a line feed"
 abbrev pub is_line_feed : ℕ → Bool
-is_line_feed b = eqb b 10
+is_line_feed b = b == 10
 
 -- a byte put in front of the first line
 unfoldable pub on_first : ℕ → List (List ℕ) → List (List ℕ)
@@ -22,25 +22,25 @@ on_first b (l ∷ ls) = (b ∷ l) ∷ ls
 -- the lines of the input, without their line feeds. "a line feed, which the last line of the input may lack"
 unfoldable pub lines : List ℕ → List (List ℕ)
 lines [] = []
-lines (b ∷ rest) = cond (is_line_feed b) ([] ∷ lines rest) (on_first b (lines rest))
+lines (b ∷ rest) = if is_line_feed b then [] ∷ lines rest else on_first b (lines rest)
 
 -- how many bytes stand before the first line feed, or in all
 unfoldable pub line_length : List ℕ → ℕ
 line_length [] = 0
-line_length (b ∷ rest) = cond (is_line_feed b) 0 (suc (line_length rest))
+line_length (b ∷ rest) = if is_line_feed b then 0 else suc (line_length rest)
 
 -- the digits 0 to 9
 abbrev pub is_digit : ℕ → Bool
-is_digit b = leb 48 b && leb b 57
+is_digit b = nat_le 48 b && nat_le b 57
 
 -- the value of digits that follow a value; "leading zeros are read"
 unfoldable pub digits_from : ℕ → List ℕ → Option ℕ
 digits_from v [] = Some v
-digits_from v (b ∷ rest) = cond (is_digit b) (digits_from (10 * v + (b - 48)) rest) None
+digits_from v (b ∷ rest) = if is_digit b then digits_from (10 * v + (b - 48)) rest else None
 
 -- one to `most` digits and nothing else
 unfoldable pub number_of : ℕ → List ℕ → Option ℕ
-number_of most l = cond (leb 1 (length l) && leb (length l) most) (digits_from 0 l) None
+number_of most l = if nat_le 1 (length l) && nat_le (length l) most then digits_from 0 l else None
 
 -- "the size (one to three digits)"
 abbrev pub size_of : List ℕ → Option ℕ
@@ -48,14 +48,14 @@ size_of l = number_of 3 l
 
 -- "T, L or C (kinds 1, 2, 3)"
 unfoldable pub kind_of : ℕ → Option ℕ
-kind_of b = cond (eqb b 84) (Some 1) (cond (eqb b 76) (Some 2) (cond (eqb b 67) (Some 3) None))
+kind_of b = if b == 84 then Some 1 else (if b == 76 then Some 2 else (if b == 67 then Some 3 else None))
 
 -- "then per line T, L or C (kinds 1, 2, 3), a space and one or two digits": the entry's kind and station
 unfoldable pub entry_of : List ℕ → Option (ℕ × ℕ)
 entry_of [] = None
 entry_of (letter ∷ []) = None
 entry_of (letter ∷ space ∷ digits) =
-    cond (eqb space 32) (option_and_then (λ kind. option_map (λ station. (kind, station)) (number_of 2 digits)) (kind_of letter)) None
+    if space == 32 then option_and_then (λ kind. option_map (λ station. (kind, station)) (number_of 2 digits)) (kind_of letter) else None
 
 -- what is read: the number of the first unreadable line, from 1, or 0 where there is none; the size; and the entries before that line, how
 -- many there are and their bytes, which are a schedule
@@ -73,7 +73,7 @@ reading_of u n k s = record { unread = u; size = n; entries = k; schedule = s }
 unfoldable pub read_entries : ℕ → ℕ → ℕ → List ℕ → List (List ℕ) → Reading
 read_entries room n k s [] = reading_of 0 n k s
 read_entries room n k s (l ∷ ls) =
-    given (cond (ltb k room) (entry_of l) None)
+    given (if nat_lt k room then entry_of l else None)
     (λ e. read_entries room n (suc k) (s ++ (e.0 ∷ e.1 ∷ [])) ls)
     (reading_of (k + 2) n k s)
 

@@ -1,6 +1,6 @@
 -- Document 01, the run program: what comes of its standard input, for all inputs.
 -- Assumes nothing.
-use Rattle.std.specs.Prelude.{ℕ, ◌*◌, cond, List, length, take, eqb}
+use Rattle.std.specs.Prelude.{ℕ, ◌*◌, List, length, take, if◌then◌else◌, ◌==◌}
 use Rattle.std.proofs.lemmas.List.Edits.{sets}
 use Rattle.table.specs.Fresh.{fresh_table}
 use Rattle.plant.specs.declared.Tally.{Tally}
@@ -53,7 +53,7 @@ carried_out n schedule lent = ran_on lent (run n (state_of (fresh_table n) 0 0) 
 -- "At the first unreadable line or a 4,097th entry, whichever comes first, the program prints only `unread`, a space and that line's
 -- number from 1"
 abbrev watched_of : List ℕ → Reading → Watched
-watched_of lent r = cond (eqb r.unread 0) (carried_out r.size r.schedule lent) (said_with (says_unread r.unread) lent)
+watched_of lent r = if r.unread == 0 then carried_out r.size r.schedule lent else said_with (says_unread r.unread) lent
 
 -- the whole input, with a lent sheet: the program lends 16,384 zeros
 unfoldable pub watched : List ℕ → List ℕ → Watched

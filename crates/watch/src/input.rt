@@ -1,5 +1,5 @@
 // What standard input holds (document 01, the run program): lines, the size, the entries. The one call is `parse`.
-ghost use Rattle.std.specs.Prelude.{◌≡◌, cond, ltb, [], ◌∷◌, ◌++◌, ◌+◌, ◌*◌, ◌≤◌, suc, length, take, drop, None};
+ghost use Rattle.std.specs.Prelude.{◌≡◌, [], ◌∷◌, ◌++◌, ◌+◌, ◌*◌, ◌≤◌, suc, length, take, drop, None, if◌then◌else◌, nat_lt};
 ghost use Rattle.std.proofs.lemmas.List.Edits.{sets};
 ghost use Rattle.watch.specs.Input.{lines, line_length, number_of, kind_of, entry_of, answer_of, read_entries, room_for, read_into};
 
@@ -112,7 +112,7 @@ fn line_end(bytes: &[u8]) -> usize
 
 // The entry of a line, where k entries were read and there is room for one more.
 fn entry_with_room(k: usize, room: usize, line: &[u8]) -> Option<(u8, u8)>
-    ensures { result ≡ cond (ltb k room) (entry_of line.now) None }
+    ensures { result ≡ if nat_lt k room then entry_of line.now else None }
 {
     if k < room { read_entry(line) } else { None }
 }
