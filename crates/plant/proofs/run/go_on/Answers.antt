@@ -1,5 +1,5 @@
 -- The rest of the run, from where it stands, gives what the whole gives, and the table obeys the rules.
-use Rattle.std.proofs.Common.{◌≡◌, ◌/◌, length, refl, sym, ap, ◌∙◌, arith, length-take, length-drop}
+use Rattle.std.proofs.Common.{refl, sym, ap, ◌∙◌, arith, length-take, length-drop}
 use Rattle.lists.specs.Refusal.{number_of_result}
 use Rattle.plant.specs.Entry.{State, state_with}
 use Rattle.plant.proofs.RulesKept.{accepted-kept}
