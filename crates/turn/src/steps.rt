@@ -1,6 +1,7 @@
 // A turn of one station (document 01, steps 2 to 6; step 4 as request C-13 has it, byte 4 as C-18).
 ghost use Rattle.std.specs.Prelude.{◌≡◌, ◌≢◌, ◌-◌, ◌<◌, ◌≤◌, length};
 ghost use Rattle.lists.specs.Search.{least};
+ghost use Rattle.table.specs.Lent.{IsSameLoan};
 ghost use Rattle.table.specs.Table.{HasLine, table_length, tests_made, row, set_row};
 ghost use Rattle.station.specs.Groups.{station_at};
 ghost use Rattle.lists.specs.Bytes.{with_joined, same_bytes};
@@ -14,10 +15,22 @@ use crate::kind::Kind;
 use crate::outcome::Outcome;
 use lists::bytes;
 use station::{DueOrAhead, due, order, rows};
+use table::lent::TableMut;
 use table::{Distance, Station, cells, inside, sizes};
 
 // Steps 2 to 6: the turn of station i. The kind stays the schedule's byte: a `Kind` would ask more of callers.
-pub fn take_turn(n: u8, table: &mut [u8], kind: u8, i: Station) -> Outcome
+pub fn take_turn(table: &mut TableMut, kind: u8, i: Station) -> Outcome
+    requires table_obeys { table_number table.old.n table.old.bytes.now ≡ 0 }
+    requires station_below { i.0 < table.old.n }
+    ensures tested_value { tested_byte result ≡ turn_tested table.old.n table.old.bytes.now i.0 }
+    ensures outcome_value { outcome_byte result ≡ turn_outcome table.old.n table.old.bytes.now kind i.0 }
+    ensures same { IsSameLoan table.old table.new }
+    ensures bytes { table.new.bytes.now ≡ turn table.old.n table.old.bytes.now kind i.0 }
+{
+    turn_of(table.n, table.bytes, kind, i)
+}
+
+fn turn_of(n: u8, table: &mut [u8], kind: u8, i: Station) -> Outcome
     requires table_obeys { table_number n table.old ≡ 0 }
     requires station_below { i.0 < n }
     ensures tested_value { tested_byte result ≡ turn_tested n table.old i.0 }
@@ -170,12 +183,20 @@ fn leave_told(n: u8, table: &mut [u8], a: Station, b: Station)
     requires { HasLine n table.old a.0 }
     ensures { table.new ≡ leave_told n table.old a.0 b.0 }
 {
-    leave(n, table, a, cells::LEFT_TOLD);
+    leave_by(n, table, a, cells::LEFT_TOLD);
     inside::put(n, table, a, cells::TOLD_BY, b.0);
 }
 
 // Steps 4, 6 and 7: the station leaves with a status. It stays the table's byte: an enum would ask more of callers.
-pub fn leave(n: u8, table: &mut [u8], i: Station, status: u8)
+pub fn leave(table: &mut TableMut, i: Station, status: u8)
+    requires { i.0 < table.old.n }
+    ensures same { IsSameLoan table.old table.new }
+    ensures bytes { table.new.bytes.now ≡ set_status table.old.n table.old.bytes.now i.0 status }
+{
+    table.put(i, cells::STATUS, status);
+}
+
+fn leave_by(n: u8, table: &mut [u8], i: Station, status: u8)
     requires { HasLine n table.old i.0 }
     ensures { table.new ≡ set_status n table.old i.0 status }
 {
@@ -272,7 +293,7 @@ fn leave_if_alone(n: u8, table: &mut [u8], i: Station)
     ensures { table.new ≡ after_alone n table.old i.0 }
 {
     if suspects_all(n, table, i) {
-        leave(n, table, i, cells::LEFT_ALONE);
+        leave_by(n, table, i, cells::LEFT_ALONE);
     }
 }
 

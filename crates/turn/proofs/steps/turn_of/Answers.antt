@@ -6,7 +6,7 @@ use Rattle.table.proofs.SizeLaws.{size-bounds, size-distances}
 use Rattle.table.proofs.CellLaws.{accepted-line}
 use Rattle.turn.specs.Turn.{makes_test, turn, turn_tested, turn_outcome}
 use Rattle.turn.proofs.NextTest.{next_test-low, test-station}
-use Rattle.turn.proofs.steps.take_turn.Goals as goal
+use Rattle.turn.proofs.steps.turn_of.Goals as goal
 
 pub next_test-m-requires : goal.next_test-m-requires
 next_test-m-requires c =
