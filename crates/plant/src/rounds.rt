@@ -2,7 +2,6 @@
 ghost use Rattle.std.specs.Prelude.{◌≡◌, ◌<◌};
 ghost use Rattle.table.specs.Rules.{round_over};
 ghost use Rattle.table.specs.Lent.{IsSameLoan};
-ghost use Rattle.table.specs.Table.{HasLine};
 ghost use Rattle.plant.specs.Round.{rounds_after, reset_line, reset_lines, after_round};
 
 use table::lent::{Table, TableMut};
@@ -10,15 +9,15 @@ use table::{Station, cells};
 
 // Closes the round if a station is live and all live ones are finished; answers whether it closed. i is the station of the entry.
 #[tactic(auto, unfolding(crate::specs::Round::after_round))]
-pub(crate) fn close_round(n: u8, table: &mut [u8], i: Station) -> bool
-    requires { HasLine n table.old i.0 }
-    ensures value { result ≡ round_over n table.old }
-    ensures table_after { table.new ≡ after_round n table.old }
+pub(crate) fn close_round(table: &mut TableMut, i: Station) -> bool
+    requires { i.0 < table.old.n }
+    ensures value { result ≡ round_over table.old.n table.old.bytes.now }
+    ensures same { IsSameLoan table.old table.new }
+    ensures bytes { table.new.bytes.now ≡ after_round table.old.n table.old.bytes.now }
 {
-    let mut lent = TableMut { n, bytes: table };
-    let over = round_over(&lent.read(), i);
+    let over = round_over(&table.read(), i);
     if over {
-        reset_lines(&mut lent);
+        reset_lines(table);
     }
     over
 }
