@@ -224,7 +224,8 @@ fn exchange_rows(table: &mut TableMut, i: Station, j: Station)
     join_into(table, j, &both[..size]);
 }
 
-// Joins another row into the row of station i, lent as a part of the table.
+// Joins another row into the row of station i, lent as a part of the table. Tried: a method of `TableMut` that hands the row out to be written;
+// the borrow checker does not cover a part lent on past a ghost field.
 fn join_into(table: &mut TableMut, i: Station, other: &[u8])
     requires { i.0 < table.old.n }
     ensures same { IsSameLoan table.old table.new }
