@@ -37,10 +37,7 @@ fn check_start(n: usize, table: &[u8], schedule: usize, sheet: usize) -> Result<
     if schedule % 2 == 1 {
         return Err(Refusal::ScheduleLength);
     }
-    if sheet / 2 != schedule {
-        return Err(Refusal::SheetLength);
-    }
-    if sheet % 2 == 1 {
+    if schedule.checked_mul(2) != Some(sheet) {
         return Err(Refusal::SheetLength);
     }
     Ok(())
