@@ -65,6 +65,8 @@ pub(crate) fn go_on(table: &mut TableMut, tally: Tally, schedule: &[u8], sheet: 
                 };
             }
         };
+        // The line goes by its place. Tried: the sheet cut line by line (`split_first_chunk_mut`, `as_chunks_mut`). A proof then knows how
+        // long the sheet is in the end, and none of its bytes.
         let a = 4 * ran.taken;
         let e = a + 4;
         ran.tally = entry::take_entry(table, ran.tally, entry, &mut sheet[a..e]);
