@@ -342,7 +342,7 @@ fn tests_line(rt: &impl Print, before: Tally, after: Tally) {
 fn run_line(rt: &impl Print, ran: Ran) {
     let _ = println!(rt;
         "number {} taken {} tests {}",
-        ran.number(),
+        plant::stop_number(ran.stopped),
         ran.taken,
         ran.tally.tests
     );

@@ -184,6 +184,10 @@ module _ (n : ℕ) (p : Stand) (k : ℕ) (q : Stand) (at-k : q ≡ after_grants 
   pub grant-ready : (table_number n q.state.table ≡ 0) × (some_live n q.state.table ≡ true)
   grant-ready = rw at-k (accepted-number n _ d.ok, (still n p k d).1)
 
+  -- which is one of the plant's
+  pub granted-below : granted_at n q < n
+  granted-below = rw at-k (chosen n p k d).0
+
   module _ (fits : tally_full q.state.rounds q.state.tests ≡ false) where
     pub turn-ready : (table_number n q.state.table ≡ 0) × (entry_number n q.state (entry_of kind_turn (granted_at n q)) ≡ 0)
     turn-ready = rw at-k (accepted-number n _ d.ok, next-taken n p k d (rw at-k at fits))

@@ -1,10 +1,11 @@
 -- Request C-15, "A bus master that grants the turns": which station is granted, for all inputs.
 -- Assumes nothing.
-use Rattle.std.specs.Prelude.{ℕ, ◌+◌, ◌-◌, Bool, not, ◌&&◌, List, Result, Ok, if◌then◌else◌, ◌==◌, nat_lt, nat_le}
+use Rattle.std.specs.Prelude.{ℕ, ◌+◌, ◌-◌, Bool, not, ◌&&◌, List, Option, Some, None, Result, Ok, if◌then◌else◌, ◌==◌, nat_lt, nat_le}
 use Rattle.std.specs.Result.{result_unwrap_or}
 use Rattle.lists.specs.Search.{least}
 use Rattle.table.specs.Table.{finished, live}
 use Rattle.table.specs.Rules.{some_live, table_check}
+use Rattle.table.specs.declared.Station.{Station}
 use Rattle.lists.specs.declared.refusal.Refusal.{Refusal}
 use Rattle.lists.specs.declared.refusal.Refusal.TheVariants.{LastGranted, NoneLive}
 use Rattle.lists.specs.Refusal.{Check, ensure, ◌and◌, number_of_result}
@@ -12,6 +13,11 @@ use Rattle.lists.specs.Refusal.{Check, ensure, ◌and◌, number_of_result}
 -- the last granted number where none was granted yet: "255 at the start"
 abbrev pub no_grant : ℕ
 no_grant = 255
+
+-- the number of the last granted station, if there was one
+abbrev pub last_number : Option Station → ℕ
+last_number None = no_grant
+last_number (Some i) = i.0
 
 -- station i is "live and unfinished": it waits for a turn. (`finished_if_live` of station says the opposite)
 unfoldable pub waits : ℕ → List ℕ → ℕ → Bool

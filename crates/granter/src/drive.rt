@@ -1,34 +1,46 @@
 // The drive (request C-15): grant and turn on the lent table, again and again.
-ghost use Rattle.std.specs.Prelude.{◌≡◌};
+ghost use Rattle.std.specs.Prelude.{◌≡◌, ◌<◌, IfSome};
+ghost use Rattle.table.specs.Lent.{IsSameLoan};
 ghost use Rattle.plant.specs.Entry.{state_with};
-ghost use Rattle.granter.specs.Grant.{grant_number};
+ghost use Rattle.granter.specs.Grant.{last_number, grant_number};
 ghost use Rattle.granter.specs.Drive.{stand_at, ended, drive_outcome_with, outcome_after, drive, Stopped, StoppedIfTaken};
 
 use crate::{Driven, grant};
 use lists::refusal::Refusal;
 use plant::{Tally, single};
+use table::Station;
+use table::lent::{Table, TableMut};
 
 // Grants and turns of kind 1 until a round closes, nobody is left live, or a tally is full. A drive refused at its start changes no byte.
 pub fn drive(n: usize, table: &mut [u8], tally: Tally, last: usize) -> Driven
     ensures table_after { drive_outcome_with result table.new ≡ drive n (state_with table.old tally) last }
     ensures stopped_if_taken { StoppedIfTaken n (state_with table.old tally) last result.grants }
 {
-    if let Err(refusal) = grant::check_grant(n, table, last) {
-        return Driven {
-            tally,
-            last,
-            grants: 0,
-            stopped: Some(refusal),
-        };
-    }
-    go_on(n as u8, table, tally, last as u8)
+    let before = match grant::check_grant(n, table, last) {
+        Ok(before) => before,
+        Err(refusal) => {
+            return Driven {
+                tally,
+                last,
+                grants: 0,
+                stopped: Some(refusal),
+            };
+        }
+    };
+    let mut lent = TableMut {
+        n: n as u8,
+        bytes: table,
+    };
+    go_on(&mut lent, tally, before)
 }
 
 // A drive that is not refused at its start: grant and turn until it stops.
-fn go_on(n: u8, table: &mut [u8], tally: Tally, last: u8) -> Driven
-    requires { grant_number n table.old last ≡ 0 }
-    ensures table_after { drive_outcome_with result table.new ≡ outcome_after n (stand_at (state_with table.old tally) last) result.grants }
-    ensures stopped { Stopped n (stand_at (state_with table.old tally) last) result.grants }
+fn go_on(table: &mut TableMut, tally: Tally, last: Option<Station>) -> Driven
+    requires taken { grant_number table.old.n table.old.bytes.now (last_number last) ≡ 0 }
+    requires last_below { IfSome last (λ i. i.0 < table.old.n) }
+    ensures same { IsSameLoan table.old table.new }
+    ensures table_after { drive_outcome_with result table.new.bytes.now ≡ outcome_after table.old.n (stand_at (state_with table.old.bytes.now tally) (last_number last)) result.grants }
+    ensures stopped { Stopped table.old.n (stand_at (state_with table.old.bytes.now tally) (last_number last)) result.grants }
 {
     let mut held = tally;
     let mut before = last;
@@ -37,29 +49,29 @@ fn go_on(n: u8, table: &mut [u8], tally: Tally, last: u8) -> Driven
         if held.is_full() {
             break Some(Refusal::TallyFull);
         }
-        let i = grant::next_station(n, table, before);
-        held = single::take_turn(n, table, held, i);
-        before = i.0;
+        let i = grant::next_station(&table.read(), before);
+        held = single::take_turn(table, held, i);
+        before = Some(i);
         grants += 1;
-        let ended = has_ended(n, table, tally.rounds, held);
+        let ended = has_ended(&table.read(), tally.rounds, held);
         if ended {
             break None;
         }
     };
     Driven {
         tally: held,
-        last: before as usize,
+        last: grant::last_number(before),
         grants,
         stopped,
     }
 }
 
 // Whether a round has closed since the tally had these rounds, or nobody is left live.
-fn has_ended(n: u8, table: &[u8], rounds: u32, held: Tally) -> bool
-    ensures { result ≡ ended n rounds (state_with table.now held) }
+fn has_ended(table: &Table, rounds: u32, held: Tally) -> bool
+    ensures { result ≡ ended table.now.n rounds (state_with table.now.bytes.now held) }
 {
     if held.rounds != rounds {
         return true;
     }
-    !grant::some_live(n, table)
+    !grant::some_live(table)
 }

@@ -1,10 +1,11 @@
 // The grant (request C-15): the next station, going round, that is live and unfinished.
-ghost use Rattle.std.specs.Prelude.{◌≡◌, ◌≤◌, ◌<◌, true, MatchOption};
+ghost use Rattle.std.specs.Prelude.{◌≡◌, ◌≤◌, ◌<◌, true, MatchOption, IfSome, IfOk};
 ghost use Rattle.std.specs.Result.{result_map_both};
 ghost use Rattle.table.specs.Rules.{some_live, table_number};
-ghost use Rattle.granter.specs.Grant.{first_from, following, granted, grant_check, grant_answer};
+ghost use Rattle.granter.specs.Grant.{first_from, following, granted, last_number, last_check, grant_check, grant_answer};
 
 use lists::refusal::Refusal;
+use table::lent::Table;
 use table::{Station, rules};
 
 // The last granted number where none was granted yet.
@@ -15,54 +16,90 @@ const NO_GRANT: usize = 255;
 pub fn grant(n: usize, table: &[u8], last: usize) -> Result<Station, Refusal>
     ensures { result_map_both (λ x. x.0) (λ r. r) result ≡ grant_answer n table.now last }
 {
-    check_grant(n, table, last)?;
-    Ok(next_station(n as u8, table, last as u8))
+    let last = check_grant(n, table, last)?;
+    let lent = Table {
+        n: n as u8,
+        bytes: table,
+    };
+    Ok(next_station(&lent, last))
 }
 
-// Refusals 1 to 4, 16 and 17.
+// Refusals 1 to 4, 16 and 17; answers the last granted station.
 #[tactic(auto, using(table::proofs::Accepting::table_ok, crate::proofs::GrantLaws::accepted_top), unfolding(crate::specs::Grant::grant_check))]
-pub(crate) fn check_grant(n: usize, table: &[u8], last: usize) -> Result<(), Refusal>
-    ensures { result ≡ grant_check n table.now last }
+pub(crate) fn check_grant(n: usize, table: &[u8], last: usize) -> Result<Option<Station>, Refusal>
+    ensures check { result_map_both (λ s. tt) (λ r. r) result ≡ grant_check n table.now last }
+    ensures value { IfOk result (λ s. last_number s ≡ last) }
+    ensures below { IfOk result (λ s. IfSome s (λ i. i.0 < n)) }
 {
     rules::check_table(n, table)?;
-    if (n <= last) & (last != NO_GRANT) {
-        return Err(Refusal::LastGranted);
-    }
-    if !some_live(n as u8, table) {
+    let lent = Table {
+        n: n as u8,
+        bytes: table,
+    };
+    let last = last_granted(lent.n, last)?;
+    if !some_live(&lent) {
         return Err(Refusal::NoneLive);
     }
-    Ok(())
+    Ok(last)
+}
+
+// The last granted station, none at 255: refusal 16.
+fn last_granted(n: u8, last: usize) -> Result<Option<Station>, Refusal>
+    ensures check { result_map_both (λ s. tt) (λ r. r) result ≡ last_check n last }
+    ensures value { IfOk result (λ s. last_number s ≡ last) }
+    ensures below { IfOk result (λ s. IfSome s (λ i. i.0 < n)) }
+{
+    if last == NO_GRANT {
+        return Ok(None);
+    }
+    if n as usize <= last {
+        return Err(Refusal::LastGranted);
+    }
+    Ok(Some(Station(last as u8)))
+}
+
+// The number of the last granted station, 255 where there is none.
+pub(crate) fn last_number(last: Option<Station>) -> usize
+    ensures { result ≡ last_number last }
+{
+    match last {
+        None => NO_GRANT,
+        Some(station) => usize::from(station.0),
+    }
 }
 
 // The next station after the last granted one, going round, that is live and unfinished.
-pub(crate) fn next_station(n: u8, table: &[u8], last: u8) -> Station
-    requires table_obeys { table_number n table.now ≡ 0 }
-    requires someone_live { some_live n table.now ≡ true }
-    ensures { result.0 ≡ granted n table.now last }
+pub(crate) fn next_station(table: &Table, last: Option<Station>) -> Station
+    requires table_obeys { table_number table.now.n table.now.bytes.now ≡ 0 }
+    requires someone_live { some_live table.now.n table.now.bytes.now ≡ true }
+    requires last_below { IfSome last (λ i. i.0 < table.now.n) }
+    ensures { result.0 ≡ granted table.now.n table.now.bytes.now (last_number last) }
 {
-    if let Some(next) = first_from(n, table, following(last)) {
+    if let Some(next) = first_from(table, following(last)) {
         return next;
     }
-    first_from(n, table, Station(0)).unwrap()
+    first_from(table, Station(0)).unwrap()
 }
 
 // The station that is looked at first.
-fn following(last: u8) -> Station
-    ensures { result.0 ≡ following last }
+#[tactic(auto, unfolding(crate::specs::Grant::following))]
+fn following(last: Option<Station>) -> Station
+    requires { IfSome last (λ i. i.0 < 255) }
+    ensures { result.0 ≡ following (last_number last) }
 {
-    if last as usize == NO_GRANT {
-        return Station(0);
+    match last {
+        None => Station(0),
+        Some(station) => Station(station.0 + 1),
     }
-    Station(last + 1)
 }
 
 // The first station from `from` on, and below n, that is live and unfinished, if there is one.
-fn first_from(n: u8, table: &[u8], from: Station) -> Option<Station>
-    ensures { MatchOption result (n ≤ first_from n table.now from.0) (λ i. (i.0 ≡ first_from n table.now from.0) × (i.0 < n)) }
+fn first_from(table: &Table, from: Station) -> Option<Station>
+    ensures { MatchOption result (table.now.n ≤ first_from table.now.n table.now.bytes.now from.0) (λ i. (i.0 ≡ first_from table.now.n table.now.bytes.now from.0) × (i.0 < table.now.n)) }
 {
     // A `for`: a chain over the stations was measured 1.7 to 2.2 times slower (docs/DECISIONS.md, "The port").
-    for i in from.0..n {
-        if !rules::finished_if_live(n, table, Station(i)) {
+    for i in from.0..table.n {
+        if !table.finished_if_live(Station(i)) {
             return Some(Station(i));
         }
     }
@@ -70,12 +107,12 @@ fn first_from(n: u8, table: &[u8], from: Station) -> Option<Station>
 }
 
 // Whether a station is live.
-pub(crate) fn some_live(n: u8, table: &[u8]) -> bool
-    ensures { result ≡ some_live n table.now }
+pub(crate) fn some_live(table: &Table) -> bool
+    ensures { result ≡ some_live table.now.n table.now.bytes.now }
 {
     // A `for`, for the same reason.
-    for i in 0..n {
-        if rules::is_live(n, table, Station(i)) {
+    for i in 0..table.n {
+        if table.is_live(Station(i)) {
             return true;
         }
     }

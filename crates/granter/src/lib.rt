@@ -17,15 +17,3 @@ pub struct Driven {
     pub grants: usize,
     pub stopped: Option<Refusal>,
 }
-
-impl Driven {
-    ghost use Rattle.std.specs.Prelude.{◌≡◌};
-    ghost use Rattle.plant.specs.Run.{stop_number};
-
-    // The number of that refusal, 0 where there was none.
-    pub fn number(self) -> u8
-        ensures { result ≡ stop_number self.stopped }
-    {
-        self.stopped.map_or(0, Refusal::number)
-    }
-}

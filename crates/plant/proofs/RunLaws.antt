@@ -1,14 +1,13 @@
 -- Laws of the entries of a schedule, of an entry's line of the sheet, and of a run step by step.
 -- Assumes nothing.
-use mathlib.Core.Path.{◌≡◌, refl, sym, ap}
+use mathlib.Core.Path.{◌≡◌, refl, sym}
 use mathlib.Core.Bool.{Bool, true, false, cond, not, ◌&&◌}
 use mathlib.Core.List.{List, [], ◌∷◌, ◌++◌, append_assoc}
 use Prim.Native.Nat.{ℕ, zero, suc, ◌+◌, ◌*◌, ◌-◌, ◌/◌, ◌%◌, ◌≤◌, ◌<◌}
 use native.Mathlib.Numerals.{add-one}
 use native.Mathlib.Omega.{arith}
 use borrow.Author.Tests.{eqb-true, eqb-false, eq-eqb, ne_eqb, not-true}
-use lib.Dec.{eqb}
-use lib.ListN.{length, get_or, set, take, drop, drop_of_length-le}
+use lib.ListN.{length, get_or, take, drop, drop_of_length-le}
 use lib.Seq.{drop-drop, sets-eq}
 use Rattle.station.specs.Groups.{station_at}
 use Rattle.table.specs.Rules.{shape_check, table_check, table_number}
@@ -16,11 +15,12 @@ use Rattle.table.specs.Table.{table_length}
 use Rattle.lists.proofs.BoolLaws.{choice}
 use Rattle.table.proofs.Accepting.{Accepted, table_ok}
 use Rattle.std.specs.Prelude.{Ok, Err}
+use Rattle.std.specs.Simd.{first_chunks}
 use Rattle.lists.specs.declared.refusal.Refusal.{Refusal}
 use Rattle.lists.specs.Refusal.{number_of}
 use Rattle.lists.proofs.RefusalLaws.{number_nonzero, check_zero, ensure_ok, and_ok}
 use Rattle.turn.specs.Turn.{count_test, replies, is_told, reply_outcome, test_outcome, makes_test, next_test, turn_outcome}
-use Rattle.plant.specs.Entry.{Entry, State, entry_of, is_crash, is_test, entry_check, entry_number, after, outcome_of, sheet_line}
+use Rattle.plant.specs.Entry.{Entry, State, entry_of, is_crash, is_test, entry_check, entry_number, after, shows_test, outcome_of, sheet_line}
 use Rattle.plant.specs.Run.{Outcome, entries, write_line, go_on, start_check, start_number, run}
 
 -- a table that obeys the rules gets no refusal
@@ -35,29 +35,30 @@ entries-length [] = refl
 entries-length (k ∷ []) = refl
 entries-length (k ∷ i ∷ rest) = omega (arith, entries-length rest)
 
+-- the kth of them, by its pair of bytes
 abbrev pub entry_at : List ℕ → ℕ → Entry
-entry_at s k = entry_of (get_or s (2 * k) 0) (get_or s (2 * k + 1) 0)
+entry_at s k = let pair = get_or (first_chunks 2 (length s / 2) s) k [] in entry_of (get_or pair 0 0) (get_or pair 1 0)
+
+pairs-at : (m k : ℕ) (s : List ℕ) → k < m → 2 * m ≤ length s
+    → (let pair = get_or (first_chunks 2 m s) k [] in drop k (entries s) ≡ entry_of (get_or pair 0 0) (get_or pair 1 0) ∷ drop (suc k) (entries s))
+unfolding entries
+pairs-at zero k s h fits = absurd (omega arith)
+pairs-at (suc m) k [] h fits = absurd (omega arith)
+pairs-at (suc m) k (a ∷ []) h fits = absurd (omega arith)
+pairs-at (suc m) zero (a ∷ b ∷ rest) h fits = refl
+pairs-at (suc m) (suc k) (a ∷ b ∷ rest) h fits = pairs-at m k rest (omega arith) (omega arith)
 
 entries_at : (s : List ℕ) (k : ℕ) → k < length s / 2 → drop k (entries s) ≡ entry_at s k ∷ drop (suc k) (entries s)
-unfolding entries
-entries_at [] k h = absurd (omega arith)
-entries_at (a ∷ []) k h = absurd (omega arith)
-entries_at (a ∷ b ∷ rest) zero h = refl
-entries_at (a ∷ b ∷ rest) (suc k) h =
-    let x : 2 * suc k ≡ suc (suc (2 * k)) = omega arith in
-    let y : 2 * suc k + 1 ≡ suc (suc (2 * k + 1)) = omega arith in
-    let p = ap (λ (q : ℕ). get_or (a ∷ b ∷ rest) q 0) x in
-    let q = ap (λ (q : ℕ). get_or (a ∷ b ∷ rest) q 0) y in
-    cc (entries_at rest k (omega arith), p, q)
+entries_at s k h = pairs-at (length s / 2) k s h (omega arith)
 
 -- the outcome tells whether a test was made
-some-outcome : (n : ℕ) (t : List ℕ) (kind i j : ℕ) → not (eqb (test_outcome n t kind i j) 0) ≡ true
+some-outcome : (n : ℕ) (t : List ℕ) (kind i j : ℕ) → shows_test (test_outcome n t kind i j) ≡ true
 unfolding test_outcome reply_outcome
 some-outcome n t kind i j =
-    let P : ℕ → Type 0 = λ o. not (eqb o 0) ≡ true in
+    let P : ℕ → Type 0 = λ o. shows_test o ≡ true in
     choice P (replies n t kind j) (choice P (is_told n t i j) refl (choice P (is_told n t j i) refl refl)) refl
 
-pub made-test : (n : ℕ) (t : List ℕ) (e : Entry) → (not (eqb (outcome_of n t e) 0) && not (eqb e.kind 3)) ≡ is_test n t e
+pub made-test : (n : ℕ) (t : List ℕ) (e : Entry) → shows_test (outcome_of n t e) ≡ is_test n t e
 unfolding outcome_of turn_outcome
 made-test n t e = pick (is_crash e) (makes_test n t e.station)
   where
@@ -67,8 +68,7 @@ made-test n t e = pick (is_crash e) (makes_test n t e.station)
     j : ℕ
     j = station_at e.station (next_test n t e.station)
 
-    pick : (b c : Bool)
-        → (not (eqb (cond b 4 (cond c (test_outcome n u e.kind e.station j) 0)) 0) && not b) ≡ (not b && c)
+    pick : (b c : Bool) → shows_test (cond b 4 (cond c (test_outcome n u e.kind e.station j) 0)) ≡ (not b && c)
     pick true c = refl
     pick false true = rw (some-outcome n u e.kind e.station j)
     pick false false = refl
@@ -86,11 +86,10 @@ module _ (n k : ℕ) (s : State) (sheet schedule : List ℕ) where
   abbrev pub from-here : Outcome
   from-here = go_on n k s sheet (drop k (entries schedule))
 
-  pub go-taken : (s' : State) (sheet' : List ℕ) → k < length schedule / 2 → entry_number n s (entry_at schedule k) ≡ 0
-      → s' ≡ after n s (entry_at schedule k) → sheet' ≡ write_line sheet k (sheet_line n s (entry_at schedule k))
-      → go_on n (k + 1) s' sheet' (drop (k + 1) (entries schedule)) ≡ from-here
+  pub go-taken : (e : Entry) (s' : State) (sheet' : List ℕ) → k < length schedule / 2 → e ≡ entry_at schedule k → entry_number n s e ≡ 0
+      → s' ≡ after n s e → sheet' ≡ write_line sheet k (sheet_line n s e) → go_on n (k + 1) s' sheet' (drop (k + 1) (entries schedule)) ≡ from-here
   unfolding go_on
-  go-taken s' sheet' h z a b = rw (a, b, entries_at schedule k h, z, add-one k)
+  go-taken e s' sheet' h at z a b = rw (a, b, entries_at schedule k h, ← at, z, add-one k)
 
   pub go-stopped : (r : Refusal) → k < length schedule / 2 → entry_check n s (entry_at schedule k) ≡ Err r
       → from-here ≡ record { number = number_of r; taken = k; state = s; sheet = sheet }

@@ -6,7 +6,9 @@ use Rattle.lists.specs.declared.refusal.Refusal.TheVariants.{TallyFull, UnknownK
 use Rattle.lists.specs.Refusal.{Check, ensure, ◌and◌, number_of_result}
 use Rattle.table.specs.Rules.{round_over, station_check}
 use Rattle.plant.specs.declared.Tally.{Tally}
-use Rattle.turn.specs.Turn.{kind_crash, outcome_crash, no_station, makes_test, turn, turn_tested, turn_outcome, crash}
+use Rattle.plant.specs.declared.entry.Entry.{Entry as Known}
+use Rattle.turn.specs.Kind.{kind_byte}
+use Rattle.turn.specs.Turn.{kind_crash, outcome_finished, outcome_crash, no_station, makes_test, turn, turn_tested, turn_outcome, crash}
 use Rattle.plant.specs.Round.{after_round}
 
 -- "A schedule entry is two bytes: kind [..] and station i."
@@ -31,6 +33,10 @@ state_with t tally = state_of t tally.rounds tally.tests
 -- an entry by its two bytes
 abbrev pub entry_of : ℕ → ℕ → Entry
 entry_of k i = record { kind = k; station = i }
+
+-- the entry that an entry of a known kind stands for
+abbrev pub entry_known : Known → Entry
+entry_known e = entry_of (kind_byte e.kind) e.station.0
 
 -- the greatest value of a tally, 32 bits
 abbrev pub tally_top : ℕ
@@ -78,6 +84,10 @@ tested_of n t e = if is_crash e then no_station else turn_tested n t e.station
 
 unfoldable pub outcome_of : ℕ → List ℕ → Entry → ℕ
 outcome_of n t e = if is_crash e then outcome_crash else turn_outcome n t e.kind e.station
+
+-- whether the outcome is that of a test
+abbrev pub shows_test : ℕ → Bool
+shows_test outcome = not (outcome == outcome_finished) && not (outcome == outcome_crash)
 
 -- "four bytes of the sheet: i; the tested station or 255; the outcome [..]; i's status after the entry"
 unfoldable pub sheet_line : ℕ → State → Entry → List ℕ

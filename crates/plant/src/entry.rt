@@ -1,86 +1,95 @@
 // One entry of a schedule (document 01, "What an entry does" and refusals 7 to 11).
-ghost use Rattle.std.specs.Prelude.{◌≡◌, ◌+◌, ◌<◌, cond, length};
-ghost use Rattle.table.specs.Table.{table_length};
+ghost use Rattle.std.specs.Prelude.{◌≡◌, ◌+◌, ◌<◌, cond, length, IfOk};
+ghost use Rattle.std.specs.Result.{result_map_both};
+ghost use Rattle.table.specs.Lent.{IsSameLoan};
 ghost use Rattle.table.specs.Rules.{table_number};
 ghost use Rattle.turn.specs.Outcome.{tested_byte, outcome_byte};
-ghost use Rattle.plant.specs.Entry.{state_with, entry_of, entry_check, entry_number, acted, after, tested_of, outcome_of, sheet_line};
+ghost use Rattle.plant.specs.Entry.{state_with, entry_of, entry_known, entry_check, entry_number, shows_test, acted, after, tested_of, outcome_of, sheet_line};
 
 use crate::{Tally, rounds};
 use lists::refusal::Refusal;
-use table::{Station, cells, inside};
+use table::lent::{Table, TableMut};
+use table::{Station, cells};
 use turn::kind::Kind;
 use turn::outcome::Outcome;
 use turn::steps;
 
-// Refusals 7 to 11.
+// An entry of a known kind: what happens, and to which station.
+#[derive(Clone, Copy)]
+pub(crate) struct Entry {
+    pub kind: Kind,
+    pub station: Station,
+}
+
+// The entry that two bytes of a schedule stand for: refusals 7 to 11.
 #[tactic(auto, unfolding(crate::specs::Entry::entry_check))]
 pub(crate) fn check_entry(
-    n: u8,
-    table: &[u8],
+    table: &Table,
     tally: Tally,
     kind: u8,
-    i: Station,
-) -> Result<(), Refusal>
-    requires { length table.now ≡ table_length n }
-    ensures { result ≡ entry_check n (state_with table.now tally) (entry_of kind i.0) }
+    station: Station,
+) -> Result<Entry, Refusal>
+    ensures check { result_map_both (λ e. tt) (λ r. r) result ≡ entry_check table.now.n (state_with table.now.bytes.now tally) (entry_of kind station.0) }
+    ensures entry { IfOk result (λ e. entry_known e ≡ entry_of kind station.0) }
 {
     if tally.is_full() {
         return Err(Refusal::TallyFull);
     }
     let kind = Kind::try_from(kind)?;
-    if n <= i.0 {
+    if table.n <= station.0 {
         return Err(Refusal::NoSuchStation);
     }
-    if inside::get(n, table, i, cells::STATUS) != cells::LIVE {
+    if !table.is_live(station) {
         return Err(Refusal::NotLive);
     }
-    let finished = inside::get(n, table, i, cells::FINISHED);
-    if (kind != Kind::Crash) & (finished == 1) {
+    if (kind != Kind::Crash) & table.is_finished(station) {
         return Err(Refusal::PassFinished);
     }
-    Ok(())
+    Ok(Entry { kind, station })
 }
 
 // An entry that is not refused: steps 1 to 8, and its line of the sheet. The answer is the tally after it.
-pub(crate) fn take_entry(
-    n: u8,
-    table: &mut [u8],
-    tally: Tally,
-    kind: u8,
-    i: Station,
-    line: &mut [u8],
-) -> Tally
-    requires table_obeys { table_number n table.old ≡ 0 }
-    requires entry_taken { entry_number n (state_with table.old tally) (entry_of kind i.0) ≡ 0 }
+pub(crate) fn take_entry(table: &mut TableMut, tally: Tally, entry: Entry, line: &mut [u8]) -> Tally
+    requires table_obeys { table_number table.old.n table.old.bytes.now ≡ 0 }
+    requires entry_taken { entry_number table.old.n (state_with table.old.bytes.now tally) (entry_known entry) ≡ 0 }
     requires line_length { length line.old ≡ 4 }
-    ensures result_after { state_with table.new result ≡ after n (state_with table.old tally) (entry_of kind i.0) }
-    ensures line_after { line.new ≡ sheet_line n (state_with table.old tally) (entry_of kind i.0) }
+    ensures same { IsSameLoan table.old table.new }
+    ensures result_after { state_with table.new.bytes.now result ≡ after table.old.n (state_with table.old.bytes.now tally) (entry_known entry) }
+    ensures line_after { line.new ≡ sheet_line table.old.n (state_with table.old.bytes.now tally) (entry_known entry) }
 {
-    let done = act(n, table, kind, i);
+    let station = entry.station;
+    let done = act(table, entry);
     let tested = done.tested_byte();
     let outcome = done.outcome_byte();
-    let over = rounds::close_round(n, table, i);
-    let status = inside::get(n, table, i, cells::STATUS);
-    line.copy_from_slice(&[i.0, tested, outcome, status]);
-    let made = outcome != Outcome::PassFinished.outcome_byte();
+    let over = rounds::close_round(table, station);
+    let status = table.read().get(station, cells::STATUS);
+    line.copy_from_slice(&[station.0, tested, outcome, status]);
     Tally {
         rounds: tally.rounds + u32::from(over),
-        tests: tally.tests + u32::from(made & (kind != u8::from(Kind::Crash))),
+        tests: tally.tests + u32::from(made_test(done)),
     }
+}
+
+// Whether the entry made a test.
+fn made_test(done: Outcome) -> bool
+    ensures { result ≡ shows_test (outcome_byte done) }
+{
+    !matches!(done, Outcome::PassFinished | Outcome::Crashed)
 }
 
 // Steps 2 to 7: a crash or a turn.
 #[tactic(auto, unfolding(crate::specs::Entry::acted, crate::specs::Entry::tested_of, crate::specs::Entry::outcome_of, turn::specs::Turn::crash))]
-fn act(n: u8, table: &mut [u8], kind: u8, i: Station) -> Outcome
-    requires table_obeys { table_number n table.old ≡ 0 }
-    requires station_below { i.0 < n }
-    ensures tested_value { tested_byte result ≡ tested_of n table.old (entry_of kind i.0) }
-    ensures outcome_value { outcome_byte result ≡ outcome_of n table.old (entry_of kind i.0) }
-    ensures table_after { table.new ≡ acted n table.old (entry_of kind i.0) }
+fn act(table: &mut TableMut, entry: Entry) -> Outcome
+    requires table_obeys { table_number table.old.n table.old.bytes.now ≡ 0 }
+    requires station_below { entry.station.0 < table.old.n }
+    ensures tested_value { tested_byte result ≡ tested_of table.old.n table.old.bytes.now (entry_known entry) }
+    ensures outcome_value { outcome_byte result ≡ outcome_of table.old.n table.old.bytes.now (entry_known entry) }
+    ensures same { IsSameLoan table.old table.new }
+    ensures bytes { table.new.bytes.now ≡ acted table.old.n table.old.bytes.now (entry_known entry) }
 {
-    if kind == u8::from(Kind::Crash) {
-        steps::leave(n, table, i, cells::CRASHED);
+    if entry.kind == Kind::Crash {
+        steps::leave(table, entry.station, cells::CRASHED);
         return Outcome::Crashed;
     }
-    steps::take_turn(n, table, kind, i)
+    steps::take_turn(table, u8::from(entry.kind), entry.station)
 }

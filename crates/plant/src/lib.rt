@@ -38,14 +38,12 @@ pub struct Ran {
     pub stopped: Option<Refusal>,
 }
 
-impl Ran {
-    ghost use Rattle.std.specs.Prelude.{◌≡◌};
-    ghost use Rattle.plant.specs.Run.{stop_number};
+ghost use Rattle.std.specs.Prelude.{◌≡◌};
+ghost use Rattle.plant.specs.Run.{stop_number};
 
-    // The number of the refusal that stopped the run, 0 where none did.
-    pub fn number(self) -> u8
-        ensures { result ≡ stop_number self.stopped }
-    {
-        self.stopped.map_or(0, Refusal::number)
-    }
+// The number of the refusal that stopped a run or a drive, 0 where none did.
+pub fn stop_number(stopped: Option<Refusal>) -> u8
+    ensures { result ≡ stop_number stopped }
+{
+    stopped.map_or(0, Refusal::number)
 }

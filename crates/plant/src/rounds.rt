@@ -1,65 +1,70 @@
 // Closing a round (document 01, step 8; request C-18).
-ghost use Rattle.std.specs.Prelude.{◌≡◌, ◌<◌, length};
+ghost use Rattle.std.specs.Prelude.{◌≡◌, ◌<◌};
 ghost use Rattle.table.specs.Rules.{round_over};
-ghost use Rattle.table.specs.Table.{HasLine, table_length};
+ghost use Rattle.table.specs.Lent.{IsSameLoan};
 ghost use Rattle.plant.specs.Round.{rounds_after, reset_line, reset_lines, after_round};
 
-use table::{Station, cells, inside, rules};
+use table::lent::{Table, TableMut};
+use table::{Station, cells};
 
 // Closes the round if a station is live and all live ones are finished; answers whether it closed. i is the station of the entry.
-pub(crate) fn close_round(n: u8, table: &mut [u8], i: Station) -> bool
-    requires { HasLine n table.old i.0 }
-    ensures value { result ≡ round_over n table.old }
-    ensures table_after { table.new ≡ after_round n table.old }
+#[tactic(auto, unfolding(crate::specs::Round::after_round))]
+pub(crate) fn close_round(table: &mut TableMut, i: Station) -> bool
+    requires { i.0 < table.old.n }
+    ensures value { result ≡ round_over table.old.n table.old.bytes.now }
+    ensures same { IsSameLoan table.old table.new }
+    ensures bytes { table.new.bytes.now ≡ after_round table.old.n table.old.bytes.now }
 {
-    let over = round_over(n, table, i);
+    let over = round_over(&table.read(), i);
     if over {
-        reset_lines(n, table);
+        reset_lines(table);
     }
     over
 }
 
 // Whether a station is live and all live ones are finished. i is looked at first, since most often it is live and has not finished.
-fn round_over(n: u8, table: &[u8], i: Station) -> bool
-    requires { i.0 < n }
-    ensures { result ≡ round_over n table.now }
+fn round_over(table: &Table, i: Station) -> bool
+    requires { i.0 < table.now.n }
+    ensures { result ≡ round_over table.now.n table.now.bytes.now }
 {
-    if !rules::finished_if_live(n, table, i) {
+    if !table.finished_if_live(i) {
         return false;
     }
-    rules::is_round_over(n, table)
+    table.is_round_over()
 }
 
 // Every line, live or not, begins a new round.
-fn reset_lines(n: u8, table: &mut [u8])
-    requires { length table.old ≡ table_length n }
-    ensures { table.new ≡ reset_lines n table.old }
+fn reset_lines(table: &mut TableMut)
+    ensures same { IsSameLoan table.old table.new }
+    ensures bytes { table.new.bytes.now ≡ reset_lines table.old.n table.old.bytes.now }
 {
-    for i in 0..n {
-        reset_line(n, table, Station(i));
+    for i in 0..table.n {
+        reset_line(table, Station(i));
     }
 }
 
 // Next distance 1, finished 0, tests 0; byte 5 as `rounds_after` gives it.
-fn reset_line(n: u8, table: &mut [u8], i: Station)
-    requires { HasLine n table.old i.0 }
-    ensures { table.new ≡ reset_line n i.0 table.old }
+#[tactic(auto, unfolding(crate::specs::Round::reset_line))]
+fn reset_line(table: &mut TableMut, i: Station)
+    requires { i.0 < table.old.n }
+    ensures same { IsSameLoan table.old table.new }
+    ensures bytes { table.new.bytes.now ≡ reset_line table.old.n i.0 table.old.bytes.now }
 {
-    let ago = rounds_after(n, table, i);
-    inside::put(n, table, i, cells::NEXT, 1);
-    inside::put(n, table, i, cells::FINISHED, 0);
-    inside::put(n, table, i, cells::TESTS, 0);
-    inside::put(n, table, i, cells::ROUNDS_AGO, ago);
+    let ago = rounds_after(&table.read(), i);
+    table.put(i, cells::NEXT, 1);
+    table.put(i, cells::FINISHED, 0);
+    table.put(i, cells::TESTS, 0);
+    table.put(i, cells::ROUNDS_AGO, ago);
 }
 
 // Byte 5 of line i after a closing: one round more where i is not live, 255 at most.
-fn rounds_after(n: u8, table: &[u8], i: Station) -> u8
-    requires { HasLine n table.now i.0 }
-    ensures { result ≡ rounds_after n table.now i.0 }
+#[tactic(auto, unfolding(crate::specs::Round::rounds_after))]
+fn rounds_after(table: &Table, i: Station) -> u8
+    requires { i.0 < table.now.n }
+    ensures { result ≡ rounds_after table.now.n table.now.bytes.now i.0 }
 {
-    let status = inside::get(n, table, i, cells::STATUS);
-    let ago = inside::get(n, table, i, cells::ROUNDS_AGO);
-    if status == cells::LIVE {
+    let ago = table.get(i, cells::ROUNDS_AGO);
+    if table.is_live(i) {
         return ago;
     }
     if ago == cells::ROUNDS_AGO_TOP {

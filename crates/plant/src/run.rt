@@ -1,10 +1,12 @@
 // The run (document 01, "What can be asked" and the refusal list).
 ghost use Rattle.std.specs.Prelude.{◌≡◌, length};
+ghost use Rattle.table.specs.Lent.{IsSameLoan};
 ghost use Rattle.plant.specs.Entry.{state_with};
 ghost use Rattle.plant.specs.Run.{entries, go_on, start_check, start_number, outcome_with, run};
 
 use crate::{Ran, Tally, entry};
 use lists::refusal::Refusal;
+use table::lent::TableMut;
 use table::{Station, rules};
 
 // Carries out a schedule on a table and a tally and fills the sheet, four bytes for each entry taken. A run refused at its start changes
@@ -19,7 +21,11 @@ pub fn run(n: usize, table: &mut [u8], tally: Tally, schedule: &[u8], sheet: &mu
             stopped: Some(refusal),
         };
     }
-    go_on(n as u8, table, tally, schedule, sheet)
+    let mut lent = TableMut {
+        n: n as u8,
+        bytes: table,
+    };
+    go_on(&mut lent, tally, schedule, sheet)
 }
 
 // Refusals 1 to 6.
@@ -31,39 +37,40 @@ fn check_start(n: usize, table: &[u8], schedule: usize, sheet: usize) -> Result<
     if schedule % 2 == 1 {
         return Err(Refusal::ScheduleLength);
     }
-    if sheet / 2 != schedule {
-        return Err(Refusal::SheetLength);
-    }
-    if sheet % 2 == 1 {
+    if schedule.checked_mul(2) != Some(sheet) {
         return Err(Refusal::SheetLength);
     }
     Ok(())
 }
 
 // Takes the entries in order. `single` uses it too, so that an entry is taken in one place only, which the compiler then puts in line.
-pub(crate) fn go_on(n: u8, table: &mut [u8], tally: Tally, schedule: &[u8], sheet: &mut [u8]) -> Ran
-    requires { start_number n table.old (length schedule.now) (length sheet.old) ≡ 0 }
-    ensures { outcome_with result table.new sheet.new ≡ go_on n 0 (state_with table.old tally) sheet.old (entries schedule.now) }
+pub(crate) fn go_on(table: &mut TableMut, tally: Tally, schedule: &[u8], sheet: &mut [u8]) -> Ran
+    requires { start_number table.old.n table.old.bytes.now (length schedule.now) (length sheet.old) ≡ 0 }
+    ensures same { IsSameLoan table.old table.new }
+    ensures run { outcome_with result table.new.bytes.now sheet.new ≡ go_on table.old.n 0 (state_with table.old.bytes.now tally) sheet.old (entries schedule.now) }
 {
     let mut ran = Ran {
         taken: 0,
         tally,
         stopped: None,
     };
-    let count = schedule.len() / 2;
-    for k in 0..count {
-        let kind = schedule[2 * k];
-        let i = Station(schedule[2 * k + 1]);
-        if let Err(refusal) = entry::check_entry(n, table, ran.tally, kind, i) {
-            return Ran {
-                stopped: Some(refusal),
-                ..ran
-            };
-        }
-        let a = 4 * k;
+    let (entries, _) = schedule.as_chunks::<2>();
+    for &[kind, station] in entries {
+        let entry = match entry::check_entry(&table.read(), ran.tally, kind, Station(station)) {
+            Ok(entry) => entry,
+            Err(refusal) => {
+                return Ran {
+                    stopped: Some(refusal),
+                    ..ran
+                };
+            }
+        };
+        // The line goes by its place. Tried: the sheet cut line by line (`split_first_chunk_mut`, `as_chunks_mut`). A proof then knows how
+        // long the sheet is in the end, and none of its bytes.
+        let a = 4 * ran.taken;
         let e = a + 4;
-        ran.tally = entry::take_entry(n, table, ran.tally, kind, i, &mut sheet[a..e]);
-        ran.taken = k + 1;
+        ran.tally = entry::take_entry(table, ran.tally, entry, &mut sheet[a..e]);
+        ran.taken += 1;
     }
     ran
 }

@@ -1,22 +1,25 @@
 // What the crate `granter` uses of an entry. It has checked the table and chosen a station that may take a turn: so `take_turn` has a
 // `requires`.
 ghost use Rattle.std.specs.Prelude.{◌≡◌};
+ghost use Rattle.table.specs.Lent.{IsSameLoan};
 ghost use Rattle.table.specs.Rules.{table_number};
 ghost use Rattle.turn.specs.Turn.{kind_turn};
 ghost use Rattle.plant.specs.Entry.{state_with, entry_of, entry_number, after};
 
 use crate::{Tally, run};
 use table::Station;
+use table::lent::TableMut;
 use turn::kind::Kind;
 
 // A turn of kind 1 of station i, with no line of a sheet: the rest of a run that has this one entry. The answer is the tally after it.
-pub fn take_turn(n: u8, table: &mut [u8], tally: Tally, i: Station) -> Tally
-    requires table_obeys { table_number n table.old ≡ 0 }
-    requires turn_taken { entry_number n (state_with table.old tally) (entry_of kind_turn i.0) ≡ 0 }
-    ensures { state_with table.new result ≡ after n (state_with table.old tally) (entry_of kind_turn i.0) }
+pub fn take_turn(table: &mut TableMut, tally: Tally, i: Station) -> Tally
+    requires table_obeys { table_number table.old.n table.old.bytes.now ≡ 0 }
+    requires turn_taken { entry_number table.old.n (state_with table.old.bytes.now tally) (entry_of kind_turn i.0) ≡ 0 }
+    ensures same { IsSameLoan table.old table.new }
+    ensures result_after { state_with table.new.bytes.now result ≡ after table.old.n (state_with table.old.bytes.now tally) (entry_of kind_turn i.0) }
 {
     let schedule = [u8::from(Kind::Turn), i.0];
     let mut line = [0u8; 4];
-    let ran = run::go_on(n, table, tally, &schedule, &mut line);
+    let ran = run::go_on(table, tally, &schedule, &mut line);
     ran.tally
 }

@@ -38,12 +38,12 @@ pub distances-le : (k n : ℕ) → n ≤ 2 ^ k → distances n ≤ 2 ^ k
 unfolding distances dimension
 distances-le k n h = pow_mono {i = level (n - 1)} {j = k} (level-le (n - 1) k (omega (arith, pow_pos k)))
 
-pub distances-top : (n : ℕ) → n ≤ 64 → distances n ≤ 64
-distances-top n h = distances-le 6 n h
+pub distances_top : (n : ℕ) → n ≤ 64 → distances n ≤ 64
+distances_top n h = distances-le 6 n h
 
 -- the number of distances is from n to 64
 pub size-distances : (n : ℕ) → is_size n ≡ true → (n ≤ distances n) × (distances n ≤ 64)
 unfolding distances
 size-distances n e =
     let d = size-log n e in
-    (rw d.1 d.3, distances-top n (size-bounds n e).1)
+    (rw d.1 d.3, distances_top n (size-bounds n e).1)

@@ -1,11 +1,13 @@
 // The lent table as a type: a size and the bytes of a table of that size. That the length fits is a ghost field, so that no method asks for it.
 // That a line or column is there a method does ask, since it makes no test of its place.
 ghost use Rattle.std.specs.Prelude.{◌≡◌, ◌+◌, ◌<◌, ◌==◌, length, IfOk};
-ghost use Rattle.table.specs.Table.{head, stride, table_length, cell, set_cell, row_start, row, live, finished, suspects};
+ghost use Rattle.table.specs.Table.{head, stride, table_length, cell, set_cell, status_column, row_start, row, live, next_distance, finished, suspects};
+ghost use Rattle.table.specs.Status.{status_byte};
 ghost use Rattle.std.specs.Result.{result_map_both};
 ghost use Rattle.table.specs.Rules.{shape_check, finished_if_live, round_over};
 
-use crate::{Station, cells, rules};
+use crate::status::Status;
+use crate::{Distance, Station, cells, rules};
 use lists::refusal::Refusal;
 
 // A table of n stations, to be read.
@@ -53,6 +55,14 @@ impl<'a> Table<'a> {
         ensures { result ≡ live self.now.n self.now.bytes.now i.0 }
     {
         self.get(i, cells::STATUS) == cells::LIVE
+    }
+
+    // The next distance of station i.
+    pub fn next_distance(&self, i: Station) -> Distance
+        requires { i.0 < self.now.n }
+        ensures { result.0 ≡ next_distance self.now.n self.now.bytes.now i.0 }
+    {
+        Distance(self.get(i, cells::NEXT))
     }
 
     // Whether station i has finished its pass.
@@ -134,6 +144,15 @@ impl<'a> TableMut<'a> {
     {
         let at = cells::line_start(self.n, i) + c as usize;
         self.bytes[at] = v;
+    }
+
+    // The status of station i.
+    pub fn set_status(&mut self, i: Station, status: Status)
+        requires { i.0 < self.old.n }
+        ensures same { IsSameLoan self.old self.new }
+        ensures bytes { self.new.bytes.now ≡ set_cell self.old.n self.old.bytes.now i.0 status_column (status_byte status) }
+    {
+        self.put(i, cells::STATUS, u8::from(status));
     }
 
     // Station i suspects station k.

@@ -129,7 +129,7 @@ pub extern "C" fn vcube_run(
     *rounds = ran.tally.rounds;
     *tests = ran.tally.tests;
     *taken = ran.taken;
-    ran.number()
+    plant::stop_number(ran.stopped)
 }
 
 // Grant: the station that is granted after the last one, 0 where it is refused.
@@ -172,7 +172,7 @@ pub extern "C" fn vcube_drive(
     *tests = driven.tally.tests;
     *last = driven.last;
     *grants = driven.grants;
-    driven.number()
+    plant::stop_number(driven.stopped)
 }
 
 // Save: the table and the tally as a saved plant, into a buffer of just its length.

@@ -1,5 +1,5 @@
 -- The stations passed so far do not wait.
-use Rattle.std.proofs.Common.{◌≡◌, ◌+◌, ◌-◌, not, sym, ap, ◌∙◌, arith, below_more}
+use Rattle.std.proofs.Common.{◌-◌, not, sym, ap, ◌∙◌, arith, below_more}
 use Rattle.lists.proofs.SearchLaws.{least-is, least-none}
 use Rattle.granter.specs.Grant.{waits, first_from}
 use Rattle.granter.proofs.GrantLaws.{waits-is}
@@ -20,4 +20,4 @@ pub returns : goal.returns
 unfolding first_from
 returns c =
     let a = c.args in
-    omega (arith, least-none (waits a.n a.table.now) (a.n - a.from.0) a.from.0 (λ y lo hi. c.loop-i.invariant y (omega arith) lo))
+    omega (arith, least-none (waits a.table.now.n a.table.now.bytes.now) (a.table.now.n - a.from.0) a.from.0 (λ y lo hi. c.loop-i.invariant y (omega arith) lo))

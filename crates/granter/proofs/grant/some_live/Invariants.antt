@@ -5,4 +5,4 @@ use Rattle.table.specs.Rules.{not_live}
 use Rattle.granter.proofs.grant.some_live.Given as goal
 
 abbrev pub invariant-loop-i : goal.invariant-loop-i
-invariant-loop-i l = every (not_live l.n l.table) l.i ≡ true
+invariant-loop-i l = every (not_live l.table.n l.table.bytes.now) l.i ≡ true

@@ -1,8 +1,7 @@
 -- The entry is taken, so that no tally is full, and its outcome tells whether a test was made.
 use Rattle.std.proofs.Common.{◌≡◌, ◌+◌, ◌≤◌, ℕ, Bool, true, false, cond, refl, arith}
 use Rattle.std.specs.Int.{from_bool}
-use Rattle.table.proofs.Accepting.{accepted}
-use Rattle.plant.specs.Entry.{state_with, entry_of, after, sheet_line}
+use Rattle.plant.specs.Entry.{state_with, entry_known, after, sheet_line}
 use Rattle.plant.proofs.RulesKept.{entry-facts}
 use Rattle.plant.proofs.RunLaws.{made-test}
 use Rattle.plant.proofs.entry.take_entry.Goals as goal
@@ -19,33 +18,32 @@ pub act-done-requires : goal.act-done-requires
 act-done-requires c = record { table_obeys = c.requires.table_obeys; station_below = (entry-facts _ _ _ c.requires.entry_taken).below }
 
 pub close_round-over-requires : goal.close_round-over-requires
-close_round-over-requires c =
-    (omega (arith, (accepted c.args.n c.args.table.now c.requires.table_obeys).long), (entry-facts _ _ _ c.requires.entry_taken).below)
+close_round-over-requires c = omega (arith, (entry-facts _ _ _ c.requires.entry_taken).below)
 
-pub get-status-requires : goal.get-status-requires
-get-status-requires c =
-    (omega (arith, (accepted c.args.n c.args.table.now c.requires.table_obeys).long), (entry-facts _ _ _ c.requires.entry_taken).below, omega arith)
+pub get-status-requires-clause-line : goal.get-status-requires-clause-line
+get-status-requires-clause-line c = omega (arith, (entry-facts _ _ _ c.requires.entry_taken).below)
 
 pub overflow_add-result : goal.overflow_add-result
 overflow_add-result c =
-    let f = entry-facts c.args.n (state_with c.args.table.now c.args.tally) (entry_of c.args.kind c.args.i.0) c.requires.entry_taken in
+    let f = entry-facts c.args.table.now.n (state_with c.args.table.now.bytes.now c.args.tally) (entry_known c.args.entry) c.requires.entry_taken in
     omega (arith, f.rounds_fit, bit-most c.close_round-over.result)
 
 pub overflow_add-result-2 : goal.overflow_add-result-2
 overflow_add-result-2 c =
-    let f = entry-facts c.args.n (state_with c.args.table.now c.args.tally) (entry_of c.args.kind c.args.i.0) c.requires.entry_taken in
+    let f = entry-facts c.args.table.now.n (state_with c.args.table.now.bytes.now c.args.tally) (entry_known c.args.entry) c.requires.entry_taken in
     omega (arith, f.tests_fit, bit-most)
 
 pub returns-clause-result_after : goal.returns-clause-result_after
 unfolding after
 returns-clause-result_after c =
-    let m = made-test c.args.n c.args.table.now (entry_of c.args.kind c.args.i.0) in
     let e = c.act-done.ensures in
     let f = c.close_round-over.ensures in
-    rw (c.from.ensures, c.from-3.ensures, bit-added c.close_round-over.result, bit-added, f.value, f.table_after, e.table_after, c.outcome_byte.ensures, c.outcome_byte-outcome.ensures, c.from-2.ensures, e.outcome_value, m)
+    let m = made-test c.args.table.now.n c.args.table.now.bytes.now (entry_known c.args.entry) in
+    rw (c.from.ensures, c.from-2.ensures, bit-added c.close_round-over.result, bit-added, f.value, f.bytes, e.same.size, e.bytes, c.made_test.ensures, e.outcome_value, m)
 
 pub returns-clause-line_after : goal.returns-clause-line_after
 unfolding after sheet_line
 returns-clause-line_after c =
     let e = c.act-done.ensures in
-    rw (c.copy_from_slice.ensures.after, c.tested_byte-tested.ensures, c.outcome_byte-outcome.ensures, e.tested_value, e.outcome_value, c.get-status.ensures, c.close_round-over.ensures.table_after, e.table_after)
+    let f = c.close_round-over.ensures in
+    rw (c.copy_from_slice.ensures.after, c.tested_byte-tested.ensures, c.outcome_byte-outcome.ensures, e.tested_value, e.outcome_value, c.get-status.ensures, c.read.ensures.size, c.read.ensures.bytes, f.bytes, f.same.size, e.same.size, e.bytes)

@@ -1,55 +1,66 @@
 -- The rest of the run, from where it stands, gives what the whole gives, and the table obeys the rules.
-use Rattle.std.proofs.Common.{◌≡◌, ◌/◌, length, refl, sym, ap, ◌∙◌, arith, length-take, length-drop}
+use Rattle.std.proofs.Common.{◌≡◌, ◌<◌, ◌≤◌, ◌/◌, length, refl, sym, ap, ◌∙◌, subst, arith, length-take, length-drop}
 use Rattle.lists.specs.Refusal.{number_of_result}
-use Rattle.plant.specs.Entry.{State, state_with}
+use Rattle.plant.specs.Entry.{Entry, State, state_with, entry_known, entry_number}
 use Rattle.plant.proofs.RulesKept.{accepted-kept}
-use Rattle.plant.proofs.RunLaws.{accepted-number, entry_at, line-back, go-taken, go-stopped, go-done, start-facts}
+use Rattle.plant.proofs.RunLaws.{accepted-number, line-back, go-taken, go-stopped, go-done, start-facts}
 use Rattle.plant.proofs.run.go_on.Goals as goal
 
-pub loop-k-init : goal.loop-k-init
-loop-k-init c =
+pub loop-kind-init : goal.loop-kind-init
+loop-kind-init c =
     let f = start-facts _ _ _ _ c.requires in
-    record { twice = f.2; rules = f.0; count = refl; going = refl; same = refl }
+    record { loan = record { reference = refl; size = refl }; twice = f.2; rules = f.0; count = refl; going = refl; goes = refl }
 
-pub returns-in-Err : goal.returns-in-Err
-returns-in-Err c =
-    let l = c.loop-k in
-    let s = state_with l.table l.ran.tally in
-    let r = sym c.check_entry.ensures ∙ c.in-Err.is in
-    rw l.invariant.count (sym (sym l.invariant.same ∙ go-stopped c.args.n l.k s l.sheet c.args.schedule.now _ c.loop-k-test.true r))
+pub returns-in-Err-clause-run : goal.returns-in-Err-clause-run
+returns-in-Err-clause-run c =
+    let l = c.loop-kind in
+    let i = l.invariant in
+    let h : l.kind-index < length c.args.schedule.now / 2 = omega (arith, c.as_chunks.ensures.front_len) in
+    let r = rw (c.read.ensures.size, c.read.ensures.bytes, i.loan.size, c.as_chunks.ensures.front) at c.in-Err.ensures.check in
+    rw i.count (sym (sym i.goes ∙ go-stopped c.args.table.now.n l.kind-index (state_with l.table.bytes.now l.ran.tally) l.sheet c.args.schedule.now _ h (sym r)))
 
 pub take_entry-ran-requires : goal.take_entry-ran-requires
 take_entry-ran-requires c =
-    let i = c.loop-k.invariant in
-    let h = c.loop-k-test.true in
-    let z = ap number_of_result (sym c.check_entry.ensures ∙ c.in_default.is) in
-    record {
-      table_obeys = accepted-number _ _ i.rules;
-      entry_taken = z;
-      line_length = simp (length-take, length-drop) (omega (arith, i.twice, h));
-    }
-
-pub loop-k-preserved : goal.loop-k-preserved
-loop-k-preserved c =
-    let n = c.args.n in
-    let l = c.loop-k in
+    let l = c.loop-kind in
     let i = l.invariant in
-    let h = c.loop-k-test.true in
-    let s = state_with l.table l.ran.tally in
-    let e = entry_at c.args.schedule.now l.k in
-    let z = ap number_of_result (sym c.check_entry.ensures ∙ c.in_default.is) in
-    let p = c.take_entry-ran.ensures in
-    let w = line-back n s e l.sheet l.k _ p.line_after (omega (arith, i.twice, h)) in
+    let z = rw (c.read.ensures.size, c.read.ensures.bytes) at (ap number_of_result (sym c.in-Ok.ensures.check)) in
     record {
-      twice = omega arith;
-      rules = rw (ap (λ (z : State). z.table) p.result_after) (accepted-kept n s e i.rules z);
-      count = refl;
-      going = i.going;
-      same = go-taken n l.k s l.sheet c.args.schedule.now _ _ h z p.result_after w ∙ i.same;
+      table_obeys = rw i.loan.size (accepted-number _ _ i.rules);
+      entry_taken =
+          subst (λ (e : Entry). entry_number l.table.n (state_with l.table.bytes.now l.ran.tally) e ≡ 0) (sym c.in-Ok.ensures.entry) z;
+      line_length = simp (length-take, length-drop) (omega (arith, i.twice, i.count, c.loop-kind-test.true, c.as_chunks.ensures.front_len));
     }
 
-pub returns : goal.returns
-returns c =
-    let l = c.loop-k in
-    let s = state_with l.table l.ran.tally in
-    rw (l.invariant.going, l.invariant.count) (sym (sym l.invariant.same ∙ go-done c.args.n l.k s l.sheet c.args.schedule.now c.loop-k-test.false))
+pub loop-kind-preserved : goal.loop-kind-preserved
+loop-kind-preserved c =
+    let n = c.args.table.now.n in
+    let l = c.loop-kind in
+    let i = l.invariant in
+    let a = c.as_chunks.ensures in
+    let o = c.in-Ok.ensures in
+    let h : l.kind-index < length c.args.schedule.now / 2 = omega (arith, a.front_len) in
+    let s = state_with l.table.bytes.now l.ran.tally in
+    let e = entry_known c.in-Ok.entry in
+    let y = rw (c.read.ensures.size, c.read.ensures.bytes, i.loan.size) at (ap number_of_result (sym o.check)) in
+    let z = subst (λ (x : Entry). entry_number n s x ≡ 0) (sym o.entry) y in
+    let p = c.take_entry-ran.ensures in
+    let after = rw i.loan.size at p.result_after in
+    let line = rw i.loan.size at p.line_after in
+    let w = line-back n s e l.sheet l.kind-index _ line (omega (arith, i.twice, h)) in
+    record {
+      loan = record { reference = p.same.reference ∙ i.loan.reference; size = p.same.size ∙ i.loan.size };
+      twice = omega arith;
+      rules = rw (ap (λ (z : State). z.table) after) (accepted-kept n s e i.rules z);
+      count = omega arith;
+      going = i.going;
+      goes =
+          go-taken n l.kind-index s l.sheet c.args.schedule.now e _ _ h (rw a.front at o.entry) z after (rw i.count w) ∙ i.goes;
+    }
+
+pub returns-clause-run : goal.returns-clause-run
+returns-clause-run c =
+    let l = c.loop-kind in
+    let i = l.invariant in
+    let h : length c.args.schedule.now / 2 ≤ l.kind-index = omega (arith, c.as_chunks.ensures.front_len) in
+    let s = state_with l.table.bytes.now l.ran.tally in
+    rw (i.going, i.count) (sym (sym i.goes ∙ go-done c.args.table.now.n l.kind-index s l.sheet c.args.schedule.now h))

@@ -1,17 +1,19 @@
 -- The rest of the run, from where it stands, gives what the whole gives, and the table obeys the rules.
 use Rattle.std.proofs.Common.{◌≡◌, ◌*◌, length, drop}
 use Rattle.std.specs.Prelude.{None}
+use Rattle.table.specs.Lent.{IsSameLoan}
 use Rattle.table.proofs.Accepting.{Accepted}
 use Rattle.plant.specs.Entry.{state_with}
 use Rattle.plant.specs.Run.{entries, go_on}
 use Rattle.plant.proofs.run.go_on.Given as goal
 
-abbrev pub invariant-loop-k : goal.invariant-loop-k
-invariant-loop-k l = record {
+abbrev pub invariant-loop-kind : goal.invariant-loop-kind
+invariant-loop-kind l = record {
+  loan : IsSameLoan l.initial.table l.table;
   twice : length l.sheet ≡ 2 * length l.schedule;
-  rules : Accepted l.n l.table;
-  count : l.ran.taken ≡ l.k;
+  rules : Accepted l.initial.table.n l.table.bytes.now;
+  count : l.ran.taken ≡ l.kind-index;
   going : l.ran.stopped ≡ None;
-  same : go_on l.n l.k (state_with l.table l.ran.tally) l.sheet (drop l.k (entries l.schedule))
-      ≡ go_on l.n 0 (state_with l.initial.table l.fn.tally) l.initial.sheet (entries l.schedule);
+  goes : go_on l.initial.table.n l.kind-index (state_with l.table.bytes.now l.ran.tally) l.sheet (drop l.kind-index (entries l.schedule))
+      ≡ go_on l.initial.table.n 0 (state_with l.initial.table.bytes.now l.fn.tally) l.initial.sheet (entries l.schedule);
 }

@@ -8,13 +8,14 @@ use Rattle.turn.proofs.steps.join_into.Goals as goal
 
 pub slice_bounds-join_row-end : goal.slice_bounds-join_row-end
 slice_bounds-join_row-end c =
-    let a = c.args in
-    omega (arith, row_inside a.n a.table.now a.i.0 c.requires.0 c.requires.1)
+    let t = c.args.table.now in
+    omega (arith, row_inside t.n t.bytes.now c.args.i.0 t.fits c.requires)
 
-pub returns : goal.returns
-returns c =
-    let a = c.args in
+pub returns-clause-bytes : goal.returns-clause-bytes
+returns-clause-bytes c =
+    let t = c.args.table.now in
+    let i = c.args.i.0 in
     let s = c.row_start-a.ensures.value in
-    row_back a.n a.table.now a.i.0 _ _ s
-    ∙ ap (set_row a.n a.table.now a.i.0)
-    (c.join_row.ensures ∙ ap (λ (r : List ℕ). union r a.other.now a.i.0) (row-part a.n a.table.now a.i.0 _ s))
+    row_back t.n t.bytes.now i _ _ s
+    ∙ ap (set_row t.n t.bytes.now i)
+    (c.join_row.ensures ∙ ap (λ (r : List ℕ). union r c.args.other.now i) (row-part t.n t.bytes.now i _ s))

@@ -5,4 +5,4 @@ use Rattle.turn.specs.Turn.{self_or_suspected}
 use Rattle.turn.proofs.steps.suspects_all.Given as goal
 
 abbrev pub invariant-loop-k : goal.invariant-loop-k
-invariant-loop-k l = every (self_or_suspected l.n l.table l.i.0) l.k ≡ true
+invariant-loop-k l = every (self_or_suspected l.table.n l.table.bytes.now l.i.0) l.k ≡ true

@@ -10,41 +10,51 @@ use Rattle.turn.proofs.steps.take_turn.Goals as goal
 
 pub next_test-m-requires : goal.next_test-m-requires
 next_test-m-requires c =
-    let t = accepted c.args.n c.args.table.now c.requires.table_obeys in
-    record { size = (size-bounds c.args.n t.size).1; line = (t.long, c.requires.station_below) }
+    let a = c.args.table.now in
+    let r = c.read.ensures in
+    let t = accepted a.n a.bytes.now c.requires.table_obeys in
+    record { size = omega (arith, r.size, (size-bounds a.n t.size).1); line = omega (arith, r.size) }
 
 pub finish_pass-requires : goal.finish_pass-requires
 finish_pass-requires c =
-    let t = accepted c.args.n c.args.table.now c.requires.table_obeys in
-    record { size = (size-bounds c.args.n t.size).1; line = (t.long, c.requires.station_below) }
+    let a = c.args.table.now in
+    let t = accepted a.n a.bytes.now c.requires.table_obeys in
+    record { size = (size-bounds a.n t.size).1; line = c.requires.station_below }
 
 pub returns-then-distances-m : goal.returns-then-distances-m
 unfolding turn turn_tested turn_outcome makes_test
 returns-then-distances-m c =
+    let r = c.read.ensures in
+    let m = rw (r.size, r.bytes) at c.next_test-m.ensures in
     let e = le-ltb _ _ (rw c.distances.ensures at c.if-distances-m.true) in
-    rw (← c.next_test-m.ensures, e) (record { tested_value = refl; outcome_value = refl; table_after = c.finish_pass.ensures })
+    let f = c.finish_pass.ensures in
+    rw (← m, e) (record { tested_value = refl; outcome_value = refl; same = f.same; bytes = f.bytes })
 
 pub make_test-requires : goal.make_test-requires
 unfolding makes_test
 make_test-requires c =
-    let a = c.args in
+    let a = c.args.table.now in
+    let i = c.args.i.0 in
     let p = c.requires in
-    let t = accepted a.n a.table.now p.table_obeys in
-    let l = accepted-line a.n a.table.now t a.i.0 p.station_below in
-    let m = c.next_test-m.ensures in
+    let r = c.read.ensures in
+    let t = accepted a.n a.bytes.now p.table_obeys in
+    let l = accepted-line a.n a.bytes.now t i p.station_below in
+    let m = rw (r.size, r.bytes) at c.next_test-m.ensures in
     let end = c.distances.ensures in
     let e = lt-ltb _ _ (rw (end, m) at c.if-distances-m.false) in
     record {
       table_obeys = p.table_obeys;
       tester_below = p.station_below;
-      distance_above_0 = omega (arith, m, next_test-low a.n a.table.now a.i.0, l.pass.next_low);
+      distance_above_0 = omega (arith, m, next_test-low a.n a.bytes.now i, l.pass.next_low);
       distance_below = omega (arith, end, size-distances a.n t.size);
-      tested_below = rw m (test-station a.n a.table.now a.i.0 e t.long p.station_below);
+      tested_below = rw m (test-station a.n a.bytes.now i e t.long p.station_below);
     }
 
 pub returns : goal.returns
 unfolding turn turn_tested turn_outcome makes_test
 returns c =
+    let r = c.read.ensures in
+    let m = rw (r.size, r.bytes) at c.next_test-m.ensures in
     let e = lt-ltb _ _ (rw c.distances.ensures at c.if-distances-m.false) in
     let o = c.make_test.ensures in
-    rw (← c.next_test-m.ensures, e) (record { tested_value = o.tested_value; outcome_value = o.outcome_value; table_after = o.table_after })
+    rw (← m, e) (record { tested_value = o.tested_value; outcome_value = o.outcome_value; same = o.same; bytes = o.bytes })
