@@ -36,12 +36,15 @@ all_needed() { # NAME
     needed "$1" | awk '!seen[$0]++'
 }
 
-# The sum of what a proof of NAME reads in this repository.
+# The sum of what a proof of NAME reads in this repository, and of the toolchain's version.
 sum_of() { # NAME
     local folders
     mapfile -t folders < <(all_needed "$1" | sed 's|^|crates/|')
-    find "${folders[@]}" \( -path '*/src/*' -o -path '*/specs/*' -o -path '*/proofs/*' \) ! -path '*/out/*' -type f -print0 |
-        LC_ALL=C sort -z | xargs -0 sha256sum | sha256sum
+    {
+        echo "$toolchain"
+        find "${folders[@]}" \( -path '*/src/*' -o -path '*/specs/*' -o -path '*/proofs/*' \) ! -path '*/out/*' -type f -print0 |
+            LC_ALL=C sort -z | xargs -0 sha256sum
+    } | sha256sum
 }
 
 # What rt makes of NAME: the program, or a library for the crates above it. Both prove it first.
@@ -72,9 +75,10 @@ prove() { # NAME PLACE
 
 # Proves and builds the program, and first what it needs. Stays in the folder of this repository.
 prove_program() {
-    local crates k
+    local crates k toolchain
     command -v rt >/dev/null || refuse "rt, the command of the Rattle toolchain, is not found"
     cd "$root" || exit
+    toolchain=$(rt version)
     mkdir -p target/proved
     mapfile -t crates < <(all_needed "$program")
     for k in "${!crates[@]}"; do

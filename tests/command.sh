@@ -44,10 +44,15 @@ said_just() { # LINES...
     sed 's/([0-9]* s)$/(N s)/' "$made/err" | cmp -s - <(printf '%s\n' "$@") || fail "$asked: standard error is not: $(printf '\n%s' "$@")"
 }
 
-# A stand-in for rt, by which nothing is proved: it notes that it was called.
+# A stand-in for rt, by which nothing is proved: it notes that it was called, but for its version, which it says as rt does.
 mkdir "$made/stand-in"
+version=$(rt version)
 cat >"$made/stand-in/rt" <<EOF
 #!/bin/sh
+if [ "\$1" = version ]; then
+    echo '$version'
+    exit
+fi
 touch "$made/called"
 echo 'fn lists::bytes::greater: not proved'
 exit 1
