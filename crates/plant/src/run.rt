@@ -47,7 +47,8 @@ fn check_start(n: usize, table: &[u8], schedule: usize, sheet: usize) -> Result<
 pub(crate) fn go_on(table: &mut TableMut, tally: Tally, schedule: &[u8], sheet: &mut [u8]) -> Ran
     requires { start_number table.old.n table.old.bytes.now (length schedule.now) (length sheet.old) ≡ 0 }
     ensures same { IsSameLoan table.old table.new }
-    ensures run { outcome_with result table.new.bytes.now sheet.new ≡ go_on table.old.n 0 (state_with table.old.bytes.now tally) sheet.old (entries schedule.now) }
+    ensures run { outcome_with result table.new.bytes.now sheet.new
+        ≡ go_on table.old.n 0 (state_with table.old.bytes.now tally) sheet.old (entries schedule.now) }
 {
     let mut ran = Ran {
         taken: 0,

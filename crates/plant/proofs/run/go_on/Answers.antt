@@ -17,7 +17,8 @@ returns-in-Err-clause-run c =
     let i = l.invariant in
     let h : l.kind-index < length c.args.schedule.now / 2 = omega (arith, c.as_chunks.ensures.front_len) in
     let r = rw (c.read.ensures.size, c.read.ensures.bytes, i.loan.size, c.as_chunks.ensures.front) at c.in-Err.ensures.check in
-    rw i.count (sym (sym i.goes ∙ go-stopped c.args.table.now.n l.kind-index (state_with l.table.bytes.now l.ran.tally) l.sheet c.args.schedule.now _ h (sym r)))
+    let s = state_with l.table.bytes.now l.ran.tally in
+    rw i.count (sym (sym i.goes ∙ go-stopped c.args.table.now.n l.kind-index s l.sheet c.args.schedule.now _ h (sym r)))
 
 pub take_entry-ran-requires : goal.take_entry-ran-requires
 take_entry-ran-requires c =
