@@ -198,7 +198,8 @@ module _ (n : ℕ) (p : Stand) (k : ℕ) (q : Stand) (at-k : q ≡ after_grants 
       unfolding after_grants
       turned_on = rw (add-one k) (turned ∙ ap (grant_turn n) at-k)
 
-      pub end-stop : ended n p.state.rounds q'.state ≡ true → (drive_outcome 0 q'.state q'.last (k + 1) ≡ outcome_after n p (k + 1)) × Stopped n p (k + 1)
+      pub end-stop : ended n p.state.rounds q'.state ≡ true
+          → (drive_outcome 0 q'.state q'.last (k + 1) ≡ outcome_after n p (k + 1)) × Stopped n p (k + 1)
       unfolding outcome_after
       end-stop o =
           let here : ended_after n p (k + 1) ≡ true = rw turned_on at o in

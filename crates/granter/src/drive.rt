@@ -39,8 +39,10 @@ fn go_on(table: &mut TableMut, tally: Tally, last: Option<Station>) -> Driven
     requires taken { grant_number table.old.n table.old.bytes.now (last_number last) ≡ 0 }
     requires last_below { IfSome last (λ i. i.0 < table.old.n) }
     ensures same { IsSameLoan table.old table.new }
-    ensures table_after { drive_outcome_with result table.new.bytes.now ≡ outcome_after table.old.n (stand_at (state_with table.old.bytes.now tally) (last_number last)) result.grants }
-    ensures stopped { Stopped table.old.n (stand_at (state_with table.old.bytes.now tally) (last_number last)) result.grants }
+    ensures table_after { drive_outcome_with result table.new.bytes.now
+        ≡ outcome_after table.old.n (stand_at (state_with table.old.bytes.now tally) (last_number last)) result.grants }
+    ensures stopped { Stopped table.old.n
+        (stand_at (state_with table.old.bytes.now tally) (last_number last)) result.grants }
 {
     let mut held = tally;
     let mut before = last;

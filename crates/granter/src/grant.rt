@@ -95,7 +95,8 @@ fn following(last: Option<Station>) -> Station
 
 // The first station from `from` on, and below n, that is live and unfinished, if there is one.
 fn first_from(table: &Table, from: Station) -> Option<Station>
-    ensures { MatchOption result (table.now.n ≤ first_from table.now.n table.now.bytes.now from.0) (λ i. (i.0 ≡ first_from table.now.n table.now.bytes.now from.0) × (i.0 < table.now.n)) }
+    ensures { MatchOption result (table.now.n ≤ first_from table.now.n table.now.bytes.now from.0)
+        (λ i. (i.0 ≡ first_from table.now.n table.now.bytes.now from.0) × (i.0 < table.now.n)) }
 {
     // A `for`: a chain over the stations was measured 1.7 to 2.2 times slower (docs/DECISIONS.md, "The port").
     for i in from.0..table.n {

@@ -29,7 +29,8 @@ pub(crate) fn check_entry(
     kind: u8,
     station: Station,
 ) -> Result<Entry, Refusal>
-    ensures check { result_map_both (λ e. tt) (λ r. r) result ≡ entry_check table.now.n (state_with table.now.bytes.now tally) (entry_of kind station.0) }
+    ensures check { result_map_both (λ e. tt) (λ r. r) result
+        ≡ entry_check table.now.n (state_with table.now.bytes.now tally) (entry_of kind station.0) }
     ensures entry { IfOk result (λ e. entry_known e ≡ entry_of kind station.0) }
 {
     if tally.is_full() {
@@ -51,11 +52,14 @@ pub(crate) fn check_entry(
 // An entry that is not refused: steps 1 to 8, and its line of the sheet. The answer is the tally after it.
 pub(crate) fn take_entry(table: &mut TableMut, tally: Tally, entry: Entry, line: &mut [u8]) -> Tally
     requires table_obeys { table_number table.old.n table.old.bytes.now ≡ 0 }
-    requires entry_taken { entry_number table.old.n (state_with table.old.bytes.now tally) (entry_known entry) ≡ 0 }
+    requires entry_taken { entry_number table.old.n
+        (state_with table.old.bytes.now tally) (entry_known entry) ≡ 0 }
     requires line_length { length line.old ≡ 4 }
     ensures same { IsSameLoan table.old table.new }
-    ensures result_after { state_with table.new.bytes.now result ≡ after table.old.n (state_with table.old.bytes.now tally) (entry_known entry) }
-    ensures line_after { line.new ≡ sheet_line table.old.n (state_with table.old.bytes.now tally) (entry_known entry) }
+    ensures result_after { state_with table.new.bytes.now result
+        ≡ after table.old.n (state_with table.old.bytes.now tally) (entry_known entry) }
+    ensures line_after { line.new
+        ≡ sheet_line table.old.n (state_with table.old.bytes.now tally) (entry_known entry) }
 {
     let station = entry.station;
     let done = act(table, entry);
@@ -82,8 +86,10 @@ fn made_test(done: Outcome) -> bool
 fn act(table: &mut TableMut, entry: Entry) -> Outcome
     requires table_obeys { table_number table.old.n table.old.bytes.now ≡ 0 }
     requires station_below { entry.station.0 < table.old.n }
-    ensures tested_value { tested_byte result ≡ tested_of table.old.n table.old.bytes.now (entry_known entry) }
-    ensures outcome_value { outcome_byte result ≡ outcome_of table.old.n table.old.bytes.now (entry_known entry) }
+    ensures tested_value { tested_byte result
+        ≡ tested_of table.old.n table.old.bytes.now (entry_known entry) }
+    ensures outcome_value { outcome_byte result
+        ≡ outcome_of table.old.n table.old.bytes.now (entry_known entry) }
     ensures same { IsSameLoan table.old table.new }
     ensures bytes { table.new.bytes.now ≡ acted table.old.n table.old.bytes.now (entry_known entry) }
 {

@@ -47,8 +47,13 @@ fn check_start(n: usize, table: &[u8], schedule: usize, sheet: usize) -> Result<
 pub(crate) fn go_on(table: &mut TableMut, tally: Tally, schedule: &[u8], sheet: &mut [u8]) -> Ran
     requires { start_number table.old.n table.old.bytes.now (length schedule.now) (length sheet.old) ≡ 0 }
     ensures same { IsSameLoan table.old table.new }
-    ensures run { outcome_with result table.new.bytes.now sheet.new ≡ go_on table.old.n 0 (state_with table.old.bytes.now tally) sheet.old (entries schedule.now) }
+    ensures run { outcome_with result table.new.bytes.now sheet.new
+        ≡ go_on table.old.n 0 (state_with table.old.bytes.now tally) sheet.old (entries schedule.now) }
 {
+    // A table of its own, whose size and place stay in registers: behind the reference they were read again after each byte that is written,
+    // which made 1.16 to 1.27 times as many instructions.
+    let bytes = &mut *table.bytes;
+    let mut lent = TableMut { n: table.n, bytes };
     let mut ran = Ran {
         taken: 0,
         tally,
@@ -56,7 +61,7 @@ pub(crate) fn go_on(table: &mut TableMut, tally: Tally, schedule: &[u8], sheet: 
     };
     let (entries, _) = schedule.as_chunks::<2>();
     for &[kind, station] in entries {
-        let entry = match entry::check_entry(&table.read(), ran.tally, kind, Station(station)) {
+        let entry = match entry::check_entry(&lent.read(), ran.tally, kind, Station(station)) {
             Ok(entry) => entry,
             Err(refusal) => {
                 return Ran {
@@ -69,7 +74,7 @@ pub(crate) fn go_on(table: &mut TableMut, tally: Tally, schedule: &[u8], sheet: 
         // long the sheet is in the end, and none of its bytes.
         let a = 4 * ran.taken;
         let e = a + 4;
-        ran.tally = entry::take_entry(table, ran.tally, entry, &mut sheet[a..e]);
+        ran.tally = entry::take_entry(&mut lent, ran.tally, entry, &mut sheet[a..e]);
         ran.taken += 1;
     }
     ran

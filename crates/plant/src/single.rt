@@ -14,9 +14,11 @@ use turn::kind::Kind;
 // A turn of kind 1 of station i, with no line of a sheet: the rest of a run that has this one entry. The answer is the tally after it.
 pub fn take_turn(table: &mut TableMut, tally: Tally, i: Station) -> Tally
     requires table_obeys { table_number table.old.n table.old.bytes.now ≡ 0 }
-    requires turn_taken { entry_number table.old.n (state_with table.old.bytes.now tally) (entry_of kind_turn i.0) ≡ 0 }
+    requires turn_taken { entry_number table.old.n
+        (state_with table.old.bytes.now tally) (entry_of kind_turn i.0) ≡ 0 }
     ensures same { IsSameLoan table.old table.new }
-    ensures result_after { state_with table.new.bytes.now result ≡ after table.old.n (state_with table.old.bytes.now tally) (entry_of kind_turn i.0) }
+    ensures result_after { state_with table.new.bytes.now result
+        ≡ after table.old.n (state_with table.old.bytes.now tally) (entry_of kind_turn i.0) }
 {
     let schedule = [u8::from(Kind::Turn), i.0];
     let mut line = [0u8; 4];

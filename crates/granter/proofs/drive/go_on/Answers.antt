@@ -74,5 +74,9 @@ returns c =
           let over = rw (r.size, r.bytes, t.same.size, i.loan.size) at (sym w.has_ended-ended.ensures ∙ w.if-ended.true) in
           let stop = end-stop _ _ _ q i.led i.driving fits _ turned over in
           rw (c.last_number.ensures, w.table-is, w.held-is, w.before-is, w.grants-is, w.stopped-is)
-          (record { same = record { reference = t.same.reference ∙ i.loan.reference; size = t.same.size ∙ i.loan.size }; table_after = stop.0; stopped = stop.1 })
+          (record {
+            same = record { reference = t.same.reference ∙ i.loan.reference; size = t.same.size ∙ i.loan.size };
+            table_after = stop.0;
+            stopped = stop.1;
+          })
     ]

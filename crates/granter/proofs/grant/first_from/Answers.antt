@@ -19,5 +19,6 @@ loop-i-preserved c =
 pub returns : goal.returns
 unfolding first_from
 returns c =
-    let a = c.args in
-    omega (arith, least-none (waits a.table.now.n a.table.now.bytes.now) (a.table.now.n - a.from.0) a.from.0 (λ y lo hi. c.loop-i.invariant y (omega arith) lo))
+    let n = c.args.table.now.n in
+    let from = c.args.from.0 in
+    omega (arith, least-none (waits n c.args.table.now.bytes.now) (n - from) from (λ y lo hi. c.loop-i.invariant y (omega arith) lo))

@@ -1,5 +1,5 @@
 -- The rest of the run, from where it stands, gives what the whole gives, and the table obeys the rules.
-use Rattle.std.proofs.Common.{◌≡◌, ◌<◌, ◌≤◌, ◌/◌, length, refl, sym, ap, ◌∙◌, subst, arith, length-take, length-drop}
+use Rattle.std.proofs.Common.{rules, ◌≡◌, ◌<◌, ◌≤◌, ◌/◌, length, refl, sym, ap, ◌∙◌, subst, arith, length-take, length-drop}
 use Rattle.lists.specs.Refusal.{number_of_result}
 use Rattle.plant.specs.Entry.{Entry, State, state_with, entry_known, entry_number}
 use Rattle.plant.proofs.RulesKept.{accepted-kept}
@@ -17,7 +17,8 @@ returns-in-Err-clause-run c =
     let i = l.invariant in
     let h : l.kind-index < length c.args.schedule.now / 2 = omega (arith, c.as_chunks.ensures.front_len) in
     let r = rw (c.read.ensures.size, c.read.ensures.bytes, i.loan.size, c.as_chunks.ensures.front) at c.in-Err.ensures.check in
-    rw i.count (sym (sym i.goes ∙ go-stopped c.args.table.now.n l.kind-index (state_with l.table.bytes.now l.ran.tally) l.sheet c.args.schedule.now _ h (sym r)))
+    let s = state_with l.lent.bytes.now l.ran.tally in
+    rw (sym i.goes ∙ go-stopped c.args.table.now.n l.kind-index s l.sheet c.args.schedule.now _ h (sym r), i.count) (search rules)
 
 pub take_entry-ran-requires : goal.take_entry-ran-requires
 take_entry-ran-requires c =
@@ -27,7 +28,7 @@ take_entry-ran-requires c =
     record {
       table_obeys = rw i.loan.size (accepted-number _ _ i.rules);
       entry_taken =
-          subst (λ (e : Entry). entry_number l.table.n (state_with l.table.bytes.now l.ran.tally) e ≡ 0) (sym c.in-Ok.ensures.entry) z;
+          subst (λ (e : Entry). entry_number l.lent.n (state_with l.lent.bytes.now l.ran.tally) e ≡ 0) (sym c.in-Ok.ensures.entry) z;
       line_length = simp (length-take, length-drop) (omega (arith, i.twice, i.count, c.loop-kind-test.true, c.as_chunks.ensures.front_len));
     }
 
@@ -39,7 +40,7 @@ loop-kind-preserved c =
     let a = c.as_chunks.ensures in
     let o = c.in-Ok.ensures in
     let h : l.kind-index < length c.args.schedule.now / 2 = omega (arith, a.front_len) in
-    let s = state_with l.table.bytes.now l.ran.tally in
+    let s = state_with l.lent.bytes.now l.ran.tally in
     let e = entry_known c.in-Ok.entry in
     let y = rw (c.read.ensures.size, c.read.ensures.bytes, i.loan.size) at (ap number_of_result (sym o.check)) in
     let z = subst (λ (x : Entry). entry_number n s x ≡ 0) (sym o.entry) y in
@@ -62,5 +63,5 @@ returns-clause-run c =
     let l = c.loop-kind in
     let i = l.invariant in
     let h : length c.args.schedule.now / 2 ≤ l.kind-index = omega (arith, c.as_chunks.ensures.front_len) in
-    let s = state_with l.table.bytes.now l.ran.tally in
-    rw (i.going, i.count) (sym (sym i.goes ∙ go-done c.args.table.now.n l.kind-index s l.sheet c.args.schedule.now h))
+    let s = state_with l.lent.bytes.now l.ran.tally in
+    rw (sym i.goes ∙ go-done c.args.table.now.n l.kind-index s l.sheet c.args.schedule.now h, i.going, i.count) (search rules)
