@@ -1,6 +1,7 @@
 // The second pass over a file: the table that its lines give. Refusal 20.
-ghost use Rattle.std.specs.Prelude.{◌≡◌, ◌↔◌, true, false, IsTrue, EachIndex, slice_index_or, length, set, Ok};
+ghost use Rattle.std.specs.Prelude.{◌≡◌, true, false, slice_index_or, length, set, Ok};
 ghost use Rattle.std.proofs.lemmas.List.Edits.{sets};
+ghost use Rattle.lists.specs.Search.{every};
 ghost use Rattle.lists.specs.Refusal.{ensure};
 ghost use Rattle.table.specs.Sizes.{is_size};
 ghost use Rattle.table.specs.Table.{line_start, table_length};
@@ -43,11 +44,15 @@ fn take_line(
     Ok(())
 }
 
-// Whether all are seen.
+// Whether all are seen. The loop has no exit, so that the compiler takes many bytes at a time.
 fn all_seen(seen: &[bool]) -> bool
-    ensures { IsTrue result ↔ EachIndex seen.now (λ k. slice_index_or seen.now k false ≡ true) }
+    ensures { result ≡ every (λ i. slice_index_or seen.now i false) (length seen.now) }
 {
-    seen.iter().all(|seen| *seen)
+    let mut all = true;
+    for one in seen {
+        all &= *one;
+    }
+    all
 }
 
 // Builds the file's table, where every line has the right length and there is just one for each station and none for another.

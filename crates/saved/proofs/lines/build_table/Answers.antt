@@ -8,7 +8,7 @@ use Rattle.lists.proofs.RefusalLaws.{ensure_ok}
 use Rattle.table.specs.Table.{table_length}
 use Rattle.table.proofs.SizeLaws.{size-bounds}
 use Rattle.saved.proofs.Reading.{tells_more, tells_none, cut_not}
-use Rattle.saved.proofs.SecondPass.{passed_none, passed_end, passed_line, passed_other, passed_not, line_err, passed_more, passed_all, passed_table}
+use Rattle.saved.proofs.SecondPass.{passed_none, passed_line, passed_other, passed_not, line_err, passed_more, passed_all, passed_table}
 use Rattle.saved.proofs.lines.build_table.Goals as goal
 
 pub loop-field-init : goal.loop-field-init
@@ -62,22 +62,16 @@ pub returns-then-all_seen-clause-value : goal.returns-then-all_seen-clause-value
 returns-then-all_seen-clause-value c =
     let i = c.loop-field.invariant in
     let t = tells_none _ _ _ c.in_ok-field.ensures c.in_default.is in
-    let p = passed_end _ _ _ _ _ t.1 i.passed in
-    let wide : c.args.n ≤ length c.loop-field.seen = omega (arith, i.wide, size-bounds _ c.requires.size) in
-    rw (← passed_all _ _ _ _ _ p c.if-all_seen.ensures wide)
+    rw (← passed_all _ _ _ _ _ t.1 i.passed _ c.requires.size i.wide c.if-all_seen.ensures)
 
 pub returns-then-all_seen-clause-table_after : goal.returns-then-all_seen-clause-table_after
 returns-then-all_seen-clause-table_after c = λ e.
     let i = c.loop-field.invariant in
     let t = tells_none _ _ _ c.in_ok-field.ensures c.in_default.is in
-    let p = passed_end _ _ _ _ _ t.1 i.passed in
-    let wide : c.args.n ≤ length c.loop-field.seen = omega (arith, i.wide, size-bounds _ c.requires.size) in
-    passed_table _ _ _ _ p (omega arith) (sym (passed_all _ _ _ _ _ p c.if-all_seen.ensures wide))
+    passed_table _ _ _ _ _ t.1 i.passed (omega arith) (sym (passed_all _ _ _ _ _ t.1 i.passed _ c.requires.size i.wide c.if-all_seen.ensures))
 
 pub returns-else-all_seen-clause-value : goal.returns-else-all_seen-clause-value
 returns-else-all_seen-clause-value c =
     let i = c.loop-field.invariant in
     let t = tells_none _ _ _ c.in_ok-field.ensures c.in_default.is in
-    let p = passed_end _ _ _ _ _ t.1 i.passed in
-    let wide : c.args.n ≤ length c.loop-field.seen = omega (arith, i.wide, size-bounds _ c.requires.size) in
-    rw (← passed_all _ _ _ _ _ p c.if-all_seen.ensures wide)
+    rw (← passed_all _ _ _ _ _ t.1 i.passed _ c.requires.size i.wide c.if-all_seen.ensures)
