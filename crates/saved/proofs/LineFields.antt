@@ -3,12 +3,12 @@
 use mathlib.Core.Path.{◌≡◌, refl, ap, ◌∙◌}
 use mathlib.Core.Bool.{true}
 use mathlib.Core.List.{List, ◌∷◌, ◌++◌}
-use Prim.Native.Nat.{ℕ, suc, ◌+◌, ◌*◌, ◌≤◌, ◌<◌}
+use Prim.Native.Nat.{ℕ, suc, min, ◌-◌, ◌+◌, ◌*◌, ◌≤◌, ◌<◌}
 use native.Mathlib.Nat.{suc-mul, mul-le-mul, mul-le-mul_right}
 use native.Mathlib.Numerals.{add-one}
 use native.Mathlib.Decide.{dec_lt}
 use native.Mathlib.Omega.{arith}
-use lib.ListN.{length, set, take, drop, length-append, length-drop}
+use lib.ListN.{length, set, take, drop, length-drop}
 use lib.Seq.{sets, take_all, take-append-le, drop_at, drop-drop}
 use Rattle.table.specs.Sizes.{is_size}
 use Rattle.table.specs.Table.{stride, table_length, line_start}
@@ -46,27 +46,31 @@ line-written b line at i =
 
 -- the lines of a table, taken off its front one after the other
 module _ (n : ℕ) (t : List ℕ) (long : length t ≡ table_length n) where
-  pub line_next : (k : ℕ) (rest line left : List ℕ) → k ≤ n → rest ≡ drop (line_start n k) t → rest ≡ line ++ left → length line ≡ stride n
-      → (k < n) × (line ≡ line_of n t k) × (left ≡ drop (line_start n (k + 1)) t)
+  pub line_next : (k : ℕ) (rest line left : List ℕ) → k ≤ n → rest ≡ drop (line_start n k) t → rest ≡ line ++ left
+      → length line ≡ min (stride n) (length rest) → 0 < length rest
+      → (k < n) × (length line ≡ stride n) × (line ≡ line_of n t k) × (left ≡ drop (line_start n (k + 1)) t)
   unfolding line_of line_start table_length
-  line_next k rest line left m e f w = (below (dec_lt k n), here, behind)
+  line_next k rest line left m e f w some = (below (dec_lt k n), whole, here, behind)
     where
+      left-long : length rest ≡ n * stride n - k * stride n
+      left-long = ap length e ∙ omega (arith, length-drop (k * stride n) t)
+
       below : Dec (k < n) → k < n
       below (yes h) = h
-      below (no h) =
-          let q : k ≡ n = omega arith in
-          let z : length (line ++ left) ≡ 0 = rw (← f, e, q) (omega (arith, length-drop (n * stride n) t)) in
-          absurd (omega (arith, length-append line left))
+      below (no h) = let q : k ≡ n = omega arith in let z : length rest ≡ n * stride n - n * stride n = rw q at left-long in absurd (omega arith)
+
+      whole : length line ≡ stride n
+      whole = omega (arith, left-long, suc-mul k (stride n), mul-le-mul_right {m = suc k} {n = n} (stride n) (below (dec_lt k n)))
 
       here : line ≡ take (stride n) (drop (k * stride n) t)
-      here = rw (← e, f, take-append-le (stride n) line left (omega arith), take_all (stride n) line (omega arith))
+      here = rw (← e, f, take-append-le (stride n) line left (omega (arith, whole)), take_all (stride n) line (omega (arith, whole)))
 
       behind : left ≡ drop ((k + 1) * stride n) t
       behind =
           let a : (k + 1) * stride n ≡ k * stride n + stride n = rw add-one (omega (arith, suc-mul k (stride n))) in
-          rw (a, ← drop-drop (stride n) (k * stride n) t, ← e, f, drop_at line left (stride n) w)
+          rw (a, ← drop-drop (stride n) (k * stride n) t, ← e, f, drop_at line left (stride n) whole)
 
-  pub lines_end : (k : ℕ) (rest : List ℕ) → k ≤ n → rest ≡ drop (line_start n k) t → length rest < stride n → k ≡ n
+  pub lines_end : (k : ℕ) (rest : List ℕ) → k ≤ n → rest ≡ drop (line_start n k) t → length rest ≡ 0 → k ≡ n
   lines_end k rest m e f = pick (dec_lt k n)
     where
       pick : Dec (k < n) → k ≡ n
