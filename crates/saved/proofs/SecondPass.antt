@@ -11,12 +11,14 @@ use borrow.Author.Tests.{eqb-true, eq-eqb, ne_eqb, ltb-true, not-true}
 use lib.ListN.{length, get_or, set, take, length-drop}
 use lib.Seq.{sets, length-take-le, get_or-take, get_or-set_same, get_or-set_other}
 use lib.Dec.{eqb}
-use Rattle.std.specs.Prelude.{Err, IsTrue, EachIndex, ◌↔◌}
+use Rattle.std.specs.Prelude.{Err}
 use Rattle.lists.specs.declared.refusal.Refusal.{Refusal}
 use Rattle.lists.specs.Refusal.{ensure}
 use Rattle.lists.specs.Search.{every}
 use Rattle.lists.proofs.BoolLaws.{by_bool, every-same}
-use Rattle.lists.proofs.SearchLaws.{both, every-at, every-all, every-not}
+use Rattle.lists.proofs.SearchLaws.{both, every-at, every-not}
+use Rattle.table.specs.Sizes.{is_size}
+use Rattle.table.proofs.SizeLaws.{size-bounds}
 use Rattle.table.specs.Table.{stride, table_length, line_start}
 use Rattle.saved.specs.Fields.{Field, tagged, single, first_of}
 use Rattle.saved.specs.Plant.{line_tag, line_field_length, station_in, line_in, of_station, fits, all_fit, lines_right, table_in}
@@ -53,12 +55,7 @@ single_more : (len : ℕ) (c : List ℕ) (cs : List (List ℕ)) → length c ≡
 single_more len c [] e = eq-eqb (length c) len e
 single_more len c (d ∷ cs) e = refl
 
--- no contents are left; those of a field that is a line, and of another
-pub passed_end : (n : ℕ) (all : List (List ℕ)) (t : List ℕ) (seen : List Bool) (rest : List Field) → rest ≡ []
-    → Passed n all t seen (tagged line_tag rest) → Passed n all t seen []
-unfolding tagged
-passed_end n all t seen rest e p = rw e at p
-
+-- the contents of a field that is a line, and of another
 pub passed_line : (n : ℕ) (all : List (List ℕ)) (t : List ℕ) (seen : List Bool) (f : Field) (fs rest : List Field) → rest ≡ f ∷ fs
     → f.tag ≡ line_tag → Passed n all t seen (tagged line_tag rest) → Passed n all t seen (f.contents ∷ tagged line_tag fs)
 unfolding tagged
@@ -157,30 +154,21 @@ module _ (n : ℕ) (c : List ℕ) (all cs : List (List ℕ)) (t : List ℕ) (see
   pub passed_more : Passed n all (sets t (line_start n (station_in c)) (line_in c)) (set seen (station_in c) true) cs
   passed_more = record { right = right_next; lines = λ r i g. line_next r i g ∙ p.lines r i g }
 
--- whether the first n stations were seen, as the code asks it
-seen_is : (n : ℕ) (seen : List Bool) (b : Bool) → n ≤ length seen
-    → (IsTrue b ↔ EachIndex (take n seen) (λ k. get_or (take n seen) k false ≡ true)) → b ≡ every (λ i. get_or seen i false) n
-seen_is n seen b h asked = pick b asked
-  where
-    long : length (take n seen) ≡ n
-    long = length-take-le n seen h
-
-    pick : (b : Bool) → (IsTrue b ↔ EachIndex (take n seen) (λ k. get_or (take n seen) k false ≡ true)) → b ≡ every (λ i. get_or seen i false) n
-    pick true asked = sym (every-all _ n (λ i g. sym (get_or-take n seen i false g) ∙ asked.0 refl i (omega (arith, long))))
-    pick false asked =
-        by_bool (every (λ i. get_or seen i false) n)
-        (λ e. asked.1 (λ i g. get_or-take n seen i false (omega (arith, long)) ∙ every-at (λ i. get_or seen i false) n i e (omega (arith, long))) ∙ sym e) (λ e. sym e)
-
 -- after the last: all stations were seen exactly where the lines are right, and then the table is theirs
-module _ (n : ℕ) (all : List (List ℕ)) (t : List ℕ) (seen : List Bool) (b : Bool) (p : Passed n all t seen [])
-    (asked : IsTrue b ↔ EachIndex (take n seen) (λ k. get_or (take n seen) k false ≡ true)) where
-  pub passed_all : n ≤ length seen → b ≡ lines_right n all
-  unfolding all_fit of_station
-  passed_all wide =
-      seen_is n seen b wide asked
-      ∙ (every-same _ _ n (λ i h. by_bool (get_or seen i false) (λ e. rw e) (λ e. rw e)) ∙ p.right)
+module _ (n : ℕ) (all : List (List ℕ)) (t : List ℕ) (seen : List Bool) (rest : List Field) (end : rest ≡ [])
+    (p : Passed n all t seen (tagged line_tag rest)) where
+  none_left : Passed n all t seen []
+  unfolding tagged
+  none_left = rw end at p
 
-pub passed_table : (n : ℕ) (all : List (List ℕ)) (t : List ℕ) (seen : List Bool) → Passed n all t seen [] → length t ≡ table_length n
-    → lines_right n all ≡ true → t ≡ table_in n all
-unfolding table_in of_station
-passed_table n all t seen p long r = sym (own-lines n t long) ∙ concat-same _ _ n (p.lines r)
+  pub passed_all : (b : Bool) → is_size n ≡ true → length seen ≡ 64
+      → b ≡ every (λ i. get_or (take n seen) i false) (length (take n seen)) → b ≡ lines_right n all
+  unfolding all_fit of_station
+  passed_all b size wide e =
+      let long : length (take n seen) ≡ n = length-take-le n seen (omega (arith, size-bounds n size)) in
+      e ∙ rw long (every-same _ _ n (λ i h. get_or-take n seen i false h)
+      ∙ (every-same _ _ n (λ i h. by_bool (get_or seen i false) (λ g. rw g) (λ g. rw g)) ∙ none_left.right))
+
+  pub passed_table : length t ≡ table_length n → lines_right n all ≡ true → t ≡ table_in n all
+  unfolding table_in of_station
+  passed_table long r = sym (own-lines n t long) ∙ concat-same _ _ n (none_left.lines r)

@@ -14,7 +14,7 @@ pub mod save;
 use plant::Tally;
 
 // What the reader reads of a saved plant besides its table.
-#[derive(Clone, Copy)]
+#[derive(Clone, Copy, Default)]
 pub struct Loaded {
     pub size: u8,
     pub tally: Tally,

@@ -7,6 +7,7 @@ ghost use Rattle.saved.specs.Load.{file_lines, rest_check, rest_after, saved_siz
 
 use crate::{Loaded, lines, opening};
 use lists::refusal::Refusal;
+use table::lent::TableMut;
 use table::{cells, rules};
 
 // The size of a saved plant, or its refusal 18, 19 or 1.
@@ -38,7 +39,7 @@ fn read_table(n: u8, file: &[u8], table: &mut [u8], own: &mut [u8]) -> Result<()
     ensures table_after { table.new ≡ rest_after n (file_lines file.now) table.old }
 {
     let own = &mut own[..cells::table_length(n)];
-    lines::build_table(n, file, own)?;
+    lines::build_table(file, &mut TableMut { n, bytes: own })?;
     if table.len() != own.len() {
         return Err(Refusal::TableLength);
     }

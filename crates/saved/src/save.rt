@@ -1,16 +1,18 @@
 // The writer.
-ghost use Rattle.std.specs.Prelude.{◌≡◌, true, ◌∷◌, ◌++◌, ◌+◌, ◌*◌, ◌≤◌, length};
+ghost use Rattle.std.specs.Prelude.{◌≡◌, true, ◌∷◌, ◌++◌, ◌+◌, ◌*◌, ◌≤◌, ◌<◌, length};
 ghost use Rattle.std.proofs.lemmas.List.Edits.{sets};
 ghost use Rattle.table.specs.Sizes.{is_size};
-ghost use Rattle.table.specs.Table.{HasLine, stride, table_length};
+ghost use Rattle.table.specs.Table.{stride};
 ghost use Rattle.saved.specs.Bytes.{bytes_of};
-ghost use Rattle.saved.specs.Fields.{field_bytes};
-ghost use Rattle.saved.specs.Save.{size_field, tally_field, line_field, saved_lines, saved, save_check, save_after};
+ghost use Rattle.saved.specs.Fields.{field, field_bytes};
+ghost use Rattle.saved.specs.Plant.{line_tag};
+ghost use Rattle.saved.specs.Save.{size_field, tally_field, saved_lines, saved, save_check, save_after};
 
 use crate::{LINE, SIZE, TALLY, bytes};
 use lists::refusal::Refusal;
 use plant::Tally;
-use table::{Station, cells, rules};
+use table::lent::Table;
+use table::{cells, rules};
 
 // The bytes of the size field and the tally field.
 const FRONT: usize = 15;
@@ -28,9 +30,12 @@ pub fn save(n: usize, table: &[u8], tally: Tally, buffer: &mut [u8]) -> Result<(
     if buffer.len() != FRONT + n * (n + cells::HEAD as usize + BESIDE_LINE) {
         return Err(Refusal::ListLength);
     }
-    let size = n as u8;
-    write_opening(size, tally, buffer);
-    write_lines(size, table, buffer);
+    let table = Table {
+        n: n as u8,
+        bytes: table,
+    };
+    write_opening(table.n, tally, buffer);
+    write_lines(&table, buffer);
     Ok(())
 }
 
@@ -47,32 +52,30 @@ fn write_opening(n: u8, tally: Tally, buffer: &mut [u8])
 }
 
 // The line fields behind them, ascending.
-fn write_lines(n: u8, table: &[u8], buffer: &mut [u8])
-    requires size { is_size n ≡ true }
-    requires table_long { length table.now ≡ table_length n }
-    requires buffer_long { length buffer.old ≡ 15 + n * (stride n + 4) }
-    ensures { buffer.new ≡ sets buffer.old 15 (saved_lines n table.now n) }
+fn write_lines(table: &Table, buffer: &mut [u8])
+    requires size { is_size table.now.n ≡ true }
+    requires buffer_long { length buffer.old ≡ 15 + table.now.n * (stride table.now.n + 4) }
+    ensures { buffer.new ≡ sets buffer.old 15 (saved_lines table.now.n table.now.bytes.now table.now.n) }
 {
-    for i in 0..n {
-        write_line(n, table, Station(i), buffer);
+    let stride = table.n as usize + cells::HEAD as usize;
+    // Not `chunks_exact`, which divides: a save of 8 boards was 0.92 times as fast.
+    for (i, line) in table.bytes.chunks(stride).enumerate() {
+        write_line(i, line, buffer);
     }
 }
 
 // The field of line i.
-fn write_line(n: u8, table: &[u8], i: Station, buffer: &mut [u8])
-    requires size { is_size n ≡ true }
-    requires line { HasLine n table.now i.0 }
-    requires buffer_long { length buffer.old ≡ 15 + n * (stride n + 4) }
-    ensures { buffer.new ≡ sets buffer.old (15 + i.0 * (stride n + 4))
-        (field_bytes (line_field n table.now i.0)) }
+fn write_line(i: usize, line: &[u8], buffer: &mut [u8])
+    requires low { i < 64 }
+    requires short { length line.now ≤ 255 }
+    requires inside { 15 + i * (length line.now + 4) + (length line.now + 4) ≤ length buffer.old }
+    ensures { buffer.new ≡ sets buffer.old (15 + i * (length line.now + 4))
+        (field_bytes (field line_tag (i ∷ line.now))) }
 {
-    let stride = n as u16 + cells::HEAD;
-    let at = FRONT + i.0 as usize * (stride as usize + BESIDE_LINE);
-    put_head(buffer, at, LINE, stride + 1);
-    buffer[at + 3] = i.0;
-    let start = cells::line_start(n, i);
-    let end = start + stride as usize;
-    bytes::put_list(buffer, at + 4, &table[start..end]);
+    let at = FRONT + i * (line.len() + BESIDE_LINE);
+    put_head(buffer, at, LINE, line.len() as u16 + 1);
+    buffer[at + 3] = i as u8;
+    bytes::put_list(buffer, at + 4, line);
 }
 
 // The head of a field: its tag, and its length in two bytes, high byte first.

@@ -121,6 +121,8 @@ impl<'a> Table<'a> {
 }
 
 impl<'a> TableMut<'a> {
+    ghost use Rattle.std.proofs.lemmas.List.Edits.{sets};
+    ghost use Rattle.table.specs.Table.{line_start};
     ghost use Rattle.table.specs.Lent.{IsSameLoan};
 
     // The table, to be read.
@@ -153,6 +155,18 @@ impl<'a> TableMut<'a> {
         ensures bytes { self.new.bytes.now ≡ set_cell self.old.n self.old.bytes.now i.0 status_column (status_byte status) }
     {
         self.put(i, cells::STATUS, u8::from(status));
+    }
+
+    // Writes line i.
+    pub fn put_line(&mut self, i: Station, line: &[u8])
+        requires station { i.0 < self.old.n }
+        requires width { length line.now ≡ stride self.old.n }
+        ensures same { IsSameLoan self.old self.new }
+        ensures bytes { self.new.bytes.now ≡ sets self.old.bytes.now (line_start self.old.n i.0) line.now }
+    {
+        let a = cells::line_start(self.n, i);
+        let e = a + line.len();
+        self.bytes[a..e].copy_from_slice(line);
     }
 
     // Station i suspects station k.

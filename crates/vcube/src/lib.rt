@@ -88,6 +88,7 @@ pub extern "C" fn vcube_row(
     ensures bytes_after { bytes.new ≡ length (row_part n table.now station) }
 {
     let i = Station(byte_of(station));
+    // Not by `parts`: where the row begins is asked only of a station that is not refused.
     match rows::check_row(n, table, i) {
         Ok(()) => {
             *start = cells::row_start(n as u8, i);
@@ -190,15 +191,6 @@ pub extern "C" fn vcube_save(
     refusal::number_of(save::save(n, table, Tally { rounds, tests }, buffer))
 }
 
-// What a refused load leaves.
-const NOTHING_LOADED: Loaded = Loaded {
-    size: 0,
-    tally: Tally {
-        rounds: 0,
-        tests: 0,
-    },
-};
-
 // Load: a saved plant's table, into a buffer of just its length; its size and tally into n, rounds and tests, 0 where it is refused.
 #[tactic(auto, using(saved::proofs::Loading::load_numbered))]
 #[unsafe(no_mangle)]
@@ -214,10 +206,7 @@ pub extern "C" fn vcube_load(
         ≡ loaded_figures (load_answer file.now (length table.old)) }
     ensures table_after { table.new ≡ load_after file.now table.old }
 {
-    let (number, loaded) = match load::load(file, table) {
-        Ok(loaded) => (0, loaded),
-        Err(refusal) => (refusal.number(), NOTHING_LOADED),
-    };
+    let (number, loaded) = parts(load::load(file, table), Loaded::default());
     *n = loaded.size as usize;
     *rounds = loaded.tally.rounds;
     *tests = loaded.tally.tests;
@@ -231,10 +220,7 @@ pub extern "C" fn vcube_saved_size(file: &[u8], n: &mut usize) -> u8
     ensures value { result ≡ size_number file.now }
     ensures n_after { n.new ≡ size_figure (saved_size file.now) }
 {
-    let (number, size) = match load::saved_size(file) {
-        Ok(size) => (0, size),
-        Err(refusal) => (refusal.number(), 0),
-    };
+    let (number, size) = parts(load::saved_size(file), 0);
     *n = size as usize;
     number
 }
@@ -351,5 +337,5 @@ fn totals_with(members: &[u64; 5]) -> Totals
 fn byte_of(x: usize) -> u8
     ensures { result ≡ min x 255 }
 {
-    if x < 255 { x as u8 } else { 255 }
+    u8::try_from(x).unwrap_or(255)
 }

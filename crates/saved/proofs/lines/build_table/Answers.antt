@@ -8,13 +8,14 @@ use Rattle.lists.proofs.RefusalLaws.{ensure_ok}
 use Rattle.table.specs.Table.{table_length}
 use Rattle.table.proofs.SizeLaws.{size-bounds}
 use Rattle.saved.proofs.Reading.{tells_more, tells_none, cut_not}
-use Rattle.saved.proofs.SecondPass.{passed_none, passed_end, passed_line, passed_other, passed_not, line_err, passed_more, passed_all, passed_table}
+use Rattle.saved.proofs.SecondPass.{passed_none, passed_line, passed_other, passed_not, line_err, passed_more, passed_all, passed_table}
 use Rattle.saved.proofs.lines.build_table.Goals as goal
 
 pub loop-field-init : goal.loop-field-init
 loop-field-init c =
     let b = size-bounds _ c.requires.size in
     record {
+      same = record { reference = refl; size = refl };
       whole = c.requires.whole;
       wide = length-replicate 64 false;
       passed = passed_none _ _ _ _ (λ i h. get_or-replicate {A = Bool} 64 i false false (omega arith));
@@ -27,7 +28,7 @@ pub loop-field-preserved-then-field-ne-LINE : goal.loop-field-preserved-then-fie
 loop-field-preserved-then-field-ne-LINE c =
     let i = c.loop-field.invariant in
     let t = tells_more _ _ _ c.in_ok-field.ensures _ c.in-Some.is in
-    record { whole = t.0 ∙ i.whole; wide = i.wide; passed = passed_other _ _ _ _ _ _ _ (t.1 i.whole) c.if-field-ne-LINE.true i.passed }
+    record { same = i.same; whole = t.0 ∙ i.whole; wide = i.wide; passed = passed_other _ _ _ _ _ _ _ (t.1 i.whole) c.if-field-ne-LINE.true i.passed }
 
 pub returns-in_err-take_line-clause-value : goal.returns-in_err-take_line-clause-value
 returns-in_err-take_line-clause-value c =
@@ -35,49 +36,46 @@ returns-in_err-take_line-clause-value c =
     let i = c.loop-field.invariant in
     let t = tells_more _ _ _ c.in_ok-field.ensures _ c.in-Some.is in
     let p = passed_line _ _ _ _ _ _ _ (t.1 i.whole) c.if-field-ne-LINE.false i.passed in
-    let e = line_err _ _ _ c.in_err-take_line.ensures.value in
+    let e = line_err _ _ _ (rw i.same.size at c.in_err-take_line.ensures.value) in
     rw (q.1, q.2, e.1, passed_not _ _ _ _ _ _ p e.0)
 
 pub loop-field-preserved : goal.loop-field-preserved
 loop-field-preserved c =
     let i = c.loop-field.invariant in
-    let wide : c.args.n ≤ length c.loop-field.seen = omega (arith, i.wide, size-bounds _ c.requires.size) in
-    let long : length c.loop-field.table ≡ table_length c.args.n = omega arith in
+    let wide : c.args.table.now.n ≤ length c.loop-field.seen = omega (arith, i.wide, size-bounds _ c.requires.size, c.loop-field.invariant.same.size) in
+    let long : length c.loop-field.table.bytes.now ≡ table_length c.args.table.now.n = rw (← i.same.size) (omega arith) in
+    let s = c.in_ok-take_line.ensures.same in
     let t = tells_more _ _ _ c.in_ok-field.ensures _ c.in-Some.is in
     let p = passed_line _ _ _ _ _ _ _ (t.1 i.whole) c.if-field-ne-LINE.false i.passed in
-    let e = ensure_ok _ _ _ (sym c.in_ok-take_line.ensures.value) in
+    let e = ensure_ok _ _ _ (sym (rw i.same.size at c.in_ok-take_line.ensures.value)) in
+    let b = rw i.same.size at (c.in_ok-take_line.ensures.bytes refl) in
     record {
+      same = record { reference = s.reference ∙ i.same.reference; size = s.size ∙ i.same.size };
       whole = t.0 ∙ i.whole;
       wide = c.type_inv.seen;
-      passed = rw (c.in_ok-take_line.ensures.table_after refl, c.in_ok-take_line.ensures.seen_after refl) (passed_more _ _ _ _ _ _ p e wide long);
+      passed = rw (b, c.in_ok-take_line.ensures.seen_after refl) (passed_more _ _ _ _ _ _ p e wide long);
     }
 
 pub slice_bounds-all_seen-end : goal.slice_bounds-all_seen-end
-slice_bounds-all_seen-end c = sym (length-take-le c.args.n c.loop-field.seen (omega (arith, c.loop-field.invariant.wide, size-bounds _ c.requires.size)))
+slice_bounds-all_seen-end c = sym (length-take-le c.loop-field.table.n c.loop-field.seen (omega (arith, c.loop-field.invariant.wide, size-bounds _ c.requires.size, c.loop-field.invariant.same.size)))
 
 pub slice_bounds-seen-end : goal.slice_bounds-seen-end
-slice_bounds-seen-end c = omega (arith, c.loop-field.invariant.wide, size-bounds _ c.requires.size)
+slice_bounds-seen-end c = omega (arith, c.loop-field.invariant.wide, size-bounds _ c.requires.size, c.loop-field.invariant.same.size)
 
-pub returns-then-all_seen-clause-value : goal.returns-then-all_seen-clause-value
-returns-then-all_seen-clause-value c =
+pub returns-then-all_seen : goal.returns-then-all_seen
+returns-then-all_seen c =
     let i = c.loop-field.invariant in
     let t = tells_none _ _ _ c.in_ok-field.ensures c.in_default.is in
-    let p = passed_end _ _ _ _ _ t.1 i.passed in
-    let wide : c.args.n ≤ length c.loop-field.seen = omega (arith, i.wide, size-bounds _ c.requires.size) in
-    rw (← passed_all _ _ _ _ _ p c.if-all_seen.ensures wide)
+    let r = passed_all _ _ _ _ _ t.1 i.passed _ c.requires.size i.wide (rw i.same.size at c.if-all_seen.ensures) in
+    record {
+      value = rw (← r);
+      same = i.same;
+      bytes = λ e. passed_table _ _ _ _ _ t.1 i.passed (rw (← i.same.size) (omega arith)) (sym r);
+    }
 
-pub returns-then-all_seen-clause-table_after : goal.returns-then-all_seen-clause-table_after
-returns-then-all_seen-clause-table_after c = λ e.
+pub returns-else-all_seen : goal.returns-else-all_seen
+returns-else-all_seen c =
     let i = c.loop-field.invariant in
     let t = tells_none _ _ _ c.in_ok-field.ensures c.in_default.is in
-    let p = passed_end _ _ _ _ _ t.1 i.passed in
-    let wide : c.args.n ≤ length c.loop-field.seen = omega (arith, i.wide, size-bounds _ c.requires.size) in
-    passed_table _ _ _ _ p (omega arith) (sym (passed_all _ _ _ _ _ p c.if-all_seen.ensures wide))
-
-pub returns-else-all_seen-clause-value : goal.returns-else-all_seen-clause-value
-returns-else-all_seen-clause-value c =
-    let i = c.loop-field.invariant in
-    let t = tells_none _ _ _ c.in_ok-field.ensures c.in_default.is in
-    let p = passed_end _ _ _ _ _ t.1 i.passed in
-    let wide : c.args.n ≤ length c.loop-field.seen = omega (arith, i.wide, size-bounds _ c.requires.size) in
-    rw (← passed_all _ _ _ _ _ p c.if-all_seen.ensures wide)
+    let r = passed_all _ _ _ _ _ t.1 i.passed _ c.requires.size i.wide (rw i.same.size at c.if-all_seen.ensures) in
+    record { value = rw (← r); same = i.same; bytes = λ e. cc }

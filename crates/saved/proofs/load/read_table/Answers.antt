@@ -1,5 +1,5 @@
 -- The file's lines are not right, the buffer is of another length, or the table's rules judge.
-use Rattle.std.proofs.Common.{arith, refl, sym, ◌∙◌}
+use Rattle.std.proofs.Common.{rules, arith, refl, sym, ◌∙◌}
 use Rattle.std.proofs.lemmas.Result.{err_from_is_err_and}
 use lib.Seq.{length-take-le}
 use Rattle.saved.proofs.Loading.{table_fits, lines_err, long_err, rules_err, rules_ok}
@@ -11,9 +11,10 @@ slice_bounds-own-end c = omega (arith, c.table_length.ensures, table_fits _ c.re
 pub slice_bounds-own-end-2 : goal.slice_bounds-own-end-2
 slice_bounds-own-end-2 c = sym (length-take-le _ _ (omega (arith, c.table_length.ensures, table_fits _ c.requires.size)))
 
-pub build_table-requires-clause-table_long : goal.build_table-requires-clause-table_long
-build_table-requires-clause-table_long c =
-    length-take-le _ _ (omega (arith, c.table_length.ensures, table_fits _ c.requires.size)) ∙ c.table_length.ensures
+pub invariant_of-build_table : goal.invariant_of-build_table
+invariant_of-build_table c = record {
+  fits = length-take-le _ _ (omega (arith, c.table_length.ensures, table_fits _ c.requires.size)) ∙ c.table_length.ensures;
+}
 
 pub returns-in_err-build_table : goal.returns-in_err-build_table
 returns-in_err-build_table c =
@@ -23,24 +24,18 @@ returns-in_err-build_table c =
 
 pub returns-then-table-own : goal.returns-then-table-own
 returns-then-table-own c =
-    let t = length-take-le c.table_length.result c.args.own.now (omega (arith, c.table_length.ensures, table_fits _ c.requires.size)) in
-    let long = c.build_table.auto.table ∙ (t ∙ c.table_length.ensures) in
-    let g = long_err _ _ c.args.table.now _ c.in_ok-build_table.ensures.value (λ e. c.if-table-own.true (e ∙ sym long)) in
+    let g = long_err _ _ c.args.table.now _ c.in_ok-build_table.ensures.value (λ e. c.if-table-own.true (omega arith)) in
     record { value = g.0; table_after = g.1 }
 
 pub returns-in_err-check_table : goal.returns-in_err-check_table
 returns-in_err-check_table c =
     let p = err_from_is_err_and c.from_residual-in_err-check_table.result c.from_residual-in_err-check_table.ensures.1 in
-    let t = length-take-le c.table_length.result c.args.own.now (omega (arith, c.table_length.ensures, table_fits _ c.requires.size)) in
-    let long = c.if-table-own.false ∙ (c.build_table.auto.table ∙ (t ∙ c.table_length.ensures)) in
-    let built = c.in_ok-build_table.ensures.table_after refl in
-    let g = rules_err _ _ c.args.table.now _ c.in_ok-build_table.ensures.value _ long built _ c.in_err-check_table.ensures in
+    let bytes = c.in_ok-build_table.ensures.bytes refl in
+    let g = rules_err _ _ c.args.table.now _ c.in_ok-build_table.ensures.value _ (omega arith) (search rules) _ c.in_err-check_table.ensures in
     record { value = rw (p.1, p.2) g.0; table_after = g.1 }
 
 pub returns : goal.returns
 returns c =
-    let t = length-take-le c.table_length.result c.args.own.now (omega (arith, c.table_length.ensures, table_fits _ c.requires.size)) in
-    let long = c.if-table-own.false ∙ (c.build_table.auto.table ∙ (t ∙ c.table_length.ensures)) in
-    let built = c.in_ok-build_table.ensures.table_after refl in
-    let g = rules_ok _ _ c.args.table.now _ c.in_ok-build_table.ensures.value _ long built _ c.in_ok-check_table.ensures in
+    let bytes = c.in_ok-build_table.ensures.bytes refl in
+    let g = rules_ok _ _ c.args.table.now _ c.in_ok-build_table.ensures.value _ (omega arith) (search rules) _ c.in_ok-check_table.ensures in
     record { value = g.0; table_after = c.copy_from_slice.ensures.after ∙ g.1 }
