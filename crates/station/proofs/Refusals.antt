@@ -46,9 +46,6 @@ row_ok n t i x e =
     let p = and_ok _ _ x e in
     (table_ok n t _ p.0, ltb-true i n (ensure_ok _ _ _ p.1))
 
-pub row_zero : (n : ℕ) (t : List ℕ) (i : ℕ) → row_number n t i ≡ 0 → Accepted n t × (i < n)
-row_zero n t i e = row_ok n t i _ (check_zero _ e)
-
 pub accepted_size : (n : ℕ) (t : List ℕ) → Accepted n t → is_size n ≡ true
 accepted_size n t a = a.size
 
