@@ -11,9 +11,9 @@ use Rattle.std.specs.Prelude.{Ok}
 use Rattle.table.specs.Sizes.{is_size, dimension}
 use Rattle.station.specs.Groups.{group}
 use Rattle.table.specs.Table.{table_length, live}
-use Rattle.station.specs.Calls.{row_check, row_number, range_check, group_check, assignment_check}
+use Rattle.station.specs.Calls.{row_check, range_check, group_check, assignment_check}
 use Rattle.lists.proofs.BoolLaws.{neither}
-use Rattle.lists.proofs.RefusalLaws.{check_zero, ensure_ok, and_ok}
+use Rattle.lists.proofs.RefusalLaws.{ensure_ok, and_ok}
 use Rattle.table.proofs.SizeLaws.{size-bounds, size-dimension}
 use Rattle.table.proofs.Accepting.{Accepted, table_ok}
 
