@@ -60,18 +60,6 @@ taken-has k room l e = go (ltb k room) refl
     go true t p = (ltb-true k room t, entry_has l e p)
     go false t p = let z : ◌≡◌ {A = ℕ} 0 1 = cc in absurd (omega arith)
 
--- two bytes written one by one
-module _ (s : List ℕ) (a x y : ℕ) (h : a + 2 ≤ length s) where
-  pub pair-take : take (a + 2) (set (set s a x) (a + 1) y) ≡ take a s ++ (x ∷ y ∷ [])
-  pair-take =
-      let e : a + 2 ≡ suc (suc a) = omega arith in
-      let p = take-suc-set (set s a x) (suc a) y (rw length-set (omega arith)) in
-      let q = take-suc-set s a x (omega arith) in
-      rw (e, add-one, p, q, append_assoc)
-
-  pub pair-drop : drop (a + 2) (set (set s a x) (a + 1) y) ≡ drop (a + 2) s
-  pair-drop = drop-set-lt (a + 2) (set s a x) (a + 1) y (omega arith) ∙ drop-set-lt (a + 2) s a x (omega arith)
-
 -- reading goes on at the bytes `rest`, where k entries are the front of the schedule s. In the shapes of the loop: `o` is what the first line
 -- was read as where there is room for r entries, and `after` is what follows that line
 module _ (room n k : ℕ) (s rest : List ℕ) where
