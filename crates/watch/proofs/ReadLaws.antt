@@ -2,15 +2,15 @@
 -- Assumes nothing.
 use mathlib.Core.Path.{◌≡◌, refl, sym, ap, ◌∙◌}
 use mathlib.Core.Bool.{Bool, true, false, cond}
-use mathlib.Core.List.{List, [], ◌∷◌, ◌++◌, append_assoc}
+use mathlib.Core.List.{List, [], ◌∷◌, ◌++◌}
 use Rattle.std.specs.Prelude.{Option, None, Some, option_and_then, option_map, Err}
 use Prim.Native.Nat.{ℕ, suc, ◌+◌, ◌*◌, ◌-◌, ◌≤◌, ◌<◌}
 use native.Mathlib.Numerals.{add-one}
 use native.Mathlib.Omega.{arith}
 use borrow.Author.Tests.{eq-eqb, ne_eqb, ltb-true}
 use lib.Dec.{ltb, eqb}
-use lib.ListN.{length, get_or, set, take, drop, length-set, length-append, drop_of_length-le, take-append-drop}
-use lib.Seq.{take_all, drop-drop, drop-set-lt, take-suc-set, length-take-le, sets}
+use lib.ListN.{length, get_or, take, drop, length-append, drop_of_length-le, take-append-drop}
+use lib.Seq.{take_all, drop-drop, length-take-le, sets}
 use Rattle.watch.specs.Input.{given, lines, line_length, digits_from, number_of, size_of, kind_of, entry_of, Reading, reading_of, read_entries}
 use Rattle.watch.specs.Input.{read_lines, read_up_to, answer_of}
 use Rattle.watch.proofs.LineLaws.{lines-first}

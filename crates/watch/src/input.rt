@@ -174,6 +174,7 @@ fn read_number(digits: &[u8], most: usize) -> Option<usize>
     if digits.is_empty() || most < digits.len() {
         return None;
     }
+    // By hand, since `parse` takes a sign too: behind a test that all are digits it would go over them again.
     let mut value: usize = 0;
     for &b in digits {
         if !b.is_ascii_digit() {
