@@ -21,6 +21,7 @@ pub fn list_tests(n: u8, row: &[u8], i: Station, list: &mut [u8]) -> u8
     ensures list_after { list.new ≡ sets list.old 0 (tested n row.now i.0) }
 {
     let end = distances(n);
+    // Counted by hand and not by `enumerate`, since the count is the answer, also where the list is too short.
     let mut count = 0;
     for m in (0..end).filter(|m| is_due(row, i, Distance(*m as u8))) {
         bytes::put(list, count, order::lookup(i, Distance(m as u8)).0);
@@ -60,6 +61,7 @@ pub fn most_tests(n: u8, row: &mut [u8], i: Station) -> u8
     ensures row_unchanged { row.new ≡ row.old }
 {
     let mut most: u8 = 0;
+    // Not a chain: of a closure that marks the row, and puts back what was there, no proof knows what it answers.
     for j in 0..n {
         most = most.max(tests_with(n, row, i, Station(j)));
     }
@@ -71,7 +73,7 @@ fn tests_with(n: u8, row: &mut [u8], i: Station, j: Station) -> u8
     ensures value { result ≡ tests_with n row.old i.0 j.0 }
     ensures row_unchanged { row.new ≡ row.old }
 {
-    if j.0 == i.0 {
+    if j == i {
         return 0;
     }
     let at = j.0 as usize;
@@ -86,6 +88,7 @@ fn tests_with(n: u8, row: &mut [u8], i: Station, j: Station) -> u8
 }
 
 // The most tests of any of n boards that all have this row and, if `more`, also suspect any one other board. The row is as before afterwards.
+// The flag stays: a public function, whose promise speaks of both values at once.
 pub fn most_of_boards(n: u8, row: &mut [u8], more: bool) -> u8
     ensures value { result ≡ most_of_boards n row.old more }
     ensures row_unchanged { row.new ≡ row.old }
@@ -109,6 +112,7 @@ fn most_with_one_more(n: u8, row: &mut [u8]) -> u8
     ensures row_unchanged { row.new ≡ row.old }
 {
     let mut most: u8 = 0;
+    // Not a chain, as in `most_tests`.
     for i in 0..n {
         most = most.max(most_tests(n, row, Station(i)));
     }

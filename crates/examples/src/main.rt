@@ -6,7 +6,10 @@
 use lists::refusal;
 use plant::{Ran, Tally, run};
 use station::{due, groups};
+use std::ops::ControlFlow;
 use table::{Level, Station, cells, fresh};
+use turn::kind::Kind;
+use turn::outcome::Outcome;
 
 // The lengths of tables of two, four, eight and eleven boards.
 const TWO: usize = 2 * (2 + cells::HEAD as usize);
@@ -66,13 +69,12 @@ fn group_column(rt: &impl Print, i: Station, s: Level, w: u8) {
 
 // The w members of the group of i at level s among n, by way of the front of a list.
 fn members(rt: &impl Print, n: usize, i: Station, s: Level, w: usize, list: &mut [u8]) {
-    if list.len() < w {
+    let Some(list) = list.get_mut(..w) else {
         return;
+    };
+    if groups::group_list(n, i, s, list).is_ok() {
+        commas(rt, list);
     }
-    if groups::group_list(n, i, s, &mut list[0..w]).is_err() {
-        return;
-    }
-    commas(rt, &list[0..w]);
 }
 
 // The bytes, a space before the first and commas before the others.
@@ -103,50 +105,41 @@ fn sizes(rt: &impl Print) {
 // The number that a fresh table of a size and a length gets.
 fn size_line(rt: &impl Print, n: usize, len: usize) {
     let mut space = [0u8; cells::GREATEST_TABLE];
-    let number = fresh_number(n, len, &mut space);
+    let Some(table) = space.get_mut(..len) else {
+        return;
+    };
+    let number = refusal::number_of(fresh::fresh_table(n, table));
     let _ = println!(rt; "size {n} bytes {len} number {number}");
-}
-
-// A fresh table in the first len bytes of space; 255 where space is shorter.
-fn fresh_number(n: usize, len: usize, space: &mut [u8]) -> u8 {
-    if space.len() < len {
-        return 255;
-    }
-    refusal::number_of(fresh::fresh_table(n, &mut space[0..len]))
 }
 
 // "N = 64, none dead: 384 tests."
 fn sixty_four(rt: &impl Print) {
     let mut table = [0u8; cells::GREATEST_TABLE];
-    let _ = fresh::fresh_table(64, &mut table);
-    let tally = one_round(rt, 64, &mut table, no_tally(), 255);
-    tests_line(rt, no_tally(), tally);
+    let mut plant = Plant::fresh(64, &mut table);
+    plant.round(rt, None);
+    tests_line(rt, Tally::default(), plant.tally);
 }
 
 // Eight boards. None dead: 24 tests a round, of which board 0 makes three. Board 4 crashes: 23 tests a round once all know it, and
 // board 5 tests 0 and 6 besides.
 fn eight_boards(rt: &impl Print) {
     let mut table = [0u8; EIGHT];
-    let _ = fresh::fresh_table(8, &mut table);
-    let first = one_round(rt, 8, &mut table, no_tally(), 0);
-    tests_line(rt, no_tally(), first);
-    let crashed = entry_of(8, &mut table, first, 3, 4);
-    let second = one_round(rt, 8, &mut table, crashed.tally, 255);
-    let third = one_round(rt, 8, &mut table, second, 5);
-    tests_line(rt, second, third);
+    let mut plant = Plant::fresh(8, &mut table);
+    plant.round(rt, Some(0));
+    tests_line(rt, Tally::default(), plant.tally);
+    plant.entry(Kind::Crash, 4);
+    plant.round(rt, None);
+    let second = plant.tally;
+    plant.round(rt, Some(5));
+    tests_line(rt, second, plant.tally);
 }
 
 // "Tests at 4,294,967,294: a testing turn is taken, the next entry gets 7."
 fn top_tally(rt: &impl Print) {
     let mut table = [0u8; TWO];
-    let _ = fresh::fresh_table(2, &mut table);
-    let top = Tally {
-        rounds: 0,
-        tests: 4294967294,
-    };
-    let schedule = [1u8, 0, 1, 1];
-    let mut sheet = [0u8; 8];
-    run_line(rt, run::run(2, &mut table, top, &schedule, &mut sheet));
+    let mut plant = Plant::fresh(2, &mut table);
+    plant.tally.tests = 4294967294;
+    run_line(rt, plant.turns_of_0_and_1().0);
 }
 
 // Table 3 of paper 001, column vCube: the messages of d·d rounds with nobody dead, two a test.
@@ -159,8 +152,7 @@ fn table_3(rt: &impl Print) {
 }
 
 fn messages_line(rt: &impl Print, n: u8, rounds: u8) {
-    let mut space = [0u8; cells::GREATEST_TABLE];
-    let tally = fresh_rounds(rt, n, rounds, cells::table_length(n), &mut space);
+    let tally = fresh_rounds(rt, n, rounds);
     let _ = println!(rt;
         "{n} boards rounds {} messages {}",
         tally.rounds,
@@ -175,13 +167,14 @@ fn eleven_boards(rt: &impl Print) {
     eleven_line(rt, 10, Level(2), 2);
     eleven_line(rt, 2, Level(4), 3);
     let mut table = [0u8; ELEVEN];
-    let _ = fresh::fresh_table(11, &mut table);
+    let mut plant = Plant::fresh(11, &mut table);
     let mut list = [0u8; 20];
-    assignment_line(rt, 11, &table, 10, &mut list);
-    let crashed = entry_of(11, &mut table, no_tally(), 3, 4);
-    let known = some_rounds(rt, 11, 4, &mut table, crashed.tally);
-    let after = one_round(rt, 11, &mut table, known, 255);
-    tests_line(rt, known, after);
+    assignment_line(rt, 11, plant.table, 10, &mut list);
+    plant.entry(Kind::Crash, 4);
+    plant.rounds(rt, 4);
+    let known = plant.tally;
+    plant.round(rt, None);
+    tests_line(rt, known, plant.tally);
 }
 
 // C-16, eight boards: the assignment of station 5, nothing suspected, and where it suspects 4.
@@ -220,8 +213,7 @@ fn odd_sizes(rt: &impl Print) {
 }
 
 fn round_line(rt: &impl Print, n: u8) {
-    let mut space = [0u8; cells::GREATEST_TABLE];
-    let tally = fresh_rounds(rt, n, 1, cells::table_length(n), &mut space);
+    let tally = fresh_rounds(rt, n, 1);
     let _ = println!(rt; "{n} boards rounds {} tests {}", tally.rounds, tally.tests);
 }
 
@@ -229,16 +221,14 @@ fn round_line(rt: &impl Print, n: u8) {
 // closes the round. In the next round 0 tests 1 again: 1 is told and leaves, and its own turn is refused. By C-18 its line names 0.
 fn late_reply(rt: &impl Print) {
     let mut table = [0u8; FOUR];
-    let _ = fresh::fresh_table(4, &mut table);
-    let one = one_pass(rt, 4, &mut table, no_tally(), 1, false);
-    let two = one_pass(rt, 4, &mut table, one, 2, false);
-    let three = one_pass(rt, 4, &mut table, two, 3, false);
-    let late = entry_of(4, &mut table, three, 2, 0);
-    let closed = one_pass(rt, 4, &mut table, late.tally, 0, true);
-    tests_line(rt, no_tally(), closed);
-    let schedule = [1u8, 0, 1, 1];
-    let mut sheet = [0u8; 8];
-    let ran = run::run(4, &mut table, closed, &schedule, &mut sheet);
+    let mut plant = Plant::fresh(4, &mut table);
+    plant.pass(rt, 1, false);
+    plant.pass(rt, 2, false);
+    plant.pass(rt, 3, false);
+    plant.entry(Kind::LateReply, 0);
+    plant.pass(rt, 0, true);
+    tests_line(rt, Tally::default(), plant.tally);
+    let (ran, sheet) = plant.turns_of_0_and_1();
     let _ = print!(rt; "sheet");
     commas(rt, &sheet[0..4]);
     line_end(rt);
@@ -249,85 +239,92 @@ fn late_reply(rt: &impl Print) {
     );
 }
 
-// The tally of so many rounds on a fresh table in the first len bytes of space; no rounds where space is shorter.
-fn fresh_rounds(rt: &impl Print, n: u8, rounds: u8, len: usize, space: &mut [u8]) -> Tally {
-    if space.len() < len {
-        return no_tally();
-    }
-    let _ = fresh::fresh_table(n as usize, &mut space[0..len]);
-    many_rounds(rt, n, rounds, &mut space[0..len])
+// The tally of so many rounds of n boards, from none.
+fn fresh_rounds(rt: &impl Print, n: u8, rounds: u8) -> Tally {
+    let mut space = [0u8; cells::GREATEST_TABLE];
+    let Some(table) = space.get_mut(..cells::table_length(n)) else {
+        return Tally::default();
+    };
+    let mut plant = Plant::fresh(n, table);
+    plant.rounds(rt, rounds);
+    plant.tally
 }
 
-// The tally of so many rounds, from none.
-fn many_rounds(rt: &impl Print, n: u8, rounds: u8, table: &mut [u8]) -> Tally {
-    some_rounds(rt, n, rounds, table, no_tally())
+// A plant that runs work on: its size, its table and its tally.
+#[derive(Drop)]
+struct Plant<'a> {
+    n: u8,
+    table: &'a mut [u8],
+    tally: Tally,
 }
 
-// The tally of so many rounds, behind the tally before.
-fn some_rounds(rt: &impl Print, n: u8, rounds: u8, table: &mut [u8], before: Tally) -> Tally {
-    let mut tally = before;
-    for _ in 0..rounds {
-        tally = one_round(rt, n, table, tally, 255);
-    }
-    tally
-}
-
-fn no_tally() -> Tally {
-    Tally {
-        rounds: 0,
-        tests: 0,
-    }
-}
-
-// A round: each board takes its turns until its pass is finished. The tests of board `shown` are printed.
-fn one_round(rt: &impl Print, n: u8, table: &mut [u8], before: Tally, shown: u8) -> Tally {
-    let mut tally = before;
-    for i in 0..n {
-        tally = one_pass(rt, n, table, tally, i, i == shown);
-    }
-    tally
-}
-
-// The turns of board i until its pass is finished or a turn is refused.
-fn one_pass(rt: &impl Print, n: u8, table: &mut [u8], before: Tally, i: u8, shown: bool) -> Tally {
-    let mut tally = before;
-    for _ in 0..n {
-        let done = turn_of(rt, n, table, tally, i, shown);
-        tally = done.tally;
-        if done.ended {
-            return tally;
+impl<'a> Plant<'a> {
+    // A plant that begins: the table is made fresh.
+    fn fresh(n: u8, table: &'a mut [u8]) -> Plant<'a> {
+        let _ = fresh::fresh_table(n as usize, table);
+        Plant {
+            n,
+            table,
+            tally: Tally::default(),
         }
     }
-    tally
-}
 
-// A turn: the tally after it, and whether the pass is finished or the turn was refused.
-#[derive(Clone, Copy)]
-struct Turn {
-    tally: Tally,
-    ended: bool,
-}
-
-fn turn_of(rt: &impl Print, n: u8, table: &mut [u8], tally: Tally, i: u8, shown: bool) -> Turn {
-    let schedule = [1u8, i];
-    let mut line = [0u8; 4];
-    let ran = run::run(n as usize, table, tally, &schedule, &mut line);
-    let [_, tested, outcome, _] = line;
-    let ended = ran.stopped.is_some() || outcome == 0;
-    if shown && !ended {
-        let _ = println!(rt; "{i} tests {tested}");
+    // So many rounds.
+    fn rounds(&mut self, rt: &impl Print, rounds: u8) {
+        for _ in 0..rounds {
+            self.round(rt, None);
+        }
     }
-    Turn {
-        tally: ran.tally,
-        ended,
-    }
-}
 
-// One entry: kind and station.
-fn entry_of(n: u8, table: &mut [u8], tally: Tally, kind: u8, i: u8) -> Ran {
-    let schedule = [kind, i];
-    let mut line = [0u8; 4];
-    run::run(n as usize, table, tally, &schedule, &mut line)
+    // A round: each board takes its turns until its pass is finished. The tests of the board that is shown are printed.
+    fn round(&mut self, rt: &impl Print, shown: Option<u8>) {
+        for i in 0..self.n {
+            self.pass(rt, i, shown == Some(i));
+        }
+    }
+
+    // The turns of board i until its pass is finished or a turn is refused.
+    fn pass(&mut self, rt: &impl Print, i: u8, shown: bool) {
+        for _ in 0..self.n {
+            if self.turn(rt, i, shown).is_break() {
+                return;
+            }
+        }
+    }
+
+    // A turn of board i. No other follows where the pass is finished or the turn was refused.
+    fn turn(&mut self, rt: &impl Print, i: u8, shown: bool) -> ControlFlow<()> {
+        let (ran, [_, tested, outcome, _]) = self.entry(Kind::Turn, i);
+        if ran.stopped.is_some() || outcome == Outcome::PassFinished.outcome_byte() {
+            return ControlFlow::Break(());
+        }
+        if shown {
+            let _ = println!(rt; "{i} tests {tested}");
+        }
+        ControlFlow::Continue(())
+    }
+
+    // One entry, and its line of the sheet.
+    fn entry(&mut self, kind: Kind, i: u8) -> (Ran, [u8; 4]) {
+        let mut line = [0u8; 4];
+        let ran = self.run(&[u8::from(kind), i], &mut line);
+        (ran, line)
+    }
+
+    // A turn of board 0 and one of board 1, and their lines of the sheet.
+    fn turns_of_0_and_1(&mut self) -> (Ran, [u8; 8]) {
+        let turn = u8::from(Kind::Turn);
+        let mut sheet = [0u8; 8];
+        let ran = self.run(&[turn, 0, turn, 1], &mut sheet);
+        (ran, sheet)
+    }
+
+    // A run of a schedule.
+    fn run(&mut self, schedule: &[u8], sheet: &mut [u8]) -> Ran {
+        let ran = run::run(self.n as usize, self.table, self.tally, schedule, sheet);
+        self.tally = ran.tally;
+        ran
+    }
 }
 
 // The tests and the rounds from one tally to a later one.

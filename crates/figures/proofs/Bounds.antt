@@ -88,9 +88,6 @@ overfull-count t h =
     ∙ sym (le-ltb _ _ l))
     (λ l. let g : ltb most_results t.count ≡ true = lt-ltb most_results t.count (omega arith) in rw g)
 
-pub not-overfull : (t : Totals) → OfResults t → t.count ≤ most_results → overfull t ≡ false
-not-overfull t h l = overfull-count t h ∙ le-ltb _ _ l
-
 -- each of two batches has at most what both have
 pub overfull-joined : (a b : Totals) → overfull (joined a b) ≡ false → (overfull a ≡ false) × (overfull b ≡ false)
 unfolding joined

@@ -5,17 +5,14 @@ use Rattle.std.specs.List.{filter}
 use Rattle.std.proofs.lemmas.List.Elements.{filter-append}
 use mathlib.Core.Bool.{Bool, true, false, cond, ◌&&◌}
 use mathlib.Core.List.Memᴰ
-use mathlib.Core.List.{List, [], ◌∷◌, ◌++◌, append-nil, Memᴰ, map, map-append}
-use Prim.Native.Nat.{ℕ, zero, suc, ◌+◌, ◌≤◌, ◌<◌}
+use mathlib.Core.List.{List, [], ◌∷◌, ◌++◌, append-nil, Memᴰ}
+use Prim.Native.Nat.{ℕ, zero, suc, ◌≤◌, ◌<◌}
 use native.Mathlib.Decide.{le_ind}
-use native.Mathlib.Numerals.{add-one}
 use native.Mathlib.Omega.{arith}
-use lib.ListN.{length, set, length-append, length-map}
-use lib.Seq.{sets}
+use lib.ListN.{length, length-append}
 use Rattle.lists.specs.Search.{list_of}
 use Rattle.lists.specs.Sums.{sum_below, bit}
 use Rattle.lists.proofs.BoolLaws.{by_bool}
-use Rattle.lists.proofs.Writing.{count-if, sets-if}
 
 module _ (q : ℕ → Bool) where
   -- who is kept was there and passes
@@ -77,19 +74,3 @@ module _ (q : ℕ → Bool) where
     kept-le (suc m) =
         rw (kept-suc m) (by_bool (q (f m))
         (λ e. rw e (omega (arith, length-append (kept m) (f m ∷ []), kept-le m))) (λ e. rw (e, append-nil) (omega (arith, kept-le m))))
-
-    pub count_next : (m count r : ℕ) → count ≡ length (kept m) → r ≡ cond (q (f m)) (count + 1) count → r ≡ length (kept (m + 1))
-    count_next m count r e s = rw (add-one, kept-suc m) (count-if (q (f m)) (kept m) count (f m) r e s)
-
-    -- a list into which count of them are written
-    pub kept_next : (m count : ℕ) (l t u : List ℕ) → t ≡ sets l 0 (kept m) → count ≡ length (kept m)
-        → u ≡ cond (q (f m)) (set t count (f m)) t → u ≡ sets l 0 (kept (m + 1))
-    kept_next m count l t u e c s = rw (add-one, kept-suc m) (sets-if (q (f m)) l (kept m) t u count (f m) c e s)
-
-    -- the same of their values by g
-    pub kept-next-by : (g : ℕ → ℕ) (m count : ℕ) (l t u : List ℕ) → count ≡ length (kept m)
-        → t ≡ sets l 0 (map g (kept m)) → u ≡ cond (q (f m)) (set t count (g (f m))) t → u ≡ sets l 0 (map g (kept (m + 1)))
-    kept-next-by g m count l t u c e s =
-        let len : count ≡ length (map g (kept m)) = c ∙ sym (length-map (kept m) g) in
-        let one : map g (cond (q (f m)) (f m ∷ []) []) ≡ cond (q (f m)) (g (f m) ∷ []) [] = by_bool (q (f m)) (λ p. rw p) (λ p. rw p) in
-        rw (add-one, kept-suc m, map-append g (kept m), one) (sets-if (q (f m)) l (map g (kept m)) t u count (g (f m)) len e s)

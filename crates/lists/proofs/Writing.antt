@@ -1,7 +1,6 @@
 -- Laws of a list written into another from a place on, which is the kit's `sets`: past the end nothing is written.
 -- Assumes nothing.
 use mathlib.Core.Path.{◌≡◌, refl, ◌∙◌}
-use mathlib.Core.Bool.{Bool, true, false, cond}
 use mathlib.Core.List.{List, [], ◌∷◌, ◌++◌, append-nil, append_assoc}
 use Prim.Native.Nat.{ℕ, suc, ◌+◌, ◌≤◌}
 use native.Mathlib.Nat.{add-zero, zero-add}
@@ -23,17 +22,6 @@ pub sets-two : (l xs t : List ℕ) (count v w : ℕ) → count ≡ length xs →
 sets-two l xs t count v w c e =
     let longer : count + 1 ≡ length (xs ++ (v ∷ [])) = omega (arith, length-append xs (v ∷ [])) in
     sets-next l (xs ++ (v ∷ [])) (set t count v) (count + 1) w longer (sets-next l xs t count v c e) ∙ rw append_assoc
-
--- from the front, one more if b holds
-pub sets-if : (b : Bool) (l xs t u : List ℕ) (count v : ℕ) → count ≡ length xs → t ≡ sets l 0 xs → u ≡ cond b (set t count v) t
-    → u ≡ sets l 0 (xs ++ cond b (v ∷ []) [])
-sets-if true l xs t u count v c e s = s ∙ sets-next l xs t count v c e
-sets-if false l xs t u count v c e s = rw append-nil (s ∙ e)
-
--- how many these are
-pub count-if : (b : Bool) (xs : List ℕ) (count v r : ℕ) → count ≡ length xs → r ≡ cond b (count + 1) count → r ≡ length (xs ++ cond b (v ∷ []) [])
-count-if true xs count v r c e = omega (arith, length-append xs (v ∷ []))
-count-if false xs count v r c e = rw append-nil (e ∙ c)
 
 -- what is not yet written
 pub sets-ahead : (l xs : List ℕ) (a k : ℕ) → a + length xs ≤ k → get_or (sets l a xs) k 0 ≡ get_or l k 0

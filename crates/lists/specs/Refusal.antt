@@ -1,6 +1,6 @@
 -- Refusals in checking order, as values and as numbers, 0 for none: the first that applies, and what a refused call leaves or answers instead.
 -- Assumes nothing.
-use Rattle.std.specs.Prelude.{ℕ, zero, suc, Bool, cond, eqb, Result, Ok, Err, if◌then◌else◌}
+use Rattle.std.specs.Prelude.{ℕ, Bool, Result, Ok, Err, ◌==◌, if◌then◌else◌}
 use Rattle.std.specs.Result.{result_and}
 use Rattle.lists.specs.declared.refusal.Refusal.{Refusal}
 use Rattle.lists.specs.declared.refusal.Refusal.TheVariants.{SizeOutOfRange, TableLength, LineRule, RoundNotClosed, ScheduleLength, SheetLength, TallyFull, UnknownKind, NoSuchStation, NotLive, PassFinished, NoSuchLevel, ListLength, NoResult, TooManyResults, LastGranted, NoneLive, FieldPastEnd, SizeOrTallyField, LineField}
@@ -58,12 +58,6 @@ unless_refused (Err r) was after = was
 abbrev pub refuse : ℕ → Bool → ℕ
 refuse k b = if b then k else 0
 
--- "no earlier one that applies": the first of two refusals that is not 0
-infixr 20 ◌else◌
-abbrev pub ◌else◌ : ℕ → ℕ → ℕ
-zero else b = b
-(suc a) else b = suc a
-
 -- what a refused call (its number is not 0) leaves or answers instead
-abbrev pub unless {ℓ} : {A : Type ℓ} → ℕ → A → A → A
-unless number refused accepted = cond (eqb number 0) accepted refused
+abbrev pub unless : {A : Type 0} → ℕ → A → A → A
+unless number refused accepted = if number == 0 then accepted else refused

@@ -5,31 +5,31 @@ ghost use Rattle.lists.specs.Refusal.{number_of, number_of_result};
 use std::error::Error;
 use std::fmt;
 
-// Why a call was refused, in the order of the refusal list.
+// Why a call was refused, with its number in the refusal list.
 #[derive(Clone, Copy, Debug, PartialEq, Eq)]
 pub enum Refusal {
-    SizeOutOfRange,
-    TableLength,
-    LineRule,
-    RoundNotClosed,
-    ScheduleLength,
-    SheetLength,
-    TallyFull,
-    UnknownKind,
-    NoSuchStation,
-    NotLive,
-    PassFinished,
-    NoSuchLevel,
-    ListLength,
-    NoResult,
-    TooManyResults,
-    LastGranted,
-    NoneLive,
-    FieldPastEnd,
-    SizeOrTallyField,
-    LineField,
-    NoOpening,
-    FieldOrder,
+    SizeOutOfRange = 1,
+    TableLength = 2,
+    LineRule = 3,
+    RoundNotClosed = 4,
+    ScheduleLength = 5,
+    SheetLength = 6,
+    TallyFull = 7,
+    UnknownKind = 8,
+    NoSuchStation = 9,
+    NotLive = 10,
+    PassFinished = 11,
+    NoSuchLevel = 12,
+    ListLength = 13,
+    NoResult = 14,
+    TooManyResults = 15,
+    LastGranted = 16,
+    NoneLive = 17,
+    FieldPastEnd = 18,
+    SizeOrTallyField = 19,
+    LineField = 20,
+    NoOpening = 21,
+    FieldOrder = 22,
 }
 
 impl Refusal {
@@ -37,30 +37,7 @@ impl Refusal {
     pub fn number(self) -> u8
         ensures { result ≡ number_of self }
     {
-        match self {
-            Refusal::SizeOutOfRange => 1,
-            Refusal::TableLength => 2,
-            Refusal::LineRule => 3,
-            Refusal::RoundNotClosed => 4,
-            Refusal::ScheduleLength => 5,
-            Refusal::SheetLength => 6,
-            Refusal::TallyFull => 7,
-            Refusal::UnknownKind => 8,
-            Refusal::NoSuchStation => 9,
-            Refusal::NotLive => 10,
-            Refusal::PassFinished => 11,
-            Refusal::NoSuchLevel => 12,
-            Refusal::ListLength => 13,
-            Refusal::NoResult => 14,
-            Refusal::TooManyResults => 15,
-            Refusal::LastGranted => 16,
-            Refusal::NoneLive => 17,
-            Refusal::FieldPastEnd => 18,
-            Refusal::SizeOrTallyField => 19,
-            Refusal::LineField => 20,
-            Refusal::NoOpening => 21,
-            Refusal::FieldOrder => 22,
-        }
+        self as u8
     }
 }
 

@@ -111,9 +111,7 @@ fn bare_totals(count: u64, sum: u64) -> Totals {
     Totals {
         count,
         sum,
-        squares: 0,
-        least: 0,
-        greatest: 0,
+        ..Totals::default()
     }
 }
 

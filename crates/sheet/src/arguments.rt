@@ -124,15 +124,11 @@ fn live_boards(row: &[u8]) -> usize {
 
 // What a word of one to `most` digits says, with leading zeros or without.
 fn number(word: &[u8], most: usize) -> Option<usize> {
-    if word.is_empty() || most < word.len() {
+    // That all are digits is asked first, since `parse` takes a sign too.
+    if most < word.len() || !word.iter().all(u8::is_ascii_digit) {
         return None;
     }
-    let mut value: usize = 0;
-    for byte in word {
-        let digit = char::from(*byte).to_digit(10)?;
-        value = value.checked_mul(10)?.checked_add(digit as usize)?;
-    }
-    Some(value)
+    str::from_utf8(word).ok()?.parse().ok()
 }
 
 // How many arguments the program was started with, its own name among them.

@@ -11,9 +11,9 @@ use Rattle.std.specs.Prelude.{Ok}
 use Rattle.table.specs.Sizes.{is_size, dimension}
 use Rattle.station.specs.Groups.{group}
 use Rattle.table.specs.Table.{table_length, live}
-use Rattle.station.specs.Calls.{row_check, row_number, range_check, group_check, assignment_check}
+use Rattle.station.specs.Calls.{row_check, range_check, group_check, assignment_check}
 use Rattle.lists.proofs.BoolLaws.{neither}
-use Rattle.lists.proofs.RefusalLaws.{check_zero, ensure_ok, and_ok}
+use Rattle.lists.proofs.RefusalLaws.{ensure_ok, and_ok}
 use Rattle.table.proofs.SizeLaws.{size-bounds, size-dimension}
 use Rattle.table.proofs.Accepting.{Accepted, table_ok}
 
@@ -45,9 +45,6 @@ unfolding row_check
 row_ok n t i x e =
     let p = and_ok _ _ x e in
     (table_ok n t _ p.0, ltb-true i n (ensure_ok _ _ _ p.1))
-
-pub row_zero : (n : ℕ) (t : List ℕ) (i : ℕ) → row_number n t i ≡ 0 → Accepted n t × (i < n)
-row_zero n t i e = row_ok n t i _ (check_zero _ e)
 
 pub accepted_size : (n : ℕ) (t : List ℕ) → Accepted n t → is_size n ≡ true
 accepted_size n t a = a.size

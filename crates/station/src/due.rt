@@ -71,10 +71,11 @@ pub fn due_or_ahead_of(row: &[u8], i: Station, m: Distance) -> DueOrAhead
 fn answer_of(i: Station, x: Station) -> DueOrAhead
     ensures { answer_value result ≡ answer_of i.0 (Some x.0) }
 {
-    if x.0 == i.0 {
-        return DueOrAhead::Due;
+    if x == i {
+        DueOrAhead::Due
+    } else {
+        DueOrAhead::Ahead(x)
     }
-    DueOrAhead::Ahead(x)
 }
 
 // m with its digits below its lowest 1 all 1. Whoever stands before a station in the group at distance m does so at every distance from m to
@@ -127,6 +128,7 @@ fn write_entries(n: u8, row: &[u8], i: Station, list: &mut [u8]) -> u8
     let end = sizes::distances(n) as u8;
     let others = (1..end).filter(|m| stands(row, i, Distance(*m)));
     let mut due = 0;
+    // By places: of what is written through `chunks_exact_mut` no proof knows anything afterwards.
     for (k, m) in others.enumerate() {
         let answer = due_or_ahead(row, i, Distance(m));
         list[2 * k] = m;

@@ -83,6 +83,7 @@ fn write_group(n: u8, i: Station, s: Level, list: &mut [u8])
     let members = (0..w)
         .map(|k| order::lookup(i, Distance(w + k)).0)
         .filter(|x| *x < n);
+    // By places: of what is written through `iter_mut().zip(members)` no proof knows anything afterwards.
     for (k, x) in members.enumerate() {
         list[k] = x;
     }

@@ -50,8 +50,5 @@ pub fn join_row(row: &mut [u8], other: &[u8], own: Station)
 pub fn mark_row(row: &mut [u8], j: Station)
     ensures { row.new ≡ mark row.old j.0 }
 {
-    let k = j.0 as usize;
-    if k < row.len() {
-        row[k] = 1;
-    }
+    bytes::put(row, j.0, 1);
 }

@@ -7,7 +7,7 @@ use Rattle.std.specs.Prelude.{None, Some}
 use Prim.Native.Nat.{ℕ, suc, ◌+◌, ◌*◌, ◌-◌, ◌^◌, ◌≤◌, ◌<◌}
 use native.Mathlib.Numerals.{add-one}
 use native.Mathlib.Omega.{arith}
-use borrow.Author.Tests.{le-leb, lt-leb, leb-true}
+use borrow.Author.Tests.{le-leb, leb-true}
 use lib.Dec.{leb}
 use lib.ListN.{length, get_or, drop, drop_of_length-le}
 use lib.Seq.{drop-cons}
@@ -28,15 +28,7 @@ pub digits-done : (l : List ℕ) (i v : ℕ) → length l ≤ i → digits_from 
 unfolding digits_from
 digits-done l i v h = rw (drop_of_length-le l {i = i} h)
 
--- how long a number is
-pub number-empty : (most : ℕ) (l : List ℕ) → length l < 1 → number_of most l ≡ None
-unfolding number_of
-number-empty most l h = rw (lt-leb 1 (length l) h)
-
-pub number-long : (most : ℕ) (l : List ℕ) → 1 ≤ length l → most < length l → number_of most l ≡ None
-unfolding number_of
-number-long most l a b = rw (le-leb 1 (length l) a, lt-leb (length l) most b)
-
+-- digits that are neither none nor too many
 pub number_digits : (most : ℕ) (l : List ℕ) → 1 ≤ length l → length l ≤ most → number_of most l ≡ digits_from 0 l
 unfolding number_of
 number_digits most l a b = rw (le-leb 1 (length l) a, le-leb (length l) most b)

@@ -2,15 +2,15 @@
 -- Assumes nothing.
 use mathlib.Core.Path.{◌≡◌, refl, sym, ap, ◌∙◌}
 use mathlib.Core.Bool.{Bool, true, false, cond}
-use mathlib.Core.List.{List, [], ◌∷◌, ◌++◌, append_assoc}
+use mathlib.Core.List.{List, [], ◌∷◌, ◌++◌}
 use Rattle.std.specs.Prelude.{Option, None, Some, option_and_then, option_map, Err}
 use Prim.Native.Nat.{ℕ, suc, ◌+◌, ◌*◌, ◌-◌, ◌≤◌, ◌<◌}
 use native.Mathlib.Numerals.{add-one}
 use native.Mathlib.Omega.{arith}
 use borrow.Author.Tests.{eq-eqb, ne_eqb, ltb-true}
 use lib.Dec.{ltb, eqb}
-use lib.ListN.{length, get_or, set, take, drop, length-set, length-append, drop_of_length-le, take-append-drop}
-use lib.Seq.{take_all, drop-drop, drop-set-lt, take-suc-set, length-take-le, sets}
+use lib.ListN.{length, get_or, take, drop, length-append, drop_of_length-le, take-append-drop}
+use lib.Seq.{take_all, drop-drop, length-take-le, sets}
 use Rattle.watch.specs.Input.{given, lines, line_length, digits_from, number_of, size_of, kind_of, entry_of, Reading, reading_of, read_entries}
 use Rattle.watch.specs.Input.{read_lines, read_up_to, answer_of}
 use Rattle.watch.proofs.LineLaws.{lines-first}
@@ -59,18 +59,6 @@ taken-has k room l e = go (ltb k room) refl
     go : (b : Bool) → ltb k room ≡ b → cond b (entry_of l) None ≡ Some e → (k < room) × (length l ≤ 4)
     go true t p = (ltb-true k room t, entry_has l e p)
     go false t p = let z : ◌≡◌ {A = ℕ} 0 1 = cc in absurd (omega arith)
-
--- two bytes written one by one
-module _ (s : List ℕ) (a x y : ℕ) (h : a + 2 ≤ length s) where
-  pub pair-take : take (a + 2) (set (set s a x) (a + 1) y) ≡ take a s ++ (x ∷ y ∷ [])
-  pair-take =
-      let e : a + 2 ≡ suc (suc a) = omega arith in
-      let p = take-suc-set (set s a x) (suc a) y (rw length-set (omega arith)) in
-      let q = take-suc-set s a x (omega arith) in
-      rw (e, add-one, p, q, append_assoc)
-
-  pub pair-drop : drop (a + 2) (set (set s a x) (a + 1) y) ≡ drop (a + 2) s
-  pair-drop = drop-set-lt (a + 2) (set s a x) (a + 1) y (omega arith) ∙ drop-set-lt (a + 2) s a x (omega arith)
 
 -- reading goes on at the bytes `rest`, where k entries are the front of the schedule s. In the shapes of the loop: `o` is what the first line
 -- was read as where there is room for r entries, and `after` is what follows that line

@@ -20,9 +20,8 @@ use Rattle.plant.specs.Entry.{State, state_of}
 use Rattle.plant.specs.Run.{Outcome, outcome_with, start_check, run}
 use Rattle.watch.specs.declared.input.Parsed.{Parsed}
 use Rattle.watch.specs.declared.input.Unread.{Unread}
-use Rattle.watch.specs.declared.watched.Report.TheVariants.{Unread as ReportUnread, Ran}
 use Rattle.watch.specs.Input.{Reading, room_for, read_input, read_into, answer_of}
-use Rattle.watch.specs.Watched.{watched_with, run_answer, carried_out, watched}
+use Rattle.watch.specs.Watched.{Answer, said, says_run, said_with, watched_with, run_answer, carried_out, watched}
 use Rattle.watch.proofs.ReadLaws.{read_fits}
 
 -- a run of what is no size is refused, whatever the table
@@ -53,21 +52,21 @@ carried-refused n schedule lent e = rw (size-refused n (state_of (fresh_table n)
 pub carried : (n : ℕ) (t schedule lent : List ℕ) (r : RanPlant) (t' s' : List ℕ) (k : ℕ)
     → (is_size n ≡ true → length t ≡ table_length n) → k ≡ 2 * length schedule → length s' ≡ k → k ≤ length lent
     → outcome_with r t' s' ≡ run n (state_of (fresh_after n t) 0 0) schedule (take k lent)
-    → watched_with (Ran r) (s' ++ drop k lent) ≡ carried_out n schedule lent
+    → watched_with (Ok r) (s' ++ drop k lent) ≡ carried_out n schedule lent
 unfolding fresh_after shape_check
 carried n t schedule lent r t' s' k shaped twice long fits e = pick (is_size n) refl
   where
     front : sets lent 0 s' ≡ s' ++ drop k lent
     front = rw (← long) (sets-front lent s' (omega arith))
 
-    pick : (b : Bool) → is_size n ≡ b → watched_with (Ran r) (s' ++ drop k lent) ≡ carried_out n schedule lent
+    pick : (b : Bool) → is_size n ≡ b → watched_with (Ok r) (s' ++ drop k lent) ≡ carried_out n schedule lent
     pick true y =
         let f : fresh_after n t ≡ fresh_table n = rw (y, eq-eqb (length t) (table_length n) (shaped y)) in
         let g = rw f at e in
         rw (← twice, ← g) (rw (sym front))
     pick false y =
         let g = e ∙ size-refused n (state_of (fresh_after n t) 0 0) schedule (take k lent) y in
-        let p : said (Ran r) ≡ says_run refused = ap (λ (o : Outcome). says_run (run_answer o)) g in
+        let p : said (Ok r) ≡ says_run refused = ap (λ (o : Outcome). says_run (run_answer o)) g in
         let q : s' ≡ take k lent = ap (λ (o : Outcome). o.sheet) g in
         rw (carried-refused n schedule lent y, p, q, take-append-drop)
 
@@ -105,7 +104,7 @@ module _ (lent input schedule₀ schedule : List ℕ) (room : length schedule₀
   whole : read_into schedule₀ input ≡ read_input input
   whole = let e : room_for (length schedule₀) ≡ 4096 = omega arith in rw e
 
-  pub watched_unread : (u : Unread) → Err u ≡ answer_of (read_into schedule₀ input) → watched_with (ReportUnread u.line) lent ≡ watched lent input
+  pub watched_unread : (u : Unread) → Err u ≡ answer_of (read_into schedule₀ input) → watched_with (Err u) lent ≡ watched lent input
   unfolding watched
   watched_unread u e = let f = answer-err (read_input input) u (rw whole at e) in rw (f.0, f.1)
 

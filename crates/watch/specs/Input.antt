@@ -2,6 +2,8 @@
 -- Assumes nothing.
 use Rattle.std.specs.Prelude.{ℕ, suc, ◌+◌, ◌*◌, ◌-◌, ◌/◌, min, Bool, ◌&&◌, List, [], ◌∷◌, ◌++◌, length, nat_lt, nat_le}
 use Rattle.std.specs.Prelude.{Option, None, Some, option_and_then, option_map, Result, Ok, Err, if◌then◌else◌, ◌==◌}
+use Rattle.turn.specs.Kind.{kind_byte}
+use Rattle.watch.specs.declared.input.Entry.{Entry}
 use Rattle.watch.specs.declared.input.Parsed.{Parsed}
 use Rattle.watch.specs.declared.input.Unread.{Unread}
 
@@ -56,6 +58,10 @@ entry_of [] = None
 entry_of (letter ∷ []) = None
 entry_of (letter ∷ space ∷ digits) =
     if space == 32 then option_and_then (λ kind. option_map (λ station. (kind, station)) (number_of 2 digits)) (kind_of letter) else None
+
+-- the same of an entry as a value
+abbrev pub pair_of : Entry → ℕ × ℕ
+pair_of e = (kind_byte e.kind, e.station.0)
 
 -- what is read: the number of the first unreadable line, from 1, or 0 where there is none; the size; and the entries before that line, how
 -- many there are and their bytes, which are a schedule

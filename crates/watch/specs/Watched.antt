@@ -1,13 +1,13 @@
 -- Document 01, the run program: what comes of its standard input, for all inputs.
 -- Assumes nothing.
-use Rattle.std.specs.Prelude.{ℕ, ◌*◌, List, length, take, if◌then◌else◌, ◌==◌}
+use Rattle.std.specs.Prelude.{ℕ, ◌*◌, List, length, take, Result, Ok, Err, if◌then◌else◌, ◌==◌}
 use Rattle.std.proofs.lemmas.List.Edits.{sets}
 use Rattle.table.specs.Fresh.{fresh_table}
+use Rattle.plant.specs.declared.Ran.{Ran}
 use Rattle.plant.specs.declared.Tally.{Tally}
 use Rattle.plant.specs.Entry.{state_of}
 use Rattle.plant.specs.Run.{Outcome, stop_number, run}
-use Rattle.watch.specs.declared.watched.Report.{Report}
-use Rattle.watch.specs.declared.watched.Report.TheVariants.{Unread, Ran}
+use Rattle.watch.specs.declared.input.Unread.{Unread}
 use Rattle.watch.specs.Input.{Reading, read_input}
 
 -- a run "answers the number (0 or a refusal), how many entries were taken, and the tally"
@@ -21,10 +21,10 @@ pub data Said : Type 0 where
   says_unread : ℕ → Said
   says_run : Answer → Said
 
--- what a report says
-abbrev pub said : Report → Said
-said (Unread line) = says_unread line
-said (Ran r) = says_run (record { number = stop_number r.stopped; taken = r.taken; tally = r.tally })
+-- what an answer says
+abbrev pub said : Result Ran Unread → Said
+said (Err u) = says_unread u.line
+said (Ok r) = says_run (record { number = stop_number r.stopped; taken = r.taken; tally = r.tally })
 
 -- what comes of an input: what is printed, and the sheet, of which the lines of the entries taken are printed
 pub record Watched : Type 0 where
@@ -34,8 +34,8 @@ pub record Watched : Type 0 where
 abbrev pub said_with : Said → List ℕ → Watched
 said_with r sheet = record { report = r; sheet = sheet }
 
--- a report, and the sheet as it is left
-abbrev pub watched_with : Report → List ℕ → Watched
+-- an answer, and the sheet as it is left
+abbrev pub watched_with : Result Ran Unread → List ℕ → Watched
 watched_with r sheet = said_with (said r) sheet
 
 -- what a run with this outcome answers

@@ -1,10 +1,13 @@
 // What standard input holds (document 01, the run program): lines, the size, the entries. The one call is `parse`.
-ghost use Rattle.std.specs.Prelude.{◌≡◌, [], ◌∷◌, ◌++◌, ◌+◌, ◌*◌, ◌≤◌, suc, length, take, drop, None, if◌then◌else◌, nat_lt};
+ghost use Rattle.std.specs.Prelude.{◌≡◌, [], ◌∷◌, ◌++◌, ◌+◌, ◌*◌, ◌≤◌, suc, length, take, drop, None, option_map, if◌then◌else◌, nat_lt};
 ghost use Rattle.std.proofs.lemmas.List.Edits.{sets};
-ghost use Rattle.watch.specs.Input.{lines, line_length, number_of, kind_of, entry_of, answer_of, read_entries, room_for, read_into};
+ghost use Rattle.turn.specs.Kind.{kind_byte};
+ghost use Rattle.watch.specs.Input.{lines, line_length, number_of, kind_of, entry_of, pair_of, answer_of, read_entries, room_for, read_into};
 
 use std::error::Error;
 use std::fmt;
+use table::Station;
+use turn::kind::Kind;
 
 // What was read: the size, and how many entries.
 #[derive(Clone, Copy, Debug, PartialEq, Eq)]
@@ -27,6 +30,22 @@ impl fmt::Display for Unread {
 }
 
 impl Error for Unread {}
+
+// An entry of the schedule.
+#[derive(Clone, Copy, Debug, PartialEq, Eq)]
+struct Entry {
+    kind: Kind,
+    station: Station,
+}
+
+impl Entry {
+    // Its bytes in a schedule.
+    fn bytes(self) -> [u8; 2]
+        ensures { result ≡ kind_byte self.kind ∷ self.station.0 ∷ [] }
+    {
+        [u8::from(self.kind), self.station.0]
+    }
+}
 
 // Reads the whole input. The entries before the first unreadable line go into the schedule, two bytes each, and its rest is unchanged. An
 // entry for which the schedule has no room counts as unreadable.
@@ -57,14 +76,14 @@ fn read_entries(input: &[u8], size: usize, schedule: &mut [u8]) -> Result<Parsed
     let mut entries: usize = 0;
     while !rest.is_empty() {
         let (line, after) = split_line(rest);
-        let Some((kind, station)) = entry_with_room(entries, room, line) else {
+        let Some(entry) = entry_with_room(entries, room, line) else {
             let before = Parsed { size, entries };
             return Err(Unread {
                 line: entries + 2,
                 before,
             });
         };
-        put_entry(schedule, entries, kind, station);
+        put_entry(schedule, entries, entry);
         entries += 1;
         rest = after;
     }
@@ -78,14 +97,15 @@ fn room_for(len: usize) -> usize
     (len / 2).min(4096)
 }
 
-// Writes entry k of a schedule.
-fn put_entry(schedule: &mut [u8], k: usize, kind: u8, station: u8)
+// Writes entry k of a schedule. By its place: of what is written through `chunks_exact_mut`, or through a cursor that `split_first_chunk_mut`
+// moves on, no proof knows anything after the loop.
+fn put_entry(schedule: &mut [u8], k: usize, entry: Entry)
     requires { 2 * k + 2 ≤ length schedule.old }
-    ensures schedule_after { take (2 * k + 2) schedule.new ≡ take (2 * k) schedule.old ++ (kind ∷ station ∷ []) }
+    ensures schedule_after { take (2 * k + 2) schedule.new
+        ≡ take (2 * k) schedule.old ++ (kind_byte entry.kind ∷ entry.station.0 ∷ []) }
     ensures schedule_unchanged { drop (2 * k + 2) schedule.new ≡ drop (2 * k + 2) schedule.old }
 {
-    schedule[2 * k] = kind;
-    schedule[2 * k + 1] = station;
+    schedule[2 * k..2 * k + 2].copy_from_slice(&entry.bytes());
 }
 
 // The first line, and what follows its line feed: nothing where it has none.
@@ -111,34 +131,37 @@ fn line_end(bytes: &[u8]) -> usize
 }
 
 // The entry of a line, where k entries were read and there is room for one more.
-fn entry_with_room(k: usize, room: usize, line: &[u8]) -> Option<(u8, u8)>
-    ensures { result ≡ if nat_lt k room then entry_of line.now else None }
+fn entry_with_room(k: usize, room: usize, line: &[u8]) -> Option<Entry>
+    ensures { option_map pair_of result ≡ if nat_lt k room then entry_of line.now else None }
 {
     if k < room { read_entry(line) } else { None }
 }
 
-// The entry of a line, if it is one: its kind and its station.
+// The entry of a line, if it is one.
 #[tactic(auto, using(crate::proofs::ReadLaws::entry_short, crate::proofs::ReadLaws::entry_unspaced, crate::proofs::ReadLaws::entry_spaced, crate::proofs::NumberLaws::number_two))]
-fn read_entry(line: &[u8]) -> Option<(u8, u8)>
-    ensures { result ≡ entry_of line.now }
+fn read_entry(line: &[u8]) -> Option<Entry>
+    ensures { option_map pair_of result ≡ entry_of line.now }
 {
     let [letter, b' ', digits @ ..] = line else {
         return None;
     };
     let kind = kind_of(*letter)?;
     let station = read_number(digits, 2)?;
-    Some((kind, station as u8))
+    Some(Entry {
+        kind,
+        station: Station(station as u8),
+    })
 }
 
 // The kind of a letter, if it is T, L or C.
 #[tactic(auto, unfolding(crate::specs::Input::kind_of))]
-fn kind_of(letter: u8) -> Option<u8>
-    ensures { result ≡ kind_of letter }
+fn kind_of(letter: u8) -> Option<Kind>
+    ensures { option_map kind_byte result ≡ kind_of letter }
 {
     match letter {
-        b'T' => Some(1),
-        b'L' => Some(2),
-        b'C' => Some(3),
+        b'T' => Some(Kind::Turn),
+        b'L' => Some(Kind::LateReply),
+        b'C' => Some(Kind::Crash),
         _ => None,
     }
 }
@@ -151,6 +174,7 @@ fn read_number(digits: &[u8], most: usize) -> Option<usize>
     if digits.is_empty() || most < digits.len() {
         return None;
     }
+    // By hand, since `parse` takes a sign too: behind a test that all are digits it would go over them again.
     let mut value: usize = 0;
     for &b in digits {
         if !b.is_ascii_digit() {

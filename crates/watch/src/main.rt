@@ -23,8 +23,8 @@ fn main(rt: HostRuntime) {
     let mut table = [0u8; cells::GREATEST_TABLE];
     let mut sheet = [0u8; 16384];
     let got = read_full(&mut rt.stdin(), &mut buffer);
-    let report = watched::watch_plant(&buffer[..got], &mut schedule, &mut table, &mut sheet);
-    print::print_report(&rt, &sheet, report);
+    let answer = watched::watch_plant(&buffer[..got], &mut schedule, &mut table, &mut sheet);
+    print::print_answer(&rt, &sheet, answer);
 }
 
 // Reads until buf is full, the input ends or a read fails, and answers how many bytes it put at the start of buf: the front of the input.

@@ -1,15 +1,15 @@
 // What the run program prints (document 01). No contract can say what is written; these functions are safe. What cannot be written is left
 // out, and what follows is tried all the same.
-use crate::watched::Report;
+use crate::input::Unread;
 use plant::{Ran, Tally};
 
-// What is printed of a report and the sheet.
-pub fn print_report(rt: &impl Print, sheet: &[u8; 16384], report: Report) {
-    match report {
-        Report::Unread(line) => {
-            let _ = println!(rt; "unread {line}");
+// What is printed of an answer and the sheet.
+pub fn print_answer(rt: &impl Print, sheet: &[u8; 16384], answer: Result<Ran, Unread>) {
+    match answer {
+        Ok(ran) => print_run(rt, sheet, ran),
+        Err(unread) => {
+            let _ = println!(rt; "{unread}");
         }
-        Report::Ran(ran) => print_run(rt, sheet, ran),
     }
 }
 

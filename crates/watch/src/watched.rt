@@ -1,5 +1,5 @@
 // What comes of an input (document 01, the run program): it is read, and its schedule is carried out on a fresh table with zero tallies.
-ghost use Rattle.std.specs.Prelude.{◌≡◌, ℕ, List, ◌++◌, true, ◌*◌, ◌≤◌, length, take};
+ghost use Rattle.std.specs.Prelude.{◌≡◌, ℕ, List, ◌++◌, Ok, true, ◌*◌, ◌≤◌, length, take};
 ghost use Rattle.table.specs.Sizes.{is_size};
 ghost use Rattle.table.specs.Table.{greatest_table, table_length};
 ghost use Rattle.table.specs.Fresh.{fresh_after};
@@ -7,58 +7,45 @@ ghost use Rattle.plant.specs.Entry.{state_of};
 ghost use Rattle.plant.specs.Run.{outcome_with, run};
 ghost use Rattle.watch.specs.Watched.{watched_with, carried_out, watched, deciding};
 
-use crate::input;
+use crate::input::{self, Parsed, Unread};
 use plant::{Ran, Tally, run};
 use table::{cells, fresh, sizes};
 
-// What is printed: the number of the first unreadable line, or how the run went.
-#[derive(Clone, Copy, Debug, PartialEq, Eq)]
-pub enum Report {
-    Unread(usize),
-    Ran(Ran),
-}
-
-// Reads an input and carries its schedule out.
+// Reads an input and carries its schedule out; answers how the run went, or the first unreadable line.
 pub fn watch_plant(
     input: &[u8],
     schedule: &mut [u8; 8192],
     table: &mut [u8; cells::GREATEST_TABLE],
     sheet: &mut [u8; 16384],
-) -> Report
+) -> Result<Ran, Unread>
     ensures value { watched_with result sheet.new ≡ watched sheet.old input.now }
 
     // What follows so many bytes does not matter.
     ensures decided { (rest : List ℕ) → length input.now ≡ deciding
         → watched_with result sheet.new ≡ watched sheet.old (input.now ++ rest) }
 {
-    let parsed = match input::parse(input, schedule) {
-        Ok(parsed) => parsed,
-        Err(unread) => return Report::Unread(unread.line),
-    };
-    carry_out(parsed.size, parsed.entries, schedule, table, sheet)
+    let parsed = input::parse(input, schedule)?;
+    Ok(carry_out(parsed, schedule, table, sheet))
 }
 
 // Carries the entries of the schedule out on the parts of table and sheet that they take.
-fn carry_out(
-    size: usize,
-    entries: usize,
-    schedule: &[u8],
-    table: &mut [u8],
-    sheet: &mut [u8],
-) -> Report
-    requires { (2 * entries ≤ length schedule.now) × (greatest_table ≤ length table.old) × (4 * entries ≤ length sheet.old) }
-    ensures { watched_with result sheet.new ≡ carried_out size (take (2 * entries) schedule.now) sheet.old }
+fn carry_out(parsed: Parsed, schedule: &[u8], table: &mut [u8], sheet: &mut [u8]) -> Ran
+    requires schedule_len { 2 * parsed.entries ≤ length schedule.now }
+    requires table_len { greatest_table ≤ length table.old }
+    requires sheet_len { 4 * parsed.entries ≤ length sheet.old }
+    ensures { watched_with (Ok result) sheet.new
+        ≡ carried_out parsed.size (take (2 * parsed.entries) schedule.now) sheet.old }
 {
+    let Parsed { size, entries } = parsed;
     let used = 2 * entries;
     let long = table_part(size);
     let filled = 4 * entries;
-    let ran = run_fresh(
+    run_fresh(
         size,
         &schedule[..used],
         &mut table[..long],
         &mut sheet[..filled],
-    );
-    Report::Ran(ran)
+    )
 }
 
 // Makes the table fresh and runs the schedule with zero tallies.
@@ -71,7 +58,8 @@ fn run_fresh(size: usize, schedule: &[u8], table: &mut [u8], sheet: &mut [u8]) -
 
 // The length of the part of the table that a plant of this size has; 0 for what is no size.
 fn table_part(size: usize) -> usize
-    ensures { (is_size size ≡ true → result ≡ table_length size) × (result ≤ greatest_table) }
+    ensures value { is_size size ≡ true → result ≡ table_length size }
+    ensures upper_bound { result ≤ greatest_table }
 {
     if !sizes::is_size(size) {
         return 0;

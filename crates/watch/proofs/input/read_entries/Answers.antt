@@ -1,6 +1,6 @@
 -- Where reading stops, the entries read are the front of the schedule; else the entry's bytes stand behind them.
-use Rattle.std.proofs.Common.{◌≡◌, ◌<◌, ◌*◌, [], length, take, ◌+◌, sym, ◌∙◌, arith}
-use Rattle.watch.specs.Input.{lines, reading_of, room_for, read_entries}
+use Rattle.std.proofs.Common.{◌≡◌, ◌<◌, ◌*◌, [], length, take, ◌+◌, sym, ap, ◌∙◌, arith, option_map}
+use Rattle.watch.specs.Input.{lines, pair_of, reading_of, room_for, read_entries}
 use Rattle.watch.proofs.ReadLaws.{read_done, read-stop, read_next, has_room, rest-kept, sets-part, answer_stop}
 use Rattle.watch.proofs.input.read_entries.Goals as goal
 
@@ -11,7 +11,7 @@ stopped : (c : goal.In_default)
 stopped c =
     let l = c.loop-rest in
     let some : 0 < length l.rest.now = grind arith in
-    sym l.invariant.read ∙ read-stop _ _ l.entries l.schedule l.rest.now _ _ c.split_line.result.1.now _ some l.invariant.room c.split_line.ensures.line c.entry_with_room.ensures c.in_default.is
+    sym l.invariant.read ∙ read-stop _ _ l.entries l.schedule l.rest.now _ _ c.split_line.result.1.now _ some l.invariant.room c.split_line.ensures.line c.entry_with_room.ensures (ap (option_map pair_of) c.in_default.is)
 
 pub returns-in_default-clause-answer : goal.returns-in_default-clause-answer
 returns-in_default-clause-answer c = rw (stopped c) (answer_stop c.args.size c.loop-rest.entries (take (2 * c.loop-rest.entries) c.loop-rest.schedule))
@@ -27,9 +27,10 @@ loop-rest-preserved c =
     let some : 0 < length l.rest.now = grind arith in
     let first = c.split_line.ensures in
     let told = c.entry_with_room.ensures in
-    let h = has_room _ c.args.size l.entries l.schedule l.rest.now _ _ c.split_line.result.1.now _ some l.invariant.room first.line told _ c.in-Some.is in
+    let some-is = ap (option_map pair_of) c.in-Some.is in
+    let h = has_room _ c.args.size l.entries l.schedule l.rest.now _ _ c.split_line.result.1.now _ some l.invariant.room first.line told _ some-is in
     let w = c.put_entry.ensures in
-    let next = read_next _ c.args.size l.entries l.schedule l.rest.now _ _ _ _ some l.invariant.room first.line told _ _ _ c.in-Some.is first.rest w.schedule_after in
+    let next = read_next _ c.args.size l.entries l.schedule l.rest.now _ _ _ _ some l.invariant.room first.line told _ _ _ some-is first.rest w.schedule_after in
     record {
       few = omega (arith, h);
       room = l.invariant.room;

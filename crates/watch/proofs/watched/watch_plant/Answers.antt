@@ -1,29 +1,28 @@
 -- The schedule has room for all that the document allows, and the entries read fit it.
-use Rattle.std.proofs.Common.{◌≡◌, sym, ◌∙◌, arith}
+use Rattle.std.proofs.Common.{◌≡◌, Ok, sym, ◌∙◌, arith}
+use Rattle.std.proofs.lemmas.Result.{err_from_is_err_and}
 use Rattle.watch.specs.Watched.{watched_with, watched}
-use Rattle.watch.specs.declared.watched.Report.TheVariants.{Unread}
 use Rattle.watch.proofs.Buffer.{decided}
 use Rattle.watch.proofs.WatchLaws.{entries_within, watched_unread, watched_ran}
 use Rattle.watch.proofs.watched.watch_plant.Goals as goal
 
-unread : (c : goal.In-Err) → watched_with (Unread c.in-Err.unread.line) c.args.sheet.now ≡ watched c.args.sheet.now c.args.input.now
-unread c =
+pub returns-in_err-parsed : goal.returns-in_err-parsed
+returns-in_err-parsed c =
     let e = c.parse.ensures in
-    watched_unread _ c.args.input.now _ _ c.told-schedule e.schedule_after _ (sym c.in-Err.is ∙ e.answer)
-
-pub returns-in-Err : goal.returns-in-Err
-returns-in-Err c = record { value = unread c; decided = λ rest n. unread c ∙ decided _ _ rest n }
+    let p = err_from_is_err_and c.from_residual.result c.from_residual.ensures.1 in
+    let unread = watched_unread c.args.sheet.now c.args.input.now _ _ c.told-schedule e.schedule_after c.in_err-parsed.field-0.0 (sym c.in_err-parsed.was ∙ e.answer) in
+    rw (p.1, p.2) (record { value = unread; decided = λ rest n. unread ∙ decided _ _ rest n })
 
 pub carry_out-requires : goal.carry_out-requires
 carry_out-requires c =
     let e = c.parse.ensures in
-    let h = entries_within c.args.sheet.now c.args.input.now _ _ c.told-schedule e.schedule_after _ (sym c.in-Ok.is ∙ e.answer) in
-    (omega arith, omega arith, omega arith)
+    let h = entries_within c.args.sheet.now c.args.input.now _ _ c.told-schedule e.schedule_after _ (sym c.in_ok-parsed.was ∙ e.answer) in
+    record { schedule_len = omega arith; table_len = omega arith; sheet_len = omega arith }
 
-ran : (c : goal.After-carry_out) → watched_with c.carry_out.result c.carry_out.new.sheet ≡ watched c.args.sheet.now c.args.input.now
+ran : (c : goal.After-carry_out) → watched_with (Ok c.carry_out.result) c.carry_out.new.sheet ≡ watched c.args.sheet.now c.args.input.now
 ran c =
     let e = c.parse.ensures in
-    c.carry_out.ensures ∙ watched_ran _ c.args.input.now _ _ c.told-schedule e.schedule_after _ (sym c.in-Ok.is ∙ e.answer)
+    c.carry_out.ensures ∙ watched_ran _ c.args.input.now _ _ c.told-schedule e.schedule_after _ (sym c.in_ok-parsed.was ∙ e.answer)
 
 pub returns : goal.returns
 returns c = record { value = ran c; decided = λ rest n. ran c ∙ decided _ _ rest n }
