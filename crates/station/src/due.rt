@@ -8,7 +8,8 @@ ghost use Rattle.station.specs.Calls.{answer_value, other_distances, assignment_
 
 use crate::{DueOrAhead, groups, order, rows};
 use lists::refusal::Refusal;
-use table::{Distance, Station, inside, rules, sizes};
+use table::lent::Table;
+use table::{Distance, Station, rules, sizes};
 
 // Whether the row leaves station x not suspected. Past the row's end a station is absent. By an index: with `get` drives were slower.
 fn is_unsuspected(row: &[u8], x: Station) -> bool
@@ -97,8 +98,11 @@ pub fn assignment(n: usize, table: &[u8], i: Station, list: &mut [u8]) -> Result
     ensures list_after { list.new ≡ assignment_after n table.now i.0 list.old }
 {
     check_assignment(n, table, i, list.len())?;
-    let count = write_entries(n as u8, inside::row(n as u8, table, i), i, list);
-    Ok(count)
+    let lent = Table {
+        n: n as u8,
+        bytes: table,
+    };
+    Ok(write_entries(lent.n, lent.row(i), i, list))
 }
 
 // Refusals 1 to 4, 9, 10, 13.

@@ -5,7 +5,8 @@ ghost use Rattle.station.specs.Calls.{row_check, row_part, row_offset};
 
 use lists::bytes;
 use lists::refusal::Refusal;
-use table::{Station, inside, rules};
+use table::lent::Table;
+use table::{Station, rules};
 
 // The row of station i, as that very part of the table: its bytes, and its place in the lent memory. Refused: the empty part.
 #[tactic(auto, using(crate::proofs::Refusals::row_ok, crate::proofs::Refusals::accepted_top, crate::proofs::Refusals::accepted_long), unfolding(crate::specs::Calls::row_part, crate::specs::Calls::row_offset))]
@@ -14,7 +15,11 @@ pub fn row(n: usize, table: &[u8], i: Station) -> &[u8]
     ensures ref_ptr_value { (result.ref_ptr.0 ≡ table.entry.ref_ptr.0) × (result.ref_ptr.1 ≡ table.entry.ref_ptr.1 + row_offset n table.now i.0) }
 {
     match check_row(n, table, i) {
-        Ok(()) => inside::row(n as u8, table, i),
+        Ok(()) => Table {
+            n: n as u8,
+            bytes: table,
+        }
+        .row(i),
         Err(_) => &table[0..0],
     }
 }

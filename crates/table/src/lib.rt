@@ -1,12 +1,11 @@
 // The lent table of the vCube watch (document 01, "The lent table"): its layout, line rules, refusals 1 to 4, the fresh table, bytes and rows.
 //
 // The call of document 01 is fresh::fresh_table. The rest is open for the crates above. No function open to a caller has a `requires`, but for
-// those of `lent` and `inside`, which are meant for crates that have checked the table.
+// those of `lent`, which are meant for crates that have checked the table.
 #![tactic(auto)]
 
 pub mod cells;
 pub mod fresh;
-pub mod inside;
 pub mod lent;
 pub mod rules;
 pub mod sizes;

@@ -48,6 +48,9 @@ pub fn table_number(n: usize, table: &[u8]) -> u8
     refusal::number_of(check_table(n, table))
 }
 
+// This function and the two below ask nothing of size and table, as each that is open to a caller: a byte past the end counts as 0. The methods of
+// `Table`, by which a run reads its table, ask that the line is there and make no test of the place.
+//
 // Whether station i is live.
 pub fn is_live(n: u8, table: &[u8], i: Station) -> bool
     ensures { result ≡ live n table.now i.0 }
