@@ -5,6 +5,7 @@
 use granter::{Driven, drive, grant};
 use plant::{Tally, run};
 use table::{cells, fresh};
+use turn::kind::Kind;
 
 // The lengths of tables of two and of eight boards.
 const TWO: usize = 2 * (2 + cells::HEAD as usize);
@@ -15,6 +16,9 @@ const EIGHT: usize = 8 * (8 + cells::HEAD as usize);
 const ZERO_OF_ONE: usize = cells::HEAD as usize + 1;
 
 const ONE_OF_ZERO: usize = 2 + cells::HEAD as usize + cells::HEAD as usize;
+
+// The last granted number where none was granted before.
+const NO_LAST: usize = 255;
 
 // What one print cannot write is left out, and the next is tried all the same.
 fn main(rt: HostRuntime) {
@@ -41,8 +45,8 @@ fn four_crashed(rt: &impl Print) {
     let mut driven = [0u8; EIGHT];
     let _ = fresh::fresh_table(8, &mut by_turns);
     let _ = fresh::fresh_table(8, &mut driven);
-    entry_of(rt, &mut by_turns, tally_of(0, 0), 3, 4);
-    entry_of(rt, &mut driven, tally_of(0, 0), 3, 4);
+    entry_of(rt, &mut by_turns, Tally::default(), Kind::Crash, 4);
+    entry_of(rt, &mut driven, Tally::default(), Kind::Crash, 4);
     both_ways(rt, &mut by_turns, &mut driven);
 }
 
@@ -50,7 +54,7 @@ fn four_crashed(rt: &impl Print) {
 // other; then whether both tables are still the same.
 fn both_ways(rt: &impl Print, by_turns: &mut [u8], driven: &mut [u8]) {
     tally_line(rt, granted_round(rt, by_turns));
-    drive_line(rt, drive::drive(8, driven, tally_of(0, 0), 255));
+    drive_line(rt, drive::drive(8, driven, Tally::default(), NO_LAST));
     tables_line(rt, by_turns, driven);
 }
 
@@ -67,8 +71,8 @@ fn tables_line(rt: &impl Print, first: &[u8], second: &[u8]) {
 
 // Grant and turn on a table of eight, a line for each, until the round closes or a grant is refused.
 fn granted_round(rt: &impl Print, table: &mut [u8]) -> Tally {
-    let mut tally = tally_of(0, 0);
-    let mut last: usize = 255;
+    let mut tally = Tally::default();
+    let mut last = NO_LAST;
     for _ in 0..64 {
         if tally.rounds != 0 {
             return tally;
@@ -77,7 +81,7 @@ fn granted_round(rt: &impl Print, table: &mut [u8]) -> Tally {
             return tally;
         };
         last = to.0 as usize;
-        tally = entry_of(rt, table, tally, 1, to.0);
+        tally = entry_of(rt, table, tally, Kind::Turn, to.0);
     }
     tally
 }
@@ -86,33 +90,35 @@ fn granted_round(rt: &impl Print, table: &mut [u8]) -> Tally {
 fn rest_of_a_round(rt: &impl Print) {
     let mut table = [0u8; EIGHT];
     let _ = fresh::fresh_table(8, &mut table);
-    let tally = entry_of(rt, &mut table, tally_of(0, 0), 1, 5);
-    drive_line(rt, drive::drive(8, &mut table, tally, 255));
+    let tally = entry_of(rt, &mut table, Tally::default(), Kind::Turn, 5);
+    drive_line(rt, drive::drive(8, &mut table, tally, NO_LAST));
 }
 
 // One entry on a table of eight; of a turn, its line of the sheet is printed.
-fn entry_of(rt: &impl Print, table: &mut [u8], tally: Tally, kind: u8, i: u8) -> Tally {
-    let schedule = [kind, i];
+fn entry_of(rt: &impl Print, table: &mut [u8], tally: Tally, kind: Kind, i: u8) -> Tally {
+    let schedule = [u8::from(kind), i];
     let mut line = [0u8; 4];
     let ran = run::run(8, table, tally, &schedule, &mut line);
-    if kind == 1 {
-        let _ = println!(rt; "{} {} {} {}", line[0], line[1], line[2], line[3]);
+    if kind == Kind::Turn {
+        let [station, tested, outcome, status] = line;
+        let _ = println!(rt; "{station} {tested} {outcome} {status}");
     }
     ran.tally
 }
 
 // Tests one below the top, tests at the top, and rounds that reach it when the round closes: 7 after one grant, 7 at once, 0.
 fn top_tally(rt: &impl Print) {
-    two_boards(rt, tally_of(0, 4294967294));
-    two_boards(rt, tally_of(0, 4294967295));
-    two_boards(rt, tally_of(4294967294, 4294967292));
+    two_boards(rt, 0, 4294967294);
+    two_boards(rt, 0, 4294967295);
+    two_boards(rt, 4294967294, 4294967292);
 }
 
-// A drive of two fresh boards.
-fn two_boards(rt: &impl Print, tally: Tally) {
+// A drive of two fresh boards, behind so many rounds and tests.
+fn two_boards(rt: &impl Print, rounds: u32, tests: u32) {
     let mut table = [0u8; TWO];
     let _ = fresh::fresh_table(2, &mut table);
-    drive_line(rt, drive::drive(2, &mut table, tally, 255));
+    let tally = Tally { rounds, tests };
+    drive_line(rt, drive::drive(2, &mut table, tally, NO_LAST));
 }
 
 // Two boards that suspect one another: 0 tests 1, is told and leaves; 1 tests 0, which is not live, and leaves as alone.
@@ -121,8 +127,9 @@ fn nobody_left(rt: &impl Print) {
     let _ = fresh::fresh_table(2, &mut table);
     table[ZERO_OF_ONE] = 1;
     table[ONE_OF_ZERO] = 1;
-    drive_line(rt, drive::drive(2, &mut table, tally_of(0, 0), 255));
-    drive_line(rt, drive::drive(2, &mut table, tally_of(0, 2), 1));
+    let first = drive::drive(2, &mut table, Tally::default(), NO_LAST);
+    drive_line(rt, first);
+    drive_line(rt, drive::drive(2, &mut table, first.tally, 1));
 }
 
 // Last numbers of a plant of two: 0, 1 and 255 are taken; 2, 254 and 256 are not.
@@ -143,10 +150,6 @@ fn number_line(rt: &impl Print, last: usize) {
         Err(refusal) => (refusal.number(), 0),
     };
     let _ = println!(rt; "last {last} number {number} station {station}");
-}
-
-fn tally_of(rounds: u32, tests: u32) -> Tally {
-    Tally { rounds, tests }
 }
 
 fn drive_line(rt: &impl Print, driven: Driven) {
