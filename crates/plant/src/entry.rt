@@ -14,11 +14,23 @@ use turn::kind::Kind;
 use turn::outcome::Outcome;
 use turn::steps;
 
-// An entry of a known kind: what happens, and to which station.
-#[derive(Clone, Copy)]
-pub(crate) struct Entry {
+// An entry of a schedule, of a known kind: what happens, and to which station.
+#[derive(Clone, Copy, Debug, PartialEq, Eq)]
+pub struct Entry {
     pub kind: Kind,
     pub station: Station,
+}
+
+impl Entry {
+    ghost use Rattle.std.specs.Prelude.{◌≡◌, ◌∷◌, []};
+    ghost use Rattle.turn.specs.Kind.{kind_byte};
+
+    // Its two bytes in a schedule.
+    pub fn bytes(self) -> [u8; 2]
+        ensures { result ≡ kind_byte self.kind ∷ self.station.0 ∷ [] }
+    {
+        [u8::from(self.kind), self.station.0]
+    }
 }
 
 // The entry that two bytes of a schedule stand for: refusals 7 to 11.

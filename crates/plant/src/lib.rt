@@ -4,7 +4,7 @@
 #![tactic(auto)]
 
 pub mod claims;
-mod entry;
+pub mod entry;
 mod rounds;
 pub mod run;
 pub mod single;

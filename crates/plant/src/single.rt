@@ -6,6 +6,7 @@ ghost use Rattle.table.specs.Rules.{table_number};
 ghost use Rattle.turn.specs.Turn.{kind_turn};
 ghost use Rattle.plant.specs.Entry.{state_with, entry_of, entry_number, after};
 
+use crate::entry::Entry;
 use crate::{Tally, run};
 use table::Station;
 use table::lent::TableMut;
@@ -20,8 +21,11 @@ pub fn take_turn(table: &mut TableMut, tally: Tally, i: Station) -> Tally
     ensures result_after { state_with table.new.bytes.now result
         ≡ after table.old.n (state_with table.old.bytes.now tally) (entry_of kind_turn i.0) }
 {
-    let schedule = [u8::from(Kind::Turn), i.0];
+    let entry = Entry {
+        kind: Kind::Turn,
+        station: i,
+    };
     let mut line = [0u8; 4];
-    let ran = run::go_on(table, tally, &schedule, &mut line);
+    let ran = run::go_on(table, tally, &entry.bytes(), &mut line);
     ran.tally
 }

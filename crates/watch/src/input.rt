@@ -4,6 +4,7 @@ ghost use Rattle.std.proofs.lemmas.List.Edits.{sets};
 ghost use Rattle.turn.specs.Kind.{kind_byte};
 ghost use Rattle.watch.specs.Input.{lines, line_length, number_of, kind_of, entry_of, pair_of, answer_of, read_entries, room_for, read_into};
 
+use plant::entry::Entry;
 use std::error::Error;
 use std::fmt;
 use table::Station;
@@ -30,22 +31,6 @@ impl fmt::Display for Unread {
 }
 
 impl Error for Unread {}
-
-// An entry of the schedule.
-#[derive(Clone, Copy, Debug, PartialEq, Eq)]
-struct Entry {
-    kind: Kind,
-    station: Station,
-}
-
-impl Entry {
-    // Its bytes in a schedule.
-    fn bytes(self) -> [u8; 2]
-        ensures { result ≡ kind_byte self.kind ∷ self.station.0 ∷ [] }
-    {
-        [u8::from(self.kind), self.station.0]
-    }
-}
 
 // Reads the whole input. The entries before the first unreadable line go into the schedule, two bytes each, and its rest is unchanged. An
 // entry for which the schedule has no room counts as unreadable.

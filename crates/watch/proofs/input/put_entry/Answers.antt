@@ -2,7 +2,7 @@
 use Rattle.std.proofs.Common.{ℕ, ◌+◌, ◌-◌, ◌*◌, List, [], ◌∷◌, arith}
 use Rattle.std.proofs.lemmas.Slice.{take-put_mid, drop-put_mid}
 use Rattle.turn.specs.Kind.{kind_byte}
-use Rattle.watch.specs.declared.input.Entry.{Entry}
+use Rattle.plant.specs.declared.entry.Entry.{Entry}
 use Rattle.watch.proofs.input.put_entry.Goals as goal
 
 pair : Entry → List ℕ
