@@ -69,11 +69,9 @@ fn go_on(table: &mut TableMut, tally: Tally, last: Option<Station>) -> Driven
 }
 
 // Whether a round has closed since the tally had these rounds, or nobody is left live.
+#[tactic(auto, unfolding(crate::specs::Drive::ended))]
 fn has_ended(table: &Table, rounds: u32, held: Tally) -> bool
     ensures { result ≡ ended table.now.n rounds (state_with table.now.bytes.now held) }
 {
-    if held.rounds != rounds {
-        return true;
-    }
-    !grant::some_live(table)
+    held.rounds != rounds || !grant::some_live(table)
 }
