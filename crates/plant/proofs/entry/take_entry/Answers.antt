@@ -42,7 +42,7 @@ returns-clause-result_after c =
     let m = made-test c.args.n c.args.table.now (entry_of c.args.kind c.args.i.0) in
     let e = c.act-done.ensures in
     let f = c.close_round-over.ensures in
-    rw (c.from-2.ensures, c.from-3.ensures, bit-added c.close_round-over.result, bit-added, f.value, f.table_after, e.table_after, c.outcome_byte.ensures, c.outcome_byte-outcome.ensures, c.from.ensures, e.outcome_value, m)
+    rw (c.from.ensures, c.from-3.ensures, bit-added c.close_round-over.result, bit-added, f.value, f.table_after, e.table_after, c.outcome_byte.ensures, c.outcome_byte-outcome.ensures, c.from-2.ensures, e.outcome_value, m)
 
 pub returns-clause-line_after : goal.returns-clause-line_after
 unfolding after sheet_line
