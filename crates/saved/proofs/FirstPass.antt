@@ -1,13 +1,13 @@
 -- Laws of the first pass over a file's fields: what it finds of size and tally, and what it answers.
 -- Assumes nothing.
 use mathlib.Core.Path.{◌≡◌, refl, sym, ap, ap₂, ◌∙◌}
-use mathlib.Core.Bool.{Bool, true, false, not, ◌&&◌, and-false, and-true}
+use mathlib.Core.Bool.{Bool, true, false, ◌&&◌, and-false, and-true}
 use mathlib.Core.List.{List, [], ◌∷◌}
 use Rattle.std.specs.Int.{w32, from_be_bytes}
 use native.Mathlib.Omega.{arith}
 use Rattle.std.specs.Prelude.{Option, Some, None, is_none, Result, Ok, Err}
 use Prim.Native.Nat.{ℕ}
-use borrow.Author.Tests.{eqb-true, not-true}
+use borrow.Author.Tests.{eqb-true}
 use lib.ListN.{length, get_or, take, drop, length-drop}
 use lib.Seq.{drop-cons}
 use lib.Dec.{eqb}
@@ -15,7 +15,6 @@ use Rattle.lists.specs.declared.refusal.Refusal.{Refusal}
 use Rattle.lists.specs.declared.refusal.Refusal.TheVariants.{FieldPastEnd, SizeOrTallyField}
 use Rattle.lists.specs.Refusal.{ensure, ◌and◌}
 use Rattle.lists.proofs.BoolLaws.{by_bool}
-use Rattle.lists.proofs.SearchLaws.{both}
 use Rattle.plant.specs.declared.Tally.{Tally}
 use Rattle.saved.specs.Bytes.{number_of}
 use Rattle.saved.specs.Fields.{Field, runs_past, fields_of, tagged, single, first_of}
@@ -128,13 +127,6 @@ eight c e =
     let d7 : drop 7 c ≡ get_or c 7 0 ∷ drop 8 c = drop-cons c 7 0 (omega arith) in
     let d8 : drop 8 c ≡ [] = none_behind (drop 8 c) (omega (arith, length-drop 8 c)) in
     cc
-
-pub pass_over : (found : Result Found Refusal) (f : Field) (fs rest : List Field) → (not (eqb f.tag size_tag) && not (eqb f.tag tally_tag)) ≡ true
-    → rest ≡ f ∷ fs → completed found fs ≡ completed found rest
-unfolding tagged
-pass_over (Ok o) f fs rest h k =
-    let b = both (not (eqb f.tag size_tag)) (not (eqb f.tag tally_tag)) h in rw (k, not-true _ b.0, not-true _ b.1)
-pass_over (Err r) f fs rest h k = refl
 
 pub pass_on : (found next : Result Found Refusal) (o : Found) (f : Field) (fs rest : List Field)
     → found ≡ Ok o → next ≡ found_with o f → rest ≡ f ∷ fs → completed next fs ≡ completed found rest

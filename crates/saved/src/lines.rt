@@ -26,7 +26,8 @@ fn take_line(table: &mut TableMut, contents: &[u8], seen: &mut [bool; MOST]) -> 
     requires { is_size table.old.n ≡ true }
     ensures value { result ≡ ensure (is_new table.old.n contents.now seen.old) Refusal.LineField }
     ensures same { IsSameLoan table.old table.new }
-    ensures bytes { result ≡ Ok tt → table.new.bytes.now ≡ sets table.old.bytes.now (line_start table.old.n (station_in contents.now)) (line_in contents.now) }
+    ensures bytes { result ≡ Ok tt → table.new.bytes.now
+        ≡ sets table.old.bytes.now (line_start table.old.n (station_in contents.now)) (line_in contents.now) }
     ensures seen_after { result ≡ Ok tt → seen.new ≡ set seen.old (station_in contents.now) true }
 {
     let [i, line @ ..] = contents else {

@@ -42,7 +42,7 @@ returns-in_err-take_line-clause-value c =
 pub loop-field-preserved : goal.loop-field-preserved
 loop-field-preserved c =
     let i = c.loop-field.invariant in
-    let wide : c.args.table.now.n ≤ length c.loop-field.seen = omega (arith, i.wide, size-bounds _ c.requires.size, c.loop-field.invariant.same.size) in
+    let wide : c.args.table.now.n ≤ length c.loop-field.seen = omega (arith, i.wide, size-bounds _ c.requires.size) in
     let long : length c.loop-field.table.bytes.now ≡ table_length c.args.table.now.n = rw (← i.same.size) (omega arith) in
     let s = c.in_ok-take_line.ensures.same in
     let t = tells_more _ _ _ c.in_ok-field.ensures _ c.in-Some.is in
@@ -57,10 +57,12 @@ loop-field-preserved c =
     }
 
 pub slice_bounds-all_seen-end : goal.slice_bounds-all_seen-end
-slice_bounds-all_seen-end c = sym (length-take-le c.loop-field.table.n c.loop-field.seen (omega (arith, c.loop-field.invariant.wide, size-bounds _ c.requires.size, c.loop-field.invariant.same.size)))
+slice_bounds-all_seen-end c =
+    let i = c.loop-field.invariant in
+    sym (length-take-le c.loop-field.table.n c.loop-field.seen (omega (arith, i.wide, i.same.size, size-bounds _ c.requires.size)))
 
 pub slice_bounds-seen-end : goal.slice_bounds-seen-end
-slice_bounds-seen-end c = omega (arith, c.loop-field.invariant.wide, size-bounds _ c.requires.size, c.loop-field.invariant.same.size)
+slice_bounds-seen-end c = let i = c.loop-field.invariant in omega (arith, i.wide, i.same.size, size-bounds _ c.requires.size)
 
 pub returns-then-all_seen : goal.returns-then-all_seen
 returns-then-all_seen c =

@@ -2,21 +2,13 @@
 use Rattle.std.proofs.Common.{sym, ap₂, ◌∙◌}
 use Rattle.std.proofs.lemmas.Result.{err_from_is_err_and}
 use Rattle.saved.proofs.Reading.{tells_more, tells_none, tells_cut}
-use Rattle.saved.proofs.FirstPass.{completed, pass_over, pass_on, opened_cut, opened_wrong, opened_found}
+use Rattle.saved.proofs.FirstPass.{completed, pass_on, opened_cut, opened_wrong, opened_found}
 use Rattle.saved.proofs.opening.open.Goals as goal
 
 pub returns-in_err-field : goal.returns-in_err-field
 returns-in_err-field c =
     let p = err_from_is_err_and c.from_residual.result c.from_residual.ensures.1 in
     rw (p.1, p.2, c.in_err-field.ensures.1) (opened_cut _ (sym c.loop-field.invariant.past ∙ tells_cut _ c.in_err-field.ensures.0))
-
-pub loop-field-preserved-then-field : goal.loop-field-preserved-then-field
-loop-field-preserved-then-field c =
-    let t = tells_more _ _ _ c.in_ok-field.ensures _ c.in-Some.is in
-    record {
-      past = t.0 ∙ c.loop-field.invariant.past;
-      gives = λ w. pass_over _ _ _ _ c.if-field.true (t.1 (c.loop-field.invariant.past ∙ w)) ∙ c.loop-field.invariant.gives w;
-    }
 
 pub loop-field-preserved-in-Ok : goal.loop-field-preserved-in-Ok
 loop-field-preserved-in-Ok c =
