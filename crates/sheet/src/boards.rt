@@ -1,5 +1,5 @@
-// The sheet of one plant. The row has 1 at each dead board, and is the row of each live one. Size and row stand side by side, as `commission` asks for
-// both: a struct of them would be taken apart at each call.
+// The sheet of one plant. The row has 1 at each dead board, and is the row of each live one.
+// Size and row stand side by side, as `commission` asks for both: a struct of them would be taken apart at each call.
 use crate::text;
 use table::Station;
 
