@@ -1,6 +1,5 @@
 // The lent table as a type: a size and the bytes of a table of that size. That the size is one and that the length fits are ghost fields, so that
-// no method asks for them.
-// That a line or column is there a method does ask, since it makes no test of its place.
+// no method asks for them. That a line or column is there a method does ask, since it makes no test of its place.
 ghost use Rattle.std.specs.Prelude.{◌≡◌, ◌+◌, ◌<◌, ◌==◌, true, length, IfOk};
 ghost use Rattle.table.specs.Sizes.{is_size};
 ghost use Rattle.table.specs.Table.{head, stride, table_length, cell, set_cell, status_column, row_start, row, live, next_distance, finished, suspects};
