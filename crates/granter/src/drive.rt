@@ -16,6 +16,7 @@ pub fn drive(n: usize, table: &mut [u8], tally: Tally, last: usize) -> Driven
     ensures table_after { drive_outcome_with result table.new ≡ drive n (state_with table.old tally) last }
     ensures stopped_if_taken { StoppedIfTaken n (state_with table.old tally) last result.grants }
 {
+    // By hand and not by `?`: the answer is no Result, since a drive that is stopped keeps the turns that it made.
     let before = match grant::check_grant(n, table, last) {
         Ok(before) => before,
         Err(refusal) => {

@@ -9,7 +9,7 @@ use table::lent::Table;
 use table::{Station, rules};
 
 // The last granted number where none was granted yet.
-const NO_GRANT: usize = 255;
+pub const NO_GRANT: usize = 255;
 
 // The station that is granted after the last one.
 #[tactic(auto, using(crate::proofs::GrantLaws::grant_ok, crate::proofs::GrantLaws::grantable_obeys, crate::proofs::GrantLaws::fits_byte), unfolding(crate::specs::Grant::grant_answer))]
@@ -98,7 +98,7 @@ fn first_from(table: &Table, from: Station) -> Option<Station>
     ensures { MatchOption result (table.now.n ≤ first_from table.now.n table.now.bytes.now from.0)
         (λ i. (i.0 ≡ first_from table.now.n table.now.bytes.now from.0) × (i.0 < table.now.n)) }
 {
-    // A `for`: a chain over the stations was measured 1.7 to 2.2 times slower (docs/DECISIONS.md, "The port").
+    // A `for`: in the check of a table a chain took 1.7 to 2.2 times as long (docs/DECISIONS.md, "The port"). Here it was not measured.
     for i in from.0..table.n {
         if !table.finished_if_live(Station(i)) {
             return Some(Station(i));
@@ -111,7 +111,7 @@ fn first_from(table: &Table, from: Station) -> Option<Station>
 pub(crate) fn some_live(table: &Table) -> bool
     ensures { result ≡ some_live table.now.n table.now.bytes.now }
 {
-    // A `for`, for the same reason.
+    // A `for`, for the same reason: the figure is of the check of a table, and was not measured here.
     for i in 0..table.n {
         if table.is_live(Station(i)) {
             return true;

@@ -14,6 +14,7 @@ use table::{Station, rules};
 pub fn run(n: usize, table: &mut [u8], tally: Tally, schedule: &[u8], sheet: &mut [u8]) -> Ran
     ensures { outcome_with result table.new sheet.new ≡ run n (state_with table.old tally) schedule.now sheet.old }
 {
+    // By hand and not by `?`, here and in `go_on`: the answer is no Result, since a run that is stopped keeps what it did.
     if let Err(refusal) = check_start(n, table, schedule.len(), sheet.len()) {
         return Ran {
             taken: 0,
