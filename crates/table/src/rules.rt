@@ -27,18 +27,10 @@ pub(crate) fn check_shape(n: usize, len: usize) -> Result<(), Refusal>
 }
 
 // Refusals 1 to 4.
-#[tactic(auto, using(crate::proofs::Accepting::shape_ok, crate::proofs::SizeLaws::size_top), unfolding(crate::specs::Rules::table_check))]
 pub fn check_table(n: usize, table: &[u8]) -> Result<(), Refusal>
     ensures { result ≡ table_check n table.now }
 {
-    let lent = Table::of(n, table)?;
-    if !all_lines(&lent) {
-        return Err(Refusal::LineRule);
-    }
-    if lent.is_round_over() {
-        return Err(Refusal::RoundNotClosed);
-    }
-    Ok(())
+    Table::checked(n, table).map(|_| ())
 }
 
 // The number of that check, for the calls that answer a number.
@@ -83,7 +75,7 @@ pub fn finished_if_live(n: u8, table: &[u8], i: Station) -> bool
 
 // Whether every line obeys the line rules.
 #[tactic(auto, using(lists::proofs::Loops::loops))]
-fn all_lines(table: &Table) -> bool
+pub(crate) fn all_lines(table: &Table) -> bool
     ensures { result ≡ every (line_rules table.now.n table.now.bytes.now) table.now.n }
 {
     for i in 0..table.n {
