@@ -17,8 +17,8 @@ pub fn drive(n: usize, table: &mut [u8], tally: Tally, last: usize) -> Driven
     ensures stopped_if_taken { StoppedIfTaken n (state_with table.old tally) last result.grants }
 {
     // By hand and not by `?`: the answer is no Result, since a drive that is stopped keeps the turns that it made.
-    let before = match grant::check_grant(n, table, last) {
-        Ok(before) => before,
+    let (n, before) = match grant::check_grant(n, table, last) {
+        Ok((lent, before)) => (lent.n, before),
         Err(refusal) => {
             return Driven {
                 tally,
@@ -28,10 +28,7 @@ pub fn drive(n: usize, table: &mut [u8], tally: Tally, last: usize) -> Driven
             };
         }
     };
-    let mut lent = TableMut {
-        n: n as u8,
-        bytes: table,
-    };
+    let mut lent = TableMut { n, bytes: table };
     go_on(&mut lent, tally, before)
 }
 
