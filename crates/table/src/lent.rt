@@ -21,7 +21,8 @@ pub struct Table<'a> {
     ghost fits: { length bytes.now ≡ table_length n },
 }
 
-// A table of n stations, to be written.
+// A table of n stations, to be written. It is made by hand behind a check: of a `checked` of its own callers would not know that a refused call
+// leaves the bytes, since the clause for that, LendsIfOk, is for no slice.
 #[derive(Drop)]
 pub struct TableMut<'a> {
     pub n: u8,
@@ -75,7 +76,7 @@ impl<'a> Table<'a> {
         requires { i.0 < self.now.n }
         ensures { result ≡ live self.now.n self.now.bytes.now i.0 }
     {
-        self.get(i, cells::STATUS) == cells::LIVE
+        self.get(i, cells::STATUS) == u8::from(Status::Live)
     }
 
     // The next distance of station i.
@@ -102,7 +103,8 @@ impl<'a> Table<'a> {
         !self.is_live(i) | self.is_finished(i)
     }
 
-    // Whether some station is live and every live one has finished its pass.
+    // Whether some station is live and every live one has finished its pass. A loop with an exit, as the check's other one, `rules::all_lines`:
+    // there `all` was slower.
     #[tactic(auto, using(lists::proofs::Loops::loops, crate::proofs::Accepting::rounds))]
     pub fn is_round_over(&self) -> bool
         ensures { result ≡ round_over self.now.n self.now.bytes.now }
