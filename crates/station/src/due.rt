@@ -12,12 +12,12 @@ use lists::refusal::Refusal;
 use table::lent::Table;
 use table::{Distance, Station, sizes};
 
-// Whether the row leaves station x not suspected. Past the row's end a station is absent. By an index: with `get` drives were slower.
+// Whether the row leaves station x not suspected. Past the row's end a station is absent.
+#[tactic(auto, unfolding(crate::specs::Tests::unsuspected))]
 fn is_unsuspected(row: &[u8], x: Station) -> bool
     ensures { result ≡ unsuspected row.now x.0 }
 {
-    let k = x.0 as usize;
-    if k < row.len() { row[k] == 0 } else { false }
+    row.get(x.0 as usize).copied().unwrap_or(1) == 0
 }
 
 // The first station that the row does not suspect in the group of j at the level of distance m.
