@@ -38,6 +38,7 @@ impl<'a> Table<'a> {
         ensures check { result_map_both (λ t. tt) (λ r. r) result ≡ shape_check n (length bytes.now) }
         ensures size { IfOk result (λ t. t.n ≡ n) }
         ensures bytes { IfOk result (λ t. t.bytes.now ≡ bytes.now) }
+        ensures place { IfOk result (λ t. t.bytes.ref_ptr ≡ bytes.entry.ref_ptr) }
     {
         rules::check_shape(n, bytes.len())?;
         Ok(Table { n: n as u8, bytes })
@@ -49,6 +50,7 @@ impl<'a> Table<'a> {
         ensures check { result_map_both (λ t. tt) (λ r. r) result ≡ table_check n bytes.now }
         ensures size { IfOk result (λ t. t.n ≡ n) }
         ensures bytes { IfOk result (λ t. t.bytes.now ≡ bytes.now) }
+        ensures place { IfOk result (λ t. t.bytes.ref_ptr ≡ bytes.entry.ref_ptr) }
     {
         let table = Table::of(n, bytes)?;
         if !rules::all_lines(&table) {
