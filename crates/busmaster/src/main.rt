@@ -3,19 +3,16 @@
 #![tactic(auto)]
 
 use granter::{Driven, drive, grant};
+use plant::entry::Entry;
 use plant::{Tally, run};
-use table::{cells, fresh};
+use table::lent::TableMut;
+use table::{Station, cells, fresh};
 use turn::kind::Kind;
 
-// The lengths of tables of two and of eight boards.
+// The lengths of tables of two and of eight boards. A constant may call no function here, so not `cells::table_length`.
 const TWO: usize = 2 * (2 + cells::HEAD as usize);
 
 const EIGHT: usize = 8 * (8 + cells::HEAD as usize);
-
-// Where a table of two has what 0 says of 1, and what 1 says of 0.
-const ZERO_OF_ONE: usize = cells::HEAD as usize + 1;
-
-const ONE_OF_ZERO: usize = 2 + cells::HEAD as usize + cells::HEAD as usize;
 
 // The last granted number where none was granted before.
 const NO_LAST: usize = 255;
@@ -96,9 +93,9 @@ fn rest_of_a_round(rt: &impl Print) {
 
 // One entry on a table of eight; of a turn, its line of the sheet is printed.
 fn entry_of(rt: &impl Print, table: &mut [u8], tally: Tally, kind: Kind, i: u8) -> Tally {
-    let schedule = [u8::from(kind), i];
+    let station = Station(i);
     let mut line = [0u8; 4];
-    let ran = run::run(8, table, tally, &schedule, &mut line);
+    let ran = run::run(8, table, tally, &Entry { kind, station }.bytes(), &mut line);
     if kind == Kind::Turn {
         let [station, tested, outcome, status] = line;
         let _ = println!(rt; "{station} {tested} {outcome} {status}");
@@ -122,11 +119,16 @@ fn two_boards(rt: &impl Print, rounds: u32, tests: u32) {
 }
 
 // Two boards that suspect one another: 0 tests 1, is told and leaves; 1 tests 0, which is not live, and leaves as alone.
+#[tactic(auto, unfolding(table::specs::Table::table_length))]
 fn nobody_left(rt: &impl Print) {
     let mut table = [0u8; TWO];
     let _ = fresh::fresh_table(2, &mut table);
-    table[ZERO_OF_ONE] = 1;
-    table[ONE_OF_ZERO] = 1;
+    let mut lent = TableMut {
+        n: 2,
+        bytes: &mut table,
+    };
+    lent.suspect(Station(0), Station(1));
+    lent.suspect(Station(1), Station(0));
     let first = drive::drive(2, &mut table, Tally::default(), NO_LAST);
     drive_line(rt, first);
     drive_line(rt, drive::drive(2, &mut table, first.tally, 1));

@@ -4,14 +4,16 @@
 #![tactic(auto)]
 
 use lists::refusal;
+use plant::entry::Entry;
 use plant::{Ran, Tally, run};
 use station::{due, groups};
 use std::ops::ControlFlow;
+use table::lent::{Table, TableMut};
 use table::{Level, Station, cells, fresh};
 use turn::kind::Kind;
 use turn::outcome::Outcome;
 
-// The lengths of tables of two, four, eight and eleven boards.
+// The lengths of tables of two, four, eight and eleven boards. A constant may call no function here, so not `cells::table_length`.
 const TWO: usize = 2 * (2 + cells::HEAD as usize);
 
 const FOUR: usize = 4 * (4 + cells::HEAD as usize);
@@ -19,14 +21,6 @@ const FOUR: usize = 4 * (4 + cells::HEAD as usize);
 const EIGHT: usize = 8 * (8 + cells::HEAD as usize);
 
 const ELEVEN: usize = 11 * (11 + cells::HEAD as usize);
-
-// Where a table of four has who told 1 to leave, and how many rounds ago it ceased to be live.
-const ONE_TOLD_BY: usize = 4 + cells::HEAD as usize + cells::TOLD_BY as usize;
-
-const ONE_ROUNDS_AGO: usize = 4 + cells::HEAD as usize + cells::ROUNDS_AGO as usize;
-
-// Where a table of eight has what 5 says of 4.
-const FIVE_OF_FOUR: usize = 5 * (8 + cells::HEAD as usize) + cells::HEAD as usize + 4;
 
 // What one print cannot write is left out, and the next is tried all the same.
 fn main(rt: HostRuntime) {
@@ -178,12 +172,17 @@ fn eleven_boards(rt: &impl Print) {
 }
 
 // C-16, eight boards: the assignment of station 5, nothing suspected, and where it suspects 4.
+#[tactic(auto, unfolding(table::specs::Table::table_length))]
 fn eight_assigned(rt: &impl Print) {
     let mut table = [0u8; EIGHT];
     let _ = fresh::fresh_table(8, &mut table);
     let mut list = [0u8; 14];
     assignment_line(rt, 8, &table, 5, &mut list);
-    table[FIVE_OF_FOUR] = 1;
+    let mut lent = TableMut {
+        n: 8,
+        bytes: &mut table,
+    };
+    lent.suspect(Station(5), Station(4));
     assignment_line(rt, 8, &table, 5, &mut list);
 }
 
@@ -219,6 +218,7 @@ fn round_line(rt: &impl Print, n: u8) {
 
 // C-13, four boards: 1, 2 and 3 take their passes. The reply of 1 to 0's first test comes late; 0 tests 2 and 3 and finishes its pass, which
 // closes the round. In the next round 0 tests 1 again: 1 is told and leaves, and its own turn is refused. By C-18 its line names 0.
+#[tactic(auto, unfolding(table::specs::Table::table_length))]
 fn late_reply(rt: &impl Print) {
     let mut table = [0u8; FOUR];
     let mut plant = Plant::fresh(4, &mut table);
@@ -233,10 +233,13 @@ fn late_reply(rt: &impl Print) {
     commas(rt, &sheet[0..4]);
     line_end(rt);
     run_line(rt, ran);
-    let _ = println!(rt;
-        "1 told by {} rounds ago {}",
-        table[ONE_TOLD_BY], table[ONE_ROUNDS_AGO]
-    );
+    let lent = Table {
+        n: 4,
+        bytes: &table,
+    };
+    let told_by = lent.get(Station(1), cells::TOLD_BY);
+    let rounds_ago = lent.get(Station(1), cells::ROUNDS_AGO);
+    let _ = println!(rt; "1 told by {told_by} rounds ago {rounds_ago}");
 }
 
 // The tally of so many rounds of n boards, from none.
@@ -306,16 +309,21 @@ impl<'a> Plant<'a> {
 
     // One entry, and its line of the sheet.
     fn entry(&mut self, kind: Kind, i: u8) -> (Ran, [u8; 4]) {
+        let station = Station(i);
         let mut line = [0u8; 4];
-        let ran = self.run(&[u8::from(kind), i], &mut line);
+        let ran = self.run(&Entry { kind, station }.bytes(), &mut line);
         (ran, line)
     }
 
     // A turn of board 0 and one of board 1, and their lines of the sheet.
     fn turns_of_0_and_1(&mut self) -> (Ran, [u8; 8]) {
-        let turn = u8::from(Kind::Turn);
+        let kind = Kind::Turn;
+        let turn = |station| Entry { kind, station }.bytes();
         let mut sheet = [0u8; 8];
-        let ran = self.run(&[turn, 0, turn, 1], &mut sheet);
+        let ran = self.run(
+            [turn(Station(0)), turn(Station(1))].as_flattened(),
+            &mut sheet,
+        );
         (ran, sheet)
     }
 

@@ -1,6 +1,4 @@
 // What the arguments ask for, or what is wrong with them.
-ghost use Rattle.std.specs.Prelude.{◌≤◌, length};
-
 use std::env::{Env, FillError};
 use std::error::Error;
 use std::fmt;
@@ -44,19 +42,15 @@ impl fmt::Display for ArgumentError {
 impl Error for ArgumentError {}
 
 // Reads the arguments. The row gets 1 at each dead board.
-pub fn read(rt: &impl Env, row: &mut [u8]) -> Result<Asked, ArgumentError>
-    requires { 64 ≤ length row.old }
-{
+pub fn read(rt: &impl Env, row: &mut [u8; 64]) -> Result<Asked, ArgumentError> {
     let count = arg_count(rt);
     if count < 2 {
         return Err(ArgumentError::NoSize);
     }
-    let mut word = [0u8; 8];
-    let length = arg(rt, 1, &mut word);
-    if &word[..length] == b"--sizes".as_slice() {
-        return read_sizes(count);
+    match arg(rt, 1, &mut [0; 8]) {
+        Some(b"--sizes") => read_sizes(count),
+        size => read_sheet(rt, size.and_then(|word| number(word, 3)), count, row),
     }
-    read_sheet(rt, number(&word[..length], 3), count, row)
 }
 
 // `--sizes` stands alone.
@@ -73,10 +67,8 @@ fn read_sheet(
     rt: &impl Env,
     size: Option<usize>,
     count: usize,
-    row: &mut [u8],
-) -> Result<Asked, ArgumentError>
-    requires { 64 ≤ length row.old }
-{
+    row: &mut [u8; 64],
+) -> Result<Asked, ArgumentError> {
     let Some(n) = size else {
         return Err(ArgumentError::NotASize);
     };
@@ -101,10 +93,8 @@ fn read_boards(rt: &impl Env, count: usize, row: &mut [u8]) -> Result<(), Argume
 
 // Reads an argument that names a board which no argument named before.
 fn read_board(rt: &impl Env, argument: usize, row: &mut [u8]) -> Result<(), ArgumentError> {
-    let mut word = [0u8; 8];
-    let length = arg(rt, argument, &mut word);
     let last = row.len().saturating_sub(1);
-    let Some(board) = number(&word[..length], 2) else {
+    let Some(board) = arg(rt, argument, &mut [0; 8]).and_then(|word| number(word, 2)) else {
         return Err(ArgumentError::NotABoard { argument, last });
     };
     if row.len() <= board {
@@ -142,9 +132,8 @@ fn arg_count(rt: &impl Env) -> usize {
     usize::MAX
 }
 
-// Puts argument k at the start of `word` and returns its length, or 0 where it is missing or longer than `word`.
-fn arg(rt: &impl Env, k: usize, word: &mut [u8]) -> usize
-    ensures { result ≤ length word.new }
-{
-    rt.arg(k, word).unwrap_or(0)
+// Argument k, at the start of the lent bytes; none where it is missing or longer than these.
+fn arg<'a>(rt: &impl Env, k: usize, word: &'a mut [u8; 8]) -> Option<&'a [u8]> {
+    let length = rt.arg(k, word).ok()?;
+    Some(&word[..length])
 }

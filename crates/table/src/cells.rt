@@ -3,7 +3,6 @@ ghost use Rattle.std.specs.Prelude.{◌≡◌, ◌+◌, ◌*◌, ◌≤◌};
 ghost use Rattle.table.specs.Table.{head, stride, table_length, line_start, cell, row_start};
 
 use crate::Station;
-use crate::status::Status;
 
 // The columns of a line's head. They are numbers, and no enum: a column is a byte's place in its line, and those from HEAD on are the row's.
 pub const STATUS: u16 = 0;
@@ -17,9 +16,6 @@ pub const TESTS: u16 = 3;
 pub const TOLD_BY: u16 = 4;
 
 pub const ROUNDS_AGO: u16 = 5;
-
-// The status of a station that crashed, as a byte. `plant` uses it.
-pub const CRASHED: u8 = Status::Crashed as u8;
 
 // Byte 4 where no station told this one to leave, and where that was never recorded.
 pub const TOLD_BY_NONE: u8 = 255;

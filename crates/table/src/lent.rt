@@ -1,6 +1,5 @@
 // The lent table as a type: a size and the bytes of a table of that size. That the size is one and that the length fits are ghost fields, so that
-// no method asks for them.
-// That a line or column is there a method does ask, since it makes no test of its place.
+// no method asks for them. That a line or column is there a method does ask, since it makes no test of its place.
 ghost use Rattle.std.specs.Prelude.{◌≡◌, ◌+◌, ◌<◌, ◌==◌, true, length, IfOk};
 ghost use Rattle.table.specs.Sizes.{is_size};
 ghost use Rattle.table.specs.Table.{head, stride, table_length, cell, set_cell, status_column, row_start, row, live, next_distance, finished, suspects};
@@ -38,6 +37,7 @@ impl<'a> Table<'a> {
         ensures check { result_map_both (λ t. tt) (λ r. r) result ≡ shape_check n (length bytes.now) }
         ensures size { IfOk result (λ t. t.n ≡ n) }
         ensures bytes { IfOk result (λ t. t.bytes.now ≡ bytes.now) }
+        ensures place { IfOk result (λ t. t.bytes.ref_ptr ≡ bytes.entry.ref_ptr) }
     {
         rules::check_shape(n, bytes.len())?;
         Ok(Table { n: n as u8, bytes })
@@ -49,6 +49,7 @@ impl<'a> Table<'a> {
         ensures check { result_map_both (λ t. tt) (λ r. r) result ≡ table_check n bytes.now }
         ensures size { IfOk result (λ t. t.n ≡ n) }
         ensures bytes { IfOk result (λ t. t.bytes.now ≡ bytes.now) }
+        ensures place { IfOk result (λ t. t.bytes.ref_ptr ≡ bytes.entry.ref_ptr) }
     {
         let table = Table::of(n, bytes)?;
         if !rules::all_lines(&table) {
