@@ -10,7 +10,8 @@ use std::fmt;
 use table::Station;
 use turn::kind::Kind;
 
-// What was read: the size, and how many entries.
+// What was read: the size, and how many entries. Not the part of the schedule that they fill: `answer_of` names this answer whole, and a reference
+// is also a place in memory, which no definition over the input names.
 #[derive(Clone, Copy, Debug, PartialEq, Eq)]
 pub struct Parsed {
     pub size: usize,
