@@ -5,7 +5,7 @@ use mathlib.Core.Bool.{Bool, true, false, not, ◌&&◌, ◌||◌, and-true, tru
 use mathlib.Core.List.{List}
 use Prim.Native.Nat.{ℕ, ◌-◌, ◌≤◌, ◌<◌}
 use native.Mathlib.Omega.{arith}
-use borrow.Author.Tests.{ltb-true, ltb-false, lt-ltb, lt-leb, leb-false, eqb-true, not-true, not-false}
+use borrow.Author.Tests.{ltb-true, ltb-false, lt-ltb, lt-leb, leb-false, not-true, not-false}
 use lib.Dec.{ltb, leb, eqb}
 use Rattle.lists.specs.Search.{least, every}
 use Rattle.lists.specs.Refusal.{Check, ◌and◌, number_of_result}
@@ -13,7 +13,6 @@ use Rattle.table.specs.Table.{finished, live}
 use Rattle.table.specs.Rules.{some_live, finished_if_live, live_finished, table_number}
 use Rattle.lists.proofs.BoolLaws.{by_bool}
 use Rattle.lists.proofs.SearchLaws.{both, every-all, least-between, least-passes, least-before}
-use Rattle.table.proofs.SizeLaws.{size-bounds}
 use Rattle.table.proofs.Accepting.{Accepted, table_ok}
 use Rattle.std.specs.Prelude.{Ok, Err}
 use Rattle.lists.proofs.RefusalLaws.{check_zero, ensure_ok, and_ok}
@@ -79,16 +78,6 @@ pub last-below : (n last : ℕ) → last_refusal n last ≡ 0 → eqb last no_gr
 last-below n last fits e =
     let low : (leb n last && not (eqb last no_grant)) ≡ false = not-true _ (ensure_ok _ _ _ (check_zero _ fits)) in
     leb-false n last (simp and-true at (rw e at low))
-
-pub accepted_top : (n : ℕ) (t : List ℕ) → Accepted n t → n ≤ 64
-accepted_top n t a = (size-bounds n a.size).1
-
--- size and last number are bytes
-pub fits_byte : (n : ℕ) (t : List ℕ) (last : ℕ) → Grantable n t last → (n < 256) × (last < 256)
-fits_byte n t last g =
-    let top = (size-bounds n g.ok.size).1 in
-    by_bool (eqb last no_grant) (λ e. (omega arith, omega (arith, eqb-true last no_grant e)))
-    (λ e. (omega arith, omega (arith, last-below n last g.last_fits e)))
 
 -- in a table that refusals 1 to 4 let through, with a live station
 module _ (n : ℕ) (t : List ℕ) (ok : Accepted n t) (someone : some_live n t ≡ true) where

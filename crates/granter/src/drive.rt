@@ -16,8 +16,9 @@ pub fn drive(n: usize, table: &mut [u8], tally: Tally, last: usize) -> Driven
     ensures table_after { drive_outcome_with result table.new ≡ drive n (state_with table.old tally) last }
     ensures stopped_if_taken { StoppedIfTaken n (state_with table.old tally) last result.grants }
 {
-    let before = match grant::check_grant(n, table, last) {
-        Ok(before) => before,
+    // By hand and not by `?`: the answer is no Result, since a drive that is stopped keeps the turns that it made.
+    let (n, before) = match grant::check_grant(n, table, last) {
+        Ok((lent, before)) => (lent.n, before),
         Err(refusal) => {
             return Driven {
                 tally,
@@ -27,10 +28,7 @@ pub fn drive(n: usize, table: &mut [u8], tally: Tally, last: usize) -> Driven
             };
         }
     };
-    let mut lent = TableMut {
-        n: n as u8,
-        bytes: table,
-    };
+    let mut lent = TableMut { n, bytes: table };
     go_on(&mut lent, tally, before)
 }
 

@@ -5,42 +5,40 @@ ghost use Rattle.table.specs.Rules.{some_live, table_number};
 ghost use Rattle.granter.specs.Grant.{first_from, following, granted, last_number, last_check, grant_check, grant_answer};
 
 use lists::refusal::Refusal;
+use table::Station;
 use table::lent::Table;
-use table::{Station, rules};
 
 // The last granted number where none was granted yet.
-const NO_GRANT: usize = 255;
+pub const NO_GRANT: usize = 255;
 
 // The station that is granted after the last one.
-#[tactic(auto, using(crate::proofs::GrantLaws::grant_ok, crate::proofs::GrantLaws::grantable_obeys, crate::proofs::GrantLaws::fits_byte), unfolding(crate::specs::Grant::grant_answer))]
+#[tactic(auto, using(crate::proofs::GrantLaws::grant_ok, crate::proofs::GrantLaws::grantable_obeys), unfolding(crate::specs::Grant::grant_answer))]
 pub fn grant(n: usize, table: &[u8], last: usize) -> Result<Station, Refusal>
     ensures { result_map_both (λ x. x.0) (λ r. r) result ≡ grant_answer n table.now last }
 {
-    let last = check_grant(n, table, last)?;
-    let lent = Table {
-        n: n as u8,
-        bytes: table,
-    };
+    let (lent, last) = check_grant(n, table, last)?;
     Ok(next_station(&lent, last))
 }
 
-// Refusals 1 to 4, 16 and 17; answers the last granted station.
-#[tactic(auto, using(table::proofs::Accepting::table_ok, crate::proofs::GrantLaws::accepted_top), unfolding(crate::specs::Grant::grant_check))]
-pub(crate) fn check_grant(n: usize, table: &[u8], last: usize) -> Result<Option<Station>, Refusal>
+// Refusals 1 to 4, 16 and 17; answers the checked table and the last granted station.
+#[tactic(auto, unfolding(crate::specs::Grant::grant_check))]
+pub(crate) fn check_grant(
+    n: usize,
+    table: &[u8],
+    last: usize,
+) -> Result<(Table<'_>, Option<Station>), Refusal>
     ensures check { result_map_both (λ s. tt) (λ r. r) result ≡ grant_check n table.now last }
-    ensures value { IfOk result (λ s. last_number s ≡ last) }
-    ensures below { IfOk result (λ s. IfSome s (λ i. i.0 < n)) }
+    ensures size { IfOk result (λ s. s.0.n ≡ n) }
+    ensures bytes { IfOk result (λ s. s.0.bytes.now ≡ table.now) }
+    ensures value { IfOk result (λ s. last_number s.1 ≡ last) }
+    ensures below { IfOk result (λ s. IfSome s.1 (λ i. i.0 < n)) }
 {
-    rules::check_table(n, table)?;
-    let lent = Table {
-        n: n as u8,
-        bytes: table,
-    };
+    let lent = Table::checked(n, table)?;
     let last = last_granted(lent.n, last)?;
     if !some_live(&lent) {
         return Err(Refusal::NoneLive);
     }
-    Ok(last)
+    Ok((lent, last))
 }
 
 // The last granted station, none at 255: refusal 16.
@@ -98,7 +96,7 @@ fn first_from(table: &Table, from: Station) -> Option<Station>
     ensures { MatchOption result (table.now.n ≤ first_from table.now.n table.now.bytes.now from.0)
         (λ i. (i.0 ≡ first_from table.now.n table.now.bytes.now from.0) × (i.0 < table.now.n)) }
 {
-    // A `for`: a chain over the stations was measured 1.7 to 2.2 times slower (docs/DECISIONS.md, "The port").
+    // A `for`: in the check of a table a chain took 1.7 to 2.2 times as long (docs/DECISIONS.md, "The port"). Here it was not measured.
     for i in from.0..table.n {
         if !table.finished_if_live(Station(i)) {
             return Some(Station(i));
@@ -111,7 +109,7 @@ fn first_from(table: &Table, from: Station) -> Option<Station>
 pub(crate) fn some_live(table: &Table) -> bool
     ensures { result ≡ some_live table.now.n table.now.bytes.now }
 {
-    // A `for`, for the same reason.
+    // A `for`, for the same reason: the figure is of the check of a table, and was not measured here.
     for i in 0..table.n {
         if table.is_live(Station(i)) {
             return true;

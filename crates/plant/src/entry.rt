@@ -1,5 +1,5 @@
 // One entry of a schedule (document 01, "What an entry does" and refusals 7 to 11).
-ghost use Rattle.std.specs.Prelude.{◌≡◌, ◌+◌, ◌<◌, cond, length, IfOk};
+ghost use Rattle.std.specs.Prelude.{◌≡◌, ◌<◌, length, IfOk};
 ghost use Rattle.std.specs.Result.{result_map_both};
 ghost use Rattle.table.specs.Lent.{IsSameLoan};
 ghost use Rattle.table.specs.Rules.{table_number};
@@ -9,6 +9,7 @@ ghost use Rattle.plant.specs.Entry.{state_with, entry_of, entry_known, entry_che
 use crate::{Tally, rounds};
 use lists::refusal::Refusal;
 use table::lent::{Table, TableMut};
+use table::status::Status;
 use table::{Station, cells};
 use turn::kind::Kind;
 use turn::outcome::Outcome;
@@ -106,7 +107,7 @@ fn act(table: &mut TableMut, entry: Entry) -> Outcome
     ensures bytes { table.new.bytes.now ≡ acted table.old.n table.old.bytes.now (entry_known entry) }
 {
     if entry.kind == Kind::Crash {
-        steps::leave(table, entry.station, cells::CRASHED);
+        table.set_status(entry.station, Status::Crashed);
         return Outcome::Crashed;
     }
     steps::take_turn(table, u8::from(entry.kind), entry.station)

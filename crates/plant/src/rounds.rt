@@ -65,8 +65,5 @@ fn rounds_after(table: &Table, i: Station) -> u8
     if table.is_live(i) {
         return ago;
     }
-    if ago == cells::ROUNDS_AGO_TOP {
-        return cells::ROUNDS_AGO_TOP;
-    }
-    ago + 1
+    ago.saturating_add(1)
 }

@@ -1,46 +1,50 @@
 // The run (document 01, "What can be asked" and the refusal list).
-ghost use Rattle.std.specs.Prelude.{◌≡◌, length};
+ghost use Rattle.std.specs.Prelude.{◌≡◌, length, IfOk};
+ghost use Rattle.std.specs.Result.{result_map_both};
 ghost use Rattle.table.specs.Lent.{IsSameLoan};
 ghost use Rattle.plant.specs.Entry.{state_with};
 ghost use Rattle.plant.specs.Run.{entries, go_on, start_check, start_number, outcome_with, run};
 
 use crate::{Ran, Tally, entry};
 use lists::refusal::Refusal;
-use table::lent::TableMut;
-use table::{Station, rules};
+use table::Station;
+use table::lent::{Table, TableMut};
 
 // Carries out a schedule on a table and a tally and fills the sheet, four bytes for each entry taken. A run refused at its start changes
 // no byte; one stopped at an entry keeps the work of the entries before it and no other.
 pub fn run(n: usize, table: &mut [u8], tally: Tally, schedule: &[u8], sheet: &mut [u8]) -> Ran
     ensures { outcome_with result table.new sheet.new ≡ run n (state_with table.old tally) schedule.now sheet.old }
 {
-    if let Err(refusal) = check_start(n, table, schedule.len(), sheet.len()) {
-        return Ran {
-            taken: 0,
-            tally,
-            stopped: Some(refusal),
-        };
-    }
-    let mut lent = TableMut {
-        n: n as u8,
-        bytes: table,
+    // By hand and not by `?`, here and in `go_on`: the answer is no Result, since a run that is stopped keeps what it did.
+    let n = match check_start(n, table, schedule.len(), sheet.len()) {
+        Ok(lent) => lent.n,
+        Err(refusal) => {
+            return Ran {
+                taken: 0,
+                tally,
+                stopped: Some(refusal),
+            };
+        }
     };
+    let mut lent = TableMut { n, bytes: table };
     go_on(&mut lent, tally, schedule, sheet)
 }
 
-// Refusals 1 to 6.
+// Refusals 1 to 6; answers the checked table.
 #[tactic(auto, unfolding(crate::specs::Run::start_check))]
-fn check_start(n: usize, table: &[u8], schedule: usize, sheet: usize) -> Result<(), Refusal>
-    ensures { result ≡ start_check n table.now schedule sheet }
+fn check_start(n: usize, table: &[u8], schedule: usize, sheet: usize) -> Result<Table<'_>, Refusal>
+    ensures check { result_map_both (λ t. tt) (λ r. r) result ≡ start_check n table.now schedule sheet }
+    ensures size { IfOk result (λ t. t.n ≡ n) }
+    ensures bytes { IfOk result (λ t. t.bytes.now ≡ table.now) }
 {
-    rules::check_table(n, table)?;
+    let lent = Table::checked(n, table)?;
     if schedule % 2 == 1 {
         return Err(Refusal::ScheduleLength);
     }
     if schedule.checked_mul(2) != Some(sheet) {
         return Err(Refusal::SheetLength);
     }
-    Ok(())
+    Ok(lent)
 }
 
 // Takes the entries in order. `single` uses it too, so that an entry is taken in one place only, which the compiler then puts in line.

@@ -2,7 +2,7 @@
 #![tactic(auto)]
 
 use figures::{Figures, Totals, adding, batch};
-use lists::refusal::Refusal;
+use lists::refusal::{Refusal, parts};
 
 // What one print cannot write is left out, and the next is tried all the same.
 fn main(rt: HostRuntime) {
@@ -128,16 +128,8 @@ fn figures_of_both(
     batch::figures_of_totals(joined(a, b)?)
 }
 
-// The number of an answer, and its value, which is all 0 where it is refused.
-fn parts<T: Copy + Default>(answer: Result<T, Refusal>) -> (u8, T) {
-    match answer {
-        Ok(value) => (0, value),
-        Err(refusal) => (refusal.number(), T::default()),
-    }
-}
-
 fn figures_line(rt: &impl Print, of: &str, answer: Result<Figures, Refusal>) {
-    let (number, f) = parts(answer);
+    let (number, f) = parts(answer, Figures::default());
     let _ = println!(rt;
         "{of}: number {number} count {} least {} greatest {} mean {}/{} variance {}/{}",
         f.count, f.least, f.greatest, f.mean.upper, f.mean.lower, f.variance.upper, f.variance.lower
@@ -145,7 +137,7 @@ fn figures_line(rt: &impl Print, of: &str, answer: Result<Figures, Refusal>) {
 }
 
 fn totals_line(rt: &impl Print, of: &str, answer: Result<Totals, Refusal>) {
-    let (number, t) = parts(answer);
+    let (number, t) = parts(answer, Totals::default());
     let _ = println!(rt;
         "{of}: number {number} count {} sum {} squares {} least {} greatest {}",
         t.count, t.sum, t.squares, t.least, t.greatest

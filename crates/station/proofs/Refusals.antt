@@ -10,7 +10,7 @@ use lib.ListN.{length}
 use Rattle.std.specs.Prelude.{Ok}
 use Rattle.table.specs.Sizes.{is_size, dimension}
 use Rattle.station.specs.Groups.{group}
-use Rattle.table.specs.Table.{table_length, live}
+use Rattle.table.specs.Table.{live}
 use Rattle.station.specs.Calls.{row_check, range_check, group_check, assignment_check}
 use Rattle.lists.proofs.BoolLaws.{neither}
 use Rattle.lists.proofs.RefusalLaws.{ensure_ok, and_ok}
@@ -46,14 +46,8 @@ row_ok n t i x e =
     let p = and_ok _ _ x e in
     (table_ok n t _ p.0, ltb-true i n (ensure_ok _ _ _ p.1))
 
-pub accepted_size : (n : ℕ) (t : List ℕ) → Accepted n t → is_size n ≡ true
-accepted_size n t a = a.size
-
 pub accepted_top : (n : ℕ) (t : List ℕ) → Accepted n t → (2 ≤ n) × (n ≤ 64)
 accepted_top n t a = size-bounds n a.size
-
-pub accepted_long : (n : ℕ) (t : List ℕ) → Accepted n t → length t ≡ table_length n
-accepted_long n t a = a.long
 
 pub assignment_ok : (n : ℕ) (t : List ℕ) (i len : ℕ) (x : Unit {0}) → assignment_check n t i len ≡ Ok x
     → Accepted n t × (i < n) × (live n t i ≡ true) × (len ≡ 2 * (n - 1))

@@ -1,7 +1,8 @@
 // Which distances are due (document 01, step 1), who is first at the others (request C-16), and the assignment.
-ghost use Rattle.std.specs.Prelude.{◌≡◌, ◌+◌, ◌*◌, ◌<◌, true, length, Some, option_map};
-ghost use Rattle.table.specs.Sizes.{is_size, level};
-ghost use Rattle.station.specs.Groups.{station_at};
+ghost use Rattle.std.specs.Prelude.{◌≡◌, ◌+◌, ◌*◌, ◌<◌, length, Some, IfOk, option_map};
+ghost use Rattle.std.specs.Result.{result_map_both};
+ghost use Rattle.table.specs.Sizes.{level};
+ghost use Rattle.table.specs.Table.{row};
 ghost use Rattle.station.specs.Tests.{unsuspected, first, answer_of, answer, stands, due_distances};
 ghost use Rattle.station.specs.Ahead.{block_end};
 ghost use Rattle.station.specs.Calls.{answer_value, other_distances, assignment_entries, assignment_check, assignment_after, assignment_answer};
@@ -9,7 +10,7 @@ ghost use Rattle.station.specs.Calls.{answer_value, other_distances, assignment_
 use crate::{DueOrAhead, groups, order, rows};
 use lists::refusal::Refusal;
 use table::lent::Table;
-use table::{Distance, Station, rules, sizes};
+use table::{Distance, Station, sizes};
 
 // Whether the row leaves station x not suspected. Past the row's end a station is absent. By an index: with `get` drives were slower.
 fn is_unsuspected(row: &[u8], x: Station) -> bool
@@ -20,7 +21,7 @@ fn is_unsuspected(row: &[u8], x: Station) -> bool
 }
 
 // The first station that the row does not suspect in the group of j at the level of distance m.
-// A plain loop: the run goes through it, where chains of closures took 1.7 to 2.2 times as long.
+// A plain loop, since the run goes through it: in the check of a table std's `all` took 1.7 to 2.2 times as long as a loop.
 fn first_unsuspected(row: &[u8], j: Station, m: Distance) -> Option<Station>
     ensures { option_map (λ x. x.0) result ≡ first (unsuspected row.now) j.0 (level m.0) }
 {
@@ -46,22 +47,14 @@ pub fn stands(row: &[u8], i: Station, m: Distance) -> bool
     at < row.len()
 }
 
-// Whether distance m is due for i, by i's row, or who is first instead; i itself where nobody stands or nobody is first.
+// Whether distance m is due for i, by i's row, or who is first instead; i itself where nobody stands or nobody is first. It is one function, since
+// with the part behind the first test as a call of its own drives were 0.93 times as fast.
 pub fn due_or_ahead(row: &[u8], i: Station, m: Distance) -> DueOrAhead
     ensures { answer_value result ≡ answer row.now i.0 m.0 }
 {
     if !stands(row, i, m) {
         return DueOrAhead::Ahead(i);
     }
-    due_or_ahead_of(row, i, m)
-}
-
-// The same for a caller that knows that a station stands at distance m. In line, since as a call of its own it made drives 0.93 times as fast.
-#[inline(always)]
-pub fn due_or_ahead_of(row: &[u8], i: Station, m: Distance) -> DueOrAhead
-    ensures { answer_value result
-        ≡ answer_of i.0 (first (unsuspected row.now) (station_at i.0 m.0) (level m.0)) }
-{
     match first_unsuspected(row, order::lookup(i, m), m) {
         Some(x) => answer_of(i, x),
         None => DueOrAhead::Ahead(i),
@@ -92,44 +85,43 @@ pub fn block_end(m: Distance) -> Distance
 
 // The assignment of live station i (request C-16): for each other station, by ascending distance, the distance, and 255 if it is due or else the
 // one ahead; and how many are due.
-#[tactic(auto, using(crate::proofs::Refusals::assignment_ok, crate::proofs::Refusals::accepted_top, crate::proofs::Refusals::accepted_long, crate::proofs::Refusals::accepted_size), unfolding(crate::specs::Calls::assignment_answer, crate::specs::Calls::assignment_after))]
+#[tactic(auto, using(crate::proofs::Refusals::assignment_ok), unfolding(crate::specs::Calls::assignment_answer, crate::specs::Calls::assignment_after))]
 pub fn assignment(n: usize, table: &[u8], i: Station, list: &mut [u8]) -> Result<u8, Refusal>
     ensures value { result ≡ assignment_answer n table.now i.0 (length list.old) }
     ensures list_after { list.new ≡ assignment_after n table.now i.0 list.old }
 {
-    check_assignment(n, table, i, list.len())?;
-    let lent = Table {
-        n: n as u8,
-        bytes: table,
-    };
-    Ok(write_entries(lent.n, lent.row(i), i, list))
+    let lent = check_assignment(n, table, i, list.len())?;
+    Ok(write_entries(&lent, i, list))
 }
 
 // Refusals 1 to 4, 9, 10, 13.
 #[tactic(auto, using(crate::proofs::Refusals::row_ok, crate::proofs::Refusals::accepted_top), unfolding(crate::specs::Calls::assignment_check))]
-fn check_assignment(n: usize, table: &[u8], i: Station, len: usize) -> Result<(), Refusal>
-    ensures { result ≡ assignment_check n table.now i.0 len }
+fn check_assignment(n: usize, table: &[u8], i: Station, len: usize) -> Result<Table<'_>, Refusal>
+    ensures check { result_map_both (λ t. tt) (λ r. r) result ≡ assignment_check n table.now i.0 len }
+    ensures size { IfOk result (λ t. t.n ≡ n) }
+    ensures bytes { IfOk result (λ t. t.bytes.now ≡ table.now) }
 {
-    rows::check_row(n, table, i)?;
-    if !rules::is_live(n as u8, table, i) {
+    let lent = rows::checked_line(n, table, i)?;
+    if !lent.is_live(i) {
         return Err(Refusal::NotLive);
     }
     if len != 2 * (n - 1) {
         return Err(Refusal::ListLength);
     }
-    Ok(())
+    Ok(lent)
 }
 
-// Writes the entries of i of n stations, by its row; answers how many are due.
-fn write_entries(n: u8, row: &[u8], i: Station, list: &mut [u8]) -> u8
-    requires size { is_size n ≡ true }
-    requires row_len { length row.now ≡ n }
-    requires station { i.0 < n }
-    requires list_len { length list.old + 2 ≡ 2 * n }
-    ensures value { result ≡ length (due_distances row.now i.0 n) }
-    ensures list_after { list.new ≡ assignment_entries row.now i.0 (other_distances n i.0) }
+// Writes the entries of i, by its row; answers how many are due.
+fn write_entries(table: &Table, i: Station, list: &mut [u8]) -> u8
+    requires station { i.0 < table.now.n }
+    requires list_len { length list.old + 2 ≡ 2 * table.now.n }
+    ensures value { let n = table.now.n in
+        result ≡ length (due_distances (row n table.now.bytes.now i.0) i.0 n) }
+    ensures list_after { let n = table.now.n in
+        list.new ≡ assignment_entries (row n table.now.bytes.now i.0) i.0 (other_distances n i.0) }
 {
-    let end = sizes::distances(n) as u8;
+    let row = table.row(i);
+    let end = sizes::distances(table.n) as u8;
     let others = (1..end).filter(|m| stands(row, i, Distance(*m)));
     let mut due = 0;
     // By places: of what is written through `chunks_exact_mut` no proof knows anything afterwards.

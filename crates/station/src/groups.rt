@@ -59,6 +59,9 @@ fn check_range(n: u8, i: Station, s: Level) -> Result<(), Refusal>
     Ok(())
 }
 
+// This function and the next ask for a level. A struct of n, i and s with that range is no plainer: its check would have a clause for each field.
+// They have one chain each, since what handed it out would hand out closures.
+//
 // How many stations the group of i at level s has among n.
 fn group_length(n: u8, i: Station, s: Level) -> usize
     requires s_nonzero { 0 < s.0 }

@@ -1,40 +1,47 @@
 // Rows: handed back as a part of the lent table, joined and marked (document 01, steps 4 and 5).
-ghost use Rattle.std.specs.Prelude.{◌≡◌, ◌+◌};
+ghost use Rattle.std.specs.Prelude.{◌≡◌, ◌+◌, ◌<◌, IfOk};
+ghost use Rattle.std.specs.Result.{result_map_both};
 ghost use Rattle.station.specs.Rows.{union, mark};
 ghost use Rattle.station.specs.Calls.{row_check, row_part, row_offset};
 
 use lists::bytes;
 use lists::refusal::Refusal;
+use table::Station;
 use table::lent::Table;
-use table::{Station, rules};
 
 // The row of station i, as that very part of the table: its bytes, and its place in the lent memory. Refused: the empty part.
-#[tactic(auto, using(crate::proofs::Refusals::row_ok, crate::proofs::Refusals::accepted_top, crate::proofs::Refusals::accepted_long), unfolding(crate::specs::Calls::row_part, crate::specs::Calls::row_offset))]
+#[tactic(auto, unfolding(crate::specs::Calls::row_part, crate::specs::Calls::row_offset))]
 pub fn row(n: usize, table: &[u8], i: Station) -> &[u8]
     ensures result_value { result.now ≡ row_part n table.now i.0 }
     ensures ref_ptr_value { (result.ref_ptr.0 ≡ table.entry.ref_ptr.0) × (result.ref_ptr.1 ≡ table.entry.ref_ptr.1 + row_offset n table.now i.0) }
 {
-    match check_row(n, table, i) {
-        Ok(()) => Table {
-            n: n as u8,
-            bytes: table,
-        }
-        .row(i),
+    match checked_line(n, table, i) {
+        Ok(lent) => lent.row(i),
         Err(_) => &table[0..0],
     }
 }
 
 // Refusals 1 to 4 and 9 of the row on the same inputs.
-#[tactic(auto, unfolding(crate::specs::Calls::row_check))]
 pub fn check_row(n: usize, table: &[u8], i: Station) -> Result<(), Refusal>
     ensures { result ≡ row_check n table.now i.0 }
 {
-    rules::check_table(n, table)?;
-    let station = i.0;
-    if n <= station as usize {
+    checked_line(n, table, i).map(|_| ())
+}
+
+// The lent bytes as a table that has a line i: the same refusals.
+#[tactic(auto, using(crate::proofs::Refusals::row_ok), unfolding(crate::specs::Calls::row_check))]
+pub(crate) fn checked_line(n: usize, table: &[u8], i: Station) -> Result<Table<'_>, Refusal>
+    ensures check { result_map_both (λ t. tt) (λ r. r) result ≡ row_check n table.now i.0 }
+    ensures size { IfOk result (λ t. t.n ≡ n) }
+    ensures bytes { IfOk result (λ t. t.bytes.now ≡ table.now) }
+    ensures place { IfOk result (λ t. t.bytes.ref_ptr ≡ table.entry.ref_ptr) }
+    ensures line { IfOk result (λ t. i.0 < t.n) }
+{
+    let lent = Table::checked(n, table)?;
+    if lent.n <= i.0 {
         return Err(Refusal::NoSuchStation);
     }
-    Ok(())
+    Ok(lent)
 }
 
 // Joins another row into the row of station own: the union, but for own's byte about itself.

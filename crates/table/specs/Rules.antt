@@ -6,7 +6,7 @@ use Rattle.lists.specs.Search.{every}
 use Rattle.table.specs.Sizes.{is_size, distances}
 use Rattle.table.specs.Table.{table_length, status, status_told, next_distance, finished, tests_made, told_by, told_by_none, not_recorded, rounds_ago, suspects, live}
 use Rattle.lists.specs.declared.refusal.Refusal.TheVariants.{SizeOutOfRange, TableLength, LineRule, RoundNotClosed, NoSuchStation, ListLength}
-use Rattle.lists.specs.Refusal.{Check, ensure, ◌and◌, number_of_result, refuse}
+use Rattle.lists.specs.Refusal.{Check, ensure, ◌and◌, number_of_result}
 
 -- status, "each byte in its range"
 abbrev pub status_rule : ℕ → Bool
@@ -82,12 +82,6 @@ table_number n t = number_of_result (table_check n t)
 abbrev pub station_check : ℕ → ℕ → Check
 station_check n i = ensure (nat_lt i n) NoSuchStation
 
-abbrev pub station_refusal : ℕ → ℕ → ℕ
-station_refusal n i = refuse 9 (nat_le n i)
-
 -- refusal 13: "The lent list has not the length stated."
 abbrev pub length_check : ℕ → ℕ → Check
 length_check stated len = ensure (len == stated) ListLength
-
-abbrev pub length_refusal : ℕ → ℕ → ℕ
-length_refusal stated len = refuse 13 (not (len == stated))

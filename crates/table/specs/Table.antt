@@ -1,7 +1,7 @@
 -- Document 01, "The lent table", with the six-byte heads of request C-18 of document 02: N lines of N + 6 bytes, in station order. A byte is
 -- read and written by line and column.
 -- Assumes nothing.
-use Rattle.std.specs.Prelude.{◌≡◌, ℕ, ◌+◌, ◌*◌, ◌<◌, Bool, List, ◌++◌, length, set, take, drop, ◌==◌, slice_index}
+use Rattle.std.specs.Prelude.{ℕ, ◌+◌, ◌*◌, Bool, List, ◌++◌, set, take, drop, ◌==◌, slice_index}
 
 -- how many bytes of a line stand before its row. C-18: "The head of each line grows from four to six bytes."
 abbrev pub head : ℕ
@@ -22,10 +22,6 @@ greatest_table = 64 * stride 64
 -- where line i begins
 unfoldable pub line_start : ℕ → ℕ → ℕ
 line_start n i = i * stride n
-
--- a table of n stations' length that has line i: what is asked where a byte or a row is read or written without a test of its place
-abbrev pub HasLine : ℕ → List ℕ → ℕ → Type 0
-HasLine n t i = (length t ≡ table_length n) × (i < n)
 
 -- byte c of line i
 unfoldable pub cell : ℕ → List ℕ → ℕ → ℕ → ℕ

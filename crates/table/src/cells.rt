@@ -3,9 +3,8 @@ ghost use Rattle.std.specs.Prelude.{◌≡◌, ◌+◌, ◌*◌, ◌≤◌};
 ghost use Rattle.table.specs.Table.{head, stride, table_length, line_start, cell, row_start};
 
 use crate::Station;
-use crate::status::Status;
 
-// The columns of a line's head.
+// The columns of a line's head. They are numbers, and no enum: a column is a byte's place in its line, and those from HEAD on are the row's.
 pub const STATUS: u16 = 0;
 
 pub const NEXT: u16 = 1;
@@ -17,15 +16,6 @@ pub const TESTS: u16 = 3;
 pub const TOLD_BY: u16 = 4;
 
 pub const ROUNDS_AGO: u16 = 5;
-
-// The statuses of a station as bytes.
-pub const LIVE: u8 = Status::Live as u8;
-
-pub const CRASHED: u8 = Status::Crashed as u8;
-
-pub const LEFT_TOLD: u8 = Status::LeftTold as u8;
-
-pub const LEFT_ALONE: u8 = Status::LeftAlone as u8;
 
 // Byte 4 where no station told this one to leave, and where that was never recorded.
 pub const TOLD_BY_NONE: u8 = 255;
@@ -80,5 +70,5 @@ pub(crate) fn get_cell(n: u8, table: &[u8], i: Station, c: u16) -> u8
     ensures { result ≡ cell n table.now i.0 c }
 {
     let at = line_start(n, i) + c as usize;
-    if at < table.len() { table[at] } else { 0 }
+    table.get(at).copied().unwrap_or(0)
 }

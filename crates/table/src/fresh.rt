@@ -1,9 +1,10 @@
 // The fresh table (document 01, "What can be asked"; request C-18).
 ghost use Rattle.std.specs.Prelude.{◌≡◌, length};
-ghost use Rattle.table.specs.Table.{table_length};
+ghost use Rattle.table.specs.Lent.{IsSameLoan};
 ghost use Rattle.table.specs.Rules.{shape_check};
 ghost use Rattle.table.specs.Fresh.{fresh_byte, fresh_table, fresh_after};
 
+use crate::lent::TableMut;
 use crate::{cells, rules};
 use lists::refusal::Refusal;
 
@@ -14,17 +15,20 @@ pub fn fresh_table(n: usize, table: &mut [u8]) -> Result<(), Refusal>
     ensures table_after { table.new ≡ fresh_after n table.old }
 {
     rules::check_shape(n, table.len())?;
-    write_fresh(n as u8, table);
+    write_fresh(&mut TableMut {
+        n: n as u8,
+        bytes: table,
+    });
     Ok(())
 }
 
 #[tactic(auto, using(lists::proofs::Loops::loops), unfolding(crate::specs::Fresh::fresh_table))]
-fn write_fresh(n: u8, table: &mut [u8])
-    requires { length table.old ≡ table_length n }
-    ensures { table.new ≡ fresh_table n }
+fn write_fresh(table: &mut TableMut)
+    ensures same { IsSameLoan table.old table.new }
+    ensures bytes { table.new.bytes.now ≡ fresh_table table.old.n }
 {
-    for (p, byte) in table.iter_mut().enumerate() {
-        *byte = fresh_byte(n, p);
+    for (p, byte) in table.bytes.iter_mut().enumerate() {
+        *byte = fresh_byte(table.n, p);
     }
 }
 

@@ -1,10 +1,11 @@
-// The lent table as a type: a size and the bytes of a table of that size. That the length fits is a ghost field, so that no method asks for it.
-// That a line or column is there a method does ask, since it makes no test of its place.
-ghost use Rattle.std.specs.Prelude.{◌≡◌, ◌+◌, ◌<◌, ◌==◌, length, IfOk};
+// The lent table as a type: a size and the bytes of a table of that size. That the size is one and that the length fits are ghost fields, so that
+// no method asks for them. That a line or column is there a method does ask, since it makes no test of its place.
+ghost use Rattle.std.specs.Prelude.{◌≡◌, ◌+◌, ◌<◌, ◌==◌, true, length, IfOk};
+ghost use Rattle.table.specs.Sizes.{is_size};
 ghost use Rattle.table.specs.Table.{head, stride, table_length, cell, set_cell, status_column, row_start, row, live, next_distance, finished, suspects};
 ghost use Rattle.table.specs.Status.{status_byte};
 ghost use Rattle.std.specs.Result.{result_map_both};
-ghost use Rattle.table.specs.Rules.{shape_check, finished_if_live, round_over};
+ghost use Rattle.table.specs.Rules.{shape_check, table_check, finished_if_live, round_over};
 
 use crate::status::Status;
 use crate::{Distance, Station, cells, rules};
@@ -15,14 +16,17 @@ use lists::refusal::Refusal;
 pub struct Table<'a> {
     pub n: u8,
     pub bytes: &'a [u8],
+    ghost sized: { is_size n ≡ true },
     ghost fits: { length bytes.now ≡ table_length n },
 }
 
-// A table of n stations, to be written.
+// A table of n stations, to be written. It is made by hand behind a check: of a `checked` of its own callers would not know that a refused call
+// leaves the bytes, since the clause for that, LendsIfOk, is for no slice.
 #[derive(Drop)]
 pub struct TableMut<'a> {
     pub n: u8,
     pub bytes: &'a mut [u8],
+    ghost sized: { is_size n ≡ true },
     ghost fits: { length bytes.now ≡ table_length n },
 }
 
@@ -33,9 +37,28 @@ impl<'a> Table<'a> {
         ensures check { result_map_both (λ t. tt) (λ r. r) result ≡ shape_check n (length bytes.now) }
         ensures size { IfOk result (λ t. t.n ≡ n) }
         ensures bytes { IfOk result (λ t. t.bytes.now ≡ bytes.now) }
+        ensures place { IfOk result (λ t. t.bytes.ref_ptr ≡ bytes.entry.ref_ptr) }
     {
         rules::check_shape(n, bytes.len())?;
         Ok(Table { n: n as u8, bytes })
+    }
+
+    // The lent bytes as a table of n stations that obeys the line rules and whose round is not over: refusals 1 to 4.
+    #[tactic(auto, unfolding(crate::specs::Rules::table_check))]
+    pub fn checked(n: usize, bytes: &'a [u8]) -> Result<Table<'a>, Refusal>
+        ensures check { result_map_both (λ t. tt) (λ r. r) result ≡ table_check n bytes.now }
+        ensures size { IfOk result (λ t. t.n ≡ n) }
+        ensures bytes { IfOk result (λ t. t.bytes.now ≡ bytes.now) }
+        ensures place { IfOk result (λ t. t.bytes.ref_ptr ≡ bytes.entry.ref_ptr) }
+    {
+        let table = Table::of(n, bytes)?;
+        if !rules::all_lines(&table) {
+            return Err(Refusal::LineRule);
+        }
+        if table.is_round_over() {
+            return Err(Refusal::RoundNotClosed);
+        }
+        Ok(table)
     }
 
     // Byte c of line i.
@@ -54,7 +77,7 @@ impl<'a> Table<'a> {
         requires { i.0 < self.now.n }
         ensures { result ≡ live self.now.n self.now.bytes.now i.0 }
     {
-        self.get(i, cells::STATUS) == cells::LIVE
+        self.get(i, cells::STATUS) == u8::from(Status::Live)
     }
 
     // The next distance of station i.
@@ -81,7 +104,8 @@ impl<'a> Table<'a> {
         !self.is_live(i) | self.is_finished(i)
     }
 
-    // Whether some station is live and every live one has finished its pass.
+    // Whether some station is live and every live one has finished its pass. A loop with an exit, as the check's other one, `rules::all_lines`:
+    // there `all` was slower.
     #[tactic(auto, using(lists::proofs::Loops::loops, crate::proofs::Accepting::rounds))]
     pub fn is_round_over(&self) -> bool
         ensures { result ≡ round_over self.now.n self.now.bytes.now }

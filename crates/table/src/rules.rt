@@ -4,13 +4,13 @@ ghost use Rattle.std.specs.Prelude.{◌≡◌, ◌<◌, length};
 ghost use Rattle.lists.specs.Search.{every};
 ghost use Rattle.table.specs.Status.{status_byte};
 ghost use Rattle.table.specs.Table.{live};
-ghost use Rattle.table.specs.Rules.{pass_rule, exit_rule, row_rule, line_rules, finished_if_live, round_over, shape_check, table_check, table_number};
+ghost use Rattle.table.specs.Rules.{pass_rule, exit_rule, row_rule, line_rules, finished_if_live, round_over, shape_check, table_check};
 
 use crate::lent::Table;
 use crate::status::Status;
 use crate::{Station, cells, sizes};
+use lists::bytes;
 use lists::refusal::Refusal;
-use lists::{bytes, refusal};
 
 // Refusals 1 and 2.
 #[tactic(auto, using(crate::proofs::SizeLaws::size_top), unfolding(crate::specs::Rules::shape_check))]
@@ -27,25 +27,10 @@ pub(crate) fn check_shape(n: usize, len: usize) -> Result<(), Refusal>
 }
 
 // Refusals 1 to 4.
-#[tactic(auto, using(crate::proofs::Accepting::shape_ok, crate::proofs::SizeLaws::size_top), unfolding(crate::specs::Rules::table_check))]
 pub fn check_table(n: usize, table: &[u8]) -> Result<(), Refusal>
     ensures { result ≡ table_check n table.now }
 {
-    let lent = Table::of(n, table)?;
-    if !all_lines(&lent) {
-        return Err(Refusal::LineRule);
-    }
-    if lent.is_round_over() {
-        return Err(Refusal::RoundNotClosed);
-    }
-    Ok(())
-}
-
-// The number of that check, for the calls that answer a number.
-pub fn table_number(n: usize, table: &[u8]) -> u8
-    ensures { result ≡ table_number n table.now }
-{
-    refusal::number_of(check_table(n, table))
+    Table::checked(n, table).map(|_| ())
 }
 
 // This function and the two below ask nothing of size and table, as each that is open to a caller: a byte past the end counts as 0. The methods of
@@ -55,10 +40,10 @@ pub fn table_number(n: usize, table: &[u8]) -> u8
 pub fn is_live(n: u8, table: &[u8], i: Station) -> bool
     ensures { result ≡ live n table.now i.0 }
 {
-    cells::get_cell(n, table, i, cells::STATUS) == cells::LIVE
+    cells::get_cell(n, table, i, cells::STATUS) == u8::from(Status::Live)
 }
 
-// Whether some station is live and every live one has finished its pass.
+// Whether some station is live and every live one has finished its pass: the loop of `Table::is_round_over`.
 #[tactic(auto, using(lists::proofs::Loops::loops, crate::proofs::Accepting::rounds))]
 pub fn is_round_over(n: u8, table: &[u8]) -> bool
     ensures { result ≡ round_over n table.now }
@@ -81,9 +66,10 @@ pub fn finished_if_live(n: u8, table: &[u8], i: Station) -> bool
     !is_live(n, table, i) | (finished == 1)
 }
 
-// Whether every line obeys the line rules.
+// Whether every line obeys the line rules. A loop with an exit: by std's `all` a check took 1.7 to 2.2 times as long, 111 for 64 ns with 8
+// stations and 843 for 379 ns with 64.
 #[tactic(auto, using(lists::proofs::Loops::loops))]
-fn all_lines(table: &Table) -> bool
+pub(crate) fn all_lines(table: &Table) -> bool
     ensures { result ≡ every (line_rules table.now.n table.now.bytes.now) table.now.n }
 {
     for i in 0..table.n {

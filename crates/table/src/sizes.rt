@@ -31,7 +31,8 @@ pub fn dimension_of(n: u8) -> Level
 
 // How many distances there are in a plant of n stations, 0 included.
 pub fn distances(n: u8) -> u16
-    ensures { result ≡ distances n }
+    ensures value { result ≡ distances n }
+    ensures upper_bound { result ≤ 256 }
 {
     let d = dimension_of(n);
     1u16 << d.0

@@ -3,8 +3,6 @@
 #![tactic(auto)]
 
 ghost use Rattle.std.specs.Prelude.{◌≡◌, min, ◌++◌, length};
-ghost use Rattle.std.specs.Result.{result_unwrap_or};
-ghost use Rattle.lists.specs.Refusal.{number_of_result};
 ghost use Rattle.table.specs.Rules.{shape_number};
 ghost use Rattle.table.specs.Fresh.{fresh_after};
 ghost use Rattle.station.specs.Calls.{group_number, group_after, row_number, row_part, row_offset, assignment_number, assignment_after, assignment_count};
@@ -23,8 +21,7 @@ ghost use Rattle.vcube.specs.Exports.{outcome_out, drive_out, tally_of, loaded_o
 
 use figures::{Figures, Totals, adding, batch};
 use granter::grant;
-use lists::refusal;
-use lists::refusal::Refusal;
+use lists::refusal::{number_of, parts};
 use plant::Tally;
 use saved::{Loaded, load, save};
 use station::{due, groups, rows};
@@ -36,7 +33,7 @@ pub extern "C" fn vcube_fresh_table(n: usize, table: &mut [u8]) -> u8
     ensures value { result ≡ shape_number n (length table.old) }
     ensures table_after { table.new ≡ fresh_after n table.old }
 {
-    refusal::number_of(fresh::fresh_table(n, table))
+    number_of(fresh::fresh_table(n, table))
 }
 
 // Group list: the members of the station's group at that level, in order.
@@ -47,7 +44,7 @@ pub extern "C" fn vcube_group_list(n: usize, station: usize, level: usize, list:
     ensures list_after { list.new ≡ group_after n station level list.old }
 {
     let check = groups::group_list(n, Station(byte_of(station)), Level(byte_of(level)), list);
-    refusal::number_of(check)
+    number_of(check)
 }
 
 // Assignment of a live station: for each other station, by ascending distance, the distance, and 255 if it is due or else the one ahead; how many
@@ -188,7 +185,7 @@ pub extern "C" fn vcube_save(
     ensures value { result ≡ save_number n table.now (tally_of rounds tests) (length buffer.old) }
     ensures buffer_after { buffer.new ≡ save_after n table.now (tally_of rounds tests) buffer.old }
 {
-    refusal::number_of(save::save(n, table, Tally { rounds, tests }, buffer))
+    number_of(save::save(n, table, Tally { rounds, tests }, buffer))
 }
 
 // Load: a saved plant's table, into a buffer of just its length; its size and tally into n, rounds and tests, 0 where it is refused.
@@ -283,17 +280,6 @@ pub extern "C" fn vcube_figures_of_totals(kept: &[u64; 5], answer: &mut [u64; 7]
     let (number, figures) = parts(of_kept, Figures::default());
     *answer = figures_members(figures);
     number
-}
-
-// An answer as C has it: its number, and its value, or where it is refused what is left in the value's place.
-fn parts<T: Copy>(answer: Result<T, Refusal>, refused: T) -> (u8, T)
-    ensures number { result.0 ≡ number_of_result answer }
-    ensures value { result.1 ≡ result_unwrap_or answer refused }
-{
-    match answer {
-        Ok(value) => (0, value),
-        Err(refusal) => (refusal.number(), refused),
-    }
 }
 
 // The members of a struct of figures, in their order.

@@ -1,8 +1,9 @@
--- As long as no two bytes were apart, all bytes passed are the same.
-use Rattle.std.proofs.Common.{◌≡◌, eqb}
-use Rattle.lists.specs.Search.{every}
-use Rattle.lists.specs.Bytes.{same_byte}
+-- As long as no two bytes were apart, it is the question of those still to come, of which there are as many in both lists.
+use Rattle.std.proofs.Common.{◌≡◌, ◌&&◌, nat_eq, length}
+use Rattle.lists.specs.Bytes.{same_bytes}
 use Rattle.lists.proofs.bytes.same_bytes.Given as goal
 
-abbrev pub invariant-loop-k : goal.invariant-loop-k
-invariant-loop-k l = eqb l.apart 0 ≡ every (same_byte l.list l.other) l.k
+abbrev pub invariant-loop-x : goal.invariant-loop-x
+invariant-loop-x l =
+    (same_bytes l.list l.other ≡ (nat_eq l.apart 0 && same_bytes l.x-iterator.a.rest.now l.x-iterator.b.rest.now))
+    × (length l.x-iterator.a.rest.now ≡ length l.x-iterator.b.rest.now)

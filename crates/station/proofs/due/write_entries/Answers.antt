@@ -15,7 +15,7 @@ use Rattle.station.proofs.due.write_entries.Goals as goal
 use Rattle.station.proofs.due.write_entries.Goals.{In-Some, In-None}
 
 pub overflow_cast-end : goal.overflow_cast-end
-overflow_cast-end c = omega (arith, size-distances _ c.requires.size)
+overflow_cast-end c = omega (arith, size-distances _ c.args.table.now.sized, c.distances-end.ensures.value)
 
 pub loop-k-init : goal.loop-k-init
 unfolding assignment_entries
@@ -31,26 +31,26 @@ turn c =
     let t = YieldsList-turn
     (YieldsList-at c.into_iter-k-iterator.ensures.into_iter_gives
     (YieldsList-from_enumerate (YieldsList-at c.enumerate-k-items.ensures.source
-    (YieldsList-from_filter _ (stands c.args.row.now c.args.i.0) (YieldsList-at c.filter-others.ensures.source
-    (YieldsList-from_range 1 c.distances-end.result (distances c.args.n - 1) (search rules) (omega (arith, c.distances-end.ensures))))
+    (YieldsList-from_filter _ (stands c.row-row.result.now c.args.i.0) (YieldsList-at c.filter-others.ensures.source
+    (YieldsList-from_range 1 c.distances-end.result (distances c.args.table.now.n - 1) (search rules) (omega (arith, c.distances-end.ensures.value))))
     c.filter-others.ensures.closure (λ x r q k. search (rules, tests))))
     c.enumerate-k-items.ensures.count))
     c.loop-k.yielded _ c.loop-k.yielded_by _ _ _ c.in-Some.is c.next.ensures.steps in
     let p = enumerated _ _ _ _ t in
     let q = c.requires in
-    (p.0, entry-fits _ _ _ q.size q.row_len q.station _ c.args.list.now c.loop-k.yielded _ c.in-Some.m q.list_len p.0 p.1)
+    (p.0, entry-fits _ _ _ c.args.table.now.sized c.row-row.ensures.len q.station _ c.args.list.now c.loop-k.yielded _ c.in-Some.m q.list_len p.0 p.1)
 
 pub overflow_mul-list : goal.overflow_mul-list
-overflow_mul-list c = omega (arith, (turn (goal.at.overflow_mul-list c).In-Some).1, c.requires.list_len, size-bounds _ c.requires.size)
+overflow_mul-list c = omega (arith, (turn (goal.at.overflow_mul-list c).In-Some).1, c.requires.list_len, size-bounds _ c.args.table.now.sized)
 
 pub bounds-list-k : goal.bounds-list-k
 bounds-list-k c = omega (arith, (turn (goal.at.bounds-list-k c).In-Some).1, c.loop-k.auto.list)
 
 pub overflow_mul-list-in-loop-k : goal.overflow_mul-list-in-loop-k
-overflow_mul-list-in-loop-k c = omega (arith, (turn (goal.at.overflow_mul-list-in-loop-k c).In-Some).1, c.requires.list_len, size-bounds _ c.requires.size)
+overflow_mul-list-in-loop-k c = omega (arith, (turn (goal.at.overflow_mul-list-in-loop-k c).In-Some).1, c.requires.list_len, size-bounds _ c.args.table.now.sized)
 
 pub overflow_add-list : goal.overflow_add-list
-overflow_add-list c = omega (arith, (turn (goal.at.overflow_add-list c).In-Some).1, c.requires.list_len, size-bounds _ c.requires.size)
+overflow_add-list c = omega (arith, (turn (goal.at.overflow_add-list c).In-Some).1, c.requires.list_len, size-bounds _ c.args.table.now.sized)
 
 pub bounds-list-k-in-loop-k : goal.bounds-list-k-in-loop-k
 bounds-list-k-in-loop-k c = omega (arith, (turn (goal.at.bounds-list-k-in-loop-k c).In-Some).1, c.loop-k.auto.list, length-set c.loop-k.list (2 * c.in-Some.k) c.in-Some.m)
@@ -58,7 +58,7 @@ bounds-list-k-in-loop-k c = omega (arith, (turn (goal.at.bounds-list-k-in-loop-k
 pub overflow_add-due : goal.overflow_add-due
 overflow_add-due c =
     let t = turn (goal.at.overflow_add-due c).In-Some in
-    omega (arith, t.0, t.1, c.requires.list_len, size-bounds _ c.requires.size, entry-few _ c.loop-k.yielded _ c.loop-k.invariant.counted, bool-few c.is_due.result, c.from-due.ensures)
+    omega (arith, t.0, t.1, c.requires.list_len, size-bounds _ c.args.table.now.sized, entry-few _ c.loop-k.yielded _ c.loop-k.invariant.counted, bool-few c.is_due.result, c.from-due.ensures)
 
 pub loop-k-preserved : goal.loop-k-preserved
 loop-k-preserved c =
@@ -66,30 +66,32 @@ loop-k-preserved c =
     let t = turn (goal.at.loop-k-preserved c).In-Some in
     let q = c.requires in
     record {
-      counted = rw c.from-due.ensures (entry-counted (due c.args.row.now c.args.i.0) c.loop-k.yielded c.in-Some.k c.in-Some.m _ c.is_due.result (c.is_due.ensures ∙ ap says_due c.due_or_ahead-answer.ensures ∙ sym (due-is _ _ _)) i.counted);
-      written = rw (c.byte.ensures, c.due_or_ahead-answer.ensures) (entry-written _ _ _ q.size q.row_len q.station _ _ c.loop-k.yielded _ _ q.list_len t.0 i.written);
+      counted = rw c.from-due.ensures (entry-counted (due c.row-row.result.now c.args.i.0) c.loop-k.yielded c.in-Some.k c.in-Some.m _ c.is_due.result (c.is_due.ensures ∙ ap says_due c.due_or_ahead-answer.ensures ∙ sym (due-is _ _ _)) i.counted);
+      written = rw (c.byte.ensures, c.due_or_ahead-answer.ensures) (entry-written _ _ _ c.args.table.now.sized c.row-row.ensures.len q.station _ _ c.loop-k.yielded _ _ q.list_len t.0 i.written);
     }
 
 -- in the end all distances of the others were gone through
-all : (c : In-None) → map (λ (p : ℕ × ℕ). p.1) c.loop-k.yielded ≡ other_distances c.args.n c.args.i.0
+all : (c : In-None) → map (λ (p : ℕ × ℕ). p.1) c.loop-k.yielded ≡ other_distances c.args.table.now.n c.args.i.0
 all c =
     let e = YieldsList-end
     (YieldsList-at c.into_iter-k-iterator.ensures.into_iter_gives
     (YieldsList-from_enumerate (YieldsList-at c.enumerate-k-items.ensures.source
-    (YieldsList-from_filter _ (stands c.args.row.now c.args.i.0) (YieldsList-at c.filter-others.ensures.source
-    (YieldsList-from_range 1 c.distances-end.result (distances c.args.n - 1) (search rules) (omega (arith, c.distances-end.ensures))))
+    (YieldsList-from_filter _ (stands c.row-row.result.now c.args.i.0) (YieldsList-at c.filter-others.ensures.source
+    (YieldsList-from_range 1 c.distances-end.result (distances c.args.table.now.n - 1) (search rules) (omega (arith, c.distances-end.ensures.value))))
     c.filter-others.ensures.closure (λ x r q k. search (rules, tests))))
     c.enumerate-k-items.ensures.count))
     c.loop-k.yielded _ c.loop-k.yielded_by _ _ c.in-None.is c.next.ensures.steps in
     let q = c.requires in
-    enumerated-all 0 _ c.loop-k.yielded e.0 ∙ others-walk _ _ _ q.size q.row_len q.station
+    enumerated-all 0 _ c.loop-k.yielded e.0 ∙ others-walk _ _ _ c.args.table.now.sized c.row-row.ensures.len q.station
 
 pub returns-clause-value : goal.returns-clause-value
 returns-clause-value c =
     let q = c.requires in
-    c.loop-k.invariant.counted ∙ ap length (ap (filter (due c.args.row.now c.args.i.0)) (all c) ∙ others-due _ _ _ q.size q.row_len q.station)
+    rw (← c.row-row.ensures.value)
+    (c.loop-k.invariant.counted ∙ ap length (ap (filter (due c.row-row.result.now c.args.i.0)) (all c) ∙ others-due _ _ _ c.args.table.now.sized c.row-row.ensures.len q.station))
 
 pub returns-clause-list_after : goal.returns-clause-list_after
 returns-clause-list_after c =
     let q = c.requires in
-    rw (all c) at c.loop-k.invariant.written ∙ entry_done _ _ _ q.size q.station _ q.list_len
+    rw (← c.row-row.ensures.value)
+    (rw (all c) at c.loop-k.invariant.written ∙ entry_done _ _ _ c.args.table.now.sized q.station _ q.list_len)

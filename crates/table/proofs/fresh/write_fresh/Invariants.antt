@@ -6,4 +6,4 @@ use Rattle.table.specs.Fresh.{fresh_byte}
 use Rattle.table.proofs.fresh.write_fresh.Given as goal
 
 abbrev pub invariant-loop-p : goal.invariant-loop-p
-invariant-loop-p l = l.table ≡ sets l.initial.table 0 (list_of (fresh_byte l.n) l.p)
+invariant-loop-p l = l.byte-items ≡ sets l.initial.byte-items 0 (list_of (fresh_byte l.fn.table.n) l.p)

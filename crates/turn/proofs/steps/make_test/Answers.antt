@@ -1,7 +1,7 @@
 -- The station tested is another one of the plant.
 use Rattle.std.proofs.Common.{◌∙◌, arith}
 use Rattle.table.proofs.Accepting.{accepted}
-use Rattle.table.proofs.SizeLaws.{size-bounds, size-distances}
+use Rattle.table.proofs.SizeLaws.{size-distances}
 use Rattle.table.proofs.CellLaws.{accepted-line}
 use Rattle.turn.specs.Turn.{testing}
 use Rattle.turn.proofs.StepLines.{station-apart}
@@ -29,11 +29,9 @@ pub apply_outcome-requires : goal.apply_outcome-requires
 apply_outcome-requires c =
     let a = c.args in
     let p = c.requires in
-    let t = accepted a.table.now.n a.table.now.bytes.now p.table_obeys in
     let n = c.count_test.ensures.same.size in
     let e = c.test_outcome-outcome.ensures.tested_value ∙ c.lookup-j.ensures in
     record {
-      size = rw n (size-bounds a.table.now.n t.size).1;
       tester_below = rw n p.tester_below;
       tested_below = rw (n, e) p.tested_below;
       apart = λ q. station-apart a.i.0 a.m.0 p.distance_above_0 (q ∙ e);

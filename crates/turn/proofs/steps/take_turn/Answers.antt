@@ -2,7 +2,7 @@
 use Rattle.std.proofs.Common.{refl, arith}
 use borrow.Author.Tests.{lt-ltb, le-ltb}
 use Rattle.table.proofs.Accepting.{accepted}
-use Rattle.table.proofs.SizeLaws.{size-bounds, size-distances}
+use Rattle.table.proofs.SizeLaws.{size-distances}
 use Rattle.table.proofs.CellLaws.{accepted-line}
 use Rattle.turn.specs.Turn.{makes_test, turn, turn_tested, turn_outcome}
 use Rattle.turn.proofs.NextTest.{next_test-low, test-station}
@@ -10,23 +10,14 @@ use Rattle.turn.proofs.steps.take_turn.Goals as goal
 
 pub next_test-m-requires : goal.next_test-m-requires
 next_test-m-requires c =
-    let a = c.args.table.now in
-    let r = c.read.ensures in
-    let t = accepted a.n a.bytes.now c.requires.table_obeys in
-    record { size = omega (arith, r.size, (size-bounds a.n t.size).1); line = omega (arith, r.size) }
-
-pub finish_pass-requires : goal.finish_pass-requires
-finish_pass-requires c =
-    let a = c.args.table.now in
-    let t = accepted a.n a.bytes.now c.requires.table_obeys in
-    record { size = (size-bounds a.n t.size).1; line = c.requires.station_below }
+    omega (arith, c.read.ensures.size)
 
 pub returns-then-distances-m : goal.returns-then-distances-m
 unfolding turn turn_tested turn_outcome makes_test
 returns-then-distances-m c =
     let r = c.read.ensures in
     let m = rw (r.size, r.bytes) at c.next_test-m.ensures in
-    let e = le-ltb _ _ (rw c.distances.ensures at c.if-distances-m.true) in
+    let e = le-ltb _ _ (rw c.distances.ensures.value at c.if-distances-m.true) in
     let f = c.finish_pass.ensures in
     rw (← m, e) (record { tested_value = refl; outcome_value = refl; same = f.same; bytes = f.bytes })
 
@@ -40,7 +31,7 @@ make_test-requires c =
     let t = accepted a.n a.bytes.now p.table_obeys in
     let l = accepted-line a.n a.bytes.now t i p.station_below in
     let m = rw (r.size, r.bytes) at c.next_test-m.ensures in
-    let end = c.distances.ensures in
+    let end = c.distances.ensures.value in
     let e = lt-ltb _ _ (rw (end, m) at c.if-distances-m.false) in
     record {
       table_obeys = p.table_obeys;
@@ -55,6 +46,6 @@ unfolding turn turn_tested turn_outcome makes_test
 returns c =
     let r = c.read.ensures in
     let m = rw (r.size, r.bytes) at c.next_test-m.ensures in
-    let e = lt-ltb _ _ (rw c.distances.ensures at c.if-distances-m.false) in
+    let e = lt-ltb _ _ (rw c.distances.ensures.value at c.if-distances-m.false) in
     let o = c.make_test.ensures in
     rw (← m, e) (record { tested_value = o.tested_value; outcome_value = o.outcome_value; same = o.same; bytes = o.bytes })

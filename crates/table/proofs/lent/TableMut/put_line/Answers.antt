@@ -2,7 +2,7 @@
 use Rattle.std.proofs.Common.{◌≡◌, ◌+◌, ◌-◌, ◌≤◌, length, append_assoc, arith}
 use Rattle.std.proofs.lemmas.List.Edits.{sets-eq}
 use lib.Seq.{drop-drop}
-use Rattle.table.specs.Table.{stride, table_length, line_start}
+use Rattle.table.specs.Table.{line_start}
 use Rattle.table.proofs.CellLaws.{line-inside}
 use Rattle.table.proofs.lent.TableMut.put_line.Goals as goal
 
