@@ -1,10 +1,10 @@
 // What the commissioning sheet says of a board, by its row: which boards it tests, whom it does not test and who stands ahead (`untested`), how many
 // tests it makes a round, and the most that one more dead board can make of it. The definitions, and the law behind the numbers, stand in crate
-// `slots`.
+// `slots`. Size, row and station stand side by side: in the public calls since any row is taken, of the size's length or not, and in the private ones
+// since a struct would borrow the row, which `tests_with` marks between two calls.
 #![tactic(auto)]
 
-ghost use Rattle.std.specs.Prelude.{◌≡◌, ◌≤◌, true, false};
-ghost use Rattle.table.specs.Sizes.{distances};
+ghost use Rattle.std.specs.Prelude.{◌≡◌, true, false};
 ghost use Rattle.station.specs.Tests.{due};
 ghost use Rattle.slots.specs.Slots.{tested, tests_due, tests_with, most_tests, most_of_boards};
 ghost use Rattle.std.proofs.lemmas.List.Edits.{sets};
@@ -20,7 +20,7 @@ pub fn list_tests(n: u8, row: &[u8], i: Station, list: &mut [u8]) -> u8
     ensures value { result ≡ tests_due n row.now i.0 }
     ensures list_after { list.new ≡ sets list.old 0 (tested n row.now i.0) }
 {
-    let end = distances(n);
+    let end = sizes::distances(n);
     // Counted by hand and not by `enumerate`, since the count is the answer, also where the list is too short.
     let mut count = 0;
     for m in (0..end).filter(|m| is_due(row, i, Distance(*m as u8))) {
@@ -30,19 +30,11 @@ pub fn list_tests(n: u8, row: &[u8], i: Station, list: &mut [u8]) -> u8
     count
 }
 
-// How many distances there are in a plant of n stations, 0 included.
-fn distances(n: u8) -> u16
-    ensures value { result ≡ distances n }
-    ensures upper_bound { result ≤ 256 }
-{
-    sizes::distances(n)
-}
-
 // How many distances are due for i of n stations, by its row.
 fn tests(n: u8, row: &[u8], i: Station) -> u8
     ensures { result ≡ tests_due n row.now i.0 }
 {
-    let end = distances(n);
+    let end = sizes::distances(n);
     (0..end)
         .filter(|m| is_due(row, i, Distance(*m as u8)))
         .count() as u8

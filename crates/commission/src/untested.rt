@@ -3,10 +3,9 @@ ghost use Rattle.std.specs.Prelude.{◌≡◌, length};
 ghost use Rattle.slots.specs.Slots.{is_untested, untested_distances, untested, ahead};
 ghost use Rattle.std.proofs.lemmas.List.Edits.{sets};
 
-use crate::distances;
 use lists::bytes;
 use station::{due, order};
-use table::{Distance, Station};
+use table::{Distance, Station, sizes};
 
 // Whom i of n stations does not test by its row of n bytes, in ascending distance, and who stands ahead of each, into two lent lists; answers how
 // many these are. Past a list's end nothing is written. Two lists and not one of pairs, since both are bytes that a caller lends.
@@ -15,7 +14,7 @@ pub fn list_untested(n: u8, row: &[u8], i: Station, list: &mut [u8], firsts: &mu
     ensures list_after { list.new ≡ sets list.old 0 (untested n row.now i.0) }
     ensures firsts_after { firsts.new ≡ sets firsts.old 0 (ahead n row.now i.0) }
 {
-    let end = distances(n);
+    let end = sizes::distances(n);
     // Counted by hand, as in `list_tests`.
     let mut count = 0;
     for m in (0..end).filter(|m| is_untested(row, i, Distance(*m as u8))) {

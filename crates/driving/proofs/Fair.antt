@@ -18,7 +18,7 @@ use Rattle.lists.proofs.SearchLaws.{every-not, least-between, least-before}
 use Rattle.table.proofs.SizeLaws.{size-bounds}
 use Rattle.table.proofs.Accepting.{Accepted, accepted}
 use Rattle.lists.proofs.RefusalLaws.{check_zero}
-use Rattle.granter.specs.Grant.{no_grant, waits, first_from, following, granted, last_refusal, grant_number, grant_answer, grant_station}
+use Rattle.granter.specs.Grant.{no_grant, waits, first_from, following, granted, last_refusal, grant_number, grant_answer}
 use Rattle.granter.proofs.GrantLaws.{waits-parts, grantable, grant-zero, station-fits, last-below, granted-waits}
 use Rattle.driving.specs.Fairness.{stations_before, NextGoingRound, last_before, Grants, Fairness}
 

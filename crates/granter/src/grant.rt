@@ -67,6 +67,7 @@ pub(crate) fn last_number(last: Option<Station>) -> usize
 }
 
 // The next station after the last granted one, going round, that is live and unfinished.
+#[tactic(auto, using(table::proofs::SizeLaws::size_top))]
 pub(crate) fn next_station(table: &Table, last: Option<Station>) -> Station
     requires table_obeys { table_number table.now.n table.now.bytes.now ≡ 0 }
     requires someone_live { some_live table.now.n table.now.bytes.now ≡ true }

@@ -42,9 +42,6 @@ load_check file len = size_check file and rest_check (file_size file) (file_line
 abbrev pub size_number : List ℕ → ℕ
 size_number file = number_of_result (size_check file)
 
-abbrev pub rest_number : ℕ → List (List ℕ) → ℕ → ℕ
-rest_number n cs len = number_of_result (rest_check n cs len)
-
 abbrev pub load_number : List ℕ → ℕ → ℕ
 load_number file len = number_of_result (load_check file len)
 

@@ -3,7 +3,7 @@
 -- Assumes nothing.
 use Rattle.std.specs.Prelude.{ℕ, Bool, true, false, not, ◌&&◌, ◌||◌, List, [], ◌∷◌, length, if◌then◌else◌, ◌==◌, nat_le, slice_index}
 use Rattle.lists.specs.declared.refusal.Refusal.TheVariants.{NoOpening, FieldOrder}
-use Rattle.lists.specs.Refusal.{Check, ensure, ◌and◌, number_of_result}
+use Rattle.lists.specs.Refusal.{Check, ensure, ◌and◌}
 use Rattle.saved.specs.Fields.{Field}
 use Rattle.saved.specs.Plant.{size_tag, tally_tag, line_tag, station_in}
 use Rattle.saved.specs.declared.order.Before.{Before}
@@ -57,6 +57,3 @@ in_order b (f ∷ fs) = follows b f && in_order (behind b f) fs
 -- 21, then 22
 unfoldable pub order_check : List Field → Check
 order_check fs = ensure (opens fs) NoOpening and ensure (in_order nothing_before (after_opening fs)) FieldOrder
-
-abbrev pub order_number : List Field → ℕ
-order_number fs = number_of_result (order_check fs)

@@ -20,7 +20,7 @@ pub struct Loaded {
     pub tally: Tally,
 }
 
-// The tags of the fields.
+// The tags of the fields. They are bytes of the file, and no enum: a field may have any tag, and the reader passes over those that it does not know.
 const SIZE: u8 = 1;
 
 const TALLY: u8 = 2;

@@ -1,7 +1,6 @@
 // The reader, and the size of a saved plant, by which a caller lends a table of the right length.
 ghost use Rattle.std.specs.Prelude.{◌≡◌, true, false, length};
 ghost use Rattle.table.specs.Sizes.{is_size};
-ghost use Rattle.table.specs.Table.{greatest_table};
 ghost use Rattle.saved.specs.Fields.{runs_past};
 ghost use Rattle.saved.specs.Load.{file_lines, rest_check, rest_after, saved_size, load_answer, load_after};
 
@@ -31,10 +30,14 @@ pub fn load(file: &[u8], table: &mut [u8]) -> Result<Loaded, Refusal>
 }
 
 // Reads the table of a file that has that size. Refusals 20, 2, 3, 4. It is built and judged in a buffer for the greatest table.
-fn read_table(n: u8, file: &[u8], table: &mut [u8], own: &mut [u8]) -> Result<(), Refusal>
+fn read_table(
+    n: u8,
+    file: &[u8],
+    table: &mut [u8],
+    own: &mut [u8; cells::GREATEST_TABLE],
+) -> Result<(), Refusal>
     requires size { is_size n ≡ true }
     requires whole { runs_past file.now ≡ false }
-    requires own_long { length own.old ≡ greatest_table }
     ensures value { result ≡ rest_check n (file_lines file.now) (length table.old) }
     ensures table_after { table.new ≡ rest_after n (file_lines file.now) table.old }
 {

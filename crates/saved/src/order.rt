@@ -12,7 +12,8 @@ use crate::fields::{Field, Fields};
 use crate::{EDITION, LINE, OPENING, SIZE, TALLY};
 use lists::refusal::Refusal;
 
-// What a field is held against: the tag of the one before and the station of the previous line, 0 where there is none.
+// What a field is held against: the tag of the one before and the station of the previous line, 0 where there is none. Not `Option`: no tag and no
+// station is below 0, so that nobody need ask whether there is one before.
 #[derive(Clone, Copy)]
 pub struct Before {
     pub tag: u8,

@@ -1,7 +1,6 @@
 // The writer.
 ghost use Rattle.std.specs.Prelude.{◌≡◌, true, ◌∷◌, ◌++◌, ◌+◌, ◌*◌, ◌≤◌, ◌<◌, length};
 ghost use Rattle.std.proofs.lemmas.List.Edits.{sets};
-ghost use Rattle.table.specs.Sizes.{is_size};
 ghost use Rattle.table.specs.Table.{stride};
 ghost use Rattle.saved.specs.Bytes.{bytes_of};
 ghost use Rattle.saved.specs.Fields.{field, field_bytes};
@@ -11,8 +10,8 @@ ghost use Rattle.saved.specs.Save.{size_field, tally_field, saved_lines, saved, 
 use crate::{LINE, SIZE, TALLY, bytes};
 use lists::refusal::Refusal;
 use plant::Tally;
+use table::cells;
 use table::lent::Table;
-use table::{cells, rules};
 
 // The bytes of the size field and the tally field.
 const FRONT: usize = 15;
@@ -26,20 +25,17 @@ pub fn save(n: usize, table: &[u8], tally: Tally, buffer: &mut [u8]) -> Result<(
     ensures value { result ≡ save_check n table.now tally (length buffer.old) }
     ensures buffer_after { buffer.new ≡ save_after n table.now tally buffer.old }
 {
-    rules::check_table(n, table)?;
+    let table = Table::checked(n, table)?;
     if buffer.len() != FRONT + n * (n + cells::HEAD as usize + BESIDE_LINE) {
         return Err(Refusal::ListLength);
     }
-    let table = Table {
-        n: n as u8,
-        bytes: table,
-    };
     write_opening(table.n, tally, buffer);
     write_lines(&table, buffer);
     Ok(())
 }
 
-// The size field and the tally field.
+// The size field and the tally field. By places, here and below. Tried: a struct with the rest of the buffer, which each write moves on; of what is
+// written through a cursor that `split_at_mut` moves on a proof knows nothing afterwards.
 fn write_opening(n: u8, tally: Tally, buffer: &mut [u8])
     requires { 15 ≤ length buffer.old }
     ensures { buffer.new ≡ sets buffer.old 0 (field_bytes (size_field n) ++ field_bytes (tally_field tally)) }
@@ -53,8 +49,7 @@ fn write_opening(n: u8, tally: Tally, buffer: &mut [u8])
 
 // The line fields behind them, ascending.
 fn write_lines(table: &Table, buffer: &mut [u8])
-    requires size { is_size table.now.n ≡ true }
-    requires buffer_long { length buffer.old ≡ 15 + table.now.n * (stride table.now.n + 4) }
+    requires { length buffer.old ≡ 15 + table.now.n * (stride table.now.n + 4) }
     ensures { buffer.new ≡ sets buffer.old 15 (saved_lines table.now.n table.now.bytes.now table.now.n) }
 {
     let stride = table.n as usize + cells::HEAD as usize;

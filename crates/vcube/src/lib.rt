@@ -282,7 +282,8 @@ pub extern "C" fn vcube_figures_of_totals(kept: &[u64; 5], answer: &mut [u64; 7]
     number
 }
 
-// The members of a struct of figures, in their order.
+// The members of a struct of figures, in their order. No `From`, here and in the next two: the order of the members is the C header's, and neither
+// an array nor `Figures` or `Totals` is a type of this crate.
 fn figures_members(f: Figures) -> [u64; 7]
     ensures { result ≡ figures_members f }
 {

@@ -10,7 +10,8 @@ use std::fmt;
 use table::Station;
 use turn::kind::Kind;
 
-// What was read: the size, and how many entries.
+// What was read: the size, and how many entries. Not the part of the schedule that they fill: `answer_of` names this answer whole, and a reference
+// is also a place in memory, which no definition over the input names.
 #[derive(Clone, Copy, Debug, PartialEq, Eq)]
 pub struct Parsed {
     pub size: usize,
@@ -156,16 +157,9 @@ fn read_number(digits: &[u8], most: usize) -> Option<usize>
     requires { most ≤ 3 }
     ensures { result ≡ number_of most digits.now }
 {
-    if digits.is_empty() || most < digits.len() {
+    // That all are digits is asked first, since `parse` takes a sign too.
+    if most < digits.len() || !digits.iter().all(u8::is_ascii_digit) {
         return None;
     }
-    // By hand, since `parse` takes a sign too: behind a test that all are digits it would go over them again.
-    let mut value: usize = 0;
-    for &b in digits {
-        if !b.is_ascii_digit() {
-            return None;
-        }
-        value = 10 * value + (b - b'0') as usize;
-    }
-    Some(value)
+    str::from_utf8(digits).ok()?.parse().ok()
 }

@@ -33,6 +33,7 @@ fn read_full<R: Read>(input: &mut R, buf: &mut [u8]) -> usize
     ensures bytes { Consumes (R.remaining input.old) (R.remaining input.new) (take result buf.new) }
 {
     let mut done = 0;
+    // Counted by hand: a read may bring less than there is room for, and `read_to_end` wants a heap.
     while done < buf.len() {
         let Ok(n) = input.read(&mut buf[done..]) else {
             return done;

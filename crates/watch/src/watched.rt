@@ -7,7 +7,7 @@ ghost use Rattle.plant.specs.Entry.{state_of};
 ghost use Rattle.plant.specs.Run.{outcome_with, run};
 ghost use Rattle.watch.specs.Watched.{watched_with, carried_out, watched, deciding};
 
-use crate::input::{self, Parsed, Unread};
+use crate::input::{self, Unread};
 use plant::{Ran, Tally, run};
 use table::{cells, fresh, sizes};
 
@@ -25,27 +25,23 @@ pub fn watch_plant(
         → watched_with result sheet.new ≡ watched sheet.old (input.now ++ rest) }
 {
     let parsed = input::parse(input, schedule)?;
-    Ok(carry_out(parsed, schedule, table, sheet))
+    let taken = &schedule[..2 * parsed.entries];
+    Ok(carry_out(parsed.size, taken, table, sheet))
 }
 
-// Carries the entries of the schedule out on the parts of table and sheet that they take.
-fn carry_out(parsed: Parsed, schedule: &[u8], table: &mut [u8], sheet: &mut [u8]) -> Ran
-    requires schedule_len { 2 * parsed.entries ≤ length schedule.now }
-    requires table_len { greatest_table ≤ length table.old }
-    requires sheet_len { 4 * parsed.entries ≤ length sheet.old }
-    ensures { watched_with (Ok result) sheet.new
-        ≡ carried_out parsed.size (take (2 * parsed.entries) schedule.now) sheet.old }
+// Carries a schedule out on the parts of table and sheet that it takes.
+fn carry_out(
+    size: usize,
+    schedule: &[u8],
+    table: &mut [u8; cells::GREATEST_TABLE],
+    sheet: &mut [u8; 16384],
+) -> Ran
+    requires { 2 * length schedule.now ≤ length sheet.old }
+    ensures { watched_with (Ok result) sheet.new ≡ carried_out size schedule.now sheet.old }
 {
-    let Parsed { size, entries } = parsed;
-    let used = 2 * entries;
     let long = table_part(size);
-    let filled = 4 * entries;
-    run_fresh(
-        size,
-        &schedule[..used],
-        &mut table[..long],
-        &mut sheet[..filled],
-    )
+    let filled = 2 * schedule.len();
+    run_fresh(size, schedule, &mut table[..long], &mut sheet[..filled])
 }
 
 // Makes the table fresh and runs the schedule with zero tallies.
@@ -56,7 +52,8 @@ fn run_fresh(size: usize, schedule: &[u8], table: &mut [u8], sheet: &mut [u8]) -
     run::run(size, table, Tally::default(), schedule, sheet)
 }
 
-// The length of the part of the table that a plant of this size has; 0 for what is no size.
+// The length of the part of the table that a plant of this size has; 0 for what is no size, which the run refuses: of an Option the caller would
+// take 0 for none.
 fn table_part(size: usize) -> usize
     ensures value { is_size size ≡ true → result ≡ table_length size }
     ensures upper_bound { result ≤ greatest_table }

@@ -11,8 +11,8 @@ use Rattle.table.specs.Fresh.{fresh_byte, fresh_table}
 use Rattle.lists.specs.Steps.{after_steps}
 use Rattle.turn.specs.Turn.{leave_told, next_test, makes_test, finish_pass, count_test, replies, is_told, exchange_rows, suspect, reply_outcome, test_outcome, after_outcome, self_or_suspected, is_alone, after_alone, testing, turn, turn_tested, turn_outcome, crash}
 use Rattle.plant.specs.Round.{rounds_after, reset_line, reset_lines, after_round}
-use Rattle.plant.specs.Entry.{entry_check, entry_number, acted, after, tested_of, outcome_of, sheet_line}
-use Rattle.plant.specs.Run.{entries, go_on, start_check, start_number, run}
+use Rattle.plant.specs.Entry.{entry_check, acted, after, tested_of, outcome_of, sheet_line}
+use Rattle.plant.specs.Run.{entries, go_on, start_check, run}
 use Rattle.lists.specs.Sums.{sum_below}
 use Rattle.detection.specs.Runs.{after_runs, taken_from, taken_in, taken_all}
 use Rattle.detection.specs.Rounds.{any_taken, all_taken, count_taken, closes, cut}

@@ -1,10 +1,7 @@
 -- The first one that waits behind the last one, or else the first one of all.
-use Rattle.std.proofs.Common.{◌<◌, refl, lt-ltb, le-ltb, arith}
+use Rattle.std.proofs.Common.{refl, lt-ltb, le-ltb, arith}
 use Rattle.std.specs.Prelude.{Option, Some, None, MatchOption, IsSome}
-use Rattle.std.proofs.lemmas.Option.{IfSome_then}
-use Rattle.table.specs.declared.Station.{Station}
 use Rattle.table.proofs.Accepting.{accepted}
-use Rattle.table.proofs.SizeLaws.{size-bounds}
 use Rattle.granter.specs.Grant.{granted}
 use Rattle.granter.proofs.GrantLaws.{first-waits}
 use Rattle.granter.proofs.grant.next_station.Goals as goal
@@ -12,11 +9,6 @@ use Rattle.granter.proofs.grant.next_station.Goals as goal
 is-some : {A : Type 0} (r : Option A) (P : Type 0) (Q : A → Type 0) → MatchOption r P Q → (P → ⊥) → IsSome r
 is-some None P Q m h = absurd (h m)
 is-some (Some x) P Q m h = refl
-
-pub following-requires : goal.following-requires
-following-requires c =
-    let top = (size-bounds _ (accepted c.args.table.now.n c.args.table.now.bytes.now c.requires.table_obeys).size).1 in
-    IfSome_then c.args.last {Q = λ (i : Station). i.0 < 255} c.requires.last_below (λ i below. omega arith)
 
 pub returns-in-Some : goal.returns-in-Some
 unfolding granted

@@ -1,5 +1,5 @@
 -- A run that is not refused at its start goes on with the entries.
-use Rattle.std.proofs.Common.{rules, sym, ap, ◌∙◌}
+use Rattle.std.proofs.Common.{rules, sym, ap}
 use Rattle.lists.specs.Refusal.{number_of_result}
 use Rattle.plant.specs.Entry.{state_with}
 use Rattle.plant.proofs.RunLaws.{run-refused, run-goes}

@@ -13,10 +13,10 @@ use Rattle.saved.proofs.lines.build_table.Goals as goal
 
 pub loop-field-init : goal.loop-field-init
 loop-field-init c =
-    let b = size-bounds _ c.requires.size in
+    let b = size-bounds _ c.args.table.now.sized in
     record {
       same = record { reference = refl; size = refl };
-      whole = c.requires.whole;
+      whole = c.requires;
       wide = length-replicate 64 false;
       passed = passed_none _ _ _ _ (λ i h. get_or-replicate {A = Bool} 64 i false false (omega arith));
     }
@@ -42,7 +42,7 @@ returns-in_err-take_line-clause-value c =
 pub loop-field-preserved : goal.loop-field-preserved
 loop-field-preserved c =
     let i = c.loop-field.invariant in
-    let wide : c.args.table.now.n ≤ length c.loop-field.seen = omega (arith, i.wide, size-bounds _ c.requires.size) in
+    let wide : c.args.table.now.n ≤ length c.loop-field.seen = omega (arith, i.wide, size-bounds _ c.args.table.now.sized) in
     let long : length c.loop-field.table.bytes.now ≡ table_length c.args.table.now.n = rw (← i.same.size) (omega arith) in
     let s = c.in_ok-take_line.ensures.same in
     let t = tells_more _ _ _ c.in_ok-field.ensures _ c.in-Some.is in
@@ -59,16 +59,16 @@ loop-field-preserved c =
 pub slice_bounds-all_seen-end : goal.slice_bounds-all_seen-end
 slice_bounds-all_seen-end c =
     let i = c.loop-field.invariant in
-    sym (length-take-le c.loop-field.table.n c.loop-field.seen (omega (arith, i.wide, i.same.size, size-bounds _ c.requires.size)))
+    sym (length-take-le c.loop-field.table.n c.loop-field.seen (omega (arith, i.wide, i.same.size, size-bounds _ c.args.table.now.sized)))
 
 pub slice_bounds-seen-end : goal.slice_bounds-seen-end
-slice_bounds-seen-end c = let i = c.loop-field.invariant in omega (arith, i.wide, i.same.size, size-bounds _ c.requires.size)
+slice_bounds-seen-end c = let i = c.loop-field.invariant in omega (arith, i.wide, i.same.size, size-bounds _ c.args.table.now.sized)
 
 pub returns-then-all_seen : goal.returns-then-all_seen
 returns-then-all_seen c =
     let i = c.loop-field.invariant in
     let t = tells_none _ _ _ c.in_ok-field.ensures c.in_default.is in
-    let r = passed_all _ _ _ _ _ t.1 i.passed _ c.requires.size i.wide (rw i.same.size at c.if-all_seen.ensures) in
+    let r = passed_all _ _ _ _ _ t.1 i.passed _ c.args.table.now.sized i.wide (rw i.same.size at c.if-all_seen.ensures) in
     record {
       value = rw (← r);
       same = i.same;
@@ -79,5 +79,5 @@ pub returns-else-all_seen : goal.returns-else-all_seen
 returns-else-all_seen c =
     let i = c.loop-field.invariant in
     let t = tells_none _ _ _ c.in_ok-field.ensures c.in_default.is in
-    let r = passed_all _ _ _ _ _ t.1 i.passed _ c.requires.size i.wide (rw i.same.size at c.if-all_seen.ensures) in
+    let r = passed_all _ _ _ _ _ t.1 i.passed _ c.args.table.now.sized i.wide (rw i.same.size at c.if-all_seen.ensures) in
     record { value = rw (← r); same = i.same; bytes = λ e. cc }

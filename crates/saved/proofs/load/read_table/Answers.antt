@@ -13,6 +13,7 @@ slice_bounds-own-end-2 c = sym (length-take-le _ _ (omega (arith, c.table_length
 
 pub invariant_of-build_table : goal.invariant_of-build_table
 invariant_of-build_table c = record {
+  sized = c.requires.size;
   fits = length-take-le _ _ (omega (arith, c.table_length.ensures, table_fits _ c.requires.size)) ∙ c.table_length.ensures;
 }
 

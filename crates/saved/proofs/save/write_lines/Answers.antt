@@ -21,7 +21,7 @@ write_line-requires c =
     let i = c.loop-i.invariant in
     let s = c.in-Some.ensures.steps in
     let p = line_next _ _ c.args.table.now.fits _ _ _ _ i.most i.left s.0.1.0 (rw i.size at s.0.1.1) s.0.1.2 in
-    let b = size-bounds _ c.requires.size in
+    let b = size-bounds _ c.args.table.now.sized in
     record {
       low = omega arith;
       short = omega arith;

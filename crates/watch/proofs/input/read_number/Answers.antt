@@ -1,42 +1,46 @@
--- Each byte is a digit, which makes the value greater, or no digit; where none is left the value is the number.
-use Rattle.std.proofs.Common.{sym, ◌∙◌, arith}
-use Rattle.std.proofs.lemmas.Bool.Decides.{nat_tests}
-use Rattle.watch.specs.Input.{number_of}
-use Rattle.watch.proofs.NumberLaws.{digits-next, digits-stop, digits-done, number_digits, ten-next, ten-two}
+-- More bytes, or other bytes, are no number; digits are text, and `parse` reads them.
+use Rattle.std.proofs.Common.{◌≡◌, ℕ, List, Bor, sym, ap, ◌∙◌, rules, tests, arith}
+use Rattle.std.specs.Prelude.{None, Some, Result, Ok, Err, MatchResult}
+use Rattle.std.specs.Result.{result_ok}
+use Rattle.std.specs.Str.{IsUtf8}
+use Rattle.std.proofs.lemmas.Iterator.{YieldsList-from_slice}
+use Rattle.std.proofs.lemmas.Iterator.Search.{all_from_yields_List}
+use Rattle.std.specs.List.{list_all}
+use Rattle.watch.specs.Input.{is_digit}
+use Rattle.watch.proofs.NumberLaws.{number_long, number_other, digits_text, number_parsed}
 use Rattle.watch.proofs.input.read_number.Goals as goal
+use Rattle.watch.proofs.input.read_number.Goals.{then-most-digits-via-then-most-digits, then-most-digits-via-else-most-digits+then-not-all}
 
-pub returns-then-is_empty : goal.returns-then-is_empty
-unfolding number_of
-returns-then-is_empty c = grind (arith, nat_tests)
+-- what is text is not refused as text, and what is read of it is the same
+module _ {E : Type 0} (bs : List ℕ) (Q : E → Type 0) where
+  refused : (r : Result (Bor (List ℕ)) E) → IsUtf8 bs → MatchResult r (λ s. (s.now ≡ bs) × IsUtf8 bs) (λ e. ¬ (IsUtf8 bs) × Q e)
+      → result_ok r ≡ None → ⊥
+  refused (Ok s) u m e = let z : ◌≡◌ {A = ℕ} 0 1 = cc in omega arith
+  refused (Err x) u m e = m.0 u
 
-pub loop-b-init : goal.loop-b-init
-loop-b-init c = record {
-  few = omega arith;
-  small = omega arith;
-  number = number_digits _ _ (grind (arith, nat_tests)) c.if-most-digits.false;
-}
+  kept : (r : Result (Bor (List ℕ)) E) (t : Bor (List ℕ)) → MatchResult r (λ s. (s.now ≡ bs) × IsUtf8 bs) (λ e. ¬ (IsUtf8 bs) × Q e)
+      → result_ok r ≡ Some t → t.now ≡ bs
+  kept (Ok s) t m e = let f : s ≡ t = cc in ap (λ (x : Bor (List ℕ)). x.now) (sym f) ∙ m.0
+  kept (Err x) t m e = let z : ◌≡◌ {A = ℕ} 0 1 = cc in absurd (omega arith)
 
-pub returns-then-not-is_ascii_digit : goal.returns-then-not-is_ascii_digit
-returns-then-not-is_ascii_digit c =
-    let l = c.loop-b in
-    let d = sym c.is_ascii_digit.ensures.value ∙ c.if-not-is_ascii_digit.true in
-    sym (l.invariant.number ∙ digits-stop _ l.b-index l.value c.loop-b-test.true d)
+pub returns-then-most-digits : goal.returns-then-most-digits
+returns-then-most-digits c = elim c.then-most-digits.branch [
+  | then-most-digits-via-then-most-digits w ↦ sym (number_long c.args.most c.args.digits.now w.if-most-digits.true)
+  | then-most-digits-via-else-most-digits+then-not-all w ↦
+      let e : w.all.result ≡ list_all is_digit c.args.digits.now =
+      all_from_yields_List is_digit _ _ w.all.result w.all.ensures.ran (YieldsList-from_slice c.args.digits.now cc) (λ x b q k. search (rules, tests)) in
+      sym (number_other c.args.most c.args.digits.now (sym e ∙ w.if-not-all.true))
+]
 
-pub overflow_mul-value : goal.overflow_mul-value
-overflow_mul-value c = omega (arith, ten-two c.loop-b.b-index (omega arith))
-
-pub overflow_add-value : goal.overflow_add-value
-overflow_add-value c = omega (arith, ten-two c.loop-b.b-index (omega arith))
-
-pub loop-b-preserved : goal.loop-b-preserved
-loop-b-preserved c =
-    let l = c.loop-b in
-    let d = sym c.is_ascii_digit.ensures.value ∙ c.if-not-is_ascii_digit.false in
-    record {
-      few = l.invariant.few;
-      small = grind (arith, nat_tests, ten-next l.b-index);
-      number = l.invariant.number ∙ digits-next _ l.b-index l.value c.loop-b-test.true d;
-    }
+pub returns-in_err-ok : goal.returns-in_err-ok
+returns-in_err-ok c =
+    let e : c.all.result ≡ list_all is_digit c.args.digits.now =
+    all_from_yields_List is_digit _ _ c.all.result c.all.ensures.ran (YieldsList-from_slice c.args.digits.now cc) (λ x b q k. search (rules, tests)) in
+    absurd (refused c.args.digits.now _ c.from_utf8.result (digits_text c.args.digits.now (sym e ∙ c.if-not-all.false)) c.from_utf8.ensures.cases (sym c.ok.ensures.value ∙ c.in_err-ok.was))
 
 pub returns : goal.returns
-returns c = sym (c.loop-b.invariant.number ∙ digits-done _ c.loop-b.b-index c.loop-b.value c.loop-b-test.false)
+returns c =
+    let e : c.all.result ≡ list_all is_digit c.args.digits.now =
+    all_from_yields_List is_digit _ _ c.all.result c.all.ensures.ran (YieldsList-from_slice c.args.digits.now cc) (λ x b q k. search (rules, tests)) in
+    let t = kept c.args.digits.now _ c.from_utf8.result c.in_ok-ok.field-0 c.from_utf8.ensures.cases (sym c.ok.ensures.value ∙ c.in_ok-ok.was) in
+    c.ok-2.ensures.value ∙ number_parsed c.args.most c.args.digits.now c.parse.result c.requires c.if-most-digits.false (sym e ∙ c.if-not-all.false) (rw t at c.parse.ensures.value.0)

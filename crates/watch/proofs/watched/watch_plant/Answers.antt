@@ -1,10 +1,11 @@
 -- The schedule has room for all that the document allows, and the entries read fit it.
-use Rattle.std.proofs.Common.{◌≡◌, Ok, sym, ◌∙◌, arith}
+use Rattle.std.proofs.Common.{◌≡◌, ◌≤◌, Ok, sym, ◌∙◌, arith, length-take}
 use Rattle.std.proofs.lemmas.Result.{err_from_is_err_and}
 use Rattle.watch.specs.Watched.{watched_with, watched}
 use Rattle.watch.proofs.Buffer.{decided}
 use Rattle.watch.proofs.WatchLaws.{entries_within, watched_unread, watched_ran}
 use Rattle.watch.proofs.watched.watch_plant.Goals as goal
+use Rattle.watch.proofs.watched.watch_plant.Goals.{In_ok-parsed}
 
 pub returns-in_err-parsed : goal.returns-in_err-parsed
 returns-in_err-parsed c =
@@ -13,11 +14,19 @@ returns-in_err-parsed c =
     let unread = watched_unread c.args.sheet.now c.args.input.now _ _ c.told-schedule e.schedule_after c.in_err-parsed.field-0.0 (sym c.in_err-parsed.was ∙ e.answer) in
     rw (p.1, p.2) (record { value = unread; decided = λ rest n. unread ∙ decided _ _ rest n })
 
-pub carry_out-requires : goal.carry_out-requires
-carry_out-requires c =
+few : (c : In_ok-parsed) → c.in_ok-parsed.parsed.entries ≤ 4096
+few c =
     let e = c.parse.ensures in
-    let h = entries_within c.args.sheet.now c.args.input.now _ _ c.told-schedule e.schedule_after _ (sym c.in_ok-parsed.was ∙ e.answer) in
-    record { schedule_len = omega arith; table_len = omega arith; sheet_len = omega arith }
+    entries_within c.args.sheet.now c.args.input.now _ _ c.told-schedule e.schedule_after _ (sym c.in_ok-parsed.was ∙ e.answer)
+
+pub overflow_mul-taken : goal.overflow_mul-taken
+overflow_mul-taken c = omega (arith, few (goal.at.overflow_mul-taken c).In_ok-parsed)
+
+pub shared_ref_as_front-taken : goal.shared_ref_as_front-taken
+shared_ref_as_front-taken c = omega (arith, few (goal.at.shared_ref_as_front-taken c).In_ok-parsed)
+
+pub carry_out-requires : goal.carry_out-requires
+carry_out-requires c = simp length-take (omega (arith, few (goal.at.carry_out-requires c).In_ok-parsed))
 
 ran : (c : goal.After-carry_out) → watched_with (Ok c.carry_out.result) c.carry_out.new.sheet ≡ watched c.args.sheet.now c.args.input.now
 ran c =
