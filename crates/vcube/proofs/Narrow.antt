@@ -2,7 +2,7 @@
 -- byte: a plant has at most 64 stations and 6 levels, so that station 255 and all above meet refusal 9, and such a level 12, or an
 -- earlier one.
 -- Assumes nothing.
-use mathlib.Core.Path.{◌≡◌, sym, ap, ◌∙◌, refl}
+use mathlib.Core.Path.{◌≡◌, sym, ap, ◌∙◌}
 use mathlib.Core.Bool.{true, not, ◌||◌}
 use mathlib.Core.List.{List}
 use Prim.Native.Nat.{ℕ, min, ◌≤◌, ◌<◌}
@@ -17,7 +17,7 @@ use lib.ListN.{length}
 use Rattle.table.specs.Sizes.{is_size, dimension}
 use Rattle.station.specs.Groups.{group}
 use Rattle.lists.specs.Refusal.{Check, ensure, ◌and◌, unless_refused}
-use Rattle.table.specs.Rules.{table_check, station_check, length_check}
+use Rattle.table.specs.Rules.{table_check, station_check}
 use Rattle.station.specs.Calls.{group_check, group_after, row_check, row_part, row_offset, assignment_check, assignment_answer, assignment_after, range_check}
 use Rattle.lists.proofs.RefusalLaws.{ensure_ok, and_ok, and_first, and_same, and_err, refused_leaves}
 use Rattle.table.proofs.Accepting.{table_ok}
