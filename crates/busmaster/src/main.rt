@@ -2,7 +2,9 @@
 // compared with the file `stdout`, which has what the request's rules give by hand and by the simulator.
 #![tactic(auto)]
 
+use granter::grant::NO_GRANT;
 use granter::{Driven, drive, grant};
+use lists::refusal;
 use plant::entry::Entry;
 use plant::{Tally, run};
 use table::lent::TableMut;
@@ -13,9 +15,6 @@ use turn::kind::Kind;
 const TWO: usize = 2 * (2 + cells::HEAD as usize);
 
 const EIGHT: usize = 8 * (8 + cells::HEAD as usize);
-
-// The last granted number where none was granted before.
-const NO_LAST: usize = 255;
 
 // What one print cannot write is left out, and the next is tried all the same.
 fn main(rt: HostRuntime) {
@@ -51,7 +50,7 @@ fn four_crashed(rt: &impl Print) {
 // other; then whether both tables are still the same.
 fn both_ways(rt: &impl Print, by_turns: &mut [u8], driven: &mut [u8]) {
     tally_line(rt, granted_round(rt, by_turns));
-    drive_line(rt, drive::drive(8, driven, Tally::default(), NO_LAST));
+    drive_line(rt, drive::drive(8, driven, Tally::default(), NO_GRANT));
     tables_line(rt, by_turns, driven);
 }
 
@@ -69,7 +68,7 @@ fn tables_line(rt: &impl Print, first: &[u8], second: &[u8]) {
 // Grant and turn on a table of eight, a line for each, until the round closes or a grant is refused.
 fn granted_round(rt: &impl Print, table: &mut [u8]) -> Tally {
     let mut tally = Tally::default();
-    let mut last = NO_LAST;
+    let mut last = NO_GRANT;
     for _ in 0..64 {
         if tally.rounds != 0 {
             return tally;
@@ -88,7 +87,7 @@ fn rest_of_a_round(rt: &impl Print) {
     let mut table = [0u8; EIGHT];
     let _ = fresh::fresh_table(8, &mut table);
     let tally = entry_of(rt, &mut table, Tally::default(), Kind::Turn, 5);
-    drive_line(rt, drive::drive(8, &mut table, tally, NO_LAST));
+    drive_line(rt, drive::drive(8, &mut table, tally, NO_GRANT));
 }
 
 // One entry on a table of eight; of a turn, its line of the sheet is printed.
@@ -115,11 +114,11 @@ fn two_boards(rt: &impl Print, rounds: u32, tests: u32) {
     let mut table = [0u8; TWO];
     let _ = fresh::fresh_table(2, &mut table);
     let tally = Tally { rounds, tests };
-    drive_line(rt, drive::drive(2, &mut table, tally, NO_LAST));
+    drive_line(rt, drive::drive(2, &mut table, tally, NO_GRANT));
 }
 
 // Two boards that suspect one another: 0 tests 1, is told and leaves; 1 tests 0, which is not live, and leaves as alone.
-#[tactic(auto, unfolding(table::specs::Table::table_length))]
+#[tactic(auto, unfolding(table::specs::Table::table_length, table::specs::Sizes::is_size))]
 fn nobody_left(rt: &impl Print) {
     let mut table = [0u8; TWO];
     let _ = fresh::fresh_table(2, &mut table);
@@ -129,7 +128,7 @@ fn nobody_left(rt: &impl Print) {
     };
     lent.suspect(Station(0), Station(1));
     lent.suspect(Station(1), Station(0));
-    let first = drive::drive(2, &mut table, Tally::default(), NO_LAST);
+    let first = drive::drive(2, &mut table, Tally::default(), NO_GRANT);
     drive_line(rt, first);
     drive_line(rt, drive::drive(2, &mut table, first.tally, 1));
 }
@@ -147,10 +146,7 @@ fn last_numbers(rt: &impl Print) {
 fn number_line(rt: &impl Print, last: usize) {
     let mut table = [0u8; TWO];
     let _ = fresh::fresh_table(2, &mut table);
-    let (number, station) = match grant::grant(2, &table, last) {
-        Ok(to) => (0, to.0),
-        Err(refusal) => (refusal.number(), 0),
-    };
+    let (number, Station(station)) = refusal::parts(grant::grant(2, &table, last), Station(0));
     let _ = println!(rt; "last {last} number {number} station {station}");
 }
 

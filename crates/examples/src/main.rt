@@ -172,7 +172,7 @@ fn eleven_boards(rt: &impl Print) {
 }
 
 // C-16, eight boards: the assignment of station 5, nothing suspected, and where it suspects 4.
-#[tactic(auto, unfolding(table::specs::Table::table_length))]
+#[tactic(auto, unfolding(table::specs::Table::table_length, table::specs::Sizes::is_size))]
 fn eight_assigned(rt: &impl Print) {
     let mut table = [0u8; EIGHT];
     let _ = fresh::fresh_table(8, &mut table);
@@ -218,7 +218,7 @@ fn round_line(rt: &impl Print, n: u8) {
 
 // C-13, four boards: 1, 2 and 3 take their passes. The reply of 1 to 0's first test comes late; 0 tests 2 and 3 and finishes its pass, which
 // closes the round. In the next round 0 tests 1 again: 1 is told and leaves, and its own turn is refused. By C-18 its line names 0.
-#[tactic(auto, unfolding(table::specs::Table::table_length))]
+#[tactic(auto, unfolding(table::specs::Table::table_length, table::specs::Sizes::is_size))]
 fn late_reply(rt: &impl Print) {
     let mut table = [0u8; FOUR];
     let mut plant = Plant::fresh(4, &mut table);
