@@ -63,6 +63,7 @@ pub(crate) fn check_entry(
 }
 
 // An entry that is not refused: steps 1 to 8, and its line of the sheet. The answer is the tally after it.
+// Table and tally stay two parameters: the tally is a value that each entry answers anew, and a struct of both would be taken apart there.
 pub(crate) fn take_entry(table: &mut TableMut, tally: Tally, entry: Entry, line: &mut [u8]) -> Tally
     requires table_obeys { table_number table.old.n table.old.bytes.now ≡ 0 }
     requires entry_taken { entry_number table.old.n
