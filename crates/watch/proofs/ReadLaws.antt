@@ -5,15 +5,13 @@ use mathlib.Core.Bool.{Bool, true, false, cond}
 use mathlib.Core.List.{List, [], ◌∷◌, ◌++◌}
 use Rattle.std.specs.Prelude.{Option, None, Some, option_and_then, option_map, Err}
 use Prim.Native.Nat.{ℕ, suc, ◌+◌, ◌*◌, ◌-◌, ◌≤◌, ◌<◌}
-use native.Mathlib.Numerals.{add-one}
 use native.Mathlib.Omega.{arith}
 use borrow.Author.Tests.{eq-eqb, ne_eqb, ltb-true}
 use lib.Dec.{ltb, eqb}
-use lib.ListN.{length, get_or, take, drop, length-append, drop_of_length-le, take-append-drop}
+use lib.ListN.{length, get_or, take, drop, length-append, take-append-drop}
 use lib.Seq.{take_all, drop-drop, length-take-le, sets}
-use Rattle.watch.specs.Input.{given, lines, line_length, digits_from, number_of, size_of, kind_of, entry_of, Reading, reading_of, read_entries}
+use Rattle.watch.specs.Input.{given, lines, digits_from, number_of, size_of, kind_of, entry_of, Reading, reading_of, read_entries}
 use Rattle.watch.specs.Input.{read_lines, read_up_to, answer_of}
-use Rattle.watch.proofs.LineLaws.{lines-first}
 use Rattle.watch.proofs.NumberLaws.{number-has}
 use Rattle.lists.proofs.Writing.{sets-front}
 
@@ -60,64 +58,12 @@ taken-has k room l e = go (ltb k room) refl
     go true t p = (ltb-true k room t, entry_has l e p)
     go false t p = let z : ◌≡◌ {A = ℕ} 0 1 = cc in absurd (omega arith)
 
--- reading goes on at the bytes `rest`, where k entries are the front of the schedule s. In the shapes of the loop: `o` is what the first line
--- was read as where there is room for r entries, and `after` is what follows that line
-module _ (room n k : ℕ) (s rest : List ℕ) where
-  abbrev pub read_from : Reading
-  read_from = read_entries room n k (take (2 * k) s) (lines rest)
-
-  pub read_done : length rest ≡ 0 → read_from ≡ reading_of 0 n k (take (2 * k) s)
-  unfolding read_entries lines
-  read_done h = rw (drop_of_length-le rest {i = 0} (omega arith))
-
-  module _ (r : ℕ) (line after : List ℕ) (o : Option (ℕ × ℕ)) (some : 0 < length rest) (same : r ≡ room)
-      (first : line ≡ take (line_length rest) rest) (told : o ≡ cond (ltb k r) (entry_of line) None) where
-    read_as : cond (ltb k room) (entry_of (take (line_length rest) rest)) None ≡ o
-    read_as = rw (← same, ← first) (sym told)
-
-    pub read-stop : o ≡ None → read_from ≡ reading_of (k + 2) n k (take (2 * k) s)
-    unfolding read_entries
-    read-stop z = rw (lines-first rest some, read_as, z)
-
-    pub read_next : (x y : ℕ) (s' : List ℕ) → o ≡ Some (x, y) → after ≡ drop (suc (line_length rest)) rest
-        → take (2 * k + 2) s' ≡ take (2 * k) s ++ (x ∷ y ∷ [])
-        → read_entries room n (k + 1) (take (2 * (k + 1)) s') (lines after) ≡ read_from
-    unfolding read_entries
-    read_next x y s' z next front =
-        let d : 2 * (k + 1) ≡ 2 * k + 2 = omega arith in
-        rw (d, front, next, lines-first rest some, read_as, z, add-one)
-
-    pub has_room : (x : ℕ × ℕ) → o ≡ Some x → k < r
-    has_room x z = (taken-has k r _ x (sym told ∙ z)).0
-
 -- what stands after k + 1 entries is as it was
 pub rest-kept : (k : ℕ) (s s' s₀ : List ℕ) → drop (2 * k + 2) s' ≡ drop (2 * k + 2) s → drop (2 * k) s ≡ drop (2 * k) s₀
     → drop (2 * (k + 1)) s' ≡ drop (2 * (k + 1)) s₀
 rest-kept k s s' s₀ e f =
     let d : 2 * (k + 1) ≡ 2 * k + 2 = omega arith in
     rw d (e ∙ sym (drop-drop 2 (2 * k) s) ∙ ap (drop 2) f ∙ drop-drop 2 (2 * k) s₀)
-
--- what the first line decides
-first-unsized : (room : ℕ) (l : List ℕ) → size_of (take (line_length l) l) ≡ None → read_lines room (lines l) ≡ reading_of 1 0 0 []
-unfolding read_lines lines
-first-unsized room [] e = refl
-first-unsized room (b ∷ l) e = rw (lines-first (b ∷ l) (omega arith), e)
-
-first-sized : (room n : ℕ) (l : List ℕ) → size_of (take (line_length l) l) ≡ Some n
-    → read_lines room (lines l) ≡ read_entries room n 0 [] (lines (drop (suc (line_length l)) l))
-unfolding read_lines lines line_length number_of
-first-sized room n [] e = cc
-first-sized room n (b ∷ l) e = rw (lines-first (b ∷ l) (omega arith), e)
-
--- the size's line, and what follows it
-pub read_unsized : (room : ℕ) (l line : List ℕ) → line ≡ take (line_length l) l → number_of 3 line ≡ None → read_up_to room l ≡ reading_of 1 0 0 []
-unfolding read_up_to
-read_unsized room l line e z = first-unsized room l (ap size_of (sym e) ∙ z)
-
-pub read_sized : (room n : ℕ) (l line rest : List ℕ) → line ≡ take (line_length l) l → number_of 3 line ≡ Some n
-    → rest ≡ drop (suc (line_length l)) l → read_up_to room l ≡ read_entries room n 0 [] (lines rest)
-unfolding read_up_to
-read_sized room n l line rest e z f = rw f (first-sized room n l (ap size_of (sym e) ∙ z))
 
 -- there are no more entries than there is room for, and each has two bytes
 pub record ReadFits (room : ℕ) (r : Reading) : Type 0 where

@@ -1,8 +1,9 @@
 // What standard input holds (document 01, the run program): lines, the size, the entries. The one call is `parse`.
-ghost use Rattle.std.specs.Prelude.{◌≡◌, [], ◌∷◌, ◌++◌, ◌+◌, ◌*◌, ◌≤◌, suc, length, take, drop, None, option_map, if◌then◌else◌, nat_lt};
+ghost use Rattle.std.specs.Prelude.{◌≡◌, ℕ, [], ◌∷◌, ◌++◌, ◌+◌, ◌*◌, ◌≤◌, suc, length, take, drop, None, option_map, if◌then◌else◌, nat_lt};
 ghost use Rattle.std.proofs.lemmas.List.Edits.{sets};
 ghost use Rattle.turn.specs.Kind.{kind_byte};
-ghost use Rattle.watch.specs.Input.{lines, line_length, number_of, kind_of, entry_of, pair_of, answer_of, read_entries, room_for, read_into};
+ghost use Rattle.std.specs.List.{slice_split};
+ghost use Rattle.watch.specs.Input.{is_line_feed, lines, number_of, kind_of, entry_of, pair_of, answer_of, read_lines, read_up_to, room_for, read_into};
 
 use plant::entry::Entry;
 use std::error::Error;
@@ -35,33 +36,23 @@ impl Error for Unread {}
 
 // Reads the whole input. The entries before the first unreadable line go into the schedule, two bytes each, and its rest is unchanged. An
 // entry for which the schedule has no room counts as unreadable.
-#[tactic(auto, using(crate::proofs::ReadLaws::read_unsized, crate::proofs::ReadLaws::read_sized))]
 pub fn parse(input: &[u8], schedule: &mut [u8]) -> Result<Parsed, Unread>
     ensures answer { result ≡ answer_of (read_into schedule.old input.now) }
     ensures schedule_after { schedule.new ≡ sets schedule.old 0 (read_into schedule.old input.now).schedule }
 {
-    let (line, rest) = split_line(input);
-    let Some(size) = read_number(line, 3) else {
+    let room = room_for(schedule.len());
+    let text = without_last_feed(input);
+    let mut lines = text.split(|b| *b == b'\n');
+    let first = lines.next().unwrap_or(&[]);
+    let Some(size) = read_number(first, 3) else {
         let before = Parsed {
             size: 0,
             entries: 0,
         };
         return Err(Unread { line: 1, before });
     };
-    read_entries(rest, size, schedule)
-}
-
-// Reads the entries of the lines, after the size.
-fn read_entries(input: &[u8], size: usize, schedule: &mut [u8]) -> Result<Parsed, Unread>
-    ensures answer { result ≡ answer_of (read_entries (room_for (length schedule.old)) size 0 [] (lines input.now)) }
-    ensures schedule_after { schedule.new
-        ≡ sets schedule.old 0 (read_entries (room_for (length schedule.old)) size 0 [] (lines input.now)).schedule }
-{
-    let room = room_for(schedule.len());
-    let mut rest = input;
     let mut entries: usize = 0;
-    while !rest.is_empty() {
-        let (line, after) = split_line(rest);
+    for line in lines {
         let Some(entry) = entry_with_room(entries, room, line) else {
             let before = Parsed { size, entries };
             return Err(Unread {
@@ -71,9 +62,17 @@ fn read_entries(input: &[u8], size: usize, schedule: &mut [u8]) -> Result<Parsed
         };
         put_entry(schedule, entries, entry);
         entries += 1;
-        rest = after;
     }
     Ok(Parsed { size, entries })
+}
+
+// The input without the line feed at its end, if it has one.
+fn without_last_feed(input: &[u8]) -> &[u8]
+    ensures read { (room : ℕ)
+        → read_lines room (slice_split is_line_feed result.now) ≡ read_up_to room input.now }
+    ensures others { drop 1 (slice_split is_line_feed result.now) ≡ drop 1 (lines input.now) }
+{
+    input.strip_suffix(b"\n").unwrap_or(input)
 }
 
 // How many entries a schedule of len bytes takes.
@@ -92,28 +91,6 @@ fn put_entry(schedule: &mut [u8], k: usize, entry: Entry)
     ensures schedule_unchanged { drop (2 * k + 2) schedule.new ≡ drop (2 * k + 2) schedule.old }
 {
     schedule[2 * k..2 * k + 2].copy_from_slice(&entry.bytes());
-}
-
-// The first line, and what follows its line feed: nothing where it has none.
-fn split_line(bytes: &[u8]) -> (&[u8], &[u8])
-    ensures line { result.0.now ≡ take (line_length bytes.now) bytes.now }
-    ensures rest { result.1.now ≡ drop (suc (line_length bytes.now)) bytes.now }
-{
-    let end = line_end(bytes);
-    if end < bytes.len() {
-        (&bytes[..end], &bytes[end + 1..])
-    } else {
-        (bytes, &[])
-    }
-}
-
-// Where the first line ends: at its line feed, or at the end.
-fn line_end(bytes: &[u8]) -> usize
-    ensures value { result ≡ line_length bytes.now }
-    ensures upper_bound { result ≤ length bytes.now }
-{
-    let found = bytes.iter().position(|b| *b == b'\n');
-    found.unwrap_or(bytes.len())
 }
 
 // The entry of a line, where k entries were read and there is room for one more.

@@ -1,0 +1,125 @@
+-- The lines are gone through in order: where reading stops, the entries read are the front of the schedule.
+use Rattle.std.proofs.Common.{◌≡◌, ℕ, List, Bor, [], ◌∷◌, ◌<◌, ◌*◌, ◌+◌, length, get_or, take, drop, refl, sym, ap, add-one, drop-cons, drop_of_length-le, length-append, ◌++◌, if◌then◌else◌, nat_lt, ◌∙◌, rules, tests, arith, option_map}
+use Rattle.std.specs.Prelude.{Option, None, Some, unwrap_or}
+use Rattle.std.proofs.lemmas.Iterator.{YieldsList}
+use Rattle.std.proofs.lemmas.Iterator.Consumers.{YieldsList-at, YieldsList-turn, YieldsList-end}
+use Rattle.std.proofs.lemmas.Iterator.Splits.{YieldsList-from_slice_split}
+use Rattle.watch.specs.Input.{is_line_feed, lines, pair_of, reading_of, room_for, read_entries, read_lines, read_up_to, entry_of}
+use Rattle.watch.proofs.ReadLaws.{answer_stop, sets-part, rest-kept, taken-has}
+use Rattle.watch.proofs.PartLaws.{parts, parts-some, parts-unsized, parts-sized, part-stop, part-next}
+use Rattle.watch.proofs.input.parse.Goals as goal
+use Rattle.watch.proofs.input.parse.Goals.{In_default, In-Some-line, In-None}
+
+-- the first item, and the road behind it
+started : {S : Type 0} {steps : S → Option (Bor (List ℕ)) → S → Type 0} (ps : List (List ℕ)) (s t : S) (o : Option (Bor (List ℕ))) (f d : Bor (List ℕ))
+    → 0 < length ps → steps s o t → f ≡ unwrap_or o d → YieldsList steps (λ x. x.now) s ps
+    → (ps ≡ f.now ∷ drop 1 ps) × YieldsList steps (λ x. x.now) t (drop 1 ps)
+started [] s t o f d h k e a = absurd (omega arith)
+started (y ∷ ys) s t None f d h k e a = absurd (a.runs.0 t k)
+started (y ∷ ys) s t (Some x) f d h k e a = let m = a.runs.1 x t k in (rw e (ap (λ z. z ∷ ys) (sym m.0)), record { runs = m.1 })
+
+begun : (c : In_default) → (parts c.without_last_feed-text.result.now ≡ c.unwrap_or-first.result.now ∷ drop 1 (parts c.without_last_feed-text.result.now))
+begun c = (started (parts c.without_last_feed-text.result.now) _ _ c.next.result c.unwrap_or-first.result _ (parts-some c.without_last_feed-text.result.now) c.next.ensures.steps c.unwrap_or-first.ensures (YieldsList-from_slice_split _ is_line_feed _ c.split-lines.ensures.rest c.split-lines.ensures.done c.split-lines.ensures.closure (λ x b q k. search (rules, tests)))).0
+
+unsized : (c : In_default) → read_up_to (room_for (length c.args.schedule.now)) c.args.input.now ≡ reading_of 1 0 0 []
+unsized c =
+    let room = room_for (length c.args.schedule.now) in
+    sym (c.without_last_feed-text.ensures.read room) ∙ ap (read_lines room) (begun c) ∙ parts-unsized room _ _ (sym c.read_number.ensures ∙ c.in_default.is)
+
+pub returns-in_default-clause-answer : goal.returns-in_default-clause-answer
+returns-in_default-clause-answer c = rw (unsized c)
+
+pub returns-in_default-clause-schedule_after : goal.returns-in_default-clause-schedule_after
+returns-in_default-clause-schedule_after c = rw (unsized c)
+
+pub loop-line-init : goal.loop-line-init
+loop-line-init c =
+    let room = room_for (length c.args.schedule.now) in
+    let first = (started (parts c.without_last_feed-text.result.now) _ _ c.next.result c.unwrap_or-first.result _ (parts-some c.without_last_feed-text.result.now) c.next.ensures.steps c.unwrap_or-first.ensures (YieldsList-from_slice_split _ is_line_feed _ c.split-lines.ensures.rest c.split-lines.ensures.done c.split-lines.ensures.closure (λ x b q k. search (rules, tests)))).0 in
+    let sized = parts-sized room c.in-Some.size _ _ (sym c.read_number.ensures ∙ c.in-Some.is) in
+    record {
+      few = omega arith;
+      room = c.room_for-room.ensures;
+      counted = refl;
+      kept = refl;
+      read = sym (sym (c.without_last_feed-text.ensures.read room) ∙ ap (read_lines room) first ∙ sized ∙ ap (read_entries room c.in-Some.size 0 []) c.without_last_feed-text.ensures.others);
+    }
+
+-- the lines behind the first are gone through
+turn : (c : In-Some-line) → (length c.loop-line.yielded < length (drop 1 (lines c.args.input.now)))
+    × (c.in-Some-line.line.now ≡ get_or (drop 1 (lines c.args.input.now)) (length c.loop-line.yielded) c.in-Some-line.line.now)
+turn c =
+    let road = (started (parts c.without_last_feed-text.result.now) _ _ c.next.result c.unwrap_or-first.result _ (parts-some c.without_last_feed-text.result.now) c.next.ensures.steps c.unwrap_or-first.ensures (YieldsList-from_slice_split _ is_line_feed _ c.split-lines.ensures.rest c.split-lines.ensures.done c.split-lines.ensures.closure (λ x b q k. search (rules, tests)))).1 in
+    rw c.without_last_feed-text.ensures.others at (YieldsList-turn (YieldsList-at c.into_iter-line-iterator.ensures.into_iter_gives road) c.loop-line.yielded _ c.loop-line.yielded_by _ _ _ c.in-Some-line.is c.next-in-loop-line.ensures.steps)
+
+ended : (c : In-None) → length c.loop-line.yielded ≡ length (drop 1 (lines c.args.input.now))
+ended c =
+    let road = (started (parts c.without_last_feed-text.result.now) _ _ c.next.result c.unwrap_or-first.result _ (parts-some c.without_last_feed-text.result.now) c.next.ensures.steps c.unwrap_or-first.ensures (YieldsList-from_slice_split _ is_line_feed _ c.split-lines.ensures.rest c.split-lines.ensures.done c.split-lines.ensures.closure (λ x b q k. search (rules, tests)))).1 in
+    rw c.without_last_feed-text.ensures.others at (YieldsList-end (YieldsList-at c.into_iter-line-iterator.ensures.into_iter_gives road) c.loop-line.yielded _ c.loop-line.yielded_by _ _ c.in-None.is c.next-in-loop-line.ensures.steps).1
+
+cut : (c : In-Some-line) → drop c.loop-line.entries (drop 1 (lines c.args.input.now)) ≡ c.in-Some-line.line.now ∷ drop (c.loop-line.entries + 1) (drop 1 (lines c.args.input.now))
+cut c =
+    let t = turn c in
+    let l = drop 1 (lines c.args.input.now) in
+    let k = c.loop-line.invariant.counted in
+    rw (add-one, k, t.1) (drop-cons l (length c.loop-line.yielded) c.in-Some-line.line.now t.0)
+
+stopped : (c : In-Some-line) (o : Option (ℕ × ℕ)) → o ≡ (if nat_lt c.loop-line.entries c.room_for-room.result then entry_of c.in-Some-line.line.now else None) → o ≡ None
+    → read_up_to (room_for (length c.args.schedule.now)) c.args.input.now
+    ≡ reading_of (c.loop-line.entries + 2) c.in-Some.size c.loop-line.entries (take (2 * c.loop-line.entries) c.loop-line.schedule)
+stopped c o told none =
+    let i = c.loop-line.invariant in
+    sym i.read ∙ ap (read_entries (room_for (length c.args.schedule.now)) c.in-Some.size c.loop-line.entries (take (2 * c.loop-line.entries) c.loop-line.schedule)) (cut c)
+    ∙ part-stop _ c.in-Some.size c.loop-line.entries _ c.in-Some-line.line.now _ o (rw i.room at told) none
+
+gone : (c : In-Some-line) (o : Option (ℕ × ℕ)) (x y : ℕ) → o ≡ (if nat_lt c.loop-line.entries c.room_for-room.result then entry_of c.in-Some-line.line.now else None) → o ≡ Some (x, y)
+    → read_entries (room_for (length c.args.schedule.now)) c.in-Some.size (c.loop-line.entries + 1) (take (2 * c.loop-line.entries) c.loop-line.schedule ++ (x ∷ y ∷ [])) (drop (c.loop-line.entries + 1) (drop 1 (lines c.args.input.now)))
+    ≡ read_up_to (room_for (length c.args.schedule.now)) c.args.input.now
+gone c o x y told some =
+    let i = c.loop-line.invariant in
+    sym (part-next _ c.in-Some.size c.loop-line.entries _ c.in-Some-line.line.now _ o (rw i.room at told) x y some)
+    ∙ sym (ap (read_entries (room_for (length c.args.schedule.now)) c.in-Some.size c.loop-line.entries (take (2 * c.loop-line.entries) c.loop-line.schedule)) (cut c)) ∙ i.read
+
+finished : (c : In-None) → read_up_to (room_for (length c.args.schedule.now)) c.args.input.now
+    ≡ reading_of 0 c.in-Some.size c.loop-line.entries (take (2 * c.loop-line.entries) c.loop-line.schedule)
+unfolding read_entries
+finished c =
+    let i = c.loop-line.invariant in
+    let none : drop c.loop-line.entries (drop 1 (lines c.args.input.now)) ≡ [] = drop_of_length-le (drop 1 (lines c.args.input.now)) {i = c.loop-line.entries} (omega (arith, ended c, i.counted)) in
+    sym i.read ∙ ap (read_entries (room_for (length c.args.schedule.now)) c.in-Some.size c.loop-line.entries (take (2 * c.loop-line.entries) c.loop-line.schedule)) none
+
+pub returns-in_default-entry_with_room-clause-answer : goal.returns-in_default-entry_with_room-clause-answer
+returns-in_default-entry_with_room-clause-answer c =
+    let p = (goal.at.returns-in_default-entry_with_room-clause-answer c).In-Some-line in
+    rw (stopped p _ c.entry_with_room.ensures (ap (option_map pair_of) c.in_default-entry_with_room.is)) (answer_stop c.in-Some.size c.loop-line.entries (take (2 * c.loop-line.entries) c.loop-line.schedule))
+
+pub returns-in_default-entry_with_room-clause-schedule_after : goal.returns-in_default-entry_with_room-clause-schedule_after
+returns-in_default-entry_with_room-clause-schedule_after c =
+    let p = (goal.at.returns-in_default-entry_with_room-clause-schedule_after c).In-Some-line in
+    let l = c.loop-line in
+    rw (stopped p _ c.entry_with_room.ensures (ap (option_map pair_of) c.in_default-entry_with_room.is)) (sets-part l.schedule _ (2 * l.entries) (omega arith) (omega arith) l.invariant.kept)
+
+pub loop-line-preserved : goal.loop-line-preserved
+loop-line-preserved c =
+    let p = (goal.at.loop-line-preserved c).In-Some-line in
+    let l = c.loop-line in
+    let told = c.entry_with_room.ensures in
+    let some-is = ap (option_map pair_of) c.in-Some-entry_with_room.is in
+    let h = (taken-has _ _ _ _ (sym told ∙ some-is)).0 in
+    let w = c.put_entry.ensures in
+    let d : 2 * (l.entries + 1) ≡ 2 * l.entries + 2 = omega arith in
+    record {
+      few = omega (arith, h);
+      room = l.invariant.room;
+      counted = omega (arith, l.invariant.counted, length-append l.yielded (c.in-Some-line.line ∷ []));
+      kept = rest-kept l.entries l.schedule _ _ w.schedule_unchanged l.invariant.kept;
+      read = rw (d, w.schedule_after) (gone p _ _ _ told some-is);
+    }
+
+pub returns-clause-answer : goal.returns-clause-answer
+returns-clause-answer c = rw (finished c)
+
+pub returns-clause-schedule_after : goal.returns-clause-schedule_after
+returns-clause-schedule_after c =
+    let l = c.loop-line in
+    rw (finished c) (sets-part l.schedule _ (2 * l.entries) (omega arith) (omega arith) l.invariant.kept)
