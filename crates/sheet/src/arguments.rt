@@ -112,7 +112,7 @@ fn live_boards(row: &[u8]) -> usize {
     row.iter().filter(|x| **x == 0).count()
 }
 
-// What a word of one to `most` digits says, with leading zeros or without.
+// What a word of one to `most` digits says, with leading zeros or without: the lines of the run program, which shares no library that reads text.
 fn number(word: &[u8], most: usize) -> Option<usize> {
     // That all are digits is asked first, since `parse` takes a sign too.
     if most < word.len() || !word.iter().all(u8::is_ascii_digit) {

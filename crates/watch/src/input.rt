@@ -129,7 +129,8 @@ fn kind_of(letter: u8) -> Option<Kind>
     }
 }
 
-// The value of one to `most` digits, if they are that.
+// The value of one to `most` digits, if they are that. The sheet program has these lines too: no library below both reads text, and a crate for
+// them would be longer than both.
 fn read_number(digits: &[u8], most: usize) -> Option<usize>
     requires { most ≤ 3 }
     ensures { result ≡ number_of most digits.now }
