@@ -90,7 +90,7 @@ fn rest_of_a_round(rt: &impl Print) {
     drive_line(rt, drive::drive(8, &mut table, tally, NO_GRANT));
 }
 
-// One entry on a table of eight; of a turn, its line of the sheet is printed.
+// One entry on a table of eight; of a turn, its line of the sheet is printed. Table and tally stay two values, as the calls have them.
 fn entry_of(rt: &impl Print, table: &mut [u8], tally: Tally, kind: Kind, i: u8) -> Tally {
     let station = Station(i);
     let mut line = [0u8; 4];

@@ -100,7 +100,7 @@ fn joined(a: Totals, b: Totals) -> Totals
 }
 
 // The least or the greatest of two batches, of which one has m results and the value a, the other n and b; `both` is what a and b give
-// together.
+// together. Numbers and not `Option`s: totals are the five numbers that C has, where a batch of 0 results has no least and no greatest.
 #[tactic(auto, unfolding(crate::specs::Totals::of_both))]
 fn of_both(m: u64, a: u64, n: u64, b: u64, both: u64) -> u64
     ensures { result ≡ of_both m a n b both }

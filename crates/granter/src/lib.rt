@@ -1,5 +1,5 @@
 // The granter of request C-15: which station is granted the next turn, and the drive, which repeats grant and turn. It stands above `plant`
-// and relies only on what that crate and `station` state. The calls are grant::grant and drive::drive.
+// and relies only on what that crate and those below it state. The calls are grant::grant and drive::drive.
 #![tactic(auto)]
 
 pub mod drive;

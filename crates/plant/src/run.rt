@@ -55,7 +55,7 @@ pub(crate) fn go_on(table: &mut TableMut, tally: Tally, schedule: &[u8], sheet: 
         ≡ go_on table.old.n 0 (state_with table.old.bytes.now tally) sheet.old (entries schedule.now) }
 {
     // A table of its own, whose size and place stay in registers: behind the reference they were read again after each byte that is written,
-    // which made 1.16 to 1.27 times as many instructions.
+    // which made 1.16 to 1.27 times as many instructions (4,000 entries with 8, 11, 16 and 64 boards).
     let bytes = &mut *table.bytes;
     let mut lent = TableMut { n: table.n, bytes };
     let mut ran = Ran {

@@ -29,6 +29,8 @@ pub fn load(file: &[u8], table: &mut [u8]) -> Result<Loaded, Refusal>
     Ok(opened)
 }
 
+// That no field runs past the end is asked and is no ghost field of `Fields`, whose `next` is what finds it out.
+//
 // Reads the table of a file that has that size. Refusals 20, 2, 3, 4. It is built and judged in a buffer for the greatest table.
 fn read_table(
     n: u8,

@@ -121,7 +121,7 @@ fn number(word: &[u8], most: usize) -> Option<usize> {
     str::from_utf8(word).ok()?.parse().ok()
 }
 
-// How many arguments the program was started with, its own name among them.
+// How many arguments the program was started with, its own name among them. Counted by hand: std's `args` wants a heap.
 fn arg_count(rt: &impl Env) -> usize {
     let mut word = [0u8; 8];
     for k in 0..usize::MAX {

@@ -12,6 +12,8 @@ use lists::refusal::Refusal;
 use table::lent::Table;
 use table::{Distance, Station, sizes};
 
+// Here and in the turn's scan row, station and distance stay parameters of their own: the public functions take any row, also one of no table.
+
 // Whether the row leaves station x not suspected. Past the row's end a station is absent.
 #[tactic(auto, unfolding(crate::specs::Tests::unsuspected))]
 fn is_unsuspected(row: &[u8], x: Station) -> bool

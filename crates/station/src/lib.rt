@@ -18,7 +18,8 @@ pub mod rows;
 
 use table::Station;
 
-// Request C-16: what the question whether a distance is due answers.
+// Request C-16: what the question whether a distance is due answers. Not an `Option`: the request names both cases, and the second names a station
+// for every row.
 #[derive(Clone, Copy)]
 pub enum DueOrAhead {
     // The distance is due.

@@ -9,7 +9,8 @@ use lists::refusal::Refusal;
 use table::Station;
 use table::lent::Table;
 
-// The row of station i, as that very part of the table: its bytes, and its place in the lent memory. Refused: the empty part.
+// The row of station i, as that very part of the table: its bytes, and its place in the lent memory. Refused: the empty part, which is what
+// document 01 has there, and no `Err`.
 #[tactic(auto, unfolding(crate::specs::Calls::row_part, crate::specs::Calls::row_offset))]
 pub fn row(n: usize, table: &[u8], i: Station) -> &[u8]
     ensures result_value { result.now ≡ row_part n table.now i.0 }

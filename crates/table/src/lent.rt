@@ -31,7 +31,8 @@ pub struct TableMut<'a> {
 }
 
 impl<'a> Table<'a> {
-    // The lent bytes as a table of n stations: refusals 1 and 2.
+    // The lent bytes as a table of n stations: refusals 1 and 2. That the answer has that size and those bytes stands in a clause each, here and in
+    // what hands a table on, so that a caller cites the one that it needs.
     #[tactic(auto, using(crate::proofs::Accepting::shape_ok, crate::proofs::SizeLaws::size_top))]
     pub fn of(n: usize, bytes: &'a [u8]) -> Result<Table<'a>, Refusal>
         ensures check { result_map_both (λ t. tt) (λ r. r) result ≡ shape_check n (length bytes.now) }
@@ -104,8 +105,8 @@ impl<'a> Table<'a> {
         !self.is_live(i) | self.is_finished(i)
     }
 
-    // Whether some station is live and every live one has finished its pass. A loop with an exit, as the check's other one, `rules::all_lines`:
-    // there `all` was slower.
+    // Whether some station is live and every live one has finished its pass. One pass answers both, by a loop with an exit as in
+    // `rules::all_lines`, where `all` was slower.
     #[tactic(auto, using(lists::proofs::Loops::loops, crate::proofs::Accepting::rounds))]
     pub fn is_round_over(&self) -> bool
         ensures { result ≡ round_over self.now.n self.now.bytes.now }

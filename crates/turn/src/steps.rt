@@ -18,8 +18,8 @@ use table::lent::{Table, TableMut};
 use table::status::Status;
 use table::{Distance, Station, cells, sizes};
 
-// Steps 2 to 6: the turn of station i. The kind stays the schedule's byte: a `Kind` would ask more of callers. The functions below have the byte
-// too, since the definitions that they cite take it. That the table obeys the rules is asked, here and above, and is no ghost field: from the
+// Steps 2 to 6: the turn of station i. The kind stays the schedule's byte: a public function keeps what its parameters take. The functions below
+// have the byte too: a `Kind` made of it here would have to be refused where there is none. That the table obeys the rules is asked, here and above, and is no ghost field: from the
 // turn that ends a round to its closing the table has refusal 4, and between two bytes of a line that are put not even the line rules hold.
 pub fn take_turn(table: &mut TableMut, kind: u8, i: Station) -> Outcome
     requires table_obeys { table_number table.old.n table.old.bytes.now ≡ 0 }
@@ -69,7 +69,7 @@ fn scan(row: &[u8], i: Station, end: u8, from: Distance) -> Distance
         };
         return at;
     }
-    if from.0 < end { Distance(end) } else { from }
+    Distance(end.max(from.0))
 }
 
 // Step 2: no distance is due any more.
@@ -180,8 +180,7 @@ fn leave_told(table: &mut TableMut, a: Station, b: Station)
     table.put(a, cells::TOLD_BY, b.0);
 }
 
-// Steps 4, 6 and 7: the station leaves with a status. It stays the table's byte: an enum would ask more of callers. Where the status is
-// known, `TableMut::set_status` takes it as a value.
+// The station leaves with a status, for a caller that has it as the table's byte. The turn, and the crash, go by `TableMut::set_status`.
 pub fn leave(table: &mut TableMut, i: Station, status: u8)
     requires { i.0 < table.old.n }
     ensures same { IsSameLoan table.old table.new }
@@ -249,7 +248,8 @@ fn leave_if_alone(table: &mut TableMut, i: Station)
     }
 }
 
-// Step 6: whether i is live and suspects all others. A loop with an exit: in the check of a table std's `all` took 1.7 to 2.2 times as long.
+// Step 6: whether i is live and suspects all others. A loop with an exit: std's `all` was tried here and in the check of a table,
+// which took 1.7 to 2.2 times as long with it.
 #[tactic(auto, using(lists::proofs::Loops::loops), unfolding(crate::specs::Turn::is_alone))]
 fn suspects_all(table: &Table, i: Station) -> bool
     requires { i.0 < table.now.n }

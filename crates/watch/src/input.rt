@@ -51,6 +51,7 @@ pub fn parse(input: &[u8], schedule: &mut [u8]) -> Result<Parsed, Unread>
         };
         return Err(Unread { line: 1, before });
     };
+    // Counted by hand: it is the answer, and only lines that are taken count.
     let mut entries: usize = 0;
     for line in lines {
         let Some(entry) = entry_with_room(entries, room, line) else {
@@ -116,7 +117,7 @@ fn read_entry(line: &[u8]) -> Option<Entry>
     })
 }
 
-// The kind of a letter, if it is T, L or C.
+// The kind of a letter, if it is T, L or C. Not by `TryFrom`, which `Kind` has for the byte of a schedule.
 #[tactic(auto, unfolding(crate::specs::Input::kind_of))]
 fn kind_of(letter: u8) -> Option<Kind>
     ensures { option_map kind_byte result ≡ kind_of letter }

@@ -36,14 +36,8 @@ returns-in-loop-m c =
     let i = c.loop-m.invariant in
     sym (least-is _ _ _ _ i.begun (omega arith) (due-is _ _ _ ∙ ap says_due (sym c.in-Due.ensures)) (λ y a b. i.passed y b a))
 
-pub returns-then-from-end : goal.returns-then-from-end
-returns-then-from-end c =
+pub returns : goal.returns
+returns c =
     let a = c.args in
-    let e : a.end ≡ a.from.0 + (a.end - a.from.0) = omega arith in
+    let e : c.max.result ≡ a.from.0 + (a.end - a.from.0) = omega (arith, c.max.ensures) in
     e ∙ sym (least-none (due a.row.now a.i.0) (a.end - a.from.0) a.from.0 (λ y lo hi. c.loop-m.invariant.passed y (omega arith) lo))
-
-pub returns-else-from-end : goal.returns-else-from-end
-returns-else-from-end c =
-    let a = c.args in
-    let e : a.from.0 ≡ a.from.0 + (a.end - a.from.0) = omega arith in
-    e ∙ sym (least-none (due a.row.now a.i.0) (a.end - a.from.0) a.from.0 (λ y lo hi. absurd (omega arith)))
