@@ -37,7 +37,8 @@ pub record Heard (n : ℕ) (t t' : List ℕ) (i j o : ℕ) : Type 0 where
   pub tester : suspects n t j i ≡ 1 → (o ≡ outcome_told) × (status n t' i ≡ status_told) × (live n t' j ≡ true) × SameRows n t t'
   -- "Otherwise, if i suspects j, j leaves with status 2, no row changes, and the sheet's outcome is 5. i is still looked at for being alone"
   pub tested : suspects n t j i ≡ 0 → suspects n t i j ≡ 1
-      → (o ≡ outcome_tested_told) × (status n t' j ≡ status_told) × SameRows n t t' × (status n t' i ≡ (if every (self_or_suspected n t i) n then status_alone else 0))
+      → (o ≡ outcome_tested_told) × (status n t' j ≡ status_told) × SameRows n t t'
+      × (status n t' i ≡ (if every (self_or_suspected n t i) n then status_alone else 0))
   -- "Where neither suspects the other, both rows become the union": both stay live
   pub neither : NeitherSuspects n t i j → (o ≡ outcome_exchanged) × (live n t' i ≡ true) × (live n t' j ≡ true) × RowsJoined n t t' i j
   -- so not both are live with one suspecting the other
