@@ -207,7 +207,7 @@ uint8_t vcube_assignment(size_t n, const uint8_t *table, size_t table_length, si
 uint8_t vcube_row(size_t n, const uint8_t *table, size_t table_length, size_t station, size_t *start, size_t *length);
 
 /* Run: takes the entries of a schedule in order. An entry is two bytes: kind (enum vcube_kind) and station. What an entry does is steps 1
- * to 8 of document 01, with request C-13 in place of step 4, as definitions in crates/turn/specs/Turn.antt and crates/plant/specs.
+ * to 8 of document 01, with request C-13 in place of step 4, as definitions in crates/plant/specs.
  *
  * For each entry taken four bytes of the sheet are written: the station, the station it tested or VCUBE_NO_STATION, the outcome (enum
  * vcube_outcome), and the status after the entry of the station in byte 0 (enum vcube_status). Where the outcome is

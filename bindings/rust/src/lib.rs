@@ -2,7 +2,7 @@
 //!
 //! What each call does, and when it is refused, is said in document 01, "The
 //! vCube watch on a gin's plant cable"; the steps of an entry stand as
-//! definitions in crates/turn/specs/Turn.antt and crates/plant/specs. Plants have 2 to
+//! definitions in crates/plant/specs. Plants have 2 to
 //! 64 stations (request C-11 of document 02), the tested station hears too that
 //! it is suspected (its request C-13), an assignment says who stands ahead where
 //! a distance is not due (its request C-16), and a line of the table says who told

@@ -15,13 +15,13 @@ use Rattle.table.specs.Sizes.{is_size, distances}
 use Rattle.table.specs.Table.{cell, status_column, next_column, finished_column, tests_column, next_distance, finished, tests_made, live}
 use Rattle.station.proofs.Presence.{standing, standing-all, standing-more, standing-grows}
 use Rattle.table.specs.Rules.{not_live, some_live, finished_if_live, live_finished, round_over}
-use Rattle.turn.specs.Turn.{next_test, makes_test}
+use Rattle.plant.specs.Turn.{next_test, makes_test}
 use Rattle.plant.specs.Round.{after_round}
-use Rattle.turn.proofs.NextTest.{next_test-low, test-station}
+use Rattle.plant.proofs.NextTest.{next_test-low, test-station}
 use Rattle.plant.specs.Entry.{Entry, State, is_crash, acted, after}
 use Rattle.table.proofs.CellLaws.{TurnCounts}
 use Rattle.plant.proofs.RoundLaws.{Reset, reset-other}
-use Rattle.turn.proofs.StepLines.{Lines}
+use Rattle.plant.proofs.StepLines.{Lines}
 use Rattle.lists.specs.Sums.{sum_below, bit}
 use Rattle.detection.specs.Runs.{Taken, table_after, is_turn_of, taken_test}
 use Rattle.detection.specs.Rounds.{any_taken, count_taken, closes, finishes_of, finished_or_not_live, tests_in, turns_in, nth_turn_finishes}
@@ -30,7 +30,7 @@ use Rattle.lists.proofs.SumLaws.{sum_by, sum-add, sum-single}
 use Rattle.detection.specs.Claim.{TurnsOk}
 use Rattle.detection.specs.Boards.{is_test_of}
 use Rattle.detection.proofs.TakenLaws.{taken_at, any-one, count-snoc, nth-snoc-turn, nth-snoc-other}
-use Rattle.turn.proofs.TurnHeads.{Heads}
+use Rattle.plant.proofs.TurnHeads.{Heads}
 
 -- from t₀ to t, by the entries `cur`
 pub record Counts (n : ℕ) (t₀ : List ℕ) (cur : List Taken) (t : List ℕ) : Type 0 where

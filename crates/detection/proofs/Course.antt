@@ -15,12 +15,12 @@ use Rattle.table.specs.Table.{finished, live}
 use Rattle.lists.proofs.SearchLaws.{both}
 use Rattle.table.proofs.Accepting.{Accepted}
 use Rattle.table.proofs.SizeLaws.{size-distances}
-use Rattle.turn.specs.Turn.{kind_turn, kind_late, kind_crash, makes_test, next_test, turn_tested}
+use Rattle.plant.specs.Turn.{kind_turn, kind_late, kind_crash, makes_test, next_test, turn_tested}
 use Rattle.plant.specs.Round.{reset_lines, after_round}
 use Rattle.plant.specs.Entry.{Entry, State, is_crash, entry_number, acted, after, tested_of}
 use Rattle.plant.proofs.RulesKept.{Takes, entry-facts}
-use Rattle.turn.proofs.StepLines.{Lines}
-use Rattle.turn.proofs.NextTest.{test-station}
+use Rattle.plant.proofs.StepLines.{Lines}
+use Rattle.plant.proofs.NextTest.{test-station}
 use Rattle.lists.specs.Sums.{bit}
 use Rattle.detection.specs.Runs.{Taken, taken_test, crashes, is_late}
 use Rattle.detection.specs.Rounds.{all_taken, count_taken, Rounds, round_before, closes, cut, tests_in, tests_of_all}
@@ -33,7 +33,7 @@ use Rattle.detection.proofs.Pass.{Round, wider}
 use Rattle.detection.proofs.Detected.{detected}
 use Rattle.detection.proofs.Chain.{Chain, done, more}
 use Rattle.detection.proofs.Counting.{turn-counts, turn-roomy, turns-ok, closes-is}
-use Rattle.turn.proofs.TurnHeads.{turn-heads}
+use Rattle.plant.proofs.TurnHeads.{turn-heads}
 use Rattle.detection.proofs.TurnEffect.{Plain, Company, turn-effect}
 use Rattle.detection.proofs.Knowledge.{LiveOf, RowOf, Exact, Knows, turn-knows}
 use Rattle.detection.proofs.Listing.{led_below, turn-listed}

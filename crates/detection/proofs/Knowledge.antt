@@ -19,16 +19,16 @@ use Rattle.station.specs.Tests.{unsuspected, due}
 use Rattle.lists.proofs.Xor.{xor-cancel}
 use Rattle.lists.proofs.SearchLaws.{both}
 use Rattle.table.proofs.CellLaws.{row-length, row_at}
-use Rattle.turn.specs.Turn.{makes_test}
+use Rattle.plant.specs.Turn.{makes_test}
 use Rattle.plant.proofs.RoundLaws.{Reset}
-use Rattle.turn.proofs.StepLines.{Lines}
+use Rattle.plant.proofs.StepLines.{Lines}
 use Rattle.lists.specs.Sums.{sum_below, bit}
 use Rattle.lists.proofs.BoolLaws.{by_bool}
 use Rattle.lists.proofs.SumLaws.{sum_by, sum-zero}
 use Rattle.detection.proofs.Count.{leads, leads-zero, leads-same}
 use Rattle.station.proofs.DueLaws.{unsuspected-at, unsuspected-absent, due-first}
 use Rattle.detection.proofs.DueLaw.{due-holds}
-use Rattle.turn.proofs.TurnHeads.{Heads, passed-dues}
+use Rattle.plant.proofs.TurnHeads.{Heads, passed-dues}
 use Rattle.detection.proofs.Near.{Member, Ahead, member-distance}
 use Rattle.detection.proofs.Pass.{InPass, had, stays, finds, hears, Tests}
 use Rattle.detection.proofs.TurnEffect.{Plain, Grown, Row, Tested, tested-more, TurnKept}

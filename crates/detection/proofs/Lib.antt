@@ -1,4 +1,4 @@
--- The proof of demand 3 and of the exact wait, a file for each part; docs/DEMAND-3.md tells it on a page.
+-- The proof of demand 3 and of the exact wait, a file for each part (docs/DEMAND-3.md tells it on a page); from Told on of the other claims.
 pub mod Near
 pub mod Pass
 pub mod Wait
@@ -19,3 +19,12 @@ pub mod Demand3
 pub mod BoardLaws
 pub mod OneTurn
 pub mod FreshStart
+pub mod Told
+pub mod Fates
+pub mod Recorded
+pub mod SheetTests
+pub mod RowsGrow
+pub mod TestsDue
+pub mod RoundTests
+pub mod DriveRuns
+pub mod DrivenDemand

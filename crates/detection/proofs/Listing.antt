@@ -14,10 +14,10 @@ use Rattle.table.specs.Table.{next_column, next_distance, row}
 use Rattle.station.specs.Tests.{due}
 use Rattle.lists.proofs.BoolLaws.{by_bool}
 use Rattle.lists.proofs.FilterLaws.{filter_same}
-use Rattle.turn.specs.Turn.{next_test, makes_test, turn_tested}
+use Rattle.plant.specs.Turn.{next_test, makes_test, turn_tested}
 use Rattle.plant.specs.Entry.{Entry, State, is_crash, tested_of}
 use Rattle.plant.proofs.RoundLaws.{Reset}
-use Rattle.turn.proofs.TurnHeads.{Heads, passed-list}
+use Rattle.plant.proofs.TurnHeads.{Heads, passed-list}
 use Rattle.detection.specs.Runs.{Taken}
 use Rattle.detection.specs.Boards.{station_tested, is_test_of, tested_in, first_table}
 use Rattle.detection.proofs.TakenLaws.{taken_at}

@@ -8,7 +8,7 @@ use lib.Dec.{eqb}
 use Rattle.table.specs.Rules.{table_number}
 use Rattle.lists.proofs.BoolLaws.{choice}
 use Rattle.lists.proofs.SearchLaws.{both}
-use Rattle.turn.specs.Turn.{kind_turn}
+use Rattle.plant.specs.Turn.{kind_turn}
 use Rattle.plant.specs.Entry.{State, entry_of, entry_number, after}
 use Rattle.plant.specs.Run.{Outcome, entries, start_check, start_number}
 use Rattle.lists.proofs.RefusalLaws.{check_zero}

@@ -2,7 +2,7 @@
 -- Assumes nothing.
 use Rattle.std.specs.Prelude.{ℕ, Bool, not, ◌&&◌, List, [], ◌∷◌, ◌++◌, length, if◌then◌else◌, ◌==◌}
 use Rattle.table.specs.Table.{live}
-use Rattle.turn.specs.Turn.{kind_turn, kind_late}
+use Rattle.plant.specs.Turn.{kind_turn, kind_late}
 use Rattle.plant.specs.Entry.{Entry, State, is_crash, is_test, entry_number, after, tested_of}
 use Rattle.plant.specs.Run.{entries, start_number, run}
 

@@ -1,16 +1,24 @@
-// Demand 3 and the exact wait: the claims stand in specs/Claim.antt, their proof in proofs/Demand3.antt. The function here is the run itself
-// with the claims as its promise, so that they rest on what plant::run::run promises. Those of `claims` do nothing: their contracts are the
-// claims about every list of runs.
+// What is claimed of runs and drives wherever they stand in a list (specs/), and its proof (proofs/). The two functions here are the run and the
+// drive themselves with demand 3 and the exact wait as their promise, so that they rest on what plant::run::run and granter::drive::drive promise.
+// Those of the modules do nothing: their contracts are the claims, of lists of runs (`claims`), of drives (`driven`), of who leaves (`exits`), of
+// who told it and when (`ceased`), and of the tests that slots are timed by (`timing`).
 #![tactic(auto)]
 
+pub mod ceased;
 pub mod claims;
+pub mod driven;
+pub mod exits;
+pub mod timing;
 
 ghost use Rattle.std.specs.Prelude.{◌≡◌};
 ghost use Rattle.plant.specs.Entry.{state_with};
 ghost use Rattle.plant.specs.Run.{outcome_with, run};
 ghost use Rattle.detection.specs.Runs.{call_of};
+ghost use Rattle.granter.specs.Drive.{drive_outcome_with, drive, StoppedIfTaken};
 ghost use Rattle.detection.specs.Claim.{WithinAfter, demand_wait, exact_wait};
+ghost use Rattle.detection.specs.Driven.{DrivenWithinAfter};
 
+use granter::{Driven, drive};
 use plant::{Ran, Tally, run};
 
 // The run, wherever it stands in a list of runs: what demand 3 says of the list that ends with it holds of the table and tally that it
@@ -27,4 +35,15 @@ pub fn run_in_list(
     ensures within_exact_wait { WithinAfter exact_wait (call_of n schedule.now sheet.old) (state_with table.old tally) (state_with table.new result.tally) }
 {
     run::run(n, table, tally, schedule, sheet)
+}
+
+// The drive, wherever it stands behind other drives: what demand 3 says of the plant that they drove holds of the table and tally that it
+// leaves, and holds within the exact wait too.
+pub fn drive_in_list(n: usize, table: &mut [u8], tally: Tally, last: usize) -> Driven
+    ensures table_after { drive_outcome_with result table.new ≡ drive n (state_with table.old tally) last }
+    ensures stopped_if_taken { StoppedIfTaken n (state_with table.old tally) last result.grants }
+    ensures driven_within_demand_wait { DrivenWithinAfter demand_wait n last (state_with table.old tally) (state_with table.new result.tally) }
+    ensures driven_within_exact_wait { DrivenWithinAfter exact_wait n last (state_with table.old tally) (state_with table.new result.tally) }
+{
+    drive::drive(n, table, tally, last)
 }

@@ -17,12 +17,12 @@ use Rattle.lists.proofs.SearchLaws.{least-is, least-none}
 use Rattle.table.proofs.SizeLaws.{size-bounds}
 use Rattle.table.proofs.Accepting.{Accepted}
 use Rattle.table.proofs.CellLaws.{accepted-line}
-use Rattle.turn.specs.Turn.{kind_turn, kind_crash}
+use Rattle.plant.specs.Turn.{kind_turn, kind_crash}
 use Rattle.plant.specs.Round.{after_round}
 use Rattle.plant.specs.Entry.{Entry, State, entry_of, tally_full, entry_number, acted, after}
 use Rattle.plant.proofs.RulesKept.{accepted-kept}
 use Rattle.plant.proofs.RunLaws.{accepted-number}
-use Rattle.turn.proofs.StepLines.{Lines}
+use Rattle.plant.proofs.StepLines.{Lines}
 use Rattle.granter.specs.Grant.{waits, granted, grant_check, grant_number}
 use Rattle.std.specs.Prelude.{Err}
 use Rattle.lists.specs.declared.refusal.Refusal.{Refusal}

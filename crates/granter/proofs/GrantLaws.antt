@@ -16,7 +16,7 @@ use Rattle.lists.proofs.SearchLaws.{both, every-all, least-between, least-passes
 use Rattle.table.proofs.Accepting.{Accepted, table_ok}
 use Rattle.std.specs.Prelude.{Ok, Err}
 use Rattle.lists.proofs.RefusalLaws.{check_zero, ensure_ok, and_ok}
-use Rattle.turn.specs.Turn.{kind_turn}
+use Rattle.plant.specs.Turn.{kind_turn}
 use Rattle.plant.proofs.RunLaws.{accepted-number}
 use Rattle.plant.specs.Entry.{State, entry_of, tally_full, entry_check, entry_number}
 use Rattle.granter.specs.Grant.{no_grant, waits, first_from, following, granted, last_refusal, grant_check, grant_number, grant_answer}

@@ -2,3 +2,5 @@
 pub mod GrantLaws
 pub mod TurnsLeft
 pub mod DriveLaws
+pub mod Fair
+pub mod Stops

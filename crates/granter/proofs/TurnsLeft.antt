@@ -18,10 +18,10 @@ use Rattle.table.specs.Table.{next_column, finished_column, next_distance, finis
 use Rattle.lists.proofs.BoolLaws.{by_bool, choice}
 use Rattle.lists.proofs.SumLaws.{sum_by}
 use Rattle.station.proofs.Presence.{standing, standing-all, standing-more, standing-grows}
-use Rattle.turn.specs.Turn.{next_test, makes_test, turn}
-use Rattle.turn.proofs.NextTest.{next_test-low, test-station}
-use Rattle.turn.proofs.StepLines.{Lines}
-use Rattle.turn.proofs.TurnHeads.{Heads, turn-heads}
+use Rattle.plant.specs.Turn.{next_test, makes_test, turn}
+use Rattle.plant.proofs.NextTest.{next_test-low, test-station}
+use Rattle.plant.proofs.StepLines.{Lines}
+use Rattle.plant.proofs.TurnHeads.{Heads, turn-heads}
 
 -- a test at each present distance from the next one on, and the turn that finishes: the station itself stands at distance 0
 unfoldable pub turns_left : ℕ → List ℕ → ℕ → ℕ

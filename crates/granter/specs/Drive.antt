@@ -4,7 +4,7 @@ use Rattle.std.specs.Prelude.{◌≡◌, ℕ, zero, suc, ◌*◌, ◌≤◌, ◌
 use Rattle.lists.specs.Search.{least}
 use Rattle.table.specs.Rules.{some_live}
 use Rattle.lists.specs.Refusal.{unless}
-use Rattle.turn.specs.Turn.{kind_turn}
+use Rattle.plant.specs.Turn.{kind_turn}
 use Rattle.plant.specs.Entry.{State, state_with, entry_of, tally_full, after}
 use Rattle.plant.specs.Run.{stop_number}
 use Rattle.granter.specs.declared.Driven.{Driven}

@@ -15,7 +15,7 @@ use Rattle.lists.specs.Steps.{after_steps}
 use Rattle.lists.proofs.BoolLaws.{by_bool}
 use Rattle.plant.specs.Round.{rounds_after, reset_line, reset_lines}
 use Rattle.table.proofs.SizeLaws.{distances-pos}
-use Rattle.turn.proofs.StepLines.{Lines}
+use Rattle.plant.proofs.StepLines.{Lines}
 
 -- the line as the round rule leaves it, but for byte 5
 pub record Reset (n : ℕ) (t : List ℕ) (i : ℕ) : Type 0 where

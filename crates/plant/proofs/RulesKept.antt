@@ -17,12 +17,12 @@ use Rattle.table.proofs.Accepting.{Accepted, accepted}
 use Rattle.std.specs.Prelude.{Ok}
 use Rattle.lists.proofs.RefusalLaws.{check_zero, ensure_ok, and_ok}
 use Rattle.table.proofs.CellLaws.{Line, line-holds, accepted-line}
-use Rattle.turn.specs.Turn.{turn, crash}
+use Rattle.plant.specs.Turn.{turn, crash}
 use Rattle.plant.specs.Round.{reset_lines, after_round}
 use Rattle.plant.specs.Entry.{Entry, State, tally_top, is_crash, entry_check, entry_number, acted, after, sheet_line}
 use Rattle.plant.specs.Run.{Outcome, entries, write_line, go_on, start_check, start_number, run}
 use Rattle.plant.proofs.RunLaws.{accepted-number}
-use Rattle.turn.proofs.StepLines.{Lines, leave-lines, turn_lines}
+use Rattle.plant.proofs.StepLines.{Lines, leave-lines, turn_lines}
 use Rattle.plant.proofs.RoundLaws.{reset-lines, reset-cells}
 
 -- what an entry has that refusals 7 to 11 let through

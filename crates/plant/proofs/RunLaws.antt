@@ -19,7 +19,7 @@ use Rattle.std.specs.Simd.{first_chunks}
 use Rattle.lists.specs.declared.refusal.Refusal.{Refusal}
 use Rattle.lists.specs.Refusal.{number_of}
 use Rattle.lists.proofs.RefusalLaws.{number_nonzero, check_zero, ensure_ok, and_ok}
-use Rattle.turn.specs.Turn.{count_test, replies, is_told, reply_outcome, test_outcome, makes_test, next_test, turn_outcome}
+use Rattle.plant.specs.Turn.{count_test, replies, is_told, reply_outcome, test_outcome, makes_test, next_test, turn_outcome}
 use Rattle.plant.specs.Entry.{Entry, State, entry_of, is_crash, is_test, entry_check, entry_number, after, shows_test, outcome_of, sheet_line}
 use Rattle.plant.specs.Run.{Outcome, entries, write_line, go_on, start_check, start_number, run}
 

@@ -7,8 +7,8 @@ use Rattle.lists.specs.Refusal.{Check, ensure, ◌and◌, number_of_result}
 use Rattle.table.specs.Rules.{round_over, station_check}
 use Rattle.plant.specs.declared.Tally.{Tally}
 use Rattle.plant.specs.declared.entry.Entry.{Entry as Known}
-use Rattle.turn.specs.Kind.{kind_byte}
-use Rattle.turn.specs.Turn.{kind_crash, outcome_finished, outcome_crash, no_station, makes_test, turn, turn_tested, turn_outcome, crash}
+use Rattle.plant.specs.Kind.{kind_byte}
+use Rattle.plant.specs.Turn.{kind_crash, outcome_finished, outcome_crash, no_station, makes_test, turn, turn_tested, turn_outcome, crash}
 use Rattle.plant.specs.Round.{after_round}
 
 -- "A schedule entry is two bytes: kind [..] and station i."

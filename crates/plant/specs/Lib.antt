@@ -1,4 +1,7 @@
 -- What the contracts of `plant` cite: document 01, "What an entry does" and the run.
+pub mod Turn
+pub mod Kind
+pub mod Outcome
 pub mod Round
 pub mod Entry
 pub mod Run

@@ -3,17 +3,16 @@ ghost use Rattle.std.specs.Prelude.{◌≡◌, ◌<◌, length, IfOk};
 ghost use Rattle.std.specs.Result.{result_map_both};
 ghost use Rattle.table.specs.Lent.{IsSameLoan};
 ghost use Rattle.table.specs.Rules.{table_number};
-ghost use Rattle.turn.specs.Outcome.{tested_byte, outcome_byte};
+ghost use Rattle.plant.specs.Outcome.{tested_byte, outcome_byte};
 ghost use Rattle.plant.specs.Entry.{state_with, entry_of, entry_known, entry_check, entry_number, shows_test, acted, after, tested_of, outcome_of, sheet_line};
 
-use crate::{Tally, rounds};
+use crate::kind::Kind;
+use crate::outcome::Outcome;
+use crate::{Tally, rounds, steps};
 use lists::refusal::Refusal;
 use table::lent::{Table, TableMut};
 use table::status::Status;
 use table::{Station, cells};
-use turn::kind::Kind;
-use turn::outcome::Outcome;
-use turn::steps;
 
 // An entry of a schedule, of a known kind: what happens, and to which station.
 #[derive(Clone, Copy, Debug, PartialEq, Eq)]
@@ -24,7 +23,7 @@ pub struct Entry {
 
 impl Entry {
     ghost use Rattle.std.specs.Prelude.{◌≡◌, ◌∷◌, []};
-    ghost use Rattle.turn.specs.Kind.{kind_byte};
+    ghost use Rattle.plant.specs.Kind.{kind_byte};
 
     // Its two bytes in a schedule.
     pub fn bytes(self) -> [u8; 2]
@@ -96,7 +95,7 @@ fn made_test(done: Outcome) -> bool
 }
 
 // Steps 2 to 7: a crash or a turn.
-#[tactic(auto, unfolding(crate::specs::Entry::acted, crate::specs::Entry::tested_of, crate::specs::Entry::outcome_of, turn::specs::Turn::crash))]
+#[tactic(auto, unfolding(crate::specs::Entry::acted, crate::specs::Entry::tested_of, crate::specs::Entry::outcome_of, crate::specs::Turn::crash))]
 fn act(table: &mut TableMut, entry: Entry) -> Outcome
     requires table_obeys { table_number table.old.n table.old.bytes.now ≡ 0 }
     requires station_below { entry.station.0 < table.old.n }

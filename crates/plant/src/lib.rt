@@ -1,13 +1,17 @@
-// The plant run of the vCube watch (document 01, "What an entry does" and the run): entries, rounds, the tally. It stands above `turn`
-// and relies only on what the crates below state. The call of document 01 is run::run; single::take_turn, which has a `requires`, is for the crate
-// `granter`. Those of `claims` do nothing: their contracts are claims of every run.
+// The plant run of the vCube watch (document 01, "What an entry does" and the run): one station's turn (`steps`; step 4 as request C-13 has it),
+// entries, rounds, the tally. It stands above `station` and relies only on what the crates below state. The call of document 01 is run::run.
+// steps::take_turn, steps::leave and single::take_turn have a `requires`: they are for the crates above, which have checked the table. Those of
+// `claims` do nothing: their contracts are claims of every run.
 #![tactic(auto)]
 
 pub mod claims;
 pub mod entry;
+pub mod kind;
+pub mod outcome;
 mod rounds;
 pub mod run;
 pub mod single;
+pub mod steps;
 
 use lists::refusal::Refusal;
 

@@ -3,14 +3,14 @@
 ghost use Rattle.std.specs.Prelude.{◌≡◌};
 ghost use Rattle.table.specs.Lent.{IsSameLoan};
 ghost use Rattle.table.specs.Rules.{table_number};
-ghost use Rattle.turn.specs.Turn.{kind_turn};
+ghost use Rattle.plant.specs.Turn.{kind_turn};
 ghost use Rattle.plant.specs.Entry.{state_with, entry_of, entry_number, after};
 
 use crate::entry::Entry;
+use crate::kind::Kind;
 use crate::{Tally, run};
 use table::Station;
 use table::lent::TableMut;
-use turn::kind::Kind;
 
 // A turn of kind 1 of station i, with no line of a sheet: the rest of a run that has this one entry. The answer is the tally after it.
 pub fn take_turn(table: &mut TableMut, tally: Tally, i: Station) -> Tally

@@ -1,4 +1,4 @@
--- Laws of the definitions of specs/, which the proofs of the functions and the crates above cite.
+-- Laws of the definitions of specs/, which the proofs of the functions and the crates above cite; from FileLaws on the claims.
 pub mod NumberLaws
 pub mod ConcatLaws
 pub mod FieldLaws
@@ -12,3 +12,9 @@ pub mod SecondPass
 pub mod OrderLaws
 pub mod Loading
 pub mod TableLines
+pub mod FileLaws
+pub mod Length
+pub mod Restored
+pub mod SavedAgain
+pub mod AnyOrder
+pub mod Examples

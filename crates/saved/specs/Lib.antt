@@ -1,5 +1,6 @@
 -- Request C-17 of document 02, "Saving the plant to the panel": tagged fields, what a file means, what the reader and the writer do; and what
--- the code answers on its way. Order is of request C-19, which is in preparation.
+-- the code answers on its way. Order is of request C-19, which is in preparation. The last three are what is claimed of files and of
+-- saved plants.
 pub mod Bytes
 pub mod Fields
 pub mod Plant
@@ -7,3 +8,6 @@ pub mod Load
 pub mod Save
 pub mod Reading
 pub mod Order
+pub mod Files
+pub mod Restoring
+pub mod Examples

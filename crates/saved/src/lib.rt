@@ -4,6 +4,7 @@
 #![tactic(auto)]
 
 mod bytes;
+pub mod claims;
 mod fields;
 mod lines;
 pub mod load;

@@ -1,5 +1,5 @@
 // The sheet of one plant. The row has 1 at each dead board, and is the row of each live one.
-// Size and row stand side by side, as `commission` asks for both: a struct of them would be taken apart at each call.
+// Size and row stand side by side, as `slots` asks for both: a struct of them would be taken apart at each call.
 use crate::text;
 use table::Station;
 
@@ -61,7 +61,7 @@ fn tests_width(n: u8, row: &[u8], i: Station) -> usize {
 
 // Whom board i tests, in order, at the front of the lent list.
 fn list_tests<'a>(n: u8, row: &[u8], i: Station, list: &'a mut [u8; 256]) -> &'a [u8] {
-    let count = commission::list_tests(n, row, i, list);
+    let count = slots::list_tests(n, row, i, list);
     &list[..count as usize]
 }
 
@@ -72,7 +72,7 @@ fn print_tests_of(rt: &impl Print, n: u8, row: &mut [u8], i: Station, columns: u
     }
     let mut list = [0; 256];
     let tests = list_tests(n, row, i, &mut list);
-    let most = commission::most_tests(n, row, i);
+    let most = slots::most_tests(n, row, i);
     let rest = columns.saturating_sub(text::list_width(tests));
     let _ = print!(rt; "{:>5}  ", i.0);
     text::list(rt, tests);
@@ -94,7 +94,7 @@ fn print_ahead_of(rt: &impl Print, n: u8, row: &[u8], i: Station) {
     }
     let mut list = [0; 256];
     let mut firsts = [0; 256];
-    let count = commission::untested::list_untested(n, row, i, &mut list, &mut firsts) as usize;
+    let count = slots::untested::list_untested(n, row, i, &mut list, &mut firsts) as usize;
     let _ = print!(rt; "{:>5}  ", i.0);
     if count == 0 {
         let _ = print!(rt; "-");

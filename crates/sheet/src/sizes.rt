@@ -23,7 +23,7 @@ fn print_size(rt: &impl Print, n: u8, row: &mut [u8]) {
     let Some(row) = row.get_mut(..n as usize) else {
         return;
     };
-    let none_dead = commission::most_of_boards(n, row, false);
-    let one_dead = commission::most_of_boards(n, row, true);
+    let none_dead = slots::most_of_boards(n, row, false);
+    let one_dead = slots::most_of_boards(n, row, true);
     let _ = print!(rt; "| {n} | {none_dead} | {one_dead} ");
 }

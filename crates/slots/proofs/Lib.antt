@@ -1,4 +1,4 @@
--- The claims of specs/Law.antt and specs/Assignments.antt hold.
+-- The claims of specs/Law.antt and specs/Assignments.antt hold; the last two are for the proofs of the functions.
 pub mod AssignmentLaws
 pub mod DigitLaws
 pub mod Counts
@@ -7,3 +7,5 @@ pub mod LastBoard
 pub mod MoreTests
 pub mod AllBoards
 pub mod Untested
+mod ListLaws
+mod MostLaws

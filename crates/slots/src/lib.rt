@@ -1,97 +1,114 @@
-// Which tests a board makes in a round by its row, how many these are, and the most that one more dead board can make of them, by which its slot on
-// the cable is timed (specs/Slots.antt; crate `commission` has the functions that say them); and the law behind the numbers (specs/Law.antt). Each
-// function here does nothing: its contract is a claim.
+// What the commissioning sheet says of a board, by its row: which boards it tests, whom it does not test and who stands ahead (`untested`), how many
+// tests it makes a round, and the most that one more dead board can make of it, by which its slot on the cable is timed (specs/Slots.antt). The
+// law behind the numbers is claimed by the functions of `claims`, which do nothing. Size, row and station stand side by side: in the public calls
+// since any row is taken, of the size's length or not, and in the private ones since a struct would borrow the row, which `tests_with` marks
+// between two calls.
 #![tactic(auto)]
 
-ghost use Rattle.slots.specs.Law.{DueByDigits, NobodyLeftOut, ListsCounted, TestsByLevels, TestsAtMost, NobodySuspected, OneSuspected, OneSuspectedExactly, MostOfPowers, LastTestsAll, NeverFewer, MostIsNoLess, MostCovers};
-ghost use Rattle.slots.specs.Assignments.{OwnUnsuspected, SomebodyFirst, BeforeUpTo, NothingLeftOver, DueHave255};
+ghost use Rattle.std.specs.Prelude.{◌≡◌, true, false};
+ghost use Rattle.station.specs.Tests.{due};
+ghost use Rattle.slots.specs.Slots.{tested, tests_due, tests_with, most_tests, most_of_boards};
+ghost use Rattle.std.proofs.lemmas.List.Edits.{sets};
 
-// A distance at which somebody stands is due by its digits: each 1 below the highest names an own group that the row must suspect whole.
-pub fn due_by_digits()
-    ensures { DueByDigits }
-{}
+pub mod claims;
+pub mod untested;
 
-// Each other station is one that a board tests or one that it does not test, and is listed once.
-pub fn nobody_left_out()
-    ensures { NobodyLeftOut }
-{}
+use lists::bytes;
+use station::{due, order, rows};
+use table::{Distance, Station, sizes};
 
-// The counts are the lengths of the lists.
-pub fn lists_counted()
-    ensures { ListsCounted }
-{}
+// Whom i of n stations tests by its row of n bytes, in order, into a lent list; answers how many these are. Past the list's end nothing is written.
+pub fn list_tests(n: u8, row: &[u8], i: Station, list: &mut [u8]) -> u8
+    ensures value { result ≡ tests_due n row.now i.0 }
+    ensures list_after { list.new ≡ sets list.old 0 (tested n row.now i.0) }
+{
+    let end = sizes::distances(n);
+    // Counted by hand and not by `enumerate`, since the count is the answer, also where the list is too short.
+    let mut count = 0;
+    for m in (0..end).filter(|m| is_due(row, i, Distance(*m as u8))) {
+        bytes::put(list, count, order::lookup(i, Distance(m as u8)).0);
+        count += 1;
+    }
+    count
+}
 
-// With 2^d boards the tests of a board are a sum over the levels: 2 to the number of own groups below that it suspects whole.
-pub fn tests_by_levels()
-    ensures { TestsByLevels }
-{}
+// How many distances are due for i of n stations, by its row.
+fn tests(n: u8, row: &[u8], i: Station) -> u8
+    ensures { result ≡ tests_due n row.now i.0 }
+{
+    let end = sizes::distances(n);
+    (0..end)
+        .filter(|m| is_due(row, i, Distance(*m as u8)))
+        .count() as u8
+}
 
-// With any number of boards they are at most that sum.
-pub fn tests_at_most()
-    ensures { TestsAtMost }
-{}
+// Whether distance m is due for i, by its row.
+fn is_due(row: &[u8], i: Station, m: Distance) -> bool
+    ensures { result ≡ due row.now i.0 m.0 }
+{
+    due::due_or_ahead(row, i, m).is_due()
+}
 
-// With 2^d boards and nobody suspected each board makes d tests.
-pub fn nobody_suspected()
-    ensures { NobodySuspected }
-{}
+// The most tests of i where its row suspects one station more. The row is as before afterwards.
+pub fn most_tests(n: u8, row: &mut [u8], i: Station) -> u8
+    ensures value { result ≡ most_tests n row.old i.0 }
+    ensures row_unchanged { row.new ≡ row.old }
+{
+    let mut most: u8 = 0;
+    // Not a chain: of a closure that marks the row, and puts back what was there, no proof knows what it answers.
+    for j in 0..n {
+        most = most.max(tests_with(n, row, i, Station(j)));
+    }
+    most
+}
 
-// With 2^d boards and one suspected each other board makes at most 2d − 1 tests.
-pub fn one_suspected()
-    ensures { OneSuspected }
-{}
+// The tests of i where its row suspects j too; 0 where j is i. The row is as before afterwards.
+fn tests_with(n: u8, row: &mut [u8], i: Station, j: Station) -> u8
+    ensures value { result ≡ tests_with n row.old i.0 j.0 }
+    ensures row_unchanged { row.new ≡ row.old }
+{
+    if j == i {
+        return 0;
+    }
+    let at = j.0 as usize;
+    if row.len() <= at {
+        return tests(n, row, i);
+    }
+    let kept = row[at];
+    rows::mark_row(row, j);
+    let count = tests(n, row, i);
+    row[at] = kept;
+    count
+}
 
-// The board at distance 1 from the suspected one makes 2d − 1 tests, each other board d.
-pub fn one_suspected_exactly()
-    ensures { OneSuspectedExactly }
-{}
+// The most tests of any of n boards that all have this row and, if `more`, also suspect any one other board. The row is as before afterwards.
+// The flag stays: a public function, whose promise speaks of both values at once.
+pub fn most_of_boards(n: u8, row: &mut [u8], more: bool) -> u8
+    ensures value { result ≡ most_of_boards n row.old more }
+    ensures row_unchanged { row.new ≡ row.old }
+{
+    if more {
+        return most_with_one_more(n, row);
+    }
+    most_by_row(n, row)
+}
 
-// So the most of any of 2^d boards is d with nobody dead, and 2d − 1 with any one dead.
-pub fn most_of_powers()
-    ensures { MostOfPowers }
-{}
+// The most tests of any of n boards by the row.
+fn most_by_row(n: u8, row: &[u8]) -> u8
+    ensures { result ≡ most_of_boards n row.now false }
+{
+    (0..n).map(|i| tests(n, row, Station(i))).max().unwrap_or(0)
+}
 
-// With 2^d + 1 boards and nobody suspected the last board tests all others.
-pub fn last_tests_all()
-    ensures { LastTestsAll }
-{}
-
-// Who suspects more makes no fewer tests.
-pub fn never_fewer()
-    ensures { NeverFewer }
-{}
-
-// The most tests with one more board dead are no fewer than the tests now.
-pub fn most_is_no_less()
-    ensures { MostIsNoLess }
-{}
-
-// They are no fewer than the tests by any row that suspects only whom this row suspects, and one more board.
-pub fn most_covers()
-    ensures { MostCovers }
-{}
-
-// In a table that refusals 1 to 4 let through no row suspects its own station.
-pub fn own_unsuspected()
-    ensures { OwnUnsuspected }
-{}
-
-// For such a row somebody is first at every distance but 0.
-pub fn somebody_first()
-    ensures { SomebodyFirst }
-{}
-
-// Who stands before a board at a distance does so at all distances from there to `up_to`.
-pub fn before_up_to()
-    ensures { BeforeUpTo }
-{}
-
-// The assignment is n − 1 entries of two bytes, and fills its list.
-pub fn nothing_left_over()
-    ensures { NothingLeftOver }
-{}
-
-// The due distances are those of the entries with 255, for a row that does not suspect its own station.
-pub fn due_have_255()
-    ensures { DueHave255 }
-{}
+// The most tests of any of n boards where the row suspects one station more. The row is as before afterwards.
+fn most_with_one_more(n: u8, row: &mut [u8]) -> u8
+    ensures value { result ≡ most_of_boards n row.old true }
+    ensures row_unchanged { row.new ≡ row.old }
+{
+    let mut most: u8 = 0;
+    // Not a chain, as in `most_tests`.
+    for i in 0..n {
+        most = most.max(most_tests(n, row, Station(i)));
+    }
+    most
+}

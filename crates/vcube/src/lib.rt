@@ -10,7 +10,7 @@ ghost use Rattle.plant.specs.Entry.{state_of};
 ghost use Rattle.plant.specs.Run.{run};
 ghost use Rattle.detection.specs.Runs.{call_of};
 ghost use Rattle.detection.specs.Claim.{WithinAfter, demand_wait, exact_wait};
-ghost use Rattle.driving.specs.Driven.{DrivenWithinAfter};
+ghost use Rattle.detection.specs.Driven.{DrivenWithinAfter};
 ghost use Rattle.granter.specs.Grant.{grant_number, grant_station};
 ghost use Rattle.granter.specs.Drive.{drive, StoppedIfTaken};
 ghost use Rattle.saved.specs.Load.{size_number, saved_size, size_figure, load_number, load_answer, loaded_figures, load_after};
@@ -165,7 +165,7 @@ pub extern "C" fn vcube_drive(
         rounds: *rounds,
         tests: *tests,
     };
-    let driven = driving::drive_in_list(n, table, tally, *last);
+    let driven = detection::drive_in_list(n, table, tally, *last);
     *rounds = driven.tally.rounds;
     *tests = driven.tally.tests;
     *last = driven.last;

@@ -2,7 +2,7 @@
 -- Assumes nothing.
 use Rattle.std.specs.Prelude.{ℕ, suc, ◌+◌, ◌*◌, ◌-◌, ◌/◌, min, Bool, ◌&&◌, List, [], ◌∷◌, ◌++◌, length, nat_lt, nat_le}
 use Rattle.std.specs.Prelude.{Option, None, Some, option_and_then, option_map, Result, Ok, Err, if◌then◌else◌, ◌==◌}
-use Rattle.turn.specs.Kind.{kind_byte}
+use Rattle.plant.specs.Kind.{kind_byte}
 use Rattle.plant.specs.declared.entry.Entry.{Entry}
 use Rattle.watch.specs.declared.input.Parsed.{Parsed}
 use Rattle.watch.specs.declared.input.Unread.{Unread}

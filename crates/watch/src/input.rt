@@ -1,15 +1,15 @@
 // What standard input holds (document 01, the run program): lines, the size, the entries. The one call is `parse`.
 ghost use Rattle.std.specs.Prelude.{◌≡◌, ℕ, [], ◌∷◌, ◌++◌, ◌+◌, ◌*◌, ◌≤◌, suc, length, take, drop, None, option_map, if◌then◌else◌, nat_lt};
 ghost use Rattle.std.proofs.lemmas.List.Edits.{sets};
-ghost use Rattle.turn.specs.Kind.{kind_byte};
+ghost use Rattle.plant.specs.Kind.{kind_byte};
 ghost use Rattle.std.specs.List.{slice_split};
 ghost use Rattle.watch.specs.Input.{is_line_feed, lines, number_of, kind_of, entry_of, pair_of, answer_of, read_lines, read_up_to, room_for, read_into};
 
 use plant::entry::Entry;
+use plant::kind::Kind;
 use std::error::Error;
 use std::fmt;
 use table::Station;
-use turn::kind::Kind;
 
 // What was read: the size, and how many entries. Not the part of the schedule that they fill: `answer_of` names this answer whole, and a reference
 // is also a place in memory, which no definition over the input names.

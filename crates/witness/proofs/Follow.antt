@@ -20,9 +20,9 @@ use Rattle.table.proofs.CellLaws.{accepted-line}
 use Rattle.table.proofs.SizeLaws.{size-distances}
 use Rattle.station.specs.Groups.{station_at}
 use Rattle.station.specs.Tests.{due}
-use Rattle.turn.specs.Turn.{kind_turn, next_test, makes_test, turn}
-use Rattle.turn.proofs.NextTest.{next_test-low, not-due-before, test_below, test-due, none-due}
-use Rattle.turn.proofs.TurnHeads.{Heads, turn-heads}
+use Rattle.plant.specs.Turn.{kind_turn, next_test, makes_test, turn}
+use Rattle.plant.proofs.NextTest.{next_test-low, not-due-before, test_below, test-due, none-due}
+use Rattle.plant.proofs.TurnHeads.{Heads, turn-heads}
 use Rattle.plant.specs.Round.{reset_lines, after_round}
 use Rattle.plant.specs.Entry.{Entry, State, entry_of, tally_top, tally_full, is_test, entry_check, entry_number, acted, after}
 use Rattle.plant.proofs.RulesKept.{Takes, entry-facts, accepted-kept}

@@ -19,11 +19,11 @@ use Rattle.table.proofs.CellLaws.{row-length, row_at}
 use Rattle.station.specs.Groups.{station_at}
 use Rattle.station.specs.Tests.{unsuspected, due}
 use Rattle.station.proofs.DueLaws.{unsuspected-at, unsuspected-absent, due-first, due-absent}
-use Rattle.turn.specs.Turn.{kind_turn, next_test, makes_test, count_test, exchange_rows, suspect, replies, test_outcome, after_outcome, after_test, testing, turn}
-use Rattle.turn.proofs.StepCells.{finish_pass-other, count_test-other, count_test-length, suspect-same, suspect-other, exchange-other, exchange-tester, exchange-tested, exchange-tester-own, exchange-tested-own}
-use Rattle.turn.proofs.StepLines.{count_test-lines, station-apart}
-use Rattle.turn.proofs.NextTest.{next_test-low, test_below, test-station}
-use Rattle.turn.proofs.TurnHeads.{Heads, turn-heads}
+use Rattle.plant.specs.Turn.{kind_turn, next_test, makes_test, count_test, exchange_rows, suspect, replies, test_outcome, after_outcome, after_test, testing, turn}
+use Rattle.plant.proofs.StepCells.{finish_pass-other, count_test-other, count_test-length, suspect-same, suspect-other, exchange-other, exchange-tester, exchange-tested, exchange-tester-own, exchange-tested-own}
+use Rattle.plant.proofs.StepLines.{count_test-lines, station-apart}
+use Rattle.plant.proofs.NextTest.{next_test-low, test_below, test-station}
+use Rattle.plant.proofs.TurnHeads.{Heads, turn-heads}
 use Rattle.detection.proofs.Count.{leads-same}
 use Rattle.detection.proofs.TurnEffect.{Plain, Company, same_rows, none_told, tested, not-alone, turn-effect}
 

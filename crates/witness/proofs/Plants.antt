@@ -15,7 +15,7 @@ use Rattle.table.specs.Table.{head, table_length, set_cell, suspects, live, roun
 use Rattle.table.specs.Rules.{not_live, table_number}
 use Rattle.table.specs.Properties.{at_start, live_count, none_suspected}
 use Rattle.table.specs.Fresh.{fresh_table}
-use Rattle.turn.specs.Turn.{crash, kind_turn}
+use Rattle.plant.specs.Turn.{crash, kind_turn}
 use Rattle.plant.specs.Entry.{State, state_of, entry_of, entry_number, after}
 use Rattle.detection.specs.Runs.{taken_all}
 use Rattle.detection.specs.Rounds.{all_taken}

@@ -13,7 +13,7 @@ use Rattle.table.specs.Sizes.{dimension}
 use Rattle.table.specs.Table.{suspects, live}
 use Rattle.table.specs.Rules.{not_live, table_number}
 use Rattle.table.proofs.Accepting.{Accepted, accepted}
-use Rattle.turn.specs.Turn.{kind_turn}
+use Rattle.plant.specs.Turn.{kind_turn}
 use Rattle.plant.specs.Entry.{State, entry_of, entry_number, after}
 use Rattle.plant.proofs.RulesKept.{accepted-kept}
 use Rattle.plant.proofs.RunLaws.{accepted-number}

@@ -1,7 +1,7 @@
 -- The two bytes of the entry stand in the part that was written.
 use Rattle.std.proofs.Common.{ℕ, ◌+◌, ◌-◌, ◌*◌, List, [], ◌∷◌, arith}
 use Rattle.std.proofs.lemmas.Slice.{take-put_mid, drop-put_mid}
-use Rattle.turn.specs.Kind.{kind_byte}
+use Rattle.plant.specs.Kind.{kind_byte}
 use Rattle.plant.specs.declared.entry.Entry.{Entry}
 use Rattle.watch.proofs.input.put_entry.Goals as goal
 

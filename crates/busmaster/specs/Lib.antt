@@ -1,2 +1,0 @@
--- Examples of request C-15.
-pub mod Master

@@ -1,3 +1,0 @@
--- The claims of specs/Ceased.antt hold.
-pub mod Fates
-pub mod Lists

@@ -1,3 +1,0 @@
--- Laws for the proofs of the functions.
-mod ListLaws
-mod MostLaws

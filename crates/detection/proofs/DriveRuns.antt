@@ -1,0 +1,120 @@
+-- A drive is the list of runs of its grants, one entry each.
+-- Assumes nothing.
+use mathlib.Core.Path.{◌≡◌, refl}
+use mathlib.Core.Bool.{true, false, cond}
+use mathlib.Core.List.{[], ◌∷◌, ◌++◌}
+use Prim.Native.Nat.{ℕ, zero, suc, ◌<◌}
+use native.Mathlib.Omega.{arith}
+use borrow.Author.Tests.{eqb-true, eqb-false}
+use lib.Dec.{eqb}
+use lib.ListN.{length, length-append}
+use Rattle.table.specs.Rules.{table_number}
+use Rattle.lists.proofs.BoolLaws.{by_bool}
+use Rattle.plant.specs.Turn.{kind_turn}
+use Rattle.plant.specs.Entry.{State, entry_of, entry_check, entry_number}
+use Rattle.plant.proofs.RunLaws.{accepted-number}
+use Rattle.detection.specs.Runs.{turn_run, after_runs, taken_all}
+use Rattle.detection.proofs.OneTurn.{after-append, taken-append, one_left, one-taken}
+use Rattle.detection.proofs.TakenLaws.{taken_at}
+use Rattle.granter.specs.Grant.{last_refusal, grant_number}
+use Rattle.granter.specs.Drive.{Stand, stand_at, granted_at, grant_turn, after_grants, ended_after, full_after, stops, grants_made, outcome_after, drive}
+use Rattle.granter.proofs.GrantLaws.{Grantable, grantable, grant-zero, station-fits}
+use Rattle.granter.proofs.DriveLaws.{Driving, not_stopped, driving-start, still, chosen, next-taken, next-driving}
+use Rattle.detection.specs.Driven.{runs_of, EveryDriveTurnByTurn}
+use Rattle.granter.proofs.Stops.{every-drive-stops}
+
+-- as long as a drive does not stop
+pub driving-at : (n : ℕ) (s : State) (last : ℕ) → Grantable n s.table last → (k : ℕ)
+    → ((j : ℕ) → j < suc k → stops n (stand_at s last) j ≡ false) → Driving n (stand_at s last) k
+driving-at n s last g zero going = driving-start n s last g
+driving-at n s last g (suc k) going =
+    next-driving n (stand_at s last) k (driving-at n s last g k (λ j l. going j (omega arith)))
+    (not_stopped n (stand_at s last) k (going k (omega arith))).1
+    (not_stopped n (stand_at s last) (suc k) (going (suc k) (omega arith))).0
+
+-- the runs of k grants leave what the grants leave, and each takes its entry
+runs-left : (n : ℕ) (s : State) (last : ℕ) → Grantable n s.table last → (k : ℕ)
+    → ((j : ℕ) → j < k → stops n (stand_at s last) j ≡ false)
+    → (after_runs s (runs_of n (stand_at s last) k) ≡ (after_grants n (stand_at s last) k).state) × (length (taken_all s (runs_of n (stand_at s last) k)) ≡ k)
+unfolding runs_of after_runs taken_all after_grants grant_turn
+runs-left n s last g zero going = (refl, refl)
+runs-left n s last g (suc k) going = step (runs-left n s last g k (λ j l. going j (omega arith)))
+  where
+    p : Stand
+    p = stand_at s last
+
+    q : State
+    q = (after_grants n p k).state
+
+    i : ℕ
+    i = granted_at n (after_grants n p k)
+
+    d : Driving n p k
+    d = driving-at n s last g k going
+
+    z : entry_number n q (entry_of kind_turn i) ≡ 0
+    z = next-taken n p k d (not_stopped n p k (going k (omega arith))).1
+
+    ok : table_number n q.table ≡ 0
+    ok = accepted-number n q.table d.ok
+
+    step : (after_runs s (runs_of n p k) ≡ q) × (length (taken_all s (runs_of n p k)) ≡ k)
+        → (after_runs s (runs_of n p k ++ (turn_run n i ∷ [])) ≡ (after_grants n p (suc k)).state)
+        × (length (taken_all s (runs_of n p k ++ (turn_run n i ∷ []))) ≡ suc k)
+    step e = (
+      rw (after-append s (runs_of n p k) (turn_run n i ∷ []), e.0) (one_left n q i ok z),
+      rw (taken-append s (runs_of n p k) (turn_run n i ∷ []), e.0, one-taken n q i ok z)
+          (omega (arith, length-append (taken_all s (runs_of n p k)) (taken_at n q (entry_of kind_turn i) ∷ []), e.1)),
+    )
+
+-- the last numbers of a drive are let through
+last_fits : (n : ℕ) (s : State) (last : ℕ) → Grantable n s.table last → (k : ℕ)
+    → ((j : ℕ) → j < k → stops n (stand_at s last) j ≡ false) → last_refusal n (after_grants n (stand_at s last) k).last ≡ 0
+unfolding after_grants grant_turn
+last_fits n s last g zero going = g.last_fits
+last_fits n s last g (suc k) going =
+    station-fits n (granted_at n (after_grants n (stand_at s last) k)) (chosen n (stand_at s last) k (driving-at n s last g k going)).0
+
+-- no grant of a drive is refused
+grants-taken : (n : ℕ) (s : State) (last : ℕ) → Grantable n s.table last → (k : ℕ)
+    → ((j : ℕ) → j < suc k → stops n (stand_at s last) j ≡ false)
+    → grant_number n (after_grants n (stand_at s last) k).state.table (after_grants n (stand_at s last) k).last ≡ 0
+grants-taken n s last g k going =
+    let d = driving-at n s last g k going in
+    grant-zero n _ _ (accepted-number n _ d.ok) (last_fits n s last g k (λ j l. going j (omega arith))) (still n (stand_at s last) k d).1
+
+-- where a drive stops and has not ended, a tally is full
+full-number : (n : ℕ) (p : Stand) (k i : ℕ) → stops n p k ≡ true → ◌≡◌ {A = ℕ} (cond (ended_after n p k) 0 7) 7
+    → entry_number n (after_grants n p k).state (entry_of kind_turn i) ≡ 7
+unfolding stops entry_check
+full-number n p k i stop seven =
+    by_bool (ended_after n p k) (λ e. absurd (omega (arith, rw e at seven)))
+    (λ e. let full : full_after n p k ≡ true = rw e at stop in rw full)
+
+-- a drive is the granting rule followed turn by turn, an end in itself
+pub turn-by-turn : EveryDriveTurnByTurn
+unfolding drive outcome_after runs_of after_runs taken_all after_grants
+turn-by-turn n s last =
+    by_bool (eqb (grant_number n s.table last) 0)
+    (λ e.
+    let z = eqb-true _ 0 e in
+    let g = grantable n s.table last z in
+    let stop = every-drive-stops n s last z in
+    let r = runs-left n s last g made stop.first in
+    record {
+      granted = rw e (λ k h. grants-taken n s last g k (λ j l. stop.first j (omega arith)));
+      taken = rw e r.1;
+      left = rw e r.0;
+      last_is = rw e refl;
+      seven = rw e (λ _ seven. full-number n (stand_at s last) made _ stop.stopped seven);
+    })
+    (λ e. record {
+      granted = rw e (λ k h. absurd (omega arith));
+      taken = rw e refl;
+      left = rw e refl;
+      last_is = rw e refl;
+      seven = λ z. absurd (eqb-false _ 0 e z);
+    })
+  where
+    made : ℕ
+    made = grants_made n (stand_at s last)

@@ -1,6 +1,0 @@
--- The claim is proved in proofs/Stops.antt.
-use Rattle.driving.proofs.Stops.{kind-one-is-driven}
-use Rattle.driving.proofs.claims.kind_one_is_driven.Goals as goal
-
-pub returns : goal.returns
-returns c = kind-one-is-driven

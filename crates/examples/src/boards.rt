@@ -1,0 +1,353 @@
+// Computes the examples of document 01 that are not marked [P], examples that follow the rules of requests C-11, C-13 and C-16, a plant of
+// eight boards, all of Table 1 of paper 000, and column vCube of Table 3 of paper 001. What it writes is compared with the file `stdout`, which has
+// what the documents and the papers say, and for C-11, C-13 and C-16 what their rules give by hand and by the simulator.
+
+use lists::refusal;
+use plant::entry::Entry;
+use plant::kind::Kind;
+use plant::outcome::Outcome;
+use plant::{Ran, Tally, run};
+use station::{due, groups};
+use std::ops::ControlFlow;
+use table::lent::{Table, TableMut};
+use table::{Level, Station, cells, fresh};
+
+// The lengths of tables of two, four, eight and eleven boards. A constant may call no function here, so not `cells::table_length`.
+const TWO: usize = 2 * (2 + cells::HEAD as usize);
+
+const FOUR: usize = 4 * (4 + cells::HEAD as usize);
+
+const EIGHT: usize = 8 * (8 + cells::HEAD as usize);
+
+const ELEVEN: usize = 11 * (11 + cells::HEAD as usize);
+
+// What one print cannot write is left out, and the next is tried all the same.
+pub fn show(rt: &impl Print) {
+    table_1(rt);
+    sizes(rt);
+    sixty_four(rt);
+    eight_boards(rt);
+    top_tally(rt);
+    table_3(rt);
+    eight_assigned(rt);
+    eleven_boards(rt);
+    odd_sizes(rt);
+    late_reply(rt);
+}
+
+// Table 1 of paper 000: the groups of eight stations. A line for each level, a column for each station.
+fn table_1(rt: &impl Print) {
+    group_line(rt, Level(1), 1);
+    group_line(rt, Level(2), 2);
+    group_line(rt, Level(3), 4);
+}
+
+// The groups of stations 0 to 7 at level s, of w members each.
+fn group_line(rt: &impl Print, s: Level, w: u8) {
+    let _ = print!(rt; "{}", s.0);
+    for i in 0..8 {
+        group_column(rt, Station(i), s, w);
+    }
+    line_end(rt);
+}
+
+fn line_end(rt: &impl Print) {
+    let _ = println!(rt; "");
+}
+
+fn group_column(rt: &impl Print, i: Station, s: Level, w: u8) {
+    let mut list = [0u8; 4];
+    members(rt, 8, i, s, w as usize, &mut list);
+}
+
+// The w members of the group of i at level s among n, by way of the front of a list.
+fn members(rt: &impl Print, n: usize, i: Station, s: Level, w: usize, list: &mut [u8]) {
+    let Some(list) = list.get_mut(..w) else {
+        return;
+    };
+    if groups::group_list(n, i, s, list).is_ok() {
+        commas(rt, list);
+    }
+}
+
+// The bytes, a space before the first and commas before the others.
+fn commas(rt: &impl Print, list: &[u8]) {
+    for (k, byte) in list.iter().enumerate() {
+        let separator = if k == 0 { " " } else { "," };
+        let _ = print!(rt; "{separator}{byte}");
+    }
+}
+
+// "[..] N = 128: refusal 1. N = 2: table of 12 bytes; 11 and 13 give 2. N = 64: 4,352 bytes." By C-11 size 3 is taken, and 0, 1 and 65 are not.
+// By C-18 each line has two bytes more: 16 bytes, 15 and 17, and 4,480 bytes; the lengths of before, 12 and 4,352, give 2.
+fn sizes(rt: &impl Print) {
+    size_line(rt, 0, 0);
+    size_line(rt, 1, 7);
+    size_line(rt, 3, 27);
+    size_line(rt, 65, 4480);
+    size_line(rt, 128, 4480);
+    size_line(rt, 2, 16);
+    size_line(rt, 2, 15);
+    size_line(rt, 2, 17);
+    size_line(rt, 2, 12);
+    size_line(rt, 64, 4480);
+    size_line(rt, 64, 4479);
+    size_line(rt, 64, 4352);
+}
+
+// The number that a fresh table of a size and a length gets.
+fn size_line(rt: &impl Print, n: usize, len: usize) {
+    let mut space = [0u8; cells::GREATEST_TABLE];
+    let Some(table) = space.get_mut(..len) else {
+        return;
+    };
+    let number = refusal::number_of(fresh::fresh_table(n, table));
+    let _ = println!(rt; "size {n} bytes {len} number {number}");
+}
+
+// "N = 64, none dead: 384 tests."
+fn sixty_four(rt: &impl Print) {
+    let mut table = [0u8; cells::GREATEST_TABLE];
+    let mut plant = Plant::fresh(64, &mut table);
+    plant.round(rt, None);
+    tests_line(rt, Tally::default(), plant.tally);
+}
+
+// Eight boards. None dead: 24 tests a round, of which board 0 makes three. Board 4 crashes: 23 tests a round once all know it, and
+// board 5 tests 0 and 6 besides.
+fn eight_boards(rt: &impl Print) {
+    let mut table = [0u8; EIGHT];
+    let mut plant = Plant::fresh(8, &mut table);
+    plant.round(rt, Some(0));
+    tests_line(rt, Tally::default(), plant.tally);
+    plant.entry(Kind::Crash, 4);
+    plant.round(rt, None);
+    let second = plant.tally;
+    plant.round(rt, Some(5));
+    tests_line(rt, second, plant.tally);
+}
+
+// "Tests at 4,294,967,294: a testing turn is taken, the next entry gets 7."
+fn top_tally(rt: &impl Print) {
+    let mut table = [0u8; TWO];
+    let mut plant = Plant::fresh(2, &mut table);
+    plant.tally.tests = 4294967294;
+    run_line(rt, plant.turns_of_0_and_1().0);
+}
+
+// Table 3 of paper 001, column vCube: the messages of d·d rounds with nobody dead, two a test.
+fn table_3(rt: &impl Print) {
+    messages_line(rt, 4, 4);
+    messages_line(rt, 8, 9);
+    messages_line(rt, 16, 16);
+    messages_line(rt, 32, 25);
+    messages_line(rt, 64, 36);
+}
+
+fn messages_line(rt: &impl Print, n: u8, rounds: u8) {
+    let tally = fresh_rounds(rt, n, rounds);
+    let _ = println!(rt;
+        "{n} boards rounds {} messages {}",
+        tally.rounds,
+        2 * tally.tests as u64
+    );
+}
+
+// C-11, eleven boards: groups (10, level 1), (10, level 2) and (2, level 4); the assignment of station 10, nothing suspected; and the tests
+// of a round once all know that board 4 is dead.
+fn eleven_boards(rt: &impl Print) {
+    eleven_line(rt, 10, Level(1), 0);
+    eleven_line(rt, 10, Level(2), 2);
+    eleven_line(rt, 2, Level(4), 3);
+    let mut table = [0u8; ELEVEN];
+    let mut plant = Plant::fresh(11, &mut table);
+    let mut list = [0u8; 20];
+    assignment_line(rt, 11, plant.table, 10, &mut list);
+    plant.entry(Kind::Crash, 4);
+    plant.rounds(rt, 4);
+    let known = plant.tally;
+    plant.round(rt, None);
+    tests_line(rt, known, plant.tally);
+}
+
+// C-16, eight boards: the assignment of station 5, nothing suspected, and where it suspects 4.
+#[tactic(auto, unfolding(table::specs::Table::table_length, table::specs::Sizes::is_size))]
+fn eight_assigned(rt: &impl Print) {
+    let mut table = [0u8; EIGHT];
+    let _ = fresh::fresh_table(8, &mut table);
+    let mut list = [0u8; 14];
+    assignment_line(rt, 8, &table, 5, &mut list);
+    let mut lent = TableMut {
+        n: 8,
+        bytes: &mut table,
+    };
+    lent.suspect(Station(5), Station(4));
+    assignment_line(rt, 8, &table, 5, &mut list);
+}
+
+// The entries of an assignment, and how many of them are due.
+fn assignment_line(rt: &impl Print, n: usize, table: &[u8], i: u8, list: &mut [u8]) {
+    let count = due::assignment(n, table, Station(i), list).unwrap_or(0);
+    let _ = print!(rt; "{i} assigned");
+    commas(rt, list);
+    let _ = println!(rt; " due {count}");
+}
+
+// The w members of the group of i at level s among eleven.
+fn eleven_line(rt: &impl Print, i: u8, s: Level, w: usize) {
+    let mut list = [0u8; 4];
+    let _ = print!(rt; "{i} level {}:", s.0);
+    members(rt, 11, Station(i), s, w, &mut list);
+    line_end(rt);
+}
+
+// C-11: the tests of a round with nobody dead.
+fn odd_sizes(rt: &impl Print) {
+    round_line(rt, 3);
+    round_line(rt, 5);
+    round_line(rt, 11);
+    round_line(rt, 19);
+    round_line(rt, 63);
+}
+
+fn round_line(rt: &impl Print, n: u8) {
+    let tally = fresh_rounds(rt, n, 1);
+    let _ = println!(rt; "{n} boards rounds {} tests {}", tally.rounds, tally.tests);
+}
+
+// C-13, four boards: 1, 2 and 3 take their passes. The reply of 1 to 0's first test comes late; 0 tests 2 and 3 and finishes its pass, which
+// closes the round. In the next round 0 tests 1 again: 1 is told and leaves, and its own turn is refused. By C-18 its line names 0.
+#[tactic(auto, unfolding(table::specs::Table::table_length, table::specs::Sizes::is_size))]
+fn late_reply(rt: &impl Print) {
+    let mut table = [0u8; FOUR];
+    let mut plant = Plant::fresh(4, &mut table);
+    plant.pass(rt, 1, false);
+    plant.pass(rt, 2, false);
+    plant.pass(rt, 3, false);
+    plant.entry(Kind::LateReply, 0);
+    plant.pass(rt, 0, true);
+    tests_line(rt, Tally::default(), plant.tally);
+    let (ran, sheet) = plant.turns_of_0_and_1();
+    let _ = print!(rt; "sheet");
+    commas(rt, &sheet[0..4]);
+    line_end(rt);
+    run_line(rt, ran);
+    let lent = Table {
+        n: 4,
+        bytes: &table,
+    };
+    let told_by = lent.get(Station(1), cells::TOLD_BY);
+    let rounds_ago = lent.get(Station(1), cells::ROUNDS_AGO);
+    let _ = println!(rt; "1 told by {told_by} rounds ago {rounds_ago}");
+}
+
+// The tally of so many rounds of n boards, from none.
+fn fresh_rounds(rt: &impl Print, n: u8, rounds: u8) -> Tally {
+    let mut space = [0u8; cells::GREATEST_TABLE];
+    let Some(table) = space.get_mut(..cells::table_length(n)) else {
+        return Tally::default();
+    };
+    let mut plant = Plant::fresh(n, table);
+    plant.rounds(rt, rounds);
+    plant.tally
+}
+
+// A plant that runs work on: its size, its table and its tally.
+#[derive(Drop)]
+struct Plant<'a> {
+    n: u8,
+    table: &'a mut [u8],
+    tally: Tally,
+}
+
+impl<'a> Plant<'a> {
+    // A plant that begins: the table is made fresh.
+    fn fresh(n: u8, table: &'a mut [u8]) -> Plant<'a> {
+        let _ = fresh::fresh_table(n as usize, table);
+        Plant {
+            n,
+            table,
+            tally: Tally::default(),
+        }
+    }
+
+    // So many rounds.
+    fn rounds(&mut self, rt: &impl Print, rounds: u8) {
+        for _ in 0..rounds {
+            self.round(rt, None);
+        }
+    }
+
+    // A round: each board takes its turns until its pass is finished. The tests of the board that is shown are printed.
+    fn round(&mut self, rt: &impl Print, shown: Option<u8>) {
+        for i in 0..self.n {
+            self.pass(rt, i, shown == Some(i));
+        }
+    }
+
+    // The turns of board i until its pass is finished or a turn is refused.
+    fn pass(&mut self, rt: &impl Print, i: u8, shown: bool) {
+        for _ in 0..self.n {
+            if self.turn(rt, i, shown).is_break() {
+                return;
+            }
+        }
+    }
+
+    // A turn of board i. No other follows where the pass is finished or the turn was refused.
+    fn turn(&mut self, rt: &impl Print, i: u8, shown: bool) -> ControlFlow<()> {
+        let (ran, [_, tested, outcome, _]) = self.entry(Kind::Turn, i);
+        if ran.stopped.is_some() || outcome == Outcome::PassFinished.outcome_byte() {
+            return ControlFlow::Break(());
+        }
+        if shown {
+            let _ = println!(rt; "{i} tests {tested}");
+        }
+        ControlFlow::Continue(())
+    }
+
+    // One entry, and its line of the sheet.
+    fn entry(&mut self, kind: Kind, i: u8) -> (Ran, [u8; 4]) {
+        let station = Station(i);
+        let mut line = [0u8; 4];
+        let ran = self.run(&Entry { kind, station }.bytes(), &mut line);
+        (ran, line)
+    }
+
+    // A turn of board 0 and one of board 1, and their lines of the sheet.
+    fn turns_of_0_and_1(&mut self) -> (Ran, [u8; 8]) {
+        let kind = Kind::Turn;
+        let turn = |station| Entry { kind, station }.bytes();
+        let mut sheet = [0u8; 8];
+        let ran = self.run(
+            [turn(Station(0)), turn(Station(1))].as_flattened(),
+            &mut sheet,
+        );
+        (ran, sheet)
+    }
+
+    // A run of a schedule.
+    fn run(&mut self, schedule: &[u8], sheet: &mut [u8]) -> Ran {
+        let ran = run::run(self.n as usize, self.table, self.tally, schedule, sheet);
+        self.tally = ran.tally;
+        ran
+    }
+}
+
+// The tests and the rounds from one tally to a later one.
+fn tests_line(rt: &impl Print, before: Tally, after: Tally) {
+    let _ = println!(rt;
+        "rounds {} tests {}",
+        after.rounds.wrapping_sub(before.rounds),
+        after.tests.wrapping_sub(before.tests)
+    );
+}
+
+fn run_line(rt: &impl Print, ran: Ran) {
+    let _ = println!(rt;
+        "number {} taken {} tests {}",
+        plant::stop_number(ran.stopped),
+        ran.taken,
+        ran.tally.tests
+    );
+}

@@ -1,2 +1,0 @@
--- The claim of specs/Exits.antt holds.
-pub mod Told

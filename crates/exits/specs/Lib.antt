@@ -1,2 +1,0 @@
--- Who leaves and who stays where a test has a reply.
-pub mod Exits

@@ -1,0 +1,105 @@
+-- What every turn of any station in an accepted table does to the columns that it counts in, whoever suspects whom and whatever its outcome.
+-- Assumes nothing.
+use mathlib.Core.Path.{◌≡◌, refl, sym, ◌∙◌, ap, ap₂}
+use mathlib.Core.Logic.{◌≢◌}
+use mathlib.Core.Bool.{Bool, true, cond}
+use mathlib.Core.List.{List, [], ◌∷◌, ◌++◌, append-nil}
+use Prim.Native.Nat.{ℕ, ◌+◌, ◌≤◌, ◌<◌}
+use native.Mathlib.Numerals.{add-one}
+use native.Mathlib.Omega.{arith}
+use lib.ListN.{length, length-append}
+use lib.Dec.{eqb}
+use Rattle.lists.specs.Search.{select}
+use Rattle.table.specs.Sizes.{is_size, distances}
+use Rattle.station.specs.Groups.{station_at}
+use Rattle.table.specs.Table.{table_length, cell, status_column, next_column, finished_column, tests_column, next_distance, finished, tests_made, row, status_alone}
+use Rattle.station.specs.Tests.{due}
+use Rattle.table.proofs.CellLaws.{TurnCounts, cell_other}
+use Rattle.plant.specs.Turn.{outcome_exchanged, outcome_told, outcome_tested_told, set_status, leave_told, next_test, makes_test, count_test, test_outcome, after_outcome, after_test, is_alone, after_alone, testing, turn}
+use Rattle.plant.proofs.NextTest.{next_test-low, not-due-before, test-station, test-due, none-due}
+use Rattle.plant.proofs.StepCells.{leave_told-other, finish_pass-other, finish_pass-next, finish_pass-finished, count_test-length, count_test-other, count_test-next, count_test-tests, suspect-other, exchange-other}
+use Rattle.plant.proofs.StepLines.{Lines, station-apart}
+use Rattle.lists.specs.Sums.{sum_below, bit}
+use Rattle.lists.proofs.BoolLaws.{by_bool, choice}
+use Rattle.lists.proofs.FilterLaws.{kept-suc, kept-stays, kept-sum}
+
+-- the columns that a turn counts in are as before, in all lines
+abbrev SameCounts : ℕ → List ℕ → List ℕ → Type 0
+SameCounts n t t' = (k c : ℕ) → TurnCounts c → cell n t' k c ≡ cell n t k c
+
+-- steps 4 to 6 leave them
+left-counts : (n : ℕ) (t : List ℕ) (i s : ℕ) → SameCounts n t (set_status n t i s)
+left-counts n t i s k c counts = cell_other n t i status_column s k c (omega arith) (omega arith) (λ _. omega arith)
+
+told-counts : (n : ℕ) (t : List ℕ) (a b : ℕ) → SameCounts n t (leave_told n t a b)
+told-counts n t a b k c counts = leave_told-other n t a b k c (omega arith) (λ _. omega arith)
+
+module _ (n : ℕ) (t : List ℕ) (i : ℕ) where
+  alone-counts : SameCounts n t (after_alone n t i)
+  unfolding after_alone
+  alone-counts = choice (SameCounts n t) (is_alone n t i) (left-counts n t i status_alone) (λ k c counts. refl)
+
+  test-counts : (kind j : ℕ) → length t ≡ table_length n → i < n → j < n → i ≢ j → SameCounts n t (after_test n t kind i j)
+  unfolding after_outcome
+  test-counts kind j long hi hj apart =
+      choice (SameCounts n t) (eqb (test_outcome n t kind i j) outcome_told) (told-counts n t i j)
+      (choice (SameCounts n t) (eqb (test_outcome n t kind i j) outcome_tested_told) (told-counts n t j i)
+      (choice (SameCounts n t) (eqb (test_outcome n t kind i j) outcome_exchanged)
+      (λ k c counts. exchange-other n t i long hi j hj apart k c (omega arith) (λ _. omega arith) (λ _. omega arith))
+      (λ k c counts. suspect-other n t i long hi j k c (omega arith) (λ _. omega arith))))
+
+-- what a turn of i does to them, where b says whether it makes a test
+pub record Heads (n : ℕ) (t t' : List ℕ) (i : ℕ) (b : Bool) : Type 0 where
+  pub others : (k c : ℕ) → k ≢ i → TurnCounts c → cell n t' k c ≡ cell n t k c
+  pub next : next_distance n t' i ≡ cond b (next_test n t i + 1) (distances n)
+  pub finish : finished n t' i ≡ cond b (finished n t i) 1
+  pub tests : tests_made n t' i ≡ tests_made n t i + bit b
+
+pub turn-heads : (n : ℕ) (t : List ℕ) (kind i : ℕ) → is_size n ≡ true → Lines n t → i < n → Heads n t (turn n t kind i) i (makes_test n t i)
+unfolding turn testing
+turn-heads n t kind i size lines h =
+    by_bool (makes_test n t i) (λ e. rw e (makes e)) (λ e. rw e (record {
+      others = λ k c other counts. finish_pass-other n t i k c (omega arith) (λ p. omega arith);
+      next = finish_pass-next n t i lines.0 h;
+      finish = finish_pass-finished n t i lines.0 h;
+      tests = omega (arith, finish_pass-other n t i i tests_column (omega arith) (λ p. omega arith));
+    }))
+  where
+    makes : makes_test n t i ≡ true → Heads n t (testing n t kind i (next_test n t i)) i true
+    makes e =
+        let m : ℕ = next_test n t i in
+        let t₁ : List ℕ = count_test n t i m in
+        let x<n = test-station n t i e lines.0 h in
+        let apart = station-apart i m (omega (arith, (lines.1 i h).pass.next_low, next_test-low n t i)) in
+        let same : (k c : ℕ) → TurnCounts c → cell n (testing n t kind i m) k c ≡ cell n t₁ k c =
+        λ k c counts. alone-counts n (after_test n t₁ kind i (station_at i m)) i k c counts
+        ∙ test-counts n t₁ i kind (station_at i m) (count_test-length n t i m ∙ lines.0) h x<n apart k c counts in
+        record {
+          others = λ k c other counts. same k c counts ∙ count_test-other n t i m k c (omega arith) (λ p. omega arith);
+          next = same i next_column (omega arith) ∙ count_test-next n t i lines.0 h m;
+          finish =
+              same i finished_column (omega arith)
+              ∙ count_test-other n t i m i finished_column (omega arith) (λ p. omega arith);
+          tests = same i tests_column (omega arith) ∙ count_test-tests n t i lines.0 h m;
+        }
+
+-- of the distances that a turn passes one is due if it makes a test, and none if it makes none
+module _ (n : ℕ) (t t' : List ℕ) (i : ℕ) (heads : Heads n t t' i (makes_test n t i)) (high : next_distance n t i ≤ distances n) where
+  abbrev q : ℕ → Bool
+  q = due (row n t i) i
+
+  pub passed-list : select q (next_distance n t' i) ≡ select q (next_distance n t i) ++ cond (makes_test n t i) (next_test n t i ∷ []) []
+  passed-list =
+      by_bool (makes_test n t i)
+      (λ e.
+      let stay = kept-stays q (λ k. k) (next_distance n t i) (next_test n t i) (next_test-low n t i) (not-due-before n t i) in
+      rw (heads.next, e, add-one (next_test n t i), kept-suc q (λ k. k) (next_test n t i), test-due n t i e, stay))
+      (λ e.
+      let stay = kept-stays q (λ k. k) (next_distance n t i) (distances n) high (none-due n t i e high) in
+      rw (heads.next, e, append-nil) stay)
+
+  pub passed-dues : sum_below (λ m. bit (q m)) (next_distance n t' i) ≡ sum_below (λ m. bit (q m)) (next_distance n t i) + bit (makes_test n t i)
+  passed-dues =
+      sym (kept-sum q (λ k. k) (next_distance n t' i))
+      ∙ (ap length passed-list ∙ length-append (select q (next_distance n t i)) (cond (makes_test n t i) (next_test n t i ∷ []) []))
+      ∙ ap₂ ◌+◌ (kept-sum q (λ k. k) (next_distance n t i)) (by_bool (makes_test n t i) (λ e. rw e) (λ e. rw e))

@@ -1,0 +1,51 @@
+-- The next distance is at least 1, and a test is made where the distance found is one of the plant's.
+use Rattle.std.proofs.Common.{refl, arith}
+use borrow.Author.Tests.{lt-ltb, le-ltb}
+use Rattle.table.proofs.Accepting.{accepted}
+use Rattle.table.proofs.SizeLaws.{size-distances}
+use Rattle.table.proofs.CellLaws.{accepted-line}
+use Rattle.plant.specs.Turn.{makes_test, turn, turn_tested, turn_outcome}
+use Rattle.plant.proofs.NextTest.{next_test-low, test-station}
+use Rattle.plant.proofs.steps.take_turn.Goals as goal
+
+pub next_test-m-requires : goal.next_test-m-requires
+next_test-m-requires c =
+    omega (arith, c.read.ensures.size)
+
+pub returns-then-distances-m : goal.returns-then-distances-m
+unfolding turn turn_tested turn_outcome makes_test
+returns-then-distances-m c =
+    let r = c.read.ensures in
+    let m = rw (r.size, r.bytes) at c.next_test-m.ensures in
+    let e = le-ltb _ _ (rw c.distances.ensures.value at c.if-distances-m.true) in
+    let f = c.finish_pass.ensures in
+    rw (← m, e) (record { tested_value = refl; outcome_value = refl; same = f.same; bytes = f.bytes })
+
+pub make_test-requires : goal.make_test-requires
+unfolding makes_test
+make_test-requires c =
+    let a = c.args.table.now in
+    let i = c.args.i.0 in
+    let p = c.requires in
+    let r = c.read.ensures in
+    let t = accepted a.n a.bytes.now p.table_obeys in
+    let l = accepted-line a.n a.bytes.now t i p.station_below in
+    let m = rw (r.size, r.bytes) at c.next_test-m.ensures in
+    let end = c.distances.ensures.value in
+    let e = lt-ltb _ _ (rw (end, m) at c.if-distances-m.false) in
+    record {
+      table_obeys = p.table_obeys;
+      tester_below = p.station_below;
+      distance_above_0 = omega (arith, m, next_test-low a.n a.bytes.now i, l.pass.next_low);
+      distance_below = omega (arith, end, size-distances a.n t.size);
+      tested_below = rw m (test-station a.n a.bytes.now i e t.long p.station_below);
+    }
+
+pub returns : goal.returns
+unfolding turn turn_tested turn_outcome makes_test
+returns c =
+    let r = c.read.ensures in
+    let m = rw (r.size, r.bytes) at c.next_test-m.ensures in
+    let e = lt-ltb _ _ (rw c.distances.ensures.value at c.if-distances-m.false) in
+    let o = c.make_test.ensures in
+    rw (← m, e) (record { tested_value = o.tested_value; outcome_value = o.outcome_value; same = o.same; bytes = o.bytes })

@@ -1,0 +1,24 @@
+-- What an entry did as a value, and the two bytes of a line of the sheet that show it.
+-- Assumes nothing.
+use Rattle.std.specs.Prelude.{ℕ}
+use Rattle.plant.specs.declared.outcome.Outcome.{Outcome}
+use Rattle.plant.specs.declared.outcome.Outcome.TheVariants.{PassFinished, Exchanged, Told, NoReply, Crashed, TestedTold}
+use Rattle.plant.specs.Turn.{outcome_finished, outcome_exchanged, outcome_told, outcome_no_reply, outcome_crash, outcome_tested_told, no_station}
+
+-- "the outcome [..]", 0 to 5
+abbrev pub outcome_byte : Outcome → ℕ
+outcome_byte PassFinished = outcome_finished
+outcome_byte (Exchanged j) = outcome_exchanged
+outcome_byte (Told j) = outcome_told
+outcome_byte (NoReply j) = outcome_no_reply
+outcome_byte Crashed = outcome_crash
+outcome_byte (TestedTold j) = outcome_tested_told
+
+-- "the tested station or 255"
+abbrev pub tested_byte : Outcome → ℕ
+tested_byte PassFinished = no_station
+tested_byte (Exchanged j) = j.0
+tested_byte (Told j) = j.0
+tested_byte (NoReply j) = j.0
+tested_byte Crashed = no_station
+tested_byte (TestedTold j) = j.0

@@ -1,0 +1,41 @@
+// The kinds of an entry (document 01, "What can be asked"), as values and as the bytes of a schedule.
+ghost use Rattle.std.specs.Prelude.{◌≡◌};
+ghost use Rattle.plant.specs.Kind.{kind_byte, kind_of};
+
+use lists::refusal::Refusal;
+
+// The kind of an entry.
+#[derive(Clone, Copy, Debug, PartialEq, Eq)]
+pub enum Kind {
+    // A turn whose replies come in time.
+    Turn = 1,
+    // A turn whose reply comes late.
+    LateReply = 2,
+    // The station crashes.
+    Crash = 3,
+}
+
+// The kind that a byte of a schedule stands for; refusal 8 where there is none.
+impl TryFrom<u8> for Kind {
+    type Error = Refusal;
+
+    ghost try_from_gives = { λ byte result. result ≡ kind_of byte };
+
+    fn try_from(byte: u8) -> Result<Self, Refusal> {
+        match byte {
+            1 => Ok(Kind::Turn),
+            2 => Ok(Kind::LateReply),
+            3 => Ok(Kind::Crash),
+            _ => Err(Refusal::UnknownKind),
+        }
+    }
+}
+
+// The byte of a kind in a schedule.
+impl From<Kind> for u8 {
+    ghost from_gives = { λ kind byte. byte ≡ kind_byte kind };
+
+    fn from(kind: Kind) -> u8 {
+        kind as u8
+    }
+}

@@ -1,0 +1,52 @@
+// What an entry did, as a value and as the two bytes of a line of the sheet (document 01, the sheet; request C-13).
+ghost use Rattle.std.specs.Prelude.{◌≡◌};
+ghost use Rattle.plant.specs.Outcome.{tested_byte, outcome_byte};
+
+use table::Station;
+
+// What an entry did, with the tested station where it made a test. The order is that of the outcomes' numbers, so that the number costs
+// nothing: with an enum of its own for the tests the runs of tests/bench went at 0.82 to 0.99 times their speed.
+#[derive(Clone, Copy)]
+pub enum Outcome {
+    // No distance was due: the pass is finished.
+    PassFinished,
+    // Tester and tested station joined their rows.
+    Exchanged(Station),
+    // The tester left, because the tested station suspects it.
+    Told(Station),
+    // No reply came in time: the tester suspects the tested station.
+    NoReply(Station),
+    // The station crashed.
+    Crashed,
+    // The tested station left, because the tester suspects it.
+    TestedTold(Station),
+}
+
+impl Outcome {
+    // Byte 1 of a line of the sheet: the number of the tested station, or 255 where none was tested.
+    pub fn tested_byte(self) -> u8
+        ensures { result ≡ tested_byte self }
+    {
+        match self {
+            Outcome::PassFinished | Outcome::Crashed => 255,
+            Outcome::Exchanged(j)
+            | Outcome::Told(j)
+            | Outcome::NoReply(j)
+            | Outcome::TestedTold(j) => j.0,
+        }
+    }
+
+    // Byte 2 of a line of the sheet: the outcome's number.
+    pub fn outcome_byte(self) -> u8
+        ensures { result ≡ outcome_byte self }
+    {
+        match self {
+            Outcome::PassFinished => 0,
+            Outcome::Exchanged(_) => 1,
+            Outcome::Told(_) => 2,
+            Outcome::NoReply(_) => 3,
+            Outcome::Crashed => 4,
+            Outcome::TestedTold(_) => 5,
+        }
+    }
+}

@@ -1,0 +1,277 @@
+// A turn of one station (document 01, steps 2 to 6; step 4 as request C-13 has it, byte 4 as C-18).
+ghost use Rattle.std.specs.Prelude.{◌≡◌, ◌≢◌, ◌-◌, ◌<◌};
+ghost use Rattle.lists.specs.Search.{least};
+ghost use Rattle.table.specs.Lent.{IsSameLoan};
+ghost use Rattle.table.specs.Table.{tests_made, row, set_row};
+ghost use Rattle.station.specs.Groups.{station_at};
+ghost use Rattle.station.specs.Rows.{union};
+ghost use Rattle.table.specs.Rules.{table_number};
+ghost use Rattle.station.specs.Tests.{due};
+ghost use Rattle.plant.specs.Outcome.{tested_byte, outcome_byte};
+ghost use Rattle.plant.specs.Turn.{next_test, finish_pass, count_test, replies, exchange_rows, set_status, leave_told, reply_outcome, test_outcome, after_outcome, self_or_suspected, is_alone, after_alone, testing, turn, turn_tested, turn_outcome};
+
+use crate::kind::Kind;
+use crate::outcome::Outcome;
+use lists::bytes;
+use station::{DueOrAhead, due, order, rows};
+use table::lent::{Table, TableMut};
+use table::status::Status;
+use table::{Distance, Station, cells, sizes};
+
+// Steps 2 to 6: the turn of station i. The kind stays the schedule's byte: a public function keeps what its parameters take. The functions below
+// have the byte too: a `Kind` made of it here would have to be refused where there is none. That the table obeys the rules is asked, here and above, and is no ghost field: from the
+// turn that ends a round to its closing the table has refusal 4, and between two bytes of a line that are put not even the line rules hold.
+pub fn take_turn(table: &mut TableMut, kind: u8, i: Station) -> Outcome
+    requires table_obeys { table_number table.old.n table.old.bytes.now ≡ 0 }
+    requires station_below { i.0 < table.old.n }
+    ensures tested_value { tested_byte result ≡ turn_tested table.old.n table.old.bytes.now i.0 }
+    ensures outcome_value { outcome_byte result ≡ turn_outcome table.old.n table.old.bytes.now kind i.0 }
+    ensures same { IsSameLoan table.old table.new }
+    ensures bytes { table.new.bytes.now ≡ turn table.old.n table.old.bytes.now kind i.0 }
+{
+    let m = next_test(&table.read(), i);
+    if sizes::distances(table.n) <= m.0 as u16 {
+        finish_pass(table, i);
+        return Outcome::PassFinished;
+    }
+    make_test(table, kind, i, m)
+}
+
+// Step 2: the least due distance not below the next one; the number of distances where there is none.
+#[tactic(auto, using(table::proofs::SizeLaws::size_top, table::proofs::SizeLaws::distances_top), unfolding(crate::specs::Turn::next_test))]
+fn next_test(table: &Table, i: Station) -> Distance
+    requires { i.0 < table.now.n }
+    ensures { result.0 ≡ next_test table.now.n table.now.bytes.now i.0 }
+{
+    let next = table.next_distance(i);
+    let end = sizes::distances(table.n) as u8;
+    scan(table.row(i), i, end, next)
+}
+
+// The least distance from `from` on, and below `end`, that is due for i by its row; `end`, or `from` if that is greater, where there is none.
+// Where the answer is not "due", no distance of the block that begins there is due, and the scan goes on behind it (request C-16).
+// Asking once, and answering an `Option`, took 1 to 9 % more time in the runs of tests/bench; the compiler asks only once as it stands.
+fn scan(row: &[u8], i: Station, end: u8, from: Distance) -> Distance
+    ensures { result.0 ≡ least (due row.now i.0) (end - from.0) from.0 }
+{
+    let mut m = from.0 as u16;
+    while m < end as u16 {
+        let at = Distance(m as u8);
+        if !due::stands(row, i, at) {
+            m += 1;
+            continue;
+        }
+        let answer = due::due_or_ahead(row, i, at);
+        let DueOrAhead::Due = answer else {
+            let last = due::block_end(at);
+            m = last.0 as u16 + 1;
+            continue;
+        };
+        return at;
+    }
+    Distance(end.max(from.0))
+}
+
+// Step 2: no distance is due any more.
+#[tactic(auto, using(table::proofs::SizeLaws::size_top, table::proofs::SizeLaws::distances_top), unfolding(crate::specs::Turn::finish_pass))]
+fn finish_pass(table: &mut TableMut, i: Station)
+    requires { i.0 < table.old.n }
+    ensures same { IsSameLoan table.old table.new }
+    ensures bytes { table.new.bytes.now ≡ finish_pass table.old.n table.old.bytes.now i.0 }
+{
+    let end = sizes::distances(table.n) as u8;
+    table.put(i, cells::NEXT, end);
+    table.put(i, cells::FINISHED, 1);
+}
+
+// Steps 3 to 6: station i tests the station at distance m.
+fn make_test(table: &mut TableMut, kind: u8, i: Station, m: Distance) -> Outcome
+    requires table_obeys { table_number table.old.n table.old.bytes.now ≡ 0 }
+    requires tester_below { i.0 < table.old.n }
+    requires distance_above_0 { 0 < m.0 }
+    requires distance_below { m.0 < 64 }
+    requires tested_below { station_at i.0 m.0 < table.old.n }
+    ensures tested_value { tested_byte result ≡ station_at i.0 m.0 }
+    ensures outcome_value { let counted = count_test table.old.n table.old.bytes.now i.0 m.0 in
+        outcome_byte result ≡ test_outcome table.old.n counted kind i.0 (station_at i.0 m.0) }
+    ensures same { IsSameLoan table.old table.new }
+    ensures bytes { table.new.bytes.now ≡ testing table.old.n table.old.bytes.now kind i.0 m.0 }
+{
+    let j = order::lookup(i, m);
+    count_test(table, i, m);
+    let outcome = test_outcome(&table.read(), kind, i, j);
+    apply_outcome(table, i, outcome);
+    leave_if_alone(table, i);
+    outcome
+}
+
+// Step 3: next distance and tests of i.
+#[tactic(auto, unfolding(crate::specs::Turn::count_test))]
+fn count_test(table: &mut TableMut, i: Station, m: Distance)
+    requires line { i.0 < table.old.n }
+    requires distance_fits { m.0 < 255 }
+    requires tests_fit { tests_made table.old.n table.old.bytes.now i.0 < 255 }
+    ensures same { IsSameLoan table.old table.new }
+    ensures bytes { table.new.bytes.now ≡ count_test table.old.n table.old.bytes.now i.0 m.0 }
+{
+    let tests = table.read().get(i, cells::TESTS);
+    table.put(i, cells::NEXT, m.0 + 1);
+    table.put(i, cells::TESTS, tests + 1);
+}
+
+// Steps 4 and 5: the outcome of the test of j.
+#[tactic(auto, unfolding(crate::specs::Turn::test_outcome))]
+fn test_outcome(table: &Table, kind: u8, i: Station, j: Station) -> Outcome
+    requires tester_below { i.0 < table.now.n }
+    requires tested_below { j.0 < table.now.n }
+    ensures tested_value { tested_byte result ≡ j.0 }
+    ensures outcome_value { outcome_byte result ≡ test_outcome table.now.n table.now.bytes.now kind i.0 j.0 }
+{
+    if !does_reply(table, kind, j) {
+        return Outcome::NoReply(j);
+    }
+    reply_outcome(table, i, j)
+}
+
+// Step 4: the outcome where j replies. The row of j is asked first: whoever is suspected in it is told.
+#[tactic(auto, unfolding(crate::specs::Turn::reply_outcome, crate::specs::Turn::is_told))]
+fn reply_outcome(table: &Table, i: Station, j: Station) -> Outcome
+    requires tester_below { i.0 < table.now.n }
+    requires tested_below { j.0 < table.now.n }
+    ensures tested_value { tested_byte result ≡ j.0 }
+    ensures outcome_value { outcome_byte result ≡ reply_outcome table.now.n table.now.bytes.now i.0 j.0 }
+{
+    if table.suspects(j, i) {
+        return Outcome::Told(j);
+    }
+    if table.suspects(i, j) {
+        return Outcome::TestedTold(j);
+    }
+    Outcome::Exchanged(j)
+}
+
+// Steps 4 and 5: what the outcome of the test of j does to the table.
+#[tactic(auto, using(table::proofs::SizeLaws::size_top, crate::proofs::RowLaws::suspect_cell), unfolding(crate::specs::Turn::after_outcome))]
+fn apply_outcome(table: &mut TableMut, i: Station, outcome: Outcome)
+    requires tester_below { i.0 < table.old.n }
+    requires tested_below { tested_byte outcome < table.old.n }
+    requires apart { i.0 ≢ tested_byte outcome }
+    ensures same { IsSameLoan table.old table.new }
+    ensures bytes { table.new.bytes.now ≡ after_outcome table.old.n table.old.bytes.now i.0 (tested_byte outcome) (outcome_byte outcome) }
+{
+    match outcome {
+        Outcome::Told(j) => leave_told(table, i, j),
+        Outcome::TestedTold(j) => leave_told(table, j, i),
+        Outcome::Exchanged(j) => exchange_rows(table, i, j),
+        Outcome::NoReply(j) => table.suspect(i, j),
+        // No outcome of a test.
+        Outcome::PassFinished | Outcome::Crashed => {}
+    }
+}
+
+// Step 4: a leaves because told by b, which byte 4 names.
+#[tactic(auto, unfolding(crate::specs::Turn::leave_told))]
+fn leave_told(table: &mut TableMut, a: Station, b: Station)
+    requires { a.0 < table.old.n }
+    ensures same { IsSameLoan table.old table.new }
+    ensures bytes { table.new.bytes.now ≡ leave_told table.old.n table.old.bytes.now a.0 b.0 }
+{
+    table.set_status(a, Status::LeftTold);
+    table.put(a, cells::TOLD_BY, b.0);
+}
+
+// The station leaves with a status, for a caller that has it as the table's byte. The turn, and the crash, go by `TableMut::set_status`.
+pub fn leave(table: &mut TableMut, i: Station, status: u8)
+    requires { i.0 < table.old.n }
+    ensures same { IsSameLoan table.old table.new }
+    ensures bytes { table.new.bytes.now ≡ set_status table.old.n table.old.bytes.now i.0 status }
+{
+    table.put(i, cells::STATUS, status);
+}
+
+// Step 4: whether j replies in time.
+#[tactic(auto, unfolding(crate::specs::Turn::replies))]
+fn does_reply(table: &Table, kind: u8, j: Station) -> bool
+    requires { j.0 < table.now.n }
+    ensures { result ≡ replies table.now.n table.now.bytes.now kind j.0 }
+{
+    table.is_live(j) & (kind == u8::from(Kind::Turn))
+}
+
+// Step 4: both rows become the union of the two. Rows that are the same stay as they are. Otherwise each row is lent in turn as a part of
+// the table, with both joined in a buffer. Tried: both lent at once by `split_at_mut`, and one loop; in tests/bench, where rows differ, plants
+// of 8, 16 and 32 ran at 0.93 to 0.98 of the speed, those of 48 and 63 at 1.05 to 1.12.
+#[tactic(auto, using(table::proofs::SizeLaws::size_top))]
+fn exchange_rows(table: &mut TableMut, i: Station, j: Station)
+    requires tester_below { i.0 < table.old.n }
+    requires tested_below { j.0 < table.old.n }
+    requires apart { i.0 ≢ j.0 }
+    ensures same { IsSameLoan table.old table.new }
+    ensures bytes { table.new.bytes.now ≡ exchange_rows table.old.n table.old.bytes.now i.0 j.0 }
+{
+    let lent = table.read();
+    let first = lent.row(i);
+    let second = lent.row(j);
+    if bytes::same_bytes(first, second) {
+        return;
+    }
+    let mut both = [0u8; 64];
+    bytes::write_joined(first, second, &mut both);
+    let size = table.n as usize;
+    join_into(table, i, &both[..size]);
+    join_into(table, j, &both[..size]);
+}
+
+// Joins another row into the row of station i, lent as a part of the table. Tried: a method of `TableMut` that hands the row out to be written;
+// the borrow checker does not cover a part lent on past a ghost field.
+fn join_into(table: &mut TableMut, i: Station, other: &[u8])
+    requires { i.0 < table.old.n }
+    ensures same { IsSameLoan table.old table.new }
+    ensures bytes { let n = table.old.n in
+        let t = table.old.bytes.now in
+        table.new.bytes.now ≡ set_row n t i.0 (union (row n t i.0) other.now i.0) }
+{
+    let a = cells::row_start(table.n, i);
+    let e = a + table.n as usize;
+    rows::join_row(&mut table.bytes[a..e], other, i);
+}
+
+// Step 6: i leaves if it is live and suspects all others.
+#[tactic(auto, unfolding(crate::specs::Turn::after_alone))]
+fn leave_if_alone(table: &mut TableMut, i: Station)
+    requires { i.0 < table.old.n }
+    ensures same { IsSameLoan table.old table.new }
+    ensures bytes { table.new.bytes.now ≡ after_alone table.old.n table.old.bytes.now i.0 }
+{
+    if suspects_all(&table.read(), i) {
+        table.set_status(i, Status::LeftAlone);
+    }
+}
+
+// Step 6: whether i is live and suspects all others. A loop with an exit: std's `all` was tried here and in the check of a table,
+// which took 1.7 to 2.2 times as long with it.
+#[tactic(auto, using(lists::proofs::Loops::loops), unfolding(crate::specs::Turn::is_alone))]
+fn suspects_all(table: &Table, i: Station) -> bool
+    requires { i.0 < table.now.n }
+    ensures { result ≡ is_alone table.now.n table.now.bytes.now i.0 }
+{
+    if !table.is_live(i) {
+        return false;
+    }
+    for k in 0..table.n {
+        if !self_or_suspected(table, i, Station(k)) {
+            return false;
+        }
+    }
+    true
+}
+
+// Whether k is i or i suspects it.
+#[tactic(auto, unfolding(crate::specs::Turn::self_or_suspected))]
+fn self_or_suspected(table: &Table, i: Station, k: Station) -> bool
+    requires station_below { i.0 < table.now.n }
+    requires other_below { k.0 < table.now.n }
+    ensures { result ≡ self_or_suspected table.now.n table.now.bytes.now i.0 k.0 }
+{
+    (k == i) | table.suspects(i, k)
+}

@@ -1,2 +1,0 @@
--- The examples of request C-12 that are shown of the definitions.
-pub mod Season

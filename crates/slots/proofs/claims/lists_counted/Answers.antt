@@ -1,0 +1,6 @@
+-- The claim is proved in proofs/Untested.antt.
+use Rattle.slots.proofs.Untested.{lists-counted}
+use Rattle.slots.proofs.claims.lists_counted.Goals as goal
+
+pub returns : goal.returns
+returns c = lists-counted

@@ -1,6 +1,0 @@
--- The claim is proved in proofs/Untested.antt.
-use Rattle.slots.proofs.Untested.{nobody-left-out}
-use Rattle.slots.proofs.nobody_left_out.Goals as goal
-
-pub returns : goal.returns
-returns c = nobody-left-out

@@ -1,0 +1,25 @@
+-- The due distances are counted.
+use Rattle.std.proofs.Common.{◌≡◌, ◌∙◌, ap, length, arith, rules, tests}
+use Rattle.std.specs.List.{filter, range_with_len}
+use Rattle.std.proofs.lemmas.Iterator.{YieldsList-from_range}
+use Rattle.std.proofs.lemmas.Iterator.Consumers.{YieldsList-at, YieldsList-from_filter, count_from_yields_List}
+use Rattle.station.specs.Tests.{due, due_distances}
+use Rattle.station.proofs.DueLaws.{due-zero}
+use Rattle.slots.specs.Slots.{tests_due}
+use Rattle.slots.proofs.ListLaws.{walked-is, walked-few}
+use Rattle.slots.proofs.tests.Goals as goal
+use Rattle.slots.proofs.tests.Goals.{After-count}
+
+counted : (c : After-count) → c.count.result ≡ length (filter (due c.args.row.now c.args.i.0) (range_with_len 0 c.distances-end.result))
+counted c =
+    count_from_yields_List _ _ c.count.ensures.ran
+    (YieldsList-from_filter _ (due c.args.row.now c.args.i.0) (YieldsList-at c.filter.ensures.source
+    (YieldsList-from_range 0 c.distances-end.result c.distances-end.result (search rules) (omega arith)))
+    c.filter.ensures.closure (λ x r q k. search (rules, tests)))
+
+pub overflow_cast-result : goal.overflow_cast-result
+overflow_cast-result c = omega (arith, counted c, walked-few (due c.args.row.now c.args.i.0) _ _ c.distances-end.ensures.value c.distances-end.ensures.upper_bound (due-zero _ _))
+
+pub returns : goal.returns
+unfolding tests_due due_distances
+returns c = counted c ∙ ap length (walked-is _ _ _ c.distances-end.ensures.value c.distances-end.ensures.upper_bound)

@@ -1,2 +1,0 @@
--- Whom a board tests, and how many, as a plant runs.
-pub mod Timing
