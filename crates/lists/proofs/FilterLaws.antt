@@ -6,7 +6,7 @@ use Rattle.std.proofs.lemmas.List.Elements.{filter-append}
 use mathlib.Core.Bool.{Bool, true, false, cond, ◌&&◌}
 use mathlib.Core.List.Memᴰ
 use mathlib.Core.List.{List, [], ◌∷◌, ◌++◌, append-nil, map, Memᴰ}
-use mathlib.Core.Logic.{◌⊎◌, inl, inr}
+use mathlib.Core.Logic.{⊎_elim}
 use Prim.Native.Nat.{ℕ, zero, suc, ◌+◌, ◌≤◌, ◌<◌}
 use native.Mathlib.Nat.{eq-or-lt_of_le, le_of_suc-le-suc}
 use native.Mathlib.Decide.{le_ind}
@@ -27,11 +27,11 @@ mem-map f x m (y ∷ xs) e (Memᴰ.tail k) = Memᴰ.tail (mem-map f x m xs e k)
 -- each number below n is among them
 pub range-mem : (n k : ℕ) → k < n → Memᴰ k (range_with_len 0 n)
 range-mem zero k h = absurd (omega arith)
-range-mem (suc n) k h = subst (Memᴰ k) (sym (range-suc n)) (pick (eq-or-lt_of_le (le_of_suc-le-suc h)))
-  where
-    pick : (k ≡ n) ⊎ (k < n) → Memᴰ k (range_with_len 0 n ++ (n ∷ []))
-    pick (inl e) = Memᴰ.append_right (range_with_len 0 n) (Memᴰ.head e)
-    pick (inr l) = Memᴰ.append_left (n ∷ []) (range-mem n k l)
+range-mem (suc n) k h =
+    subst (Memᴰ k) (sym (range-suc n)) (⊎_elim
+    (λ e. Memᴰ.append_right (range_with_len 0 n) (Memᴰ.head e))
+    (λ l. Memᴰ.append_left (n ∷ []) (range-mem n k l))
+    (eq-or-lt_of_le (le_of_suc-le-suc h)))
 
 module _ (q : ℕ → Bool) where
   -- who is kept was there and passes
