@@ -17,20 +17,21 @@ module _ (op : ℕ → ℕ → ℕ) (R : ℕ → ℕ → Type 0) (self : (a : �
     (one : (a b : ℕ) → (op a b ≡ a) ⊎ (op a b ≡ b)) where
   -- of two at the front only the one that the operation gives need be looked at
   more : (x y m : ℕ) (ys : List ℕ) → Extreme R (op x y ∷ ys) m → Extreme R (x ∷ y ∷ ys) m
-  more x y m ys (among, all) = (
-    at among.0 among.1 among.2,
-    All-cons (R m) x (y ∷ ys) of_two.0 (All-cons (R m) y ys of_two.1 (All-tail (R m) (op x y) ys all)),
-  )
+  more x y m ys rest =
+      record {
+        among = at rest.among.0 rest.among.1 rest.among.2;
+        all = All-cons (R m) x (y ∷ ys) of_two.0 (All-cons (R m) y ys of_two.1 (All-tail (R m) (op x y) ys rest.all));
+      }
     where
       of_two : R m x × R m y
-      of_two = both m x y (All-head (R m) (op x y) ys all)
+      of_two = both m x y (All-head (R m) (op x y) ys rest.all)
 
       at : (k : ℕ) → k < length (op x y ∷ ys) → get_or (op x y ∷ ys) k m ≡ m → Contains (x ∷ y ∷ ys) m
       at zero l e = ⊎_elim (λ f. (0, omega arith, sym f ∙ e)) (λ f. (1, omega arith, sym f ∙ e)) (one x y)
       at (suc k) l e = (suc (suc k), omega arith, e)
 
   fold-extreme : (x : ℕ) (xs : List ℕ) → Extreme R (x ∷ xs) (fold op x xs)
-  fold-extreme x [] = ((0, omega arith, refl), All-cons (R x) x [] (self x) (All-nil (R x)))
+  fold-extreme x [] = record { among = (0, omega arith, refl); all = All-cons (R x) x [] (self x) (All-nil (R x)) }
   fold-extreme x (y ∷ ys) = more x y (fold op (op x y) ys) ys (fold-extreme (op x y) ys)
 
 min-one : (a b : ℕ) → (min a b ≡ a) ⊎ (min a b ≡ b)

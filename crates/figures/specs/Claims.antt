@@ -18,8 +18,9 @@ VarianceLowest =
     → LowestTerms (sum_by (λ x. squared_difference (length xs * x) (sum_of_results xs)) xs) (length xs * length xs * length xs) (variance xs)
 
 -- m is one of the list, and has R to each of its elements
-abbrev pub Extreme : (ℕ → ℕ → Type 0) → List ℕ → ℕ → Type 0
-Extreme R xs m = Contains xs m × All (R m) xs
+pub record Extreme (R : ℕ → ℕ → Type 0) (xs : List ℕ) (m : ℕ) : Type 0 where
+  pub among : Contains xs m
+  pub all : All (R m) xs
 
 -- the least result is one of the results, and none is less
 abbrev pub LeastExtreme : Type 0
