@@ -7,7 +7,7 @@ use Rattle.station.specs.Groups.{station_at}
 use Rattle.station.specs.Tests.{answer}
 use Rattle.station.specs.Calls.{answer_byte}
 use Rattle.slots.specs.Slots.{is_untested, untested_distances, untested, ahead}
-use Rattle.slots.proofs.Untested.{untested-zero}
+use Rattle.slots.proofs.UntestedLaws.{untested-zero}
 use Rattle.slots.proofs.ListLaws.{walked-is, walked-turn}
 use Rattle.slots.proofs.untested.list_untested.Goals as goal
 use Rattle.slots.proofs.untested.list_untested.Goals.{In-Some, In-None}
