@@ -9,11 +9,11 @@ use lib.ListN.{length, get_or}
 use Rattle.std.specs.List.{filter, range_with_len}
 use Rattle.lists.specs.Search.{select}
 use Rattle.table.specs.Sizes.{distances}
-use Rattle.lists.proofs.Enumerated.{range-list, filter-below, filter-few}
+use Rattle.lists.proofs.Enumerated.{filter-below, filter-few}
 
 module _ (q : ℕ → Bool) (n end : ℕ) (e : end ≡ distances n) (fits : end ≤ 256) where
   pub walked-is : filter q (range_with_len 0 end) ≡ select q (distances n)
-  walked-is = ap (filter q) (range-list end) ∙ ap (select q) e
+  walked-is = ap (select q) e
 
   -- the one after the distances ms: it is a byte, and those before it and it are no more than a byte can count
   pub walked-turn : q 0 ≡ false → (ms : List ℕ) (m : ℕ)

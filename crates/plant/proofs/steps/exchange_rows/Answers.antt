@@ -1,5 +1,5 @@
 -- The buffer has room for a row, and the row of j is as it was when that of i has been written.
-use Rattle.std.proofs.Common.{◌∙◌, sym, rules}
+use Rattle.std.proofs.Common.{rules}
 use Rattle.table.proofs.SizeLaws.{size_top}
 use Rattle.plant.proofs.RowLaws.{exchange-is, same-exchange}
 use Rattle.plant.proofs.steps.exchange_rows.Goals as goal
@@ -14,7 +14,7 @@ pub returns-then-same_bytes-clause-bytes : goal.returns-then-same_bytes-clause-b
 returns-then-same_bytes-clause-bytes c =
     let r = c.read-lent.ensures in
     let e = rw (c.row-first.ensures.value, c.row-second.ensures.value, r.size, r.bytes) at c.same_bytes.ensures in
-    same-exchange _ _ _ _ (sym e ∙ c.if-same_bytes.true)
+    same-exchange _ _ _ _ (e.0 c.if-same_bytes.true)
 
 pub returns-clause-bytes : goal.returns-clause-bytes
 returns-clause-bytes c =

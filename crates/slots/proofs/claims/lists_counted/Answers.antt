@@ -1,4 +1,4 @@
--- The claim is proved in proofs/Untested.antt.
+-- The claim is proved in proofs/UntestedLaws.antt.
 use Rattle.slots.proofs.UntestedLaws.{lists-counted}
 use Rattle.slots.proofs.claims.lists_counted.Goals as goal
 
