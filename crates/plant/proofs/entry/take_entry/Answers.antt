@@ -40,7 +40,7 @@ returns-clause-result_after c =
     let f = c.close_round-over.ensures in
     let m = made-test c.args.table.now.n c.args.table.now.bytes.now (entry_known c.args.entry) in
     rw (c.from.ensures, c.from-2.ensures, bit-added c.close_round-over.result, bit-added)
-    (rw (f.value, f.bytes, e.same.size, e.bytes, c.made_test.ensures, e.outcome_value, m))
+    (rw (f.is_over, f.round_closed, e.same_loan.size, e.entry_acted, c.made_test.ensures, e.outcome_value, m))
 
 pub returns-clause-line_after : goal.returns-clause-line_after
 unfolding after sheet_line
@@ -48,4 +48,4 @@ returns-clause-line_after c =
     let e = c.act-done.ensures in
     let f = c.close_round-over.ensures in
     rw (c.copy_from_slice.ensures.after, c.tested_byte-tested.ensures, c.outcome_byte-outcome.ensures, e.tested_value, e.outcome_value)
-    (rw (c.get-status.ensures, c.read.ensures.size, c.read.ensures.bytes, f.bytes, f.same.size, e.same.size, e.bytes))
+    (rw (c.get-status.ensures, c.read.ensures.same_size, c.read.ensures.same_bytes, f.round_closed, f.same_loan.size, e.same_loan.size, e.entry_acted))

@@ -24,7 +24,7 @@ bounds-list-k c =
     c.enumerate-k-items.ensures.count))
     c.loop-k.yielded _ c.loop-k.yielded_by _ _ _ c.in-Some.is c.next.ensures.steps in
     let p = enumerated _ _ _ _ t in
-    omega (arith, p.0, p.1, c.requires.list_len, c.loop-k.auto.list, ap length (group-walk c.args.n c.args.i.0 c.args.s.0 c.width_of-w.result c.width_of-w.ensures.value))
+    omega (arith, p.0, p.1, c.requires.list_len, c.loop-k.auto.list, ap length (group-walk c.args.n c.args.i.0 c.args.s.0 c.width_of-w.result c.width_of-w.ensures.width_of_level))
 
 pub loop-k-preserved : goal.loop-k-preserved
 loop-k-preserved c =
@@ -52,5 +52,5 @@ returns c =
     c.filter-members.ensures.closure (λ x r q k. search (rules, tests))))
     c.enumerate-k-items.ensures.count))
     c.loop-k.yielded _ c.loop-k.yielded_by _ _ c.in-None.is c.next.ensures.steps in
-    let all = enumerated-all 0 _ c.loop-k.yielded e.0 ∙ group-walk _ _ _ _ c.width_of-w.ensures.value in
+    let all = enumerated-all 0 _ c.loop-k.yielded e.0 ∙ group-walk _ _ _ _ c.width_of-w.ensures.width_of_level in
     rw all at c.loop-k.invariant ∙ sets-all _ _ c.requires.list_len
