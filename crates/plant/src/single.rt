@@ -18,7 +18,7 @@ pub fn take_turn(table: &mut TableMut, tally: Tally, i: Station) -> Tally
     requires turn_taken { entry_number table.old.n
         (state_with table.old.bytes.now tally) (entry_of kind_turn i.0) ≡ 0 }
     ensures same_loan { IsSameLoan table.old table.new }
-    ensures result_after { state_with table.new.bytes.now result
+    ensures state_after { state_with table.new.bytes.now result
         ≡ after table.old.n (state_with table.old.bytes.now tally) (entry_of kind_turn i.0) }
 {
     let entry = Entry {

@@ -25,8 +25,8 @@ use table::{Distance, Station, cells, sizes};
 pub fn take_turn(table: &mut TableMut, kind: u8, i: Station) -> Outcome
     requires table_obeys { table_number table.old.n table.old.bytes.now ≡ 0 }
     requires station_below { i.0 < table.old.n }
-    ensures tested_value { tested_byte result ≡ turn_tested table.old.n table.old.bytes.now i.0 }
-    ensures outcome_value { outcome_byte result
+    ensures tested_station { tested_byte result ≡ turn_tested table.old.n table.old.bytes.now i.0 }
+    ensures outcome_number { outcome_byte result
         ≡ turn_outcome table.old.n table.old.bytes.now kind i.0 }
     ensures same_loan { IsSameLoan table.old table.new }
     ensures turn_made { table.new.bytes.now ≡ turn table.old.n table.old.bytes.now kind i.0 }
@@ -93,8 +93,8 @@ fn make_test(table: &mut TableMut, kind: u8, i: Station, m: Distance) -> Outcome
     requires distance_above_0 { 0 < m.0 }
     requires distance_below { m.0 < 64 }
     requires tested_below { station_at i.0 m.0 < table.old.n }
-    ensures tested_value { tested_byte result ≡ station_at i.0 m.0 }
-    ensures outcome_value { let counted = count_test table.old.n table.old.bytes.now i.0 m.0 in
+    ensures tested_station { tested_byte result ≡ station_at i.0 m.0 }
+    ensures outcome_number { let counted = count_test table.old.n table.old.bytes.now i.0 m.0 in
         outcome_byte result ≡ test_outcome table.old.n counted kind i.0 (station_at i.0 m.0) }
     ensures same_loan { IsSameLoan table.old table.new }
     ensures test_made { table.new.bytes.now ≡ testing table.old.n table.old.bytes.now kind i.0 m.0 }
@@ -127,8 +127,8 @@ fn count_test(table: &mut TableMut, i: Station, m: Distance)
 fn test_outcome(table: &Table, kind: u8, i: Station, j: Station) -> Outcome
     requires tester_below { i.0 < table.now.n }
     requires tested_below { j.0 < table.now.n }
-    ensures tested_value { tested_byte result ≡ j.0 }
-    ensures outcome_value { outcome_byte result
+    ensures tested_station { tested_byte result ≡ j.0 }
+    ensures outcome_number { outcome_byte result
         ≡ test_outcome table.now.n table.now.bytes.now kind i.0 j.0 }
 {
     if !does_reply(table, kind, j) {
@@ -142,8 +142,8 @@ fn test_outcome(table: &Table, kind: u8, i: Station, j: Station) -> Outcome
 fn reply_outcome(table: &Table, i: Station, j: Station) -> Outcome
     requires tester_below { i.0 < table.now.n }
     requires tested_below { j.0 < table.now.n }
-    ensures tested_value { tested_byte result ≡ j.0 }
-    ensures outcome_value { outcome_byte result
+    ensures tested_station { tested_byte result ≡ j.0 }
+    ensures outcome_number { outcome_byte result
         ≡ reply_outcome table.now.n table.now.bytes.now i.0 j.0 }
 {
     if table.suspects(j, i) {

@@ -45,7 +45,7 @@ loop-tally-preserved c =
     let fits = sym c.is_full.ensures ∙ c.if-is_full.false in
     let next = rw (c.read.ensures.same_size, c.read.ensures.same_bytes, i.loan.size) at c.next_station-i.ensures in
     let t = c.take_turn-held.ensures in
-    let turned = turned-is _ q _ _ next (rw i.loan.size at t.result_after) in
+    let turned = turned-is _ q _ _ next (rw i.loan.size at t.state_after) in
     let r = c.read-in-loop-tally.ensures in
     let open-still = rw (r.same_size, r.same_bytes, t.same_loan.size, i.loan.size) at (sym c.has_ended-ended.ensures ∙ c.if-ended.false) in
     record {
@@ -69,7 +69,7 @@ returns c =
           let fits = sym c.is_full.ensures ∙ w.if-is_full.false in
           let next = rw (w.read.ensures.same_size, w.read.ensures.same_bytes, i.loan.size) at w.next_station-i.ensures in
           let t = w.take_turn-held.ensures in
-          let turned = turned-is _ q _ _ next (rw i.loan.size at t.result_after) in
+          let turned = turned-is _ q _ _ next (rw i.loan.size at t.state_after) in
           let r = w.read-in-loop-tally.ensures in
           let over = rw (r.same_size, r.same_bytes, t.same_loan.size, i.loan.size) at (sym w.has_ended-ended.ensures ∙ w.if-ended.true) in
           let stop = end-stop _ _ _ q i.led i.driving fits _ turned over in

@@ -45,7 +45,7 @@ loop-kind-preserved c =
     let y = rw (c.read.ensures.same_size, c.read.ensures.same_bytes, i.loan.size) at (ap number_of_result (sym o.check)) in
     let z = subst (λ (x : Entry). entry_number n s x ≡ 0) (sym o.entry) y in
     let p = c.take_entry-ran.ensures in
-    let after = rw i.loan.size at p.result_after in
+    let after = rw i.loan.size at p.state_after in
     let line = rw i.loan.size at p.line_after in
     let w = line-back n s e l.sheet l.kind-index _ line (omega (arith, i.twice, h)) in
     record {

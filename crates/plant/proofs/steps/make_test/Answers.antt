@@ -30,7 +30,7 @@ apply_outcome-requires c =
     let a = c.args in
     let p = c.requires in
     let n = c.count_test.ensures.same_loan.size in
-    let e = c.test_outcome-outcome.ensures.tested_value ∙ c.lookup-j.ensures in
+    let e = c.test_outcome-outcome.ensures.tested_station ∙ c.lookup-j.ensures in
     record {
       tester_below = rw n p.tester_below;
       tested_below = rw (n, e) p.tested_below;
@@ -47,4 +47,4 @@ returns-clause-test_made c =
     let a = c.apply_outcome.ensures in
     let t = c.count_test.ensures in
     let r = c.read.ensures in
-    rw (c.leave_if_alone.ensures.left_if_alone, a.same_loan.size, a.outcome_applied, o.tested_value, o.outcome_value, r.same_size, r.same_bytes, t.same_loan.size, t.test_counted, c.lookup-j.ensures)
+    rw (c.leave_if_alone.ensures.left_if_alone, a.same_loan.size, a.outcome_applied, o.tested_station, o.outcome_number, r.same_size, r.same_bytes, t.same_loan.size, t.test_counted, c.lookup-j.ensures)

@@ -19,7 +19,7 @@ returns-then-distances-m c =
     let m = rw (r.same_size, r.same_bytes) at c.next_test-m.ensures in
     let e = le-ltb _ _ (rw c.distances.ensures.number_of_distances at c.if-distances-m.true) in
     let f = c.finish_pass.ensures in
-    rw (← m, e) (record { tested_value = refl; outcome_value = refl; same_loan = f.same_loan; turn_made = f.pass_finished })
+    rw (← m, e) (record { tested_station = refl; outcome_number = refl; same_loan = f.same_loan; turn_made = f.pass_finished })
 
 pub make_test-requires : goal.make_test-requires
 unfolding makes_test
@@ -48,4 +48,4 @@ returns c =
     let m = rw (r.same_size, r.same_bytes) at c.next_test-m.ensures in
     let e = lt-ltb _ _ (rw c.distances.ensures.number_of_distances at c.if-distances-m.false) in
     let o = c.make_test.ensures in
-    rw (← m, e) (record { tested_value = o.tested_value; outcome_value = o.outcome_value; same_loan = o.same_loan; turn_made = o.test_made })
+    rw (← m, e) (record { tested_station = o.tested_station; outcome_number = o.outcome_number; same_loan = o.same_loan; turn_made = o.test_made })
