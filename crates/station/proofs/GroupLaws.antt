@@ -56,14 +56,14 @@ level-members i (suc h) x pos e =
     (range-mem (2 ^ h) (m - 2 ^ h) (omega arith))
 
 -- with the absent numbers left out: who is in the group of i at level s is present and has a distance of that level
-pub group-members : (n i s x : ℕ) → Memᴰ x (group n i s) → (x < n) × (level (distance i x) ≡ s)
+group-members : (n i s x : ℕ) → Memᴰ x (group n i s) → (x < n) × (level (distance i x) ≡ s)
 unfolding group
 group-members n i s x m =
     let k = filter-mem (is_present n) (full_group i s) x m in
     (ltb-true x n k.1, members-level i s x k.0)
 
 -- and the other way
-pub members-group : (n i s x : ℕ) → 0 < s → x < n → level (distance i x) ≡ s → Memᴰ x (group n i s)
+members-group : (n i s x : ℕ) → 0 < s → x < n → level (distance i x) ≡ s → Memᴰ x (group n i s)
 unfolding group
 members-group n i s x pos h e = mem-filter (is_present n) (full_group i s) x (level-members i s x pos e) (lt-ltb x n h)
 

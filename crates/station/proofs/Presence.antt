@@ -45,7 +45,7 @@ standing-grows n i a b l =
     omega (arith, rw e at (sum-split (λ k. bit (is_present n (station_at i k))) a (b - a)))
 
 -- below m > 0 one station more stands than other stations do, for the station itself stands at 0
-pub others_below : (n i m : ℕ) → i < n → suc (sum_below (λ k. bit (is_other n i k)) (suc m)) ≡ standing n i (suc m)
+others_below : (n i m : ℕ) → i < n → suc (sum_below (λ k. bit (is_other n i k)) (suc m)) ≡ standing n i (suc m)
 unfolding sum_below
 others_below n i zero h = rw (xor_zero_r i, lt-ltb i n h) (omega arith)
 others_below n i (suc m) h =

@@ -18,8 +18,8 @@ counted c =
     c.filter.ensures.closure (λ x r q k. search (rules, tests)))
 
 pub overflow_cast-result : goal.overflow_cast-result
-overflow_cast-result c = omega (arith, counted c, walked-few (due c.args.row.now c.args.i.0) _ _ c.distances-end.ensures.value c.distances-end.ensures.upper_bound (due-zero _ _))
+overflow_cast-result c = omega (arith, counted c, walked-few (due c.args.row.now c.args.i.0) _ _ c.distances-end.ensures.number_of_distances c.distances-end.ensures.upper_bound (due-zero _ _))
 
 pub returns : goal.returns
 unfolding tests_due due_distances
-returns c = counted c ∙ ap length (walked-is _ _ _ c.distances-end.ensures.value c.distances-end.ensures.upper_bound)
+returns c = counted c ∙ ap length (walked-is _ _ _ c.distances-end.ensures.number_of_distances c.distances-end.ensures.upper_bound)

@@ -17,7 +17,7 @@ loop-m-init c = record { counted = refl; listed = refl; named = refl }
 
 turn : (c : In-Some) → (c.in-Some.m < 256) × (length c.loop-m.yielded + 1 < 256)
 turn c =
-    walked-turn _ _ _ c.distances-end.ensures.value c.distances-end.ensures.upper_bound (untested-zero c.args.row.now c.args.i.0) c.loop-m.yielded c.in-Some.m (YieldsList-turn
+    walked-turn _ _ _ c.distances-end.ensures.number_of_distances c.distances-end.ensures.upper_bound (untested-zero c.args.row.now c.args.i.0) c.loop-m.yielded c.in-Some.m (YieldsList-turn
     (YieldsList-at c.into_iter-m-iterator.ensures.into_iter_gives
     (YieldsList-from_filter _ (is_untested c.args.row.now c.args.i.0) (YieldsList-at c.filter-m-items.ensures.source
     (YieldsList-from_range 0 c.distances-end.result c.distances-end.result (search rules) (omega arith)))
@@ -48,7 +48,7 @@ all c =
     (YieldsList-from_range 0 c.distances-end.result c.distances-end.result (search rules) (omega arith)))
     c.filter-m-items.ensures.closure (λ x r q k. search (rules, tests))))
     c.loop-m.yielded _ c.loop-m.yielded_by _ _ c.in-None.is c.next.ensures.steps in
-    sym (map-same c.loop-m.yielded) ∙ e.0 ∙ walked-is _ _ _ c.distances-end.ensures.value c.distances-end.ensures.upper_bound
+    sym (map-same c.loop-m.yielded) ∙ e.0 ∙ walked-is _ _ _ c.distances-end.ensures.number_of_distances c.distances-end.ensures.upper_bound
 
 pub returns-clause-value : goal.returns-clause-value
 returns-clause-value c = c.loop-m.invariant.counted ∙ ap length (all c)
