@@ -106,12 +106,6 @@ line_err false r s e = (refl, cc)
 -- a line that is new is taken
 module _ (n : ℕ) (c : List ℕ) (all cs : List (List ℕ)) (t : List ℕ) (seen : List Bool) (p : Passed n all t seen (c ∷ cs)) (e : is_new n c seen ≡ true)
     (wide : n ≤ length seen) (long : length t ≡ table_length n) where
-  marked : List Bool
-  marked = set seen (station_in c) true
-
-  taken : List ℕ
-  taken = sets t (line_start n (station_in c)) (line_in c)
-
   f : (fits n c ≡ true) × (length c ≡ line_field_length n) × (station_in c < n) × (get_or seen (station_in c) false ≡ false)
   f = new_facts n c seen e
 

@@ -48,9 +48,9 @@ all c =
     c.loop-m.yielded _ c.loop-m.yielded_by _ _ c.in-None.is c.next.ensures.steps in
     sym (map-same c.loop-m.yielded) ∙ e.0 ∙ walked-is _ _ _ c.distances-end.ensures.value c.distances-end.ensures.upper_bound
 
-pub returns-clause-value : goal.returns-clause-value
+pub returns-clause-count : goal.returns-clause-count
 unfolding tests_due
-returns-clause-value c = c.loop-m.invariant.counted ∙ ap length (all c)
+returns-clause-count c = c.loop-m.invariant.counted ∙ ap length (all c)
 
 pub returns-clause-list_after : goal.returns-clause-list_after
 unfolding tested

@@ -50,8 +50,8 @@ all c =
     c.loop-m.yielded _ c.loop-m.yielded_by _ _ c.in-None.is c.next.ensures.steps in
     sym (map-same c.loop-m.yielded) ∙ e.0 ∙ walked-is _ _ _ c.distances-end.ensures.value c.distances-end.ensures.upper_bound
 
-pub returns-clause-value : goal.returns-clause-value
-returns-clause-value c = c.loop-m.invariant.counted ∙ ap length (all c)
+pub returns-clause-count : goal.returns-clause-count
+returns-clause-count c = c.loop-m.invariant.counted ∙ ap length (all c)
 
 pub returns-clause-list_after : goal.returns-clause-list_after
 unfolding untested

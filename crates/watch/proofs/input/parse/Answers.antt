@@ -24,7 +24,7 @@ begun c = (started (parts c.without_last_feed-text.result.now) _ _ c.next.result
 unsized : (c : In_default) → read_up_to (room_for (length c.args.schedule.now)) c.args.input.now ≡ reading_of 1 0 0 []
 unsized c =
     let room = room_for (length c.args.schedule.now) in
-    sym (c.without_last_feed-text.ensures.read room) ∙ ap (read_lines room) (begun c) ∙ parts-unsized room _ _ (sym c.read_number.ensures ∙ c.in_default.is)
+    sym (c.without_last_feed-text.ensures.reading room) ∙ ap (read_lines room) (begun c) ∙ parts-unsized room _ _ (sym c.read_number.ensures ∙ c.in_default.is)
 
 pub returns-in_default-clause-answer : goal.returns-in_default-clause-answer
 returns-in_default-clause-answer c = rw (unsized c)
@@ -42,7 +42,7 @@ loop-line-init c =
       room = c.room_for-room.ensures;
       counted = refl;
       kept = refl;
-      read = sym (sym (c.without_last_feed-text.ensures.read room) ∙ ap (read_lines room) first ∙ sized ∙ ap (read_entries room c.in-Some.size 0 []) c.without_last_feed-text.ensures.others);
+      read = sym (sym (c.without_last_feed-text.ensures.reading room) ∙ ap (read_lines room) first ∙ sized ∙ ap (read_entries room c.in-Some.size 0 []) c.without_last_feed-text.ensures.lines_behind);
     }
 
 -- the lines behind the first are gone through
@@ -50,12 +50,12 @@ turn : (c : In-Some-line) → (length c.loop-line.yielded < length (drop 1 (line
     × (c.in-Some-line.line.now ≡ get_or (drop 1 (lines c.args.input.now)) (length c.loop-line.yielded) c.in-Some-line.line.now)
 turn c =
     let road = (started (parts c.without_last_feed-text.result.now) _ _ c.next.result c.unwrap_or-first.result _ (parts-some c.without_last_feed-text.result.now) c.next.ensures.steps c.unwrap_or-first.ensures (YieldsList-from_slice_split _ is_line_feed _ c.split-lines.ensures.rest c.split-lines.ensures.done c.split-lines.ensures.closure (λ x b q k. search (rules, tests)))).1 in
-    rw c.without_last_feed-text.ensures.others at (YieldsList-turn (YieldsList-at c.into_iter-line-iterator.ensures.into_iter_gives road) c.loop-line.yielded _ c.loop-line.yielded_by _ _ _ c.in-Some-line.is c.next-in-loop-line.ensures.steps)
+    rw c.without_last_feed-text.ensures.lines_behind at (YieldsList-turn (YieldsList-at c.into_iter-line-iterator.ensures.into_iter_gives road) c.loop-line.yielded _ c.loop-line.yielded_by _ _ _ c.in-Some-line.is c.next-in-loop-line.ensures.steps)
 
 ended : (c : In-None) → length c.loop-line.yielded ≡ length (drop 1 (lines c.args.input.now))
 ended c =
     let road = (started (parts c.without_last_feed-text.result.now) _ _ c.next.result c.unwrap_or-first.result _ (parts-some c.without_last_feed-text.result.now) c.next.ensures.steps c.unwrap_or-first.ensures (YieldsList-from_slice_split _ is_line_feed _ c.split-lines.ensures.rest c.split-lines.ensures.done c.split-lines.ensures.closure (λ x b q k. search (rules, tests)))).1 in
-    rw c.without_last_feed-text.ensures.others at (YieldsList-end (YieldsList-at c.into_iter-line-iterator.ensures.into_iter_gives road) c.loop-line.yielded _ c.loop-line.yielded_by _ _ c.in-None.is c.next-in-loop-line.ensures.steps).1
+    rw c.without_last_feed-text.ensures.lines_behind at (YieldsList-end (YieldsList-at c.into_iter-line-iterator.ensures.into_iter_gives road) c.loop-line.yielded _ c.loop-line.yielded_by _ _ c.in-None.is c.next-in-loop-line.ensures.steps).1
 
 cut : (c : In-Some-line) → drop c.loop-line.entries (drop 1 (lines c.args.input.now)) ≡ c.in-Some-line.line.now ∷ drop (c.loop-line.entries + 1) (drop 1 (lines c.args.input.now))
 cut c =
@@ -112,8 +112,8 @@ loop-line-preserved c =
       few = omega (arith, h);
       room = l.invariant.room;
       counted = omega (arith, l.invariant.counted, length-append l.yielded (c.in-Some-line.line ∷ []));
-      kept = rest-kept l.entries l.schedule _ _ w.schedule_unchanged l.invariant.kept;
-      read = rw (d, w.schedule_after) (gone p _ _ _ told some-is);
+      kept = rest-kept l.entries l.schedule _ _ w.rest_unchanged l.invariant.kept;
+      read = rw (d, w.entry_written) (gone p _ _ _ told some-is);
     }
 
 pub returns-clause-answer : goal.returns-clause-answer

@@ -15,4 +15,4 @@ alike a r (Some x) e m =
     rw e (alike-fed x.now a.now (rw (m.1, ← f) (sym (take-append-drop (length a.now - 1) a.now))))
 
 pub returns : goal.returns
-returns c = let e = alike c.args.input c.unwrap_or.result c.strip_suffix.result c.unwrap_or.ensures c.strip_suffix.ensures.cases in record { read = e.read; others = e.others }
+returns c = let e = alike c.args.input c.unwrap_or.result c.strip_suffix.result c.unwrap_or.ensures c.strip_suffix.ensures.cases in record { reading = e.read; lines_behind = e.others }
