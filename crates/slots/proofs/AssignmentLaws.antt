@@ -66,7 +66,8 @@ due-byte r i m few own pos here = due-is r i m ∙ sym (go (answer r i m) refl)
 
 pub due-have-255 : DueHave255
 unfolding due_distances other_distances
-due-have-255 n r i size long own = filter-twice (due r i) (is_other n i) (λ m. eqb (answer_byte (answer r i m)) 255) same (list_of (λ k. k) (distances n))
+due-have-255 n r i size long own =
+    filter-twice (due r i) (is_other n i) (λ m. eqb (answer_byte (answer r i m)) 255) same (list_of (λ k. k) (distances n))
   where
     same : (m : ℕ) → due r i m ≡ (is_other n i m && eqb (answer_byte (answer r i m)) 255)
     same m =

@@ -14,7 +14,8 @@ counted : (c : After-count) → c.count.result ≡ length (filter (due c.args.ro
 counted c =
     let filtered = c.filter.ensures in
     let all = YieldsList-from_range 0 c.distances-end.result c.distances-end.result (search rules) (omega arith) in
-    let kept = YieldsList-from_filter _ (due c.args.row.now c.args.i.0) (YieldsList-at filtered.source all) filtered.closure (λ x r q k. search (rules, tests)) in
+    let walked = YieldsList-at filtered.source all in
+    let kept = YieldsList-from_filter _ (due c.args.row.now c.args.i.0) walked filtered.closure (λ x r q k. search (rules, tests)) in
     count_from_yields_List _ _ c.count.ensures.ran kept
 
 pub overflow_cast-result : goal.overflow_cast-result

@@ -11,7 +11,8 @@ pub returns-in_err-parsed : goal.returns-in_err-parsed
 returns-in_err-parsed c =
     let e = c.parse.ensures in
     let p = err_from_is_err_and c.from_residual.result c.from_residual.ensures.1 in
-    let unread = watched_unread c.args.sheet.now c.args.input.now _ _ c.told-schedule e.schedule_after c.in_err-parsed.field-0.0 (sym c.in_err-parsed.was ∙ e.answer) in
+    let answer = sym c.in_err-parsed.was ∙ e.answer in
+    let unread = watched_unread c.args.sheet.now c.args.input.now _ _ c.told-schedule e.schedule_after c.in_err-parsed.field-0.0 answer in
     rw (p.1, p.2) (record { answer_and_sheet = unread; decided = λ rest n. unread ∙ decided _ _ rest n })
 
 few : (c : In_ok-parsed) → c.in_ok-parsed.parsed.entries ≤ 4096
