@@ -15,8 +15,8 @@ counted c =
     let filtered = c.filter.ensures in
     let all = YieldsList-from_range 0 c.distances-end.result c.distances-end.result (search rules) (omega arith) in
     let walked = YieldsList-at filtered.source all in
-    let kept = YieldsList-from_filter _ (due c.args.row.now c.args.i.0) walked filtered.closure (λ x r q k. search (rules, tests)) in
-    count_from_yields_List _ _ c.count.ensures.ran kept
+    count_from_yields_List _ _ c.count.ensures.ran
+    (YieldsList-from_filter _ (due c.args.row.now c.args.i.0) walked filtered.closure (λ x r q k. search (rules, tests)))
 
 pub overflow_cast-result : goal.overflow_cast-result
 overflow_cast-result c =

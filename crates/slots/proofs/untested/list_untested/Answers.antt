@@ -1,5 +1,5 @@
 -- The distances of those that are not tested are gone through in order.
-use Rattle.std.proofs.Common.{◌≡◌, ◌<◌, ◌+◌, refl, sym, ◌∙◌, ap, length, length-append, [], ◌∷◌, arith, rules, tests}
+use Rattle.std.proofs.Common.{◌≡◌, ℕ, ◌<◌, ◌+◌, refl, sym, ◌∙◌, ap, length, length-append, [], ◌∷◌, arith, rules, tests}
 use Rattle.std.proofs.lemmas.Iterator.{YieldsList-from_range}
 use Rattle.std.proofs.lemmas.Iterator.Consumers.{YieldsList-at, YieldsList-from_filter, YieldsList-turn, YieldsList-end}
 use Rattle.lists.proofs.Enumerated.{map-same}
@@ -21,9 +21,10 @@ turn c =
     let filtered = c.filter-m-items.ensures in
     let all = YieldsList-from_range 0 c.distances-end.result c.distances-end.result (search rules) (omega arith) in
     let walked = YieldsList-at filtered.source all in
-    let kept = YieldsList-from_filter _ (is_untested c.args.row.now c.args.i.0) walked filtered.closure (λ x r q k. search (rules, tests)) in
-    let road = YieldsList-at c.into_iter-m-iterator.ensures.into_iter_gives kept in
-    let here = YieldsList-turn road c.loop-m.yielded _ c.loop-m.yielded_by _ _ _ c.in-Some.is c.next.ensures.steps in
+    let here =
+    YieldsList-turn (YieldsList-at c.into_iter-m-iterator.ensures.into_iter_gives
+    (YieldsList-from_filter _ (is_untested c.args.row.now c.args.i.0) walked filtered.closure (λ x r q k. search (rules, tests))))
+    c.loop-m.yielded _ c.loop-m.yielded_by _ _ _ c.in-Some.is c.next.ensures.steps in
     walked-turn _ _ _ end.value end.upper_bound (untested-zero c.args.row.now c.args.i.0) c.loop-m.yielded c.in-Some.m here
 
 pub overflow_cast-m : goal.overflow_cast-m
@@ -51,9 +52,10 @@ all c =
     let filtered = c.filter-m-items.ensures in
     let all = YieldsList-from_range 0 c.distances-end.result c.distances-end.result (search rules) (omega arith) in
     let walked = YieldsList-at filtered.source all in
-    let kept = YieldsList-from_filter _ (is_untested c.args.row.now c.args.i.0) walked filtered.closure (λ x r q k. search (rules, tests)) in
-    let road = YieldsList-at c.into_iter-m-iterator.ensures.into_iter_gives kept in
-    let whole = YieldsList-end road c.loop-m.yielded _ c.loop-m.yielded_by _ _ c.in-None.is c.next.ensures.steps in
+    let whole =
+    YieldsList-end (YieldsList-at c.into_iter-m-iterator.ensures.into_iter_gives
+    (YieldsList-from_filter _ (is_untested c.args.row.now c.args.i.0) walked filtered.closure (λ x r q k. search (rules, tests))))
+    c.loop-m.yielded _ c.loop-m.yielded_by _ _ c.in-None.is c.next.ensures.steps in
     sym (map-same c.loop-m.yielded) ∙ whole.0 ∙ walked-is _ _ _ end.value end.upper_bound
 
 pub returns-clause-count : goal.returns-clause-count
