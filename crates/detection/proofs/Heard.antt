@@ -27,6 +27,7 @@ use Rattle.plant.proofs.RoundLaws.{reset-other}
 use Rattle.plant.proofs.StepLines.{Lines, count_test-lines, station-apart}
 use Rattle.plant.proofs.RulesKept.{Takes, entry-facts}
 use Rattle.detection.specs.Exits.{Replied, SameRows, RowsJoined, NeitherSuspects, TestedHears}
+use Rattle.detection.proofs.TestingPair.{Pair, parts_of, testing-pair}
 
 -- step 6 writes the status of i if it is alone, step 8 the columns that closing a round changes
 module _ (n i : ℕ) (v : List ℕ) where
@@ -57,29 +58,7 @@ module _ (n i : ℕ) (v : List ℕ) where
 
 -- a taken turn whose test has a reply: i tests j at distance m, and u is the table with the test counted
 module _ (n : ℕ) (s : State) (e : Entry) (r : Replied n s e) where
-  abbrev t : List ℕ
-  t = s.table
-
-  abbrev i : ℕ
-  i = e.station
-
-  abbrev m : ℕ
-  m = next_test n t i
-
-  abbrev j : ℕ
-  j = station_at i m
-
-  abbrev u : List ℕ
-  u = count_test n t i m
-
-  facts : Takes n s e
-  facts = entry-facts n s e r.taken
-
-  all : Accepted n t
-  all = accepted n t r.shape
-
-  lines₀ : Lines n t
-  lines₀ = (all.long, accepted-line n t all)
+  open parts_of n s e use {before as t, tester as i, tested as j, counted as u}
 
   no-crash : is_crash e ≡ false
   no-crash = not-true (is_crash e) (both (not (is_crash e)) (makes_test n t i) r.makes).0
@@ -87,21 +66,10 @@ module _ (n : ℕ) (s : State) (e : Entry) (r : Replied n s e) where
   tests : makes_test n t i ≡ true
   tests = (both (not (is_crash e)) (makes_test n t i) r.makes).1
 
-  hi : i < n
-  hi = facts.below
+  pair : Pair n t u i j
+  pair = testing-pair n s e (accepted n t r.shape) r.taken no-crash tests
 
-  hj : j < n
-  hj = test-station n t i tests all.long hi
-
-  apart : i ≢ j
-  apart = station-apart i m (omega (arith, next_test-low n t i, (lines₀.1 i hi).pass.next_low))
-
-  lines : Lines n u
-  lines = count_test-lines n t i lines₀ hi m (facts.unfinished (eqb-false e.kind 3 no-crash)) (next_test-low n t i) (test_below n t i tests)
-
-  -- the count writes bytes 1 and 3 only
-  counted : (k c : ℕ) → c < stride n → (c ≢ next_column) × (c ≢ tests_column) → cell n u k c ≡ cell n t k c
-  counted k c h out = count_test-other n t i m k c h (λ _. out)
+  open pair use {lines as lines₀, below as hi, tested_below as hj, apart, counted_lines as lines, others as counted}
 
   row-counted : (k x : ℕ) → x < n → suspects n u k x ≡ suspects n t k x
   row-counted k x h = counted k (head + x) (omega arith) (omega arith)
@@ -124,7 +92,7 @@ module _ (n : ℕ) (s : State) (e : Entry) (r : Replied n s e) where
   j-live = eqb-true (status n t j) 0 (both (live n t j) (eqb e.kind kind_turn) (rw tested-is at r.reply)).0
 
   i-live : status n t i ≡ 0
-  i-live = eqb-true (status n t i) 0 facts.is_live
+  i-live = eqb-true (status n t i) 0 pair.is_live
 
   -- where a station leaves, no row changes
   left-rows : (k x : ℕ) → SameRows n t (later n i (leave_told n u k x))
