@@ -10,19 +10,17 @@ use native.Mathlib.Omega.{arith}
 use borrow.Author.Tests.{eqb-true, eqb-false}
 use lib.Dec.{eqb}
 use lib.ListN.{length}
-use Rattle.station.specs.Groups.{station_at}
-use Rattle.table.specs.Table.{head, stride, table_length, cell, status_column, next_column, finished_column, tests_column, told_by_column, rounds_ago_column, status, status_told, status_alone, status_crashed, told_by, rounds_ago, live}
+use Rattle.table.specs.Table.{head, table_length, cell, status_column, next_column, finished_column, told_by_column, rounds_ago_column, status, status_told, status_alone, status_crashed, told_by, rounds_ago, live}
 use Rattle.table.specs.Rules.{round_over}
 use Rattle.lists.proofs.BoolLaws.{by_bool, choice}
 use Rattle.lists.proofs.SearchLaws.{both}
 use Rattle.table.proofs.Accepting.{Accepted, accepted}
-use Rattle.table.proofs.CellLaws.{TurnCounts, cell_same, cell_other, accepted-line}
-use Rattle.plant.specs.Turn.{outcome_exchanged, outcome_told, outcome_tested_told, set_status, leave_told, next_test, makes_test, count_test, replies, is_told, exchange_rows, suspect, reply_outcome, test_outcome, after_outcome, after_test, is_alone, after_alone, testing, turn, turn_tested, turn_outcome, crash, finish_pass}
+use Rattle.table.proofs.CellLaws.{TurnCounts, cell_same, cell_other}
+use Rattle.plant.specs.Turn.{outcome_exchanged, outcome_told, outcome_tested_told, set_status, leave_told, makes_test, replies, is_told, exchange_rows, suspect, reply_outcome, test_outcome, after_outcome, after_test, is_alone, after_alone, testing, turn, turn_tested, turn_outcome, crash, finish_pass}
 use Rattle.plant.specs.Round.{after_round}
 use Rattle.plant.specs.Entry.{Entry, State, is_crash, entry_number, acted, after, tested_of, outcome_of}
-use Rattle.plant.proofs.NextTest.{next_test-low, test_below, test-station}
-use Rattle.plant.proofs.StepCells.{leave_told-other, leave_told-status, leave_told-teller, finish_pass-other, count_test-other, suspect-other, exchange-other}
-use Rattle.plant.proofs.StepLines.{Lines, count_test-lines, after_test-lines, station-apart}
+use Rattle.plant.proofs.StepCells.{leave_told-other, leave_told-status, leave_told-teller, finish_pass-other, suspect-other, exchange-other}
+use Rattle.plant.proofs.StepLines.{after_test-lines}
 use Rattle.plant.proofs.RoundLaws.{reset-other}
 use Rattle.plant.proofs.RulesKept.{Takes, entry-facts}
 use Rattle.detection.specs.Ceased.{LeftTold, EntryTells}

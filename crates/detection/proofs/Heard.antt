@@ -7,25 +7,21 @@ use mathlib.Core.List.{List}
 use Prim.Native.Nat.{ℕ, ◌+◌, max, ◌<◌}
 use native.Mathlib.Decide.{ℕ_discrete}
 use native.Mathlib.Omega.{arith}
-use borrow.Author.Tests.{eqb-true, eqb-false, ne_eqb, not-true}
+use borrow.Author.Tests.{eqb-true, ne_eqb, not-true}
 use lib.Dec.{eqb}
 use lib.ListN.{length}
 use Rattle.lists.specs.Search.{every}
-use Rattle.station.specs.Groups.{station_at}
-use Rattle.table.specs.Table.{head, stride, table_length, cell, status_column, next_column, tests_column, status, suspects, live, status_told, status_alone}
+use Rattle.table.specs.Table.{head, stride, table_length, cell, status_column, status, suspects, live, status_told, status_alone}
 use Rattle.table.specs.Rules.{round_over}
 use Rattle.lists.proofs.BoolLaws.{by_bool, choice, every-same}
 use Rattle.lists.proofs.SearchLaws.{both, every-not}
-use Rattle.table.proofs.Accepting.{Accepted, accepted}
-use Rattle.table.proofs.CellLaws.{cell_same, cell_other, accepted-line, ClosingChanges}
-use Rattle.plant.specs.Turn.{kind_turn, outcome_exchanged, outcome_told, outcome_tested_told, leave_told, next_test, makes_test, count_test, replies, is_told, exchange_rows, reply_outcome, test_outcome, after_outcome, self_or_suspected, is_alone, after_alone, testing, turn, turn_tested, turn_outcome}
+use Rattle.table.proofs.Accepting.{accepted}
+use Rattle.table.proofs.CellLaws.{cell_same, cell_other, ClosingChanges}
+use Rattle.plant.specs.Turn.{kind_turn, outcome_exchanged, outcome_told, outcome_tested_told, leave_told, makes_test, replies, is_told, exchange_rows, reply_outcome, test_outcome, after_outcome, self_or_suspected, is_alone, after_alone, testing, turn, turn_tested, turn_outcome}
 use Rattle.plant.specs.Round.{after_round}
 use Rattle.plant.specs.Entry.{Entry, State, is_crash, acted, after, tested_of, outcome_of}
-use Rattle.plant.proofs.NextTest.{next_test-low, test_below, test-station}
-use Rattle.plant.proofs.StepCells.{leave_told-length, leave_told-other, leave_told-status, count_test-other, exchange-other, exchange-tester, exchange-tested, exchange-tester-own, exchange-tested-own}
+use Rattle.plant.proofs.StepCells.{leave_told-length, leave_told-other, leave_told-status, exchange-other, exchange-tester, exchange-tested, exchange-tester-own, exchange-tested-own}
 use Rattle.plant.proofs.RoundLaws.{reset-other}
-use Rattle.plant.proofs.StepLines.{Lines, count_test-lines, station-apart}
-use Rattle.plant.proofs.RulesKept.{Takes, entry-facts}
 use Rattle.detection.specs.Exits.{Replied, SameRows, RowsJoined, NeitherSuspects, TestedHears}
 use Rattle.detection.proofs.TestingPair.{Pair, parts_of, testing-pair}
 

@@ -4,7 +4,7 @@ use mathlib.Core.Path.{◌≡◌}
 use mathlib.Core.Logic.{◌≢◌}
 use mathlib.Core.Bool.{true, false}
 use mathlib.Core.List.{List}
-use Prim.Native.Nat.{ℕ, ◌+◌, ◌≤◌, ◌<◌}
+use Prim.Native.Nat.{ℕ, ◌<◌}
 use native.Mathlib.Omega.{arith}
 use borrow.Author.Tests.{eqb-false}
 use Rattle.table.specs.Table.{stride, cell, next_column, tests_column, live}
@@ -16,7 +16,7 @@ use Rattle.plant.proofs.NextTest.{next_test-low, test_below, test-station}
 use Rattle.plant.proofs.StepCells.{count_test-other}
 use Rattle.plant.proofs.StepLines.{Lines, count_test-lines, station-apart}
 use Rattle.plant.specs.Entry.{Entry, State, is_crash, entry_number}
-use Rattle.plant.proofs.RulesKept.{Takes, entry-facts}
+use Rattle.plant.proofs.RulesKept.{entry-facts}
 
 -- the table before an entry, its station, the distance of that one's next test and the station there, and the table with the test counted
 pub record Parts : Type 0 where
