@@ -71,7 +71,7 @@ pub extern "C" fn vcube_assignment(
 }
 
 // Row: where the station's row begins in the table, and how many bytes it has; both 0 where it is refused.
-#[tactic(auto, using(crate::proofs::Narrow::row_check_narrow, station::proofs::Refusals::row_ok, station::proofs::Refusals::accepted_top, crate::proofs::Narrow::row_offset_ok, crate::proofs::Narrow::row_offset_err, crate::proofs::Narrow::row_part_ok, crate::proofs::Narrow::row_part_err))]
+#[tactic(auto, using(crate::proofs::RowPart::row_laws))]
 #[unsafe(no_mangle)]
 pub extern "C" fn vcube_row(
     n: usize,
