@@ -7,7 +7,7 @@ use mathlib.Core.List.{List, [], map}
 use Prim.Native.Nat.{ℕ, ◌<◌}
 use native.Mathlib.Omega.{arith}
 use lib.ListN.{length, get_or}
-use Rattle.lists.specs.Search.{list_of}
+use Rattle.std.specs.List.{range_with_len}
 use Rattle.lists.specs.Sums.{bit}
 use Rattle.station.specs.Groups.{station_at}
 use Rattle.table.specs.Sizes.{distances}
@@ -36,7 +36,7 @@ unfolding due_distances exact_row
 exact-list n T i =
     filter_same (due (exact_row n T) i) (leads_at n (live n T) i)
     (row-due n (live n T) (exact_row n T) (list_of-length (λ j. bit (not_live n T j)) n) (list_of-at (λ j. bit (not_live n T j)) n) i)
-    (list_of (λ k. k) (distances n))
+    (range_with_len 0 (distances n))
 
 -- exact rows, byte by byte
 exact_bytes : (n : ℕ) (L : ℕ → Bool) (t : List ℕ) → Plain n L t → ExactRows n t → Exact n L t

@@ -74,10 +74,13 @@ module _ (n : ℕ) (s : State) (e : Entry) (r : Replied n s e) where
   unfolding tested_of turn_tested
   tested-is = rw (no-crash, tests)
 
+  reply : replies n t e.kind j ≡ true
+  reply = rw tested-is at r.reply
+
   -- the outcome is that of a reply, and the table what steps 4, 6 and 8 make of it
   outcome-is : outcome_of n t e ≡ reply_outcome n u i j
   unfolding outcome_of turn_outcome test_outcome replies
-  outcome-is = rw (no-crash, tests, counted j status_column (omega arith) (omega arith), rw tested-is at r.reply)
+  outcome-is = rw (no-crash, tests, counted j status_column (omega arith) (omega arith), reply)
 
   after_is : (after n s e).table ≡ later n i (after_outcome n u i j (outcome_of n t e))
   unfolding after acted turn testing outcome_of turn_outcome
@@ -85,7 +88,7 @@ module _ (n : ℕ) (s : State) (e : Entry) (r : Replied n s e) where
 
   j-live : status n t j ≡ 0
   unfolding replies
-  j-live = eqb-true (status n t j) 0 (both (live n t j) (eqb e.kind kind_turn) (rw tested-is at r.reply)).0
+  j-live = eqb-true (status n t j) 0 (both (live n t j) (eqb e.kind kind_turn) reply).0
 
   i-live : status n t i ≡ 0
   i-live = eqb-true (status n t i) 0 pair.is_live

@@ -8,7 +8,8 @@ use Prim.Native.Nat.{ℕ, ◌<◌}
 use native.Mathlib.Decide.{ℕ_discrete}
 use native.Mathlib.Omega.{arith}
 use borrow.Author.Tests.{eq-eqb, ne_eqb}
-use Rattle.lists.specs.Search.{select, list_of}
+use Rattle.std.specs.List.{range_with_len}
+use Rattle.lists.specs.Search.{select}
 use Rattle.station.specs.Groups.{station_at}
 use Rattle.table.specs.Table.{next_column, next_distance, row}
 use Rattle.station.specs.Tests.{due}
@@ -49,7 +50,7 @@ pub record Listed (n : ℕ) (L : ℕ → Bool) (t₀ : List ℕ) (cur : List Tak
   pub listed : Exact n L t₀ → (i : ℕ) → i < n → tested_in i cur ≡ map (station_at i) (led_below n L i (next_distance n t i))
 
 pub listed_start : (n : ℕ) (L : ℕ → Bool) (t : List ℕ) → Plain n L t → ((i : ℕ) → i < n → Reset n t i) → Listed n L t [] t
-unfolding tested_in first_table list_of
+unfolding tested_in first_table
 listed_start n L t p fresh = record {
   opened = p;
   opens = λ x e. e;
@@ -75,7 +76,7 @@ module _ (n : ℕ) (L : ℕ → Bool) (s : State) (e : Entry) (t₀ t' : List �
   own-more exact =
       let exact_now : Exact n L t = λ k j g c q f. know.grown k j g c (exact k j g c q f) in
       let same : (m : ℕ) → select (due (row n t i) i) m ≡ led_below n L i m =
-      λ m. filter_same (due (row n t i) i) (leads_at n L i) (λ y. exact-due n L t know.plain exact_now i y below is_live) (list_of (λ k. k) m) in
+      λ m. filter_same (due (row n t i) i) (leads_at n L i) (λ y. exact-due n L t know.plain exact_now i y below is_live) (range_with_len 0 m) in
       sym (same (next_distance n t' i)) ∙ (passed-list n t t' i heads (know.plain.lines.1 i below).pass.next_high
       ∙ ap (λ (l : List ℕ). l ++ cond (makes_test n t i) (next_test n t i ∷ []) []) (same (next_distance n t i)))
 
@@ -92,7 +93,8 @@ module _ (n : ℕ) (L : ℕ → Bool) (s : State) (e : Entry) (t₀ t' : List �
   other-listed : (k : ℕ) → k < n → k ≢ i → Exact n L t₀ → tested_in k (cur ++ (x ∷ [])) ≡ map (station_at k) (led_below n L k (next_distance n t' k))
   other-listed k h apart exact =
       let next = heads.others k next_column apart (omega arith) in
-      tested-snoc k cur x ∙ rw (ne_eqb i k (λ q. apart (sym q)), append-nil, next) (had.listed exact k h)
+      let none : is_test_of k x ≡ false = ap (λ b. b && taken_test x) (ne_eqb i k (λ q. apart (sym q))) in
+      tested-snoc k cur x ∙ rw (none, append-nil, next) (had.listed exact k h)
 
   pub turn-listed : Listed n L t₀ (cur ++ (x ∷ [])) t'
   turn-listed = record {

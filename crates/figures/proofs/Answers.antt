@@ -26,4 +26,9 @@ variance_lowest xs pos = lowest_terms _ _ (mul-pos (mul-pos pos pos) pos)
 pub zero_lowest : (lower : ℕ) → 0 < lower → lowest 0 lower ≡ record { upper = 0; lower = 1 }
 zero_lowest lower pos =
     lowest_unique 0 lower (lowest 0 lower) (record { upper = 0; lower = 1 }) pos (lowest_terms 0 lower pos)
-    (record { same-value = omega arith; no-common-divisor = λ k a b. omega (arith, le_of_dvd {m = k} {n = 1} (omega arith) b, pos_of_dvd_of_pos {m = k} {n = 1} b (omega arith)); positive = omega arith })
+    (record {
+      same-value = omega arith;
+      no-common-divisor = λ k a b.
+          omega (arith, le_of_dvd {m = k} {n = 1} (omega arith) b, pos_of_dvd_of_pos {m = k} {n = 1} b (omega arith));
+      positive = omega arith;
+    })

@@ -12,6 +12,7 @@ use borrow.Author.Tests.{ltb-false, le-ltb, lt-ltb}
 use lib.Dec.{ltb}
 use lib.ListN.{length, get_or}
 use Rattle.figures.specs.declared.Totals.{Totals}
+use Rattle.lists.proofs.BoolLaws.{neither}
 use Rattle.std.specs.List.{sum_by}
 use Rattle.std.proofs.lemmas.List.Sums.{sum_by-le}
 use Rattle.std.proofs.lemmas.List.Elements.{All-from_get_or}
@@ -27,7 +28,7 @@ pub record OfResults (t : Totals) : Type 0 where
 sum-most-of : (f : ℕ → ℕ) (m : ℕ) (xs : List ℕ) → ((k : ℕ) → f (get_or xs k 0) ≤ m) → sum_by f xs ≤ m * length xs
 sum-most-of f m xs h = omega (arith, sum_by-le f m xs (All-from_get_or (λ x. f x ≤ m) xs 0 (λ k l. h k)))
 
-pub square-most : {x : ℕ} → x ≤ greatest_result → x * x ≤ greatest_result * greatest_result
+square-most : {x : ℕ} → x ≤ greatest_result → x * x ≤ greatest_result * greatest_result
 square-most h = mul-le-mul h h
 
 pub list-of-results : (xs : List ℕ) → Small xs → OfResults (totals_of xs)
@@ -48,11 +49,6 @@ pub record TotalsFit (t : Totals) : Type 0 where
   pub count_fits : t.count ≤ most_results
   pub sum_fits : t.sum ≤ most_results * greatest_result
   pub squares-fit : t.squares ≤ most_results * (greatest_result * greatest_result)
-
--- neither of two
-pub neither : (a b : Bool) → (a || b) ≡ false → (a ≡ false) × (b ≡ false)
-neither true b e = (e, cc)
-neither false b e = (refl, e)
 
 pub overfull_fits : (t : Totals) → overfull t ≡ false → TotalsFit t
 unfolding overfull

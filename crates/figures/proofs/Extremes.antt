@@ -7,7 +7,8 @@ use Prim.Native.Nat.{ℕ, zero, suc, ◌<◌, ◌≤◌, min, max}
 use native.Mathlib.Decide.{dec_le}
 use native.Mathlib.Omega.{arith}
 use lib.ListN.{length, get_or}
-use Rattle.std.specs.List.{fold}
+use Rattle.std.specs.List.{Contains, fold}
+use Rattle.std.proofs.lemmas.List.Elements.{All-nil, All-cons, All-head, All-tail}
 use Rattle.figures.specs.Batch.{least_of_results, greatest_of_results}
 use Rattle.figures.specs.Claims.{Extreme}
 
@@ -16,27 +17,21 @@ module _ (op : ℕ → ℕ → ℕ) (R : ℕ → ℕ → Type 0) (self : (a : �
     (one : (a b : ℕ) → (op a b ≡ a) ⊎ (op a b ≡ b)) where
   -- of two at the front only the one that the operation gives need be looked at
   more : (x y m : ℕ) (ys : List ℕ) → Extreme R (op x y ∷ ys) m → Extreme R (x ∷ y ∷ ys) m
-  more x y m ys rest = at rest.place rest.inside rest.stands
+  more x y m ys rest =
+      record {
+        among = at rest.among.0 rest.among.1 rest.among.2;
+        all = All-cons (R m) x (y ∷ ys) of_two.0 (All-cons (R m) y ys of_two.1 (All-tail (R m) (op x y) ys rest.all));
+      }
     where
-      all : (k : ℕ) → k < length (x ∷ y ∷ ys) → R m (get_or (x ∷ y ∷ ys) k 0)
-      all zero l = (both m x y (rest.all 0 (omega arith))).0
-      all (suc zero) l = (both m x y (rest.all 0 (omega arith))).1
-      all (suc (suc k)) l = rest.all (suc k) (omega arith)
+      of_two : R m x × R m y
+      of_two = both m x y (All-head (R m) (op x y) ys rest.all)
 
-      at : (p : ℕ) → p < length (op x y ∷ ys) → get_or (op x y ∷ ys) p 0 ≡ m → Extreme R (x ∷ y ∷ ys) m
-      at zero l e =
-          ⊎_elim
-          (λ f. record { place = 0; inside = omega arith; stands = sym f ∙ e; all = all })
-          (λ f. record { place = 1; inside = omega arith; stands = sym f ∙ e; all = all })
-          (one x y)
-      at (suc p) l e = record { place = suc (suc p); inside = omega arith; stands = e; all = all }
-
-  only : (x k : ℕ) → k < length (x ∷ []) → R x (get_or (x ∷ []) k 0)
-  only x zero l = self x
-  only x (suc k) l = absurd (omega arith)
+      at : (k : ℕ) → k < length (op x y ∷ ys) → get_or (op x y ∷ ys) k m ≡ m → Contains (x ∷ y ∷ ys) m
+      at zero l e = ⊎_elim (λ f. (0, omega arith, sym f ∙ e)) (λ f. (1, omega arith, sym f ∙ e)) (one x y)
+      at (suc k) l e = (suc (suc k), omega arith, e)
 
   fold-extreme : (x : ℕ) (xs : List ℕ) → Extreme R (x ∷ xs) (fold op x xs)
-  fold-extreme x [] = record { place = 0; inside = omega arith; stands = refl; all = only x }
+  fold-extreme x [] = record { among = (0, omega arith, refl); all = All-cons (R x) x [] (self x) (All-nil (R x)) }
   fold-extreme x (y ∷ ys) = more x y (fold op (op x y) ys) ys (fold-extreme (op x y) ys)
 
 min-one : (a b : ℕ) → (min a b ≡ a) ⊎ (min a b ≡ b)

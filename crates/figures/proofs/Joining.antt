@@ -19,9 +19,12 @@ module _ (op : ℕ → ℕ → ℕ) (assoc : (a b c : ℕ) → op a (op b c) ≡
   fold-more a b [] = refl
   fold-more a b (x ∷ xs) = ap (λ y. fold op y xs) (sym (assoc a b x)) ∙ fold-more a (op b x) xs
 
-  -- what an operation puts together from two lists
-  reduce-append : (xs ys : List ℕ) → unwrap_or (reduce op (xs ++ ys)) 0
-      ≡ of_both (length xs) (unwrap_or (reduce op xs) 0) (length ys) (unwrap_or (reduce op ys) 0) (op (unwrap_or (reduce op xs) 0) (unwrap_or (reduce op ys) 0))
+  -- what an operation puts together from a list, 0 for none
+  abbrev all : List ℕ → ℕ
+  all xs = unwrap_or (reduce op xs) 0
+
+  -- and from two lists
+  reduce-append : (xs ys : List ℕ) → all (xs ++ ys) ≡ of_both (length xs) (all xs) (length ys) (all ys) (op (all xs) (all ys))
   unfolding of_both
   reduce-append [] ys = refl
   reduce-append (x ∷ xs) [] = rw eqb-suc-zero (ap (fold op x) (append-nil xs))
@@ -31,7 +34,13 @@ module _ (op : ℕ → ℕ → ℕ) (assoc : (a b c : ℕ) → op a (op b c) ≡
 pub totals-append : (xs ys : List ℕ) → totals_of (xs ++ ys) ≡ joined (totals_of xs) (totals_of ys)
 unfolding totals_of joined
 totals-append xs ys =
-    rw (length-append, sum_by-append (λ x. x) xs ys, sum_by-append (λ x. x * x) xs ys, reduce-append min (λ a b c. omega arith) xs ys, reduce-append max (λ a b c. omega arith) xs ys)
+    rw (
+      length-append,
+      sum_by-append (λ x. x) xs ys,
+      sum_by-append (λ x. x * x) xs ys,
+      reduce-append min (λ a b c. omega arith) xs ys,
+      reduce-append max (λ a b c. omega arith) xs ys,
+    )
 
 -- the least and the greatest, as a loop over the results finds them
 pub least_from_first : (xs : List ℕ) → fold min (get_or xs 0 0) xs ≡ least_of_results xs

@@ -3,6 +3,7 @@
 use mathlib.Core.Path.{◌≡◌, sym, ◌∙◌, ap, ap₂}
 use Prim.Native.Nat.{ℕ, ◌*◌, ◌/◌, ◌<◌, ◌≤◌, ◌∣◌}
 use native.Mathlib.Nat.{
+  div-one,
   dvd_antisymm,
   dvd-mul_right,
   dvd-mul_left,
@@ -27,26 +28,31 @@ lowest_terms upper lower pos =
     let g = gcd upper lower in
     let both = gcd-greatest upper lower in
     let gpos : 0 < g = gcd_positive upper lower pos in
-    let u : g * (upper / g) ≡ upper = mul-div_cancel' g both.left in
-    let l : g * (lower / g) ≡ lower = mul-div_cancel' g both.right in
+    let u : g * (upper / g) ≡ upper = mul-div_cancel' g both.0 in
+    let l : g * (lower / g) ≡ lower = mul-div_cancel' g both.1 in
     let l-divides : lower / g ∣ lower = rw l at (dvd-mul_left (lower / g) g) in
     let l-positive : 0 < lower / g = pos_of_dvd_of_pos l-divides pos in
     record {
       same-value = ap (λ (x : ℕ). upper / g * x) (sym l) ∙ omega arith ∙ ap (λ (x : ℕ). x * (lower / g)) u;
       no-common-divisor = λ k a b.
           let whole : g * k ∣ g =
-          both.greatest (g * k) (rw u at (mul-dvd-mul_left k g a)) (rw l at (mul-dvd-mul_left k g b)) in
+          both.2 (g * k) (rw u at (mul-dvd-mul_left k g a)) (rw l at (mul-dvd-mul_left k g b)) in
           let low : k ≤ 1 = le_of_mul-le-mul_left {k = g} (omega (arith, le_of_dvd gpos whole)) gpos in
           omega (arith, low, pos_of_dvd_of_pos b l-positive);
       positive = l-positive;
     }
 
+-- what is in lowest terms already
+pub lowest_as_is : (upper lower : ℕ) → gcd upper lower ≡ 1 → lowest upper lower ≡ record { upper = upper; lower = lower }
+unfolding lowest
+lowest_as_is upper lower e = rw (e, div-one, div-one)
+
 -- what has no common divisor with b and times c is a multiple of b: then c is one (Euclid's lemma)
 coprime-divides : (a b c : ℕ) → 0 < c → ((k : ℕ) → k ∣ a → k ∣ b → k ≡ 1) → b ∣ c * a → b ∣ c
 coprime-divides a b c pos none d =
     let both = gcd-greatest a b in
-    let e : c * gcd a b ≡ c = ap (λ (x : ℕ). c * x) (none (gcd a b) both.left both.right) ∙ omega arith in
-    rw (gcd-scaled c a b pos ∙ e) at ((gcd-greatest (c * a) (c * b)).greatest b d (dvd-mul_left b c))
+    let e : c * gcd a b ≡ c = ap (λ (x : ℕ). c * x) (none (gcd a b) both.0 both.1) ∙ omega arith in
+    rw (gcd-scaled c a b pos ∙ e) at ((gcd-greatest (c * a) (c * b)).2 b d (dvd-mul_left b c))
 
 -- the lower parts of two that stand for the same fraction divide each other
 lower-divides : (upper lower : ℕ) (f g : Fraction) → 0 < lower → LowestTerms upper lower f → LowestTerms upper lower g → f.lower ∣ g.lower

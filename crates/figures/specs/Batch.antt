@@ -1,7 +1,7 @@
 -- Request C-12: the figures of a list of results, as its sentences read.
 -- Assumes nothing.
 use Rattle.std.specs.Prelude.{ℕ, ◌+◌, ◌*◌, ◌-◌, min, max, Bool, not, List, length, Result, Ok, unwrap_or, ◌==◌, nat_lt}
-use Rattle.std.specs.List.{sum_by, reduce}
+use Rattle.std.specs.List.{sum, sum_by, reduce}
 use Rattle.lists.specs.declared.refusal.Refusal.{Refusal}
 use Rattle.lists.specs.declared.refusal.Refusal.TheVariants.{NoResult, TooManyResults}
 use Rattle.lists.specs.Refusal.{Check, ensure, ◌and◌}
@@ -11,7 +11,7 @@ use Rattle.figures.specs.Fractions.{lowest}
 
 -- the sum of the results
 abbrev pub sum_of_results : List ℕ → ℕ
-sum_of_results xs = sum_by (λ x. x) xs
+sum_of_results xs = sum xs
 
 -- the least result, 0 for none
 abbrev pub least_of_results : List ℕ → ℕ

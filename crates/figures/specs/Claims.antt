@@ -1,7 +1,7 @@
 -- What is claimed of the figures of request C-12 of a list with at least one result: mean and variance are in lowest terms, least and greatest
 -- are what they are called; and of the figures of kept totals.
 -- Assumes nothing.
-use Rattle.std.specs.Prelude.{◌≡◌, ℕ, ◌*◌, ◌≤◌, ◌<◌, List, ◌∷◌, length, slice_index}
+use Rattle.std.specs.Prelude.{◌≡◌, ℕ, ◌*◌, ◌≤◌, ◌<◌, List, ◌∷◌, length, slice_index, All, Contains}
 use Rattle.std.specs.List.{sum_by}
 use Rattle.figures.specs.Fractions.{LowestTerms}
 use Rattle.figures.specs.Batch.{sum_of_results, least_of_results, greatest_of_results, squared_difference, mean, variance, figures}
@@ -17,12 +17,10 @@ VarianceLowest =
     (xs : List ℕ) → 0 < length xs
     → LowestTerms (sum_by (λ x. squared_difference (length xs * x) (sum_of_results xs)) xs) (length xs * length xs * length xs) (variance xs)
 
--- m stands in the list, and has R to each of its elements
+-- m is one of the list, and has R to each of its elements
 pub record Extreme (R : ℕ → ℕ → Type 0) (xs : List ℕ) (m : ℕ) : Type 0 where
-  pub place : ℕ
-  pub inside : place < length xs
-  pub stands : slice_index xs place ≡ m
-  pub all : (k : ℕ) → k < length xs → R m (slice_index xs k)
+  pub among : Contains xs m
+  pub all : All (R m) xs
 
 -- the least result is one of the results, and none is less
 abbrev pub LeastExtreme : Type 0

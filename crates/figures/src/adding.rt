@@ -80,8 +80,8 @@ fn add_up(results: &[u16]) -> Totals
 // The join of totals that are not overfull.
 #[tactic(auto, using(crate::proofs::Bounds::overfull_fits), unfolding(crate::specs::Totals::joined))]
 fn joined(a: Totals, b: Totals) -> Totals
-    requires a_value { overfull a ≡ false }
-    requires b_value { overfull b ≡ false }
+    requires a_not_overfull { overfull a ≡ false }
+    requires b_not_overfull { overfull b ≡ false }
     ensures { result ≡ joined a b }
 {
     Totals {

@@ -48,7 +48,7 @@ pub fn figures_of_totals(t: Totals) -> Result<Figures, Refusal>
 #[tactic(auto, using(crate::proofs::Bounds::count_squares_fit, crate::proofs::Bounds::sum_squared_fits), unfolding(crate::specs::Totals::variance_of))]
 fn variance_of(t: Totals) -> Fraction
     requires count_nonzero { 0 < t.count }
-    requires t_value { overfull t ≡ false }
+    requires not_overfull { overfull t ≡ false }
     ensures { result ≡ variance_of t }
 {
     let whole = t.count * t.squares;

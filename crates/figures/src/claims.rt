@@ -15,13 +15,11 @@ pub fn variance_lowest()
 {}
 
 // The least result is one of the results, and none is less.
-#[tactic(auto, using(crate::proofs::Extremes::least_extreme))]
 pub fn least_extreme()
     ensures { LeastExtreme }
 {}
 
 // The greatest result is one of the results, and none is greater.
-#[tactic(auto, using(crate::proofs::Extremes::greatest_extreme))]
 pub fn greatest_extreme()
     ensures { GreatestExtreme }
 {}

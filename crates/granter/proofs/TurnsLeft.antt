@@ -16,7 +16,7 @@ use Rattle.lists.specs.Sums.{sum_below}
 use Rattle.table.specs.Sizes.{is_size, distances}
 use Rattle.table.specs.Table.{next_column, finished_column, next_distance, finished}
 use Rattle.lists.proofs.BoolLaws.{by_bool, choice}
-use Rattle.lists.proofs.SumLaws.{sum_by}
+use Rattle.lists.proofs.SumLaws.{sum_below-suc, sum_by}
 use Rattle.station.proofs.Presence.{standing, standing-all, standing-more, standing-grows}
 use Rattle.plant.specs.Turn.{next_test, makes_test, turn}
 use Rattle.plant.proofs.NextTest.{next_test-low, test-station}
@@ -35,18 +35,17 @@ all_left n t = sum_below (turns_left n t) n
 sum-most : (f : ℕ → ℕ) (n c : ℕ) → ((i : ℕ) → i < n → f i ≤ c) → sum_below f n ≤ n * c
 unfolding sum_below
 sum-most f zero c most = omega arith
-sum-most f (suc n) c most = omega (arith, sum-most f n c (λ i h. most i (omega arith)), most n (omega arith), suc-mul n c)
+sum-most f (suc n) c most = omega (arith, sum_below-suc f n, sum-most f n c (λ i h. most i (omega arith)), most n (omega arith), suc-mul n c)
 
 -- one term is less and the others are the same
 sum_less : (f g : ℕ → ℕ) (n p : ℕ) → p < n → ((i : ℕ) → i < n → i ≢ p → g i ≡ f i) → g p < f p → sum_below g n < sum_below f n
-unfolding sum_below
 sum_less f g zero p h same less = absurd (omega arith)
 sum_less f g (suc n) p h same less =
     by_cases (dec_lt p n)
-    (λ l. omega (arith, sum_less f g n p l (λ i b. same i (omega arith)) less, same n (omega arith) (omega arith)))
+    (λ l. omega (arith, sum_below-suc f n, sum_below-suc g n, sum_less f g n p l (λ i b. same i (omega arith)) less, same n (omega arith) (omega arith)))
     (λ l.
     let e : p ≡ n = omega arith in
-    omega (arith, sum_by {f = g} {g = f} n (λ i b. same i (omega arith) (omega arith)), rw e at less))
+    omega (arith, sum_below-suc f n, sum_below-suc g n, sum_by {f = g} {g = f} n (λ i b. same i (omega arith) (omega arith)), rw e at less))
 
 module _ (n : ℕ) (t : List ℕ) (size : is_size n ≡ true) (lines : Lines n t) where
   -- from 1 to n stations stand below the next distance

@@ -1,11 +1,12 @@
 -- Laws of Bools, of searches by a test, and of bits.
 -- Assumes nothing.
-use mathlib.Core.Path.{◌≡◌, refl, ap₂}
+use mathlib.Core.Path.{◌≡◌, refl, sym, ◌∙◌, ap₂}
 use mathlib.Core.Bool.{Bool, true, false, cond, not, ◌&&◌, ◌||◌}
 use Prim.Native.Nat.{ℕ, zero, suc, ◌+◌, ◌≤◌, ◌<◌}
 use native.Mathlib.Omega.{arith}
 use Rattle.lists.specs.Search.{least, every}
 use Rattle.lists.specs.Sums.{bit}
+use Rattle.lists.proofs.SearchLaws.{every-suc, least-suc}
 
 -- a Bool is true or false
 pub by_bool : {C : Type 0} (b : Bool) → (b ≡ true → C) → (b ≡ false → C) → C
@@ -31,11 +32,15 @@ bit-split false b = refl
 pub every-same : (q q' : ℕ → Bool) (n : ℕ) → ((k : ℕ) → k < n → q k ≡ q' k) → every q n ≡ every q' n
 unfolding every
 every-same q q' zero same = refl
-every-same q q' (suc n) same = ap₂ ◌&&◌ (every-same q q' n (λ k h. same k (omega arith))) (same n (omega arith))
+every-same q q' (suc n) same =
+    every-suc q n ∙ ap₂ ◌&&◌ (every-same q q' n (λ k h. same k (omega arith))) (same n (omega arith)) ∙ sym (every-suc q' n)
 
 -- tests that agree on all numbers that a search may find
 pub least-same : (q q' : ℕ → Bool) (n k : ℕ) → ((y : ℕ) → k ≤ y → y < k + n → q y ≡ q' y) → least q n k ≡ least q' n k
 unfolding least
 least-same q q' zero k same = refl
 least-same q q' (suc n) k same =
-    rw (same k (omega arith) (omega arith), least-same q q' n (suc k) (λ y a b. same y (omega arith) (omega arith)))
+    least-suc q n k
+    ∙ ap₂ (λ (b : Bool) (r : ℕ). cond b k r) (same k (omega arith) (omega arith))
+    (least-same q q' n (suc k) (λ y a b. same y (omega arith) (omega arith)))
+    ∙ sym (least-suc q' n k)

@@ -5,12 +5,11 @@ use mathlib.Core.Bool.{Bool, false, not}
 use mathlib.Core.List.{List, [], ◌∷◌, ◌++◌, map, map-append}
 use Prim.Native.Nat.{ℕ, zero, suc, ◌+◌, ◌-◌, ◌≤◌, ◌<◌}
 use native.Mathlib.Nat.{zero-add}
-use native.Mathlib.Numerals.{add-one}
 use native.Mathlib.Omega.{arith}
 use lib.ListN.{length, get_or, set, length-map}
 use lib.Seq.{sets}
 use Rattle.std.specs.List.{filter, range_with_len, enumerate_from}
-use Rattle.std.proofs.lemmas.List.FromFn.{map-range_with_len_more, length-range_with_len, length-enumerate_from, get_or-enumerate_from}
+use Rattle.std.proofs.lemmas.List.FromFn.{length-range_with_len, length-enumerate_from, get_or-enumerate_from}
 use Rattle.std.proofs.lemmas.List.Filters.{length-filter_both}
 use Rattle.lists.proofs.BoolLaws.{by_bool}
 use Rattle.lists.specs.Search.{list_of, select}
@@ -19,20 +18,16 @@ use Rattle.lists.proofs.Writing.{sets-next}
 -- f of each number of a range
 pub map-range : (f : ℕ → ℕ) (n : ℕ) → map f (range_with_len 0 n) ≡ list_of f n
 unfolding list_of
-map-range f zero = refl
-map-range f (suc n) = rw add-one at (map-range_with_len_more f 0 n n (zero-add n)) ∙ ap (λ (l : List ℕ). l ++ (f n ∷ [])) (map-range f n)
+map-range f n = refl
 
 pub map-same : (xs : List ℕ) → map (λ k. k) xs ≡ xs
 map-same [] = refl
 map-same (x ∷ xs) = ap (λ (l : List ℕ). x ∷ l) (map-same xs)
 
-pub range-list : (n : ℕ) → range_with_len 0 n ≡ list_of (λ k. k) n
-range-list n = sym (map-same (range_with_len 0 n)) ∙ map-range (λ k. k) n
-
 -- the numbers from 1 on that pass a test that 0 fails
 pub filter-range : (q : ℕ → Bool) (n : ℕ) → q 0 ≡ false → 1 ≤ n → filter q (range_with_len 1 (n - 1)) ≡ select q n
 filter-range q zero none h = absurd (omega arith)
-filter-range q (suc n) none h = let less : suc n - 1 ≡ n = omega arith in rw (less, ← range-list (suc n), none)
+filter-range q (suc n) none h = let less : suc n - 1 ≡ n = omega arith in rw (less, none)
 
 -- what passes a test is in the range, and is fewer than the range where 0 fails
 pub filter-below : (q : ℕ → Bool) (a n k d : ℕ) → k < length (filter q (range_with_len a n)) → get_or (filter q (range_with_len a n)) k d < a + n

@@ -16,5 +16,3 @@ after_steps-next f k s t u e g = rw add-one (g ∙ ap (f k) e)
 
 pub after_steps-done {ℓ} : {A : Type ℓ} (f : ℕ → A → A) (n k : ℕ) (s t : A) → t ≡ after_steps f k s → k ≤ n → n ≤ k → t ≡ after_steps f n s
 after_steps-done f n k s t e a b = e ∙ ap (λ (x : ℕ). after_steps f x s) (le_antisymm a b)
-
-pub ruleset stepping = (after_steps-start, after_steps-next, after_steps-done)

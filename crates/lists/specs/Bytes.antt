@@ -1,8 +1,8 @@
 -- Two lists of bytes, place by place.
 -- Assumes nothing.
-use Rattle.std.specs.Prelude.{ℕ, max, Bool, ◌&&◌, List, length, if◌then◌else◌, ◌==◌, nat_le, slice_index}
+use Rattle.std.specs.Prelude.{ℕ, max, ◌&&◌, List, length, if◌then◌else◌, ◌==◌, nat_le, slice_index}
 use Rattle.std.proofs.lemmas.List.Edits.{sets}
-use Rattle.lists.specs.Search.{every, list_of}
+use Rattle.lists.specs.Search.{list_of}
 
 -- the greater of the two bytes at place k; past a list's end its byte is 0
 unfoldable pub joined_byte : List ℕ → List ℕ → ℕ → ℕ
@@ -15,11 +15,3 @@ joined_bytes a b = list_of (joined_byte a b) (length a)
 -- the same at the front of a buffer, for two lists of one length and a buffer with room for them; otherwise the buffer as it was
 unfoldable pub with_joined : List ℕ → List ℕ → List ℕ → List ℕ
 with_joined a b out = if length a == length b && nat_le (length a) (length out) then sets out 0 (joined_bytes a b) else out
-
--- whether two lists hold the same byte at place k
-unfoldable pub same_byte : List ℕ → List ℕ → ℕ → Bool
-same_byte a b k = slice_index a k == slice_index b k
-
--- whether two lists hold the same bytes
-unfoldable pub same_bytes : List ℕ → List ℕ → Bool
-same_bytes a b = length a == length b && every (same_byte a b) (length a)

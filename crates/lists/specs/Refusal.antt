@@ -54,10 +54,6 @@ abbrev pub unless_refused {ℓ} : {A : Type 0} → {B : Type ℓ} → Result A R
 unless_refused (Ok x) was after = after
 unless_refused (Err r) was after = was
 
--- refusal k where its sentence holds, else 0
-abbrev pub refuse : ℕ → Bool → ℕ
-refuse k b = if b then k else 0
-
 -- what a refused call (its number is not 0) leaves or answers instead
 abbrev pub unless : {A : Type 0} → ℕ → A → A → A
 unless number refused accepted = if number == 0 then accepted else refused

@@ -1,6 +1,6 @@
 // Bytes: the greater of two, a byte put into a list, and two lists place by place.
-ghost use Rattle.std.specs.Prelude.{◌≡◌, max, set};
-ghost use Rattle.lists.specs.Bytes.{joined_bytes, with_joined, same_bytes};
+ghost use Rattle.std.specs.Prelude.{◌≡◌, ◌↔◌, IsTrue, max, set};
+ghost use Rattle.lists.specs.Bytes.{joined_bytes, with_joined};
 
 // The greater of two bytes.
 pub fn greater(a: u8, b: u8) -> u8
@@ -50,7 +50,7 @@ pub fn write_joined(list: &[u8], other: &[u8], out: &mut [u8])
 
 // Whether two lists hold the same bytes.
 pub fn same_bytes(list: &[u8], other: &[u8]) -> bool
-    ensures { result ≡ same_bytes list.now other.now }
+    ensures { IsTrue result ↔ (list.now ≡ other.now) }
 {
     // Not `==`: with it a run of 32 boards with nobody dead went at 0.94 times the speed, with 8 dead at 0.96 (tests/bench, many rounds).
     if list.len() != other.len() {

@@ -81,7 +81,7 @@ impl Error for Refusal {}
 // An answer as C has it: its number, 0 where it is not refused, and its value, or where it is refused what is left in the value's place.
 pub fn parts<T: Copy>(answer: Result<T, Refusal>, refused: T) -> (u8, T)
     ensures number { result.0 ≡ number_of_result answer }
-    ensures value { result.1 ≡ result_unwrap_or answer refused }
+    ensures value_or_refused { result.1 ≡ result_unwrap_or answer refused }
 {
     match answer {
         Ok(value) => (0, value),

@@ -115,7 +115,7 @@ resets-here n (suc m) t long hm i h = pick (resets-here n m t long (omega arith)
           same rounds_ago_column (omega arith) ∙ r.1,
         )
 
-pub reset-length : (n : ℕ) (t : List ℕ) → length (reset_lines n t) ≡ length t
+reset-length : (n : ℕ) (t : List ℕ) → length (reset_lines n t) ≡ length t
 unfolding reset_lines
 reset-length n t = resets-length n n t
 

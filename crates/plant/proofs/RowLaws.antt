@@ -1,7 +1,6 @@
 -- Laws of a row that is lent as a part of the table and comes back, and of two rows exchanged.
 -- Assumes nothing.
 use mathlib.Core.Path.{◌≡◌, sym, ap, ◌∙◌}
-use mathlib.Core.Bool.{true}
 use mathlib.Core.Logic.{◌≢◌}
 use mathlib.Core.List.{List, ◌++◌}
 use Prim.Native.Nat.{ℕ, ◌+◌, ◌-◌, max, ◌≤◌, ◌<◌}
@@ -16,8 +15,8 @@ use Rattle.station.specs.Rows.{union_byte, union, mark}
 use Rattle.lists.proofs.SearchLaws.{list_of-same}
 use Rattle.table.proofs.CellLaws.{row_inside, row-length, row_same, set_row-length, set_row-out}
 use Rattle.station.proofs.UnionLaws.{union-length, union-at, union-own, union-others}
-use Rattle.lists.specs.Bytes.{joined_byte, joined_bytes, with_joined, same_bytes}
-use Rattle.lists.proofs.ByteLaws.{joined_length, joined_at, into-fits, equal_bytes}
+use Rattle.lists.specs.Bytes.{joined_byte, joined_bytes, with_joined}
+use Rattle.lists.proofs.ByteLaws.{joined_length, joined_at, into-fits}
 use Rattle.plant.specs.Turn.{exchange_rows, suspect}
 
 -- the table with the row as it comes back
@@ -54,10 +53,9 @@ union-twice r o u n own w e = list_of-same _ _ (length r) (λ k h. pick k (omega
         union-others r u own k d ∙ m ∙ sym (union-others r o own k d)
 
 -- rows that are the same are their union already
-pub same-exchange : (n : ℕ) (t : List ℕ) (i j : ℕ) → same_bytes (row n t i) (row n t j) ≡ true → t ≡ exchange_rows n t i j
+pub same-exchange : (n : ℕ) (t : List ℕ) (i j : ℕ) → row n t i ≡ row n t j → t ≡ exchange_rows n t i j
 unfolding exchange_rows joined_byte
-same-exchange n t i j e =
-    let w : row n t i ≡ row n t j = equal_bytes (row n t i) (row n t j) e in
+same-exchange n t i j w =
     let s : set_row n t i (union (row n t i) (row n t j) i) ≡ t = ap (set_row n t i) (ap (λ (r : List ℕ). union (row n t i) r i) (sym w) ∙ union_self (row n t i) i) ∙ set_row-same n t i in
     sym (rw s (ap (set_row n t j) (ap (λ (r : List ℕ). union (row n t j) r j) w ∙ union_self (row n t j) j) ∙ set_row-same n t j))
   where

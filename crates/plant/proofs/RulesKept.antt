@@ -35,7 +35,7 @@ pub record Takes (n : ℕ) (s : State) (e : Entry) : Type 0 where
   pub is_live : live n s.table e.station ≡ true
   pub unfinished : (e.kind ≡ 3 → ⊥) → finished n s.table e.station ≡ 1 → ⊥
 
-pub entry_ok : (n : ℕ) (s : State) (e : Entry) (x : Unit {0}) → entry_check n s e ≡ Ok x → Takes n s e
+entry_ok : (n : ℕ) (s : State) (e : Entry) (x : Unit {0}) → entry_check n s e ≡ Ok x → Takes n s e
 unfolding entry_check
 entry_ok n s e x z =
     let a = and_ok _ _ x z in

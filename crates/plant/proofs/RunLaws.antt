@@ -111,7 +111,7 @@ unfolding go_on entries
 go-one n s sheet k i z = rw z
 
 -- what a run has that refusals 1 to 6 let through
-pub start_ok : (n : ℕ) (t : List ℕ) (a b : ℕ) (x : Unit {0}) → start_check n t a b ≡ Ok x → Accepted n t × (a % 2 ≡ 1 → ⊥) × (b ≡ 2 * a)
+start_ok : (n : ℕ) (t : List ℕ) (a b : ℕ) (x : Unit {0}) → start_check n t a b ≡ Ok x → Accepted n t × (a % 2 ≡ 1 → ⊥) × (b ≡ 2 * a)
 unfolding start_check
 start_ok n t a b x e =
     let p = and_ok _ _ x e in

@@ -79,7 +79,7 @@ leave-lines n t i lines h alive s low high untold =
     (none-exit n i s _ _ low untold (cell_other n t i status_column s i told_by_column (omega arith) (omega arith) (omega arith) ∙ none)) h) lines
 
 -- Step 4: a station that is told by another
-pub told-lines : (n : ℕ) (t : List ℕ) (a b : ℕ) → Lines n t → a < n → b < n → b ≢ a → Lines n (leave_told n t a b)
+told-lines : (n : ℕ) (t : List ℕ) (a b : ℕ) → Lines n t → a < n → b < n → b ≢ a → Lines n (leave_told n t a b)
 told-lines n t a b lines h hb apart =
     one_line n t (leave_told n t a b) a (leave_told-length n t a b) (λ k c hc d. leave_told-other n t a b k c hc (λ f. absurd (d f)))
     (line-exit n t (leave_told n t a b) a (lines.1 a h) (λ c hc d. leave_told-other n t a b a c hc (λ _. d)) status_told
@@ -189,7 +189,7 @@ module _ (n : ℕ) (t : List ℕ) (i : ℕ) (lines : Lines n t) (h : i < n) wher
         (choice (Lines n) (eqb o outcome_tested_told) (told-lines n t j i lines hj h apart)
         (choice (Lines n) (eqb o outcome_exchanged) exchange-lines suspect-lines))
 
-  pub after_alone-lines : Lines n (after_alone n t i)
+  after_alone-lines : Lines n (after_alone n t i)
   unfolding after_alone is_alone
   after_alone-lines =
       by_bool (is_alone n t i) (λ e. rw e (leave-lines n t i lines h (both _ _ e).0 status_alone (omega arith) (omega arith) (omega arith)))

@@ -21,7 +21,7 @@ use Rattle.plant.proofs.StepCells.{leave_told-other, finish_pass-other, finish_p
 use Rattle.plant.proofs.StepLines.{Lines, station-apart}
 use Rattle.lists.specs.Sums.{sum_below, bit}
 use Rattle.lists.proofs.BoolLaws.{by_bool, choice}
-use Rattle.lists.proofs.FilterLaws.{kept-suc, kept-stays, kept-sum}
+use Rattle.lists.proofs.FilterLaws.{select-suc, select-stays, select-sum}
 
 -- the columns that a turn counts in are as before, in all lines
 abbrev SameCounts : ℕ → List ℕ → List ℕ → Type 0
@@ -92,14 +92,14 @@ module _ (n : ℕ) (t t' : List ℕ) (i : ℕ) (heads : Heads n t t' i (makes_te
   passed-list =
       by_bool (makes_test n t i)
       (λ e.
-      let stay = kept-stays q (λ k. k) (next_distance n t i) (next_test n t i) (next_test-low n t i) (not-due-before n t i) in
-      rw (heads.next, e, add-one (next_test n t i), kept-suc q (λ k. k) (next_test n t i), test-due n t i e, stay))
+      let stay = select-stays q (next_distance n t i) (next_test n t i) (next_test-low n t i) (not-due-before n t i) in
+      rw (heads.next, e, add-one (next_test n t i), select-suc q (next_test n t i), test-due n t i e, stay))
       (λ e.
-      let stay = kept-stays q (λ k. k) (next_distance n t i) (distances n) high (none-due n t i e high) in
+      let stay = select-stays q (next_distance n t i) (distances n) high (none-due n t i e high) in
       rw (heads.next, e, append-nil) stay)
 
   pub passed-dues : sum_below (λ m. bit (q m)) (next_distance n t' i) ≡ sum_below (λ m. bit (q m)) (next_distance n t i) + bit (makes_test n t i)
   passed-dues =
-      sym (kept-sum q (λ k. k) (next_distance n t' i))
+      sym (select-sum q (next_distance n t' i))
       ∙ (ap length passed-list ∙ length-append (select q (next_distance n t i)) (cond (makes_test n t i) (next_test n t i ∷ []) []))
-      ∙ ap₂ ◌+◌ (kept-sum q (λ k. k) (next_distance n t i)) (by_bool (makes_test n t i) (λ e. rw e) (λ e. rw e))
+      ∙ ap₂ ◌+◌ (select-sum q (next_distance n t i)) (by_bool (makes_test n t i) (λ e. rw e) (λ e. rw e))

@@ -68,8 +68,8 @@ pub(crate) fn take_entry(table: &mut TableMut, tally: Tally, entry: Entry, line:
     requires entry_taken { entry_number table.old.n
         (state_with table.old.bytes.now tally) (entry_known entry) ≡ 0 }
     requires line_length { length line.old ≡ 4 }
-    ensures same { IsSameLoan table.old table.new }
-    ensures result_after { state_with table.new.bytes.now result
+    ensures same_loan { IsSameLoan table.old table.new }
+    ensures state_after { state_with table.new.bytes.now result
         ≡ after table.old.n (state_with table.old.bytes.now tally) (entry_known entry) }
     ensures line_after { line.new
         ≡ sheet_line table.old.n (state_with table.old.bytes.now tally) (entry_known entry) }
@@ -99,12 +99,13 @@ fn made_test(done: Outcome) -> bool
 fn act(table: &mut TableMut, entry: Entry) -> Outcome
     requires table_obeys { table_number table.old.n table.old.bytes.now ≡ 0 }
     requires station_below { entry.station.0 < table.old.n }
-    ensures tested_value { tested_byte result
+    ensures tested_station { tested_byte result
         ≡ tested_of table.old.n table.old.bytes.now (entry_known entry) }
-    ensures outcome_value { outcome_byte result
+    ensures outcome_number { outcome_byte result
         ≡ outcome_of table.old.n table.old.bytes.now (entry_known entry) }
-    ensures same { IsSameLoan table.old table.new }
-    ensures bytes { table.new.bytes.now ≡ acted table.old.n table.old.bytes.now (entry_known entry) }
+    ensures same_loan { IsSameLoan table.old table.new }
+    ensures entry_acted { table.new.bytes.now
+        ≡ acted table.old.n table.old.bytes.now (entry_known entry) }
 {
     if entry.kind == Kind::Crash {
         table.set_status(entry.station, Status::Crashed);

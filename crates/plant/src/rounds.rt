@@ -11,9 +11,9 @@ use table::{Station, cells};
 #[tactic(auto, unfolding(crate::specs::Round::after_round))]
 pub(crate) fn close_round(table: &mut TableMut, i: Station) -> bool
     requires { i.0 < table.old.n }
-    ensures value { result ≡ round_over table.old.n table.old.bytes.now }
-    ensures same { IsSameLoan table.old table.new }
-    ensures bytes { table.new.bytes.now ≡ after_round table.old.n table.old.bytes.now }
+    ensures is_over { result ≡ round_over table.old.n table.old.bytes.now }
+    ensures same_loan { IsSameLoan table.old table.new }
+    ensures round_closed { table.new.bytes.now ≡ after_round table.old.n table.old.bytes.now }
 {
     let over = round_over(&table.read(), i);
     if over {
@@ -33,8 +33,8 @@ fn round_over(table: &Table, i: Station) -> bool
 
 // Every line, live or not, begins a new round.
 fn reset_lines(table: &mut TableMut)
-    ensures same { IsSameLoan table.old table.new }
-    ensures bytes { table.new.bytes.now ≡ reset_lines table.old.n table.old.bytes.now }
+    ensures same_loan { IsSameLoan table.old table.new }
+    ensures lines_reset { table.new.bytes.now ≡ reset_lines table.old.n table.old.bytes.now }
 {
     for i in 0..table.n {
         reset_line(table, Station(i));
@@ -45,8 +45,8 @@ fn reset_lines(table: &mut TableMut)
 #[tactic(auto, unfolding(crate::specs::Round::reset_line))]
 fn reset_line(table: &mut TableMut, i: Station)
     requires { i.0 < table.old.n }
-    ensures same { IsSameLoan table.old table.new }
-    ensures bytes { table.new.bytes.now ≡ reset_line table.old.n i.0 table.old.bytes.now }
+    ensures same_loan { IsSameLoan table.old table.new }
+    ensures line_reset { table.new.bytes.now ≡ reset_line table.old.n i.0 table.old.bytes.now }
 {
     let ago = rounds_after(&table.read(), i);
     table.put(i, cells::NEXT, 1);

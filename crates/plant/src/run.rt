@@ -13,7 +13,8 @@ use table::lent::{Table, TableMut};
 // Carries out a schedule on a table and a tally and fills the sheet, four bytes for each entry taken. A run refused at its start changes
 // no byte; one stopped at an entry keeps the work of the entries before it and no other.
 pub fn run(n: usize, table: &mut [u8], tally: Tally, schedule: &[u8], sheet: &mut [u8]) -> Ran
-    ensures { outcome_with result table.new sheet.new ≡ run n (state_with table.old tally) schedule.now sheet.old }
+    ensures { outcome_with result table.new sheet.new
+        ≡ run n (state_with table.old tally) schedule.now sheet.old }
 {
     // By hand and not by `?`, here and in `go_on`: the answer is no Result, since a run that is stopped keeps what it did.
     let n = match check_start(n, table, schedule.len(), sheet.len()) {
@@ -33,9 +34,10 @@ pub fn run(n: usize, table: &mut [u8], tally: Tally, schedule: &[u8], sheet: &mu
 // Refusals 1 to 6; answers the checked table.
 #[tactic(auto, unfolding(crate::specs::Run::start_check))]
 fn check_start(n: usize, table: &[u8], schedule: usize, sheet: usize) -> Result<Table<'_>, Refusal>
-    ensures check { result_map_both (λ t. tt) (λ r. r) result ≡ start_check n table.now schedule sheet }
-    ensures size { IfOk result (λ t. t.n ≡ n) }
-    ensures bytes { IfOk result (λ t. t.bytes.now ≡ table.now) }
+    ensures check { result_map_both (λ t. tt) (λ r. r) result
+        ≡ start_check n table.now schedule sheet }
+    ensures same_size { IfOk result (λ t. t.n ≡ n) }
+    ensures same_bytes { IfOk result (λ t. t.bytes.now ≡ table.now) }
 {
     let lent = Table::checked(n, table)?;
     if schedule % 2 == 1 {
@@ -49,8 +51,9 @@ fn check_start(n: usize, table: &[u8], schedule: usize, sheet: usize) -> Result<
 
 // Takes the entries in order. `single` uses it too, so that an entry is taken in one place only, which the compiler then puts in line.
 pub(crate) fn go_on(table: &mut TableMut, tally: Tally, schedule: &[u8], sheet: &mut [u8]) -> Ran
-    requires { start_number table.old.n table.old.bytes.now (length schedule.now) (length sheet.old) ≡ 0 }
-    ensures same { IsSameLoan table.old table.new }
+    requires { start_number table.old.n table.old.bytes.now (length schedule.now) (length sheet.old)
+        ≡ 0 }
+    ensures same_loan { IsSameLoan table.old table.new }
     ensures run { outcome_with result table.new.bytes.now sheet.new
         ≡ go_on table.old.n 0 (state_with table.old.bytes.now tally) sheet.old (entries schedule.now) }
 {

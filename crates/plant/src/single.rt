@@ -17,8 +17,8 @@ pub fn take_turn(table: &mut TableMut, tally: Tally, i: Station) -> Tally
     requires table_obeys { table_number table.old.n table.old.bytes.now ≡ 0 }
     requires turn_taken { entry_number table.old.n
         (state_with table.old.bytes.now tally) (entry_of kind_turn i.0) ≡ 0 }
-    ensures same { IsSameLoan table.old table.new }
-    ensures result_after { state_with table.new.bytes.now result
+    ensures same_loan { IsSameLoan table.old table.new }
+    ensures state_after { state_with table.new.bytes.now result
         ≡ after table.old.n (state_with table.old.bytes.now tally) (entry_of kind_turn i.0) }
 {
     let entry = Entry {

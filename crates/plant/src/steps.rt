@@ -19,15 +19,17 @@ use table::status::Status;
 use table::{Distance, Station, cells, sizes};
 
 // Steps 2 to 6: the turn of station i. The kind stays the schedule's byte: a public function keeps what its parameters take. The functions below
-// have the byte too: a `Kind` made of it here would have to be refused where there is none. That the table obeys the rules is asked, here and above, and is no ghost field: from the
-// turn that ends a round to its closing the table has refusal 4, and between two bytes of a line that are put not even the line rules hold.
+// have the byte too: a `Kind` made of it here would have to be refused where there is none. That the table obeys the rules is asked, here and
+// above, and is no ghost field: from the turn that ends a round to its closing the table has refusal 4, and between two bytes of a line that are
+// put not even the line rules hold.
 pub fn take_turn(table: &mut TableMut, kind: u8, i: Station) -> Outcome
     requires table_obeys { table_number table.old.n table.old.bytes.now ≡ 0 }
     requires station_below { i.0 < table.old.n }
-    ensures tested_value { tested_byte result ≡ turn_tested table.old.n table.old.bytes.now i.0 }
-    ensures outcome_value { outcome_byte result ≡ turn_outcome table.old.n table.old.bytes.now kind i.0 }
-    ensures same { IsSameLoan table.old table.new }
-    ensures bytes { table.new.bytes.now ≡ turn table.old.n table.old.bytes.now kind i.0 }
+    ensures tested_station { tested_byte result ≡ turn_tested table.old.n table.old.bytes.now i.0 }
+    ensures outcome_number { outcome_byte result
+        ≡ turn_outcome table.old.n table.old.bytes.now kind i.0 }
+    ensures same_loan { IsSameLoan table.old table.new }
+    ensures turn_made { table.new.bytes.now ≡ turn table.old.n table.old.bytes.now kind i.0 }
 {
     let m = next_test(&table.read(), i);
     if sizes::distances(table.n) <= m.0 as u16 {
@@ -76,8 +78,8 @@ fn scan(row: &[u8], i: Station, end: u8, from: Distance) -> Distance
 #[tactic(auto, using(table::proofs::SizeLaws::size_top, table::proofs::SizeLaws::distances_top), unfolding(crate::specs::Turn::finish_pass))]
 fn finish_pass(table: &mut TableMut, i: Station)
     requires { i.0 < table.old.n }
-    ensures same { IsSameLoan table.old table.new }
-    ensures bytes { table.new.bytes.now ≡ finish_pass table.old.n table.old.bytes.now i.0 }
+    ensures same_loan { IsSameLoan table.old table.new }
+    ensures pass_finished { table.new.bytes.now ≡ finish_pass table.old.n table.old.bytes.now i.0 }
 {
     let end = sizes::distances(table.n) as u8;
     table.put(i, cells::NEXT, end);
@@ -91,11 +93,11 @@ fn make_test(table: &mut TableMut, kind: u8, i: Station, m: Distance) -> Outcome
     requires distance_above_0 { 0 < m.0 }
     requires distance_below { m.0 < 64 }
     requires tested_below { station_at i.0 m.0 < table.old.n }
-    ensures tested_value { tested_byte result ≡ station_at i.0 m.0 }
-    ensures outcome_value { let counted = count_test table.old.n table.old.bytes.now i.0 m.0 in
+    ensures tested_station { tested_byte result ≡ station_at i.0 m.0 }
+    ensures outcome_number { let counted = count_test table.old.n table.old.bytes.now i.0 m.0 in
         outcome_byte result ≡ test_outcome table.old.n counted kind i.0 (station_at i.0 m.0) }
-    ensures same { IsSameLoan table.old table.new }
-    ensures bytes { table.new.bytes.now ≡ testing table.old.n table.old.bytes.now kind i.0 m.0 }
+    ensures same_loan { IsSameLoan table.old table.new }
+    ensures test_made { table.new.bytes.now ≡ testing table.old.n table.old.bytes.now kind i.0 m.0 }
 {
     let j = order::lookup(i, m);
     count_test(table, i, m);
@@ -111,8 +113,9 @@ fn count_test(table: &mut TableMut, i: Station, m: Distance)
     requires line { i.0 < table.old.n }
     requires distance_fits { m.0 < 255 }
     requires tests_fit { tests_made table.old.n table.old.bytes.now i.0 < 255 }
-    ensures same { IsSameLoan table.old table.new }
-    ensures bytes { table.new.bytes.now ≡ count_test table.old.n table.old.bytes.now i.0 m.0 }
+    ensures same_loan { IsSameLoan table.old table.new }
+    ensures test_counted { table.new.bytes.now
+        ≡ count_test table.old.n table.old.bytes.now i.0 m.0 }
 {
     let tests = table.read().get(i, cells::TESTS);
     table.put(i, cells::NEXT, m.0 + 1);
@@ -124,8 +127,9 @@ fn count_test(table: &mut TableMut, i: Station, m: Distance)
 fn test_outcome(table: &Table, kind: u8, i: Station, j: Station) -> Outcome
     requires tester_below { i.0 < table.now.n }
     requires tested_below { j.0 < table.now.n }
-    ensures tested_value { tested_byte result ≡ j.0 }
-    ensures outcome_value { outcome_byte result ≡ test_outcome table.now.n table.now.bytes.now kind i.0 j.0 }
+    ensures tested_station { tested_byte result ≡ j.0 }
+    ensures outcome_number { outcome_byte result
+        ≡ test_outcome table.now.n table.now.bytes.now kind i.0 j.0 }
 {
     if !does_reply(table, kind, j) {
         return Outcome::NoReply(j);
@@ -138,8 +142,9 @@ fn test_outcome(table: &Table, kind: u8, i: Station, j: Station) -> Outcome
 fn reply_outcome(table: &Table, i: Station, j: Station) -> Outcome
     requires tester_below { i.0 < table.now.n }
     requires tested_below { j.0 < table.now.n }
-    ensures tested_value { tested_byte result ≡ j.0 }
-    ensures outcome_value { outcome_byte result ≡ reply_outcome table.now.n table.now.bytes.now i.0 j.0 }
+    ensures tested_station { tested_byte result ≡ j.0 }
+    ensures outcome_number { outcome_byte result
+        ≡ reply_outcome table.now.n table.now.bytes.now i.0 j.0 }
 {
     if table.suspects(j, i) {
         return Outcome::Told(j);
@@ -156,8 +161,10 @@ fn apply_outcome(table: &mut TableMut, i: Station, outcome: Outcome)
     requires tester_below { i.0 < table.old.n }
     requires tested_below { tested_byte outcome < table.old.n }
     requires apart { i.0 ≢ tested_byte outcome }
-    ensures same { IsSameLoan table.old table.new }
-    ensures bytes { table.new.bytes.now ≡ after_outcome table.old.n table.old.bytes.now i.0 (tested_byte outcome) (outcome_byte outcome) }
+    ensures same_loan { IsSameLoan table.old table.new }
+    ensures outcome_applied { let n = table.old.n in
+        let t = table.old.bytes.now in
+        table.new.bytes.now ≡ after_outcome n t i.0 (tested_byte outcome) (outcome_byte outcome) }
 {
     match outcome {
         Outcome::Told(j) => leave_told(table, i, j),
@@ -173,8 +180,8 @@ fn apply_outcome(table: &mut TableMut, i: Station, outcome: Outcome)
 #[tactic(auto, unfolding(crate::specs::Turn::leave_told))]
 fn leave_told(table: &mut TableMut, a: Station, b: Station)
     requires { a.0 < table.old.n }
-    ensures same { IsSameLoan table.old table.new }
-    ensures bytes { table.new.bytes.now ≡ leave_told table.old.n table.old.bytes.now a.0 b.0 }
+    ensures same_loan { IsSameLoan table.old table.new }
+    ensures left_told { table.new.bytes.now ≡ leave_told table.old.n table.old.bytes.now a.0 b.0 }
 {
     table.set_status(a, Status::LeftTold);
     table.put(a, cells::TOLD_BY, b.0);
@@ -183,8 +190,9 @@ fn leave_told(table: &mut TableMut, a: Station, b: Station)
 // The station leaves with a status, for a caller that has it as the table's byte. The turn, and the crash, go by `TableMut::set_status`.
 pub fn leave(table: &mut TableMut, i: Station, status: u8)
     requires { i.0 < table.old.n }
-    ensures same { IsSameLoan table.old table.new }
-    ensures bytes { table.new.bytes.now ≡ set_status table.old.n table.old.bytes.now i.0 status }
+    ensures same_loan { IsSameLoan table.old table.new }
+    ensures status_written { table.new.bytes.now
+        ≡ set_status table.old.n table.old.bytes.now i.0 status }
 {
     table.put(i, cells::STATUS, status);
 }
@@ -206,8 +214,9 @@ fn exchange_rows(table: &mut TableMut, i: Station, j: Station)
     requires tester_below { i.0 < table.old.n }
     requires tested_below { j.0 < table.old.n }
     requires apart { i.0 ≢ j.0 }
-    ensures same { IsSameLoan table.old table.new }
-    ensures bytes { table.new.bytes.now ≡ exchange_rows table.old.n table.old.bytes.now i.0 j.0 }
+    ensures same_loan { IsSameLoan table.old table.new }
+    ensures rows_exchanged { table.new.bytes.now
+        ≡ exchange_rows table.old.n table.old.bytes.now i.0 j.0 }
 {
     let lent = table.read();
     let first = lent.row(i);
@@ -226,8 +235,8 @@ fn exchange_rows(table: &mut TableMut, i: Station, j: Station)
 // the borrow checker does not cover a part lent on past a ghost field.
 fn join_into(table: &mut TableMut, i: Station, other: &[u8])
     requires { i.0 < table.old.n }
-    ensures same { IsSameLoan table.old table.new }
-    ensures bytes { let n = table.old.n in
+    ensures same_loan { IsSameLoan table.old table.new }
+    ensures row_joined { let n = table.old.n in
         let t = table.old.bytes.now in
         table.new.bytes.now ≡ set_row n t i.0 (union (row n t i.0) other.now i.0) }
 {
@@ -240,8 +249,8 @@ fn join_into(table: &mut TableMut, i: Station, other: &[u8])
 #[tactic(auto, unfolding(crate::specs::Turn::after_alone))]
 fn leave_if_alone(table: &mut TableMut, i: Station)
     requires { i.0 < table.old.n }
-    ensures same { IsSameLoan table.old table.new }
-    ensures bytes { table.new.bytes.now ≡ after_alone table.old.n table.old.bytes.now i.0 }
+    ensures same_loan { IsSameLoan table.old table.new }
+    ensures left_if_alone { table.new.bytes.now ≡ after_alone table.old.n table.old.bytes.now i.0 }
 {
     if suspects_all(&table.read(), i) {
         table.set_status(i, Status::LeftAlone);

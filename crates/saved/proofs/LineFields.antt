@@ -29,11 +29,6 @@ field_start n i = 15 + i * (stride n + 4)
 pub field-inside : (n i : ℕ) → i < n → field_start n i + (stride n + 4) ≤ field_start n n
 field-inside n i h = omega (arith, suc-mul i (stride n + 4), mul-le-mul_right {m = suc i} {n = n} (stride n + 4) h)
 
-pub field-low : (n i : ℕ) → is_size n ≡ true → i < n → field_start n i ≤ field_start 64 64
-field-low n i e h =
-    let b = size-bounds n e in
-    omega (arith, mul-le-mul {n₁ = i} {m₁ = stride n + 4} {n₂ = 64} {m₂ = stride 64 + 4} (omega arith) (omega arith))
-
 -- the field as the code writes it: its head, the station, and the line
 pub line-written : (b line : List ℕ) (at i : ℕ)
     → sets (set (sets b at (line_tag ∷ bytes_of 2 (length line + 1))) (at + 3) i) (at + 4) line ≡ sets b at (field_bytes (field line_tag (i ∷ line)))

@@ -12,14 +12,14 @@ use lib.ListN.{length, get_or, take, length-append, length-take}
 use lib.Seq.{take-suc, get_or-take}
 use Rattle.saved.specs.Bytes.{number_of, bytes_of}
 
-pub number_append : (a b : List ℕ) → number_of (a ++ b) ≡ number_of a * 256 ^ length b + number_of b
+number_append : (a b : List ℕ) → number_of (a ++ b) ≡ number_of a * 256 ^ length b + number_of b
 unfolding number_of
 number_append [] b = omega arith
 number_append (x ∷ a) b =
     rw (length-append a b, pow-add 256 (length a) (length b), number_append a b, add-mul, mul_assoc) (omega arith)
 
 -- of a list of bytes
-pub number_lt : (l : List ℕ) → ((k : ℕ) → k < length l → get_or l k 0 < 256) → number_of l < 256 ^ length l
+number_lt : (l : List ℕ) → ((k : ℕ) → k < length l → get_or l k 0 < 256) → number_of l < 256 ^ length l
 unfolding number_of
 number_lt [] small = omega arith
 number_lt (x ∷ l) small =
@@ -54,14 +54,3 @@ bytes-number [] small = refl
 bytes-number (x ∷ l) small =
     let rest : (k : ℕ) → k < length l → get_or l k 0 < 256 = λ k h. small (suc k) (omega arith) in
     bytes-cons (length l) x (number_of l) (small 0 (omega arith)) (number_lt l rest) ∙ ap {B = List ℕ} (λ r. x ∷ r) (bytes-number l rest)
-
--- the number of a list's first bytes, as a loop over them finds it; at most four fit into 32 bits
-pub number-next : (l : List ℕ) (k v : ℕ) → k < length l → v ≡ number_of (take k l) → v * 256 + get_or l k 0 ≡ number_of (take (k + 1) l)
-unfolding number_of
-number-next l k v h e = rw (add-one, take-suc l k 0 h, number_append (take k l) (get_or l k 0 ∷ []), e) (omega arith)
-
-pub number_fits : (l : List ℕ) (k : ℕ) → ((k : ℕ) → k < length l → get_or l k 0 < 256) → length l ≤ 4 → k ≤ length l → number_of (take k l) < 2 ^ 32
-number_fits l k small h m =
-    let s = length-take k l in
-    let w = number_lt (take k l) (λ j g. rw (get_or-take k l j 0 (omega arith)) (small j (omega arith))) in
-    lt_of_lt_of_le w (pow-le-pow_right {n = 256} (omega arith) {i = length (take k l)} {j = 4} (omega arith))

@@ -158,7 +158,8 @@ module _ (file : List ℕ) (o : Opened file) where
       rw (concat-at (λ j. line_in (its j)) (stride (file_size file)) (file_size file) i its-line h)
       (station-line (its i) i (stride (file_size file)) (its-length i h) s)
 
-  lines-again : saved_lines (file_size file) (file_table file) (file_size file) ≡ concat_of (λ i. field_bytes (field line_tag (its i))) (file_size file)
+  lines-again : saved_lines (file_size file) (file_table file) (file_size file)
+      ≡ concat_of (λ i. field_bytes (field line_tag (its i))) (file_size file)
   unfolding saved_lines
   lines-again =
       concat-same (λ i. field_bytes (line_field (file_size file) (file_table file) i)) (λ i. field_bytes (field line_tag (its i))) (file_size file)

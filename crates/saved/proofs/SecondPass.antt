@@ -67,7 +67,8 @@ unfolding tagged
 passed_other n all t seen f fs rest e h p = let q = rw e at p in rw (ne_eqb f.tag line_tag h) at q
 
 -- before the first, where no station was seen
-pub passed_none : (n : ℕ) (all : List (List ℕ)) (t : List ℕ) (seen : List Bool) → ((i : ℕ) → i < n → get_or seen i false ≡ false) → Passed n all t seen all
+pub passed_none : (n : ℕ) (all : List (List ℕ)) (t : List ℕ) (seen : List Bool) → ((i : ℕ) → i < n → get_or seen i false ≡ false)
+    → Passed n all t seen all
 unfolding lines_right
 passed_none n all t seen fresh =
     let e : every (wanted n seen all) n ≡ every (λ i. single (line_field_length n) (of_station i all)) n =
@@ -94,7 +95,9 @@ passed_not n c all cs t seen p e = sym p.right ∙ by_bool (fits n c) fitting (�
     fitting : fits n c ≡ true → right_left n seen (c ∷ cs) ≡ false
     fitting f =
         let z : not (get_or seen (station_in c) false) ≡ false = rw f at e in
-        let y : get_or seen (station_in c) false ≡ true = by_bool (get_or seen (station_in c) false) (λ x. x) (λ x. absurd (let w : true ≡ false = rw x at z in let v : ◌≡◌ {A = ℕ} 0 1 = cc in omega arith)) in
+        let y : get_or seen (station_in c) false ≡ true =
+        by_bool (get_or seen (station_in c) false) (λ x. x)
+        (λ x. absurd (let w : true ≡ false = rw x at z in let v : ◌≡◌ {A = ℕ} 0 1 = cc in omega arith)) in
         let l = ltb-true (station_in c) n (both (eqb (length c) (line_field_length n)) _ f).1 in
         rw (every-not (wanted n seen (c ∷ cs)) n (station_in c) l (rw (y, eq-eqb (station_in c) (station_in c) refl)), and-false)
 
@@ -106,12 +109,6 @@ line_err false r s e = (refl, cc)
 -- a line that is new is taken
 module _ (n : ℕ) (c : List ℕ) (all cs : List (List ℕ)) (t : List ℕ) (seen : List Bool) (p : Passed n all t seen (c ∷ cs)) (e : is_new n c seen ≡ true)
     (wide : n ≤ length seen) (long : length t ≡ table_length n) where
-  marked : List Bool
-  marked = set seen (station_in c) true
-
-  taken : List ℕ
-  taken = sets t (line_start n (station_in c)) (line_in c)
-
   f : (fits n c ≡ true) × (length c ≡ line_field_length n) × (station_in c < n) × (get_or seen (station_in c) false ≡ false)
   f = new_facts n c seen e
 

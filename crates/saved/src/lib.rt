@@ -9,7 +9,7 @@ mod fields;
 mod lines;
 pub mod load;
 mod opening;
-pub mod order;
+mod order;
 pub mod save;
 
 use plant::Tally;

@@ -22,11 +22,11 @@ const MOST: usize = 64;
 // Puts a line into the table, where its contents have the right length and its station is in the plant and not yet seen. A refused line is not
 // written.
 fn take_line(table: &mut TableMut, contents: &[u8], seen: &mut [bool; MOST]) -> Result<(), Refusal>
-    ensures value { result ≡ ensure (is_new table.old.n contents.now seen.old) Refusal.LineField }
-    ensures same { IsSameLoan table.old table.new }
-    ensures bytes { result ≡ Ok tt → table.new.bytes.now
-        ≡ sets table.old.bytes.now (line_start table.old.n (station_in contents.now)) (line_in contents.now) }
-    ensures seen_after { result ≡ Ok tt → seen.new ≡ set seen.old (station_in contents.now) true }
+    ensures check { result ≡ ensure (is_new table.old.n contents.now seen.old) Refusal.LineField }
+    ensures same_loan { IsSameLoan table.old table.new }
+    ensures line_written { let start = line_start table.old.n (station_in contents.now) in
+        result ≡ Ok tt → table.new.bytes.now ≡ sets table.old.bytes.now start (line_in contents.now) }
+    ensures station_seen { result ≡ Ok tt → seen.new ≡ set seen.old (station_in contents.now) true }
 {
     let [i, line @ ..] = contents else {
         return Err(Refusal::LineField);
@@ -55,9 +55,11 @@ fn all_seen(seen: &[bool]) -> bool
 // Builds the file's table, where every line has the right length and there is just one for each station and none for another.
 pub(crate) fn build_table(file: &[u8], table: &mut TableMut) -> Result<(), Refusal>
     requires { runs_past file.now ≡ false }
-    ensures value { result ≡ ensure (lines_right table.old.n (file_lines file.now)) Refusal.LineField }
-    ensures same { IsSameLoan table.old table.new }
-    ensures bytes { result ≡ Ok tt → table.new.bytes.now ≡ table_in table.old.n (file_lines file.now) }
+    ensures check { let lines = file_lines file.now in
+        result ≡ ensure (lines_right table.old.n lines) Refusal.LineField }
+    ensures same_loan { IsSameLoan table.old table.new }
+    ensures table_built { let lines = file_lines file.now in
+        result ≡ Ok tt → table.new.bytes.now ≡ table_in table.old.n lines }
 {
     let mut seen = [false; MOST];
     let mut fields = Fields { rest: file };

@@ -20,7 +20,7 @@ pub fn saved_size(file: &[u8]) -> Result<u8, Refusal>
 // Reads a saved plant: its table into the buffer, which has just its length. A refused call changes no byte: the table is built and judged in
 // one of our own.
 pub fn load(file: &[u8], table: &mut [u8]) -> Result<Loaded, Refusal>
-    ensures value { result ≡ load_answer file.now (length table.old) }
+    ensures answer { result ≡ load_answer file.now (length table.old) }
     ensures table_after { table.new ≡ load_after file.now table.old }
 {
     let opened = opening::open(file)?;
@@ -38,9 +38,9 @@ fn read_table(
     table: &mut [u8],
     own: &mut [u8; cells::GREATEST_TABLE],
 ) -> Result<(), Refusal>
-    requires size { is_size n ≡ true }
-    requires whole { runs_past file.now ≡ false }
-    ensures value { result ≡ rest_check n (file_lines file.now) (length table.old) }
+    requires is_a_size { is_size n ≡ true }
+    requires none_past_end { runs_past file.now ≡ false }
+    ensures check { result ≡ rest_check n (file_lines file.now) (length table.old) }
     ensures table_after { table.new ≡ rest_after n (file_lines file.now) table.old }
 {
     let own = &mut own[..cells::table_length(n)];

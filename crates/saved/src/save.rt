@@ -22,7 +22,7 @@ const BESIDE_LINE: usize = 3 + 1;
 // Writes the saved plant into the buffer, which has just its length.
 #[tactic(auto, using(crate::proofs::Saving::save_low, crate::proofs::Saving::save_table, crate::proofs::Saving::save_long, crate::proofs::Saving::save_done, crate::proofs::Saving::sets_long), unfolding(crate::specs::Save::save_check, crate::specs::Save::save_after))]
 pub fn save(n: usize, table: &[u8], tally: Tally, buffer: &mut [u8]) -> Result<(), Refusal>
-    ensures value { result ≡ save_check n table.now tally (length buffer.old) }
+    ensures check { result ≡ save_check n table.now tally (length buffer.old) }
     ensures buffer_after { buffer.new ≡ save_after n table.now tally buffer.old }
 {
     let table = Table::checked(n, table)?;
@@ -38,7 +38,8 @@ pub fn save(n: usize, table: &[u8], tally: Tally, buffer: &mut [u8]) -> Result<(
 // written through a cursor that `split_at_mut` moves on a proof knows nothing afterwards.
 fn write_opening(n: u8, tally: Tally, buffer: &mut [u8])
     requires { 15 ≤ length buffer.old }
-    ensures { buffer.new ≡ sets buffer.old 0 (field_bytes (size_field n) ++ field_bytes (tally_field tally)) }
+    ensures { let opening = field_bytes (size_field n) ++ field_bytes (tally_field tally) in
+        buffer.new ≡ sets buffer.old 0 opening }
 {
     put_head(buffer, 0, SIZE, 1);
     buffer[3] = n;
@@ -50,7 +51,8 @@ fn write_opening(n: u8, tally: Tally, buffer: &mut [u8])
 // The line fields behind them, ascending.
 fn write_lines(table: &Table, buffer: &mut [u8])
     requires { length buffer.old ≡ 15 + table.now.n * (stride table.now.n + 4) }
-    ensures { buffer.new ≡ sets buffer.old 15 (saved_lines table.now.n table.now.bytes.now table.now.n) }
+    ensures { let n = table.now.n in
+        buffer.new ≡ sets buffer.old 15 (saved_lines n table.now.bytes.now n) }
 {
     let stride = table.n as usize + cells::HEAD as usize;
     // Not `chunks_exact`, which divides: a save of 8 boards was 0.92 times as fast.
@@ -61,9 +63,9 @@ fn write_lines(table: &Table, buffer: &mut [u8])
 
 // The field of line i.
 fn write_line(i: usize, line: &[u8], buffer: &mut [u8])
-    requires low { i < 64 }
-    requires short { length line.now ≤ 255 }
-    requires inside { 15 + i * (length line.now + 4) + (length line.now + 4) ≤ length buffer.old }
+    requires station_low { i < 64 }
+    requires line_short { length line.now ≤ 255 }
+    requires field_inside { 15 + i * (length line.now + 4) + (length line.now + 4) ≤ length buffer.old }
     ensures { buffer.new ≡ sets buffer.old (15 + i * (length line.now + 4))
         (field_bytes (field line_tag (i ∷ line.now))) }
 {

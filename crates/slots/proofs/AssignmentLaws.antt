@@ -23,7 +23,7 @@ use Rattle.lists.proofs.Xor.{xor-undo}
 use Rattle.table.proofs.Accepting.{accepted}
 use Rattle.table.proofs.CellLaws.{row-length, row_at, accepted-line}
 use Rattle.station.proofs.DueLaws.{unsuspected-at, first_found, due-is, due-absent, due-zero}
-use Rattle.lists.specs.Search.{list_of}
+use Rattle.std.specs.List.{range_with_len}
 use Rattle.lists.proofs.BoolLaws.{by_bool}
 use Rattle.lists.proofs.FilterLaws.{filter-twice}
 use Rattle.table.proofs.SizeLaws.{size-bounds}
@@ -66,7 +66,8 @@ due-byte r i m few own pos here = due-is r i m ∙ sym (go (answer r i m) refl)
 
 pub due-have-255 : DueHave255
 unfolding due_distances other_distances
-due-have-255 n r i size long own = filter-twice (due r i) (is_other n i) (λ m. eqb (answer_byte (answer r i m)) 255) same (list_of (λ k. k) (distances n))
+due-have-255 n r i size long own =
+    filter-twice (due r i) (is_other n i) (λ m. eqb (answer_byte (answer r i m)) 255) same (range_with_len 0 (distances n))
   where
     same : (m : ℕ) → due r i m ≡ (is_other n i m && eqb (answer_byte (answer r i m)) 255)
     same m =

@@ -17,10 +17,10 @@ use Rattle.station.specs.Groups.{station_at}
 use Rattle.table.specs.Sizes.{dimension, distances}
 use Rattle.station.specs.Tests.{unsuspected, stands, due, due_distances}
 use Rattle.lists.proofs.BoolLaws.{by_bool, every-same}
-use Rattle.lists.proofs.SearchLaws.{both, every-at, every-all}
-use Rattle.lists.proofs.SumLaws.{sum_by, sum-split, sum-zero, sum-levels}
+use Rattle.lists.proofs.SearchLaws.{both, every-suc, every-at, every-all}
+use Rattle.lists.proofs.SumLaws.{sum_below-suc, sum_by, sum-split, sum-zero, sum-levels}
 use Rattle.table.proofs.Levels.{level-zero, level-is, level_in}
-use Rattle.lists.proofs.FilterLaws.{kept-sum}
+use Rattle.lists.proofs.FilterLaws.{select-sum}
 use Rattle.station.proofs.DueLaws.{due-zero}
 use Rattle.station.proofs.EntryLaws.{unsuspected-below}
 use Rattle.station.proofs.AheadLaws.{level-top}
@@ -32,7 +32,7 @@ use Rattle.slots.proofs.DigitLaws.{digit_low, digit-below, Whole, due-digits}
 pub sum-le : {f g : ℕ → ℕ} (n : ℕ) → ((i : ℕ) → i < n → f i ≤ g i) → sum_below f n ≤ sum_below g n
 unfolding sum_below
 sum-le zero l = omega arith
-sum-le (suc n) l = omega (arith, sum-le n (λ i h. l i (omega arith)), l n (omega arith))
+sum-le {f} {g} (suc n) l = omega (arith, sum_below-suc f n, sum_below-suc g n, sum-le n (λ i h. l i (omega arith)), l n (omega arith))
 
 -- whether each digit of k below place h that is set passes W
 abbrev allowed : (ℕ → Bool) → ℕ → ℕ → Bool
@@ -40,14 +40,12 @@ allowed W h k = every (λ g. not (bit_set k g) || W g) h
 
 -- with a digit more in front: 0 changes nothing, and 1 asks W
 allowed-low : (W : ℕ → Bool) (h k : ℕ) → k < 2 ^ h → allowed W (suc h) k ≡ allowed W h k
-unfolding every
 allowed-low W h k small =
     let unset : bit_set k h ≡ false = by_bool (bit_set k h) (λ s. absurd (omega (arith, digit-below h h k small s))) (λ s. s) in
-    rw (unset, and-true)
+    every-suc (λ g. not (bit_set k g) || W g) h ∙ rw (unset, and-true)
 
 allowed-high : (W : ℕ → Bool) (h k : ℕ) → k < 2 ^ h → allowed W (suc h) (2 ^ h + k) ≡ (allowed W h k && W h)
-unfolding every
-allowed-high W h k small = ap₂ ◌&&◌ low top
+allowed-high W h k small = every-suc (λ g. not (bit_set (2 ^ h + k) g) || W g) h ∙ ap₂ ◌&&◌ low top
   where
     low : allowed W h (2 ^ h + k) ≡ allowed W h k
     low = every-same _ _ h (λ g l. rw (digit_low h g k l))
@@ -68,15 +66,16 @@ allowed-count W (suc h) =
     let high : sum_below (λ k. bit (allowed W (suc h) (2 ^ h + k))) (2 ^ h) ≡ sum_below (λ k. bit (allowed W h k && W h)) (2 ^ h) =
     sum_by (2 ^ h) (λ k l. ap bit (allowed-high W h k l)) in
     let w : ℕ = sum_below (λ g. bit (W g)) h in
+    let more : sum_below (λ g. bit (W g)) (suc h) ≡ w + bit (W h) = sum_below-suc (λ g. bit (W g)) h in
     let halves = rw (← twice) at (sum-split (λ k. bit (allowed W (suc h) k)) (2 ^ h) (2 ^ h)) in
     by_bool (W h)
     (λ e.
     let all : sum_below (λ k. bit (allowed W h k && W h)) (2 ^ h) ≡ A = sum_by (2 ^ h) (λ k l. rw (e, and-true)) in
-    let power : 2 ^ (w + bit (W h)) ≡ 2 ^ w + 2 ^ w = rw (e, add-one w) (omega arith) in
+    let power : 2 ^ sum_below (λ g. bit (W g)) (suc h) ≡ 2 ^ w + 2 ^ w = rw (more, e, add-one w) (omega arith) in
     omega (arith, halves, low, high, all, power, allowed-count W h))
     (λ e.
     let none : sum_below (λ k. bit (allowed W h k && W h)) (2 ^ h) ≡ 0 = sum-zero (2 ^ h) (λ k l. rw (e, and-false)) in
-    let power : 2 ^ (w + bit (W h)) ≡ 2 ^ w = rw (e, add-zero w) in
+    let power : 2 ^ sum_below (λ g. bit (W g)) (suc h) ≡ 2 ^ w = rw (more, e, add-zero w) in
     omega (arith, halves, low, high, none, power, allowed-count W h))
 
 -- two tests that pass together are the same
@@ -107,7 +106,7 @@ module _ (r : List ℕ) (i : ℕ) (own : unsuspected r i ≡ true) where
   pub level-sums : (n : ℕ) → tests_due n r i ≡ sum_below (λ h. sum_below (λ k. bit (due r i (2 ^ h + k))) (2 ^ h)) (dimension n)
   unfolding tests_due due_distances distances
   level-sums n =
-      kept-sum (due r i) (λ k. k) (2 ^ dimension n) ∙ sum-levels (λ m. bit (due r i m)) (dimension n)
+      select-sum (due r i) (2 ^ dimension n) ∙ sum-levels (λ m. bit (due r i m)) (dimension n)
       ∙ rw (due-zero r i) (omega arith)
 
   at_most : (n : ℕ) → tests_due n r i ≤ sum_below (λ h. 2 ^ whole_below r i h) (dimension n)

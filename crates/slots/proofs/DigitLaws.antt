@@ -84,7 +84,8 @@ module _ (r : List ℕ) (i h k : ℕ) (small : k < 2 ^ h) where
       let below : g < h = omega (arith, d.2, level_in h k small) in
       let s : bit_set k g ≡ true = eq-eqb (k / 2 ^ g % 2) 1 (sym (digit_low h g k below) ∙ d.3) in
       let place : 2 ^ g + (e - 2 ^ g) ≡ e = omega (arith, in_group.0) in
-      let all = every-at (λ p. not (unsuspected r (station_at i (2 ^ g + p)))) (2 ^ g) (e - 2 ^ g) (whole g s) (omega (arith, in_group.0, in_group.1)) in
+      let all =
+      every-at (λ p. not (unsuspected r (station_at i (2 ^ g + p)))) (2 ^ g) (e - 2 ^ g) (whole g s) (omega (arith, in_group.0, in_group.1)) in
       not-true _ (rw (place, xor-cancel i x) at all)
 
   pub due-digits : (due r i m ≡ true) ↔ ((unsuspected r i ≡ true) × (stands r i m ≡ true) × Whole r i k)

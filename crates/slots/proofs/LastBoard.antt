@@ -15,7 +15,7 @@ use Rattle.station.specs.Groups.{station_at, width, member}
 use Rattle.table.specs.Sizes.{dimension}
 use Rattle.station.specs.Tests.{unsuspected, stands, due}
 use Rattle.lists.proofs.SearchLaws.{every-all}
-use Rattle.lists.proofs.SumLaws.{sum_by, sum-zero, sum-const}
+use Rattle.lists.proofs.SumLaws.{sum_below-suc, sum_by, sum-zero, sum-const}
 use Rattle.table.proofs.Levels.{level_in}
 use Rattle.station.proofs.DueLaws.{unsuspected-absent, due-absent}
 use Rattle.slots.specs.Law.{suspects_group, LastTestsAll}
@@ -55,11 +55,11 @@ module _ (d : ℕ) (r : List ℕ) (long : length r ≡ suc (2 ^ d)) (none : (x :
       (due-digits r i d k l).1 (none i (omega arith), there, λ g s. whole g (digit-below d g k l s))
 
 pub last-tests-all : LastTestsAll
-unfolding sum_below dimension
+unfolding dimension
 last-tests-all d r long none =
     let less : suc (2 ^ d) - 1 ≡ 2 ^ d + 0 = omega arith in
     let top : dimension (suc (2 ^ d)) ≡ suc d = rw less (level_in d 0 (pow_pos d)) in
     let low : sum_below (λ h. sum_below (λ k. bit (due r (2 ^ d) (2 ^ h + k))) (2 ^ h)) d ≡ 0 = sum-zero d (λ h l. none-due d r long none h l) in
     let high : sum_below (λ k. bit (due r (2 ^ d) (2 ^ d + k))) (2 ^ d) ≡ 2 ^ d * 1 =
     sum_by (2 ^ d) (λ k l. ap bit (due_all d r long none k l)) ∙ sum-const 1 (2 ^ d) in
-    level-sums r (2 ^ d) (none (2 ^ d) (omega arith)) (suc (2 ^ d)) ∙ rw top (omega (arith, low, high))
+    level-sums r (2 ^ d) (none (2 ^ d) (omega arith)) (suc (2 ^ d)) ∙ rw top (omega (arith, low, high, sum_below-suc (λ h. sum_below (λ k. bit (due r (2 ^ d) (2 ^ h + k))) (2 ^ h)) d))

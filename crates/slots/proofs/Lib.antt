@@ -6,6 +6,6 @@ pub mod OneDead
 pub mod LastBoard
 pub mod MoreTests
 pub mod AllBoards
-pub mod Untested
+pub mod UntestedLaws
 mod ListLaws
 mod MostLaws

@@ -1,19 +1,20 @@
--- The distances that a loop or a count goes through.
+-- The distances that a loop or a count goes through, and what a loop writes of them.
 -- Assumes nothing.
 use mathlib.Core.Path.{◌≡◌, ap, ◌∙◌}
 use mathlib.Core.Bool.{Bool, false}
-use mathlib.Core.List.{List}
+use mathlib.Core.List.{List, [], ◌∷◌, ◌++◌, map}
 use Prim.Native.Nat.{ℕ, ◌+◌, ◌≤◌, ◌<◌}
 use native.Mathlib.Omega.{arith}
-use lib.ListN.{length, get_or}
+use lib.ListN.{length, get_or, set}
+use lib.Seq.{sets}
 use Rattle.std.specs.List.{filter, range_with_len}
 use Rattle.lists.specs.Search.{select}
 use Rattle.table.specs.Sizes.{distances}
-use Rattle.lists.proofs.Enumerated.{range-list, filter-below, filter-few}
+use Rattle.lists.proofs.Enumerated.{filter-below, filter-few, write-next}
 
 module _ (q : ℕ → Bool) (n end : ℕ) (e : end ≡ distances n) (fits : end ≤ 256) where
   pub walked-is : filter q (range_with_len 0 end) ≡ select q (distances n)
-  walked-is = ap (filter q) (range-list end) ∙ ap (select q) e
+  walked-is = ap (select q) e
 
   -- the one after the distances ms: it is a byte, and those before it and it are no more than a byte can count
   pub walked-turn : q 0 ≡ false → (ms : List ℕ) (m : ℕ)
@@ -24,3 +25,8 @@ module _ (q : ℕ → Bool) (n end : ℕ) (e : end ≡ distances n) (fits : end 
 
   pub walked-few : q 0 ≡ false → length (filter q (range_with_len 0 end)) < 256
   walked-few none = omega (arith, filter-few q end none, fits)
+
+-- one byte more is written: what f gives at p
+pub written-next : (f : ℕ → ℕ) (l t u ps : List ℕ) (k v p : ℕ) → u ≡ set t k v → v ≡ f p → k ≡ length ps → t ≡ sets l 0 (map f ps)
+    → u ≡ sets l 0 (map f (ps ++ (p ∷ [])))
+written-next f l t u ps k v p w e c h = w ∙ ap (set t k) e ∙ write-next f l t ps k p c h

@@ -19,7 +19,7 @@ use Rattle.station.specs.Tests.{unsuspected, stands, due, due_distances}
 use Rattle.station.specs.Rows.{mark}
 use Rattle.lists.proofs.BoolLaws.{by_bool}
 use Rattle.table.proofs.SizeLaws.{distances-pos, distances-le}
-use Rattle.lists.proofs.FilterLaws.{kept-sum}
+use Rattle.lists.proofs.FilterLaws.{select-sum}
 use Rattle.station.proofs.UnionLaws.{mark-length, mark-same}
 use Rattle.station.proofs.DueLaws.{unsuspected-at, due-zero, due-present}
 use Rattle.station.proofs.EntryLaws.{unsuspected-below}
@@ -45,7 +45,7 @@ fewer-below r r' i w b =
 
 pub tests-sum : (n : ℕ) (r : List ℕ) (i : ℕ) → tests_due n r i ≡ sum_below (λ m. bit (due r i m)) (distances n)
 unfolding tests_due due_distances
-tests-sum n r i = kept-sum (due r i) (λ k. k) (distances n)
+tests-sum n r i = select-sum (due r i) (distances n)
 
 pub never-fewer : NeverFewer
 never-fewer n r r' i w = rw (tests-sum n r i, tests-sum n r' i) (fewer-below r r' i w (distances n))

@@ -2,12 +2,11 @@
 -- Assumes nothing.
 use mathlib.Core.Path.{◌≡◌, refl, sym, ap, ◌∙◌}
 use mathlib.Core.Logic.{◌≢◌}
-use mathlib.Core.List.{List, [], ◌∷◌, ◌++◌}
-use Prim.Native.Nat.{ℕ, zero, suc, max, ◌≤◌}
-use native.Mathlib.Nat.{zero-max}
+use mathlib.Core.List.{List}
+use Prim.Native.Nat.{ℕ, max, ◌≤◌}
 use lib.ListN.{length, get_or, set}
 use lib.Seq.{set_out, set-set, set-get_or}
-use Rattle.std.specs.List.{fold, reduce}
+use Rattle.std.specs.List.{reduce}
 use Rattle.std.specs.Prelude.{unwrap_or}
 use Rattle.lists.specs.Search.{list_of, greatest}
 use Rattle.station.specs.Rows.{mark}
@@ -25,15 +24,6 @@ unfolding mark
 mark-back r j = set-set r j 1 (get_or r j 0) ∙ set-get_or r j 0
 
 -- the greatest as std's `max` of an iterator finds it, 0 where there is none
-fold-more : (xs : List ℕ) (x y : ℕ) → fold max x (xs ++ (y ∷ [])) ≡ max (fold max x xs) y
-fold-more [] x y = refl
-fold-more (z ∷ zs) x y = fold-more zs (max x z) y
-
-reduce-more : (xs : List ℕ) (y : ℕ) → unwrap_or (reduce max (xs ++ (y ∷ []))) 0 ≡ max (unwrap_or (reduce max xs) 0) y
-reduce-more [] y = sym (zero-max y)
-reduce-more (x ∷ xs) y = fold-more xs x y
-
 pub greatest-is : (f : ℕ → ℕ) (n : ℕ) → unwrap_or (reduce max (list_of f n)) 0 ≡ greatest f n
-unfolding list_of greatest
-greatest-is f zero = refl
-greatest-is f (suc n) = reduce-more (list_of f n) (f n) ∙ ap (λ (m : ℕ). max m (f n)) (greatest-is f n)
+unfolding greatest
+greatest-is f n = refl

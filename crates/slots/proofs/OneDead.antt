@@ -97,7 +97,8 @@ module _ (d : ℕ) (r : List ℕ) (i j : ℕ) (given : SuspectsOne d r i j) wher
       let f : ℕ → ℕ = λ h. 2 ^ whole_below r i h in
       let low : sum_below f 1 ≡ 1 = level-one in
       let high : sum_below (λ h. f (1 + h)) (d - 1) ≡ (d - 1) * 2 ^ bit beside =
-      sum_by (d - 1) (λ h l. let one_more : 1 + h ≡ suc h = omega arith in rw one_more (ap (λ (v : ℕ). 2 ^ v) (whole-count h (omega arith)))) ∙ sum-const (2 ^ bit beside) (d - 1) in
+      sum_by (d - 1) (λ h l. let one_more : 1 + h ≡ suc h = omega arith in rw one_more (ap (λ (v : ℕ). 2 ^ v) (whole-count h (omega arith))))
+      ∙ sum-const (2 ^ bit beside) (d - 1) in
       let all = rw e at (sum-split f 1 (d - 1)) in
       tests-by-levels d r i given.long own
       ∙ by_bool beside (λ q. rw q (omega (arith, all, low, rw q at high, positive))) (λ q. rw q (omega (arith, all, low, rw q at high, positive)))

@@ -19,7 +19,7 @@ use table::{Distance, Station, sizes};
 
 // Whom i of n stations tests by its row of n bytes, in order, into a lent list; answers how many these are. Past the list's end nothing is written.
 pub fn list_tests(n: u8, row: &[u8], i: Station, list: &mut [u8]) -> u8
-    ensures value { result ≡ tests_due n row.now i.0 }
+    ensures count { result ≡ tests_due n row.now i.0 }
     ensures list_after { list.new ≡ sets list.old 0 (tested n row.now i.0) }
 {
     let end = sizes::distances(n);
@@ -51,7 +51,7 @@ fn is_due(row: &[u8], i: Station, m: Distance) -> bool
 
 // The most tests of i where its row suspects one station more. The row is as before afterwards.
 pub fn most_tests(n: u8, row: &mut [u8], i: Station) -> u8
-    ensures value { result ≡ most_tests n row.old i.0 }
+    ensures most { result ≡ most_tests n row.old i.0 }
     ensures row_unchanged { row.new ≡ row.old }
 {
     let mut most: u8 = 0;
@@ -64,7 +64,7 @@ pub fn most_tests(n: u8, row: &mut [u8], i: Station) -> u8
 
 // The tests of i where its row suspects j too; 0 where j is i. The row is as before afterwards.
 fn tests_with(n: u8, row: &mut [u8], i: Station, j: Station) -> u8
-    ensures value { result ≡ tests_with n row.old i.0 j.0 }
+    ensures count { result ≡ tests_with n row.old i.0 j.0 }
     ensures row_unchanged { row.new ≡ row.old }
 {
     if j == i {
@@ -84,7 +84,7 @@ fn tests_with(n: u8, row: &mut [u8], i: Station, j: Station) -> u8
 // The most tests of any of n boards that all have this row and, if `more`, also suspect any one other board. The row is as before afterwards.
 // The flag stays: a public function, whose promise speaks of both values at once.
 pub fn most_of_boards(n: u8, row: &mut [u8], more: bool) -> u8
-    ensures value { result ≡ most_of_boards n row.old more }
+    ensures most { result ≡ most_of_boards n row.old more }
     ensures row_unchanged { row.new ≡ row.old }
 {
     if more {
@@ -102,7 +102,7 @@ fn most_by_row(n: u8, row: &[u8]) -> u8
 
 // The most tests of any of n boards where the row suspects one station more. The row is as before afterwards.
 fn most_with_one_more(n: u8, row: &mut [u8]) -> u8
-    ensures value { result ≡ most_of_boards n row.old true }
+    ensures most { result ≡ most_of_boards n row.old true }
     ensures row_unchanged { row.new ≡ row.old }
 {
     let mut most: u8 = 0;

@@ -10,7 +10,7 @@ use table::{Distance, Station, sizes};
 // Whom i of n stations does not test by its row of n bytes, in ascending distance, and who stands ahead of each, into two lent lists; answers how
 // many these are. Past a list's end nothing is written. Two lists and not one of pairs: a public function keeps its parameters.
 pub fn list_untested(n: u8, row: &[u8], i: Station, list: &mut [u8], firsts: &mut [u8]) -> u8
-    ensures value { result ≡ length (untested_distances n row.now i.0) }
+    ensures count { result ≡ length (untested_distances n row.now i.0) }
     ensures list_after { list.new ≡ sets list.old 0 (untested n row.now i.0) }
     ensures firsts_after { firsts.new ≡ sets firsts.old 0 (ahead n row.now i.0) }
 {

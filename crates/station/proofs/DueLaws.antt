@@ -115,7 +115,7 @@ unfolding answer
 answer-here r i m here = rw here
 
 -- at distance 0 it names i
-pub answer-zero : (r : List ℕ) (i : ℕ) → answer r i 0 ≡ answer_ahead i
+answer-zero : (r : List ℕ) (i : ℕ) → answer r i 0 ≡ answer_ahead i
 unfolding answer
 answer-zero r i = by_bool (stands r i 0) (λ here. rw (here, level-zero, first-zero)) (λ absent. rw absent)
 

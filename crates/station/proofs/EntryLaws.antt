@@ -15,7 +15,6 @@ use Rattle.std.specs.List.{filter, range_with_len}
 use Rattle.std.proofs.lemmas.List.Elements.{filter-append}
 use Rattle.std.specs.Int.{from_bool}
 use Rattle.std.proofs.lemmas.List.Filters.{length-filter_both}
-use Rattle.lists.specs.Search.{list_of}
 use Rattle.table.specs.Sizes.{is_size, distances}
 use Rattle.station.specs.Tests.{unsuspected, answer, stands, due, due_distances}
 use Rattle.station.specs.Calls.{is_other, other_distances, answer_byte, assignment_entries}
@@ -55,7 +54,7 @@ module _ (n : ℕ) (r : List ℕ) (i : ℕ) (size : is_size n ≡ true) (long : 
   -- those of them that are due
   pub others-due : filter (due r i) (other_distances n i) ≡ due_distances r i n
   unfolding other_distances due_distances
-  others-due = sym (filter-twice (due r i) (is_other n i) (due r i) due-other (list_of (λ k. k) (distances n)))
+  others-due = sym (filter-twice (due r i) (is_other n i) (due r i) due-other (range_with_len 0 (distances n)))
     where
       pos : (m : ℕ) → due r i m ≡ true → ltb 0 m ≡ true
       pos zero e = absurd (true≢false (sym e ∙ due-zero r i))

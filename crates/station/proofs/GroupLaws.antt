@@ -1,12 +1,12 @@
 -- The theorems on groups, for every size at once: who is in a group, in which group a station is, and equation 1 of paper 001.
 -- Assumes nothing.
-use mathlib.Core.Path.{◌≡◌, refl, sym, ap, ◌∙◌}
-use Rattle.std.specs.List.{filter}
+use mathlib.Core.Path.{◌≡◌, refl, sym, ap, subst, ◌∙◌}
+use Rattle.std.specs.List.{filter, range_with_len}
 use mathlib.Core.Logic.{◌⊎◌, inl, inr}
 use mathlib.Core.List.Memᴰ
 use mathlib.Core.List.{[], ◌∷◌, ◌++◌, Memᴰ}
 use Prim.Native.Nat.{ℕ, zero, suc, ◌+◌, ◌-◌, ◌^◌, ◌<◌}
-use native.Mathlib.Nat.{eq-or-lt_of_le, le_of_suc-le-suc, one-mul, two-pow-succ}
+use native.Mathlib.Nat.{one-mul, two-pow-succ}
 use native.Mathlib.Omega.{arith}
 use lib.Bits.{xor_self, xor_zero_r, xor_lt, xor_shifted}
 use borrow.Author.Tests.{ltb-true, lt-ltb}
@@ -16,9 +16,9 @@ use Rattle.station.specs.Groups.{distance, station_at, is_present, width, member
 use Rattle.station.specs.Partition.{NotInOwnGroup, InOneGroup}
 use Rattle.station.specs.Equation1.{groups_to, remaining_to}
 use Rattle.lists.proofs.Xor.{xor_assoc, xor-cancel, xor-zero-eq}
-use Rattle.lists.proofs.SearchLaws.{list_of-same, list_of-append}
+use Rattle.lists.proofs.SearchLaws.{list_of-suc, list_of-same, list_of-append}
 use Rattle.std.proofs.lemmas.List.Elements.{filter-append}
-use Rattle.lists.proofs.FilterLaws.{filter-mem, mem-filter}
+use Rattle.lists.proofs.FilterLaws.{mem-map, range-mem, filter-mem, mem-filter}
 use Rattle.table.proofs.SizeLaws.{size-distances}
 use Rattle.table.proofs.Levels.{level-zero, level_in, level-le, level-bounds, level-split}
 
@@ -26,22 +26,12 @@ use Rattle.table.proofs.Levels.{level-zero, level_in, level-le, level-bounds, le
 mem-place : (f : ℕ → ℕ) (n x : ℕ) → Memᴰ x (list_of f n) → (k : ℕ) × (k < n) × (x ≡ f k)
 unfolding list_of
 mem-place f zero x m = absurd (Memᴰ.not-nil m)
-mem-place f (suc n) x m = pick (mem-place f n x) (Memᴰ.append_cases (list_of f n) m)
+mem-place f (suc n) x m = pick (mem-place f n x) (Memᴰ.append_cases (list_of f n) (subst (Memᴰ x) (list_of-suc f n) m))
   where
     pick : (Memᴰ x (list_of f n) → (k : ℕ) × (k < n) × (x ≡ f k))
         → Memᴰ x (list_of f n) ⊎ Memᴰ x (f n ∷ []) → (k : ℕ) × (k < suc n) × (x ≡ f k)
     pick rest (inl m') = let t = rest m' in (t.0, omega arith, t.2)
     pick rest (inr m') = (n, omega arith, Memᴰ.eq_of_singleton m')
-
--- and the other way
-pub place-mem : (f : ℕ → ℕ) (n x k : ℕ) → k < n → x ≡ f k → Memᴰ x (list_of f n)
-unfolding list_of
-place-mem f zero x k h e = absurd (omega arith)
-place-mem f (suc n) x k h e = pick (place-mem f n x k) (eq-or-lt_of_le (le_of_suc-le-suc h))
-  where
-    pick : (k < n → x ≡ f k → Memᴰ x (list_of f n)) → (k ≡ n) ⊎ (k < n) → Memᴰ x (list_of f n ++ (f n ∷ []))
-    pick rest (inl p) = Memᴰ.append_right (list_of f n) (Memᴰ.head (cc))
-    pick rest (inr l) = Memᴰ.append_left (f n ∷ []) (rest l e)
 
 no-group-zero : (i x : ℕ) → Memᴰ x (full_group i 0) → ⊥
 unfolding full_group width list_of
@@ -57,22 +47,23 @@ members-level i (suc h) x m =
 
 -- and the other way
 level-members : (i s x : ℕ) → 0 < s → level (distance i x) ≡ s → Memᴰ x (full_group i s)
-unfolding full_group width member
+unfolding full_group width member list_of
 level-members i zero x pos e = absurd (omega arith)
 level-members i (suc h) x pos e =
     let m : ℕ = distance i x in
     let b = level-bounds m h e in
-    place-mem (member i (suc h)) (2 ^ h) x (m - 2 ^ h) (omega arith) (sym (xor-cancel i x) ∙ ap (station_at i) (omega arith))
+    mem-map (member i (suc h)) x (m - 2 ^ h) (range_with_len 0 (2 ^ h)) (sym (xor-cancel i x) ∙ ap (station_at i) (omega arith))
+    (range-mem (2 ^ h) (m - 2 ^ h) (omega arith))
 
 -- with the absent numbers left out: who is in the group of i at level s is present and has a distance of that level
-pub group-members : (n i s x : ℕ) → Memᴰ x (group n i s) → (x < n) × (level (distance i x) ≡ s)
+group-members : (n i s x : ℕ) → Memᴰ x (group n i s) → (x < n) × (level (distance i x) ≡ s)
 unfolding group
 group-members n i s x m =
     let k = filter-mem (is_present n) (full_group i s) x m in
     (ltb-true x n k.1, members-level i s x k.0)
 
 -- and the other way
-pub members-group : (n i s x : ℕ) → 0 < s → x < n → level (distance i x) ≡ s → Memᴰ x (group n i s)
+members-group : (n i s x : ℕ) → 0 < s → x < n → level (distance i x) ≡ s → Memᴰ x (group n i s)
 unfolding group
 members-group n i s x pos h e = mem-filter (is_present n) (full_group i s) x (level-members i s x pos e) (lt-ltb x n h)
 

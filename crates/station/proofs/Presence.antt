@@ -11,9 +11,9 @@ use Rattle.lists.specs.Sums.{sum_below, bit}
 use Rattle.table.specs.Sizes.{is_size, dimension, distances}
 use Rattle.station.specs.Groups.{station_at, is_present}
 use Rattle.station.specs.Calls.{is_other, other_distances}
-use Rattle.lists.proofs.SumLaws.{sum_by, sum-split, sum-zero, sum-const, sum-xor}
+use Rattle.lists.proofs.SumLaws.{sum_below-suc, sum_by, sum-split, sum-zero, sum-const, sum-xor}
 use Rattle.table.proofs.SizeLaws.{size-distances, distances-pos}
-use Rattle.lists.proofs.FilterLaws.{kept-sum}
+use Rattle.lists.proofs.FilterLaws.{select-sum}
 
 -- how many of n stations stand at the distances below m from station i
 abbrev pub standing : ℕ → ℕ → ℕ → ℕ
@@ -36,8 +36,8 @@ standing-all n i size h =
 
 -- a station at a distance counts one more
 pub standing-more : (n i m : ℕ) → station_at i m < n → standing n i (suc m) ≡ suc (standing n i m)
-unfolding sum_below
-standing-more n i m l = rw (lt-ltb (station_at i m) n l) (omega arith)
+standing-more n i m l =
+    omega (arith, sum_below-suc (λ k. bit (is_present n (station_at i k))) m, ap bit (lt-ltb (station_at i m) n l))
 
 pub standing-grows : (n i a b : ℕ) → a ≤ b → standing n i a ≤ standing n i b
 standing-grows n i a b l =
@@ -45,14 +45,19 @@ standing-grows n i a b l =
     omega (arith, rw e at (sum-split (λ k. bit (is_present n (station_at i k))) a (b - a)))
 
 -- below m > 0 one station more stands than other stations do, for the station itself stands at 0
-pub others_below : (n i m : ℕ) → i < n → suc (sum_below (λ k. bit (is_other n i k)) (suc m)) ≡ standing n i (suc m)
+others_below : (n i m : ℕ) → i < n → suc (sum_below (λ k. bit (is_other n i k)) (suc m)) ≡ standing n i (suc m)
 unfolding sum_below
 others_below n i zero h = rw (xor_zero_r i, lt-ltb i n h) (omega arith)
-others_below n i (suc m) h = rw (lt-ltb 0 (suc m) (omega arith)) (omega (arith, others_below n i m h))
+others_below n i (suc m) h =
+    rw (
+      sum_below-suc (λ k. bit (is_other n i k)) (suc m),
+      sum_below-suc (λ k. bit (is_present n (station_at i k))) (suc m),
+      lt-ltb 0 (suc m) (omega arith),
+    ) (omega (arith, others_below n i m h))
 
 -- the other stations of n are n − 1
 pub others-all : (n i : ℕ) → is_size n ≡ true → i < n → suc (length (other_distances n i)) ≡ n
 unfolding other_distances
 others-all n i size h =
     let pos : suc (distances n - 1) ≡ distances n = omega (arith, distances-pos n) in
-    omega (arith, kept-sum (is_other n i) (λ k. k) (distances n), rw pos at (others_below n i (distances n - 1) h), standing-all n i size h)
+    omega (arith, select-sum (is_other n i) (distances n), rw pos at (others_below n i (distances n - 1) h), standing-all n i size h)

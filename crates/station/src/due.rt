@@ -89,7 +89,7 @@ pub fn block_end(m: Distance) -> Distance
 // one ahead; and how many are due.
 #[tactic(auto, using(crate::proofs::Refusals::assignment_ok), unfolding(crate::specs::Calls::assignment_answer, crate::specs::Calls::assignment_after))]
 pub fn assignment(n: usize, table: &[u8], i: Station, list: &mut [u8]) -> Result<u8, Refusal>
-    ensures value { result ≡ assignment_answer n table.now i.0 (length list.old) }
+    ensures count_or_refusal { result ≡ assignment_answer n table.now i.0 (length list.old) }
     ensures list_after { list.new ≡ assignment_after n table.now i.0 list.old }
 {
     let lent = check_assignment(n, table, i, list.len())?;
@@ -99,9 +99,10 @@ pub fn assignment(n: usize, table: &[u8], i: Station, list: &mut [u8]) -> Result
 // Refusals 1 to 4, 9, 10, 13.
 #[tactic(auto, using(crate::proofs::Refusals::row_ok, crate::proofs::Refusals::accepted_top), unfolding(crate::specs::Calls::assignment_check))]
 fn check_assignment(n: usize, table: &[u8], i: Station, len: usize) -> Result<Table<'_>, Refusal>
-    ensures check { result_map_both (λ t. tt) (λ r. r) result ≡ assignment_check n table.now i.0 len }
-    ensures size { IfOk result (λ t. t.n ≡ n) }
-    ensures bytes { IfOk result (λ t. t.bytes.now ≡ table.now) }
+    ensures check { result_map_both (λ t. tt) (λ r. r) result
+        ≡ assignment_check n table.now i.0 len }
+    ensures same_size { IfOk result (λ t. t.n ≡ n) }
+    ensures same_bytes { IfOk result (λ t. t.bytes.now ≡ table.now) }
 {
     let lent = rows::checked_line(n, table, i)?;
     if !lent.is_live(i) {
@@ -117,7 +118,7 @@ fn check_assignment(n: usize, table: &[u8], i: Station, len: usize) -> Result<Ta
 fn write_entries(table: &Table, i: Station, list: &mut [u8]) -> u8
     requires station { i.0 < table.now.n }
     requires list_len { length list.old + 2 ≡ 2 * table.now.n }
-    ensures value { let n = table.now.n in
+    ensures due_counted { let n = table.now.n in
         result ≡ length (due_distances (row n table.now.bytes.now i.0) i.0 n) }
     ensures list_after { let n = table.now.n in
         list.new ≡ assignment_entries (row n table.now.bytes.now i.0) i.0 (other_distances n i.0) }

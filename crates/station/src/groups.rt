@@ -9,9 +9,9 @@ use table::{Distance, Level, Station, sizes};
 
 // How many numbers a full group at level s has, and its least distance.
 pub(crate) fn width_of(s: Level) -> u8
-    requires s_nonzero { 0 < s.0 }
-    requires s_top { s.0 ≤ 8 }
-    ensures value { result ≡ width s.0 }
+    requires level_above_0 { 0 < s.0 }
+    requires level_at_most_8 { s.0 ≤ 8 }
+    ensures width_of_level { result ≡ width s.0 }
     ensures upper_bound { result ≤ 128 }
 {
     let h = s.0 - 1;
@@ -21,7 +21,7 @@ pub(crate) fn width_of(s: Level) -> u8
 // The group list of document 01: the members of the group of i at level s, in order.
 #[tactic(auto, using(crate::proofs::Refusals::group_ok), unfolding(crate::specs::Calls::group_after))]
 pub fn group_list(n: usize, i: Station, s: Level, list: &mut [u8]) -> Result<(), Refusal>
-    ensures value { result ≡ group_check n i.0 s.0 (length list.old) }
+    ensures check { result ≡ group_check n i.0 s.0 (length list.old) }
     ensures list_after { list.new ≡ group_after n i.0 s.0 list.old }
 {
     check_group(n, i, s, list.len())?;
@@ -64,8 +64,8 @@ fn check_range(n: u8, i: Station, s: Level) -> Result<(), Refusal>
 //
 // How many stations the group of i at level s has among n.
 fn group_length(n: u8, i: Station, s: Level) -> usize
-    requires s_nonzero { 0 < s.0 }
-    requires s_top { s.0 ≤ 8 }
+    requires level_above_0 { 0 < s.0 }
+    requires level_at_most_8 { s.0 ≤ 8 }
     ensures { result ≡ length (group n i.0 s.0) }
 {
     let w = width_of(s);
@@ -77,8 +77,8 @@ fn group_length(n: u8, i: Station, s: Level) -> usize
 
 // Writes the members of the group of i at level s among n.
 fn write_group(n: u8, i: Station, s: Level, list: &mut [u8])
-    requires s_nonzero { 0 < s.0 }
-    requires s_top { s.0 ≤ 8 }
+    requires level_above_0 { 0 < s.0 }
+    requires level_at_most_8 { s.0 ≤ 8 }
     requires list_len { length list.old ≡ length (group n i.0 s.0) }
     ensures { list.new ≡ group n i.0 s.0 }
 {

@@ -13,8 +13,9 @@ use table::lent::Table;
 // document 01 has there, and no `Err`.
 #[tactic(auto, unfolding(crate::specs::Calls::row_part, crate::specs::Calls::row_offset))]
 pub fn row(n: usize, table: &[u8], i: Station) -> &[u8]
-    ensures result_value { result.now ≡ row_part n table.now i.0 }
-    ensures ref_ptr_value { (result.ref_ptr.0 ≡ table.entry.ref_ptr.0) × (result.ref_ptr.1 ≡ table.entry.ref_ptr.1 + row_offset n table.now i.0) }
+    ensures row_bytes { result.now ≡ row_part n table.now i.0 }
+    ensures same_memory { result.ref_ptr.0 ≡ table.entry.ref_ptr.0 }
+    ensures place_of_row { result.ref_ptr.1 ≡ table.entry.ref_ptr.1 + row_offset n table.now i.0 }
 {
     match checked_line(n, table, i) {
         Ok(lent) => lent.row(i),
@@ -33,10 +34,10 @@ pub fn check_row(n: usize, table: &[u8], i: Station) -> Result<(), Refusal>
 #[tactic(auto, using(crate::proofs::Refusals::row_ok), unfolding(crate::specs::Calls::row_check))]
 pub(crate) fn checked_line(n: usize, table: &[u8], i: Station) -> Result<Table<'_>, Refusal>
     ensures check { result_map_both (λ t. tt) (λ r. r) result ≡ row_check n table.now i.0 }
-    ensures size { IfOk result (λ t. t.n ≡ n) }
-    ensures bytes { IfOk result (λ t. t.bytes.now ≡ table.now) }
-    ensures place { IfOk result (λ t. t.bytes.ref_ptr ≡ table.entry.ref_ptr) }
-    ensures line { IfOk result (λ t. i.0 < t.n) }
+    ensures same_size { IfOk result (λ t. t.n ≡ n) }
+    ensures same_bytes { IfOk result (λ t. t.bytes.now ≡ table.now) }
+    ensures same_place { IfOk result (λ t. t.bytes.ref_ptr ≡ table.entry.ref_ptr) }
+    ensures has_line { IfOk result (λ t. i.0 < t.n) }
 {
     let lent = Table::checked(n, table)?;
     if lent.n <= i.0 {

@@ -18,7 +18,7 @@ use Rattle.table.specs.Sizes.{distances}
 use Rattle.table.specs.Table.{head, stride, table_length, line_start, cell, set_cell, status, next_distance, finished, tests_made, status_told, told_by, told_by_column, told_by_none, not_recorded, rounds_ago, rounds_ago_column, suspects, row_start, row, set_row, next_column, tests_column}
 use Rattle.table.specs.Rules.{pass_rule, exit_rule, suspicion_rule, row_rule, line_rules}
 use Rattle.lists.specs.Search.{every}
-use Rattle.lists.proofs.SearchLaws.{both, every-at, every-all}
+use Rattle.lists.proofs.SearchLaws.{both, every-suc, every-at, every-all}
 use Rattle.table.proofs.Accepting.{Accepted}
 
 -- a column that a turn counts in: next distance, pass finished, tests made
@@ -140,9 +140,8 @@ set_row-out n t i r i' c long h hr hc out = pick (dec_lt p a) (dec_lt p (a + n))
 -- the greatest byte so far is in its range as long as all bytes passed are
 pub range-next : (n : ℕ) (t r : List ℕ) (i k greatest x : ℕ) → r ≡ row n t i → k < n → leb greatest 1 ≡ every (suspicion_rule n t i) k
     → x ≡ max greatest (get_or r k 0) → leb x 1 ≡ every (suspicion_rule n t i) (k + 1)
-unfolding every
 range-next n t r i k greatest x e h f g =
-    rw (g, add-one, ← f, e, row_at n t i k h) (max-leb greatest (suspects n t i k) 1 (dec_le greatest 1) (dec_le (suspects n t i k) 1))
+    rw (g, add-one, every-suc (suspicion_rule n t i) k, ← f, e, row_at n t i k h) (max-leb greatest (suspects n t i k) 1 (dec_le greatest 1) (dec_le (suspects n t i k) 1))
   where
     max-leb : (a b c : ℕ) → Dec (a ≤ c) → Dec (b ≤ c) → leb (max a b) c ≡ (leb a c && leb b c)
     max-leb a b c (yes p) (yes q) = rw (le-leb a c p, le-leb b c q) (le-leb (max a b) c (omega arith))

@@ -22,9 +22,6 @@ pub const TOLD_BY_NONE: u8 = 255;
 
 pub const NOT_RECORDED: u8 = 254;
 
-// Where byte 5 stops.
-pub const ROUNDS_AGO_TOP: u8 = 255;
-
 // How many bytes of a line stand before its row.
 pub const HEAD: u16 = 6;
 
@@ -42,7 +39,7 @@ pub fn table_length(n: u8) -> usize
 // The length of some lines of a table of n stations.
 #[tactic(auto, unfolding(crate::specs::Table::line_start))]
 fn lines_length(lines: u8, n: u8) -> usize
-    ensures value { result ≡ line_start n lines }
+    ensures len_of_lines { result ≡ line_start n lines }
     ensures upper_bound { result ≤ 255 * stride 255 }
 {
     lines as usize * (n as usize + HEAD as usize)
@@ -50,7 +47,7 @@ fn lines_length(lines: u8, n: u8) -> usize
 
 // Where line i begins.
 pub fn line_start(n: u8, i: Station) -> usize
-    ensures value { result ≡ line_start n i.0 }
+    ensures start_of_line { result ≡ line_start n i.0 }
     ensures upper_bound { result ≤ 255 * stride 255 }
 {
     lines_length(i.0, n)
@@ -58,7 +55,7 @@ pub fn line_start(n: u8, i: Station) -> usize
 
 // Where the row of line i begins.
 pub fn row_start(n: u8, i: Station) -> usize
-    ensures value { result ≡ row_start n i.0 }
+    ensures start_of_row { result ≡ row_start n i.0 }
     ensures upper_bound { result ≤ 255 * stride 255 + head }
 {
     line_start(n, i) + HEAD as usize

@@ -11,7 +11,7 @@ use lists::refusal::Refusal;
 // Fills the table: every line live, next distance 1, byte 4 255, all else 0.
 #[tactic(auto, using(crate::proofs::Accepting::shape_ok, crate::proofs::SizeLaws::size_top), unfolding(crate::specs::Fresh::fresh_after))]
 pub fn fresh_table(n: usize, table: &mut [u8]) -> Result<(), Refusal>
-    ensures value { result ≡ shape_check n (length table.old) }
+    ensures check { result ≡ shape_check n (length table.old) }
     ensures table_after { table.new ≡ fresh_after n table.old }
 {
     rules::check_shape(n, table.len())?;
@@ -24,8 +24,8 @@ pub fn fresh_table(n: usize, table: &mut [u8]) -> Result<(), Refusal>
 
 #[tactic(auto, using(lists::proofs::Loops::loops), unfolding(crate::specs::Fresh::fresh_table))]
 fn write_fresh(table: &mut TableMut)
-    ensures same { IsSameLoan table.old table.new }
-    ensures bytes { table.new.bytes.now ≡ fresh_table table.old.n }
+    ensures same_loan { IsSameLoan table.old table.new }
+    ensures fresh_bytes { table.new.bytes.now ≡ fresh_table table.old.n }
 {
     for (p, byte) in table.bytes.iter_mut().enumerate() {
         *byte = fresh_byte(table.n, p);

@@ -35,10 +35,11 @@ impl<'a> Table<'a> {
     // what hands a table on, so that a caller cites the one that it needs.
     #[tactic(auto, using(crate::proofs::Accepting::shape_ok, crate::proofs::SizeLaws::size_top))]
     pub fn of(n: usize, bytes: &'a [u8]) -> Result<Table<'a>, Refusal>
-        ensures check { result_map_both (λ t. tt) (λ r. r) result ≡ shape_check n (length bytes.now) }
-        ensures size { IfOk result (λ t. t.n ≡ n) }
-        ensures bytes { IfOk result (λ t. t.bytes.now ≡ bytes.now) }
-        ensures place { IfOk result (λ t. t.bytes.ref_ptr ≡ bytes.entry.ref_ptr) }
+        ensures check { result_map_both (λ t. tt) (λ r. r) result
+            ≡ shape_check n (length bytes.now) }
+        ensures same_size { IfOk result (λ t. t.n ≡ n) }
+        ensures same_bytes { IfOk result (λ t. t.bytes.now ≡ bytes.now) }
+        ensures same_place { IfOk result (λ t. t.bytes.ref_ptr ≡ bytes.entry.ref_ptr) }
     {
         rules::check_shape(n, bytes.len())?;
         Ok(Table { n: n as u8, bytes })
@@ -48,9 +49,9 @@ impl<'a> Table<'a> {
     #[tactic(auto, unfolding(crate::specs::Rules::table_check))]
     pub fn checked(n: usize, bytes: &'a [u8]) -> Result<Table<'a>, Refusal>
         ensures check { result_map_both (λ t. tt) (λ r. r) result ≡ table_check n bytes.now }
-        ensures size { IfOk result (λ t. t.n ≡ n) }
-        ensures bytes { IfOk result (λ t. t.bytes.now ≡ bytes.now) }
-        ensures place { IfOk result (λ t. t.bytes.ref_ptr ≡ bytes.entry.ref_ptr) }
+        ensures same_size { IfOk result (λ t. t.n ≡ n) }
+        ensures same_bytes { IfOk result (λ t. t.bytes.now ≡ bytes.now) }
+        ensures same_place { IfOk result (λ t. t.bytes.ref_ptr ≡ bytes.entry.ref_ptr) }
     {
         let table = Table::of(n, bytes)?;
         if !rules::all_lines(&table) {
@@ -134,10 +135,11 @@ impl<'a> Table<'a> {
     #[tactic(auto, using(crate::proofs::CellLaws::row_inside), unfolding(crate::specs::Table::row))]
     pub fn row(&self, i: Station) -> &'a [u8]
         requires { i.0 < self.now.n }
-        ensures value { result.now ≡ row self.now.n self.now.bytes.now i.0 }
-        ensures len { length result.now ≡ self.now.n }
-        ensures memory { result.ref_ptr.0 ≡ self.now.bytes.ref_ptr.0 }
-        ensures place { result.ref_ptr.1 ≡ self.now.bytes.ref_ptr.1 + row_start self.now.n i.0 }
+        ensures row_of_line { result.now ≡ row self.now.n self.now.bytes.now i.0 }
+        ensures row_len { length result.now ≡ self.now.n }
+        ensures same_memory { result.ref_ptr.0 ≡ self.now.bytes.ref_ptr.0 }
+        ensures place_of_row { result.ref_ptr.1
+            ≡ self.now.bytes.ref_ptr.1 + row_start self.now.n i.0 }
     {
         let a = cells::row_start(self.n, i);
         let e = a + self.n as usize;
@@ -152,8 +154,8 @@ impl<'a> TableMut<'a> {
 
     // The table, to be read.
     pub fn read(&self) -> Table<'_>
-        ensures size { result.n ≡ self.now.n }
-        ensures bytes { result.bytes.now ≡ self.now.bytes.now }
+        ensures same_size { result.n ≡ self.now.n }
+        ensures same_bytes { result.bytes.now ≡ self.now.bytes.now }
     {
         Table {
             n: self.n,
@@ -166,8 +168,8 @@ impl<'a> TableMut<'a> {
     pub fn put(&mut self, i: Station, c: u16, v: u8)
         requires line { i.0 < self.old.n }
         requires column { c < stride self.old.n }
-        ensures same { IsSameLoan self.old self.new }
-        ensures bytes { self.new.bytes.now ≡ set_cell self.old.n self.old.bytes.now i.0 c v }
+        ensures same_loan { IsSameLoan self.old self.new }
+        ensures byte_written { self.new.bytes.now ≡ set_cell self.old.n self.old.bytes.now i.0 c v }
     {
         let at = cells::line_start(self.n, i) + c as usize;
         self.bytes[at] = v;
@@ -176,8 +178,9 @@ impl<'a> TableMut<'a> {
     // The status of station i.
     pub fn set_status(&mut self, i: Station, status: Status)
         requires { i.0 < self.old.n }
-        ensures same { IsSameLoan self.old self.new }
-        ensures bytes { self.new.bytes.now ≡ set_cell self.old.n self.old.bytes.now i.0 status_column (status_byte status) }
+        ensures same_loan { IsSameLoan self.old self.new }
+        ensures status_written { self.new.bytes.now
+            ≡ set_cell self.old.n self.old.bytes.now i.0 status_column (status_byte status) }
     {
         self.put(i, cells::STATUS, u8::from(status));
     }
@@ -186,8 +189,9 @@ impl<'a> TableMut<'a> {
     pub fn put_line(&mut self, i: Station, line: &[u8])
         requires station { i.0 < self.old.n }
         requires width { length line.now ≡ stride self.old.n }
-        ensures same { IsSameLoan self.old self.new }
-        ensures bytes { self.new.bytes.now ≡ sets self.old.bytes.now (line_start self.old.n i.0) line.now }
+        ensures same_loan { IsSameLoan self.old self.new }
+        ensures line_written { self.new.bytes.now
+            ≡ sets self.old.bytes.now (line_start self.old.n i.0) line.now }
     {
         let a = cells::line_start(self.n, i);
         let e = a + line.len();
@@ -198,8 +202,9 @@ impl<'a> TableMut<'a> {
     pub fn suspect(&mut self, i: Station, k: Station)
         requires line { i.0 < self.old.n }
         requires suspected { k.0 < self.old.n }
-        ensures same { IsSameLoan self.old self.new }
-        ensures bytes { self.new.bytes.now ≡ set_cell self.old.n self.old.bytes.now i.0 (head + k.0) 1 }
+        ensures same_loan { IsSameLoan self.old self.new }
+        ensures suspicion_written { self.new.bytes.now
+            ≡ set_cell self.old.n self.old.bytes.now i.0 (head + k.0) 1 }
     {
         self.put(i, cells::HEAD + k.0 as u16, 1);
     }

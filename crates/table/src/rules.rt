@@ -1,6 +1,6 @@
 // The line rules and the check of a table: refusals 1 to 4 (document 01, "The lent table" and "Refusal list"; request C-18).
 // Within a line bools are joined by `&` and `|`, which make no branch: where a branch was measured to be faster an `if` stands.
-ghost use Rattle.std.specs.Prelude.{◌≡◌, ◌<◌, length};
+ghost use Rattle.std.specs.Prelude.{◌≡◌, ◌<◌};
 ghost use Rattle.lists.specs.Search.{every};
 ghost use Rattle.table.specs.Status.{status_byte};
 ghost use Rattle.table.specs.Table.{live};

@@ -14,8 +14,8 @@ pub fn is_size(n: usize) -> bool
 
 // The level of a distance.
 pub fn level_of(m: Distance) -> Level
-    ensures result_value { result.0 ≡ level m.0 }
-    ensures result_bound { result.0 ≤ 8 }
+    ensures is_level { result.0 ≡ level m.0 }
+    ensures upper_bound { result.0 ≤ 8 }
 {
     let zeros = u8::leading_zeros(m.0);
     Level((8 - zeros) as u8)
@@ -31,7 +31,7 @@ pub fn dimension_of(n: u8) -> Level
 
 // How many distances there are in a plant of n stations, 0 included.
 pub fn distances(n: u8) -> u16
-    ensures value { result ≡ distances n }
+    ensures number_of_distances { result ≡ distances n }
     ensures upper_bound { result ≤ 256 }
 {
     let d = dimension_of(n);

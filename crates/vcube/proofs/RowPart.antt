@@ -1,10 +1,10 @@
 -- The part of the table that begins at the row's offset and has the row's length is the row of document 01, the empty part where it is refused.
 -- Assumes nothing.
-use mathlib.Core.Path.{◌≡◌, refl, sym}
+use mathlib.Core.Path.{◌≡◌, refl, sym, ap, ◌∙◌}
 use mathlib.Core.List.{List}
 use Prim.Native.Nat.{ℕ, ◌+◌, ◌-◌, min}
 use native.Mathlib.Omega.{arith}
-use Rattle.std.specs.Prelude.{Ok, Err, []}
+use Rattle.std.specs.Prelude.{Ok, Err, [], slice_range}
 use lib.ListN.{length, take, drop}
 use Rattle.table.specs.Table.{row, row_start}
 use Rattle.station.specs.Calls.{row_check, row_part, row_offset}
@@ -25,7 +25,10 @@ row-part-out n t i = pick (row_check n t i) refl
     pick (Err r) e = refl
 
 row_lies : (n : ℕ) (t : List ℕ) (i start bytes : ℕ) → start ≡ row_offset n t i → bytes ≡ length (row_part n t i) → IsRowAt n t i start bytes
-row_lies n t i start bytes s b = let e : start + bytes - start ≡ bytes = omega arith in rw (e, b, s) (row-part-out n t i)
+row_lies n t i start bytes s b =
+    let e : start + bytes - start ≡ bytes = omega arith in
+    let same : slice_range t start (start + bytes) ≡ take bytes (drop start t) = ap (λ k. take k (drop start t)) e in
+    same ∙ rw (b, s) (row-part-out n t i)
 
 -- of a row that is not refused, and of one that is, by the station's byte
 pub row_at_ok : (n : ℕ) (t : List ℕ) (x b : ℕ) (y : Unit {0}) → b ≡ min x 255 → row_check n t b ≡ Ok y → IsRowAt n t x (row_start n b) n

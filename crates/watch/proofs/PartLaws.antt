@@ -1,6 +1,6 @@
 -- Laws of the lines of an input as the parts between its line feeds.
 -- Assumes nothing.
-use mathlib.Core.Path.{◌≡◌, refl, ap, ◌∙◌}
+use mathlib.Core.Path.{◌≡◌, refl, sym, ap, ◌∙◌}
 use mathlib.Core.Bool.{Bool, true, false, cond}
 use mathlib.Core.List.{List, [], ◌∷◌, ◌++◌}
 use Prim.Native.Nat.{ℕ, suc, ◌+◌, ◌-◌, ◌<◌}
@@ -11,7 +11,7 @@ use lib.Dec.{eqb, ltb}
 use lib.ListN.{length, drop}
 use Rattle.std.specs.Prelude.{Option, None, Some}
 use Rattle.std.specs.List.{slice_split, onto_first}
-use Rattle.watch.specs.Input.{is_line_feed, on_first, lines, entry_of, reading_of, read_entries, read_lines, read_up_to, number_of}
+use Rattle.watch.specs.Input.{is_line_feed, on_first, lines, entry_of, Reading, reading_of, read_entries, read_lines, read_up_to, number_of}
 
 abbrev pub parts : List ℕ → List (List ℕ)
 parts t = slice_split is_line_feed t
@@ -45,6 +45,15 @@ module _ (room n k : ℕ) (s line : List ℕ) (ls : List (List ℕ)) (o : Option
   pub part-next : (x y : ℕ) → o ≡ Some (x, y) → read_entries room n k s (line ∷ ls) ≡ read_entries room n (k + 1) (s ++ (x ∷ y ∷ [])) ls
   unfolding read_entries
   part-next x y z = rw (← told, z, add-one)
+
+-- of a whole reading that goes on like this behind k lines: the next line is no entry or has no room, or it is one
+module _ (room n k : ℕ) (s line : List ℕ) (ls : List (List ℕ)) (whole : Reading) (o : Option (ℕ × ℕ))
+    (on : read_entries room n k s (drop k ls) ≡ whole) (cut : drop k ls ≡ line ∷ drop (k + 1) ls) (told : o ≡ cond (ltb k room) (entry_of line) None) where
+  pub read-stop : o ≡ None → whole ≡ reading_of (k + 2) n k s
+  read-stop z = sym on ∙ ap (read_entries room n k s) cut ∙ part-stop room n k s line (drop (k + 1) ls) o told z
+
+  pub read-next : (x y : ℕ) → o ≡ Some (x, y) → read_entries room n (k + 1) (s ++ (x ∷ y ∷ [])) (drop (k + 1) ls) ≡ whole
+  read-next x y z = sym (part-next room n k s line (drop (k + 1) ls) o told x y z) ∙ sym (ap (read_entries room n k s) cut) ∙ on
 
 pub parts-empty : (room : ℕ) → read_lines room (parts []) ≡ read_up_to room []
 unfolding read_lines read_up_to lines number_of

@@ -38,7 +38,8 @@ impl Error for Unread {}
 // entry for which the schedule has no room counts as unreadable.
 pub fn parse(input: &[u8], schedule: &mut [u8]) -> Result<Parsed, Unread>
     ensures answer { result ≡ answer_of (read_into schedule.old input.now) }
-    ensures schedule_after { schedule.new ≡ sets schedule.old 0 (read_into schedule.old input.now).schedule }
+    ensures schedule_after { let entries = (read_into schedule.old input.now).schedule in
+        schedule.new ≡ sets schedule.old 0 entries }
 {
     let room = room_for(schedule.len());
     let text = without_last_feed(input);
@@ -69,9 +70,9 @@ pub fn parse(input: &[u8], schedule: &mut [u8]) -> Result<Parsed, Unread>
 
 // The input without the line feed at its end, if it has one.
 fn without_last_feed(input: &[u8]) -> &[u8]
-    ensures read { (room : ℕ)
+    ensures reading { (room : ℕ)
         → read_lines room (slice_split is_line_feed result.now) ≡ read_up_to room input.now }
-    ensures others { drop 1 (slice_split is_line_feed result.now) ≡ drop 1 (lines input.now) }
+    ensures lines_behind { drop 1 (slice_split is_line_feed result.now) ≡ drop 1 (lines input.now) }
 {
     input.strip_suffix(b"\n").unwrap_or(input)
 }
@@ -87,9 +88,9 @@ fn room_for(len: usize) -> usize
 // moves on, no proof knows anything after the loop.
 fn put_entry(schedule: &mut [u8], k: usize, entry: Entry)
     requires { 2 * k + 2 ≤ length schedule.old }
-    ensures schedule_after { take (2 * k + 2) schedule.new
+    ensures entry_written { take (2 * k + 2) schedule.new
         ≡ take (2 * k) schedule.old ++ (kind_byte entry.kind ∷ entry.station.0 ∷ []) }
-    ensures schedule_unchanged { drop (2 * k + 2) schedule.new ≡ drop (2 * k + 2) schedule.old }
+    ensures rest_unchanged { drop (2 * k + 2) schedule.new ≡ drop (2 * k + 2) schedule.old }
 {
     schedule[2 * k..2 * k + 2].copy_from_slice(&entry.bytes());
 }

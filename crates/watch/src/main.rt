@@ -30,7 +30,7 @@ fn main(rt: HostRuntime) {
 // Reads until buf is full, the input ends or a read fails, and answers how many bytes it put at the start of buf: the front of the input.
 fn read_full<R: Read>(input: &mut R, buf: &mut [u8]) -> usize
     ensures upper_bound { result ≤ length buf.new }
-    ensures bytes { Consumes (R.remaining input.old) (R.remaining input.new) (take result buf.new) }
+    ensures consumed { Consumes (R.remaining input.old) (R.remaining input.new) (take result buf.new) }
 {
     let mut done = 0;
     // Counted by hand: a read may bring less than there is room for, and `read_to_end` wants a heap.

@@ -18,7 +18,7 @@ pub fn watch_plant(
     table: &mut [u8; cells::GREATEST_TABLE],
     sheet: &mut [u8; 16384],
 ) -> Result<Ran, Unread>
-    ensures value { watched_with result sheet.new ≡ watched sheet.old input.now }
+    ensures answer_and_sheet { watched_with result sheet.new ≡ watched sheet.old input.now }
 
     // What follows so many bytes does not matter.
     ensures decided { (rest : List ℕ) → length input.now ≡ deciding
@@ -46,7 +46,8 @@ fn carry_out(
 
 // Makes the table fresh and runs the schedule with zero tallies.
 fn run_fresh(size: usize, schedule: &[u8], table: &mut [u8], sheet: &mut [u8]) -> Ran
-    ensures { outcome_with result table.new sheet.new ≡ run size (state_of (fresh_after size table.old) 0 0) schedule.now sheet.old }
+    ensures { let start = state_of (fresh_after size table.old) 0 0 in
+        outcome_with result table.new sheet.new ≡ run size start schedule.now sheet.old }
 {
     let _ = fresh::fresh_table(size, table);
     run::run(size, table, Tally::default(), schedule, sheet)
@@ -55,7 +56,7 @@ fn run_fresh(size: usize, schedule: &[u8], table: &mut [u8], sheet: &mut [u8]) -
 // The length of the part of the table that a plant of this size has; 0 for what is no size, which the run refuses: of an Option the caller would
 // take 0 for none.
 fn table_part(size: usize) -> usize
-    ensures value { is_size size ≡ true → result ≡ table_length size }
+    ensures of_a_size { is_size size ≡ true → result ≡ table_length size }
     ensures upper_bound { result ≤ greatest_table }
 {
     if !sizes::is_size(size) {

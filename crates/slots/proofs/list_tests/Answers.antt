@@ -2,12 +2,12 @@
 use Rattle.std.proofs.Common.{◌≡◌, ◌<◌, ◌+◌, refl, sym, ◌∙◌, ap, length, length-append, [], ◌∷◌, arith, rules, tests}
 use Rattle.std.proofs.lemmas.Iterator.{YieldsList-from_range}
 use Rattle.std.proofs.lemmas.Iterator.Consumers.{YieldsList-at, YieldsList-from_filter, YieldsList-turn, YieldsList-end}
-use Rattle.lists.proofs.Enumerated.{write-next, map-same}
+use Rattle.lists.proofs.Enumerated.{map-same}
 use Rattle.station.specs.Groups.{station_at}
 use Rattle.station.specs.Tests.{due, due_distances}
 use Rattle.station.proofs.DueLaws.{due-zero}
 use Rattle.slots.specs.Slots.{tested, tests_due}
-use Rattle.slots.proofs.ListLaws.{walked-is, walked-turn}
+use Rattle.slots.proofs.ListLaws.{walked-is, walked-turn, written-next}
 use Rattle.slots.proofs.list_tests.Goals as goal
 use Rattle.slots.proofs.list_tests.Goals.{In-Some, In-None}
 
@@ -16,12 +16,15 @@ loop-m-init c = record { counted = refl; listed = refl }
 
 turn : (c : In-Some) → (c.in-Some.m < 256) × (length c.loop-m.yielded + 1 < 256)
 turn c =
-    walked-turn _ _ _ c.distances-end.ensures.value c.distances-end.ensures.upper_bound (due-zero _ _) c.loop-m.yielded c.in-Some.m (YieldsList-turn
-    (YieldsList-at c.into_iter-m-iterator.ensures.into_iter_gives
-    (YieldsList-from_filter _ (due c.args.row.now c.args.i.0) (YieldsList-at c.filter-m-items.ensures.source
-    (YieldsList-from_range 0 c.distances-end.result c.distances-end.result (search rules) (omega arith)))
-    c.filter-m-items.ensures.closure (λ x r q k. search (rules, tests))))
-    c.loop-m.yielded _ c.loop-m.yielded_by _ _ _ c.in-Some.is c.next.ensures.steps)
+    let end = c.distances-end.ensures in
+    let filtered = c.filter-m-items.ensures in
+    let all = YieldsList-from_range 0 c.distances-end.result c.distances-end.result (search rules) (omega arith) in
+    let walked = YieldsList-at filtered.source all in
+    let here =
+    YieldsList-turn (YieldsList-at c.into_iter-m-iterator.ensures.into_iter_gives
+    (YieldsList-from_filter _ (due c.args.row.now c.args.i.0) walked filtered.closure (λ x r q k. search (rules, tests))))
+    c.loop-m.yielded _ c.loop-m.yielded_by _ _ _ c.in-Some.is c.next.ensures.steps in
+    walked-turn _ _ _ end.number_of_distances end.upper_bound (due-zero _ _) c.loop-m.yielded c.in-Some.m here
 
 pub overflow_cast-m : goal.overflow_cast-m
 overflow_cast-m c = omega (arith, (turn (goal.at.overflow_cast-m c).In-Some).0)
@@ -32,25 +35,28 @@ overflow_add-count c = omega (arith, (turn (goal.at.overflow_add-count c).In-Som
 pub loop-m-preserved : goal.loop-m-preserved
 loop-m-preserved c =
     let i = c.loop-m.invariant in
+    let ms = c.loop-m.yielded in
     record {
-      counted = omega (arith, i.counted, length-append c.loop-m.yielded (c.in-Some.m ∷ []));
-      listed = rw (c.put.ensures, c.lookup.ensures) (write-next (station_at c.args.i.0) _ _ c.loop-m.yielded _ _ i.counted i.listed);
+      counted = omega (arith, i.counted, length-append ms (c.in-Some.m ∷ []));
+      listed = written-next (station_at c.args.i.0) _ _ _ ms _ _ _ c.put.ensures c.lookup.ensures i.counted i.listed;
     }
 
 all : (c : In-None) → c.loop-m.yielded ≡ due_distances c.args.row.now c.args.i.0 c.args.n
 unfolding due_distances
 all c =
-    let e = YieldsList-end
-    (YieldsList-at c.into_iter-m-iterator.ensures.into_iter_gives
-    (YieldsList-from_filter _ (due c.args.row.now c.args.i.0) (YieldsList-at c.filter-m-items.ensures.source
-    (YieldsList-from_range 0 c.distances-end.result c.distances-end.result (search rules) (omega arith)))
-    c.filter-m-items.ensures.closure (λ x r q k. search (rules, tests))))
+    let end = c.distances-end.ensures in
+    let filtered = c.filter-m-items.ensures in
+    let all = YieldsList-from_range 0 c.distances-end.result c.distances-end.result (search rules) (omega arith) in
+    let walked = YieldsList-at filtered.source all in
+    let whole =
+    YieldsList-end (YieldsList-at c.into_iter-m-iterator.ensures.into_iter_gives
+    (YieldsList-from_filter _ (due c.args.row.now c.args.i.0) walked filtered.closure (λ x r q k. search (rules, tests))))
     c.loop-m.yielded _ c.loop-m.yielded_by _ _ c.in-None.is c.next.ensures.steps in
-    sym (map-same c.loop-m.yielded) ∙ e.0 ∙ walked-is _ _ _ c.distances-end.ensures.value c.distances-end.ensures.upper_bound
+    sym (map-same c.loop-m.yielded) ∙ whole.0 ∙ walked-is _ _ _ end.number_of_distances end.upper_bound
 
-pub returns-clause-value : goal.returns-clause-value
+pub returns-clause-count : goal.returns-clause-count
 unfolding tests_due
-returns-clause-value c = c.loop-m.invariant.counted ∙ ap length (all c)
+returns-clause-count c = c.loop-m.invariant.counted ∙ ap length (all c)
 
 pub returns-clause-list_after : goal.returns-clause-list_after
 unfolding tested

@@ -12,7 +12,7 @@ loop-j-preserved c =
     let i = c.loop-j.invariant in
     let t = c.tests_with.ensures in
     record {
-      most = c.max-most.ensures ∙ greatest-next _ _ _ _ i.most (rw i.same at t.value);
+      most = c.max-most.ensures ∙ greatest-next _ _ _ _ i.most (rw i.same at t.count);
       same = t.row_unchanged ∙ i.same;
     }
 
@@ -21,4 +21,4 @@ unfolding most_tests
 returns c =
     let i = c.loop-j.invariant in
     let e : c.loop-j.j ≡ c.args.n = omega arith in
-    record { value = rw e at i.most; row_unchanged = i.same }
+    record { most = rw e at i.most; row_unchanged = i.same }

@@ -12,7 +12,7 @@ loop-i-preserved c =
     let i = c.loop-i.invariant in
     let t = c.most_tests.ensures in
     record {
-      most = c.max-most.ensures ∙ greatest-next _ _ _ _ i.most (rw i.same at t.value);
+      most = c.max-most.ensures ∙ greatest-next _ _ _ _ i.most (rw i.same at t.most);
       same = t.row_unchanged ∙ i.same;
     }
 
@@ -21,4 +21,4 @@ unfolding most_of_boards
 returns c =
     let i = c.loop-i.invariant in
     let e : c.loop-i.i ≡ c.args.n = omega arith in
-    record { value = rw e at i.most; row_unchanged = i.same }
+    record { most = rw e at i.most; row_unchanged = i.same }

@@ -12,14 +12,18 @@ use Rattle.slots.proofs.tests.Goals.{After-count}
 
 counted : (c : After-count) → c.count.result ≡ length (filter (due c.args.row.now c.args.i.0) (range_with_len 0 c.distances-end.result))
 counted c =
+    let filtered = c.filter.ensures in
+    let all = YieldsList-from_range 0 c.distances-end.result c.distances-end.result (search rules) (omega arith) in
+    let walked = YieldsList-at filtered.source all in
     count_from_yields_List _ _ c.count.ensures.ran
-    (YieldsList-from_filter _ (due c.args.row.now c.args.i.0) (YieldsList-at c.filter.ensures.source
-    (YieldsList-from_range 0 c.distances-end.result c.distances-end.result (search rules) (omega arith)))
-    c.filter.ensures.closure (λ x r q k. search (rules, tests)))
+    (YieldsList-from_filter _ (due c.args.row.now c.args.i.0) walked filtered.closure (λ x r q k. search (rules, tests)))
 
 pub overflow_cast-result : goal.overflow_cast-result
-overflow_cast-result c = omega (arith, counted c, walked-few (due c.args.row.now c.args.i.0) _ _ c.distances-end.ensures.value c.distances-end.ensures.upper_bound (due-zero _ _))
+overflow_cast-result c =
+    let end = c.distances-end.ensures in
+    let few = walked-few (due c.args.row.now c.args.i.0) _ _ end.number_of_distances end.upper_bound (due-zero _ _) in
+    omega (arith, counted c, few)
 
 pub returns : goal.returns
 unfolding tests_due due_distances
-returns c = counted c ∙ ap length (walked-is _ _ _ c.distances-end.ensures.value c.distances-end.ensures.upper_bound)
+returns c = counted c ∙ ap length (walked-is _ _ _ c.distances-end.ensures.number_of_distances c.distances-end.ensures.upper_bound)

@@ -22,13 +22,13 @@ pub next_station-i-requires : goal.next_station-i-requires
 next_station-i-requires c =
     let l = c.loop-tally.invariant in
     let r = grant-ready _ _ _ _ l.led l.driving in
-    rw (c.read.ensures.size, c.read.ensures.bytes, l.loan.size) (record { table_obeys = r.0; someone_live = r.1; last_below = l.below })
+    rw (c.read.ensures.same_size, c.read.ensures.same_bytes, l.loan.size) (record { table_obeys = r.0; someone_live = r.1; last_below = l.below })
 
 pub take_turn-held-requires : goal.take_turn-held-requires
 take_turn-held-requires c =
     let l = c.loop-tally.invariant in
     let r = turn-ready _ _ _ _ l.led l.driving (sym c.is_full.ensures ∙ c.if-is_full.false) in
-    let next = rw (c.read.ensures.size, c.read.ensures.bytes, l.loan.size) at c.next_station-i.ensures in
+    let next = rw (c.read.ensures.same_size, c.read.ensures.same_bytes, l.loan.size) at c.next_station-i.ensures in
     rw l.loan.size (record { table_obeys = r.0; turn_taken = rw next r.1 })
 
 pub overflow_add-grants : goal.overflow_add-grants
@@ -43,13 +43,13 @@ loop-tally-preserved c =
     let i = l.invariant in
     let q = stand_at (state_with l.table.bytes.now l.held) (last_number l.before) in
     let fits = sym c.is_full.ensures ∙ c.if-is_full.false in
-    let next = rw (c.read.ensures.size, c.read.ensures.bytes, i.loan.size) at c.next_station-i.ensures in
+    let next = rw (c.read.ensures.same_size, c.read.ensures.same_bytes, i.loan.size) at c.next_station-i.ensures in
     let t = c.take_turn-held.ensures in
-    let turned = turned-is _ q _ _ next (rw i.loan.size at t.result_after) in
+    let turned = turned-is _ q _ _ next (rw i.loan.size at t.state_after) in
     let r = c.read-in-loop-tally.ensures in
-    let open-still = rw (r.size, r.bytes, t.same.size, i.loan.size) at (sym c.has_ended-ended.ensures ∙ c.if-ended.false) in
+    let open-still = rw (r.same_size, r.same_bytes, t.same_loan.size, i.loan.size) at (sym c.has_ended-ended.ensures ∙ c.if-ended.false) in
     record {
-      loan = record { reference = t.same.reference ∙ i.loan.reference; size = t.same.size ∙ i.loan.size };
+      loan = record { reference = t.same_loan.reference ∙ i.loan.reference; size = t.same_loan.size ∙ i.loan.size };
       below = rw next (granted-below _ _ _ q i.led i.driving);
       led = turned_on _ _ _ q i.led i.driving fits _ turned;
       driving = drives-on _ _ _ q i.led i.driving fits _ turned open-still;
@@ -67,15 +67,15 @@ returns c =
           (record { same_loan = i.loan; outcome = stop.0; stopped = stop.1 })
       | else-is_full+then-ended w ↦
           let fits = sym c.is_full.ensures ∙ w.if-is_full.false in
-          let next = rw (w.read.ensures.size, w.read.ensures.bytes, i.loan.size) at w.next_station-i.ensures in
+          let next = rw (w.read.ensures.same_size, w.read.ensures.same_bytes, i.loan.size) at w.next_station-i.ensures in
           let t = w.take_turn-held.ensures in
-          let turned = turned-is _ q _ _ next (rw i.loan.size at t.result_after) in
+          let turned = turned-is _ q _ _ next (rw i.loan.size at t.state_after) in
           let r = w.read-in-loop-tally.ensures in
-          let over = rw (r.size, r.bytes, t.same.size, i.loan.size) at (sym w.has_ended-ended.ensures ∙ w.if-ended.true) in
+          let over = rw (r.same_size, r.same_bytes, t.same_loan.size, i.loan.size) at (sym w.has_ended-ended.ensures ∙ w.if-ended.true) in
           let stop = end-stop _ _ _ q i.led i.driving fits _ turned over in
           rw (c.last_number.ensures, w.table-is, w.held-is, w.before-is, w.grants-is, w.stopped-is)
           (record {
-            same_loan = record { reference = t.same.reference ∙ i.loan.reference; size = t.same.size ∙ i.loan.size };
+            same_loan = record { reference = t.same_loan.reference ∙ i.loan.reference; size = t.same_loan.size ∙ i.loan.size };
             outcome = stop.0;
             stopped = stop.1;
           })

@@ -17,4 +17,4 @@ loop-x-preserved c =
     (same_next _ _ _ _ _ _ _ _ _ i.0 s.0 s.1 c.greater-apart.ensures, omega (arith, rw (s.0, s.1) at i.1))
 
 pub returns : goal.returns
-returns c = let i = c.loop-x.invariant in same_done _ _ _ _ i.0 i.1 (λ x. x.1.0) (λ x. x.1.0) c.in-None.ensures.steps
+returns c = let i = c.loop-x.invariant in same_done _ _ _ _ _ i.0 i.1 (λ x. x.1.0) (λ x. x.1.0) c.in-None.ensures.steps

@@ -7,6 +7,6 @@ use Rattle.plant.proofs.rounds.reset_lines.Given as goal
 
 abbrev pub invariant-loop-i : goal.invariant-loop-i
 invariant-loop-i l = record {
-  same : IsSameLoan l.initial.table l.table;
-  bytes : l.table.bytes.now ≡ after_steps (reset_line l.initial.table.n) l.i l.initial.table.bytes.now;
+  same_loan : IsSameLoan l.initial.table l.table;
+  lines_reset : l.table.bytes.now ≡ after_steps (reset_line l.initial.table.n) l.i l.initial.table.bytes.now;
 }

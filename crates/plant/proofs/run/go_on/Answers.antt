@@ -16,7 +16,7 @@ returns-in-Err-clause-run c =
     let l = c.loop-kind in
     let i = l.invariant in
     let h : l.kind-index < length c.args.schedule.now / 2 = omega (arith, c.as_chunks.ensures.front_len) in
-    let r = rw (c.read.ensures.size, c.read.ensures.bytes, i.loan.size, c.as_chunks.ensures.front) at c.in-Err.ensures.check in
+    let r = rw (c.read.ensures.same_size, c.read.ensures.same_bytes, i.loan.size, c.as_chunks.ensures.front) at c.in-Err.ensures.check in
     let s = state_with l.lent.bytes.now l.ran.tally in
     rw (sym i.goes ∙ go-stopped c.args.table.now.n l.kind-index s l.sheet c.args.schedule.now _ h (sym r), i.count) (search rules)
 
@@ -24,7 +24,7 @@ pub take_entry-ran-requires : goal.take_entry-ran-requires
 take_entry-ran-requires c =
     let l = c.loop-kind in
     let i = l.invariant in
-    let z = rw (c.read.ensures.size, c.read.ensures.bytes) at (ap number_of_result (sym c.in-Ok.ensures.check)) in
+    let z = rw (c.read.ensures.same_size, c.read.ensures.same_bytes) at (ap number_of_result (sym c.in-Ok.ensures.check)) in
     record {
       table_obeys = rw i.loan.size (accepted-number _ _ i.rules);
       entry_taken =
@@ -42,14 +42,14 @@ loop-kind-preserved c =
     let h : l.kind-index < length c.args.schedule.now / 2 = omega (arith, a.front_len) in
     let s = state_with l.lent.bytes.now l.ran.tally in
     let e = entry_known c.in-Ok.entry in
-    let y = rw (c.read.ensures.size, c.read.ensures.bytes, i.loan.size) at (ap number_of_result (sym o.check)) in
+    let y = rw (c.read.ensures.same_size, c.read.ensures.same_bytes, i.loan.size) at (ap number_of_result (sym o.check)) in
     let z = subst (λ (x : Entry). entry_number n s x ≡ 0) (sym o.entry) y in
     let p = c.take_entry-ran.ensures in
-    let after = rw i.loan.size at p.result_after in
+    let after = rw i.loan.size at p.state_after in
     let line = rw i.loan.size at p.line_after in
     let w = line-back n s e l.sheet l.kind-index _ line (omega (arith, i.twice, h)) in
     record {
-      loan = record { reference = p.same.reference ∙ i.loan.reference; size = p.same.size ∙ i.loan.size };
+      loan = record { reference = p.same_loan.reference ∙ i.loan.reference; size = p.same_loan.size ∙ i.loan.size };
       twice = omega arith;
       rules = rw (ap (λ (z : State). z.table) after) (accepted-kept n s e i.rules z);
       count = omega arith;

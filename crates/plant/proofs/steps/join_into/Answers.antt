@@ -11,11 +11,11 @@ slice_bounds-join_row-end c =
     let t = c.args.table.now in
     omega (arith, row_inside t.n t.bytes.now c.args.i.0 t.fits c.requires)
 
-pub returns-clause-bytes : goal.returns-clause-bytes
-returns-clause-bytes c =
+pub returns-clause-row_joined : goal.returns-clause-row_joined
+returns-clause-row_joined c =
     let t = c.args.table.now in
     let i = c.args.i.0 in
-    let s = c.row_start-a.ensures.value in
+    let s = c.row_start-a.ensures.start_of_row in
     row_back t.n t.bytes.now i _ _ s
     ∙ ap (set_row t.n t.bytes.now i)
     (c.join_row.ensures ∙ ap (λ (r : List ℕ). union r c.args.other.now i) (row-part t.n t.bytes.now i _ s))

@@ -22,15 +22,15 @@ count_test-requires c =
 pub test_outcome-outcome-requires : goal.test_outcome-outcome-requires
 test_outcome-outcome-requires c =
     let p = c.requires in
-    let n = c.read.ensures.size ∙ c.count_test.ensures.same.size in
+    let n = c.read.ensures.same_size ∙ c.count_test.ensures.same_loan.size in
     record { tester_below = rw n p.tester_below; tested_below = rw (n, c.lookup-j.ensures) p.tested_below }
 
 pub apply_outcome-requires : goal.apply_outcome-requires
 apply_outcome-requires c =
     let a = c.args in
     let p = c.requires in
-    let n = c.count_test.ensures.same.size in
-    let e = c.test_outcome-outcome.ensures.tested_value ∙ c.lookup-j.ensures in
+    let n = c.count_test.ensures.same_loan.size in
+    let e = c.test_outcome-outcome.ensures.tested_station ∙ c.lookup-j.ensures in
     record {
       tester_below = rw n p.tester_below;
       tested_below = rw (n, e) p.tested_below;
@@ -38,13 +38,13 @@ apply_outcome-requires c =
     }
 
 pub leave_if_alone-requires : goal.leave_if_alone-requires
-leave_if_alone-requires c = rw (c.apply_outcome.ensures.same.size, c.count_test.ensures.same.size) c.requires.tester_below
+leave_if_alone-requires c = rw (c.apply_outcome.ensures.same_loan.size, c.count_test.ensures.same_loan.size) c.requires.tester_below
 
-pub returns-clause-bytes : goal.returns-clause-bytes
+pub returns-clause-test_made : goal.returns-clause-test_made
 unfolding testing
-returns-clause-bytes c =
+returns-clause-test_made c =
     let o = c.test_outcome-outcome.ensures in
     let a = c.apply_outcome.ensures in
     let t = c.count_test.ensures in
     let r = c.read.ensures in
-    rw (c.leave_if_alone.ensures.bytes, a.same.size, a.bytes, o.tested_value, o.outcome_value, r.size, r.bytes, t.same.size, t.bytes, c.lookup-j.ensures)
+    rw (c.leave_if_alone.ensures.left_if_alone, a.same_loan.size, a.outcome_applied, o.tested_station, o.outcome_number, r.same_size, r.same_bytes, t.same_loan.size, t.test_counted, c.lookup-j.ensures)

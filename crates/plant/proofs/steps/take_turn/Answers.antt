@@ -10,16 +10,16 @@ use Rattle.plant.proofs.steps.take_turn.Goals as goal
 
 pub next_test-m-requires : goal.next_test-m-requires
 next_test-m-requires c =
-    omega (arith, c.read.ensures.size)
+    omega (arith, c.read.ensures.same_size)
 
 pub returns-then-distances-m : goal.returns-then-distances-m
 unfolding turn turn_tested turn_outcome makes_test
 returns-then-distances-m c =
     let r = c.read.ensures in
-    let m = rw (r.size, r.bytes) at c.next_test-m.ensures in
-    let e = le-ltb _ _ (rw c.distances.ensures.value at c.if-distances-m.true) in
+    let m = rw (r.same_size, r.same_bytes) at c.next_test-m.ensures in
+    let e = le-ltb _ _ (rw c.distances.ensures.number_of_distances at c.if-distances-m.true) in
     let f = c.finish_pass.ensures in
-    rw (← m, e) (record { tested_value = refl; outcome_value = refl; same = f.same; bytes = f.bytes })
+    rw (← m, e) (record { tested_station = refl; outcome_number = refl; same_loan = f.same_loan; turn_made = f.pass_finished })
 
 pub make_test-requires : goal.make_test-requires
 unfolding makes_test
@@ -30,8 +30,8 @@ make_test-requires c =
     let r = c.read.ensures in
     let t = accepted a.n a.bytes.now p.table_obeys in
     let l = accepted-line a.n a.bytes.now t i p.station_below in
-    let m = rw (r.size, r.bytes) at c.next_test-m.ensures in
-    let end = c.distances.ensures.value in
+    let m = rw (r.same_size, r.same_bytes) at c.next_test-m.ensures in
+    let end = c.distances.ensures.number_of_distances in
     let e = lt-ltb _ _ (rw (end, m) at c.if-distances-m.false) in
     record {
       table_obeys = p.table_obeys;
@@ -45,7 +45,7 @@ pub returns : goal.returns
 unfolding turn turn_tested turn_outcome makes_test
 returns c =
     let r = c.read.ensures in
-    let m = rw (r.size, r.bytes) at c.next_test-m.ensures in
-    let e = lt-ltb _ _ (rw c.distances.ensures.value at c.if-distances-m.false) in
+    let m = rw (r.same_size, r.same_bytes) at c.next_test-m.ensures in
+    let e = lt-ltb _ _ (rw c.distances.ensures.number_of_distances at c.if-distances-m.false) in
     let o = c.make_test.ensures in
-    rw (← m, e) (record { tested_value = o.tested_value; outcome_value = o.outcome_value; same = o.same; bytes = o.bytes })
+    rw (← m, e) (record { tested_station = o.tested_station; outcome_number = o.outcome_number; same_loan = o.same_loan; turn_made = o.test_made })

@@ -1,6 +1,6 @@
 -- One more is asked.
 use Rattle.std.proofs.Common.{sym, add-one}
-use Rattle.lists.specs.Search.{every}
+use Rattle.lists.proofs.SearchLaws.{every-suc}
 use Rattle.lists.proofs.Loops.{every-start}
 use Rattle.saved.proofs.lines.all_seen.Goals as goal
 
@@ -8,5 +8,4 @@ pub loop-one-init : goal.loop-one-init
 loop-one-init c = sym (every-start _)
 
 pub loop-one-preserved : goal.loop-one-preserved
-unfolding every
-loop-one-preserved c = rw (add-one, c.loop-one.invariant)
+loop-one-preserved c = rw (add-one, every-suc, c.loop-one.invariant)

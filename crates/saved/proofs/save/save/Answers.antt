@@ -11,7 +11,7 @@ returns-clause-buffer_after c =
     let t = c.in_ok-table.ensures in
     let e = sym t.check in
     let long = c.if-buffer-n.false ∙ sym (save_long a.n a.table.now _ e a.tally) in
-    let opening = rw t.size at c.write_opening.ensures in
-    let lines = rw (t.size, t.bytes) at c.write_lines.ensures in
+    let opening = rw t.same_size at c.write_opening.ensures in
+    let lines = rw (t.same_size, t.same_bytes) at c.write_lines.ensures in
     let w = save_done a.n a.table.now _ e a.tally a.buffer.now _ _ c.if-buffer-n.false opening lines in
     rw (e, eq-eqb (length a.buffer.now) (length (saved a.n a.table.now a.tally)) long) w

@@ -23,9 +23,9 @@ write_line-requires c =
     let p = line_next _ _ c.args.table.now.fits _ _ _ _ i.most i.left s.0.1.0 (rw i.size at s.0.1.1) s.0.1.2 in
     let b = size-bounds _ c.args.table.now.sized in
     record {
-      low = omega arith;
-      short = omega arith;
-      inside = rw (p.1, s.1) (omega (arith, field-inside _ _ p.0));
+      station_low = omega arith;
+      line_short = omega arith;
+      field_inside = rw (p.1, s.1) (omega (arith, field-inside _ _ p.0));
     }
 
 pub loop-i-preserved : goal.loop-i-preserved

@@ -1,5 +1,5 @@
--- The claim is proved in proofs/Untested.antt.
-use Rattle.slots.proofs.Untested.{lists-counted}
+-- The claim is proved in proofs/UntestedLaws.antt.
+use Rattle.slots.proofs.UntestedLaws.{lists-counted}
 use Rattle.slots.proofs.claims.lists_counted.Goals as goal
 
 pub returns : goal.returns

@@ -1,5 +1,5 @@
--- The claim is proved in proofs/Untested.antt.
-use Rattle.slots.proofs.Untested.{nobody-left-out}
+-- The claim is proved in proofs/UntestedLaws.antt.
+use Rattle.slots.proofs.UntestedLaws.{nobody-left-out}
 use Rattle.slots.proofs.claims.nobody_left_out.Goals as goal
 
 pub returns : goal.returns

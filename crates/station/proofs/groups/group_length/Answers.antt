@@ -14,4 +14,4 @@ returns c =
     (YieldsList-from_range 0 c.width_of-w.result c.width_of-w.result refl (omega arith)))
     c.map.ensures.closure (λ x r q k. search rules)))
     c.filter.ensures.closure (λ x r q k. search (rules, tests)))
-    ∙ ap length (group-walk _ _ _ _ c.width_of-w.ensures.value)
+    ∙ ap length (group-walk _ _ _ _ c.width_of-w.ensures.width_of_level)

@@ -11,5 +11,5 @@ shifted (suc k) p h =
     let e : suc k - 1 ≡ k = omega arith in
     rw (e, (shift_one k 7 256 (omega arith) (omega arith)).0)
 
-pub returns-clause-value : goal.returns-clause-value
-returns-clause-value c = shifted c.args.s.0 c.requires.s_nonzero c.requires.s_top
+pub returns-clause-width_of_level : goal.returns-clause-width_of_level
+returns-clause-width_of_level c = shifted c.args.s.0 c.requires.level_above_0 c.requires.level_at_most_8

@@ -16,9 +16,9 @@ shifted d n e h = shift_one d 8 65536 (omega (arith, e, at-most-eight n h)) (ome
 pub overflow_shl-result : goal.overflow_shl-result
 overflow_shl-result c = omega (arith, c.dimension_of-d.ensures, at-most-eight c.args.n (omega arith))
 
-pub returns-clause-value : goal.returns-clause-value
+pub returns-clause-number_of_distances : goal.returns-clause-number_of_distances
 unfolding distances
-returns-clause-value c = rw c.dimension_of-d.ensures (shifted _ c.args.n refl (omega arith)).0
+returns-clause-number_of_distances c = rw c.dimension_of-d.ensures (shifted _ c.args.n refl (omega arith)).0
 
 pub returns-clause-upper_bound : goal.returns-clause-upper_bound
 returns-clause-upper_bound c =

@@ -16,5 +16,5 @@ digits m h = go (eq-zero-or-pos m)
         let t = leading_top 8 m p h in
         omega (arith, level-is m t.0 t.2 t.3)
 
-pub returns-clause-result_value : goal.returns-clause-result_value
-returns-clause-result_value c = digits c.args.m.0 (omega arith)
+pub returns-clause-is_level : goal.returns-clause-is_level
+returns-clause-is_level c = digits c.args.m.0 (omega arith)

@@ -6,7 +6,7 @@ use Rattle.std.proofs.lemmas.Iterator.Consumers.{YieldsList-at, YieldsList-turn,
 use Rattle.std.proofs.lemmas.Iterator.Splits.{YieldsList-from_slice_split}
 use Rattle.watch.specs.Input.{is_line_feed, lines, pair_of, reading_of, room_for, read_entries, read_lines, read_up_to, entry_of}
 use Rattle.watch.proofs.ReadLaws.{answer_stop, sets-part, rest-kept, taken-has}
-use Rattle.watch.proofs.PartLaws.{parts, parts-some, parts-unsized, parts-sized, part-stop, part-next}
+use Rattle.watch.proofs.PartLaws.{parts, parts-some, parts-unsized, parts-sized, read-stop, read-next}
 use Rattle.watch.proofs.input.parse.Goals as goal
 use Rattle.watch.proofs.input.parse.Goals.{In_default, In-Some-line, In-None}
 
@@ -18,13 +18,18 @@ started [] s t o f d h k e a = absurd (omega arith)
 started (y ∷ ys) s t None f d h k e a = absurd (a.runs.0 t k)
 started (y ∷ ys) s t (Some x) f d h k e a = let m = a.runs.1 x t k in (rw e (ap (λ z. z ∷ ys) (sym m.0)), record { runs = m.1 })
 
-begun : (c : In_default) → (parts c.without_last_feed-text.result.now ≡ c.unwrap_or-first.result.now ∷ drop 1 (parts c.without_last_feed-text.result.now))
-begun c = (started (parts c.without_last_feed-text.result.now) _ _ c.next.result c.unwrap_or-first.result _ (parts-some c.without_last_feed-text.result.now) c.next.ensures.steps c.unwrap_or-first.ensures (YieldsList-from_slice_split _ is_line_feed _ c.split-lines.ensures.rest c.split-lines.ensures.done c.split-lines.ensures.closure (λ x b q k. search (rules, tests)))).0
+begun : (c : In_default) → (let ps = parts c.without_last_feed-text.result.now in ps ≡ c.unwrap_or-first.result.now ∷ drop 1 ps)
+begun c =
+    let text = c.without_last_feed-text.result.now in
+    let split = c.split-lines.ensures in
+    (started (parts text) _ _ c.next.result c.unwrap_or-first.result _ (parts-some text) c.next.ensures.steps c.unwrap_or-first.ensures
+    (YieldsList-from_slice_split _ is_line_feed _ split.rest split.done split.closure (λ x b q k. search (rules, tests)))).0
 
 unsized : (c : In_default) → read_up_to (room_for (length c.args.schedule.now)) c.args.input.now ≡ reading_of 1 0 0 []
 unsized c =
     let room = room_for (length c.args.schedule.now) in
-    sym (c.without_last_feed-text.ensures.read room) ∙ ap (read_lines room) (begun c) ∙ parts-unsized room _ _ (sym c.read_number.ensures ∙ c.in_default.is)
+    let none = sym c.read_number.ensures ∙ c.in_default.is in
+    sym (c.without_last_feed-text.ensures.reading room) ∙ ap (read_lines room) (begun c) ∙ parts-unsized room _ _ none
 
 pub returns-in_default-clause-answer : goal.returns-in_default-clause-answer
 returns-in_default-clause-answer c = rw (unsized c)
@@ -35,69 +40,92 @@ returns-in_default-clause-schedule_after c = rw (unsized c)
 pub loop-line-init : goal.loop-line-init
 loop-line-init c =
     let room = room_for (length c.args.schedule.now) in
-    let first = (started (parts c.without_last_feed-text.result.now) _ _ c.next.result c.unwrap_or-first.result _ (parts-some c.without_last_feed-text.result.now) c.next.ensures.steps c.unwrap_or-first.ensures (YieldsList-from_slice_split _ is_line_feed _ c.split-lines.ensures.rest c.split-lines.ensures.done c.split-lines.ensures.closure (λ x b q k. search (rules, tests)))).0 in
+    let text = c.without_last_feed-text.result.now in
+    let split = c.split-lines.ensures in
+    let first = (started (parts text) _ _ c.next.result c.unwrap_or-first.result _ (parts-some text) c.next.ensures.steps c.unwrap_or-first.ensures
+    (YieldsList-from_slice_split _ is_line_feed _ split.rest split.done split.closure (λ x b q k. search (rules, tests)))).0 in
     let sized = parts-sized room c.in-Some.size _ _ (sym c.read_number.ensures ∙ c.in-Some.is) in
+    let behind = ap (read_entries room c.in-Some.size 0 []) c.without_last_feed-text.ensures.lines_behind in
     record {
       few = omega arith;
       room = c.room_for-room.ensures;
       counted = refl;
       kept = refl;
-      read = sym (sym (c.without_last_feed-text.ensures.read room) ∙ ap (read_lines room) first ∙ sized ∙ ap (read_entries room c.in-Some.size 0 []) c.without_last_feed-text.ensures.others);
+      read = sym (sym (c.without_last_feed-text.ensures.reading room) ∙ ap (read_lines room) first ∙ sized ∙ behind);
     }
 
 -- the lines behind the first are gone through
 turn : (c : In-Some-line) → (length c.loop-line.yielded < length (drop 1 (lines c.args.input.now)))
     × (c.in-Some-line.line.now ≡ get_or (drop 1 (lines c.args.input.now)) (length c.loop-line.yielded) c.in-Some-line.line.now)
 turn c =
-    let road = (started (parts c.without_last_feed-text.result.now) _ _ c.next.result c.unwrap_or-first.result _ (parts-some c.without_last_feed-text.result.now) c.next.ensures.steps c.unwrap_or-first.ensures (YieldsList-from_slice_split _ is_line_feed _ c.split-lines.ensures.rest c.split-lines.ensures.done c.split-lines.ensures.closure (λ x b q k. search (rules, tests)))).1 in
-    rw c.without_last_feed-text.ensures.others at (YieldsList-turn (YieldsList-at c.into_iter-line-iterator.ensures.into_iter_gives road) c.loop-line.yielded _ c.loop-line.yielded_by _ _ _ c.in-Some-line.is c.next-in-loop-line.ensures.steps)
+    let text = c.without_last_feed-text.result.now in
+    let split = c.split-lines.ensures in
+    let road = (started (parts text) _ _ c.next.result c.unwrap_or-first.result _ (parts-some text) c.next.ensures.steps c.unwrap_or-first.ensures
+    (YieldsList-from_slice_split _ is_line_feed _ split.rest split.done split.closure (λ x b q k. search (rules, tests)))).1 in
+    rw c.without_last_feed-text.ensures.lines_behind at (YieldsList-turn (YieldsList-at c.into_iter-line-iterator.ensures.into_iter_gives road)
+    c.loop-line.yielded _ c.loop-line.yielded_by _ _ _ c.in-Some-line.is c.next-in-loop-line.ensures.steps)
 
 ended : (c : In-None) → length c.loop-line.yielded ≡ length (drop 1 (lines c.args.input.now))
 ended c =
-    let road = (started (parts c.without_last_feed-text.result.now) _ _ c.next.result c.unwrap_or-first.result _ (parts-some c.without_last_feed-text.result.now) c.next.ensures.steps c.unwrap_or-first.ensures (YieldsList-from_slice_split _ is_line_feed _ c.split-lines.ensures.rest c.split-lines.ensures.done c.split-lines.ensures.closure (λ x b q k. search (rules, tests)))).1 in
-    rw c.without_last_feed-text.ensures.others at (YieldsList-end (YieldsList-at c.into_iter-line-iterator.ensures.into_iter_gives road) c.loop-line.yielded _ c.loop-line.yielded_by _ _ c.in-None.is c.next-in-loop-line.ensures.steps).1
+    let text = c.without_last_feed-text.result.now in
+    let split = c.split-lines.ensures in
+    let road = (started (parts text) _ _ c.next.result c.unwrap_or-first.result _ (parts-some text) c.next.ensures.steps c.unwrap_or-first.ensures
+    (YieldsList-from_slice_split _ is_line_feed _ split.rest split.done split.closure (λ x b q k. search (rules, tests)))).1 in
+    rw c.without_last_feed-text.ensures.lines_behind at (YieldsList-end (YieldsList-at c.into_iter-line-iterator.ensures.into_iter_gives road)
+    c.loop-line.yielded _ c.loop-line.yielded_by _ _ c.in-None.is c.next-in-loop-line.ensures.steps).1
 
-cut : (c : In-Some-line) → drop c.loop-line.entries (drop 1 (lines c.args.input.now)) ≡ c.in-Some-line.line.now ∷ drop (c.loop-line.entries + 1) (drop 1 (lines c.args.input.now))
+cut : (c : In-Some-line)
+    → (let ls = drop 1 (lines c.args.input.now) in drop c.loop-line.entries ls ≡ c.in-Some-line.line.now ∷ drop (c.loop-line.entries + 1) ls)
 cut c =
     let t = turn c in
     let l = drop 1 (lines c.args.input.now) in
     let k = c.loop-line.invariant.counted in
     rw (add-one, k, t.1) (drop-cons l (length c.loop-line.yielded) c.in-Some-line.line.now t.0)
 
-stopped : (c : In-Some-line) (o : Option (ℕ × ℕ)) → o ≡ (if nat_lt c.loop-line.entries c.room_for-room.result then entry_of c.in-Some-line.line.now else None) → o ≡ None
+-- what is said of the line's entry: it is that of the line, if there is room for one more
+abbrev Told : In-Some-line → Option (ℕ × ℕ) → Type 0
+Told c o = o ≡ (if nat_lt c.loop-line.entries c.room_for-room.result then entry_of c.in-Some-line.line.now else None)
+
+stopped : (c : In-Some-line) (o : Option (ℕ × ℕ)) → Told c o → o ≡ None
     → read_up_to (room_for (length c.args.schedule.now)) c.args.input.now
     ≡ reading_of (c.loop-line.entries + 2) c.in-Some.size c.loop-line.entries (take (2 * c.loop-line.entries) c.loop-line.schedule)
 stopped c o told none =
     let i = c.loop-line.invariant in
-    sym i.read ∙ ap (read_entries (room_for (length c.args.schedule.now)) c.in-Some.size c.loop-line.entries (take (2 * c.loop-line.entries) c.loop-line.schedule)) (cut c)
-    ∙ part-stop _ c.in-Some.size c.loop-line.entries _ c.in-Some-line.line.now _ o (rw i.room at told) none
+    let ls = drop 1 (lines c.args.input.now) in
+    read-stop _ c.in-Some.size c.loop-line.entries _ c.in-Some-line.line.now ls _ o i.read (cut c) (rw i.room at told) none
 
-gone : (c : In-Some-line) (o : Option (ℕ × ℕ)) (x y : ℕ) → o ≡ (if nat_lt c.loop-line.entries c.room_for-room.result then entry_of c.in-Some-line.line.now else None) → o ≡ Some (x, y)
-    → read_entries (room_for (length c.args.schedule.now)) c.in-Some.size (c.loop-line.entries + 1) (take (2 * c.loop-line.entries) c.loop-line.schedule ++ (x ∷ y ∷ [])) (drop (c.loop-line.entries + 1) (drop 1 (lines c.args.input.now)))
-    ≡ read_up_to (room_for (length c.args.schedule.now)) c.args.input.now
+gone : (c : In-Some-line) (o : Option (ℕ × ℕ)) (x y : ℕ) → Told c o → o ≡ Some (x, y)
+    → (let k = c.loop-line.entries in
+    read_entries (room_for (length c.args.schedule.now)) c.in-Some.size (k + 1) (take (2 * k) c.loop-line.schedule ++ (x ∷ y ∷ []))
+    (drop (k + 1) (drop 1 (lines c.args.input.now)))
+    ≡ read_up_to (room_for (length c.args.schedule.now)) c.args.input.now)
 gone c o x y told some =
     let i = c.loop-line.invariant in
-    sym (part-next _ c.in-Some.size c.loop-line.entries _ c.in-Some-line.line.now _ o (rw i.room at told) x y some)
-    ∙ sym (ap (read_entries (room_for (length c.args.schedule.now)) c.in-Some.size c.loop-line.entries (take (2 * c.loop-line.entries) c.loop-line.schedule)) (cut c)) ∙ i.read
+    let ls = drop 1 (lines c.args.input.now) in
+    read-next _ c.in-Some.size c.loop-line.entries _ c.in-Some-line.line.now ls _ o i.read (cut c) (rw i.room at told) x y some
 
 finished : (c : In-None) → read_up_to (room_for (length c.args.schedule.now)) c.args.input.now
     ≡ reading_of 0 c.in-Some.size c.loop-line.entries (take (2 * c.loop-line.entries) c.loop-line.schedule)
 unfolding read_entries
 finished c =
     let i = c.loop-line.invariant in
-    let none : drop c.loop-line.entries (drop 1 (lines c.args.input.now)) ≡ [] = drop_of_length-le (drop 1 (lines c.args.input.now)) {i = c.loop-line.entries} (omega (arith, ended c, i.counted)) in
-    sym i.read ∙ ap (read_entries (room_for (length c.args.schedule.now)) c.in-Some.size c.loop-line.entries (take (2 * c.loop-line.entries) c.loop-line.schedule)) none
+    let ls = drop 1 (lines c.args.input.now) in
+    let none : drop c.loop-line.entries ls ≡ [] = drop_of_length-le ls {i = c.loop-line.entries} (omega (arith, ended c, i.counted)) in
+    sym i.read ∙ ap (read_entries _ c.in-Some.size c.loop-line.entries (take (2 * c.loop-line.entries) c.loop-line.schedule)) none
 
 pub returns-in_default-entry_with_room-clause-answer : goal.returns-in_default-entry_with_room-clause-answer
 returns-in_default-entry_with_room-clause-answer c =
     let p = (goal.at.returns-in_default-entry_with_room-clause-answer c).In-Some-line in
-    rw (stopped p _ c.entry_with_room.ensures (ap (option_map pair_of) c.in_default-entry_with_room.is)) (answer_stop c.in-Some.size c.loop-line.entries (take (2 * c.loop-line.entries) c.loop-line.schedule))
+    let none = ap (option_map pair_of) c.in_default-entry_with_room.is in
+    let l = c.loop-line in
+    rw (stopped p _ c.entry_with_room.ensures none) (answer_stop c.in-Some.size l.entries (take (2 * l.entries) l.schedule))
 
 pub returns-in_default-entry_with_room-clause-schedule_after : goal.returns-in_default-entry_with_room-clause-schedule_after
 returns-in_default-entry_with_room-clause-schedule_after c =
     let p = (goal.at.returns-in_default-entry_with_room-clause-schedule_after c).In-Some-line in
+    let none = ap (option_map pair_of) c.in_default-entry_with_room.is in
     let l = c.loop-line in
-    rw (stopped p _ c.entry_with_room.ensures (ap (option_map pair_of) c.in_default-entry_with_room.is)) (sets-part l.schedule _ (2 * l.entries) (omega arith) (omega arith) l.invariant.kept)
+    rw (stopped p _ c.entry_with_room.ensures none) (sets-part l.schedule _ (2 * l.entries) (omega arith) (omega arith) l.invariant.kept)
 
 pub loop-line-preserved : goal.loop-line-preserved
 loop-line-preserved c =
@@ -112,8 +140,8 @@ loop-line-preserved c =
       few = omega (arith, h);
       room = l.invariant.room;
       counted = omega (arith, l.invariant.counted, length-append l.yielded (c.in-Some-line.line ∷ []));
-      kept = rest-kept l.entries l.schedule _ _ w.schedule_unchanged l.invariant.kept;
-      read = rw (d, w.schedule_after) (gone p _ _ _ told some-is);
+      kept = rest-kept l.entries l.schedule _ _ w.rest_unchanged l.invariant.kept;
+      read = rw (d, w.entry_written) (gone p _ _ _ told some-is);
     }
 
 pub returns-clause-answer : goal.returns-clause-answer

@@ -9,6 +9,7 @@ invariant-loop-line l = record {
   room : l.room ≡ room_for (length l.initial.schedule);
   counted : l.entries ≡ length l.yielded;
   kept : drop (2 * l.entries) l.schedule ≡ drop (2 * l.entries) l.initial.schedule;
-  read : read_entries (room_for (length l.initial.schedule)) l.size l.entries (take (2 * l.entries) l.schedule) (drop l.entries (drop 1 (lines l.input)))
+  read : read_entries (room_for (length l.initial.schedule)) l.size l.entries (take (2 * l.entries) l.schedule)
+      (drop l.entries (drop 1 (lines l.input)))
       ≡ read_up_to (room_for (length l.initial.schedule)) l.input;
 }

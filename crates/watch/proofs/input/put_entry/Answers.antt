@@ -8,16 +8,16 @@ use Rattle.watch.proofs.input.put_entry.Goals as goal
 pair : Entry → List ℕ
 pair e = kind_byte e.kind ∷ e.station.0 ∷ []
 
-pub returns-clause-schedule_after : goal.returns-clause-schedule_after
+pub returns-clause-entry_written : goal.returns-clause-entry_written
 unfolding pair
-returns-clause-schedule_after c =
+returns-clause-entry_written c =
     let a = 2 * c.args.k in
     rw (c.copy_from_slice.ensures.after, c.bytes.ensures)
     (take-put_mid a (a + 2 - a) c.args.schedule.now (pair c.args.entry) (a + 2) (omega arith) (omega arith))
 
-pub returns-clause-schedule_unchanged : goal.returns-clause-schedule_unchanged
+pub returns-clause-rest_unchanged : goal.returns-clause-rest_unchanged
 unfolding pair
-returns-clause-schedule_unchanged c =
+returns-clause-rest_unchanged c =
     let a = 2 * c.args.k in
     rw (c.copy_from_slice.ensures.after, c.bytes.ensures)
     (drop-put_mid a (a + 2 - a) c.args.schedule.now (pair c.args.entry) (a + 2) (omega arith) (omega arith) (omega arith))

@@ -28,19 +28,26 @@ returns-then-most-digits c = elim c.then-most-digits.branch [
   | then-most-digits-via-then-most-digits w ↦ sym (number_long c.args.most c.args.digits.now w.if-most-digits.true)
   | then-most-digits-via-else-most-digits+then-not-all w ↦
       let e : w.all.result ≡ list_all is_digit c.args.digits.now =
-      all_from_yields_List is_digit _ _ w.all.result w.all.ensures.ran (YieldsList-from_slice c.args.digits.now cc) (λ x b q k. search (rules, tests)) in
+      all_from_yields_List is_digit _ _ w.all.result w.all.ensures.ran (YieldsList-from_slice c.args.digits.now cc)
+      (λ x b q k. search (rules, tests)) in
       sym (number_other c.args.most c.args.digits.now (sym e ∙ w.if-not-all.true))
 ]
 
 pub returns-in_err-ok : goal.returns-in_err-ok
 returns-in_err-ok c =
     let e : c.all.result ≡ list_all is_digit c.args.digits.now =
-    all_from_yields_List is_digit _ _ c.all.result c.all.ensures.ran (YieldsList-from_slice c.args.digits.now cc) (λ x b q k. search (rules, tests)) in
-    absurd (refused c.args.digits.now _ c.from_utf8.result (digits_text c.args.digits.now (sym e ∙ c.if-not-all.false)) c.from_utf8.ensures.cases (sym c.ok.ensures.value ∙ c.in_err-ok.was))
+    all_from_yields_List is_digit _ _ c.all.result c.all.ensures.ran (YieldsList-from_slice c.args.digits.now cc)
+    (λ x b q k. search (rules, tests)) in
+    let text = digits_text c.args.digits.now (sym e ∙ c.if-not-all.false) in
+    let none = sym c.ok.ensures.value ∙ c.in_err-ok.was in
+    absurd (refused c.args.digits.now _ c.from_utf8.result text c.from_utf8.ensures.cases none)
 
 pub returns : goal.returns
 returns c =
     let e : c.all.result ≡ list_all is_digit c.args.digits.now =
-    all_from_yields_List is_digit _ _ c.all.result c.all.ensures.ran (YieldsList-from_slice c.args.digits.now cc) (λ x b q k. search (rules, tests)) in
+    all_from_yields_List is_digit _ _ c.all.result c.all.ensures.ran (YieldsList-from_slice c.args.digits.now cc)
+    (λ x b q k. search (rules, tests)) in
     let t = kept c.args.digits.now _ c.from_utf8.result c.in_ok-ok.field-0 c.from_utf8.ensures.cases (sym c.ok.ensures.value ∙ c.in_ok-ok.was) in
-    c.ok-2.ensures.value ∙ number_parsed c.args.most c.args.digits.now c.parse.result c.requires c.if-most-digits.false (sym e ∙ c.if-not-all.false) (rw t at c.parse.ensures.value.0)
+    let digits = sym e ∙ c.if-not-all.false in
+    let parsed = rw t at c.parse.ensures.value.0 in
+    c.ok-2.ensures.value ∙ number_parsed c.args.most c.args.digits.now c.parse.result c.requires c.if-most-digits.false digits parsed

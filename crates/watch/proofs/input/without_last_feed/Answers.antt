@@ -7,7 +7,8 @@ use Rattle.watch.proofs.input.without_last_feed.Goals as goal
 
 alike : (a r : Bor (List ℕ)) (o : Option (Bor (List ℕ))) → r ≡ unwrap_or o a
     → MatchOption o (pointwise nat_eq (drop (length a.now - 1) a.now) (10 ∷ []) ≡ false)
-    (λ x. (pointwise nat_eq (drop (length a.now - 1) a.now) (10 ∷ []) ≡ true) × (x.now ≡ take (length a.now - 1) a.now) × (length x.now + 1 ≡ length a.now))
+    (λ x. (pointwise nat_eq (drop (length a.now - 1) a.now) (10 ∷ []) ≡ true) × (x.now ≡ take (length a.now - 1) a.now)
+    × (length x.now + 1 ≡ length a.now))
     → ReadAlike r.now a.now
 alike a r None e m = rw e (alike-same a.now (other_text _ _ (sym m)))
 alike a r (Some x) e m =
@@ -15,4 +16,6 @@ alike a r (Some x) e m =
     rw e (alike-fed x.now a.now (rw (m.1, ← f) (sym (take-append-drop (length a.now - 1) a.now))))
 
 pub returns : goal.returns
-returns c = let e = alike c.args.input c.unwrap_or.result c.strip_suffix.result c.unwrap_or.ensures c.strip_suffix.ensures.cases in record { read = e.read; others = e.others }
+returns c =
+    let e = alike c.args.input c.unwrap_or.result c.strip_suffix.result c.unwrap_or.ensures c.strip_suffix.ensures.cases in
+    record { reading = e.read; lines_behind = e.others }

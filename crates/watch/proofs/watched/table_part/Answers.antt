@@ -15,4 +15,4 @@ overflow_cast-size c = omega (arith, size-bounds _ (sym c.is_size.ensures ∙ c.
 pub returns : goal.returns
 returns c =
     let h = size-bounds _ (sym c.is_size.ensures ∙ c.if-not-is_size.false) in
-    record { value = λ _. c.table_length.ensures; upper_bound = rw c.table_length.ensures (table-within _ h.1) }
+    record { of_a_size = λ _. c.table_length.ensures; upper_bound = rw c.table_length.ensures (table-within _ h.1) }

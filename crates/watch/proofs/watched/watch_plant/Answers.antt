@@ -11,8 +11,9 @@ pub returns-in_err-parsed : goal.returns-in_err-parsed
 returns-in_err-parsed c =
     let e = c.parse.ensures in
     let p = err_from_is_err_and c.from_residual.result c.from_residual.ensures.1 in
-    let unread = watched_unread c.args.sheet.now c.args.input.now _ _ c.told-schedule e.schedule_after c.in_err-parsed.field-0.0 (sym c.in_err-parsed.was ∙ e.answer) in
-    rw (p.1, p.2) (record { value = unread; decided = λ rest n. unread ∙ decided _ _ rest n })
+    let answer = sym c.in_err-parsed.was ∙ e.answer in
+    let unread = watched_unread c.args.sheet.now c.args.input.now _ _ c.told-schedule e.schedule_after c.in_err-parsed.field-0.0 answer in
+    rw (p.1, p.2) (record { answer_and_sheet = unread; decided = λ rest n. unread ∙ decided _ _ rest n })
 
 few : (c : In_ok-parsed) → c.in_ok-parsed.parsed.entries ≤ 4096
 few c =
@@ -34,4 +35,4 @@ ran c =
     c.carry_out.ensures ∙ watched_ran _ c.args.input.now _ _ c.told-schedule e.schedule_after _ (sym c.in_ok-parsed.was ∙ e.answer)
 
 pub returns : goal.returns
-returns c = record { value = ran c; decided = λ rest n. ran c ∙ decided _ _ rest n }
+returns c = record { answer_and_sheet = ran c; decided = λ rest n. ran c ∙ decided _ _ rest n }

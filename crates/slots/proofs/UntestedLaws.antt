@@ -19,8 +19,7 @@ use Rattle.station.specs.Tests.{answer, says_due, stands, due, due_distances}
 use Rattle.station.specs.Calls.{is_other, other_distances, answer_byte}
 use Rattle.lists.proofs.BoolLaws.{by_bool}
 use Rattle.lists.proofs.SumLaws.{sum_by, sum-add}
-use Rattle.lists.proofs.FilterLaws.{mem-filter, kept-sum}
-use Rattle.station.proofs.GroupLaws.{place-mem}
+use Rattle.lists.proofs.FilterLaws.{mem-map, range-mem, mem-filter, select-sum}
 use Rattle.table.proofs.SizeLaws.{size-distances}
 use Rattle.lists.proofs.Xor.{xor-cancel, xor-zero-eq}
 use Rattle.station.proofs.DueLaws.{due-is, due-present}
@@ -39,12 +38,6 @@ other-counted r i m = by_bool (due r i m) (λ e. rw (e, other e)) (λ e. rw (e, 
   where
     other : due r i m ≡ true → is_other (length r) i m ≡ true
     other e = rw (lt-ltb 0 m (due-nobody r i m e).0, lt-ltb (station_at i m) (length r) (due-present r i m e))
-
--- what f gives at an element is among what it gives at all
-mem-map : (f : ℕ → ℕ) (x m : ℕ) (xs : List ℕ) → x ≡ f m → Memᴰ m xs → Memᴰ x (map f xs)
-mem-map f x m [] e k = elim k [ ]
-mem-map f x m (y ∷ xs) e (Memᴰ.head p) = Memᴰ.head (e ∙ ap f p)
-mem-map f x m (y ∷ xs) e (Memᴰ.tail k) = Memᴰ.tail (mem-map f x m xs e k)
 
 other-listed : (n : ℕ) (r : List ℕ) (i x : ℕ) → is_size n ≡ true → length r ≡ n → i < n → x < n → x ≢ i
     → Memᴰ x (tested n r i) ⊎ Memᴰ x (untested n r i)
@@ -66,7 +59,7 @@ other-listed n r i x size long h l apart = by_bool (due r i m) (λ e. inl (among
     among q e =
         let room : n ≤ 2 ^ dimension n = (size-distances n size).0 in
         let below : m < 2 ^ dimension n = xor_lt (dimension n) i x (omega arith) (omega arith) in
-        mem-map (station_at i) x m _ back (mem-filter q _ m (place-mem (λ k. k) (2 ^ dimension n) m m below refl) e)
+        mem-map (station_at i) x m _ back (mem-filter q _ m (range-mem (2 ^ dimension n) m below) e)
 
 pub lists-counted : ListsCounted
 unfolding tested tests_due untested ahead
@@ -90,9 +83,9 @@ listed-all n r i size long h =
       both,
       (lists-counted n r i).0,
       (lists-counted n r i).1,
-      kept-sum (due r i) (λ k. k) (distances n),
-      kept-sum (is_untested r i) (λ k. k) (distances n),
-      kept-sum (is_other n i) (λ k. k) (distances n),
+      select-sum (due r i) (distances n),
+      select-sum (is_untested r i) (distances n),
+      select-sum (is_other n i) (distances n),
       others-all n i size h,
     )
 
