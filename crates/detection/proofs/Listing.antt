@@ -93,7 +93,8 @@ module _ (n : ℕ) (L : ℕ → Bool) (s : State) (e : Entry) (t₀ t' : List �
   other-listed : (k : ℕ) → k < n → k ≢ i → Exact n L t₀ → tested_in k (cur ++ (x ∷ [])) ≡ map (station_at k) (led_below n L k (next_distance n t' k))
   other-listed k h apart exact =
       let next = heads.others k next_column apart (omega arith) in
-      tested-snoc k cur x ∙ rw (ne_eqb i k (λ q. apart (sym q)), append-nil, next) (had.listed exact k h)
+      let none : is_test_of k x ≡ false = ap (λ b. b && taken_test x) (ne_eqb i k (λ q. apart (sym q))) in
+      tested-snoc k cur x ∙ rw (none, append-nil, next) (had.listed exact k h)
 
   pub turn-listed : Listed n L t₀ (cur ++ (x ∷ [])) t'
   turn-listed = record {
