@@ -2,7 +2,7 @@
 -- Assumes nothing.
 use mathlib.Core.Path.{◌≡◌, refl, sym, ap, ◌∙◌}
 use mathlib.Core.Logic.{◌≢◌, by_cases}
-use mathlib.Core.Bool.{Bool, true, false, cond, and-false}
+use mathlib.Core.Bool.{Bool, true, false, cond, ◌&&◌, and-false}
 use mathlib.Core.List.{List, [], ◌∷◌, ◌++◌, map, map-append, append-nil}
 use Prim.Native.Nat.{ℕ, ◌<◌}
 use native.Mathlib.Decide.{ℕ_discrete}
@@ -19,7 +19,7 @@ use Rattle.plant.specs.Turn.{next_test, makes_test, turn_tested}
 use Rattle.plant.specs.Entry.{Entry, State, is_crash, tested_of}
 use Rattle.plant.proofs.RoundLaws.{Reset}
 use Rattle.plant.proofs.TurnHeads.{Heads, passed-list}
-use Rattle.detection.specs.Runs.{Taken}
+use Rattle.detection.specs.Runs.{Taken, taken_test}
 use Rattle.detection.specs.Boards.{station_tested, is_test_of, tested_in, first_table}
 use Rattle.detection.proofs.TakenLaws.{taken_at}
 use Rattle.detection.proofs.Count.{leads-zero}
