@@ -88,7 +88,7 @@ taken-from n k s sheet (e ∷ es) =
     by_bool (eqb (entry_number n s e) 0)
     (λ t. rw t (omega (arith, taken-from n (suc k) (after n s e) (write_line sheet k (sheet_line n s e)) es))) (λ t. rw t (omega arith))
 
--- a run takes as many entries as it answers, an end in itself
+-- a run answers how many entries it takes
 pub taken_is : (s : State) (c : Call) → (run c.size s c.schedule c.sheet).taken ≡ length (taken_in s c)
 unfolding taken_in run
 taken_is s c =

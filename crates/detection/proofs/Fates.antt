@@ -10,22 +10,21 @@ use native.Mathlib.Omega.{arith}
 use borrow.Author.Tests.{eqb-true, eqb-false}
 use lib.Dec.{eqb}
 use lib.ListN.{length}
-use Rattle.station.specs.Groups.{station_at}
-use Rattle.table.specs.Table.{head, stride, table_length, cell, status_column, next_column, finished_column, tests_column, told_by_column, rounds_ago_column, status, status_told, status_alone, status_crashed, told_by, rounds_ago, live}
+use Rattle.table.specs.Table.{head, table_length, cell, status_column, next_column, finished_column, told_by_column, rounds_ago_column, status, status_told, status_alone, status_crashed, told_by, rounds_ago, live}
 use Rattle.table.specs.Rules.{round_over}
 use Rattle.lists.proofs.BoolLaws.{by_bool, choice}
 use Rattle.lists.proofs.SearchLaws.{both}
 use Rattle.table.proofs.Accepting.{Accepted, accepted}
-use Rattle.table.proofs.CellLaws.{TurnCounts, cell_same, cell_other, accepted-line}
-use Rattle.plant.specs.Turn.{outcome_exchanged, outcome_told, outcome_tested_told, set_status, leave_told, next_test, makes_test, count_test, replies, is_told, exchange_rows, suspect, reply_outcome, test_outcome, after_outcome, after_test, is_alone, after_alone, testing, turn, turn_tested, turn_outcome, crash, finish_pass}
+use Rattle.table.proofs.CellLaws.{TurnCounts, cell_same, cell_other}
+use Rattle.plant.specs.Turn.{outcome_exchanged, outcome_told, outcome_tested_told, set_status, leave_told, makes_test, replies, is_told, exchange_rows, suspect, reply_outcome, test_outcome, after_outcome, after_test, is_alone, after_alone, testing, turn, turn_tested, turn_outcome, crash, finish_pass}
 use Rattle.plant.specs.Round.{after_round}
 use Rattle.plant.specs.Entry.{Entry, State, is_crash, entry_number, acted, after, tested_of, outcome_of}
-use Rattle.plant.proofs.NextTest.{next_test-low, test_below, test-station}
-use Rattle.plant.proofs.StepCells.{leave_told-other, leave_told-status, leave_told-teller, finish_pass-other, count_test-other, suspect-other, exchange-other}
-use Rattle.plant.proofs.StepLines.{Lines, count_test-lines, after_test-lines, station-apart}
+use Rattle.plant.proofs.StepCells.{leave_told-other, leave_told-status, leave_told-teller, finish_pass-other, suspect-other, exchange-other}
+use Rattle.plant.proofs.StepLines.{after_test-lines}
 use Rattle.plant.proofs.RoundLaws.{reset-other}
 use Rattle.plant.proofs.RulesKept.{Takes, entry-facts}
 use Rattle.detection.specs.Ceased.{LeftTold, EntryTells}
+use Rattle.detection.proofs.TestingPair.{Counted, Pair, parts_of, count-others, testing-pair}
 
 -- status and byte 4 of line k are the same in both tables
 abbrev pub SameExit : ℕ → List ℕ → List ℕ → ℕ → Type 0
@@ -52,9 +51,6 @@ fate-later n t v w k same (leaves l low untold p) = leaves l (omega (arith, same
 fate-later n t v w k same (hears b h l) = hears b h (left-later n t v w k b same l)
 
 -- what comes before counts a test only
-abbrev Counted : ℕ → List ℕ → List ℕ → Type 0
-Counted n t u = (k c : ℕ) → c < stride n → (c ≢ next_column) × (c ≢ tests_column) → cell n u k c ≡ cell n t k c
-
 left-earlier : (n : ℕ) (t u v : List ℕ) (a b : ℕ) → Counted n t u → a < n → LeftTold n u v a b → LeftTold n t v a b
 left-earlier n t u v a b same h l = record {
   was_live = rw (same a status_column (omega arith) (omega arith)) at l.was_live;
@@ -156,70 +152,48 @@ module _ (n : ℕ) (u : List ℕ) (kind i j : ℕ) (long : length u ≡ table_le
       suspected =
           stays (same-exit n u (suspect n u i j) k (λ c hc _. suspect-other n u i long hi j k c (omega arith) (λ _. omega arith)))
 
-  -- byte 4 of a station that does not leave by it
-  test-others : (k : ℕ) → (test_outcome n u kind i j ≡ outcome_told → k ≢ i) → (test_outcome n u kind i j ≡ outcome_tested_told → k ≢ j)
-      → told_by n (after_test n u kind i j) k ≡ told_by n u k
-  unfolding after_outcome test_outcome reply_outcome
-  test-others k p q =
-      by_bool (replies n u kind j)
-      (λ r.
-      by_bool (is_told n u i j) (λ x. rw (r, x) (leave_told-other n u i j k told_by_column (omega arith) (λ e. absurd (p (rw (r, x)) (sym e)))))
+  -- bytes 4 and 5 stay, but for byte 4 of a station that leaves by the test
+  test-record : (k c : ℕ) → told_by_column ≤ c → c ≤ rounds_ago_column
+      → (test_outcome n u kind i j ≡ outcome_told → i ≡ k → c ≢ told_by_column)
+      → (test_outcome n u kind i j ≡ outcome_tested_told → j ≡ k → c ≢ told_by_column) → cell n (after_test n u kind i j) k c ≡ cell n u k c
+  unfolding after_outcome
+  test-record k c low high p q =
+      by_bool (eqb o outcome_told) (λ x. rw x (leave_told-other n u i j k c (omega arith) (λ same. (omega arith, p (eqb-true o outcome_told x) same))))
       (λ x.
-      by_bool (is_told n u j i) (λ y. rw (r, x, y) (leave_told-other n u j i k told_by_column (omega arith) (λ e. absurd (q (rw (r, x, y)) (sym e)))))
-      (λ y. rw (r, x, y) (exchange-other n u i long hi j hj apart k told_by_column (omega arith) (λ _. omega arith) (λ _. omega arith)))))
-      (λ r. rw r (suspect-other n u i long hi j k told_by_column (omega arith) (λ _. omega arith)))
+      by_bool (eqb o outcome_tested_told)
+      (λ y. rw (x, y) (leave_told-other n u j i k c (omega arith) (λ same. (omega arith, q (eqb-true o outcome_tested_told y) same))))
+      (λ y.
+      by_bool (eqb o outcome_exchanged)
+      (λ z. rw (x, y, z) (exchange-other n u i long hi j hj apart k c (omega arith) (λ _. omega arith) (λ _. omega arith)))
+      (λ z. rw (x, y, z) (suspect-other n u i long hi j k c (omega arith) (λ _. omega arith)))))
+    where
+      o : ℕ
+      o = test_outcome n u kind i j
 
 -- a taken entry
 module _ (n : ℕ) (s : State) (e : Entry) (ok : Accepted n s.table) (z : entry_number n s e ≡ 0) where
-  abbrev t : List ℕ
-  t = s.table
-
-  abbrev i : ℕ
-  i = e.station
-
-  abbrev m : ℕ
-  m = next_test n t i
-
-  abbrev j : ℕ
-  j = station_at i m
-
-  abbrev u : List ℕ
-  u = count_test n t i m
+  open parts_of n s e use {before as t, tester as i, distance as m, tested as j, counted as u}
 
   facts : Takes n s e
   facts = entry-facts n s e z
 
-  lines : Lines n t
-  lines = (ok.long, accepted-line n t ok)
-
-  counted : Counted n t u
-  counted k c h out = count_test-other n t i m k c h (λ _. out)
-
   -- where it makes a test
   module _ (no-crash : is_crash e ≡ false) (makes : makes_test n t i ≡ true) where
-    hj : j < n
-    hj = test-station n t i makes ok.long facts.below
-
-    apart : i ≢ j
-    apart = station-apart i m (omega (arith, next_test-low n t i, (lines.1 i facts.below).pass.next_low))
-
-    lines-counted : Lines n u
-    lines-counted =
-        count_test-lines n t i lines facts.below m (facts.unfinished (eqb-false e.kind 3 no-crash)) (next_test-low n t i)
-        (test_below n t i makes)
+    pair : Pair n t u i j
+    pair = testing-pair n s e ok z no-crash makes
 
     alive : live n u i ≡ true
-    alive = rw (counted i status_column (omega arith) (omega arith)) facts.is_live
+    alive = rw (pair.others i status_column (omega arith) (omega arith)) pair.is_live
 
     long-tested : length (after_test n u e.kind i j) ≡ table_length n
-    long-tested = (after_test-lines n u i lines-counted facts.below j hj apart e.kind).0
+    long-tested = (after_test-lines n u i pair.counted_lines pair.below j pair.tested_below pair.apart e.kind).0
 
     testing-fate : (k : ℕ) → k < n → Fate n t (testing n t e.kind i m) k
     unfolding testing
     testing-fate k h =
-        fate-earlier n t u _ k counted h
+        fate-earlier n t u _ k pair.others h
         (alone-fate n (after_test n u e.kind i j) i u k long-tested facts.below
-        (test-fate n u e.kind i j lines-counted.0 facts.below hj apart alive k))
+        (test-fate n u e.kind i j pair.counted_lines.0 facts.below pair.tested_below pair.apart alive k))
 
   acted-fate : (k : ℕ) → k < n → Fate n t (acted n t e) k
   unfolding acted crash turn
@@ -242,37 +216,30 @@ module _ (n : ℕ) (s : State) (e : Entry) (ok : Accepted n s.table) (z : entry_
           leaves facts.is_live (omega (arith, one)) (λ q. omega (arith, one))
           (cell_other n t i status_column status_crashed i told_by_column (omega arith) (omega arith) (omega arith))
 
-  -- steps 2 to 7 leave byte 5
-  pub acted-ago : (k : ℕ) → rounds_ago n (acted n t e) k ≡ rounds_ago n t k
-  unfolding acted crash turn testing after_outcome after_alone
-  acted-ago k =
-      by_bool (is_crash e) (λ c. rw c (left-ago t i status_crashed))
-      (λ c.
-      by_bool (makes_test n t i) (λ b. rw (c, b) (alone ∙ (test c b ∙ counted k rounds_ago_column (omega arith) (omega arith))))
-      (λ b. rw (c, b) (finish_pass-other n t i k rounds_ago_column (omega arith) (λ _. omega arith))))
+  -- steps 2 to 7 leave bytes 4 and 5, but for byte 4 of a station that is told to leave
+  acted-record : (k c : ℕ) → told_by_column ≤ c → c ≤ rounds_ago_column
+      → (outcome_of n t e ≡ outcome_told → i ≡ k → c ≢ told_by_column)
+      → (outcome_of n t e ≡ outcome_tested_told → tested_of n t e ≡ k → c ≢ told_by_column) → cell n (acted n t e) k c ≡ cell n t k c
+  unfolding outcome_of turn_outcome tested_of turn_tested acted crash turn testing after_alone
+  acted-record k c low high p q =
+      by_bool (is_crash e) (λ x. rw x (status-only t status_crashed))
+      (λ x.
+      by_bool (makes_test n t i) (λ b. rw (x, b) (alone (after_test n u e.kind i j) ∙ (test x b ∙ count-others n s e k c (omega arith) (omega arith))))
+      (λ b. rw (x, b) (finish_pass-other n t i k c (omega arith) (λ _. omega arith))))
     where
-      v₁ : List ℕ
-      v₁ = after_test n u e.kind i j
+      status-only : (w : List ℕ) (x : ℕ) → cell n (set_status n w i x) k c ≡ cell n w k c
+      status-only w x = cell_other n w i status_column x k c (omega arith) (omega arith) (λ _. omega arith)
 
-      left-ago : (w : List ℕ) (a x : ℕ) → rounds_ago n (set_status n w a x) k ≡ rounds_ago n w k
-      left-ago w a x = cell_other n w a status_column x k rounds_ago_column (omega arith) (omega arith) (λ _. omega arith)
+      alone : (w : List ℕ) → cell n (after_alone n w i) k c ≡ cell n w k c
+      alone w = choice (λ (v : List ℕ). cell n v k c ≡ cell n w k c) (is_alone n w i) (status-only w status_alone) refl
 
-      alone : rounds_ago n (after_alone n v₁ i) k ≡ rounds_ago n v₁ k
-      alone = choice (λ (w : List ℕ). rounds_ago n w k ≡ rounds_ago n v₁ k) (is_alone n v₁ i) (left-ago v₁ i status_alone) refl
+      test : (x : is_crash e ≡ false) (b : makes_test n t i ≡ true) → cell n (after_test n u e.kind i j) k c ≡ cell n u k c
+      test x b =
+          let y = pair x b in
+          test-record n u e.kind i j y.counted_lines.0 y.below y.tested_below y.apart (alive x b) k c low high (rw (x, b) at p) (rw (x, b) at q)
 
-      told-ago : (a b : ℕ) → rounds_ago n (leave_told n u a b) k ≡ rounds_ago n u k
-      told-ago a b = leave_told-other n u a b k rounds_ago_column (omega arith) (λ _. omega arith)
-
-      test : (c : is_crash e ≡ false) (b : makes_test n t i ≡ true) → rounds_ago n v₁ k ≡ rounds_ago n u k
-      test c b =
-          let P : List ℕ → Type 0 = λ w. rounds_ago n w k ≡ rounds_ago n u k in
-          let o : ℕ = test_outcome n u e.kind i j in
-          let long = (lines-counted c b).0 in
-          choice P (eqb o outcome_told) (told-ago i j)
-          (choice P (eqb o outcome_tested_told) (told-ago j i)
-          (choice P (eqb o outcome_exchanged)
-          (exchange-other n u i long facts.below j (hj c b) (apart c b) k rounds_ago_column (omega arith) (λ _. omega arith) (λ _. omega arith))
-          (suspect-other n u i long facts.below j k rounds_ago_column (omega arith) (λ _. omega arith))))
+  pub acted-ago : (k : ℕ) → rounds_ago n (acted n t e) k ≡ rounds_ago n t k
+  acted-ago k = acted-record k rounds_ago_column (omega arith) (omega arith) (λ _ _. omega arith) (λ _ _. omega arith)
 
   -- step 8 leaves status and byte 4
   closing_same : (k : ℕ) → SameExit n (acted n t e) (after n s e).table k
@@ -297,43 +264,29 @@ module _ (n : ℕ) (s : State) (e : Entry) (ok : Accepted n s.table) (z : entry_
         acted-left : LeftTold n t (acted n t e) a x
         acted-left =
             rw (no-crash, makes)
-            (left-earlier n t u (after_alone n v i) a x counted h (left-later n u v (after_alone n v i) a x (alone-other n v i a out) l))
+            (left-earlier n t u (after_alone n v i) a x (count-others n s e) h (left-later n u v (after_alone n v i) a x (alone-other n v i a out) l))
 
     tester-left : replies n u e.kind j ≡ true → is_told n u i j ≡ true → LeftTold n t (after n s e).table i j
     unfolding after_outcome test_outcome reply_outcome
     tester-left r q =
+        let y = pair no-crash makes in
         let l : LeftTold n u v i j =
-        rw (r, q) (left-tester n u e.kind i j (lines-counted no-crash makes).0 facts.below (hj no-crash makes) (apart no-crash makes)
-        (alive no-crash makes) r q) in
-        after-left i j facts.below (λ _. rw l.left) l
+        rw (r, q) (left-tester n u e.kind i j y.counted_lines.0 y.below y.tested_below y.apart (alive no-crash makes) r q) in
+        after-left i j y.below (λ _. rw l.left) l
 
     tested-left : replies n u e.kind j ≡ true → is_told n u i j ≡ false → is_told n u j i ≡ true → LeftTold n t (after n s e).table j i
     unfolding after_outcome test_outcome reply_outcome
     tested-left r q p =
+        let y = pair no-crash makes in
         let l : LeftTold n u v j i =
-        rw (r, q, p) (left-tested n u e.kind i j (lines-counted no-crash makes).0 facts.below (hj no-crash makes) (apart no-crash makes)
-        (alive no-crash makes) r p) in
-        after-left j i (hj no-crash makes) (λ same. absurd (apart no-crash makes same)) l
+        rw (r, q, p) (left-tested n u e.kind i j y.counted_lines.0 y.below y.tested_below y.apart (alive no-crash makes) r p) in
+        after-left j i y.tested_below (λ same. absurd (y.apart same)) l
 
   others-told : (k : ℕ) → (outcome_of n t e ≡ outcome_told → k ≢ i) → (outcome_of n t e ≡ outcome_tested_told → k ≢ tested_of n t e)
       → told_by n (after n s e).table k ≡ told_by n t k
-  unfolding outcome_of turn_outcome tested_of turn_tested acted crash turn testing after_alone
   others-told k p q =
       (closing_same k).1
-      ∙ by_bool (is_crash e) (λ c. rw c (status-only t status_crashed))
-      (λ c.
-      by_bool (makes_test n t i) (λ b. rw (c, b) (alone c b ∙ (test c b ∙ counted k told_by_column (omega arith) (omega arith))))
-      (λ b. rw (c, b) (finish_pass-other n t i k told_by_column (omega arith) (λ _. omega arith))))
-    where
-      status-only : (w : List ℕ) (x : ℕ) → told_by n (set_status n w i x) k ≡ told_by n w k
-      status-only w x = cell_other n w i status_column x k told_by_column (omega arith) (omega arith) (λ _. omega arith)
-
-      alone : (c : is_crash e ≡ false) (b : makes_test n t i ≡ true) → told_by n (after_alone n (v c b) i) k ≡ told_by n (v c b) k
-      alone c b = choice (λ (w : List ℕ). told_by n w k ≡ told_by n (v c b) k) (is_alone n (v c b) i) (status-only (v c b) status_alone) refl
-
-      test : (c : is_crash e ≡ false) (b : makes_test n t i ≡ true) → told_by n (v c b) k ≡ told_by n u k
-      test c b =
-          test-others n u e.kind i j (lines-counted c b).0 facts.below (hj c b) (apart c b) (alive c b) k (rw (c, b) at p) (rw (c, b) at q)
+      ∙ acted-record k told_by_column (omega arith) (omega arith) (λ o same. absurd (p o (sym same))) (λ o same. absurd (q o (sym same)))
 
   -- by the outcome
   tester-told : outcome_of n t e ≡ outcome_told → LeftTold n t (after n s e).table i (tested_of n t e)

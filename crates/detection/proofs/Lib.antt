@@ -1,4 +1,4 @@
--- The proof of demand 3 and of the exact wait, a file for each part (docs/DEMAND-3.md tells it on a page); from Told on of the other claims.
+-- The proof of demand 3 and of the exact wait, a file for each part (docs/DEMAND-3.md tells it on a page); from TestingPair on of the other claims.
 pub mod Near
 pub mod Pass
 pub mod Wait
@@ -19,7 +19,8 @@ pub mod Demand3
 pub mod BoardLaws
 pub mod OneTurn
 pub mod FreshStart
-pub mod Told
+pub mod TestingPair
+pub mod Heard
 pub mod Fates
 pub mod Recorded
 pub mod SheetTests

@@ -2,7 +2,7 @@
 -- Assumes nothing.
 use mathlib.Core.Path.{◌≡◌, refl, sym, ap, ◌∙◌}
 use mathlib.Core.Logic.{◌≢◌, by_cases}
-use mathlib.Core.Bool.{Bool, true, false, cond, and-false}
+use mathlib.Core.Bool.{Bool, true, false, cond, ◌&&◌, and-false}
 use mathlib.Core.List.{List, [], ◌∷◌, ◌++◌, map, map-append, append-nil}
 use Prim.Native.Nat.{ℕ, ◌<◌}
 use native.Mathlib.Decide.{ℕ_discrete}
@@ -19,7 +19,7 @@ use Rattle.plant.specs.Turn.{next_test, makes_test, turn_tested}
 use Rattle.plant.specs.Entry.{Entry, State, is_crash, tested_of}
 use Rattle.plant.proofs.RoundLaws.{Reset}
 use Rattle.plant.proofs.TurnHeads.{Heads, passed-list}
-use Rattle.detection.specs.Runs.{Taken}
+use Rattle.detection.specs.Runs.{Taken, taken_test}
 use Rattle.detection.specs.Boards.{station_tested, is_test_of, tested_in, first_table}
 use Rattle.detection.proofs.TakenLaws.{taken_at}
 use Rattle.detection.proofs.Count.{leads-zero}
@@ -93,7 +93,8 @@ module _ (n : ℕ) (L : ℕ → Bool) (s : State) (e : Entry) (t₀ t' : List �
   other-listed : (k : ℕ) → k < n → k ≢ i → Exact n L t₀ → tested_in k (cur ++ (x ∷ [])) ≡ map (station_at k) (led_below n L k (next_distance n t' k))
   other-listed k h apart exact =
       let next = heads.others k next_column apart (omega arith) in
-      tested-snoc k cur x ∙ rw (ne_eqb i k (λ q. apart (sym q)), append-nil, next) (had.listed exact k h)
+      let none : is_test_of k x ≡ false = ap (λ b. b && taken_test x) (ne_eqb i k (λ q. apart (sym q))) in
+      tested-snoc k cur x ∙ rw (none, append-nil, next) (had.listed exact k h)
 
   pub turn-listed : Listed n L t₀ (cur ++ (x ∷ [])) t'
   turn-listed = record {

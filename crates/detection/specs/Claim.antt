@@ -5,7 +5,7 @@ use Rattle.lists.specs.Search.{every}
 use Rattle.table.specs.Sizes.{is_size, dimension}
 use Rattle.station.specs.Groups.{is_present, width, member}
 use Rattle.table.specs.Table.{table_length, suspects, live}
-use Rattle.table.specs.Rules.{not_live}
+use Rattle.table.specs.Rules.{not_live, table_number}
 use Rattle.table.specs.Fresh.{fresh_table}
 use Rattle.plant.specs.Entry.{State, state_of}
 use Rattle.lists.specs.Sums.{sum_below, bit}
@@ -55,6 +55,10 @@ pub record Premises (n : ℕ) (s : State) (calls : List Call) : Type 0 where
   pub trusted : none_suspected n s.table ≡ true
   pub no_crash : all_taken (λ x. not (crashes x)) (taken_all s calls) ≡ true
   pub no_late : all_taken (λ x. not (is_late x)) (taken_all s calls) ≡ true
+
+-- a fresh table of any size passes refusals 1 to 4
+abbrev pub FreshIsAccepted : Type 0
+FreshIsAccepted = (n : ℕ) → is_size n ≡ true → table_number n (fresh_table n) ≡ 0
 
 -- a fresh table, with any tally, meets at every size what is supposed of size and table. Drives need no more (`DrivenWithin` of driving)
 abbrev pub FreshMeetsPremises : Type 0

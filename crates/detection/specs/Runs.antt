@@ -1,6 +1,6 @@
 -- The list of runs and its taken entries.
 -- Assumes nothing.
-use Rattle.std.specs.Prelude.{ℕ, Bool, not, ◌&&◌, List, [], ◌∷◌, ◌++◌, length, if◌then◌else◌, ◌==◌}
+use Rattle.std.specs.Prelude.{◌≡◌, ℕ, Bool, not, ◌&&◌, List, [], ◌∷◌, ◌++◌, length, if◌then◌else◌, ◌==◌}
 use Rattle.table.specs.Table.{live}
 use Rattle.plant.specs.Turn.{kind_turn, kind_late}
 use Rattle.plant.specs.Entry.{Entry, State, is_crash, is_test, entry_number, after, tested_of}
@@ -44,6 +44,10 @@ taken_from n s (e ∷ es) = if entry_number n s e == 0 then (record { size = n; 
 -- the taken entries of one run
 unfoldable pub taken_in : State → Call → List Taken
 taken_in s c = if start_number c.size s.table (length c.schedule) (length c.sheet) == 0 then taken_from c.size s (entries c.schedule) else []
+
+-- a run that finds this table and tally answers how many entries it takes
+abbrev pub CountsTaken : Call → State → ℕ → Type 0
+CountsTaken c before taken = taken ≡ length (taken_in before c)
 
 -- "the taken entries of all runs, one run's behind the other's"
 unfoldable pub taken_all : State → List Call → List Taken

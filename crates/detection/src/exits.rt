@@ -1,4 +1,4 @@
-// What request C-13 asks, sentence by sentence (specs/Exits.antt), proved of the definitions that the run promises (proofs/Told.antt). The
+// What request C-13 asks, sentence by sentence (specs/Exits.antt), proved of the definitions that the run promises (proofs/Heard.antt). The
 // function does nothing: its contract is the claim.
 
 ghost use Rattle.detection.specs.Exits.{TestedHears};

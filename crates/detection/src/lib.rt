@@ -13,7 +13,7 @@ pub mod timing;
 ghost use Rattle.std.specs.Prelude.{◌≡◌};
 ghost use Rattle.plant.specs.Entry.{state_with};
 ghost use Rattle.plant.specs.Run.{outcome_with, run};
-ghost use Rattle.detection.specs.Runs.{call_of};
+ghost use Rattle.detection.specs.Runs.{call_of, CountsTaken};
 ghost use Rattle.granter.specs.Drive.{drive_outcome_with, drive, StoppedIfTaken};
 ghost use Rattle.detection.specs.Claim.{WithinAfter, demand_wait, exact_wait};
 ghost use Rattle.detection.specs.Driven.{DrivenWithinAfter};
@@ -22,7 +22,7 @@ use granter::{Driven, drive};
 use plant::{Ran, Tally, run};
 
 // The run, wherever it stands in a list of runs: what demand 3 says of the list that ends with it holds of the table and tally that it
-// leaves, and holds within the exact wait too.
+// leaves, and holds within the exact wait too. It answers how many entries it has in the list.
 pub fn run_in_list(
     n: usize,
     table: &mut [u8],
@@ -30,9 +30,14 @@ pub fn run_in_list(
     schedule: &[u8],
     sheet: &mut [u8],
 ) -> Ran
-    ensures sheet_after { outcome_with result table.new sheet.new ≡ run n (state_with table.old tally) schedule.now sheet.old }
-    ensures within_demand_wait { WithinAfter demand_wait (call_of n schedule.now sheet.old) (state_with table.old tally) (state_with table.new result.tally) }
-    ensures within_exact_wait { WithinAfter exact_wait (call_of n schedule.now sheet.old) (state_with table.old tally) (state_with table.new result.tally) }
+    ensures outcome { outcome_with result table.new sheet.new
+        ≡ run n (state_with table.old tally) schedule.now sheet.old }
+    ensures counts_taken { CountsTaken (call_of n schedule.now sheet.old)
+        (state_with table.old tally) result.taken }
+    ensures within_demand_wait { WithinAfter demand_wait (call_of n schedule.now sheet.old)
+        (state_with table.old tally) (state_with table.new result.tally) }
+    ensures within_exact_wait { WithinAfter exact_wait (call_of n schedule.now sheet.old)
+        (state_with table.old tally) (state_with table.new result.tally) }
 {
     run::run(n, table, tally, schedule, sheet)
 }
@@ -40,10 +45,12 @@ pub fn run_in_list(
 // The drive, wherever it stands behind other drives: what demand 3 says of the plant that they drove holds of the table and tally that it
 // leaves, and holds within the exact wait too.
 pub fn drive_in_list(n: usize, table: &mut [u8], tally: Tally, last: usize) -> Driven
-    ensures table_after { drive_outcome_with result table.new ≡ drive n (state_with table.old tally) last }
+    ensures outcome { drive_outcome_with result table.new ≡ drive n (state_with table.old tally) last }
     ensures stopped_if_taken { StoppedIfTaken n (state_with table.old tally) last result.grants }
-    ensures driven_within_demand_wait { DrivenWithinAfter demand_wait n last (state_with table.old tally) (state_with table.new result.tally) }
-    ensures driven_within_exact_wait { DrivenWithinAfter exact_wait n last (state_with table.old tally) (state_with table.new result.tally) }
+    ensures driven_within_demand_wait { DrivenWithinAfter demand_wait n last
+        (state_with table.old tally) (state_with table.new result.tally) }
+    ensures driven_within_exact_wait { DrivenWithinAfter exact_wait n last
+        (state_with table.old tally) (state_with table.new result.tally) }
 {
     drive::drive(n, table, tally, last)
 }

@@ -13,7 +13,7 @@ use table::lent::{Table, TableMut};
 
 // Grants and turns of kind 1 until a round closes, nobody is left live, or a tally is full. A drive refused at its start changes no byte.
 pub fn drive(n: usize, table: &mut [u8], tally: Tally, last: usize) -> Driven
-    ensures table_after { drive_outcome_with result table.new ≡ drive n (state_with table.old tally) last }
+    ensures outcome { drive_outcome_with result table.new ≡ drive n (state_with table.old tally) last }
     ensures stopped_if_taken { StoppedIfTaken n (state_with table.old tally) last result.grants }
 {
     // By hand and not by `?`: the answer is no Result, since a drive that is stopped keeps the turns that it made.
@@ -36,8 +36,8 @@ pub fn drive(n: usize, table: &mut [u8], tally: Tally, last: usize) -> Driven
 fn go_on(table: &mut TableMut, tally: Tally, last: Option<Station>) -> Driven
     requires taken { grant_number table.old.n table.old.bytes.now (last_number last) ≡ 0 }
     requires last_below { IfSome last (λ i. i.0 < table.old.n) }
-    ensures same { IsSameLoan table.old table.new }
-    ensures table_after { drive_outcome_with result table.new.bytes.now
+    ensures same_loan { IsSameLoan table.old table.new }
+    ensures outcome { drive_outcome_with result table.new.bytes.now
         ≡ outcome_after table.old.n (stand_at (state_with table.old.bytes.now tally) (last_number last)) result.grants }
     ensures stopped { Stopped table.old.n
         (stand_at (state_with table.old.bytes.now tally) (last_number last)) result.grants }

@@ -1,5 +1,5 @@
 // The grant (request C-15): the next station, going round, that is live and unfinished.
-ghost use Rattle.std.specs.Prelude.{◌≡◌, ◌≤◌, ◌<◌, true, MatchOption, IfSome, IfOk};
+ghost use Rattle.std.specs.Prelude.{◌≡◌, ◌≤◌, ◌<◌, true, IfSome, IfNone, IfOk};
 ghost use Rattle.std.specs.Result.{result_map_both};
 ghost use Rattle.table.specs.Rules.{some_live, table_number};
 ghost use Rattle.granter.specs.Grant.{first_from, following, granted, last_number, last_check, grant_check, grant_answer};
@@ -28,10 +28,10 @@ pub(crate) fn check_grant(
     last: usize,
 ) -> Result<(Table<'_>, Option<Station>), Refusal>
     ensures check { result_map_both (λ s. tt) (λ r. r) result ≡ grant_check n table.now last }
-    ensures size { IfOk result (λ s. s.0.n ≡ n) }
-    ensures bytes { IfOk result (λ s. s.0.bytes.now ≡ table.now) }
-    ensures value { IfOk result (λ s. last_number s.1 ≡ last) }
-    ensures below { IfOk result (λ s. IfSome s.1 (λ i. i.0 < n)) }
+    ensures same_size { IfOk result (λ s. s.0.n ≡ n) }
+    ensures same_bytes { IfOk result (λ s. s.0.bytes.now ≡ table.now) }
+    ensures same_last { IfOk result (λ s. last_number s.1 ≡ last) }
+    ensures last_below { IfOk result (λ s. IfSome s.1 (λ i. i.0 < n)) }
 {
     let lent = Table::checked(n, table)?;
     let last = last_granted(lent.n, last)?;
@@ -44,8 +44,8 @@ pub(crate) fn check_grant(
 // The last granted station, none at 255: refusal 16.
 fn last_granted(n: u8, last: usize) -> Result<Option<Station>, Refusal>
     ensures check { result_map_both (λ s. tt) (λ r. r) result ≡ last_check n last }
-    ensures value { IfOk result (λ s. last_number s ≡ last) }
-    ensures below { IfOk result (λ s. IfSome s (λ i. i.0 < n)) }
+    ensures same_last { IfOk result (λ s. last_number s ≡ last) }
+    ensures last_below { IfOk result (λ s. IfSome s (λ i. i.0 < n)) }
 {
     if last == NO_GRANT {
         return Ok(None);
@@ -94,8 +94,9 @@ fn following(last: Option<Station>) -> Station
 
 // The first station from `from` on, and below n, that is live and unfinished, if there is one.
 fn first_from(table: &Table, from: Station) -> Option<Station>
-    ensures { MatchOption result (table.now.n ≤ first_from table.now.n table.now.bytes.now from.0)
-        (λ i. (i.0 ≡ first_from table.now.n table.now.bytes.now from.0) × (i.0 < table.now.n)) }
+    ensures first { IfSome result (λ i. i.0 ≡ first_from table.now.n table.now.bytes.now from.0) }
+    ensures below { IfSome result (λ i. i.0 < table.now.n) }
+    ensures none { IfNone result (table.now.n ≤ first_from table.now.n table.now.bytes.now from.0) }
 {
     // A `for`: in the check of a table a chain took 1.7 to 2.2 times as long (docs/DECISIONS.md, "The port"). Here it was not measured.
     for i in from.0..table.n {

@@ -62,15 +62,19 @@ pub(crate) fn open(file: &[u8]) -> Result<Loaded, Refusal>
     ensures { result ≡ opened file.now }
 {
     let mut fields = Fields { rest: file };
-    let mut found = Ok(Found {
+    let mut found = Found {
         size: None,
         tally: None,
-    });
+    };
+    let mut right = true;
     while let Some(field) = fields.next()? {
-        // Not `and_then`: a proof learns nothing of what a closure over a borrowed field returns.
-        if let Ok(before) = found {
-            found = before.with(field);
+        match found.with(field) {
+            Ok(more) => found = more,
+            Err(_) => right = false,
         }
     }
-    found?.complete()
+    if !right {
+        return Err(Refusal::SizeOrTallyField);
+    }
+    found.complete()
 }

@@ -4,10 +4,11 @@
 -- are the members of a struct in their order.
 -- A station, level or last number may be any; the definitions of `station` and `granter` refuse it as they refuse any that is too high.
 -- Assumes nothing.
-use Rattle.std.specs.Prelude.{ℕ, List, [], ◌∷◌, Result, slice_index}
+use Rattle.std.specs.Prelude.{◌≡◌, ℕ, ◌+◌, List, [], ◌∷◌, Result, slice_index, slice_range}
 use Rattle.std.specs.Result.{result_unwrap_or}
 use Rattle.lists.specs.declared.refusal.Refusal.{Refusal}
 use Rattle.lists.specs.Refusal.{number_of_result}
+use Rattle.station.specs.Calls.{row_part}
 use Rattle.plant.specs.declared.Tally.{Tally}
 use Rattle.plant.specs.Entry.{state_of}
 use Rattle.plant.specs.Run.{Outcome}
@@ -15,6 +16,10 @@ use Rattle.granter.specs.Drive.{DriveOutcome, drive_outcome}
 use Rattle.saved.specs.declared.Loaded.{Loaded}
 use Rattle.figures.specs.declared.Figures.{Figures}
 use Rattle.figures.specs.declared.Totals.{Totals}
+
+-- Row: the part of the table with this start and so many bytes is the row, and has none where it is refused
+abbrev pub IsRowAt : ℕ → List ℕ → ℕ → ℕ → ℕ → Type 0
+IsRowAt n t i start bytes = slice_range t start (start + bytes) ≡ row_part n t i
 
 -- Run: the outcome by its parts: the number, the entries taken, table, rounds and tests, and the sheet
 abbrev pub outcome_out : ℕ → ℕ → List ℕ → ℕ → ℕ → List ℕ → Outcome

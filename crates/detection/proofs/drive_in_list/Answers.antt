@@ -12,7 +12,7 @@ returns-clause-driven_within_demand_wait c =
     let before = state_with c.args.table.now c.args.tally in
     subst
     (DrivenWithinAfter demand_wait c.args.n c.args.last before)
-    (sym (ap (λ (o : DriveOutcome). o.state) c.drive.ensures.table_after))
+    (sym (ap (λ (o : DriveOutcome). o.state) c.drive.ensures.outcome))
     (last-drive demand_wait driven-demand-3 c.args.n c.args.last before)
 
 pub returns-clause-driven_within_exact_wait : goal.returns-clause-driven_within_exact_wait
@@ -20,5 +20,5 @@ returns-clause-driven_within_exact_wait c =
     let before = state_with c.args.table.now c.args.tally in
     subst
     (DrivenWithinAfter exact_wait c.args.n c.args.last before)
-    (sym (ap (λ (o : DriveOutcome). o.state) c.drive.ensures.table_after))
+    (sym (ap (λ (o : DriveOutcome). o.state) c.drive.ensures.outcome))
     (last-drive exact_wait driven-exact-wait c.args.n c.args.last before)

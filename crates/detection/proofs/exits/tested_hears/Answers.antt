@@ -1,5 +1,5 @@
--- The claim is proved in proofs/Told.antt.
-use Rattle.detection.proofs.Told.{tested-hears}
+-- The claim is proved in proofs/Heard.antt.
+use Rattle.detection.proofs.Heard.{tested-hears}
 use Rattle.detection.proofs.exits.tested_hears.Goals as goal
 
 pub returns : goal.returns

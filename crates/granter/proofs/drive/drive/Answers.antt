@@ -6,8 +6,8 @@ use Rattle.plant.specs.Entry.{state_with}
 use Rattle.granter.proofs.DriveLaws.{drive-refused, drive-made}
 use Rattle.granter.proofs.drive.drive.Goals as goal
 
-pub returns-in-Err-clause-table_after : goal.returns-in-Err-clause-table_after
-returns-in-Err-clause-table_after c =
+pub returns-in-Err-clause-outcome : goal.returns-in-Err-clause-outcome
+returns-in-Err-clause-outcome c =
     let a = c.args in
     sym (drive-refused a.n (state_with a.table.now a.tally) a.last _ (sym c.in-Err.ensures.check))
 
@@ -18,17 +18,17 @@ pub go_on-requires : goal.go_on-requires
 go_on-requires c =
     let o = c.in-Ok.ensures in
     record {
-      taken = rw (o.size, o.value) (ap number_of_result (sym o.check));
-      last_below = rw o.size o.below;
+      taken = rw (o.same_size, o.same_last) (ap number_of_result (sym o.check));
+      last_below = rw o.same_size o.last_below;
     }
 
-pub returns-clause-table_after : goal.returns-clause-table_after
-returns-clause-table_after c =
+pub returns-clause-outcome : goal.returns-clause-outcome
+returns-clause-outcome c =
     let a = c.args in
     let o = c.in-Ok.ensures in
     let z = ap number_of_result (sym o.check) in
-    let s = rw (o.size, o.value) at c.go_on.ensures.stopped in
-    rw (← drive-made a.n (state_with a.table.now a.tally) a.last _ z s, ← o.value, ← o.size) (search rules)
+    let s = rw (o.same_size, o.same_last) at c.go_on.ensures.stopped in
+    rw (← drive-made a.n (state_with a.table.now a.tally) a.last _ z s, ← o.same_last, ← o.same_size) (search rules)
 
 pub returns-clause-stopped_if_taken : goal.returns-clause-stopped_if_taken
-returns-clause-stopped_if_taken c = λ _. let o = c.in-Ok.ensures in rw (o.size, o.value) at c.go_on.ensures.stopped
+returns-clause-stopped_if_taken c = λ _. let o = c.in-Ok.ensures in rw (o.same_size, o.same_last) at c.go_on.ensures.stopped

@@ -64,7 +64,7 @@ returns c =
       | then-is_full w ↦
           let stop = full-stop _ _ _ q i.led i.driving (sym c.is_full.ensures ∙ w.if-is_full.true) in
           rw (c.last_number.ensures, w.table-is, w.held-is, w.before-is, w.grants-is, w.stopped-is)
-          (record { same = i.loan; table_after = stop.0; stopped = stop.1 })
+          (record { same_loan = i.loan; outcome = stop.0; stopped = stop.1 })
       | else-is_full+then-ended w ↦
           let fits = sym c.is_full.ensures ∙ w.if-is_full.false in
           let next = rw (w.read.ensures.same_size, w.read.ensures.same_bytes, i.loan.size) at w.next_station-i.ensures in
@@ -75,8 +75,8 @@ returns c =
           let stop = end-stop _ _ _ q i.led i.driving fits _ turned over in
           rw (c.last_number.ensures, w.table-is, w.held-is, w.before-is, w.grants-is, w.stopped-is)
           (record {
-            same = record { reference = t.same_loan.reference ∙ i.loan.reference; size = t.same_loan.size ∙ i.loan.size };
-            table_after = stop.0;
+            same_loan = record { reference = t.same_loan.reference ∙ i.loan.reference; size = t.same_loan.size ∙ i.loan.size };
+            outcome = stop.0;
             stopped = stop.1;
           })
     ]

@@ -7,26 +7,23 @@ use mathlib.Core.List.{List}
 use Prim.Native.Nat.{ℕ, ◌+◌, max, ◌<◌}
 use native.Mathlib.Decide.{ℕ_discrete}
 use native.Mathlib.Omega.{arith}
-use borrow.Author.Tests.{eqb-true, eqb-false, ne_eqb, not-true}
+use borrow.Author.Tests.{eqb-true, ne_eqb, not-true}
 use lib.Dec.{eqb}
 use lib.ListN.{length}
 use Rattle.lists.specs.Search.{every}
-use Rattle.station.specs.Groups.{station_at}
-use Rattle.table.specs.Table.{head, stride, table_length, cell, status_column, next_column, tests_column, status, suspects, live, status_told, status_alone}
+use Rattle.table.specs.Table.{head, stride, table_length, cell, status_column, status, suspects, live, status_told, status_alone}
 use Rattle.table.specs.Rules.{round_over}
 use Rattle.lists.proofs.BoolLaws.{by_bool, choice, every-same}
 use Rattle.lists.proofs.SearchLaws.{both, every-not}
-use Rattle.table.proofs.Accepting.{Accepted, accepted}
-use Rattle.table.proofs.CellLaws.{cell_same, cell_other, accepted-line, ClosingChanges}
-use Rattle.plant.specs.Turn.{kind_turn, outcome_exchanged, outcome_told, outcome_tested_told, leave_told, next_test, makes_test, count_test, replies, is_told, exchange_rows, reply_outcome, test_outcome, after_outcome, self_or_suspected, is_alone, after_alone, testing, turn, turn_tested, turn_outcome}
+use Rattle.table.proofs.Accepting.{accepted}
+use Rattle.table.proofs.CellLaws.{cell_same, cell_other, ClosingChanges}
+use Rattle.plant.specs.Turn.{kind_turn, outcome_exchanged, outcome_told, outcome_tested_told, leave_told, makes_test, replies, is_told, exchange_rows, reply_outcome, test_outcome, after_outcome, self_or_suspected, is_alone, after_alone, testing, turn, turn_tested, turn_outcome}
 use Rattle.plant.specs.Round.{after_round}
 use Rattle.plant.specs.Entry.{Entry, State, is_crash, acted, after, tested_of, outcome_of}
-use Rattle.plant.proofs.NextTest.{next_test-low, test_below, test-station}
-use Rattle.plant.proofs.StepCells.{leave_told-length, leave_told-other, leave_told-status, count_test-other, exchange-other, exchange-tester, exchange-tested, exchange-tester-own, exchange-tested-own}
+use Rattle.plant.proofs.StepCells.{leave_told-length, leave_told-other, leave_told-status, exchange-other, exchange-tester, exchange-tested, exchange-tester-own, exchange-tested-own}
 use Rattle.plant.proofs.RoundLaws.{reset-other}
-use Rattle.plant.proofs.StepLines.{Lines, count_test-lines, station-apart}
-use Rattle.plant.proofs.RulesKept.{Takes, entry-facts}
 use Rattle.detection.specs.Exits.{Replied, SameRows, RowsJoined, NeitherSuspects, TestedHears}
+use Rattle.detection.proofs.TestingPair.{Pair, parts_of, testing-pair}
 
 -- step 6 writes the status of i if it is alone, step 8 the columns that closing a round changes
 module _ (n i : ℕ) (v : List ℕ) where
@@ -57,29 +54,7 @@ module _ (n i : ℕ) (v : List ℕ) where
 
 -- a taken turn whose test has a reply: i tests j at distance m, and u is the table with the test counted
 module _ (n : ℕ) (s : State) (e : Entry) (r : Replied n s e) where
-  abbrev t : List ℕ
-  t = s.table
-
-  abbrev i : ℕ
-  i = e.station
-
-  abbrev m : ℕ
-  m = next_test n t i
-
-  abbrev j : ℕ
-  j = station_at i m
-
-  abbrev u : List ℕ
-  u = count_test n t i m
-
-  facts : Takes n s e
-  facts = entry-facts n s e r.taken
-
-  all : Accepted n t
-  all = accepted n t r.shape
-
-  lines₀ : Lines n t
-  lines₀ = (all.long, accepted-line n t all)
+  open parts_of n s e use {before as t, tester as i, tested as j, counted as u}
 
   no-crash : is_crash e ≡ false
   no-crash = not-true (is_crash e) (both (not (is_crash e)) (makes_test n t i) r.makes).0
@@ -87,21 +62,10 @@ module _ (n : ℕ) (s : State) (e : Entry) (r : Replied n s e) where
   tests : makes_test n t i ≡ true
   tests = (both (not (is_crash e)) (makes_test n t i) r.makes).1
 
-  hi : i < n
-  hi = facts.below
+  pair : Pair n t u i j
+  pair = testing-pair n s e (accepted n t r.shape) r.taken no-crash tests
 
-  hj : j < n
-  hj = test-station n t i tests all.long hi
-
-  apart : i ≢ j
-  apart = station-apart i m (omega (arith, next_test-low n t i, (lines₀.1 i hi).pass.next_low))
-
-  lines : Lines n u
-  lines = count_test-lines n t i lines₀ hi m (facts.unfinished (eqb-false e.kind 3 no-crash)) (next_test-low n t i) (test_below n t i tests)
-
-  -- the count writes bytes 1 and 3 only
-  counted : (k c : ℕ) → c < stride n → (c ≢ next_column) × (c ≢ tests_column) → cell n u k c ≡ cell n t k c
-  counted k c h out = count_test-other n t i m k c h (λ _. out)
+  open pair use {lines as lines₀, below as hi, tested_below as hj, apart, counted_lines as lines, others as counted}
 
   row-counted : (k x : ℕ) → x < n → suspects n u k x ≡ suspects n t k x
   row-counted k x h = counted k (head + x) (omega arith) (omega arith)
@@ -110,10 +74,13 @@ module _ (n : ℕ) (s : State) (e : Entry) (r : Replied n s e) where
   unfolding tested_of turn_tested
   tested-is = rw (no-crash, tests)
 
+  reply : replies n t e.kind j ≡ true
+  reply = rw tested-is at r.reply
+
   -- the outcome is that of a reply, and the table what steps 4, 6 and 8 make of it
   outcome-is : outcome_of n t e ≡ reply_outcome n u i j
   unfolding outcome_of turn_outcome test_outcome replies
-  outcome-is = rw (no-crash, tests, counted j status_column (omega arith) (omega arith), rw tested-is at r.reply)
+  outcome-is = rw (no-crash, tests, counted j status_column (omega arith) (omega arith), reply)
 
   after_is : (after n s e).table ≡ later n i (after_outcome n u i j (outcome_of n t e))
   unfolding after acted turn testing outcome_of turn_outcome
@@ -121,10 +88,10 @@ module _ (n : ℕ) (s : State) (e : Entry) (r : Replied n s e) where
 
   j-live : status n t j ≡ 0
   unfolding replies
-  j-live = eqb-true (status n t j) 0 (both (live n t j) (eqb e.kind kind_turn) (rw tested-is at r.reply)).0
+  j-live = eqb-true (status n t j) 0 (both (live n t j) (eqb e.kind kind_turn) reply).0
 
   i-live : status n t i ≡ 0
-  i-live = eqb-true (status n t i) 0 facts.is_live
+  i-live = eqb-true (status n t i) 0 pair.is_live
 
   -- where a station leaves, no row changes
   left-rows : (k x : ℕ) → SameRows n t (later n i (leave_told n u k x))
