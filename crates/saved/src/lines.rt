@@ -1,5 +1,5 @@
 // The second pass over a file: the table that its lines give. Refusal 20.
-ghost use Rattle.std.specs.Prelude.{◌≡◌, true, false, slice_index_or, length, set, Ok};
+ghost use Rattle.std.specs.Prelude.{◌≡◌, true, false, slice_index_or, length, set, Ok, OnErr};
 ghost use Rattle.std.proofs.lemmas.List.Edits.{sets};
 ghost use Rattle.lists.specs.Search.{every};
 ghost use Rattle.lists.specs.Refusal.{ensure};
@@ -26,6 +26,7 @@ fn take_line(table: &mut TableMut, contents: &[u8], seen: &mut [bool; MOST]) -> 
     ensures same_loan { IsSameLoan table.old table.new }
     ensures line_written { let start = line_start table.old.n (station_in contents.now) in
         result ≡ Ok tt → table.new.bytes.now ≡ sets table.old.bytes.now start (line_in contents.now) }
+    ensures nothing_written { OnErr result (table.new.bytes.now ≡ table.old.bytes.now) }
     ensures station_seen { result ≡ Ok tt → seen.new ≡ set seen.old (station_in contents.now) true }
 {
     let [i, line @ ..] = contents else {

@@ -66,6 +66,7 @@ pub(crate) fn open(file: &[u8]) -> Result<Loaded, Refusal>
         size: None,
         tally: None,
     };
+    // Apart from what is found: with both as one `Result` a load of 8 boards, in any order with other tags between, took 1.06 times as long.
     let mut right = true;
     while let Some(field) = fields.next()? {
         match found.with(field) {

@@ -1,5 +1,5 @@
 // What comes of an input (document 01, the run program): it is read, and its schedule is carried out on a fresh table with zero tallies.
-ghost use Rattle.std.specs.Prelude.{◌≡◌, ℕ, List, ◌++◌, Ok, true, ◌*◌, ◌≤◌, length, take};
+ghost use Rattle.std.specs.Prelude.{◌≡◌, ℕ, List, ◌++◌, Ok, true, false, ◌*◌, ◌≤◌, length, take};
 ghost use Rattle.table.specs.Sizes.{is_size};
 ghost use Rattle.table.specs.Table.{greatest_table, table_length};
 ghost use Rattle.table.specs.Fresh.{fresh_after};
@@ -57,6 +57,7 @@ fn run_fresh(size: usize, schedule: &[u8], table: &mut [u8], sheet: &mut [u8]) -
 // take 0 for none.
 fn table_part(size: usize) -> usize
     ensures of_a_size { is_size size ≡ true → result ≡ table_length size }
+    ensures of_no_size { is_size size ≡ false → result ≡ 0 }
     ensures upper_bound { result ≤ greatest_table }
 {
     if !sizes::is_size(size) {

@@ -1,5 +1,5 @@
 -- A size is at most 64, and 64 · 70 is 4,480.
-use Rattle.std.proofs.Common.{ℕ, ◌≤◌, sym, ◌∙◌, arith}
+use Rattle.std.proofs.Common.{◌≡◌, true, false, ℕ, ◌≤◌, sym, ◌∙◌, arith}
 use Rattle.std.proofs.Math.Nat.{mul-le-mul}
 use Rattle.table.specs.Table.{stride, greatest_table, table_length}
 use Rattle.table.proofs.SizeLaws.{size-bounds}
@@ -14,5 +14,10 @@ overflow_cast-size c = omega (arith, size-bounds _ (sym c.is_size.ensures ∙ c.
 
 pub returns : goal.returns
 returns c =
-    let h = size-bounds _ (sym c.is_size.ensures ∙ c.if-not-is_size.false) in
-    record { of_a_size = λ _. c.table_length.ensures; upper_bound = rw c.table_length.ensures (table-within _ h.1) }
+    let size = sym c.is_size.ensures ∙ c.if-not-is_size.false in
+    let h = size-bounds _ size in
+    record {
+      of_a_size = λ _. c.table_length.ensures;
+      of_no_size = λ none. absurd (let z : true ≡ false = sym size ∙ none in cc);
+      upper_bound = rw c.table_length.ensures (table-within _ h.1);
+    }
