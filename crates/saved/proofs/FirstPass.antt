@@ -128,33 +128,9 @@ eight c e =
     let d8 : drop 8 c ≡ [] = none_behind (drop 8 c) (omega (arith, length-drop 8 c)) in
     cc
 
--- what is found so far, where all fields of it are right
-abbrev pub so_far : Bool → Found → Result Found Refusal
-so_far true o = Ok o
-so_far false o = Err SizeOrTallyField
-
-ensured_err : {A : Type 0} (b : Bool) (v : A) (r s : Refusal) → Err r ≡ (ensure b s and Ok v) → r ≡ s
-ensured_err true v r s e = cc
-ensured_err false v r s e = cc
-
-found_err : (o : Found) (f : Field) (r : Refusal) → Err r ≡ found_with o f → r ≡ SizeOrTallyField
-unfolding found_with
-found_err o f r e =
-    by_bool (eqb f.tag size_tag) (λ a. ensured_err (eqb (length f.contents) size_length && is_none o.size) _ r SizeOrTallyField (rw a at e))
-    (λ a. by_bool (eqb f.tag tally_tag)
-    (λ b. ensured_err (eqb (length f.contents) tally_length && is_none o.tally) _ r SizeOrTallyField (rw (a, b) at e))
-    (λ b. let z = rw (a, b) at e in cc))
-
--- one field more is right, or it is not
-pub pass_right : (right : Bool) (o more : Found) (f : Field) (fs rest : List Field) → Ok more ≡ found_with o f → rest ≡ f ∷ fs
-    → completed (so_far right more) fs ≡ completed (so_far right o) rest
-pass_right true o more f fs rest e h = rw h (ap (λ x. completed x fs) e ∙ completed_more o f fs)
-pass_right false o more f fs rest e h = refl
-
-pub pass_wrong : (right : Bool) (o : Found) (f : Field) (fs rest : List Field) (r : Refusal) → Err r ≡ found_with o f → rest ≡ f ∷ fs
-    → completed (so_far false o) fs ≡ completed (so_far right o) rest
-pass_wrong true o f fs rest r e h = rw (h, ← completed_more o f fs, ← e, found_err o f r e)
-pass_wrong false o f fs rest r e h = refl
+pub pass_on : (found next : Result Found Refusal) (o : Found) (f : Field) (fs rest : List Field)
+    → found ≡ Ok o → next ≡ found_with o f → rest ≡ f ∷ fs → completed next fs ≡ completed found rest
+pass_on found next o f fs rest e h k = rw (e, h, k) (completed_more o f fs)
 
 -- size and tally, as the code reads them
 bytes_four : (a b c d : ℕ) → from_be_bytes w32 (a ∷ b ∷ c ∷ d ∷ []) ≡ number_of (a ∷ b ∷ c ∷ d ∷ [])
