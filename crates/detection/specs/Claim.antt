@@ -60,7 +60,7 @@ pub record Premises (n : ℕ) (s : State) (calls : List Call) : Type 0 where
 abbrev pub FreshIsAccepted : Type 0
 FreshIsAccepted = (n : ℕ) → is_size n ≡ true → table_number n (fresh_table n) ≡ 0
 
--- a fresh table, with any tally, meets at every size what is supposed of size and table. Drives need no more (`DrivenWithin` of driving)
+-- a fresh table, with any tally, meets at every size what is supposed of size and table. Drives need no more (`DrivenWithin`)
 abbrev pub FreshMeetsPremises : Type 0
 FreshMeetsPremises = (n rounds tests : ℕ) → is_size n ≡ true → Premises n (state_of (fresh_table n) rounds tests) []
 

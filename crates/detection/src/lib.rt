@@ -22,7 +22,7 @@ use granter::{Driven, drive};
 use plant::{Ran, Tally, run};
 
 // The run, wherever it stands in a list of runs: what demand 3 says of the list that ends with it holds of the table and tally that it
-// leaves, and holds within the exact wait too. It answers how many entries it has in the list.
+// leaves, and holds within the exact wait too. It answers how many of its entries the list takes.
 pub fn run_in_list(
     n: usize,
     table: &mut [u8],

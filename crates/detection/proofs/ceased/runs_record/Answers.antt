@@ -1,4 +1,4 @@
--- The claim is proved in proofs/Lists.antt.
+-- The claim is proved in proofs/Recorded.antt.
 use Rattle.detection.proofs.Recorded.{runs-record}
 use Rattle.detection.proofs.ceased.runs_record.Goals as goal
 

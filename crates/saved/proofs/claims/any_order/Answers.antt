@@ -1,4 +1,4 @@
--- The claim is proved in proofs/Order.antt.
+-- The claim is proved in proofs/AnyOrder.antt.
 use Rattle.saved.proofs.AnyOrder.{any_order}
 use Rattle.saved.proofs.claims.any_order.Goals as goal
 
