@@ -158,7 +158,8 @@ module _ (n : ℕ) (u : List ℕ) (kind i j : ℕ) (long : length u ≡ table_le
       → (test_outcome n u kind i j ≡ outcome_tested_told → j ≡ k → c ≢ told_by_column) → cell n (after_test n u kind i j) k c ≡ cell n u k c
   unfolding after_outcome
   test-record k c low high p q =
-      by_bool (eqb o outcome_told) (λ x. rw x (leave_told-other n u i j k c (omega arith) (λ same. (omega arith, p (eqb-true o outcome_told x) same))))
+      by_bool (eqb o outcome_told)
+      (λ x. rw x (leave_told-other n u i j k c (omega arith) (λ same. (omega arith, p (eqb-true o outcome_told x) same))))
       (λ x.
       by_bool (eqb o outcome_tested_told)
       (λ y. rw (x, y) (leave_told-other n u j i k c (omega arith) (λ same. (omega arith, q (eqb-true o outcome_tested_told y) same))))
@@ -224,7 +225,8 @@ module _ (n : ℕ) (s : State) (e : Entry) (ok : Accepted n s.table) (z : entry_
   acted-record k c low high p q =
       by_bool (is_crash e) (λ x. rw x (status-only t status_crashed))
       (λ x.
-      by_bool (makes_test n t i) (λ b. rw (x, b) (alone (after_test n u e.kind i j) ∙ (test x b ∙ count-others n s e k c (omega arith) (omega arith))))
+      by_bool (makes_test n t i)
+      (λ b. rw (x, b) (alone (after_test n u e.kind i j) ∙ (test x b ∙ count-others n s e k c (omega arith) (omega arith))))
       (λ b. rw (x, b) (finish_pass-other n t i k c (omega arith) (λ _. omega arith))))
     where
       status-only : (w : List ℕ) (x : ℕ) → cell n (set_status n w i x) k c ≡ cell n w k c

@@ -15,7 +15,8 @@ euclid-greatest zero a b h = IsGcd-from_zero a b (omega arith)
 euclid-greatest (suc steps) a zero h = IsGcd-from_zero a 0 refl
 euclid-greatest (suc steps) a (suc b) h =
     rw eqb-suc-zero
-    (IsGcd-from_mod a (suc b) (euclid steps (suc b) (a % suc b)) (euclid-greatest steps (suc b) (a % suc b) (omega (arith, mod-lt a (zero-lt-suc b)))))
+    (IsGcd-from_mod a (suc b) (euclid steps (suc b) (a % suc b))
+    (euclid-greatest steps (suc b) (a % suc b) (omega (arith, mod-lt a (zero-lt-suc b)))))
 
 pub gcd-greatest : (a b : ℕ) → IsGcd a b (gcd a b)
 unfolding gcd

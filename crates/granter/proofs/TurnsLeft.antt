@@ -42,7 +42,13 @@ sum_less : (f g : ℕ → ℕ) (n p : ℕ) → p < n → ((i : ℕ) → i < n �
 sum_less f g zero p h same less = absurd (omega arith)
 sum_less f g (suc n) p h same less =
     by_cases (dec_lt p n)
-    (λ l. omega (arith, sum_below-suc f n, sum_below-suc g n, sum_less f g n p l (λ i b. same i (omega arith)) less, same n (omega arith) (omega arith)))
+    (λ l. omega (
+      arith,
+      sum_below-suc f n,
+      sum_below-suc g n,
+      sum_less f g n p l (λ i b. same i (omega arith)) less,
+      same n (omega arith) (omega arith),
+    ))
     (λ l.
     let e : p ≡ n = omega arith in
     omega (arith, sum_below-suc f n, sum_below-suc g n, sum_by {f = g} {g = f} n (λ i b. same i (omega arith) (omega arith)), rw e at less))

@@ -62,4 +62,9 @@ last-tests-all d r long none =
     let low : sum_below (λ h. sum_below (λ k. bit (due r (2 ^ d) (2 ^ h + k))) (2 ^ h)) d ≡ 0 = sum-zero d (λ h l. none-due d r long none h l) in
     let high : sum_below (λ k. bit (due r (2 ^ d) (2 ^ d + k))) (2 ^ d) ≡ 2 ^ d * 1 =
     sum_by (2 ^ d) (λ k l. ap bit (due_all d r long none k l)) ∙ sum-const 1 (2 ^ d) in
-    level-sums r (2 ^ d) (none (2 ^ d) (omega arith)) (suc (2 ^ d)) ∙ rw top (omega (arith, low, high, sum_below-suc (λ h. sum_below (λ k. bit (due r (2 ^ d) (2 ^ h + k))) (2 ^ h)) d))
+    level-sums r (2 ^ d) (none (2 ^ d) (omega arith)) (suc (2 ^ d)) ∙ rw top (omega (
+      arith,
+      low,
+      high,
+      sum_below-suc (λ h. sum_below (λ k. bit (due r (2 ^ d) (2 ^ h + k))) (2 ^ h)) d,
+    ))

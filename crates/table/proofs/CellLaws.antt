@@ -141,7 +141,8 @@ set_row-out n t i r i' c long h hr hc out = pick (dec_lt p a) (dec_lt p (a + n))
 pub range-next : (n : ℕ) (t r : List ℕ) (i k greatest x : ℕ) → r ≡ row n t i → k < n → leb greatest 1 ≡ every (suspicion_rule n t i) k
     → x ≡ max greatest (get_or r k 0) → leb x 1 ≡ every (suspicion_rule n t i) (k + 1)
 range-next n t r i k greatest x e h f g =
-    rw (g, add-one, every-suc (suspicion_rule n t i) k, ← f, e, row_at n t i k h) (max-leb greatest (suspects n t i k) 1 (dec_le greatest 1) (dec_le (suspects n t i k) 1))
+    rw (g, add-one, every-suc (suspicion_rule n t i) k, ← f, e, row_at n t i k h)
+    (max-leb greatest (suspects n t i k) 1 (dec_le greatest 1) (dec_le (suspects n t i k) 1))
   where
     max-leb : (a b c : ℕ) → Dec (a ≤ c) → Dec (b ≤ c) → leb (max a b) c ≡ (leb a c && leb b c)
     max-leb a b c (yes p) (yes q) = rw (le-leb a c p, le-leb b c q) (le-leb (max a b) c (omega arith))

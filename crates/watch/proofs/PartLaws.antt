@@ -48,7 +48,8 @@ module _ (room n k : ℕ) (s line : List ℕ) (ls : List (List ℕ)) (o : Option
 
 -- of a whole reading that goes on like this behind k lines: the next line is no entry or has no room, or it is one
 module _ (room n k : ℕ) (s line : List ℕ) (ls : List (List ℕ)) (whole : Reading) (o : Option (ℕ × ℕ))
-    (on : read_entries room n k s (drop k ls) ≡ whole) (cut : drop k ls ≡ line ∷ drop (k + 1) ls) (told : o ≡ cond (ltb k room) (entry_of line) None) where
+    (on : read_entries room n k s (drop k ls) ≡ whole) (cut : drop k ls ≡ line ∷ drop (k + 1) ls)
+    (told : o ≡ cond (ltb k room) (entry_of line) None) where
   pub read-stop : o ≡ None → whole ≡ reading_of (k + 2) n k s
   read-stop z = sym on ∙ ap (read_entries room n k s) cut ∙ part-stop room n k s line (drop (k + 1) ls) o told z
 

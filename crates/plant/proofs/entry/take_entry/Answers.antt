@@ -48,4 +48,12 @@ returns-clause-line_after c =
     let e = c.act-done.ensures in
     let f = c.close_round-over.ensures in
     rw (c.copy_from_slice.ensures.after, c.tested_byte-tested.ensures, c.outcome_byte-outcome.ensures, e.tested_station, e.outcome_number)
-    (rw (c.get-status.ensures, c.read.ensures.same_size, c.read.ensures.same_bytes, f.round_closed, f.same_loan.size, e.same_loan.size, e.entry_acted))
+    (rw (
+      c.get-status.ensures,
+      c.read.ensures.same_size,
+      c.read.ensures.same_bytes,
+      f.round_closed,
+      f.same_loan.size,
+      e.same_loan.size,
+      e.entry_acted,
+    ))

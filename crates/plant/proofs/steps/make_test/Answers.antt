@@ -47,4 +47,15 @@ returns-clause-test_made c =
     let a = c.apply_outcome.ensures in
     let t = c.count_test.ensures in
     let r = c.read.ensures in
-    rw (c.leave_if_alone.ensures.left_if_alone, a.same_loan.size, a.outcome_applied, o.tested_station, o.outcome_number, r.same_size, r.same_bytes, t.same_loan.size, t.test_counted, c.lookup-j.ensures)
+    rw (
+      c.leave_if_alone.ensures.left_if_alone,
+      a.same_loan.size,
+      a.outcome_applied,
+      o.tested_station,
+      o.outcome_number,
+      r.same_size,
+      r.same_bytes,
+      t.same_loan.size,
+      t.test_counted,
+      c.lookup-j.ensures,
+    )

@@ -32,13 +32,19 @@ turn c =
     (YieldsList-at c.into_iter-k-iterator.ensures.into_iter_gives
     (YieldsList-from_enumerate (YieldsList-at c.enumerate-k-items.ensures.source
     (YieldsList-from_filter _ (stands c.row-row.result.now c.args.i.0) (YieldsList-at c.filter-others.ensures.source
-    (YieldsList-from_range 1 c.distances-end.result (distances c.args.table.now.n - 1) (search rules) (omega (arith, c.distances-end.ensures.number_of_distances))))
+    (YieldsList-from_range 1 c.distances-end.result (distances c.args.table.now.n - 1) (search rules) (omega (
+      arith,
+      c.distances-end.ensures.number_of_distances,
+    ))))
     c.filter-others.ensures.closure (λ x r q k. search (rules, tests))))
     c.enumerate-k-items.ensures.count))
     c.loop-k.yielded _ c.loop-k.yielded_by _ _ _ c.in-Some.is c.next.ensures.steps in
     let p = enumerated _ _ _ _ t in
-    let q = c.requires in
-    (p.0, entry-fits _ _ _ c.args.table.now.sized c.row-row.ensures.row_len q.station _ c.args.list.now c.loop-k.yielded _ c.in-Some.m q.list_len p.0 p.1)
+    let q = c.requires in (
+      p.0,
+      entry-fits _ _ _ c.args.table.now.sized c.row-row.ensures.row_len q.station _
+          c.args.list.now c.loop-k.yielded _ c.in-Some.m q.list_len p.0 p.1,
+    )
 
 pub overflow_mul-list : goal.overflow_mul-list
 overflow_mul-list c = omega (arith, (turn (goal.at.overflow_mul-list c).In-Some).1, c.requires.list_len, size-bounds _ c.args.table.now.sized)
@@ -67,7 +73,8 @@ loop-k-preserved c =
     let q = c.requires in
     record {
       counted = rw c.from-due.ensures (entry-counted (due c.row-row.result.now c.args.i.0) c.loop-k.yielded c.in-Some.k c.in-Some.m _ c.is_due.result (c.is_due.ensures ∙ ap says_due c.due_or_ahead-answer.ensures ∙ sym (due-is _ _ _)) i.counted);
-      written = rw (c.byte.ensures, c.due_or_ahead-answer.ensures) (entry-written _ _ _ c.args.table.now.sized c.row-row.ensures.row_len q.station _ _ c.loop-k.yielded _ _ q.list_len t.0 i.written);
+      written = rw (c.byte.ensures, c.due_or_ahead-answer.ensures)
+          (entry-written _ _ _ c.args.table.now.sized c.row-row.ensures.row_len q.station _ _ c.loop-k.yielded _ _ q.list_len t.0 i.written);
     }
 
 -- in the end all distances of the others were gone through
@@ -77,7 +84,10 @@ all c =
     (YieldsList-at c.into_iter-k-iterator.ensures.into_iter_gives
     (YieldsList-from_enumerate (YieldsList-at c.enumerate-k-items.ensures.source
     (YieldsList-from_filter _ (stands c.row-row.result.now c.args.i.0) (YieldsList-at c.filter-others.ensures.source
-    (YieldsList-from_range 1 c.distances-end.result (distances c.args.table.now.n - 1) (search rules) (omega (arith, c.distances-end.ensures.number_of_distances))))
+    (YieldsList-from_range 1 c.distances-end.result (distances c.args.table.now.n - 1) (search rules) (omega (
+      arith,
+      c.distances-end.ensures.number_of_distances,
+    ))))
     c.filter-others.ensures.closure (λ x r q k. search (rules, tests))))
     c.enumerate-k-items.ensures.count))
     c.loop-k.yielded _ c.loop-k.yielded_by _ _ c.in-None.is c.next.ensures.steps in
@@ -88,7 +98,8 @@ pub returns-clause-due_counted : goal.returns-clause-due_counted
 returns-clause-due_counted c =
     let q = c.requires in
     rw (← c.row-row.ensures.row_of_line)
-    (c.loop-k.invariant.counted ∙ ap length (ap (filter (due c.row-row.result.now c.args.i.0)) (all c) ∙ others-due _ _ _ c.args.table.now.sized c.row-row.ensures.row_len q.station))
+    (c.loop-k.invariant.counted ∙ ap length (ap (filter (due c.row-row.result.now c.args.i.0)) (all c)
+    ∙ others-due _ _ _ c.args.table.now.sized c.row-row.ensures.row_len q.station))
 
 pub returns-clause-list_after : goal.returns-clause-list_after
 returns-clause-list_after c =

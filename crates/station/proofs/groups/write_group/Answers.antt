@@ -32,7 +32,14 @@ pub bounds-list-k : goal.bounds-list-k
 bounds-list-k c =
     let m = members (goal.at.bounds-list-k c).After-into_iter-k-iterator in
     let p = enumerated _ _ _ _ (YieldsList-turn m c.loop-k.yielded _ c.loop-k.yielded_by _ _ _ c.in-Some.is c.next.ensures.steps) in
-    omega (arith, p.0, p.1, c.requires.list_len, c.loop-k.auto.list, ap length (group-walk c.args.n c.args.i.0 c.args.s.0 c.width_of-w.result c.width_of-w.ensures.width_of_level))
+    omega (
+      arith,
+      p.0,
+      p.1,
+      c.requires.list_len,
+      c.loop-k.auto.list,
+      ap length (group-walk c.args.n c.args.i.0 c.args.s.0 c.width_of-w.result c.width_of-w.ensures.width_of_level),
+    )
 
 pub loop-k-preserved : goal.loop-k-preserved
 loop-k-preserved c =
