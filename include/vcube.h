@@ -23,7 +23,8 @@
  * Turn, pass, round.
  *
  *   A turn of station i: of the distances that are due for i, not below its next distance, the least is taken. If there is none, i finishes
- *   its pass. Else i tests the station j there; its next distance becomes one more than that distance, and its tests and the tally's go up.
+ *   its pass, and its next distance becomes 2^d. Else i tests the station j there: its next distance becomes one more than that distance, and
+ *   its tests and the tally's go up by one.
  *     - j is not live, or the reply is late:     i suspects j from now on (Rule No reply).
  *     - j suspects i:                            i is told and leaves. No row changes (Rule Tester told).
  *     - i suspects j, and j does not suspect i:  j is told and leaves. No row changes (Rule Tested told).
