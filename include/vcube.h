@@ -1,36 +1,57 @@
-/* The vCube watch for C and C++: the calls of the document "The vCube watch on a gin's plant cable" (document 01), with the sizes of
- * request C-11 of document 02, the tested station that hears it too, its request C-13, the assignment that says who stands ahead, its
- * request C-16, and the line that says who told a station to leave and how long ago, its request C-18; the bus master that grants the turns,
- * its request C-15; saving the plant to the panel, its request C-17; and the figures over a season's trials, its request C-12. The library
- * behind them (crates/vcube and the crates that it uses, docs/MAP.md) is proved in Rattle to do what its definitions say; this header and
- * the compiler's back end are not part of the proof.
+/* The vCube watch for C and C++: which stations of a plant of 2 to 64 are live, and who suspects whom.
  *
- * Build the archive with tests/archive and link target/staticlib/libvcube.a (x86-64 Linux), or install it by bindings/c/install.
+ * The library behind this header is proved in Rattle to do what its definitions say. This header and the compiler's back end are not part of
+ * the proof; they are tested. All rules stand, each with a name, in docs/RULES.md of the repository; "Rule Exchange" below is the one of
+ * that name. What is needed to use the calls is said here too.
  *
- * Numbers and lengths may be anything at all: nothing need be tested before a call. A buffer is a pointer to bytes and their number; the
- * pointer must be valid for that many bytes, at any alignment. A list of results is a pointer to uint16_t and the number of results (not
- * of bytes); the pointer must be valid for that many and aligned for uint16_t. Where the number is 0 the pointer may be NULL: nothing is
- * read or written there, and the call gives what it gives for any other buffer or list of length 0 (tested, not proved). The pointers to
- * size_t, uint32_t and the structs below, where a call finds or puts its figures, must each point to a variable of that type, not NULL. What
- * a call writes may overlap with nothing else of that call; what it only reads (pointers to const) may overlap with what else it only
- * reads. The library keeps no state and no pointer: the caller keeps table, tally and last granted number, and calls may run at once in
- * several threads, if none writes what another uses.
+ * To build: the archive is made by tests/archive as target/staticlib/libvcube.a, and bindings/c/install installs it with this header. It is
+ * for x86-64 Linux, and processors of the level x86-64-v2 or above. It needs memcpy, memmove and memset, and nothing else. A load takes 4664
+ * bytes of stack, every other call less than 400.
  *
- * Words. A plant has n stations, 2 to 64, numbered from 0; d is n's logarithm to base 2, rounded up. The distance of two stations is the
- * exclusive or of their numbers, which is below 2^d. The group of station i at level s (1 to d) holds, in this order, those of the numbers
+ * Who keeps what. There is one table for a plant, and whoever makes the calls keeps it: a bus master, a panel or a test bench. Tally and last
+ * granted number are the caller's too. The library keeps no state and no pointer; calls may run at once in several threads, if none writes
+ * what another uses. Sending messages between the stations, measuring time-outs and calling a reply late are the caller's.
+ *
+ * What may be handed in. Numbers and lengths may be anything at all: nothing need be tested before a call. A buffer is a pointer to bytes and
+ * their number; the pointer must be valid for that many bytes, at any alignment. A list of results is a pointer to uint16_t and the number
+ * of results (not of bytes); the pointer must be valid for that many and aligned for uint16_t. Where the number is 0 the pointer may be NULL:
+ * nothing is read or written there, and the call gives what it gives for any other buffer or list of length 0 (tested, not proved). The
+ * pointers to size_t, uint32_t and the structs below, where a call finds or puts its numbers, must each point to a variable of that type,
+ * not NULL. What a call writes may overlap with nothing else of that call; what it only reads (pointers to const) may overlap with what else
+ * it only reads.
+ *
+ * Turn, pass, round.
+ *
+ *   A turn of station i: of the distances that are due for i, not below its next distance, the least is taken. If there is none, i finishes
+ *   its pass, and its next distance becomes 2^d. Else i tests the station j there: its next distance becomes one more than that distance, and
+ *   its tests and the tally's go up by one.
+ *     - j is not live, or the reply is late:     i suspects j from now on (Rule No reply).
+ *     - j suspects i:                            i is told and leaves. No row changes (Rule Tester told).
+ *     - i suspects j, and j does not suspect i:  j is told and leaves. No row changes (Rule Tested told).
+ *     - neither suspects the other:              both rows become the union of the two (Rule Exchange).
+ *   After a test, whatever came of it: if i is still live and suspects all others, it leaves because alone (Rule Alone).
+ *   A station's pass is its turns of one round. The turn without a test finishes it (Rule Pass).
+ *   A round closes with the entry after which some station is live and every live one has finished its pass. Then every line gets next
+ *   distance 1, pass not finished and no tests; byte 5 of each line that is not live goes up by one, to 255 at most; and the tally has one
+ *   closed round more. If nobody is live no round closes any more.
+ *   No entry makes a station live again, and none takes a suspicion back. In a fresh table all are live, and nobody is suspected.
+ *
+ * Words. A plant has n stations, numbered from 0; d is the least number with n <= 2^d. The distance of two stations is the exclusive or of
+ * their numbers, which is below 2^d. The group of station i at level s (1 to d) holds, in this order, those of the numbers
  * i ^ (2^(s - 1) + k), for k from 0 to 2^(s - 1) - 1, that are below n; it may be empty. The level of a distance m is the s with
  * 2^(s - 1) <= m < 2^s. A station suspects another by its own row, and never itself. If a station j is at distance m from i, then i is in
  * the group of j at the level of m: m is due for i if i is the first station of that group that i does not suspect, and otherwise that first
- * station, live or not, is ahead of i at m. If no station is at distance m from i, then m is not due for i.
+ * station, live or not, is ahead of i at m. If no station is at distance m from i, then m is not due for i. Whether i suspects j makes no
+ * difference to the distance of j.
  *
  * The table has n lines of n + 6 bytes, in station order. The head of a line is its first VCUBE_HEAD bytes:
  *
  *   byte 0    its status (enum vcube_status)
- *   byte 1    its next distance, 1 to 2^d
- *   byte 2    whether its pass is finished, 0 or 1
+ *   byte 1    its next distance, 1 to 2^d: from which its next turn looks for a test
+ *   byte 2    1 if it has finished its pass in this round, else 0
  *   byte 3    the tests made in this round
- *   byte 4    the station whose row told it to leave; VCUBE_TOLD_BY_NONE if none did, VCUBE_TOLD_NOT_RECORDED if it was never recorded
- *   byte 5    how many rounds were closed since it ceased to be live; it stops at 255, which means 255 or more
+ *   byte 4    the station that told it to leave; VCUBE_TOLD_BY_NONE if none did, VCUBE_TOLD_NOT_RECORDED if it was never recorded
+ *   byte 5    how many rounds closed since it ceased to be live; it stops at 255, which means 255 or more
  *
  * Then, from byte 6 on, comes the station's row: byte k of it is 1 if the station suspects station k, else 0. For byte 5 a round that closes
  * on the very entry at which the station ceased to be live counts too, so that byte 5 is 1 after such an entry.
@@ -58,8 +79,8 @@
  *
  * Each call returns 0 or the number of its refusal (enum vcube_refusal). A refused call changes no byte of table, list, sheet or saved
  * plant, except that a run which stops at an entry (7 to 11) keeps the work of the entries before it, and a drive which stops before a grant
- * (7) that of the turns before it. What becomes of the figures is said of each call; in a struct that a refused call fills every member is
- * 0, lower parts of fractions included.
+ * (7) that of the turns before it. What becomes of the numbers that it gives is said of each call; in a struct that a refused call fills
+ * every member is 0, lower parts of fractions included.
  */
 #ifndef VCUBE_H
 #define VCUBE_H
@@ -94,7 +115,7 @@ extern "C" {
 /* Stands in an entry of an assignment whose distance is due. */
 #define VCUBE_DUE 255
 
-/* Stands in the sheet where no station was tested, and is the last granted number where none was granted yet. */
+/* Stands in the run sheet where no station was tested, and is the last granted number where none was granted yet. */
 #define VCUBE_NO_STATION 255
 
 /* Byte 4 of the line of a station that no other one told to leave: it is live, crashed, or left because alone. */
@@ -141,7 +162,7 @@ enum vcube_kind {
     VCUBE_KIND_CRASH = 3
 };
 
-/* Byte 0 of a line of the table; byte 3 of a line of the sheet, where it is that of the station in byte 0 and never of the tested one. */
+/* Byte 0 of a line of the table; byte 3 of a line of the run sheet, where it is that of the station in byte 0 and never of the tested one. */
 enum vcube_status {
     VCUBE_STATUS_LIVE = 0,
     VCUBE_STATUS_CRASHED = 1,
@@ -150,7 +171,7 @@ enum vcube_status {
     VCUBE_STATUS_ALONE = 3              /* left because alone: it suspects all others */
 };
 
-/* Byte 2 of a line of the sheet. The tester is the station in byte 0, the tested station that in byte 1. */
+/* Byte 2 of a line of the run sheet. The tester is the station in byte 0, the tested station that in byte 1. */
 enum vcube_outcome {
     VCUBE_OUTCOME_PASS_FINISHED = 0,    /* no test was due any more */
     VCUBE_OUTCOME_EXCHANGED = 1,        /* neither suspected the other: both rows became the union of the two */
@@ -206,8 +227,9 @@ uint8_t vcube_assignment(size_t n, const uint8_t *table, size_t table_length, si
  * Refusals: 1 to 4, 9. */
 uint8_t vcube_row(size_t n, const uint8_t *table, size_t table_length, size_t station, size_t *start, size_t *length);
 
-/* Run: takes the entries of a schedule in order. An entry is two bytes: kind (enum vcube_kind) and station. What an entry does is steps 1
- * to 8 of document 01, with request C-13 in place of step 4, as definitions in crates/plant/specs.
+/* Run: takes the entries of a schedule in order. An entry is two bytes: kind (enum vcube_kind) and station. A turn, of kind 1 or 2, is told
+ * at the top of this file. A crash changes the station's status to 1, and nothing else on its line. After each entry the round is closed if
+ * it is over.
  *
  * For each entry taken four bytes of the sheet are written: the station, the station it tested or VCUBE_NO_STATION, the outcome (enum
  * vcube_outcome), and the status after the entry of the station in byte 0 (enum vcube_status). Where the outcome is

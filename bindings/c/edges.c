@@ -101,7 +101,7 @@ struct assignment {
 #define BIT(station) (1u << (station))
 #define DUE VCUBE_DUE
 
-/* Worked out by hand from step 1 of document 01 and requests C-11 and C-16. */
+/* Worked out by hand from the rules Due and Ahead. */
 static const struct assignment assignments[] = {
     {"assignment: station 1 of 2", 2, 1, 0, 1, {1, DUE}},
     {"assignment: station 5 of 8, 4 is ahead at 3 and 5, 7 at 6, 6 at 7", 8, 5, 0, 3,
@@ -224,7 +224,7 @@ struct turn {
     uint32_t rounds;
 };
 
-/* Worked out by hand from steps 3 to 8 of document 01 and requests C-13 and C-18. */
+/* Worked out by hand from the rules of a turn and of a round. */
 static const struct turn turns[] = {
     {"run: neither suspects the other, both stay live", VCUBE_KIND_TURN,
      {0, 1, 0, 0, NONE, 0, 0, 0, 0, 1, 0, 0, NONE, 0, 0, 0}, {0, 1, VCUBE_OUTCOME_EXCHANGED, VCUBE_STATUS_LIVE},
@@ -414,7 +414,7 @@ struct drive {
     struct driven given;
 };
 
-/* Worked out by hand from the granting rule and steps 1 to 8 of document 01 with requests C-13 and C-18. */
+/* Worked out by hand from the rule Grant and the rules of a turn and of a round. */
 static const struct drive drives[] = {
     {"drive: 0, 1, 0, 1 close a round, in n * n grants",
      FRESH, {5, 7, VCUBE_NO_STATION, ANY}, VCUBE_ACCEPTED,
@@ -854,7 +854,7 @@ static void try_head(const struct head *head)
     write_table(table, head->number, head->what);
 }
 
-/* Whether the rules of request C-18 take a line of this station of n. */
+/* Whether the rules Live line, Crashed or alone line and Told line take a line of this station of n. */
 static int rules_take(size_t n, size_t station, unsigned status, unsigned told_by, unsigned rounds_ago)
 {
     switch (status) {
@@ -928,7 +928,7 @@ struct entry {
     uint32_t rounds;
 };
 
-/* Worked out by hand from steps 2 to 8 of document 01 and requests C-13 and C-18. */
+/* Worked out by hand from the rules of a turn and of a round. */
 static const struct entry entries[] = {
     {"run: 3 suspects 2, which tests it and leaves: told by 3", VCUBE_KIND_TURN, 2,
      {0, 1, 0, 0, NONE, 0, 0, 0, 0, 0,

@@ -1,5 +1,5 @@
-/* A bus master that grants the turns (request C-15 of document 02), by the C interface of the library: drives over a plant of 8 boards
- * until a dead one is known by all the others, and beside each drive the same round made grant by grant and turn by turn. */
+/* A bus master that grants the turns, by the C interface of the library: drives over a plant of 8 boards until a dead one is known by all the
+ * others, and beside each drive the same round made grant by grant and turn by turn. */
 
 #include "vcube.h"
 
@@ -9,7 +9,7 @@
 
 #define N 8
 #define DEAD 5
-#define MOST_DRIVES 10 /* the open round, then d * d rounds (demand 3) */
+#define MOST_DRIVES 10 /* 4 would do: the open round, then the 3 rounds of 8 boards (Rule Worst case) */
 
 /* 1, 4 and 7 finish their passes before there is a bus master; then 5 crashes. Nobody who has turns left in this round tests 5. */
 static const uint8_t beforehand[] = {

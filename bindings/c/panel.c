@@ -1,7 +1,7 @@
-/* Saving a plant to the panel (request C-17 of document 02), by the C interface of the library: document 01's example for N = 4 is run and
- * saved, loaded by a panel that does not know its size, and driven on. Then a saved plant of another panel, whose fields stand in another
- * order, and the same one cut off. Of each plant the panel says which boards are not live, who told them to leave and how many rounds ago
- * (its request C-18). */
+/* Saving a plant to the panel, by the C interface of the library: the four entries that docs/RULES.md, "A worked run", begins with are run,
+ * and the plant is saved, loaded by a panel that does not know its size, and driven on. Then a saved plant of another panel, whose fields
+ * stand in another order, and the same one cut off. Of each plant the panel says which boards are not live, who told them to leave and how
+ * many rounds ago. */
 
 #include "vcube.h"
 
@@ -51,7 +51,7 @@ static int refused(const char *call, uint8_t number)
     return number != VCUBE_ACCEPTED;
 }
 
-/* A fresh plant after document 01's example. */
+/* A fresh plant after the four entries above. */
 static int run_example(struct plant *plant)
 {
     uint8_t sheet[2 * sizeof example];

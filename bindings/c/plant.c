@@ -1,5 +1,5 @@
-/* Document 01's example for N = 4, by the C interface of the library, a group in a plant of 11, and which distances are due and who is ahead
- * at the others (request C-16 of document 02); then a board that leaves when it is tested (its request C-13). */
+/* The four entries that docs/RULES.md, "A worked run", begins with, by the C interface of the library; a group in a plant of 11, and which
+ * distances are due and who is ahead at the others; then a board that leaves when it is tested. */
 
 #include "vcube.h"
 

@@ -1,4 +1,4 @@
-/* Figures over a season's trials (request C-12 of document 02), by the C interface of the library: of each day's list, of two lists
+/* Figures over a season's trials, by the C interface of the library: of each day's list, of two lists
  * together, and of totals that were kept from day to day. */
 
 #include "vcube.h"

@@ -1,5 +1,4 @@
-//! Which distances are due for a station, and who stands ahead at the others:
-//! request C-16 of document 02.
+//! Which distances are due for a station, and who stands ahead at the others.
 
 use crate::{accepted, raw, Distance, Refusal, Station};
 

@@ -1,10 +1,9 @@
-//! The numbers of document 01 as types: refusals, with those of requests C-12,
-//! C-15 and C-17, kinds, statuses, and outcomes, with that of request C-13.
+//! Refusals, kinds, statuses and outcomes: the numbers of docs/RULES.md as types.
 
 use std::error::Error;
 use std::fmt;
 
-/// An enum whose cases have the numbers of the documents.
+/// An enum whose cases have the numbers of the rules.
 macro_rules! numbered {
     ($(#[$about:meta])* $name:ident { $($(#[$of_case:meta])* $case:ident = $number:literal,)+ }) => {
         $(#[$about])*
@@ -15,7 +14,7 @@ macro_rules! numbered {
         }
 
         impl $name {
-            /// Its number in the documents.
+            /// Its number, as in docs/RULES.md.
             #[must_use]
             pub const fn number(self) -> u8 {
                 self as u8
@@ -40,25 +39,46 @@ numbered! {
     /// `LineRule` and `AllFinished` in this order.
     #[non_exhaustive]
     Refusal {
+        /// The size is not from 2 to 64.
         Size = 1,
+        /// The table's length is not n times (n + 6).
         TableLength = 2,
+        /// A line of the table breaks a line rule.
         LineRule = 3,
+        /// Some station is live, and every live one has finished its pass.
         AllFinished = 4,
+        /// The schedule's length is odd.
         ScheduleLength = 5,
+        /// The sheet's length is not twice the schedule's.
         SheetLength = 6,
+        /// One of the two counters of the [`Tally`](crate::Tally) is full.
         Tally = 7,
+        /// The kind is not 1, 2 or 3, those of [`Kind`].
         Kind = 8,
+        /// The number of a [`Station`](crate::Station) is n or more.
         Station = 9,
+        /// The station is not live.
         NotLive = 10,
+        /// The kind is 1 or 2, and the station has finished its pass.
         PassFinished = 11,
+        /// A [`Level`](crate::Level) is 0 or above d.
         Level = 12,
+        /// The list, or the buffer for a saved plant, has not the length stated.
         ListLength = 13,
+        /// There is no result at all.
         NoResult = 14,
+        /// There are more than 4096 results, or totals above what they can have.
         TooManyResults = 15,
+        /// The last granted number is n or more, and not 255.
         LastGranted = 16,
+        /// No station is live.
         NoneLive = 17,
+        /// A field of the saved plant, or its head, runs past the end.
         FieldPastEnd = 18,
+        /// The size or tally field is absent, there more than once or of wrong length.
         SizeOrTallyField = 19,
+        /// A line field has the wrong length or a number of n or more, or a
+        /// station has none or several.
         LineField = 20,
     }
 }

@@ -42,8 +42,8 @@ pub struct SheetLine {
 }
 
 impl SheetLine {
-    /// Reads a line. Gives none where outcome or status have a number that the
-    /// documents do not know: a run writes no such line.
+    /// Reads a line. Gives none where outcome or status have a number that
+    /// [`Outcome`] or [`Status`] does not have: a run writes no such line.
     #[must_use]
     pub fn from_bytes(bytes: [u8; 4]) -> Option<SheetLine> {
         let [station, tested, outcome, status] = bytes;

@@ -1,4 +1,4 @@
-//! The figures over a season's trials: request C-12 of document 02.
+//! The figures over a season's trials.
 
 use crate::{accepted, raw, Refusal};
 use std::fmt;

@@ -1,4 +1,4 @@
-//! The bus master that grants the turns: request C-15 of document 02.
+//! The bus master that grants the turns.
 
 use crate::entries::NO_STATION;
 use crate::{accepted, raw, Refusal, Station, Tally};

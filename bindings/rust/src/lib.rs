@@ -1,23 +1,55 @@
-//! A safe binding to the vCube watch library (include/vcube.h).
+//! A safe binding to the vCube watch library: which stations of a plant of 2 to
+//! 64 are live, and who suspects whom.
 //!
-//! What each call does, and when it is refused, is said in document 01, "The
-//! vCube watch on a gin's plant cable"; the steps of an entry stand as
-//! definitions in crates/plant/specs. Plants have 2 to
-//! 64 stations (request C-11 of document 02), the tested station hears too that
-//! it is suspected (its request C-13), an assignment says who stands ahead where
-//! a distance is not due (its request C-16), and a line of the table says who told
-//! its station to leave and how long ago (its request C-18). The bus master that
-//! grants the turns is that of its request C-15, saving a plant to the panel is
-//! its request C-17, and the figures over a season's trials are those of its
-//! request C-12. Every call takes any numbers and slices of any length: nothing
-//! need be tested before calling. A refused call changes nothing; a run that stops
-//! at an entry keeps the work of the entries before it, and a drive that stops
-//! before a grant that of the turns before it.
+//! All rules stand, each with a name, in docs/RULES.md of the repository. There is
+//! one table for a plant, and whoever makes the calls keeps it: a bus master, a
+//! panel or a test bench. Sending messages, measuring time-outs and calling a
+//! reply late are the caller's.
 //!
-//! The table is told in include/vcube.h, which also says what to do with one of
-//! before version 0.9: it is refused with 2.
+//! Every call takes any numbers and slices of any length: nothing need be tested
+//! before calling. A refused call changes nothing; a run that stops at an entry
+//! keeps the work of the entries before it, and a drive that stops before a grant
+//! that of the turns before it.
 //!
-//! The example of document 01 for N = 4:
+//! # Turn, pass, round
+//!
+//! - A *turn* of a station is one test of another one, at the least due distance
+//!   from its next distance on, or, if there is none, the end of its *pass*.
+//! - If the tested station is not live, or its reply is late, the tester suspects
+//!   it from now on. Else, if the tested one suspects the tester, the tester
+//!   leaves; else, if the tester suspects the tested one, that one leaves; else
+//!   both rows become the union of the two. A tester that then suspects all
+//!   others leaves, too.
+//! - A *round* closes when every live station has finished its pass: a new one
+//!   begins at next distance 1.
+//!
+//! # The table
+//!
+//! It has n lines of n + 6 bytes, in station order ([`table_length`]):
+//!
+//! | byte of a line | holds | read by |
+//! |---|---|---|
+//! | 0 | the status | [`status`] |
+//! | 1 | the next distance, from which the next turn looks for a test | |
+//! | 2 | 1 if the pass is finished in this round, else 0 | |
+//! | 3 | the tests made in this round | |
+//! | 4 | who told the station to leave | [`told_by`] |
+//! | 5 | rounds closed since it ceased to be live | [`rounds_ago`] |
+//! | 6 + k | 1 if the station suspects station k, else 0 | [`row`] |
+//!
+//! The line rules, which a table must keep, are in docs/RULES.md, and in
+//! include/vcube.h, which also says what to do with a table of before version 0.9:
+//! it is refused with 2.
+//!
+//! # Names
+//!
+//! [`Refusal::Station`], [`Refusal::Level`], [`Refusal::Tally`] and
+//! [`Refusal::Kind`] are refusals, not the types of these names: write them with
+//! `Refusal::`.
+//!
+//! # Examples
+//!
+//! Four entries in a plant of 4:
 //!
 //! ```
 //! use vcube::{Answer, Distance, DueOrAhead, Entry, Kind, Outcome, Station, Status, Tally, ToldBy};

@@ -1,5 +1,5 @@
 //! What the line of a station says of it: whether it is live, who told it to
-//! leave and how long ago. Request C-18 of document 02.
+//! leave and how long ago.
 
 use crate::{accepted, raw, Refusal, Station, Status};
 

@@ -1,4 +1,4 @@
-//! Saving a plant to the panel: request C-17 of document 02.
+//! Saving a plant to the panel.
 
 use crate::{accepted, raw, Refusal, Tally};
 

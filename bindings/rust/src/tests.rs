@@ -1,8 +1,5 @@
-//! The expected values are those of document 01's plant examples, and follow
-//! its rules with the sizes of request C-11. Those of the figures (request C-12),
-//! of suspected stations that are tested (request C-13), of who stands ahead
-//! (request C-16) and of who told a station to leave (request C-18) are worked
-//! out by hand.
+//! The expected values are those of the examples in docs/RULES.md, or worked out
+//! by hand from its rules.
 
 use crate::*;
 
@@ -485,7 +482,7 @@ fn wrong_sizes_and_lengths_are_refused() {
         let mut table = vec![0; table_length(n)];
         assert_eq!(fresh_table(n, &mut table), Err(Refusal::Size));
     }
-    // 12 is the length of before request C-18; 40 is that of 4 stations.
+    // 12 is the length of before version 0.9; 40 is that of 4 stations.
     for length in [0, 12, 15, 17] {
         let mut table = vec![0; length];
         assert_eq!(fresh_table(2, &mut table), Err(Refusal::TableLength));

@@ -1,6 +1,5 @@
-//! Which distances are due and who stands ahead at the others (request C-16).
-//! The expected values are worked out by hand from step 1 of document 01, with
-//! the sizes of request C-11.
+//! Which distances are due and who stands ahead at the others. The expected values
+//! are worked out by hand from the rules Due and Ahead.
 
 use super::{fresh, stations};
 use crate::*;

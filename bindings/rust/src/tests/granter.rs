@@ -1,6 +1,5 @@
-//! Grants and drives (request C-15). The expected values are worked out by hand
-//! from the granting rule and the steps of document 01, with requests C-13 and
-//! C-18.
+//! Grants and drives. The expected values are worked out by hand from the rule
+//! Grant, and from those of a turn and of a round.
 
 use super::{fresh, NONE};
 use crate::*;
@@ -65,7 +64,7 @@ fn grants_and_drives_are_refused_by_1_to_4_before_16() {
     }
     assert_eq!(refusal(2, &[9; 15], Some(2)), Refusal::TableLength);
     assert_eq!(refusal(3, &fresh(2), Some(3)), Refusal::TableLength);
-    // The length of before request C-18.
+    // The length of before version 0.9.
     assert_eq!(refusal(2, &[9; 12], Some(2)), Refusal::TableLength);
     let mut lines = [[0, 2, 1, 0, NONE, 0, 0, 0], [0, 2, 1, 2, NONE, 0, 0, 0]];
     assert_eq!(refusal(2, &lines.concat(), Some(2)), Refusal::LineRule);

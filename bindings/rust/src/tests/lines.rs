@@ -1,5 +1,5 @@
-//! Who told a station to leave, and how long ago (request C-18). The expected
-//! values are worked out by hand from the request and the steps of document 01.
+//! Who told a station to leave, and how long ago. The expected values are worked
+//! out by hand from the rules.
 
 use super::{after_entry, fresh, one_test, NONE};
 use crate::*;
@@ -90,7 +90,7 @@ fn lines_are_refused_by_1_to_4_and_9() {
     for n in [0, 1, 65, 260, usize::MAX] {
         assert_eq!(refusal(n, &table, 0), Some(Refusal::Size));
     }
-    // 32 is the length of before request C-18.
+    // 32 is the length of before version 0.9.
     for length in [0, 32, 39] {
         let refused = refusal(4, &table[..length], 0);
         assert_eq!(refused, Some(Refusal::TableLength));
@@ -104,7 +104,8 @@ fn lines_are_refused_by_1_to_4_and_9() {
     assert_eq!(refusal(4, &finished, 4), Some(Refusal::AllFinished));
 }
 
-/// Whether the rules of request C-18 take this head of a line.
+/// Whether the rules Live line, Crashed or alone line and Told line take this
+/// head of a line.
 fn rules_take(n: usize, station: usize, status: u8, told_by: u8, rounds_ago: u8) -> bool {
     match status {
         0 => told_by == 255 && rounds_ago == 0,

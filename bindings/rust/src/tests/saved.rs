@@ -1,5 +1,5 @@
-//! Saved plants (request C-17), with the lines of request C-18. The expected
-//! bytes and refusals are worked out by hand from the requests.
+//! Saved plants. The expected bytes and refusals are worked out by hand from the
+//! rules of saved plants.
 
 use super::{fresh, NONE};
 use crate::*;
@@ -133,7 +133,7 @@ fn saves_are_refused_by_1_to_4_before_13() {
     for n in [0, 1, 65, 255, 258, usize::MAX] {
         assert_eq!(refusal(n, &[9; 15]), Refusal::Size);
     }
-    // 12 is the length of before request C-18.
+    // 12 is the length of before version 0.9.
     assert_eq!(refusal(2, &[9; 12]), Refusal::TableLength);
     assert_eq!(refusal(2, &[9; 15]), Refusal::TableLength);
     assert_eq!(refusal(3, &TABLE), Refusal::TableLength);
