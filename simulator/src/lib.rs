@@ -52,7 +52,7 @@ pub use figures::{figures, figures_of_two, Figures};
 pub use fraction::Fraction;
 pub use granter::{drive, grant, Driven};
 pub use line::HEAD;
-pub use questions::{assignment, check_table, fresh_table, group_list, row, row_number};
+pub use questions::{assignment, check_table, fresh_table, group_list, row, row_refusal};
 pub use run::{run, Answer};
 pub use saved::{load, save, saved_size, Loaded};
 pub use totals::{figures_of_totals, join_totals, totals, Totals};

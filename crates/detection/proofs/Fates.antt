@@ -18,12 +18,12 @@ use Rattle.table.proofs.Accepting.{Accepted, accepted}
 use Rattle.table.proofs.CellLaws.{TurnCounts, cell_same, cell_other}
 use Rattle.plant.specs.Turn.{outcome_exchanged, outcome_told, outcome_tested_told, set_status, leave_told, makes_test, replies, is_told, exchange_rows, suspect, reply_outcome, test_outcome, after_outcome, after_test, is_alone, after_alone, testing, turn, turn_tested, turn_outcome, crash, finish_pass}
 use Rattle.plant.specs.Round.{after_round}
-use Rattle.plant.specs.Entry.{Entry, State, is_crash, entry_number, acted, after, tested_of, outcome_of}
+use Rattle.plant.specs.Entry.{Entry, State, is_crash, entry_refusal, acted, after, tested_of, outcome_of}
 use Rattle.plant.proofs.StepCells.{leave_told-other, leave_told-status, leave_told-teller, finish_pass-other, suspect-other, exchange-other}
 use Rattle.plant.proofs.StepLines.{after_test-lines}
 use Rattle.plant.proofs.RoundLaws.{reset-other}
 use Rattle.plant.proofs.RulesKept.{Takes, entry-facts}
-use Rattle.detection.specs.Ceased.{LeftTold, EntryTells}
+use Rattle.detection.specs.Ceased.{LeftTold, TellerIsNamed}
 use Rattle.detection.proofs.TestingPair.{Counted, Pair, parts_of, count-others, testing-pair}
 
 -- status and byte 4 of line k are the same in both tables
@@ -172,7 +172,7 @@ module _ (n : ℕ) (u : List ℕ) (kind i j : ℕ) (long : length u ≡ table_le
       o = test_outcome n u kind i j
 
 -- a taken entry
-module _ (n : ℕ) (s : State) (e : Entry) (ok : Accepted n s.table) (z : entry_number n s e ≡ 0) where
+module _ (n : ℕ) (s : State) (e : Entry) (ok : Accepted n s.table) (z : entry_refusal n s e ≡ 0) where
   open parts_of n s e use {before as t, tester as i, distance as m, tested as j, counted as u}
 
   facts : Takes n s e
@@ -314,8 +314,8 @@ module _ (n : ℕ) (s : State) (e : Entry) (ok : Accepted n s.table) (z : entry_
       (λ b. absurd (omega (arith, rw (c, b) at o))))
 
 -- the claim about one entry, an end in itself
-pub entry-tells : EntryTells
-entry-tells n s e shape z =
+pub teller-is-named : TellerIsNamed
+teller-is-named n s e shape z =
     let ok = accepted n s.table shape in
     record {
       tester = tester-told n s e ok z;

@@ -11,7 +11,7 @@ use lib.Dec.{eqb}
 use lib.ListN.{length}
 use Rattle.table.specs.Sizes.{is_size}
 use Rattle.table.specs.Table.{head, stride, table_length, line_start, cell, status_column, next_column, finished_column, tests_column, told_by_column, told_by_none, rounds_ago_column, suspects, live, status}
-use Rattle.table.specs.Rules.{exit_rule, line_rules, table_number}
+use Rattle.table.specs.Rules.{exit_rule, line_rules, table_refusal}
 use Rattle.table.specs.Fresh.{fresh_byte, fresh_table}
 use Rattle.lists.proofs.SearchLaws.{every-all, list_of-length, list_of-at}
 use Rattle.lists.specs.Sums.{bit}
@@ -62,7 +62,7 @@ module _ (n : ℕ) where
   fresh-long = list_of-length (fresh_byte n) (table_length n)
 
   -- it passes refusals 1 to 4
-  pub fresh-accepted : is_size n ≡ true → table_number n t ≡ 0
+  pub fresh-accepted : is_size n ≡ true → table_refusal n t ≡ 0
   fresh-accepted size =
       accepted-number n t (record {
         size = size;
@@ -97,7 +97,7 @@ fresh-premises n rounds tests size = record {
   long = fresh-long n;
   start = fresh_start n;
   two_live = omega (arith, all_live n, size-bounds n size);
-  trusted = none-suspected n;
+  accurate = none-suspected n;
   no_crash = refl;
   no_late = refl;
 }

@@ -3,9 +3,9 @@
 -- Assumes nothing.
 use Rattle.std.specs.Prelude.{◌≡◌, ◌≢◌, Bool, true, false, List, [], ◌∷◌, ℕ, ◌+◌, min, ◌≤◌, ◌<◌, length, if◌then◌else◌}
 use Rattle.table.specs.Table.{table_length, status, status_told, told_by, not_recorded, rounds_ago, rounds_ago_top, suspects, live}
-use Rattle.table.specs.Rules.{table_number, round_over}
+use Rattle.table.specs.Rules.{table_refusal, round_over}
 use Rattle.plant.specs.Turn.{outcome_told, outcome_tested_told}
-use Rattle.plant.specs.Entry.{Entry, State, entry_number, acted, after, tested_of, outcome_of}
+use Rattle.plant.specs.Entry.{Entry, State, entry_refusal, acted, after, tested_of, outcome_of}
 use Rattle.detection.specs.Runs.{Call, Taken, after_runs, taken_all, table_after}
 use Rattle.detection.specs.Rounds.{count_taken}
 use Rattle.detection.specs.Driven.{RunOrDrive, after_mixed, runs_of_mixed}
@@ -31,8 +31,8 @@ pub record WhoTold (n : ℕ) (s : State) (e : Entry) : Type 0 where
       → (outcome_of n s.table e ≡ outcome_tested_told → k ≢ tested_of n s.table e) → told_by n (after n s e).table k ≡ told_by n s.table k
 
 -- at every entry that a run reaches, refusals 1 to 4 let its table through (`accepted-kept` of plant's proofs/RulesKept.antt)
-abbrev pub EntryTells : Type 0
-EntryTells = (n : ℕ) (s : State) (e : Entry) → table_number n s.table ≡ 0 → entry_number n s e ≡ 0 → WhoTold n s e
+abbrev pub TellerIsNamed : Type 0
+TellerIsNamed = (n : ℕ) (s : State) (e : Entry) → table_refusal n s.table ≡ 0 → entry_refusal n s e ≡ 0 → WhoTold n s e
 
 -- a round closes with the taken entry
 abbrev pub closes_round : Taken → Bool
@@ -53,7 +53,7 @@ FirstTold n [] i b = ⊥
 FirstTold n (x ∷ xs) i b = LeftTold n x.before.table (table_after x) i b
 
 -- table and tally after a list of runs, beside those before it
-pub record Recorded (n : ℕ) (s : State) (calls : List Call) (end : State) : Type 0 where
+pub record ExitRecord (n : ℕ) (s : State) (calls : List Call) (end : State) : Type 0 where
   -- "The run and the drive [..] never write 254 into byte 4": a line that has it had it before
   pub unrecorded : (i : ℕ) → i < n → told_by n end.table i ≡ not_recorded → told_by n s.table i ≡ not_recorded
   -- status and byte 4 of a line that was not live at first are as they were
@@ -73,10 +73,10 @@ pub record Recorded (n : ℕ) (s : State) (calls : List Call) (end : State) : Ty
   pub tallied : end.rounds ≡ s.rounds + rounds_closed (taken_all s calls)
 
 -- of every list of runs, whatever table of this length they are given
-abbrev pub RunsRecord : Type 0
-RunsRecord = (n : ℕ) (s : State) (calls : List Call) → length s.table ≡ table_length n → Recorded n s calls (after_runs s calls)
+abbrev pub ExitsRecorded : Type 0
+ExitsRecorded = (n : ℕ) (s : State) (calls : List Call) → length s.table ≡ table_length n → ExitRecord n s calls (after_runs s calls)
 
 -- of every list that mixes runs and drives: the same, of the runs that it is
-abbrev pub MixedRecord : Type 0
-MixedRecord =
-    (n : ℕ) (s : State) (xs : List RunOrDrive) → length s.table ≡ table_length n → Recorded n s (runs_of_mixed s xs) (after_mixed s xs)
+abbrev pub MixedExitsRecorded : Type 0
+MixedExitsRecorded =
+    (n : ℕ) (s : State) (xs : List RunOrDrive) → length s.table ≡ table_length n → ExitRecord n s (runs_of_mixed s xs) (after_mixed s xs)

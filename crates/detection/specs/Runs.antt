@@ -3,8 +3,8 @@
 use Rattle.std.specs.Prelude.{◌≡◌, ℕ, Bool, not, ◌&&◌, List, [], ◌∷◌, ◌++◌, length, if◌then◌else◌, ◌==◌}
 use Rattle.table.specs.Table.{live}
 use Rattle.plant.specs.Turn.{kind_turn, kind_late}
-use Rattle.plant.specs.Entry.{Entry, State, is_crash, is_test, entry_number, after, tested_of}
-use Rattle.plant.specs.Run.{entries, start_number, run}
+use Rattle.plant.specs.Entry.{Entry, State, is_crash, is_test, entry_refusal, after, tested_of}
+use Rattle.plant.specs.Run.{entries, start_refusal, run}
 
 -- what one run of the list is given anew: "Size, schedule and sheet are any, anew for each run"
 pub record Call : Type 0 where
@@ -39,11 +39,11 @@ pub record Taken : Type 0 where
 -- reaches it and none of 7 to 11 applies"
 unfoldable pub taken_from : ℕ → State → List Entry → List Taken
 taken_from n s [] = []
-taken_from n s (e ∷ es) = if entry_number n s e == 0 then (record { size = n; before = s; entry = e } ∷ taken_from n (after n s e) es) else []
+taken_from n s (e ∷ es) = if entry_refusal n s e == 0 then (record { size = n; before = s; entry = e } ∷ taken_from n (after n s e) es) else []
 
 -- the taken entries of one run
 unfoldable pub taken_in : State → Call → List Taken
-taken_in s c = if start_number c.size s.table (length c.schedule) (length c.sheet) == 0 then taken_from c.size s (entries c.schedule) else []
+taken_in s c = if start_refusal c.size s.table (length c.schedule) (length c.sheet) == 0 then taken_from c.size s (entries c.schedule) else []
 
 -- a run that finds this table and tally answers how many entries it takes
 abbrev pub CountsTaken : Call → State → ℕ → Type 0

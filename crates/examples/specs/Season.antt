@@ -41,6 +41,6 @@ examples =
     ∷ []
 
 -- each example holds
-pub as_said : map (λ (e : List ℕ × List ℕ). e.0) examples ≡ map (λ (e : List ℕ × List ℕ). e.1) examples
+pub hold : map (λ (e : List ℕ × List ℕ). e.0) examples ≡ map (λ (e : List ℕ × List ℕ). e.1) examples
 unfolding examples euclid gcd lowest mean squared_difference variance batch_check figures totals_of of_both joined overfull variance_of join figures_of_totals
-as_said = refl
+hold = refl

@@ -346,7 +346,7 @@ fn tests_line(rt: &impl Print, before: Tally, after: Tally) {
 fn run_line(rt: &impl Print, ran: Ran) {
     let _ = println!(rt;
         "number {} taken {} tests {}",
-        plant::stop_number(ran.stopped),
+        plant::stop_refusal(ran.stopped),
         ran.taken,
         ran.tally.tests
     );

@@ -153,7 +153,7 @@ fn drive_line(rt: &impl Print, driven: Driven) {
     let tally = driven.tally;
     let _ = println!(rt;
         "number {} rounds {} tests {} last {} grants {}",
-        plant::stop_number(driven.stopped),
+        plant::stop_refusal(driven.stopped),
         tally.rounds,
         tally.tests,
         driven.last,

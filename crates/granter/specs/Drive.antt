@@ -6,9 +6,9 @@ use Rattle.table.specs.Rules.{some_live}
 use Rattle.lists.specs.Refusal.{unless}
 use Rattle.plant.specs.Turn.{kind_turn}
 use Rattle.plant.specs.Entry.{State, state_with, entry_of, tally_full, after}
-use Rattle.plant.specs.Run.{stop_number}
+use Rattle.plant.specs.Run.{stop_refusal}
 use Rattle.granter.specs.declared.Driven.{Driven}
-use Rattle.granter.specs.Grant.{granted, grant_number}
+use Rattle.granter.specs.Grant.{granted, grant_refusal}
 
 -- where a drive stands: table and tally, and the last granted number
 pub record Stand : Type 0 where
@@ -53,28 +53,28 @@ unfoldable pub grants_made : ℕ → Stand → ℕ
 grants_made n p = least (stops n p) (n * n) 0
 
 -- what a drive answers and leaves: the number, table and tally, the last granted number and the grants made
-pub record DriveOutcome : Type 0 where
+pub record DriveResult : Type 0 where
   pub number : ℕ
   pub state : State
   pub last : ℕ
   pub grants : ℕ
 
 -- an outcome by its parts
-abbrev pub drive_outcome : ℕ → State → ℕ → ℕ → DriveOutcome
+abbrev pub drive_outcome : ℕ → State → ℕ → ℕ → DriveResult
 drive_outcome number s last grants = record { number = number; state = s; last = last; grants = grants }
 
 -- the outcome of a call: what it answers, and the table as it left it
-abbrev pub drive_outcome_with : Driven → List ℕ → DriveOutcome
-drive_outcome_with d t = drive_outcome (stop_number d.stopped) (state_with t d.tally) d.last d.grants
+abbrev pub drive_outcome_with : Driven → List ℕ → DriveResult
+drive_outcome_with d t = drive_outcome (stop_refusal d.stopped) (state_with t d.tally) d.last d.grants
 
 -- the outcome after k grants: 0 where the drive ended, and otherwise 7, "keeping the turns made"
-unfoldable pub outcome_after : ℕ → Stand → ℕ → DriveOutcome
+unfoldable pub outcome_after : ℕ → Stand → ℕ → DriveResult
 outcome_after n p k = drive_outcome (if ended_after n p k then 0 else 7) (after_grants n p k).state (after_grants n p k).last k
 
 -- the drive, for all inputs: refused by 1 to 4, 16 and 17 it "gives back the tally and last number handed in, and 0 grants"
-unfoldable pub drive : ℕ → State → ℕ → DriveOutcome
+unfoldable pub drive : ℕ → State → ℕ → DriveResult
 drive n s last =
-    unless (grant_number n s.table last) (drive_outcome (grant_number n s.table last) s last 0)
+    unless (grant_refusal n s.table last) (drive_outcome (grant_refusal n s.table last) s last 0)
     (outcome_after n (stand_at s last) (grants_made n (stand_at s last)))
 
 -- a drive that is not refused at its start makes n·n grants at the most, stopped for one of the three reasons, and none of them held
@@ -86,4 +86,4 @@ pub record Stopped (n : ℕ) (p : Stand) (grants : ℕ) : Type 0 where
 
 -- of any drive: if it is not refused at its start, it stopped so
 abbrev pub StoppedIfTaken : ℕ → State → ℕ → ℕ → Type 0
-StoppedIfTaken n s last grants = grant_number n s.table last ≡ 0 → Stopped n (stand_at s last) grants
+StoppedIfTaken n s last grants = grant_refusal n s.table last ≡ 0 → Stopped n (stand_at s last) grants

@@ -52,8 +52,8 @@ live_check n t = ensure (some_live n t) NoneLive
 unfoldable pub grant_check : ℕ → List ℕ → ℕ → Check
 grant_check n t last = table_check n t and last_check n last and live_check n t
 
-abbrev pub grant_number : ℕ → List ℕ → ℕ → ℕ
-grant_number n t last = number_of_result (grant_check n t last)
+abbrev pub grant_refusal : ℕ → List ℕ → ℕ → ℕ
+grant_refusal n t last = number_of_result (grant_check n t last)
 
 -- the station that the grant answers
 unfoldable pub grant_answer : ℕ → List ℕ → ℕ → Result ℕ Refusal

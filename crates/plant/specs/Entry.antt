@@ -63,8 +63,8 @@ entry_check n s e =
     and ensure (live n s.table e.station) NotLive
     and ensure (not (not (is_crash e) && finished n s.table e.station == 1)) PassFinished
 
-abbrev pub entry_number : ℕ → State → Entry → ℕ
-entry_number n s e = number_of_result (entry_check n s e)
+abbrev pub entry_refusal : ℕ → State → Entry → ℕ
+entry_refusal n s e = number_of_result (entry_check n s e)
 
 -- steps 2 to 7: the table before the round rule
 unfoldable pub acted : ℕ → List ℕ → Entry → List ℕ

@@ -43,11 +43,11 @@ pub struct Ran {
 }
 
 ghost use Rattle.std.specs.Prelude.{◌≡◌};
-ghost use Rattle.plant.specs.Run.{stop_number};
+ghost use Rattle.plant.specs.Run.{stop_refusal};
 
 // The number of the refusal that stopped a run or a drive, 0 where none did.
-pub fn stop_number(stopped: Option<Refusal>) -> u8
-    ensures { result ≡ stop_number stopped }
+pub fn stop_refusal(stopped: Option<Refusal>) -> u8
+    ensures { result ≡ stop_refusal stopped }
 {
     stopped.map_or(0, Refusal::number)
 }

@@ -5,7 +5,7 @@ ghost use Rattle.table.specs.Lent.{IsSameLoan};
 ghost use Rattle.table.specs.Table.{tests_made, row, set_row};
 ghost use Rattle.station.specs.Groups.{station_at};
 ghost use Rattle.station.specs.Rows.{union};
-ghost use Rattle.table.specs.Rules.{table_number};
+ghost use Rattle.table.specs.Rules.{table_refusal};
 ghost use Rattle.station.specs.Tests.{due};
 ghost use Rattle.plant.specs.Outcome.{tested_byte, outcome_byte};
 ghost use Rattle.plant.specs.Turn.{next_test, finish_pass, count_test, replies, exchange_rows, set_status, leave_told, reply_outcome, test_outcome, after_outcome, self_or_suspected, is_alone, after_alone, testing, turn, turn_tested, turn_outcome};
@@ -23,7 +23,7 @@ use table::{Distance, Station, cells, sizes};
 // above, and is no ghost field: from the turn that ends a round to its closing the table has refusal 4, and between two bytes of a line that are
 // put not even the line rules hold.
 pub fn take_turn(table: &mut TableMut, kind: u8, i: Station) -> Outcome
-    requires table_obeys { table_number table.old.n table.old.bytes.now ≡ 0 }
+    requires table_obeys { table_refusal table.old.n table.old.bytes.now ≡ 0 }
     requires station_below { i.0 < table.old.n }
     ensures tested_station { tested_byte result ≡ turn_tested table.old.n table.old.bytes.now i.0 }
     ensures outcome_number { outcome_byte result
@@ -88,7 +88,7 @@ fn finish_pass(table: &mut TableMut, i: Station)
 
 // Steps 3 to 6: station i tests the station at distance m.
 fn make_test(table: &mut TableMut, kind: u8, i: Station, m: Distance) -> Outcome
-    requires table_obeys { table_number table.old.n table.old.bytes.now ≡ 0 }
+    requires table_obeys { table_refusal table.old.n table.old.bytes.now ≡ 0 }
     requires tester_below { i.0 < table.old.n }
     requires distance_above_0 { 0 < m.0 }
     requires distance_below { m.0 < 64 }
@@ -99,7 +99,7 @@ fn make_test(table: &mut TableMut, kind: u8, i: Station, m: Distance) -> Outcome
     ensures same_loan { IsSameLoan table.old table.new }
     ensures test_made { table.new.bytes.now ≡ testing table.old.n table.old.bytes.now kind i.0 m.0 }
 {
-    let j = order::lookup(i, m);
+    let j = order::station_at(i, m);
     count_test(table, i, m);
     let outcome = test_outcome(&table.read(), kind, i, j);
     apply_outcome(table, i, outcome);

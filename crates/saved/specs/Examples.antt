@@ -3,7 +3,7 @@
 -- Assumes nothing.
 use Rattle.std.specs.Prelude.{ℕ, ◌≡◌, Bool, true, ◌&&◌, List, [], ◌∷◌, ◌++◌, ◌==◌}
 use Rattle.table.specs.Fresh.{fresh_table}
-use Rattle.saved.specs.Load.{load_number}
+use Rattle.saved.specs.Load.{load_refusal}
 use Rattle.saved.specs.Save.{saved}
 
 -- fields: size 2, a tally of 0 and 0, the lines of two fresh boards
@@ -76,7 +76,7 @@ examples =
 -- all have that number
 unfoldable pub all_hold : List Example → Bool
 all_hold [] = true
-all_hold (e ∷ es) = load_number e.file e.len == e.number && all_hold es
+all_hold (e ∷ es) = load_refusal e.file e.len == e.number && all_hold es
 
 abbrev pub ExamplesHold : Type 0
 ExamplesHold = all_hold examples ≡ true

@@ -2,7 +2,7 @@
 -- Assumes nothing.
 use Rattle.std.specs.Prelude.{ℕ, zero, suc, ◌+◌, Bool, false, List, [], ◌∷◌, ◌++◌, length, take, drop, if◌then◌else◌, ◌==◌, nat_lt, slice_index}
 use Rattle.std.specs.Prelude.{Option, Some, None, is_none, unwrap_or, option_map}
-use Rattle.saved.specs.Bytes.{number_of, bytes_of}
+use Rattle.saved.specs.Bytes.{bytes_value, bytes_of}
 
 pub record Field : Type 0 where
   pub tag : ℕ
@@ -22,7 +22,7 @@ infront f = option_map (λ fs. f ∷ fs)
 
 -- the length that the head of the first field says
 abbrev pub length_in : List ℕ → ℕ
-length_in file = number_of (slice_index file 1 ∷ slice_index file 2 ∷ [])
+length_in file = bytes_value (slice_index file 1 ∷ slice_index file 2 ∷ [])
 
 -- the bytes of the first field, its head of three included
 abbrev pub extent : List ℕ → ℕ
@@ -55,12 +55,12 @@ tagged k [] = []
 tagged k (f ∷ fs) = if f.tag == k then f.contents ∷ tagged k fs else tagged k fs
 
 -- of such contents: there is one, and it has that length; not "absent, twice or of wrong length"
-abbrev pub single : ℕ → List (List ℕ) → Bool
-single len [] = false
-single len (c ∷ []) = length c == len
-single len (c ∷ d ∷ cs) = false
+abbrev pub only_one : ℕ → List (List ℕ) → Bool
+only_one len [] = false
+only_one len (c ∷ []) = length c == len
+only_one len (c ∷ d ∷ cs) = false
 
 -- the first of such contents
-abbrev pub first_of : List (List ℕ) → List ℕ
-first_of [] = []
-first_of (c ∷ cs) = c
+abbrev pub only_contents : List (List ℕ) → List ℕ
+only_contents [] = []
+only_contents (c ∷ cs) = c

@@ -9,7 +9,7 @@ use Rattle.table.specs.Sizes.{is_size}
 use Rattle.table.specs.Table.{table_length}
 use Rattle.table.specs.Rules.{table_check}
 use Rattle.saved.specs.Fields.{Field, runs_past, fields_of, tagged}
-use Rattle.saved.specs.Plant.{size_in, rounds_in, tests_in, size_and_tally, line_tag, lines_right, table_in}
+use Rattle.saved.specs.Plant.{size_in, tally_rounds, tally_tests, size_and_tally, line_tag, lines_right, table_in}
 use Rattle.saved.specs.declared.Loaded.{Loaded}
 
 -- what a file says: size, the contents with tag 3, and the table
@@ -39,11 +39,11 @@ unfoldable pub load_check : List ℕ → ℕ → Check
 load_check file len = size_check file and rest_check (file_size file) (file_lines file) len
 
 -- their numbers
-abbrev pub size_number : List ℕ → ℕ
-size_number file = number_of_result (size_check file)
+abbrev pub size_refusal : List ℕ → ℕ
+size_refusal file = number_of_result (size_check file)
 
-abbrev pub load_number : List ℕ → ℕ → ℕ
-load_number file len = number_of_result (load_check file len)
+abbrev pub load_refusal : List ℕ → ℕ → ℕ
+load_refusal file len = number_of_result (load_check file len)
 
 -- the size of a saved plant
 unfoldable pub saved_size : List ℕ → Result ℕ Refusal
@@ -51,7 +51,7 @@ saved_size file = size_check file and Ok (file_size file)
 
 -- what the reader answers: size and tally
 abbrev pub loaded_of : List Field → Loaded
-loaded_of fs = record { size = size_in fs; tally = record { rounds = rounds_in fs; tests = tests_in fs } }
+loaded_of fs = record { size = size_in fs; tally = record { rounds = tally_rounds fs; tests = tally_tests fs } }
 
 unfoldable pub load_answer : List ℕ → ℕ → Result Loaded Refusal
 load_answer file len = load_check file len and Ok (loaded_of (fields_of file))

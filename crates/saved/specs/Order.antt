@@ -6,7 +6,7 @@ use Rattle.lists.specs.declared.refusal.Refusal.TheVariants.{NoOpening, FieldOrd
 use Rattle.lists.specs.Refusal.{Check, ensure, ◌and◌}
 use Rattle.saved.specs.Fields.{Field}
 use Rattle.saved.specs.Plant.{size_tag, tally_tag, line_tag, station_in}
-use Rattle.saved.specs.declared.order.Before.{Before}
+use Rattle.saved.specs.declared.order.Previous.{Previous}
 
 -- "tag 4, length 1, contents 2"
 abbrev pub opening_tag : ℕ
@@ -38,19 +38,19 @@ is_line f = f.tag == line_tag
 
 -- what a field is held against: the tag of "the one before" and the station of "the previous line". Where there is none it is 0, and nothing is
 -- below 0
-abbrev pub nothing_before : Before
+abbrev pub nothing_before : Previous
 nothing_before = record { tag = 0; station = 0 }
 
 -- with one field more; "an empty line field counts as station 0", as station_in has it
-abbrev pub behind : Before → Field → Before
+abbrev pub behind : Previous → Field → Previous
 behind b f = record { tag = f.tag; station = if is_line f then station_in f.contents else b.station }
 
 -- neither out of order ("a tag below the one before, tag 4 again, or a line's station below the previous line's") nor of "an unknown tag"
-abbrev pub follows : Before → Field → Bool
+abbrev pub follows : Previous → Field → Bool
 follows b f = is_known f.tag && (nat_le b.tag f.tag && (not (is_line f) || nat_le b.station (station_in f.contents)))
 
 -- not "22 for fields out of order or an unknown tag", of the fields behind some others
-unfoldable pub in_order : Before → List Field → Bool
+unfoldable pub in_order : Previous → List Field → Bool
 in_order b [] = true
 in_order b (f ∷ fs) = follows b f && in_order (behind b f) fs
 

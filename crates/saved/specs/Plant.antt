@@ -3,8 +3,8 @@
 use Rattle.std.specs.Prelude.{ℕ, ◌+◌, Bool, true, ◌&&◌, List, [], ◌∷◌, length, take, drop, if◌then◌else◌, ◌==◌, nat_lt, slice_index}
 use Rattle.lists.specs.Search.{every}
 use Rattle.table.specs.Table.{stride}
-use Rattle.saved.specs.Bytes.{number_of, concat_of}
-use Rattle.saved.specs.Fields.{Field, tagged, single, first_of}
+use Rattle.saved.specs.Bytes.{bytes_value, concat_of}
+use Rattle.saved.specs.Fields.{Field, tagged, only_one, only_contents}
 
 -- "Tag 1: size, one byte."
 abbrev pub size_tag : ℕ
@@ -14,7 +14,7 @@ abbrev pub size_length : ℕ
 size_length = 1
 
 unfoldable pub size_in : List Field → ℕ
-size_in fs = number_of (first_of (tagged size_tag fs))
+size_in fs = bytes_value (only_contents (tagged size_tag fs))
 
 -- "Tag 2: rounds and tests, four bytes each, high byte first."
 abbrev pub tally_tag : ℕ
@@ -23,15 +23,15 @@ tally_tag = 2
 abbrev pub tally_length : ℕ
 tally_length = 8
 
-unfoldable pub rounds_in : List Field → ℕ
-rounds_in fs = number_of (take 4 (first_of (tagged tally_tag fs)))
+unfoldable pub tally_rounds : List Field → ℕ
+tally_rounds fs = bytes_value (take 4 (only_contents (tagged tally_tag fs)))
 
-unfoldable pub tests_in : List Field → ℕ
-tests_in fs = number_of (drop 4 (first_of (tagged tally_tag fs)))
+unfoldable pub tally_tests : List Field → ℕ
+tally_tests fs = bytes_value (drop 4 (only_contents (tagged tally_tag fs)))
 
 -- not "19 when the size or tally field is absent, twice or of wrong length"
 unfoldable pub size_and_tally : List Field → Bool
-size_and_tally fs = single size_length (tagged size_tag fs) && single tally_length (tagged tally_tag fs)
+size_and_tally fs = only_one size_length (tagged size_tag fs) && only_one tally_length (tagged tally_tag fs)
 
 -- "Tag 3: station number and its line."
 abbrev pub line_tag : ℕ
@@ -63,8 +63,8 @@ all_fit n (c ∷ cs) = fits n c && all_fit n cs
 -- not "20 when a line field has the wrong length or a station is absent, twice or too high", of the contents with tag 3: all fit, and there is
 -- one for each station
 unfoldable pub lines_right : ℕ → List (List ℕ) → Bool
-lines_right n cs = all_fit n cs && every (λ i. single (line_field_length n) (of_station i cs)) n
+lines_right n cs = all_fit n cs && every (λ i. only_one (line_field_length n) (of_station i cs)) n
 
 -- the table: each station's line, ascending
 unfoldable pub table_in : ℕ → List (List ℕ) → List ℕ
-table_in n cs = concat_of (λ i. line_in (first_of (of_station i cs))) n
+table_in n cs = concat_of (λ i. line_in (only_contents (of_station i cs))) n

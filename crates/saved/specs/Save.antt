@@ -35,8 +35,8 @@ saved n t tally = field_bytes (size_field n) ++ (field_bytes (tally_field tally)
 unfoldable pub save_check : ℕ → List ℕ → Tally → ℕ → Check
 save_check n t tally len = table_check n t and length_check (length (saved n t tally)) len
 
-abbrev pub save_number : ℕ → List ℕ → Tally → ℕ → ℕ
-save_number n t tally len = number_of_result (save_check n t tally len)
+abbrev pub save_refusal : ℕ → List ℕ → Tally → ℕ → ℕ
+save_refusal n t tally len = number_of_result (save_check n t tally len)
 
 -- the buffer after the call, given b
 unfoldable pub save_after : ℕ → List ℕ → Tally → List ℕ → List ℕ

@@ -6,9 +6,9 @@
 mod bytes;
 pub mod claims;
 mod fields;
+mod first_pass;
 mod lines;
 pub mod load;
-mod opening;
 mod order;
 pub mod save;
 

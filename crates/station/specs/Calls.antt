@@ -80,11 +80,11 @@ abbrev pub assignment_count : ℕ → List ℕ → ℕ → ℕ → ℕ
 assignment_count n t i len = result_unwrap_or (assignment_answer n t i len) 0
 
 -- the numbers of these
-abbrev pub group_number : ℕ → ℕ → ℕ → ℕ → ℕ
-group_number n i s len = number_of_result (group_check n i s len)
+abbrev pub group_refusal : ℕ → ℕ → ℕ → ℕ → ℕ
+group_refusal n i s len = number_of_result (group_check n i s len)
 
-abbrev pub row_number : ℕ → List ℕ → ℕ → ℕ
-row_number n t i = number_of_result (row_check n t i)
+abbrev pub row_refusal : ℕ → List ℕ → ℕ → ℕ
+row_refusal n t i = number_of_result (row_check n t i)
 
-abbrev pub assignment_number : ℕ → List ℕ → ℕ → ℕ → ℕ
-assignment_number n t i len = number_of_result (assignment_answer n t i len)
+abbrev pub assignment_refusal : ℕ → List ℕ → ℕ → ℕ → ℕ
+assignment_refusal n t i len = number_of_result (assignment_answer n t i len)

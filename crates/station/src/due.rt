@@ -32,7 +32,7 @@ fn first_unsuspected(row: &[u8], j: Station, m: Distance) -> Option<Station>
     }
     let w = groups::width_of(sizes::level_of(m));
     for k in 0..w {
-        let x = order::lookup(j, Distance(w + k));
+        let x = order::station_at(j, Distance(w + k));
         if is_unsuspected(row, x) {
             return Some(x);
         }
@@ -44,7 +44,7 @@ fn first_unsuspected(row: &[u8], j: Station, m: Distance) -> Option<Station>
 pub fn stands(row: &[u8], i: Station, m: Distance) -> bool
     ensures { result ≡ stands row.now i.0 m.0 }
 {
-    let j = order::lookup(i, m);
+    let j = order::station_at(i, m);
     let at = j.0 as usize;
     at < row.len()
 }
@@ -57,7 +57,7 @@ pub fn due_or_ahead(row: &[u8], i: Station, m: Distance) -> DueOrAhead
     if !stands(row, i, m) {
         return DueOrAhead::Ahead(i);
     }
-    match first_unsuspected(row, order::lookup(i, m), m) {
+    match first_unsuspected(row, order::station_at(i, m), m) {
         Some(x) => answer_of(i, x),
         None => DueOrAhead::Ahead(i),
     }

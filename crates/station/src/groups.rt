@@ -70,7 +70,7 @@ fn group_length(n: u8, i: Station, s: Level) -> usize
 {
     let w = width_of(s);
     (0..w)
-        .map(|k| order::lookup(i, Distance(w + k)).0)
+        .map(|k| order::station_at(i, Distance(w + k)).0)
         .filter(|x| *x < n)
         .count()
 }
@@ -84,7 +84,7 @@ fn write_group(n: u8, i: Station, s: Level, list: &mut [u8])
 {
     let w = width_of(s);
     let members = (0..w)
-        .map(|k| order::lookup(i, Distance(w + k)).0)
+        .map(|k| order::station_at(i, Distance(w + k)).0)
         .filter(|x| *x < n);
     // By places: of what is written through `iter_mut().zip(members)` no proof knows anything afterwards.
     for (k, x) in members.enumerate() {

@@ -72,11 +72,11 @@ unfoldable pub table_check : ℕ → List ℕ → Check
 table_check n t = shape_check n (length t) and ensure (every (line_rules n t) n) LineRule and ensure (not (round_over n t)) RoundNotClosed
 
 -- their numbers
-abbrev pub shape_number : ℕ → ℕ → ℕ
-shape_number n len = number_of_result (shape_check n len)
+abbrev pub shape_refusal : ℕ → ℕ → ℕ
+shape_refusal n len = number_of_result (shape_check n len)
 
-abbrev pub table_number : ℕ → List ℕ → ℕ
-table_number n t = number_of_result (table_check n t)
+abbrev pub table_refusal : ℕ → List ℕ → ℕ
+table_refusal n t = number_of_result (table_check n t)
 
 -- refusal 9: "The station number is N or more."
 abbrev pub station_check : ℕ → ℕ → Check

@@ -11,8 +11,8 @@ use Rattle.lists.specs.Refusal.{number_of_result}
 use Rattle.station.specs.Calls.{row_part}
 use Rattle.plant.specs.declared.Tally.{Tally}
 use Rattle.plant.specs.Entry.{state_of}
-use Rattle.plant.specs.Run.{Outcome}
-use Rattle.granter.specs.Drive.{DriveOutcome, drive_outcome}
+use Rattle.plant.specs.Run.{RunResult}
+use Rattle.granter.specs.Drive.{DriveResult, drive_outcome}
 use Rattle.saved.specs.declared.Loaded.{Loaded}
 use Rattle.figures.specs.declared.Figures.{Figures}
 use Rattle.figures.specs.declared.Totals.{Totals}
@@ -22,11 +22,11 @@ abbrev pub IsRowAt : ℕ → List ℕ → ℕ → ℕ → ℕ → Type 0
 IsRowAt n t i start bytes = slice_range t start (start + bytes) ≡ row_part n t i
 
 -- Run: the outcome by its parts: the number, the entries taken, table, rounds and tests, and the sheet
-abbrev pub outcome_out : ℕ → ℕ → List ℕ → ℕ → ℕ → List ℕ → Outcome
+abbrev pub outcome_out : ℕ → ℕ → List ℕ → ℕ → ℕ → List ℕ → RunResult
 outcome_out number taken t rounds tests sheet = record { number = number; taken = taken; state = state_of t rounds tests; sheet = sheet }
 
 -- Drive: the outcome by its parts: the number, table, rounds and tests, the last granted number and the grants made
-abbrev pub drive_out : ℕ → List ℕ → ℕ → ℕ → ℕ → ℕ → DriveOutcome
+abbrev pub drive_out : ℕ → List ℕ → ℕ → ℕ → ℕ → ℕ → DriveResult
 drive_out number t rounds tests last grants = drive_outcome number (state_of t rounds tests) last grants
 
 -- Save: the tally by its parts

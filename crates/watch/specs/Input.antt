@@ -41,23 +41,23 @@ digits_from v [] = Some v
 digits_from v (b ∷ rest) = if is_digit b then digits_from (10 * v + (b - 48)) rest else None
 
 -- one to `most` digits and nothing else
-unfoldable pub number_of : ℕ → List ℕ → Option ℕ
-number_of most l = if nat_le 1 (length l) && nat_le (length l) most then digits_from 0 l else None
+unfoldable pub digits_value : ℕ → List ℕ → Option ℕ
+digits_value most l = if nat_le 1 (length l) && nat_le (length l) most then digits_from 0 l else None
 
 -- "the size (one to three digits)"
 abbrev pub size_of : List ℕ → Option ℕ
-size_of l = number_of 3 l
+size_of l = digits_value 3 l
 
 -- "T, L or C (kinds 1, 2, 3)"
 unfoldable pub kind_of : ℕ → Option ℕ
 kind_of b = if b == 84 then Some 1 else (if b == 76 then Some 2 else (if b == 67 then Some 3 else None))
 
 -- "then per line T, L or C (kinds 1, 2, 3), a space and one or two digits": the entry's kind and station
-unfoldable pub entry_of : List ℕ → Option (ℕ × ℕ)
-entry_of [] = None
-entry_of (letter ∷ []) = None
-entry_of (letter ∷ space ∷ digits) =
-    if space == 32 then option_and_then (λ kind. option_map (λ station. (kind, station)) (number_of 2 digits)) (kind_of letter) else None
+unfoldable pub entry_in_line : List ℕ → Option (ℕ × ℕ)
+entry_in_line [] = None
+entry_in_line (letter ∷ []) = None
+entry_in_line (letter ∷ space ∷ digits) =
+    if space == 32 then option_and_then (λ kind. option_map (λ station. (kind, station)) (digits_value 2 digits)) (kind_of letter) else None
 
 -- the same of an entry as a value
 abbrev pub pair_of : Entry → ℕ × ℕ
@@ -79,7 +79,7 @@ reading_of u n k s = record { unread = u; size = n; entries = k; schedule = s }
 unfoldable pub read_entries : ℕ → ℕ → ℕ → List ℕ → List (List ℕ) → Reading
 read_entries room n k s [] = reading_of 0 n k s
 read_entries room n k s (l ∷ ls) =
-    given (if nat_lt k room then entry_of l else None)
+    given (if nat_lt k room then entry_in_line l else None)
     (λ e. read_entries room n (suc k) (s ++ (e.0 ∷ e.1 ∷ [])) ls)
     (reading_of (k + 2) n k s)
 
@@ -105,7 +105,7 @@ abbrev pub read_into : List ℕ → List ℕ → Reading
 read_into lent input = read_up_to (room_for (length lent)) input
 
 -- what is answered of a reading: what was read, or the first unreadable line with what was read before it
-abbrev pub answer_of : Reading → Result Parsed Unread
-answer_of r =
+abbrev pub parsed_of : Reading → Result Parsed Unread
+parsed_of r =
     if r.unread == 0 then Ok (record { size = r.size; entries = r.entries })
     else Err (record { line = r.unread; before = record { size = r.size; entries = r.entries } })

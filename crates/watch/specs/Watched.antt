@@ -6,7 +6,7 @@ use Rattle.table.specs.Fresh.{fresh_table}
 use Rattle.plant.specs.declared.Ran.{Ran}
 use Rattle.plant.specs.declared.Tally.{Tally}
 use Rattle.plant.specs.Entry.{state_of}
-use Rattle.plant.specs.Run.{Outcome, stop_number, run}
+use Rattle.plant.specs.Run.{RunResult, stop_refusal, run}
 use Rattle.watch.specs.declared.input.Unread.{Unread}
 use Rattle.watch.specs.Input.{Reading, read_input}
 
@@ -24,7 +24,7 @@ pub data Said : Type 0 where
 -- what an answer says
 abbrev pub said : Result Ran Unread → Said
 said (Err u) = says_unread u.line
-said (Ok r) = says_run (record { number = stop_number r.stopped; taken = r.taken; tally = r.tally })
+said (Ok r) = says_run (record { number = stop_refusal r.stopped; taken = r.taken; tally = r.tally })
 
 -- what comes of an input: what is printed, and the sheet, of which the lines of the entries taken are printed
 pub record Watched : Type 0 where
@@ -39,11 +39,11 @@ abbrev pub watched_with : Result Ran Unread → List ℕ → Watched
 watched_with r sheet = said_with (said r) sheet
 
 -- what a run with this outcome answers
-abbrev pub run_answer : Outcome → Answer
+abbrev pub run_answer : RunResult → Answer
 run_answer o = record { number = o.number; taken = o.taken; tally = record { rounds = o.state.rounds; tests = o.state.tests } }
 
 -- an outcome, with the sheet of the run as the first part of the lent one
-abbrev ran_on : List ℕ → Outcome → Watched
+abbrev ran_on : List ℕ → RunResult → Watched
 ran_on lent o = said_with (says_run (run_answer o)) (sets lent 0 o.sheet)
 
 -- "It starts from a fresh table and zero tallies." The run takes a part of the lent sheet, of twice the schedule's length

@@ -22,7 +22,7 @@ fn print_run(rt: &impl Print, sheet: &[u8], ran: Ran) {
     let Tally { rounds, tests } = ran.tally;
     let _ = println!(rt;
         "rounds {rounds} tests {tests} refused {} at {}",
-        plant::stop_number(ran.stopped),
+        plant::stop_refusal(ran.stopped),
         ran.taken
     );
 }

@@ -8,7 +8,7 @@ use Rattle.table.specs.Fresh.{fresh_table}
 use Rattle.plant.specs.Entry.{State, state_of}
 use Rattle.detection.specs.Runs.{Call}
 use Rattle.detection.specs.Rounds.{tests_in}
-use Rattle.detection.specs.Claim.{demand_count, rounds_of, Premises}
+use Rattle.detection.specs.Claim.{tests_per_round, rounds_of, DetectionPremises}
 
 -- a schedule of turns of the stations listed
 unfoldable pub turns_of : List ℕ → List ℕ
@@ -38,10 +38,10 @@ calls =
 
 -- the premises, the tests of the closed rounds, those of the open one, and the count of the claim
 pub record Computed (n : ℕ) (s : State) (runs : List Call) (closed : List ℕ) (open-tests count : ℕ) : Type 0 where
-  pub premises : Premises n s runs
+  pub premises : DetectionPremises n s runs
   pub closed_tests : map tests_in (rounds_of s runs).closed ≡ closed
   pub open_tests : tests_in (rounds_of s runs).open_round ≡ open-tests
-  pub counted : demand_count n s.table ≡ count
+  pub counted : tests_per_round n s.table ≡ count
 
 -- the four boards: five rounds close, of seven tests each, and the open one has one
 abbrev pub FourBoards : Type 0

@@ -3,7 +3,7 @@
 #![tactic(auto)]
 
 ghost use Rattle.witness.specs.Witness.{FourBoards, ThreeBoards};
-ghost use Rattle.witness.specs.Sooner.{NoneSoonerFromThree};
+ghost use Rattle.witness.specs.WorstCase.{WorstCaseIsReached};
 
 // Four boards, one dead, and four runs: the premises of demand 3 hold, five rounds close, and each has the seven tests that it counts.
 pub fn four_boards()
@@ -16,6 +16,6 @@ pub fn three_boards()
 {}
 
 // With 3 boards or more, no number of rounds below the exact wait is enough.
-pub fn none_sooner_from_three()
-    ensures { NoneSoonerFromThree }
+pub fn worst_case_is_reached()
+    ensures { WorstCaseIsReached }
 {}

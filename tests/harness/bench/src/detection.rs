@@ -2,7 +2,7 @@
 //! ones. Everything is done by the library: one entry a run, or one round a
 //! drive.
 
-use crate::bounds::exact;
+use crate::bounds::worst_latency;
 use crate::contender::run_entry;
 use shared::groups::dimension;
 use shared::random::Random;
@@ -43,7 +43,7 @@ pub fn rounds_until_known(n: usize, dead: &[usize], order: Order, random: &mut R
     let mut plant = Plant::with_dead(n, dead);
     while !plant.dead_are_known() {
         plant.play_round(order, random);
-        assert!(plant.rounds <= exact(n), "more than the exact wait");
+        assert!(plant.rounds <= worst_latency(n), "more than the worst-case latency");
     }
     plant.rounds
 }

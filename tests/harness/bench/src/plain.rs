@@ -52,7 +52,7 @@ pub fn run(
     sheet: &mut [u8],
 ) -> Answer {
     let mut answer = Answer {
-        number: start_number(n, table, schedule.len(), sheet.len()),
+        number: start_refusal(n, table, schedule.len(), sheet.len()),
         taken: 0,
         rounds: tally.0,
         tests: tally.1,
@@ -61,7 +61,7 @@ pub fn run(
         return answer;
     }
     for (entry, place) in schedule.chunks_exact(2).zip(sheet.chunks_exact_mut(4)) {
-        answer.number = entry_number(n, table, &answer, entry);
+        answer.number = entry_refusal(n, table, &answer, entry);
         if answer.number != 0 {
             return answer;
         }
@@ -72,8 +72,8 @@ pub fn run(
 }
 
 /// Refusals 1 to 6, or 0.
-fn start_number(n: usize, table: &[u8], schedule: usize, sheet: usize) -> u8 {
-    let number = table_number(n, table);
+fn start_refusal(n: usize, table: &[u8], schedule: usize, sheet: usize) -> u8 {
+    let number = table_refusal(n, table);
     if number != 0 {
         return number;
     }
@@ -87,7 +87,7 @@ fn start_number(n: usize, table: &[u8], schedule: usize, sheet: usize) -> u8 {
 }
 
 /// Refusals 1 to 4, or 0.
-pub fn table_number(n: usize, table: &[u8]) -> u8 {
+pub fn table_refusal(n: usize, table: &[u8]) -> u8 {
     if !(2..=64).contains(&n) {
         return 1;
     }
@@ -154,7 +154,7 @@ fn is_round_over(n: usize, table: &[u8]) -> bool {
 }
 
 /// Refusals 7 to 11, or 0.
-fn entry_number(n: usize, table: &[u8], answer: &Answer, entry: &[u8]) -> u8 {
+fn entry_refusal(n: usize, table: &[u8], answer: &Answer, entry: &[u8]) -> u8 {
     let (kind, i) = (entry[0], usize::from(entry[1]));
     if is_full(answer) {
         return 7;

@@ -383,13 +383,13 @@ fn tallies_at_their_end() {
 
 #[test]
 fn bounds_by_size() {
-    assert_eq!(POWERS.map(bounds::exact), [1, 2, 3, 4, 6, 8]);
-    assert_eq!(POWERS.map(bounds::requested), [1, 2, 4, 7, 11, 16]);
-    assert_eq!(POWERS.map(bounds::stated), [1, 4, 9, 16, 25, 36]);
+    assert_eq!(POWERS.map(bounds::worst_latency), [1, 2, 3, 4, 6, 8]);
+    assert_eq!(POWERS.map(bounds::triangle_bound), [1, 2, 4, 7, 11, 16]);
+    assert_eq!(POWERS.map(bounds::square_bound), [1, 4, 9, 16, 25, 36]);
     let others = [3, 5, 11, 19, 33, 48, 63];
-    assert_eq!(others.map(bounds::exact), [2, 3, 4, 6, 8, 8, 8]);
-    assert_eq!(others.map(bounds::requested), [2, 4, 7, 11, 16, 16, 16]);
-    assert_eq!(others.map(bounds::stated), [4, 9, 16, 25, 36, 36, 36]);
+    assert_eq!(others.map(bounds::worst_latency), [2, 3, 4, 6, 8, 8, 8]);
+    assert_eq!(others.map(bounds::triangle_bound), [2, 4, 7, 11, 16, 16, 16]);
+    assert_eq!(others.map(bounds::square_bound), [4, 9, 16, 25, 36, 36, 36]);
 }
 
 /// At every size the slowest plant takes the exact wait. Of some, the dead
@@ -398,7 +398,7 @@ fn bounds_by_size() {
 fn slowest_plants() {
     let plants = slowest::run_all().expect("all are known");
     let rounds = plants.iter().map(|plant| (plant.n, plant.rounds));
-    assert!(rounds.eq((3..=64).map(|n| (n, bounds::exact(n)))));
+    assert!(rounds.eq((3..=64).map(|n| (n, bounds::worst_latency(n)))));
     let dead = [3, 9, 16, 25].map(|n| plants[n - 3].dead);
     assert_eq!(dead, [1, 5, 12, 20]);
 }

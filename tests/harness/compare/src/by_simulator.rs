@@ -42,7 +42,7 @@ impl Calls for Simulator {
 
     fn row(numbers: &Numbers, lent: Row) -> u8 {
         let (table, station) = (lent.table.contents(), narrow(numbers.station));
-        let number = simulator::row_number(numbers.n, table, station);
+        let number = simulator::row_refusal(numbers.n, table, station);
         let part = simulator::row(numbers.n, table, station);
         let start = match number {
             0 => part.as_ptr() as usize - table.as_ptr() as usize,

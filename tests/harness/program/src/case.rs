@@ -12,7 +12,7 @@ use crate::wait;
 
 /// The exact wait by d from 1 on, which is the logarithm of the size to base 2,
 /// rounded up.
-const EXACT_WAIT: [u32; 6] = [1, 2, 3, 4, 6, 8];
+const WORST_LATENCY: [u32; 6] = [1, 2, 3, 4, 6, 8];
 
 /// Where an input comes from.
 pub enum Source {
@@ -67,7 +67,7 @@ impl Case {
     /// what is expected, and the exact wait says what it must show.
     pub fn slowest(plant: Plant) -> Case {
         let input = plant.input().into_bytes();
-        let wait = EXACT_WAIT[dimension(plant.n) as usize - 1];
+        let wait = WORST_LATENCY[dimension(plant.n) as usize - 1];
         Case {
             source: Source::Slowest { plant, wait },
             cuts: cuts(input.len()),

@@ -6,7 +6,7 @@
 //! `latency` writes docs/latency.md and docs/latency.svg under the current
 //! folder, and prints the tables; `--quick` tries less, and only prints.
 
-use bench::bounds::{exact, requested, stated};
+use bench::bounds::{square_bound, triangle_bound, worst_latency};
 use bench::chart::{self, Point};
 use bench::detection::{random_dead, rounds_until_known, Order};
 use bench::slowest::{self, Slowest};
@@ -120,9 +120,9 @@ fn point(results: &Results, slowest: &[Slowest]) -> Point {
         n,
         observed: results.random().figures,
         slowest: slowest.map(|plant| plant.rounds),
-        exact: exact(n),
-        requested: requested(n),
-        stated: stated(n),
+        worst_latency: worst_latency(n),
+        triangle_bound: triangle_bound(n),
+        square_bound: square_bound(n),
     }
 }
 
@@ -199,7 +199,7 @@ fn main_figures(summary: &Summary) -> String {
 
 /// The bounds of a size, as cells.
 fn bounds(n: usize) -> String {
-    format!("{} | {} | {}", exact(n), requested(n), stated(n))
+    format!("{} | {} | {}", worst_latency(n), triangle_bound(n), square_bound(n))
 }
 
 const SLOWEST_TEXT: &str = "## The slowest plants
