@@ -1,4 +1,4 @@
--- What is claimed of the figures of request C-12 of a list with at least one result: mean and variance are in lowest terms, least and greatest
+-- What is claimed of the figures of a list with at least one result: mean and variance are in lowest terms, least and greatest
 -- are what they are called; and of the figures of kept totals.
 -- Assumes nothing.
 use Rattle.std.specs.Prelude.{◌≡◌, ℕ, ◌*◌, ◌≤◌, ◌<◌, List, ◌∷◌, length, slice_index, All, Contains}

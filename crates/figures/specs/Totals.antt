@@ -1,4 +1,4 @@
--- Request C-12: totals of results, their join, and the figures that follow from totals.
+-- Totals of results, their join, and the figures that follow from totals.
 -- Assumes nothing.
 use Rattle.std.specs.Prelude.{ℕ, ◌+◌, ◌*◌, ◌-◌, min, max, Bool, not, ◌||◌, List, length, Result, Ok, if◌then◌else◌, ◌==◌, nat_lt}
 use Rattle.std.specs.List.{sum_by}
@@ -27,7 +27,7 @@ totals_of xs =
 unfoldable pub of_both : ℕ → ℕ → ℕ → ℕ → ℕ → ℕ
 of_both m a n b both = if m == 0 then b else (if n == 0 then a else both)
 
--- "their totals are joined, not counted again"
+-- Rule Joined totals: counts, sums and squares are added; least and greatest are those of both
 unfoldable pub joined : Totals → Totals → Totals
 joined a b =
     record {

@@ -65,7 +65,7 @@ no-later n t last i below gw h w = by_bool (ltb p n) on round
         by_cases (dec_lt i b) (λ l. rw (here, lt-ltb q b first, lt-ltb i b l) (omega arith))
         (λ l. absurd (passed n t i w b (omega arith) (omega arith)))
 
--- "the next station after it, going round", an end in itself
+-- the granted station is the next that waits, going round: an end in itself
 pub next-going-round : NextGoingRound
 next-going-round n t last z =
     let g = grantable n t last z in

@@ -1,5 +1,4 @@
--- Request C-15: the granted station is "the next station after it, going round, that is live and unfinished"; and fairness, "A station that
--- stays live and unfinished is granted after at most n − 1 grants to others."
+-- That grants are fair: which station is granted, and how many grants to others a station waits for at most.
 -- Assumes nothing.
 use Rattle.std.specs.Prelude.{◌≡◌, true, List, ℕ, zero, suc, ◌+◌, ◌-◌, ◌≤◌, ◌<◌, if◌then◌else◌, nat_lt}
 use Rattle.table.specs.Rules.{table_refusal}

@@ -1,4 +1,4 @@
-// What request C-15 claims of grants and drives (specs/Fairness.antt, specs/Within.antt), each the contract of a function that does nothing.
+// What is claimed of grants and drives (specs/Fairness.antt, specs/Within.antt), each the contract of a function that does nothing.
 
 ghost use Rattle.granter.specs.Fairness.{NextGoingRound, BoundedWaiting};
 ghost use Rattle.granter.specs.Within.{RoundEndsInSquare, KindOneIsDriven, DriveStops};

@@ -1,4 +1,4 @@
-// The drive (request C-15): grant and turn on the lent table, again and again.
+// The drive: grant and turn on the lent table, again and again.
 ghost use Rattle.std.specs.Prelude.{◌≡◌, ◌<◌, IfSome};
 ghost use Rattle.table.specs.Lent.{IsSameLoan};
 ghost use Rattle.plant.specs.Entry.{state_with};

@@ -1,4 +1,4 @@
-// The grant (request C-15): the next station, going round, that is live and unfinished.
+// The grant: the next station, going round, that is live and unfinished.
 ghost use Rattle.std.specs.Prelude.{◌≡◌, ◌≤◌, ◌<◌, true, IfSome, IfNone, IfOk};
 ghost use Rattle.std.specs.Result.{result_map_both};
 ghost use Rattle.table.specs.Rules.{some_live, table_refusal};

@@ -44,7 +44,7 @@ Check = Result (Unit {0}) Refusal
 abbrev pub ensure : Bool → Refusal → Check
 ensure b r = if b then Ok tt else Err r
 
--- "no earlier one that applies": the first check that refuses, else what the last one answers
+-- Rule First fault: the first check that refuses, else what the last one answers
 infixr 20 ◌and◌
 abbrev pub ◌and◌ : {A : Type 0} → Check → Result A Refusal → Result A Refusal
 a and b = result_and a b

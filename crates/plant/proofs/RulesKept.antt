@@ -107,7 +107,7 @@ accepted-kept n s e a z = pick (round_over n t) refl
         make (reset_lines n t) (reset-lines n t lines) (unfinished-open n (reset_lines n t) (λ i h. (reset-cells n t lines.0 i h).unfinished))
     pick false c = make t lines c
 
--- "An empty schedule is accepted and changes nothing": on a table that refusals 1 to 4 let through. An end in itself
+-- rule Empty schedule: on a table that refusals 1 to 4 let through it is accepted and changes nothing. An end in itself
 pub empty-run : (n : ℕ) (s : State) → table_refusal n s.table ≡ 0 → run n s [] [] ≡ record { number = 0; taken = 0; state = s; sheet = [] }
 unfolding run start_check go_on entries
 empty-run n s z = rw (check_zero _ z)

@@ -1,4 +1,4 @@
--- Document 01, the run: refusals 1 to 6, then the entries in order; and two claims of it.
+-- The run: refusals 1 to 6, then the entries in order; and two claims of it.
 -- Assumes nothing.
 use Rattle.std.specs.Prelude.{◌≡◌, ℕ, suc, ◌*◌, ◌%◌, not, List, [], ◌∷◌, length, Option, Some, None, if◌then◌else◌, ◌==◌}
 use Rattle.std.proofs.lemmas.List.Edits.{sets}
@@ -35,8 +35,8 @@ outcome_with r t sheet = record { number = stop_refusal r.stopped; taken = r.tak
 abbrev pub write_line : List ℕ → ℕ → List ℕ → List ℕ
 write_line sheet k line = sets sheet (4 * k) line
 
--- a run that has taken k entries goes on with the rest. "At an entry, the run stops: table, tally and sheet are as the earlier entries left
--- them, the rest of the sheet unchanged."
+-- Rule Run: a run that has taken k entries goes on with the rest. At the first that is refused it stops: table, tally and run sheet are as the
+-- earlier entries left them
 unfoldable pub go_on : ℕ → ℕ → State → List ℕ → List Entry → RunResult
 go_on n k s sheet [] = record { number = 0; taken = k; state = s; sheet = sheet }
 go_on n k s sheet (e ∷ es) =
@@ -44,7 +44,7 @@ go_on n k s sheet (e ∷ es) =
     then go_on n (suc k) (after n s e) (write_line sheet k (sheet_line n s e)) es
     else (record { number = entry_refusal n s e; taken = k; state = s; sheet = sheet })
 
--- refusals 1 to 6: then "The schedule's length is odd." "The sheet's length is not twice the schedule's."
+-- refusals 1 to 6: then the schedule has an odd number of bytes; the run sheet has not twice the bytes of the schedule
 unfoldable pub start_check : ℕ → List ℕ → ℕ → ℕ → Check
 start_check n t schedule_length sheet_length =
     table_check n t
@@ -54,14 +54,15 @@ start_check n t schedule_length sheet_length =
 abbrev pub start_refusal : ℕ → List ℕ → ℕ → ℕ → ℕ
 start_refusal n t schedule_length sheet_length = number_of_result (start_check n t schedule_length sheet_length)
 
--- the run of a schedule on a table and a tally with a lent sheet, for all inputs. "A run refused by 1 to 6 gives back the tally handed in."
+-- Rule Run call: the run of a schedule on a table and a tally with a lent run sheet, for all inputs. A run refused by 1 to 6 gives back the tally
+-- handed in
 unfoldable pub run : ℕ → State → List ℕ → List ℕ → RunResult
 run n s schedule sheet =
     if start_refusal n s.table (length schedule) (length sheet) == 0
     then go_on n 0 s sheet (entries schedule)
     else (record { number = start_refusal n s.table (length schedule) (length sheet); taken = 0; state = s; sheet = sheet })
 
--- "An empty schedule is accepted and changes nothing": on a table that refusals 1 to 4 let through
+-- Rule Empty schedule: on a table that refusals 1 to 4 let through, with an empty run sheet, it is accepted and changes nothing
 abbrev pub EmptyRun : Type 0
 EmptyRun = (n : ℕ) (s : State) → table_refusal n s.table ≡ 0 → run n s [] [] ≡ record { number = 0; taken = 0; state = s; sheet = [] }
 

@@ -1,4 +1,4 @@
-// The run (document 01, "What can be asked" and the refusal list).
+// The run.
 ghost use Rattle.std.specs.Prelude.{◌≡◌, length, IfOk};
 ghost use Rattle.std.specs.Result.{result_map_both};
 ghost use Rattle.table.specs.Lent.{IsSameLoan};

@@ -1,4 +1,4 @@
--- The claim AnyOrder of specs/Restoring holds: the reader "takes any order and passes over other tags".
+-- The claim OrderIsFree of specs/Restoring holds: neither the order of the fields nor other tags matter.
 -- Assumes nothing.
 use mathlib.Core.Path.{◌≡◌, refl, ap, ap₂, sym, ◌∙◌}
 use mathlib.Core.Bool.{Bool, true, false, cond, ◌&&◌, ◌||◌}

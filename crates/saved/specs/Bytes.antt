@@ -1,4 +1,4 @@
--- Numbers in bytes, "high byte first", and lists one behind the other.
+-- Numbers in bytes, the high byte first, and lists one behind the other.
 -- Assumes nothing.
 use Rattle.std.specs.Prelude.{ℕ, zero, suc, ◌+◌, ◌*◌, ◌/◌, ◌%◌, ◌^◌, List, [], ◌∷◌, ◌++◌, length}
 

@@ -1,4 +1,4 @@
--- Request C-17: "tagged fields: a one-byte tag, a two-byte length (high byte first), then the contents".
+-- Rule Field: a tag of one byte, a length in two bytes, high byte first, and so many bytes of contents.
 -- Assumes nothing.
 use Rattle.std.specs.Prelude.{ℕ, zero, suc, ◌+◌, Bool, false, List, [], ◌∷◌, ◌++◌, length, take, drop, if◌then◌else◌, ◌==◌, nat_lt, slice_index}
 use Rattle.std.specs.Prelude.{Option, Some, None, is_none, unwrap_or, option_map}
@@ -28,7 +28,7 @@ length_in file = bytes_value (slice_index file 1 ∷ slice_index file 2 ∷ [])
 abbrev pub extent : List ℕ → ℕ
 extent file = 3 + length_in file
 
--- the fields of a file that has at most so many; none where "a field or its head runs past the end". The bound is for the recursion only: from
+-- the fields of a file that has at most so many; none where a field or its head goes past the end. The bound is for the recursion only: from
 -- the file's length on it does not matter (`fields-more` of proofs/FieldLaws.antt)
 unfoldable pub fields_up_to : ℕ → List ℕ → Option (List Field)
 fields_up_to zero file = Some []
@@ -41,7 +41,7 @@ fields_up_to (suc most) file =
 unfoldable pub fields : List ℕ → Option (List Field)
 fields file = fields_up_to (length file) file
 
--- 18: "when a field or its head runs past the end"
+-- refusal 18: a field of the file, or its head, goes past the end
 unfoldable pub runs_past : List ℕ → Bool
 runs_past file = is_none (fields file)
 
@@ -49,12 +49,12 @@ runs_past file = is_none (fields file)
 unfoldable pub fields_of : List ℕ → List Field
 fields_of file = unwrap_or (fields file) []
 
--- the contents of the fields with a tag, in the file's order; the reader "takes any order and passes over other tags"
+-- Rule Reader: the contents of the fields with a tag, in the file's order. Fields of other tags are passed over
 unfoldable pub tagged : ℕ → List Field → List (List ℕ)
 tagged k [] = []
 tagged k (f ∷ fs) = if f.tag == k then f.contents ∷ tagged k fs else tagged k fs
 
--- of such contents: there is one, and it has that length; not "absent, twice or of wrong length"
+-- whether there is just one of such contents, and it has that length
 abbrev pub only_one : ℕ → List (List ℕ) → Bool
 only_one len [] = false
 only_one len (c ∷ []) = length c == len

@@ -1,4 +1,4 @@
--- Request C-17: the reader, for all files and buffers. "Turned away, in this order": 18, 19, 1, 20, 2, 3, 4.
+-- The reader, for all files and buffers. Its refusals, in this order: 18, 19, 1, 20, 2, 3, 4.
 -- Assumes nothing.
 use Rattle.std.specs.Prelude.{ℕ, not, List, length, Result, Ok, ◌==◌}
 use Rattle.std.specs.Result.{result_unwrap_or}
@@ -60,7 +60,7 @@ load_answer file len = load_check file len and Ok (loaded_of (fields_of file))
 unfoldable pub opened : List ℕ → Result Loaded Refusal
 opened file = size_check file and Ok (loaded_of (fields_of file))
 
--- "a refusal [..] gives its number, with 0 for every other figure of the answer" (document 01)
+-- rule Refused means untouched: a refused call answers 0 for every figure
 abbrev pub size_figure : Result ℕ Refusal → ℕ
 size_figure answer = result_unwrap_or answer 0
 

@@ -1,5 +1,5 @@
--- Request C-17: "Reading a saved plant restores table and tally; saving what was read gives the writer's form." "The reader takes any order and
--- passes over other tags."
+-- Rule Saved and loaded: loading restores what was saved, saving what was loaded gives the writer's form, and neither the order of the fields nor
+-- other tags matter.
 -- Assumes nothing.
 use Rattle.std.specs.Prelude.{◌≡◌, false, ℕ, ◌+◌, ◌*◌, ◌^◌, ◌<◌, length, Ok, if◌then◌else◌}
 use mathlib.Core.List.{List, [], ◌∷◌, ◌++◌, Permᴰ}
@@ -13,7 +13,7 @@ use Rattle.saved.specs.Load.{file_size, load_refusal, saved_size, load_answer, l
 use Rattle.saved.specs.Save.{saved, save_refusal, save_after}
 use Rattle.saved.specs.Files.{AreBytes}
 
--- the length of a saved plant of n stations, whose lines have n + 6 bytes by C-18
+-- the length of a saved plant of n stations
 abbrev pub saved_length : ℕ → ℕ
 saved_length n = 15 + n * (n + 10)
 
@@ -24,7 +24,7 @@ SavedLength = (n : ℕ) (t : List ℕ) (tally : Tally) → table_refusal n t ≡
 abbrev pub IsTally : Tally → Type 0
 IsTally tally = (tally.rounds < 2 ^ 32) × (tally.tests < 2 ^ 32)
 
--- "Reading a saved plant restores table and tally": into any buffer b of the table's length
+-- loading a saved plant gives back size, tally and table: into any buffer b of the table's length
 abbrev pub LoadRestores : Type 0
 LoadRestores =
     (n : ℕ) (t : List ℕ) (tally : Tally) (b : List ℕ) → table_refusal n t ≡ 0 → IsTally tally → length b ≡ length t
@@ -39,7 +39,7 @@ writers_form fs =
     ++ (field_bytes (field tally_tag (only_contents (tagged tally_tag fs)))
     ++ concat_of (λ i. field_bytes (field line_tag (only_contents (of_station i (tagged line_tag fs))))) (size_in fs))
 
--- "saving what was read gives the writer's form": of a file that was read into a buffer b, saved into any buffer b' of the right length
+-- saving what was loaded gives the writer's form: of a file that was loaded into a buffer b, saved into any buffer b' of the right length
 abbrev pub SaveIsCanonical : Type 0
 SaveIsCanonical =
     (file b b' : List ℕ) → AreBytes file → load_refusal file (length b) ≡ 0 → length b' ≡ saved_length (file_size file)
@@ -51,8 +51,8 @@ unfoldable pub known : List Field → List Field
 known [] = []
 known (f ∷ fs) = if is_known f.tag then f ∷ known fs else known fs
 
--- "takes any order and passes over other tags": two files in which no field runs past the end, and whose fields with the three tags are the same in
--- some order, whatever other fields stand between them, are read alike, refused ones too
+-- two files in which no field goes past the end, and whose fields with the three tags are the same in some order, whatever other fields stand
+-- between them, are loaded alike, refused ones too
 abbrev pub OrderIsFree : Type 0
 OrderIsFree =
     (file file' : List ℕ) → runs_past file ≡ false → runs_past file' ≡ false

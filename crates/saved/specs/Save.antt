@@ -1,5 +1,4 @@
--- Request C-17: the writer, for all inputs. "The writer puts 1, 2, then the lines ascending"; it "gives 1 to 4, then 13 when its own buffer has
--- not the saved plant's length".
+-- The writer, for all inputs. Its refusals, in this order: 1 to 4; 13, if the buffer has not the saved plant's length.
 -- Assumes nothing.
 use Rattle.std.specs.Prelude.{ℕ, List, [], ◌∷◌, ◌++◌, length, take, drop}
 use Rattle.lists.specs.Refusal.{Check, ◌and◌, number_of_result, unless_refused}

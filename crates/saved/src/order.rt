@@ -1,7 +1,6 @@
 // The opening of edition 2, and the order of the fields behind it. Refusals 21 and 22.
 //
-// Request C-19, in preparation: no call uses this module yet. The reader and the writer are those of C-17, which know no opening and take the
-// fields in any order.
+// In preparation: no call uses this module yet. The reader and the writer know no opening, and the reader takes the fields in any order.
 ghost use Rattle.std.specs.Prelude.{◌≡◌, false};
 ghost use Rattle.saved.specs.Fields.{runs_past, fields_of};
 ghost use Rattle.saved.specs.Plant.{station_in};

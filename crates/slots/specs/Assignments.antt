@@ -1,4 +1,4 @@
--- What is claimed besides of the answer of request C-16 and of its assignment: the run does not need it.
+-- What is claimed besides of the answer to whether a distance is due, and of the assignment: the run does not need it.
 -- Assumes nothing.
 use Rattle.std.specs.Prelude.{◌≡◌, true, List, ℕ, ◌*◌, ◌-◌, ◌≤◌, ◌<◌, length, Some, ◌==◌}
 use Rattle.std.specs.List.{filter}

@@ -1,4 +1,4 @@
--- The theorems on groups, for every size at once: who is in a group, in which group a station is, and equation 1 of paper 001.
+-- The theorems on groups, for every size at once: who is in a group, in which group a station is, and that groups are nested.
 -- Assumes nothing.
 use mathlib.Core.Path.{◌≡◌, refl, sym, ap, subst, ◌∙◌}
 use Rattle.std.specs.List.{filter, range_with_len}
@@ -94,7 +94,7 @@ unfolding groups_to full_group width member list_of
 run j zero = cc (xor_zero_r j)
 run j (suc h) = rw two-pow-succ (list_of-append (station_at j) (2 ^ h) (2 ^ h) ∙ rw (run j h))
 
--- "equation 1": a full group is its first number and that number's full groups at all lower levels
+-- rule Nested groups: a full group is its first number and that number's full groups at all lower levels
 pub nested-groups : (i h : ℕ) → full_group i (suc h) ≡ station_at i (2 ^ h) ∷ groups_to (station_at i (2 ^ h)) h
 unfolding full_group width member
 nested-groups i h = list_of-same (member i (suc h)) (station_at (station_at i (2 ^ h))) (2 ^ h) shifted ∙ run (station_at i (2 ^ h)) h

@@ -1,4 +1,5 @@
--- What is claimed of the answer of request C-16: who stands before a station in a group. The scan of a turn goes by it; slots claims more.
+-- What is claimed of the answer to whether a distance is due: who stands before a station in a group. The scan of a turn goes by it; slots
+-- claims more.
 -- Assumes nothing.
 use Rattle.std.specs.Prelude.{◌≡◌, ◌↔◌, true, false, List, ℕ, suc, ◌-◌, ◌/◌, ◌%◌, ◌^◌, ◌≤◌, ◌<◌}
 use Rattle.std.specs.Int.Bits.{bit_or}

@@ -1,4 +1,4 @@
--- What the contracts and theorems of `station` cite, in the order of document 01.
+-- What the contracts and theorems of `station` cite.
 pub mod Groups
 pub mod Partition
 pub mod Nested

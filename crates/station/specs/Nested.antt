@@ -1,4 +1,4 @@
--- Paper 001, equation 1: its right side but for the first station, and the equation, of full groups and with the absent numbers left out.
+-- That groups are nested, of full groups and with the absent numbers left out.
 -- Assumes nothing.
 use Rattle.std.specs.Prelude.{◌≡◌, ℕ, zero, suc, ◌^◌, List, [], ◌∷◌, ◌++◌}
 use Rattle.std.specs.List.{filter}
@@ -14,8 +14,8 @@ unfoldable pub remaining_to : ℕ → ℕ → ℕ → List ℕ
 remaining_to n j zero = []
 remaining_to n j (suc h) = remaining_to n j h ++ group n j (suc h)
 
--- equation 1: the full group of station i at level h + 1 is its first station, the one at distance 2^h from i, and behind it the full groups
--- of that station at levels 1 to h
+-- Rule Nested groups: the full group of station i at level h + 1 is its first station, the one at distance 2^h from i, and behind it the full
+-- groups of that station at levels 1 to h
 abbrev pub NestedGroups : Type 0
 NestedGroups = (i h : ℕ) → full_group i (suc h) ≡ station_at i (2 ^ h) ∷ groups_to (station_at i (2 ^ h)) h
 

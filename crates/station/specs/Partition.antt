@@ -1,4 +1,4 @@
--- Document 01, "Groups by distance", with request C-11: the groups of a station part the other stations.
+-- Rule Partition: each other station is in just one group of a station.
 -- Assumes nothing.
 use mathlib.Core.List.{Memᴰ}
 use Rattle.std.specs.Prelude.{◌≡◌, ◌≢◌, ℕ, true, ◌<◌, ◌≤◌}

@@ -1,5 +1,5 @@
-// That groups part the other stations (specs/Partition.antt), equation 1 of paper 001 (specs/NestedGroups.antt) and what is claimed of the answer of
-// request C-16 (specs/Ahead.antt), each the contract of a function that does nothing.
+// That groups part the other stations (specs/Partition.antt), that groups are nested (specs/Nested.antt), and who stands before a station in a
+// group (specs/Ahead.antt), each the contract of a function that does nothing.
 
 ghost use Rattle.station.specs.Partition.{NotInOwnGroup, InOneGroup};
 ghost use Rattle.station.specs.Nested.{NestedGroups, NestedGroupsRemaining};

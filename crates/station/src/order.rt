@@ -1,4 +1,4 @@
-// Group order (document 01, "Groups by distance"), computed by its rule (request C-14).
+// Group order, computed by its rule.
 ghost use Rattle.std.specs.Prelude.{◌≡◌};
 ghost use Rattle.station.specs.Groups.{station_at};
 

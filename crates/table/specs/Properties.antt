@@ -6,7 +6,7 @@ use Rattle.table.specs.Table.{next_distance, finished, tests_made, suspects, liv
 use Rattle.table.specs.Rules.{not_live}
 use Rattle.lists.specs.Sums.{sum_below, bit}
 
--- "A table stands at the start of a round when every line has these three": next distance 1, finished 0, tests 0
+-- bytes 1, 2 and 3 of line i are those of the start of a round: next distance 1, not finished, no tests
 abbrev pub line_at_start : ℕ → List ℕ → ℕ → Bool
 line_at_start n t i = next_distance n t i == 1 && finished n t i == 0 && tests_made n t i == 0
 

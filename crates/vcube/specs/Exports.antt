@@ -1,7 +1,6 @@
--- The calls of document 01 and of requests C-12, C-15 and C-17 as C has them (include/vcube.h), where they differ from those of `station`,
--- `plant`, `granter`, `saved` and `figures`, for all inputs: the outcome of a run or a drive is given by the number and what the call leaves in the
--- variables and buffers lent to it, what a load reads by what it leaves in the variables, a tally is handed in by its parts, and figures and totals
--- are the members of a struct in their order.
+-- The calls as C has them (include/vcube.h), where they differ from those of `station`, `plant`, `granter`, `saved` and `figures`, for all inputs:
+-- the outcome of a run or a drive is given by the number and what the call leaves in the variables and buffers lent to it, what a load reads by what
+-- it leaves in the variables, a tally is handed in by its parts, and figures and totals are the members of a struct in their order.
 -- A station, level or last number may be any; the definitions of `station` and `granter` refuse it as they refuse any that is too high.
 -- Assumes nothing.
 use Rattle.std.specs.Prelude.{◌≡◌, ℕ, ◌+◌, List, [], ◌∷◌, Result, slice_index, slice_range}
@@ -37,7 +36,7 @@ tally_of rounds tests = record { rounds = rounds; tests = tests }
 abbrev pub loaded_out : ℕ → ℕ → ℕ → Loaded
 loaded_out n rounds tests = record { size = n; tally = tally_of rounds tests }
 
--- C-12: what a call answers: its number, and the members of the struct that it fills, in their order
+-- what a call for figures or totals answers: its number, and the members of the struct that it fills, in their order
 pub record Filled : Type 0 where
   pub number : ℕ
   pub members : List ℕ
@@ -58,7 +57,7 @@ totals_members t = t.count ∷ t.sum ∷ t.squares ∷ t.least ∷ t.greatest �
 abbrev pub totals_with : List ℕ → Totals
 totals_with m = record { count = slice_index m 0; sum = slice_index m 1; squares = slice_index m 2; least = slice_index m 3; greatest = slice_index m 4 }
 
--- the figures and the totals that are given where the call is refused: "all 0"
+-- rule Refused means untouched: the figures and the totals of a refused call are all 0
 abbrev pub no_figures : Figures
 no_figures =
     record {

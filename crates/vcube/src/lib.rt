@@ -1,5 +1,5 @@
-// The calls of document 01 and of requests C-12, C-15 and C-17 for C and Rust, as include/vcube.h declares them. None has a `requires`: any numbers
-// and buffers are taken. Each returns 0 or the number of its refusal.
+// The calls for C and Rust, as include/vcube.h declares them. None has a `requires`: any numbers and buffers are taken. Each returns 0 or the
+// number of its refusal.
 #![tactic(auto)]
 
 ghost use Rattle.std.specs.Prelude.{◌≡◌, min, ◌++◌, length};

@@ -41,7 +41,7 @@ part-back k l =
     whole (suc k) [] = refl
     whole (suc k) (x ∷ l) = ap (λ (r : List ℕ). x ∷ r) (whole k l)
 
--- "A refused size prints the header and the last line": number 1, nothing taken, zero tallies; the sheet is unchanged
+-- a refused size: number 1, nothing taken, zero tallies; the run sheet is unchanged
 abbrev refused : Answer
 refused = record { number = 1; taken = 0; tally = record { rounds = 0; tests = 0 } }
 
@@ -98,7 +98,7 @@ answer-err r u = go (eqb r.unread 0) refl
     go true e f = cc
     go false e f = let g : ◌≡◌ {A = Unread} u stop = cc in (e, ap (λ (v : Unread). v.line) g)
 
--- an input that is read into a schedule with room for all that the document allows
+-- an input that is read into a schedule with room for all entries
 module _ (lent input schedule₀ schedule : List ℕ) (room : length schedule₀ ≡ 8192)
     (read : schedule ≡ sets schedule₀ 0 (read_into schedule₀ input).schedule) where
   whole : read_into schedule₀ input ≡ read_input input

@@ -1,4 +1,4 @@
-// What standard input holds (document 01, the run program): lines, the size, the entries. The one call is `parse`.
+// What standard input holds: lines, the size, the entries. The one call is `parse`.
 ghost use Rattle.std.specs.Prelude.{◌≡◌, ℕ, [], ◌∷◌, ◌++◌, ◌+◌, ◌*◌, ◌≤◌, suc, length, take, drop, None, option_map, if◌then◌else◌, nat_lt};
 ghost use Rattle.std.proofs.lemmas.List.Edits.{sets};
 ghost use Rattle.plant.specs.Kind.{kind_byte};

@@ -1,4 +1,4 @@
-// What the run program prints (document 01). No contract can say what is written; these functions are safe. What cannot be written is left
+// What the run program prints. No contract can say what is written; these functions are safe. What cannot be written is left
 // out, and what follows is tried all the same.
 use crate::input::Unread;
 use plant::{Ran, Tally};

@@ -1,4 +1,4 @@
--- If the exact wait cannot be shortened at size n by turns of a plant, it cannot at any greater size with as many levels: the boards from n on
+-- If the worst-case latency is reached at size n by turns of a plant, it is at any greater size with as many levels: the boards from n on
 -- are dead, and every live board suspects them from the start.
 -- Assumes nothing.
 use mathlib.Core.Path.{◌≡◌, refl, sym, ap, ◌∙◌}

@@ -65,7 +65,7 @@ apart n s i j = (ltb i n && live n s.table i) && (ltb j n && not_live n s.table 
 unfoldable pub begins : ℕ → List ℕ → ℕ → ℕ → Bool
 begins n dead i j = described n (first_state n dead) && apart n (first_state n dead) i j
 
--- one round less than the exact wait has closed, and i does not suspect j
+-- one round less than the worst-case latency has closed, and i does not suspect j
 unfoldable pub unseen : ℕ → ℕ → ℕ → State → Bool
 unseen n i j end = eqb (suc end.rounds) (worst_latency (dimension n)) && eqb (suspects n end.table i j) 0
 

@@ -1,5 +1,5 @@
--- Turns that are all taken, and a plant whose turns leave a dead board unsuspected one round before the exact wait: there the wait cannot be
--- shortened.
+-- Turns that are all taken, and a plant whose turns leave a dead board unsuspected one round before the worst-case latency: there no fewer rounds
+-- are enough.
 -- Assumes nothing.
 use mathlib.Core.Path.{◌≡◌, refl, ap, ◌∙◌}
 use mathlib.Core.Logic.{by_cases}
@@ -50,8 +50,8 @@ turns-pass q turns n s [] = refl
 turns-pass q turns n s (i ∷ is) =
     runs_append q s (turn_run n i ∷ []) (map (turn_run n) is) (one_passes q turns n s i) (turns-pass q turns n (after_runs s (turn_run n i ∷ [])) is)
 
--- a table that the claim describes, turns with which one round less than the exact wait closes, and a live board that does not suspect a dead
--- one then
+-- a table that the claim describes, turns with which one round less than the worst-case latency closes, and a live board that does not suspect a
+-- dead one then
 pub record Slow (n : ℕ) : Type 0 where
   pub first : State
   pub ok : table_refusal n first.table ≡ 0

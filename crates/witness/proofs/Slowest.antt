@@ -1,4 +1,4 @@
--- The exact wait cannot be shortened at any size from 3 on: a computed plant of 3, 5, 9, 17 and 33 boards, and the law for greater sizes.
+-- The worst-case latency is reached at any size from 3 on: a computed plant of 3, 5, 9, 17 and 33 boards, and the law for greater sizes.
 -- Assumes nothing.
 use mathlib.Core.Path.{◌≡◌, refl, sym}
 use mathlib.Core.Bool.{true}

@@ -1,5 +1,5 @@
--- That demand 3's claim is not empty. Four boards, board 3 dead, four runs, of which one is refused at its start and one at an entry: the
--- premises hold, d·d rounds close and one more, and each has the seven tests that demand 3 counts from the fifth on. And three boards, a size
+-- Rule Conditions are met. Four boards, board 3 dead, four runs, of which one is refused at its start and one at an entry: the detection
+-- conditions hold, d·d rounds close and one more, and each has the seven tests of rule Count of tests from the fifth on. And three boards, a size
 -- that is no power of two.
 -- Assumes nothing.
 use Rattle.std.specs.Prelude.{◌≡◌, ℕ, ◌*◌, List, [], ◌∷◌, length, map, replicate}

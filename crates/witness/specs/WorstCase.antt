@@ -1,10 +1,10 @@
--- What it says that the exact wait cannot be shortened.
+-- That the worst-case latency is reached: no fewer rounds are enough.
 -- Assumes nothing.
 use Rattle.std.specs.Prelude.{◌≡◌, true, ℕ, ◌≤◌}
 use Rattle.table.specs.Sizes.{is_size, dimension}
 use Rattle.detection.specs.Claim.{DetectionAt, worst_latency}
 
--- at size n: whatever the number of rounds that the claim holds within, the exact wait is at most that
+-- at size n: whatever the number of rounds that the claim holds with, the worst-case latency is at most that
 abbrev pub WorstCaseAt : ℕ → Type 0
 WorstCaseAt n = (enough : ℕ) → DetectionAt n enough → worst_latency (dimension n) ≤ enough
 
