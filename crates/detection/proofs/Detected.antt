@@ -1,5 +1,5 @@
 -- Who knows after how many rounds: after `worst_latency d` closed rounds each live station suspects each station near at d to it that is not
--- live. docs/DEMAND-3.md tells the proof. A live set and rows over numbers, nothing else.
+-- live. docs/DETECTION.md tells the proof. A live set and rows over numbers, nothing else.
 -- Assumes nothing.
 use mathlib.Core.Path.{◌≡◌, refl, sym, ◌∙◌}
 use mathlib.Core.Logic.{◌⊎◌, inl, inr, by_cases}
@@ -152,7 +152,7 @@ module _ (live : ℕ → Bool) (rows : ℕ → ℕ → ℕ → Type 0) (R : (q :
           let enough = rw e at (latency-enough p u) in
           later live rows R _ _ i j (omega arith) ti (reaches live rows R g.station j (suc q) p g.alive aware row i ti (sym g.near))
 
--- after the exact wait, and at any later round's start, each live station suspects each station near at d to it that is not live
+-- after the worst-case latency, and at any later round's start, each live station suspects each station near at d to it that is not live
 pub detected : (d : ℕ) (live : ℕ → Bool) (rows : ℕ → ℕ → ℕ → Type 0) → ((q : ℕ) → Round live (rows q) (rows (suc q))) → (q i j : ℕ)
     → worst_latency d ≤ q → live i ≡ true → live j ≡ false → Near d j i → rows q i j
 detected d live rows R q i j l ti fj n = go (parting d j i n)

@@ -1,5 +1,5 @@
--- The exact wait and demand 3, proved: the chain of taken entries is cut into rounds, and the spread of knowledge bounds the rounds after
--- which all is known.
+-- Detection within the worst-case latency and the greater bounds, proved: the chain of taken entries is cut into rounds, and the spread of
+-- knowledge bounds the rounds after which all is known.
 -- Assumes nothing.
 use mathlib.Core.Path.{◌≡◌, refl, sym, ap}
 use mathlib.Core.Logic.{◌⊎◌, inl, inr, ◌≢◌}
@@ -93,7 +93,7 @@ module _ (n : ℕ) (s : State) (calls : List Call) (given : DetectionPremises n 
       given.no_crash given.no_late
       s.table [] (first_round n s calls given ok)
 
-  -- after the exact wait all rounds start exact
+  -- after the worst-case latency all rounds start exact
   pub exact : (q : ℕ) → worst_latency (dimension n) ≤ q → q ≤ length (rounds_of s calls).closed → Exact n L (history.0.start q)
   exact =
       exact-at n (dimension n) s.table s.table (rounds_of s calls) (after_runs s calls).table history.0 (let d = size-log n given.size in rw d.1 d.3)
@@ -137,7 +137,7 @@ detection-none n s calls size none stays =
     some_level : worst_latency (dimension n) ≤ length (rounds_of s calls).closed → ⊥
     some_level far = let d = size-log n size in omega (arith, closed, rw (← d.1) at (latency-pos d.0))
 
--- the claim within the exact wait, an end in itself
+-- the claim within the worst-case latency, an end in itself
 pub detection-in-worst-case : Detection worst_latency
 detection-in-worst-case n s calls given = go (chain_first (chain-all n s calls given.long))
   where
@@ -163,7 +163,7 @@ within rounds enough n s calls given =
 pub detection-in-triangle : DetectionInTriangle
 detection-in-triangle = within _ latency-le-triangle
 
--- demand 3, an end in itself
+-- within d·d rounds, an end in itself
 pub detection-in-square : DetectionInSquare
 detection-in-square = within square_bound (λ d. omega (arith, latency-le-square d))
 

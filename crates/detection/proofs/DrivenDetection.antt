@@ -1,5 +1,5 @@
--- Demand 3 of driven plants and of lists that mix runs and drives, and the same within the exact wait: the claim about lists of runs, of the
--- runs that the drives are.
+-- Detection of driven plants and of lists that mix runs and drives, within d·d rounds and within the worst-case latency: the claim about lists of
+-- runs, of the runs that the drives are.
 -- Assumes nothing.
 use mathlib.Core.Path.{◌≡◌, refl, sym, ap, subst, ◌∙◌}
 use mathlib.Core.Bool.{Bool, true, false, cond, not, true≢false}
@@ -52,7 +52,7 @@ mixed-detection : (rounds : ℕ → ℕ) → Detection rounds → MixedDetection
 mixed-detection rounds claim n s xs given =
     subst (DetectionConclusion (rounds (dimension n)) n s (runs_of_mixed s xs)) (mixed-left s xs) (claim n s (runs_of_mixed s xs) given)
 
--- demand 3 of such lists, and the same within the exact wait, ends in themselves
+-- detection of such lists within d·d rounds and within the worst-case latency, ends in themselves
 pub mixed-in-square : MixedDetection square_bound
 mixed-in-square = mixed-detection square_bound detection-in-square
 
@@ -201,7 +201,7 @@ module _ (rounds : ℕ → ℕ) (claim : Detection rounds) (n : ℕ) (s : State)
 driven-detection : (rounds : ℕ → ℕ) → Detection rounds → DrivenDetection rounds
 driven-detection rounds claim n s lasts given = driven rounds claim n s given lasts
 
--- demand 3 of driven plants, an end in itself
+-- detection of driven plants within d·d rounds, an end in itself
 pub driven-in-square : DrivenDetectionInSquare
 driven-in-square = driven-detection square_bound detection-in-square
 

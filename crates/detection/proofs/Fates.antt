@@ -67,7 +67,7 @@ fate-earlier n t u v k same h (leaves l low untold p) =
     leaves (rw (same k status_column (omega arith) (omega arith)) at l) low untold (p ∙ same k told_by_column (omega arith) (omega arith))
 fate-earlier n t u v k same h (hears b hb l) = hears b hb (left-earlier n t u v k b same h l)
 
--- step 6: i, which it may make leave as alone
+-- station i, which may leave as alone
 module _ (n : ℕ) (v : List ℕ) (i : ℕ) where
   alone-other : (k : ℕ) → (i ≡ k → live n v k ≡ false) → SameExit n v (after_alone n v i) k
   unfolding after_alone is_alone
@@ -106,7 +106,7 @@ module _ (n : ℕ) (v : List ℕ) (i : ℕ) where
       here l (leaves a low untold p) = absurd (omega (arith, eqb-true (status n v i) 0 l))
       here l (hears b hb p) = absurd (omega (arith, eqb-true (status n v i) 0 l, p.left))
 
--- steps 4 and 5: i, which is live, tests j
+-- station i, which is live, tests j
 module _ (n : ℕ) (u : List ℕ) (kind i j : ℕ) (long : length u ≡ table_length n) (hi : i < n) (hj : j < n) (apart : i ≢ j)
     (alive : live n u i ≡ true) where
   left-tester : replies n u kind j ≡ true → is_told n u i j ≡ true → LeftTold n u (leave_told n u i j) i j
@@ -217,7 +217,7 @@ module _ (n : ℕ) (s : State) (e : Entry) (ok : Accepted n s.table) (z : entry_
           leaves facts.is_live (omega (arith, one)) (λ q. omega (arith, one))
           (cell_other n t i status_column status_crashed i told_by_column (omega arith) (omega arith) (omega arith))
 
-  -- steps 2 to 7 leave bytes 4 and 5, but for byte 4 of a station that is told to leave
+  -- what an entry does before the round is looked at leaves bytes 4 and 5, but for byte 4 of a station that is told to leave
   acted-record : (k c : ℕ) → told_by_column ≤ c → c ≤ rounds_ago_column
       → (outcome_of n t e ≡ outcome_told → i ≡ k → c ≢ told_by_column)
       → (outcome_of n t e ≡ outcome_tested_told → tested_of n t e ≡ k → c ≢ told_by_column) → cell n (acted n t e) k c ≡ cell n t k c
@@ -243,7 +243,7 @@ module _ (n : ℕ) (s : State) (e : Entry) (ok : Accepted n s.table) (z : entry_
   pub acted-ago : (k : ℕ) → rounds_ago n (acted n t e) k ≡ rounds_ago n t k
   acted-ago k = acted-record k rounds_ago_column (omega arith) (omega arith) (λ _ _. omega arith) (λ _ _. omega arith)
 
-  -- step 8 leaves status and byte 4
+  -- the closing of a round leaves status and byte 4
   closing_same : (k : ℕ) → SameExit n (acted n t e) (after n s e).table k
   unfolding after after_round
   closing_same k =

@@ -1,4 +1,4 @@
--- A fresh table passes refusals 1 to 4, stands at the start of a round and meets what demand 3 supposes: ends in themselves.
+-- A fresh table passes refusals 1 to 4, stands at the start of a round and meets the detection conditions on a table: ends in themselves.
 -- Assumes nothing.
 use mathlib.Core.Path.{◌≡◌, refl, ap, ◌∙◌}
 use mathlib.Core.Bool.{true, cond}
@@ -25,7 +25,7 @@ use Rattle.detection.specs.Runs.{taken_all}
 use Rattle.detection.specs.Rounds.{all_taken}
 use Rattle.detection.specs.Claim.{FreshMeetsPremises}
 
--- "every line live, next distance 1, all else 0"; by C-18 byte 4 is 255
+-- a fresh line: next distance 1, byte 4 255, and all else 0
 fresh-cell : (n i c : ℕ) → i < n → c < stride n → cell n (fresh_table n) i c ≡ cond (eqb c next_column) 1 (cond (eqb c told_by_column) told_by_none 0)
 unfolding cell fresh_table fresh_byte line_start
 fresh-cell n i c h g =

@@ -1,4 +1,4 @@
--- The arithmetic of the exact wait: it has time for all that the proof adds up, and is at most 1 + d (d − 1) / 2 and at most d·d.
+-- The arithmetic of the worst-case latency: it has time for all that the proof adds up, and is at most 1 + d (d − 1) / 2 and at most d·d.
 -- Assumes nothing.
 use mathlib.Core.Path.{◌≡◌}
 use mathlib.Core.Bool.{false, cond}

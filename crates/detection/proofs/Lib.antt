@@ -1,4 +1,4 @@
--- The proof of demand 3 and of the exact wait, a file for each part (docs/DEMAND-3.md tells it on a page); from TestingPair on of the other claims.
+-- The proof of the detection claim, a file for each part (docs/DETECTION.md tells it on a page); from TestingPair on of the other claims.
 pub mod Near
 pub mod Pass
 pub mod Latency

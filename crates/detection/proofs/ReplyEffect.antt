@@ -25,7 +25,7 @@ use Rattle.plant.proofs.RoundLaws.{reset-other}
 use Rattle.detection.specs.Exits.{RepliedTest, SameRows, RowsJoined, NeitherSuspects, ReplyEnds}
 use Rattle.detection.proofs.TestingPair.{Pair, parts_of, testing-pair}
 
--- step 6 writes the status of i if it is alone, step 8 the columns that closing a round changes
+-- a test writes the status of i if i is alone, and a closing the columns of the round
 module _ (n i : ℕ) (v : List ℕ) where
   abbrev later : List ℕ
   later = after_round n (after_alone n v i)
@@ -77,7 +77,7 @@ module _ (n : ℕ) (s : State) (e : Entry) (r : RepliedTest n s e) where
   reply : replies n t e.kind j ≡ true
   reply = rw tested-is at r.reply
 
-  -- the outcome is that of a reply, and the table what steps 4, 6 and 8 make of it
+  -- the outcome is that of a reply; the table is what that, Alone and the closing of a round make of it
   outcome-is : outcome_of n t e ≡ reply_outcome n u i j
   unfolding outcome_of turn_outcome test_outcome replies
   outcome-is = rw (no-crash, tests, counted j status_column (omega arith) (omega arith), reply)

@@ -1,4 +1,4 @@
--- Request C-18, "Who told it, and how long ago": bytes 4 and 5 after a taken entry, after a list of runs, and after one that mixes runs and
+-- Who told a station to leave, and how long ago: bytes 4 and 5 after a taken entry, after a list of runs, and after one that mixes runs and
 -- drives.
 -- Assumes nothing.
 use Rattle.std.specs.Prelude.{◌≡◌, ◌≢◌, Bool, true, false, List, [], ◌∷◌, ℕ, ◌+◌, min, ◌≤◌, ◌<◌, length, if◌then◌else◌}
@@ -14,7 +14,7 @@ use Rattle.detection.specs.Driven.{RunOrDrive, after_mixed, runs_of_mixed}
 pub record LeftTold (n : ℕ) (t t' : List ℕ) (a b : ℕ) : Type 0 where
   pub was_live : live n t a ≡ true
   pub left : status n t' a ≡ status_told
-  -- "Byte 4 names the station whose row told it to leave"
+  -- byte 4 of a names b
   pub named : told_by n t' a ≡ b
   -- b is live and suspects a
   pub teller_live : live n t b ≡ true
@@ -54,7 +54,7 @@ FirstTold n (x ∷ xs) i b = LeftTold n x.before.table (table_after x) i b
 
 -- table and tally after a list of runs, beside those before it
 pub record ExitRecord (n : ℕ) (s : State) (calls : List Call) (end : State) : Type 0 where
-  -- "The run and the drive [..] never write 254 into byte 4": a line that has it had it before
+  -- 254 is written nowhere: a line that has it had it before
   pub unrecorded : (i : ℕ) → i < n → told_by n end.table i ≡ not_recorded → told_by n s.table i ≡ not_recorded
   -- status and byte 4 of a line that was not live at first are as they were
   pub kept : (i : ℕ) → i < n → live n s.table i ≡ false
@@ -62,11 +62,10 @@ pub record ExitRecord (n : ℕ) (s : State) (calls : List Call) (end : State) : 
   -- of one that left because told, byte 4 names the one that told it, at the entry at which it left
   pub told : (i : ℕ) → i < n → live n s.table i ≡ true → status n end.table i ≡ status_told
       → FirstTold n (since_ceased i (taken_all s calls)) i (told_by n end.table i)
-  -- "Byte 5 counts rounds closed since the station ceased to be live, and stops at 255": of a line that was not live at first, what it was
-  -- and the rounds closed in the list
+  -- byte 5 of a line that was not live at first is what it was and the rounds closed in the list, 255 at most
   pub gone : (i : ℕ) → i < n → live n s.table i ≡ false → rounds_ago n s.table i ≤ rounds_ago_top
       → rounds_ago n end.table i ≡ min (rounds_ago n s.table i + rounds_closed (taken_all s calls)) rounds_ago_top
-  -- of one that ceased in the list: "A round that closes on the very entry at which it ceased counts too."
+  -- byte 5 of one that ceased in the list is the rounds closed from the entry at which it ceased on, 255 at most
   pub ceased : (i : ℕ) → i < n → live n s.table i ≡ true → live n end.table i ≡ false
       → rounds_ago n end.table i ≡ min (rounds_closed (since_ceased i (taken_all s calls))) rounds_ago_top
   -- these are the rounds of the tally

@@ -1,4 +1,4 @@
--- Demand 3: the claim, whole, and the same claim within fewer rounds.
+-- The detection claim, within any number of rounds, and the bounds for which it holds.
 -- Assumes nothing.
 use Rattle.std.specs.Prelude.{ℕ, suc, ◌+◌, ◌-◌, ◌*◌, ◌/◌, ◌≤◌, ◌<◌, ◌≡◌, Bool, true, not, ◌&&◌, List, [], ◌∷◌, ◌++◌, length, if◌then◌else◌, nat_lt, slice_index_or}
 use Rattle.lists.specs.Search.{every}
@@ -17,7 +17,7 @@ use Rattle.table.specs.Properties.{at_start, live_count, none_suspected}
 abbrev pub live_at : ℕ → List ℕ → ℕ → Bool
 live_at n t x = is_present n x && live n t x
 
--- the group of j at level s has, "after leaving out", no live board
+-- the group of j at level s, without the absent numbers, has no live board
 unfoldable pub group_without_live : ℕ → List ℕ → ℕ → ℕ → Bool
 group_without_live n t j s = every (λ k. not (live_at n t (member j s k))) (width s)
 
@@ -25,7 +25,7 @@ group_without_live n t j s = every (λ k. not (live_at n t (member j s k))) (wid
 unfoldable pub pairs_without_live : ℕ → List ℕ → ℕ
 pairs_without_live n t = sum_below (λ j. sum_below (λ h. bit (group_without_live n t j (suc h))) (dimension n)) n
 
--- demand 3's count of a round's tests, by C-11 "n times d less the pairs whose group, after leaving out, has no live board"
+-- Rule Count of tests: n·d, less one for each station and each level at which its group has no live station
 abbrev pub tests_per_round : ℕ → List ℕ → ℕ
 tests_per_round n t = n * dimension n - pairs_without_live n t
 
@@ -74,7 +74,7 @@ pub record DetectionConclusion (enough n : ℕ) (s : State) (calls : List Call) 
   -- once enough rounds have closed, each live board suspects exactly the boards that are not live
   pub exact_rows : enough ≤ length (rounds_of s calls).closed
       → (i j : ℕ) → i < n → j < n → live n s.table i ≡ true → suspects n end.table i j ≡ bit (not_live n s.table j)
-  -- each closed round after these has exactly the tests that the demand counts
+  -- each closed round after these has as many tests as the count says
   pub tests : (k : ℕ) → enough ≤ k → k < length (rounds_of s calls).closed
       → tests_in (slice_index_or (rounds_of s calls).closed k []) ≡ tests_per_round n s.table
   -- the tally: the closed rounds are added to its rounds, and the tests of all rounds, the open one included, to its tests
@@ -96,15 +96,15 @@ DetectionAfter rounds c before after =
     (n : ℕ) (s : State) (calls : List Call) → after_runs s calls ≡ before → DetectionPremises n s (calls ++ (c ∷ []))
     → DetectionConclusion (rounds (dimension n)) n s (calls ++ (c ∷ [])) after
 
--- the rounds of demand 3
+-- Rule Square bound: d·d rounds
 abbrev pub square_bound : ℕ → ℕ
 square_bound d = d * d
 
--- demand 3
+-- Rule Square bound: detection within these
 abbrev pub DetectionInSquare : Type 0
 DetectionInSquare = Detection square_bound
 
--- fewer rounds, and no fewer than the exact wait: 1, 2, 4, 7, 11, 16 for d = 1 to 6
+-- Rule Triangular bound: 1 + d(d − 1)/2 rounds, 1, 2, 4, 7, 11, 16 for d = 1 to 6
 abbrev pub triangle_bound : ℕ → ℕ
 triangle_bound d = 1 + d * (d - 1) / 2
 

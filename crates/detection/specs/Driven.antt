@@ -1,4 +1,4 @@
--- Request C-15: a drive is "the granting rule followed turn by turn", and so demand 3 speaks of plants that are driven.
+-- That a drive does what its grants and their runs of one entry do, so that detection holds of plants that are driven.
 -- Assumes nothing.
 use Rattle.std.specs.Prelude.{◌≡◌, true, List, [], ◌∷◌, ◌++◌, map, ℕ, zero, suc, ◌+◌, ◌≤◌, ◌<◌, length, ◌==◌}
 use Rattle.lists.specs.Sums.{bit}
@@ -62,7 +62,7 @@ unfoldable pub runs_of_mixed : State → List RunOrDrive → List Call
 runs_of_mixed s [] = []
 runs_of_mixed s (x ∷ xs) = runs_of_one s x ++ runs_of_mixed (after_one s x) xs
 
--- demand 3 of such a list, within so many rounds by the dimension: the demand itself, of the runs that it is
+-- Rule Detection by drives: detection of such a list, within so many rounds by the dimension, of the runs that it is
 abbrev pub MixedDetection : (ℕ → ℕ) → Type 0
 MixedDetection rounds =
     (n : ℕ) (s : State) (xs : List RunOrDrive) → DetectionPremises n s (runs_of_mixed s xs)
@@ -80,9 +80,9 @@ unfoldable pub ending : ℕ → State → List ℕ → ℕ
 ending n s [] = 0
 ending n s (last ∷ lasts) = bit ((drive n s last).number == 0) + ending n (drive n s last).state lasts
 
--- what demand 3 says of driven plants, where so many rounds are enough
+-- what the claim says of driven plants, where so many rounds are enough
 pub record DrivenDetectionConclusion (enough n : ℕ) (s : State) (lasts : List ℕ) (end : State) : Type 0 where
-  -- the demand itself, of the list of their runs
+  -- detection, of the list of their runs
   pub detection : DetectionConclusion enough n s (runs_of_drives n s lasts) end
   -- each drive that answers 0 closes one round, and no other closes one
   pub rounds : length (rounds_of s (runs_of_drives n s lasts)).closed ≡ ending n s lasts
@@ -90,13 +90,13 @@ pub record DrivenDetectionConclusion (enough n : ℕ) (s : State) (lasts : List 
   pub exact_rows : enough ≤ ending n s lasts
       → (i j : ℕ) → i < n → j < n → live n s.table i ≡ true → suspects n end.table i j ≡ bit (not_live n s.table j)
 
--- the claim, within so many rounds by the dimension. The premises are demand 3's on the table: those of no run at all. Drives have no crash
--- and no late reply
+-- Rule Detection by drives: the claim, within so many rounds by the dimension. It supposes the detection conditions on the table: those of no run
+-- at all. Drives have no crash and no late reply
 abbrev pub DrivenDetection : (ℕ → ℕ) → Type 0
 DrivenDetection rounds =
     (n : ℕ) (s : State) (lasts : List ℕ) → DetectionPremises n s [] → DrivenDetectionConclusion (rounds (dimension n)) n s lasts (after_drives n s lasts)
 
--- demand 3 of driven plants
+-- detection of driven plants within d·d rounds
 abbrev pub DrivenDetectionInSquare : Type 0
 DrivenDetectionInSquare = DrivenDetection square_bound
 

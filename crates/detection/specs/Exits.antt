@@ -1,5 +1,5 @@
--- Request C-13, "The tested board must hear it too", sentence by sentence, as one claim about a taken entry: by who suspects whom before it,
--- which outcome it has and what it leaves, steps 6 and 8 included.
+-- What a test with a reply leads to, as one claim about a taken entry: by who suspects whom before it, which outcome it has and what it leaves,
+-- with rule Alone and the closing of a round.
 -- Assumes nothing.
 use Rattle.std.specs.Prelude.{◌≡◌, ◌≢◌, true, List, ℕ, max, ◌<◌, if◌then◌else◌}
 use Rattle.lists.specs.Search.{every}
@@ -20,7 +20,7 @@ pub record RepliedTest (n : ℕ) (s : State) (e : Entry) : Type 0 where
 abbrev pub SameRows : ℕ → List ℕ → List ℕ → Type 0
 SameRows n t t' = (k x : ℕ) → k < n → x < n → suspects n t' k x ≡ suspects n t k x
 
--- "both rows become the union": byte by byte, and no other row changes
+-- both rows become the union, byte by byte, and no other row changes
 abbrev pub RowsJoined : ℕ → List ℕ → List ℕ → ℕ → ℕ → Type 0
 RowsJoined n t t' i j =
     ((x : ℕ) → x < n → suspects n t' i x ≡ max (suspects n t i x) (suspects n t j x))
@@ -33,13 +33,13 @@ NeitherSuspects n t i j = (suspects n t i j ≡ 0) × (suspects n t j i ≡ 0)
 
 -- i has tested j, which replied: t and t' are the tables before and after, and o is the outcome
 pub record ReplyEffect (n : ℕ) (t t' : List ℕ) (i j o : ℕ) : Type 0 where
-  -- "if j suspects i, i leaves as before and j is given nothing"
+  -- rule Tester told: if j suspects i, i leaves, j stays live, and no row changes
   pub tester : suspects n t j i ≡ 1 → (o ≡ outcome_told) × (status n t' i ≡ status_told) × (live n t' j ≡ true) × SameRows n t t'
-  -- "Otherwise, if i suspects j, j leaves with status 2, no row changes, and the sheet's outcome is 5. i is still looked at for being alone"
+  -- rule Tested told: otherwise, if i suspects j, j leaves, and no row changes. i leaves too if it is alone
   pub tested : suspects n t j i ≡ 0 → suspects n t i j ≡ 1
       → (o ≡ outcome_tested_told) × (status n t' j ≡ status_told) × SameRows n t t'
       × (status n t' i ≡ (if every (self_or_suspected n t i) n then status_alone else 0))
-  -- "Where neither suspects the other, both rows become the union": both stay live
+  -- rule Exchange: where neither suspects the other, both rows become the union, and both stay live
   pub neither : NeitherSuspects n t i j → (o ≡ outcome_exchanged) × (live n t' i ≡ true) × (live n t' j ≡ true) × RowsJoined n t t' i j
   -- so not both are live with one suspecting the other
   pub parted : live n t' i ≡ true → live n t' j ≡ true → NeitherSuspects n t' i j

@@ -1,6 +1,6 @@
--- The commissioning sheet and the tests that are made as a plant runs. Under demand 3's premises, in a closed round that begins with exact rows, each
--- live board tests just whom the sheet says. And in any round, with any crashes, late replies and suspicions: how many tests a board makes at
--- most, which is what slots are timed by.
+-- The commissioning sheet and the tests that are made as a plant runs. Under the detection conditions, in a closed round that begins with exact
+-- rows, each live board tests just whom the sheet says. And in any round, with any crashes, late replies and suspicions: how many tests a board
+-- makes at most, which is what slots are timed by.
 -- Assumes nothing.
 use Rattle.std.specs.Prelude.{◌≡◌, ◌≢◌, ◌⊎◌, true, false, List, [], ◌∷◌, ℕ, ◌≤◌, ◌<◌, length, slice_index_or}
 use Rattle.table.specs.Table.{table_length, tests_made, suspects, row, live}
@@ -13,8 +13,8 @@ use Rattle.detection.specs.Claim.{rounds_of, round_at, DetectionPremises}
 use Rattle.detection.specs.Boards.{is_test_of, tested_in, first_table}
 use Rattle.slots.specs.Slots.{tested, tests_due, most_tests}
 
--- "In a round that begins with exact rows, a board that stays live makes just these tests": in the kth closed round (from 0) a live board tests, in
--- this order, whom the sheet says, with the boards dead that are not live (`ExactRoundTests` of detection, in the sheet's words)
+-- Rule Tests of the sheet: in the kth closed round (from 0), if it begins with exact rows, a live board tests, in this order, whom the sheet says,
+-- with the boards dead that are not live (`ExactRoundTests`, in the sheet's words)
 abbrev pub TestsAreTheSheets : Type 0
 TestsAreTheSheets =
     (n : ℕ) (s : State) (calls : List Call) → DetectionPremises n s calls → (k : ℕ) → k < length (rounds_of s calls).closed
@@ -25,8 +25,8 @@ TestsAreTheSheets =
 abbrev pub tests_by : ℕ → List Taken → ℕ
 tests_by i round = count_taken (is_test_of i) round
 
--- byte 3, "tests made in this round": after any list of runs from the start of a round on, whatever crashes or comes late, it is the number of
--- the board's testing entries in the round that is then open
+-- Rule Tests counted: after any list of runs from the start of a round on, whatever crashes or comes late, byte 3 is the number of the board's
+-- testing entries in the round that is then open
 abbrev pub TestsByteCounts : Type 0
 TestsByteCounts =
     (n : ℕ) (s : State) (calls : List Call) (i : ℕ) → length s.table ≡ table_length n → at_start n s.table ≡ true → i < n
@@ -37,7 +37,7 @@ unfoldable pub table_left : List ℕ → List Taken → List ℕ
 table_left t [] = t
 table_left t (x ∷ xs) = table_left (table_after x) xs
 
--- the table as the last entry of the kth round of a list of runs leaves it (from 0; the open round is the last one), step 8 included, which
+-- the table as the last entry of the kth round of a list of runs leaves it (from 0; the open round is the last one), the closing included, which
 -- leaves all rows as they are. An open round without entries has no tests, and then it is the first table
 abbrev pub end_of : State → List Call → ℕ → List ℕ
 end_of s calls k = table_left s.table (round_at s calls k)

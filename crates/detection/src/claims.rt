@@ -3,7 +3,7 @@
 ghost use Rattle.detection.specs.Claim.{DetectionInSquare, DetectionInTriangle, Detection, worst_latency, FreshIsAccepted, FreshMeetsPremises};
 ghost use Rattle.detection.specs.Boards.{ExactRoundTests, ExactRoundTestsAfterLatency};
 
-// Demand 3: after d·d closed rounds the live boards suspect just those that are not live, and the tests are those counted.
+// After d·d closed rounds the live boards suspect just those that are not live, and the tests are those counted.
 pub fn detection_in_square()
     ensures { DetectionInSquare }
 {}
@@ -13,7 +13,7 @@ pub fn detection_in_triangle()
     ensures { DetectionInTriangle }
 {}
 
-// The same within the exact wait.
+// The same within the worst-case latency.
 pub fn detection_in_worst_case()
     ensures { Detection worst_latency }
 {}
@@ -23,7 +23,7 @@ pub fn fresh_is_accepted()
     ensures { FreshIsAccepted }
 {}
 
-// A fresh table, with any tally, meets what demand 3 supposes of size and table.
+// A fresh table, with any tally, meets the detection conditions on a table.
 pub fn fresh_meets_premises()
     ensures { FreshMeetsPremises }
 {}
@@ -33,7 +33,7 @@ pub fn exact_round_tests()
     ensures { ExactRoundTests }
 {}
 
-// After the exact wait that is so in every closed round.
+// After the worst-case latency that is so in every closed round.
 pub fn exact_round_tests_after_latency()
     ensures { ExactRoundTestsAfterLatency }
 {}

@@ -1,4 +1,4 @@
-// What request C-13 asks, sentence by sentence (specs/Exits.antt), proved of the definitions that the run promises (proofs/ReplyEffect.antt). The
+// What a test with a reply leads to (specs/Exits.antt), proved of the definitions that the run promises (proofs/ReplyEffect.antt). The
 // function does nothing: its contract is the claim.
 
 ghost use Rattle.detection.specs.Exits.{ReplyEnds};

@@ -1,5 +1,5 @@
 // What is claimed of runs and drives wherever they stand in a list (specs/), and its proof (proofs/). The two functions here are the run and the
-// drive themselves with demand 3 and the exact wait as their promise, so that they rest on what plant::run::run and granter::drive::drive promise.
+// drive themselves with the detection claim as their promise, so that they rest on what plant::run::run and granter::drive::drive promise.
 // Those of the modules do nothing: their contracts are the claims, of lists of runs (`claims`), of drives (`driven`), of who leaves (`exits`), of
 // who told it and when (`ceased`), and of the tests that slots are timed by (`timing`).
 #![tactic(auto)]
@@ -21,8 +21,8 @@ ghost use Rattle.detection.specs.Driven.{DrivenDetectionAfter};
 use granter::{Driven, drive};
 use plant::{Ran, Tally, run};
 
-// The run, wherever it stands in a list of runs: what demand 3 says of the list that ends with it holds of the table and tally that it
-// leaves, and holds within the exact wait too. It answers how many of its entries the list takes.
+// The run, wherever it stands in a list of runs: what the detection claim says of the list that ends with it holds of the table and tally that it
+// leaves, within d·d rounds and within the worst-case latency. It answers how many of its entries the list takes.
 pub fn run_in_list(
     n: usize,
     table: &mut [u8],
@@ -42,8 +42,8 @@ pub fn run_in_list(
     run::run(n, table, tally, schedule, sheet)
 }
 
-// The drive, wherever it stands behind other drives: what demand 3 says of the plant that they drove holds of the table and tally that it
-// leaves, and holds within the exact wait too.
+// The drive, wherever it stands behind other drives: what the detection claim says of the plant that they drove holds of the table and tally that
+// it leaves, within d·d rounds and within the worst-case latency.
 pub fn drive_in_list(n: usize, table: &mut [u8], tally: Tally, last: usize) -> Driven
     ensures outcome { drive_outcome_with result table.new ≡ drive n (state_with table.old tally) last }
     ensures stopped_if_taken { StoppedIfTaken n (state_with table.old tally) last result.grants }

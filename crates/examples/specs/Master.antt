@@ -1,5 +1,4 @@
--- Examples that follow the rules of request C-15, in two tables: what the definitions give, and what is said. One statement covers
--- each.
+-- Examples of grants and of drives, in two tables: what the definitions compute, and what is expected. One statement covers each.
 -- Assumes nothing.
 use Rattle.std.specs.Prelude.{◌≡◌, refl, List, [], ◌∷◌, map, ℕ, ◌+◌}
 use Rattle.lists.specs.Search.{least, every, list_of}
@@ -56,13 +55,13 @@ two_suspecting = drive 2 (state_of (set_cell 2 (set_cell 2 (fresh_table 2) 0 (he
 
 unfoldable pub examples : List Example
 examples =
-    -- all wait: "the next station after it, going round"; "from 255 it begins at station 0"
+    -- all wait: the next station behind the last granted one; from 255 the search begins at station 0
     expect (grants_of (fresh_table 4)) (0 ∷ 1 ∷ 2 ∷ 3 ∷ 0 ∷ [])
-    -- "that is live and unfinished": 0 and 1
+    -- only 0 and 1 are live and unfinished
     ∷ expect (grants_of two_wait) (0 ∷ 1 ∷ 0 ∷ 0 ∷ 0 ∷ [])
     -- the last granted station comes last: alone live and unfinished, it is granted again
     ∷ expect (grants_of one_waits) (1 ∷ 1 ∷ 1 ∷ 1 ∷ 1 ∷ [])
-    -- "16 for a last number of n or more that is not 255, then 17 when no station is live"
+    -- refusal 16 for a last number of n or more that is not 255, then 17 when no station is live
     ∷ expect (map (grant_refusal 4 (fresh_table 4)) (3 ∷ 4 ∷ 254 ∷ 255 ∷ 256 ∷ [])) (0 ∷ 16 ∷ 16 ∷ 0 ∷ 16 ∷ [])
     ∷ expect (map (grant_refusal 4 all_dead) (3 ∷ 4 ∷ 255 ∷ [])) (17 ∷ 16 ∷ 17 ∷ [])
     ∷ expect (grant_station 4 all_dead 3 ∷ grant_station 4 (fresh_table 4) 4 ∷ []) (0 ∷ 0 ∷ [])
@@ -76,7 +75,7 @@ drives =
     ∷ expect two_fresh.state.table (fresh_table 2)
     -- one after the other: the second drive begins behind the last granted station
     ∷ expect (drive_figures (drive 2 two_fresh.state two_fresh.last)) (0 ∷ 2 ∷ 4 ∷ 1 ∷ 4 ∷ [])
-    -- "stops with 7 before a grant whose turn would meet it, keeping the turns made"
+    -- a drive stops with 7 before a grant while a counter is full, and keeps the turns made
     ∷ expect (drive_figures (drive 2 (state_of (fresh_table 2) 0 4294967295) 1)) (7 ∷ 0 ∷ 4294967295 ∷ 1 ∷ 0 ∷ [])
     ∷ expect (drive_figures (drive 2 (state_of (fresh_table 2) 0 4294967294) 0)) (7 ∷ 0 ∷ 4294967295 ∷ 1 ∷ 1 ∷ [])
     -- the turn that brings the rounds to the top closes the round: 0

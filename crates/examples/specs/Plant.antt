@@ -1,5 +1,4 @@
--- The plant examples of document 01 marked [P], and examples that follow the rules of requests C-11, C-13, C-16 and C-18, in two
--- tables: what the definitions give, and what is said. One statement covers each.
+-- Examples of the plant's rules, in two tables: what the definitions compute, and what is expected. One statement covers each.
 -- Assumes nothing.
 use Rattle.std.specs.Prelude.{◌≡◌, ℕ, ◌+◌, List, [], ◌∷◌, map, drop, replicate, refl}
 use Rattle.lists.specs.Search.{least, every, list_of}
@@ -38,7 +37,7 @@ nobody = replicate 8 0
 abbrev pub only_four : List ℕ
 only_four = 0 ∷ 0 ∷ 0 ∷ 0 ∷ 1 ∷ 0 ∷ 0 ∷ 0 ∷ []
 
--- demand 3's count for n stations and a table
+-- the count of tests for n stations and a table
 abbrev pub count_of : ℕ → List ℕ → List ℕ
 count_of n t = tests_per_round n t ∷ []
 
@@ -65,11 +64,11 @@ one_entry n t kind i = run n (state_of t 0 0) (kind ∷ i ∷ []) (replicate 4 0
 abbrev pub also_suspects : ℕ → List ℕ → ℕ → ℕ → List ℕ
 also_suspects n t i k = set_cell n t i (head + k) 1
 
--- C-13, N = 4: station 0 suspects 1, and 1 suspects 2
+-- n = 4: station 0 suspects 1, and 1 suspects 2
 unfoldable pub zero_suspects_one : List ℕ
 zero_suspects_one = also_suspects 4 (also_suspects 4 (fresh_table 4) 0 1) 1 2
 
--- C-13, n = 3: station 0 suspects 1 and 2, and 2 has finished its pass
+-- n = 3: station 0 suspects 1 and 2, and 2 has finished its pass
 unfoldable pub station_two_finished : List ℕ
 station_two_finished = finish_pass 3 (also_suspects 3 (also_suspects 3 (fresh_table 3) 0 1) 0 2) 2
 
@@ -82,41 +81,41 @@ alone_of_two = one_entry 2 (also_suspects 2 (fresh_table 2) 0 1) 1 0
 unfoldable pub alone_of_three : RunResult
 alone_of_three = one_entry 3 station_two_finished 1 0
 
--- C-18, n = 3: line 2 after the next closing, where station 2 was told so many rounds ago, by whom was never recorded: 1 has finished, and 0
+-- n = 3: line 2 after the next closing, where station 2 was told so many rounds ago, by whom was never recorded: 1 has finished, and 0
 -- finishes with the entry
 unfoldable pub after_closing : ℕ → List ℕ
 after_closing ago =
     let gone = set_cell 3 (set_cell 3 (set_cell 3 (fresh_table 3) 2 status_column 2) 2 told_by_column 254) 2 rounds_ago_column ago in
     drop (line_start 3 2) (one_entry 3 (set_cell 3 (finish_pass 3 gone 1) 0 next_column 4) 1 0).state.table
 
--- C-18, n = 3: the number of a table whose line 1 has this status, byte 5 and byte 4
+-- n = 3: the refusal of a table whose line 1 has this status, byte 5 and byte 4
 unfoldable pub refusal_of : ℕ → ℕ → ℕ → ℕ
 refusal_of status ago told =
     table_refusal 3 (set_cell 3 (set_cell 3 (set_cell 3 (fresh_table 3) 1 status_column status) 1 told_by_column told) 1 rounds_ago_column ago)
 
 unfoldable pub base_rules : List Example
 base_rules =
-    -- "(0, level 3) is 4, 5, 6, 7. (3, level 2) is 1, 0. (5, level 1) is 4. (6, level 2) is 4, 5. (7, level 3) is 3, 2, 1, 0."
+    -- groups of stations 0, 3, 5, 6 and 7 of eight
     expect (group 8 0 3) (4 ∷ 5 ∷ 6 ∷ 7 ∷ [])
     ∷ expect (group 8 3 2) (1 ∷ 0 ∷ [])
     ∷ expect (group 8 5 1) (4 ∷ [])
     ∷ expect (group 8 6 2) (4 ∷ 5 ∷ [])
     ∷ expect (group 8 7 3) (3 ∷ 2 ∷ 1 ∷ 0 ∷ [])
-    -- "N = 8, nothing suspected: station 5 has 1, 2, 4 due."
+    -- n = 8, nobody suspected: station 5 has 1, 2, 4 due
     ∷ expect (due_distances nobody 5 8) (1 ∷ 2 ∷ 4 ∷ [])
-    -- "N = 8, station 5 suspects 4: 1, 2, 3, 4, 5 due; 3 and 5 are stations 6 and 0."
+    -- n = 8, station 5 suspects 4: it has 1, 2, 3, 4, 5 due; at 3 and 5 stand stations 6 and 0
     ∷ expect (due_distances only_four 5 8) (1 ∷ 2 ∷ 3 ∷ 4 ∷ 5 ∷ [])
     ∷ expect (station_at 5 3 ∷ station_at 5 5 ∷ []) (6 ∷ 0 ∷ [])
-    -- C-16, the assignment of station 5: 3 and 5 are behind station 4, 6 behind 7, 7 behind 6; with 4 suspected, 6 and 7 as before
+    -- the assignment of station 5: 3 and 5 are behind station 4, 6 behind 7, 7 behind 6; with 4 suspected, 6 and 7 as before
     ∷ expect (assignment_entries nobody 5 (other_distances 8 5))
     (1 ∷ 255 ∷ 2 ∷ 255 ∷ 3 ∷ 4 ∷ 4 ∷ 255 ∷ 5 ∷ 4 ∷ 6 ∷ 7 ∷ 7 ∷ 6 ∷ [])
     ∷ expect (assignment_entries only_four 5 (other_distances 8 5))
     (1 ∷ 255 ∷ 2 ∷ 255 ∷ 3 ∷ 255 ∷ 4 ∷ 255 ∷ 5 ∷ 255 ∷ 6 ∷ 7 ∷ 7 ∷ 6 ∷ [])
-    -- "N = 8, demand 3's count: none dead 24; 4 dead 23; 4 and 5 dead 20."
+    -- n = 8, the count of tests: none dead 24; 4 dead 23; 4 and 5 dead 20
     ∷ expect (count_of 8 (fresh_table 8)) (24 ∷ [])
     ∷ expect (count_of 8 four_dead) (23 ∷ [])
     ∷ expect (count_of 8 four_and_five_dead) (20 ∷ [])
-    -- "0 suspects 1, exchanges with 2, then with 3; 1 tests 0, is told and leaves. 1's row stays empty."
+    -- 0 suspects 1, exchanges with 2, then with 3; 1 tests 0, is told and leaves. The row of 1 stays empty
     ∷ expect (four_boards.number ∷ four_boards.taken ∷ []) (0 ∷ 4 ∷ [])
     ∷ expect four_boards.sheet (0 ∷ 1 ∷ 3 ∷ 0 ∷ 0 ∷ 2 ∷ 1 ∷ 0 ∷ 0 ∷ 3 ∷ 1 ∷ 0 ∷ 1 ∷ 0 ∷ 2 ∷ 2 ∷ [])
     ∷ expect (row 4 four_boards.state.table 0) (0 ∷ 1 ∷ 0 ∷ 0 ∷ [])
@@ -125,17 +124,17 @@ base_rules =
     ∷ expect (row 4 four_boards.state.table 3) (0 ∷ 1 ∷ 0 ∷ 0 ∷ [])
     ∷ []
 
--- of the requests
+-- of the rules for sizes that are no power of two, for assignments, for the tested station that is told, and for bytes 4 and 5
 unfoldable pub later_rules : List Example
 later_rules =
-    -- C-11, n = 11: groups with the absent numbers left out
+    -- n = 11: groups with the absent numbers left out
     expect (group 11 10 1) []
     ∷ expect (group 11 10 2) (8 ∷ 9 ∷ [])
     ∷ expect (group 11 2 4) (10 ∷ 8 ∷ 9 ∷ [])
     -- nothing suspected, station 10 has 2, 3, 8, 9, 12, 13 due, which are stations 8, 9, 2, 3, 6, 7
     ∷ expect (due_distances (replicate 11 0) 10 11) (2 ∷ 3 ∷ 8 ∷ 9 ∷ 12 ∷ 13 ∷ [])
     ∷ expect (map (station_at 10) (2 ∷ 3 ∷ 8 ∷ 9 ∷ 12 ∷ 13 ∷ [])) (8 ∷ 9 ∷ 2 ∷ 3 ∷ 6 ∷ 7 ∷ [])
-    -- C-16: the others are stations 0, 1, 4 and 5, behind 8 and 9; the entries of station 4 of 5 are at distances 4 to 7
+    -- the others are stations 0, 1, 4 and 5, behind 8 and 9; the entries of station 4 of 5 are at distances 4 to 7
     ∷ expect (assignment_entries (replicate 11 0) 10 (other_distances 11 10))
     (2 ∷ 255 ∷ 3 ∷ 255 ∷ 8 ∷ 255 ∷ 9 ∷ 255 ∷ 10 ∷ 8 ∷ 11 ∷ 9 ∷ 12 ∷ 255 ∷ 13 ∷ 255 ∷ 14 ∷ 8 ∷ 15 ∷ 9 ∷ [])
     ∷ expect (assignment_entries (replicate 5 0) 4 (other_distances 5 4)) (4 ∷ 255 ∷ 5 ∷ 255 ∷ 6 ∷ 255 ∷ 7 ∷ 255 ∷ [])
@@ -145,7 +144,7 @@ later_rules =
     ∷ expect (count_of 11 (fresh_table 11)) (40 ∷ [])
     ∷ expect (count_of 11 four_dead_of_eleven) (39 ∷ [])
     ∷ expect (count_of 19 (fresh_table 19)) (88 ∷ [])
-    -- C-13: 0 suspects 1 and tests it; 1 leaves, and no row changes
+    -- 0 suspects 1 and tests it; 1 leaves, and no row changes
     ∷ expect tested_told.sheet (0 ∷ 1 ∷ 5 ∷ 0 ∷ [])
     ∷ expect tested_told.state.table
     (0 ∷ 2 ∷ 0 ∷ 1 ∷ 255 ∷ 0 ∷ 0 ∷ 1 ∷ 0 ∷ 0
@@ -159,16 +158,16 @@ later_rules =
     ∷ expect alone_of_two.sheet (0 ∷ 1 ∷ 5 ∷ 3 ∷ [])
     ∷ expect alone_of_two.state.table (3 ∷ 2 ∷ 0 ∷ 1 ∷ 255 ∷ 0 ∷ 0 ∷ 1 ∷ 2 ∷ 1 ∷ 0 ∷ 0 ∷ 0 ∷ 0 ∷ 0 ∷ 0 ∷ [])
     ∷ expect (alone_of_two.state.rounds ∷ alone_of_two.state.tests ∷ []) (0 ∷ 1 ∷ [])
-    -- of three, 2 is left live and has finished: the round closes, and by C-18 it counts for both that ceased at this very entry
+    -- of three, 2 is left live and has finished: the round closes, and it counts for both that ceased at this very entry
     ∷ expect alone_of_three.sheet (0 ∷ 1 ∷ 5 ∷ 3 ∷ [])
     ∷ expect alone_of_three.state.table
     (3 ∷ 1 ∷ 0 ∷ 0 ∷ 255 ∷ 1 ∷ 0 ∷ 1 ∷ 1
     ∷ 2 ∷ 1 ∷ 0 ∷ 0 ∷ 0 ∷ 1 ∷ 0 ∷ 0 ∷ 0
     ∷ 0 ∷ 1 ∷ 0 ∷ 0 ∷ 255 ∷ 0 ∷ 0 ∷ 0 ∷ 0 ∷ [])
     ∷ expect (alone_of_three.state.rounds ∷ alone_of_three.state.tests ∷ []) (1 ∷ 1 ∷ [])
-    -- C-18: station 1 of the four boards above was told by 0
+    -- station 1 of the four boards above was told by 0
     ∷ expect (map (told_by 4 four_boards.state.table) (0 ∷ 1 ∷ 2 ∷ 3 ∷ [])) (255 ∷ 0 ∷ 255 ∷ 255 ∷ [])
-    -- 1 has finished: the round closes when 0 crashes, "on the very entry at which it ceased"
+    -- 1 has finished: the round closes when 0 crashes, and counts for 0, which ceased at this very entry
     ∷ expect (one_entry 2 (finish_pass 2 (fresh_table 2) 1) 3 0).state.table
     (1 ∷ 1 ∷ 0 ∷ 0 ∷ 255 ∷ 1 ∷ 0 ∷ 0
     ∷ 0 ∷ 1 ∷ 0 ∷ 0 ∷ 255 ∷ 0 ∷ 0 ∷ 0 ∷ [])

@@ -1,4 +1,4 @@
--- Examples of request C-12 in one table: what the definitions give, and what is said. One statement covers it.
+-- Examples of figures in one table: what the definitions compute, and what is expected. One statement covers it.
 -- Assumes nothing.
 use Rattle.std.specs.Prelude.{◌≡◌, refl, List, [], ◌∷◌, map, ℕ, Result, Ok, Err}
 use Rattle.lists.specs.declared.refusal.Refusal.{Refusal}
@@ -30,13 +30,13 @@ examples =
     (line (figures eight), 0 ∷ 8 ∷ 2 ∷ 9 ∷ 5 ∷ 1 ∷ 4 ∷ 1 ∷ [])
     ∷ (line (figures (1 ∷ 2 ∷ [])), 0 ∷ 2 ∷ 1 ∷ 2 ∷ 3 ∷ 2 ∷ 1 ∷ 4 ∷ [])
     ∷ (line (figures (1 ∷ 1 ∷ 2 ∷ [])), 0 ∷ 3 ∷ 1 ∷ 2 ∷ 4 ∷ 3 ∷ 2 ∷ 9 ∷ [])
-    -- "zero is 0/1"
+    -- nothing is 0/1
     ∷ (line (figures (0 ∷ [])), 0 ∷ 1 ∷ 0 ∷ 0 ∷ 0 ∷ 1 ∷ 0 ∷ 1 ∷ [])
-    -- "14 for no result at all"
+    -- refusal 14 for no result
     ∷ (line (figures []), 14 ∷ 0 ∷ 0 ∷ 0 ∷ 0 ∷ 0 ∷ 0 ∷ 0 ∷ [])
     -- the join of the totals of 2, 4, 4 and of 4, 5, 5, 7, 9
     ∷ (line (figures_of_join (join (totals_of (2 ∷ 4 ∷ 4 ∷ [])) (totals_of (4 ∷ 5 ∷ 5 ∷ 7 ∷ 9 ∷ [])))), line (figures eight))
-    -- "then 15 for more than 4,096 in all"
+    -- refusal 15 for more than 4,096
     ∷ (line (figures_of_totals (record { count = 4097; sum = 0; squares = 0; least = 0; greatest = 0 })), 15 ∷ 0 ∷ 0 ∷ 0 ∷ 0 ∷ 0 ∷ 0 ∷ 0 ∷ [])
     ∷ []
 
