@@ -22,12 +22,12 @@ const ELEVEN: usize = 11 * (11 + cells::HEAD as usize);
 
 // What one print cannot write is left out, and the next is tried all the same.
 pub fn show(rt: &impl Print) {
-    table_1(rt);
+    published_groups(rt);
     sizes(rt);
     sixty_four(rt);
     eight_boards(rt);
     top_tally(rt);
-    table_3(rt);
+    published_messages(rt);
     eight_assigned(rt);
     eleven_boards(rt);
     odd_sizes(rt);
@@ -35,7 +35,7 @@ pub fn show(rt: &impl Print) {
 }
 
 // The published table of groups of eight stations. A line for each level, a column for each station.
-fn table_1(rt: &impl Print) {
+fn published_groups(rt: &impl Print) {
     group_line(rt, Level(1), 1);
     group_line(rt, Level(2), 2);
     group_line(rt, Level(3), 4);
@@ -135,7 +135,7 @@ fn top_tally(rt: &impl Print) {
 }
 
 // The published counts of messages: those of d·d rounds with nobody dead, two a test.
-fn table_3(rt: &impl Print) {
+fn published_messages(rt: &impl Print) {
     messages_line(rt, 4, 4);
     messages_line(rt, 8, 9);
     messages_line(rt, 16, 16);

@@ -95,7 +95,7 @@ fn axes(points: &[Point]) -> String {
         );
     }
     let (middle, bottom) = ((LEFT + WIDTH - RIGHT) / 2.0, HEIGHT - 16.0);
-    text += &label(middle, bottom, "middle", "boards in the plant (N)");
+    text += &label(middle, bottom, "middle", "boards in the plant (n)");
     let half = (TOP + HEIGHT - BOTTOM) / 2.0;
     let _ = writeln!(
         text,
@@ -178,11 +178,11 @@ fn legend() -> String {
     [
         white(left - 10.0, TOP + 6.0, 380.0, 132.0),
         sample(0.0, SQUARE, ""),
-        text(0.0, "d·d: stated and proved"),
+        text(0.0, "d·d: square bound"),
         sample(1.0, TRIANGLE, "7 4"),
-        text(1.0, "1 + d(d − 1)/2: request C-22"),
+        text(1.0, "1 + d(d − 1)/2: triangular bound"),
         sample(2.0, WORST, ""),
-        text(2.0, "f(d), the exact wait: what the proof shows"),
+        text(2.0, "f(d): worst-case latency, proved and reached"),
         diamond(left + 15.0, row(3.0)),
         text(3.0, "slowest plant"),
         bar(left + 15.0, row(4.0) + 8.0, row(4.0) - 8.0),

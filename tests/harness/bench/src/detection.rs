@@ -38,7 +38,7 @@ pub struct Plant {
 
 /// The closed rounds until every live board suspects exactly the dead ones,
 /// from a fresh table on which the dead boards crash first. Stops the program
-/// if they are more than the exact wait.
+/// if they are more than the worst-case latency.
 pub fn rounds_until_known(n: usize, dead: &[usize], order: Order, random: &mut Random) -> u32 {
     let mut plant = Plant::with_dead(n, dead);
     while !plant.dead_are_known() {

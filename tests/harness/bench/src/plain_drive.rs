@@ -1,7 +1,7 @@
-//! The drive of request C-15 in plain Rust over the lent bytes. The turns are
-//! those of `plain`. As the request reads, each grant looks at the lines from
-//! the one after that of the last granted station on, and after each turn all
-//! lines are looked through for a live one.
+//! The drive in plain Rust over the lent bytes. The turns are those of `plain`.
+//! As the rules read, each grant looks at the lines from the one after that of
+//! the last granted station on, and after each turn all lines are looked through
+//! for a live one.
 
 use crate::plain::{is_full, table_refusal, take_entry, FINISHED, HEAD, LIVE, STATUS, TURN};
 use shared::grants::NONE_YET;

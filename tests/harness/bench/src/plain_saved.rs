@@ -1,5 +1,5 @@
-//! Saving and loading a plant (request C-17) in plain Rust over the lent bytes.
-//! The line rules are those of `plain`.
+//! Saving and loading a plant in plain Rust over the lent bytes. The line rules
+//! are those of `plain`.
 //!
 //! A load goes over the file once and keeps where each line stands. It judges
 //! the lines there, and copies them when all is found right.

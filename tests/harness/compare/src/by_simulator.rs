@@ -1,8 +1,8 @@
 //! What a call must give: by the simulator, and by include/vcube.h where the
 //! simulator does not know it.
 //!
-//! The header adds to document 01: station and level numbers of any width, and
-//! where the figures go. A row is its start in the table and its length.
+//! The header adds: station and level numbers of any width, and where the
+//! figures go. A row is its start in the table and its length.
 
 use simulator::{Figures, Totals};
 
