@@ -31,7 +31,7 @@ square (suc (suc n)) = omega arith
 from-four : (n d : ℕ) → d ≡ 4 + n → (ltb d 4 ≡ false) × (d - 3 ≡ suc n)
 from-four n d e = (le-ltb d 4 (omega arith), omega arith)
 
--- the wait beside s, the readiness, the next wait and s·s
+-- the latency beside s, the readiness, the next latency and s·s
 bounds : (s : ℕ)
     → (s ≤ worst_latency s) × (worst_latency s ≤ suc (ready s)) × (ready s ≤ worst_latency s) × (2 * s ≤ 4 + ready s)
     × (worst_latency s ≤ worst_latency (suc s)) × (2 * worst_latency s + s ≤ 2 + s * s)
@@ -60,7 +60,7 @@ ready-enough (suc (suc (suc (suc (suc w))))) u =
     let b = from-four (2 + w + u) (suc p + u) (omega arith) in
     rw (a.0, a.1, b.0, b.1) (omega (arith, square u))
 
--- after these there is time for a spread at p, with two rounds more, up to the wait at p + 2 + u
+-- after these there is time for a spread at p, with two rounds more, up to the latency at p + 2 + u
 pub latency-enough : (p u : ℕ) → suc (ready p + u * suc (spread (suc p)) + suc (spread p)) ≤ worst_latency (suc (suc p + u))
 unfolding spread ready worst_latency
 latency-enough zero u = omega (arith, bounds (suc (1 + u)))
@@ -69,7 +69,7 @@ latency-enough (suc (suc zero)) u = omega (arith, bounds (suc (3 + u)))
 latency-enough (suc (suc (suc v))) u =
     let p : ℕ = suc (suc (suc v)) in omega (arith, bounds (suc (suc p + u)), rw add-suc at (ready-enough p (suc u)))
 
--- the wait grows with the dimension
+-- the latency grows with the dimension
 pub latency-grows : (c d : ℕ) → c ≤ d → worst_latency c ≤ worst_latency d
 latency-grows c d l = le_ind (λ (k : ℕ). worst_latency c ≤ worst_latency k) (omega arith) (λ k _ before. omega (arith, bounds k)) d l
 
@@ -86,7 +86,7 @@ latency-le-triangle (suc d) = let e : suc d - 1 ≡ d = omega arith in rw e (ome
 pub triangle-le-square : (d : ℕ) → 1 + suc d * (suc d - 1) / 2 ≤ suc d * suc d
 triangle-le-square d = let e : suc d - 1 ≡ d = omega arith in rw e (omega arith)
 
--- and so is the wait
+-- and so is the latency
 pub latency-le-square : (d : ℕ) → worst_latency d ≤ d * d
 unfolding worst_latency
 latency-le-square zero = omega arith

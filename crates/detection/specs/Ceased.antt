@@ -30,7 +30,7 @@ pub record WhoTold (n : ℕ) (s : State) (e : Entry) : Type 0 where
   pub others : (k : ℕ) → k < n → (outcome_of n s.table e ≡ outcome_told → k ≢ e.station)
       → (outcome_of n s.table e ≡ outcome_tested_told → k ≢ tested_of n s.table e) → told_by n (after n s e).table k ≡ told_by n s.table k
 
--- at every entry that a run reaches, refusals 1 to 4 let its table through (`accepted-kept` of plant's proofs/RulesKept.antt)
+-- Rule Teller named: at every entry that a run reaches, refusals 1 to 4 let its table through (`accepted-kept` of plant's proofs/RulesKept.antt)
 abbrev pub TellerIsNamed : Type 0
 TellerIsNamed = (n : ℕ) (s : State) (e : Entry) → table_refusal n s.table ≡ 0 → entry_refusal n s e ≡ 0 → WhoTold n s e
 
@@ -71,11 +71,11 @@ pub record ExitRecord (n : ℕ) (s : State) (calls : List Call) (end : State) : 
   -- these are the rounds of the tally
   pub tallied : end.rounds ≡ s.rounds + rounds_closed (taken_all s calls)
 
--- of every list of runs, whatever table of this length they are given
+-- Rule Exits recorded: of every list of runs, whatever table of this length they are given
 abbrev pub ExitsRecorded : Type 0
 ExitsRecorded = (n : ℕ) (s : State) (calls : List Call) → length s.table ≡ table_length n → ExitRecord n s calls (after_runs s calls)
 
--- of every list that mixes runs and drives: the same, of the runs that it is
+-- Rule Exits recorded, of every list that mixes runs and drives: the same, of the runs that it is
 abbrev pub MixedExitsRecorded : Type 0
 MixedExitsRecorded =
     (n : ℕ) (s : State) (xs : List RunOrDrive) → length s.table ≡ table_length n → ExitRecord n s (runs_of_mixed s xs) (after_mixed s xs)

@@ -45,7 +45,7 @@ round_at s calls k = slice_index_or (all_rounds (rounds_of s calls)) k []
 abbrev pub TurnsOk : ℕ → ℕ → List Taken → Type 0
 TurnsOk n i round = (turns_in i round ≤ n) × (n ≤ turns_in i round → nth_turn_finishes i n round ≡ true)
 
--- what the claim supposes: a size and a table of its length, at the start of a round, two live boards at least, no live one suspecting a
+-- Rule Detection conditions: a size and a table of its length, at the start of a round, two live boards at least, no live one suspecting a
 -- live one; any tally, any list of runs, without crashes and late replies of live boards
 pub record DetectionPremises (n : ℕ) (s : State) (calls : List Call) : Type 0 where
   pub size : is_size n ≡ true
@@ -60,11 +60,11 @@ pub record DetectionPremises (n : ℕ) (s : State) (calls : List Call) : Type 0 
 abbrev pub FreshIsAccepted : Type 0
 FreshIsAccepted = (n : ℕ) → is_size n ≡ true → table_refusal n (fresh_table n) ≡ 0
 
--- a fresh table, with any tally, meets at every size what is supposed of size and table. Drives need no more (`DrivenDetection`)
+-- Rule Conditions are met: a fresh table, with any tally, meets at every size what is supposed of size and table. Drives need no more (`DrivenDetection`)
 abbrev pub FreshMeetsPremises : Type 0
 FreshMeetsPremises = (n rounds tests : ℕ) → is_size n ≡ true → DetectionPremises n (state_of (fresh_table n) rounds tests) []
 
--- what the claim says of table and tally after the list, where so many rounds are enough
+-- Rule Detection: what the claim says of table and tally after the list, where so many rounds are enough
 pub record DetectionConclusion (enough n : ℕ) (s : State) (calls : List Call) (end : State) : Type 0 where
   -- the live boards are the same as at first
   pub same_live : (i : ℕ) → i < n → live n end.table i ≡ live n s.table i

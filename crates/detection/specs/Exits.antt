@@ -44,7 +44,7 @@ pub record ReplyEffect (n : ℕ) (t t' : List ℕ) (i j o : ℕ) : Type 0 where
   -- so not both are live with one suspecting the other
   pub parted : live n t' i ≡ true → live n t' j ≡ true → NeitherSuspects n t' i j
 
--- the claim
+-- Rule Reply ends: the claim
 abbrev pub ReplyEnds : Type 0
 ReplyEnds =
     (n : ℕ) (s : State) (e : Entry) → RepliedTest n s e

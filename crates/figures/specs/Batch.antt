@@ -21,7 +21,7 @@ least_of_results xs = unwrap_or (reduce min xs) 0
 abbrev pub greatest_of_results : List ℕ → ℕ
 greatest_of_results xs = unwrap_or (reduce max xs) 0
 
--- the mean: the sum by the count
+-- Rule Mean: the sum by the count
 unfoldable pub mean : List ℕ → Fraction
 mean xs = lowest (sum_of_results xs) (length xs)
 
@@ -35,7 +35,7 @@ unfoldable pub variance : List ℕ → Fraction
 variance xs =
     lowest (sum_by (λ x. squared_difference (length xs * x) (sum_of_results xs)) xs) (length xs * length xs * length xs)
 
--- how many results are taken at most
+-- Rule Results: how many are taken at most
 abbrev pub most_results : ℕ
 most_results = 4096
 
@@ -47,7 +47,7 @@ batch_check none too_many = ensure (not none) NoResult and ensure (not too_many)
 abbrev pub list_check : List ℕ → Check
 list_check xs = batch_check (length xs == 0) (nat_lt most_results (length xs))
 
--- the figures of a list, for all lists. Those of two lists are the figures of the one list that holds both.
+-- Rule List figures: the figures of a list, for all lists. Those of two lists are the figures of the one list that holds both.
 unfoldable pub figures : List ℕ → Result Figures Refusal
 figures xs =
     list_check xs

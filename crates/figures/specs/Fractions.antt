@@ -13,7 +13,7 @@ euclid (suc steps) a b = if b == 0 then a else euclid steps b (a % b)
 unfoldable pub gcd : ℕ → ℕ → ℕ
 gcd a b = euclid b a b
 
--- the fraction upper / lower in lowest terms, for any lower part but 0
+-- Rule Lowest terms: the fraction upper / lower in lowest terms, for any lower part but 0
 unfoldable pub lowest : ℕ → ℕ → Fraction
 lowest upper lower = record { upper = upper / gcd upper lower; lower = lower / gcd upper lower }
 

@@ -55,7 +55,7 @@ grant_check n t last = table_check n t and last_check n last and live_check n t
 abbrev pub grant_refusal : ℕ → List ℕ → ℕ → ℕ
 grant_refusal n t last = number_of_result (grant_check n t last)
 
--- the station that the grant answers
+-- Rule Grant call: the station that the grant answers
 unfoldable pub grant_answer : ℕ → List ℕ → ℕ → Result ℕ Refusal
 grant_answer n t last = grant_check n t last and Ok (granted n t last)
 

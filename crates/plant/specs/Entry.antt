@@ -53,8 +53,8 @@ is_crash e = e.kind == kind_crash
 abbrev pub is_test : ℕ → List ℕ → Entry → Bool
 is_test n t e = not (is_crash e) && makes_test n t e.station
 
--- refusals 7 to 11: a counter is full; the kind is not 1, 2 or 3; the station's number is n or more; it is not live; the kind is 1 or 2, and it
--- has finished its pass
+-- Rule Taken, refusals 7 to 11: a counter is full; the kind is not 1, 2 or 3; the station's number is n or more; it is not live; the kind is 1 or 2,
+-- and it has finished its pass
 unfoldable pub entry_check : ℕ → State → Entry → Check
 entry_check n s e =
     ensure (not (tally_full s.rounds s.tests)) TallyFull
@@ -70,8 +70,7 @@ entry_refusal n s e = number_of_result (entry_check n s e)
 unfoldable pub acted : ℕ → List ℕ → Entry → List ℕ
 acted n t e = if is_crash e then crash n t e.station else turn n t e.kind e.station
 
--- Rule Taken: table and tally after an entry that is not refused, with the closing of a round. Both counters grow here (rules Count the test and
--- Count the round)
+-- Rules Count the test, Count the round and Taken: table and tally after an entry that is not refused, with the closing of a round
 unfoldable pub after : ℕ → State → Entry → State
 after n s e = record {
   table = after_round n (acted n s.table e);

@@ -9,7 +9,7 @@ use Rattle.table.specs.Rules.{table_check, table_refusal}
 use Rattle.plant.specs.declared.Ran.{Ran}
 use Rattle.plant.specs.Entry.{Entry, State, state_with, entry_of, entry_refusal, after, sheet_line}
 
--- the entries of a schedule, two bytes each
+-- Rule Schedule: entries one behind the other, two bytes each
 unfoldable pub entries : List ℕ → List Entry
 entries [] = []
 entries (k ∷ []) = []
@@ -66,7 +66,7 @@ run n s schedule sheet =
 abbrev pub EmptyRun : Type 0
 EmptyRun = (n : ℕ) (s : State) → table_refusal n s.table ≡ 0 → run n s [] [] ≡ record { number = 0; taken = 0; state = s; sheet = [] }
 
--- a table that refusals 1 to 4 let through is let through after every run too, whatever the run answers
+-- Rule Rules kept: a table that refusals 1 to 4 let through is let through after every run too, whatever the run answers
 abbrev pub RunKeepsRules : Type 0
 RunKeepsRules =
     (n : ℕ) (s : State) (schedule sheet : List ℕ)

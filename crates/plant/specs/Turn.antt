@@ -8,7 +8,7 @@ use Rattle.table.specs.Table.{set_cell, status_column, next_column, finished_col
 use Rattle.station.specs.Tests.{due}
 use Rattle.station.specs.Rows.{union, mark}
 
--- the kinds of an entry: 1 turn, 2 turn whose reply comes late, 3 crash
+-- Rule Kinds: 1 turn, 2 turn whose reply comes late, 3 crash
 abbrev pub kind_turn : ℕ
 kind_turn = 1
 
@@ -18,7 +18,7 @@ kind_late = 2
 abbrev pub kind_crash : ℕ
 kind_crash = 3
 
--- the outcomes on the run sheet: 0 pass finished, 1 exchanged, 2 tester told, 3 no reply, 4 crash, 5 tested told
+-- Rule Outcomes: on the run sheet 0 is pass finished, 1 exchanged, 2 tester told, 3 no reply, 4 crash, 5 tested told
 abbrev pub outcome_finished : ℕ
 outcome_finished = 0
 
@@ -61,7 +61,8 @@ makes_test n t i = nat_lt (next_test n t i) (distances n)
 unfoldable pub finish_pass : ℕ → List ℕ → ℕ → List ℕ
 finish_pass n t i = set_cell n (set_cell n t i next_column (distances n)) i finished_column 1
 
--- Rule Count the test: next distance becomes m + 1, and i's tests made go up by one. The tally's tests grow in `after`
+-- Rules Count the test and Next distance of the cube: next distance becomes m + 1, and i's tests made go up by one. The tally's tests grow in
+-- `after`
 unfoldable pub count_test : ℕ → List ℕ → ℕ → ℕ → List ℕ
 count_test n t i m = set_cell n (set_cell n t i next_column (m + 1)) i tests_column (tests_made n t i + 1)
 
@@ -100,7 +101,7 @@ after_outcome n t i j outcome =
 abbrev pub after_test : ℕ → List ℕ → ℕ → ℕ → ℕ → List ℕ
 after_test n t kind i j = after_outcome n t i j (test_outcome n t kind i j)
 
--- whether i is k or suspects it. Rule Alone asks this of every station. Byte 4 stays 255, which a live line has by the line rules
+-- Rule Alone: if i is still live and suspects all others, its status becomes 3. Byte 4 stays 255, which a live line has by the line rules
 unfoldable pub self_or_suspected : ℕ → List ℕ → ℕ → ℕ → Bool
 self_or_suspected n t i k = k == i || suspects n t i k == 1
 

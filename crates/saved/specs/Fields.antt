@@ -1,4 +1,4 @@
--- Rule Field: a tag of one byte, a length in two bytes, high byte first, and so many bytes of contents.
+-- Tagged fields: a tag of one byte, a length in two bytes, high byte first, and so many bytes of contents.
 -- Assumes nothing.
 use Rattle.std.specs.Prelude.{ℕ, zero, suc, ◌+◌, Bool, false, List, [], ◌∷◌, ◌++◌, length, take, drop, if◌then◌else◌, ◌==◌, nat_lt, slice_index}
 use Rattle.std.specs.Prelude.{Option, Some, None, is_none, unwrap_or, option_map}
@@ -37,7 +37,7 @@ fields_up_to (suc most) file =
     else (if nat_lt (length file) (extent file) then None
     else infront (field (slice_index file 0) (take (length_in file) (drop 3 file))) (fields_up_to most (drop (extent file) file)))
 
--- the fields of a file: no more than it has bytes
+-- Rule Field: the fields of a file, no more than it has bytes
 unfoldable pub fields : List ℕ → Option (List Field)
 fields file = fields_up_to (length file) file
 

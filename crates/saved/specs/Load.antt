@@ -34,7 +34,7 @@ unfoldable pub rest_check : ℕ → List (List ℕ) → ℕ → Check
 rest_check n cs len =
     ensure (lines_right n cs) LineField and ensure (len == table_length n) TableLength and table_check n (table_in n cs)
 
--- all of the reader's
+-- Rule Judged as a whole: all refusals of the reader
 unfoldable pub load_check : List ℕ → ℕ → Check
 load_check file len = size_check file and rest_check (file_size file) (file_lines file) len
 
@@ -45,7 +45,7 @@ size_refusal file = number_of_result (size_check file)
 abbrev pub load_refusal : List ℕ → ℕ → ℕ
 load_refusal file len = number_of_result (load_check file len)
 
--- the size of a saved plant
+-- Rule Saved size: the size of a saved plant
 unfoldable pub saved_size : List ℕ → Result ℕ Refusal
 saved_size file = size_check file and Ok (file_size file)
 
@@ -67,7 +67,7 @@ size_figure answer = result_unwrap_or answer 0
 abbrev pub loaded_figures : Result Loaded Refusal → Loaded
 loaded_figures answer = result_unwrap_or answer (record { size = 0; tally = record { rounds = 0; tests = 0 } })
 
--- the table after the call, given t; and after the part of it that follows the size's refusals
+-- Rule Load: the table after the call, given t; and after the part of it that follows the size's refusals
 unfoldable pub load_after : List ℕ → List ℕ → List ℕ
 load_after file t = unless_refused (load_check file (length t)) t (file_table file)
 

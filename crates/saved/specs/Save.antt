@@ -27,7 +27,7 @@ line_field n t i = field line_tag (i ∷ line_of n t i)
 unfoldable pub saved_lines : ℕ → List ℕ → ℕ → List ℕ
 saved_lines n t k = concat_of (λ i. field_bytes (line_field n t i)) k
 
--- the saved plant
+-- Rule Writer's form: the saved plant
 unfoldable pub saved : ℕ → List ℕ → Tally → List ℕ
 saved n t tally = field_bytes (size_field n) ++ (field_bytes (tally_field tally) ++ saved_lines n t n)
 
@@ -37,6 +37,6 @@ save_check n t tally len = table_check n t and length_check (length (saved n t t
 abbrev pub save_refusal : ℕ → List ℕ → Tally → ℕ → ℕ
 save_refusal n t tally len = number_of_result (save_check n t tally len)
 
--- the buffer after the call, given b
+-- Rule Save: the buffer after the call, given b
 unfoldable pub save_after : ℕ → List ℕ → Tally → List ℕ → List ℕ
 save_after n t tally b = unless_refused (save_check n t tally (length b)) b (saved n t tally)

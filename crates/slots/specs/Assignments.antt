@@ -15,7 +15,7 @@ use Rattle.station.specs.Ahead.{Before}
 abbrev pub OwnUnsuspected : Type 0
 OwnUnsuspected = (n : ℕ) (t : List ℕ) (i : ℕ) → table_refusal n t ≡ 0 → i < n → unsuspected (row n t i) i ≡ true
 
--- a row that does not suspect its own station: somebody is first at every distance but 0
+-- Rule Assignment exact: of a row that does not suspect its own station somebody is first at every distance but 0
 abbrev pub SomebodyFirst : Type 0
 SomebodyFirst =
     (r : List ℕ) (i m : ℕ) → unsuspected r i ≡ true → 0 < m → (x : ℕ) × (first (unsuspected r) (station_at i m) (level m) ≡ Some x)

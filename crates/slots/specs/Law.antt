@@ -96,7 +96,7 @@ pub record Wider (r r' : List ℕ) (i : ℕ) : Type 0 where
   pub own : unsuspected r' i ≡ true
   pub more : (x : ℕ) → unsuspected r' x ≡ true → unsuspected r x ≡ true
 
--- who suspects more makes no fewer tests
+-- Rule Numbers of tests: who suspects more makes no fewer tests
 abbrev pub NeverFewer : Type 0
 NeverFewer = (n : ℕ) (r r' : List ℕ) (i : ℕ) → Wider r r' i → tests_due n r i ≤ tests_due n r' i
 

@@ -27,7 +27,7 @@ range_check n i s = station_check n i and ensure (not (s == 0 || nat_lt (dimensi
 unfoldable pub group_check : ℕ → ℕ → ℕ → ℕ → Check
 group_check n i s len = ensure (is_size n) SizeOutOfRange and range_check n i s and length_check (length (group n i s)) len
 
--- Rule Group list: the group's members in order, a byte for each. There may be none
+-- Rules Group list and Group length: the group's members in order, a byte for each. There may be none
 unfoldable pub group_after : ℕ → ℕ → ℕ → List ℕ → List ℕ
 group_after n i s list = unless_refused (group_check n i s (length list)) list (group n i s)
 

@@ -9,11 +9,11 @@ use Rattle.lists.specs.Search.{list_of}
 abbrev pub distance : ℕ → ℕ → ℕ
 distance i j = bit_xor i j
 
--- the station at distance m from i
+-- Rule Distance: the station at distance m from i
 abbrev pub station_at : ℕ → ℕ → ℕ
 station_at i m = bit_xor i m
 
--- Rule Absent number: whether a station stands at a number. Nobody stands at n or above
+-- Rules Station and Absent number: whether a station stands at a number. Nobody stands at n or above
 abbrev pub is_present : ℕ → ℕ → Bool
 is_present n x = nat_lt x n
 
@@ -26,7 +26,7 @@ width (suc h) = 2 ^ h
 unfoldable pub member : ℕ → ℕ → ℕ → ℕ
 member i s k = station_at i (width s + k)
 
--- the full group of station i at level s, listed in order
+-- Rule Full group: that of station i at level s, listed in order
 unfoldable pub full_group : ℕ → ℕ → List ℕ
 full_group i s = list_of (member i s) (width s)
 

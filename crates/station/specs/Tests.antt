@@ -13,7 +13,7 @@ unsuspected r x = slice_index_or r x 1 == 0
 unfoldable pub first_place : (ℕ → Bool) → ℕ → ℕ → ℕ
 first_place q j s = least (λ k. q (member j s k)) (width s) 0
 
--- the first number in the full group of j at level s that passes q
+-- Rule First: the first number in the full group of j at level s that passes q
 unfoldable pub first : (ℕ → Bool) → ℕ → ℕ → Option ℕ
 first q j s = if nat_lt (first_place q j s) (width s) then Some (member j s (first_place q j s)) else None
 
@@ -22,8 +22,8 @@ pub data DueAnswer : Type 0 where
   answer_due : DueAnswer
   answer_ahead : ℕ → DueAnswer
 
--- what is answered to i where the first station of the group is the one given. Where nobody is first (the group of level 0 is empty; the row leaves
--- nobody of the group unsuspected, not even i) it names i itself, which no other case does
+-- Rule Nobody to name: what is answered to i where the first station of the group is the one given. Where nobody is first (the group of level 0
+-- is empty; the row leaves nobody of the group unsuspected, not even i) it names i itself, which no other case does
 abbrev pub answer_of : ℕ → Option ℕ → DueAnswer
 answer_of i None = answer_ahead i
 answer_of i (Some x) = if x == i then answer_due else answer_ahead x
@@ -46,7 +46,7 @@ says_due (answer_ahead x) = false
 unfoldable pub due : List ℕ → ℕ → ℕ → Bool
 due r i m = says_due (answer r i m)
 
--- the distances due for i of n stations, by its row of n bytes, ascending. Distance 0 has level 0, whose group is empty: it is never due, and
--- the list counts from 1
+-- Rule Due distances: those of i of n stations, by its row of n bytes, ascending. Distance 0 has level 0, whose group is empty: it is never due,
+-- and the list counts from 1
 unfoldable pub due_distances : List ℕ → ℕ → ℕ → List ℕ
 due_distances r i n = select (due r i) (distances n)

@@ -6,13 +6,13 @@ use Rattle.table.specs.Table.{stride, next_column, told_by_column, told_by_none,
 use Rattle.table.specs.Rules.{shape_check}
 use Rattle.lists.specs.Refusal.{unless_refused}
 
--- a byte of a fresh line: next distance 1, byte 4 255, and all else 0
+-- Rule Fresh: a byte of a fresh line, next distance 1, byte 4 255, and all else 0
 unfoldable pub fresh_byte : ℕ → ℕ → ℕ
 fresh_byte n p = if p % stride n == next_column then 1 else (if p % stride n == told_by_column then told_by_none else 0)
 
 unfoldable pub fresh_table : ℕ → List ℕ
 fresh_table n = list_of (fresh_byte n) (table_length n)
 
--- the table after the call, given t: refusals 1, 2
+-- Rule Fresh table: the table after the call, given t; refusals 1, 2
 unfoldable pub fresh_after : ℕ → List ℕ → List ℕ
 fresh_after n t = unless_refused (shape_check n (length t)) t (fresh_table n)

@@ -21,7 +21,7 @@ live_count n t = sum_below (λ i. bit (live n t i)) n
 abbrev pub no_live_suspicion : ℕ → List ℕ → ℕ → ℕ → Bool
 no_live_suspicion n t i j = not_live n t i || not_live n t j || not (suspects n t i j == 1)
 
--- no live station suspects a live one
+-- Rule Accurate: no live station suspects a live one
 unfoldable pub none_suspected : ℕ → List ℕ → Bool
 none_suspected n t = every (λ i. every (no_live_suspicion n t i) n) n
 

@@ -57,7 +57,7 @@ finished_if_live n t i = not_live n t i || finished n t i == 1
 unfoldable pub live_finished : ℕ → List ℕ → Bool
 live_finished n t = every (finished_if_live n t) n
 
--- refusal 4, and rule Round closes: some station is live, and every live one has finished its pass
+-- rules Round not over and Round closes: some station is live, and every live one has finished its pass
 abbrev pub round_over : ℕ → List ℕ → Bool
 round_over n t = some_live n t && live_finished n t
 

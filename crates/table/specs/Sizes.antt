@@ -7,7 +7,7 @@ use Rattle.lists.specs.Search.{least}
 unfoldable pub is_size : ℕ → Bool
 is_size n = nat_le 2 n && nat_le n 64
 
--- the level of distance m: the least s with m < 2^s, so that 2^(s−1) ≤ m < 2^s; 0 for distance 0
+-- Rule Level: that of distance m is the least s with m < 2^s, so that 2^(s−1) ≤ m < 2^s; 0 for distance 0
 unfoldable pub level : ℕ → ℕ
 level m = least (λ s. nat_lt m (2 ^ s)) m 0
 

@@ -49,7 +49,7 @@ told_by_column = 4
 abbrev pub rounds_ago_column : ℕ
 rounds_ago_column = 5
 
--- byte 0, status: 0 live, 1 crashed, 2 left because told, 3 left because alone
+-- Rule Status: byte 0, 0 live, 1 crashed, 2 left because told, 3 left because alone
 abbrev pub status : ℕ → List ℕ → ℕ → ℕ
 status n t i = cell n t i status_column
 
@@ -67,11 +67,11 @@ status_alone = 3
 abbrev pub next_distance : ℕ → List ℕ → ℕ → ℕ
 next_distance n t i = cell n t i next_column
 
--- byte 2, pass finished, 0 or 1
+-- Rule Pass finished: byte 2, 1 if the station has no turn left in this round, else 0
 abbrev pub finished : ℕ → List ℕ → ℕ → ℕ
 finished n t i = cell n t i finished_column
 
--- byte 3, tests made in this round
+-- Rule Tests made: byte 3, the tests that the station made in this round
 abbrev pub tests_made : ℕ → List ℕ → ℕ → ℕ
 tests_made n t i = cell n t i tests_column
 
@@ -96,7 +96,7 @@ rounds_ago_top = 255
 abbrev pub suspects : ℕ → List ℕ → ℕ → ℕ → ℕ
 suspects n t i k = cell n t i (head + k)
 
--- whether station i is live
+-- Rule Live: the status of station i is 0
 abbrev pub live : ℕ → List ℕ → ℕ → Bool
 live n t i = status n t i == 0
 
@@ -104,7 +104,7 @@ live n t i = status n t i == 0
 abbrev pub row_start : ℕ → ℕ → ℕ
 row_start n i = line_start n i + head
 
--- the row of line i as a list
+-- Rule Row: the bytes of line i from byte 6 on, as a list
 unfoldable pub row : ℕ → List ℕ → ℕ → List ℕ
 row n t i = take n (drop (row_start n i) t)
 

@@ -54,7 +54,7 @@ carried_out n schedule lent = ran_on lent (run n (state_of (fresh_table n) 0 0) 
 abbrev watched_of : List ℕ → Reading → Watched
 watched_of lent r = if r.unread == 0 then carried_out r.size r.schedule lent else said_with (says_unread r.unread) lent
 
--- the whole input, with a lent sheet: the program lends 16,384 zeros
+-- Rule Output: the whole input, with a lent run sheet: the program lends 16,384 zeros
 unfoldable pub watched : List ℕ → List ℕ → Watched
 watched lent input = watched_of lent (read_input input)
 

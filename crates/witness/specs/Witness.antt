@@ -43,10 +43,10 @@ pub record Computed (n : ℕ) (s : State) (runs : List Call) (closed : List ℕ)
   pub open_tests : tests_in (rounds_of s runs).open_round ≡ open-tests
   pub counted : tests_per_round n s.table ≡ count
 
--- the four boards: five rounds close, of seven tests each, and the open one has one
+-- Rule Conditions are met, the four boards: five rounds close, of seven tests each, and the open one has one
 abbrev pub FourBoards : Type 0
 FourBoards = Computed 4 boards calls (7 ∷ 7 ∷ 7 ∷ 7 ∷ 7 ∷ []) 1 7
 
--- three boards, none dead: one round of five tests
+-- Rule Conditions are met, three boards, none dead: one round of five tests
 abbrev pub ThreeBoards : Type 0
 ThreeBoards = Computed 3 (state_of (fresh_table 3) 0 0) (call_with 3 (turns_of (0 ∷ 0 ∷ 0 ∷ 1 ∷ 1 ∷ 2 ∷ 2 ∷ 2 ∷ [])) ∷ []) (5 ∷ []) 0 5

@@ -8,6 +8,6 @@ use Rattle.detection.specs.Claim.{DetectionAt, worst_latency}
 abbrev pub WorstCaseAt : ℕ → Type 0
 WorstCaseAt n = (enough : ℕ) → DetectionAt n enough → worst_latency (dimension n) ≤ enough
 
--- at every size from 3 on. With 2 boards, both live, there is nobody to find
+-- Rule Worst case is reached: at every size from 3 on. With 2 boards, both live, there is nobody to find
 abbrev pub WorstCaseIsReached : Type 0
 WorstCaseIsReached = (n : ℕ) → is_size n ≡ true → 3 ≤ n → WorstCaseAt n

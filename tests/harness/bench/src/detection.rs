@@ -49,7 +49,7 @@ pub fn rounds_until_known(n: usize, dead: &[usize], order: Order, random: &mut R
 }
 
 /// Random dead boards; at least two boards are live, and one is dead unless
-/// N is 2. The number of live boards is drawn from 2 to a power of two that is
+/// n is 2. The number of live boards is drawn from 2 to a power of two that is
 /// drawn first, since few live boards take the most rounds.
 pub fn random_dead(n: usize, random: &mut Random) -> Vec<usize> {
     let power = 2 << random.below(dimension(n) as usize);

@@ -153,13 +153,14 @@ fn tables(results: &[Results], slowest: &[Slowest]) -> String {
 
 const MAIN_TEXT: &str = "## Random plants
 
-n is the number of boards, and d its logarithm to base 2, rounded up. At least two boards are live. Their number is drawn from 2 to a power of two that is drawn
-first from 2 to 2^d, since few live boards take the most rounds; then which ones. At least one board is dead, but for n = 2, where there is
-nothing to find and no round is counted. Each turn is taken by any live board that has not finished its pass, at random.
+n is the number of boards, and d its logarithm to base 2, rounded up. At least two boards are live. Their number is drawn from 2 to a power
+of two that is drawn first from 2 to 2^d, since few live boards take the most rounds; then which ones. At least one board is dead, but for
+n = 2, where there is nothing to find and no round is counted. Each turn is taken by any live board that has not finished its pass, at
+random.
 
 The worst-case latency is f(d) rounds: d rounds for d ≤ 3, and 4 + ⌊(d − 3)²/2⌋ from 4 on. That it suffices is proved
-([DETECTION.md](DETECTION.md)), and the slowest plants below take it. The triangular bound 1 + d(d − 1)/2 and the square bound d·d are nowhere
-less.
+([DETECTION.md](DETECTION.md)), and from n = 3 on the slowest plants below take it. The triangular bound 1 + d(d − 1)/2 and the square bound
+d·d are nowhere less.
 
 The count of trials, least, mean, variance and greatest are given by the library (`vcube_figures_of_list`). Mean and variance
 are exact: in brackets stands the fraction in lowest terms. The variance is over the whole batch, divided by the count. The library takes at
@@ -205,7 +206,8 @@ fn bounds(n: usize) -> String {
 const SLOWEST_TEXT: &str = "## The slowest plants
 
 A plant of each size from 3 to 64 in `samples/slowest.txt`, with many boards dead at once and the turns in an unlucky order: the dead boards
-crash first, then come the turns. Each takes f(d) rounds, and none can take more. From 17 boards on more rounds are needed than d. `samples/slowest 11 | ./watch` runs the plant of 11 boards.
+crash first, then come the turns. Each takes f(d) rounds, and none can take more. From 17 boards on more rounds are needed than d.
+`samples/slowest 11 | ./watch` runs the plant of 11 boards.
 
 | n | live | rounds until known | d | f(d) | 1 + d(d − 1)/2 | d·d |
 |--:|--:|--:|--:|--:|--:|--:|
@@ -239,8 +241,8 @@ fn order_table(results: &[Results]) -> String {
 
 Mean, in brackets as the exact fraction, and greatest over random plants. Whole passes: each board takes its pass in one go, in an order
 drawn anew for each round, or by rising or falling number. Delaying: each turn is taken by a board whose turn adds the fewest suspicions to
-the table (an eighth of the trials). Driven: the library grants the turns (`vcube_drive`). Each round is one drive; the first
-begins with last number 255, and each further one with the last number that the one before gave.
+the table (an eighth of the trials). Driven: the library grants the turns (`vcube_drive`). Each round is one drive; the first begins with
+last number 255, and each further one with the last number that the one before gave.
 
 | n | random | whole passes | rising passes | falling passes | delaying | driven |
 |--:|--:|--:|--:|--:|--:|--:|
