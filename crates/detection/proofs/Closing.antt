@@ -127,7 +127,8 @@ module _ (n : ℕ) (T t₀ t : List ℕ) (here : List Taken) (low : n ≤ distan
   all_made =
       present-sum n _ low (λ i a. sum-zero (distances n) (λ m b. leads-none i m (rw (le-ltb i n a)))) ∙ sym (sum_by n made)
 
-  pairs : sum_below (λ j. sum_below (λ h. bit (is_present n j && nobody (LiveOf n L) j (suc h))) (dimension n)) (distances n) ≡ pairs_without_live n T
+  pairs : sum_below (λ j. sum_below (λ h. bit (is_present n j && nobody (LiveOf n L) j (suc h))) (dimension n)) (distances n)
+      ≡ pairs_without_live n T
   unfolding pairs_without_live group_without_live
   pairs =
       present-sum n _ low (λ j a. sum-zero (dimension n) (λ h b. rw (le-ltb j n a)))

@@ -70,7 +70,8 @@ first_round : (n : ℕ) (s : State) (calls : List Call) → DetectionPremises n 
     → InRound n (live n s.table) s.table [] s.table
 unfolding at_start
 first_round n s calls given ok =
-    round-start n (live n t) t (record { lines = (ok.long, accepted-line n t ok); lives = λ i h. refl; accurate = trusts n t ok given.accurate }) fresh
+    round-start n (live n t) t
+    (record { lines = (ok.long, accepted-line n t ok); lives = λ i h. refl; accurate = trusts n t ok given.accurate }) fresh
   where
     t : List ℕ
     t = s.table

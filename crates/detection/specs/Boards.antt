@@ -44,5 +44,5 @@ ExactRoundTests =
 -- Rule Tests of the sheet: after the worst-case latency that is so in every closed round
 abbrev pub ExactRoundTestsAfterLatency : Type 0
 ExactRoundTestsAfterLatency =
-    (n : ℕ) (s : State) (calls : List Call) → DetectionPremises n s calls → (k : ℕ) → worst_latency (dimension n) ≤ k → k < length (rounds_of s calls).closed
-    → TestsAreTheDue n s calls k
+    (n : ℕ) (s : State) (calls : List Call) → DetectionPremises n s calls
+    → (k : ℕ) → worst_latency (dimension n) ≤ k → k < length (rounds_of s calls).closed → TestsAreTheDue n s calls k

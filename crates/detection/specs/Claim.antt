@@ -60,7 +60,8 @@ pub record DetectionPremises (n : ℕ) (s : State) (calls : List Call) : Type 0 
 abbrev pub FreshIsAccepted : Type 0
 FreshIsAccepted = (n : ℕ) → is_size n ≡ true → table_refusal n (fresh_table n) ≡ 0
 
--- Rule Conditions are met: a fresh table, with any tally, meets at every size what is supposed of size and table. Drives need no more (`DrivenDetection`)
+-- Rule Conditions are met: a fresh table, with any tally, meets at every size what is supposed of size and table. Drives need no more
+-- (`DrivenDetection`)
 abbrev pub FreshMeetsPremises : Type 0
 FreshMeetsPremises = (n rounds tests : ℕ) → is_size n ≡ true → DetectionPremises n (state_of (fresh_table n) rounds tests) []
 
@@ -85,7 +86,7 @@ pub record DetectionConclusion (enough n : ℕ) (s : State) (calls : List Call) 
 abbrev pub DetectionAt : ℕ → ℕ → Type 0
 DetectionAt n enough = (s : State) (calls : List Call) → DetectionPremises n s calls → DetectionConclusion enough n s calls (after_runs s calls)
 
--- the claim at all sizes, within so many rounds by the dimension
+-- Rule Worst case, and the greater bounds: the claim at all sizes, within so many rounds by the dimension
 abbrev pub Detection : (ℕ → ℕ) → Type 0
 Detection rounds = (n : ℕ) → DetectionAt n (rounds (dimension n))
 
@@ -108,10 +109,10 @@ DetectionInSquare = Detection square_bound
 abbrev pub triangle_bound : ℕ → ℕ
 triangle_bound d = 1 + d * (d - 1) / 2
 
--- the claim within these
+-- Rule Triangular bound: detection within these
 abbrev pub DetectionInTriangle : Type 0
 DetectionInTriangle = Detection triangle_bound
 
--- the rounds of our own claim: 1, 2, 3, 4, 6, 8 for d = 1 to 6. From 3 boards on fewer do not suffice (crate witness)
+-- Rule Worst case: the worst-case latency, 1, 2, 3, 4, 6, 8 rounds for d = 1 to 6. From 3 boards on fewer do not suffice (crate witness)
 unfoldable pub worst_latency : ℕ → ℕ
 worst_latency d = if nat_lt d 4 then d else 4 + (d - 3) * (d - 3) / 2

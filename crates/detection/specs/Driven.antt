@@ -94,7 +94,8 @@ pub record DrivenDetectionConclusion (enough n : ℕ) (s : State) (lasts : List 
 -- at all. Drives have no crash and no late reply
 abbrev pub DrivenDetection : (ℕ → ℕ) → Type 0
 DrivenDetection rounds =
-    (n : ℕ) (s : State) (lasts : List ℕ) → DetectionPremises n s [] → DrivenDetectionConclusion (rounds (dimension n)) n s lasts (after_drives n s lasts)
+    (n : ℕ) (s : State) (lasts : List ℕ) → DetectionPremises n s []
+    → DrivenDetectionConclusion (rounds (dimension n)) n s lasts (after_drives n s lasts)
 
 -- detection of driven plants within d·d rounds
 abbrev pub DrivenDetectionInSquare : Type 0

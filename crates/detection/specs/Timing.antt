@@ -42,8 +42,8 @@ table_left t (x ∷ xs) = table_left (table_after x) xs
 abbrev pub end_of : State → List Call → ℕ → List ℕ
 end_of s calls k = table_left s.table (round_at s calls k)
 
--- in every round of any list of runs from the start of a round on, a board makes no more tests than are due by its row as the round leaves it;
--- the list may end anywhere, so that this holds at every moment of a round
+-- Rule Slot suffices: in every round of any list of runs from the start of a round on, a board makes no more tests than are due by its row as the
+-- round leaves it; the list may end anywhere, so that this holds at every moment of a round
 abbrev pub TestsWithinDue : Type 0
 TestsWithinDue =
     (n : ℕ) (s : State) (calls : List Call) (k i : ℕ) → length s.table ≡ table_length n → at_start n s.table ≡ true
@@ -53,8 +53,8 @@ TestsWithinDue =
 abbrev pub SuspectsAtMost : ℕ → List ℕ → ℕ → List ℕ → ℕ → Type 0
 SuspectsAtMost n t i r j = (x : ℕ) → x < n → suspects n t i x ≡ 1 → (unsuspected r x ≡ false) ⊎ (x ≡ j)
 
--- so a slot timed for the most tests with one more dead is long enough, as long as the board suspects nobody but the dead of row r and one more:
--- also in the rounds in which it comes to suspect that one
+-- Rule Slot suffices: a slot timed for the most tests with one more dead is long enough, as long as the board suspects nobody but the dead of row
+-- r and one more: also in the rounds in which it comes to suspect that one
 abbrev pub SlotSuffices : Type 0
 SlotSuffices =
     (n : ℕ) (s : State) (calls : List Call) (k : ℕ) (r : List ℕ) (i j : ℕ) → length s.table ≡ table_length n → at_start n s.table ≡ true

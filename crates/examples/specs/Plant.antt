@@ -189,8 +189,8 @@ AllHold es = map (λ (e : Example). e.computed) es ≡ map (λ (e : Example). e.
 
 pub base-hold : AllHold base_rules
 unfolding rounds_after leave_told base_rules four_boards four_dead four_and_five_dead four_dead_of_eleven zero_suspects_one station_two_finished
-    tested_told alone_of_two alone_of_three pairs_without_live group_without_live sum_below run start_check table_check shape_check is_size table_length every
-    line_rules exit_rule row_rule some_live live_finished cell line_start row set_row set_cell fresh_table fresh_byte list_of go_on entries
+    tested_told alone_of_two alone_of_three pairs_without_live group_without_live sum_below run start_check table_check shape_check is_size table_length
+    every line_rules exit_rule row_rule some_live live_finished cell line_start row set_row set_cell fresh_table fresh_byte list_of go_on entries
     entry_check after acted sheet_line tested_of outcome_of turn turn_tested turn_outcome crash reset_line reset_lines after_round after_steps
     next_test makes_test finish_pass count_test replies is_told exchange_rows suspect reply_outcome test_outcome after_outcome self_or_suspected
     is_alone after_alone testing answer due due_distances other_distances assignment_entries first first_place least unsuspected member width
@@ -199,8 +199,8 @@ base-hold = refl
 
 pub later-hold : AllHold later_rules
 unfolding rounds_after leave_told later_rules after_closing refusal_of four_boards four_dead four_and_five_dead four_dead_of_eleven
-    zero_suspects_one station_two_finished tested_told alone_of_two alone_of_three pairs_without_live group_without_live sum_below run start_check table_check
-    shape_check is_size table_length every line_rules exit_rule row_rule some_live live_finished cell line_start row set_row set_cell
+    zero_suspects_one station_two_finished tested_told alone_of_two alone_of_three pairs_without_live group_without_live sum_below run start_check
+    table_check shape_check is_size table_length every line_rules exit_rule row_rule some_live live_finished cell line_start row set_row set_cell
     fresh_table fresh_byte list_of go_on entries entry_check after acted sheet_line tested_of outcome_of turn turn_tested turn_outcome crash
     reset_line reset_lines after_round after_steps next_test makes_test finish_pass count_test replies is_told exchange_rows suspect
     reply_outcome test_outcome after_outcome self_or_suspected is_alone after_alone testing answer due due_distances other_distances

@@ -65,7 +65,8 @@ grant_answer_refusal n t last = pick (grant_check n t last)
 pub grantable : (n : ℕ) (t : List ℕ) (last : ℕ) → grant_refusal n t last ≡ 0 → Grantable n t last
 grantable n t last z = grant_ok n t last _ (check_zero _ z)
 
-pub grant-zero : (n : ℕ) (t : List ℕ) (last : ℕ) → table_refusal n t ≡ 0 → last_refusal n last ≡ 0 → some_live n t ≡ true → grant_refusal n t last ≡ 0
+pub grant-zero : (n : ℕ) (t : List ℕ) (last : ℕ) → table_refusal n t ≡ 0 → last_refusal n last ≡ 0 → some_live n t ≡ true
+    → grant_refusal n t last ≡ 0
 unfolding grant_check
 grant-zero n t last z fits someone = rw (check_zero _ z, check_zero _ fits, someone)
 

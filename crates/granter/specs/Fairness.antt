@@ -9,7 +9,8 @@ use Rattle.granter.specs.Grant.{waits, following, granted, last_refusal, grant_r
 unfoldable pub stations_before : ℕ → ℕ → ℕ → ℕ
 stations_before n b i = if nat_lt i b then i + n - b else i - b
 
--- Rule Fair grants: the granted station is live and unfinished, and no other such station comes before it in the going round that begins behind the last one
+-- Rule Fair grants: the granted station is live and unfinished, and no other such station comes before it in the going round that begins behind the
+-- last one
 abbrev pub NextGoingRound : Type 0
 NextGoingRound =
     (n : ℕ) (t : List ℕ) (last : ℕ) → grant_refusal n t last ≡ 0

@@ -17,10 +17,12 @@ pub returns-clause-detection_in_square : goal.returns-clause-detection_in_square
 returns-clause-detection_in_square c =
     let call = call_of c.args.n c.args.schedule.now c.args.sheet.now in
     let before = state_with c.args.table.now c.args.tally in
-    subst (DetectionAfter square_bound call before) (sym (ap (λ (o : RunResult). o.state) c.run.ensures)) (last-run square_bound detection-in-square call before)
+    subst (DetectionAfter square_bound call before) (sym (ap (λ (o : RunResult). o.state) c.run.ensures))
+    (last-run square_bound detection-in-square call before)
 
 pub returns-clause-detection_in_worst_case : goal.returns-clause-detection_in_worst_case
 returns-clause-detection_in_worst_case c =
     let call = call_of c.args.n c.args.schedule.now c.args.sheet.now in
     let before = state_with c.args.table.now c.args.tally in
-    subst (DetectionAfter worst_latency call before) (sym (ap (λ (o : RunResult). o.state) c.run.ensures)) (last-run worst_latency detection-in-worst-case call before)
+    subst (DetectionAfter worst_latency call before) (sym (ap (λ (o : RunResult). o.state) c.run.ensures))
+    (last-run worst_latency detection-in-worst-case call before)
