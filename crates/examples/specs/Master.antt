@@ -18,7 +18,7 @@ use Rattle.granter.specs.Grant.{waits, first_from, following, granted, grant_che
 use Rattle.granter.specs.Drive.{DriveResult, grant_turn, after_grants, ended, stops, grants_made, outcome_after, drive}
 use Rattle.lists.specs.Bytes.{joined_byte}
 
--- one example: what the definitions give, and what is said
+-- one example: what the definitions compute, and what is expected
 pub record Example : Type 0 where
   pub computed : List ℕ
   pub expected : List ℕ

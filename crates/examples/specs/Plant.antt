@@ -22,7 +22,7 @@ use Rattle.lists.specs.Sums.{sum_below}
 use Rattle.detection.specs.Claim.{group_without_live, pairs_without_live, tests_per_round}
 use Rattle.lists.specs.Bytes.{joined_byte}
 
--- one example: what the definitions give, and what is said
+-- one example: what the definitions compute, and what is expected
 pub record Example : Type 0 where
   pub computed : List ℕ
   pub expected : List ℕ

@@ -23,7 +23,7 @@ figures_of_join (Err r) = Err r
 abbrev pub eight : List ℕ
 eight = 2 ∷ 4 ∷ 4 ∷ 4 ∷ 5 ∷ 5 ∷ 7 ∷ 9 ∷ []
 
--- what the definitions give, and what is said
+-- what the definitions compute, and what is expected
 unfoldable pub examples : List (List ℕ × List ℕ)
 examples =
     -- mean 5/1, variance 4/1; mean 3/2, variance 1/4; mean 4/3, variance 2/9

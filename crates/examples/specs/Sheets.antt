@@ -1,4 +1,4 @@
--- Examples of which tests a board makes, and how many: what the definitions give, and what is said, in one table, and one that takes longer to
+-- Examples of which tests a board makes, and how many: what the definitions compute, and what is expected, in one table, and one that takes longer to
 -- compute.
 -- Assumes nothing.
 use Rattle.std.specs.Prelude.{◌≡◌, ℕ, true, false, List, [], ◌∷◌, map, refl}

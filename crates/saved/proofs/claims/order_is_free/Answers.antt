@@ -1,4 +1,4 @@
--- The claim is proved in proofs/AnyOrder.antt.
+-- The claim is proved in proofs/OrderIsFree.antt.
 use Rattle.saved.proofs.OrderIsFree.{order_is_free}
 use Rattle.saved.proofs.claims.order_is_free.Goals as goal
 

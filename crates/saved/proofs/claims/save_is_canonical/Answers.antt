@@ -1,4 +1,4 @@
--- The claim is proved in proofs/SavedAgain.antt.
+-- The claim is proved in proofs/SaveIsCanonical.antt.
 use Rattle.saved.proofs.SaveIsCanonical.{save-is-canonical}
 use Rattle.saved.proofs.claims.save_is_canonical.Goals as goal
 
