@@ -1,4 +1,4 @@
--- The claim is proved in proofs/DetectionInSquare.antt.
+-- The claim is proved in proofs/DetectionClaim.antt.
 use Rattle.detection.proofs.DetectionClaim.{detection-in-worst-case}
 use Rattle.detection.proofs.claims.detection_in_worst_case.Goals as goal
 
