@@ -43,7 +43,10 @@ pub fn rounds_until_known(n: usize, dead: &[usize], order: Order, random: &mut R
     let mut plant = Plant::with_dead(n, dead);
     while !plant.dead_are_known() {
         plant.play_round(order, random);
-        assert!(plant.rounds <= worst_latency(n), "more than the worst-case latency");
+        assert!(
+            plant.rounds <= worst_latency(n),
+            "more than the worst-case latency"
+        );
     }
     plant.rounds
 }

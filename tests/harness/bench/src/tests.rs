@@ -388,7 +388,10 @@ fn bounds_by_size() {
     assert_eq!(POWERS.map(bounds::square_bound), [1, 4, 9, 16, 25, 36]);
     let others = [3, 5, 11, 19, 33, 48, 63];
     assert_eq!(others.map(bounds::worst_latency), [2, 3, 4, 6, 8, 8, 8]);
-    assert_eq!(others.map(bounds::triangle_bound), [2, 4, 7, 11, 16, 16, 16]);
+    assert_eq!(
+        others.map(bounds::triangle_bound),
+        [2, 4, 7, 11, 16, 16, 16]
+    );
     assert_eq!(others.map(bounds::square_bound), [4, 9, 16, 25, 36, 36, 36]);
 }
 

@@ -200,7 +200,12 @@ fn main_figures(summary: &Summary) -> String {
 
 /// The bounds of a size, as cells.
 fn bounds(n: usize) -> String {
-    format!("{} | {} | {}", worst_latency(n), triangle_bound(n), square_bound(n))
+    format!(
+        "{} | {} | {}",
+        worst_latency(n),
+        triangle_bound(n),
+        square_bound(n)
+    )
 }
 
 const SLOWEST_TEXT: &str = "## The slowest plants
