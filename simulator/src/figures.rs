@@ -1,4 +1,4 @@
-//! Figures over a season's trials, from the results themselves (C-12).
+//! Figures over a season's trials, from the results themselves.
 
 use crate::fraction::Fraction;
 use crate::refusal::Refusal;

@@ -1,5 +1,5 @@
-//! The granter (C-15): the grant of the next turn, and the drive that repeats
-//! grant and turn.
+//! The granter: the grant of the next turn, and the drive that repeats grant
+//! and turn.
 
 use crate::numbers::{Size, Station};
 use crate::plant::Plant;

@@ -10,7 +10,7 @@ pub fn group(size: Size, station: Station, level: Level) -> impl Iterator<Item =
     level.distances().filter_map(at)
 }
 
-/// The answer to the question whether a distance is due (C-16).
+/// The answer to the question whether a distance is due.
 #[derive(Clone, Copy, Debug, PartialEq, Eq)]
 pub enum DueOrAhead {
     /// The distance is due: the asking station is first in the group.
@@ -29,8 +29,8 @@ impl DueOrAhead {
     }
 }
 
-/// Whether distance m is due for station i with this row (step 1), where
-/// station j stands at distance m.
+/// Whether distance m is due for station i with this row, where station j
+/// stands at distance m, or who is ahead.
 fn due_or_ahead(size: Size, i: Station, row: Row, j: Station, m: Distance) -> DueOrAhead {
     let first = group(size, j, m.level())
         .find(|station| !row.suspects(*station))

@@ -1,31 +1,34 @@
-//! A simulator of the vCube watch, written from documents 01 and 02 alone; but
-//! what is given of kept totals follows include/vcube.h, since document 02 does
-//! not say it. The arguments and answers of grant and drive (C-15) were fixed
-//! beforehand by those who made the header: document 02 says neither the order
-//! of the arguments nor what station a refused grant gives.
-//! The readings of C-16 were fixed beforehand, too, by those who made the
-//! library: entries are for the stations that exist, dead and suspected ones
+//! A simulator of the vCube watch, written from the owner's documents alone
+//! (docs/SOURCES.md) and not from the library's code; but what is given of kept
+//! totals follows include/vcube.h, since the documents do not say it. The
+//! arguments and answers of grant and drive were fixed beforehand by those who
+//! made the header: the documents say neither the order of the arguments nor
+//! what station a refused grant gives.
+//! The readings of the assignment were fixed beforehand, too, by those who made
+//! the library: entries are for the stations that exist, dead and suspected ones
 //! among them, from distance 1 on; the one ahead is the first of the group that
 //! the asking station does not suspect; the count is that of entries with 255.
 //! So was what the sheet program reads and prints: its arguments, the lines for
 //! wrong ones and their order, both layouts, and that the greatest number of
 //! tests is taken over the rows with one more dead board.
-//! And so were the readings of C-17: a file is judged for refusal 18 as a whole
-//! first, and for 19 by both fields before 1; two fields of one kind are refused
-//! even if they are the same; a line field has 1 + n + 6 bytes with the file's
-//! n, wherever that stands; a load answers number, size, rounds and tests; and
-//! the size of a saved plant can be asked for, with refusals 18, 19 and 1.
-//! So were those of C-18: with outcome 2 the tester's byte 4 is the tested
-//! station, with outcome 5 the tested station's is the tester; another station's
-//! number is any below n but the line's own, be that station live or not; a 254
-//! handed in stays; every closing counts in byte 5 of all lines not live.
+//! And so were the readings of saved plants: a file is judged for refusal 18 as
+//! a whole first, and for 19 by both fields before 1; two fields of one kind are
+//! refused even if they are the same; a line field has 1 + n + 6 bytes with the
+//! file's n, wherever that stands; a load answers number, size, rounds and
+//! tests; and the size of a saved plant can be asked for, with refusals 18, 19
+//! and 1.
+//! So were those of bytes 4 and 5: with outcome 2 the tester's byte 4 is the
+//! tested station, with outcome 5 the tested station's is the tester; another
+//! station's number is any below n but the line's own, be that station live or
+//! not; a 254 handed in stays; every closing counts in byte 5 of all lines not
+//! live.
 //!
 //! Rows are 64-bit sets and lines are structs. They are decoded from the lent
-//! byte table and encoded back into it. By whom a station was told to leave
-//! (C-18) is a part of its status. Figures over results (C-12) are computed in
-//! 128 bits, the variance by the deviations themselves. A drive (C-15) decodes
-//! the table once and takes its turns as the run does. A saved plant (C-17) is
-//! split into a list of fields before anything is read from it.
+//! byte table and encoded back into it. By whom a station was told to leave is
+//! a part of its status. Figures over results are computed in 128 bits, the
+//! variance by the deviations themselves. A drive decodes the table once and
+//! takes its turns as the run does. A saved plant is split into a list of fields
+//! before anything is read from it.
 
 #![forbid(unsafe_code)]
 
@@ -52,7 +55,7 @@ pub use figures::{figures, figures_of_two, Figures};
 pub use fraction::Fraction;
 pub use granter::{drive, grant, Driven};
 pub use line::HEAD;
-pub use questions::{assignment, check_table, fresh_table, group_list, row, row_number};
+pub use questions::{assignment, check_table, fresh_table, group_list, row, row_refusal};
 pub use run::{run, Answer};
 pub use saved::{load, save, saved_size, Loaded};
 pub use totals::{figures_of_totals, join_totals, totals, Totals};

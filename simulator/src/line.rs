@@ -136,8 +136,8 @@ impl Line {
         self.is_live() && !self.finished
     }
 
-    /// Sets the three fields a closed round sets (step 8), and counts the round
-    /// if the station is not live (C-18).
+    /// Sets the three fields that a closed round sets, and counts the round if
+    /// the station is not live.
     pub fn close_round(&mut self) {
         self.next = Distance::FIRST;
         self.finished = false;
@@ -193,8 +193,8 @@ fn head_agrees(size: Size, bytes: &[u8]) -> bool {
     bytes[3] < bytes[1] && (bytes[2] == 0 || bytes[1] == size.end().number())
 }
 
-/// Bytes 4 and 5 agree with the status (C-18): a live line has 255 and 0, status
-/// 1 or 3 has 255, status 2 has 254 or another station's number.
+/// Bytes 4 and 5 agree with the status: a live line has 255 and 0, status 1 or 3
+/// has 255, status 2 has 254 or another station's number.
 fn leaving_agrees(size: Size, own: Station, bytes: &[u8]) -> bool {
     match bytes[0] {
         0 => bytes[4] == NONE && bytes[5] == 0,

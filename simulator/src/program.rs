@@ -42,8 +42,8 @@ pub fn respond(input: &[u8]) -> String {
     }
 }
 
-/// The saved plant (C-17) after the run of this input. Where a line cannot be
-/// read or the run is refused: the last line that the program prints.
+/// The saved plant after the run of this input. Where a line cannot be read or
+/// the run is refused: the last line that the program prints.
 pub fn saved_after_run(input: &[u8]) -> Result<Vec<u8>, String> {
     let mut buffers = Buffers::zeros();
     let read = read_input(input, &mut buffers.schedule).map_err(print_unread)?;

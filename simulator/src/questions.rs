@@ -79,7 +79,7 @@ fn write_assignment(plant: &Plant, i: Station, list: &mut [u8]) -> usize {
 }
 
 /// The number of the question for a row: refusals 1 to 4, 9.
-pub fn row_number(n: usize, table: &[u8], station: u8) -> u8 {
+pub fn row_refusal(n: usize, table: &[u8], station: u8) -> u8 {
     number_of(&admit_row(n, table, station))
 }
 

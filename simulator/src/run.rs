@@ -171,7 +171,7 @@ impl Watch {
         self.take(Entry { kind, station });
     }
 
-    /// Step 2, and the test it finds.
+    /// The next test, or the end of the pass.
     fn turn(&mut self, i: Station, late: bool) -> Effect {
         match self.least_due(i) {
             Some((m, j)) => {
@@ -201,7 +201,7 @@ impl Watch {
         (None, Outcome::PassFinished)
     }
 
-    /// Steps 4 to 6.
+    /// What comes of a test, and whether the tester is alone then.
     fn test(&mut self, i: Station, j: Station, late: bool) -> Outcome {
         let outcome = if self.plant.line(j).is_live() && !late {
             self.reply(i, j)
@@ -212,7 +212,7 @@ impl Watch {
         outcome
     }
 
-    /// Step 3.
+    /// The test is counted: next distance and tests made.
     fn count_test(&mut self, i: Station, m: Distance) {
         let line = self.plant.line_mut(i);
         line.next = m.following();
@@ -220,8 +220,8 @@ impl Watch {
         self.tests += 1;
     }
 
-    /// Step 4, as C-13 has it: a suspected tester leaves, else a suspected
-    /// tested station; rows are exchanged where neither suspects the other.
+    /// A reply in time: a suspected tester leaves, else a suspected tested
+    /// station; rows are exchanged where neither suspects the other.
     fn reply(&mut self, i: Station, j: Station) -> Outcome {
         if self.suspects(j, i) {
             self.leave_told(i, j);
@@ -254,14 +254,14 @@ impl Watch {
         self.plant.line_mut(j).row = row_j.union_but_own(row_i, j);
     }
 
-    /// Step 5.
+    /// No reply: the tester suspects the tested station.
     fn no_reply(&mut self, i: Station, j: Station) -> Outcome {
         let line = self.plant.line_mut(i);
         line.row = line.row.with(j);
         Outcome::NoReply
     }
 
-    /// Step 6.
+    /// A live station that suspects all others leaves.
     fn leave_if_alone(&mut self, i: Station) {
         let size = self.plant.size();
         let line = self.plant.line_mut(i);
@@ -270,13 +270,13 @@ impl Watch {
         }
     }
 
-    /// Step 7.
+    /// A crash.
     fn crash(&mut self, i: Station) -> Effect {
         self.plant.line_mut(i).status = Status::Crashed;
         (None, Outcome::Crash)
     }
 
-    /// Step 8.
+    /// Closes the round if it is over.
     fn close_round_if_over(&mut self) {
         if self.plant.all_live_finished() {
             self.plant.close_round();

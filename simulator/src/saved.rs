@@ -1,4 +1,4 @@
-//! The saved plant (C-17): the writer, the reader and the question for its size.
+//! The saved plant: the writer, the reader and the question for its size.
 //!
 //! A file is split into its fields first; everything else is read from the
 //! list of fields.

@@ -1,4 +1,4 @@
-//! Totals of a list of results, their join, and figures from them (C-12).
+//! Totals of a list of results, their join, and figures from them.
 
 use crate::figures::{Figures, MOST_RESULTS};
 use crate::fraction::Fraction;

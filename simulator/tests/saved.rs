@@ -1,4 +1,4 @@
-//! The sample of a saved plant (C-17): it is what the simulator saves, and the
+//! The sample of a saved plant: it is what the simulator saves, and the
 //! simulator loads it.
 
 use std::io::Write;
@@ -15,7 +15,7 @@ const LIVE: [u8; 14] = [0, 1, 0, 0, 255, 0, 0, 0, 0, 0, 1, 0, 0, 0];
 /// since.
 const CRASHED: [u8; 14] = [1, 1, 0, 0, 255, 1, 0, 0, 0, 0, 0, 0, 0, 0];
 
-/// One closed round with 23 tests, which is document 01's count for board 4 dead.
+/// One closed round with 23 tests, which is the count of tests for board 4 dead.
 const TALLY: (u32, u32) = (1, 23);
 
 fn table() -> Vec<u8> {

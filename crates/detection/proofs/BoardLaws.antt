@@ -21,14 +21,14 @@ use Rattle.table.proofs.CellLaws.{row_at}
 use Rattle.plant.specs.Entry.{State}
 use Rattle.detection.specs.Runs.{Call, taken_all, after_runs}
 use Rattle.detection.specs.Rounds.{cut}
-use Rattle.detection.specs.Claim.{rounds_of, Premises}
+use Rattle.detection.specs.Claim.{rounds_of, DetectionPremises}
 use Rattle.table.specs.Properties.{exact_row, ExactRows}
-use Rattle.detection.specs.Boards.{TestsJustDue, BoardTests, BoardTestsAfterWait}
+use Rattle.detection.specs.Boards.{TestsAreTheDue, ExactRoundTests, ExactRoundTestsAfterLatency}
 use Rattle.detection.proofs.Chain.{chain-all, chain_first}
 use Rattle.detection.proofs.TurnEffect.{Plain}
 use Rattle.detection.proofs.Knowledge.{Exact, leads_at, row-due}
 use Rattle.detection.proofs.Listing.{led_below}
-use Rattle.detection.proofs.Demand3.{history, exact}
+use Rattle.detection.proofs.DetectionClaim.{history, exact}
 
 -- the distances due by the exact row are those at which a station leads
 exact-list : (n : ℕ) (T : List ℕ) (i : ℕ) → due_distances (exact_row n T) i n ≡ led_below n (live n T) i (distances n)
@@ -45,7 +45,7 @@ exact_bytes n L t p rows i j hi hj li lj =
     sym (row_at n t i j hj) ∙ ap (λ (r : List ℕ). get_or r j 0) (rows i hi (p.lives i hi ∙ li)) ∙ list_of-at (λ j. bit (not_live n t j)) n j hj
     ∙ ap (λ b. bit (not b)) (p.lives j hj ∙ lj)
 
-module _ (n : ℕ) (s : State) (calls : List Call) (given : Premises n s calls) (k : ℕ) (closed : k < length (rounds_of s calls).closed) where
+module _ (n : ℕ) (s : State) (calls : List Call) (given : DetectionPremises n s calls) (k : ℕ) (closed : k < length (rounds_of s calls).closed) where
   abbrev L : ℕ → Bool
   L = live n s.table
 
@@ -58,14 +58,14 @@ module _ (n : ℕ) (s : State) (calls : List Call) (given : Premises n s calls) 
       go (inl e) = let none : length (rounds_of s calls).closed ≡ 0 = rw e.0 in absurd (omega (arith, none))
       go (inr ok) = ok
 
-  just-due : Exact n L ((history n s calls given accepted).0.start k) → TestsJustDue n s calls k
-  just-due e i h l = (history n s calls given accepted).0.listed k closed e i h l ∙ ap (map (station_at i)) (sym (exact-list n s.table i))
+  tests-are-the-due : Exact n L ((history n s calls given accepted).0.start k) → TestsAreTheDue n s calls k
+  tests-are-the-due e i h l = (history n s calls given accepted).0.listed k closed e i h l ∙ ap (map (station_at i)) (sym (exact-list n s.table i))
 
-pub board-tests : BoardTests
-board-tests n s calls given k closed rows =
+pub exact-round-tests : ExactRoundTests
+exact-round-tests n s calls given k closed rows =
     let begun = (history n s calls given (accepted n s calls given k closed)).0.opened k closed in
-    just-due n s calls given k closed (exact_bytes n (live n s.table) _ begun.1 (rw begun.0 at rows))
+    tests-are-the-due n s calls given k closed (exact_bytes n (live n s.table) _ begun.1 (rw begun.0 at rows))
 
-pub board-tests-after-wait : BoardTestsAfterWait
-board-tests-after-wait n s calls given k far closed =
-    just-due n s calls given k closed (exact n s calls given (accepted n s calls given k closed) k far (omega arith))
+pub exact-round-tests-after-latency : ExactRoundTestsAfterLatency
+exact-round-tests-after-latency n s calls given k far closed =
+    tests-are-the-due n s calls given k closed (exact n s calls given (accepted n s calls given k closed) k far (omega arith))

@@ -12,8 +12,8 @@ use borrow.Author.Tests.{eqb-true}
 use Rattle.table.specs.Table.{stride, table_length}
 use Rattle.table.proofs.Accepting.{Accepted}
 use Rattle.plant.proofs.RunLaws.{start-facts}
-use Rattle.plant.specs.Entry.{Entry, State, entry_number, after, sheet_line}
-use Rattle.plant.specs.Run.{entries, write_line, go_on, start_check, start_number, run}
+use Rattle.plant.specs.Entry.{Entry, State, entry_refusal, after, sheet_line}
+use Rattle.plant.specs.Run.{entries, write_line, go_on, start_check, start_refusal, run}
 use Rattle.plant.proofs.RulesKept.{accepted-kept}
 use Rattle.detection.specs.Runs.{Call, Taken, after_run, after_runs, taken_from, taken_in, taken_all}
 use Rattle.lists.proofs.BoolLaws.{by_bool}
@@ -22,7 +22,7 @@ use Rattle.detection.proofs.TakenLaws.{taken_at}
 -- entries taken one behind the other at size n, from a state to a state
 pub data Chain (n : ℕ) : State → List Taken → State → Type 0 where
   done : {s : State} → Chain n s [] s
-  more : {s s' : State} {xs : List Taken} (e : Entry) → Accepted n s.table → entry_number n s e ≡ 0 → Chain n (after n s e) xs s'
+  more : {s s' : State} {xs : List Taken} (e : Entry) → Accepted n s.table → entry_refusal n s e ≡ 0 → Chain n (after n s e) xs s'
       → Chain n s (taken_at n s e ∷ xs) s'
 
 -- two chains, one behind the other
@@ -47,9 +47,9 @@ chain-entries : (n k : ℕ) (s : State) (sheet : List ℕ) (es : List Entry) →
 unfolding taken_from go_on
 chain-entries n k s sheet [] a = done
 chain-entries n k s sheet (e ∷ es) a =
-    by_bool (eqb (entry_number n s e) 0)
+    by_bool (eqb (entry_refusal n s e) 0)
     (λ t.
-    let z = eqb-true (entry_number n s e) 0 t in
+    let z = eqb-true (entry_refusal n s e) 0 t in
     rw t (more e a z (chain-entries n (suc k) (after n s e) (write_line sheet k (sheet_line n s e)) es (accepted-kept n s e a z))))
     (λ t. rw t done)
 
@@ -65,7 +65,7 @@ size-unique n m e = omega (arith, not-less n m e, not-less m n (sym e))
 chain_run : (n : ℕ) (s : State) (c : Call) → length s.table ≡ table_length n → Chain n s (taken_in s c) (after_run s c)
 unfolding taken_in run start_check
 chain_run n s c long =
-    by_bool (eqb (start_number c.size s.table (length c.schedule) (length c.sheet)) 0)
+    by_bool (eqb (start_refusal c.size s.table (length c.schedule) (length c.sheet)) 0)
     (λ t.
     let fits = (start-facts c.size s.table (length c.schedule) (length c.sheet) (eqb-true _ 0 t)).0 in
     let same : c.size ≡ n = size-unique c.size n (sym fits.long ∙ long) in
@@ -85,12 +85,12 @@ taken-from : (n k : ℕ) (s : State) (sheet : List ℕ) (es : List Entry) → (g
 unfolding taken_from go_on
 taken-from n k s sheet [] = omega arith
 taken-from n k s sheet (e ∷ es) =
-    by_bool (eqb (entry_number n s e) 0)
+    by_bool (eqb (entry_refusal n s e) 0)
     (λ t. rw t (omega (arith, taken-from n (suc k) (after n s e) (write_line sheet k (sheet_line n s e)) es))) (λ t. rw t (omega arith))
 
 -- a run answers how many entries it takes
 pub taken_is : (s : State) (c : Call) → (run c.size s c.schedule c.sheet).taken ≡ length (taken_in s c)
 unfolding taken_in run
 taken_is s c =
-    by_bool (eqb (start_number c.size s.table (length c.schedule) (length c.sheet)) 0)
+    by_bool (eqb (start_refusal c.size s.table (length c.schedule) (length c.sheet)) 0)
     (λ t. rw t (omega (arith, taken-from c.size 0 s c.sheet (entries c.schedule)))) (λ t. rw t)

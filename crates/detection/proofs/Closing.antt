@@ -19,7 +19,7 @@ use Rattle.plant.proofs.RoundLaws.{Reset, reset-cells, reset-other, reset-lines}
 use Rattle.lists.specs.Sums.{sum_below, bit}
 use Rattle.detection.specs.Runs.{Taken}
 use Rattle.detection.specs.Rounds.{tests_in}
-use Rattle.detection.specs.Claim.{dead_group, dead_pairs, demand_count}
+use Rattle.detection.specs.Claim.{group_without_live, pairs_without_live, tests_per_round}
 use Rattle.detection.specs.Boards.{tested_in}
 use Rattle.lists.proofs.BoolLaws.{by_bool}
 use Rattle.lists.proofs.SumLaws.{sum_by, sum-zero, sum-stays, sum-const}
@@ -127,8 +127,9 @@ module _ (n : ℕ) (T t₀ t : List ℕ) (here : List Taken) (low : n ≤ distan
   all_made =
       present-sum n _ low (λ i a. sum-zero (distances n) (λ m b. leads-none i m (rw (le-ltb i n a)))) ∙ sym (sum_by n made)
 
-  pairs : sum_below (λ j. sum_below (λ h. bit (is_present n j && nobody (LiveOf n L) j (suc h))) (dimension n)) (distances n) ≡ dead_pairs n T
-  unfolding dead_pairs dead_group
+  pairs : sum_below (λ j. sum_below (λ h. bit (is_present n j && nobody (LiveOf n L) j (suc h))) (dimension n)) (distances n)
+      ≡ pairs_without_live n T
+  unfolding pairs_without_live group_without_live
   pairs =
       present-sum n _ low (λ j a. sum-zero (dimension n) (λ h b. rw (le-ltb j n a)))
       ∙ sum_by n (λ j a. sum_by (dimension n) (λ h b. rw (lt-ltb j n a)))
@@ -144,5 +145,5 @@ module _ (n : ℕ) (T t₀ t : List ℕ) (here : List Taken) (low : n ≤ distan
   unfolding distances
   split = tests-and-rest (is_present n) (LiveOf n L) (dimension n)
 
-  pub round-count : tests_in here ≡ demand_count n T
+  pub round-count : tests_in here ≡ tests_per_round n T
   round-count = omega (arith, inv.counts.tests, sum-zero n (λ i h. (inv.fresh i h).untested), split, all_made, pairs, stations)

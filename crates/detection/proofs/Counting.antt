@@ -1,4 +1,5 @@
--- What bytes 2 and 3 of the lines count: turns and tests since a round's start, or since any table within it. Nobody is trusted here.
+-- What bytes 2 and 3 of the lines count: turns and tests since a round's start, or since any table within it. It is not supposed here that no live
+-- station suspects a live one.
 -- Assumes nothing.
 use mathlib.Core.Path.{◌≡◌, refl, sym, ap, ap₂, ◌∙◌}
 use mathlib.Core.Logic.{by_cases}

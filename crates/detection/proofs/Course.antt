@@ -17,14 +17,14 @@ use Rattle.table.proofs.Accepting.{Accepted}
 use Rattle.table.proofs.SizeLaws.{size-distances}
 use Rattle.plant.specs.Turn.{kind_turn, kind_late, kind_crash, makes_test, next_test, turn_tested}
 use Rattle.plant.specs.Round.{reset_lines, after_round}
-use Rattle.plant.specs.Entry.{Entry, State, is_crash, entry_number, acted, after, tested_of}
+use Rattle.plant.specs.Entry.{Entry, State, is_crash, entry_refusal, acted, after, tested_of}
 use Rattle.plant.proofs.RulesKept.{Takes, entry-facts}
 use Rattle.plant.proofs.StepLines.{Lines}
 use Rattle.plant.proofs.NextTest.{test-station}
 use Rattle.lists.specs.Sums.{bit}
 use Rattle.detection.specs.Runs.{Taken, taken_test, crashes, is_late}
 use Rattle.detection.specs.Rounds.{all_taken, count_taken, Rounds, round_before, closes, cut, tests_in, tests_of_all}
-use Rattle.detection.specs.Claim.{TurnsOk, demand_count, all_rounds, exact_wait}
+use Rattle.detection.specs.Claim.{TurnsOk, tests_per_round, all_rounds, worst_latency}
 use Rattle.detection.specs.Boards.{tested_in, first_table}
 use Rattle.lists.proofs.BoolLaws.{by_bool}
 use Rattle.detection.proofs.TakenLaws.{taken_at, count-snoc}
@@ -48,7 +48,7 @@ pub record Course (n : ℕ) (T t₀ : List ℕ) (r : Rounds) (end : List ℕ) : 
   pub last : Knows n (live n T) (start (length r.closed)) end
   pub turns : (k i : ℕ) → k ≤ length r.closed → i < n → TurnsOk n i (get_or (all_rounds r) k [])
   -- a closed round that starts exact has the count of tests
-  pub counted : (k : ℕ) → k < length r.closed → Exact n (live n T) (start k) → tests_in (get_or r.closed k []) ≡ demand_count n T
+  pub counted : (k : ℕ) → k < length r.closed → Exact n (live n T) (start k) → tests_in (get_or r.closed k []) ≡ tests_per_round n T
   -- each round begins with its table, and in a closed round that starts exact each live station tests whom it leads
   pub opened : (k : ℕ) → k < length r.closed → (first_table (get_or r.closed k []) ≡ start k) × Plain n (live n T) (start k)
   pub listed : (k : ℕ) → k < length r.closed → Exact n (live n T) (start k) → (i : ℕ) → i < n → live n T i ≡ true
@@ -61,7 +61,7 @@ pub record Tallied (cur : List Taken) (s : State) (r : Rounds) (s' : State) : Ty
 
 -- after enough closed rounds the rows at a round's start are exact
 pub exact-at : (n d : ℕ) (T t₀ : List ℕ) (r : Rounds) (end : List ℕ) (c : Course n T t₀ r end) → n ≤ 2 ^ d
-    → (q : ℕ) → exact_wait d ≤ q → q ≤ length r.closed → Exact n (live n T) (c.start q)
+    → (q : ℕ) → worst_latency d ≤ q → q ≤ length r.closed → Exact n (live n T) (c.start q)
 exact-at n d T t₀ r end c pow q far closed i j h g l e =
     detected d L rows rounds q i j far (rw (lt-ltb i n h, l)) (rw (lt-ltb j n g, e)) (near-below d j i (omega arith) (omega arith)) closed g
   where
@@ -93,7 +93,7 @@ start_with t f (suc q) = f q
 record ClosedRound (n : ℕ) (T t₀ t₁ : List ℕ) (here : List Taken) : Type 0 where
   pub step : RoundStep n (live n T) t₀ t₁
   pub turns : (i : ℕ) → i < n → TurnsOk n i here
-  pub counted : Exact n (live n T) t₀ → tests_in here ≡ demand_count n T
+  pub counted : Exact n (live n T) t₀ → tests_in here ≡ tests_per_round n T
   pub opened : (first_table here ≡ t₀) × Plain n (live n T) t₀
   pub listed : Exact n (live n T) t₀ → (i : ℕ) → i < n → live n T i ≡ true
       → tested_in i here ≡ map (station_at i) (led_below n (live n T) i (distances n))
@@ -115,7 +115,7 @@ course-before n T t₀ t₁ here first r end c =
         | zero ↦ λ i h. first.turns i
         | suc k ↦ λ i h. c.turns k i (omega arith)
       ];
-      counted = λ k. elim k as (λ x. x < length (here ∷ r.closed) → Exact n (live n T) (start x) → tests_in (round x) ≡ demand_count n T) [
+      counted = λ k. elim k as (λ x. x < length (here ∷ r.closed) → Exact n (live n T) (start x) → tests_in (round x) ≡ tests_per_round n T) [
         | zero ↦ λ h. first.counted
         | suc k ↦ λ h. c.counted k (omega arith)
       ];
@@ -152,7 +152,7 @@ cut-done n T t₀ cur s size inv = (
 
 -- one taken entry that is no crash and no late reply
 module _ (n : ℕ) (T : List ℕ) (company : Company n (live n T)) (t₀ : List ℕ) (cur : List Taken) (s : State) (e : Entry)
-    (ok : Accepted n s.table) (takes : entry_number n s e ≡ 0) (inv : InRound n (live n T) t₀ cur s.table)
+    (ok : Accepted n s.table) (takes : entry_refusal n s e ≡ 0) (inv : InRound n (live n T) t₀ cur s.table)
     (no_crash : is_crash e ≡ false) (in_time : is_late (taken_at n s e) ≡ false) where
   abbrev L : ℕ → Bool
   L = live n T

@@ -1,5 +1,5 @@
--- Who knows after how many rounds: after `exact_wait d` closed rounds each live station suspects each station near at d to it that is not
--- live. docs/DEMAND-3.md tells the proof. A live set and rows over numbers, nothing else.
+-- Who knows after how many rounds: after `worst_latency d` closed rounds each live station suspects each station near at d to it that is not
+-- live. docs/DETECTION.md tells the proof. A live set and rows over numbers, nothing else.
 -- Assumes nothing.
 use mathlib.Core.Path.{◌≡◌, refl, sym, ◌∙◌}
 use mathlib.Core.Logic.{◌⊎◌, inl, inr, by_cases}
@@ -7,11 +7,11 @@ use mathlib.Core.Bool.{Bool, true, false, true≢false}
 use Prim.Native.Nat.{ℕ, zero, suc, ◌+◌, ◌*◌, ◌-◌, ◌≤◌, ◌<◌}
 use native.Mathlib.Decide.{dec_lt}
 use native.Mathlib.Omega.{arith}
-use Rattle.detection.specs.Claim.{exact_wait}
+use Rattle.detection.specs.Claim.{worst_latency}
 use Rattle.lists.proofs.Xor.{Near, near_le}
 use Rattle.detection.proofs.Near.{Member, Parting, same, apart, near-dec, near-zero, member-sym, member-near, members-near, parting}
 use Rattle.detection.proofs.Pass.{InPass, find, lift, Round}
-use Rattle.detection.proofs.Wait.{spread, ready, ready-enough, wait-enough, wait-grows, wait-pos}
+use Rattle.detection.proofs.Latency.{spread, ready, ready-enough, latency-enough, latency-grows, latency-pos}
 use Rattle.detection.proofs.Leaders.{Dead, Leads, leader-or-dead, leader, Aware, leader-tests}
 use Rattle.detection.proofs.Spread.{AllAware, weaker, later, spreads, reaches}
 
@@ -133,30 +133,30 @@ module _ (live : ℕ → Bool) (rows : ℕ → ℕ → ℕ → Type 0) (R : (q :
           gains i s (suc p) _ _ cube u s q i e (omega arith) (omega arith) t refl
 
   -- a live i comes to suspect a j that is not live and has i in its group at level s + 1
-  suspected : (s i j : ℕ) → live i ≡ true → live j ≡ false → Member s j i → rows (exact_wait (suc s)) i j
+  suspected : (s i j : ℕ) → live i ≡ true → live j ≡ false → Member s j i → rows (worst_latency (suc s)) i j
   suspected s i j ti fj m = go (span live i s)
     where
       all : (p : ℕ) → AllAware live rows (ready p) p
       all p q y = all-aware (suc p) p q y (omega arith)
 
-      go : Span live i s → rows (exact_wait (suc s)) i j
+      go : Span live i s → rows (worst_latency (suc s)) i j
       go (alone dead) =
           let g = finds-for i s 0 0 0 (subcube-alone i s dead) s 0 j (omega arith) (omega arith) ti m fj in
           let me : g.station ≡ i = near-zero g.station i g.near in
-          later live rows R 1 _ i j (wait-pos s) ti (rw me at ((R 0).keeps g.station (suc s) j g.alive g.knows))
+          later live rows R 1 _ i j (latency-pos s) ti (rw me at ((R 0).keeps g.station (suc s) j g.alive g.knows))
       go (wide p u x e mx tx dead) =
           let q : ℕ = ready p + u * suc (spread (suc p)) in
           let g = finds-for i s (suc p) _ _ (subcube-wide i s p x (all p) ti mx tx dead) u q j e (omega arith) ti m fj in
           let row : rows (suc q) g.station j = (R q).keeps g.station (suc s) j g.alive g.knows in
           let aware = weaker live rows _ (suc q) p p (omega arith) (omega arith) (all p) in
-          let enough = rw e at (wait-enough p u) in
+          let enough = rw e at (latency-enough p u) in
           later live rows R _ _ i j (omega arith) ti (reaches live rows R g.station j (suc q) p g.alive aware row i ti (sym g.near))
 
--- after the exact wait, and at any later round's start, each live station suspects each station near at d to it that is not live
+-- after the worst-case latency, and at any later round's start, each live station suspects each station near at d to it that is not live
 pub detected : (d : ℕ) (live : ℕ → Bool) (rows : ℕ → ℕ → ℕ → Type 0) → ((q : ℕ) → Round live (rows q) (rows (suc q))) → (q i j : ℕ)
-    → exact_wait d ≤ q → live i ≡ true → live j ≡ false → Near d j i → rows q i j
+    → worst_latency d ≤ q → live i ≡ true → live j ≡ false → Near d j i → rows q i j
 detected d live rows R q i j l ti fj n = go (parting d j i n)
   where
     go : Parting d j i → rows q i j
     go (same e) = absurd (true≢false (sym ti ∙ (rw e at fj)))
-    go (apart s b m) = later live rows R _ q i j (omega (arith, wait-grows (suc s) d b)) ti (suspected live rows R s i j ti fj m)
+    go (apart s b m) = later live rows R _ q i j (omega (arith, latency-grows (suc s) d b)) ti (suspected live rows R s i j ti fj m)

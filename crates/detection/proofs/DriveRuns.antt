@@ -8,20 +8,20 @@ use native.Mathlib.Omega.{arith}
 use borrow.Author.Tests.{eqb-true, eqb-false}
 use lib.Dec.{eqb}
 use lib.ListN.{length, length-append}
-use Rattle.table.specs.Rules.{table_number}
+use Rattle.table.specs.Rules.{table_refusal}
 use Rattle.lists.proofs.BoolLaws.{by_bool}
 use Rattle.plant.specs.Turn.{kind_turn}
-use Rattle.plant.specs.Entry.{State, entry_of, entry_check, entry_number}
+use Rattle.plant.specs.Entry.{State, entry_of, entry_check, entry_refusal}
 use Rattle.plant.proofs.RunLaws.{accepted-number}
 use Rattle.detection.specs.Runs.{turn_run, after_runs, taken_all}
 use Rattle.detection.proofs.OneTurn.{after-append, taken-append, one_left, one-taken}
 use Rattle.detection.proofs.TakenLaws.{taken_at}
-use Rattle.granter.specs.Grant.{last_refusal, grant_number}
+use Rattle.granter.specs.Grant.{last_refusal, grant_refusal}
 use Rattle.granter.specs.Drive.{Stand, stand_at, granted_at, grant_turn, after_grants, ended_after, full_after, stops, grants_made, outcome_after, drive}
 use Rattle.granter.proofs.GrantLaws.{Grantable, grantable, grant-zero, station-fits}
 use Rattle.granter.proofs.DriveLaws.{Driving, not_stopped, driving-start, still, chosen, next-taken, next-driving}
-use Rattle.detection.specs.Driven.{runs_of, EveryDriveTurnByTurn}
-use Rattle.granter.proofs.Stops.{every-drive-stops}
+use Rattle.detection.specs.Driven.{runs_of, DriveIsTurns}
+use Rattle.granter.proofs.Stops.{drive-stops}
 
 -- as long as a drive does not stop
 pub driving-at : (n : ℕ) (s : State) (last : ℕ) → Grantable n s.table last → (k : ℕ)
@@ -52,10 +52,10 @@ runs-left n s last g (suc k) going = step (runs-left n s last g k (λ j l. going
     d : Driving n p k
     d = driving-at n s last g k going
 
-    z : entry_number n q (entry_of kind_turn i) ≡ 0
+    z : entry_refusal n q (entry_of kind_turn i) ≡ 0
     z = next-taken n p k d (not_stopped n p k (going k (omega arith))).1
 
-    ok : table_number n q.table ≡ 0
+    ok : table_refusal n q.table ≡ 0
     ok = accepted-number n q.table d.ok
 
     step : (after_runs s (runs_of n p k) ≡ q) × (length (taken_all s (runs_of n p k)) ≡ k)
@@ -78,28 +78,28 @@ last_fits n s last g (suc k) going =
 -- no grant of a drive is refused
 grants-taken : (n : ℕ) (s : State) (last : ℕ) → Grantable n s.table last → (k : ℕ)
     → ((j : ℕ) → j < suc k → stops n (stand_at s last) j ≡ false)
-    → grant_number n (after_grants n (stand_at s last) k).state.table (after_grants n (stand_at s last) k).last ≡ 0
+    → grant_refusal n (after_grants n (stand_at s last) k).state.table (after_grants n (stand_at s last) k).last ≡ 0
 grants-taken n s last g k going =
     let d = driving-at n s last g k going in
     grant-zero n _ _ (accepted-number n _ d.ok) (last_fits n s last g k (λ j l. going j (omega arith))) (still n (stand_at s last) k d).1
 
 -- where a drive stops and has not ended, a tally is full
 full-number : (n : ℕ) (p : Stand) (k i : ℕ) → stops n p k ≡ true → ◌≡◌ {A = ℕ} (cond (ended_after n p k) 0 7) 7
-    → entry_number n (after_grants n p k).state (entry_of kind_turn i) ≡ 7
+    → entry_refusal n (after_grants n p k).state (entry_of kind_turn i) ≡ 7
 unfolding stops entry_check
 full-number n p k i stop seven =
     by_bool (ended_after n p k) (λ e. absurd (omega (arith, rw e at seven)))
     (λ e. let full : full_after n p k ≡ true = rw e at stop in rw full)
 
 -- a drive is the granting rule followed turn by turn, an end in itself
-pub turn-by-turn : EveryDriveTurnByTurn
+pub drive-is-turns : DriveIsTurns
 unfolding drive outcome_after runs_of after_runs taken_all after_grants
-turn-by-turn n s last =
-    by_bool (eqb (grant_number n s.table last) 0)
+drive-is-turns n s last =
+    by_bool (eqb (grant_refusal n s.table last) 0)
     (λ e.
     let z = eqb-true _ 0 e in
     let g = grantable n s.table last z in
-    let stop = every-drive-stops n s last z in
+    let stop = drive-stops n s last z in
     let r = runs-left n s last g made stop.first in
     record {
       granted = rw e (λ k h. grants-taken n s last g k (λ j l. stop.first j (omega arith)));

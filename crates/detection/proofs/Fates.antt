@@ -18,12 +18,12 @@ use Rattle.table.proofs.Accepting.{Accepted, accepted}
 use Rattle.table.proofs.CellLaws.{TurnCounts, cell_same, cell_other}
 use Rattle.plant.specs.Turn.{outcome_exchanged, outcome_told, outcome_tested_told, set_status, leave_told, makes_test, replies, is_told, exchange_rows, suspect, reply_outcome, test_outcome, after_outcome, after_test, is_alone, after_alone, testing, turn, turn_tested, turn_outcome, crash, finish_pass}
 use Rattle.plant.specs.Round.{after_round}
-use Rattle.plant.specs.Entry.{Entry, State, is_crash, entry_number, acted, after, tested_of, outcome_of}
+use Rattle.plant.specs.Entry.{Entry, State, is_crash, entry_refusal, acted, after, tested_of, outcome_of}
 use Rattle.plant.proofs.StepCells.{leave_told-other, leave_told-status, leave_told-teller, finish_pass-other, suspect-other, exchange-other}
 use Rattle.plant.proofs.StepLines.{after_test-lines}
 use Rattle.plant.proofs.RoundLaws.{reset-other}
 use Rattle.plant.proofs.RulesKept.{Takes, entry-facts}
-use Rattle.detection.specs.Ceased.{LeftTold, EntryTells}
+use Rattle.detection.specs.Ceased.{LeftTold, TellerIsNamed}
 use Rattle.detection.proofs.TestingPair.{Counted, Pair, parts_of, count-others, testing-pair}
 
 -- status and byte 4 of line k are the same in both tables
@@ -67,7 +67,7 @@ fate-earlier n t u v k same h (leaves l low untold p) =
     leaves (rw (same k status_column (omega arith) (omega arith)) at l) low untold (p ∙ same k told_by_column (omega arith) (omega arith))
 fate-earlier n t u v k same h (hears b hb l) = hears b hb (left-earlier n t u v k b same h l)
 
--- step 6: i, which it may make leave as alone
+-- station i, which may leave as alone
 module _ (n : ℕ) (v : List ℕ) (i : ℕ) where
   alone-other : (k : ℕ) → (i ≡ k → live n v k ≡ false) → SameExit n v (after_alone n v i) k
   unfolding after_alone is_alone
@@ -106,7 +106,7 @@ module _ (n : ℕ) (v : List ℕ) (i : ℕ) where
       here l (leaves a low untold p) = absurd (omega (arith, eqb-true (status n v i) 0 l))
       here l (hears b hb p) = absurd (omega (arith, eqb-true (status n v i) 0 l, p.left))
 
--- steps 4 and 5: i, which is live, tests j
+-- station i, which is live, tests j
 module _ (n : ℕ) (u : List ℕ) (kind i j : ℕ) (long : length u ≡ table_length n) (hi : i < n) (hj : j < n) (apart : i ≢ j)
     (alive : live n u i ≡ true) where
   left-tester : replies n u kind j ≡ true → is_told n u i j ≡ true → LeftTold n u (leave_told n u i j) i j
@@ -172,7 +172,7 @@ module _ (n : ℕ) (u : List ℕ) (kind i j : ℕ) (long : length u ≡ table_le
       o = test_outcome n u kind i j
 
 -- a taken entry
-module _ (n : ℕ) (s : State) (e : Entry) (ok : Accepted n s.table) (z : entry_number n s e ≡ 0) where
+module _ (n : ℕ) (s : State) (e : Entry) (ok : Accepted n s.table) (z : entry_refusal n s e ≡ 0) where
   open parts_of n s e use {before as t, tester as i, distance as m, tested as j, counted as u}
 
   facts : Takes n s e
@@ -217,7 +217,7 @@ module _ (n : ℕ) (s : State) (e : Entry) (ok : Accepted n s.table) (z : entry_
           leaves facts.is_live (omega (arith, one)) (λ q. omega (arith, one))
           (cell_other n t i status_column status_crashed i told_by_column (omega arith) (omega arith) (omega arith))
 
-  -- steps 2 to 7 leave bytes 4 and 5, but for byte 4 of a station that is told to leave
+  -- what an entry does before the round is looked at leaves bytes 4 and 5, but for byte 4 of a station that is told to leave
   acted-record : (k c : ℕ) → told_by_column ≤ c → c ≤ rounds_ago_column
       → (outcome_of n t e ≡ outcome_told → i ≡ k → c ≢ told_by_column)
       → (outcome_of n t e ≡ outcome_tested_told → tested_of n t e ≡ k → c ≢ told_by_column) → cell n (acted n t e) k c ≡ cell n t k c
@@ -243,7 +243,7 @@ module _ (n : ℕ) (s : State) (e : Entry) (ok : Accepted n s.table) (z : entry_
   pub acted-ago : (k : ℕ) → rounds_ago n (acted n t e) k ≡ rounds_ago n t k
   acted-ago k = acted-record k rounds_ago_column (omega arith) (omega arith) (λ _ _. omega arith) (λ _ _. omega arith)
 
-  -- step 8 leaves status and byte 4
+  -- the closing of a round leaves status and byte 4
   closing_same : (k : ℕ) → SameExit n (acted n t e) (after n s e).table k
   unfolding after after_round
   closing_same k =
@@ -314,8 +314,8 @@ module _ (n : ℕ) (s : State) (e : Entry) (ok : Accepted n s.table) (z : entry_
       (λ b. absurd (omega (arith, rw (c, b) at o))))
 
 -- the claim about one entry, an end in itself
-pub entry-tells : EntryTells
-entry-tells n s e shape z =
+pub teller-is-named : TellerIsNamed
+teller-is-named n s e shape z =
     let ok = accepted n s.table shape in
     record {
       tester = tester-told n s e ok z;

@@ -1,4 +1,4 @@
--- A fresh table passes refusals 1 to 4, stands at the start of a round and meets what demand 3 supposes: ends in themselves.
+-- A fresh table passes refusals 1 to 4, stands at the start of a round and meets the detection conditions on a table: ends in themselves.
 -- Assumes nothing.
 use mathlib.Core.Path.{◌≡◌, refl, ap, ◌∙◌}
 use mathlib.Core.Bool.{true, cond}
@@ -11,7 +11,7 @@ use lib.Dec.{eqb}
 use lib.ListN.{length}
 use Rattle.table.specs.Sizes.{is_size}
 use Rattle.table.specs.Table.{head, stride, table_length, line_start, cell, status_column, next_column, finished_column, tests_column, told_by_column, told_by_none, rounds_ago_column, suspects, live, status}
-use Rattle.table.specs.Rules.{exit_rule, line_rules, table_number}
+use Rattle.table.specs.Rules.{exit_rule, line_rules, table_refusal}
 use Rattle.table.specs.Fresh.{fresh_byte, fresh_table}
 use Rattle.lists.proofs.SearchLaws.{every-all, list_of-length, list_of-at}
 use Rattle.lists.specs.Sums.{bit}
@@ -25,7 +25,7 @@ use Rattle.detection.specs.Runs.{taken_all}
 use Rattle.detection.specs.Rounds.{all_taken}
 use Rattle.detection.specs.Claim.{FreshMeetsPremises}
 
--- "every line live, next distance 1, all else 0"; by C-18 byte 4 is 255
+-- a fresh line: next distance 1, byte 4 255, and all else 0
 fresh-cell : (n i c : ℕ) → i < n → c < stride n → cell n (fresh_table n) i c ≡ cond (eqb c next_column) 1 (cond (eqb c told_by_column) told_by_none 0)
 unfolding cell fresh_table fresh_byte line_start
 fresh-cell n i c h g =
@@ -62,7 +62,7 @@ module _ (n : ℕ) where
   fresh-long = list_of-length (fresh_byte n) (table_length n)
 
   -- it passes refusals 1 to 4
-  pub fresh-accepted : is_size n ≡ true → table_number n t ≡ 0
+  pub fresh-accepted : is_size n ≡ true → table_refusal n t ≡ 0
   fresh-accepted size =
       accepted-number n t (record {
         size = size;
@@ -97,7 +97,7 @@ fresh-premises n rounds tests size = record {
   long = fresh-long n;
   start = fresh_start n;
   two_live = omega (arith, all_live n, size-bounds n size);
-  trusted = none-suspected n;
+  accurate = none-suspected n;
   no_crash = refl;
   no_late = refl;
 }

@@ -106,7 +106,7 @@ pub exact-due : (n : ℕ) (L : ℕ → Bool) (t : List ℕ) → Plain n L t → 
     → due (row n t i) i m ≡ leads_at n L i m
 exact-due n L t p exact i m hi l =
     row-due n L (row n t i) (row-length n t i p.lines.0 hi)
-    (λ x h. row_at n t i x h ∙ by_bool (L x) (λ e. rw e (p.trusted i x hi h l e)) (λ e. rw e (exact i x hi h l e))) i m
+    (λ x h. row_at n t i x h ∙ by_bool (L x) (λ e. rw e (p.accurate i x hi h l e)) (λ e. rw e (exact i x hi h l e))) i m
 
 -- where i suspects all present ahead of it in the group of x the distance to x is due
 due-now : (n : ℕ) (t : List ℕ) (h x i : ℕ) → Lines n t → i < n → x < n → Member h x i → ((y : ℕ) → Ahead h x i y → RowOf n t i y)

@@ -1,7 +1,7 @@
--- The proof of demand 3 and of the exact wait, a file for each part (docs/DEMAND-3.md tells it on a page); from TestingPair on of the other claims.
+-- The proof of the detection claim, a file for each part (docs/DETECTION.md tells it on a page); from TestingPair on of the other claims.
 pub mod Near
 pub mod Pass
-pub mod Wait
+pub mod Latency
 pub mod Leaders
 pub mod Spread
 pub mod Detected
@@ -15,17 +15,17 @@ pub mod Listing
 pub mod Closing
 pub mod Chain
 pub mod Course
-pub mod Demand3
+pub mod DetectionClaim
 pub mod BoardLaws
 pub mod OneTurn
 pub mod FreshStart
 pub mod TestingPair
-pub mod Heard
+pub mod ReplyEffect
 pub mod Fates
-pub mod Recorded
+pub mod ExitRecord
 pub mod SheetTests
 pub mod RowsGrow
 pub mod TestsDue
 pub mod RoundTests
 pub mod DriveRuns
-pub mod DrivenDemand
+pub mod DrivenDetection

@@ -5,12 +5,12 @@ use mathlib.Core.Bool.{Bool, true}
 use mathlib.Core.List.{List, [], ◌∷◌, ◌++◌, append_assoc}
 use Prim.Native.Nat.{ℕ}
 use lib.Dec.{eqb}
-use Rattle.table.specs.Rules.{table_number}
+use Rattle.table.specs.Rules.{table_refusal}
 use Rattle.lists.proofs.BoolLaws.{choice}
 use Rattle.lists.proofs.SearchLaws.{both}
 use Rattle.plant.specs.Turn.{kind_turn}
-use Rattle.plant.specs.Entry.{State, entry_of, entry_number, after}
-use Rattle.plant.specs.Run.{Outcome, entries, start_check, start_number}
+use Rattle.plant.specs.Entry.{State, entry_of, entry_refusal, after}
+use Rattle.plant.specs.Run.{RunResult, entries, start_check, start_refusal}
 use Rattle.lists.proofs.RefusalLaws.{check_zero}
 use Rattle.plant.proofs.RunLaws.{start-one, go-one, run-goes}
 use Rattle.detection.specs.Runs.{Call, Taken, turn_run, after_run, after_runs, taken_from, taken_in, taken_all}
@@ -30,10 +30,10 @@ taken-append s (c ∷ a) b =
     rw (taken-append (after_run s c) a b) (sym (append_assoc (taken_in s c) (taken_all (after_run s c) a) (taken_all (after_runs (after_run s c) a) b)))
 
 -- a run of one turn that is taken
-module _ (n : ℕ) (s : State) (i : ℕ) (ok : table_number n s.table ≡ 0) (z : entry_number n s (entry_of kind_turn i) ≡ 0) where
+module _ (n : ℕ) (s : State) (i : ℕ) (ok : table_refusal n s.table ≡ 0) (z : entry_refusal n s (entry_of kind_turn i) ≡ 0) where
   pub one_left : after_run s (turn_run n i) ≡ after n s (entry_of kind_turn i)
   one_left =
-      ap (λ (o : Outcome). o.state) (run-goes n s (turn_run n i).schedule (turn_run n i).sheet (start-one n s.table ok))
+      ap (λ (o : RunResult). o.state) (run-goes n s (turn_run n i).schedule (turn_run n i).sheet (start-one n s.table ok))
       ∙ go-one n s (turn_run n i).sheet kind_turn i z
 
   pub one-taken : taken_in s (turn_run n i) ≡ taken_at n s (entry_of kind_turn i) ∷ []
@@ -57,5 +57,5 @@ module _ (q : Taken → Bool) (turns : (n : ℕ) (s : State) (i : ℕ) → q (ta
   unfolding taken_all taken_in taken_from entries all_taken
   one_passes n s i =
       let passes : all_taken q (taken_at n s (entry_of kind_turn i) ∷ []) ≡ true = rw (turns n s i) in
-      all_append q (taken_in s (turn_run n i)) [] (choice (λ xs. all_taken q xs ≡ true) (eqb (start_number n s.table 2 4) 0)
-      (choice (λ xs. all_taken q xs ≡ true) (eqb (entry_number n s (entry_of kind_turn i)) 0) passes refl) refl) refl
+      all_append q (taken_in s (turn_run n i)) [] (choice (λ xs. all_taken q xs ≡ true) (eqb (start_refusal n s.table 2 4) 0)
+      (choice (λ xs. all_taken q xs ≡ true) (eqb (entry_refusal n s (entry_of kind_turn i)) 0) passes refl) refl) refl

@@ -28,7 +28,7 @@ use Rattle.plant.specs.Turn.{kind_crash, crash}
 use Rattle.plant.proofs.StepLines.{Lines}
 use Rattle.plant.proofs.TurnHeads.{turn-heads}
 use Rattle.plant.specs.Round.{reset_lines, after_round}
-use Rattle.plant.specs.Entry.{Entry, State, is_crash, entry_number, acted, after}
+use Rattle.plant.specs.Entry.{Entry, State, is_crash, entry_refusal, acted, after}
 use Rattle.plant.proofs.RulesKept.{entry-facts, acted-lines}
 use Rattle.plant.proofs.RoundLaws.{Reset, reset-cells, reset-other, reset-lines}
 use Rattle.detection.specs.Runs.{Call, Taken, table_after, taken_all, after_runs}
@@ -40,7 +40,7 @@ use Rattle.detection.proofs.Counting.{Counts, counts_start, turn-counts, crash-c
 use Rattle.slots.specs.Slots.{tests_due, most_tests}
 use Rattle.slots.specs.Law.{Wider}
 use Rattle.slots.proofs.MoreTests.{tests-sum, mark-unsuspected, mark-suspected, wider-mark, most-covers}
-use Rattle.detection.specs.Timing.{tests_by, ByteThree, table_left, end_of, NoMoreThanDue, SuspectsAtMost, SlotIsEnough}
+use Rattle.detection.specs.Timing.{tests_by, TestsByteCounts, table_left, end_of, TestsWithinDue, SuspectsAtMost, SlotSuffices}
 use Rattle.detection.proofs.TestsDue.{row-unsuspected, TestsAreDue, acted-fits}
 
 -- byte 3 of each line is the number of its testing entries since t₀, the start of the round
@@ -113,7 +113,7 @@ record Cut (n : ℕ) (T : List ℕ) (r : Rounds) (end : List ℕ) : Type 0 where
   pub counts : (i : ℕ) → i < n → tests_made n end i ≡ tests_by i r.open_round
 
 -- a taken entry
-module _ (n : ℕ) (s : State) (e : Entry) (ok : Accepted n s.table) (takes : entry_number n s e ≡ 0) (t₀ : List ℕ) (cur : List Taken)
+module _ (n : ℕ) (s : State) (e : Entry) (ok : Accepted n s.table) (takes : entry_refusal n s e ≡ 0) (t₀ : List ℕ) (cur : List Taken)
     (inv : Timed n t₀ cur s.table) where
   abbrev t : List ℕ
   t = s.table
@@ -229,20 +229,20 @@ wider-mark-row n t lines r i j h apart long own few = record {
         pick (inl f) = absurd (true≢false (sym clear ∙ f))
         pick (inr f) = absurd (true≢false (sym free ∙ rw f (mark-suspected r j (omega (arith, long, f)))))
 
-pub byte-three : ByteThree
-byte-three n s calls i long start h = (rounds-cut n s calls long start).counts i h
+pub tests-byte-counts : TestsByteCounts
+tests-byte-counts n s calls i long start h = (rounds-cut n s calls long start).counts i h
 
-pub no-more-than-due : NoMoreThanDue
+pub tests-within-due : TestsWithinDue
 unfolding count_taken
-no-more-than-due n s calls k i long start far h = pick ((rounds-cut n s calls long start).each k far)
+tests-within-due n s calls k i long start far h = pick ((rounds-cut n s calls long start).each k far)
   where
     pick : RoundFits n s.table (round_at s calls k) → tests_by i (round_at s calls k) ≤ tests_due n (row n (end_of s calls k) i) i
     pick (inl none) = rw none (omega arith)
     pick (inr l) = l.within i h
 
-pub slot-is-enough : SlotIsEnough
+pub slot-suffices : SlotSuffices
 unfolding count_taken
-slot-is-enough n s calls k r i j long start far h l apart row_long own few = pick ((rounds-cut n s calls long start).each k far)
+slot-suffices n s calls k r i j long start far h l apart row_long own few = pick ((rounds-cut n s calls long start).each k far)
   where
     pick : RoundFits n s.table (round_at s calls k) → tests_by i (round_at s calls k) ≤ most_tests n r i
     pick (inl none) = rw none (omega arith)

@@ -15,7 +15,7 @@ use Rattle.plant.specs.Turn.{next_test, makes_test, count_test}
 use Rattle.plant.proofs.NextTest.{next_test-low, test_below, test-station}
 use Rattle.plant.proofs.StepCells.{count_test-other}
 use Rattle.plant.proofs.StepLines.{Lines, count_test-lines, station-apart}
-use Rattle.plant.specs.Entry.{Entry, State, is_crash, entry_number}
+use Rattle.plant.specs.Entry.{Entry, State, is_crash, entry_refusal}
 use Rattle.plant.proofs.RulesKept.{entry-facts}
 
 -- the table before an entry, its station, the distance of that one's next test and the station there, and the table with the test counted
@@ -50,7 +50,7 @@ pub record Pair (n : ℕ) (t u : List ℕ) (i j : ℕ) : Type 0 where
 pub count-others : (n : ℕ) (s : State) (e : Entry) → Counted n (parts_of n s e).before (parts_of n s e).counted
 count-others n s e k c h out = count_test-other n s.table e.station (next_test n s.table e.station) k c h (λ _. out)
 
-pub testing-pair : (n : ℕ) (s : State) (e : Entry) → Accepted n s.table → entry_number n s e ≡ 0 → is_crash e ≡ false
+pub testing-pair : (n : ℕ) (s : State) (e : Entry) → Accepted n s.table → entry_refusal n s e ≡ 0 → is_crash e ≡ false
     → makes_test n s.table e.station ≡ true
     → Pair n (parts_of n s e).before (parts_of n s e).counted (parts_of n s e).tester (parts_of n s e).tested
 testing-pair n s e ok z no-crash makes =

@@ -20,7 +20,7 @@ use Rattle.table.proofs.CellLaws.{cell_other, row-length, row_at, accepted-line,
 use Rattle.station.proofs.DueLaws.{unsuspected-at}
 use Rattle.station.proofs.EntryLaws.{unsuspected-below}
 use Rattle.plant.specs.Turn.{makes_test, crash}
-use Rattle.plant.specs.Entry.{Entry, State, is_crash, entry_number, acted}
+use Rattle.plant.specs.Entry.{Entry, State, is_crash, entry_refusal, acted}
 use Rattle.plant.proofs.RulesKept.{entry-facts, acted-lines}
 use Rattle.plant.proofs.StepLines.{Lines}
 use Rattle.plant.proofs.TurnHeads.{Heads, turn-heads, passed-dues}
@@ -53,7 +53,7 @@ abbrev pub TestsAreDue : ℕ → List ℕ → Type 0
 TestsAreDue n t = (i : ℕ) → i < n → tests_made n t i ≤ dues_of n t i (next_distance n t i)
 
 -- a taken entry keeps it
-module _ (n : ℕ) (s : State) (e : Entry) (ok : Accepted n s.table) (takes : entry_number n s e ≡ 0) (fits : TestsAreDue n s.table) where
+module _ (n : ℕ) (s : State) (e : Entry) (ok : Accepted n s.table) (takes : entry_refusal n s e ≡ 0) (fits : TestsAreDue n s.table) where
   abbrev t : List ℕ
   t = s.table
 

@@ -26,7 +26,7 @@ use Rattle.table.proofs.CellLaws.{TurnCounts, ClosingChanges}
 pub record Plain (n : ℕ) (L : ℕ → Bool) (t : List ℕ) : Type 0 where
   pub lines : Lines n t
   pub lives : (i : ℕ) → i < n → live n t i ≡ L i
-  pub trusted : (i j : ℕ) → i < n → j < n → L i ≡ true → L j ≡ true → suspects n t i j ≡ 0
+  pub accurate : (i j : ℕ) → i < n → j < n → L i ≡ true → L j ≡ true → suspects n t i j ≡ 0
 
 -- each live station has another live one
 abbrev pub Company : ℕ → (ℕ → Bool) → Type 0
@@ -64,7 +64,7 @@ same_rows n L t t' lines same p = (
   record {
     lines = lines;
     lives = λ i h. rw (same i status_column (omega arith) (λ p. omega arith) (λ p. omega arith)) (p.lives i h);
-    trusted = λ i j h g a b. same i (head + j) (omega arith) (λ p. omega arith) (λ p. omega arith) ∙ p.trusted i j h g a b;
+    accurate = λ i j h g a b. same i (head + j) (omega arith) (λ p. omega arith) (λ p. omega arith) ∙ p.accurate i j h g a b;
   },
   λ k y hk hy s. same k (head + y) (omega arith) (λ p. omega arith) (λ p. omega arith) ∙ s,
 )
@@ -102,7 +102,7 @@ module _ (n : ℕ) (L : ℕ → Bool) (t : List ℕ) (i x : ℕ) (p : Plain n L 
   step : (t' : List ℕ) → Lines n t' → ((k : ℕ) → status n t' k ≡ status n t k)
       → ((k y : ℕ) → k < n → y < n → Byte t' k y) → Tested n L (Row n t i) (Row n t x) t' i x → Step t'
   step t' lines same bytes done = (
-    record { lines = lines; lives = λ k h. rw (same k) (p.lives k h); trusted = λ k y hk hy. (bytes k y hk hy).1 },
+    record { lines = lines; lives = λ k h. rw (same k) (p.lives k h); accurate = λ k y hk hy. (bytes k y hk hy).1 },
     λ k y hk hy s. omega (arith, (bytes k y hk hy).0, (lines.1 k hk).range y hy),
     done,
   )
@@ -131,7 +131,7 @@ module _ (n : ℕ) (L : ℕ → Bool) (t : List ℕ) (i x : ℕ) (p : Plain n L 
       as_before k y hk hy out =
           let e : suspects n t' k y ≡ suspects n t k y =
           suspect-other n t i long hi x k (head + y) (omega arith) (λ q r. out q (omega arith)) in
-          (omega arith, λ a b. e ∙ p.trusted k y hk hy a b)
+          (omega arith, λ a b. e ∙ p.accurate k y hk hy a b)
 
   -- two live stations exchange their rows
   exchanged : L x ≡ true → Step (exchange_rows n t i x)
@@ -139,13 +139,13 @@ module _ (n : ℕ) (L : ℕ → Bool) (t : List ℕ) (i x : ℕ) (p : Plain n L 
       step t' lines (λ k. exchange-other n t i long hi x hx apart k status_column (omega arith) (λ e. omega arith) (λ e. omega arith))
       (λ k y hk hy.
       let v = exchange-between n t i x long hi hx apart k y hy in
-      (v.0, λ a b. omega (arith, v.1, p.trusted k y hk hy a b, p.trusted i y hi hy li b, p.trusted x y hx hy lx b))) (record {
+      (v.0, λ a b. omega (arith, v.1, p.accurate k y hk hy a b, p.accurate i y hi hy li b, p.accurate x y hx hy lx b))) (record {
         finds = λ q. absurd (true≢false (sym lx ∙ q));
         tells = λ q y hy s.
-            let v = exchange-tested n t i long hi x hx apart y hy (λ e. omega (arith, rw e at s, p.trusted i x hi hx li lx)) in
+            let v = exchange-tested n t i long hi x hx apart y hy (λ e. omega (arith, rw e at s, p.accurate i x hi hx li lx)) in
             omega (arith, v, (lines.1 x hx).range y hy);
         hears = λ q y hy s.
-            let v = exchange-tester n t i long hi x hx apart y hy (λ e. omega (arith, rw e at s, p.trusted x i hx hi lx li)) in
+            let v = exchange-tester n t i long hi x hx apart y hy (λ e. omega (arith, rw e at s, p.accurate x i hx hi lx li)) in
             omega (arith, v, (lines.1 i hi).range y hy);
       })
     where
@@ -158,7 +158,7 @@ module _ (n : ℕ) (L : ℕ → Bool) (t : List ℕ) (i x : ℕ) (p : Plain n L 
   -- neither of two live stations suspects the other: a test with a reply tells nobody
   pub none_told : L x ≡ true → reply_outcome n t i x ≡ outcome_exchanged
   unfolding reply_outcome is_told
-  none_told e = rw (p.trusted x i hx hi e li, p.trusted i x hi hx li e)
+  none_told e = rw (p.accurate x i hx hi e li, p.accurate i x hi hx li e)
 
   -- the reply of a live station is not late
   pub tested : (kind : ℕ) → (L x ≡ true → kind ≡ kind_turn) → Step (after_test n t kind i x)
@@ -180,7 +180,7 @@ pub not-alone : (n : ℕ) (L : ℕ → Bool) (t : List ℕ) (i : ℕ) → Plain 
 unfolding after_alone is_alone self_or_suspected
 not-alone n L t i p company hi li =
     let o = company i hi li in
-    let fails : self_or_suspected n t i o.0 ≡ false = rw (ne_eqb o.0 i (λ e. o.2 (sym e)), p.trusted i o.0 hi o.1 li o.3) in
+    let fails : self_or_suspected n t i o.0 ≡ false = rw (ne_eqb o.0 i (λ e. o.2 (sym e)), p.accurate i o.0 hi o.1 li o.3) in
     rw (every-not (self_or_suspected n t i) n o.0 o.1 fails, and-false)
 
 -- a turn of a live station, where the reply of a live station is not late

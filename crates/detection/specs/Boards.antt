@@ -7,7 +7,7 @@ use Rattle.table.specs.Table.{live}
 use Rattle.station.specs.Tests.{due_distances}
 use Rattle.plant.specs.Entry.{State, tested_of}
 use Rattle.detection.specs.Runs.{Call, Taken, taken_test}
-use Rattle.detection.specs.Claim.{rounds_of, Premises, exact_wait}
+use Rattle.detection.specs.Claim.{rounds_of, DetectionPremises, worst_latency}
 use Rattle.table.specs.Properties.{exact_row, ExactRows}
 
 -- the station that the taken entry tests; 255 where it makes no test
@@ -30,19 +30,19 @@ first_table (x ∷ xs) = x.before.table
 
 -- in the kth closed round (from 0) each live board tests, in this order, the boards at the distances that are due by the row
 -- that suspects exactly the boards that are not live, and no other
-abbrev pub TestsJustDue : ℕ → State → List Call → ℕ → Type 0
-TestsJustDue n s calls k =
+abbrev pub TestsAreTheDue : ℕ → State → List Call → ℕ → Type 0
+TestsAreTheDue n s calls k =
     (i : ℕ) → i < n → live n s.table i ≡ true
     → tested_in i (slice_index_or (rounds_of s calls).closed k []) ≡ map (station_at i) (due_distances (exact_row n s.table) i n)
 
--- "In a round that begins with exact rows, a board that stays live makes just these tests". By demand 3 the live boards stay live
-abbrev pub BoardTests : Type 0
-BoardTests =
-    (n : ℕ) (s : State) (calls : List Call) → Premises n s calls → (k : ℕ) → k < length (rounds_of s calls).closed
-    → ExactRows n (first_table (slice_index_or (rounds_of s calls).closed k [])) → TestsJustDue n s calls k
+-- in a closed round that begins with exact rows each live board makes just these tests. By rule Detection the live boards stay live
+abbrev pub ExactRoundTests : Type 0
+ExactRoundTests =
+    (n : ℕ) (s : State) (calls : List Call) → DetectionPremises n s calls → (k : ℕ) → k < length (rounds_of s calls).closed
+    → ExactRows n (first_table (slice_index_or (rounds_of s calls).closed k [])) → TestsAreTheDue n s calls k
 
--- after the exact wait that is so in every closed round
-abbrev pub BoardTestsAfterWait : Type 0
-BoardTestsAfterWait =
-    (n : ℕ) (s : State) (calls : List Call) → Premises n s calls → (k : ℕ) → exact_wait (dimension n) ≤ k → k < length (rounds_of s calls).closed
-    → TestsJustDue n s calls k
+-- Rule Tests of the sheet: after the worst-case latency that is so in every closed round
+abbrev pub ExactRoundTestsAfterLatency : Type 0
+ExactRoundTestsAfterLatency =
+    (n : ℕ) (s : State) (calls : List Call) → DetectionPremises n s calls
+    → (k : ℕ) → worst_latency (dimension n) ≤ k → k < length (rounds_of s calls).closed → TestsAreTheDue n s calls k

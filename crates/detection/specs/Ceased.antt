@@ -1,11 +1,11 @@
--- Request C-18, "Who told it, and how long ago": bytes 4 and 5 after a taken entry, after a list of runs, and after one that mixes runs and
+-- Who told a station to leave, and how long ago: bytes 4 and 5 after a taken entry, after a list of runs, and after one that mixes runs and
 -- drives.
 -- Assumes nothing.
 use Rattle.std.specs.Prelude.{◌≡◌, ◌≢◌, Bool, true, false, List, [], ◌∷◌, ℕ, ◌+◌, min, ◌≤◌, ◌<◌, length, if◌then◌else◌}
 use Rattle.table.specs.Table.{table_length, status, status_told, told_by, not_recorded, rounds_ago, rounds_ago_top, suspects, live}
-use Rattle.table.specs.Rules.{table_number, round_over}
+use Rattle.table.specs.Rules.{table_refusal, round_over}
 use Rattle.plant.specs.Turn.{outcome_told, outcome_tested_told}
-use Rattle.plant.specs.Entry.{Entry, State, entry_number, acted, after, tested_of, outcome_of}
+use Rattle.plant.specs.Entry.{Entry, State, entry_refusal, acted, after, tested_of, outcome_of}
 use Rattle.detection.specs.Runs.{Call, Taken, after_runs, taken_all, table_after}
 use Rattle.detection.specs.Rounds.{count_taken}
 use Rattle.detection.specs.Driven.{RunOrDrive, after_mixed, runs_of_mixed}
@@ -14,7 +14,7 @@ use Rattle.detection.specs.Driven.{RunOrDrive, after_mixed, runs_of_mixed}
 pub record LeftTold (n : ℕ) (t t' : List ℕ) (a b : ℕ) : Type 0 where
   pub was_live : live n t a ≡ true
   pub left : status n t' a ≡ status_told
-  -- "Byte 4 names the station whose row told it to leave"
+  -- byte 4 of a names b
   pub named : told_by n t' a ≡ b
   -- b is live and suspects a
   pub teller_live : live n t b ≡ true
@@ -30,9 +30,9 @@ pub record WhoTold (n : ℕ) (s : State) (e : Entry) : Type 0 where
   pub others : (k : ℕ) → k < n → (outcome_of n s.table e ≡ outcome_told → k ≢ e.station)
       → (outcome_of n s.table e ≡ outcome_tested_told → k ≢ tested_of n s.table e) → told_by n (after n s e).table k ≡ told_by n s.table k
 
--- at every entry that a run reaches, refusals 1 to 4 let its table through (`accepted-kept` of plant's proofs/RulesKept.antt)
-abbrev pub EntryTells : Type 0
-EntryTells = (n : ℕ) (s : State) (e : Entry) → table_number n s.table ≡ 0 → entry_number n s e ≡ 0 → WhoTold n s e
+-- Rule Teller named: at every entry that a run reaches, refusals 1 to 4 let its table through (`accepted-kept` of plant's proofs/RulesKept.antt)
+abbrev pub TellerIsNamed : Type 0
+TellerIsNamed = (n : ℕ) (s : State) (e : Entry) → table_refusal n s.table ≡ 0 → entry_refusal n s e ≡ 0 → WhoTold n s e
 
 -- a round closes with the taken entry
 abbrev pub closes_round : Taken → Bool
@@ -53,8 +53,8 @@ FirstTold n [] i b = ⊥
 FirstTold n (x ∷ xs) i b = LeftTold n x.before.table (table_after x) i b
 
 -- table and tally after a list of runs, beside those before it
-pub record Recorded (n : ℕ) (s : State) (calls : List Call) (end : State) : Type 0 where
-  -- "The run and the drive [..] never write 254 into byte 4": a line that has it had it before
+pub record ExitRecord (n : ℕ) (s : State) (calls : List Call) (end : State) : Type 0 where
+  -- 254 is written nowhere: a line that has it had it before
   pub unrecorded : (i : ℕ) → i < n → told_by n end.table i ≡ not_recorded → told_by n s.table i ≡ not_recorded
   -- status and byte 4 of a line that was not live at first are as they were
   pub kept : (i : ℕ) → i < n → live n s.table i ≡ false
@@ -62,21 +62,20 @@ pub record Recorded (n : ℕ) (s : State) (calls : List Call) (end : State) : Ty
   -- of one that left because told, byte 4 names the one that told it, at the entry at which it left
   pub told : (i : ℕ) → i < n → live n s.table i ≡ true → status n end.table i ≡ status_told
       → FirstTold n (since_ceased i (taken_all s calls)) i (told_by n end.table i)
-  -- "Byte 5 counts rounds closed since the station ceased to be live, and stops at 255": of a line that was not live at first, what it was
-  -- and the rounds closed in the list
+  -- byte 5 of a line that was not live at first is what it was and the rounds closed in the list, 255 at most
   pub gone : (i : ℕ) → i < n → live n s.table i ≡ false → rounds_ago n s.table i ≤ rounds_ago_top
       → rounds_ago n end.table i ≡ min (rounds_ago n s.table i + rounds_closed (taken_all s calls)) rounds_ago_top
-  -- of one that ceased in the list: "A round that closes on the very entry at which it ceased counts too."
+  -- byte 5 of one that ceased in the list is the rounds closed from the entry at which it ceased on, 255 at most
   pub ceased : (i : ℕ) → i < n → live n s.table i ≡ true → live n end.table i ≡ false
       → rounds_ago n end.table i ≡ min (rounds_closed (since_ceased i (taken_all s calls))) rounds_ago_top
   -- these are the rounds of the tally
   pub tallied : end.rounds ≡ s.rounds + rounds_closed (taken_all s calls)
 
--- of every list of runs, whatever table of this length they are given
-abbrev pub RunsRecord : Type 0
-RunsRecord = (n : ℕ) (s : State) (calls : List Call) → length s.table ≡ table_length n → Recorded n s calls (after_runs s calls)
+-- Rule Exits recorded: of every list of runs, whatever table of this length they are given
+abbrev pub ExitsRecorded : Type 0
+ExitsRecorded = (n : ℕ) (s : State) (calls : List Call) → length s.table ≡ table_length n → ExitRecord n s calls (after_runs s calls)
 
--- of every list that mixes runs and drives: the same, of the runs that it is
-abbrev pub MixedRecord : Type 0
-MixedRecord =
-    (n : ℕ) (s : State) (xs : List RunOrDrive) → length s.table ≡ table_length n → Recorded n s (runs_of_mixed s xs) (after_mixed s xs)
+-- Rule Exits recorded, of every list that mixes runs and drives: the same, of the runs that it is
+abbrev pub MixedExitsRecorded : Type 0
+MixedExitsRecorded =
+    (n : ℕ) (s : State) (xs : List RunOrDrive) → length s.table ≡ table_length n → ExitRecord n s (runs_of_mixed s xs) (after_mixed s xs)

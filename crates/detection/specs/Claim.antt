@@ -1,11 +1,11 @@
--- Demand 3: the claim, whole, and the same claim within fewer rounds.
+-- The detection claim, within any number of rounds, and the bounds for which it holds.
 -- Assumes nothing.
 use Rattle.std.specs.Prelude.{ℕ, suc, ◌+◌, ◌-◌, ◌*◌, ◌/◌, ◌≤◌, ◌<◌, ◌≡◌, Bool, true, not, ◌&&◌, List, [], ◌∷◌, ◌++◌, length, if◌then◌else◌, nat_lt, slice_index_or}
 use Rattle.lists.specs.Search.{every}
 use Rattle.table.specs.Sizes.{is_size, dimension}
 use Rattle.station.specs.Groups.{is_present, width, member}
 use Rattle.table.specs.Table.{table_length, suspects, live}
-use Rattle.table.specs.Rules.{not_live, table_number}
+use Rattle.table.specs.Rules.{not_live, table_refusal}
 use Rattle.table.specs.Fresh.{fresh_table}
 use Rattle.plant.specs.Entry.{State, state_of}
 use Rattle.lists.specs.Sums.{sum_below, bit}
@@ -17,17 +17,17 @@ use Rattle.table.specs.Properties.{at_start, live_count, none_suspected}
 abbrev pub live_at : ℕ → List ℕ → ℕ → Bool
 live_at n t x = is_present n x && live n t x
 
--- the group of j at level s has, "after leaving out", no live board
-unfoldable pub dead_group : ℕ → List ℕ → ℕ → ℕ → Bool
-dead_group n t j s = every (λ k. not (live_at n t (member j s k))) (width s)
+-- the group of j at level s, without the absent numbers, has no live board
+unfoldable pub group_without_live : ℕ → List ℕ → ℕ → ℕ → Bool
+group_without_live n t j s = every (λ k. not (live_at n t (member j s k))) (width s)
 
 -- the pairs of one of the n stations, live or not, and a level from 1 to d whose group has no live board
-unfoldable pub dead_pairs : ℕ → List ℕ → ℕ
-dead_pairs n t = sum_below (λ j. sum_below (λ h. bit (dead_group n t j (suc h))) (dimension n)) n
+unfoldable pub pairs_without_live : ℕ → List ℕ → ℕ
+pairs_without_live n t = sum_below (λ j. sum_below (λ h. bit (group_without_live n t j (suc h))) (dimension n)) n
 
--- demand 3's count of a round's tests, by C-11 "n times d less the pairs whose group, after leaving out, has no live board"
-abbrev pub demand_count : ℕ → List ℕ → ℕ
-demand_count n t = n * dimension n - dead_pairs n t
+-- Rule Count of tests: n·d, less one for each station and each level at which its group has no live station
+abbrev pub tests_per_round : ℕ → List ℕ → ℕ
+tests_per_round n t = n * dimension n - pairs_without_live n t
 
 -- the rounds of the list of runs
 abbrev pub rounds_of : State → List Call → Rounds
@@ -45,73 +45,74 @@ round_at s calls k = slice_index_or (all_rounds (rounds_of s calls)) k []
 abbrev pub TurnsOk : ℕ → ℕ → List Taken → Type 0
 TurnsOk n i round = (turns_in i round ≤ n) × (n ≤ turns_in i round → nth_turn_finishes i n round ≡ true)
 
--- what the claim supposes: a size and a table of its length, at the start of a round, two live boards at least, no live one suspecting a
+-- Rule Detection conditions: a size and a table of its length, at the start of a round, two live boards at least, no live one suspecting a
 -- live one; any tally, any list of runs, without crashes and late replies of live boards
-pub record Premises (n : ℕ) (s : State) (calls : List Call) : Type 0 where
+pub record DetectionPremises (n : ℕ) (s : State) (calls : List Call) : Type 0 where
   pub size : is_size n ≡ true
   pub long : length s.table ≡ table_length n
   pub start : at_start n s.table ≡ true
   pub two_live : 2 ≤ live_count n s.table
-  pub trusted : none_suspected n s.table ≡ true
+  pub accurate : none_suspected n s.table ≡ true
   pub no_crash : all_taken (λ x. not (crashes x)) (taken_all s calls) ≡ true
   pub no_late : all_taken (λ x. not (is_late x)) (taken_all s calls) ≡ true
 
 -- a fresh table of any size passes refusals 1 to 4
 abbrev pub FreshIsAccepted : Type 0
-FreshIsAccepted = (n : ℕ) → is_size n ≡ true → table_number n (fresh_table n) ≡ 0
+FreshIsAccepted = (n : ℕ) → is_size n ≡ true → table_refusal n (fresh_table n) ≡ 0
 
--- a fresh table, with any tally, meets at every size what is supposed of size and table. Drives need no more (`DrivenWithin`)
+-- Rule Conditions are met: a fresh table, with any tally, meets at every size what is supposed of size and table. Drives need no more
+-- (`DrivenDetection`)
 abbrev pub FreshMeetsPremises : Type 0
-FreshMeetsPremises = (n rounds tests : ℕ) → is_size n ≡ true → Premises n (state_of (fresh_table n) rounds tests) []
+FreshMeetsPremises = (n rounds tests : ℕ) → is_size n ≡ true → DetectionPremises n (state_of (fresh_table n) rounds tests) []
 
--- what the claim says of table and tally after the list, where so many rounds are enough
-pub record Conclusion (enough n : ℕ) (s : State) (calls : List Call) (end : State) : Type 0 where
+-- Rule Detection: what the claim says of table and tally after the list, where so many rounds are enough
+pub record DetectionConclusion (enough n : ℕ) (s : State) (calls : List Call) (end : State) : Type 0 where
   -- the live boards are the same as at first
   pub same_live : (i : ℕ) → i < n → live n end.table i ≡ live n s.table i
   -- in every round, the open one included, a live board has at most n turns, and an nth turn finished its pass
   pub turns : (k i : ℕ) → k ≤ length (rounds_of s calls).closed → i < n → live n s.table i ≡ true
       → TurnsOk n i (round_at s calls k)
   -- once enough rounds have closed, each live board suspects exactly the boards that are not live
-  pub known : enough ≤ length (rounds_of s calls).closed
+  pub exact_rows : enough ≤ length (rounds_of s calls).closed
       → (i j : ℕ) → i < n → j < n → live n s.table i ≡ true → suspects n end.table i j ≡ bit (not_live n s.table j)
-  -- each closed round after these has exactly the tests that the demand counts
+  -- each closed round after these has as many tests as the count says
   pub tests : (k : ℕ) → enough ≤ k → k < length (rounds_of s calls).closed
-      → tests_in (slice_index_or (rounds_of s calls).closed k []) ≡ demand_count n s.table
+      → tests_in (slice_index_or (rounds_of s calls).closed k []) ≡ tests_per_round n s.table
   -- the tally: the closed rounds are added to its rounds, and the tests of all rounds, the open one included, to its tests
   pub rounds_tally : end.rounds ≡ s.rounds + length (rounds_of s calls).closed
   pub tests_tally : end.tests ≡ s.tests + tests_of_all (all_rounds (rounds_of s calls))
 
 -- the claim at size n, for all tables, tallies and lists of runs, within so many rounds
-abbrev pub WithinAt : ℕ → ℕ → Type 0
-WithinAt n enough = (s : State) (calls : List Call) → Premises n s calls → Conclusion enough n s calls (after_runs s calls)
+abbrev pub DetectionAt : ℕ → ℕ → Type 0
+DetectionAt n enough = (s : State) (calls : List Call) → DetectionPremises n s calls → DetectionConclusion enough n s calls (after_runs s calls)
 
--- the claim at all sizes, within so many rounds by the dimension
-abbrev pub Within : (ℕ → ℕ) → Type 0
-Within rounds = (n : ℕ) → WithinAt n (rounds (dimension n))
+-- Rule Worst case, and the greater bounds: the claim at all sizes, within so many rounds by the dimension
+abbrev pub Detection : (ℕ → ℕ) → Type 0
+Detection rounds = (n : ℕ) → DetectionAt n (rounds (dimension n))
 
 -- the same of one run, `c`, from `before` to `after`: wherever it stands behind other runs, the claim about the whole list with it holds of
 -- the state that it leaves
-abbrev pub WithinAfter : (ℕ → ℕ) → Call → State → State → Type 0
-WithinAfter rounds c before after =
-    (n : ℕ) (s : State) (calls : List Call) → after_runs s calls ≡ before → Premises n s (calls ++ (c ∷ []))
-    → Conclusion (rounds (dimension n)) n s (calls ++ (c ∷ [])) after
+abbrev pub DetectionAfter : (ℕ → ℕ) → Call → State → State → Type 0
+DetectionAfter rounds c before after =
+    (n : ℕ) (s : State) (calls : List Call) → after_runs s calls ≡ before → DetectionPremises n s (calls ++ (c ∷ []))
+    → DetectionConclusion (rounds (dimension n)) n s (calls ++ (c ∷ [])) after
 
--- the rounds of demand 3
-abbrev pub demand_wait : ℕ → ℕ
-demand_wait d = d * d
+-- Rule Square bound: d·d rounds
+abbrev pub square_bound : ℕ → ℕ
+square_bound d = d * d
 
--- demand 3
-abbrev pub Demand3 : Type 0
-Demand3 = Within demand_wait
+-- Rule Square bound: detection within these
+abbrev pub DetectionInSquare : Type 0
+DetectionInSquare = Detection square_bound
 
--- fewer rounds, and no fewer than the exact wait: 1, 2, 4, 7, 11, 16 for d = 1 to 6
-abbrev pub pairs_wait : ℕ → ℕ
-pairs_wait d = 1 + d * (d - 1) / 2
+-- Rule Triangular bound: 1 + d(d − 1)/2 rounds, 1, 2, 4, 7, 11, 16 for d = 1 to 6
+abbrev pub triangle_bound : ℕ → ℕ
+triangle_bound d = 1 + d * (d - 1) / 2
 
--- the claim within these
-abbrev pub WithinPairs : Type 0
-WithinPairs = Within pairs_wait
+-- Rule Triangular bound: detection within these
+abbrev pub DetectionInTriangle : Type 0
+DetectionInTriangle = Detection triangle_bound
 
--- the rounds of our own claim: 1, 2, 3, 4, 6, 8 for d = 1 to 6. From 3 boards on fewer do not suffice (crate witness)
-unfoldable pub exact_wait : ℕ → ℕ
-exact_wait d = if nat_lt d 4 then d else 4 + (d - 3) * (d - 3) / 2
+-- Rule Worst case: the worst-case latency, 1, 2, 3, 4, 6, 8 rounds for d = 1 to 6. From 3 boards on fewer do not suffice (crate witness)
+unfoldable pub worst_latency : ℕ → ℕ
+worst_latency d = if nat_lt d 4 then d else 4 + (d - 3) * (d - 3) / 2

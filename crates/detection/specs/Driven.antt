@@ -1,4 +1,4 @@
--- Request C-15: a drive is "the granting rule followed turn by turn", and so demand 3 speaks of plants that are driven.
+-- That a drive does what its grants and their runs of one entry do, so that detection holds of plants that are driven.
 -- Assumes nothing.
 use Rattle.std.specs.Prelude.{◌≡◌, true, List, [], ◌∷◌, ◌++◌, map, ℕ, zero, suc, ◌+◌, ◌≤◌, ◌<◌, length, ◌==◌}
 use Rattle.lists.specs.Sums.{bit}
@@ -6,10 +6,10 @@ use Rattle.table.specs.Sizes.{dimension}
 use Rattle.table.specs.Table.{suspects, live}
 use Rattle.table.specs.Rules.{not_live}
 use Rattle.plant.specs.Turn.{kind_turn}
-use Rattle.plant.specs.Entry.{State, entry_of, entry_number}
+use Rattle.plant.specs.Entry.{State, entry_of, entry_refusal}
 use Rattle.detection.specs.Runs.{Call, turn_run, after_run, after_runs, taken_all}
-use Rattle.detection.specs.Claim.{rounds_of, Premises, Conclusion, demand_wait}
-use Rattle.granter.specs.Grant.{grant_number}
+use Rattle.detection.specs.Claim.{rounds_of, DetectionPremises, DetectionConclusion, square_bound}
+use Rattle.granter.specs.Grant.{grant_refusal}
 use Rattle.granter.specs.Drive.{Stand, stand_at, granted_at, after_grants, drive}
 
 -- the runs (1, g1), (1, g2), .. of the first k grants
@@ -25,19 +25,19 @@ runs_of_drive n s last = runs_of n (stand_at s last) (drive n s last).grants
 pub record TurnByTurn (n : ℕ) (s : State) (last : ℕ) : Type 0 where
   -- no grant is refused
   pub granted : (k : ℕ) → k < (drive n s last).grants
-      → grant_number n (after_grants n (stand_at s last) k).state.table (after_grants n (stand_at s last) k).last ≡ 0
+      → grant_refusal n (after_grants n (stand_at s last) k).state.table (after_grants n (stand_at s last) k).last ≡ 0
   -- each run takes its entry
   pub taken : length (taken_all s (runs_of_drive n s last)) ≡ (drive n s last).grants
   -- the same table and tally, and the same last granted number
   pub left : after_runs s (runs_of_drive n s last) ≡ (drive n s last).state
   pub last_is : (drive n s last).last ≡ (after_grants n (stand_at s last) (drive n s last).grants).last
   -- where the drive stops with 7, the next turn would meet it
-  pub seven : grant_number n s.table last ≡ 0 → (drive n s last).number ≡ 7
-      → entry_number n (drive n s last).state (entry_of kind_turn (granted_at n (stand_at (drive n s last).state (drive n s last).last))) ≡ 7
+  pub seven : grant_refusal n s.table last ≡ 0 → (drive n s last).number ≡ 7
+      → entry_refusal n (drive n s last).state (entry_of kind_turn (granted_at n (stand_at (drive n s last).state (drive n s last).last))) ≡ 7
 
 -- for all inputs
-abbrev pub EveryDriveTurnByTurn : Type 0
-EveryDriveTurnByTurn = (n : ℕ) (s : State) (last : ℕ) → TurnByTurn n s last
+abbrev pub DriveIsTurns : Type 0
+DriveIsTurns = (n : ℕ) (s : State) (last : ℕ) → TurnByTurn n s last
 
 -- a list that mixes runs and drives; a drive has any size and any last number
 pub data RunOrDrive : Type 0 where
@@ -62,11 +62,11 @@ unfoldable pub runs_of_mixed : State → List RunOrDrive → List Call
 runs_of_mixed s [] = []
 runs_of_mixed s (x ∷ xs) = runs_of_one s x ++ runs_of_mixed (after_one s x) xs
 
--- demand 3 of such a list, within so many rounds by the dimension: the demand itself, of the runs that it is
-abbrev pub MixedWithin : (ℕ → ℕ) → Type 0
-MixedWithin rounds =
-    (n : ℕ) (s : State) (xs : List RunOrDrive) → Premises n s (runs_of_mixed s xs)
-    → Conclusion (rounds (dimension n)) n s (runs_of_mixed s xs) (after_mixed s xs)
+-- Rule Detection by drives: detection of such a list, within so many rounds by the dimension, of the runs that it is
+abbrev pub MixedDetection : (ℕ → ℕ) → Type 0
+MixedDetection rounds =
+    (n : ℕ) (s : State) (xs : List RunOrDrive) → DetectionPremises n s (runs_of_mixed s xs)
+    → DetectionConclusion (rounds (dimension n)) n s (runs_of_mixed s xs) (after_mixed s xs)
 
 -- drives of one size, each with any last number (a drive of another size is refused): table and tally after them, the runs that they are, and
 -- how many of them answer 0
@@ -80,29 +80,30 @@ unfoldable pub ending : ℕ → State → List ℕ → ℕ
 ending n s [] = 0
 ending n s (last ∷ lasts) = bit ((drive n s last).number == 0) + ending n (drive n s last).state lasts
 
--- what demand 3 says of driven plants, where so many rounds are enough
-pub record DrivenConclusion (enough n : ℕ) (s : State) (lasts : List ℕ) (end : State) : Type 0 where
-  -- the demand itself, of the list of their runs
-  pub demand : Conclusion enough n s (runs_of_drives n s lasts) end
+-- what the claim says of driven plants, where so many rounds are enough
+pub record DrivenDetectionConclusion (enough n : ℕ) (s : State) (lasts : List ℕ) (end : State) : Type 0 where
+  -- detection, of the list of their runs
+  pub detection : DetectionConclusion enough n s (runs_of_drives n s lasts) end
   -- each drive that answers 0 closes one round, and no other closes one
   pub rounds : length (rounds_of s (runs_of_drives n s lasts)).closed ≡ ending n s lasts
   -- after enough that answer 0 each live board suspects exactly the boards that are not live
-  pub known : enough ≤ ending n s lasts
+  pub exact_rows : enough ≤ ending n s lasts
       → (i j : ℕ) → i < n → j < n → live n s.table i ≡ true → suspects n end.table i j ≡ bit (not_live n s.table j)
 
--- the claim, within so many rounds by the dimension. The premises are demand 3's on the table: those of no run at all. Drives have no crash
--- and no late reply
-abbrev pub DrivenWithin : (ℕ → ℕ) → Type 0
-DrivenWithin rounds =
-    (n : ℕ) (s : State) (lasts : List ℕ) → Premises n s [] → DrivenConclusion (rounds (dimension n)) n s lasts (after_drives n s lasts)
+-- Rule Detection by drives: the claim, within so many rounds by the dimension. It supposes the detection conditions on the table: those of no run
+-- at all. Drives have no crash and no late reply
+abbrev pub DrivenDetection : (ℕ → ℕ) → Type 0
+DrivenDetection rounds =
+    (n : ℕ) (s : State) (lasts : List ℕ) → DetectionPremises n s []
+    → DrivenDetectionConclusion (rounds (dimension n)) n s lasts (after_drives n s lasts)
 
--- demand 3 of driven plants
-abbrev pub DrivenDemand3 : Type 0
-DrivenDemand3 = DrivenWithin demand_wait
+-- detection of driven plants within d·d rounds
+abbrev pub DrivenDetectionInSquare : Type 0
+DrivenDetectionInSquare = DrivenDetection square_bound
 
 -- the same of one drive, from `before` to `after`: wherever it stands behind other drives, the claim about the whole list with it holds of
 -- the state that it leaves
-abbrev pub DrivenWithinAfter : (ℕ → ℕ) → ℕ → ℕ → State → State → Type 0
-DrivenWithinAfter rounds n last before after =
-    (s : State) (lasts : List ℕ) → after_drives n s lasts ≡ before → Premises n s []
-    → DrivenConclusion (rounds (dimension n)) n s (lasts ++ (last ∷ [])) after
+abbrev pub DrivenDetectionAfter : (ℕ → ℕ) → ℕ → ℕ → State → State → Type 0
+DrivenDetectionAfter rounds n last before after =
+    (s : State) (lasts : List ℕ) → after_drives n s lasts ≡ before → DetectionPremises n s []
+    → DrivenDetectionConclusion (rounds (dimension n)) n s (lasts ++ (last ∷ [])) after

@@ -1,18 +1,18 @@
--- Request C-13, "The tested board must hear it too", sentence by sentence, as one claim about a taken entry: by who suspects whom before it,
--- which outcome it has and what it leaves, steps 6 and 8 included.
+-- What a test with a reply leads to, as one claim about a taken entry: by who suspects whom before it, which outcome it has and what it leaves,
+-- with rule Alone and the closing of a round.
 -- Assumes nothing.
 use Rattle.std.specs.Prelude.{◌≡◌, ◌≢◌, true, List, ℕ, max, ◌<◌, if◌then◌else◌}
 use Rattle.lists.specs.Search.{every}
 use Rattle.table.specs.Table.{status, suspects, live, status_told, status_alone}
-use Rattle.table.specs.Rules.{table_number}
+use Rattle.table.specs.Rules.{table_refusal}
 use Rattle.plant.specs.Turn.{outcome_exchanged, outcome_told, outcome_tested_told, replies, self_or_suspected}
-use Rattle.plant.specs.Entry.{Entry, State, is_test, entry_number, after, tested_of, outcome_of}
+use Rattle.plant.specs.Entry.{Entry, State, is_test, entry_refusal, after, tested_of, outcome_of}
 
 -- a taken entry whose test has a reply. At every entry that a run reaches, refusals 1 to 4 let its table through (`accepted-kept` of
 -- plant's proofs/RulesKept.antt)
-pub record Replied (n : ℕ) (s : State) (e : Entry) : Type 0 where
-  pub shape : table_number n s.table ≡ 0
-  pub taken : entry_number n s e ≡ 0
+pub record RepliedTest (n : ℕ) (s : State) (e : Entry) : Type 0 where
+  pub shape : table_refusal n s.table ≡ 0
+  pub taken : entry_refusal n s e ≡ 0
   pub makes : is_test n s.table e ≡ true
   pub reply : replies n s.table e.kind (tested_of n s.table e) ≡ true
 
@@ -20,7 +20,7 @@ pub record Replied (n : ℕ) (s : State) (e : Entry) : Type 0 where
 abbrev pub SameRows : ℕ → List ℕ → List ℕ → Type 0
 SameRows n t t' = (k x : ℕ) → k < n → x < n → suspects n t' k x ≡ suspects n t k x
 
--- "both rows become the union": byte by byte, and no other row changes
+-- both rows become the union, byte by byte, and no other row changes
 abbrev pub RowsJoined : ℕ → List ℕ → List ℕ → ℕ → ℕ → Type 0
 RowsJoined n t t' i j =
     ((x : ℕ) → x < n → suspects n t' i x ≡ max (suspects n t i x) (suspects n t j x))
@@ -32,20 +32,20 @@ abbrev pub NeitherSuspects : ℕ → List ℕ → ℕ → ℕ → Type 0
 NeitherSuspects n t i j = (suspects n t i j ≡ 0) × (suspects n t j i ≡ 0)
 
 -- i has tested j, which replied: t and t' are the tables before and after, and o is the outcome
-pub record Heard (n : ℕ) (t t' : List ℕ) (i j o : ℕ) : Type 0 where
-  -- "if j suspects i, i leaves as before and j is given nothing"
+pub record ReplyEffect (n : ℕ) (t t' : List ℕ) (i j o : ℕ) : Type 0 where
+  -- rule Tester told: if j suspects i, i leaves, j stays live, and no row changes
   pub tester : suspects n t j i ≡ 1 → (o ≡ outcome_told) × (status n t' i ≡ status_told) × (live n t' j ≡ true) × SameRows n t t'
-  -- "Otherwise, if i suspects j, j leaves with status 2, no row changes, and the sheet's outcome is 5. i is still looked at for being alone"
+  -- rule Tested told: otherwise, if i suspects j, j leaves, and no row changes. i leaves too if it is alone
   pub tested : suspects n t j i ≡ 0 → suspects n t i j ≡ 1
       → (o ≡ outcome_tested_told) × (status n t' j ≡ status_told) × SameRows n t t'
       × (status n t' i ≡ (if every (self_or_suspected n t i) n then status_alone else 0))
-  -- "Where neither suspects the other, both rows become the union": both stay live
+  -- rule Exchange: where neither suspects the other, both rows become the union, and both stay live
   pub neither : NeitherSuspects n t i j → (o ≡ outcome_exchanged) × (live n t' i ≡ true) × (live n t' j ≡ true) × RowsJoined n t t' i j
   -- so not both are live with one suspecting the other
   pub parted : live n t' i ≡ true → live n t' j ≡ true → NeitherSuspects n t' i j
 
--- the claim
-abbrev pub TestedHears : Type 0
-TestedHears =
-    (n : ℕ) (s : State) (e : Entry) → Replied n s e
-    → Heard n s.table (after n s e).table e.station (tested_of n s.table e) (outcome_of n s.table e)
+-- Rule Reply ends: the claim
+abbrev pub ReplyEnds : Type 0
+ReplyEnds =
+    (n : ℕ) (s : State) (e : Entry) → RepliedTest n s e
+    → ReplyEffect n s.table (after n s e).table e.station (tested_of n s.table e) (outcome_of n s.table e)

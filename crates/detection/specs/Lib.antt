@@ -1,4 +1,4 @@
--- Demand 3 as one claim about a whole list of runs (document 01, "The list of runs in demand 3"), and what else is claimed of runs and drives.
+-- The detection claim about a whole list of runs, and what else is claimed of runs and drives.
 pub mod Runs
 pub mod Rounds
 pub mod Claim

@@ -23,11 +23,11 @@ count_taken q (x ∷ xs) = bit (q x) + count_taken q xs
 abbrev pub finishes_of : ℕ → Taken → Bool
 finishes_of i x = x.entry.station == i && finishes x
 
--- "each live one has finished its pass in that round": station i is not live after x, or finished its pass in the round
+-- station i is not live after x, or finished its pass in the round
 abbrev pub finished_or_not_live : List Taken → Taken → ℕ → Bool
 finished_or_not_live round x i = not_live x.size (table_after x) i || any_taken (finishes_of i) round
 
--- "It closes with the taken entry after which a station is live and each live one has finished its pass in that round": x is the last
+-- a round closes with the taken entry after which a station is live and each live one has finished its pass in the round: x is the last
 -- entry of the round so far
 unfoldable pub closes : List Taken → Taken → Bool
 closes round x = some_live x.size (table_after x) && every (finished_or_not_live round x) x.size
@@ -40,7 +40,8 @@ pub record Rounds : Type 0 where
 abbrev pub round_before : List Taken → Rounds → Rounds
 round_before round r = record { closed = round ∷ r.closed; open_round = r.open_round }
 
--- "A round begins with the table first handed in, and anew after each closing." `round` holds the entries of the round so far
+-- Rule List of runs: the taken entries, cut into rounds. A round begins with the first table, and anew after each closing. `round` holds the
+-- entries of the round so far
 unfoldable pub cut : List Taken → List Taken → Rounds
 cut round [] = record { closed = []; open_round = round }
 cut round (x ∷ xs) =
@@ -49,7 +50,7 @@ cut round (x ∷ xs) =
     let going = cut here xs in
     if closes here x then closing else going
 
--- "A round's tests are the turns in it that make a test."
+-- the tests of a round: the turns in it that make a test
 abbrev pub tests_in : List Taken → ℕ
 tests_in round = count_taken taken_test round
 

@@ -3,10 +3,10 @@
 use Rattle.std.specs.Prelude.{◌≡◌, ℕ, Bool, not, ◌&&◌, List, [], ◌∷◌, ◌++◌, length, if◌then◌else◌, ◌==◌}
 use Rattle.table.specs.Table.{live}
 use Rattle.plant.specs.Turn.{kind_turn, kind_late}
-use Rattle.plant.specs.Entry.{Entry, State, is_crash, is_test, entry_number, after, tested_of}
-use Rattle.plant.specs.Run.{entries, start_number, run}
+use Rattle.plant.specs.Entry.{Entry, State, is_crash, is_test, entry_refusal, after, tested_of}
+use Rattle.plant.specs.Run.{entries, start_refusal, run}
 
--- what one run of the list is given anew: "Size, schedule and sheet are any, anew for each run"
+-- what one run of the list is given anew: its size, schedule and run sheet, which may be any
 pub record Call : Type 0 where
   pub size : ℕ
   pub schedule : List ℕ
@@ -24,7 +24,7 @@ turn_run n i = call_of n (kind_turn ∷ i ∷ []) (0 ∷ 0 ∷ 0 ∷ 0 ∷ [])
 abbrev pub after_run : State → Call → State
 after_run s c = (run c.size s c.schedule c.sheet).state
 
--- "Each later one gets the table as the run before left it and the tally it gave back": table and tally after the list
+-- table and tally after the list: each run finds them as the one before left them
 unfoldable pub after_runs : State → List Call → State
 after_runs s [] = s
 after_runs s (c ∷ cs) = after_runs (after_run s c) cs
@@ -35,21 +35,20 @@ pub record Taken : Type 0 where
   pub before : State
   pub entry : Entry
 
--- "A run not turned away at its start reaches its first entry, and the next one after each it takes. An entry is taken when its run
--- reaches it and none of 7 to 11 applies"
+-- the taken entries of a run that is not refused at its start: it takes an entry if it comes to it and none of refusals 7 to 11 applies
 unfoldable pub taken_from : ℕ → State → List Entry → List Taken
 taken_from n s [] = []
-taken_from n s (e ∷ es) = if entry_number n s e == 0 then (record { size = n; before = s; entry = e } ∷ taken_from n (after n s e) es) else []
+taken_from n s (e ∷ es) = if entry_refusal n s e == 0 then (record { size = n; before = s; entry = e } ∷ taken_from n (after n s e) es) else []
 
 -- the taken entries of one run
 unfoldable pub taken_in : State → Call → List Taken
-taken_in s c = if start_number c.size s.table (length c.schedule) (length c.sheet) == 0 then taken_from c.size s (entries c.schedule) else []
+taken_in s c = if start_refusal c.size s.table (length c.schedule) (length c.sheet) == 0 then taken_from c.size s (entries c.schedule) else []
 
 -- a run that finds this table and tally answers how many entries it takes
 abbrev pub CountsTaken : Call → State → ℕ → Type 0
 CountsTaken c before taken = taken ≡ length (taken_in before c)
 
--- "the taken entries of all runs, one run's behind the other's"
+-- Rule List of runs: the taken entries of all runs, one behind the other
 unfoldable pub taken_all : State → List Call → List Taken
 taken_all s [] = []
 taken_all s (c ∷ cs) = taken_in s c ++ taken_all (after_run s c) cs
@@ -58,22 +57,22 @@ taken_all s (c ∷ cs) = taken_in s c ++ taken_all (after_run s c) cs
 abbrev pub table_after : Taken → List ℕ
 table_after x = (after x.size x.before x.entry).table
 
--- "A station's turns are its taken entries of kind 1 or 2."
+-- a turn of station i: a taken entry of kind 1 or 2
 abbrev pub is_turn_of : ℕ → Taken → Bool
 is_turn_of i x = not (is_crash x.entry) && x.entry.station == i
 
--- "the turns in it that make a test"
+-- a turn that makes a test
 abbrev pub taken_test : Taken → Bool
 taken_test x = is_test x.size x.before.table x.entry
 
--- "One that makes no test finishes its pass."
+-- Rule Pass: a turn that makes no test finishes its pass
 abbrev pub finishes : Taken → Bool
 finishes x = not (is_crash x.entry) && not (taken_test x)
 
--- "A crash is a taken entry of kind 3."
+-- a taken entry of kind 3
 abbrev pub crashes : Taken → Bool
 crashes x = is_crash x.entry
 
--- "A live board's reply is late at a taken entry of kind 2 that tests a live station."
+-- a taken entry of kind 2 that tests a live station
 abbrev pub is_late : Taken → Bool
 is_late x = x.entry.kind == kind_late && taken_test x && live x.size x.before.table (tested_of x.size x.before.table x.entry)

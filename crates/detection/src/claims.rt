@@ -1,21 +1,21 @@
 // The claims about every list of runs (specs/Claim.antt, specs/Boards.antt), each the contract of a function that does nothing.
 
-ghost use Rattle.detection.specs.Claim.{Demand3, WithinPairs, Within, exact_wait, FreshIsAccepted, FreshMeetsPremises};
-ghost use Rattle.detection.specs.Boards.{BoardTests, BoardTestsAfterWait};
+ghost use Rattle.detection.specs.Claim.{DetectionInSquare, DetectionInTriangle, Detection, worst_latency, FreshIsAccepted, FreshMeetsPremises};
+ghost use Rattle.detection.specs.Boards.{ExactRoundTests, ExactRoundTestsAfterLatency};
 
-// Demand 3: after d·d closed rounds the live boards suspect just those that are not live, and the tests are those counted.
-pub fn demand_3()
-    ensures { Demand3 }
+// After d·d closed rounds the live boards suspect just those that are not live, and the tests are those counted.
+pub fn detection_in_square()
+    ensures { DetectionInSquare }
 {}
 
 // The same within 1 + d(d − 1)/2 rounds.
-pub fn within_pairs()
-    ensures { WithinPairs }
+pub fn detection_in_triangle()
+    ensures { DetectionInTriangle }
 {}
 
-// The same within the exact wait.
-pub fn within_exact_wait()
-    ensures { Within exact_wait }
+// The same within the worst-case latency.
+pub fn detection_in_worst_case()
+    ensures { Detection worst_latency }
 {}
 
 // A fresh table of any size passes refusals 1 to 4.
@@ -23,17 +23,17 @@ pub fn fresh_is_accepted()
     ensures { FreshIsAccepted }
 {}
 
-// A fresh table, with any tally, meets what demand 3 supposes of size and table.
+// A fresh table, with any tally, meets the detection conditions on a table.
 pub fn fresh_meets_premises()
     ensures { FreshMeetsPremises }
 {}
 
 // In a closed round that begins with exact rows each live board makes the tests that are due, and no other.
-pub fn board_tests()
-    ensures { BoardTests }
+pub fn exact_round_tests()
+    ensures { ExactRoundTests }
 {}
 
-// After the exact wait that is so in every closed round.
-pub fn board_tests_after_wait()
-    ensures { BoardTestsAfterWait }
+// After the worst-case latency that is so in every closed round.
+pub fn exact_round_tests_after_latency()
+    ensures { ExactRoundTestsAfterLatency }
 {}

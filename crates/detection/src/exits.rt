@@ -1,9 +1,9 @@
-// What request C-13 asks, sentence by sentence (specs/Exits.antt), proved of the definitions that the run promises (proofs/Heard.antt). The
+// What a test with a reply leads to (specs/Exits.antt), proved of the definitions that the run promises (proofs/ReplyEffect.antt). The
 // function does nothing: its contract is the claim.
 
-ghost use Rattle.detection.specs.Exits.{TestedHears};
+ghost use Rattle.detection.specs.Exits.{ReplyEnds};
 
 // Where a tested station replies: by who suspects whom, which of the two leaves, and what becomes of the rows.
-pub fn tested_hears()
-    ensures { TestedHears }
+pub fn reply_ends()
+    ensures { ReplyEnds }
 {}

@@ -2,24 +2,24 @@
 // and how many tests it makes at most in any round, which is what slots are timed by; proved of the definitions that the run promises (proofs/).
 // Each function does nothing: its contract is a claim.
 
-ghost use Rattle.detection.specs.Timing.{TestsOfTheSheet, ByteThree, NoMoreThanDue, SlotIsEnough};
+ghost use Rattle.detection.specs.Timing.{TestsAreTheSheets, TestsByteCounts, TestsWithinDue, SlotSuffices};
 
 // In a closed round that begins with exact rows a live board tests whom the sheet says, in its order.
-pub fn tests_of_the_sheet()
-    ensures { TestsOfTheSheet }
+pub fn tests_are_the_sheets()
+    ensures { TestsAreTheSheets }
 {}
 
 // Byte 3 of a line is the number of tests that the board has made in the open round.
-pub fn byte_three()
-    ensures { ByteThree }
+pub fn tests_byte_counts()
+    ensures { TestsByteCounts }
 {}
 
 // In every round a board makes no more tests than are due by its row as the round leaves it.
-pub fn no_more_than_due()
-    ensures { NoMoreThanDue }
+pub fn tests_within_due()
+    ensures { TestsWithinDue }
 {}
 
 // A slot timed for the most tests with one more board dead is long enough while its board suspects only the known dead and one more.
-pub fn slot_is_enough()
-    ensures { SlotIsEnough }
+pub fn slot_suffices()
+    ensures { SlotSuffices }
 {}

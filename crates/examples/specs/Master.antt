@@ -1,5 +1,4 @@
--- Examples that follow the rules of request C-15, in two tables: what the definitions give, and what is said. One statement covers
--- each.
+-- Examples of grants and of drives, in two tables: what the definitions compute, and what is expected. One statement covers each.
 -- Assumes nothing.
 use Rattle.std.specs.Prelude.{◌≡◌, refl, List, [], ◌∷◌, map, ℕ, ◌+◌}
 use Rattle.lists.specs.Search.{least, every, list_of}
@@ -15,17 +14,17 @@ use Rattle.plant.specs.Turn.{leave_told, next_test, makes_test, finish_pass, cou
 use Rattle.plant.specs.Turn.{test_outcome, after_outcome, self_or_suspected, is_alone, after_alone, testing, turn}
 use Rattle.plant.specs.Round.{rounds_after, reset_line, reset_lines, after_round}
 use Rattle.plant.specs.Entry.{state_of, acted, after}
-use Rattle.granter.specs.Grant.{waits, first_from, following, granted, grant_check, grant_number, grant_answer, grant_station}
-use Rattle.granter.specs.Drive.{DriveOutcome, grant_turn, after_grants, ended, stops, grants_made, outcome_after, drive}
+use Rattle.granter.specs.Grant.{waits, first_from, following, granted, grant_check, grant_refusal, grant_answer, grant_station}
+use Rattle.granter.specs.Drive.{DriveResult, grant_turn, after_grants, ended, stops, grants_made, outcome_after, drive}
 use Rattle.lists.specs.Bytes.{joined_byte}
 
--- one example: what the definitions give, and what is said
+-- one example: what the definitions compute, and what is expected
 pub record Example : Type 0 where
-  pub given : List ℕ
-  pub said : List ℕ
+  pub computed : List ℕ
+  pub expected : List ℕ
 
-abbrev pub gives : List ℕ → List ℕ → Example
-gives g s = record { given = g; said = s }
+abbrev pub expect : List ℕ → List ℕ → Example
+expect g s = record { computed = g; expected = s }
 
 -- who is granted in a table of four after each of the last numbers 255, 0, 1, 2, 3
 abbrev pub grants_of : List ℕ → List ℕ
@@ -44,66 +43,66 @@ unfoldable pub all_dead : List ℕ
 all_dead = set_cell 4 (set_cell 4 (set_cell 4 (set_cell 4 (fresh_table 4) 0 status_column 1) 1 status_column 1) 2 status_column 1) 3 status_column 1
 
 -- what a drive answers
-abbrev pub drive_figures : DriveOutcome → List ℕ
+abbrev pub drive_figures : DriveResult → List ℕ
 drive_figures d = d.number ∷ d.state.rounds ∷ d.state.tests ∷ d.last ∷ d.grants ∷ []
 
 -- two boards, fresh, and two that suspect one another
-unfoldable pub two_fresh : DriveOutcome
+unfoldable pub two_fresh : DriveResult
 two_fresh = drive 2 (state_of (fresh_table 2) 0 0) 255
 
-unfoldable pub two_suspecting : DriveOutcome
+unfoldable pub two_suspecting : DriveResult
 two_suspecting = drive 2 (state_of (set_cell 2 (set_cell 2 (fresh_table 2) 0 (head + 1) 1) 1 (head + 0) 1) 0 0) 255
 
 unfoldable pub examples : List Example
 examples =
-    -- all wait: "the next station after it, going round"; "from 255 it begins at station 0"
-    gives (grants_of (fresh_table 4)) (0 ∷ 1 ∷ 2 ∷ 3 ∷ 0 ∷ [])
-    -- "that is live and unfinished": 0 and 1
-    ∷ gives (grants_of two_wait) (0 ∷ 1 ∷ 0 ∷ 0 ∷ 0 ∷ [])
+    -- all wait: the next station behind the last granted one; from 255 the search begins at station 0
+    expect (grants_of (fresh_table 4)) (0 ∷ 1 ∷ 2 ∷ 3 ∷ 0 ∷ [])
+    -- only 0 and 1 are live and unfinished
+    ∷ expect (grants_of two_wait) (0 ∷ 1 ∷ 0 ∷ 0 ∷ 0 ∷ [])
     -- the last granted station comes last: alone live and unfinished, it is granted again
-    ∷ gives (grants_of one_waits) (1 ∷ 1 ∷ 1 ∷ 1 ∷ 1 ∷ [])
-    -- "16 for a last number of n or more that is not 255, then 17 when no station is live"
-    ∷ gives (map (grant_number 4 (fresh_table 4)) (3 ∷ 4 ∷ 254 ∷ 255 ∷ 256 ∷ [])) (0 ∷ 16 ∷ 16 ∷ 0 ∷ 16 ∷ [])
-    ∷ gives (map (grant_number 4 all_dead) (3 ∷ 4 ∷ 255 ∷ [])) (17 ∷ 16 ∷ 17 ∷ [])
-    ∷ gives (grant_station 4 all_dead 3 ∷ grant_station 4 (fresh_table 4) 4 ∷ []) (0 ∷ 0 ∷ [])
+    ∷ expect (grants_of one_waits) (1 ∷ 1 ∷ 1 ∷ 1 ∷ 1 ∷ [])
+    -- refusal 16 for a last number of n or more that is not 255, then 17 when no station is live
+    ∷ expect (map (grant_refusal 4 (fresh_table 4)) (3 ∷ 4 ∷ 254 ∷ 255 ∷ 256 ∷ [])) (0 ∷ 16 ∷ 16 ∷ 0 ∷ 16 ∷ [])
+    ∷ expect (map (grant_refusal 4 all_dead) (3 ∷ 4 ∷ 255 ∷ [])) (17 ∷ 16 ∷ 17 ∷ [])
+    ∷ expect (grant_station 4 all_dead 3 ∷ grant_station 4 (fresh_table 4) 4 ∷ []) (0 ∷ 0 ∷ [])
     ∷ []
 
 -- of drives
 unfoldable pub drives : List Example
 drives =
     -- two boards, fresh: 0 and 1 test one another, then both finish: n times n grants, and the table is fresh again
-    gives (drive_figures two_fresh) (0 ∷ 1 ∷ 2 ∷ 1 ∷ 4 ∷ [])
-    ∷ gives two_fresh.state.table (fresh_table 2)
+    expect (drive_figures two_fresh) (0 ∷ 1 ∷ 2 ∷ 1 ∷ 4 ∷ [])
+    ∷ expect two_fresh.state.table (fresh_table 2)
     -- one after the other: the second drive begins behind the last granted station
-    ∷ gives (drive_figures (drive 2 two_fresh.state two_fresh.last)) (0 ∷ 2 ∷ 4 ∷ 1 ∷ 4 ∷ [])
-    -- "stops with 7 before a grant whose turn would meet it, keeping the turns made"
-    ∷ gives (drive_figures (drive 2 (state_of (fresh_table 2) 0 4294967295) 1)) (7 ∷ 0 ∷ 4294967295 ∷ 1 ∷ 0 ∷ [])
-    ∷ gives (drive_figures (drive 2 (state_of (fresh_table 2) 0 4294967294) 0)) (7 ∷ 0 ∷ 4294967295 ∷ 1 ∷ 1 ∷ [])
+    ∷ expect (drive_figures (drive 2 two_fresh.state two_fresh.last)) (0 ∷ 2 ∷ 4 ∷ 1 ∷ 4 ∷ [])
+    -- a drive stops with 7 before a grant while a counter is full, and keeps the turns made
+    ∷ expect (drive_figures (drive 2 (state_of (fresh_table 2) 0 4294967295) 1)) (7 ∷ 0 ∷ 4294967295 ∷ 1 ∷ 0 ∷ [])
+    ∷ expect (drive_figures (drive 2 (state_of (fresh_table 2) 0 4294967294) 0)) (7 ∷ 0 ∷ 4294967295 ∷ 1 ∷ 1 ∷ [])
     -- the turn that brings the rounds to the top closes the round: 0
-    ∷ gives (drive_figures (drive 2 (state_of (fresh_table 2) 4294967294 0) 255)) (0 ∷ 4294967295 ∷ 2 ∷ 1 ∷ 4 ∷ [])
+    ∷ expect (drive_figures (drive 2 (state_of (fresh_table 2) 4294967294 0) 255)) (0 ∷ 4294967295 ∷ 2 ∷ 1 ∷ 4 ∷ [])
     -- 0 tests 1, is told and leaves; 1 tests 0, which is not live, and leaves as alone: nobody is left live, and no round closed
-    ∷ gives (drive_figures two_suspecting) (0 ∷ 0 ∷ 2 ∷ 1 ∷ 2 ∷ [])
-    ∷ gives (drive_figures (drive 2 two_suspecting.state two_suspecting.last)) (17 ∷ 0 ∷ 2 ∷ 1 ∷ 0 ∷ [])
+    ∷ expect (drive_figures two_suspecting) (0 ∷ 0 ∷ 2 ∷ 1 ∷ 2 ∷ [])
+    ∷ expect (drive_figures (drive 2 two_suspecting.state two_suspecting.last)) (17 ∷ 0 ∷ 2 ∷ 1 ∷ 0 ∷ [])
     ∷ []
 
 -- each example holds
-abbrev pub AsSaid : List Example → Type 0
-AsSaid es = map (λ (e : Example). e.given) es ≡ map (λ (e : Example). e.said) es
+abbrev pub AllHold : List Example → Type 0
+AllHold es = map (λ (e : Example). e.computed) es ≡ map (λ (e : Example). e.expected) es
 
-pub as_said : AsSaid examples
+pub grants-hold : AllHold examples
 unfolding rounds_after leave_told examples two_wait one_waits all_dead two_fresh two_suspecting drive outcome_after grants_made stops ended
     after_grants grant_turn grant_check grant_answer granted following first_from waits table_check shape_check is_size table_length every
     line_rules exit_rule row_rule some_live live_finished cell line_start row set_row set_cell fresh_table fresh_byte list_of after acted turn
     reset_line reset_lines after_round after_steps next_test makes_test finish_pass count_test replies is_told exchange_rows suspect
     reply_outcome test_outcome after_outcome self_or_suspected is_alone after_alone testing answer due first first_place least unsuspected member
     width level dimension distances union union_byte joined_byte mark
-as_said = refl
+grants-hold = refl
 
-pub drives-as-said : AsSaid drives
+pub drives-hold : AllHold drives
 unfolding rounds_after leave_told drives two_wait one_waits all_dead two_fresh two_suspecting drive outcome_after grants_made stops ended
     after_grants grant_turn grant_check grant_answer granted following first_from waits table_check shape_check is_size table_length every
     line_rules exit_rule row_rule some_live live_finished cell line_start row set_row set_cell fresh_table fresh_byte list_of after acted turn
     reset_line reset_lines after_round after_steps next_test makes_test finish_pass count_test replies is_told exchange_rows suspect
     reply_outcome test_outcome after_outcome self_or_suspected is_alone after_alone testing answer due first first_place least unsuspected member
     width level dimension distances union union_byte joined_byte mark
-drives-as-said = refl
+drives-hold = refl

@@ -1,5 +1,4 @@
--- The plant examples of document 01 marked [P], and examples that follow the rules of requests C-11, C-13, C-16 and C-18, in two
--- tables: what the definitions give, and what is said. One statement covers each.
+-- Examples of the plant's rules, in two tables: what the definitions compute, and what is expected. One statement covers each.
 -- Assumes nothing.
 use Rattle.std.specs.Prelude.{◌≡◌, ℕ, ◌+◌, List, [], ◌∷◌, map, drop, replicate, refl}
 use Rattle.lists.specs.Search.{least, every, list_of}
@@ -7,7 +6,7 @@ use Rattle.table.specs.Sizes.{is_size, level, dimension, distances}
 use Rattle.station.specs.Groups.{width, member, full_group, group, station_at}
 use Rattle.table.specs.Table.{head, table_length, line_start, cell, set_cell, status_column, next_column, told_by_column, rounds_ago_column}
 use Rattle.table.specs.Table.{told_by, row, set_row}
-use Rattle.table.specs.Rules.{exit_rule, row_rule, line_rules, some_live, live_finished, shape_check, table_check, table_number}
+use Rattle.table.specs.Rules.{exit_rule, row_rule, line_rules, some_live, live_finished, shape_check, table_check, table_refusal}
 use Rattle.station.specs.Tests.{unsuspected, first_place, first, answer, due, due_distances}
 use Rattle.station.specs.Rows.{union_byte, union, mark}
 use Rattle.table.specs.Fresh.{fresh_byte, fresh_table}
@@ -17,19 +16,19 @@ use Rattle.plant.specs.Turn.{leave_told, next_test, makes_test, finish_pass, cou
 use Rattle.plant.specs.Turn.{test_outcome, after_outcome, self_or_suspected, is_alone, after_alone, testing, turn, turn_tested, turn_outcome}
 use Rattle.plant.specs.Turn.{crash}
 use Rattle.plant.specs.Round.{rounds_after, reset_line, reset_lines, after_round}
-use Rattle.plant.specs.Entry.{state_of, entry_check, entry_number, acted, after, tested_of, outcome_of, sheet_line}
-use Rattle.plant.specs.Run.{Outcome, entries, go_on, start_check, start_number, run}
+use Rattle.plant.specs.Entry.{state_of, entry_check, entry_refusal, acted, after, tested_of, outcome_of, sheet_line}
+use Rattle.plant.specs.Run.{RunResult, entries, go_on, start_check, start_refusal, run}
 use Rattle.lists.specs.Sums.{sum_below}
-use Rattle.detection.specs.Claim.{dead_group, dead_pairs, demand_count}
+use Rattle.detection.specs.Claim.{group_without_live, pairs_without_live, tests_per_round}
 use Rattle.lists.specs.Bytes.{joined_byte}
 
--- one example: what the definitions give, and what is said
+-- one example: what the definitions compute, and what is expected
 pub record Example : Type 0 where
-  pub given : List ℕ
-  pub said : List ℕ
+  pub computed : List ℕ
+  pub expected : List ℕ
 
-abbrev pub gives : List ℕ → List ℕ → Example
-gives g s = record { given = g; said = s }
+abbrev pub expect : List ℕ → List ℕ → Example
+expect g s = record { computed = g; expected = s }
 
 -- a row of eight stations in which nothing, and in which station 4 is suspected
 abbrev pub nobody : List ℕ
@@ -38,9 +37,9 @@ nobody = replicate 8 0
 abbrev pub only_four : List ℕ
 only_four = 0 ∷ 0 ∷ 0 ∷ 0 ∷ 1 ∷ 0 ∷ 0 ∷ 0 ∷ []
 
--- demand 3's count for n stations and a table
+-- the count of tests for n stations and a table
 abbrev pub count_of : ℕ → List ℕ → List ℕ
-count_of n t = demand_count n t ∷ []
+count_of n t = tests_per_round n t ∷ []
 
 -- a table of eight with station 4 dead, and with 4 and 5 dead
 unfoldable pub four_dead : List ℕ
@@ -54,157 +53,157 @@ unfoldable pub four_dead_of_eleven : List ℕ
 four_dead_of_eleven = set_cell 11 (fresh_table 11) 4 status_column 1
 
 -- N = 4, fresh, entries (2, 0), (1, 0), (1, 0), (1, 1)
-unfoldable pub four_boards : Outcome
+unfoldable pub four_boards : RunResult
 four_boards = run 4 (state_of (fresh_table 4) 0 0) (2 ∷ 0 ∷ 1 ∷ 0 ∷ 1 ∷ 0 ∷ 1 ∷ 1 ∷ []) (replicate 16 0)
 
 -- one entry on a table, from a tally of zeros
-abbrev pub one_entry : ℕ → List ℕ → ℕ → ℕ → Outcome
+abbrev pub one_entry : ℕ → List ℕ → ℕ → ℕ → RunResult
 one_entry n t kind i = run n (state_of t 0 0) (kind ∷ i ∷ []) (replicate 4 0)
 
 -- the table in which station i also suspects k
 abbrev pub also_suspects : ℕ → List ℕ → ℕ → ℕ → List ℕ
 also_suspects n t i k = set_cell n t i (head + k) 1
 
--- C-13, N = 4: station 0 suspects 1, and 1 suspects 2
+-- n = 4: station 0 suspects 1, and 1 suspects 2
 unfoldable pub zero_suspects_one : List ℕ
 zero_suspects_one = also_suspects 4 (also_suspects 4 (fresh_table 4) 0 1) 1 2
 
--- C-13, n = 3: station 0 suspects 1 and 2, and 2 has finished its pass
+-- n = 3: station 0 suspects 1 and 2, and 2 has finished its pass
 unfoldable pub station_two_finished : List ℕ
 station_two_finished = finish_pass 3 (also_suspects 3 (also_suspects 3 (fresh_table 3) 0 1) 0 2) 2
 
-unfoldable pub tested_told : Outcome
+unfoldable pub tested_told : RunResult
 tested_told = one_entry 4 zero_suspects_one 1 0
 
-unfoldable pub alone_of_two : Outcome
+unfoldable pub alone_of_two : RunResult
 alone_of_two = one_entry 2 (also_suspects 2 (fresh_table 2) 0 1) 1 0
 
-unfoldable pub alone_of_three : Outcome
+unfoldable pub alone_of_three : RunResult
 alone_of_three = one_entry 3 station_two_finished 1 0
 
--- C-18, n = 3: line 2 after the next closing, where station 2 was told so many rounds ago, by whom was never recorded: 1 has finished, and 0
+-- n = 3: line 2 after the next closing, where station 2 was told so many rounds ago, by whom was never recorded: 1 has finished, and 0
 -- finishes with the entry
 unfoldable pub after_closing : ℕ → List ℕ
 after_closing ago =
     let gone = set_cell 3 (set_cell 3 (set_cell 3 (fresh_table 3) 2 status_column 2) 2 told_by_column 254) 2 rounds_ago_column ago in
     drop (line_start 3 2) (one_entry 3 (set_cell 3 (finish_pass 3 gone 1) 0 next_column 4) 1 0).state.table
 
--- C-18, n = 3: the number of a table whose line 1 has this status, byte 5 and byte 4
-unfoldable pub number_of : ℕ → ℕ → ℕ → ℕ
-number_of status ago told =
-    table_number 3 (set_cell 3 (set_cell 3 (set_cell 3 (fresh_table 3) 1 status_column status) 1 told_by_column told) 1 rounds_ago_column ago)
+-- n = 3: the refusal of a table whose line 1 has this status, byte 5 and byte 4
+unfoldable pub refusal_of : ℕ → ℕ → ℕ → ℕ
+refusal_of status ago told =
+    table_refusal 3 (set_cell 3 (set_cell 3 (set_cell 3 (fresh_table 3) 1 status_column status) 1 told_by_column told) 1 rounds_ago_column ago)
 
-unfoldable pub examples : List Example
-examples =
-    -- "(0, level 3) is 4, 5, 6, 7. (3, level 2) is 1, 0. (5, level 1) is 4. (6, level 2) is 4, 5. (7, level 3) is 3, 2, 1, 0."
-    gives (group 8 0 3) (4 ∷ 5 ∷ 6 ∷ 7 ∷ [])
-    ∷ gives (group 8 3 2) (1 ∷ 0 ∷ [])
-    ∷ gives (group 8 5 1) (4 ∷ [])
-    ∷ gives (group 8 6 2) (4 ∷ 5 ∷ [])
-    ∷ gives (group 8 7 3) (3 ∷ 2 ∷ 1 ∷ 0 ∷ [])
-    -- "N = 8, nothing suspected: station 5 has 1, 2, 4 due."
-    ∷ gives (due_distances nobody 5 8) (1 ∷ 2 ∷ 4 ∷ [])
-    -- "N = 8, station 5 suspects 4: 1, 2, 3, 4, 5 due; 3 and 5 are stations 6 and 0."
-    ∷ gives (due_distances only_four 5 8) (1 ∷ 2 ∷ 3 ∷ 4 ∷ 5 ∷ [])
-    ∷ gives (station_at 5 3 ∷ station_at 5 5 ∷ []) (6 ∷ 0 ∷ [])
-    -- C-16, the assignment of station 5: 3 and 5 are behind station 4, 6 behind 7, 7 behind 6; with 4 suspected, 6 and 7 as before
-    ∷ gives (assignment_entries nobody 5 (other_distances 8 5))
+unfoldable pub base_rules : List Example
+base_rules =
+    -- groups of stations 0, 3, 5, 6 and 7 of eight
+    expect (group 8 0 3) (4 ∷ 5 ∷ 6 ∷ 7 ∷ [])
+    ∷ expect (group 8 3 2) (1 ∷ 0 ∷ [])
+    ∷ expect (group 8 5 1) (4 ∷ [])
+    ∷ expect (group 8 6 2) (4 ∷ 5 ∷ [])
+    ∷ expect (group 8 7 3) (3 ∷ 2 ∷ 1 ∷ 0 ∷ [])
+    -- n = 8, nobody suspected: station 5 has 1, 2, 4 due
+    ∷ expect (due_distances nobody 5 8) (1 ∷ 2 ∷ 4 ∷ [])
+    -- n = 8, station 5 suspects 4: it has 1, 2, 3, 4, 5 due; at 3 and 5 stand stations 6 and 0
+    ∷ expect (due_distances only_four 5 8) (1 ∷ 2 ∷ 3 ∷ 4 ∷ 5 ∷ [])
+    ∷ expect (station_at 5 3 ∷ station_at 5 5 ∷ []) (6 ∷ 0 ∷ [])
+    -- the assignment of station 5: 3 and 5 are behind station 4, 6 behind 7, 7 behind 6; with 4 suspected, 6 and 7 as before
+    ∷ expect (assignment_entries nobody 5 (other_distances 8 5))
     (1 ∷ 255 ∷ 2 ∷ 255 ∷ 3 ∷ 4 ∷ 4 ∷ 255 ∷ 5 ∷ 4 ∷ 6 ∷ 7 ∷ 7 ∷ 6 ∷ [])
-    ∷ gives (assignment_entries only_four 5 (other_distances 8 5))
+    ∷ expect (assignment_entries only_four 5 (other_distances 8 5))
     (1 ∷ 255 ∷ 2 ∷ 255 ∷ 3 ∷ 255 ∷ 4 ∷ 255 ∷ 5 ∷ 255 ∷ 6 ∷ 7 ∷ 7 ∷ 6 ∷ [])
-    -- "N = 8, demand 3's count: none dead 24; 4 dead 23; 4 and 5 dead 20."
-    ∷ gives (count_of 8 (fresh_table 8)) (24 ∷ [])
-    ∷ gives (count_of 8 four_dead) (23 ∷ [])
-    ∷ gives (count_of 8 four_and_five_dead) (20 ∷ [])
-    -- "0 suspects 1, exchanges with 2, then with 3; 1 tests 0, is told and leaves. 1's row stays empty."
-    ∷ gives (four_boards.number ∷ four_boards.taken ∷ []) (0 ∷ 4 ∷ [])
-    ∷ gives four_boards.sheet (0 ∷ 1 ∷ 3 ∷ 0 ∷ 0 ∷ 2 ∷ 1 ∷ 0 ∷ 0 ∷ 3 ∷ 1 ∷ 0 ∷ 1 ∷ 0 ∷ 2 ∷ 2 ∷ [])
-    ∷ gives (row 4 four_boards.state.table 0) (0 ∷ 1 ∷ 0 ∷ 0 ∷ [])
-    ∷ gives (row 4 four_boards.state.table 1) (0 ∷ 0 ∷ 0 ∷ 0 ∷ [])
-    ∷ gives (row 4 four_boards.state.table 2) (0 ∷ 1 ∷ 0 ∷ 0 ∷ [])
-    ∷ gives (row 4 four_boards.state.table 3) (0 ∷ 1 ∷ 0 ∷ 0 ∷ [])
+    -- n = 8, the count of tests: none dead 24; 4 dead 23; 4 and 5 dead 20
+    ∷ expect (count_of 8 (fresh_table 8)) (24 ∷ [])
+    ∷ expect (count_of 8 four_dead) (23 ∷ [])
+    ∷ expect (count_of 8 four_and_five_dead) (20 ∷ [])
+    -- 0 suspects 1, exchanges with 2, then with 3; 1 tests 0, is told and leaves. The row of 1 stays empty
+    ∷ expect (four_boards.number ∷ four_boards.taken ∷ []) (0 ∷ 4 ∷ [])
+    ∷ expect four_boards.sheet (0 ∷ 1 ∷ 3 ∷ 0 ∷ 0 ∷ 2 ∷ 1 ∷ 0 ∷ 0 ∷ 3 ∷ 1 ∷ 0 ∷ 1 ∷ 0 ∷ 2 ∷ 2 ∷ [])
+    ∷ expect (row 4 four_boards.state.table 0) (0 ∷ 1 ∷ 0 ∷ 0 ∷ [])
+    ∷ expect (row 4 four_boards.state.table 1) (0 ∷ 0 ∷ 0 ∷ 0 ∷ [])
+    ∷ expect (row 4 four_boards.state.table 2) (0 ∷ 1 ∷ 0 ∷ 0 ∷ [])
+    ∷ expect (row 4 four_boards.state.table 3) (0 ∷ 1 ∷ 0 ∷ 0 ∷ [])
     ∷ []
 
--- of the requests
-unfoldable pub requested : List Example
-requested =
-    -- C-11, n = 11: groups with the absent numbers left out
-    gives (group 11 10 1) []
-    ∷ gives (group 11 10 2) (8 ∷ 9 ∷ [])
-    ∷ gives (group 11 2 4) (10 ∷ 8 ∷ 9 ∷ [])
+-- of the rules for sizes that are no power of two, for assignments, for the tested station that is told, and for bytes 4 and 5
+unfoldable pub later_rules : List Example
+later_rules =
+    -- n = 11: groups with the absent numbers left out
+    expect (group 11 10 1) []
+    ∷ expect (group 11 10 2) (8 ∷ 9 ∷ [])
+    ∷ expect (group 11 2 4) (10 ∷ 8 ∷ 9 ∷ [])
     -- nothing suspected, station 10 has 2, 3, 8, 9, 12, 13 due, which are stations 8, 9, 2, 3, 6, 7
-    ∷ gives (due_distances (replicate 11 0) 10 11) (2 ∷ 3 ∷ 8 ∷ 9 ∷ 12 ∷ 13 ∷ [])
-    ∷ gives (map (station_at 10) (2 ∷ 3 ∷ 8 ∷ 9 ∷ 12 ∷ 13 ∷ [])) (8 ∷ 9 ∷ 2 ∷ 3 ∷ 6 ∷ 7 ∷ [])
-    -- C-16: the others are stations 0, 1, 4 and 5, behind 8 and 9; the entries of station 4 of 5 are at distances 4 to 7
-    ∷ gives (assignment_entries (replicate 11 0) 10 (other_distances 11 10))
+    ∷ expect (due_distances (replicate 11 0) 10 11) (2 ∷ 3 ∷ 8 ∷ 9 ∷ 12 ∷ 13 ∷ [])
+    ∷ expect (map (station_at 10) (2 ∷ 3 ∷ 8 ∷ 9 ∷ 12 ∷ 13 ∷ [])) (8 ∷ 9 ∷ 2 ∷ 3 ∷ 6 ∷ 7 ∷ [])
+    -- the others are stations 0, 1, 4 and 5, behind 8 and 9; the entries of station 4 of 5 are at distances 4 to 7
+    ∷ expect (assignment_entries (replicate 11 0) 10 (other_distances 11 10))
     (2 ∷ 255 ∷ 3 ∷ 255 ∷ 8 ∷ 255 ∷ 9 ∷ 255 ∷ 10 ∷ 8 ∷ 11 ∷ 9 ∷ 12 ∷ 255 ∷ 13 ∷ 255 ∷ 14 ∷ 8 ∷ 15 ∷ 9 ∷ [])
-    ∷ gives (assignment_entries (replicate 5 0) 4 (other_distances 5 4)) (4 ∷ 255 ∷ 5 ∷ 255 ∷ 6 ∷ 255 ∷ 7 ∷ 255 ∷ [])
+    ∷ expect (assignment_entries (replicate 5 0) 4 (other_distances 5 4)) (4 ∷ 255 ∷ 5 ∷ 255 ∷ 6 ∷ 255 ∷ 7 ∷ 255 ∷ [])
     -- the count of tests: 3 boards, 5, 11, 11 with board 4 dead, and 19 (the program computes 63, too long for this table)
-    ∷ gives (count_of 3 (fresh_table 3)) (5 ∷ [])
-    ∷ gives (count_of 5 (fresh_table 5)) (13 ∷ [])
-    ∷ gives (count_of 11 (fresh_table 11)) (40 ∷ [])
-    ∷ gives (count_of 11 four_dead_of_eleven) (39 ∷ [])
-    ∷ gives (count_of 19 (fresh_table 19)) (88 ∷ [])
-    -- C-13: 0 suspects 1 and tests it; 1 leaves, and no row changes
-    ∷ gives tested_told.sheet (0 ∷ 1 ∷ 5 ∷ 0 ∷ [])
-    ∷ gives tested_told.state.table
+    ∷ expect (count_of 3 (fresh_table 3)) (5 ∷ [])
+    ∷ expect (count_of 5 (fresh_table 5)) (13 ∷ [])
+    ∷ expect (count_of 11 (fresh_table 11)) (40 ∷ [])
+    ∷ expect (count_of 11 four_dead_of_eleven) (39 ∷ [])
+    ∷ expect (count_of 19 (fresh_table 19)) (88 ∷ [])
+    -- 0 suspects 1 and tests it; 1 leaves, and no row changes
+    ∷ expect tested_told.sheet (0 ∷ 1 ∷ 5 ∷ 0 ∷ [])
+    ∷ expect tested_told.state.table
     (0 ∷ 2 ∷ 0 ∷ 1 ∷ 255 ∷ 0 ∷ 0 ∷ 1 ∷ 0 ∷ 0
     ∷ 2 ∷ 1 ∷ 0 ∷ 0 ∷ 0 ∷ 0 ∷ 0 ∷ 0 ∷ 1 ∷ 0
     ∷ 0 ∷ 1 ∷ 0 ∷ 0 ∷ 255 ∷ 0 ∷ 0 ∷ 0 ∷ 0 ∷ 0
     ∷ 0 ∷ 1 ∷ 0 ∷ 0 ∷ 255 ∷ 0 ∷ 0 ∷ 0 ∷ 0 ∷ 0 ∷ [])
     -- where the reply is late, or 1 suspects 0 too
-    ∷ gives (one_entry 4 zero_suspects_one 2 0).sheet (0 ∷ 1 ∷ 3 ∷ 0 ∷ [])
-    ∷ gives (one_entry 4 (also_suspects 4 zero_suspects_one 1 0) 1 0).sheet (0 ∷ 1 ∷ 2 ∷ 2 ∷ [])
+    ∷ expect (one_entry 4 zero_suspects_one 2 0).sheet (0 ∷ 1 ∷ 3 ∷ 0 ∷ [])
+    ∷ expect (one_entry 4 (also_suspects 4 zero_suspects_one 1 0) 1 0).sheet (0 ∷ 1 ∷ 2 ∷ 2 ∷ [])
     -- of two boards, 0 leaves as alone by the same entry: nobody is live, and no round closes
-    ∷ gives alone_of_two.sheet (0 ∷ 1 ∷ 5 ∷ 3 ∷ [])
-    ∷ gives alone_of_two.state.table (3 ∷ 2 ∷ 0 ∷ 1 ∷ 255 ∷ 0 ∷ 0 ∷ 1 ∷ 2 ∷ 1 ∷ 0 ∷ 0 ∷ 0 ∷ 0 ∷ 0 ∷ 0 ∷ [])
-    ∷ gives (alone_of_two.state.rounds ∷ alone_of_two.state.tests ∷ []) (0 ∷ 1 ∷ [])
-    -- of three, 2 is left live and has finished: the round closes, and by C-18 it counts for both that ceased at this very entry
-    ∷ gives alone_of_three.sheet (0 ∷ 1 ∷ 5 ∷ 3 ∷ [])
-    ∷ gives alone_of_three.state.table
+    ∷ expect alone_of_two.sheet (0 ∷ 1 ∷ 5 ∷ 3 ∷ [])
+    ∷ expect alone_of_two.state.table (3 ∷ 2 ∷ 0 ∷ 1 ∷ 255 ∷ 0 ∷ 0 ∷ 1 ∷ 2 ∷ 1 ∷ 0 ∷ 0 ∷ 0 ∷ 0 ∷ 0 ∷ 0 ∷ [])
+    ∷ expect (alone_of_two.state.rounds ∷ alone_of_two.state.tests ∷ []) (0 ∷ 1 ∷ [])
+    -- of three, 2 is left live and has finished: the round closes, and it counts for both that ceased at this very entry
+    ∷ expect alone_of_three.sheet (0 ∷ 1 ∷ 5 ∷ 3 ∷ [])
+    ∷ expect alone_of_three.state.table
     (3 ∷ 1 ∷ 0 ∷ 0 ∷ 255 ∷ 1 ∷ 0 ∷ 1 ∷ 1
     ∷ 2 ∷ 1 ∷ 0 ∷ 0 ∷ 0 ∷ 1 ∷ 0 ∷ 0 ∷ 0
     ∷ 0 ∷ 1 ∷ 0 ∷ 0 ∷ 255 ∷ 0 ∷ 0 ∷ 0 ∷ 0 ∷ [])
-    ∷ gives (alone_of_three.state.rounds ∷ alone_of_three.state.tests ∷ []) (1 ∷ 1 ∷ [])
-    -- C-18: station 1 of the four boards above was told by 0
-    ∷ gives (map (told_by 4 four_boards.state.table) (0 ∷ 1 ∷ 2 ∷ 3 ∷ [])) (255 ∷ 0 ∷ 255 ∷ 255 ∷ [])
-    -- 1 has finished: the round closes when 0 crashes, "on the very entry at which it ceased"
-    ∷ gives (one_entry 2 (finish_pass 2 (fresh_table 2) 1) 3 0).state.table
+    ∷ expect (alone_of_three.state.rounds ∷ alone_of_three.state.tests ∷ []) (1 ∷ 1 ∷ [])
+    -- station 1 of the four boards above was told by 0
+    ∷ expect (map (told_by 4 four_boards.state.table) (0 ∷ 1 ∷ 2 ∷ 3 ∷ [])) (255 ∷ 0 ∷ 255 ∷ 255 ∷ [])
+    -- 1 has finished: the round closes when 0 crashes, and counts for 0, which ceased at this very entry
+    ∷ expect (one_entry 2 (finish_pass 2 (fresh_table 2) 1) 3 0).state.table
     (1 ∷ 1 ∷ 0 ∷ 0 ∷ 255 ∷ 1 ∷ 0 ∷ 0
     ∷ 0 ∷ 1 ∷ 0 ∷ 0 ∷ 255 ∷ 0 ∷ 0 ∷ 0 ∷ [])
     -- 2 was told, by whom was never recorded: 254 stays; byte 5 grows with each round that closes, to 255
-    ∷ gives (after_closing 0) (2 ∷ 1 ∷ 0 ∷ 0 ∷ 254 ∷ 1 ∷ 0 ∷ 0 ∷ 0 ∷ [])
-    ∷ gives (after_closing 254) (2 ∷ 1 ∷ 0 ∷ 0 ∷ 254 ∷ 255 ∷ 0 ∷ 0 ∷ 0 ∷ [])
-    ∷ gives (after_closing 255) (2 ∷ 1 ∷ 0 ∷ 0 ∷ 254 ∷ 255 ∷ 0 ∷ 0 ∷ 0 ∷ [])
+    ∷ expect (after_closing 0) (2 ∷ 1 ∷ 0 ∷ 0 ∷ 254 ∷ 1 ∷ 0 ∷ 0 ∷ 0 ∷ [])
+    ∷ expect (after_closing 254) (2 ∷ 1 ∷ 0 ∷ 0 ∷ 254 ∷ 255 ∷ 0 ∷ 0 ∷ 0 ∷ [])
+    ∷ expect (after_closing 255) (2 ∷ 1 ∷ 0 ∷ 0 ∷ 254 ∷ 255 ∷ 0 ∷ 0 ∷ 0 ∷ [])
     -- the rules: a live line has 255 and 0; status 1 and 3 have 255; status 2 has 254 or another's number
-    ∷ gives (map (number_of 0 0) (0 ∷ 2 ∷ 254 ∷ 255 ∷ [])) (3 ∷ 3 ∷ 3 ∷ 0 ∷ [])
-    ∷ gives (number_of 0 1 255 ∷ number_of 1 1 255 ∷ number_of 2 255 254 ∷ []) (3 ∷ 0 ∷ 0 ∷ [])
-    ∷ gives (map (number_of 1 0) (0 ∷ 254 ∷ 255 ∷ [])) (3 ∷ 3 ∷ 0 ∷ [])
-    ∷ gives (map (number_of 3 0) (0 ∷ 254 ∷ 255 ∷ [])) (3 ∷ 3 ∷ 0 ∷ [])
-    ∷ gives (map (number_of 2 0) (0 ∷ 1 ∷ 2 ∷ 3 ∷ 4 ∷ 253 ∷ 254 ∷ 255 ∷ [])) (0 ∷ 3 ∷ 0 ∷ 3 ∷ 3 ∷ 3 ∷ 0 ∷ 3 ∷ [])
+    ∷ expect (map (refusal_of 0 0) (0 ∷ 2 ∷ 254 ∷ 255 ∷ [])) (3 ∷ 3 ∷ 3 ∷ 0 ∷ [])
+    ∷ expect (refusal_of 0 1 255 ∷ refusal_of 1 1 255 ∷ refusal_of 2 255 254 ∷ []) (3 ∷ 0 ∷ 0 ∷ [])
+    ∷ expect (map (refusal_of 1 0) (0 ∷ 254 ∷ 255 ∷ [])) (3 ∷ 3 ∷ 0 ∷ [])
+    ∷ expect (map (refusal_of 3 0) (0 ∷ 254 ∷ 255 ∷ [])) (3 ∷ 3 ∷ 0 ∷ [])
+    ∷ expect (map (refusal_of 2 0) (0 ∷ 1 ∷ 2 ∷ 3 ∷ 4 ∷ 253 ∷ 254 ∷ 255 ∷ [])) (0 ∷ 3 ∷ 0 ∷ 3 ∷ 3 ∷ 3 ∷ 0 ∷ 3 ∷ [])
     ∷ []
 
 -- each example holds
-abbrev pub AsSaid : List Example → Type 0
-AsSaid es = map (λ (e : Example). e.given) es ≡ map (λ (e : Example). e.said) es
+abbrev pub AllHold : List Example → Type 0
+AllHold es = map (λ (e : Example). e.computed) es ≡ map (λ (e : Example). e.expected) es
 
-pub as_said : AsSaid examples
-unfolding rounds_after leave_told examples four_boards four_dead four_and_five_dead four_dead_of_eleven zero_suspects_one station_two_finished
-    tested_told alone_of_two alone_of_three dead_pairs dead_group sum_below run start_check table_check shape_check is_size table_length every
-    line_rules exit_rule row_rule some_live live_finished cell line_start row set_row set_cell fresh_table fresh_byte list_of go_on entries
+pub base-hold : AllHold base_rules
+unfolding rounds_after leave_told base_rules four_boards four_dead four_and_five_dead four_dead_of_eleven zero_suspects_one station_two_finished
+    tested_told alone_of_two alone_of_three pairs_without_live group_without_live sum_below run start_check table_check shape_check is_size table_length
+    every line_rules exit_rule row_rule some_live live_finished cell line_start row set_row set_cell fresh_table fresh_byte list_of go_on entries
     entry_check after acted sheet_line tested_of outcome_of turn turn_tested turn_outcome crash reset_line reset_lines after_round after_steps
     next_test makes_test finish_pass count_test replies is_told exchange_rows suspect reply_outcome test_outcome after_outcome self_or_suspected
     is_alone after_alone testing answer due due_distances other_distances assignment_entries first first_place least unsuspected member width
     level dimension distances group full_group union union_byte joined_byte mark
-as_said = refl
+base-hold = refl
 
-pub requested-as-said : AsSaid requested
-unfolding rounds_after leave_told requested after_closing number_of four_boards four_dead four_and_five_dead four_dead_of_eleven
-    zero_suspects_one station_two_finished tested_told alone_of_two alone_of_three dead_pairs dead_group sum_below run start_check table_check
-    shape_check is_size table_length every line_rules exit_rule row_rule some_live live_finished cell line_start row set_row set_cell
+pub later-hold : AllHold later_rules
+unfolding rounds_after leave_told later_rules after_closing refusal_of four_boards four_dead four_and_five_dead four_dead_of_eleven
+    zero_suspects_one station_two_finished tested_told alone_of_two alone_of_three pairs_without_live group_without_live sum_below run start_check
+    table_check shape_check is_size table_length every line_rules exit_rule row_rule some_live live_finished cell line_start row set_row set_cell
     fresh_table fresh_byte list_of go_on entries entry_check after acted sheet_line tested_of outcome_of turn turn_tested turn_outcome crash
     reset_line reset_lines after_round after_steps next_test makes_test finish_pass count_test replies is_told exchange_rows suspect
     reply_outcome test_outcome after_outcome self_or_suspected is_alone after_alone testing answer due due_distances other_distances
     assignment_entries first first_place least unsuspected member width level dimension distances group full_group union union_byte joined_byte
     mark
-requested-as-said = refl
+later-hold = refl

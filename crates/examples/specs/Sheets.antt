@@ -1,5 +1,5 @@
--- Examples of which tests a board makes, and how many: what the definitions give, and what is said, in one table, and one that takes longer to
--- compute.
+-- Examples of which tests a board makes, and how many: what the definitions compute, and what is expected, in one table, and one that takes longer
+-- to compute.
 -- Assumes nothing.
 use Rattle.std.specs.Prelude.{◌≡◌, ℕ, true, false, List, [], ◌∷◌, map, refl}
 use Rattle.lists.specs.Search.{least, list_of, greatest}
@@ -7,7 +7,7 @@ use Rattle.table.specs.Sizes.{level, dimension, distances}
 use Rattle.station.specs.Groups.{width, member}
 use Rattle.station.specs.Tests.{unsuspected, first_place, first, answer, due, due_distances}
 use Rattle.station.specs.Rows.{mark}
-use Rattle.examples.specs.Plant.{Example, gives}
+use Rattle.examples.specs.Plant.{Example, expect}
 use Rattle.slots.specs.Slots.{tested, untested_distances, untested, ahead, tests_due, tests_with, most_tests, most_of_boards}
 
 -- the row of n boards in which nobody is suspected
@@ -24,30 +24,30 @@ most_at n = most_of_boards n (empty_row n) false ∷ most_of_boards n (empty_row
 
 unfoldable pub examples : List Example
 examples =
-    -- "with eight boards and board 4 out, board 5 makes five"
-    gives (tested 8 (mark (empty_row 8) 4) 5) (4 ∷ 7 ∷ 6 ∷ 1 ∷ 0 ∷ [])
-    ∷ gives (tested 8 (empty_row 8) 5) (4 ∷ 7 ∷ 1 ∷ [])
-    -- "for those that it does not test, who stands ahead": 7 at board 3, and 6 at board 2
-    ∷ gives (untested 8 (mark (empty_row 8) 4) 5) (3 ∷ 2 ∷ [])
-    ∷ gives (ahead 8 (mark (empty_row 8) 4) 5) (7 ∷ 6 ∷ [])
-    -- "with 2^d boards and nobody suspected each board has exactly d due"; "with one suspected, at most 2d − 1"
-    ∷ gives (tests_of_each 8) (3 ∷ 3 ∷ 3 ∷ 3 ∷ 3 ∷ 3 ∷ 3 ∷ 3 ∷ [])
-    ∷ gives (most_tests 8 (empty_row 8) 5 ∷ most_tests 4 (empty_row 4) 0 ∷ most_tests 2 (empty_row 2) 0 ∷ []) (5 ∷ 3 ∷ 1 ∷ [])
-    -- "most tests of a board with nobody dead, and with any one dead", at sizes 4, 5 and 6
-    ∷ gives (most_at 4) (2 ∷ 3 ∷ [])
-    ∷ gives (most_at 5) (4 ∷ 4 ∷ [])
-    ∷ gives (most_at 6) (3 ∷ 5 ∷ [])
-    -- "11 boards, 6 at most"
-    ∷ gives (tests_of_each 11) (4 ∷ 4 ∷ 4 ∷ 3 ∷ 3 ∷ 3 ∷ 3 ∷ 3 ∷ 4 ∷ 3 ∷ 6 ∷ [])
+    -- eight boards, board 4 dead: board 5 makes five tests
+    expect (tested 8 (mark (empty_row 8) 4) 5) (4 ∷ 7 ∷ 6 ∷ 1 ∷ 0 ∷ [])
+    ∷ expect (tested 8 (empty_row 8) 5) (4 ∷ 7 ∷ 1 ∷ [])
+    -- those that board 5 does not test, and who stands ahead: 7 at board 3, and 6 at board 2
+    ∷ expect (untested 8 (mark (empty_row 8) 4) 5) (3 ∷ 2 ∷ [])
+    ∷ expect (ahead 8 (mark (empty_row 8) 4) 5) (7 ∷ 6 ∷ [])
+    -- of 2^d boards that suspect nobody each has d tests; with one suspected 2d − 1 at most
+    ∷ expect (tests_of_each 8) (3 ∷ 3 ∷ 3 ∷ 3 ∷ 3 ∷ 3 ∷ 3 ∷ 3 ∷ [])
+    ∷ expect (most_tests 8 (empty_row 8) 5 ∷ most_tests 4 (empty_row 4) 0 ∷ most_tests 2 (empty_row 2) 0 ∷ []) (5 ∷ 3 ∷ 1 ∷ [])
+    -- the most tests of a board with nobody dead, and with any one dead, at sizes 4, 5 and 6
+    ∷ expect (most_at 4) (2 ∷ 3 ∷ [])
+    ∷ expect (most_at 5) (4 ∷ 4 ∷ [])
+    ∷ expect (most_at 6) (3 ∷ 5 ∷ [])
+    -- 11 boards: 6 at most
+    ∷ expect (tests_of_each 11) (4 ∷ 4 ∷ 4 ∷ 3 ∷ 3 ∷ 3 ∷ 3 ∷ 3 ∷ 4 ∷ 3 ∷ 6 ∷ [])
     ∷ []
 
 -- each example holds
-pub as_said : map (λ (e : Example). e.given) examples ≡ map (λ (e : Example). e.said) examples
+pub hold : map (λ (e : Example). e.computed) examples ≡ map (λ (e : Example). e.expected) examples
 unfolding examples empty_row tested untested_distances untested ahead tests_due greatest tests_with most_tests most_of_boards due_distances due
     answer first first_place unsuspected mark member width level dimension distances least list_of
-as_said = refl
+hold = refl
 
--- "19 boards, 10", which board 18 has
+-- of 19 boards that suspect nobody board 18 has 10 tests
 pub nineteen : tests_due 19 (empty_row 19) 18 ≡ 10
 unfolding empty_row tests_due due_distances due answer first first_place unsuspected member width level dimension distances least list_of
 nineteen = refl

@@ -1,6 +1,5 @@
-// Computes the examples of document 01 that are not marked [P], examples that follow the rules of requests C-11, C-13 and C-16, a plant of
-// eight boards, all of Table 1 of paper 000, and column vCube of Table 3 of paper 001. What it writes is compared with the file `stdout`, which has
-// what the documents and the papers say, and for C-11, C-13 and C-16 what their rules give by hand and by the simulator.
+// Computes examples of the plant's rules, a plant of eight boards, the published table of groups, and the published counts of messages. What it
+// writes is compared with the file `stdout`, which has what the rules give by hand and by the simulator, and what was published (docs/SOURCES.md).
 
 use lists::refusal;
 use plant::entry::Entry;
@@ -23,20 +22,20 @@ const ELEVEN: usize = 11 * (11 + cells::HEAD as usize);
 
 // What one print cannot write is left out, and the next is tried all the same.
 pub fn show(rt: &impl Print) {
-    table_1(rt);
+    published_groups(rt);
     sizes(rt);
     sixty_four(rt);
     eight_boards(rt);
     top_tally(rt);
-    table_3(rt);
+    published_messages(rt);
     eight_assigned(rt);
     eleven_boards(rt);
     odd_sizes(rt);
     late_reply(rt);
 }
 
-// Table 1 of paper 000: the groups of eight stations. A line for each level, a column for each station.
-fn table_1(rt: &impl Print) {
+// The published table of groups of eight stations. A line for each level, a column for each station.
+fn published_groups(rt: &impl Print) {
     group_line(rt, Level(1), 1);
     group_line(rt, Level(2), 2);
     group_line(rt, Level(3), 4);
@@ -78,8 +77,8 @@ fn commas(rt: &impl Print, list: &[u8]) {
     }
 }
 
-// "[..] N = 128: refusal 1. N = 2: table of 12 bytes; 11 and 13 give 2. N = 64: 4,352 bytes." By C-11 size 3 is taken, and 0, 1 and 65 are not.
-// By C-18 each line has two bytes more: 16 bytes, 15 and 17, and 4,480 bytes; the lengths of before, 12 and 4,352, give 2.
+// Sizes 2, 3 and 64 are taken; 0, 1, 65 and 128 get refusal 1. Two stations have a table of 16 bytes, so that 15 and 17 get 2; 64 stations have
+// one of 4,480 bytes. The lengths with heads of four bytes, 12 and 4,352, get 2.
 fn sizes(rt: &impl Print) {
     size_line(rt, 0, 0);
     size_line(rt, 1, 7);
@@ -105,7 +104,7 @@ fn size_line(rt: &impl Print, n: usize, len: usize) {
     let _ = println!(rt; "size {n} bytes {len} number {number}");
 }
 
-// "N = 64, none dead: 384 tests."
+// 64 stations, none dead: 384 tests a round.
 fn sixty_four(rt: &impl Print) {
     let mut table = [0u8; cells::GREATEST_TABLE];
     let mut plant = Plant::fresh(64, &mut table);
@@ -127,7 +126,7 @@ fn eight_boards(rt: &impl Print) {
     tests_line(rt, second, plant.tally);
 }
 
-// "Tests at 4,294,967,294: a testing turn is taken, the next entry gets 7."
+// Tests at 4,294,967,294: a turn that makes a test is taken, and the next entry gets 7.
 fn top_tally(rt: &impl Print) {
     let mut table = [0u8; TWO];
     let mut plant = Plant::fresh(2, &mut table);
@@ -135,8 +134,8 @@ fn top_tally(rt: &impl Print) {
     run_line(rt, plant.turns_of_0_and_1().0);
 }
 
-// Table 3 of paper 001, column vCube: the messages of d·d rounds with nobody dead, two a test.
-fn table_3(rt: &impl Print) {
+// The published counts of messages: those of d·d rounds with nobody dead, two a test.
+fn published_messages(rt: &impl Print) {
     messages_line(rt, 4, 4);
     messages_line(rt, 8, 9);
     messages_line(rt, 16, 16);
@@ -153,7 +152,7 @@ fn messages_line(rt: &impl Print, n: u8, rounds: u8) {
     );
 }
 
-// C-11, eleven boards: groups (10, level 1), (10, level 2) and (2, level 4); the assignment of station 10, nothing suspected; and the tests
+// Eleven boards: groups (10, level 1), (10, level 2) and (2, level 4); the assignment of station 10, nothing suspected; and the tests
 // of a round once all know that board 4 is dead.
 fn eleven_boards(rt: &impl Print) {
     eleven_line(rt, 10, Level(1), 0);
@@ -170,7 +169,7 @@ fn eleven_boards(rt: &impl Print) {
     tests_line(rt, known, plant.tally);
 }
 
-// C-16, eight boards: the assignment of station 5, nothing suspected, and where it suspects 4.
+// Eight boards: the assignment of station 5, nothing suspected, and where it suspects 4.
 #[tactic(auto, unfolding(table::specs::Table::table_length, table::specs::Sizes::is_size))]
 fn eight_assigned(rt: &impl Print) {
     let mut table = [0u8; EIGHT];
@@ -201,7 +200,7 @@ fn eleven_line(rt: &impl Print, i: u8, s: Level, w: usize) {
     line_end(rt);
 }
 
-// C-11: the tests of a round with nobody dead.
+// The tests of a round with nobody dead, at sizes that are no power of two.
 fn odd_sizes(rt: &impl Print) {
     round_line(rt, 3);
     round_line(rt, 5);
@@ -215,8 +214,8 @@ fn round_line(rt: &impl Print, n: u8) {
     let _ = println!(rt; "{n} boards rounds {} tests {}", tally.rounds, tally.tests);
 }
 
-// C-13, four boards: 1, 2 and 3 take their passes. The reply of 1 to 0's first test comes late; 0 tests 2 and 3 and finishes its pass, which
-// closes the round. In the next round 0 tests 1 again: 1 is told and leaves, and its own turn is refused. By C-18 its line names 0.
+// Four boards: 1, 2 and 3 take their passes. The reply of 1 to 0's first test comes late; 0 tests 2 and 3 and finishes its pass, which
+// closes the round. In the next round 0 tests 1 again: 1 is told and leaves, and its own turn is refused. Its line names 0.
 #[tactic(auto, unfolding(table::specs::Table::table_length, table::specs::Sizes::is_size))]
 fn late_reply(rt: &impl Print) {
     let mut table = [0u8; FOUR];
@@ -346,7 +345,7 @@ fn tests_line(rt: &impl Print, before: Tally, after: Tally) {
 fn run_line(rt: &impl Print, ran: Ran) {
     let _ = println!(rt;
         "number {} taken {} tests {}",
-        plant::stop_number(ran.stopped),
+        plant::stop_refusal(ran.stopped),
         ran.taken,
         ran.tally.tests
     );

@@ -1,5 +1,5 @@
-// Computes examples of request C-15: a round of eight boards, grant by grant and as one drive, and drives that stop early. What it writes is
-// compared with the file `stdout`, which has what the request's rules give by hand and by the simulator.
+// Computes examples of grants and drives: a round of eight boards, grant by grant and as one drive, and drives that stop early. What it writes is
+// compared with the file `stdout`, which has what the rules give by hand and by the simulator.
 
 use granter::grant::NO_GRANT;
 use granter::{Driven, drive, grant};
@@ -153,7 +153,7 @@ fn drive_line(rt: &impl Print, driven: Driven) {
     let tally = driven.tally;
     let _ = println!(rt;
         "number {} rounds {} tests {} last {} grants {}",
-        plant::stop_number(driven.stopped),
+        plant::stop_refusal(driven.stopped),
         tally.rounds,
         tally.tests,
         driven.last,

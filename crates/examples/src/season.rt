@@ -1,4 +1,4 @@
-// Computes examples of request C-12. What it writes is compared with the file `stdout`, whose figures were worked out by hand.
+// Computes examples of figures. What it writes is compared with the file `stdout`, whose figures were worked out by hand.
 
 use figures::{Figures, Totals, adding, batch};
 use lists::refusal::{Refusal, parts};

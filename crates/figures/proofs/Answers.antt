@@ -22,7 +22,7 @@ pub variance_lowest : (xs : List ℕ) → 0 < length xs →
 unfolding variance
 variance_lowest xs pos = lowest_terms _ _ (mul-pos (mul-pos pos pos) pos)
 
--- "zero is 0/1"
+-- nothing is 0/1
 pub zero_lowest : (lower : ℕ) → 0 < lower → lowest 0 lower ≡ record { upper = 0; lower = 1 }
 zero_lowest lower pos =
     lowest_unique 0 lower (lowest 0 lower) (record { upper = 0; lower = 1 }) pos (lowest_terms 0 lower pos)

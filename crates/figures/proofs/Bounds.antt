@@ -44,7 +44,7 @@ unfolding joined
 joined-of-results a b p q =
     record { sum-most = omega (arith, p.sum-most, q.sum-most); squares-most = omega (arith, p.squares-most, q.squares-most) }
 
--- what "not overfull" says
+-- totals that are not overfull
 pub record TotalsFit (t : Totals) : Type 0 where
   pub count_fits : t.count ≤ most_results
   pub sum_fits : t.sum ≤ most_results * greatest_result

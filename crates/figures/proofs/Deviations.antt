@@ -46,11 +46,11 @@ module _ (xs : List ℕ) where
       ≡ length xs * (length xs * sum_by (λ x. x * x) xs)
   deviations-sum = omega (arith, deviations (length xs) (sum_of_results xs) xs)
 
-  -- "c·Q − S·S is not negative"
+  -- c·Q − S·S is not negative
   pub not_negative : 0 < length xs → sum_of_results xs * sum_of_results xs ≤ length xs * sum_by (λ x. x * x) xs
   not_negative pos = le_of_mul-le-mul_left {k = length xs} (omega (arith, deviations-sum)) pos
 
-  -- "c·(c·Q − S·S) is the sum of the squares of c·x − S"
+  -- c·(c·Q − S·S) is the sum of the squares of c·x − S
   pub deviations-upper : length xs * (length xs * sum_by (λ x. x * x) xs - sum_of_results xs * sum_of_results xs)
       ≡ sum_by (λ x. squared_difference (length xs * x) (sum_of_results xs)) xs
   deviations-upper = mul-sub (length xs) _ _ ∙ omega (arith, deviations-sum)

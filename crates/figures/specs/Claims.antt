@@ -1,4 +1,4 @@
--- What is claimed of the figures of request C-12 of a list with at least one result: mean and variance are in lowest terms, least and greatest
+-- What is claimed of the figures of a list with at least one result: mean and variance are in lowest terms, least and greatest
 -- are what they are called; and of the figures of kept totals.
 -- Assumes nothing.
 use Rattle.std.specs.Prelude.{◌≡◌, ℕ, ◌*◌, ◌≤◌, ◌<◌, List, ◌∷◌, length, slice_index, All, Contains}
@@ -7,11 +7,11 @@ use Rattle.figures.specs.Fractions.{LowestTerms}
 use Rattle.figures.specs.Batch.{sum_of_results, least_of_results, greatest_of_results, squared_difference, mean, variance, figures}
 use Rattle.figures.specs.Totals.{totals_of, figures_of_totals}
 
--- the mean is in lowest terms, and stands for the sum by the count
+-- Rule Figures exact: the mean is in lowest terms, and stands for the sum by the count
 abbrev pub MeanLowest : Type 0
 MeanLowest = (xs : List ℕ) → 0 < length xs → LowestTerms (sum_of_results xs) (length xs) (mean xs)
 
--- the variance is in lowest terms, and stands for the mean of the squared deviations from the mean
+-- Rule Figures exact: the variance is in lowest terms, and stands for the mean of the squared deviations from the mean
 abbrev pub VarianceLowest : Type 0
 VarianceLowest =
     (xs : List ℕ) → 0 < length xs
@@ -34,7 +34,7 @@ GreatestExtreme = (x : ℕ) (xs : List ℕ) → Extreme (λ m y. y ≤ m) (x ∷
 abbrev pub Small : List ℕ → Type 0
 Small xs = (k : ℕ) → slice_index xs k < 65536
 
--- the figures of kept totals are those of the list that they were taken of
+-- Rule Figures exact: the figures of kept totals are those of the list that they were taken of
 abbrev pub KeptFigures : Type 0
 KeptFigures = (xs : List ℕ) → Small xs → figures_of_totals (totals_of xs) ≡ figures xs
 

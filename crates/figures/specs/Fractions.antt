@@ -1,4 +1,4 @@
--- Request C-12: fractions in lowest terms.
+-- Fractions in lowest terms.
 -- Assumes nothing.
 use Rattle.std.specs.Prelude.{◌≡◌, ℕ, zero, suc, ◌*◌, ◌/◌, ◌%◌, ◌<◌, if◌then◌else◌, ◌==◌}
 use Rattle.std.specs.Int.{◌∣◌}
@@ -13,12 +13,12 @@ euclid (suc steps) a b = if b == 0 then a else euclid steps b (a % b)
 unfoldable pub gcd : ℕ → ℕ → ℕ
 gcd a b = euclid b a b
 
--- the fraction upper / lower in lowest terms, for any lower part but 0
+-- Rule Lowest terms: the fraction upper / lower in lowest terms, for any lower part but 0
 unfoldable pub lowest : ℕ → ℕ → Fraction
 lowest upper lower = record { upper = upper / gcd upper lower; lower = lower / gcd upper lower }
 
--- what "in lowest terms with a positive lower part" says of a fraction that stands for upper / lower: the same value, by cross
--- multiplication; no common divisor above 1; a positive lower part
+-- Rule Lowest terms, of a fraction that stands for upper / lower: the same value, by cross multiplication; no common divisor above 1; a positive
+-- lower part
 pub record LowestTerms (upper lower : ℕ) (f : Fraction) : Type 0 where
   pub same-value : f.upper * lower ≡ upper * f.lower
   pub no-common-divisor : (k : ℕ) → k ∣ f.upper → k ∣ f.lower → k ≡ 1
@@ -32,6 +32,6 @@ LowestIsLowest = (upper lower : ℕ) → 0 < lower → LowestTerms upper lower (
 abbrev pub OnlyOneLowest : Type 0
 OnlyOneLowest = (upper lower : ℕ) (f g : Fraction) → 0 < lower → LowestTerms upper lower f → LowestTerms upper lower g → f ≡ g
 
--- "zero is 0/1"
+-- nothing is 0/1
 abbrev pub ZeroLowest : Type 0
 ZeroLowest = (lower : ℕ) → 0 < lower → lowest 0 lower ≡ record { upper = 0; lower = 1 }

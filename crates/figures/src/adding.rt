@@ -1,4 +1,4 @@
-// Totals of a list of results, and their join (request C-12).
+// Totals of a list of results, and their join.
 ghost use Rattle.std.specs.Prelude.{◌≡◌, false, ◌≤◌, length};
 ghost use Rattle.figures.specs.Batch.{most_results};
 ghost use Rattle.figures.specs.Totals.{totals_of, of_both, joined, overfull, totals, join};

@@ -1,4 +1,4 @@
-// Figures of one list of results, of two, and of kept totals (request C-12).
+// Figures of one list of results, of two, and of kept totals.
 ghost use Rattle.std.specs.Prelude.{◌≡◌, ◌++◌, false, ◌<◌};
 ghost use Rattle.figures.specs.Batch.{figures};
 ghost use Rattle.figures.specs.Totals.{overfull, variance_of, figures_of_totals};

@@ -1,4 +1,4 @@
-// Fractions in lowest terms (request C-12).
+// Fractions in lowest terms.
 ghost use Rattle.std.specs.Prelude.{◌≡◌, ◌<◌};
 ghost use Rattle.figures.specs.Fractions.{gcd, lowest};
 

@@ -1,4 +1,4 @@
-// Figures over a batch of results (request C-12): count, least, greatest, mean and variance of unsigned 16-bit numbers.
+// Figures over a batch of results: count, least, greatest, mean and variance of unsigned 16-bit numbers.
 //
 // The calls: batch::figures, batch::figures_of_two, batch::figures_of_totals, adding::totals and adding::join. None has a `requires`.
 // The functions of `claims` do nothing: their contracts are claims of fractions and figures.

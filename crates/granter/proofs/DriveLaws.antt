@@ -11,7 +11,7 @@ use native.Mathlib.Numerals.{add-one}
 use native.Mathlib.Omega.{arith}
 use borrow.Author.Tests.{eqb-true, eqb-false, eq-eqb, ne_eqb, not-false}
 use lib.Dec.{eqb}
-use Rattle.table.specs.Rules.{some_live, round_over, table_number}
+use Rattle.table.specs.Rules.{some_live, round_over, table_refusal}
 use Rattle.lists.proofs.BoolLaws.{by_bool, neither}
 use Rattle.lists.proofs.SearchLaws.{least-is, least-none}
 use Rattle.table.proofs.SizeLaws.{size-bounds}
@@ -19,11 +19,11 @@ use Rattle.table.proofs.Accepting.{Accepted}
 use Rattle.table.proofs.CellLaws.{accepted-line}
 use Rattle.plant.specs.Turn.{kind_turn, kind_crash}
 use Rattle.plant.specs.Round.{after_round}
-use Rattle.plant.specs.Entry.{Entry, State, entry_of, tally_full, entry_number, acted, after}
+use Rattle.plant.specs.Entry.{Entry, State, entry_of, tally_full, entry_refusal, acted, after}
 use Rattle.plant.proofs.RulesKept.{accepted-kept}
 use Rattle.plant.proofs.RunLaws.{accepted-number}
 use Rattle.plant.proofs.StepLines.{Lines}
-use Rattle.granter.specs.Grant.{waits, granted, grant_check, grant_number}
+use Rattle.granter.specs.Grant.{waits, granted, grant_check, grant_refusal}
 use Rattle.std.specs.Prelude.{Err}
 use Rattle.lists.specs.declared.refusal.Refusal.{Refusal}
 use Rattle.lists.specs.Refusal.{number_of}
@@ -111,7 +111,7 @@ module _ (n : ℕ) (p : Stand) (k : ℕ) (d : Driving n p k) where
 
   -- where no tally is full
   module _ (fits : full_after n p k ≡ false) where
-    pub next-taken : entry_number n s e ≡ 0
+    pub next-taken : entry_refusal n s e ≡ 0
     next-taken = turn-taken n s i fits chosen.0 chosen.1
 
     pub next-before : (j : ℕ) → j < suc k → stops n p j ≡ false
@@ -156,7 +156,7 @@ made-is n p k s =
     least-none (stops n p) (n * n) 0 (λ j a b. s.first j (omega arith)) ∙ omega arith)
 
 -- the whole drive
-pub drive-made : (n : ℕ) (s : State) (last k : ℕ) → grant_number n s.table last ≡ 0 → Stopped n (stand_at s last) k
+pub drive-made : (n : ℕ) (s : State) (last k : ℕ) → grant_refusal n s.table last ≡ 0 → Stopped n (stand_at s last) k
     → outcome_after n (stand_at s last) k ≡ drive n s last
 unfolding drive
 drive-made n s last k z stop = rw (z, made-is n (stand_at s last) k stop)
@@ -181,7 +181,7 @@ module _ (n : ℕ) (p : Stand) (k : ℕ) (q : Stand) (at-k : q ≡ after_grants 
   full-stop full = (rw (at-k, d.open-still), stopped-full n p k d (rw at-k at full))
 
   -- somebody is live, so that a station can be granted
-  pub grant-ready : (table_number n q.state.table ≡ 0) × (some_live n q.state.table ≡ true)
+  pub grant-ready : (table_refusal n q.state.table ≡ 0) × (some_live n q.state.table ≡ true)
   grant-ready = rw at-k (accepted-number n _ d.ok, (still n p k d).1)
 
   -- which is one of the plant's
@@ -189,7 +189,7 @@ module _ (n : ℕ) (p : Stand) (k : ℕ) (q : Stand) (at-k : q ≡ after_grants 
   granted-below = rw at-k (chosen n p k d).0
 
   module _ (fits : tally_full q.state.rounds q.state.tests ≡ false) where
-    pub turn-ready : (table_number n q.state.table ≡ 0) × (entry_number n q.state (entry_of kind_turn (granted_at n q)) ≡ 0)
+    pub turn-ready : (table_refusal n q.state.table ≡ 0) × (entry_refusal n q.state (entry_of kind_turn (granted_at n q)) ≡ 0)
     turn-ready = rw at-k (accepted-number n _ d.ok, next-taken n p k d (rw at-k at fits))
 
     -- the next grant

@@ -11,16 +11,16 @@ use native.Mathlib.Numerals.{add-one}
 use native.Mathlib.Omega.{arith}
 use borrow.Author.Tests.{ltb-true, ltb-false, lt-ltb, le-ltb, eqb-true, ne_eqb}
 use lib.Dec.{ltb, eqb}
-use Rattle.table.specs.Rules.{not_live, some_live, table_number}
+use Rattle.table.specs.Rules.{not_live, some_live, table_refusal}
 use Rattle.lists.specs.Refusal.{unless}
 use Rattle.lists.proofs.BoolLaws.{by_bool}
 use Rattle.lists.proofs.SearchLaws.{every-not, least-between, least-before}
 use Rattle.table.proofs.SizeLaws.{size-bounds}
 use Rattle.table.proofs.Accepting.{Accepted, accepted}
 use Rattle.lists.proofs.RefusalLaws.{check_zero}
-use Rattle.granter.specs.Grant.{no_grant, waits, first_from, following, granted, last_refusal, grant_number, grant_answer}
+use Rattle.granter.specs.Grant.{no_grant, waits, first_from, following, granted, last_refusal, grant_refusal, grant_answer}
 use Rattle.granter.proofs.GrantLaws.{waits-parts, grantable, grant-zero, station-fits, last-below, granted-waits}
-use Rattle.granter.specs.Fairness.{stations_before, NextGoingRound, last_before, Grants, Fairness}
+use Rattle.granter.specs.Fairness.{stations_before, NextGoingRound, last_before, Grants, BoundedWaiting}
 
 -- nobody who waits stands before the first that does
 passed : (n : ℕ) (t : List ℕ) (i : ℕ) → waits n t i ≡ true → (c : ℕ) → c ≤ i → i < first_from n t c → ⊥
@@ -65,7 +65,7 @@ no-later n t last i below gw h w = by_bool (ltb p n) on round
         by_cases (dec_lt i b) (λ l. rw (here, lt-ltb q b first, lt-ltb i b l) (omega arith))
         (λ l. absurd (passed n t i w b (omega arith) (omega arith)))
 
--- "the next station after it, going round", an end in itself
+-- the granted station is the next that waits, going round: an end in itself
 pub next-going-round : NextGoingRound
 next-going-round n t last z =
     let g = grantable n t last z in
@@ -103,7 +103,7 @@ unfolding following
 following-granted n g top h = rw (ne_eqb g no_grant (omega arith), add-one g)
 
 -- one grant, from a table that refusals 1 to 4 let through and in which i waits
-module _ (n : ℕ) (t : List ℕ) (last i : ℕ) (z : table_number n t ≡ 0) (fits : last_refusal n last ≡ 0) (h : i < n) (w : waits n t i ≡ true) where
+module _ (n : ℕ) (t : List ℕ) (last i : ℕ) (z : table_refusal n t ≡ 0) (fits : last_refusal n last ≡ 0) (h : i < n) (w : waits n t i ≡ true) where
   ok : Accepted n t
   ok = accepted n t z
 
@@ -111,7 +111,7 @@ module _ (n : ℕ) (t : List ℕ) (last i : ℕ) (z : table_number n t ≡ 0) (f
   unfolding some_live
   someone = let l : not_live n t i ≡ false = rw (waits-parts n t i w).0 in rw (every-not (not_live n t) n i h l)
 
-  made : grant_number n t last ≡ 0
+  made : grant_refusal n t last ≡ 0
   made = grant-zero n t last z fits someone
 
   found : granted n t last < n
@@ -155,9 +155,9 @@ module _ (n : ℕ) (tables : ℕ → List ℕ) (last : ℕ) (fits : last_refusal
   last_fits (suc k) = step (last_before n tables last k) (last_fits k)
     where
       step : (before : ℕ) → last_refusal n before ≡ 0
-          → last_refusal n (unless (grant_number n (tables k) before) before (granted n (tables k) before)) ≡ 0
+          → last_refusal n (unless (grant_refusal n (tables k) before) before (granted n (tables k) before)) ≡ 0
       step before f =
-          by_bool (eqb (grant_number n (tables k) before) 0)
+          by_bool (eqb (grant_refusal n (tables k) before) 0)
           (λ e.
           let g = grantable n (tables k) before (eqb-true _ 0 e) in
           rw e (station-fits n (granted n (tables k) before) (granted-waits n (tables k) g.ok g.someone before).0))
@@ -165,7 +165,7 @@ module _ (n : ℕ) (tables : ℕ → List ℕ) (last : ℕ) (fits : last_refusal
 
 -- the station waits in n tables one behind the other, from table a on
 module _ (n : ℕ) (tables : ℕ → List ℕ) (last a i : ℕ) (fits : last_refusal n last ≡ 0) (h : i < n)
-    (w : (k : ℕ) → a ≤ k → k < a + n → (table_number n (tables k) ≡ 0) × (waits n (tables k) i ≡ true)) where
+    (w : (k : ℕ) → a ≤ k → k < a + n → (table_refusal n (tables k) ≡ 0) × (waits n (tables k) i ≡ true)) where
   abbrev from : ℕ → ℕ
   from k = last_before n tables last k
 
@@ -183,7 +183,7 @@ module _ (n : ℕ) (tables : ℕ → List ℕ) (last a i : ℕ) (fits : last_ref
       k : ℕ
       k = a + j
 
-      z : table_number n (tables k) ≡ 0
+      z : table_refusal n (tables k) ≡ 0
       z = (w k (omega arith) (omega arith)).0
 
       f : last_refusal n (from k) ≡ 0
@@ -192,7 +192,7 @@ module _ (n : ℕ) (tables : ℕ → List ℕ) (last a i : ℕ) (fits : last_ref
       here : waits n (tables k) i ≡ true
       here = (w k (omega arith) (omega arith)).1
 
-      taken : grant_number n (tables k) (from k) ≡ 0
+      taken : grant_refusal n (tables k) (from k) ≡ 0
       taken = made n (tables k) (from k) i z f h here
 
       next : from (suc k) ≡ granted n (tables k) (from k)
@@ -208,8 +208,8 @@ module _ (n : ℕ) (tables : ℕ → List ℕ) (last a i : ℕ) (fits : last_ref
           inr (rw (s, next) (omega (arith, near, nearer n (tables k) (from k) i z f h here e))))
 
 -- fairness, an end in itself
-pub fairness : Fairness
-fairness n tables last a i fits h w = pick (after n tables last a i fits h w n (omega arith))
+pub bounded-waiting : BoundedWaiting
+bounded-waiting n tables last a i fits h w = pick (after n tables last a i fits h w n (omega arith))
   where
     pick : ((k : ℕ) × (a ≤ k) × (k < a + n) × Grants n tables last k i) ⊎ (stations_before n (following (last_before n tables last (a + n))) i + n < n)
         → (k : ℕ) × (a ≤ k) × (k < a + n) × Grants n tables last k i

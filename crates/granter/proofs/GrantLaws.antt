@@ -10,7 +10,7 @@ use lib.Dec.{ltb, leb, eqb}
 use Rattle.lists.specs.Search.{least, every}
 use Rattle.lists.specs.Refusal.{Check, ◌and◌, number_of_result}
 use Rattle.table.specs.Table.{finished, live}
-use Rattle.table.specs.Rules.{some_live, finished_if_live, live_finished, table_number}
+use Rattle.table.specs.Rules.{some_live, finished_if_live, live_finished, table_refusal}
 use Rattle.lists.proofs.BoolLaws.{by_bool}
 use Rattle.lists.proofs.SearchLaws.{both, every-all, least-between, least-passes, least-before}
 use Rattle.table.proofs.Accepting.{Accepted, table_ok}
@@ -18,8 +18,8 @@ use Rattle.std.specs.Prelude.{Ok, Err}
 use Rattle.lists.proofs.RefusalLaws.{check_zero, ensure_ok, and_ok}
 use Rattle.plant.specs.Turn.{kind_turn}
 use Rattle.plant.proofs.RunLaws.{accepted-number}
-use Rattle.plant.specs.Entry.{State, entry_of, tally_full, entry_check, entry_number}
-use Rattle.granter.specs.Grant.{no_grant, waits, first_from, following, granted, last_refusal, grant_check, grant_number, grant_answer}
+use Rattle.plant.specs.Entry.{State, entry_of, tally_full, entry_check, entry_refusal}
+use Rattle.granter.specs.Grant.{no_grant, waits, first_from, following, granted, last_refusal, grant_check, grant_refusal, grant_answer}
 
 -- who waits is live and not finished
 pub waits-is : (n : ℕ) (t : List ℕ) (i : ℕ) → not (finished_if_live n t i) ≡ waits n t i
@@ -51,21 +51,22 @@ grant_ok n t last x e =
     record { ok = table_ok n t _ a.0; last_fits = ap number_of_result b.0; someone = ensure_ok _ _ _ b.1 }
 
 -- the table that is granted on obeys the rules
-pub grantable_obeys : (n : ℕ) (t : List ℕ) (last : ℕ) → Grantable n t last → table_number n t ≡ 0
+pub grantable_obeys : (n : ℕ) (t : List ℕ) (last : ℕ) → Grantable n t last → table_refusal n t ≡ 0
 grantable_obeys n t last g = accepted-number n t g.ok
 
-pub grant_answer_number : (n : ℕ) (t : List ℕ) (last : ℕ) → number_of_result (grant_answer n t last) ≡ grant_number n t last
+pub grant_answer_refusal : (n : ℕ) (t : List ℕ) (last : ℕ) → number_of_result (grant_answer n t last) ≡ grant_refusal n t last
 unfolding grant_answer
-grant_answer_number n t last = pick (grant_check n t last)
+grant_answer_refusal n t last = pick (grant_check n t last)
   where
     pick : (c : Check) → number_of_result (c and Ok (granted n t last)) ≡ number_of_result c
     pick (Ok x) = refl
     pick (Err r) = refl
 
-pub grantable : (n : ℕ) (t : List ℕ) (last : ℕ) → grant_number n t last ≡ 0 → Grantable n t last
+pub grantable : (n : ℕ) (t : List ℕ) (last : ℕ) → grant_refusal n t last ≡ 0 → Grantable n t last
 grantable n t last z = grant_ok n t last _ (check_zero _ z)
 
-pub grant-zero : (n : ℕ) (t : List ℕ) (last : ℕ) → table_number n t ≡ 0 → last_refusal n last ≡ 0 → some_live n t ≡ true → grant_number n t last ≡ 0
+pub grant-zero : (n : ℕ) (t : List ℕ) (last : ℕ) → table_refusal n t ≡ 0 → last_refusal n last ≡ 0 → some_live n t ≡ true
+    → grant_refusal n t last ≡ 0
 unfolding grant_check
 grant-zero n t last z fits someone = rw (check_zero _ z, check_zero _ fits, someone)
 
@@ -116,6 +117,6 @@ module _ (n : ℕ) (t : List ℕ) (ok : Accepted n t) (someone : some_live n t �
 
 -- a station that waits takes its turn, where no tally is full
 pub turn-taken : (n : ℕ) (s : State) (i : ℕ) → tally_full s.rounds s.tests ≡ false → i < n → waits n s.table i ≡ true
-    → entry_number n s (entry_of kind_turn i) ≡ 0
+    → entry_refusal n s (entry_of kind_turn i) ≡ 0
 unfolding entry_check
 turn-taken n s i fits h w = let b = waits-parts n s.table i w in rw (fits, lt-ltb i n h, b.0, b.1)

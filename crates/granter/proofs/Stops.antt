@@ -17,7 +17,7 @@ use Rattle.granter.specs.Drive.{Stand, stand_at, grant_turn, after_grants, ended
 use Rattle.granter.proofs.GrantLaws.{grantable}
 use Rattle.granter.proofs.TurnsLeft.{all_left}
 use Rattle.granter.proofs.DriveLaws.{Driving, not-ended, driving-start, turn-fewer, fewer-after, next-within, next-driving, stopped-full, stopped-ended, made-is}
-use Rattle.granter.specs.Within.{TurnKinds, after_turns, over_after, NoneRefused, EndsWithin, KindOneIsDriven, EveryDriveStops}
+use Rattle.granter.specs.Within.{TurnKinds, after_turns, over_after, NoneRefused, RoundEndsInSquare, KindOneIsDriven, DriveStops}
 
 -- from k grants on, with so many grants left to n·n
 search-on : (n : ℕ) (p : Stand) (left k : ℕ) → k + left ≡ n * n → Driving n p k → (g : ℕ) × Stopped n p g
@@ -70,9 +70,9 @@ module _ (n : ℕ) (kinds : ℕ → ℕ) (p : Stand) (turns : TurnKinds kinds) (
       by_bool (over_after n kinds p (suc k)) (λ o. (suc k, turn-within k d, o)) (λ o. ending-on left (suc k) (omega arith) (turning-on k d o))
 
 -- a round closes, or nobody is left live, an end in itself
-pub ends-within : EndsWithin
+pub round-ends-in-square : RoundEndsInSquare
 unfolding after_turns after_grants
-ends-within n kinds s last turns z taken =
+round-ends-in-square n kinds s last turns z taken =
     let d = driving-start n s last (grantable n s.table last z) in
     ending-on n kinds (stand_at s last) turns taken (n * n) 0 (omega arith) (record {
       ok = (grantable n s.table last z).ok;
@@ -87,8 +87,8 @@ kind-one-is-driven n p zero = refl
 kind-one-is-driven n p (suc k) = rw (kind-one-is-driven n p k)
 
 -- every drive stops, an end in itself
-pub every-drive-stops : EveryDriveStops
-every-drive-stops n s last z =
+pub drive-stops : DriveStops
+drive-stops n s last z =
     let p = stand_at s last in
     let found = search-on n p (n * n) 0 (omega arith) (driving-start n s last (grantable n s.table last z)) in
     rw (made-is n p found.0 found.1) found.1

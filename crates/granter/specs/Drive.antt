@@ -1,4 +1,4 @@
--- Request C-15, the drive: "A drive over the lent table repeats grant and turn (kind 1) until one of these happens", for all inputs.
+-- The drive, which repeats a grant and its turn, for all inputs.
 -- Assumes nothing.
 use Rattle.std.specs.Prelude.{◌≡◌, ℕ, zero, suc, ◌*◌, ◌≤◌, ◌<◌, Bool, true, false, not, ◌||◌, List, if◌then◌else◌, ◌==◌}
 use Rattle.lists.specs.Search.{least}
@@ -6,9 +6,9 @@ use Rattle.table.specs.Rules.{some_live}
 use Rattle.lists.specs.Refusal.{unless}
 use Rattle.plant.specs.Turn.{kind_turn}
 use Rattle.plant.specs.Entry.{State, state_with, entry_of, tally_full, after}
-use Rattle.plant.specs.Run.{stop_number}
+use Rattle.plant.specs.Run.{stop_refusal}
 use Rattle.granter.specs.declared.Driven.{Driven}
-use Rattle.granter.specs.Grant.{granted, grant_number}
+use Rattle.granter.specs.Grant.{granted, grant_refusal}
 
 -- where a drive stands: table and tally, and the last granted number
 pub record Stand : Type 0 where
@@ -23,16 +23,16 @@ stand_at s last = record { state = s; last = last }
 abbrev pub granted_at : ℕ → Stand → ℕ
 granted_at n p = granted n p.state.table p.last
 
--- "grant and turn (kind 1)"
+-- Rule Drive: a grant, and that station's turn of kind 1. The granted station becomes the last one
 unfoldable pub grant_turn : ℕ → Stand → Stand
 grant_turn n p = stand_at (after n p.state (entry_of kind_turn (granted_at n p))) (granted_at n p)
 
--- "the granting rule followed turn by turn": where it stands after k grants
+-- where a drive stands after k grants, each with its turn
 unfoldable pub after_grants : ℕ → Stand → ℕ → Stand
 after_grants n p zero = p
 after_grants n p (suc k) = grant_turn n (after_grants n p k)
 
--- "a round closes, or nobody is left live": a round has closed when the tally has other rounds than the drive began with
+-- Rule Drive ends: a round has closed, or no station is live. A round has closed if the tally has other rounds than the drive began with
 unfoldable pub ended : ℕ → ℕ → State → Bool
 ended n rounds s = not (s.rounds == rounds) || not (some_live n s.table)
 
@@ -40,41 +40,41 @@ ended n rounds s = not (s.rounds == rounds) || not (some_live n s.table)
 abbrev pub ended_after : ℕ → Stand → ℕ → Bool
 ended_after n p k = ended n p.state.rounds (after_grants n p k).state
 
--- whether the next turn after k grants "would meet" 7
+-- whether a counter is full after k grants
 abbrev pub full_after : ℕ → Stand → ℕ → Bool
 full_after n p k = tally_full (after_grants n p k).state.rounds (after_grants n p k).state.tests
 
--- whether a drive stops after k grants: it ended, or "stops with 7 before a grant whose turn would meet it"
+-- Rule Drive stops: whether a drive stops after k grants, because it has ended or because a counter is full
 unfoldable pub stops : ℕ → Stand → ℕ → Bool
 stops n p k = ended_after n p k || full_after n p k
 
--- "the grants made": the least number of grants after which it stops. That it stops within n·n is part of `Stopped`
+-- Rule Grants made: the least number of grants after which it stops. That it stops within n·n is part of `Stopped`
 unfoldable pub grants_made : ℕ → Stand → ℕ
 grants_made n p = least (stops n p) (n * n) 0
 
 -- what a drive answers and leaves: the number, table and tally, the last granted number and the grants made
-pub record DriveOutcome : Type 0 where
+pub record DriveResult : Type 0 where
   pub number : ℕ
   pub state : State
   pub last : ℕ
   pub grants : ℕ
 
 -- an outcome by its parts
-abbrev pub drive_outcome : ℕ → State → ℕ → ℕ → DriveOutcome
+abbrev pub drive_outcome : ℕ → State → ℕ → ℕ → DriveResult
 drive_outcome number s last grants = record { number = number; state = s; last = last; grants = grants }
 
 -- the outcome of a call: what it answers, and the table as it left it
-abbrev pub drive_outcome_with : Driven → List ℕ → DriveOutcome
-drive_outcome_with d t = drive_outcome (stop_number d.stopped) (state_with t d.tally) d.last d.grants
+abbrev pub drive_outcome_with : Driven → List ℕ → DriveResult
+drive_outcome_with d t = drive_outcome (stop_refusal d.stopped) (state_with t d.tally) d.last d.grants
 
--- the outcome after k grants: 0 where the drive ended, and otherwise 7, "keeping the turns made"
-unfoldable pub outcome_after : ℕ → Stand → ℕ → DriveOutcome
+-- the outcome after k grants: 0 if the drive has ended, otherwise 7. The turns that were made stay
+unfoldable pub outcome_after : ℕ → Stand → ℕ → DriveResult
 outcome_after n p k = drive_outcome (if ended_after n p k then 0 else 7) (after_grants n p k).state (after_grants n p k).last k
 
--- the drive, for all inputs: refused by 1 to 4, 16 and 17 it "gives back the tally and last number handed in, and 0 grants"
-unfoldable pub drive : ℕ → State → ℕ → DriveOutcome
+-- Rule Drive call: the drive, for all inputs. Refused by 1 to 4, 16 or 17 it gives back the tally and last number handed in, and 0 grants
+unfoldable pub drive : ℕ → State → ℕ → DriveResult
 drive n s last =
-    unless (grant_number n s.table last) (drive_outcome (grant_number n s.table last) s last 0)
+    unless (grant_refusal n s.table last) (drive_outcome (grant_refusal n s.table last) s last 0)
     (outcome_after n (stand_at s last) (grants_made n (stand_at s last)))
 
 -- a drive that is not refused at its start makes n·n grants at the most, stopped for one of the three reasons, and none of them held
@@ -86,4 +86,4 @@ pub record Stopped (n : ℕ) (p : Stand) (grants : ℕ) : Type 0 where
 
 -- of any drive: if it is not refused at its start, it stopped so
 abbrev pub StoppedIfTaken : ℕ → State → ℕ → ℕ → Type 0
-StoppedIfTaken n s last grants = grant_number n s.table last ≡ 0 → Stopped n (stand_at s last) grants
+StoppedIfTaken n s last grants = grant_refusal n s.table last ≡ 0 → Stopped n (stand_at s last) grants

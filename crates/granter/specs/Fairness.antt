@@ -1,19 +1,19 @@
--- Request C-15: the granted station is "the next station after it, going round, that is live and unfinished"; and fairness, "A station that
--- stays live and unfinished is granted after at most n − 1 grants to others."
+-- That grants are fair: which station is granted, and how many grants to others a station waits for at most.
 -- Assumes nothing.
 use Rattle.std.specs.Prelude.{◌≡◌, true, List, ℕ, zero, suc, ◌+◌, ◌-◌, ◌≤◌, ◌<◌, if◌then◌else◌, nat_lt}
-use Rattle.table.specs.Rules.{table_number}
+use Rattle.table.specs.Rules.{table_refusal}
 use Rattle.lists.specs.Refusal.{unless}
-use Rattle.granter.specs.Grant.{waits, following, granted, last_refusal, grant_number, grant_station}
+use Rattle.granter.specs.Grant.{waits, following, granted, last_refusal, grant_refusal, grant_station}
 
 -- how many stations come before station i in the going round b, b + 1, .., n − 1, 0, 1, .., b − 1
 unfoldable pub stations_before : ℕ → ℕ → ℕ → ℕ
 stations_before n b i = if nat_lt i b then i + n - b else i - b
 
--- the granted station is live and unfinished, and no other such station comes before it in the going round that begins behind the last one
+-- Rule Fair grants: the granted station is live and unfinished, and no other such station comes before it in the going round that begins behind the
+-- last one
 abbrev pub NextGoingRound : Type 0
 NextGoingRound =
-    (n : ℕ) (t : List ℕ) (last : ℕ) → grant_number n t last ≡ 0
+    (n : ℕ) (t : List ℕ) (last : ℕ) → grant_refusal n t last ≡ 0
     → (granted n t last < n) × (waits n t (granted n t last) ≡ true)
     × ((i : ℕ) → i < n → waits n t i ≡ true → stations_before n (following last) (granted n t last) ≤ stations_before n (following last) i)
 
@@ -23,17 +23,17 @@ unfoldable pub last_before : ℕ → (ℕ → List ℕ) → ℕ → ℕ → ℕ
 last_before n tables last zero = last
 last_before n tables last (suc k) =
     let before = last_before n tables last k in
-    unless (grant_number n (tables k) before) before (granted n (tables k) before)
+    unless (grant_refusal n (tables k) before) before (granted n (tables k) before)
 
 -- the grant from table k is not refused, and it is station i's
 abbrev pub Grants : ℕ → (ℕ → List ℕ) → ℕ → ℕ → ℕ → Type 0
 Grants n tables last k i =
-    (grant_number n (tables k) (last_before n tables last k) ≡ 0) × (grant_station n (tables k) (last_before n tables last k) ≡ i)
+    (grant_refusal n (tables k) (last_before n tables last k) ≡ 0) × (grant_station n (tables k) (last_before n tables last k) ≡ i)
 
 -- a station that is live and unfinished in n tables one behind the other, from table a on, is granted in one of these n, if refusals 1 to 4
 -- let them through: at most n − 1 grants to others come first. The tables before them may be any
-abbrev pub Fairness : Type 0
-Fairness =
+abbrev pub BoundedWaiting : Type 0
+BoundedWaiting =
     (n : ℕ) (tables : ℕ → List ℕ) (last a i : ℕ) → last_refusal n last ≡ 0
-    → i < n → ((k : ℕ) → a ≤ k → k < a + n → (table_number n (tables k) ≡ 0) × (waits n (tables k) i ≡ true))
+    → i < n → ((k : ℕ) → a ≤ k → k < a + n → (table_refusal n (tables k) ≡ 0) × (waits n (tables k) i ≡ true))
     → (k : ℕ) × (a ≤ k) × (k < a + n) × Grants n tables last k i

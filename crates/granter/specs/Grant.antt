@@ -1,4 +1,4 @@
--- Request C-15, "A bus master that grants the turns": which station is granted, for all inputs.
+-- The grant: which station is granted the next turn, for all inputs.
 -- Assumes nothing.
 use Rattle.std.specs.Prelude.{ℕ, ◌+◌, ◌-◌, Bool, not, ◌&&◌, List, Option, Some, None, Result, Ok, if◌then◌else◌, ◌==◌, nat_lt, nat_le}
 use Rattle.std.specs.Result.{result_unwrap_or}
@@ -10,7 +10,7 @@ use Rattle.lists.specs.declared.refusal.Refusal.{Refusal}
 use Rattle.lists.specs.declared.refusal.Refusal.TheVariants.{LastGranted, NoneLive}
 use Rattle.lists.specs.Refusal.{Check, ensure, ◌and◌, number_of_result}
 
--- the last granted number where none was granted yet: "255 at the start"
+-- Rule Last number: 255, where none was granted yet
 abbrev pub no_grant : ℕ
 no_grant = 255
 
@@ -19,7 +19,7 @@ abbrev pub last_number : Option Station → ℕ
 last_number None = no_grant
 last_number (Some i) = i.0
 
--- station i is "live and unfinished": it waits for a turn. (`finished_if_live` of station says the opposite)
+-- Rule Waits: station i is live and has not finished its pass. (`finished_if_live` of table says the opposite)
 unfoldable pub waits : ℕ → List ℕ → ℕ → Bool
 waits n t i = live n t i && not (finished n t i == 1)
 
@@ -27,35 +27,35 @@ waits n t i = live n t i && not (finished n t i == 1)
 unfoldable pub first_from : ℕ → List ℕ → ℕ → ℕ
 first_from n t b = least (waits n t) (n - b) b
 
--- "the next station after it"; "from 255 it begins at station 0"
+-- the station from which the search begins: the one behind the last granted one, or 0 if the last number is 255
 unfoldable pub following : ℕ → ℕ
 following last = if last == no_grant then 0 else last + 1
 
--- "grants the next station after it, going round, that is live and unfinished": behind station n − 1 comes station 0, so that the last
+-- Rule Grant: the first station that waits, going round from behind the last granted one. Behind station n − 1 comes station 0, so that the last
 -- granted station itself comes last
 unfoldable pub granted : ℕ → List ℕ → ℕ → ℕ
 granted n t last =
     if nat_lt (first_from n t (following last)) n then first_from n t (following last) else first_from n t 0
 
--- 16: "a last number of n or more that is not 255"
+-- refusal 16: the last number is n or more, and not 255
 abbrev pub last_check : ℕ → ℕ → Check
 last_check n last = ensure (not (nat_le n last && not (last == no_grant))) LastGranted
 
 abbrev pub last_refusal : ℕ → ℕ → ℕ
 last_refusal n last = number_of_result (last_check n last)
 
--- 17: "when no station is live"
+-- refusal 17: no station is live
 abbrev pub live_check : ℕ → List ℕ → Check
 live_check n t = ensure (some_live n t) NoneLive
 
--- refusals of the grant, and of a drive at its start: "after numbers 1 to 4 come 16 [..], then 17"
+-- refusals of the grant, and of a drive at its start: 1 to 4, 16, 17
 unfoldable pub grant_check : ℕ → List ℕ → ℕ → Check
 grant_check n t last = table_check n t and last_check n last and live_check n t
 
-abbrev pub grant_number : ℕ → List ℕ → ℕ → ℕ
-grant_number n t last = number_of_result (grant_check n t last)
+abbrev pub grant_refusal : ℕ → List ℕ → ℕ → ℕ
+grant_refusal n t last = number_of_result (grant_check n t last)
 
--- the station that the grant answers
+-- Rule Grant call: the station that the grant answers
 unfoldable pub grant_answer : ℕ → List ℕ → ℕ → Result ℕ Refusal
 grant_answer n t last = grant_check n t last and Ok (granted n t last)
 

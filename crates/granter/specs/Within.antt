@@ -1,37 +1,36 @@
--- Request C-15: "If each grant is followed by its turn on the same table, which nobody else writes, and none is refused, a round closes, or
--- nobody is left live, within n times n grants."
+-- That n·n grants, each with its turn, are enough to close a round or to leave nobody live.
 -- Assumes nothing.
 use Rattle.std.specs.Prelude.{◌≡◌, ◌⊎◌, Bool, true, false, ℕ, zero, suc, ◌*◌, ◌≤◌, ◌<◌}
 use Rattle.plant.specs.Turn.{kind_turn, kind_late}
-use Rattle.plant.specs.Entry.{State, entry_of, entry_number, after}
-use Rattle.granter.specs.Grant.{grant_number}
+use Rattle.plant.specs.Entry.{State, entry_of, entry_refusal, after}
+use Rattle.granter.specs.Grant.{grant_refusal}
 use Rattle.granter.specs.Drive.{Stand, stand_at, granted_at, after_grants, ended, grants_made, Stopped}
 
--- "its turn": document 01's turn, of kind 1, or of kind 2, whose reply comes late. These are the kinds of the turns, counted from 0
+-- the turns have kind 1, or kind 2, whose reply comes late. These are the kinds of the turns, counted from 0
 abbrev pub TurnKinds : (ℕ → ℕ) → Type 0
 TurnKinds kinds = (k : ℕ) → (kinds k ≡ kind_turn) ⊎ (kinds k ≡ kind_late)
 
--- "each grant is followed by its turn": where they stand after k grants, each with its turn
+-- where they stand after k grants, each followed by its turn
 unfoldable pub after_turns : ℕ → (ℕ → ℕ) → Stand → ℕ → Stand
 after_turns n kinds p zero = p
 after_turns n kinds p (suc k) =
     let q = after_turns n kinds p k in
     stand_at (after n q.state (entry_of (kinds k) (granted_at n q))) (granted_at n q)
 
--- "a round closes, or nobody is left live": whether that is so after k grants
+-- whether a round has closed, or nobody is live, after k grants
 abbrev pub over_after : ℕ → (ℕ → ℕ) → Stand → ℕ → Bool
 over_after n kinds p k = ended n p.state.rounds (after_turns n kinds p k).state
 
--- "none is refused": no turn is, as long as no round has closed and somebody is live. Of the grants only the first is asked not to be (below)
+-- no turn is refused, as long as no round has closed and somebody is live. Of the grants only the first is asked not to be (below)
 abbrev pub NoneRefused : ℕ → (ℕ → ℕ) → Stand → Type 0
 NoneRefused n kinds p =
     (k : ℕ) → k < n * n → ((j : ℕ) → j ≤ k → over_after n kinds p j ≡ false)
-    → entry_number n (after_turns n kinds p k).state (entry_of (kinds k) (granted_at n (after_turns n kinds p k))) ≡ 0
+    → entry_refusal n (after_turns n kinds p k).state (entry_of (kinds k) (granted_at n (after_turns n kinds p k))) ≡ 0
 
 -- from every table that refusals 1 to 4 let through, in the middle of a round too, with somebody live and a last number that 16 lets through
-abbrev pub EndsWithin : Type 0
-EndsWithin =
-    (n : ℕ) (kinds : ℕ → ℕ) (s : State) (last : ℕ) → TurnKinds kinds → grant_number n s.table last ≡ 0 → NoneRefused n kinds (stand_at s last)
+abbrev pub RoundEndsInSquare : Type 0
+RoundEndsInSquare =
+    (n : ℕ) (kinds : ℕ → ℕ) (s : State) (last : ℕ) → TurnKinds kinds → grant_refusal n s.table last ≡ 0 → NoneRefused n kinds (stand_at s last)
     → (k : ℕ) × (k ≤ n * n) × (over_after n kinds (stand_at s last) k ≡ true)
 
 -- with turns of kind 1 only, grants and turns are those of the drive
@@ -39,6 +38,6 @@ abbrev pub KindOneIsDriven : Type 0
 KindOneIsDriven = (n : ℕ) (p : Stand) (k : ℕ) → after_turns n (λ _. kind_turn) p k ≡ after_grants n p k
 
 -- every drive that is not refused at its start stops, for one of the three reasons
-abbrev pub EveryDriveStops : Type 0
-EveryDriveStops =
-    (n : ℕ) (s : State) (last : ℕ) → grant_number n s.table last ≡ 0 → Stopped n (stand_at s last) (grants_made n (stand_at s last))
+abbrev pub DriveStops : Type 0
+DriveStops =
+    (n : ℕ) (s : State) (last : ℕ) → grant_refusal n s.table last ≡ 0 → Stopped n (stand_at s last) (grants_made n (stand_at s last))

@@ -1,7 +1,7 @@
-// What request C-15 claims of grants and drives (specs/Fairness.antt, specs/Within.antt), each the contract of a function that does nothing.
+// What is claimed of grants and drives (specs/Fairness.antt, specs/Within.antt), each the contract of a function that does nothing.
 
-ghost use Rattle.granter.specs.Fairness.{NextGoingRound, Fairness};
-ghost use Rattle.granter.specs.Within.{EndsWithin, KindOneIsDriven, EveryDriveStops};
+ghost use Rattle.granter.specs.Fairness.{NextGoingRound, BoundedWaiting};
+ghost use Rattle.granter.specs.Within.{RoundEndsInSquare, KindOneIsDriven, DriveStops};
 
 // The granted station is the next one, going round, that is live and unfinished.
 pub fn next_going_round()
@@ -9,13 +9,13 @@ pub fn next_going_round()
 {}
 
 // A station that stays live and unfinished is granted after at most n − 1 grants to others.
-pub fn grants_are_fair()
-    ensures { Fairness }
+pub fn bounded_waiting()
+    ensures { BoundedWaiting }
 {}
 
 // If no turn is refused, a round closes or nobody is left live within n·n grants, each with its turn.
-pub fn ends_within()
-    ensures { EndsWithin }
+pub fn round_ends_in_square()
+    ensures { RoundEndsInSquare }
 {}
 
 // With turns of kind 1 only, grants and turns are those of the drive.
@@ -24,6 +24,6 @@ pub fn kind_one_is_driven()
 {}
 
 // Every drive that is not refused at its start stops within n·n grants, for one of the three reasons.
-pub fn every_drive_stops()
-    ensures { EveryDriveStops }
+pub fn drive_stops()
+    ensures { DriveStops }
 {}

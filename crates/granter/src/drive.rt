@@ -1,8 +1,8 @@
-// The drive (request C-15): grant and turn on the lent table, again and again.
+// The drive: grant and turn on the lent table, again and again.
 ghost use Rattle.std.specs.Prelude.{◌≡◌, ◌<◌, IfSome};
 ghost use Rattle.table.specs.Lent.{IsSameLoan};
 ghost use Rattle.plant.specs.Entry.{state_with};
-ghost use Rattle.granter.specs.Grant.{last_number, grant_number};
+ghost use Rattle.granter.specs.Grant.{last_number, grant_refusal};
 ghost use Rattle.granter.specs.Drive.{stand_at, ended, drive_outcome_with, outcome_after, drive, Stopped, StoppedIfTaken};
 
 use crate::{Driven, grant};
@@ -29,12 +29,12 @@ pub fn drive(n: usize, table: &mut [u8], tally: Tally, last: usize) -> Driven
         }
     };
     let mut lent = TableMut { n, bytes: table };
-    go_on(&mut lent, tally, before)
+    drive_on(&mut lent, tally, before)
 }
 
 // A drive that is not refused at its start: grant and turn until it stops.
-fn go_on(table: &mut TableMut, tally: Tally, last: Option<Station>) -> Driven
-    requires taken { grant_number table.old.n table.old.bytes.now (last_number last) ≡ 0 }
+fn drive_on(table: &mut TableMut, tally: Tally, last: Option<Station>) -> Driven
+    requires taken { grant_refusal table.old.n table.old.bytes.now (last_number last) ≡ 0 }
     requires last_below { IfSome last (λ i. i.0 < table.old.n) }
     ensures same_loan { IsSameLoan table.old table.new }
     ensures outcome { drive_outcome_with result table.new.bytes.now

@@ -1,7 +1,7 @@
-// The grant (request C-15): the next station, going round, that is live and unfinished.
+// The grant: the next station, going round, that is live and unfinished.
 ghost use Rattle.std.specs.Prelude.{◌≡◌, ◌≤◌, ◌<◌, true, IfSome, IfNone, IfOk};
 ghost use Rattle.std.specs.Result.{result_map_both};
-ghost use Rattle.table.specs.Rules.{some_live, table_number};
+ghost use Rattle.table.specs.Rules.{some_live, table_refusal};
 ghost use Rattle.granter.specs.Grant.{first_from, following, granted, last_number, last_check, grant_check, grant_answer};
 
 use lists::refusal::Refusal;
@@ -69,7 +69,7 @@ pub(crate) fn last_number(last: Option<Station>) -> usize
 // The next station after the last granted one, going round, that is live and unfinished.
 #[tactic(auto, using(table::proofs::SizeLaws::size_top))]
 pub(crate) fn next_station(table: &Table, last: Option<Station>) -> Station
-    requires table_obeys { table_number table.now.n table.now.bytes.now ≡ 0 }
+    requires table_obeys { table_refusal table.now.n table.now.bytes.now ≡ 0 }
     requires someone_live { some_live table.now.n table.now.bytes.now ≡ true }
     requires last_below { IfSome last (λ i. i.0 < table.now.n) }
     ensures { result.0 ≡ granted table.now.n table.now.bytes.now (last_number last) }

@@ -40,16 +40,16 @@ number_of_result (Err r) = number_of r
 abbrev pub Check : Type 0
 Check = Result (Unit {0}) Refusal
 
--- refused unless the test holds
+-- Rule First fault: refused unless the test holds
 abbrev pub ensure : Bool → Refusal → Check
 ensure b r = if b then Ok tt else Err r
 
--- "no earlier one that applies": the first check that refuses, else what the last one answers
+-- Rule First fault: the first check that refuses, else what the last one answers
 infixr 20 ◌and◌
 abbrev pub ◌and◌ : {A : Type 0} → Check → Result A Refusal → Result A Refusal
 a and b = result_and a b
 
--- what a call leaves: what was there where it is refused, else what is made of its value
+-- Rule Refused means untouched: what a call leaves, what was there where it is refused, else what is made of its value
 abbrev pub unless_refused {ℓ} : {A : Type 0} → {B : Type ℓ} → Result A Refusal → B → B → B
 unless_refused (Ok x) was after = after
 unless_refused (Err r) was after = was

@@ -1,4 +1,4 @@
--- Laws of the distance that a turn tests, step 2 of document 01.
+-- Laws of the distance that a turn tests.
 -- Assumes nothing.
 use mathlib.Core.Path.{◌≡◌}
 use mathlib.Core.Bool.{true, false}

@@ -27,7 +27,7 @@ pub record Reset (n : ℕ) (t : List ℕ) (i : ℕ) : Type 0 where
 abbrev LineClosed : ℕ → List ℕ → List ℕ → ℕ → Type 0
 LineClosed n t t' i = Reset n t' i × (rounds_ago n t' i ≡ rounds_after n t i)
 
--- Step 8: the bytes of a line that a closing writes, 1, 2, 3 and 5
+-- the bytes of a line that a closing writes, 1, 2, 3 and 5
 module _ (n i : ℕ) (t : List ℕ) where
   reset_line-length : length (reset_line n i t) ≡ length t
   unfolding reset_line
@@ -139,7 +139,7 @@ after-exit : (n : ℕ) (t : List ℕ) (k : ℕ) → exit_rule n k (status n t k)
 unfolding exit_rule rounds_after
 after-exit n t k e = by_bool (live n t k) (λ f. rw f (rw f at e)) (λ f. rw f (rw f at e))
 
--- Step 8
+-- a closing keeps the line rules
 pub reset-lines : (n : ℕ) (t : List ℕ) → Lines n t → Lines n (reset_lines n t)
 reset-lines n t lines = (
   reset-length n t ∙ lines.0,

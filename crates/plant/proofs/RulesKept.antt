@@ -10,7 +10,7 @@ use lib.Dec.{eqb}
 use lib.ListN.{length}
 use Rattle.lists.specs.Search.{every}
 use Rattle.table.specs.Table.{table_length, finished, live}
-use Rattle.table.specs.Rules.{line_rules, not_live, some_live, finished_if_live, live_finished, table_number, round_over}
+use Rattle.table.specs.Rules.{line_rules, not_live, some_live, finished_if_live, live_finished, table_refusal, round_over}
 use Rattle.lists.proofs.BoolLaws.{neither}
 use Rattle.lists.proofs.SearchLaws.{both, every-at, every-all}
 use Rattle.table.proofs.Accepting.{Accepted, accepted}
@@ -19,8 +19,8 @@ use Rattle.lists.proofs.RefusalLaws.{check_zero, ensure_ok, and_ok}
 use Rattle.table.proofs.CellLaws.{Line, line-holds, accepted-line}
 use Rattle.plant.specs.Turn.{turn, crash}
 use Rattle.plant.specs.Round.{reset_lines, after_round}
-use Rattle.plant.specs.Entry.{Entry, State, tally_top, is_crash, entry_check, entry_number, acted, after, sheet_line}
-use Rattle.plant.specs.Run.{Outcome, entries, write_line, go_on, start_check, start_number, run}
+use Rattle.plant.specs.Entry.{Entry, State, tally_top, is_crash, entry_check, entry_refusal, acted, after, sheet_line}
+use Rattle.plant.specs.Run.{RunResult, entries, write_line, go_on, start_check, start_refusal, run}
 use Rattle.plant.proofs.RunLaws.{accepted-number}
 use Rattle.plant.proofs.StepLines.{Lines, leave-lines, turn_lines}
 use Rattle.plant.proofs.RoundLaws.{reset-lines, reset-cells}
@@ -58,10 +58,10 @@ entry_ok n s e x z =
           omega arith;
     }
 
-pub entry-facts : (n : ℕ) (s : State) (e : Entry) → entry_number n s e ≡ 0 → Takes n s e
+pub entry-facts : (n : ℕ) (s : State) (e : Entry) → entry_refusal n s e ≡ 0 → Takes n s e
 entry-facts n s e z = entry_ok n s e _ (check_zero _ z)
 
-pub acted-lines : (n : ℕ) (s : State) (e : Entry) → Accepted n s.table → entry_number n s e ≡ 0
+pub acted-lines : (n : ℕ) (s : State) (e : Entry) → Accepted n s.table → entry_refusal n s e ≡ 0
     → (length (acted n s.table e) ≡ table_length n) × ((i : ℕ) → i < n → Line n (acted n s.table e) i)
 unfolding acted crash
 acted-lines n s e a z = pick (is_crash e) refl
@@ -89,7 +89,7 @@ unfinished-open n t zeros = pick (every (finished_if_live n t) n) refl
         rw none
     pick false e = and-false (not (every (not_live n t) n))
 
-pub accepted-kept : (n : ℕ) (s : State) (e : Entry) → Accepted n s.table → entry_number n s e ≡ 0 → Accepted n (after n s e).table
+pub accepted-kept : (n : ℕ) (s : State) (e : Entry) → Accepted n s.table → entry_refusal n s e ≡ 0 → Accepted n (after n s e).table
 unfolding after after_round
 accepted-kept n s e a z = pick (round_over n t) refl
   where
@@ -107,8 +107,8 @@ accepted-kept n s e a z = pick (round_over n t) refl
         make (reset_lines n t) (reset-lines n t lines) (unfinished-open n (reset_lines n t) (λ i h. (reset-cells n t lines.0 i h).unfinished))
     pick false c = make t lines c
 
--- "An empty schedule is accepted and changes nothing": on a table that refusals 1 to 4 let through. An end in itself
-pub empty-run : (n : ℕ) (s : State) → table_number n s.table ≡ 0 → run n s [] [] ≡ record { number = 0; taken = 0; state = s; sheet = [] }
+-- rule Empty schedule: on a table that refusals 1 to 4 let through it is accepted and changes nothing. An end in itself
+pub empty-run : (n : ℕ) (s : State) → table_refusal n s.table ≡ 0 → run n s [] [] ≡ record { number = 0; taken = 0; state = s; sheet = [] }
 unfolding run start_check go_on entries
 empty-run n s z = rw (check_zero _ z)
 
@@ -117,28 +117,28 @@ accepted-on : (n k : ℕ) (s : State) (sheet : List ℕ) (es : List Entry) → A
 unfolding go_on
 accepted-on n k s sheet [] a = a
 accepted-on n k s sheet (e ∷ es) a =
-    pick (eqb (entry_number n s e) 0) refl (λ z. accepted-on n (suc k) (after n s e) (write_line sheet k (sheet_line n s e)) es (accepted-kept n s e a z))
+    pick (eqb (entry_refusal n s e) 0) refl (λ z. accepted-on n (suc k) (after n s e) (write_line sheet k (sheet_line n s e)) es (accepted-kept n s e a z))
   where
-    rest : Outcome
+    rest : RunResult
     rest = go_on n (suc k) (after n s e) (write_line sheet k (sheet_line n s e)) es
 
-    pick : (b : Bool) → eqb (entry_number n s e) 0 ≡ b → (entry_number n s e ≡ 0 → Accepted n rest.state.table)
-        → Accepted n (cond b rest (record { number = entry_number n s e; taken = k; state = s; sheet = sheet })).state.table
-    pick true c next = next (eqb-true (entry_number n s e) 0 c)
+    pick : (b : Bool) → eqb (entry_refusal n s e) 0 ≡ b → (entry_refusal n s e ≡ 0 → Accepted n rest.state.table)
+        → Accepted n (cond b rest (record { number = entry_refusal n s e; taken = k; state = s; sheet = sheet })).state.table
+    pick true c next = next (eqb-true (entry_refusal n s e) 0 c)
     pick false c next = a
 
 accepted-run : (n : ℕ) (s : State) (schedule sheet : List ℕ) → Accepted n s.table → Accepted n (run n s schedule sheet).state.table
 unfolding run
-accepted-run n s schedule sheet a = pick (eqb (start_number n s.table (length schedule) (length sheet)) 0)
+accepted-run n s schedule sheet a = pick (eqb (start_refusal n s.table (length schedule) (length sheet)) 0)
   where
-    rest : Outcome
+    rest : RunResult
     rest = go_on n 0 s sheet (entries schedule)
 
     pick : (b : Bool)
-        → Accepted n (cond b rest (record { number = start_number n s.table (length schedule) (length sheet); taken = 0; state = s; sheet = sheet })).state.table
+        → Accepted n (cond b rest (record { number = start_refusal n s.table (length schedule) (length sheet); taken = 0; state = s; sheet = sheet })).state.table
     pick true = accepted-on n 0 s sheet (entries schedule) a
     pick false = a
 
 -- a table that refusals 1 to 4 let through is let through after every run, an end in itself
-pub run-keeps : (n : ℕ) (s : State) (schedule sheet : List ℕ) → table_number n s.table ≡ 0 → table_number n (run n s schedule sheet).state.table ≡ 0
-run-keeps n s schedule sheet z = accepted-number n _ (accepted-run n s schedule sheet (accepted n s.table z))
+pub run-keeps-rules : (n : ℕ) (s : State) (schedule sheet : List ℕ) → table_refusal n s.table ≡ 0 → table_refusal n (run n s schedule sheet).state.table ≡ 0
+run-keeps-rules n s schedule sheet z = accepted-number n _ (accepted-run n s schedule sheet (accepted n s.table z))

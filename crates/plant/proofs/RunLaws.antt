@@ -10,7 +10,7 @@ use borrow.Author.Tests.{eqb-true, eqb-false, eq-eqb, ne_eqb, not-true}
 use lib.ListN.{length, get_or, take, drop, drop_of_length-le}
 use lib.Seq.{drop-drop, sets-eq}
 use Rattle.station.specs.Groups.{station_at}
-use Rattle.table.specs.Rules.{shape_check, table_check, table_number}
+use Rattle.table.specs.Rules.{shape_check, table_check, table_refusal}
 use Rattle.table.specs.Table.{table_length}
 use Rattle.lists.proofs.BoolLaws.{choice}
 use Rattle.table.proofs.Accepting.{Accepted, table_ok}
@@ -20,11 +20,11 @@ use Rattle.lists.specs.declared.refusal.Refusal.{Refusal}
 use Rattle.lists.specs.Refusal.{number_of}
 use Rattle.lists.proofs.RefusalLaws.{number_nonzero, check_zero, ensure_ok, and_ok}
 use Rattle.plant.specs.Turn.{count_test, replies, is_told, reply_outcome, test_outcome, makes_test, next_test, turn_outcome}
-use Rattle.plant.specs.Entry.{Entry, State, entry_of, is_crash, is_test, entry_check, entry_number, after, shows_test, outcome_of, sheet_line}
-use Rattle.plant.specs.Run.{Outcome, entries, write_line, go_on, start_check, start_number, run}
+use Rattle.plant.specs.Entry.{Entry, State, entry_of, is_crash, is_test, entry_check, entry_refusal, after, shows_test, outcome_of, sheet_line}
+use Rattle.plant.specs.Run.{RunResult, entries, write_line, go_on, start_check, start_refusal, run}
 
 -- a table that obeys the rules gets no refusal
-pub accepted-number : (n : ℕ) (t : List ℕ) → Accepted n t → table_number n t ≡ 0
+pub accepted-number : (n : ℕ) (t : List ℕ) → Accepted n t → table_refusal n t ≡ 0
 unfolding table_check shape_check
 accepted-number n t a = rw (a.size, eq-eqb (length t) (table_length n) a.long, a.lines, a.unclosed)
 
@@ -83,10 +83,10 @@ line-back n s e sheet k line same fits =
 
 -- the run from entry k on
 module _ (n k : ℕ) (s : State) (sheet schedule : List ℕ) where
-  abbrev pub from-here : Outcome
+  abbrev pub from-here : RunResult
   from-here = go_on n k s sheet (drop k (entries schedule))
 
-  pub go-taken : (e : Entry) (s' : State) (sheet' : List ℕ) → k < length schedule / 2 → e ≡ entry_at schedule k → entry_number n s e ≡ 0
+  pub go-taken : (e : Entry) (s' : State) (sheet' : List ℕ) → k < length schedule / 2 → e ≡ entry_at schedule k → entry_refusal n s e ≡ 0
       → s' ≡ after n s e → sheet' ≡ write_line sheet k (sheet_line n s e) → go_on n (k + 1) s' sheet' (drop (k + 1) (entries schedule)) ≡ from-here
   unfolding go_on
   go-taken e s' sheet' h at z a b = rw (a, b, entries_at schedule k h, ← at, z, add-one k)
@@ -101,11 +101,11 @@ module _ (n k : ℕ) (s : State) (sheet schedule : List ℕ) where
   go-done h = rw (drop_of_length-le (entries schedule) {i = k} (omega (arith, entries-length schedule)))
 
 -- a run of one entry, which is taken
-pub start-one : (n : ℕ) (t : List ℕ) → table_number n t ≡ 0 → start_number n t 2 4 ≡ 0
+pub start-one : (n : ℕ) (t : List ℕ) → table_refusal n t ≡ 0 → start_refusal n t 2 4 ≡ 0
 unfolding start_check
 start-one n t z = rw (check_zero _ z)
 
-pub go-one : (n : ℕ) (s : State) (sheet : List ℕ) (k i : ℕ) → entry_number n s (entry_of k i) ≡ 0
+pub go-one : (n : ℕ) (s : State) (sheet : List ℕ) (k i : ℕ) → entry_refusal n s (entry_of k i) ≡ 0
     → (go_on n 0 s sheet (entries (k ∷ i ∷ []))).state ≡ after n s (entry_of k i)
 unfolding go_on entries
 go-one n s sheet k i z = rw z
@@ -118,7 +118,7 @@ start_ok n t a b x e =
     let q = and_ok _ _ x p.1 in
     (table_ok n t _ p.0, eqb-false _ _ (not-true _ (ensure_ok _ _ _ q.0)), eqb-true _ _ (ensure_ok _ _ _ q.1))
 
-pub start-facts : (n : ℕ) (t : List ℕ) (a b : ℕ) → start_number n t a b ≡ 0 → Accepted n t × (a % 2 ≡ 1 → ⊥) × (b ≡ 2 * a)
+pub start-facts : (n : ℕ) (t : List ℕ) (a b : ℕ) → start_refusal n t a b ≡ 0 → Accepted n t × (a % 2 ≡ 1 → ⊥) × (b ≡ 2 * a)
 start-facts n t a b z = start_ok n t a b _ (check_zero _ z)
 
 module _ (n : ℕ) (s : State) (schedule sheet : List ℕ) where
@@ -127,6 +127,6 @@ module _ (n : ℕ) (s : State) (schedule sheet : List ℕ) where
   unfolding run
   run-refused r e = rw (e, ne_eqb (number_of r) 0 (number_nonzero r))
 
-  pub run-goes : start_number n s.table (length schedule) (length sheet) ≡ 0 → run n s schedule sheet ≡ go_on n 0 s sheet (entries schedule)
+  pub run-goes : start_refusal n s.table (length schedule) (length sheet) ≡ 0 → run n s schedule sheet ≡ go_on n 0 s sheet (entries schedule)
   unfolding run
   run-goes z = rw z

@@ -1,4 +1,4 @@
--- What each cell of the table is after each of steps 2 to 5 of document 01.
+-- What each cell of the table is after each part of a turn.
 -- Assumes nothing.
 use mathlib.Core.Path.{◌≡◌, sym, ◌∙◌}
 use mathlib.Core.Logic.{◌≢◌}
@@ -16,7 +16,7 @@ use Rattle.station.proofs.UnionLaws.{union-length, union-at, union-own, union-ot
 use Rattle.plant.specs.Turn.{set_status, leave_told, finish_pass, count_test, exchange_rows, suspect}
 
 module _ (n : ℕ) (t : List ℕ) (i : ℕ) where
-  -- Step 2, none due: next distance the number of distances, finished 1
+  -- the end of a pass: next distance the number of distances, finished 1
   pub finish_pass-length : length (finish_pass n t i) ≡ length t
   unfolding finish_pass
   finish_pass-length = simp set_cell-length
@@ -28,7 +28,7 @@ module _ (n : ℕ) (t : List ℕ) (i : ℕ) where
       cell_other n _ i finished_column 1 i' c (omega arith) h (λ e f. (out e).1 (sym f))
       ∙ cell_other n t i next_column (distances n) i' c (omega arith) h (λ e f. (out e).0 (sym f))
 
-  -- Step 3: next distance m + 1, one test more
+  -- the test is counted: next distance m + 1, one test more
   pub count_test-length : (m : ℕ) → length (count_test n t i m) ≡ length t
   unfolding count_test
   count_test-length m = simp set_cell-length
@@ -40,7 +40,7 @@ module _ (n : ℕ) (t : List ℕ) (i : ℕ) where
       cell_other n _ i tests_column _ i' c (omega arith) h (λ e f. (out e).1 (sym f))
       ∙ cell_other n t i next_column (m + 1) i' c (omega arith) h (λ e f. (out e).0 (sym f))
 
-  -- Step 4, i is told by j: status 2 and byte 4
+  -- i is told by j: status 2 and byte 4
   pub leave_told-length : (j : ℕ) → length (leave_told n t i j) ≡ length t
   unfolding leave_told
   leave_told-length j = simp set_cell-length
@@ -84,7 +84,7 @@ module _ (n : ℕ) (t : List ℕ) (i : ℕ) where
     unfolding count_test
     count_test-tests m = cell_same n _ i tests_column _ (set_cell-length n t i next_column (m + 1) ∙ long) h (omega arith)
 
-    -- Step 5: only the byte about j changes, to 1
+    -- no reply: only the byte about j changes, to 1
     pub suspect-length : (j : ℕ) → length (suspect n t i j) ≡ length t
     unfolding suspect
     suspect-length j = set_row-length n t i (mark (row n t i) j) long h (mark-length (row n t i) j ∙ row-length n t i long h)
@@ -114,7 +114,7 @@ module _ (n : ℕ) (t : List ℕ) (i : ℕ) where
             let ne : k ≢ j = λ g. out e (omega arith) in
             rw (← e, f) (set_row-in n t i r k long h hr (omega arith) ∙ (mark-other (row n t i) j k ne ∙ row_at n t i k (omega arith)))
 
-    -- Step 4: the rows of i and j change, each to the union
+    -- an exchange: the rows of i and j change, each to the union
     module _ (j : ℕ) (hj : j < n) (apart : i ≢ j) where
       u₁ : List ℕ
       u₁ = union (row n t i) (row n t j) i

@@ -1,4 +1,4 @@
--- Each of steps 2 to 6 of document 01 keeps the line rules of every line.
+-- Each part of a turn keeps the line rules of every line.
 -- Assumes nothing.
 use mathlib.Core.Path.{◌≡◌, refl, sym, ◌∙◌}
 use mathlib.Core.Logic.{◌≢◌}
@@ -65,7 +65,7 @@ line-exit n t t' k l same s e hs exits h =
       range = λ x hx. rw (same (head + x) (omega arith) (omega arith)) (l.range x hx);
     }
 
--- Steps 6 and 7: the status of a live station, not because told
+-- alone or crashed: the status of a live station, not because told
 pub leave-lines : (n : ℕ) (t : List ℕ) (i : ℕ) → Lines n t → i < n → live n t i ≡ true
     → (s : ℕ) → 1 ≤ s → s ≤ 3 → s ≢ status_told → Lines n (set_status n t i s)
 leave-lines n t i lines h alive s low high untold =
@@ -78,7 +78,7 @@ leave-lines n t i lines h alive s low high untold =
     (line-exit n t (set_status n t i s) i (lines.1 i h) other s (cell_same n t i status_column s lines.0 h (omega arith)) high
     (none-exit n i s _ _ low untold (cell_other n t i status_column s i told_by_column (omega arith) (omega arith) (omega arith) ∙ none)) h) lines
 
--- Step 4: a station that is told by another
+-- a station that is told by another
 told-lines : (n : ℕ) (t : List ℕ) (a b : ℕ) → Lines n t → a < n → b < n → b ≢ a → Lines n (leave_told n t a b)
 told-lines n t a b lines h hb apart =
     one_line n t (leave_told n t a b) a (leave_told-length n t a b) (λ k c hc d. leave_told-other n t a b k c hc (λ f. absurd (d f)))
@@ -86,7 +86,7 @@ told-lines n t a b lines h hb apart =
     (leave_told-status n t a lines.0 h b) (omega arith) (rw (leave_told-teller n t a lines.0 h b) (told-exit n a b _ hb apart)) h) lines
 
 module _ (n : ℕ) (t : List ℕ) (i : ℕ) (lines : Lines n t) (h : i < n) where
-  -- Step 2
+  -- the end of a pass
   pub finish_pass-lines : Lines n (finish_pass n t i)
   finish_pass-lines =
       let l = lines.1 i h in
@@ -110,7 +110,7 @@ module _ (n : ℕ) (t : List ℕ) (i : ℕ) (lines : Lines n t) (h : i < n) wher
         range = λ x hx. rw (other (head + x) (omega arith) (omega arith)) (l.range x hx);
       }) lines
 
-  -- Step 3
+  -- the test is counted
   pub count_test-lines : (m : ℕ) → (finished n t i ≡ 1 → ⊥) → next_distance n t i ≤ m → m < distances n → Lines n (count_test n t i m)
   count_test-lines m going lo hi =
       let l = lines.1 i h in
@@ -135,7 +135,7 @@ module _ (n : ℕ) (t : List ℕ) (i : ℕ) (lines : Lines n t) (h : i < n) wher
       }) lines
 
   module _ (j : ℕ) (hj : j < n) (apart : i ≢ j) where
-    -- Step 5
+    -- no reply
     pub suspect-lines : Lines n (suspect n t i j)
     suspect-lines = (
       suspect-length n t i lines.0 h j ∙ lines.0,
@@ -153,7 +153,7 @@ module _ (n : ℕ) (t : List ℕ) (i : ℕ) (lines : Lines n t) (h : i < n) wher
         pick k x hx old (yes e) (no f) = rw (other k (head + x) (omega arith) (omega arith)) old
         pick k x hx old (no e) f = rw (other k (head + x) (omega arith) (λ g. absurd (e g))) old
 
-    -- Step 4
+    -- an exchange
     pub exchange-lines : Lines n (exchange_rows n t i j)
     exchange-lines = (
       exchange-length n t i lines.0 h j hj apart ∙ lines.0,
@@ -180,7 +180,7 @@ module _ (n : ℕ) (t : List ℕ) (i : ℕ) (lines : Lines n t) (h : i < n) wher
         byte k hk x hx (no e) (no f) (no g) =
             rw (other k (head + x) (omega arith) (λ g. absurd (e g)) (λ g. absurd (f g))) ((lines.1 k hk).range x hx)
 
-    -- Steps 4 to 6
+    -- a test, whatever comes of it
     pub after_test-lines : (kind : ℕ) → Lines n (after_test n t kind i j)
     unfolding after_outcome
     after_test-lines kind =
@@ -199,7 +199,7 @@ module _ (n : ℕ) (t : List ℕ) (i : ℕ) (lines : Lines n t) (h : i < n) wher
 pub station-apart : (i m : ℕ) → 1 ≤ m → i ≢ station_at i m
 station-apart i m pos e = let z : 0 ≡ m = cc (xor_self i, xor-cancel i m) in omega arith
 
--- Steps 2 to 6
+-- a whole turn
 pub turn_lines : (n : ℕ) (t : List ℕ) (kind i : ℕ) → is_size n ≡ true → Lines n t → i < n → (finished n t i ≡ 1 → ⊥) → Lines n (turn n t kind i)
 unfolding turn testing
 turn_lines n t kind i size lines h going = pick (makes_test n t i) refl

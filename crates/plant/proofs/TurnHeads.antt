@@ -27,7 +27,7 @@ use Rattle.lists.proofs.FilterLaws.{select-suc, select-stays, select-sum}
 abbrev SameCounts : ℕ → List ℕ → List ℕ → Type 0
 SameCounts n t t' = (k c : ℕ) → TurnCounts c → cell n t' k c ≡ cell n t k c
 
--- steps 4 to 6 leave them
+-- what comes of a test leaves bytes 1 to 3
 left-counts : (n : ℕ) (t : List ℕ) (i s : ℕ) → SameCounts n t (set_status n t i s)
 left-counts n t i s k c counts = cell_other n t i status_column s k c (omega arith) (omega arith) (λ _. omega arith)
 

@@ -1,4 +1,4 @@
--- Document 01, one entry of a schedule: refusals 7 to 11, then steps 1 to 8, for all inputs.
+-- One entry of a schedule: refusals 7 to 11, then what the entry does, for all inputs.
 -- Assumes nothing.
 use Rattle.std.specs.Prelude.{ℕ, ◌+◌, Bool, not, ◌&&◌, ◌||◌, List, [], ◌∷◌, if◌then◌else◌, ◌==◌, nat_le}
 use Rattle.table.specs.Table.{status, finished, live}
@@ -11,7 +11,7 @@ use Rattle.plant.specs.Kind.{kind_byte}
 use Rattle.plant.specs.Turn.{kind_crash, outcome_finished, outcome_crash, no_station, makes_test, turn, turn_tested, turn_outcome, crash}
 use Rattle.plant.specs.Round.{after_round}
 
--- "A schedule entry is two bytes: kind [..] and station i."
+-- Rule Entry: two bytes, a kind and a station
 pub record Entry : Type 0 where
   pub kind : ℕ
   pub station : ℕ
@@ -42,7 +42,7 @@ entry_known e = entry_of (kind_byte e.kind) e.station.0
 abbrev pub tally_top : ℕ
 tally_top = 4294967295
 
--- refusal 7: "Either tally stands at 4,294,967,295"
+-- Rule Tally: a counter is full at 4,294,967,295
 abbrev pub tally_full : ℕ → ℕ → Bool
 tally_full rounds tests = rounds == tally_top || tests == tally_top
 
@@ -53,8 +53,8 @@ is_crash e = e.kind == kind_crash
 abbrev pub is_test : ℕ → List ℕ → Entry → Bool
 is_test n t e = not (is_crash e) && makes_test n t e.station
 
--- refusals 7 to 11: "Either tally stands at 4,294,967,295 when an entry is reached." "The kind is not 1, 2 or 3." "The station number is
--- N or more." "The station is not live." "The kind is 1 or 2 and the station has finished its pass."
+-- Rule Taken, refusals 7 to 11: a counter is full; the kind is not 1, 2 or 3; the station's number is n or more; it is not live; the kind is 1 or 2,
+-- and it has finished its pass
 unfoldable pub entry_check : ℕ → State → Entry → Check
 entry_check n s e =
     ensure (not (tally_full s.rounds s.tests)) TallyFull
@@ -63,14 +63,14 @@ entry_check n s e =
     and ensure (live n s.table e.station) NotLive
     and ensure (not (not (is_crash e) && finished n s.table e.station == 1)) PassFinished
 
-abbrev pub entry_number : ℕ → State → Entry → ℕ
-entry_number n s e = number_of_result (entry_check n s e)
+abbrev pub entry_refusal : ℕ → State → Entry → ℕ
+entry_refusal n s e = number_of_result (entry_check n s e)
 
--- steps 2 to 7: the table before the round rule
+-- the table after the crash or the turn, before the round is looked at
 unfoldable pub acted : ℕ → List ℕ → Entry → List ℕ
 acted n t e = if is_crash e then crash n t e.station else turn n t e.kind e.station
 
--- an accepted entry: table and tally after it, the round rule (step 8) included
+-- Rules Count the test, Count the round and Taken: table and tally after an entry that is not refused, with the closing of a round
 unfoldable pub after : ℕ → State → Entry → State
 after n s e = record {
   table = after_round n (acted n s.table e);
@@ -89,7 +89,7 @@ outcome_of n t e = if is_crash e then outcome_crash else turn_outcome n t e.kind
 abbrev pub shows_test : ℕ → Bool
 shows_test outcome = not (outcome == outcome_finished) && not (outcome == outcome_crash)
 
--- "four bytes of the sheet: i; the tested station or 255; the outcome [..]; i's status after the entry"
+-- Rule Run sheet: four bytes, i; the tested station, or 255; the outcome; i's status after the entry
 unfoldable pub sheet_line : ℕ → State → Entry → List ℕ
 sheet_line n s e =
     e.station ∷ tested_of n s.table e ∷ outcome_of n s.table e ∷ status n (after n s e).table e.station ∷ []

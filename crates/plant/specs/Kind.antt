@@ -13,7 +13,7 @@ kind_byte Turn = kind_turn
 kind_byte LateReply = kind_late
 kind_byte Crash = kind_crash
 
--- the kind of a byte; refusal 8: "The kind is not 1, 2 or 3."
+-- the kind of a byte; refusal 8: the kind is not 1, 2 or 3
 abbrev pub kind_of : ℕ → Result Kind Refusal
 kind_of byte =
     if byte == kind_turn then Ok Turn

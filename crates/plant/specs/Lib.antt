@@ -1,4 +1,4 @@
--- What the contracts of `plant` cite: document 01, "What an entry does" and the run.
+-- What the contracts of `plant` cite: what an entry does, and the run.
 pub mod Turn
 pub mod Kind
 pub mod Outcome

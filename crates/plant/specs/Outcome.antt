@@ -5,7 +5,7 @@ use Rattle.plant.specs.declared.outcome.Outcome.{Outcome}
 use Rattle.plant.specs.declared.outcome.Outcome.TheVariants.{PassFinished, Exchanged, Told, NoReply, Crashed, TestedTold}
 use Rattle.plant.specs.Turn.{outcome_finished, outcome_exchanged, outcome_told, outcome_no_reply, outcome_crash, outcome_tested_told, no_station}
 
--- "the outcome [..]", 0 to 5
+-- byte 2 of a line of the run sheet: the outcome's number, 0 to 5
 abbrev pub outcome_byte : Outcome → ℕ
 outcome_byte PassFinished = outcome_finished
 outcome_byte (Exchanged j) = outcome_exchanged
@@ -14,7 +14,7 @@ outcome_byte (NoReply j) = outcome_no_reply
 outcome_byte Crashed = outcome_crash
 outcome_byte (TestedTold j) = outcome_tested_told
 
--- "the tested station or 255"
+-- byte 1 of a line of the run sheet: the tested station, or 255 if no test was made
 abbrev pub tested_byte : Outcome → ℕ
 tested_byte PassFinished = no_station
 tested_byte (Exchanged j) = j.0

@@ -1,72 +1,73 @@
--- Document 01, the run: refusals 1 to 6, then the entries in order; and two claims of it.
+-- The run: refusals 1 to 6, then the entries in order; and two claims of it.
 -- Assumes nothing.
 use Rattle.std.specs.Prelude.{◌≡◌, ℕ, suc, ◌*◌, ◌%◌, not, List, [], ◌∷◌, length, Option, Some, None, if◌then◌else◌, ◌==◌}
 use Rattle.std.proofs.lemmas.List.Edits.{sets}
 use Rattle.lists.specs.declared.refusal.Refusal.TheVariants.{ScheduleLength, SheetLength}
 use Rattle.lists.specs.declared.refusal.Refusal.{Refusal}
 use Rattle.lists.specs.Refusal.{number_of, Check, ensure, ◌and◌, number_of_result}
-use Rattle.table.specs.Rules.{table_check, table_number}
+use Rattle.table.specs.Rules.{table_check, table_refusal}
 use Rattle.plant.specs.declared.Ran.{Ran}
-use Rattle.plant.specs.Entry.{Entry, State, state_with, entry_of, entry_number, after, sheet_line}
+use Rattle.plant.specs.Entry.{Entry, State, state_with, entry_of, entry_refusal, after, sheet_line}
 
--- the entries of a schedule, two bytes each
+-- Rule Schedule: entries one behind the other, two bytes each
 unfoldable pub entries : List ℕ → List Entry
 entries [] = []
 entries (k ∷ []) = []
 entries (k ∷ i ∷ rest) = entry_of k i ∷ entries rest
 
 -- what a run answers and leaves: the number (0 or a refusal), how many entries were taken, table and tally, and the sheet
-pub record Outcome : Type 0 where
+pub record RunResult : Type 0 where
   pub number : ℕ
   pub taken : ℕ
   pub state : State
   pub sheet : List ℕ
 
 -- the number of the refusal that stopped a run: 0 where none did
-abbrev pub stop_number : Option Refusal → ℕ
-stop_number None = 0
-stop_number (Some r) = number_of r
+abbrev pub stop_refusal : Option Refusal → ℕ
+stop_refusal None = 0
+stop_refusal (Some r) = number_of r
 
 -- the outcome of a call: what it answers, and table and sheet as it left them
-abbrev pub outcome_with : Ran → List ℕ → List ℕ → Outcome
-outcome_with r t sheet = record { number = stop_number r.stopped; taken = r.taken; state = state_with t r.tally; sheet = sheet }
+abbrev pub outcome_with : Ran → List ℕ → List ℕ → RunResult
+outcome_with r t sheet = record { number = stop_refusal r.stopped; taken = r.taken; state = state_with t r.tally; sheet = sheet }
 
 -- the sheet with a line written as the kth, from 0, of four bytes each
 abbrev pub write_line : List ℕ → ℕ → List ℕ → List ℕ
 write_line sheet k line = sets sheet (4 * k) line
 
--- a run that has taken k entries goes on with the rest. "At an entry, the run stops: table, tally and sheet are as the earlier entries left
--- them, the rest of the sheet unchanged."
-unfoldable pub go_on : ℕ → ℕ → State → List ℕ → List Entry → Outcome
+-- Rule Run: a run that has taken k entries goes on with the rest. At the first that is refused it stops: table, tally and run sheet are as the
+-- earlier entries left them
+unfoldable pub go_on : ℕ → ℕ → State → List ℕ → List Entry → RunResult
 go_on n k s sheet [] = record { number = 0; taken = k; state = s; sheet = sheet }
 go_on n k s sheet (e ∷ es) =
-    if entry_number n s e == 0
+    if entry_refusal n s e == 0
     then go_on n (suc k) (after n s e) (write_line sheet k (sheet_line n s e)) es
-    else (record { number = entry_number n s e; taken = k; state = s; sheet = sheet })
+    else (record { number = entry_refusal n s e; taken = k; state = s; sheet = sheet })
 
--- refusals 1 to 6: then "The schedule's length is odd." "The sheet's length is not twice the schedule's."
+-- refusals 1 to 6: then the schedule has an odd number of bytes; the run sheet has not twice the bytes of the schedule
 unfoldable pub start_check : ℕ → List ℕ → ℕ → ℕ → Check
 start_check n t schedule_length sheet_length =
     table_check n t
     and ensure (not (schedule_length % 2 == 1)) ScheduleLength
     and ensure (sheet_length == 2 * schedule_length) SheetLength
 
-abbrev pub start_number : ℕ → List ℕ → ℕ → ℕ → ℕ
-start_number n t schedule_length sheet_length = number_of_result (start_check n t schedule_length sheet_length)
+abbrev pub start_refusal : ℕ → List ℕ → ℕ → ℕ → ℕ
+start_refusal n t schedule_length sheet_length = number_of_result (start_check n t schedule_length sheet_length)
 
--- the run of a schedule on a table and a tally with a lent sheet, for all inputs. "A run refused by 1 to 6 gives back the tally handed in."
-unfoldable pub run : ℕ → State → List ℕ → List ℕ → Outcome
+-- Rule Run call: the run of a schedule on a table and a tally with a lent run sheet, for all inputs. A run refused by 1 to 6 gives back the tally
+-- handed in
+unfoldable pub run : ℕ → State → List ℕ → List ℕ → RunResult
 run n s schedule sheet =
-    if start_number n s.table (length schedule) (length sheet) == 0
+    if start_refusal n s.table (length schedule) (length sheet) == 0
     then go_on n 0 s sheet (entries schedule)
-    else (record { number = start_number n s.table (length schedule) (length sheet); taken = 0; state = s; sheet = sheet })
+    else (record { number = start_refusal n s.table (length schedule) (length sheet); taken = 0; state = s; sheet = sheet })
 
--- "An empty schedule is accepted and changes nothing": on a table that refusals 1 to 4 let through
+-- Rule Empty schedule: on a table that refusals 1 to 4 let through, with an empty run sheet, it is accepted and changes nothing
 abbrev pub EmptyRun : Type 0
-EmptyRun = (n : ℕ) (s : State) → table_number n s.table ≡ 0 → run n s [] [] ≡ record { number = 0; taken = 0; state = s; sheet = [] }
+EmptyRun = (n : ℕ) (s : State) → table_refusal n s.table ≡ 0 → run n s [] [] ≡ record { number = 0; taken = 0; state = s; sheet = [] }
 
--- a table that refusals 1 to 4 let through is let through after every run too, whatever the run answers
-abbrev pub RunKeeps : Type 0
-RunKeeps =
+-- Rule Rules kept: a table that refusals 1 to 4 let through is let through after every run too, whatever the run answers
+abbrev pub RunKeepsRules : Type 0
+RunKeepsRules =
     (n : ℕ) (s : State) (schedule sheet : List ℕ)
-    → table_number n s.table ≡ 0 → table_number n (run n s schedule sheet).state.table ≡ 0
+    → table_refusal n s.table ≡ 0 → table_refusal n (run n s schedule sheet).state.table ≡ 0

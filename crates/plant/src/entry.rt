@@ -1,10 +1,10 @@
-// One entry of a schedule (document 01, "What an entry does" and refusals 7 to 11).
+// One entry of a schedule.
 ghost use Rattle.std.specs.Prelude.{◌≡◌, ◌<◌, length, IfOk};
 ghost use Rattle.std.specs.Result.{result_map_both};
 ghost use Rattle.table.specs.Lent.{IsSameLoan};
-ghost use Rattle.table.specs.Rules.{table_number};
+ghost use Rattle.table.specs.Rules.{table_refusal};
 ghost use Rattle.plant.specs.Outcome.{tested_byte, outcome_byte};
-ghost use Rattle.plant.specs.Entry.{state_with, entry_of, entry_known, entry_check, entry_number, shows_test, acted, after, tested_of, outcome_of, sheet_line};
+ghost use Rattle.plant.specs.Entry.{state_with, entry_of, entry_known, entry_check, entry_refusal, shows_test, acted, after, tested_of, outcome_of, sheet_line};
 
 use crate::kind::Kind;
 use crate::outcome::Outcome;
@@ -61,11 +61,11 @@ pub(crate) fn check_entry(
     Ok(Entry { kind, station })
 }
 
-// An entry that is not refused: steps 1 to 8, and its line of the sheet. The answer is the tally after it.
+// An entry that is not refused: what it does, and its line of the run sheet. The answer is the tally after it.
 // Table and tally stay two parameters: the tally is a value that each entry answers anew, and a struct of both would be taken apart there.
 pub(crate) fn take_entry(table: &mut TableMut, tally: Tally, entry: Entry, line: &mut [u8]) -> Tally
-    requires table_obeys { table_number table.old.n table.old.bytes.now ≡ 0 }
-    requires entry_taken { entry_number table.old.n
+    requires table_obeys { table_refusal table.old.n table.old.bytes.now ≡ 0 }
+    requires entry_taken { entry_refusal table.old.n
         (state_with table.old.bytes.now tally) (entry_known entry) ≡ 0 }
     requires line_length { length line.old ≡ 4 }
     ensures same_loan { IsSameLoan table.old table.new }
@@ -94,10 +94,10 @@ fn made_test(done: Outcome) -> bool
     !matches!(done, Outcome::PassFinished | Outcome::Crashed)
 }
 
-// Steps 2 to 7: a crash or a turn.
+// A crash or a turn, before the round is looked at.
 #[tactic(auto, unfolding(crate::specs::Entry::acted, crate::specs::Entry::tested_of, crate::specs::Entry::outcome_of, crate::specs::Turn::crash))]
 fn act(table: &mut TableMut, entry: Entry) -> Outcome
-    requires table_obeys { table_number table.old.n table.old.bytes.now ≡ 0 }
+    requires table_obeys { table_refusal table.old.n table.old.bytes.now ≡ 0 }
     requires station_below { entry.station.0 < table.old.n }
     ensures tested_station { tested_byte result
         ≡ tested_of table.old.n table.old.bytes.now (entry_known entry) }

@@ -1,4 +1,4 @@
-// The kinds of an entry (document 01, "What can be asked"), as values and as the bytes of a schedule.
+// The kinds of an entry, as values and as the bytes of a schedule.
 ghost use Rattle.std.specs.Prelude.{◌≡◌};
 ghost use Rattle.plant.specs.Kind.{kind_byte, kind_of};
 

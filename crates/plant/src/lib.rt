@@ -1,5 +1,5 @@
-// The plant run of the vCube watch (document 01, "What an entry does" and the run): one station's turn (`steps`; step 4 as request C-13 has it),
-// entries, rounds, the tally. It stands above `station` and relies only on what the crates below state. The call of document 01 is run::run.
+// The plant run of the vCube watch: one station's turn (`steps`), entries, rounds, the tally. It stands above `station` and relies only on what
+// the crates below state. The call is run::run.
 // steps::take_turn, steps::leave and single::take_turn have a `requires`: they are for the crates above, which have checked the table. Those of
 // `claims` do nothing: their contracts are claims of every run.
 #![tactic(auto)]
@@ -43,11 +43,11 @@ pub struct Ran {
 }
 
 ghost use Rattle.std.specs.Prelude.{◌≡◌};
-ghost use Rattle.plant.specs.Run.{stop_number};
+ghost use Rattle.plant.specs.Run.{stop_refusal};
 
 // The number of the refusal that stopped a run or a drive, 0 where none did.
-pub fn stop_number(stopped: Option<Refusal>) -> u8
-    ensures { result ≡ stop_number stopped }
+pub fn stop_refusal(stopped: Option<Refusal>) -> u8
+    ensures { result ≡ stop_refusal stopped }
 {
     stopped.map_or(0, Refusal::number)
 }

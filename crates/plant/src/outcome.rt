@@ -1,4 +1,4 @@
-// What an entry did, as a value and as the two bytes of a line of the sheet (document 01, the sheet; request C-13).
+// What an entry did, as a value and as the two bytes of a line of the run sheet.
 ghost use Rattle.std.specs.Prelude.{◌≡◌};
 ghost use Rattle.plant.specs.Outcome.{tested_byte, outcome_byte};
 

@@ -1,4 +1,4 @@
-// Closing a round (document 01, step 8; request C-18).
+// Closing a round.
 ghost use Rattle.std.specs.Prelude.{◌≡◌, ◌<◌};
 ghost use Rattle.table.specs.Rules.{round_over};
 ghost use Rattle.table.specs.Lent.{IsSameLoan};

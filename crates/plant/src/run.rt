@@ -1,9 +1,9 @@
-// The run (document 01, "What can be asked" and the refusal list).
+// The run.
 ghost use Rattle.std.specs.Prelude.{◌≡◌, length, IfOk};
 ghost use Rattle.std.specs.Result.{result_map_both};
 ghost use Rattle.table.specs.Lent.{IsSameLoan};
 ghost use Rattle.plant.specs.Entry.{state_with};
-ghost use Rattle.plant.specs.Run.{entries, go_on, start_check, start_number, outcome_with, run};
+ghost use Rattle.plant.specs.Run.{entries, go_on, start_check, start_refusal, outcome_with, run};
 
 use crate::{Ran, Tally, entry};
 use lists::refusal::Refusal;
@@ -51,7 +51,7 @@ fn check_start(n: usize, table: &[u8], schedule: usize, sheet: usize) -> Result<
 
 // Takes the entries in order. `single` uses it too, so that an entry is taken in one place only, which the compiler then puts in line.
 pub(crate) fn go_on(table: &mut TableMut, tally: Tally, schedule: &[u8], sheet: &mut [u8]) -> Ran
-    requires { start_number table.old.n table.old.bytes.now (length schedule.now) (length sheet.old)
+    requires { start_refusal table.old.n table.old.bytes.now (length schedule.now) (length sheet.old)
         ≡ 0 }
     ensures same_loan { IsSameLoan table.old table.new }
     ensures run { outcome_with result table.new.bytes.now sheet.new

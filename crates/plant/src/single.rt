@@ -2,9 +2,9 @@
 // `requires`.
 ghost use Rattle.std.specs.Prelude.{◌≡◌};
 ghost use Rattle.table.specs.Lent.{IsSameLoan};
-ghost use Rattle.table.specs.Rules.{table_number};
+ghost use Rattle.table.specs.Rules.{table_refusal};
 ghost use Rattle.plant.specs.Turn.{kind_turn};
-ghost use Rattle.plant.specs.Entry.{state_with, entry_of, entry_number, after};
+ghost use Rattle.plant.specs.Entry.{state_with, entry_of, entry_refusal, after};
 
 use crate::entry::Entry;
 use crate::kind::Kind;
@@ -14,8 +14,8 @@ use table::lent::TableMut;
 
 // A turn of kind 1 of station i, with no line of a sheet: the rest of a run that has this one entry. The answer is the tally after it.
 pub fn take_turn(table: &mut TableMut, tally: Tally, i: Station) -> Tally
-    requires table_obeys { table_number table.old.n table.old.bytes.now ≡ 0 }
-    requires turn_taken { entry_number table.old.n
+    requires table_obeys { table_refusal table.old.n table.old.bytes.now ≡ 0 }
+    requires turn_taken { entry_refusal table.old.n
         (state_with table.old.bytes.now tally) (entry_of kind_turn i.0) ≡ 0 }
     ensures same_loan { IsSameLoan table.old table.new }
     ensures state_after { state_with table.new.bytes.now result

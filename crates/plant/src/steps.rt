@@ -1,11 +1,11 @@
-// A turn of one station (document 01, steps 2 to 6; step 4 as request C-13 has it, byte 4 as C-18).
+// A turn of one station.
 ghost use Rattle.std.specs.Prelude.{◌≡◌, ◌≢◌, ◌-◌, ◌<◌};
 ghost use Rattle.lists.specs.Search.{least};
 ghost use Rattle.table.specs.Lent.{IsSameLoan};
 ghost use Rattle.table.specs.Table.{tests_made, row, set_row};
 ghost use Rattle.station.specs.Groups.{station_at};
 ghost use Rattle.station.specs.Rows.{union};
-ghost use Rattle.table.specs.Rules.{table_number};
+ghost use Rattle.table.specs.Rules.{table_refusal};
 ghost use Rattle.station.specs.Tests.{due};
 ghost use Rattle.plant.specs.Outcome.{tested_byte, outcome_byte};
 ghost use Rattle.plant.specs.Turn.{next_test, finish_pass, count_test, replies, exchange_rows, set_status, leave_told, reply_outcome, test_outcome, after_outcome, self_or_suspected, is_alone, after_alone, testing, turn, turn_tested, turn_outcome};
@@ -18,12 +18,12 @@ use table::lent::{Table, TableMut};
 use table::status::Status;
 use table::{Distance, Station, cells, sizes};
 
-// Steps 2 to 6: the turn of station i. The kind stays the schedule's byte: a public function keeps what its parameters take. The functions below
+// The turn of station i. The kind stays the schedule's byte: a public function keeps what its parameters take. The functions below
 // have the byte too: a `Kind` made of it here would have to be refused where there is none. That the table obeys the rules is asked, here and
 // above, and is no ghost field: from the turn that ends a round to its closing the table has refusal 4, and between two bytes of a line that are
 // put not even the line rules hold.
 pub fn take_turn(table: &mut TableMut, kind: u8, i: Station) -> Outcome
-    requires table_obeys { table_number table.old.n table.old.bytes.now ≡ 0 }
+    requires table_obeys { table_refusal table.old.n table.old.bytes.now ≡ 0 }
     requires station_below { i.0 < table.old.n }
     ensures tested_station { tested_byte result ≡ turn_tested table.old.n table.old.bytes.now i.0 }
     ensures outcome_number { outcome_byte result
@@ -39,7 +39,7 @@ pub fn take_turn(table: &mut TableMut, kind: u8, i: Station) -> Outcome
     make_test(table, kind, i, m)
 }
 
-// Step 2: the least due distance not below the next one; the number of distances where there is none.
+// The next test: the least due distance not below the next one; the number of distances where there is none.
 #[tactic(auto, using(table::proofs::SizeLaws::size_top, table::proofs::SizeLaws::distances_top), unfolding(crate::specs::Turn::next_test))]
 fn next_test(table: &Table, i: Station) -> Distance
     requires { i.0 < table.now.n }
@@ -51,7 +51,7 @@ fn next_test(table: &Table, i: Station) -> Distance
 }
 
 // The least distance from `from` on, and below `end`, that is due for i by its row; `end`, or `from` if that is greater, where there is none.
-// Where the answer is not "due", no distance of the block that begins there is due, and the scan goes on behind it (request C-16).
+// Where the answer is not "due", no distance of the block that begins there is due, and the scan goes on behind it.
 // Asking once, and answering an `Option`, took 1 to 9 % more time in the runs of tests/bench; the compiler asks only once as it stands.
 fn scan(row: &[u8], i: Station, end: u8, from: Distance) -> Distance
     ensures { result.0 ≡ least (due row.now i.0) (end - from.0) from.0 }
@@ -74,7 +74,7 @@ fn scan(row: &[u8], i: Station, end: u8, from: Distance) -> Distance
     Distance(end.max(from.0))
 }
 
-// Step 2: no distance is due any more.
+// The end of a pass: no distance is due any more.
 #[tactic(auto, using(table::proofs::SizeLaws::size_top, table::proofs::SizeLaws::distances_top), unfolding(crate::specs::Turn::finish_pass))]
 fn finish_pass(table: &mut TableMut, i: Station)
     requires { i.0 < table.old.n }
@@ -86,9 +86,9 @@ fn finish_pass(table: &mut TableMut, i: Station)
     table.put(i, cells::FINISHED, 1);
 }
 
-// Steps 3 to 6: station i tests the station at distance m.
+// Station i tests the station at distance m: the test is counted, takes effect, and i leaves if it is alone.
 fn make_test(table: &mut TableMut, kind: u8, i: Station, m: Distance) -> Outcome
-    requires table_obeys { table_number table.old.n table.old.bytes.now ≡ 0 }
+    requires table_obeys { table_refusal table.old.n table.old.bytes.now ≡ 0 }
     requires tester_below { i.0 < table.old.n }
     requires distance_above_0 { 0 < m.0 }
     requires distance_below { m.0 < 64 }
@@ -99,7 +99,7 @@ fn make_test(table: &mut TableMut, kind: u8, i: Station, m: Distance) -> Outcome
     ensures same_loan { IsSameLoan table.old table.new }
     ensures test_made { table.new.bytes.now ≡ testing table.old.n table.old.bytes.now kind i.0 m.0 }
 {
-    let j = order::lookup(i, m);
+    let j = order::station_at(i, m);
     count_test(table, i, m);
     let outcome = test_outcome(&table.read(), kind, i, j);
     apply_outcome(table, i, outcome);
@@ -107,7 +107,7 @@ fn make_test(table: &mut TableMut, kind: u8, i: Station, m: Distance) -> Outcome
     outcome
 }
 
-// Step 3: next distance and tests of i.
+// Counts the test: next distance and tests made of i.
 #[tactic(auto, unfolding(crate::specs::Turn::count_test))]
 fn count_test(table: &mut TableMut, i: Station, m: Distance)
     requires line { i.0 < table.old.n }
@@ -122,7 +122,7 @@ fn count_test(table: &mut TableMut, i: Station, m: Distance)
     table.put(i, cells::TESTS, tests + 1);
 }
 
-// Steps 4 and 5: the outcome of the test of j.
+// The outcome of the test of j.
 #[tactic(auto, unfolding(crate::specs::Turn::test_outcome))]
 fn test_outcome(table: &Table, kind: u8, i: Station, j: Station) -> Outcome
     requires tester_below { i.0 < table.now.n }
@@ -137,7 +137,7 @@ fn test_outcome(table: &Table, kind: u8, i: Station, j: Station) -> Outcome
     reply_outcome(table, i, j)
 }
 
-// Step 4: the outcome where j replies. The row of j is asked first: whoever is suspected in it is told.
+// The outcome where j replies. The row of j is asked first: whoever is suspected in it is told.
 #[tactic(auto, unfolding(crate::specs::Turn::reply_outcome, crate::specs::Turn::is_told))]
 fn reply_outcome(table: &Table, i: Station, j: Station) -> Outcome
     requires tester_below { i.0 < table.now.n }
@@ -155,7 +155,7 @@ fn reply_outcome(table: &Table, i: Station, j: Station) -> Outcome
     Outcome::Exchanged(j)
 }
 
-// Steps 4 and 5: what the outcome of the test of j does to the table.
+// What the outcome of the test of j does to the table.
 #[tactic(auto, using(table::proofs::SizeLaws::size_top, crate::proofs::RowLaws::suspect_cell), unfolding(crate::specs::Turn::after_outcome))]
 fn apply_outcome(table: &mut TableMut, i: Station, outcome: Outcome)
     requires tester_below { i.0 < table.old.n }
@@ -176,7 +176,7 @@ fn apply_outcome(table: &mut TableMut, i: Station, outcome: Outcome)
     }
 }
 
-// Step 4: a leaves because told by b, which byte 4 names.
+// Station a leaves because told by b, which byte 4 names.
 #[tactic(auto, unfolding(crate::specs::Turn::leave_told))]
 fn leave_told(table: &mut TableMut, a: Station, b: Station)
     requires { a.0 < table.old.n }
@@ -197,7 +197,7 @@ pub fn leave(table: &mut TableMut, i: Station, status: u8)
     table.put(i, cells::STATUS, status);
 }
 
-// Step 4: whether j replies in time.
+// Whether j replies in time.
 #[tactic(auto, unfolding(crate::specs::Turn::replies))]
 fn does_reply(table: &Table, kind: u8, j: Station) -> bool
     requires { j.0 < table.now.n }
@@ -206,7 +206,7 @@ fn does_reply(table: &Table, kind: u8, j: Station) -> bool
     table.is_live(j) & (kind == u8::from(Kind::Turn))
 }
 
-// Step 4: both rows become the union of the two. Rows that are the same stay as they are. Otherwise each row is lent in turn as a part of
+// The exchange: both rows become the union of the two. Rows that are the same stay as they are. Otherwise each row is lent in turn as a part of
 // the table, with both joined in a buffer. Tried: both lent at once by `split_at_mut`, and one loop; in tests/bench, where rows differ, plants
 // of 8, 16 and 32 ran at 0.93 to 0.98 of the speed, those of 48 and 63 at 1.05 to 1.12.
 #[tactic(auto, using(table::proofs::SizeLaws::size_top))]
@@ -245,7 +245,7 @@ fn join_into(table: &mut TableMut, i: Station, other: &[u8])
     rows::join_row(&mut table.bytes[a..e], other, i);
 }
 
-// Step 6: i leaves if it is live and suspects all others.
+// Station i leaves if it is live and suspects all others.
 #[tactic(auto, unfolding(crate::specs::Turn::after_alone))]
 fn leave_if_alone(table: &mut TableMut, i: Station)
     requires { i.0 < table.old.n }
@@ -257,7 +257,7 @@ fn leave_if_alone(table: &mut TableMut, i: Station)
     }
 }
 
-// Step 6: whether i is live and suspects all others. A loop with an exit: std's `all` was tried here and in the check of a table,
+// Whether i is live and suspects all others. A loop with an exit: std's `all` was tried here and in the check of a table,
 // which took 1.7 to 2.2 times as long with it.
 #[tactic(auto, using(lists::proofs::Loops::loops), unfolding(crate::specs::Turn::is_alone))]
 fn suspects_all(table: &Table, i: Station) -> bool

@@ -6,7 +6,7 @@ use Rattle.table.specs.Sizes.{is_size, level, dimension, distances}
 use Rattle.table.specs.Table.{table_length, line_start, cell}
 use Rattle.table.specs.Rules.{exit_rule, row_rule, line_rules, some_live, live_finished, shape_check, table_check}
 use Rattle.table.specs.Fresh.{fresh_byte, fresh_table}
-use Rattle.saved.specs.Bytes.{number_of, bytes_of, concat_of}
+use Rattle.saved.specs.Bytes.{bytes_value, bytes_of, concat_of}
 use Rattle.saved.specs.Fields.{field_bytes, fields_up_to, fields, runs_past, fields_of, tagged}
 use Rattle.saved.specs.Plant.{size_in, size_and_tally, of_station, all_fit, lines_right, table_in}
 use Rattle.saved.specs.Load.{size_check, rest_check, load_check}
@@ -19,6 +19,6 @@ two-boards = refl
 
 pub examples-hold : ExamplesHold
 unfolding every list_of least is_size level dimension distances table_length line_start cell exit_rule row_rule line_rules some_live live_finished
-    shape_check table_check number_of bytes_of concat_of fields_up_to fields runs_past fields_of tagged size_in
+    shape_check table_check bytes_value bytes_of concat_of fields_up_to fields runs_past fields_of tagged size_in
     size_and_tally of_station all_fit lines_right table_in size_check rest_check load_check two_boards examples all_hold
 examples-hold = refl

@@ -8,7 +8,7 @@ use native.Mathlib.Omega.{arith}
 use borrow.Author.Tests.{lt-ltb, le-ltb, eq-eqb, ne_eqb}
 use lib.ListN.{length, get_or, take, drop, length-append, length-drop}
 use lib.Seq.{take-append_seam, drop-append_seam, drop-drop}
-use Rattle.saved.specs.Bytes.{number_of, bytes_of}
+use Rattle.saved.specs.Bytes.{bytes_value, bytes_of}
 use Rattle.saved.specs.Fields.{Field, field, field_bytes, infront, length_in, extent, fields_up_to, fields}
 
 -- an empty file has none
@@ -51,7 +51,7 @@ module _ (file : List ℕ) (some_byte : 0 < length file) where
 
 -- a file that begins with the bytes of a field
 pub fields-first : (f : Field) (rest : List ℕ) → length f.contents < 2 ^ 16 → fields (field_bytes f ++ rest) ≡ infront f (fields rest)
-unfolding field_bytes bytes_of number_of
+unfolding field_bytes bytes_of bytes_value
 fields-first f rest h =
     let file : List ℕ = field_bytes f ++ rest in
     let l : length_in file ≡ length f.contents = omega arith in

@@ -10,7 +10,7 @@ use native.Mathlib.Decide.{dec_lt}
 use native.Mathlib.Omega.{arith}
 use lib.ListN.{length, get_or, take, drop, take-append-drop, length-drop}
 use lib.Seq.{length-take-le, get_or-drop, drop-drop}
-use Rattle.saved.specs.Bytes.{number_of, bytes_of}
+use Rattle.saved.specs.Bytes.{bytes_value, bytes_of}
 use Rattle.saved.specs.Fields.{Field, field, field_bytes, infront, length_in, extent, fields}
 use Rattle.saved.proofs.NumberLaws.{bytes-number}
 use Rattle.saved.proofs.FieldLaws.{fields-nil, fields-cut, fields-cons, fields-first}
@@ -28,10 +28,10 @@ first file = field (get_or file 0 0) (take (length_in file) (drop 3 file))
 
 -- what its head says fits into two bytes, and these are the bytes of it
 length-short : (file : List ℕ) → AreBytes file → length_in file < 2 ^ 16
-unfolding number_of
+unfolding bytes_value
 length-short file bytes = omega (arith, bytes 1, bytes 2)
 
-two_bytes : (b c : ℕ) → b < 256 → c < 256 → bytes_of 2 (number_of (b ∷ c ∷ [])) ≡ b ∷ c ∷ []
+two_bytes : (b c : ℕ) → b < 256 → c < 256 → bytes_of 2 (bytes_value (b ∷ c ∷ [])) ≡ b ∷ c ∷ []
 two_bytes b c hb hc = bytes-number (b ∷ c ∷ []) small
   where
     small : (k : ℕ) → k < 2 → get_or (b ∷ c ∷ []) k 0 < 256
@@ -46,7 +46,7 @@ first-bytes [] bytes h = absurd (omega arith)
 first-bytes (a ∷ []) bytes h = absurd (omega arith)
 first-bytes (a ∷ b ∷ []) bytes h = absurd (omega arith)
 first-bytes (a ∷ b ∷ c ∷ l) bytes h =
-    let k : ℕ = number_of (b ∷ c ∷ []) in
+    let k : ℕ = bytes_value (b ∷ c ∷ []) in
     let long : length (take k l) ≡ k = length-take-le k l (omega arith) in
     let rest : drop k l ≡ drop (3 + k) (a ∷ b ∷ c ∷ l) = drop-drop k 3 (a ∷ b ∷ c ∷ l) in
     rw (long, two_bytes b c (bytes 1) (bytes 2), ← rest, take-append-drop k l)

@@ -16,13 +16,13 @@ use Rattle.lists.specs.declared.refusal.Refusal.TheVariants.{FieldPastEnd, SizeO
 use Rattle.lists.specs.Refusal.{ensure, ◌and◌}
 use Rattle.lists.proofs.BoolLaws.{by_bool}
 use Rattle.plant.specs.declared.Tally.{Tally}
-use Rattle.saved.specs.Bytes.{number_of}
-use Rattle.saved.specs.Fields.{Field, runs_past, fields_of, tagged, single, first_of}
-use Rattle.saved.specs.Plant.{size_tag, size_length, tally_tag, tally_length, size_in, rounds_in, tests_in, size_and_tally}
+use Rattle.saved.specs.Bytes.{bytes_value}
+use Rattle.saved.specs.Fields.{Field, runs_past, fields_of, tagged, only_one, only_contents}
+use Rattle.saved.specs.Plant.{size_tag, size_length, tally_tag, tally_length, size_in, tally_rounds, tally_tests, size_and_tally}
 use Rattle.saved.specs.Load.{size_check, loaded_of, opened}
 use Rattle.saved.specs.Reading.{found_with, with_size, both_found, complete}
 use Rattle.saved.specs.declared.Loaded.{Loaded}
-use Rattle.saved.specs.declared.opening.Found.{Found}
+use Rattle.saved.specs.declared.first_pass.Found.{Found}
 
 -- there is none
 abbrev pub is_empty : List (List ℕ) → Bool
@@ -31,16 +31,16 @@ is_empty (c ∷ cs) = false
 
 -- whether the contents with a tag that are left complete what is found: one of that length, or none where one is found
 abbrev completes : {A : Type 0} → ℕ → Option A → List (List ℕ) → Bool
-completes len None cs = single len cs
+completes len None cs = only_one len cs
 completes len (Some v) cs = is_empty cs
 
 -- what is found then
 abbrev found_then : {A : Type 0} → (List ℕ → A) → Option A → List (List ℕ) → A
-found_then read None cs = read (first_of cs)
+found_then read None cs = read (only_contents cs)
 found_then read (Some v) cs = v
 
 abbrev tally_read : List ℕ → Tally
-tally_read c = record { rounds = number_of (take 4 c); tests = number_of (drop 4 c) }
+tally_read c = record { rounds = bytes_value (take 4 c); tests = bytes_value (drop 4 c) }
 
 -- size and tally where both are right
 abbrev pub gives : Bool → Bool → ℕ → Tally → Result Loaded Refusal
@@ -51,13 +51,13 @@ abbrev pub completed : Result Found Refusal → List Field → Result Loaded Ref
 completed (Err r) fs = Err r
 completed (Ok o) fs =
     gives (completes size_length o.size (tagged size_tag fs)) (completes tally_length o.tally (tagged tally_tag fs))
-    (found_then number_of o.size (tagged size_tag fs)) (found_then tally_read o.tally (tagged tally_tag fs))
+    (found_then bytes_value o.size (tagged size_tag fs)) (found_then tally_read o.tally (tagged tally_tag fs))
 
 abbrev pub nothing_found : Found
 nothing_found = record { size = None; tally = None }
 
 pub completed_start : (fs : List Field) → completed (Ok nothing_found) fs ≡ (ensure (size_and_tally fs) SizeOrTallyField and Ok (loaded_of fs))
-unfolding size_and_tally size_in rounds_in tests_in
+unfolding size_and_tally size_in tally_rounds tally_tests
 completed_start fs = refl
 
 -- one more with a tag: the first, of the right length, or not
@@ -98,14 +98,14 @@ completed_more o f fs =
         by_bool (eqb (length f.contents) size_length && is_none o.size)
         (λ h. rw (e, other e, h)
         (ap₂ (λ a s. gives a (completes tally_length o.tally tallies) s (found_then tally_read o.tally tallies))
-        (found_one size_length o.size f.contents sizes h) (found_then_one number_of size_length o.size f.contents sizes h)))
+        (found_one size_length o.size f.contents sizes h) (found_then_one bytes_value size_length o.size f.contents sizes h)))
         (λ h. rw (e, other e, h, found_not size_length o.size f.contents sizes h))
 
     tallied : eqb f.tag size_tag ≡ false → eqb f.tag tally_tag ≡ true → completed (found_with o f) fs ≡ completed (Ok o) (f ∷ fs)
     tallied e g =
         by_bool (eqb (length f.contents) tally_length && is_none o.tally)
         (λ h. rw (e, g, h)
-        (ap₂ (λ a t. gives (completes size_length o.size sizes) a (found_then number_of o.size sizes) t)
+        (ap₂ (λ a t. gives (completes size_length o.size sizes) a (found_then bytes_value o.size sizes) t)
         (found_one tally_length o.tally f.contents tallies h) (found_then_one tally_read tally_length o.tally f.contents tallies h)))
         (λ h. rw (e, g, h, found_not tally_length o.tally f.contents tallies h, and-false))
 
@@ -133,20 +133,20 @@ pub pass_on : (found next : Result Found Refusal) (o : Found) (f : Field) (fs re
 pass_on found next o f fs rest e h k = rw (e, h, k) (completed_more o f fs)
 
 -- size and tally, as the code reads them
-bytes_four : (a b c d : ℕ) → from_be_bytes w32 (a ∷ b ∷ c ∷ d ∷ []) ≡ number_of (a ∷ b ∷ c ∷ d ∷ [])
-unfolding number_of
+bytes_four : (a b c d : ℕ) → from_be_bytes w32 (a ∷ b ∷ c ∷ d ∷ []) ≡ bytes_value (a ∷ b ∷ c ∷ d ∷ [])
+unfolding bytes_value
 bytes_four a b c d = omega arith
 
 pub rounds_read : (c : List ℕ) → length c ≡ 8
-    → from_be_bytes w32 (get_or c 0 0 ∷ get_or c 1 0 ∷ get_or c 2 0 ∷ get_or c 3 0 ∷ []) ≡ number_of (take 4 c)
-rounds_read c e = bytes_four _ _ _ _ ∙ ap (λ l. number_of (take 4 l)) (sym (eight c e))
+    → from_be_bytes w32 (get_or c 0 0 ∷ get_or c 1 0 ∷ get_or c 2 0 ∷ get_or c 3 0 ∷ []) ≡ bytes_value (take 4 c)
+rounds_read c e = bytes_four _ _ _ _ ∙ ap (λ l. bytes_value (take 4 l)) (sym (eight c e))
 
 pub tests_read : (c : List ℕ) → length c ≡ 8
-    → from_be_bytes w32 (get_or c 4 0 ∷ get_or c 5 0 ∷ get_or c 6 0 ∷ get_or c 7 0 ∷ []) ≡ number_of (drop 4 c)
-tests_read c e = bytes_four _ _ _ _ ∙ ap (λ l. number_of (drop 4 l)) (sym (eight c e))
+    → from_be_bytes w32 (get_or c 4 0 ∷ get_or c 5 0 ∷ get_or c 6 0 ∷ get_or c 7 0 ∷ []) ≡ bytes_value (drop 4 c)
+tests_read c e = bytes_four _ _ _ _ ∙ ap (λ l. bytes_value (drop 4 l)) (sym (eight c e))
 
-pub size_read : (c : List ℕ) → length c ≡ 1 → get_or c 0 0 ≡ number_of c
-unfolding number_of
+pub size_read : (c : List ℕ) → length c ≡ 1 → get_or c 0 0 ≡ bytes_value c
+unfolding bytes_value
 size_read [] e = absurd (omega arith)
 size_read (x ∷ []) e = omega arith
 size_read (x ∷ y ∷ c) e = absurd (omega arith)

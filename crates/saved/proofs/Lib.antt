@@ -15,6 +15,6 @@ pub mod TableLines
 pub mod FileLaws
 pub mod Length
 pub mod Restored
-pub mod SavedAgain
-pub mod AnyOrder
+pub mod SaveIsCanonical
+pub mod OrderIsFree
 pub mod Examples

@@ -19,7 +19,7 @@ use Rattle.table.specs.Rules.{table_check}
 use Rattle.table.proofs.SizeLaws.{size-bounds}
 use Rattle.saved.specs.Fields.{runs_past, fields_of}
 use Rattle.saved.specs.Plant.{lines_right, table_in}
-use Rattle.saved.specs.Load.{file_size, file_lines, size_check, rest_check, rest_after, load_check, size_number, load_number, saved_size, loaded_of, load_answer, opened, load_after}
+use Rattle.saved.specs.Load.{file_size, file_lines, size_check, rest_check, rest_after, load_check, size_refusal, load_refusal, saved_size, loaded_of, load_answer, opened, load_after}
 use Rattle.saved.specs.declared.Loaded.{Loaded}
 
 pub table_fits : (n : ℕ) → is_size n ≡ true → table_length n ≤ greatest_table
@@ -40,11 +40,11 @@ answer_number : {A : Type 0} (c : Check) (v : A) → number_of_result c ≡ numb
 answer_number (Ok u) v = refl
 answer_number (Err r) v = refl
 
-pub load_numbered : (file : List ℕ) (len : ℕ) → load_number file len ≡ number_of_result (load_answer file len)
+pub load_numbered : (file : List ℕ) (len : ℕ) → load_refusal file len ≡ number_of_result (load_answer file len)
 unfolding load_answer
 load_numbered file len = answer_number (load_check file len) (loaded_of (fields_of file))
 
-pub size_numbered : (file : List ℕ) → size_number file ≡ number_of_result (saved_size file)
+pub size_numbered : (file : List ℕ) → size_refusal file ≡ number_of_result (saved_size file)
 unfolding saved_size
 size_numbered file = answer_number (size_check file) (file_size file)
 

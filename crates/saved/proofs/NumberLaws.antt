@@ -10,17 +10,17 @@ use lib.Arith.{digits_lt}
 use lib.Pow.{pow-add}
 use lib.ListN.{length, get_or, take, length-append, length-take}
 use lib.Seq.{take-suc, get_or-take}
-use Rattle.saved.specs.Bytes.{number_of, bytes_of}
+use Rattle.saved.specs.Bytes.{bytes_value, bytes_of}
 
-number_append : (a b : List ℕ) → number_of (a ++ b) ≡ number_of a * 256 ^ length b + number_of b
-unfolding number_of
+number_append : (a b : List ℕ) → bytes_value (a ++ b) ≡ bytes_value a * 256 ^ length b + bytes_value b
+unfolding bytes_value
 number_append [] b = omega arith
 number_append (x ∷ a) b =
     rw (length-append a b, pow-add 256 (length a) (length b), number_append a b, add-mul, mul_assoc) (omega arith)
 
 -- of a list of bytes
-number_lt : (l : List ℕ) → ((k : ℕ) → k < length l → get_or l k 0 < 256) → number_of l < 256 ^ length l
-unfolding number_of
+number_lt : (l : List ℕ) → ((k : ℕ) → k < length l → get_or l k 0 < 256) → bytes_value l < 256 ^ length l
+unfolding bytes_value
 number_lt [] small = omega arith
 number_lt (x ∷ l) small =
     let r = number_lt l (λ k h. small (suc k) (omega arith)) in
@@ -32,8 +32,8 @@ unfolding bytes_of
 bytes-length zero v = refl
 bytes-length (suc k) v = omega (arith, length-append (bytes_of k (v / 256)) (v % 256 ∷ []), bytes-length k (v / 256))
 
-pub number-bytes : (k v : ℕ) → v < 256 ^ k → number_of (bytes_of k v) ≡ v
-unfolding number_of bytes_of
+pub number-bytes : (k v : ℕ) → v < 256 ^ k → bytes_value (bytes_of k v) ≡ v
+unfolding bytes_value bytes_of
 number-bytes zero v h = omega arith
 number-bytes (suc k) v h =
     rw (number_append (bytes_of k (v / 256)) (v % 256 ∷ []), number-bytes k (v / 256) (omega (arith, pow-suc 256 k))) (omega arith)
@@ -48,9 +48,9 @@ bytes-cons (suc k) x v hx hv =
     let r : (x * 256 ^ suc k + v) % 256 ≡ v % 256 = omega arith in
     rw (q, r) (ap (λ (l : List ℕ). l ++ (v % 256 ∷ [])) (bytes-cons k x (v / 256) hx (omega (arith, pow-suc 256 k))))
 
-pub bytes-number : (l : List ℕ) → ((k : ℕ) → k < length l → get_or l k 0 < 256) → bytes_of (length l) (number_of l) ≡ l
-unfolding number_of bytes_of
+pub bytes-number : (l : List ℕ) → ((k : ℕ) → k < length l → get_or l k 0 < 256) → bytes_of (length l) (bytes_value l) ≡ l
+unfolding bytes_value bytes_of
 bytes-number [] small = refl
 bytes-number (x ∷ l) small =
     let rest : (k : ℕ) → k < length l → get_or l k 0 < 256 = λ k h. small (suc k) (omega arith) in
-    bytes-cons (length l) x (number_of l) (small 0 (omega arith)) (number_lt l rest) ∙ ap {B = List ℕ} (λ r. x ∷ r) (bytes-number l rest)
+    bytes-cons (length l) x (bytes_value l) (small 0 (omega arith)) (number_lt l rest) ∙ ap {B = List ℕ} (λ r. x ∷ r) (bytes-number l rest)

@@ -5,7 +5,7 @@ use Rattle.lists.specs.declared.refusal.Refusal.TheVariants.{NoOpening, FieldOrd
 use Rattle.lists.specs.Refusal.{ensure}
 use Rattle.saved.specs.Fields.{Field}
 use Rattle.saved.specs.Order.{is_opening, nothing_before, behind, follows, in_order, order_check}
-use Rattle.saved.specs.declared.order.Before.{Before}
+use Rattle.saved.specs.declared.order.Previous.{Previous}
 
 -- 21: no field, or another first one
 pub order_none : (fs : List Field) → fs ≡ [] → Err NoOpening ≡ order_check fs
@@ -22,15 +22,15 @@ pub order_opened : (f : Field) (fs all : List Field) (r : Bool) → all ≡ f �
 unfolding order_check
 order_opened f fs all r e h y b o = rw (e, sym h ∙ y, o)
 
-pub order_more : (b b' : Before) (f : Field) (fs all : List Field) (r : Bool) → all ≡ f ∷ fs → r ≡ follows b f → r ≡ true → b' ≡ behind b f
+pub order_more : (b b' : Previous) (f : Field) (fs all : List Field) (r : Bool) → all ≡ f ∷ fs → r ≡ follows b f → r ≡ true → b' ≡ behind b f
     → in_order b' fs ≡ in_order b all
 unfolding in_order
 order_more b b' f fs all r e h y g = rw (e, sym h ∙ y, g)
 
-pub order_not : (b : Before) (f : Field) (fs all : List Field) (r : Bool) → all ≡ f ∷ fs → r ≡ follows b f → r ≡ false → in_order b all ≡ false
+pub order_not : (b : Previous) (f : Field) (fs all : List Field) (r : Bool) → all ≡ f ∷ fs → r ≡ follows b f → r ≡ false → in_order b all ≡ false
 unfolding in_order
 order_not b f fs all r e h n = rw (e, sym h ∙ n)
 
-pub order_end : (b : Before) (all : List Field) → all ≡ [] → in_order b all ≡ true
+pub order_end : (b : Previous) (all : List Field) → all ≡ [] → in_order b all ≡ true
 unfolding in_order
 order_end b all e = rw e

@@ -9,7 +9,7 @@ use Prim.Native.Nat.{ℕ, ◌+◌, ◌*◌, ◌-◌, ◌≤◌, ◌<◌}
 use native.Mathlib.Omega.{arith}
 use lib.ListN.{length, get_or, take, drop, length-drop}
 use lib.Seq.{take_all, drop-drop}
-use Rattle.saved.specs.Bytes.{number_of}
+use Rattle.saved.specs.Bytes.{bytes_value}
 use Rattle.saved.specs.Fields.{Field, field, infront, length_in, fields, runs_past, fields_of}
 use Rattle.saved.specs.Reading.{field_value, Reads}
 use Rattle.saved.specs.declared.fields.Field.{Field as FieldRead}
@@ -29,7 +29,7 @@ behind_head rest = take (length rest - 3) (drop 3 rest)
 -- len is the length that the head says
 module _ (rest : List ℕ) (len : ℕ) (head : 3 ≤ length rest) (said : len ≡ get_or rest 1 0 * 256 + get_or rest 2 0) where
   says : length_in rest ≡ len
-  unfolding number_of
+  unfolding bytes_value
   says = omega arith
 
   whole : behind_head rest ≡ drop 3 rest

@@ -15,13 +15,13 @@ use Rattle.lists.proofs.SearchLaws.{every-all}
 use Rattle.lists.proofs.RefusalLaws.{check_zero}
 use Rattle.table.specs.Sizes.{is_size}
 use Rattle.table.specs.Table.{stride, table_length, line_start}
-use Rattle.table.specs.Rules.{table_check, table_number}
+use Rattle.table.specs.Rules.{table_check, table_refusal}
 use Rattle.table.proofs.Accepting.{accepted}
 use Rattle.table.proofs.SizeLaws.{size-bounds}
 use Rattle.plant.specs.declared.Tally.{Tally}
-use Rattle.saved.specs.Bytes.{number_of, bytes_of, concat_of}
-use Rattle.saved.specs.Fields.{Field, field_bytes, fields, runs_past, fields_of, tagged, single, first_of}
-use Rattle.saved.specs.Plant.{size_tag, tally_tag, line_tag, line_field_length, size_in, rounds_in, tests_in, size_and_tally}
+use Rattle.saved.specs.Bytes.{bytes_value, bytes_of, concat_of}
+use Rattle.saved.specs.Fields.{Field, field_bytes, fields, runs_past, fields_of, tagged, only_one, only_contents}
+use Rattle.saved.specs.Plant.{size_tag, tally_tag, line_tag, line_field_length, size_in, tally_rounds, tally_tests, size_and_tally}
 use Rattle.saved.specs.Plant.{of_station, line_in, all_fit, lines_right, table_in}
 use Rattle.saved.specs.Load.{size_check, rest_check, load_check, saved_size, load_answer, load_after}
 use Rattle.saved.specs.Save.{line_of, size_field, tally_field, line_field, saved_lines, saved}
@@ -29,7 +29,7 @@ use Rattle.saved.proofs.NumberLaws.{bytes-length, number-bytes}
 use Rattle.saved.proofs.ConcatLaws.{concat-same, concat-parts}
 use Rattle.saved.proofs.FieldLaws.{fields-nil, fields-first}
 use Rattle.saved.proofs.SaveLaws.{tally-length, line-length}
-use Rattle.saved.specs.Restoring.{IsTally, Restores}
+use Rattle.saved.specs.Restoring.{IsTally, LoadRestores}
 
 -- g 0, g 1, .., g (k − 1) in front of a list
 abbrev front : {A : Type 0} → (ℕ → A) → ℕ → List A → List A
@@ -101,17 +101,17 @@ module _ (n : ℕ) (t : List ℕ) (long : length t ≡ table_length n) where
   unfolding lines_right all_fit
   lines-right =
       rw (lines_fit n [] (omega arith) refl)
-      (every-all (λ i. single (line_field_length n) (of_station i (lines n t))) n
+      (every-all (λ i. only_one (line_field_length n) (of_station i (lines n t))) n
       (λ i h. rw (lines-station i h) (eq-eqb (length (line n t i)) (line_field_length n) (omega (arith, line-length n t long i h)))))
 
   lines-table : table_in n (lines n t) ≡ t
   unfolding table_in line_of line_start table_length
   lines-table =
-      concat-same (λ i. line_in (first_of (of_station i (lines n t)))) (line_of n t) n (λ i h. rw (lines-station i h))
+      concat-same (λ i. line_in (only_contents (of_station i (lines n t)))) (line_of n t) n (λ i h. rw (lines-station i h))
       ∙ concat-parts t (stride n) n long
 
 -- what a saved plant says
-module _ (n : ℕ) (t : List ℕ) (tally : Tally) (z : table_number n t ≡ 0) (small : IsTally tally) where
+module _ (n : ℕ) (t : List ℕ) (tally : Tally) (z : table_refusal n t ≡ 0) (small : IsTally tally) where
   long : length t ≡ table_length n
   long = (accepted n t z).long
 
@@ -152,28 +152,28 @@ module _ (n : ℕ) (t : List ℕ) (tally : Tally) (z : table_number n t ≡ 0) (
   line-contents = tagged-lines n t n []
 
   size-restored : size_in plant_fields ≡ n
-  unfolding size_in number_of
+  unfolding size_in bytes_value
   size-restored = rw size-contents (omega arith)
 
-  rounds-restored : rounds_in plant_fields ≡ tally.rounds
-  unfolding rounds_in
+  rounds-restored : tally_rounds plant_fields ≡ tally.rounds
+  unfolding tally_rounds
   rounds-restored =
       rw (tally-contents, take_at (bytes_of 4 tally.rounds) (bytes_of 4 tally.tests) 4 (bytes-length 4 tally.rounds))
       (number-bytes 4 tally.rounds small.0)
 
-  tests-restored : tests_in plant_fields ≡ tally.tests
-  unfolding tests_in
+  tests-restored : tally_tests plant_fields ≡ tally.tests
+  unfolding tally_tests
   tests-restored =
       rw (tally-contents, drop_at (bytes_of 4 tally.rounds) (bytes_of 4 tally.tests) 4 (bytes-length 4 tally.rounds))
       (number-bytes 4 tally.tests small.1)
 
-  both-single : size_and_tally plant_fields ≡ true
+  both-only_one : size_and_tally plant_fields ≡ true
   unfolding size_and_tally
-  both-single = rw (size-contents, tally-contents) (eq-eqb (length (tally_field tally).contents) 8 (tally-length tally))
+  both-only_one = rw (size-contents, tally-contents) (eq-eqb (length (tally_field tally).contents) 8 (tally-length tally))
 
   size-ok : size_check (saved n t tally) ≡ Ok tt
   unfolding size_check runs_past
-  size-ok = rw (saved-fields, of-saved, both-single, size-restored, size)
+  size-ok = rw (saved-fields, of-saved, both-only_one, size-restored, size)
 
   table-restored : table_in (size_in plant_fields) (tagged line_tag plant_fields) ≡ t
   table-restored = rw (size-restored, line-contents) (lines-table n t long)
@@ -185,9 +185,9 @@ module _ (n : ℕ) (t : List ℕ) (tally : Tally) (z : table_number n t ≡ 0) (
       let same : eqb len (table_length n) ≡ true = eq-eqb len (table_length n) (e ∙ long) in
       rw (size-ok, of-saved, table-restored, size-restored, right, same) (check_zero (table_check n t) z)
 
-pub restores : Restores
+pub load-restores : LoadRestores
 unfolding saved_size load_answer load_after
-restores n t tally b z small e =
+load-restores n t tally b z small e =
     let s = size-ok n t tally z small in
     let f = of-saved n t tally z small in
     let l = load-ok n t tally z small (length b) e in

@@ -38,11 +38,11 @@ module _ (n : ℕ) (t : List ℕ) (x : Unit {0}) (e : table_check n t ≡ Ok x) 
       → u ≡ sets b 0 (field_bytes (size_field n) ++ field_bytes (tally_field tally)) → v ≡ sets u 15 (saved_lines n t n) → v ≡ saved n t tally
   unfolding saved
   save_done tally b u v h p f =
-      let opening = field_bytes (size_field n) ++ field_bytes (tally_field tally) in
-      let o : 0 + length opening ≡ 15 =
-      zero-add (length opening) ∙ length-append (field_bytes (size_field n)) (field_bytes (tally_field tally))
+      let first_two = field_bytes (size_field n) ++ field_bytes (tally_field tally) in
+      let o : 0 + length first_two ≡ 15 =
+      zero-add (length first_two) ∙ length-append (field_bytes (size_field n)) (field_bytes (tally_field tally))
       ∙ omega (arith, field-length (size_field n), field-length (tally_field tally), tally-length tally) in
-      f ∙ rw (p, ← o) (sets_then b opening (saved_lines n t n) 0 ∙ rw append_assoc (sets-all b (saved n t tally) (h ∙ sym (save_long tally))))
+      f ∙ rw (p, ← o) (sets_then b first_two (saved_lines n t n) 0 ∙ rw append_assoc (sets-all b (saved n t tally) (h ∙ sym (save_long tally))))
 
 pub sets_long : (b u l : List ℕ) (k : ℕ) → u ≡ sets b k l → length u ≡ length b
 sets_long b u l k e = rw e (length-sets b k l)

@@ -20,7 +20,7 @@ use Rattle.lists.proofs.SearchLaws.{both, every-at, every-not}
 use Rattle.table.specs.Sizes.{is_size}
 use Rattle.table.proofs.SizeLaws.{size-bounds}
 use Rattle.table.specs.Table.{stride, table_length, line_start}
-use Rattle.saved.specs.Fields.{Field, tagged, single, first_of}
+use Rattle.saved.specs.Fields.{Field, tagged, only_one, only_contents}
 use Rattle.saved.specs.Plant.{line_tag, line_field_length, station_in, line_in, of_station, fits, all_fit, lines_right, table_in}
 use Rattle.saved.specs.Save.{line_of}
 use Rattle.saved.specs.Reading.{is_new}
@@ -30,7 +30,7 @@ use Rattle.saved.proofs.FirstPass.{is_empty}
 
 -- what the rest of the lines must be, by whether station i was seen: none of it, or one
 abbrev wanted : ℕ → List Bool → List (List ℕ) → ℕ → Bool
-wanted n seen cs i = cond (get_or seen i false) (is_empty (of_station i cs)) (single (line_field_length n) (of_station i cs))
+wanted n seen cs i = cond (get_or seen i false) (is_empty (of_station i cs)) (only_one (line_field_length n) (of_station i cs))
 
 -- the rest of the lines are right
 abbrev right_left : ℕ → List Bool → List (List ℕ) → Bool
@@ -38,22 +38,22 @@ right_left n seen cs = all_fit n cs && every (wanted n seen cs) n
 
 -- line i of the table in the end: the first that is left, or else as it stands
 abbrev line_then : ℕ → List ℕ → List (List ℕ) → ℕ → List ℕ
-line_then n t cs i = cond (is_empty (of_station i cs)) (line_of n t i) (line_in (first_of (of_station i cs)))
+line_then n t cs i = cond (is_empty (of_station i cs)) (line_of n t i) (line_in (only_contents (of_station i cs)))
 
 -- how far the pass has come: all contents of lines, the table so far, the stations seen, and what is left of the contents
 pub record Passed (n : ℕ) (all : List (List ℕ)) (t : List ℕ) (seen : List Bool) (cs : List (List ℕ)) : Type 0 where
   pub right : right_left n seen cs ≡ lines_right n all
-  pub lines : lines_right n all ≡ true → (i : ℕ) → i < n → line_then n t cs i ≡ line_in (first_of (of_station i all))
+  pub lines : lines_right n all ≡ true → (i : ℕ) → i < n → line_then n t cs i ≡ line_in (only_contents (of_station i all))
 
 -- one contents of that length: there is one, and it is not empty
-not-empty : (len : ℕ) (cs : List (List ℕ)) → single len cs ≡ true → is_empty cs ≡ false
+not-empty : (len : ℕ) (cs : List (List ℕ)) → only_one len cs ≡ true → is_empty cs ≡ false
 not-empty len [] e = sym e
 not-empty len (c ∷ cs) e = refl
 
 -- one more of a station that was not seen
-single_more : (len : ℕ) (c : List ℕ) (cs : List (List ℕ)) → length c ≡ len → single len (c ∷ cs) ≡ is_empty cs
-single_more len c [] e = eq-eqb (length c) len e
-single_more len c (d ∷ cs) e = refl
+only_one_more : (len : ℕ) (c : List ℕ) (cs : List (List ℕ)) → length c ≡ len → only_one len (c ∷ cs) ≡ is_empty cs
+only_one_more len c [] e = eq-eqb (length c) len e
+only_one_more len c (d ∷ cs) e = refl
 
 -- the contents of a field that is a line, and of another
 pub passed_line : (n : ℕ) (all : List (List ℕ)) (t : List ℕ) (seen : List Bool) (f : Field) (fs rest : List Field) → rest ≡ f ∷ fs
@@ -71,7 +71,7 @@ pub passed_none : (n : ℕ) (all : List (List ℕ)) (t : List ℕ) (seen : List 
     → Passed n all t seen all
 unfolding lines_right
 passed_none n all t seen fresh =
-    let e : every (wanted n seen all) n ≡ every (λ i. single (line_field_length n) (of_station i all)) n =
+    let e : every (wanted n seen all) n ≡ every (λ i. only_one (line_field_length n) (of_station i all)) n =
     every-same _ _ n (λ i h. rw (fresh i h)) in
     record {
       right = rw e;
@@ -124,7 +124,7 @@ module _ (n : ℕ) (c : List ℕ) (all cs : List (List ℕ)) (t : List ℕ) (see
           let s : get_or (set seen (station_in c) true) i false ≡ true =
           rw (← q) (get_or-set_same seen (station_in c) true false (omega (arith, f.2))) in
           let z : get_or seen i false ≡ false = rw (← q) f.3 in
-          rw (s, z, eq-eqb (station_in c) i q) (sym (single_more (line_field_length n) c (of_station i cs) f.1))
+          rw (s, z, eq-eqb (station_in c) i q) (sym (only_one_more (line_field_length n) c (of_station i cs) f.1))
 
       there : (station_in c ≡ i → ⊥) → wanted n (set seen (station_in c) true) cs i ≡ wanted n seen (c ∷ cs) i
       there d = rw (get_or-set_other seen (station_in c) i true false (λ q. d (sym q)), ne_eqb (station_in c) i d)

@@ -1,11 +1,11 @@
--- Numbers in bytes, "high byte first", and lists one behind the other.
+-- Numbers in bytes, the high byte first, and lists one behind the other.
 -- Assumes nothing.
 use Rattle.std.specs.Prelude.{ℕ, zero, suc, ◌+◌, ◌*◌, ◌/◌, ◌%◌, ◌^◌, List, [], ◌∷◌, ◌++◌, length}
 
 -- the number that some bytes hold, high byte first
-unfoldable pub number_of : List ℕ → ℕ
-number_of [] = 0
-number_of (b ∷ bs) = b * 256 ^ length bs + number_of bs
+unfoldable pub bytes_value : List ℕ → ℕ
+bytes_value [] = 0
+bytes_value (b ∷ bs) = b * 256 ^ length bs + bytes_value bs
 
 -- a number in k bytes, high byte first
 unfoldable pub bytes_of : ℕ → ℕ → List ℕ

@@ -1,9 +1,9 @@
--- Examples of C-17 with the six-byte heads of C-18, worked out by hand from their sentences: the saved form of two fresh boards
--- (docs/PANEL.md), and the reader's number for some files.
+-- Examples of saved plants, worked out by hand from the rules: the saved form of two fresh boards (docs/PANEL.md), and the reader's number for some
+-- files.
 -- Assumes nothing.
 use Rattle.std.specs.Prelude.{ℕ, ◌≡◌, Bool, true, ◌&&◌, List, [], ◌∷◌, ◌++◌, ◌==◌}
 use Rattle.table.specs.Fresh.{fresh_table}
-use Rattle.saved.specs.Load.{load_number}
+use Rattle.saved.specs.Load.{load_refusal}
 use Rattle.saved.specs.Save.{saved}
 
 -- fields: size 2, a tally of 0 and 0, the lines of two fresh boards
@@ -61,7 +61,7 @@ examples =
     ∷ example (two_boards ++ line1) 16 20
     ∷ example (two_boards ++ (3 ∷ 0 ∷ 9 ∷ 2 ∷ 0 ∷ 1 ∷ 0 ∷ 0 ∷ 255 ∷ 0 ∷ 0 ∷ 0 ∷ [])) 16 20
     ∷ example (size ++ (tally ++ (line0 ++ (3 ∷ 0 ∷ 8 ∷ 1 ∷ 0 ∷ 1 ∷ 0 ∷ 0 ∷ 255 ∷ 0 ∷ 0 ∷ [])))) 15 20
-    -- 20: lines with the four-byte heads of before C-18
+    -- 20: lines with heads of four bytes, as they once were
     ∷ example (size ++ (tally ++ ((3 ∷ 0 ∷ 7 ∷ 0 ∷ 0 ∷ 1 ∷ 0 ∷ 0 ∷ 0 ∷ 0 ∷ []) ++ (3 ∷ 0 ∷ 7 ∷ 1 ∷ 0 ∷ 1 ∷ 0 ∷ 0 ∷ 0 ∷ 0 ∷ [])))) 16 20
     -- 2, also where 3 applies; 3: status 4, a live line with 0 in byte 4; 0: told and never recorded; 4: both are finished
     ∷ example two_boards 15 2
@@ -76,7 +76,7 @@ examples =
 -- all have that number
 unfoldable pub all_hold : List Example → Bool
 all_hold [] = true
-all_hold (e ∷ es) = load_number e.file e.len == e.number && all_hold es
+all_hold (e ∷ es) = load_refusal e.file e.len == e.number && all_hold es
 
 abbrev pub ExamplesHold : Type 0
 ExamplesHold = all_hold examples ≡ true

@@ -1,8 +1,8 @@
--- Request C-17: "tagged fields: a one-byte tag, a two-byte length (high byte first), then the contents".
+-- Tagged fields: a tag of one byte, a length in two bytes, high byte first, and so many bytes of contents.
 -- Assumes nothing.
 use Rattle.std.specs.Prelude.{ℕ, zero, suc, ◌+◌, Bool, false, List, [], ◌∷◌, ◌++◌, length, take, drop, if◌then◌else◌, ◌==◌, nat_lt, slice_index}
 use Rattle.std.specs.Prelude.{Option, Some, None, is_none, unwrap_or, option_map}
-use Rattle.saved.specs.Bytes.{number_of, bytes_of}
+use Rattle.saved.specs.Bytes.{bytes_value, bytes_of}
 
 pub record Field : Type 0 where
   pub tag : ℕ
@@ -22,13 +22,13 @@ infront f = option_map (λ fs. f ∷ fs)
 
 -- the length that the head of the first field says
 abbrev pub length_in : List ℕ → ℕ
-length_in file = number_of (slice_index file 1 ∷ slice_index file 2 ∷ [])
+length_in file = bytes_value (slice_index file 1 ∷ slice_index file 2 ∷ [])
 
 -- the bytes of the first field, its head of three included
 abbrev pub extent : List ℕ → ℕ
 extent file = 3 + length_in file
 
--- the fields of a file that has at most so many; none where "a field or its head runs past the end". The bound is for the recursion only: from
+-- the fields of a file that has at most so many; none where a field or its head goes past the end. The bound is for the recursion only: from
 -- the file's length on it does not matter (`fields-more` of proofs/FieldLaws.antt)
 unfoldable pub fields_up_to : ℕ → List ℕ → Option (List Field)
 fields_up_to zero file = Some []
@@ -37,11 +37,11 @@ fields_up_to (suc most) file =
     else (if nat_lt (length file) (extent file) then None
     else infront (field (slice_index file 0) (take (length_in file) (drop 3 file))) (fields_up_to most (drop (extent file) file)))
 
--- the fields of a file: no more than it has bytes
+-- Rule Field: the fields of a file, no more than it has bytes
 unfoldable pub fields : List ℕ → Option (List Field)
 fields file = fields_up_to (length file) file
 
--- 18: "when a field or its head runs past the end"
+-- refusal 18: a field of the file, or its head, goes past the end
 unfoldable pub runs_past : List ℕ → Bool
 runs_past file = is_none (fields file)
 
@@ -49,18 +49,18 @@ runs_past file = is_none (fields file)
 unfoldable pub fields_of : List ℕ → List Field
 fields_of file = unwrap_or (fields file) []
 
--- the contents of the fields with a tag, in the file's order; the reader "takes any order and passes over other tags"
+-- Rule Reader: the contents of the fields with a tag, in the file's order. Fields of other tags are passed over
 unfoldable pub tagged : ℕ → List Field → List (List ℕ)
 tagged k [] = []
 tagged k (f ∷ fs) = if f.tag == k then f.contents ∷ tagged k fs else tagged k fs
 
--- of such contents: there is one, and it has that length; not "absent, twice or of wrong length"
-abbrev pub single : ℕ → List (List ℕ) → Bool
-single len [] = false
-single len (c ∷ []) = length c == len
-single len (c ∷ d ∷ cs) = false
+-- whether there is just one of such contents, and it has that length
+abbrev pub only_one : ℕ → List (List ℕ) → Bool
+only_one len [] = false
+only_one len (c ∷ []) = length c == len
+only_one len (c ∷ d ∷ cs) = false
 
 -- the first of such contents
-abbrev pub first_of : List (List ℕ) → List ℕ
-first_of [] = []
-first_of (c ∷ cs) = c
+abbrev pub only_contents : List (List ℕ) → List ℕ
+only_contents [] = []
+only_contents (c ∷ cs) = c

@@ -1,6 +1,5 @@
--- Request C-17 of document 02, "Saving the plant to the panel": tagged fields, what a file means, what the reader and the writer do; and what
--- the code answers on its way. Order is of request C-19, which is in preparation. The last three are what is claimed of files and of
--- saved plants.
+-- Saved plants: tagged fields, what a file means, what the reader and the writer do; and what the code answers on its way. Order is in
+-- preparation. The last three are what is claimed of files and of saved plants.
 pub mod Bytes
 pub mod Fields
 pub mod Plant

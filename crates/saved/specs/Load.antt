@@ -1,4 +1,4 @@
--- Request C-17: the reader, for all files and buffers. "Turned away, in this order": 18, 19, 1, 20, 2, 3, 4.
+-- The reader, for all files and buffers. Its refusals, in this order: 18, 19, 1, 20, 2, 3, 4.
 -- Assumes nothing.
 use Rattle.std.specs.Prelude.{ℕ, not, List, length, Result, Ok, ◌==◌}
 use Rattle.std.specs.Result.{result_unwrap_or}
@@ -9,7 +9,7 @@ use Rattle.table.specs.Sizes.{is_size}
 use Rattle.table.specs.Table.{table_length}
 use Rattle.table.specs.Rules.{table_check}
 use Rattle.saved.specs.Fields.{Field, runs_past, fields_of, tagged}
-use Rattle.saved.specs.Plant.{size_in, rounds_in, tests_in, size_and_tally, line_tag, lines_right, table_in}
+use Rattle.saved.specs.Plant.{size_in, tally_rounds, tally_tests, size_and_tally, line_tag, lines_right, table_in}
 use Rattle.saved.specs.declared.Loaded.{Loaded}
 
 -- what a file says: size, the contents with tag 3, and the table
@@ -34,24 +34,24 @@ unfoldable pub rest_check : ℕ → List (List ℕ) → ℕ → Check
 rest_check n cs len =
     ensure (lines_right n cs) LineField and ensure (len == table_length n) TableLength and table_check n (table_in n cs)
 
--- all of the reader's
+-- Rule Judged as a whole: all refusals of the reader
 unfoldable pub load_check : List ℕ → ℕ → Check
 load_check file len = size_check file and rest_check (file_size file) (file_lines file) len
 
 -- their numbers
-abbrev pub size_number : List ℕ → ℕ
-size_number file = number_of_result (size_check file)
+abbrev pub size_refusal : List ℕ → ℕ
+size_refusal file = number_of_result (size_check file)
 
-abbrev pub load_number : List ℕ → ℕ → ℕ
-load_number file len = number_of_result (load_check file len)
+abbrev pub load_refusal : List ℕ → ℕ → ℕ
+load_refusal file len = number_of_result (load_check file len)
 
--- the size of a saved plant
+-- Rule Saved size: the size of a saved plant
 unfoldable pub saved_size : List ℕ → Result ℕ Refusal
 saved_size file = size_check file and Ok (file_size file)
 
 -- what the reader answers: size and tally
 abbrev pub loaded_of : List Field → Loaded
-loaded_of fs = record { size = size_in fs; tally = record { rounds = rounds_in fs; tests = tests_in fs } }
+loaded_of fs = record { size = size_in fs; tally = record { rounds = tally_rounds fs; tests = tally_tests fs } }
 
 unfoldable pub load_answer : List ℕ → ℕ → Result Loaded Refusal
 load_answer file len = load_check file len and Ok (loaded_of (fields_of file))
@@ -60,14 +60,14 @@ load_answer file len = load_check file len and Ok (loaded_of (fields_of file))
 unfoldable pub opened : List ℕ → Result Loaded Refusal
 opened file = size_check file and Ok (loaded_of (fields_of file))
 
--- "a refusal [..] gives its number, with 0 for every other figure of the answer" (document 01)
+-- rule Refused means untouched: a refused call answers 0 for every figure
 abbrev pub size_figure : Result ℕ Refusal → ℕ
 size_figure answer = result_unwrap_or answer 0
 
 abbrev pub loaded_figures : Result Loaded Refusal → Loaded
 loaded_figures answer = result_unwrap_or answer (record { size = 0; tally = record { rounds = 0; tests = 0 } })
 
--- the table after the call, given t; and after the part of it that follows the size's refusals
+-- Rule Load: the table after the call, given t; and after the part of it that follows the size's refusals
 unfoldable pub load_after : List ℕ → List ℕ → List ℕ
 load_after file t = unless_refused (load_check file (length t)) t (file_table file)
 

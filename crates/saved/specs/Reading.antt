@@ -8,12 +8,12 @@ use Rattle.lists.specs.declared.refusal.Refusal.TheVariants.{SizeOutOfRange, Fie
 use Rattle.lists.specs.Refusal.{ensure, ◌and◌}
 use Rattle.table.specs.Sizes.{is_size}
 use Rattle.plant.specs.declared.Tally.{Tally}
-use Rattle.saved.specs.Bytes.{number_of}
+use Rattle.saved.specs.Bytes.{bytes_value}
 use Rattle.saved.specs.Fields.{Field, field, infront, fields}
 use Rattle.saved.specs.Plant.{size_tag, size_length, tally_tag, tally_length, station_in, fits}
 use Rattle.saved.specs.declared.Loaded.{Loaded}
 use Rattle.saved.specs.declared.fields.Field.{Field as FieldRead}
-use Rattle.saved.specs.declared.opening.Found.{Found}
+use Rattle.saved.specs.declared.first_pass.Found.{Found}
 
 -- what the code's Field stands for
 abbrev pub field_value : FieldRead → Field
@@ -30,10 +30,10 @@ unfoldable pub found_with : Found → Field → Result Found Refusal
 found_with o f =
     if f.tag == size_tag
     then (ensure (length f.contents == size_length && is_none o.size) SizeOrTallyField
-    and Ok (record { size = Some (number_of f.contents); tally = o.tally }))
+    and Ok (record { size = Some (bytes_value f.contents); tally = o.tally }))
     else (if f.tag == tally_tag
     then (ensure (length f.contents == tally_length && is_none o.tally) SizeOrTallyField
-    and Ok (record { size = o.size; tally = Some (record { rounds = number_of (take 4 f.contents); tests = number_of (drop 4 f.contents) }) }))
+    and Ok (record { size = o.size; tally = Some (record { rounds = bytes_value (take 4 f.contents); tests = bytes_value (drop 4 f.contents) }) }))
     else Ok o)
 
 -- size and tally, where both are found

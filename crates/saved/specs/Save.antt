@@ -1,5 +1,4 @@
--- Request C-17: the writer, for all inputs. "The writer puts 1, 2, then the lines ascending"; it "gives 1 to 4, then 13 when its own buffer has
--- not the saved plant's length".
+-- The writer, for all inputs. Its refusals, in this order: 1 to 4; 13, if the buffer has not the saved plant's length.
 -- Assumes nothing.
 use Rattle.std.specs.Prelude.{ℕ, List, [], ◌∷◌, ◌++◌, length, take, drop}
 use Rattle.lists.specs.Refusal.{Check, ◌and◌, number_of_result, unless_refused}
@@ -28,16 +27,16 @@ line_field n t i = field line_tag (i ∷ line_of n t i)
 unfoldable pub saved_lines : ℕ → List ℕ → ℕ → List ℕ
 saved_lines n t k = concat_of (λ i. field_bytes (line_field n t i)) k
 
--- the saved plant
+-- Rule Writer's form: the saved plant
 unfoldable pub saved : ℕ → List ℕ → Tally → List ℕ
 saved n t tally = field_bytes (size_field n) ++ (field_bytes (tally_field tally) ++ saved_lines n t n)
 
 unfoldable pub save_check : ℕ → List ℕ → Tally → ℕ → Check
 save_check n t tally len = table_check n t and length_check (length (saved n t tally)) len
 
-abbrev pub save_number : ℕ → List ℕ → Tally → ℕ → ℕ
-save_number n t tally len = number_of_result (save_check n t tally len)
+abbrev pub save_refusal : ℕ → List ℕ → Tally → ℕ → ℕ
+save_refusal n t tally len = number_of_result (save_check n t tally len)
 
--- the buffer after the call, given b
+-- Rule Save: the buffer after the call, given b
 unfoldable pub save_after : ℕ → List ℕ → Tally → List ℕ → List ℕ
 save_after n t tally b = unless_refused (save_check n t tally (length b)) b (saved n t tally)

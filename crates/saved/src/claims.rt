@@ -3,7 +3,7 @@
 // matter; and the length of a saved plant. Each function does nothing: its contract is a claim.
 
 ghost use Rattle.saved.specs.Files.{FieldsOfBytes, BytesOfFields};
-ghost use Rattle.saved.specs.Restoring.{SavedLength, Restores, SavedAgain, AnyOrder};
+ghost use Rattle.saved.specs.Restoring.{SavedLength, LoadRestores, SaveIsCanonical, OrderIsFree};
 ghost use Rattle.saved.specs.Examples.{TwoBoards, ExamplesHold};
 
 // The bytes of some fields have just these fields.
@@ -22,18 +22,18 @@ pub fn saved_length()
 {}
 
 // Loading a saved plant gives the size, the table and the tally that were saved.
-pub fn loading_restores()
-    ensures { Restores }
+pub fn load_restores()
+    ensures { LoadRestores }
 {}
 
 // Saving what was loaded gives the writer's form of the file.
-pub fn saved_again()
-    ensures { SavedAgain }
+pub fn save_is_canonical()
+    ensures { SaveIsCanonical }
 {}
 
 // Neither the order of the fields nor fields with other tags change what is loaded.
-pub fn any_order()
-    ensures { AnyOrder }
+pub fn order_is_free()
+    ensures { OrderIsFree }
 {}
 
 // Two fresh boards are saved as worked out by hand.

@@ -1,14 +1,14 @@
-// Saving the plant to the panel (request C-17 of document 02): a writer and a reader of table and tally, as tagged fields.
+// Saved plants: a writer and a reader of table and tally, as tagged fields.
 //
-// The calls are save::save, load::load and load::saved_size. None has a `requires`. Module order prepares request C-19; no call uses it yet.
+// The calls are save::save, load::load and load::saved_size. None has a `requires`. Module order is in preparation; no call uses it yet.
 #![tactic(auto)]
 
 mod bytes;
 pub mod claims;
 mod fields;
+mod first_pass;
 mod lines;
 pub mod load;
-mod opening;
 mod order;
 pub mod save;
 

@@ -4,7 +4,7 @@ ghost use Rattle.table.specs.Sizes.{is_size};
 ghost use Rattle.saved.specs.Fields.{runs_past};
 ghost use Rattle.saved.specs.Load.{file_lines, rest_check, rest_after, saved_size, load_answer, load_after};
 
-use crate::{Loaded, lines, opening};
+use crate::{Loaded, first_pass, lines};
 use lists::refusal::Refusal;
 use table::lent::TableMut;
 use table::{cells, rules};
@@ -13,7 +13,7 @@ use table::{cells, rules};
 pub fn saved_size(file: &[u8]) -> Result<u8, Refusal>
     ensures { result ≡ saved_size file.now }
 {
-    let opened = opening::open(file)?;
+    let opened = first_pass::open(file)?;
     Ok(opened.size)
 }
 
@@ -23,7 +23,7 @@ pub fn load(file: &[u8], table: &mut [u8]) -> Result<Loaded, Refusal>
     ensures answer { result ≡ load_answer file.now (length table.old) }
     ensures table_after { table.new ≡ load_after file.now table.old }
 {
-    let opened = opening::open(file)?;
+    let opened = first_pass::open(file)?;
     let mut own = [0u8; cells::GREATEST_TABLE];
     read_table(opened.size, file, table, &mut own)?;
     Ok(opened)

@@ -1,7 +1,6 @@
 // The opening of edition 2, and the order of the fields behind it. Refusals 21 and 22.
 //
-// Request C-19, in preparation: no call uses this module yet. The reader and the writer are those of C-17, which know no opening and take the
-// fields in any order.
+// In preparation: no call uses this module yet. The reader and the writer know no opening, and the reader takes the fields in any order.
 ghost use Rattle.std.specs.Prelude.{◌≡◌, false};
 ghost use Rattle.saved.specs.Fields.{runs_past, fields_of};
 ghost use Rattle.saved.specs.Plant.{station_in};
@@ -15,7 +14,7 @@ use lists::refusal::Refusal;
 // What a field is held against: the tag of the one before and the station of the previous line, 0 where there is none. Not `Option`: no tag and no
 // station is below 0, so that nobody need ask whether there is one before.
 #[derive(Clone, Copy)]
-pub struct Before {
+pub struct Previous {
     pub tag: u8,
     pub station: u8,
 }
@@ -34,7 +33,7 @@ fn station_of(contents: &[u8]) -> u8
     contents.first().copied().unwrap_or(0)
 }
 
-impl Before {
+impl Previous {
     // Whether a field is in order and its tag known.
     fn allows(self, field: Field) -> bool
         ensures { result ≡ follows self (field_value field.entry) }
@@ -45,10 +44,10 @@ impl Before {
     }
 
     // What the next field is held against.
-    fn behind(self, field: Field) -> Before
+    fn behind(self, field: Field) -> Previous
         ensures { result ≡ behind self (field_value field.entry) }
     {
-        Before {
+        Previous {
             tag: field.tag,
             station: if field.tag == LINE {
                 station_of(field.contents)
@@ -78,7 +77,7 @@ pub fn check_order(file: &[u8]) -> Result<(), Refusal>
     if !is_opening(opening) {
         return Err(Refusal::NoOpening);
     }
-    let mut before = Before { tag: 0, station: 0 };
+    let mut before = Previous { tag: 0, station: 0 };
     while let Some(field) = fields.next()? {
         if !before.allows(field) {
             return Err(Refusal::FieldOrder);

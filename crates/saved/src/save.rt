@@ -29,17 +29,17 @@ pub fn save(n: usize, table: &[u8], tally: Tally, buffer: &mut [u8]) -> Result<(
     if buffer.len() != FRONT + n * (n + cells::HEAD as usize + BESIDE_LINE) {
         return Err(Refusal::ListLength);
     }
-    write_opening(table.n, tally, buffer);
+    write_size_and_tally(table.n, tally, buffer);
     write_lines(&table, buffer);
     Ok(())
 }
 
 // The size field and the tally field. By places, here and below. Tried: a struct with the rest of the buffer, which each write moves on; of what is
 // written through a cursor that `split_at_mut` moves on a proof knows nothing afterwards.
-fn write_opening(n: u8, tally: Tally, buffer: &mut [u8])
+fn write_size_and_tally(n: u8, tally: Tally, buffer: &mut [u8])
     requires { 15 ≤ length buffer.old }
-    ensures { let opening = field_bytes (size_field n) ++ field_bytes (tally_field tally) in
-        buffer.new ≡ sets buffer.old 0 opening }
+    ensures { let first_two = field_bytes (size_field n) ++ field_bytes (tally_field tally) in
+        buffer.new ≡ sets buffer.old 0 first_two }
 {
     put_head(buffer, 0, SIZE, 1);
     buffer[3] = n;

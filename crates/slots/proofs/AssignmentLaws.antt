@@ -18,7 +18,7 @@ use Rattle.table.specs.Sizes.{level, distances}
 use Rattle.station.specs.Tests.{unsuspected, DueAnswer, answer_due, answer_ahead, answer, says_due, stands, due, due_distances}
 use Rattle.station.specs.Calls.{answer_byte, is_other, other_distances}
 use Rattle.table.specs.Table.{row}
-use Rattle.slots.specs.Assignments.{OwnUnsuspected, SomebodyFirst, up_to, BeforeUpTo, DueHave255, NothingLeftOver}
+use Rattle.slots.specs.Assignments.{OwnUnsuspected, SomebodyFirst, up_to, BeforeUpTo, DueEntriesAreMarked, NothingLeftOver}
 use Rattle.lists.proofs.Xor.{xor-undo}
 use Rattle.table.proofs.Accepting.{accepted}
 use Rattle.table.proofs.CellLaws.{row-length, row_at, accepted-line}
@@ -64,9 +64,9 @@ due-byte r i m few own pos here = due-is r i m ∙ sym (go (answer r i m) refl)
     go (answer_ahead x) e =
         ne_eqb x 255 (omega (arith, unsuspected-below r x (named-stands-before r i m x own pos here e).0))
 
-pub due-have-255 : DueHave255
+pub due-entries-are-marked : DueEntriesAreMarked
 unfolding due_distances other_distances
-due-have-255 n r i size long own =
+due-entries-are-marked n r i size long own =
     filter-twice (due r i) (is_other n i) (λ m. eqb (answer_byte (answer r i m)) 255) same (range_with_len 0 (distances n))
   where
     same : (m : ℕ) → due r i m ≡ (is_other n i m && eqb (answer_byte (answer r i m)) 255)

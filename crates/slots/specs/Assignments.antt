@@ -1,4 +1,4 @@
--- What is claimed besides of the answer of request C-16 and of its assignment: the run does not need it.
+-- What is claimed besides of the answer to whether a distance is due, and of the assignment: the run does not need it.
 -- Assumes nothing.
 use Rattle.std.specs.Prelude.{◌≡◌, true, List, ℕ, ◌*◌, ◌-◌, ◌≤◌, ◌<◌, length, Some, ◌==◌}
 use Rattle.std.specs.List.{filter}
@@ -6,16 +6,16 @@ use Rattle.std.specs.Int.Bits.{bit_or}
 use Rattle.table.specs.Sizes.{is_size, level}
 use Rattle.station.specs.Groups.{distance, station_at, width}
 use Rattle.table.specs.Table.{row}
-use Rattle.table.specs.Rules.{table_number}
+use Rattle.table.specs.Rules.{table_refusal}
 use Rattle.station.specs.Tests.{unsuspected, first, answer, due_distances}
 use Rattle.station.specs.Calls.{other_distances, answer_byte, assignment_entries}
 use Rattle.station.specs.Ahead.{Before}
 
 -- a table that refusals 1 to 4 let through: no row suspects its own station, as the claims below ask of a row
 abbrev pub OwnUnsuspected : Type 0
-OwnUnsuspected = (n : ℕ) (t : List ℕ) (i : ℕ) → table_number n t ≡ 0 → i < n → unsuspected (row n t i) i ≡ true
+OwnUnsuspected = (n : ℕ) (t : List ℕ) (i : ℕ) → table_refusal n t ≡ 0 → i < n → unsuspected (row n t i) i ≡ true
 
--- a row that does not suspect its own station: somebody is first at every distance but 0
+-- Rule Assignment exact: of a row that does not suspect its own station somebody is first at every distance but 0
 abbrev pub SomebodyFirst : Type 0
 SomebodyFirst =
     (r : List ℕ) (i m : ℕ) → unsuspected r i ≡ true → 0 < m → (x : ℕ) × (first (unsuspected r) (station_at i m) (level m) ≡ Some x)
@@ -34,7 +34,7 @@ NothingLeftOver =
     (n : ℕ) (r : List ℕ) (i : ℕ) → is_size n ≡ true → i < n → length (assignment_entries r i (other_distances n i)) ≡ 2 * (n - 1)
 
 -- for a row that does not suspect its own station the due distances are those of the entries with 255: no station that is ahead has that number
-abbrev pub DueHave255 : Type 0
-DueHave255 =
+abbrev pub DueEntriesAreMarked : Type 0
+DueEntriesAreMarked =
     (n : ℕ) (r : List ℕ) (i : ℕ) → is_size n ≡ true → length r ≡ n → unsuspected r i ≡ true
     → due_distances r i n ≡ filter (λ m. answer_byte (answer r i m) == 255) (other_distances n i)

@@ -10,8 +10,8 @@ use Rattle.station.specs.Tests.{unsuspected, stands, due}
 use Rattle.station.specs.Rows.{mark}
 use Rattle.slots.specs.Slots.{tested, untested_distances, untested, ahead, tests_due, most_tests, most_of_boards}
 
--- "i suspects its whole own group (absent numbers aside)", at level t: its row r leaves nobody of the group unsuspected. An absent number is
--- never "not suspected", so that a group of absent numbers only is suspected whole
+-- row r leaves nobody of station i's own group at level t unsuspected. An absent number is never "not suspected", so that a group of absent
+-- numbers only is suspected whole
 unfoldable pub suspects_group : List ℕ → ℕ → ℕ → Bool
 suspects_group r i t = every (λ k. not (unsuspected r (member i t k))) (width t)
 
@@ -19,8 +19,9 @@ suspects_group r i t = every (λ k. not (unsuspected r (member i t k))) (width t
 abbrev pub bit_set : ℕ → ℕ → Bool
 bit_set k h = k / 2 ^ h % 2 == 1
 
--- "distance m = 2^(s−1) + k is due for i exactly when somebody stands at it and i suspects its whole own group (absent numbers aside) at each
--- level t for which bit t−1 of k is set". For all rows: nothing is due for a row that suspects its own station, which refusal 3 turns away
+-- Rule Due by digits: with m = 2^(s−1) + k, distance m is due for i just if a station stands there and, for each digit 1 of k, at place t counted
+-- from 1, i suspects its whole own group at level t. For all rows: nothing is due for a row that suspects its own station, which refusal 3 keeps
+-- out
 abbrev pub DueByDigits : Type 0
 DueByDigits =
     (r : List ℕ) (i s k : ℕ) → k < width s
@@ -55,7 +56,7 @@ abbrev pub TestsAtMost : Type 0
 TestsAtMost =
     (n : ℕ) (r : List ℕ) (i : ℕ) → unsuspected r i ≡ true → tests_due n r i ≤ sum_below (λ h. 2 ^ whole_below r i h) (dimension n)
 
--- "with 2^d boards and nobody suspected each board has exactly d due"
+-- Rule Numbers of tests: of 2^d stations each has d due if it suspects nobody
 abbrev pub NobodySuspected : Type 0
 NobodySuspected =
     (d : ℕ) (r : List ℕ) (i : ℕ) → length r ≡ 2 ^ d → i < 2 ^ d → ((x : ℕ) → x < 2 ^ d → unsuspected r x ≡ true) → tests_due (2 ^ d) r i ≡ d
@@ -68,11 +69,11 @@ pub record SuspectsOne (d : ℕ) (r : List ℕ) (i j : ℕ) : Type 0 where
   pub apart : i ≢ j
   pub one : (x : ℕ) → x < 2 ^ d → unsuspected r x ≡ not (x == j)
 
--- "with one suspected, at most 2d − 1"
+-- with one suspected a station has at most 2d − 1 due
 abbrev pub OneSuspected : Type 0
 OneSuspected = (d : ℕ) (r : List ℕ) (i j : ℕ) → SuspectsOne d r i j → tests_due (2 ^ d) r i ≤ 2 * d - 1
 
--- "and the board at distance 1 from it has them"; every other board has d
+-- Rule Numbers of tests: with one suspected the station at distance 1 from it has 2d − 1 due, and every other one d
 abbrev pub OneSuspectedExactly : Type 0
 OneSuspectedExactly =
     (d : ℕ) (r : List ℕ) (i j : ℕ) → SuspectsOne d r i j → tests_due (2 ^ d) r i ≡ (if distance i j == 1 then 2 * d - 1 else d)
@@ -83,7 +84,7 @@ MostOfPowers =
     (d : ℕ) (r : List ℕ) → length r ≡ 2 ^ d → ((x : ℕ) → x < 2 ^ d → unsuspected r x ≡ true)
     → (most_of_boards (2 ^ d) r false ≡ d) × (most_of_boards (2 ^ d) r true ≡ 2 * d - 1)
 
--- of "33 boards, board 32 alone has 32": with 2^d + 1 boards and nobody suspected the last board tests all others
+-- Rule Numbers of tests: of 2^d + 1 stations that suspect nobody the last one tests all others
 abbrev pub LastTestsAll : Type 0
 LastTestsAll =
     (d : ℕ) (r : List ℕ) → length r ≡ suc (2 ^ d) → ((x : ℕ) → x < suc (2 ^ d) → unsuspected r x ≡ true)
@@ -95,7 +96,7 @@ pub record Wider (r r' : List ℕ) (i : ℕ) : Type 0 where
   pub own : unsuspected r' i ≡ true
   pub more : (x : ℕ) → unsuspected r' x ≡ true → unsuspected r x ≡ true
 
--- who suspects more makes no fewer tests
+-- Rule Numbers of tests: who suspects more makes no fewer tests
 abbrev pub NeverFewer : Type 0
 NeverFewer = (n : ℕ) (r r' : List ℕ) (i : ℕ) → Wider r r' i → tests_due n r i ≤ tests_due n r' i
 

@@ -2,7 +2,7 @@
 // function does nothing: its contract is a claim.
 
 ghost use Rattle.slots.specs.Law.{DueByDigits, NobodyLeftOut, ListsCounted, TestsByLevels, TestsAtMost, NobodySuspected, OneSuspected, OneSuspectedExactly, MostOfPowers, LastTestsAll, NeverFewer, MostIsNoLess, MostCovers};
-ghost use Rattle.slots.specs.Assignments.{OwnUnsuspected, SomebodyFirst, BeforeUpTo, NothingLeftOver, DueHave255};
+ghost use Rattle.slots.specs.Assignments.{OwnUnsuspected, SomebodyFirst, BeforeUpTo, NothingLeftOver, DueEntriesAreMarked};
 
 // A distance at which somebody stands is due by its digits: each 1 below the highest names an own group that the row must suspect whole.
 pub fn due_by_digits()
@@ -90,6 +90,6 @@ pub fn nothing_left_over()
 {}
 
 // The due distances are those of the entries with 255, for a row that does not suspect its own station.
-pub fn due_have_255()
-    ensures { DueHave255 }
+pub fn due_entries_are_marked()
+    ensures { DueEntriesAreMarked }
 {}

@@ -26,7 +26,7 @@ pub fn list_tests(n: u8, row: &[u8], i: Station, list: &mut [u8]) -> u8
     // Counted by hand and not by `enumerate`, since the count is the answer, also where the list is too short.
     let mut count = 0;
     for m in (0..end).filter(|m| is_due(row, i, Distance(*m as u8))) {
-        bytes::put(list, count, order::lookup(i, Distance(m as u8)).0);
+        bytes::put(list, count, order::station_at(i, Distance(m as u8)).0);
         count += 1;
     }
     count

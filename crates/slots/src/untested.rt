@@ -19,7 +19,7 @@ pub fn list_untested(n: u8, row: &[u8], i: Station, list: &mut [u8], firsts: &mu
     let mut count = 0;
     for m in (0..end).filter(|m| is_untested(row, i, Distance(*m as u8))) {
         let m = Distance(m as u8);
-        bytes::put(list, count, order::lookup(i, m).0);
+        bytes::put(list, count, order::station_at(i, m).0);
         bytes::put(firsts, count, due::due_or_ahead(row, i, m).byte());
         count += 1;
     }

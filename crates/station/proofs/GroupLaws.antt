@@ -1,4 +1,4 @@
--- The theorems on groups, for every size at once: who is in a group, in which group a station is, and equation 1 of paper 001.
+-- The theorems on groups, for every size at once: who is in a group, in which group a station is, and that groups are nested.
 -- Assumes nothing.
 use mathlib.Core.Path.{◌≡◌, refl, sym, ap, subst, ◌∙◌}
 use Rattle.std.specs.List.{filter, range_with_len}
@@ -14,7 +14,7 @@ use Rattle.lists.specs.Search.{list_of}
 use Rattle.table.specs.Sizes.{level, dimension, distances}
 use Rattle.station.specs.Groups.{distance, station_at, is_present, width, member, full_group, group}
 use Rattle.station.specs.Partition.{NotInOwnGroup, InOneGroup}
-use Rattle.station.specs.Equation1.{groups_to, remaining_to}
+use Rattle.station.specs.Nested.{groups_to, remaining_to}
 use Rattle.lists.proofs.Xor.{xor_assoc, xor-cancel, xor-zero-eq}
 use Rattle.lists.proofs.SearchLaws.{list_of-suc, list_of-same, list_of-append}
 use Rattle.std.proofs.lemmas.List.Elements.{filter-append}
@@ -94,10 +94,10 @@ unfolding groups_to full_group width member list_of
 run j zero = cc (xor_zero_r j)
 run j (suc h) = rw two-pow-succ (list_of-append (station_at j) (2 ^ h) (2 ^ h) ∙ rw (run j h))
 
--- "equation 1": a full group is its first number and that number's full groups at all lower levels
-pub equation-1 : (i h : ℕ) → full_group i (suc h) ≡ station_at i (2 ^ h) ∷ groups_to (station_at i (2 ^ h)) h
+-- rule Nested groups: a full group is its first number and that number's full groups at all lower levels
+pub nested-groups : (i h : ℕ) → full_group i (suc h) ≡ station_at i (2 ^ h) ∷ groups_to (station_at i (2 ^ h)) h
 unfolding full_group width member
-equation-1 i h = list_of-same (member i (suc h)) (station_at (station_at i (2 ^ h))) (2 ^ h) shifted ∙ run (station_at i (2 ^ h)) h
+nested-groups i h = list_of-same (member i (suc h)) (station_at (station_at i (2 ^ h))) (2 ^ h) shifted ∙ run (station_at i (2 ^ h)) h
   where
     shifted : (k : ℕ) → k < 2 ^ h → station_at i (2 ^ h + k) ≡ station_at (station_at i (2 ^ h)) k
     shifted k l = cc (xor_assoc i (2 ^ h) k, xor_shifted 1 h k l, one-mul (2 ^ h))
@@ -108,10 +108,10 @@ remaining-is n j zero = refl
 remaining-is n j (suc h) = filter-append (is_present n) (groups_to j h) (full_group j (suc h)) ∙ rw (remaining-is n j h)
 
 -- with the absent numbers left out: its first number, if that is present, and that number's groups at all lower levels
-pub equation-1-remaining : (n i h : ℕ)
+pub nested-groups-remaining : (n i h : ℕ)
     → group n i (suc h) ≡ filter (is_present n) (station_at i (2 ^ h) ∷ []) ++ remaining_to n (station_at i (2 ^ h)) h
 unfolding group
-equation-1-remaining n i h =
+nested-groups-remaining n i h =
     let j : ℕ = station_at i (2 ^ h) in
-    ap (filter (is_present n)) (equation-1 i h) ∙ filter-append (is_present n) (j ∷ []) (groups_to j h)
+    ap (filter (is_present n)) (nested-groups i h) ∙ filter-append (is_present n) (j ∷ []) (groups_to j h)
     ∙ ap (◌++◌ (filter (is_present n) (j ∷ []))) (remaining-is n j h)

@@ -1,4 +1,5 @@
--- What is claimed of the answer of request C-16: who stands before a station in a group. The scan of a turn goes by it; slots claims more.
+-- What is claimed of the answer to whether a distance is due: who stands before a station in a group. The scan of a turn goes by it; slots
+-- claims more.
 -- Assumes nothing.
 use Rattle.std.specs.Prelude.{◌≡◌, ◌↔◌, true, false, List, ℕ, suc, ◌-◌, ◌/◌, ◌%◌, ◌^◌, ◌≤◌, ◌<◌}
 use Rattle.std.specs.Int.Bits.{bit_or}
@@ -11,7 +12,8 @@ use Rattle.station.specs.Tests.{unsuspected, answer_ahead, answer, stands, due}
 abbrev pub Before : ℕ → ℕ → ℕ → Type 0
 Before i m x = (level (distance (station_at i m) x) ≡ level m) × (distance (station_at i m) x < m)
 
--- for a row that does not suspect its own station, whom the answer names where a station stands is not suspected and stands before i
+-- Rule Assignment exact: for a row that does not suspect its own station, whom the answer names where a station stands is not suspected and stands
+-- before i
 abbrev pub NamedStandsBefore : Type 0
 NamedStandsBefore =
     (r : List ℕ) (i m x : ℕ) → unsuspected r i ≡ true → 0 < m → stands r i m ≡ true → answer r i m ≡ answer_ahead x

@@ -1,5 +1,4 @@
--- Document 01, "What can be asked", all but the fresh table and the run, with requests C-11 and C-16 of document 02: the number, the figures and the bytes that each
--- call gives, for all inputs.
+-- The calls for a group list, an assignment and a row: the refusals, the figures and the bytes that each gives, for all inputs.
 -- Assumes nothing.
 use Rattle.std.specs.Prelude.{ℕ, ◌*◌, ◌-◌, Bool, not, ◌&&◌, ◌||◌, List, [], ◌∷◌, length, Result, Ok, ◌==◌, nat_lt}
 use Rattle.std.specs.Result.{result_unwrap_or}
@@ -15,20 +14,20 @@ use Rattle.station.specs.Tests.{DueAnswer, answer_due, answer_ahead, answer, due
 use Rattle.station.specs.declared.DueOrAhead.{DueOrAhead}
 use Rattle.station.specs.declared.DueOrAhead.TheVariants.{Due, Ahead}
 
--- C-16: what the code's DueOrAhead stands for
+-- what the code's DueOrAhead stands for
 abbrev pub answer_value : DueOrAhead → DueAnswer
 answer_value Due = answer_due
 answer_value (Ahead x) = answer_ahead x.0
 
--- refusals 9 and 12, station and level in their ranges: "The level is 0 or above d."
+-- refusals 9 and 12: the station's number is n or more; the level is 0 or above d
 unfoldable pub range_check : ℕ → ℕ → ℕ → Check
 range_check n i s = station_check n i and ensure (not (s == 0 || nat_lt (dimension n) s)) NoSuchLevel
 
--- Group list: refusals 1, 9, 12, 13. C-11: "number 13 uses the group's remaining length"
+-- Group list: refusals 1, 9, 12, 13. The answer's length is that of the group, without the absent numbers
 unfoldable pub group_check : ℕ → ℕ → ℕ → ℕ → Check
 group_check n i s len = ensure (is_size n) SizeOutOfRange and range_check n i s and length_check (length (group n i s)) len
 
--- "the 2^(s−1) members in order, into a lent list of just that length"; C-11: "the members that remain, which may be 0"
+-- Rules Group list and Group length: the group's members in order, a byte for each. There may be none
 unfoldable pub group_after : ℕ → ℕ → ℕ → List ℕ → List ℕ
 group_after n i s list = unless_refused (group_check n i s (length list)) list (group n i s)
 
@@ -36,7 +35,7 @@ group_after n i s list = unless_refused (group_check n i s (length list)) list (
 unfoldable pub row_check : ℕ → List ℕ → ℕ → Check
 row_check n t i = table_check n t and station_check n i
 
--- "the station's row handed back as that very part of the lent table"; "a refused row is the empty part"
+-- Rule Row part: the station's row, as that very part of the lent table. A refused call gives the empty part
 unfoldable pub row_part : ℕ → List ℕ → ℕ → List ℕ
 row_part n t i = unless_refused (row_check n t i) [] (row n t i)
 
@@ -44,11 +43,11 @@ row_part n t i = unless_refused (row_check n t i) [] (row n t i)
 unfoldable pub row_offset : ℕ → List ℕ → ℕ → ℕ
 row_offset n t i = unless_refused (row_check n t i) 0 (row_start n i)
 
--- Assignment: refusals 1 to 4, 9, 10, 13. 10: "The station is not live." C-16: "number 13 speaks of the new length", two bytes for each entry
+-- Assignment: refusals 1 to 4, 9, 10, 13. 10: the station is not live. 13: the list has not two bytes for each other station
 unfoldable pub assignment_check : ℕ → List ℕ → ℕ → ℕ → Check
 assignment_check n t i len = row_check n t i and ensure (live n t i) NotLive and length_check (2 * (n - 1)) len
 
--- C-16: "one for each other station in ascending distance": whether another of n stations stands at distance m from i
+-- whether another of n stations stands at distance m from i
 abbrev pub is_other : ℕ → ℕ → ℕ → Bool
 is_other n i m = nat_lt 0 m && is_present n (station_at i m)
 
@@ -56,22 +55,22 @@ is_other n i m = nat_lt 0 m && is_present n (station_at i m)
 unfoldable pub other_distances : ℕ → ℕ → List ℕ
 other_distances n i = select (is_other n i) (distances n)
 
--- "255 if due or else the one ahead"
+-- the second byte of an entry: 255 if the distance is due, else who is ahead
 abbrev pub answer_byte : DueAnswer → ℕ
 answer_byte answer_due = 255
 answer_byte (answer_ahead x) = x
 
--- "two-byte entries ..: the distance, and 255 if due or else the one ahead", for each of these distances
+-- Rule Assignment entries: two bytes for each of these distances, the distance, and 255 if it is due or else who is ahead
 unfoldable pub assignment_entries : List ℕ → ℕ → List ℕ → List ℕ
 assignment_entries r i [] = []
 assignment_entries r i (m ∷ ms) = m ∷ answer_byte (answer r i m) ∷ assignment_entries r i ms
 
--- "The assignment becomes n − 1 two-byte entries"; they fill the list (`NothingLeftOver`)
+-- Rule Assignment: the n − 1 entries of the other stations, by ascending distance. They fill the list (`NothingLeftOver`)
 unfoldable pub assignment_after : ℕ → List ℕ → ℕ → List ℕ → List ℕ
 assignment_after n t i list =
     unless_refused (assignment_check n t i (length list)) list (assignment_entries (row n t i) i (other_distances n i))
 
--- "The count still counts due ones."
+-- Rule Assignment entries: the call answers how many distances are due
 unfoldable pub assignment_answer : ℕ → List ℕ → ℕ → ℕ → Result ℕ Refusal
 assignment_answer n t i len = assignment_check n t i len and Ok (length (due_distances (row n t i) i n))
 
@@ -80,11 +79,11 @@ abbrev pub assignment_count : ℕ → List ℕ → ℕ → ℕ → ℕ
 assignment_count n t i len = result_unwrap_or (assignment_answer n t i len) 0
 
 -- the numbers of these
-abbrev pub group_number : ℕ → ℕ → ℕ → ℕ → ℕ
-group_number n i s len = number_of_result (group_check n i s len)
+abbrev pub group_refusal : ℕ → ℕ → ℕ → ℕ → ℕ
+group_refusal n i s len = number_of_result (group_check n i s len)
 
-abbrev pub row_number : ℕ → List ℕ → ℕ → ℕ
-row_number n t i = number_of_result (row_check n t i)
+abbrev pub row_refusal : ℕ → List ℕ → ℕ → ℕ
+row_refusal n t i = number_of_result (row_check n t i)
 
-abbrev pub assignment_number : ℕ → List ℕ → ℕ → ℕ → ℕ
-assignment_number n t i len = number_of_result (assignment_answer n t i len)
+abbrev pub assignment_refusal : ℕ → List ℕ → ℕ → ℕ → ℕ
+assignment_refusal n t i len = number_of_result (assignment_answer n t i len)

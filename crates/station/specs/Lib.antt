@@ -1,7 +1,7 @@
--- What the contracts and theorems of `station` cite, in the order of document 01.
+-- What the contracts and theorems of `station` cite.
 pub mod Groups
 pub mod Partition
-pub mod Equation1
+pub mod Nested
 pub mod Tests
 pub mod Rows
 pub mod Calls

@@ -1,8 +1,8 @@
-// That groups part the other stations (specs/Partition.antt), equation 1 of paper 001 (specs/Equation1.antt) and what is claimed of the answer of
-// request C-16 (specs/Ahead.antt), each the contract of a function that does nothing.
+// That groups part the other stations (specs/Partition.antt), that groups are nested (specs/Nested.antt), and who stands before a station in a
+// group (specs/Ahead.antt), each the contract of a function that does nothing.
 
 ghost use Rattle.station.specs.Partition.{NotInOwnGroup, InOneGroup};
-ghost use Rattle.station.specs.Equation1.{Equation1, Equation1Remaining};
+ghost use Rattle.station.specs.Nested.{NestedGroups, NestedGroupsRemaining};
 ghost use Rattle.station.specs.Ahead.{NamedStandsBefore, DueIfNobodyBefore, BeforeByDigits, BeforeInBlock, NoneDueInBlock};
 
 // No station is in a group of its own.
@@ -16,13 +16,13 @@ pub fn in_one_group()
 {}
 
 // A full group is its first station and that station's full groups at all lower levels.
-pub fn equation_1()
-    ensures { Equation1 }
+pub fn nested_groups()
+    ensures { NestedGroups }
 {}
 
 // The same with the absent numbers left out.
-pub fn equation_1_remaining()
-    ensures { Equation1Remaining }
+pub fn nested_groups_remaining()
+    ensures { NestedGroupsRemaining }
 {}
 
 // Whom the answer names, where a station stands, is not suspected and stands before the one that asks.

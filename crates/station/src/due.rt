@@ -1,4 +1,4 @@
-// Which distances are due (document 01, step 1), who is first at the others (request C-16), and the assignment.
+// Which distances are due, who is first at the others, and the assignment.
 ghost use Rattle.std.specs.Prelude.{◌≡◌, ◌+◌, ◌*◌, ◌<◌, length, Some, IfOk, option_map};
 ghost use Rattle.std.specs.Result.{result_map_both};
 ghost use Rattle.table.specs.Sizes.{level};
@@ -32,7 +32,7 @@ fn first_unsuspected(row: &[u8], j: Station, m: Distance) -> Option<Station>
     }
     let w = groups::width_of(sizes::level_of(m));
     for k in 0..w {
-        let x = order::lookup(j, Distance(w + k));
+        let x = order::station_at(j, Distance(w + k));
         if is_unsuspected(row, x) {
             return Some(x);
         }
@@ -44,7 +44,7 @@ fn first_unsuspected(row: &[u8], j: Station, m: Distance) -> Option<Station>
 pub fn stands(row: &[u8], i: Station, m: Distance) -> bool
     ensures { result ≡ stands row.now i.0 m.0 }
 {
-    let j = order::lookup(i, m);
+    let j = order::station_at(i, m);
     let at = j.0 as usize;
     at < row.len()
 }
@@ -57,7 +57,7 @@ pub fn due_or_ahead(row: &[u8], i: Station, m: Distance) -> DueOrAhead
     if !stands(row, i, m) {
         return DueOrAhead::Ahead(i);
     }
-    match first_unsuspected(row, order::lookup(i, m), m) {
+    match first_unsuspected(row, order::station_at(i, m), m) {
         Some(x) => answer_of(i, x),
         None => DueOrAhead::Ahead(i),
     }
@@ -85,8 +85,8 @@ pub fn block_end(m: Distance) -> Distance
     Distance(m.0 | (m.0 - 1))
 }
 
-// The assignment of live station i (request C-16): for each other station, by ascending distance, the distance, and 255 if it is due or else the
-// one ahead; and how many are due.
+// The assignment of live station i: for each other station, by ascending distance, the distance, and 255 if it is due or else the one ahead; and
+// how many are due.
 #[tactic(auto, using(crate::proofs::Refusals::assignment_ok), unfolding(crate::specs::Calls::assignment_answer, crate::specs::Calls::assignment_after))]
 pub fn assignment(n: usize, table: &[u8], i: Station, list: &mut [u8]) -> Result<u8, Refusal>
     ensures count_or_refusal { result ≡ assignment_answer n table.now i.0 (length list.old) }

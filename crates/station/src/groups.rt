@@ -1,4 +1,4 @@
-// Groups (document 01, "Groups by distance"; request C-11).
+// Groups.
 ghost use Rattle.std.specs.Prelude.{◌≡◌, ◌<◌, ◌≤◌, length};
 ghost use Rattle.station.specs.Groups.{width, group};
 ghost use Rattle.station.specs.Calls.{range_check, group_check, group_after};
@@ -18,7 +18,7 @@ pub(crate) fn width_of(s: Level) -> u8
     1u8 << h
 }
 
-// The group list of document 01: the members of the group of i at level s, in order.
+// The group list: the members of the group of i at level s, in order.
 #[tactic(auto, using(crate::proofs::Refusals::group_ok), unfolding(crate::specs::Calls::group_after))]
 pub fn group_list(n: usize, i: Station, s: Level, list: &mut [u8]) -> Result<(), Refusal>
     ensures check { result ≡ group_check n i.0 s.0 (length list.old) }
@@ -70,7 +70,7 @@ fn group_length(n: u8, i: Station, s: Level) -> usize
 {
     let w = width_of(s);
     (0..w)
-        .map(|k| order::lookup(i, Distance(w + k)).0)
+        .map(|k| order::station_at(i, Distance(w + k)).0)
         .filter(|x| *x < n)
         .count()
 }
@@ -84,7 +84,7 @@ fn write_group(n: u8, i: Station, s: Level, list: &mut [u8])
 {
     let w = width_of(s);
     let members = (0..w)
-        .map(|k| order::lookup(i, Distance(w + k)).0)
+        .map(|k| order::station_at(i, Distance(w + k)).0)
         .filter(|x| *x < n);
     // By places: of what is written through `iter_mut().zip(members)` no proof knows anything afterwards.
     for (k, x) in members.enumerate() {

@@ -1,8 +1,8 @@
-// The station rules of the vCube watch (document 01): groups, due tests and rows. They stand above `table`.
+// The station rules of the vCube watch: groups, due tests and rows. They stand above `table`.
 // The plant run stands above this crate and relies only on what is stated here.
 //
-// The calls of document 01: groups::group_list, due::assignment, rows::row and rows::check_row. The rest is open for the crates above. No function
-// open to a caller has a `requires`. Those of `claims` do nothing: their contracts are the claims of specs/Partition.antt, specs/Equation1.antt
+// The calls: groups::group_list, due::assignment, rows::row and rows::check_row. The rest is open for the crates above. No function
+// open to a caller has a `requires`. Those of `claims` do nothing: their contracts are the claims of specs/Partition.antt, specs/Nested.antt
 // and specs/Ahead.antt.
 #![tactic(auto)]
 
@@ -18,8 +18,7 @@ pub mod rows;
 
 use table::Station;
 
-// Request C-16: what the question whether a distance is due answers. Not an `Option`: the request names both cases, and the second names a station
-// for every row.
+// What the question whether a distance is due answers. Not an `Option`: both cases have a name, and the second names a station for every row.
 #[derive(Clone, Copy)]
 pub enum DueOrAhead {
     // The distance is due.

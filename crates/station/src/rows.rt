@@ -1,4 +1,4 @@
-// Rows: handed back as a part of the lent table, joined and marked (document 01, steps 4 and 5).
+// Rows: handed back as a part of the lent table, joined and marked.
 ghost use Rattle.std.specs.Prelude.{◌≡◌, ◌+◌, ◌<◌, IfOk};
 ghost use Rattle.std.specs.Result.{result_map_both};
 ghost use Rattle.station.specs.Rows.{union, mark};
@@ -9,8 +9,8 @@ use lists::refusal::Refusal;
 use table::Station;
 use table::lent::Table;
 
-// The row of station i, as that very part of the table: its bytes, and its place in the lent memory. Refused: the empty part, which is what
-// document 01 has there, and no `Err`.
+// The row of station i, as that very part of the table: its bytes, and its place in the lent memory. A refused call gives the empty part, by rule
+// Row part, and no `Err`.
 #[tactic(auto, unfolding(crate::specs::Calls::row_part, crate::specs::Calls::row_offset))]
 pub fn row(n: usize, table: &[u8], i: Station) -> &[u8]
     ensures row_bytes { result.now ≡ row_part n table.now i.0 }

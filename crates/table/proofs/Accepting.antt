@@ -11,7 +11,7 @@ use lib.ListN.{length}
 use Rattle.lists.specs.Search.{every}
 use Rattle.table.specs.Sizes.{is_size}
 use Rattle.table.specs.Table.{table_length}
-use Rattle.table.specs.Rules.{line_rules, not_live, some_live, finished_if_live, live_finished, shape_check, table_check, table_number}
+use Rattle.table.specs.Rules.{line_rules, not_live, some_live, finished_if_live, live_finished, shape_check, table_check, table_refusal}
 use Rattle.lists.proofs.Loops.{every-stop, every-done}
 use Rattle.lists.proofs.RefusalLaws.{check_zero, ensure_ok, and_ok}
 
@@ -53,7 +53,7 @@ table_ok n t x e =
       unclosed = not-true _ (ensure_ok _ _ _ q.1);
     }
 
-pub accepted : (n : ℕ) (t : List ℕ) → table_number n t ≡ 0 → Accepted n t
+pub accepted : (n : ℕ) (t : List ℕ) → table_refusal n t ≡ 0 → Accepted n t
 accepted n t e = table_ok n t _ (check_zero _ e)
 
 -- what the loop over a round asks

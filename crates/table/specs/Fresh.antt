@@ -1,4 +1,4 @@
--- Document 01, "What can be asked": the fresh table, with bytes 4 and 5 of request C-18 of document 02.
+-- The fresh table.
 -- Assumes nothing.
 use Rattle.std.specs.Prelude.{ℕ, ◌%◌, List, length, if◌then◌else◌, ◌==◌}
 use Rattle.lists.specs.Search.{list_of}
@@ -6,13 +6,13 @@ use Rattle.table.specs.Table.{stride, next_column, told_by_column, told_by_none,
 use Rattle.table.specs.Rules.{shape_check}
 use Rattle.lists.specs.Refusal.{unless_refused}
 
--- Fresh table: "every line live, next distance 1, all else 0"; C-18: "a live line, fresh ones too, has 255 and 0"
+-- Rule Fresh: a byte of a fresh line, next distance 1, byte 4 255, and all else 0
 unfoldable pub fresh_byte : ℕ → ℕ → ℕ
 fresh_byte n p = if p % stride n == next_column then 1 else (if p % stride n == told_by_column then told_by_none else 0)
 
 unfoldable pub fresh_table : ℕ → List ℕ
 fresh_table n = list_of (fresh_byte n) (table_length n)
 
--- the table after the call, given t: refusals 1, 2
+-- Rule Fresh table: the table after the call, given t; refusals 1, 2
 unfoldable pub fresh_after : ℕ → List ℕ → List ℕ
 fresh_after n t = unless_refused (shape_check n (length t)) t (fresh_table n)

@@ -1,4 +1,4 @@
--- What the contracts and theorems of `table` cite, in the order of document 01; properties serve the crates above.
+-- What the contracts and theorems of `table` cite; properties serve the crates above.
 pub mod Sizes
 pub mod Table
 pub mod Status

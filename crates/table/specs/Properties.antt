@@ -6,7 +6,7 @@ use Rattle.table.specs.Table.{next_distance, finished, tests_made, suspects, liv
 use Rattle.table.specs.Rules.{not_live}
 use Rattle.lists.specs.Sums.{sum_below, bit}
 
--- "A table stands at the start of a round when every line has these three": next distance 1, finished 0, tests 0
+-- Rule Start of a round, of line i: next distance 1, not finished, no tests
 abbrev pub line_at_start : ℕ → List ℕ → ℕ → Bool
 line_at_start n t i = next_distance n t i == 1 && finished n t i == 0 && tests_made n t i == 0
 
@@ -21,7 +21,7 @@ live_count n t = sum_below (λ i. bit (live n t i)) n
 abbrev pub no_live_suspicion : ℕ → List ℕ → ℕ → ℕ → Bool
 no_live_suspicion n t i j = not_live n t i || not_live n t j || not (suspects n t i j == 1)
 
--- no live station suspects a live one
+-- Rule Accurate: no live station suspects a live one
 unfoldable pub none_suspected : ℕ → List ℕ → Bool
 none_suspected n t = every (λ i. every (no_live_suspicion n t i) n) n
 
@@ -29,6 +29,6 @@ none_suspected n t = every (λ i. every (no_live_suspicion n t i) n) n
 unfoldable pub exact_row : ℕ → List ℕ → List ℕ
 exact_row n t = list_of (λ j. bit (not_live n t j)) n
 
--- exact rows: the row of each live board is that one
+-- Rule Exact rows: the row of each live board is that one
 abbrev pub ExactRows : ℕ → List ℕ → Type 0
 ExactRows n t = (i : ℕ) → i < n → live n t i ≡ true → row n t i ≡ exact_row n t

@@ -1,5 +1,4 @@
--- Document 01, the line rules of "The lent table", with those of request C-18 of document 02, and refusals 1 to 4 of the refusal list; 9
--- and 13, which several calls have.
+-- The line rules, and refusals 1 to 4, 9 and 13, which several calls have.
 -- Assumes nothing.
 use Rattle.std.specs.Prelude.{ℕ, ◌-◌, Bool, not, ◌&&◌, ◌||◌, List, length, if◌then◌else◌, ◌==◌, nat_lt, nat_le}
 use Rattle.lists.specs.Search.{every}
@@ -8,31 +7,31 @@ use Rattle.table.specs.Table.{table_length, status, status_told, next_distance, 
 use Rattle.lists.specs.declared.refusal.Refusal.TheVariants.{SizeOutOfRange, TableLength, LineRule, RoundNotClosed, NoSuchStation, ListLength}
 use Rattle.lists.specs.Refusal.{Check, ensure, ◌and◌, number_of_result}
 
--- status, "each byte in its range"
+-- Rule Status range: byte 0 is 0 to 3
 abbrev pub status_rule : ℕ → Bool
 status_rule status = nat_le status 3
 
--- next distance, pass finished and tests made: "each byte in its range; byte 3 at most byte 1 less 1; a finished line has next
--- distance N", which by C-11 is 2^d
+-- Rules Next distance range, Finished range, Tests range and Finished at the end: next distance is 1 to 2^d; finished is 0 or 1; there are fewer
+-- tests than the next distance; a finished line has next distance 2^d
 abbrev pub pass_rule : ℕ → ℕ → ℕ → ℕ → Bool
 pass_rule n next finished tests =
     nat_le 1 next && nat_le next (distances n) && nat_le finished 1 && nat_le tests (next - 1) && (finished == 0 || next == distances n)
 
--- byte 4 where the status is 2: "254 or another station's number", which is below n and not i, the line's own
+-- Rule Told line: byte 4 of a line with status 2 is 254, or a number below n that is not i, the line's own
 abbrev pub told_by_rule : ℕ → ℕ → ℕ → Bool
 told_by_rule n i by = by == not_recorded || (nat_lt by n && not (by == i))
 
--- bytes 4 and 5 of line i by its status, C-18: "a live line, fresh ones too, has 255 and 0; status 1 or 3 has 255; status 2 has 254 or another
--- station's number"
+-- Rules Live line, Crashed or alone line and Told line, for bytes 4 and 5 of line i: a live line has 255 and 0, status 1 or 3 has 255 in byte 4,
+-- status 2 has 254 or another number
 unfoldable pub exit_rule : ℕ → ℕ → ℕ → ℕ → ℕ → Bool
 exit_rule n i status by ago =
     if status == 0 then by == told_by_none && ago == 0 else (if status == status_told then told_by_rule n i by else by == told_by_none)
 
--- byte k of the row, "each byte in its range"
+-- Rule Row range: byte k of the row is 0 or 1
 abbrev pub suspicion_rule : ℕ → List ℕ → ℕ → ℕ → Bool
 suspicion_rule n t i k = nat_le (suspects n t i k) 1
 
--- the row: these, and "a station's byte about itself is 0"
+-- Rule Own byte: the row keeps Row range, and its byte about station i itself is 0
 unfoldable pub row_rule : ℕ → List ℕ → ℕ → Bool
 row_rule n t i = suspects n t i i == 0 && every (suspicion_rule n t i) n
 
@@ -46,7 +45,7 @@ line_rules n t i =
 abbrev pub not_live : ℕ → List ℕ → ℕ → Bool
 not_live n t i = not (live n t i)
 
--- "Some station is live"
+-- some station is live
 unfoldable pub some_live : ℕ → List ℕ → Bool
 some_live n t = not (every (not_live n t) n)
 
@@ -54,34 +53,33 @@ some_live n t = not (every (not_live n t) n)
 abbrev pub finished_if_live : ℕ → List ℕ → ℕ → Bool
 finished_if_live n t i = not_live n t i || finished n t i == 1
 
--- "every live one is finished"
+-- every live station has finished its pass
 unfoldable pub live_finished : ℕ → List ℕ → Bool
 live_finished n t = every (finished_if_live n t) n
 
--- refusal 4, and step 8: "if a station is live and all live ones are finished, the round closes"
+-- rules Round not over and Round closes: some station is live, and every live one has finished its pass
 abbrev pub round_over : ℕ → List ℕ → Bool
 round_over n t = some_live n t && live_finished n t
 
--- refusals 1 and 2: by C-11 "a size outside 2 to 64"; "The table's length is not N times (N + 4)."; by C-18 it
--- is n times (n + 6)
+-- refusals 1 and 2: n is not 2 to 64; the table has not n·(n + 6) bytes
 unfoldable pub shape_check : ℕ → ℕ → Check
 shape_check n len = ensure (is_size n) SizeOutOfRange and ensure (len == table_length n) TableLength
 
--- refusals 1 to 4: then "A line breaks a line rule." "Some station is live and every live one is finished."
+-- refusals 1 to 4: then a line breaks a line rule; the round is over and was not closed
 unfoldable pub table_check : ℕ → List ℕ → Check
 table_check n t = shape_check n (length t) and ensure (every (line_rules n t) n) LineRule and ensure (not (round_over n t)) RoundNotClosed
 
 -- their numbers
-abbrev pub shape_number : ℕ → ℕ → ℕ
-shape_number n len = number_of_result (shape_check n len)
+abbrev pub shape_refusal : ℕ → ℕ → ℕ
+shape_refusal n len = number_of_result (shape_check n len)
 
-abbrev pub table_number : ℕ → List ℕ → ℕ
-table_number n t = number_of_result (table_check n t)
+abbrev pub table_refusal : ℕ → List ℕ → ℕ
+table_refusal n t = number_of_result (table_check n t)
 
--- refusal 9: "The station number is N or more."
+-- refusal 9: the station's number is n or more
 abbrev pub station_check : ℕ → ℕ → Check
 station_check n i = ensure (nat_lt i n) NoSuchStation
 
--- refusal 13: "The lent list has not the length stated."
+-- refusal 13: the list or buffer for the answer has another length than the answer
 abbrev pub length_check : ℕ → ℕ → Check
 length_check stated len = ensure (len == stated) ListLength

@@ -1,4 +1,4 @@
--- Document 01, "The lent table": byte 0, the status, as a value: 0 live, 1 crashed, 2 left because told, 3 left because alone.
+-- Byte 0, the status, as a value: 0 live, 1 crashed, 2 left because told, 3 left because alone.
 -- Assumes nothing.
 use Rattle.std.specs.Prelude.{ℕ, Result, Ok, Err, if◌then◌else◌, ◌==◌}
 use Rattle.table.specs.Table.{status_crashed, status_told, status_alone}

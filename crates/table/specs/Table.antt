@@ -1,9 +1,8 @@
--- Document 01, "The lent table", with the six-byte heads of request C-18 of document 02: N lines of N + 6 bytes, in station order. A byte is
--- read and written by line and column.
+-- The lent table: n lines of n + 6 bytes, in station order. A byte is read and written by line and column.
 -- Assumes nothing.
 use Rattle.std.specs.Prelude.{ℕ, ◌+◌, ◌*◌, Bool, List, ◌++◌, set, take, drop, ◌==◌, slice_index}
 
--- how many bytes of a line stand before its row. C-18: "The head of each line grows from four to six bytes."
+-- how many bytes of a line stand before its row
 abbrev pub head : ℕ
 head = 6
 
@@ -11,7 +10,7 @@ head = 6
 abbrev pub stride : ℕ → ℕ
 stride n = n + head
 
--- C-18: "The table is n times (n + 6) bytes"
+-- Rule Table: n lines of n + 6 bytes
 unfoldable pub table_length : ℕ → ℕ
 table_length n = n * stride n
 
@@ -50,7 +49,7 @@ told_by_column = 4
 abbrev pub rounds_ago_column : ℕ
 rounds_ago_column = 5
 
--- byte 0, status: 0 live, 1 crashed, 2 left because told, 3 left because alone
+-- Rule Status: byte 0, 0 live, 1 crashed, 2 left because told, 3 left because alone
 abbrev pub status : ℕ → List ℕ → ℕ → ℕ
 status n t i = cell n t i status_column
 
@@ -64,19 +63,19 @@ status_told = 2
 abbrev pub status_alone : ℕ
 status_alone = 3
 
--- byte 1, next distance, 1 to N; by C-11 to 2^d
+-- Rule Next distance: byte 1, the distance from which the station's next turn looks for a test, 1 to 2^d
 abbrev pub next_distance : ℕ → List ℕ → ℕ → ℕ
 next_distance n t i = cell n t i next_column
 
--- byte 2, pass finished, 0 or 1
+-- Rule Pass finished: byte 2, 1 if the station has no turn left in this round, else 0
 abbrev pub finished : ℕ → List ℕ → ℕ → ℕ
 finished n t i = cell n t i finished_column
 
--- byte 3, tests made in this round
+-- Rule Tests made: byte 3, the tests that the station made in this round
 abbrev pub tests_made : ℕ → List ℕ → ℕ → ℕ
 tests_made n t i = cell n t i tests_column
 
--- C-18: "Byte 4 names the station whose row told it to leave: 255 for none, 254 where that was never recorded."
+-- Rule Told by: byte 4, the station that told this one to leave; 255 for nobody, 254 if it was never recorded
 abbrev pub told_by : ℕ → List ℕ → ℕ → ℕ
 told_by n t i = cell n t i told_by_column
 
@@ -86,18 +85,18 @@ told_by_none = 255
 abbrev pub not_recorded : ℕ
 not_recorded = 254
 
--- C-18: "Byte 5 counts rounds closed since the station ceased to be live, and stops at 255."
+-- Rule Rounds ago: byte 5, the rounds closed since the station stopped being live; 255 is 255 or more
 abbrev pub rounds_ago : ℕ → List ℕ → ℕ → ℕ
 rounds_ago n t i = cell n t i rounds_ago_column
 
 abbrev pub rounds_ago_top : ℕ
 rounds_ago_top = 255
 
--- "the station's row: byte k is 1 if it suspects station k, else 0"; C-18: "rows start at byte 6"
+-- Rule Suspicion: byte 6 + k of line i, 1 if station i suspects station k, else 0
 abbrev pub suspects : ℕ → List ℕ → ℕ → ℕ → ℕ
 suspects n t i k = cell n t i (head + k)
 
--- whether station i is live
+-- Rule Live: the status of station i is 0
 abbrev pub live : ℕ → List ℕ → ℕ → Bool
 live n t i = status n t i == 0
 
@@ -105,7 +104,7 @@ live n t i = status n t i == 0
 abbrev pub row_start : ℕ → ℕ → ℕ
 row_start n i = line_start n i + head
 
--- the row of line i as a list
+-- Rule Row: the bytes of line i from byte 6 on, as a list
 unfoldable pub row : ℕ → List ℕ → ℕ → List ℕ
 row n t i = take n (drop (row_start n i) t)
 

@@ -1,4 +1,4 @@
-// The bytes of the lent table, by line and column (document 01, "The lent table"; request C-18).
+// The bytes of the lent table, by line and column.
 ghost use Rattle.std.specs.Prelude.{◌≡◌, ◌+◌, ◌*◌, ◌≤◌};
 ghost use Rattle.table.specs.Table.{head, stride, table_length, line_start, cell, row_start};
 

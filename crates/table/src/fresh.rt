@@ -1,4 +1,4 @@
-// The fresh table (document 01, "What can be asked"; request C-18).
+// The call for a fresh table.
 ghost use Rattle.std.specs.Prelude.{◌≡◌, length};
 ghost use Rattle.table.specs.Lent.{IsSameLoan};
 ghost use Rattle.table.specs.Rules.{shape_check};

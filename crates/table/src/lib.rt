@@ -1,6 +1,6 @@
-// The lent table of the vCube watch (document 01, "The lent table"): its layout, line rules, refusals 1 to 4, the fresh table, bytes and rows.
+// The lent table of the vCube watch: its layout, line rules, refusals 1 to 4, the fresh table, bytes and rows.
 //
-// The call of document 01 is fresh::fresh_table. The rest is open for the crates above. No function open to a caller has a `requires`, but for
+// The call for callers is fresh::fresh_table. The rest is open for the crates above. No function open to a caller has a `requires`, but for
 // those of `lent`, which are meant for crates that have checked the table.
 #![tactic(auto)]
 
@@ -19,6 +19,6 @@ pub struct Station(pub u8);
 #[derive(Clone, Copy, Debug, PartialEq, Eq, PartialOrd, Ord)]
 pub struct Distance(pub u8);
 
-// The level of a group (the papers' cluster), 1 to d.
+// The level of a group, 1 to d.
 #[derive(Clone, Copy, Debug, PartialEq, Eq, PartialOrd, Ord)]
 pub struct Level(pub u8);

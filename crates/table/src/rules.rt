@@ -1,4 +1,4 @@
-// The line rules and the check of a table: refusals 1 to 4 (document 01, "The lent table" and "Refusal list"; request C-18).
+// The line rules and the check of a table: refusals 1 to 4.
 // Within a line bools are joined by `&` and `|`, which make no branch: where a branch was measured to be faster an `if` stands.
 ghost use Rattle.std.specs.Prelude.{◌≡◌, ◌<◌};
 ghost use Rattle.lists.specs.Search.{every};

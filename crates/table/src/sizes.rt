@@ -1,4 +1,4 @@
-// Sizes, levels and distances (document 01, "What the watch covers"; request C-11).
+// Sizes, levels and distances.
 ghost use Rattle.std.specs.Prelude.{◌≡◌, ◌≤◌};
 ghost use Rattle.table.specs.Sizes.{is_size, level, dimension, distances};
 

@@ -1,4 +1,4 @@
-// The status of a station, as a value and as byte 0 of its line (document 01, "The lent table").
+// The status of a station, as a value and as byte 0 of its line.
 ghost use Rattle.std.specs.Prelude.{◌≡◌};
 ghost use Rattle.table.specs.Status.{status_of, status_byte};
 

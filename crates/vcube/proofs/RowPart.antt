@@ -1,4 +1,4 @@
--- The part of the table that begins at the row's offset and has the row's length is the row of document 01, the empty part where it is refused.
+-- The part of the table that begins at the row's offset and has the row's length is the row that the call gives, the empty part where it is refused.
 -- Assumes nothing.
 use mathlib.Core.Path.{◌≡◌, refl, sym, ap, ◌∙◌}
 use mathlib.Core.List.{List}

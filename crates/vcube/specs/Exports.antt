@@ -1,7 +1,6 @@
--- The calls of document 01 and of requests C-12, C-15 and C-17 as C has them (include/vcube.h), where they differ from those of `station`,
--- `plant`, `granter`, `saved` and `figures`, for all inputs: the outcome of a run or a drive is given by the number and what the call leaves in the
--- variables and buffers lent to it, what a load reads by what it leaves in the variables, a tally is handed in by its parts, and figures and totals
--- are the members of a struct in their order.
+-- The calls as C has them (include/vcube.h), where they differ from those of `station`, `plant`, `granter`, `saved` and `figures`, for all inputs:
+-- the outcome of a run or a drive is given by the number and what the call leaves in the variables and buffers lent to it, what a load reads by what
+-- it leaves in the variables, a tally is handed in by its parts, and figures and totals are the members of a struct in their order.
 -- A station, level or last number may be any; the definitions of `station` and `granter` refuse it as they refuse any that is too high.
 -- Assumes nothing.
 use Rattle.std.specs.Prelude.{◌≡◌, ℕ, ◌+◌, List, [], ◌∷◌, Result, slice_index, slice_range}
@@ -11,8 +10,8 @@ use Rattle.lists.specs.Refusal.{number_of_result}
 use Rattle.station.specs.Calls.{row_part}
 use Rattle.plant.specs.declared.Tally.{Tally}
 use Rattle.plant.specs.Entry.{state_of}
-use Rattle.plant.specs.Run.{Outcome}
-use Rattle.granter.specs.Drive.{DriveOutcome, drive_outcome}
+use Rattle.plant.specs.Run.{RunResult}
+use Rattle.granter.specs.Drive.{DriveResult, drive_outcome}
 use Rattle.saved.specs.declared.Loaded.{Loaded}
 use Rattle.figures.specs.declared.Figures.{Figures}
 use Rattle.figures.specs.declared.Totals.{Totals}
@@ -22,11 +21,11 @@ abbrev pub IsRowAt : ℕ → List ℕ → ℕ → ℕ → ℕ → Type 0
 IsRowAt n t i start bytes = slice_range t start (start + bytes) ≡ row_part n t i
 
 -- Run: the outcome by its parts: the number, the entries taken, table, rounds and tests, and the sheet
-abbrev pub outcome_out : ℕ → ℕ → List ℕ → ℕ → ℕ → List ℕ → Outcome
+abbrev pub outcome_out : ℕ → ℕ → List ℕ → ℕ → ℕ → List ℕ → RunResult
 outcome_out number taken t rounds tests sheet = record { number = number; taken = taken; state = state_of t rounds tests; sheet = sheet }
 
 -- Drive: the outcome by its parts: the number, table, rounds and tests, the last granted number and the grants made
-abbrev pub drive_out : ℕ → List ℕ → ℕ → ℕ → ℕ → ℕ → DriveOutcome
+abbrev pub drive_out : ℕ → List ℕ → ℕ → ℕ → ℕ → ℕ → DriveResult
 drive_out number t rounds tests last grants = drive_outcome number (state_of t rounds tests) last grants
 
 -- Save: the tally by its parts
@@ -37,7 +36,7 @@ tally_of rounds tests = record { rounds = rounds; tests = tests }
 abbrev pub loaded_out : ℕ → ℕ → ℕ → Loaded
 loaded_out n rounds tests = record { size = n; tally = tally_of rounds tests }
 
--- C-12: what a call answers: its number, and the members of the struct that it fills, in their order
+-- what a call for figures or totals answers: its number, and the members of the struct that it fills, in their order
 pub record Filled : Type 0 where
   pub number : ℕ
   pub members : List ℕ
@@ -58,7 +57,7 @@ totals_members t = t.count ∷ t.sum ∷ t.squares ∷ t.least ∷ t.greatest �
 abbrev pub totals_with : List ℕ → Totals
 totals_with m = record { count = slice_index m 0; sum = slice_index m 1; squares = slice_index m 2; least = slice_index m 3; greatest = slice_index m 4 }
 
--- the figures and the totals that are given where the call is refused: "all 0"
+-- rule Refused means untouched: the figures and the totals of a refused call are all 0
 abbrev pub no_figures : Figures
 no_figures =
     record {

@@ -1,20 +1,20 @@
-// The calls of document 01 and of requests C-12, C-15 and C-17 for C and Rust, as include/vcube.h declares them. None has a `requires`: any numbers
-// and buffers are taken. Each returns 0 or the number of its refusal.
+// The calls for C and Rust, as include/vcube.h declares them. None has a `requires`: any numbers and buffers are taken. Each returns 0 or the
+// number of its refusal.
 #![tactic(auto)]
 
 ghost use Rattle.std.specs.Prelude.{◌≡◌, min, ◌++◌, length};
-ghost use Rattle.table.specs.Rules.{shape_number};
+ghost use Rattle.table.specs.Rules.{shape_refusal};
 ghost use Rattle.table.specs.Fresh.{fresh_after};
-ghost use Rattle.station.specs.Calls.{group_number, group_after, row_number, row_part, row_offset, assignment_number, assignment_after, assignment_count};
+ghost use Rattle.station.specs.Calls.{group_refusal, group_after, row_refusal, row_part, row_offset, assignment_refusal, assignment_after, assignment_count};
 ghost use Rattle.plant.specs.Entry.{state_of};
 ghost use Rattle.plant.specs.Run.{run};
 ghost use Rattle.detection.specs.Runs.{call_of, CountsTaken};
-ghost use Rattle.detection.specs.Claim.{WithinAfter, demand_wait, exact_wait};
-ghost use Rattle.detection.specs.Driven.{DrivenWithinAfter};
-ghost use Rattle.granter.specs.Grant.{grant_number, grant_station};
+ghost use Rattle.detection.specs.Claim.{DetectionAfter, square_bound, worst_latency};
+ghost use Rattle.detection.specs.Driven.{DrivenDetectionAfter};
+ghost use Rattle.granter.specs.Grant.{grant_refusal, grant_station};
 ghost use Rattle.granter.specs.Drive.{drive, StoppedIfTaken};
-ghost use Rattle.saved.specs.Load.{size_number, saved_size, size_figure, load_number, load_answer, loaded_figures, load_after};
-ghost use Rattle.saved.specs.Save.{save_number, save_after};
+ghost use Rattle.saved.specs.Load.{size_refusal, saved_size, size_figure, load_refusal, load_answer, loaded_figures, load_after};
+ghost use Rattle.saved.specs.Save.{save_refusal, save_after};
 ghost use Rattle.figures.specs.Batch.{figures};
 ghost use Rattle.figures.specs.Totals.{totals, join, figures_of_totals};
 ghost use Rattle.vcube.specs.Exports.{IsRowAt, outcome_out, drive_out, tally_of, loaded_out, filled, figures_members, totals_members, totals_with, figures_out, totals_out};
@@ -30,7 +30,7 @@ use table::{Level, Station, cells, fresh};
 // Fresh table: every line live, next distance 1, byte 4 255, all else 0.
 #[unsafe(no_mangle)]
 pub extern "C" fn vcube_fresh_table(n: usize, table: &mut [u8]) -> u8
-    ensures number { result ≡ shape_number n (length table.old) }
+    ensures number { result ≡ shape_refusal n (length table.old) }
     ensures table_after { table.new ≡ fresh_after n table.old }
 {
     number_of(fresh::fresh_table(n, table))
@@ -40,7 +40,7 @@ pub extern "C" fn vcube_fresh_table(n: usize, table: &mut [u8]) -> u8
 #[tactic(auto, using(crate::proofs::Narrow::group_check_narrow, crate::proofs::Narrow::group_after_narrow))]
 #[unsafe(no_mangle)]
 pub extern "C" fn vcube_group_list(n: usize, station: usize, level: usize, list: &mut [u8]) -> u8
-    ensures number { result ≡ group_number n station level (length list.old) }
+    ensures number { result ≡ group_refusal n station level (length list.old) }
     ensures list_after { list.new ≡ group_after n station level list.old }
 {
     let check = groups::group_list(n, Station(byte_of(station)), Level(byte_of(level)), list);
@@ -58,7 +58,7 @@ pub extern "C" fn vcube_assignment(
     list: &mut [u8],
     count: &mut usize,
 ) -> u8
-    ensures number { result ≡ assignment_number n table.now station (length list.old) }
+    ensures number { result ≡ assignment_refusal n table.now station (length list.old) }
     ensures count_after { count.new ≡ assignment_count n table.now station (length list.old) }
     ensures list_after { list.new ≡ assignment_after n table.now station list.old }
 {
@@ -80,7 +80,7 @@ pub extern "C" fn vcube_row(
     start: &mut usize,
     bytes: &mut usize,
 ) -> u8
-    ensures number { result ≡ row_number n table.now station }
+    ensures number { result ≡ row_refusal n table.now station }
     ensures start_after { start.new ≡ row_offset n table.now station }
     ensures bytes_after { bytes.new ≡ length (row_part n table.now station) }
     ensures row_at { IsRowAt n table.now station start.new bytes.new }
@@ -117,9 +117,9 @@ pub extern "C" fn vcube_run(
         ≡ run n (state_of table.old rounds.old tests.old) schedule.now sheet.old }
     ensures counts_taken { CountsTaken (call_of n schedule.now sheet.old)
         (state_of table.old rounds.old tests.old) taken.new }
-    ensures within_demand_wait { WithinAfter demand_wait (call_of n schedule.now sheet.old)
+    ensures detection_in_square { DetectionAfter square_bound (call_of n schedule.now sheet.old)
         (state_of table.old rounds.old tests.old) (state_of table.new rounds.new tests.new) }
-    ensures within_exact_wait { WithinAfter exact_wait (call_of n schedule.now sheet.old)
+    ensures detection_in_worst_case { DetectionAfter worst_latency (call_of n schedule.now sheet.old)
         (state_of table.old rounds.old tests.old) (state_of table.new rounds.new tests.new) }
 {
     let tally = Tally {
@@ -130,14 +130,14 @@ pub extern "C" fn vcube_run(
     *rounds = ran.tally.rounds;
     *tests = ran.tally.tests;
     *taken = ran.taken;
-    plant::stop_number(ran.stopped)
+    plant::stop_refusal(ran.stopped)
 }
 
 // Grant: the station that is granted after the last one, 0 where it is refused.
-#[tactic(auto, using(granter::proofs::GrantLaws::grant_answer_number))]
+#[tactic(auto, using(granter::proofs::GrantLaws::grant_answer_refusal))]
 #[unsafe(no_mangle)]
 pub extern "C" fn vcube_grant(n: usize, table: &[u8], last: usize, station: &mut usize) -> u8
-    ensures number { result ≡ grant_number n table.now last }
+    ensures number { result ≡ grant_refusal n table.now last }
     ensures station_after { station.new ≡ grant_station n table.now last }
 {
     let (number, to) = parts(grant::grant(n, table, last), Station(0));
@@ -159,9 +159,9 @@ pub extern "C" fn vcube_drive(
     ensures outcome { drive_out result table.new rounds.new tests.new last.new grants.new
         ≡ drive n (state_of table.old rounds.old tests.old) last.old }
     ensures stopped_if_taken { StoppedIfTaken n (state_of table.old rounds.old tests.old) last.old grants.new }
-    ensures driven_within_demand_wait { DrivenWithinAfter demand_wait n last.old
+    ensures driven_in_square { DrivenDetectionAfter square_bound n last.old
         (state_of table.old rounds.old tests.old) (state_of table.new rounds.new tests.new) }
-    ensures driven_within_exact_wait { DrivenWithinAfter exact_wait n last.old
+    ensures driven_in_worst_case { DrivenDetectionAfter worst_latency n last.old
         (state_of table.old rounds.old tests.old) (state_of table.new rounds.new tests.new) }
 {
     let tally = Tally {
@@ -173,7 +173,7 @@ pub extern "C" fn vcube_drive(
     *tests = driven.tally.tests;
     *last = driven.last;
     *grants = driven.grants;
-    plant::stop_number(driven.stopped)
+    plant::stop_refusal(driven.stopped)
 }
 
 // Save: the table and the tally as a saved plant, into a buffer of just its length.
@@ -185,7 +185,7 @@ pub extern "C" fn vcube_save(
     tests: u32,
     buffer: &mut [u8],
 ) -> u8
-    ensures number { result ≡ save_number n table.now (tally_of rounds tests) (length buffer.old) }
+    ensures number { result ≡ save_refusal n table.now (tally_of rounds tests) (length buffer.old) }
     ensures buffer_after { buffer.new ≡ save_after n table.now (tally_of rounds tests) buffer.old }
 {
     number_of(save::save(n, table, Tally { rounds, tests }, buffer))
@@ -201,7 +201,7 @@ pub extern "C" fn vcube_load(
     rounds: &mut u32,
     tests: &mut u32,
 ) -> u8
-    ensures number { result ≡ load_number file.now (length table.old) }
+    ensures number { result ≡ load_refusal file.now (length table.old) }
     ensures loaded_after { loaded_out n.new rounds.new tests.new
         ≡ loaded_figures (load_answer file.now (length table.old)) }
     ensures table_after { table.new ≡ load_after file.now table.old }
@@ -217,7 +217,7 @@ pub extern "C" fn vcube_load(
 #[tactic(auto, using(saved::proofs::Loading::size_numbered))]
 #[unsafe(no_mangle)]
 pub extern "C" fn vcube_saved_size(file: &[u8], n: &mut usize) -> u8
-    ensures number { result ≡ size_number file.now }
+    ensures number { result ≡ size_refusal file.now }
     ensures n_after { n.new ≡ size_figure (saved_size file.now) }
 {
     let (number, size) = parts(load::saved_size(file), 0);

@@ -10,7 +10,7 @@ use native.Mathlib.Decide.{dec_lt}
 use lib.Dec.{ltb}
 use lib.ListN.{length, take, drop, length-take}
 use lib.Seq.{take-take, take-nil, take_at}
-use Rattle.watch.specs.Input.{given, is_line_feed, lines, line_length, size_of, entry_of, Reading, reading_of, read_entries, read_lines}
+use Rattle.watch.specs.Input.{given, is_line_feed, lines, line_length, size_of, entry_in_line, Reading, reading_of, read_entries, read_lines}
 use Rattle.watch.specs.Input.{read_up_to}
 use Rattle.watch.specs.Watched.{watched, deciding}
 use Rattle.watch.proofs.LineLaws.{line-within, lines-first}
@@ -102,7 +102,7 @@ cut-entry : (room n k m : ℕ) (s : List ℕ) → 4 < m
     → (l : List ℕ) → read_entries room n k s (lines (take m l)) ≡ read_entries room n k s (lines l)
 unfolding read_entries
 cut-entry room n k m s h on =
-    cut-first (λ l. cond (ltb k room) (entry_of l) None) 4 (λ l e t. (taken-has k room l e t).1)
+    cut-first (λ l. cond (ltb k room) (entry_in_line l) None) 4 (λ l e t. (taken-has k room l e t).1)
     m h (λ e. read_entries room n (suc k) (s ++ (e.0 ∷ e.1 ∷ []))) (reading_of (k + 2) n k s) (read_entries room n k s) (λ l ls. refl)
     (λ l e r i t. on (e.0 ∷ e.1 ∷ []) r i (taken-has k room l e t).0)
 

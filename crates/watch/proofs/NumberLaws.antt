@@ -20,7 +20,7 @@ use Rattle.std.proofs.lemmas.Str.{IsUtf8-from_ascii}
 use Rattle.std.proofs.lemmas.Str.Ascii.{IsAscii-nil, IsAscii-cons}
 use Rattle.std.proofs.lemmas.Str.Parse.{IsNumeralModel, IsDigitsTest, numerals_by_fold, tells_all_ascii_digits, parse_digits, parse_gives, digits_value_short}
 use Rattle.std.proofs.Math.Nat.{pow-succ', pow-le-pow_right}
-use Rattle.watch.specs.Input.{is_digit, digits_from, number_of}
+use Rattle.watch.specs.Input.{is_digit, digits_from, digits_value}
 
 -- the value of digits that follow a value, as a fold, and when there is one: `parse` in those words
 abbrev read_on : ℕ → List ℕ → ℕ
@@ -45,16 +45,16 @@ digits-all v (b ∷ rest) = go (is_digit b) (digits-all (10 * v + (b - 48)) rest
     go false e = refl
 
 -- what is no number
-pub number_long : (most : ℕ) (l : List ℕ) → most < length l → number_of most l ≡ None
-unfolding number_of
+pub number_long : (most : ℕ) (l : List ℕ) → most < length l → digits_value most l ≡ None
+unfolding digits_value
 number_long most l h = go (leb 1 (length l)) (leb (length l) most) (grind (arith, nat_tests))
   where
     go : (a b : Bool) → b ≡ false → cond (a && b) (digits_from 0 l) None ≡ None
     go true b e = rw e
     go false b e = refl
 
-pub number_other : (most : ℕ) (l : List ℕ) → list_all is_digit l ≡ false → number_of most l ≡ None
-unfolding number_of
+pub number_other : (most : ℕ) (l : List ℕ) → list_all is_digit l ≡ false → digits_value most l ≡ None
+unfolding digits_value
 number_other most l e = go (leb 1 (length l) && leb (length l) most)
   where
     go : (a : Bool) → cond a (digits_from 0 l) None ≡ None
@@ -70,8 +70,8 @@ digits_text l e = IsUtf8-from_ascii l (ascii l e)
     ascii (b ∷ rest) e = let k = tells_all_ascii_digits.parts b rest e in IsAscii-cons b rest (omega (arith, k.0.1)) (ascii rest k.1)
 
 pub number_parsed : {E : Type 0} (most : ℕ) (l : List ℕ) (r : Result ℕ E) → most ≤ 3 → length l ≤ most → list_all is_digit l ≡ true
-    → ParsesUnsigned 64 10 l r → result_ok r ≡ number_of most l
-unfolding number_of
+    → ParsesUnsigned 64 10 l r → result_ok r ≡ digits_value most l
+unfolding digits_value
 number_parsed {E} most [] r h few e p = go r (parse_digits own 64 [] r p e)
   where
     go : (r : Result ℕ E) → OkIff r ((0 < 0) × (0 < 2 ^ 64)) 0 → result_ok r ≡ None
@@ -108,8 +108,8 @@ digits-small (b ∷ rest) k v w h e = go (is_digit b) refl e (digits-small rest 
     go false p e f = let z : ◌≡◌ {A = ℕ} 0 1 = cc in absurd (omega arith)
 
 -- what a number has
-pub number-has : (most : ℕ) (l : List ℕ) (v : ℕ) → number_of most l ≡ Some v → (length l ≤ most) × (digits_from 0 l ≡ Some v)
-unfolding number_of
+pub number-has : (most : ℕ) (l : List ℕ) (v : ℕ) → digits_value most l ≡ Some v → (length l ≤ most) × (digits_from 0 l ≡ Some v)
+unfolding digits_value
 number-has most l v = go (leb 1 (length l)) (leb (length l) most) refl
   where
     go : (a b : Bool) → leb (length l) most ≡ b → cond (a && b) (digits_from 0 l) None ≡ Some v
@@ -119,7 +119,7 @@ number-has most l v = go (leb 1 (length l)) (leb (length l) most) refl
     go false b p e = let z : ◌≡◌ {A = ℕ} 0 1 = cc in absurd (omega arith)
 
 -- a number of at most two digits fits a byte
-pub number_two : (l : List ℕ) (w : ℕ) → number_of 2 l ≡ Some w → w ≤ 99
+pub number_two : (l : List ℕ) (w : ℕ) → digits_value 2 l ≡ Some w → w ≤ 99
 number_two l w e =
     let h = number-has 2 l w e in
     omega (arith, digits-small l 0 0 w (omega arith) h.1, ten-two (0 + length l) (omega arith))

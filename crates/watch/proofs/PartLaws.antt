@@ -11,7 +11,7 @@ use lib.Dec.{eqb, ltb}
 use lib.ListN.{length, drop}
 use Rattle.std.specs.Prelude.{Option, None, Some}
 use Rattle.std.specs.List.{slice_split, onto_first}
-use Rattle.watch.specs.Input.{is_line_feed, on_first, lines, entry_of, Reading, reading_of, read_entries, read_lines, read_up_to, number_of}
+use Rattle.watch.specs.Input.{is_line_feed, on_first, lines, entry_in_line, Reading, reading_of, read_entries, read_lines, read_up_to, digits_value}
 
 abbrev pub parts : List ℕ → List (List ℕ)
 parts t = slice_split is_line_feed t
@@ -37,7 +37,7 @@ lines-fed (b ∷ c ∷ r) h n =
     ap (λ (ls : List (List ℕ)). cond (is_line_feed b) ([] ∷ ls) (on_first b ls)) (lines-fed (c ∷ r) (omega arith) (λ z. n (rw d z)))
 
 -- reading the parts
-module _ (room n k : ℕ) (s line : List ℕ) (ls : List (List ℕ)) (o : Option (ℕ × ℕ)) (told : o ≡ cond (ltb k room) (entry_of line) None) where
+module _ (room n k : ℕ) (s line : List ℕ) (ls : List (List ℕ)) (o : Option (ℕ × ℕ)) (told : o ≡ cond (ltb k room) (entry_in_line line) None) where
   pub part-stop : o ≡ None → read_entries room n k s (line ∷ ls) ≡ reading_of (k + 2) n k s
   unfolding read_entries
   part-stop z = rw (← told, z)
@@ -49,7 +49,7 @@ module _ (room n k : ℕ) (s line : List ℕ) (ls : List (List ℕ)) (o : Option
 -- of a whole reading that goes on like this behind k lines: the next line is no entry or has no room, or it is one
 module _ (room n k : ℕ) (s line : List ℕ) (ls : List (List ℕ)) (whole : Reading) (o : Option (ℕ × ℕ))
     (on : read_entries room n k s (drop k ls) ≡ whole) (cut : drop k ls ≡ line ∷ drop (k + 1) ls)
-    (told : o ≡ cond (ltb k room) (entry_of line) None) where
+    (told : o ≡ cond (ltb k room) (entry_in_line line) None) where
   pub read-stop : o ≡ None → whole ≡ reading_of (k + 2) n k s
   read-stop z = sym on ∙ ap (read_entries room n k s) cut ∙ part-stop room n k s line (drop (k + 1) ls) o told z
 
@@ -57,14 +57,14 @@ module _ (room n k : ℕ) (s line : List ℕ) (ls : List (List ℕ)) (whole : Re
   read-next x y z = sym (part-next room n k s line (drop (k + 1) ls) o told x y z) ∙ sym (ap (read_entries room n k s) cut) ∙ on
 
 pub parts-empty : (room : ℕ) → read_lines room (parts []) ≡ read_up_to room []
-unfolding read_lines read_up_to lines number_of
+unfolding read_lines read_up_to lines digits_value
 parts-empty room = refl
 
-pub parts-unsized : (room : ℕ) (l : List ℕ) (ls : List (List ℕ)) → number_of 3 l ≡ None → read_lines room (l ∷ ls) ≡ reading_of 1 0 0 []
+pub parts-unsized : (room : ℕ) (l : List ℕ) (ls : List (List ℕ)) → digits_value 3 l ≡ None → read_lines room (l ∷ ls) ≡ reading_of 1 0 0 []
 unfolding read_lines
 parts-unsized room l ls z = rw z
 
-pub parts-sized : (room n : ℕ) (l : List ℕ) (ls : List (List ℕ)) → number_of 3 l ≡ Some n → read_lines room (l ∷ ls) ≡ read_entries room n 0 [] ls
+pub parts-sized : (room n : ℕ) (l : List ℕ) (ls : List (List ℕ)) → digits_value 3 l ≡ Some n → read_lines room (l ∷ ls) ≡ read_entries room n 0 [] ls
 unfolding read_lines
 parts-sized room n l ls z = rw z
 

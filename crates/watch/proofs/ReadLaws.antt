@@ -10,38 +10,38 @@ use borrow.Author.Tests.{eq-eqb, ne_eqb, ltb-true}
 use lib.Dec.{ltb, eqb}
 use lib.ListN.{length, get_or, take, drop, length-append, take-append-drop}
 use lib.Seq.{take_all, drop-drop, length-take-le, sets}
-use Rattle.watch.specs.Input.{given, lines, digits_from, number_of, size_of, kind_of, entry_of, Reading, reading_of, read_entries}
-use Rattle.watch.specs.Input.{read_lines, read_up_to, answer_of}
+use Rattle.watch.specs.Input.{given, lines, digits_from, digits_value, size_of, kind_of, entry_in_line, Reading, reading_of, read_entries}
+use Rattle.watch.specs.Input.{read_lines, read_up_to, parsed_of}
 use Rattle.watch.proofs.NumberLaws.{number-has}
 use Rattle.lists.proofs.Writing.{sets-front}
 
 -- the entry of a line by the line's bytes
-pub entry_short : (l : List ℕ) → length l < 2 → entry_of l ≡ None
-unfolding entry_of
+pub entry_short : (l : List ℕ) → length l < 2 → entry_in_line l ≡ None
+unfolding entry_in_line
 entry_short [] h = refl
 entry_short (a ∷ []) h = refl
 entry_short (a ∷ b ∷ l) h = absurd (omega arith)
 
-pub entry_unspaced : (l : List ℕ) → 2 ≤ length l → (get_or l 1 0 ≡ 32 → ⊥) → entry_of l ≡ None
-unfolding entry_of
+pub entry_unspaced : (l : List ℕ) → 2 ≤ length l → (get_or l 1 0 ≡ 32 → ⊥) → entry_in_line l ≡ None
+unfolding entry_in_line
 entry_unspaced [] h n = absurd (omega arith)
 entry_unspaced (a ∷ []) h n = absurd (omega arith)
 entry_unspaced (a ∷ b ∷ l) h n = rw (ne_eqb b 32 n)
 
 pub entry_spaced : (l : List ℕ) → 2 ≤ length l → get_or l 1 0 ≡ 32
-    → entry_of l
-    ≡ option_and_then (λ kind. option_map (λ station. (kind, station)) (number_of 2 (take (length l - 2) (drop 2 l)))) (kind_of (get_or l 0 0))
-unfolding entry_of
+    → entry_in_line l
+    ≡ option_and_then (λ kind. option_map (λ station. (kind, station)) (digits_value 2 (take (length l - 2) (drop 2 l)))) (kind_of (get_or l 0 0))
+unfolding entry_in_line
 entry_spaced [] h s = absurd (omega arith)
 entry_spaced (a ∷ []) h s = absurd (omega arith)
 entry_spaced (a ∷ b ∷ l) h s = let e : take (suc (suc (length l)) - 2) l ≡ l = take_all _ l (omega arith) in rw (eq-eqb b 32 s, e)
 
 -- an entry's line is short
-entry_has : (l : List ℕ) (e : ℕ × ℕ) → entry_of l ≡ Some e → length l ≤ 4
-unfolding entry_of
+entry_has : (l : List ℕ) (e : ℕ × ℕ) → entry_in_line l ≡ Some e → length l ≤ 4
+unfolding entry_in_line
 entry_has [] e p = omega arith
 entry_has (a ∷ []) e p = omega arith
-entry_has (a ∷ b ∷ l) e p = go (eqb b 32) (kind_of a) (number_of 2 l) (number-has 2 l) p
+entry_has (a ∷ b ∷ l) e p = go (eqb b 32) (kind_of a) (digits_value 2 l) (number-has 2 l) p
   where
     go : (x : Bool) (k o : Option ℕ) → ((v : ℕ) → o ≡ Some v → (length l ≤ 2) × (digits_from 0 l ≡ Some v))
         → cond x (option_and_then (λ kind. option_map (λ station. (kind, station)) o) k) None ≡ Some e → suc (suc (length l)) ≤ 4
@@ -51,10 +51,10 @@ entry_has (a ∷ b ∷ l) e p = go (eqb b 32) (kind_of a) (number_of 2 l) (numbe
     go false k o f p = let z : ◌≡◌ {A = ℕ} 0 1 = cc in absurd (omega arith)
 
 -- so too where it is read only if there is room for one more
-pub taken-has : (k room : ℕ) (l : List ℕ) (e : ℕ × ℕ) → cond (ltb k room) (entry_of l) None ≡ Some e → (k < room) × (length l ≤ 4)
+pub taken-has : (k room : ℕ) (l : List ℕ) (e : ℕ × ℕ) → cond (ltb k room) (entry_in_line l) None ≡ Some e → (k < room) × (length l ≤ 4)
 taken-has k room l e = go (ltb k room) refl
   where
-    go : (b : Bool) → ltb k room ≡ b → cond b (entry_of l) None ≡ Some e → (k < room) × (length l ≤ 4)
+    go : (b : Bool) → ltb k room ≡ b → cond b (entry_in_line l) None ≡ Some e → (k < room) × (length l ≤ 4)
     go true t p = (ltb-true k room t, entry_has l e p)
     go false t p = let z : ◌≡◌ {A = ℕ} 0 1 = cc in absurd (omega arith)
 
@@ -74,7 +74,7 @@ entries_fit : (room n k : ℕ) (s : List ℕ) (ls : List (List ℕ)) → k ≤ r
 unfolding read_entries
 entries_fit room n k s [] h p = record { within = h; pairs = p }
 entries_fit room n k s (l ∷ ls) h p =
-    go (cond (ltb k room) (entry_of l) None) _ (taken-has k room l)
+    go (cond (ltb k room) (entry_in_line l) None) _ (taken-has k room l)
     (λ e w. entries_fit room n (suc k) (s ++ (e.0 ∷ e.1 ∷ [])) ls w (simp length-append (omega arith)))
   where
     go : (o : Option (ℕ × ℕ)) (next : ℕ × ℕ → Reading) → ((e : ℕ × ℕ) → o ≡ Some e → (k < room) × (length l ≤ 4))
@@ -102,5 +102,5 @@ sets-part s s₀ a h long e =
 
 -- what is answered where the line of entry k is unreadable
 pub answer_stop : (n k : ℕ) (s : List ℕ)
-    → Err (record { line = k + 2; before = record { size = n; entries = k } }) ≡ answer_of (reading_of (k + 2) n k s)
+    → Err (record { line = k + 2; before = record { size = n; entries = k } }) ≡ parsed_of (reading_of (k + 2) n k s)
 answer_stop n k s = let e : eqb (k + 2) 0 ≡ false = ne_eqb (k + 2) 0 (λ (z : k + 2 ≡ 0). omega arith) in rw e

@@ -17,10 +17,10 @@ use Rattle.table.specs.Rules.{shape_check, table_check}
 use Rattle.table.specs.Fresh.{fresh_table, fresh_after}
 use Rattle.plant.specs.declared.Ran.{Ran as RanPlant}
 use Rattle.plant.specs.Entry.{State, state_of}
-use Rattle.plant.specs.Run.{Outcome, outcome_with, start_check, run}
+use Rattle.plant.specs.Run.{RunResult, outcome_with, start_check, run}
 use Rattle.watch.specs.declared.input.Parsed.{Parsed}
 use Rattle.watch.specs.declared.input.Unread.{Unread}
-use Rattle.watch.specs.Input.{Reading, room_for, read_input, read_into, answer_of}
+use Rattle.watch.specs.Input.{Reading, room_for, read_input, read_into, parsed_of}
 use Rattle.watch.specs.Watched.{Answer, said, says_run, said_with, watched_with, run_answer, carried_out, watched}
 use Rattle.watch.proofs.ReadLaws.{read_fits}
 
@@ -41,7 +41,7 @@ part-back k l =
     whole (suc k) [] = refl
     whole (suc k) (x ∷ l) = ap (λ (r : List ℕ). x ∷ r) (whole k l)
 
--- "A refused size prints the header and the last line": number 1, nothing taken, zero tallies; the sheet is unchanged
+-- a refused size: number 1, nothing taken, zero tallies; the run sheet is unchanged
 abbrev refused : Answer
 refused = record { number = 1; taken = 0; tally = record { rounds = 0; tests = 0 } }
 
@@ -66,12 +66,12 @@ carried n t schedule lent r t' s' k shaped twice long fits e = pick (is_size n) 
         rw (← twice, ← g) (rw (sym front))
     pick false y =
         let g = e ∙ size-refused n (state_of (fresh_after n t) 0 0) schedule (take k lent) y in
-        let p : said (Ok r) ≡ says_run refused = ap (λ (o : Outcome). says_run (run_answer o)) g in
-        let q : s' ≡ take k lent = ap (λ (o : Outcome). o.sheet) g in
+        let p : said (Ok r) ≡ says_run refused = ap (λ (o : RunResult). says_run (run_answer o)) g in
+        let q : s' ≡ take k lent = ap (λ (o : RunResult). o.sheet) g in
         rw (carried-refused n schedule lent y, p, q, take-append-drop)
 
 -- what an answer says of the reading
-answer-ok : (r : Reading) (p : Parsed) → Ok p ≡ answer_of r → (r.unread ≡ 0) × (p.size ≡ r.size) × (p.entries ≡ r.entries)
+answer-ok : (r : Reading) (p : Parsed) → Ok p ≡ parsed_of r → (r.unread ≡ 0) × (p.size ≡ r.size) × (p.entries ≡ r.entries)
 answer-ok r p = go (eqb r.unread 0) refl
   where
     whole : Parsed
@@ -85,7 +85,7 @@ answer-ok r p = go (eqb r.unread 0) refl
     go true e f = let g : ◌≡◌ {A = Parsed} p whole = cc in (eqb-true r.unread 0 e, ap (λ (q : Parsed). q.size) g, ap (λ (q : Parsed). q.entries) g)
     go false e f = cc
 
-answer-err : (r : Reading) (u : Unread) → Err u ≡ answer_of r → (eqb r.unread 0 ≡ false) × (u.line ≡ r.unread)
+answer-err : (r : Reading) (u : Unread) → Err u ≡ parsed_of r → (eqb r.unread 0 ≡ false) × (u.line ≡ r.unread)
 answer-err r u = go (eqb r.unread 0) refl
   where
     whole : Parsed
@@ -98,17 +98,17 @@ answer-err r u = go (eqb r.unread 0) refl
     go true e f = cc
     go false e f = let g : ◌≡◌ {A = Unread} u stop = cc in (e, ap (λ (v : Unread). v.line) g)
 
--- an input that is read into a schedule with room for all that the document allows
+-- an input that is read into a schedule with room for all entries
 module _ (lent input schedule₀ schedule : List ℕ) (room : length schedule₀ ≡ 8192)
     (read : schedule ≡ sets schedule₀ 0 (read_into schedule₀ input).schedule) where
   whole : read_into schedule₀ input ≡ read_input input
   whole = let e : room_for (length schedule₀) ≡ 4096 = omega arith in rw e
 
-  pub watched_unread : (u : Unread) → Err u ≡ answer_of (read_into schedule₀ input) → watched_with (Err u) lent ≡ watched lent input
+  pub watched_unread : (u : Unread) → Err u ≡ parsed_of (read_into schedule₀ input) → watched_with (Err u) lent ≡ watched lent input
   unfolding watched
   watched_unread u e = let f = answer-err (read_input input) u (rw whole at e) in rw (f.0, f.1)
 
-  module _ (p : Parsed) (e : Ok p ≡ answer_of (read_into schedule₀ input)) where
+  module _ (p : Parsed) (e : Ok p ≡ parsed_of (read_into schedule₀ input)) where
     parts : ((read_input input).unread ≡ 0) × (p.size ≡ (read_input input).size) × (p.entries ≡ (read_input input).entries)
     parts = answer-ok (read_input input) p (rw whole at e)
 

@@ -1,4 +1,4 @@
--- Document 01, the run program: what its standard input means, for all inputs.
+-- The run program: what its standard input means, for all inputs.
 -- Assumes nothing.
 use Rattle.std.specs.Prelude.{ℕ, suc, ◌+◌, ◌*◌, ◌-◌, ◌/◌, min, Bool, ◌&&◌, List, [], ◌∷◌, ◌++◌, length, nat_lt, nat_le}
 use Rattle.std.specs.Prelude.{Option, None, Some, option_and_then, option_map, Result, Ok, Err, if◌then◌else◌, ◌==◌}
@@ -12,7 +12,7 @@ abbrev pub given : {A B : Type 0} → Option A → (A → B) → B → B
 given None read other = other
 given (Some a) read other = read a
 
--- "Lines end with a line feed"
+-- the byte that ends a line
 abbrev pub is_line_feed : ℕ → Bool
 is_line_feed b = b == 10
 
@@ -21,7 +21,7 @@ unfoldable pub on_first : ℕ → List (List ℕ) → List (List ℕ)
 on_first b [] = (b ∷ []) ∷ []
 on_first b (l ∷ ls) = (b ∷ l) ∷ ls
 
--- the lines of the input, without their line feeds. "a line feed, which the last line of the input may lack"
+-- the lines of the input, without their line feeds. The last line may lack its line feed
 unfoldable pub lines : List ℕ → List (List ℕ)
 lines [] = []
 lines (b ∷ rest) = if is_line_feed b then [] ∷ lines rest else on_first b (lines rest)
@@ -35,29 +35,29 @@ line_length (b ∷ rest) = if is_line_feed b then 0 else suc (line_length rest)
 abbrev pub is_digit : ℕ → Bool
 is_digit b = nat_le 48 b && nat_le b 57
 
--- the value of digits that follow a value; "leading zeros are read"
+-- the value of digits that follow a value; leading zeros are read
 unfoldable pub digits_from : ℕ → List ℕ → Option ℕ
 digits_from v [] = Some v
 digits_from v (b ∷ rest) = if is_digit b then digits_from (10 * v + (b - 48)) rest else None
 
 -- one to `most` digits and nothing else
-unfoldable pub number_of : ℕ → List ℕ → Option ℕ
-number_of most l = if nat_le 1 (length l) && nat_le (length l) most then digits_from 0 l else None
+unfoldable pub digits_value : ℕ → List ℕ → Option ℕ
+digits_value most l = if nat_le 1 (length l) && nat_le (length l) most then digits_from 0 l else None
 
--- "the size (one to three digits)"
+-- the size of a first line, of one to three digits
 abbrev pub size_of : List ℕ → Option ℕ
-size_of l = number_of 3 l
+size_of l = digits_value 3 l
 
--- "T, L or C (kinds 1, 2, 3)"
+-- the kind of a letter: T, L and C are 1, 2 and 3
 unfoldable pub kind_of : ℕ → Option ℕ
 kind_of b = if b == 84 then Some 1 else (if b == 76 then Some 2 else (if b == 67 then Some 3 else None))
 
--- "then per line T, L or C (kinds 1, 2, 3), a space and one or two digits": the entry's kind and station
-unfoldable pub entry_of : List ℕ → Option (ℕ × ℕ)
-entry_of [] = None
-entry_of (letter ∷ []) = None
-entry_of (letter ∷ space ∷ digits) =
-    if space == 32 then option_and_then (λ kind. option_map (λ station. (kind, station)) (number_of 2 digits)) (kind_of letter) else None
+-- the kind and the station of an entry's line: a letter, a space and one or two digits
+unfoldable pub entry_in_line : List ℕ → Option (ℕ × ℕ)
+entry_in_line [] = None
+entry_in_line (letter ∷ []) = None
+entry_in_line (letter ∷ space ∷ digits) =
+    if space == 32 then option_and_then (λ kind. option_map (λ station. (kind, station)) (digits_value 2 digits)) (kind_of letter) else None
 
 -- the same of an entry as a value
 abbrev pub pair_of : Entry → ℕ × ℕ
@@ -74,21 +74,21 @@ pub record Reading : Type 0 where
 abbrev pub reading_of : ℕ → ℕ → ℕ → List ℕ → Reading
 reading_of u n k s = record { unread = u; size = n; entries = k; schedule = s }
 
--- reading goes on after the size n and k entries, whose bytes are s: the next line has the number k + 2. "At the first unreadable line or a
--- 4,097th entry, whichever comes first": where there is no room for one more entry, its line counts as unreadable
+-- reading goes on after the size n and k entries, whose bytes are s: the next line has the number k + 2. Where there is no room for one more
+-- entry, its line counts as unreadable
 unfoldable pub read_entries : ℕ → ℕ → ℕ → List ℕ → List (List ℕ) → Reading
 read_entries room n k s [] = reading_of 0 n k s
 read_entries room n k s (l ∷ ls) =
-    given (if nat_lt k room then entry_of l else None)
+    given (if nat_lt k room then entry_in_line l else None)
     (λ e. read_entries room n (suc k) (s ++ (e.0 ∷ e.1 ∷ [])) ls)
     (reading_of (k + 2) n k s)
 
--- "empty input is unreadable at line 1"
+-- Rule Unreadable: what the lines mean, or the number of the first that cannot be read. An empty input is unreadable at line 1
 unfoldable pub read_lines : ℕ → List (List ℕ) → Reading
 read_lines room [] = reading_of 1 0 0 []
 read_lines room (l ∷ ls) = given (size_of l) (λ n. read_entries room n 0 [] ls) (reading_of 1 0 0 [])
 
--- "at most 4,096 entries", and no more than a lent schedule of `len` bytes holds, at two bytes each
+-- how many entries are read: 4,096 at most, and no more than a lent schedule of `len` bytes holds, at two bytes each
 abbrev pub room_for : ℕ → ℕ
 room_for len = min 4096 (len / 2)
 
@@ -96,16 +96,16 @@ room_for len = min 4096 (len / 2)
 unfoldable pub read_up_to : ℕ → List ℕ → Reading
 read_up_to room input = read_lines room (lines input)
 
--- the whole input as the document has it
+-- Rule Input: what the whole input means
 abbrev pub read_input : List ℕ → Reading
 read_input input = read_up_to 4096 input
 
--- the whole input, into a lent schedule. One of 8,192 bytes or more has room for all that the document allows: this is then read_input
+-- the whole input, read into a lent schedule. One of 8,192 bytes or more has room for all entries: this is then read_input
 abbrev pub read_into : List ℕ → List ℕ → Reading
 read_into lent input = read_up_to (room_for (length lent)) input
 
 -- what is answered of a reading: what was read, or the first unreadable line with what was read before it
-abbrev pub answer_of : Reading → Result Parsed Unread
-answer_of r =
+abbrev pub parsed_of : Reading → Result Parsed Unread
+parsed_of r =
     if r.unread == 0 then Ok (record { size = r.size; entries = r.entries })
     else Err (record { line = r.unread; before = record { size = r.size; entries = r.entries } })

@@ -1,4 +1,4 @@
--- Document 01, the run program: what comes of its standard input, for all inputs.
+-- The run program: what comes of its standard input, for all inputs.
 -- Assumes nothing.
 use Rattle.std.specs.Prelude.{ℕ, ◌*◌, List, length, take, Result, Ok, Err, if◌then◌else◌, ◌==◌}
 use Rattle.std.proofs.lemmas.List.Edits.{sets}
@@ -6,17 +6,17 @@ use Rattle.table.specs.Fresh.{fresh_table}
 use Rattle.plant.specs.declared.Ran.{Ran}
 use Rattle.plant.specs.declared.Tally.{Tally}
 use Rattle.plant.specs.Entry.{state_of}
-use Rattle.plant.specs.Run.{Outcome, stop_number, run}
+use Rattle.plant.specs.Run.{RunResult, stop_refusal, run}
 use Rattle.watch.specs.declared.input.Unread.{Unread}
 use Rattle.watch.specs.Input.{Reading, read_input}
 
--- a run "answers the number (0 or a refusal), how many entries were taken, and the tally"
+-- what a run answers: the number (0 or a refusal), how many entries were taken, and the tally
 pub record Answer : Type 0 where
   pub number : ℕ
   pub taken : ℕ
   pub tally : Tally
 
--- what is printed: "that line's number from 1", or what the run answers
+-- what is printed: the number of an unreadable line, counted from 1, or what the run answers
 pub data Said : Type 0 where
   says_unread : ℕ → Said
   says_run : Answer → Said
@@ -24,7 +24,7 @@ pub data Said : Type 0 where
 -- what an answer says
 abbrev pub said : Result Ran Unread → Said
 said (Err u) = says_unread u.line
-said (Ok r) = says_run (record { number = stop_number r.stopped; taken = r.taken; tally = r.tally })
+said (Ok r) = says_run (record { number = stop_refusal r.stopped; taken = r.taken; tally = r.tally })
 
 -- what comes of an input: what is printed, and the sheet, of which the lines of the entries taken are printed
 pub record Watched : Type 0 where
@@ -39,23 +39,22 @@ abbrev pub watched_with : Result Ran Unread → List ℕ → Watched
 watched_with r sheet = said_with (said r) sheet
 
 -- what a run with this outcome answers
-abbrev pub run_answer : Outcome → Answer
+abbrev pub run_answer : RunResult → Answer
 run_answer o = record { number = o.number; taken = o.taken; tally = record { rounds = o.state.rounds; tests = o.state.tests } }
 
 -- an outcome, with the sheet of the run as the first part of the lent one
-abbrev ran_on : List ℕ → Outcome → Watched
+abbrev ran_on : List ℕ → RunResult → Watched
 ran_on lent o = said_with (says_run (run_answer o)) (sets lent 0 o.sheet)
 
--- "It starts from a fresh table and zero tallies." The run takes a part of the lent sheet, of twice the schedule's length
+-- the run of the entries on a fresh table with a tally of 0 and 0. It takes a part of the lent run sheet, of twice the schedule's length
 abbrev pub carried_out : ℕ → List ℕ → List ℕ → Watched
 carried_out n schedule lent = ran_on lent (run n (state_of (fresh_table n) 0 0) schedule (take (2 * length schedule) lent))
 
--- "At the first unreadable line or a 4,097th entry, whichever comes first, the program prints only `unread`, a space and that line's
--- number from 1"
+-- what comes of a reading: the number of the first unreadable line and nothing else, or the run
 abbrev watched_of : List ℕ → Reading → Watched
 watched_of lent r = if r.unread == 0 then carried_out r.size r.schedule lent else said_with (says_unread r.unread) lent
 
--- the whole input, with a lent sheet: the program lends 16,384 zeros
+-- Rule Output: the whole input, with a lent run sheet: the program lends 16,384 zeros
 unfoldable pub watched : List ℕ → List ℕ → Watched
 watched lent input = watched_of lent (read_input input)
 

@@ -1,9 +1,9 @@
-// What standard input holds (document 01, the run program): lines, the size, the entries. The one call is `parse`.
+// What standard input holds: lines, the size, the entries. The one call is `parse`.
 ghost use Rattle.std.specs.Prelude.{◌≡◌, ℕ, [], ◌∷◌, ◌++◌, ◌+◌, ◌*◌, ◌≤◌, suc, length, take, drop, None, option_map, if◌then◌else◌, nat_lt};
 ghost use Rattle.std.proofs.lemmas.List.Edits.{sets};
 ghost use Rattle.plant.specs.Kind.{kind_byte};
 ghost use Rattle.std.specs.List.{slice_split};
-ghost use Rattle.watch.specs.Input.{is_line_feed, lines, number_of, kind_of, entry_of, pair_of, answer_of, read_lines, read_up_to, room_for, read_into};
+ghost use Rattle.watch.specs.Input.{is_line_feed, lines, digits_value, kind_of, entry_in_line, pair_of, parsed_of, read_lines, read_up_to, room_for, read_into};
 
 use plant::entry::Entry;
 use plant::kind::Kind;
@@ -37,7 +37,7 @@ impl Error for Unread {}
 // Reads the whole input. The entries before the first unreadable line go into the schedule, two bytes each, and its rest is unchanged. An
 // entry for which the schedule has no room counts as unreadable.
 pub fn parse(input: &[u8], schedule: &mut [u8]) -> Result<Parsed, Unread>
-    ensures answer { result ≡ answer_of (read_into schedule.old input.now) }
+    ensures answer { result ≡ parsed_of (read_into schedule.old input.now) }
     ensures schedule_after { let entries = (read_into schedule.old input.now).schedule in
         schedule.new ≡ sets schedule.old 0 entries }
 {
@@ -97,7 +97,7 @@ fn put_entry(schedule: &mut [u8], k: usize, entry: Entry)
 
 // The entry of a line, where k entries were read and there is room for one more.
 fn entry_with_room(k: usize, room: usize, line: &[u8]) -> Option<Entry>
-    ensures { option_map pair_of result ≡ if nat_lt k room then entry_of line.now else None }
+    ensures { option_map pair_of result ≡ if nat_lt k room then entry_in_line line.now else None }
 {
     if k < room { read_entry(line) } else { None }
 }
@@ -105,7 +105,7 @@ fn entry_with_room(k: usize, room: usize, line: &[u8]) -> Option<Entry>
 // The entry of a line, if it is one.
 #[tactic(auto, using(crate::proofs::ReadLaws::entry_short, crate::proofs::ReadLaws::entry_unspaced, crate::proofs::ReadLaws::entry_spaced, crate::proofs::NumberLaws::number_two))]
 fn read_entry(line: &[u8]) -> Option<Entry>
-    ensures { option_map pair_of result ≡ entry_of line.now }
+    ensures { option_map pair_of result ≡ entry_in_line line.now }
 {
     let [letter, b' ', digits @ ..] = line else {
         return None;
@@ -135,7 +135,7 @@ fn kind_of(letter: u8) -> Option<Kind>
 // them would be longer than both.
 fn read_number(digits: &[u8], most: usize) -> Option<usize>
     requires { most ≤ 3 }
-    ensures { result ≡ number_of most digits.now }
+    ensures { result ≡ digits_value most digits.now }
 {
     // That all are digits is asked first, since `parse` takes a sign too.
     if most < digits.len() || !digits.iter().all(u8::is_ascii_digit) {

@@ -1,5 +1,5 @@
-// The run program (document 01): it reads a size and a schedule from standard input, carries the schedule out on a fresh table with zero
-// tallies and prints the sheet and the answer.
+// The run program: it reads a size and a schedule from standard input, carries the schedule out on a fresh table with zero
+// tallies and prints the run sheet and the answer.
 #![tactic(auto)]
 
 mod input;

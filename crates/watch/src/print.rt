@@ -1,4 +1,4 @@
-// What the run program prints (document 01). No contract can say what is written; these functions are safe. What cannot be written is left
+// What the run program prints. No contract can say what is written; these functions are safe. What cannot be written is left
 // out, and what follows is tried all the same.
 use crate::input::Unread;
 use plant::{Ran, Tally};
@@ -22,7 +22,7 @@ fn print_run(rt: &impl Print, sheet: &[u8], ran: Ran) {
     let Tally { rounds, tests } = ran.tally;
     let _ = println!(rt;
         "rounds {rounds} tests {tests} refused {} at {}",
-        plant::stop_number(ran.stopped),
+        plant::stop_refusal(ran.stopped),
         ran.taken
     );
 }

@@ -1,4 +1,4 @@
-// What comes of an input (document 01, the run program): it is read, and its schedule is carried out on a fresh table with zero tallies.
+// What comes of an input: it is read, and its schedule is carried out on a fresh table with zero tallies.
 ghost use Rattle.std.specs.Prelude.{◌≡◌, ℕ, List, ◌++◌, Ok, true, false, ◌*◌, ◌≤◌, length, take};
 ghost use Rattle.table.specs.Sizes.{is_size};
 ghost use Rattle.table.specs.Table.{greatest_table, table_length};

@@ -17,10 +17,10 @@ use Rattle.lists.specs.Sums.{sum_below}
 use Rattle.detection.specs.Runs.{after_runs, taken_from, taken_in, taken_all}
 use Rattle.detection.specs.Rounds.{any_taken, all_taken, count_taken, closes, cut}
 use Rattle.table.specs.Properties.{at_start, live_count, none_suspected}
-use Rattle.detection.specs.Claim.{dead_group, dead_pairs}
+use Rattle.detection.specs.Claim.{group_without_live, pairs_without_live}
 use Rattle.lists.specs.Bytes.{joined_byte}
 
 -- who unfolds this name unfolds all the definitions on its line, and a list of runs computes
 unfoldable pub whole_run : Unit {0}
-unfolding rounds_after leave_told at_start live_count none_suspected dead_pairs dead_group sum_below after_runs taken_from taken_in taken_all any_taken all_taken count_taken closes cut run start_check table_check shape_check is_size table_length every line_rules exit_rule row_rule some_live live_finished cell line_start row set_row set_cell fresh_table fresh_byte list_of go_on entries entry_check after acted sheet_line tested_of outcome_of turn turn_tested turn_outcome crash reset_line reset_lines after_round after_steps next_test makes_test finish_pass count_test replies is_told exchange_rows suspect reply_outcome test_outcome after_outcome self_or_suspected is_alone after_alone testing answer due first first_place least unsuspected member width level dimension distances union union_byte joined_byte mark
+unfolding rounds_after leave_told at_start live_count none_suspected pairs_without_live group_without_live sum_below after_runs taken_from taken_in taken_all any_taken all_taken count_taken closes cut run start_check table_check shape_check is_size table_length every line_rules exit_rule row_rule some_live live_finished cell line_start row set_row set_cell fresh_table fresh_byte list_of go_on entries entry_check after acted sheet_line tested_of outcome_of turn turn_tested turn_outcome crash reset_line reset_lines after_round after_steps next_test makes_test finish_pass count_test replies is_told exchange_rows suspect reply_outcome test_outcome after_outcome self_or_suspected is_alone after_alone testing answer due first first_place least unsuspected member width level dimension distances union union_byte joined_byte mark
 whole_run = tt

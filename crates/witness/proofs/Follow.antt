@@ -24,7 +24,7 @@ use Rattle.plant.specs.Turn.{kind_turn, next_test, makes_test, turn}
 use Rattle.plant.proofs.NextTest.{next_test-low, not-due-before, test_below, test-due, none-due}
 use Rattle.plant.proofs.TurnHeads.{Heads, turn-heads}
 use Rattle.plant.specs.Round.{reset_lines, after_round}
-use Rattle.plant.specs.Entry.{Entry, State, entry_of, tally_top, tally_full, is_test, entry_check, entry_number, acted, after}
+use Rattle.plant.specs.Entry.{Entry, State, entry_of, tally_top, tally_full, is_test, entry_check, entry_refusal, acted, after}
 use Rattle.plant.proofs.RulesKept.{Takes, entry-facts, accepted-kept}
 use Rattle.plant.proofs.RoundLaws.{reset-cells, reset-other}
 use Rattle.detection.proofs.TurnEffect.{Company}
@@ -94,7 +94,7 @@ module _ (n N : ℕ) (L : ℕ → Bool) (low : n ≤ N) (absent : (k : ℕ) → 
     pub Ok : Accepted N w.table
 
   -- a turn of i in the first plant, which is taken
-  module _ (s : State) (i : ℕ) (ok : Accepted n s.table) (z : entry_number n s (entry_of kind_turn i) ≡ 0) (li : L i ≡ true) where
+  module _ (s : State) (i : ℕ) (ok : Accepted n s.table) (z : entry_refusal n s (entry_of kind_turn i) ≡ 0) (li : L i ≡ true) where
     abbrev t : List ℕ
     t = s.table
 
@@ -129,7 +129,7 @@ module _ (n N : ℕ) (L : ℕ → Bool) (low : n ≤ N) (absent : (k : ℕ) → 
       h : i < N
       h = omega (arith, below i li)
 
-      taken : entry_number N w e ≡ 0
+      taken : entry_refusal N w e ≡ 0
       unfolding entry_check
       taken =
           let full : tally_full w.rounds w.tests ≡ false =

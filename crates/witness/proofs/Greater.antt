@@ -1,4 +1,4 @@
--- If the exact wait cannot be shortened at size n by turns of a plant, it cannot at any greater size with as many levels: the boards from n on
+-- If the worst-case latency is reached at size n by turns of a plant, it is at any greater size with as many levels: the boards from n on
 -- are dead, and every live board suspects them from the start.
 -- Assumes nothing.
 use mathlib.Core.Path.{◌≡◌, refl, sym, ap, ◌∙◌}
@@ -27,9 +27,9 @@ use Rattle.plant.proofs.RulesKept.{unfinished-open}
 use Rattle.plant.proofs.RunLaws.{accepted-number}
 use Rattle.detection.specs.Runs.{taken_all}
 use Rattle.detection.specs.Rounds.{all_taken}
-use Rattle.detection.specs.Claim.{Premises, exact_wait}
+use Rattle.detection.specs.Claim.{DetectionPremises, worst_latency}
 use Rattle.detection.proofs.TurnEffect.{Company}
-use Rattle.detection.proofs.Demand3.{trusts, company-of}
+use Rattle.detection.proofs.DetectionClaim.{trusts, company-of}
 use Rattle.witness.proofs.Slow.{Slow}
 use Rattle.witness.proofs.Moves.{Like}
 use Rattle.witness.proofs.Follow.{Alike, follow}
@@ -174,13 +174,13 @@ module _ (n N : ℕ) (p : Slow n) (Size : is_size N ≡ true) (low : n ≤ N) (l
     small = record {
       lines = (ok.long, accepted-line n t ok);
       lives = λ k h. rw (lt-ltb k n h);
-      trusted = λ i j h g a b. trusts n t ok p.premises.trusted i j h g (parts i a).1 (parts j b).1;
+      accurate = λ i j h g a b. trusts n t ok p.premises.accurate i j h g (parts i a).1 (parts j b).1;
     };
     big = record {
       lines = (long_of, line_of);
       lives = live_of;
-      trusted = λ i j h g a b. row_below i j a (parts j b).0
-          ∙ trusts n t ok p.premises.trusted i j (parts i a).0 (parts j b).0 (parts i a).1 (parts j b).1;
+      accurate = λ i j h g a b. row_below i j a (parts j b).0
+          ∙ trusts n t ok p.premises.accurate i j (parts i a).0 (parts j b).0 (parts i a).1 (parts j b).1;
     };
     finish = λ k l. finished-of k (omega (arith, (parts k l).0)) ∙ sym (at-start k (parts k l).0).1;
     rows = row_below;
@@ -204,14 +204,14 @@ module _ (n N : ℕ) (p : Slow n) (Size : is_size N ≡ true) (low : n ≤ N) (l
   }
 
   -- what the claim describes
-  given : Premises N w []
+  given : DetectionPremises N w []
   unfolding at_start live_count none_suspected all_taken taken_all
   given = record {
     size = Size;
     long = long_of;
     start = every-all (line_at_start N u) N (λ i h. rw (next_of i h, finished-of i h, tests-of i h));
     two_live = omega (arith, two, p.premises.two_live);
-    trusted = every-all _ N (λ i h. every-all (no_live_suspicion N u i) N (λ j g. unsuspecting i j h g));
+    accurate = every-all _ N (λ i h. every-all (no_live_suspicion N u i) N (λ j g. unsuspecting i j h g));
     no_crash = refl;
     no_late = refl;
   }
@@ -224,7 +224,7 @@ module _ (n N : ℕ) (p : Slow n) (Size : is_size N ≡ true) (low : n ≤ N) (l
       unsuspecting : (i j : ℕ) → i < N → j < N → no_live_suspicion N u i j ≡ true
       unsuspecting i j h g =
           by_bool (L i)
-          (λ a. by_bool (L j) (λ b. rw (live_of i h, live_of j g, a, b, like.big.trusted i j h g a b)) (λ b. rw (live_of i h, live_of j g, a, b)))
+          (λ a. by_bool (L j) (λ b. rw (live_of i h, live_of j g, a, b, like.big.accurate i j h g a b)) (λ b. rw (live_of i h, live_of j g, a, b)))
           (λ a. rw (live_of i h, a))
 
   -- so the second plant is slow as well
@@ -239,7 +239,7 @@ module _ (n N : ℕ) (p : Slow n) (Size : is_size N ≡ true) (low : n ≤ N) (l
         turns = f.turns;
         last = f.left;
         goes = f.goes;
-        rounds = ap suc f.alike.rounds ∙ (p.rounds ∙ ap (λ (d : ℕ). p.first.rounds + exact_wait d) levels);
+        rounds = ap suc f.alike.rounds ∙ (p.rounds ∙ ap (λ (d : ℕ). p.first.rounds + worst_latency d) levels);
         board = p.board;
         board_below = omega (arith, p.board_below);
         board_live = live_of p.board (omega (arith, p.board_below)) ∙ alive;

@@ -1,4 +1,4 @@
--- What is shown by computed plants: that demand 3's premises can be met, and that the exact wait cannot be shortened at any size from 3 on.
+-- What is shown by computed plants: that the detection conditions can be met, and that the worst-case latency is reached at any size from 3 on.
 pub mod Computing
 pub mod Witness
 pub mod Moves

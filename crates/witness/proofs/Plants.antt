@@ -12,14 +12,14 @@ use Rattle.lists.proofs.BoolLaws.{by_bool}
 use Rattle.lists.proofs.SearchLaws.{both}
 use Rattle.table.specs.Sizes.{is_size, dimension}
 use Rattle.table.specs.Table.{head, table_length, set_cell, suspects, live, rounds_ago_column}
-use Rattle.table.specs.Rules.{not_live, table_number}
+use Rattle.table.specs.Rules.{not_live, table_refusal}
 use Rattle.table.specs.Properties.{at_start, live_count, none_suspected}
 use Rattle.table.specs.Fresh.{fresh_table}
 use Rattle.plant.specs.Turn.{crash, kind_turn}
-use Rattle.plant.specs.Entry.{State, state_of, entry_of, entry_number, after}
+use Rattle.plant.specs.Entry.{State, state_of, entry_of, entry_refusal, after}
 use Rattle.detection.specs.Runs.{taken_all}
 use Rattle.detection.specs.Rounds.{all_taken}
-use Rattle.detection.specs.Claim.{exact_wait}
+use Rattle.detection.specs.Claim.{worst_latency}
 use Rattle.witness.proofs.Slow.{Goes, stop, go, goes-append, Slow}
 
 -- a table with these boards crashed, so many rounds ago
@@ -34,7 +34,7 @@ first_state n dead = state_of (crashed n (fresh_table n) dead 0) 0 0
 -- all turns are taken, and the state that they leave passes q
 unfoldable pub arrives : ℕ → State → List ℕ → (State → Bool) → Bool
 arrives n s [] q = q s
-arrives n s (i ∷ is) q = cond (eqb (entry_number n s (entry_of kind_turn i)) 0) (arrives n (after n s (entry_of kind_turn i)) is q) false
+arrives n s (i ∷ is) q = cond (eqb (entry_refusal n s (entry_of kind_turn i)) 0) (arrives n (after n s (entry_of kind_turn i)) is q) false
 
 -- what they leave
 pub record Arrival (n : ℕ) (s : State) (is : List ℕ) (q : State → Bool) : Type 0 where
@@ -46,7 +46,7 @@ pub arrival : (n : ℕ) (s : State) (is : List ℕ) (q : State → Bool) → arr
 unfolding arrives
 arrival n s [] q e = record { left = s; goes = stop; passes = e }
 arrival n s (i ∷ is) q e =
-    by_bool (eqb (entry_number n s (entry_of kind_turn i)) 0)
+    by_bool (eqb (entry_refusal n s (entry_of kind_turn i)) 0)
     (λ z.
     let rest = arrival n (after n s (entry_of kind_turn i)) is q (rw z at e) in
     record { left = rest.left; goes = go i (eqb-true _ 0 z) rest.goes; passes = rest.passes })
@@ -56,7 +56,7 @@ arrival n s (i ∷ is) q e =
 abbrev described : ℕ → State → Bool
 described n s =
     is_size n && eqb (length s.table) (table_length n) && at_start n s.table && ltb 1 (live_count n s.table) && none_suspected n s.table
-    && eqb (table_number n s.table) 0
+    && eqb (table_refusal n s.table) 0
 
 -- board i is live and board j is not
 abbrev apart : ℕ → State → ℕ → ℕ → Bool
@@ -65,9 +65,9 @@ apart n s i j = (ltb i n && live n s.table i) && (ltb j n && not_live n s.table 
 unfoldable pub begins : ℕ → List ℕ → ℕ → ℕ → Bool
 begins n dead i j = described n (first_state n dead) && apart n (first_state n dead) i j
 
--- one round less than the exact wait has closed, and i does not suspect j
+-- one round less than the worst-case latency has closed, and i does not suspect j
 unfoldable pub unseen : ℕ → ℕ → ℕ → State → Bool
-unseen n i j end = eqb (suc end.rounds) (exact_wait (dimension n)) && eqb (suspects n end.table i j) 0
+unseen n i j end = eqb (suc end.rounds) (worst_latency (dimension n)) && eqb (suspects n end.table i j) 0
 
 -- a slow plant with a list of turns that fits a schedule
 abbrev pub Computed : ℕ → Type 0
@@ -97,7 +97,7 @@ slow-plant n dead i j begun turns few a =
           long = eqb-true _ _ sized.1;
           start = starts.1;
           two_live = ltb-true _ _ two.1;
-          trusted = trusts.1;
+          accurate = trusts.1;
           no_crash = refl;
           no_late = refl;
         };

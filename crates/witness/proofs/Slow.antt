@@ -1,5 +1,5 @@
--- Turns that are all taken, and a plant whose turns leave a dead board unsuspected one round before the exact wait: there the wait cannot be
--- shortened.
+-- Turns that are all taken, and a plant whose turns leave a dead board unsuspected one round before the worst-case latency: there no fewer rounds
+-- are enough.
 -- Assumes nothing.
 use mathlib.Core.Path.{◌≡◌, refl, ap, ◌∙◌}
 use mathlib.Core.Logic.{by_cases}
@@ -11,23 +11,23 @@ use native.Mathlib.Omega.{arith}
 use Rattle.lists.specs.Sums.{bit}
 use Rattle.table.specs.Sizes.{dimension}
 use Rattle.table.specs.Table.{suspects, live}
-use Rattle.table.specs.Rules.{not_live, table_number}
+use Rattle.table.specs.Rules.{not_live, table_refusal}
 use Rattle.table.proofs.Accepting.{Accepted, accepted}
 use Rattle.plant.specs.Turn.{kind_turn}
-use Rattle.plant.specs.Entry.{State, entry_of, entry_number, after}
+use Rattle.plant.specs.Entry.{State, entry_of, entry_refusal, after}
 use Rattle.plant.proofs.RulesKept.{accepted-kept}
 use Rattle.plant.proofs.RunLaws.{accepted-number}
 use Rattle.detection.specs.Runs.{Call, Taken, turn_run, after_runs, taken_all, crashes, is_late}
 use Rattle.detection.specs.Rounds.{all_taken}
-use Rattle.detection.specs.Claim.{Premises, exact_wait}
+use Rattle.detection.specs.Claim.{DetectionPremises, worst_latency}
 use Rattle.detection.proofs.TakenLaws.{taken_at}
 use Rattle.detection.proofs.OneTurn.{one_left, runs_append, one_passes}
-use Rattle.witness.specs.Sooner.{NoneSooner}
+use Rattle.witness.specs.WorstCase.{WorstCaseAt}
 
 -- turns of the boards listed, each taken, from a state to a state
 pub data Goes (n : ℕ) : State → List ℕ → State → Type 0 where
   stop : {s : State} → Goes n s [] s
-  go : {s s' : State} {is : List ℕ} (i : ℕ) → entry_number n s (entry_of kind_turn i) ≡ 0 → Goes n (after n s (entry_of kind_turn i)) is s'
+  go : {s s' : State} {is : List ℕ} (i : ℕ) → entry_refusal n s (entry_of kind_turn i) ≡ 0 → Goes n (after n s (entry_of kind_turn i)) is s'
       → Goes n s (i ∷ is) s'
 
 -- two such lists, one behind the other
@@ -50,16 +50,16 @@ turns-pass q turns n s [] = refl
 turns-pass q turns n s (i ∷ is) =
     runs_append q s (turn_run n i ∷ []) (map (turn_run n) is) (one_passes q turns n s i) (turns-pass q turns n (after_runs s (turn_run n i ∷ [])) is)
 
--- a table that the claim describes, turns with which one round less than the exact wait closes, and a live board that does not suspect a dead
--- one then
+-- a table that the claim describes, turns with which one round less than the worst-case latency closes, and a live board that does not suspect a
+-- dead one then
 pub record Slow (n : ℕ) : Type 0 where
   pub first : State
-  pub ok : table_number n first.table ≡ 0
-  pub premises : Premises n first []
+  pub ok : table_refusal n first.table ≡ 0
+  pub premises : DetectionPremises n first []
   pub turns : List ℕ
   pub last : State
   pub goes : Goes n first turns last
-  pub rounds : suc last.rounds ≡ first.rounds + exact_wait (dimension n)
+  pub rounds : suc last.rounds ≡ first.rounds + worst_latency (dimension n)
   pub board : ℕ
   pub board_below : board < n
   pub board_live : live n first.table board ≡ true
@@ -69,25 +69,25 @@ pub record Slow (n : ℕ) : Type 0 where
   pub unseen : suspects n last.table board missed ≡ 0
 
 -- by a claim within fewer rounds the live board would suspect the dead one
-pub slow-none-sooner : (n : ℕ) → Slow n → NoneSooner n
-slow-none-sooner n p enough claim = by_cases (dec_lt enough (exact_wait (dimension n))) early (λ l. omega arith)
+pub slow-worst-case : (n : ℕ) → Slow n → WorstCaseAt n
+slow-worst-case n p enough claim = by_cases (dec_lt enough (worst_latency (dimension n))) early (λ l. omega arith)
   where
     calls : List Call
     calls = map (turn_run n) p.turns
 
-    given : Premises n p.first calls
+    given : DetectionPremises n p.first calls
     given = record {
       size = p.premises.size;
       long = p.premises.long;
       start = p.premises.start;
       two_live = p.premises.two_live;
-      trusted = p.premises.trusted;
+      accurate = p.premises.accurate;
       no_crash = turns-pass (λ x. not (crashes x)) (λ n s i. refl) n p.first p.turns;
       no_late = turns-pass (λ x. not (is_late x)) (λ n s i. refl) n p.first p.turns;
     }
 
-    early : enough < exact_wait (dimension n) → exact_wait (dimension n) ≤ enough
+    early : enough < worst_latency (dimension n) → worst_latency (dimension n) ≤ enough
     early l =
         let after = rw (goes-runs p.goes (accepted n p.first.table p.ok)) at (claim p.first calls given) in
-        let known = after.known (omega (arith, after.rounds_tally, p.rounds)) p.board p.missed p.board_below p.missed_below p.board_live in
+        let known = after.exact_rows (omega (arith, after.rounds_tally, p.rounds)) p.board p.missed p.board_below p.missed_below p.board_live in
         absurd (omega (arith, known, p.unseen, ap bit p.missed_dead))

@@ -1,4 +1,4 @@
--- The exact wait cannot be shortened at any size from 3 on: a computed plant of 3, 5, 9, 17 and 33 boards, and the law for greater sizes.
+-- The worst-case latency is reached at any size from 3 on: a computed plant of 3, 5, 9, 17 and 33 boards, and the law for greater sizes.
 -- Assumes nothing.
 use mathlib.Core.Path.{◌≡◌, refl, sym}
 use mathlib.Core.Bool.{true}
@@ -7,18 +7,18 @@ use Prim.Native.Nat.{ℕ, zero, suc, ◌^◌, ◌≤◌, ◌<◌}
 use native.Mathlib.Omega.{arith}
 use Rattle.table.specs.Sizes.{is_size, dimension}
 use Rattle.table.proofs.SizeLaws.{size-log, size-dimension}
-use Rattle.detection.specs.Claim.{exact_wait}
+use Rattle.detection.specs.Claim.{worst_latency}
 use Rattle.plant.specs.Entry.{State, state_of}
 use Rattle.table.specs.Fresh.{fresh_table}
 use Rattle.witness.proofs.Computing.{whole_run}
-use Rattle.witness.specs.Sooner.{NoneSooner, NoneSoonerFromThree}
-use Rattle.witness.proofs.Slow.{Goes, goes-append, slow-none-sooner}
+use Rattle.witness.specs.WorstCase.{WorstCaseAt, WorstCaseIsReached}
+use Rattle.witness.proofs.Slow.{Goes, goes-append, slow-worst-case}
 use Rattle.witness.proofs.Plants.{crashed, first_state, arrives, Arrival, arrival, begins, unseen, Computed, slow-plant, marked, same_list, same_state, part, behind}
 use Rattle.witness.proofs.Greater.{greater}
 
 -- who unfolds this name computes whether turns arrive
 unfoldable computes : Unit {0}
-unfolding whole_run exact_wait crashed arrives begins unseen marked same_state same_list
+unfolding whole_run worst_latency crashed arrives begins unseen marked same_state same_list
 computes = tt
 
 -- the plants of samples/slowest.txt without their last round: the dead boards, a live board and a dead one that it does not suspect then, and
@@ -179,15 +179,15 @@ slow-33 =
     (goes-append round-0 (goes-append round-1 (goes-append round-2 (goes-append round-3 (goes-append round-4 (round-5)))))) last-round)
 
 -- a size with as many levels as a computed one
-from-computed : (b n : ℕ) → Computed b → is_size n ≡ true → b ≤ n → dimension b ≡ dimension n → NoneSooner n
-from-computed b n c size low levels = slow-none-sooner n (greater b n c.0 size low levels c.1)
+from-computed : (b n : ℕ) → Computed b → is_size n ≡ true → b ≤ n → dimension b ≡ dimension n → WorstCaseAt n
+from-computed b n c size low levels = slow-worst-case n (greater b n c.0 size low levels c.1)
 
 -- an end in itself
-pub none-sooner-from-three : NoneSoonerFromThree
+pub worst-case-is-reached : WorstCaseIsReached
 unfolding whole_run
-none-sooner-from-three n size three = go (size-log n size)
+worst-case-is-reached n size three = go (size-log n size)
   where
-    go : (h : ℕ) × (dimension n ≡ suc h) × (2 ^ h < n) × (n ≤ 2 ^ suc h) → NoneSooner n
+    go : (h : ℕ) × (dimension n ≡ suc h) × (2 ^ h < n) × (n ≤ 2 ^ suc h) → WorstCaseAt n
     go (zero, d, low, high) = absurd (omega arith)
     go (suc zero, d, low, high) = from-computed 3 n slow-3 size (omega arith) (sym d)
     go (suc (suc zero), d, low, high) = from-computed 5 n slow-5 size (omega arith) (sym d)

@@ -1,3 +1,3 @@
 -- What is shown by computed plants.
 pub mod Witness
-pub mod Sooner
+pub mod WorstCase

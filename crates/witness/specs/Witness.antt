@@ -1,5 +1,5 @@
--- That demand 3's claim is not empty. Four boards, board 3 dead, four runs, of which one is refused at its start and one at an entry: the
--- premises hold, d·d rounds close and one more, and each has the seven tests that demand 3 counts from the fifth on. And three boards, a size
+-- Rule Conditions are met. Four boards, board 3 dead, four runs, of which one is refused at its start and one at an entry: the detection
+-- conditions hold, d·d rounds close and one more, and each has the seven tests of rule Count of tests from the fifth on. And three boards, a size
 -- that is no power of two.
 -- Assumes nothing.
 use Rattle.std.specs.Prelude.{◌≡◌, ℕ, ◌*◌, List, [], ◌∷◌, length, map, replicate}
@@ -8,7 +8,7 @@ use Rattle.table.specs.Fresh.{fresh_table}
 use Rattle.plant.specs.Entry.{State, state_of}
 use Rattle.detection.specs.Runs.{Call}
 use Rattle.detection.specs.Rounds.{tests_in}
-use Rattle.detection.specs.Claim.{demand_count, rounds_of, Premises}
+use Rattle.detection.specs.Claim.{tests_per_round, rounds_of, DetectionPremises}
 
 -- a schedule of turns of the stations listed
 unfoldable pub turns_of : List ℕ → List ℕ
@@ -38,15 +38,15 @@ calls =
 
 -- the premises, the tests of the closed rounds, those of the open one, and the count of the claim
 pub record Computed (n : ℕ) (s : State) (runs : List Call) (closed : List ℕ) (open-tests count : ℕ) : Type 0 where
-  pub premises : Premises n s runs
+  pub premises : DetectionPremises n s runs
   pub closed_tests : map tests_in (rounds_of s runs).closed ≡ closed
   pub open_tests : tests_in (rounds_of s runs).open_round ≡ open-tests
-  pub counted : demand_count n s.table ≡ count
+  pub counted : tests_per_round n s.table ≡ count
 
--- the four boards: five rounds close, of seven tests each, and the open one has one
+-- Rule Conditions are met, the four boards: five rounds close, of seven tests each, and the open one has one
 abbrev pub FourBoards : Type 0
 FourBoards = Computed 4 boards calls (7 ∷ 7 ∷ 7 ∷ 7 ∷ 7 ∷ []) 1 7
 
--- three boards, none dead: one round of five tests
+-- Rule Conditions are met, three boards, none dead: one round of five tests
 abbrev pub ThreeBoards : Type 0
 ThreeBoards = Computed 3 (state_of (fresh_table 3) 0 0) (call_with 3 (turns_of (0 ∷ 0 ∷ 0 ∷ 1 ∷ 1 ∷ 2 ∷ 2 ∷ 2 ∷ [])) ∷ []) (5 ∷ []) 0 5

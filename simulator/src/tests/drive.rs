@@ -1,5 +1,5 @@
-//! The drive (C-15): drives worked out by hand, and random ones against turns
-//! that are granted and run one by one.
+//! The drive: drives worked out by hand, and random ones against turns that
+//! are granted and run one by one.
 
 use super::granter::{granted, random_last, random_live_table};
 use super::rounds::{pairs, random_dead, with_dead};

@@ -1,5 +1,5 @@
-//! Due distances and who stands ahead (C-16): examples worked out by hand, and
-//! the definition without sets.
+//! Due distances and who stands ahead: examples worked out by hand, and the
+//! definition without sets.
 
 use super::{
     cease, fresh, head, random_table, row_bytes, run_with, set, sizes, suspect, Numbers, POWERS,
@@ -200,8 +200,9 @@ fn powers_of_2_are_due_when_nothing_is_suspected() {
     }
 }
 
-/// Step 1 without groups: of the stations that i does not suspect, i among
-/// them, and whose distance from j has the level of i's, the one nearest to j.
+/// The first of a group, without groups: of the stations that i does not
+/// suspect, i among them, and whose distance from j has the level of i's, the
+/// one nearest to j.
 fn first(i: usize, row: &[u8], j: usize) -> usize {
     let level = |k: usize| (j ^ k).checked_ilog2();
     (0..row.len())
@@ -288,8 +289,8 @@ fn who_stands_ahead() {
     assert!(seen > 1000);
 }
 
-/// Step 2: a turn tests at the first due entry not below the next distance,
-/// and without one it finishes the pass.
+/// A turn tests at the first due distance not below the next distance, and
+/// without one it finishes the pass.
 #[test]
 fn a_turn_takes_the_least_due_entry() {
     let (mut tests, mut finished) = (0, 0);

@@ -1,5 +1,5 @@
-//! Figures over results (C-12): examples worked out by hand, and statements
-//! that hold for all lists.
+//! Figures over results: examples worked out by hand, and statements that hold
+//! for all lists.
 
 use super::Numbers;
 use crate::{figures, figures_of_two, Figures, Fraction};

@@ -1,5 +1,5 @@
-//! The grant (C-15): which station comes next, how long a station waits, and
-//! the refusals that grant and drive share.
+//! The grant: which station comes next, how long a station waits, and the
+//! refusals that grant and drive share.
 
 use super::{
     cease, driven, finish, fresh, head, random_table, set, sizes, suspect, wrong, Numbers, MOST,

@@ -1,4 +1,5 @@
-//! Groups: the examples, paper 000's Table 1 and paper 001's equation 1.
+//! Groups: the examples, the published table of groups, and that groups are
+//! nested.
 
 use super::{sizes, UNWRITTEN};
 use crate::group_list;
@@ -18,8 +19,9 @@ fn listed(n: usize, i: u8, s: u8) -> Vec<u8> {
     accepted.remove(0)
 }
 
-/// Paper 000's Table 1: row s, column i holds c(i, s).
-const TABLE_1: [[&[u8]; 8]; 3] = [
+/// The published table of groups: row s, column i holds the group of i at
+/// level s.
+const PUBLISHED: [[&[u8]; 8]; 3] = [
     [&[1], &[0], &[3], &[2], &[5], &[4], &[7], &[6]],
     [
         &[2, 3],
@@ -43,12 +45,13 @@ const TABLE_1: [[&[u8]; 8]; 3] = [
     ],
 ];
 
-/// Paper 001's equation 1, which gives the full group.
-fn equation_1(i: u8, s: u8) -> Vec<u8> {
+/// The full group: its first number, and that number's full groups at all lower
+/// levels.
+fn nested_groups(i: u8, s: u8) -> Vec<u8> {
     let first = i ^ (1 << (s - 1));
     let mut list = vec![first];
     for level in 1..s {
-        list.extend(equation_1(first, level));
+        list.extend(nested_groups(first, level));
     }
     list
 }
@@ -63,8 +66,8 @@ fn examples() {
 }
 
 #[test]
-fn table_1_of_paper_000() {
-    for (level, columns) in TABLE_1.iter().enumerate() {
+fn groups_as_published() {
+    for (level, columns) in PUBLISHED.iter().enumerate() {
         for (i, group) in columns.iter().enumerate() {
             assert_eq!(listed(8, i as u8, level as u8 + 1), *group);
         }
@@ -87,11 +90,11 @@ fn station_4_of_5_has_one_group_with_members() {
 }
 
 #[test]
-fn equation_1_of_paper_001_without_the_numbers_from_n_on() {
+fn nested_groups_without_absent_numbers() {
     for (n, d) in sizes() {
         for i in 0..n as u8 {
             for s in 1..=d {
-                let mut remaining = equation_1(i, s);
+                let mut remaining = nested_groups(i, s);
                 remaining.retain(|member| usize::from(*member) < n);
                 assert_eq!(listed(n, i, s), remaining);
             }

@@ -1,5 +1,5 @@
 //! Who told a station to leave, and how many rounds closed since it ceased to
-//! be live (C-18): what run and drive write into bytes 4 and 5.
+//! be live: what run and drive write into bytes 4 and 5.
 
 use super::granter::random_live_table;
 use super::laws::{from_fresh_tables, from_random_tables, Taken};

@@ -1,4 +1,5 @@
-//! Tests of the simulator against documents 01 and 02 and the papers.
+//! Tests of the simulator against the owner's documents and the papers
+//! (docs/SOURCES.md).
 
 mod claim;
 mod drive;

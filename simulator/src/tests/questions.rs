@@ -1,10 +1,10 @@
 //! Refusals of the questions, at their boundaries and in their order.
 
 use super::{cease, finish, fresh, place, set, sizes, suspect, UNWRITTEN};
-use crate::{assignment, check_table, fresh_table, group_list, row, row_number};
+use crate::{assignment, check_table, fresh_table, group_list, row, row_refusal};
 
 /// Asks for a group into a list of this length. A refusal writes nothing.
-fn group_number(n: usize, station: u8, level: u8, length: usize) -> u8 {
+fn group_refusal(n: usize, station: u8, level: u8, length: usize) -> u8 {
     let mut list = vec![UNWRITTEN; length];
     let number = group_list(n, station, level, &mut list);
     if number != 0 {
@@ -15,7 +15,7 @@ fn group_number(n: usize, station: u8, level: u8, length: usize) -> u8 {
 
 /// Asks for an assignment into a list of this length.
 /// A refusal writes nothing and counts 0.
-fn assignment_number(n: usize, table: &[u8], station: u8, length: usize) -> u8 {
+fn assignment_refusal(n: usize, table: &[u8], station: u8, length: usize) -> u8 {
     let mut list = vec![UNWRITTEN; length];
     let (number, count) = assignment(n, table, station, &mut list);
     if number != 0 {
@@ -88,39 +88,39 @@ fn group_list_boundaries() {
         // The group of the last station is full at the highest level; that of
         // station 0 holds the stations from `half` on.
         let half = 1 << (d - 1);
-        assert_eq!(group_number(n, n as u8 - 1, d, half), 0);
-        assert_eq!(group_number(n, n as u8, d, half), 9);
-        assert_eq!(group_number(n, 255, d, half), 9);
-        assert_eq!(group_number(n, 0, 0, half), 12);
-        assert_eq!(group_number(n, 0, d + 1, 2 * half), 12);
-        assert_eq!(group_number(n, 0, 255, 2 * half), 12);
-        assert_eq!(group_number(n, 0, d, n - half - 1), 13);
-        assert_eq!(group_number(n, 0, d, n - half), 0);
-        assert_eq!(group_number(n, 0, d, n - half + 1), 13);
-        assert_eq!(group_number(n, 0, 1, 0), 13);
+        assert_eq!(group_refusal(n, n as u8 - 1, d, half), 0);
+        assert_eq!(group_refusal(n, n as u8, d, half), 9);
+        assert_eq!(group_refusal(n, 255, d, half), 9);
+        assert_eq!(group_refusal(n, 0, 0, half), 12);
+        assert_eq!(group_refusal(n, 0, d + 1, 2 * half), 12);
+        assert_eq!(group_refusal(n, 0, 255, 2 * half), 12);
+        assert_eq!(group_refusal(n, 0, d, n - half - 1), 13);
+        assert_eq!(group_refusal(n, 0, d, n - half), 0);
+        assert_eq!(group_refusal(n, 0, d, n - half + 1), 13);
+        assert_eq!(group_refusal(n, 0, 1, 0), 13);
     }
 }
 
 #[test]
 fn group_list_of_an_empty_group() {
     for (n, station, level) in [(3, 2, 1), (5, 4, 1), (5, 4, 2), (11, 10, 1), (11, 10, 3)] {
-        assert_eq!(group_number(n, station, level, 0), 0);
+        assert_eq!(group_refusal(n, station, level, 0), 0);
         for length in 1..=64 {
-            assert_eq!(group_number(n, station, level, length), 13);
+            assert_eq!(group_refusal(n, station, level, length), 13);
         }
     }
 }
 
 #[test]
 fn group_list_refuses_in_order() {
-    assert_eq!(group_number(1, 9, 9, 9), 1);
-    assert_eq!(group_number(65, 0, 1, 1), 1);
-    assert_eq!(group_number(128, 0, 1, 1), 1);
-    assert_eq!(group_number(8, 8, 0, 9), 9);
-    assert_eq!(group_number(8, 7, 0, 9), 12);
-    assert_eq!(group_number(8, 7, 4, 8), 12);
-    assert_eq!(group_number(8, 7, 3, 8), 13);
-    assert_eq!(group_number(5, 7, 1, 1), 9);
+    assert_eq!(group_refusal(1, 9, 9, 9), 1);
+    assert_eq!(group_refusal(65, 0, 1, 1), 1);
+    assert_eq!(group_refusal(128, 0, 1, 1), 1);
+    assert_eq!(group_refusal(8, 8, 0, 9), 9);
+    assert_eq!(group_refusal(8, 7, 0, 9), 12);
+    assert_eq!(group_refusal(8, 7, 4, 8), 12);
+    assert_eq!(group_refusal(8, 7, 3, 8), 13);
+    assert_eq!(group_refusal(5, 7, 1, 1), 9);
 }
 
 #[test]
@@ -129,13 +129,13 @@ fn assignment_boundaries() {
         let table = fresh(n);
         let length = 2 * (n - 1);
         for station in 0..n as u8 {
-            assert_eq!(assignment_number(n, &table, station, length), 0);
+            assert_eq!(assignment_refusal(n, &table, station, length), 0);
         }
-        assert_eq!(assignment_number(n, &table, n as u8, length), 9);
-        assert_eq!(assignment_number(n, &table, 255, length), 9);
+        assert_eq!(assignment_refusal(n, &table, n as u8, length), 9);
+        assert_eq!(assignment_refusal(n, &table, 255, length), 9);
         for wrong in [0, n - 1, length - 1, length + 1, 2 * n] {
-            assert_eq!(assignment_number(n, &table, 0, wrong), 13);
-            assert_eq!(assignment_number(n, &table, n as u8, wrong), 9);
+            assert_eq!(assignment_refusal(n, &table, 0, wrong), 13);
+            assert_eq!(assignment_refusal(n, &table, n as u8, wrong), 9);
         }
     }
 }
@@ -143,30 +143,30 @@ fn assignment_boundaries() {
 #[test]
 fn assignment_refuses_in_order() {
     let mut table = fresh(4);
-    assert_eq!(assignment_number(1, &table[1..], 9, 9), 1);
-    assert_eq!(assignment_number(65, &table[1..], 9, 9), 1);
-    assert_eq!(assignment_number(4, &table[1..], 9, 9), 2);
+    assert_eq!(assignment_refusal(1, &table[1..], 9, 9), 1);
+    assert_eq!(assignment_refusal(65, &table[1..], 9, 9), 1);
+    assert_eq!(assignment_refusal(4, &table[1..], 9, 9), 2);
     cease(4, &mut table, 1, 3);
-    assert_eq!(assignment_number(4, &table, 4, 9), 9);
-    assert_eq!(assignment_number(4, &table, 1, 9), 10);
-    assert_eq!(assignment_number(4, &table, 1, 6), 10);
-    assert_eq!(assignment_number(4, &table, 0, 9), 13);
-    assert_eq!(assignment_number(4, &table, 0, 6), 0);
+    assert_eq!(assignment_refusal(4, &table, 4, 9), 9);
+    assert_eq!(assignment_refusal(4, &table, 1, 9), 10);
+    assert_eq!(assignment_refusal(4, &table, 1, 6), 10);
+    assert_eq!(assignment_refusal(4, &table, 0, 9), 13);
+    assert_eq!(assignment_refusal(4, &table, 0, 6), 0);
     for station in 0..4 {
         finish(4, &mut table, station);
     }
-    assert_eq!(assignment_number(4, &table, 4, 9), 4);
-    assert_eq!(assignment_number(4, &table, 0, 6), 4);
+    assert_eq!(assignment_refusal(4, &table, 4, 9), 4);
+    assert_eq!(assignment_refusal(4, &table, 0, 6), 4);
     set(4, &mut table, 3, 0, 4);
-    assert_eq!(assignment_number(4, &table, 4, 9), 3);
-    assert_eq!(assignment_number(4, &table, 0, 6), 3);
+    assert_eq!(assignment_refusal(4, &table, 4, 9), 3);
+    assert_eq!(assignment_refusal(4, &table, 0, 6), 3);
 }
 
 #[test]
 fn assignment_of_a_finished_station_is_given() {
     let mut table = fresh(4);
     finish(4, &mut table, 1);
-    assert_eq!(assignment_number(4, &table, 1, 6), 0);
+    assert_eq!(assignment_refusal(4, &table, 1, 6), 0);
 }
 
 #[test]
@@ -177,7 +177,7 @@ fn row_is_the_very_part_of_the_table() {
             let part = row(n, &table, station as u8);
             assert_eq!(part.len(), n);
             assert_eq!(part.as_ptr(), table[place(n, station, 6)..].as_ptr());
-            assert_eq!(row_number(n, &table, station as u8), 0);
+            assert_eq!(row_refusal(n, &table, station as u8), 0);
         }
     }
 }
@@ -195,7 +195,7 @@ fn row_of_a_station_that_is_not_live_is_given() {
     for status in 1..4 {
         let mut table = fresh(4);
         cease(4, &mut table, 2, status);
-        assert_eq!(row_number(4, &table, 2), 0);
+        assert_eq!(row_refusal(4, &table, 2), 0);
         assert_eq!(row(4, &table, 2).len(), 4);
     }
 }
@@ -203,7 +203,7 @@ fn row_of_a_station_that_is_not_live_is_given() {
 #[test]
 fn refused_row_is_empty() {
     let refused = |n, table: &[u8], station, number| {
-        assert_eq!(row_number(n, table, station), number);
+        assert_eq!(row_refusal(n, table, station), number);
         assert!(row(n, table, station).is_empty());
     };
     let mut table = fresh(4);

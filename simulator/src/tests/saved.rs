@@ -1,4 +1,4 @@
-//! The saved plant (C-17): what is written, and which files are read.
+//! The saved plant: what is written, and which files are read.
 
 use super::{answer, cease, end, finish, fresh, random_table, run_with, set, sizes, suspect};
 use super::{Numbers, HEAD, MOST, UNWRITTEN};
@@ -316,7 +316,7 @@ fn plants_with_nobody_live() {
     }
 }
 
-/// Next distance 2^d, which is above n, and one test less (C-11).
+/// Next distance 2^d, which is above n, and one test less.
 #[test]
 fn greatest_next_distance_and_tests() {
     for (n, _) in sizes() {
@@ -329,7 +329,7 @@ fn greatest_next_distance_and_tests() {
 }
 
 /// Each station as the one that told station 1, and 254, with some numbers of
-/// rounds closed since (C-18).
+/// rounds closed since.
 #[test]
 fn who_told_and_rounds_closed_since() {
     for (n, _) in sizes() {
@@ -376,7 +376,7 @@ fn saved_after_the_run_of_an_input() {
     assert_eq!(saved_after_run(b"64\n"), Ok(file));
 }
 
-/// Document 01's example of 4 stations: 0 tells 1 to leave (C-18).
+/// The worked run of 4 stations: 0 tells 1 to leave.
 #[test]
 fn saved_with_who_told() {
     let expected = [

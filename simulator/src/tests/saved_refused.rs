@@ -1,4 +1,4 @@
-//! The saved plant (C-17): which calls are refused, and in which order.
+//! The saved plant: which calls are refused, and in which order.
 
 use super::saved::{
     field, fields, fresh_fields, line_field, loaded, other_tags, saved_length, size_field,
@@ -249,7 +249,7 @@ fn line_field_of_wrong_length() {
     }
 }
 
-/// Files from before C-18.
+/// Files whose lines have heads of four bytes.
 #[test]
 fn heads_of_four_bytes() {
     for (n, _) in sizes() {
@@ -363,8 +363,8 @@ fn rows_are_judged_by_their_own_station() {
     }
 }
 
-/// A station's own number as the one that told it (C-18), in whatever order the
-/// lines stand.
+/// A station's own number as the one that told it, in whatever order the lines
+/// stand.
 #[test]
 fn who_told_is_judged_by_the_own_station() {
     for station in 0..5 {
@@ -382,7 +382,7 @@ fn who_told_is_judged_by_the_own_station() {
     }
 }
 
-/// Statuses with bytes 4 and 5 that they must not have (C-18).
+/// Statuses with bytes 4 and 5 that they must not have.
 #[test]
 fn broken_rules_of_bytes_4_and_5() {
     let broken = [
@@ -408,7 +408,7 @@ fn broken_rules_of_bytes_4_and_5() {
     }
 }
 
-/// Five boards have distances up to 7: a finished line has 8 (C-11).
+/// Five boards have distances up to 7: a finished line has 8.
 #[test]
 fn next_distance_of_a_finished_line() {
     for (next, number) in [(5, 3), (7, 3), (8, 0), (9, 3)] {

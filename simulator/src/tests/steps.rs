@@ -1,5 +1,5 @@
-//! Turns that make a test, against steps 3 to 6 and 8 carried out on the
-//! bytes of the table.
+//! Turns that make a test, against what a test and a closing do, carried out on
+//! the bytes of the table.
 
 use super::{answer, place, random_table, run_with, set, sizes, Numbers, HEAD};
 
@@ -26,7 +26,7 @@ impl Bytes {
         (0..self.n).filter(|i| self.byte(*i, 0) == 0).collect()
     }
 
-    /// Steps 3 to 6: station i tests station j. Gives the outcome.
+    /// Station i tests station j. Gives the outcome.
     fn test(&mut self, i: usize, j: usize, late: bool) -> u8 {
         self.set(i, 1, (i ^ j) as u8 + 1);
         self.set(i, 3, self.byte(i, 3) + 1);
@@ -43,7 +43,7 @@ impl Bytes {
         outcome
     }
 
-    /// Step 4, as C-13 and C-18 have it.
+    /// A reply in time: who is told, or an exchange.
     fn reply(&mut self, i: usize, j: usize) -> u8 {
         match (self.suspects(j, i), self.suspects(i, j)) {
             (true, _) => {
@@ -82,7 +82,7 @@ impl Bytes {
         }
     }
 
-    /// Step 8. Gives how many rounds closed, 0 or 1.
+    /// Closes the round if it is over. Gives how many rounds closed, 0 or 1.
     fn close_round(&mut self) -> u32 {
         let live = self.live();
         let over = !live.is_empty() && live.iter().all(|i| self.byte(*i, 2) == 1);

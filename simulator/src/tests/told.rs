@@ -1,4 +1,5 @@
-//! Step 4 as C-13 has it: who leaves on a reply, and that no row then changes.
+//! A reply in time where one suspects the other: who leaves, and that no row
+//! then changes.
 
 use super::{
     answer, cease, finish, fresh, head, row_bytes, run_with, set, sizes, suspect, HEAD, MOST,

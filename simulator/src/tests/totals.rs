@@ -1,5 +1,5 @@
-//! Totals (C-12): examples worked out by hand, and the bounds of what a caller
-//! hands in.
+//! Totals: examples worked out by hand, and the bounds of what a caller hands
+//! in.
 
 use super::figures::{check_fraction, given, random_list, refused, rising};
 use super::Numbers;

@@ -38,7 +38,7 @@ loop-m-preserved c =
     let ms = c.loop-m.yielded in
     record {
       counted = omega (arith, i.counted, length-append ms (c.in-Some.m ∷ []));
-      listed = written-next (station_at c.args.i.0) _ _ _ ms _ _ _ c.put.ensures c.lookup.ensures i.counted i.listed;
+      listed = written-next (station_at c.args.i.0) _ _ _ ms _ _ _ c.put.ensures c.station_at.ensures i.counted i.listed;
     }
 
 all : (c : In-None) → c.loop-m.yielded ≡ due_distances c.args.row.now c.args.i.0 c.args.n

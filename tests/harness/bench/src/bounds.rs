@@ -3,19 +3,19 @@
 
 use shared::groups::dimension;
 
-/// d·d, which demand 3 states.
-pub fn stated(n: usize) -> u32 {
+/// d·d, the square bound.
+pub fn square_bound(n: usize) -> u32 {
     dimension(n).pow(2)
 }
 
-/// 1 + d(d - 1)/2, which request C-22 asks for.
-pub fn requested(n: usize) -> u32 {
+/// 1 + d(d - 1)/2, the triangular bound.
+pub fn triangle_bound(n: usize) -> u32 {
     1 + dimension(n) * (dimension(n) - 1) / 2
 }
 
-/// f(d), the exact wait, which the proof shows: d for d up to 3, and from 4 on
-/// 4 + (d - 3)²/2, rounded down.
-pub fn exact(n: usize) -> u32 {
+/// f(d), the worst-case latency: d for d up to 3, and from 4 on 4 + (d - 3)²/2,
+/// rounded down.
+pub fn worst_latency(n: usize) -> u32 {
     match dimension(n) {
         d @ ..=3 => d,
         d => 4 + (d - 3).pow(2) / 2,

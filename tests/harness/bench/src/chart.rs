@@ -10,9 +10,9 @@ pub struct Point {
     pub observed: Figures,
     /// The rounds of the slowest plant, if there is one.
     pub slowest: Option<u32>,
-    pub exact: u32,
-    pub requested: u32,
-    pub stated: u32,
+    pub worst_latency: u32,
+    pub triangle_bound: u32,
+    pub square_bound: u32,
 }
 
 const WIDTH: f64 = 760.0;
@@ -25,9 +25,9 @@ const BOTTOM: f64 = 60.0;
 const GRID_STEP: u32 = 4;
 const MOST_ROUNDS: u32 = 36;
 
-const STATED: &str = "#7a7a7a";
-const REQUESTED: &str = "#b8641f";
-const EXACT: &str = "#2f7d32";
+const SQUARE: &str = "#7a7a7a";
+const TRIANGLE: &str = "#b8641f";
+const WORST: &str = "#2f7d32";
 const OBSERVED: &str = "#1f5fa8";
 const SLOWEST: &str = "#a8201f";
 
@@ -36,11 +36,11 @@ pub fn draw(points: &[Point]) -> String {
     let parts = [
         frame(),
         axes(points),
-        bound(points, |point| point.stated, STATED, ""),
-        numbers(points, |point| point.stated),
-        bound(points, |point| point.requested, REQUESTED, "7 4"),
-        numbers(points, |point| point.requested),
-        bound(points, |point| point.exact, EXACT, ""),
+        bound(points, |point| point.square_bound, SQUARE, ""),
+        numbers(points, |point| point.square_bound),
+        bound(points, |point| point.triangle_bound, TRIANGLE, "7 4"),
+        numbers(points, |point| point.triangle_bound),
+        bound(points, |point| point.worst_latency, WORST, ""),
         observed(points),
         slowest(points),
         legend(),
@@ -95,7 +95,7 @@ fn axes(points: &[Point]) -> String {
         );
     }
     let (middle, bottom) = ((LEFT + WIDTH - RIGHT) / 2.0, HEIGHT - 16.0);
-    text += &label(middle, bottom, "middle", "boards in the plant (N)");
+    text += &label(middle, bottom, "middle", "boards in the plant (n)");
     let half = (TOP + HEIGHT - BOTTOM) / 2.0;
     let _ = writeln!(
         text,
@@ -177,12 +177,12 @@ fn legend() -> String {
     };
     [
         white(left - 10.0, TOP + 6.0, 380.0, 132.0),
-        sample(0.0, STATED, ""),
-        text(0.0, "d·d: stated and proved"),
-        sample(1.0, REQUESTED, "7 4"),
-        text(1.0, "1 + d(d − 1)/2: request C-22"),
-        sample(2.0, EXACT, ""),
-        text(2.0, "f(d), the exact wait: what the proof shows"),
+        sample(0.0, SQUARE, ""),
+        text(0.0, "d·d: square bound"),
+        sample(1.0, TRIANGLE, "7 4"),
+        text(1.0, "1 + d(d − 1)/2: triangular bound"),
+        sample(2.0, WORST, ""),
+        text(2.0, "f(d): worst-case latency, proved and reached"),
         diamond(left + 15.0, row(3.0)),
         text(3.0, "slowest plant"),
         bar(left + 15.0, row(4.0) + 8.0, row(4.0) - 8.0),

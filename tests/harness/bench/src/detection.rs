@@ -2,7 +2,7 @@
 //! ones. Everything is done by the library: one entry a run, or one round a
 //! drive.
 
-use crate::bounds::exact;
+use crate::bounds::worst_latency;
 use crate::contender::run_entry;
 use shared::groups::dimension;
 use shared::random::Random;
@@ -38,18 +38,21 @@ pub struct Plant {
 
 /// The closed rounds until every live board suspects exactly the dead ones,
 /// from a fresh table on which the dead boards crash first. Stops the program
-/// if they are more than the exact wait.
+/// if they are more than the worst-case latency.
 pub fn rounds_until_known(n: usize, dead: &[usize], order: Order, random: &mut Random) -> u32 {
     let mut plant = Plant::with_dead(n, dead);
     while !plant.dead_are_known() {
         plant.play_round(order, random);
-        assert!(plant.rounds <= exact(n), "more than the exact wait");
+        assert!(
+            plant.rounds <= worst_latency(n),
+            "more than the worst-case latency"
+        );
     }
     plant.rounds
 }
 
 /// Random dead boards; at least two boards are live, and one is dead unless
-/// N is 2. The number of live boards is drawn from 2 to a power of two that is
+/// n is 2. The number of live boards is drawn from 2 to a power of two that is
 /// drawn first, since few live boards take the most rounds.
 pub fn random_dead(n: usize, random: &mut Random) -> Vec<usize> {
     let power = 2 << random.below(dimension(n) as usize);

@@ -1,6 +1,6 @@
-//! A benchmark of the run of document 01, of the drive of request C-15, of the
-//! figures of request C-12 and of saving and loading by request C-17, and an
-//! experiment on how many rounds pass until the dead boards are known.
+//! A benchmark of the run, of the drive, of the figures and of saving and
+//! loading, and an experiment on how many rounds pass until the dead boards are
+//! known.
 
 #![forbid(unsafe_code)]
 

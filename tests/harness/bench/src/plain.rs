@@ -1,11 +1,10 @@
-//! The run of document 01 in plain Rust over the lent bytes, with the sizes of
-//! request C-11, step 4 of request C-13 and bytes 4 and 5 of request C-18.
+//! The run in plain Rust over the lent bytes.
 //!
 //! Table, schedule and sheet are used as they are lent: nothing is decoded,
-//! and the group order is computed with exclusive or. As the document's steps
-//! read, it looks through all lines for the round's end after each entry, and
-//! always exchanges both rows. (The library looks at the entry's own station
-//! first and leaves equal rows alone.)
+//! and the group order is computed with exclusive or. As the rules read, it
+//! looks through all lines for the round's end after each entry, and always
+//! exchanges both rows. (The library looks at the entry's own station first and
+//! leaves equal rows alone.)
 
 use simulator::Answer;
 
@@ -52,7 +51,7 @@ pub fn run(
     sheet: &mut [u8],
 ) -> Answer {
     let mut answer = Answer {
-        number: start_number(n, table, schedule.len(), sheet.len()),
+        number: start_refusal(n, table, schedule.len(), sheet.len()),
         taken: 0,
         rounds: tally.0,
         tests: tally.1,
@@ -61,7 +60,7 @@ pub fn run(
         return answer;
     }
     for (entry, place) in schedule.chunks_exact(2).zip(sheet.chunks_exact_mut(4)) {
-        answer.number = entry_number(n, table, &answer, entry);
+        answer.number = entry_refusal(n, table, &answer, entry);
         if answer.number != 0 {
             return answer;
         }
@@ -72,8 +71,8 @@ pub fn run(
 }
 
 /// Refusals 1 to 6, or 0.
-fn start_number(n: usize, table: &[u8], schedule: usize, sheet: usize) -> u8 {
-    let number = table_number(n, table);
+fn start_refusal(n: usize, table: &[u8], schedule: usize, sheet: usize) -> u8 {
+    let number = table_refusal(n, table);
     if number != 0 {
         return number;
     }
@@ -87,7 +86,7 @@ fn start_number(n: usize, table: &[u8], schedule: usize, sheet: usize) -> u8 {
 }
 
 /// Refusals 1 to 4, or 0.
-pub fn table_number(n: usize, table: &[u8]) -> u8 {
+pub fn table_refusal(n: usize, table: &[u8]) -> u8 {
     if !(2..=64).contains(&n) {
         return 1;
     }
@@ -154,7 +153,7 @@ fn is_round_over(n: usize, table: &[u8]) -> bool {
 }
 
 /// Refusals 7 to 11, or 0.
-fn entry_number(n: usize, table: &[u8], answer: &Answer, entry: &[u8]) -> u8 {
+fn entry_refusal(n: usize, table: &[u8], answer: &Answer, entry: &[u8]) -> u8 {
     let (kind, i) = (entry[0], usize::from(entry[1]));
     if is_full(answer) {
         return 7;
@@ -180,8 +179,8 @@ pub fn is_full(answer: &Answer) -> bool {
     answer.rounds == u32::MAX || answer.tests == u32::MAX
 }
 
-/// Steps 1 to 8 of an entry, its line of the sheet and the tally. The run and
-/// the drive share it: not inlined, it made the run slower by 5 to 10 %.
+/// What an entry does, its line of the sheet and the tally. The run and the
+/// drive share it: not inlined, it made the run slower by 5 to 10 %.
 #[inline(always)]
 pub fn take_entry(n: usize, table: &mut [u8], answer: &mut Answer, entry: &[u8], place: &mut [u8]) {
     let (kind, i) = (entry[0], usize::from(entry[1]));
@@ -202,7 +201,7 @@ pub fn take_entry(n: usize, table: &mut [u8], answer: &mut Answer, entry: &[u8],
     place.copy_from_slice(&[i as u8, tested, outcome, table[at + STATUS]]);
 }
 
-/// Steps 2 to 6: gives the tested station and the outcome.
+/// A turn: gives the tested station and the outcome.
 fn take_turn(n: usize, table: &mut [u8], kind: u8, i: usize) -> (u8, u8) {
     let line = line_of(n, table, i);
     let next = usize::from(line[NEXT]);
@@ -230,9 +229,9 @@ fn line_of(n: usize, table: &mut [u8], i: usize) -> &mut [u8] {
     &mut table[i * (n + HEAD)..][..n + HEAD]
 }
 
-/// Step 1: whether i is the first station that its row does not suspect in
-/// the group of the station at distance m, at the level of m, and a station
-/// stands there. The row has a byte for each station.
+/// Whether i is the first station that its row does not suspect in the group of
+/// the station at distance m, at the level of m, and a station stands there. The
+/// row has a byte for each station.
 fn is_due(row: &[u8], i: usize, m: usize) -> bool {
     let j = i ^ m;
     let width = 1 << m.ilog2();
@@ -240,7 +239,7 @@ fn is_due(row: &[u8], i: usize, m: usize) -> bool {
     group.find(|x| row.get(*x) == Some(&0)) == Some(i) && j < row.len()
 }
 
-/// Steps 4 and 5: gives the outcome.
+/// What comes of a test: gives the outcome.
 fn test(n: usize, table: &mut [u8], kind: u8, i: usize, j: usize) -> u8 {
     let (mine, theirs) = two_lines(n, table, i, j);
     if theirs[STATUS] != LIVE || kind != TURN {
@@ -284,7 +283,7 @@ fn exchange(mine: &mut [u8], theirs: &mut [u8], i: usize, j: usize) {
     theirs[j] = 0;
 }
 
-/// Step 6.
+/// Leaves if the station is live and suspects all others.
 fn leave_if_alone(line: &mut [u8], i: usize) {
     let mut others = line[HEAD..].iter().enumerate();
     if line[STATUS] == LIVE && others.all(|(k, byte)| k == i || *byte == 1) {
@@ -292,8 +291,8 @@ fn leave_if_alone(line: &mut [u8], i: usize) {
     }
 }
 
-/// Every line, live or not, begins a round (step 8). Those that are not live
-/// count the closed one.
+/// Every line, live or not, begins a round. Those that are not live count the
+/// closed one.
 fn begin_round(n: usize, table: &mut [u8]) {
     for line in table.chunks_exact_mut(n + HEAD) {
         line[NEXT] = 1;

@@ -1,9 +1,9 @@
-//! The drive of request C-15 in plain Rust over the lent bytes. The turns are
-//! those of `plain`. As the request reads, each grant looks at the lines from
-//! the one after that of the last granted station on, and after each turn all
-//! lines are looked through for a live one.
+//! The drive in plain Rust over the lent bytes. The turns are those of `plain`.
+//! As the rules read, each grant looks at the lines from the one after that of
+//! the last granted station on, and after each turn all lines are looked through
+//! for a live one.
 
-use crate::plain::{is_full, table_number, take_entry, FINISHED, HEAD, LIVE, STATUS, TURN};
+use crate::plain::{is_full, table_refusal, take_entry, FINISHED, HEAD, LIVE, STATUS, TURN};
 use shared::grants::NONE_YET;
 use simulator::{Answer, Driven};
 
@@ -12,7 +12,7 @@ use simulator::{Answer, Driven};
 pub fn drive(n: usize, table: &mut [u8], tally: (u32, u32), last: usize) -> Driven {
     let mut last = last;
     let mut answer = Answer {
-        number: start_number(n, table, last),
+        number: start_refusal(n, table, last),
         taken: 0,
         rounds: tally.0,
         tests: tally.1,
@@ -40,8 +40,8 @@ pub fn drive(n: usize, table: &mut [u8], tally: (u32, u32), last: usize) -> Driv
 }
 
 /// Refusals 1 to 4, 16 and 17, or 0.
-fn start_number(n: usize, table: &[u8], last: usize) -> u8 {
-    let number = table_number(n, table);
+fn start_refusal(n: usize, table: &[u8], last: usize) -> u8 {
+    let number = table_refusal(n, table);
     if number != 0 {
         return number;
     }

@@ -1,5 +1,5 @@
-//! The figures of request C-12 in plain Rust: totals in one loop, and lowest
-//! terms by Euclid's divisor.
+//! The figures in plain Rust: totals in one loop, and lowest terms by Euclid's
+//! divisor.
 
 use vcube::{Figures, Fraction, Refusal, MOST_RESULTS};
 

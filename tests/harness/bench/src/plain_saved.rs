@@ -1,10 +1,10 @@
-//! Saving and loading a plant (request C-17) in plain Rust over the lent bytes.
-//! The line rules are those of `plain`.
+//! Saving and loading a plant in plain Rust over the lent bytes. The line rules
+//! are those of `plain`.
 //!
 //! A load goes over the file once and keeps where each line stands. It judges
 //! the lines there, and copies them when all is found right.
 
-use crate::plain::{distances, keeps_line_rules, table_number, FINISHED, HEAD, LIVE, STATUS};
+use crate::plain::{distances, keeps_line_rules, table_refusal, FINISHED, HEAD, LIVE, STATUS};
 use simulator::Loaded;
 use std::mem::replace;
 
@@ -34,7 +34,7 @@ fn line_contents(n: usize) -> usize {
 
 /// Save: refusals 1 to 4, 13. The tally is (rounds, tests).
 pub fn save(n: usize, table: &[u8], tally: (u32, u32), saved: &mut [u8]) -> u8 {
-    let number = table_number(n, table);
+    let number = table_refusal(n, table);
     if number != 0 {
         return number;
     }

@@ -84,7 +84,7 @@ fn damage(n: usize, table: &mut [u8], random: &mut Random) {
     table[place] = random.pick(&[small, small, 254, 255]);
 }
 
-/// Request C-13, worked out by hand.
+/// A tested station that is told, worked out by hand.
 #[test]
 fn a_suspected_station_is_told_by_the_test() {
     let one_way = table_with(4, &[], &[(0, 1), (1, 2), (3, 1)]);
@@ -109,7 +109,7 @@ fn a_tester_can_be_alone_behind_a_told_one() {
     assert_eq!(turn_of_0(3, &stays_open), expected);
 }
 
-/// Request C-18, worked out by hand: the told one's byte 4 names the other.
+/// Worked out by hand: the told one's byte 4 names the other.
 #[test]
 fn byte_4_names_the_station_whose_row_told_it() {
     let bytes_after = |table: &[u8]| {
@@ -383,22 +383,25 @@ fn tallies_at_their_end() {
 
 #[test]
 fn bounds_by_size() {
-    assert_eq!(POWERS.map(bounds::exact), [1, 2, 3, 4, 6, 8]);
-    assert_eq!(POWERS.map(bounds::requested), [1, 2, 4, 7, 11, 16]);
-    assert_eq!(POWERS.map(bounds::stated), [1, 4, 9, 16, 25, 36]);
+    assert_eq!(POWERS.map(bounds::worst_latency), [1, 2, 3, 4, 6, 8]);
+    assert_eq!(POWERS.map(bounds::triangle_bound), [1, 2, 4, 7, 11, 16]);
+    assert_eq!(POWERS.map(bounds::square_bound), [1, 4, 9, 16, 25, 36]);
     let others = [3, 5, 11, 19, 33, 48, 63];
-    assert_eq!(others.map(bounds::exact), [2, 3, 4, 6, 8, 8, 8]);
-    assert_eq!(others.map(bounds::requested), [2, 4, 7, 11, 16, 16, 16]);
-    assert_eq!(others.map(bounds::stated), [4, 9, 16, 25, 36, 36, 36]);
+    assert_eq!(others.map(bounds::worst_latency), [2, 3, 4, 6, 8, 8, 8]);
+    assert_eq!(
+        others.map(bounds::triangle_bound),
+        [2, 4, 7, 11, 16, 16, 16]
+    );
+    assert_eq!(others.map(bounds::square_bound), [4, 9, 16, 25, 36, 36, 36]);
 }
 
-/// At every size the slowest plant takes the exact wait. Of some, the dead
-/// boards were counted by hand.
+/// At every size the slowest plant takes the worst-case latency. Of some, the
+/// dead boards were counted by hand.
 #[test]
 fn slowest_plants() {
     let plants = slowest::run_all().expect("all are known");
     let rounds = plants.iter().map(|plant| (plant.n, plant.rounds));
-    assert!(rounds.eq((3..=64).map(|n| (n, bounds::exact(n)))));
+    assert!(rounds.eq((3..=64).map(|n| (n, bounds::worst_latency(n)))));
     let dead = [3, 9, 16, 25].map(|n| plants[n - 3].dead);
     assert_eq!(dead, [1, 5, 12, 20]);
 }

@@ -1,5 +1,5 @@
 //! Libraries with a fault in the assignment, or in a turn, which goes by the
-//! same answer (request C-16).
+//! same answer.
 
 use shared::groups::{assignment_length, distances};
 use shared::table::{line_length, NEXT_DISTANCE};

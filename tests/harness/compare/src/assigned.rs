@@ -1,4 +1,4 @@
-//! The cases that assignments must cover (request C-16).
+//! The cases that assignments must cover.
 
 use shared::groups::{ahead, assignment_length, distances};
 
@@ -170,7 +170,7 @@ fn suspected(asked: &Asked, m: usize, one: usize) -> usize {
 }
 
 impl Seen {
-    /// Of an assignment. What it must give by request C-16 is checked.
+    /// Of an assignment. What it must give by the rules is checked.
     pub fn new(call: &Call, outcome: &Outcome) -> Seen {
         let list = outcome.buffers.get(Name::List).contents();
         match outcome.number {

@@ -1,4 +1,4 @@
-//! The rule of assigning of request C-16, right or with a fault.
+//! The rule of assigning, right or with a fault.
 
 use shared::groups::{ahead, distances};
 use shared::table::{lines, live_stations};
@@ -31,7 +31,7 @@ pub struct Rule {
     pub bytes: fn(&Asked, Entry) -> [u8; 2],
 }
 
-/// The rule of the request.
+/// The rule as it is.
 pub const RIGHT: Rule = Rule {
     is_listed: |asked, m| asked.at(m) < asked.n,
     ahead: |asked, m| asked.unsuspected_ahead(m).next(),

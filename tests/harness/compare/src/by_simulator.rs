@@ -1,8 +1,8 @@
 //! What a call must give: by the simulator, and by include/vcube.h where the
 //! simulator does not know it.
 //!
-//! The header adds to document 01: station and level numbers of any width, and
-//! where the figures go. A row is its start in the table and its length.
+//! The header adds: station and level numbers of any width, and where the
+//! figures go. A row is its start in the table and its length.
 
 use simulator::{Figures, Totals};
 
@@ -42,7 +42,7 @@ impl Calls for Simulator {
 
     fn row(numbers: &Numbers, lent: Row) -> u8 {
         let (table, station) = (lent.table.contents(), narrow(numbers.station));
-        let number = simulator::row_number(numbers.n, table, station);
+        let number = simulator::row_refusal(numbers.n, table, station);
         let part = simulator::row(numbers.n, table, station);
         let start = match number {
             0 => part.as_ptr() as usize - table.as_ptr() as usize,

@@ -1,5 +1,5 @@
-//! The rules of bytes 4 and 5 of a line (request C-18), right or with a fault:
-//! what they may hold, and what entries write there.
+//! The rules of bytes 4 and 5 of a line, right or with a fault: what they may
+//! hold, and what entries write there.
 
 use shared::table::{self, line_length, CLOSED_SINCE, HEAD, TOLD_BY};
 use shared::table::{CRASHED, LEFT_ALONE, LEFT_TOLD, LIVE, NOT_RECORDED, TOLD_BY_NONE};
@@ -7,7 +7,7 @@ use shared::table::{CRASHED, LEFT_ALONE, LEFT_TOLD, LIVE, NOT_RECORDED, TOLD_BY_
 use crate::entries::{Entry, NO_REPLY, TESTED_TOLD, TOLD};
 use crate::saving::{line_contents, saved_length};
 
-/// The bytes of a line before its row until request C-18.
+/// The bytes of a line before its row in version 0.8.
 pub const FORMER_HEAD: usize = 4;
 
 /// The length of a table until then.
@@ -146,7 +146,7 @@ pub struct Rule {
     pub passed: fn(Head, Passing) -> Head,
 }
 
-/// The rule of the request.
+/// The rule as it is.
 pub const RIGHT: Rule = Rule {
     told: |telling| (telling.told, telling.teller as u8),
     left: |_, _| TOLD_BY_NONE,

@@ -1,5 +1,4 @@
-//! Counts of loads of what the writer writes for two boards, cut to each length
-//! (request C-17).
+//! Counts of loads of what the writer writes for two boards, cut to each length.
 
 use std::fmt;
 

@@ -1,4 +1,4 @@
-//! Libraries with a fault in the grant and in the drive (request C-15).
+//! Libraries with a fault in the grant and in the drive.
 
 use shared::grants::NONE_YET;
 use shared::table::live_stations;

@@ -1,4 +1,4 @@
-//! The cases that grants and drives must cover (request C-15).
+//! The cases that grants and drives must cover.
 
 use shared::grants::NONE_YET;
 use shared::table::{lines, live_stations, unfinished_stations};
@@ -262,8 +262,8 @@ fn tests_made(seen: &Seen) -> usize {
 }
 
 impl Seen {
-    /// Of a grant or a drive. What a drive must give by request C-15, whatever
-    /// the table holds, is checked.
+    /// Of a grant or a drive. What a drive must give, whatever the table holds,
+    /// is checked.
     pub fn new(call: &Call, outcome: &Outcome) -> Seen {
         let (number, n) = (outcome.number, call.numbers.n);
         let figure = |name| outcome.buffers.get(name).figure();

@@ -1,5 +1,5 @@
-//! The rule of granting of request C-15, right or with a fault, and a drive
-//! that follows it turn by turn: each turn is a run of one entry.
+//! The rule of granting, right or with a fault, and a drive that follows it turn
+//! by turn: each turn is a run of one entry.
 
 use shared::grants::NONE_YET;
 use shared::schedule::TURN;
@@ -27,7 +27,7 @@ pub struct Rule {
     pub rounds: u32,
 }
 
-/// The rule of the request. It sets no end by grants.
+/// The rule as it is. It sets no end by grants.
 pub const RIGHT: Rule = Rule {
     first: |last| match last {
         NONE_YET => 0,

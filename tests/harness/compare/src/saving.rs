@@ -1,5 +1,5 @@
-//! The form of a saved plant (request C-17), and the rules of its writer and of
-//! its reader, right or with a fault.
+//! The form of a saved plant, and the rules of its writer and of its reader,
+//! right or with a fault.
 
 use shared::groups::SIZES;
 use shared::table::{fresh, line_length, live_stations, table_length, unfinished_stations};
@@ -64,7 +64,7 @@ pub struct Writer {
     pub tags: [u8; 3],
 }
 
-/// The rule of the request.
+/// The writer as it is.
 pub const WRITER: Writer = Writer {
     length: |length| (length as u16).to_be_bytes(),
     figure: u32::to_be_bytes,
@@ -138,7 +138,7 @@ pub struct Reader {
     pub place: fn(usize, usize) -> usize,
 }
 
-/// The rule of the request.
+/// The reader as it is.
 pub const READER: Reader = Reader {
     order: [PAST_END, FRONT, 1, LINES, 2, 3, 4],
     length: |bytes| u16::from_be_bytes(bytes).into(),

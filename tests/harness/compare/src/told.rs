@@ -1,4 +1,4 @@
-//! Counts of the tests in which one station suspects the other (request C-13).
+//! Counts of the tests in which one station suspects the other.
 //!
 //! That the tester of a told one is alone needs a table handed in. From a fresh
 //! table no live station comes to suspect all others: after an exchange neither

@@ -1,6 +1,6 @@
 //! Libraries with a fault in what a test does where one station suspects the
-//! other (request C-13). But for the count of rounds, the fault is in the last
-//! entry taken, so that no later entry builds on it.
+//! other. But for the count of rounds, the fault is in the last entry taken, so
+//! that no later entry builds on it.
 
 use shared::table::{line_length, CLOSED_SINCE, HEAD, STATUS, TOLD_BY};
 use shared::table::{LEFT_ALONE, LEFT_TOLD, LIVE, TOLD_BY_NONE};

@@ -1,6 +1,6 @@
 //! The way back of a save is a load of what it saved, that of a load a save of
-//! what it restored. Request C-17: reading a saved plant restores table and
-//! tally, and saving what was read gives the writer's form.
+//! what it restored: loading a saved plant restores table and tally, and saving
+//! what was loaded gives the writer's form.
 
 use std::fmt;
 

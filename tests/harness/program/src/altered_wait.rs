@@ -1,5 +1,5 @@
 //! What is printed for the slowest plants, altered so that it no longer shows the
-//! exact wait. Each alteration must be noticed as what it is.
+//! worst-case latency. Each alteration must be noticed as what it is.
 
 use std::mem::discriminant;
 

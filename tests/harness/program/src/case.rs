@@ -10,15 +10,15 @@ use crate::generate;
 use crate::odd::{self, Odd};
 use crate::wait;
 
-/// The exact wait by d from 1 on, which is the logarithm of the size to base 2,
-/// rounded up.
-const EXACT_WAIT: [u32; 6] = [1, 2, 3, 4, 6, 8];
+/// The worst-case latency by d from 1 on, which is the logarithm of the size to
+/// base 2, rounded up.
+const WORST_LATENCY: [u32; 6] = [1, 2, 3, 4, 6, 8];
 
 /// Where an input comes from.
 pub enum Source {
     /// The table of odd inputs, by number from 1.
     Odd { number: u64, name: &'static str },
-    /// A slowest plant, with its exact wait.
+    /// A slowest plant, with the rounds that it takes.
     Slowest { plant: Plant, wait: u32 },
     /// The generator.
     Random { seed: u64, number: u64 },
@@ -43,7 +43,7 @@ pub enum By {
 }
 
 /// What was printed instead of the expected output, or why that is not known or
-/// does not show the exact wait.
+/// does not show the worst-case latency.
 pub struct Difference {
     pub by: By,
     pub printed: Result<Vec<u8>, String>,
@@ -64,10 +64,10 @@ impl Case {
     }
 
     /// A slowest plant, which is handed over in pieces too. The simulator says
-    /// what is expected, and the exact wait says what it must show.
+    /// what is expected, and the worst-case latency says what it must show.
     pub fn slowest(plant: Plant) -> Case {
         let input = plant.input().into_bytes();
-        let wait = EXACT_WAIT[dimension(plant.n) as usize - 1];
+        let wait = WORST_LATENCY[dimension(plant.n) as usize - 1];
         Case {
             source: Source::Slowest { plant, wait },
             cuts: cuts(input.len()),

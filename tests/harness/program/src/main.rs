@@ -2,7 +2,7 @@
 //! compares what it prints, byte for byte, with what must be printed: for odd
 //! inputs by a table written by hand, to which the simulator is held too, and
 //! for the others by the simulator. For the slowest plants the printed lines
-//! must show the exact wait too.
+//! must show the worst-case latency too.
 
 #![forbid(unsafe_code)]
 
@@ -94,7 +94,7 @@ fn compare(program: &Program, seed: u64, inputs: u64) -> Result<String, String> 
     }
     shared::counts::check(&counts.missing(), inputs >= ENOUGH_INPUTS)?;
     let odd = format!("{odd_inputs} odd inputs, all in pieces too");
-    let slowest = format!("{plants} slowest plants, which show the exact wait");
+    let slowest = format!("{plants} slowest plants, which show the worst-case latency");
     let random = format!("{inputs} random inputs of seed {seed}");
     Ok(format!(
         "program: {odd}, {slowest}, and {random} agree: {counts}"

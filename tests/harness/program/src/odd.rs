@@ -1,5 +1,5 @@
 //! Odd inputs and what must be printed for each. The outputs are written by
-//! hand from document 01, the requests of document 02 and docs/DECISIONS.md, not
+//! hand from the owner's documents (docs/SOURCES.md) and docs/DECISIONS.md, not
 //! taken from a program.
 
 use crate::printed::HEADER;
@@ -108,7 +108,7 @@ const UNREAD: &[(&str, &[u8], usize)] = &[
 /// Readable inputs with the lines of the sheet and the last line.
 const READ: &[(&str, &[u8], &str, &str)] = &[
     (
-        "the sample of document 01",
+        "the sample of two boards",
         b"2\nT 0\nT 0\nT 1\nT 1\nC 1\nT 0\nT 0\n",
         "0 1 1 0\n0 - 0 0\n1 0 1 0\n1 - 0 0\n1 - 4 1\n0 1 3 3\n",
         "rounds 1 tests 3 refused 10 at 6\n",
@@ -277,7 +277,7 @@ const READ: &[(&str, &[u8], &str, &str)] = &[
         "rounds 0 tests 1 refused 0 at 3\n",
     ),
     (
-        "the example of document 01 with 4 stations",
+        "the worked run of four stations",
         b"4\nL 0\nT 0\nT 0\nT 1\n",
         "0 1 3 0\n0 2 1 0\n0 3 1 0\n1 0 2 2\n",
         "rounds 0 tests 4 refused 0 at 4\n",

@@ -45,7 +45,7 @@ fn input(case: &Case, cut: usize) -> String {
     let name = match &case.source {
         Source::Odd { number, name } => format!("odd input {number} ({name})"),
         Source::Slowest { plant, wait } => {
-            format!("slowest plant of {} boards, exact wait {wait}", plant.n)
+            format!("slowest plant of {} boards, latency {wait}", plant.n)
         }
         Source::Random { number, .. } => format!("random input {number}"),
     };

@@ -79,7 +79,8 @@ fn alter_table() -> Result<usize, String> {
     Ok(count)
 }
 
-/// Alters the exact waits by one; what a right program prints shows another.
+/// Alters the worst-case latencies by one; what a right program prints shows
+/// another.
 fn alter_waits() -> Result<usize, String> {
     let program = stand_in(Fault::None)?;
     let mut count = 0;

@@ -1,7 +1,7 @@
-//! The exact wait of a slowest plant: one round before it some live board does
-//! not yet suspect all dead ones, and after it each live board suspects exactly
-//! the dead ones. Rows and rounds are rebuilt from the printed lines alone, by
-//! document 01, so that neither the library nor the simulator decides it.
+//! The latency of a slowest plant: one round before it some live board does not
+//! yet suspect all dead ones, and after it each live board suspects exactly the
+//! dead ones. Rows and rounds are rebuilt from the printed lines alone, so that
+//! neither the library nor the simulator decides it.
 
 use std::collections::BTreeSet;
 use std::fmt;
@@ -17,7 +17,7 @@ const EXCHANGED: usize = 1;
 const NO_REPLY: usize = 3;
 const CRASHED: usize = 4;
 
-/// Why what was printed for a plant does not show the exact wait.
+/// Why what was printed for a plant does not show the worst-case latency.
 #[derive(Clone, Copy, Debug, PartialEq, Eq)]
 pub enum Problem {
     /// Not every entry was taken, or something has another form.

@@ -8,7 +8,7 @@ pub const STATUS: usize = 0;
 pub const NEXT_DISTANCE: usize = 1;
 pub const FINISHED: usize = 2;
 pub const TESTS: usize = 3;
-/// The station whose row told it to leave (request C-18).
+/// The station whose row told it to leave.
 pub const TOLD_BY: usize = 4;
 /// The rounds closed since it ceased to be live.
 pub const CLOSED_SINCE: usize = 5;

@@ -1,7 +1,7 @@
 -- The rest of the run, from where it stands, gives what the whole gives, and the table obeys the rules.
 use Rattle.std.proofs.Common.{rules, ◌≡◌, ◌<◌, ◌≤◌, ◌/◌, length, refl, sym, ap, ◌∙◌, subst, arith, length-take, length-drop}
 use Rattle.lists.specs.Refusal.{number_of_result}
-use Rattle.plant.specs.Entry.{Entry, State, state_with, entry_known, entry_number}
+use Rattle.plant.specs.Entry.{Entry, State, state_with, entry_known, entry_refusal}
 use Rattle.plant.proofs.RulesKept.{accepted-kept}
 use Rattle.plant.proofs.RunLaws.{accepted-number, line-back, go-taken, go-stopped, go-done, start-facts}
 use Rattle.plant.proofs.run.go_on.Goals as goal
@@ -28,7 +28,7 @@ take_entry-ran-requires c =
     record {
       table_obeys = rw i.loan.size (accepted-number _ _ i.rules);
       entry_taken =
-          subst (λ (e : Entry). entry_number l.lent.n (state_with l.lent.bytes.now l.ran.tally) e ≡ 0) (sym c.in-Ok.ensures.entry) z;
+          subst (λ (e : Entry). entry_refusal l.lent.n (state_with l.lent.bytes.now l.ran.tally) e ≡ 0) (sym c.in-Ok.ensures.entry) z;
       line_length = simp (length-take, length-drop) (omega (arith, i.twice, i.count, c.loop-kind-test.true, c.as_chunks.ensures.front_len));
     }
 
@@ -43,7 +43,7 @@ loop-kind-preserved c =
     let s = state_with l.lent.bytes.now l.ran.tally in
     let e = entry_known c.in-Ok.entry in
     let y = rw (c.read.ensures.same_size, c.read.ensures.same_bytes, i.loan.size) at (ap number_of_result (sym o.check)) in
-    let z = subst (λ (x : Entry). entry_number n s x ≡ 0) (sym o.entry) y in
+    let z = subst (λ (x : Entry). entry_refusal n s x ≡ 0) (sym o.entry) y in
     let p = c.take_entry-ran.ensures in
     let after = rw i.loan.size at p.state_after in
     let line = rw i.loan.size at p.line_after in

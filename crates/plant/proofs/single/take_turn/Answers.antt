@@ -1,6 +1,6 @@
 -- The rest of a run of one entry is that entry.
 use Rattle.std.proofs.Common.{ap, ◌∙◌}
-use Rattle.plant.specs.Run.{Outcome}
+use Rattle.plant.specs.Run.{RunResult}
 use Rattle.plant.proofs.RunLaws.{start-one, go-one}
 use Rattle.plant.proofs.single.take_turn.Goals as goal
 
@@ -10,4 +10,4 @@ go_on-ran-requires c = rw c.bytes.ensures (start-one _ _ c.requires.table_obeys)
 pub returns-clause-state_after : goal.returns-clause-state_after
 returns-clause-state_after c =
     let run = rw c.bytes.ensures at c.go_on-ran.ensures.run in
-    ap (λ (o : Outcome). o.state) run ∙ go-one _ _ _ _ _ c.requires.turn_taken
+    ap (λ (o : RunResult). o.state) run ∙ go-one _ _ _ _ _ c.requires.turn_taken

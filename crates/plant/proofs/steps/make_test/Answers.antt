@@ -23,14 +23,14 @@ pub test_outcome-outcome-requires : goal.test_outcome-outcome-requires
 test_outcome-outcome-requires c =
     let p = c.requires in
     let n = c.read.ensures.same_size ∙ c.count_test.ensures.same_loan.size in
-    record { tester_below = rw n p.tester_below; tested_below = rw (n, c.lookup-j.ensures) p.tested_below }
+    record { tester_below = rw n p.tester_below; tested_below = rw (n, c.station_at-j.ensures) p.tested_below }
 
 pub apply_outcome-requires : goal.apply_outcome-requires
 apply_outcome-requires c =
     let a = c.args in
     let p = c.requires in
     let n = c.count_test.ensures.same_loan.size in
-    let e = c.test_outcome-outcome.ensures.tested_station ∙ c.lookup-j.ensures in
+    let e = c.test_outcome-outcome.ensures.tested_station ∙ c.station_at-j.ensures in
     record {
       tester_below = rw n p.tester_below;
       tested_below = rw (n, e) p.tested_below;
@@ -57,5 +57,5 @@ returns-clause-test_made c =
       r.same_bytes,
       t.same_loan.size,
       t.test_counted,
-      c.lookup-j.ensures,
+      c.station_at-j.ensures,
     )

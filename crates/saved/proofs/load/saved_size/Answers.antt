@@ -1,4 +1,4 @@
--- The opening's refusal or size.
+-- The size, or the refusal of the first pass.
 use Rattle.std.proofs.lemmas.Result.{err_from_is_err_and}
 use Rattle.saved.proofs.Loading.{size_err, size_ok}
 use Rattle.saved.proofs.load.saved_size.Goals as goal

@@ -1,4 +1,4 @@
--- The opening and the lines are written behind each other.
+-- Size, tally and lines are written behind each other.
 use Rattle.std.proofs.Common.{sym, ◌∙◌, length, eq-eqb}
 use Rattle.saved.specs.Save.{saved, save_check, save_after}
 use Rattle.saved.proofs.Saving.{save_long, save_done}
@@ -11,7 +11,7 @@ returns-clause-buffer_after c =
     let t = c.in_ok-table.ensures in
     let e = sym t.check in
     let long = c.if-buffer-n.false ∙ sym (save_long a.n a.table.now _ e a.tally) in
-    let opening = rw t.same_size at c.write_opening.ensures in
+    let first_two = rw t.same_size at c.write_size_and_tally.ensures in
     let lines = rw (t.same_size, t.same_bytes) at c.write_lines.ensures in
-    let w = save_done a.n a.table.now _ e a.tally a.buffer.now _ _ c.if-buffer-n.false opening lines in
+    let w = save_done a.n a.table.now _ e a.tally a.buffer.now _ _ c.if-buffer-n.false first_two lines in
     rw (e, eq-eqb (length a.buffer.now) (length (saved a.n a.table.now a.tally)) long) w

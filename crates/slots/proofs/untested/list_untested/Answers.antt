@@ -41,7 +41,7 @@ loop-m-preserved c =
     let first = c.byte.ensures ∙ ap answer_byte c.due_or_ahead.ensures in
     record {
       counted = omega (arith, i.counted, length-append ms (c.in-Some.m ∷ []));
-      listed = written-next (station_at c.args.i.0) _ _ _ ms _ _ _ c.put.ensures c.lookup.ensures i.counted i.listed;
+      listed = written-next (station_at c.args.i.0) _ _ _ ms _ _ _ c.put.ensures c.station_at.ensures i.counted i.listed;
       named = written-next named _ _ _ ms _ _ _ c.put-in-loop-m.ensures first i.counted i.named;
     }
 

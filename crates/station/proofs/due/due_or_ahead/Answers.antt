@@ -8,9 +8,9 @@ returns-then-not-stands c = sym (answer-absent _ _ _ (sym c.stands.ensures ∙ c
 
 pub returns-in-Some : goal.returns-in-Some
 returns-in-Some c =
-    rw (← c.lookup.ensures, ← c.in-Some.ensures) c.answer_of.ensures ∙ sym (answer-here _ _ _ (sym c.stands.ensures ∙ c.if-not-stands.false))
+    rw (← c.station_at.ensures, ← c.in-Some.ensures) c.answer_of.ensures ∙ sym (answer-here _ _ _ (sym c.stands.ensures ∙ c.if-not-stands.false))
 
 pub returns-in-None : goal.returns-in-None
 returns-in-None c =
     let a = c.args in
-    rw (answer-here a.row.now a.i.0 a.m.0 (sym c.stands.ensures ∙ c.if-not-stands.false), ← c.lookup.ensures, ← c.in-None.ensures) refl
+    rw (answer-here a.row.now a.i.0 a.m.0 (sym c.stands.ensures ∙ c.if-not-stands.false), ← c.station_at.ensures, ← c.in-None.ensures) refl

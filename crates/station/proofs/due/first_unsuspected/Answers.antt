@@ -15,9 +15,9 @@ width_of-w-requires c = omega (arith, (level-split c.args.m.0 (omega arith)).1)
 
 pub returns-then-is_unsuspected : goal.returns-then-is_unsuspected
 returns-then-is_unsuspected c =
-    ap Some c.lookup-x.ensures
+    ap Some c.station_at-x.ensures
     ∙ sym (first-at _ _ _ _ (c.width_of-w.ensures.width_of_level ∙ ap width c.level_of.ensures.is_level) _ c.loop-k-test.true
-    (sym (ap (unsuspected _) c.lookup-x.ensures) ∙ sym c.is_unsuspected.ensures ∙ c.if-is_unsuspected.true) c.loop-k.invariant)
+    (sym (ap (unsuspected _) c.station_at-x.ensures) ∙ sym c.is_unsuspected.ensures ∙ c.if-is_unsuspected.true) c.loop-k.invariant)
 
 pub returns : goal.returns
 returns c =

@@ -4,7 +4,7 @@ use Rattle.std.specs.Prelude.{Option, None, Some, unwrap_or}
 use Rattle.std.proofs.lemmas.Iterator.{YieldsList}
 use Rattle.std.proofs.lemmas.Iterator.Consumers.{YieldsList-at, YieldsList-turn, YieldsList-end}
 use Rattle.std.proofs.lemmas.Iterator.Splits.{YieldsList-from_slice_split}
-use Rattle.watch.specs.Input.{is_line_feed, lines, pair_of, reading_of, room_for, read_entries, read_lines, read_up_to, entry_of}
+use Rattle.watch.specs.Input.{is_line_feed, lines, pair_of, reading_of, room_for, read_entries, read_lines, read_up_to, entry_in_line}
 use Rattle.watch.proofs.ReadLaws.{answer_stop, sets-part, rest-kept, taken-has}
 use Rattle.watch.proofs.PartLaws.{parts, parts-some, parts-unsized, parts-sized, read-stop, read-next}
 use Rattle.watch.proofs.input.parse.Goals as goal
@@ -84,7 +84,7 @@ cut c =
 
 -- what is said of the line's entry: it is that of the line, if there is room for one more
 abbrev Told : In-Some-line → Option (ℕ × ℕ) → Type 0
-Told c o = o ≡ (if nat_lt c.loop-line.entries c.room_for-room.result then entry_of c.in-Some-line.line.now else None)
+Told c o = o ≡ (if nat_lt c.loop-line.entries c.room_for-room.result then entry_in_line c.in-Some-line.line.now else None)
 
 stopped : (c : In-Some-line) (o : Option (ℕ × ℕ)) → Told c o → o ≡ None
     → read_up_to (room_for (length c.args.schedule.now)) c.args.input.now

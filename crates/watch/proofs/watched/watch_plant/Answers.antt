@@ -1,4 +1,4 @@
--- The schedule has room for all that the document allows, and the entries read fit it.
+-- The schedule has room for all entries that may be, and the entries read fit it.
 use Rattle.std.proofs.Common.{◌≡◌, ◌≤◌, Ok, sym, ◌∙◌, arith, length-take}
 use Rattle.std.proofs.lemmas.Result.{err_from_is_err_and}
 use Rattle.watch.specs.Watched.{watched_with, watched}

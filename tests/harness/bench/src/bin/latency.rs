@@ -1,12 +1,12 @@
 //! How many rounds close until the dead boards are known, beside the bounds:
-//! the exact wait, which the proof shows, and two greater ones. Random plants,
+//! the worst-case latency, which is proved, and two greater ones. Random plants,
 //! with the library's figures over their rounds, and the slowest plants of
 //! samples/slowest.txt.
 //!
 //! `latency` writes docs/latency.md and docs/latency.svg under the current
 //! folder, and prints the tables; `--quick` tries less, and only prints.
 
-use bench::bounds::{exact, requested, stated};
+use bench::bounds::{square_bound, triangle_bound, worst_latency};
 use bench::chart::{self, Point};
 use bench::detection::{random_dead, rounds_until_known, Order};
 use bench::slowest::{self, Slowest};
@@ -101,7 +101,7 @@ fn try_order(n: usize, order: Order, trials: usize) -> Summary {
     let mut turns = Random::new(SEED + 1);
     let mut one = || {
         let rounds = rounds_until_known(n, &random_dead(n, &mut boards), order, &mut turns);
-        u16::try_from(rounds).expect("at most the exact wait")
+        u16::try_from(rounds).expect("at most the worst-case latency")
     };
     Summary::of((0..trials).map(|_| one()).collect())
 }
@@ -120,9 +120,9 @@ fn point(results: &Results, slowest: &[Slowest]) -> Point {
         n,
         observed: results.random().figures,
         slowest: slowest.map(|plant| plant.rounds),
-        exact: exact(n),
-        requested: requested(n),
-        stated: stated(n),
+        worst_latency: worst_latency(n),
+        triangle_bound: triangle_bound(n),
+        square_bound: square_bound(n),
     }
 }
 
@@ -153,20 +153,21 @@ fn tables(results: &[Results], slowest: &[Slowest]) -> String {
 
 const MAIN_TEXT: &str = "## Random plants
 
-d is the logarithm of N to base 2, rounded up. At least two boards are live. Their number is drawn from 2 to a power of two that is drawn
-first from 2 to 2^d, since few live boards take the most rounds; then which ones. At least one board is dead, but for N = 2, where there is
-nothing to find and no round is counted. Each turn is taken by any live board that has not finished its pass, at random.
+n is the number of boards, and d its logarithm to base 2, rounded up. At least two boards are live. Their number is drawn from 2 to a power
+of two that is drawn first from 2 to 2^d, since few live boards take the most rounds; then which ones. At least one board is dead, but for
+n = 2, where there is nothing to find and no round is counted. Each turn is taken by any live board that has not finished its pass, at
+random.
 
-Demand 3 states that d·d rounds suffice. The proof ([DEMAND-3.md](DEMAND-3.md)) shows that the exact wait f(d) suffices: d rounds for d ≤ 3,
-and 4 + ⌊(d − 3)²/2⌋ from 4 on. It is exact at every size from 3 on, as the slowest plants below show; for 2, with both live, there is
-nothing to find. Request C-22 asks for 1 + d(d − 1)/2, which is nowhere less.
+The worst-case latency is f(d) rounds: d rounds for d ≤ 3, and 4 + ⌊(d − 3)²/2⌋ from 4 on. That it suffices is proved
+([DETECTION.md](DETECTION.md)), and from n = 3 on the slowest plants below take it. The triangular bound 1 + d(d − 1)/2 and the square bound
+d·d are nowhere less.
 
-The count of trials, least, mean, variance and greatest are given by the library (`vcube_figures_of_list`, request C-12). Mean and variance
+The count of trials, least, mean, variance and greatest are given by the library (`vcube_figures_of_list`). Mean and variance
 are exact: in brackets stands the fraction in lowest terms. The variance is over the whole batch, divided by the count. The library takes at
 most 4,096 results, so that no row has more trials; with more than 32 boards there are half as many. The 99th percentile is not the
 library's: it is the least result that at least 99 in 100 trials did not exceed.
 
-| N | d | trials | least | mean | variance | 99th percentile | greatest | f(d) | 1 + d(d − 1)/2 | d·d |
+| n | d | trials | least | mean | variance | 99th percentile | greatest | f(d) | 1 + d(d − 1)/2 | d·d |
 |--:|--:|--:|--:|--:|--:|--:|--:|--:|--:|--:|
 ";
 
@@ -199,16 +200,21 @@ fn main_figures(summary: &Summary) -> String {
 
 /// The bounds of a size, as cells.
 fn bounds(n: usize) -> String {
-    format!("{} | {} | {}", exact(n), requested(n), stated(n))
+    format!(
+        "{} | {} | {}",
+        worst_latency(n),
+        triangle_bound(n),
+        square_bound(n)
+    )
 }
 
 const SLOWEST_TEXT: &str = "## The slowest plants
 
 A plant of each size from 3 to 64 in `samples/slowest.txt`, with many boards dead at once and the turns in an unlucky order: the dead boards
-crash first, then come the turns. Each takes the exact wait f(d). They are the slowest there are, since f(d) rounds always suffice
-([DEMAND-3.md](DEMAND-3.md)). From 17 boards on more rounds are needed than d. `samples/slowest 11 | ./watch` runs the plant of 11 boards.
+crash first, then come the turns. Each takes f(d) rounds, and none can take more. From 17 boards on more rounds are needed than d.
+`samples/slowest 11 | ./watch` runs the plant of 11 boards.
 
-| N | live | rounds until known | d | f(d) | 1 + d(d − 1)/2 | d·d |
+| n | live | rounds until known | d | f(d) | 1 + d(d − 1)/2 | d·d |
 |--:|--:|--:|--:|--:|--:|--:|
 ";
 
@@ -240,10 +246,10 @@ fn order_table(results: &[Results]) -> String {
 
 Mean, in brackets as the exact fraction, and greatest over random plants. Whole passes: each board takes its pass in one go, in an order
 drawn anew for each round, or by rising or falling number. Delaying: each turn is taken by a board whose turn adds the fewest suspicions to
-the table (an eighth of the trials). Driven: the library grants the turns (`vcube_drive`, request C-15). Each round is one drive; the first
-begins with last number 255, and each further one with the last number that the one before gave.
+the table (an eighth of the trials). Driven: the library grants the turns (`vcube_drive`). Each round is one drive; the first begins with
+last number 255, and each further one with the last number that the one before gave.
 
-| N | random | whole passes | rising passes | falling passes | delaying | driven |
+| n | random | whole passes | rising passes | falling passes | delaying | driven |
 |--:|--:|--:|--:|--:|--:|--:|
 ",
     );

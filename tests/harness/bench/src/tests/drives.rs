@@ -1,5 +1,5 @@
 //! The drive in plain Rust against the simulator, and against what is worked
-//! out by hand from requests C-15 and C-18.
+//! out by hand from the rules.
 
 use super::{crash, damage, random_schedule, table_with, told_and_closed};
 use crate::measure::check_equal_drives;

@@ -1,5 +1,5 @@
 //! Saving and loading in plain Rust against the simulator, and against what is
-//! worked out by hand from requests C-17 and C-18.
+//! worked out by hand from the rules.
 
 use super::{damage, random_schedule, table_with};
 use crate::measure::check_equal_saved;
@@ -128,7 +128,7 @@ fn each_refusal_of_a_load_is_met() {
     refuse(&with(&[size, tally, zero, &finished]), 16, 4);
 }
 
-/// A file of request C-17, whose lines have heads of four bytes.
+/// A file whose lines have heads of four bytes.
 #[test]
 fn a_file_with_heads_of_four_bytes_is_refused() {
     let [zero, one] = [
@@ -147,7 +147,7 @@ fn file_with([status, told_by, closed_since]: [u8; 3]) -> Vec<u8> {
     [&FILE[..SECOND + 4], &line].concat()
 }
 
-/// Request C-18: the line rules of bytes 4 and 5.
+/// The line rules of bytes 4 and 5.
 #[test]
 fn bytes_4_and_5_go_by_the_status() {
     for right in [

@@ -1,6 +1,6 @@
-//! The cases of bytes 4 and 5 of a line that the calls must cover (request
-//! C-18): tables that are taken and tables that are refused by one of the two
-//! bytes, and entries that write them.
+//! The cases of bytes 4 and 5 of a line that the calls must cover: tables that
+//! are taken and tables that are refused by one of the two bytes, and entries
+//! that write them.
 
 mod entries;
 mod tables;
@@ -60,7 +60,7 @@ impl Ceased {
     }
 
     /// Counts the entries of a run or a drive. What they write to bytes 4 and 5
-    /// by the request is checked.
+    /// by the rules is checked.
     pub fn add_entries(&mut self, call: &Call, outcome: &Outcome, entries: &[Entry]) {
         if entries.is_empty() {
             return;

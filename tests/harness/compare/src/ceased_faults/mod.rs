@@ -1,6 +1,5 @@
 //! Libraries with a fault in bytes 4 and 5 of a line: in what entries write
-//! there, in the line rules, in where the row begins, or in saves and loads
-//! (request C-18).
+//! there, in the line rules, in where the row begins, or in saves and loads.
 
 mod entries;
 mod places;

@@ -1,5 +1,5 @@
 //! Bytes 4 and 5 of a line: such as its status allows, and such as break a line
-//! rule (request C-18).
+//! rule.
 
 use shared::random::Random;
 use shared::table::{line_length, CLOSED_SINCE, STATUS, TOLD_BY};

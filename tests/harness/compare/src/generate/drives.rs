@@ -1,4 +1,4 @@
-//! Grants and drives (request C-15).
+//! Grants and drives.
 
 use shared::random::Random;
 use shared::table::unfinished_stations;

@@ -1,6 +1,6 @@
-//! Saves, loads and questions for the size of a saved plant (request C-17).
-//! A file is made of the fields of a plant; then their order is changed, fields
-//! of other tags are put between them, and now and then some are made wrong.
+//! Saves, loads and questions for the size of a saved plant. A file is made of
+//! the fields of a plant; then their order is changed, fields of other tags are
+//! put between them, and now and then some are made wrong.
 
 use shared::groups::{distances, SIZES};
 use shared::random::Random;
@@ -215,7 +215,7 @@ fn of_plant(size: Size, random: &mut Random) -> Vec<u8> {
     file
 }
 
-/// A line as it was before request C-18: without bytes 4 and 5.
+/// A line as it was in version 0.8: without bytes 4 and 5.
 fn give_former_head(field: &mut Field) {
     if field.tag == LINE {
         field.contents.drain(1 + FORMER_HEAD..1 + HEAD);

@@ -1,5 +1,5 @@
 //! Libraries with a fault in the save, in the load or in the question for the
-//! size of a saved plant (request C-17).
+//! size of a saved plant.
 
 mod fields;
 mod front;

@@ -1,5 +1,5 @@
 //! The cases that saves, loads and questions for the size of a saved plant must
-//! cover (request C-17).
+//! cover.
 
 mod front;
 mod lines;

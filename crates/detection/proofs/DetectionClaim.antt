@@ -1,0 +1,179 @@
+-- Detection within the worst-case latency and the greater bounds, proved: the chain of taken entries is cut into rounds, and the spread of
+-- knowledge bounds the rounds after which all is known.
+-- Assumes nothing.
+use mathlib.Core.Path.{◌≡◌, refl, sym, ap}
+use mathlib.Core.Logic.{◌⊎◌, inl, inr, ◌≢◌}
+use mathlib.Core.Bool.{Bool, true, false, not, ◌&&◌}
+use mathlib.Core.List.{List, [], ◌∷◌, ◌++◌}
+use Prim.Native.Nat.{ℕ, ◌≤◌, ◌<◌}
+use native.Mathlib.Nat.{le_trans}
+use native.Mathlib.Omega.{arith}
+use borrow.Author.Tests.{ltb-true, ltb-false, eqb-true, eqb-false, ne_eqb, not-true}
+use lib.ListN.{length}
+use lib.Dec.{ltb, eqb}
+use Rattle.lists.specs.Search.{least, every}
+use Rattle.table.specs.Sizes.{is_size, dimension}
+use Rattle.table.specs.Table.{suspects, live}
+use Rattle.table.specs.Rules.{not_live}
+use Rattle.lists.proofs.SearchLaws.{both, every-at, least-passes, least-before}
+use Rattle.table.proofs.Accepting.{Accepted}
+use Rattle.table.proofs.CellLaws.{accepted-line}
+use Rattle.table.proofs.SizeLaws.{size-bounds, size-log}
+use Rattle.plant.specs.Entry.{State}
+use Rattle.plant.proofs.RoundLaws.{Reset}
+use Rattle.lists.specs.Sums.{bit}
+use Rattle.detection.specs.Runs.{Call, taken_all, after_run, after_runs}
+use Rattle.detection.specs.Rounds.{count_taken, cut, tests_of_all}
+use Rattle.table.specs.Properties.{line_at_start, at_start, live_count, no_live_suspicion, none_suspected}
+use Rattle.detection.specs.Claim.{rounds_of, DetectionPremises, DetectionConclusion, Detection, DetectionAfter, square_bound, DetectionInSquare, DetectionInTriangle, worst_latency}
+use Rattle.lists.proofs.BoolLaws.{by_bool}
+use Rattle.lists.proofs.SumLaws.{sum-single}
+use Rattle.detection.proofs.Latency.{latency-pos, latency-le-triangle, latency-le-square}
+use Rattle.detection.proofs.Chain.{chain-all, chain_first}
+use Rattle.detection.proofs.TurnEffect.{Company}
+use Rattle.detection.proofs.Knowledge.{Exact}
+use Rattle.detection.proofs.Closing.{InRound, round-start}
+use Rattle.detection.proofs.Course.{Course, Tallied, exact-at, course}
+
+-- no live station suspects a live one: the byte is 0, where rows hold 0 and 1 only
+pub trusts : (n : ℕ) (t : List ℕ) → Accepted n t → none_suspected n t ≡ true → (i j : ℕ) → i < n → j < n → live n t i ≡ true → live n t j ≡ true
+    → suspects n t i j ≡ 0
+unfolding none_suspected
+trusts n t ok none i j h g a b =
+    let mine = every-at (λ k. every (no_live_suspicion n t k) n) n i none h in
+    let all : no_live_suspicion n t i j ≡ true = every-at (no_live_suspicion n t i) n j mine g in
+    let not_one = eqb-false (suspects n t i j) 1 (not-true _ (rw (a, b) at all)) in
+    omega (arith, (accepted-line n t ok i h).range j g)
+
+-- where two stations are live each live one has another
+pub company-of : (n : ℕ) (t : List ℕ) → 2 ≤ live_count n t → Company n (live n t)
+unfolding live_count
+company-of n t two i h l =
+    by_bool (ltb p n)
+    (λ e.
+    let below = ltb-true p n e in
+    let q = both (not (eqb p i)) (live n t p) (least-passes other n 0 (omega arith)) in
+    (p, below, λ f. eqb-false p i (not-true (eqb p i) q.0) (sym f), q.1))
+    (λ e.
+    let dead : (k : ℕ) → k < n → k ≢ i → live n t k ≡ false = λ k g ne.
+    rw (ne_eqb k i ne) at (least-before other n 0 k (omega arith) (omega (arith, ltb-false p n e))) in
+    absurd (omega (arith, sum-single (λ k. bit (live n t k)) n i h (λ k g ne. ap bit (dead k g ne)), ap bit l)))
+  where
+    other : ℕ → Bool
+    other k = not (eqb k i) && live n t k
+
+    p : ℕ
+    p = least other n 0
+
+-- the first table, at the start of a round
+first_round : (n : ℕ) (s : State) (calls : List Call) → DetectionPremises n s calls → Accepted n s.table
+    → InRound n (live n s.table) s.table [] s.table
+unfolding at_start
+first_round n s calls given ok =
+    round-start n (live n t) t
+    (record { lines = (ok.long, accepted-line n t ok); lives = λ i h. refl; accurate = trusts n t ok given.accurate }) fresh
+  where
+    t : List ℕ
+    t = s.table
+
+    fresh : (i : ℕ) → i < n → Reset n t i
+    fresh i h =
+        let all = both _ _ (every-at (line_at_start n t) n i given.start h) in
+        let head = both _ _ all.0 in
+        record { next = eqb-true _ 1 head.0; unfinished = eqb-true _ 0 head.1; untested = eqb-true _ 0 all.1 }
+
+-- a table that refusals let through
+module _ (n : ℕ) (s : State) (calls : List Call) (given : DetectionPremises n s calls) (ok : Accepted n s.table) where
+  abbrev L : ℕ → Bool
+  L = live n s.table
+
+  pub history : Course n s.table s.table (rounds_of s calls) (after_runs s calls).table
+      × Tallied [] s (rounds_of s calls) (after_runs s calls)
+  history =
+      course n s.table given.size (company-of n s.table given.two_live) (chain-all n s calls given.long)
+      given.no_crash given.no_late
+      s.table [] (first_round n s calls given ok)
+
+  -- after the worst-case latency all rounds start exact
+  pub exact : (q : ℕ) → worst_latency (dimension n) ≤ q → q ≤ length (rounds_of s calls).closed → Exact n L (history.0.start q)
+  exact =
+      exact-at n (dimension n) s.table s.table (rounds_of s calls) (after_runs s calls).table history.0 (let d = size-log n given.size in rw d.1 d.3)
+
+  exact_rows : worst_latency (dimension n) ≤ length (rounds_of s calls).closed
+      → (i j : ℕ) → i < n → j < n → L i ≡ true → suspects n (after_runs s calls).table i j ≡ bit (not_live n s.table j)
+  exact_rows far i j h g l =
+      let last = history.0.last in
+      by_bool (L j) (λ e. rw e (last.plain.accurate i j h g l e)) (λ e. rw e (last.grown i j h g (exact _ far (omega arith) i j h g l e)))
+
+  detection-accepted : DetectionConclusion (worst_latency (dimension n)) n s calls (after_runs s calls)
+  unfolding count_taken
+  detection-accepted = record {
+    same_live = history.0.last.plain.lives;
+    turns = λ k i h g l. history.0.turns k i h g;
+    exact_rows = exact_rows;
+    tests = λ k far h. history.0.counted k h (exact k far (omega arith));
+    rounds_tally = history.1.rounds;
+    tests_tally = omega (arith, history.1.tests);
+  }
+
+-- no entry is taken, as on a table that the refusals turn away
+detection-none : (n : ℕ) (s : State) (calls : List Call) → is_size n ≡ true → taken_all s calls ≡ [] → after_runs s calls ≡ s
+    → DetectionConclusion (worst_latency (dimension n)) n s calls (after_runs s calls)
+unfolding cut count_taken tests_of_all
+detection-none n s calls size none stays =
+    rw stays (record {
+      same_live = λ i h. refl;
+      turns = λ k i h g l.
+          let first : k ≡ 0 = omega (arith, closed) in
+          rw (first, none) (omega arith, λ e. absurd (omega (arith, size-bounds n size)));
+      exact_rows = λ far. absurd (some_level far);
+      tests = λ k far h. absurd (omega (arith, closed));
+      rounds_tally = omega (arith, closed);
+      tests_tally = rw none (omega arith);
+    })
+  where
+    closed : length (rounds_of s calls).closed ≡ 0
+    closed = rw none
+
+    some_level : worst_latency (dimension n) ≤ length (rounds_of s calls).closed → ⊥
+    some_level far = let d = size-log n size in omega (arith, closed, rw (← d.1) at (latency-pos d.0))
+
+-- the claim within the worst-case latency, an end in itself
+pub detection-in-worst-case : Detection worst_latency
+detection-in-worst-case n s calls given = go (chain_first (chain-all n s calls given.long))
+  where
+    go : ((taken_all s calls ≡ []) × (after_runs s calls ≡ s)) ⊎ Accepted n s.table
+        → DetectionConclusion (worst_latency (dimension n)) n s calls (after_runs s calls)
+    go (inl e) = detection-none n s calls given.size e.0 e.1
+    go (inr ok) = detection-accepted n s calls given ok
+
+-- and so within any number of rounds that is not less
+pub within : (rounds : ℕ → ℕ) → ((d : ℕ) → worst_latency d ≤ rounds d) → Detection rounds
+within rounds enough n s calls given =
+    let c = detection-in-worst-case n s calls given in
+    record {
+      same_live = c.same_live;
+      turns = c.turns;
+      exact_rows = λ far. c.exact_rows (le_trans (enough (dimension n)) far);
+      tests = λ k far. c.tests k (le_trans (enough (dimension n)) far);
+      rounds_tally = c.rounds_tally;
+      tests_tally = c.tests_tally;
+    }
+
+-- within 1 + d(d − 1)/2 rounds, an end in itself
+pub detection-in-triangle : DetectionInTriangle
+detection-in-triangle = within _ latency-le-triangle
+
+-- within d·d rounds, an end in itself
+pub detection-in-square : DetectionInSquare
+detection-in-square = within square_bound (λ d. omega (arith, latency-le-square d))
+
+-- the runs of a list and one more
+after-one-more : (s : State) (calls : List Call) (c : Call) → after_runs s (calls ++ (c ∷ [])) ≡ after_run (after_runs s calls) c
+unfolding after_runs
+after-one-more s [] c = refl
+after-one-more s (b ∷ calls) c = after-one-more (after_run s b) calls c
+
+-- a claim about lists, of the last run of a list
+pub last-run : (rounds : ℕ → ℕ) → Detection rounds → (c : Call) (before : State) → DetectionAfter rounds c before (after_run before c)
+last-run rounds claim c before n s calls e given = rw (after-one-more s calls c, e) at (claim n s (calls ++ (c ∷ [])) given)
