@@ -1,6 +1,6 @@
 -- Refusals in checking order, as values and as numbers, 0 for none: the first that applies, and what a refused call leaves or answers instead.
 -- Assumes nothing.
-use Rattle.std.specs.Prelude.{ℕ, Bool, Result, Ok, Err, ◌==◌, if◌then◌else◌}
+use Rattle.std.specs.Prelude.{ℕ, Bool, List, codes, Result, Ok, Err, ◌==◌, if◌then◌else◌}
 use Rattle.std.specs.Result.{result_and}
 use Rattle.lists.specs.declared.refusal.Refusal.{Refusal}
 use Rattle.lists.specs.declared.refusal.Refusal.TheVariants.{SizeOutOfRange, TableLength, LineRule, RoundNotClosed, ScheduleLength, SheetLength, TallyFull, UnknownKind, NoSuchStation, NotLive, PassFinished, NoSuchLevel, ListLength, NoResult, TooManyResults, LastGranted, NoneLive, FieldPastEnd, SizeOrTallyField, LineField}
@@ -30,6 +30,31 @@ number_of SizeOrTallyField = 19
 number_of LineField = 20
 number_of NoOpening = 21
 number_of FieldOrder = 22
+
+-- what it says to people
+abbrev pub words : Refusal → List ℕ
+words SizeOutOfRange = codes "a plant has 2 to 64 boards"
+words TableLength = codes "the table has not n(n + 6) bytes"
+words LineRule = codes "a line of the table breaks a line rule"
+words RoundNotClosed = codes "every live board has finished its pass, and the round was not closed"
+words ScheduleLength = codes "the schedule has an odd number of bytes"
+words SheetLength = codes "the sheet has not twice the bytes of the schedule"
+words TallyFull = codes "a counter is full: rounds or tests stand at 4,294,967,295"
+words UnknownKind = codes "there is no such kind of entry"
+words NoSuchStation = codes "there is no board with this number: they go from 0 to n - 1"
+words NotLive = codes "this board is not live"
+words PassFinished = codes "this board has finished its pass in this round"
+words NoSuchLevel = codes "there is no such level: they go from 1 to d"
+words ListLength = codes "the list or buffer for the answer has another length than the answer"
+words NoResult = codes "there is no result to take figures of"
+words TooManyResults = codes "more than 4,096 results, or totals that so many cannot have"
+words LastGranted = codes "the last granted number is neither a board nor 255"
+words NoneLive = codes "no board is live"
+words FieldPastEnd = codes "the file is cut off: a field or its head goes past the end"
+words SizeOrTallyField = codes "the field with the size or the tally is missing, there twice or of a wrong length"
+words LineField = codes "a board's line in the file is missing, there twice, of a wrong length or of no board"
+words NoOpening = codes "the file does not begin as edition 2 does"
+words FieldOrder = codes "a field is out of order, or of an unknown tag"
 
 -- the number of an answer: 0 where the call is not refused
 abbrev pub number_of_result : {A : Type 0} → Result A Refusal → ℕ

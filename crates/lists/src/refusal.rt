@@ -42,11 +42,17 @@ impl Refusal {
     }
 }
 
+// What a refusal says to people.
 impl fmt::Display for Refusal {
+    ghost use Rattle.std.specs.Prelude.{Some};
+    ghost use Rattle.lists.specs.Refusal.{words};
+
+    ghost output = { λ refusal. Some (words refusal) };
+
     fn fmt<W: fmt::Write>(&self, f: &mut fmt::Formatter<W>) -> fmt::Result {
         f.write_str(match self {
             Refusal::SizeOutOfRange => "a plant has 2 to 64 boards",
-            Refusal::TableLength => "the table has not n·(n + 6) bytes",
+            Refusal::TableLength => "the table has not n(n + 6) bytes",
             Refusal::LineRule => "a line of the table breaks a line rule",
             Refusal::RoundNotClosed =>
                 "every live board has finished its pass, and the round was not closed",
@@ -54,7 +60,7 @@ impl fmt::Display for Refusal {
             Refusal::SheetLength => "the sheet has not twice the bytes of the schedule",
             Refusal::TallyFull => "a counter is full: rounds or tests stand at 4,294,967,295",
             Refusal::UnknownKind => "there is no such kind of entry",
-            Refusal::NoSuchStation => "there is no board with this number: they go from 0 to n − 1",
+            Refusal::NoSuchStation => "there is no board with this number: they go from 0 to n - 1",
             Refusal::NotLive => "this board is not live",
             Refusal::PassFinished => "this board has finished its pass in this round",
             Refusal::NoSuchLevel => "there is no such level: they go from 1 to d",
