@@ -1,11 +1,11 @@
--- The distances that a loop or a count goes through.
+-- The distances that a loop or a count goes through, and those that a loop lists.
 -- Assumes nothing.
 use mathlib.Core.Path.{◌≡◌, refl, sym, ap, ◌∙◌}
-use mathlib.Core.Bool.{Bool, false}
-use mathlib.Core.List.{List}
+use mathlib.Core.Bool.{Bool, true, false}
+use mathlib.Core.List.{List, [], ◌∷◌, ◌++◌, map, map-append, append-nil}
 use Prim.Native.Nat.{ℕ, ◌+◌, ◌-◌, ◌≤◌, ◌<◌}
 use native.Mathlib.Omega.{arith}
-use lib.ListN.{length}
+use lib.ListN.{length, length-map}
 use denote.Ref.{Bor}
 use denote.Param.Members.{Mut}
 use Rattle.std.specs.declared.option.Option.{Option}
@@ -19,8 +19,10 @@ use Rattle.std.specs.List.{filter, range_with_len}
 use Rattle.std.specs.Range.{range_steps}
 use Rattle.std.proofs.lemmas.Iterator.{YieldsList, YieldsList-from_range}
 use Rattle.std.proofs.lemmas.Iterator.Consumers.{YieldsList-at, YieldsList-from_filter, YieldsList-turn, YieldsList-end}
+use Rattle.std.proofs.Common.{add-one}
 use Rattle.lists.specs.Search.{select}
 use Rattle.table.specs.Sizes.{distances}
+use Rattle.lists.proofs.FilterLaws.{select-suc}
 use Rattle.lists.proofs.Enumerated.{filter-below, filter-few, map-same}
 
 -- a filter over the numbers below end, whose closure answers what q does
@@ -49,3 +51,15 @@ module _ {F : Type 0} (g : Mut F (Bor ℕ × Unit {0}) Bool) (q : ℕ → Bool) 
     walked-whole is =
         let whole = YieldsList-end (YieldsList-at begins filtered) ms u yielded o v is step in
         sym (map-same ms) ∙ (whole.0 ∙ ap (select q) e)
+
+-- a loop over the numbers that lists one of each number below m that passes q: g of it is what f gives at the number
+module _ {X : Type 0} (g : X → ℕ) (f : ℕ → ℕ) (q : ℕ → Bool) (m : ℕ) (xs : List X) (listed : map g xs ≡ map f (select q m)) where
+  pub listed-next : (ys : List X) (x : X) → q m ≡ true → ys ≡ xs ++ (x ∷ []) → g x ≡ f m → map g ys ≡ map f (select q (m + 1))
+  listed-next ys x passes e same = rw (e, add-one, select-suc q m, passes, map-append g xs, map-append f (select q m), listed, same)
+
+  pub listed-none : (ys : List X) → q m ≡ false → ys ≡ xs → map g ys ≡ map f (select q (m + 1))
+  listed-none ys fails e = rw (e, add-one, select-suc q m, fails, append-nil) listed
+
+  -- they are fewer than m where 0 fails
+  pub listed-few : q 0 ≡ false → length xs ≤ m - 1
+  listed-few none = omega (arith, filter-few q m none, length-map xs g, length-map (select q m) f, ap length listed)
