@@ -1,6 +1,5 @@
 -- The distances are gone through in order.
-use Rattle.std.proofs.Common.{◌≡◌, ℕ, Bool, sym, ◌∙◌, ap, map, true, false, arith}
-use Rattle.lists.specs.Search.{select}
+use Rattle.std.proofs.Common.{◌≡◌, ℕ, Bool, sym, ◌∙◌, ap, true, false, arith}
 use Rattle.station.specs.Groups.{station_at}
 use Rattle.station.specs.Tests.{answer}
 use Rattle.station.specs.Calls.{answer_byte}
