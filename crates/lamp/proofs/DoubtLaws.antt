@@ -6,7 +6,9 @@ use mathlib.Core.List.{List, [], ◌∷◌, ◌++◌, map}
 use Prim.Native.Nat.{ℕ, zero, suc, ◌+◌, ◌-◌, ◌<◌}
 use native.Mathlib.Omega.{arith}
 use lib.ListN.{length, get_or}
-use Rattle.std.specs.Prelude.{Some, None, ◌==◌}
+use Rattle.std.specs.Prelude.{Option, Some, None, Ok, ◌==◌}
+use Rattle.lists.specs.declared.refusal.Refusal.{Refusal}
+use Rattle.lists.proofs.RefusalLaws.{and_ok}
 use Rattle.std.specs.List.{filter, flat_map, list_all, range_with_len, slice_get}
 use Rattle.std.proofs.lemmas.List.Elements.{filter-append}
 use Rattle.std.proofs.lemmas.Grind.{flat_map-append}
@@ -15,10 +17,11 @@ use Rattle.lists.specs.Search.{every, select}
 use Rattle.lists.proofs.SearchLaws.{every-all}
 use Rattle.lists.proofs.BoolLaws.{by_bool, every-same}
 use Rattle.table.specs.Table.{suspects, live, row}
+use Rattle.table.specs.Rules.{table_check}
 use Rattle.table.proofs.CellLaws.{row_at}
 use Rattle.table.specs.Properties.{none_suspected, no_live_suspicion}
 use Rattle.lamp.specs.declared.Doubt.{Doubt}
-use Rattle.lamp.specs.Doubt.{doubt_of, is_doubted, doubts_of, doubts, first_doubt}
+use Rattle.lamp.specs.Doubt.{doubt_of, is_doubted, doubts_of, doubts, first_doubt, doubt_lamp, IsOut}
 
 -- whether a list has no element
 abbrev pub is_empty : {A : Type 0} → List A → Bool
@@ -147,3 +150,19 @@ unfolding none_suspected
 doubtless-accurate n t =
     every-same (doubtless n t) (λ i. every (no_live_suspicion n t i) n) n
     (λ i h. line-same (live n t i) (live n t) (λ j. suspects n t i j == 1) n)
+
+-- none is found exactly where the table is accurate
+pub none-accurate : (n : ℕ) (t : List ℕ) → first_doubt n t ≡ None → none_suspected n t ≡ true
+none-accurate n t e = sym (doubtless-accurate n t) ∙ none-doubtless n t e
+
+pub accurate-none : (n : ℕ) (t : List ℕ) → none_suspected n t ≡ true → first_doubt n t ≡ None
+accurate-none n t e = first-none n t (doubtless-accurate n t ∙ e)
+
+-- the lamp that is out
+pub out-is : (n : ℕ) (t : List ℕ) → IsOut n t → (table_check n t ≡ Ok tt) × (none_suspected n t ≡ true)
+unfolding doubt_lamp
+out-is n t out = let p = and_ok (table_check n t) (Ok (first_doubt n t)) None out in (p.0, none-accurate n t (cc p.1))
+
+pub is-out : (n : ℕ) (t : List ℕ) → table_check n t ≡ Ok tt → none_suspected n t ≡ true → IsOut n t
+unfolding doubt_lamp
+is-out n t ok e = rw (ok, accurate-none n t e) refl

@@ -34,6 +34,10 @@ first_doubt n t = slice_get (doubts n t) 0
 unfoldable pub doubt_lamp : ℕ → List ℕ → Result (Option Doubt) Refusal
 doubt_lamp n t = table_check n t and Ok (first_doubt n t)
 
--- Rule Lamp is out: it is out exactly if no live station suspects a live one
+-- the lamp is out: its call answers that there is no pair
+abbrev pub IsOut : ℕ → List ℕ → Type 0
+IsOut n t = doubt_lamp n t ≡ Ok None
+
+-- Rule Lamp is out: exactly if refusals 1 to 4 let the table through and no live station suspects a live one
 abbrev pub OutIfAccurate : Type 0
-OutIfAccurate = (n : ℕ) (t : List ℕ) → (first_doubt n t ≡ None) ↔ (none_suspected n t ≡ true)
+OutIfAccurate = (n : ℕ) (t : List ℕ) → IsOut n t ↔ ((table_check n t ≡ Ok tt) × (none_suspected n t ≡ true))

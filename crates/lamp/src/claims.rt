@@ -2,7 +2,7 @@
 
 ghost use Rattle.lamp.specs.Doubt.{OutIfAccurate};
 
-// The lamp is out exactly if no live station suspects a live one.
+// The lamp is out exactly if no live station suspects a live one, on a table that is not refused.
 pub fn out_if_accurate()
     ensures { OutIfAccurate }
 {}

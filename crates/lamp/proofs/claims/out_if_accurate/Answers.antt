@@ -1,9 +1,6 @@
--- None is found exactly if no line has a doubt, and that is accuracy.
-use Rattle.std.proofs.Common.{sym, ◌∙◌}
-use Rattle.lamp.proofs.DoubtLaws.{first-none, none-doubtless, doubtless-accurate}
+-- Both ways are laws of the lamp.
+use Rattle.lamp.proofs.DoubtLaws.{out-is, is-out}
 use Rattle.lamp.proofs.claims.out_if_accurate.Goals as goal
 
 pub returns : goal.returns
-returns c n t =
-    let same = doubtless-accurate n t in
-    ((λ out. sym same ∙ none-doubtless n t out), (λ accurate. first-none n t (same ∙ accurate)))
+returns c n t = (out-is n t, λ e. is-out n t e.0 e.1)

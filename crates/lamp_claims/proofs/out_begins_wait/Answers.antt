@@ -1,0 +1,7 @@
+-- The law itself.
+use Rattle.detection.proofs.DetectionClaim.{detection-in-worst-case}
+use Rattle.lamp_claims.proofs.StaysOutLaws.{out-begins-wait}
+use Rattle.lamp_claims.proofs.out_begins_wait.Goals as goal
+
+pub returns : goal.returns
+returns c = out-begins-wait _ detection-in-worst-case
