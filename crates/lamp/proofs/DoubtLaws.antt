@@ -6,8 +6,7 @@ use mathlib.Core.List.{List, [], ◌∷◌, ◌++◌, map}
 use Prim.Native.Nat.{ℕ, zero, suc, ◌+◌, ◌-◌, ◌<◌}
 use native.Mathlib.Omega.{arith}
 use lib.ListN.{length, get_or}
-use Rattle.std.specs.Prelude.{Option, Some, None, Ok, ◌==◌}
-use Rattle.lists.specs.declared.refusal.Refusal.{Refusal}
+use Rattle.std.specs.Prelude.{Some, None, Ok, ◌==◌}
 use Rattle.lists.proofs.RefusalLaws.{and_ok}
 use Rattle.std.specs.List.{filter, flat_map, list_all, range_with_len, slice_get}
 use Rattle.std.proofs.lemmas.List.Elements.{filter-append}
