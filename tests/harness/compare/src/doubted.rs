@@ -66,7 +66,9 @@ const LAMP: [Case; 25] = [
     ("the pair (n - 1, n - 2) alone", |seen| {
         is_pair(seen, |pair| pair == (seen.n - 1, seen.n - 2)) && seen.pairs.len() == 1
     }),
-    ("station 0 suspected", |seen| is_pair(seen, |pair| pair.1 == 0)),
+    ("station 0 suspected", |seen| {
+        is_pair(seen, |pair| pair.1 == 0)
+    }),
     ("station n - 1 suspected", |seen| {
         is_pair(seen, |pair| pair.1 + 1 == seen.n)
     }),
@@ -74,18 +76,30 @@ const LAMP: [Case; 25] = [
         is_pair(seen, |pair| seen.live.first() != Some(&pair.0))
     }),
     ("a line passed over that is not live and suspects", |seen| {
-        is_pair(seen, |pair| seen.not_live[0].iter().any(|one| one.0 < pair.0))
+        is_pair(seen, |pair| {
+            seen.not_live[0].iter().any(|one| one.0 < pair.0)
+        })
     }),
     ("a byte passed over about one that is not live", |seen| {
         let before = |one: &Pair, pair: Pair| one.0 == pair.0 && one.1 < pair.1;
-        is_pair(seen, |pair| seen.not_live[1].iter().any(|one| before(one, pair)))
+        is_pair(seen, |pair| {
+            seen.not_live[1].iter().any(|one| before(one, pair))
+        })
     }),
     ("2 stations", |seen| is_lit(seen) && seen.n == 2),
     ("64 stations", |seen| is_lit(seen) && seen.n == 64),
-    ("no power of two", |seen| is_lit(seen) && !seen.n.is_power_of_two()),
-    ("3 though there is a pair", |seen| seen.number == 3 && !seen.pairs.is_empty()),
-    ("4 though there is a pair", |seen| seen.number == 4 && !seen.pairs.is_empty()),
-    ("4 and no pair", |seen| seen.number == 4 && seen.pairs.is_empty()),
+    ("no power of two", |seen| {
+        is_lit(seen) && !seen.n.is_power_of_two()
+    }),
+    ("3 though there is a pair", |seen| {
+        seen.number == 3 && !seen.pairs.is_empty()
+    }),
+    ("4 though there is a pair", |seen| {
+        seen.number == 4 && !seen.pairs.is_empty()
+    }),
+    ("4 and no pair", |seen| {
+        seen.number == 4 && seen.pairs.is_empty()
+    }),
 ];
 
 fn is_out(seen: &Seen) -> bool {

@@ -234,9 +234,15 @@ fn random_lists(length: usize) -> Vec<Vec<u16>> {
 fn print_lamps(repetitions: usize) {
     println!("\nDoubt lamps\n");
     println!("A doubt lamp on a table in which each live board suspects just the dead ones, and");
-    println!("on one with a pair besides: the last two boards, which is the last pair, or the first");
-    println!("two, so that nearly all is the check of the table. The column check has what part of");
-    println!("the library's time that is, in hundredths. Thousands of calls per second, the best of");
+    println!(
+        "on one with a pair besides: the last two boards, which is the last pair, or the first"
+    );
+    println!(
+        "two, so that nearly all is the check of the table. The column check has what part of"
+    );
+    println!(
+        "the library's time that is, in hundredths. Thousands of calls per second, the best of"
+    );
     println!("{repetitions} repetitions; {LAMPS} are timed together, each on its own copy of the table.\n");
     println!("| n | dead | pair | check | {COLUMNS}");
     println!("|--:|--:|:--|--:|--:|--:|--:|--:|--:|");
@@ -253,7 +259,10 @@ fn print_rows_of_lamps(n: usize, dead: usize, repetitions: usize) {
     let timed = pairs.map(|pair| {
         let work = LampWork::new(n, dead, pair);
         measure::check_equal_lamps(&work);
-        (pair, measure::best_times_of_lamps(&vec![work; LAMPS], repetitions))
+        (
+            pair,
+            measure::best_times_of_lamps(&vec![work; LAMPS], repetitions),
+        )
     });
     let check = timed[0].1[0];
     for (pair, times) in timed {
