@@ -26,7 +26,7 @@ fn fresh_tables_have_no_pair() {
 
 #[test]
 fn each_pair_alone() {
-    for (n, _) in sizes() {
+    for n in (2..=17).chain([33]) {
         for i in 0..n {
             for k in (0..n).filter(|k| *k != i) {
                 let mut table = fresh(n);
@@ -81,6 +81,23 @@ fn a_late_reply_is_a_pair_until_its_station_is_told() {
     assert_eq!(doubt_lamp(4, &table), (0, Some((0, 1))));
     run_with(4, &mut table, (0, 0), &[1, 1]);
     assert_eq!(doubt_lamp(4, &table), (0, None));
+}
+
+/// The example of the crate `examples`: 0 comes to suspect 1, and hands it on to
+/// 2 and 3; 0 crashes; 3 tells 1.
+#[test]
+fn a_pair_that_is_handed_on() {
+    let mut table = fresh(4);
+    let steps: [(&[u8], Option<(u8, u8)>); 4] = [
+        (&[2, 0], Some((0, 1))),
+        (&[1, 0, 1, 0], Some((0, 1))),
+        (&[3, 0, 1, 2, 1, 2], Some((2, 1))),
+        (&[1, 3, 1, 3], None),
+    ];
+    for (schedule, pair) in steps {
+        run_with(4, &mut table, (0, 0), schedule);
+        assert_eq!(doubt_lamp(4, &table), (0, pair));
+    }
 }
 
 #[test]
