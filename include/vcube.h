@@ -115,7 +115,8 @@ extern "C" {
 /* Stands in an entry of an assignment whose distance is due. */
 #define VCUBE_DUE 255
 
-/* Stands in the run sheet where no station was tested, and is the last granted number where none was granted yet. */
+/* Stands in the run sheet where no station was tested, and for both stations where the doubt lamp has no pair; and is the last granted number
+ * where none was granted yet. */
 #define VCUBE_NO_STATION 255
 
 /* Byte 4 of the line of a station that no other one told to leave: it is live, crashed, or left because alone. */
@@ -278,6 +279,13 @@ uint8_t vcube_grant(size_t n, const uint8_t *table, size_t table_length, size_t 
  * those of these turns.
  * Refusals: 1 to 4, 16, 17, then 7 before each grant. */
 uint8_t vcube_drive(size_t n, uint8_t *table, size_t table_length, uint32_t *rounds, uint32_t *tests, size_t *last, size_t *grants);
+
+/* Doubt lamp: whether some live station suspects another live one. The lines of live stations are looked through by rising number, each row by
+ * rising number, up to the first live station that is suspected: *by is the station that suspects, *of the one that it suspects. Both are
+ * VCUBE_NO_STATION where there is no such pair, and 0 where the call is refused. The call changes no byte. A lamp without a pair at the start of
+ * a round begins the wait of the detection claim (Rules Detection conditions and Lamp begins the wait).
+ * Refusals: 1 to 4. */
+uint8_t vcube_doubt_lamp(size_t n, const uint8_t *table, size_t table_length, size_t *by, size_t *of);
 
 /* Save: writes size, tally and table as a saved plant into a buffer of VCUBE_SAVED_LENGTH(n) bytes: the size field, the tally field, then
  * the line fields by ascending station. Every byte of the buffer is written. Tallies at 4294967295 are saved like others. The last granted

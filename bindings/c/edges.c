@@ -1,6 +1,6 @@
 /* What vcube.h says of NULL with length 0, of figures after a refusal, of a group's length, of who is ahead, of who leaves at a test, of
- * grants and drives, of saved plants, of who told a station to leave and how long ago, of the most results and the totals that they can
- * have, of its structs, and of its version. */
+ * grants and drives, of the doubt lamp, of saved plants, of who told a station to leave and how long ago, of the most results and the
+ * totals that they can have, of its structs, and of its version. */
 
 #include "vcube.h"
 
@@ -1326,6 +1326,43 @@ static void figures_over_results(void)
     variance_below_0();
 }
 
+/* The doubt lamp gives the number and a pair. */
+static void lamp(size_t n, const uint8_t *table, size_t table_length, int number, size_t by, size_t of, const char *what)
+{
+    size_t given_by = ANY, given_of = ANY;
+
+    expect(vcube_doubt_lamp(n, table, table_length, &given_by, &given_of) == number, what);
+    expect(given_by == by && given_of == of, what);
+}
+
+/* Of 4 stations 0 suspects 2, 1 suspects 3, 3 suspects 0 and 1. */
+static void doubt_lamps(void)
+{
+    uint8_t table[VCUBE_TABLE_LENGTH(4)];
+    const size_t line = 4 + VCUBE_HEAD;
+
+    expect(vcube_fresh_table(4, table, sizeof table) == VCUBE_ACCEPTED, "a fresh table");
+    lamp(4, table, sizeof table, VCUBE_ACCEPTED, VCUBE_NO_STATION, VCUBE_NO_STATION, "doubt lamp: out on a fresh table");
+    table[VCUBE_HEAD + 2] = table[line + VCUBE_HEAD + 3] = 1;
+    table[3 * line + VCUBE_HEAD] = table[3 * line + VCUBE_HEAD + 1] = 1;
+    lamp(4, table, sizeof table, VCUBE_ACCEPTED, 0, 2, "doubt lamp: the first line");
+    table[2 * line] = VCUBE_STATUS_CRASHED;
+    lamp(4, table, sizeof table, VCUBE_ACCEPTED, 1, 3, "doubt lamp: a suspected station that is not live is passed over");
+    table[line] = VCUBE_STATUS_CRASHED;
+    lamp(4, table, sizeof table, VCUBE_ACCEPTED, 3, 0, "doubt lamp: the line of a station that is not live is passed over");
+    lamp(1, table, sizeof table, VCUBE_REFUSED_SIZE_OUT_OF_RANGE, 0, 0, "doubt lamp: size 1 gets 1");
+    lamp(260, table, sizeof table, VCUBE_REFUSED_SIZE_OUT_OF_RANGE, 0, 0, "doubt lamp: size 260 is not cut to 4");
+    lamp(4, table, sizeof table - 1, VCUBE_REFUSED_TABLE_LENGTH, 0, 0, "doubt lamp: a table too short gets 2");
+    lamp(4, NULL, 0, VCUBE_REFUSED_TABLE_LENGTH, 0, 0, "doubt lamp: a table of length 0 gets 2");
+    table[3 * line + 1] = 4;
+    table[3 * line + 2] = 1;
+    table[1] = 4;
+    table[2] = 1;
+    lamp(4, table, sizeof table, VCUBE_REFUSED_ROUND_NOT_CLOSED, 0, 0, "doubt lamp: every live station is finished, 4 though there is a pair");
+    table[3 * line + 3] = 4;
+    lamp(4, table, sizeof table, VCUBE_REFUSED_LINE_RULE, 0, 0, "doubt lamp: the last line breaks a rule, 3 before 4");
+}
+
 int main(void)
 {
     uint8_t table[VCUBE_TABLE_LENGTH(N)];
@@ -1340,6 +1377,7 @@ int main(void)
     who_is_ahead();
     who_leaves();
     grants_and_drives();
+    doubt_lamps();
     saved_plants();
     who_told_and_how_long_ago();
     figures_over_results();

@@ -1,5 +1,6 @@
-/* The four entries that docs/RULES.md, "A worked run", begins with, by the C interface of the library; a group in a plant of 11, and which
- * distances are due and who is ahead at the others; then a board that leaves when it is tested. */
+/* The four entries that docs/RULES.md, "A worked run", begins with, by the C interface of the library, and the doubt lamp after the first
+ * and after all; a group in a plant of 11, and which distances are due and who is ahead at the others; then a board that leaves when it is
+ * tested. */
 
 #include "vcube.h"
 
@@ -128,6 +129,20 @@ static int print_line(size_t station)
     return 0;
 }
 
+/* Prints the pair of the doubt lamp, if there is one. */
+static int print_lamp(void)
+{
+    size_t by, of;
+
+    if (refused("doubt lamp", vcube_doubt_lamp(N, table, sizeof table, &by, &of)))
+        return 1;
+    if (by == VCUBE_NO_STATION)
+        printf("doubt lamp: out\n");
+    else
+        printf("doubt lamp: %zu suspects %zu\n", by, of);
+    return 0;
+}
+
 static int print_lines(void)
 {
     for (size_t station = 0; station < N; station++)
@@ -138,7 +153,10 @@ static int print_lines(void)
 
 int main(void)
 {
-    if (run(example, sizeof example) || print_group(N, 3, 2) || print_group(11, 2, 4) || print_assignment(0) || print_assignment(2) ||
+    /* After the first entry 0 suspects 1, which is live; after all four 1 has left. */
+    if (run(example, 2) || print_lamp() || run(example, sizeof example) || print_lamp())
+        return 1;
+    if (print_group(N, 3, 2) || print_group(11, 2, 4) || print_assignment(0) || print_assignment(2) ||
         print_assignment(3) || print_lines())
         return 1;
     return run(late_after_passes, sizeof late_after_passes) || print_lines();

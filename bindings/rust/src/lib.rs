@@ -152,6 +152,33 @@
 //! # Ok::<(), vcube::Refusal>(())
 //! ```
 //!
+//! The doubt lamp says whether some live board suspects another live one. That
+//! board leaves when it hears of it:
+//!
+//! ```
+//! use vcube::{Doubt, Entry, Kind, Station, Tally};
+//!
+//! let n = 4;
+//! let mut table = [0; vcube::table_length(4)];
+//! vcube::fresh_table(n, &mut table)?;
+//! assert_eq!(vcube::doubt_lamp(n, &table)?, None);
+//!
+//! // The reply of 1 to 0 is late.
+//! let late = Entry { kind: Kind::LateTurn, station: Station(0) };
+//! let mut tally = Tally::default();
+//! let answer = vcube::run(n, &mut table, &mut tally, &late.bytes(), &mut [0; 4]);
+//! assert_eq!(answer.refusal, None);
+//! let doubt = Doubt { by: Station(0), of: Station(1) };
+//! assert_eq!(vcube::doubt_lamp(n, &table)?, Some(doubt));
+//!
+//! // 1 tests 0, is told and leaves.
+//! let turn = Entry { kind: Kind::Turn, station: Station(1) };
+//! let answer = vcube::run(n, &mut table, &mut tally, &turn.bytes(), &mut [0; 4]);
+//! assert_eq!(answer.refusal, None);
+//! assert_eq!(vcube::doubt_lamp(n, &table)?, None);
+//! # Ok::<(), vcube::Refusal>(())
+//! ```
+//!
 //! A plant is saved to the panel as tagged fields, and loaded again. The saved
 //! plant says how long the table must be that is lent for it:
 //!
@@ -208,6 +235,7 @@ mod codes;
 mod entries;
 mod figures;
 mod granter;
+mod lamp;
 mod lines;
 #[allow(unsafe_code)]
 mod raw;
@@ -224,6 +252,7 @@ pub use codes::{Kind, Outcome, Refusal, Status};
 pub use entries::{schedule, sheet_lines, Entry, SheetLine};
 pub use figures::{figures, figures_of_two, Figures, Fraction, Totals, MOST_RESULTS};
 pub use granter::{drive, grant, Driven};
+pub use lamp::{doubt_lamp, Doubt};
 pub use lines::{rounds_ago, status, told_by, ToldBy, HEAD, TOLD_BY_NONE, TOLD_NOT_RECORDED};
 pub use saved::{load, save, saved_length, saved_size, Loaded};
 

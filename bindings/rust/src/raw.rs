@@ -80,6 +80,14 @@ mod c {
             grants: &mut usize,
         ) -> u8;
 
+        pub fn vcube_doubt_lamp(
+            n: usize,
+            table: *const u8,
+            table_length: usize,
+            by: &mut usize,
+            of: &mut usize,
+        ) -> u8;
+
         pub fn vcube_save(
             n: usize,
             table: *const u8,
@@ -222,6 +230,13 @@ pub fn drive(
         )
     };
     (number, grants)
+}
+
+/// Gives the number, and of the pair which station suspects and which one.
+pub fn doubt_lamp(n: usize, table: &[u8]) -> (u8, usize, usize) {
+    let (mut by, mut of) = (0, 0);
+    let number = unsafe { c::vcube_doubt_lamp(n, table.as_ptr(), table.len(), &mut by, &mut of) };
+    (number, by, of)
 }
 
 /// Gives the number.

@@ -5,6 +5,7 @@ use crate::*;
 
 mod assignment;
 mod granter;
+mod lamp;
 mod lines;
 mod saved;
 

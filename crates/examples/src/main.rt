@@ -1,9 +1,10 @@
-// Computes the examples: of the plant run and the groups (`boards`), of figures over a season's trials (`season`) and of grants and drives
-// (`busmaster`). What it writes, one behind the other, is compared with the file `stdout`.
+// Computes the examples: of the plant run and the groups (`boards`), of figures over a season's trials (`season`), of grants and drives
+// (`busmaster`) and of the doubt lamp (`lamps`). What it writes, one behind the other, is compared with the file `stdout`.
 #![tactic(auto)]
 
 mod boards;
 mod busmaster;
+mod lamps;
 mod lengths;
 mod season;
 
@@ -11,4 +12,5 @@ fn main(rt: HostRuntime) {
     boards::show(&rt);
     season::show(&rt);
     busmaster::show(&rt);
+    lamps::show(&rt);
 }

@@ -3,15 +3,16 @@
 -- it leaves in the variables, a tally is handed in by its parts, and figures and totals are the members of a struct in their order.
 -- A station, level or last number may be any; the definitions of `station` and `granter` refuse it as they refuse any that is too high.
 -- Assumes nothing.
-use Rattle.std.specs.Prelude.{◌≡◌, ℕ, ◌+◌, List, [], ◌∷◌, Result, slice_index, slice_range}
+use Rattle.std.specs.Prelude.{◌≡◌, ℕ, ◌+◌, List, [], ◌∷◌, Option, Some, None, Result, Ok, Err, slice_index, slice_range}
 use Rattle.std.specs.Result.{result_unwrap_or}
 use Rattle.lists.specs.declared.refusal.Refusal.{Refusal}
-use Rattle.lists.specs.Refusal.{number_of_result}
+use Rattle.lists.specs.Refusal.{number_of, number_of_result}
 use Rattle.station.specs.Calls.{row_part}
 use Rattle.plant.specs.declared.Tally.{Tally}
 use Rattle.plant.specs.Entry.{state_of}
 use Rattle.plant.specs.Run.{RunResult}
 use Rattle.granter.specs.Drive.{DriveResult, drive_outcome}
+use Rattle.lamp.specs.declared.Doubt.{Doubt}
 use Rattle.saved.specs.declared.Loaded.{Loaded}
 use Rattle.figures.specs.declared.Figures.{Figures}
 use Rattle.figures.specs.declared.Totals.{Totals}
@@ -27,6 +28,25 @@ outcome_out number taken t rounds tests sheet = record { number = number; taken 
 -- Drive: the outcome by its parts: the number, table, rounds and tests, the last granted number and the grants made
 abbrev pub drive_out : ℕ → List ℕ → ℕ → ℕ → ℕ → ℕ → DriveResult
 drive_out number t rounds tests last grants = drive_outcome number (state_of t rounds tests) last grants
+
+-- Doubt lamp: the number, and the two stations of the pair
+pub record PairResult : Type 0 where
+  pub number : ℕ
+  pub by : ℕ
+  pub of : ℕ
+
+abbrev pub pair_out : ℕ → ℕ → ℕ → PairResult
+pair_out number by of = record { number = number; by = by; of = of }
+
+-- stands for both stations where there is no pair
+abbrev pub no_station : ℕ
+no_station = 255
+
+-- Rule Lamp call: the number and the stations of each answer
+abbrev pub pair_of : Result (Option Doubt) Refusal → PairResult
+pair_of (Ok (Some pair)) = pair_out 0 pair.by.0 pair.of.0
+pair_of (Ok None) = pair_out 0 no_station no_station
+pair_of (Err refusal) = pair_out (number_of refusal) 0 0
 
 -- Save: the tally by its parts
 abbrev pub tally_of : ℕ → ℕ → Tally

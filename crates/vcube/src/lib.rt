@@ -13,11 +13,12 @@ ghost use Rattle.detection.specs.Claim.{DetectionAfter, square_bound, worst_late
 ghost use Rattle.detection.specs.Driven.{DrivenDetectionAfter};
 ghost use Rattle.granter.specs.Grant.{grant_refusal, grant_station};
 ghost use Rattle.granter.specs.Drive.{drive, StoppedIfTaken};
+ghost use Rattle.lamp.specs.Doubt.{doubt_lamp};
 ghost use Rattle.saved.specs.Load.{size_refusal, saved_size, size_figure, load_refusal, load_answer, loaded_figures, load_after};
 ghost use Rattle.saved.specs.Save.{save_refusal, save_after};
 ghost use Rattle.figures.specs.Batch.{figures};
 ghost use Rattle.figures.specs.Totals.{totals, join, figures_of_totals};
-ghost use Rattle.vcube.specs.Exports.{IsRowAt, outcome_out, drive_out, tally_of, loaded_out, filled, figures_members, totals_members, totals_with, figures_out, totals_out};
+ghost use Rattle.vcube.specs.Exports.{IsRowAt, outcome_out, drive_out, pair_out, pair_of, tally_of, loaded_out, filled, figures_members, totals_members, totals_with, figures_out, totals_out};
 
 use figures::{Figures, Totals, adding, batch};
 use granter::grant;
@@ -26,6 +27,9 @@ use plant::Tally;
 use saved::{Loaded, load, save};
 use station::{due, groups, rows};
 use table::{Level, Station, cells, fresh};
+
+// Stands for the two stations of a pair where the doubt lamp has none.
+const NO_STATION: u8 = 255;
 
 // Fresh table: every line live, next distance 1, byte 4 255, all else 0.
 #[unsafe(no_mangle)]
@@ -174,6 +178,21 @@ pub extern "C" fn vcube_drive(
     *last = driven.last;
     *grants = driven.grants;
     plant::stop_refusal(driven.stopped)
+}
+
+// Doubt lamp: the first live station that suspects a live one into by, and whom into of; 255 into both where there is none, 0 where it is refused.
+#[unsafe(no_mangle)]
+pub extern "C" fn vcube_doubt_lamp(n: usize, table: &[u8], by: &mut usize, of: &mut usize) -> u8
+    ensures { pair_out result by.new of.new ≡ pair_of (doubt_lamp n table.now) }
+{
+    let (number, i, k) = match lamp::doubt_lamp(n, table) {
+        Ok(Some(doubt)) => (0, doubt.by.0, doubt.of.0),
+        Ok(None) => (0, NO_STATION, NO_STATION),
+        Err(refusal) => (refusal.number(), 0, 0),
+    };
+    *by = usize::from(i);
+    *of = usize::from(k);
+    number
 }
 
 // Save: the table and the tally as a saved plant, into a buffer of just its length.

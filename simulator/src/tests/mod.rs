@@ -8,6 +8,7 @@ mod entries;
 mod figures;
 mod granter;
 mod groups;
+mod lamp;
 mod laws;
 mod leaving;
 mod program;

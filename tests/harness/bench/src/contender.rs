@@ -1,14 +1,14 @@
-//! The three implementations of the run, of the drive, of the figures and of
-//! saving and loading, called the same way.
+//! The three implementations of the run, of the drive, of the figures, of the
+//! doubt lamp and of saving and loading, called the same way.
 
-use crate::{plain, plain_drive, plain_figures, plain_saved};
+use crate::{plain, plain_drive, plain_figures, plain_lamp, plain_saved};
 use shared::grants::NONE_YET;
 use shared::schedule::Entry;
 use simulator::{Answer, Driven, Loaded};
 use vcube::{Figures, Fraction, Refusal, Tally};
 
-/// An implementation of the run, of the drive, of the figures and of saving and
-/// loading.
+/// An implementation of the run, of the drive, of the figures, of the doubt lamp
+/// and of saving and loading.
 #[derive(Clone, Copy, Debug, PartialEq, Eq)]
 pub enum Contender {
     Library,
@@ -52,6 +52,15 @@ impl Contender {
             Contender::Library => vcube::figures(results),
             Contender::Plain => plain_figures::figures(results),
             Contender::Simulator => simulated_figures(results),
+        }
+    }
+
+    /// The doubt lamp; gives the number and the pair.
+    pub fn doubt_lamp(self, n: usize, table: &[u8]) -> (u8, Option<(u8, u8)>) {
+        match self {
+            Contender::Library => doubt_lamp_library(n, table),
+            Contender::Plain => plain_lamp::doubt_lamp(n, table),
+            Contender::Simulator => simulator::doubt_lamp(n, table),
         }
     }
 
@@ -123,6 +132,13 @@ fn drive_library(n: usize, table: &mut [u8]) -> Driven {
         tests: tally.tests,
         last: last.map_or(NONE_YET, |station| station.0),
         grants: driven.grants,
+    }
+}
+
+fn doubt_lamp_library(n: usize, table: &[u8]) -> (u8, Option<(u8, u8)>) {
+    match vcube::doubt_lamp(n, table) {
+        Ok(pair) => (0, pair.map(|doubt| (doubt.by.0 as u8, doubt.of.0 as u8))),
+        Err(refusal) => (refusal.number(), None),
     }
 }
 

@@ -1,6 +1,7 @@
 //! Times the three implementations on the same work.
 
 use crate::contender::Contender;
+use crate::lamp_work::LampWork;
 use crate::saved_work::SavedWork;
 use crate::work::Work;
 use simulator::{Answer, Driven, Loaded};
@@ -74,6 +75,19 @@ pub fn best_times_of_drives(works: &[Work], repetitions: usize) -> [f64; 3] {
 /// implementation.
 pub fn best_times_of_figures(lists: &[Vec<u16>], repetitions: usize) -> [f64; 3] {
     best(repetitions, |contender| time_figures(contender, lists))
+}
+
+/// The seconds that the lamps of all tables take together with each
+/// implementation.
+pub fn best_times_of_lamps(works: &[LampWork], repetitions: usize) -> [f64; 3] {
+    best(repetitions, |contender| {
+        let works = black_box(works);
+        let start = Instant::now();
+        for work in works {
+            black_box(contender.doubt_lamp(work.n, &work.table));
+        }
+        start.elapsed().as_secs_f64()
+    })
 }
 
 /// The seconds that saves of all plants take together with each implementation,
@@ -180,6 +194,14 @@ pub fn check_equal_figures(results: &[u16]) {
     assert!(figures[0].is_ok(), "the list is refused");
     assert_eq!(figures[0], figures[1], "library and plain Rust differ");
     assert_eq!(figures[0], figures[2], "library and simulator differ");
+}
+
+/// Stops unless all three find the pair of the table, which is taken.
+pub fn check_equal_lamps(work: &LampWork) {
+    for contender in Contender::ALL {
+        let given = contender.doubt_lamp(work.n, &work.table);
+        assert_eq!(given, (0, work.pair), "{contender:?}: another pair");
+    }
 }
 
 /// Stops unless all three save the plant as its file, and load it from either

@@ -3,6 +3,7 @@
 
 mod detection;
 mod drives;
+mod lamps;
 mod saves;
 
 use crate::contender::Contender;

@@ -68,6 +68,13 @@ extern "C" {
         last: *mut usize,
         grants: *mut usize,
     ) -> u8;
+    fn vcube_doubt_lamp(
+        n: usize,
+        table: *const u8,
+        table_length: usize,
+        by: *mut usize,
+        of: *mut usize,
+    ) -> u8;
     fn vcube_save(
         n: usize,
         table: *const u8,
@@ -196,6 +203,11 @@ impl Calls for Library {
         let (rounds, tests) = (figure(rounds), figure(tests));
         let (last, grants) = (figure(last), figure(grants));
         unsafe { vcube_drive(numbers.n, table, length, rounds, tests, last, grants) }
+    }
+
+    fn doubt_lamp(numbers: &Numbers, [table, by, of]: [&mut Guarded; 3]) -> u8 {
+        let (table, length) = bytes(table);
+        unsafe { vcube_doubt_lamp(numbers.n, table, length, figure(by), figure(of)) }
     }
 
     fn save(numbers: &Numbers, [table, saved]: [&mut Guarded; 2]) -> u8 {

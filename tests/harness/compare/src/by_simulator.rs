@@ -2,12 +2,14 @@
 //! simulator does not know it.
 //!
 //! The header adds: station and level numbers of any width, and where the
-//! figures go. A row is its start in the table and its length.
+//! figures go. A row is its start in the table and its length. A doubt lamp that
+//! has no pair gives 255 for both stations, and zeros where it is refused.
 
 use simulator::{Figures, Totals};
 
 use crate::call::Numbers;
 use crate::calls::{Assignment, Calls, Row, Run};
+use crate::doubting::NO_STATION;
 use crate::guarded::Guarded;
 use crate::outcome::Side;
 use crate::words;
@@ -81,6 +83,15 @@ impl Calls for Simulator {
         last.put_figure(answer.last);
         grants.put_figure(answer.grants);
         answer.number
+    }
+
+    fn doubt_lamp(numbers: &Numbers, [table, by, of]: [&mut Guarded; 3]) -> u8 {
+        let (number, pair) = simulator::doubt_lamp(numbers.n, table.contents());
+        let none = if number == 0 { NO_STATION } else { 0 };
+        let (one, other) = pair.unwrap_or((none, none));
+        by.put_figure(one.into());
+        of.put_figure(other.into());
+        number
     }
 
     fn save(numbers: &Numbers, [table, saved]: [&mut Guarded; 2]) -> u8 {

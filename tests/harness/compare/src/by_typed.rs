@@ -13,6 +13,7 @@ use vcube::{SheetLine, Station, Tally, ToldBy, Totals};
 use crate::assigning::DUE;
 use crate::call::Numbers;
 use crate::calls::{Assignment, Calls, Row, Run};
+use crate::doubting::NO_STATION;
 use crate::guarded::Guarded;
 use crate::outcome::Side;
 use crate::words;
@@ -104,6 +105,18 @@ impl Calls for Typed {
         last.put_figure(station.map_or(NONE_YET, |station| station.0));
         grants.put_figure(driven.grants);
         number(&driven.refusal.map_or(Ok(()), Err))
+    }
+
+    fn doubt_lamp(numbers: &Numbers, [table, by, of]: [&mut Guarded; 3]) -> u8 {
+        let given = vcube::doubt_lamp(numbers.n, table.contents());
+        let (one, other) = match given {
+            Ok(Some(doubt)) => (doubt.by.0, doubt.of.0),
+            Ok(None) => (NO_STATION.into(), NO_STATION.into()),
+            Err(_) => (0, 0),
+        };
+        by.put_figure(one);
+        of.put_figure(other);
+        number(&given)
     }
 
     fn save(numbers: &Numbers, [table, saved]: [&mut Guarded; 2]) -> u8 {

@@ -17,6 +17,7 @@ pub enum Kind {
     Run,
     Grant,
     Drive,
+    DoubtLamp,
     Save,
     Load,
     SavedSize,
@@ -59,6 +60,9 @@ pub enum Name {
     Last,
     /// How many grants a drive made.
     Grants,
+    /// The pair of a doubt lamp: which station suspects, and which one.
+    By,
+    Of,
     /// A saved plant: the file.
     Saved,
     /// The size of a saved plant.
@@ -111,7 +115,7 @@ impl Call {
 }
 
 impl Kind {
-    pub const ALL: [Kind; 15] = [
+    pub const ALL: [Kind; 16] = [
         Kind::FreshTable,
         Kind::GroupList,
         Kind::Assignment,
@@ -119,6 +123,7 @@ impl Kind {
         Kind::Run,
         Kind::Grant,
         Kind::Drive,
+        Kind::DoubtLamp,
         Kind::Save,
         Kind::Load,
         Kind::SavedSize,
@@ -131,7 +136,7 @@ impl Kind {
 
     /// Those about a plant, which take a size or give the size of a saved one:
     /// the first ones. The others are about results.
-    pub const OF_PLANTS: [Kind; 10] = [
+    pub const OF_PLANTS: [Kind; 11] = [
         Kind::FreshTable,
         Kind::GroupList,
         Kind::Assignment,
@@ -139,6 +144,7 @@ impl Kind {
         Kind::Run,
         Kind::Grant,
         Kind::Drive,
+        Kind::DoubtLamp,
         Kind::Save,
         Kind::Load,
         Kind::SavedSize,
@@ -153,6 +159,7 @@ impl Kind {
             Kind::Run => "run",
             Kind::Grant => "grant",
             Kind::Drive => "drive",
+            Kind::DoubtLamp => "doubt lamp",
             Kind::Save => "save",
             Kind::Load => "load",
             Kind::SavedSize => "size of a saved plant",
@@ -187,6 +194,7 @@ impl Kind {
                 Name::Last,
                 Name::Grants,
             ],
+            Kind::DoubtLamp => &[Name::Table, Name::By, Name::Of],
             Kind::Save => &[Name::Table, Name::Saved],
             Kind::Load => &[
                 Name::Saved,
@@ -214,6 +222,7 @@ impl Kind {
             Kind::Run => &[0, 1, 2, 3, 4, 5, 6, 7, 8, 9, 10, 11],
             Kind::Grant => &[0, 1, 2, 3, 4, 16, 17],
             Kind::Drive => &[0, 1, 2, 3, 4, 7, 16, 17],
+            Kind::DoubtLamp => &[0, 1, 2, 3, 4],
             Kind::Save => &[0, 1, 2, 3, 4, 13],
             Kind::Load => &[0, 1, 2, 3, 4, 18, 19, 20],
             Kind::SavedSize => &[0, 1, 18, 19],
@@ -224,7 +233,7 @@ impl Kind {
 }
 
 impl Name {
-    pub const ALL: [Name; 21] = [
+    pub const ALL: [Name; 23] = [
         Name::Table,
         Name::List,
         Name::Schedule,
@@ -238,6 +247,8 @@ impl Name {
         Name::Station,
         Name::Last,
         Name::Grants,
+        Name::By,
+        Name::Of,
         Name::Saved,
         Name::Size,
         Name::Results,
@@ -263,6 +274,8 @@ impl Name {
             Name::Station => "station",
             Name::Last => "last number",
             Name::Grants => "grants",
+            Name::By => "suspecting station",
+            Name::Of => "suspected station",
             Name::Saved => "saved plant",
             Name::Size => "size",
             Name::Results => "results",
@@ -282,6 +295,7 @@ impl Name {
             Name::Rounds | Name::Tests => size_of::<u32>(),
             Name::Count | Name::Start | Name::Length | Name::Taken => size_of::<usize>(),
             Name::Station | Name::Last | Name::Grants | Name::Size => size_of::<usize>(),
+            Name::By | Name::Of => size_of::<usize>(),
             Name::Results | Name::SecondResults => size_of::<u16>(),
             Name::Totals | Name::SecondTotals | Name::GivenTotals | Name::Figures => {
                 size_of::<u64>()

@@ -11,6 +11,7 @@ use crate::call::{Call, Kind, Name};
 use crate::cases;
 use crate::ceased::Ceased;
 use crate::cuts::Cuts;
+use crate::doubted;
 use crate::entries::{self, Answer, Entry};
 use crate::granted;
 use crate::occurred::Occurred;
@@ -88,6 +89,8 @@ pub struct Counts {
     pub assigned: Occurred<assigned::Seen>,
     /// The cases of grants and drives.
     pub granted: Occurred<granted::Seen>,
+    /// The cases of doubt lamps.
+    pub doubted: Occurred<doubted::Seen>,
     /// The cases of saves, loads and questions for the size of a saved plant.
     pub saved: Occurred<saved::Seen>,
     /// Loads of files that are cut.
@@ -144,6 +147,7 @@ impl Counts {
             ceased: Ceased::all(count),
             assigned: assigned::all(count),
             granted: granted::all(count),
+            doubted: doubted::all(count),
             saved: saved::all(count),
             cuts: Cuts::all(count),
             ways_back: WaysBack::all(count),
@@ -179,6 +183,10 @@ impl Counts {
             Kind::Grant | Kind::Drive => {
                 let seen = granted::Seen::new(call, outcome);
                 self.granted.add(call.kind, &seen);
+            }
+            Kind::DoubtLamp => {
+                let seen = doubted::Seen::new(call, outcome);
+                self.doubted.add(call.kind, &seen);
             }
             Kind::Save | Kind::Load | Kind::SavedSize => {
                 let seen = saved::Seen::new(call, outcome);
@@ -249,6 +257,7 @@ impl Counts {
         self.ceased.require(&mut required);
         self.assigned.require(&mut required);
         self.granted.require(&mut required);
+        self.doubted.require(&mut required);
         self.saved.require(&mut required);
         self.cuts.require(&mut required);
         self.ways_back.require(&mut required);
@@ -360,8 +369,9 @@ impl fmt::Display for Counts {
             write!(f, "{comma}{} {count}", name.text())?;
         }
         write!(f, "; {}; {}; {}; ", self.absent, self.told, self.ceased)?;
-        write!(f, "{}; {}; {}; ", self.assigned, self.granted, self.saved)?;
-        write!(f, "{}; {}; {}", self.cuts, self.ways_back, self.cases)?;
+        write!(f, "{}; {}; {}; ", self.assigned, self.granted, self.doubted)?;
+        write!(f, "{}; {}; ", self.saved, self.cuts)?;
+        write!(f, "{}; {}", self.ways_back, self.cases)?;
         let rarest = self.required().into_iter().min();
         rarest.map_or(Ok(()), |(count, text)| {
             write!(f, "; rarest: {text}: {count}")

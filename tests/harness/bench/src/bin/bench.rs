@@ -1,5 +1,5 @@
 //! Entries per second of the run, drives per second, and calls per second of
-//! the figures, of saves and of loads: the library, plain Rust over the same
+//! the figures, of the doubt lamp, of saves and of loads: the library, plain Rust over the same
 //! bytes, and the simulator.
 //!
 //! `bench` prints the tables; `--quick` repeats less.
@@ -7,6 +7,7 @@
 //! profiler.
 
 use bench::contender::Contender;
+use bench::lamp_work::LampWork;
 use bench::measure;
 use bench::saved_work::SavedWork;
 use bench::work::Work;
@@ -30,6 +31,12 @@ const LENGTHS: [usize; 3] = [16, 256, vcube::MOST_RESULTS];
 
 /// How many calls of the figures are timed together.
 const LISTS: usize = 50;
+
+/// How many doubt lamps are timed together.
+const LAMPS: usize = 200;
+
+/// The sizes of the plants of which the lamp is asked.
+const LAMP_SIZES: [usize; 3] = [8, 19, 64];
 
 /// The sizes of the plants that are saved and loaded.
 const SAVED_SIZES: [usize; 3] = [8, 19, 64];
@@ -102,6 +109,7 @@ fn print_tables(repetitions: usize) {
     print_no_entry(fewer);
     print_drives(fewer);
     print_figures(fewer);
+    print_lamps(fewer);
     print_saves(fewer);
     print_loads(fewer);
 }
@@ -220,6 +228,49 @@ fn random_lists(length: usize) -> Vec<Vec<u16>> {
     let mut random = Random::new(SEED);
     let mut list = || (0..length).map(|_| random.below(1 << 16) as u16).collect();
     (0..LISTS).map(|_| list()).collect()
+}
+
+/// A row for each table.
+fn print_lamps(repetitions: usize) {
+    println!("\nDoubt lamps\n");
+    println!("A doubt lamp on a table in which each live board suspects just the dead ones, and");
+    println!(
+        "on one with a pair besides: the last two boards, which is the last pair, or the first"
+    );
+    println!(
+        "two, so that nearly all is the check of the table. The column check has what part of"
+    );
+    println!(
+        "the library's time that is, in hundredths. Thousands of calls per second, the best of"
+    );
+    println!("{repetitions} repetitions; {LAMPS} are timed together, each on its own copy of the table.\n");
+    println!("| n | dead | pair | check | {COLUMNS}");
+    println!("|--:|--:|:--|--:|--:|--:|--:|--:|--:|");
+    for n in LAMP_SIZES {
+        for dead in [0, n / 4] {
+            print_rows_of_lamps(n, dead, repetitions);
+        }
+    }
+}
+
+fn print_rows_of_lamps(n: usize, dead: usize, repetitions: usize) {
+    let last = n as u8 - 1;
+    let pairs = [Some((0, 1)), Some((last, last - 1)), None];
+    let timed = pairs.map(|pair| {
+        let work = LampWork::new(n, dead, pair);
+        measure::check_equal_lamps(&work);
+        (
+            pair,
+            measure::best_times_of_lamps(&vec![work; LAMPS], repetitions),
+        )
+    });
+    let check = timed[0].1[0];
+    for (pair, times) in timed {
+        let pair = pair.map_or(String::from("none"), |(by, of)| format!("{by} {of}"));
+        let share = 100.0 * check / times[0];
+        let speeds = speeds(thousands(LAMPS), times);
+        println!("| {n} | {dead} | {pair} | {share:.0} | {speeds} |");
+    }
 }
 
 /// Plants with other dead stations and other turns each.

@@ -4,6 +4,7 @@
 
 mod ceased;
 mod drives;
+mod lamps;
 mod numbers;
 mod results;
 mod saves;
@@ -41,13 +42,14 @@ fn of_saved_plant(random: &mut Random) -> Call {
 
 fn of_plant(random: &mut Random) -> Call {
     let size = groups::random_size(random);
-    match random.below(40) {
+    match random.below(43) {
         0 | 1 => fresh_table(size, random),
         2..=8 => group_list(size, random),
         9..=11 => assignment(size, random),
         12..=14 => row(size, random),
         15..=17 => drives::grant(size, random),
         18..=21 => drives::drive(size, random),
+        22..=24 => lamps::doubt_lamp(size, random),
         _ => run(size, random),
     }
 }

@@ -220,7 +220,8 @@ fn damage_line(line: &mut [u8], own: usize, size: Size, random: &mut Random) {
     }
 }
 
-fn resize(table: &mut Vec<u8>, length: usize, random: &mut Random) {
+/// The table with this length.
+pub fn resize(table: &mut Vec<u8>, length: usize, random: &mut Random) {
     let more = length.saturating_sub(table.len());
     table.truncate(length);
     let tail = if random.once_in(2) {

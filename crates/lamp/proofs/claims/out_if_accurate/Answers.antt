@@ -1,0 +1,6 @@
+-- Both ways are laws of the lamp.
+use Rattle.lamp.proofs.DoubtLaws.{out-is, is-out}
+use Rattle.lamp.proofs.claims.out_if_accurate.Goals as goal
+
+pub returns : goal.returns
+returns c n t = (out-is n t, λ e. is-out n t e.0 e.1)

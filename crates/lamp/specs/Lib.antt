@@ -1,0 +1,2 @@
+-- What the contracts of `lamp` and the claims above it cite.
+pub mod Doubt

@@ -1,0 +1,2 @@
+-- What the contracts of `lamp_claims` cite.
+pub mod Wait
