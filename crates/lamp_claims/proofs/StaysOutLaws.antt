@@ -1,33 +1,33 @@
 -- A lamp that is out begins the wait of the detection claim, and stays out.
 -- Assumes nothing.
-use mathlib.Core.Path.{◌≡◌, refl, sym, ap, ◌∙◌}
+use mathlib.Core.Path.{◌≡◌, refl, sym, ◌∙◌}
 use mathlib.Core.Logic.{◌⊎◌, inl, inr}
-use mathlib.Core.Bool.{Bool, true, false, not, ◌||◌}
+use mathlib.Core.Bool.{Bool, true}
 use mathlib.Core.List.{List, []}
 use Prim.Native.Nat.{ℕ, ◌<◌}
-use Rattle.std.specs.Prelude.{None, Ok, ◌==◌}
+use Rattle.std.specs.Prelude.{None, Ok}
 use Rattle.lists.specs.Search.{every}
 use Rattle.lists.specs.Refusal.{◌and◌}
 use Rattle.lists.proofs.SearchLaws.{every-all}
 use Rattle.lists.proofs.BoolLaws.{by_bool}
 use Rattle.lists.proofs.RefusalLaws.{check_zero}
-use Rattle.table.specs.Table.{live, suspects}
+use Rattle.table.specs.Table.{live}
 use Rattle.table.specs.Rules.{table_check}
 use Rattle.table.specs.Properties.{no_live_suspicion, none_suspected}
 use Rattle.table.proofs.Accepting.{Accepted, table_ok}
 use Rattle.plant.specs.Entry.{State}
 use Rattle.plant.proofs.RulesKept.{accepted-kept}
 use Rattle.plant.proofs.RunLaws.{accepted-number}
-use Rattle.detection.specs.Runs.{Call, Taken, taken_all, after_runs}
-use Rattle.detection.specs.Claim.{DetectionPremises, DetectionConclusion, Detection}
-use Rattle.detection.specs.Driven.{RunOrDrive, runs_of_mixed, after_mixed}
+use Rattle.detection.specs.Runs.{Taken, taken_all, after_runs}
+use Rattle.detection.specs.Claim.{Detection}
+use Rattle.detection.specs.Driven.{runs_of_mixed}
 use Rattle.detection.proofs.Chain.{Chain, done, more, chain-all, chain_first}
 use Rattle.detection.proofs.TurnEffect.{Plain}
-use Rattle.detection.proofs.DetectionClaim.{history, detection-in-worst-case}
+use Rattle.detection.proofs.DetectionClaim.{history}
 use Rattle.detection.proofs.DrivenDetection.{mixed-left}
-use Rattle.lamp.specs.Doubt.{first_doubt, doubt_lamp, IsOut}
+use Rattle.lamp.specs.Doubt.{doubt_lamp}
 use Rattle.lamp.proofs.DoubtLaws.{accurate-none, out-is, is-out}
-use Rattle.lamp_claims.specs.Wait.{OutAtStart, OutMeetsPremises, OutBeginsWait, StaysOut, MixedStaysOut}
+use Rattle.lamp_claims.specs.Wait.{OutMeetsPremises, OutBeginsWait, StaysOut, MixedStaysOut}
 
 -- the conditions of a lamp that is out are the detection conditions
 pub out-meets-premises : OutMeetsPremises
