@@ -2,6 +2,7 @@
 // tallies and prints the run sheet and the answer.
 #![tactic(auto)]
 
+mod fault;
 mod input;
 mod print;
 mod watched;
