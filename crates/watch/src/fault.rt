@@ -71,7 +71,7 @@ impl fmt::Display for Expected {
             Expected::Space => "a space",
             Expected::Digit => "a digit",
             Expected::LineEnd => "the end of the line",
-            Expected::InputEnd => "the end of the input",
+            Expected::InputEnd => "the end of the input (4,096 entries at most)",
         })
     }
 }
