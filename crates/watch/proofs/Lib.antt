@@ -5,3 +5,4 @@ pub mod PartLaws
 pub mod ReadLaws
 pub mod Buffer
 pub mod WatchLaws
+pub mod FaultLaws

@@ -11,7 +11,7 @@ use lib.Dec.{eqb, ltb}
 use lib.ListN.{length, drop}
 use Rattle.std.specs.Prelude.{Option, None, Some}
 use Rattle.std.specs.List.{slice_split, onto_first}
-use Rattle.watch.specs.Input.{is_line_feed, on_first, lines, entry_in_line, Reading, reading_of, read_entries, read_lines, read_up_to, digits_value}
+use Rattle.watch.specs.Input.{is_line_feed, on_first, lines, entry_in_line, Reading, reading_of, read_entries, read_lines, digits_value}
 
 abbrev pub parts : List ℕ → List (List ℕ)
 parts t = slice_split is_line_feed t
@@ -56,10 +56,6 @@ module _ (room n k : ℕ) (s line : List ℕ) (ls : List (List ℕ)) (whole : Re
   pub read-next : (x y : ℕ) → o ≡ Some (x, y) → read_entries room n (k + 1) (s ++ (x ∷ y ∷ [])) (drop (k + 1) ls) ≡ whole
   read-next x y z = sym (part-next room n k s line (drop (k + 1) ls) o told x y z) ∙ sym (ap (read_entries room n k s) cut) ∙ on
 
-pub parts-empty : (room : ℕ) → read_lines room (parts []) ≡ read_up_to room []
-unfolding read_lines read_up_to lines digits_value
-parts-empty room = refl
-
 pub parts-unsized : (room : ℕ) (l : List ℕ) (ls : List (List ℕ)) → digits_value 3 l ≡ None → read_lines room (l ∷ ls) ≡ reading_of 1 0 0 []
 unfolding read_lines
 parts-unsized room l ls z = rw z
@@ -77,19 +73,9 @@ parts-some (b ∷ t) = go (is_line_feed b) (parts t) (parts-some t)
     go false [] h = absurd (omega arith)
     go false (p ∷ ps) h = omega arith
 
--- texts that read alike
-pub record ReadAlike (t l : List ℕ) : Type 0 where
-  pub read : (room : ℕ) → read_lines room (parts t) ≡ read_up_to room l
-  pub others : drop 1 (parts t) ≡ drop 1 (lines l)
+-- the parts of a text are the lines of an input that has a line feed more, or that is the text
+pub parts-fed : (t l : List ℕ) → l ≡ t ++ (10 ∷ []) → parts t ≡ lines l
+parts-fed t l e = rw e (parts-feed t)
 
-alike-lines : (t l : List ℕ) → parts t ≡ lines l → ReadAlike t l
-unfolding read_up_to
-alike-lines t l e = record { read = λ room. ap (read_lines room) e; others = ap (drop 1) e }
-
-pub alike-fed : (t l : List ℕ) → l ≡ t ++ (10 ∷ []) → ReadAlike t l
-alike-fed t l e = alike-lines t l (rw e (parts-feed t))
-
-pub alike-same : (l : List ℕ) → (drop (length l - 1) l ≡ 10 ∷ [] → ⊥) → ReadAlike l l
-unfolding lines
-alike-same [] n = record { read = λ room. parts-empty room; others = refl }
-alike-same (b ∷ r) n = alike-lines (b ∷ r) (b ∷ r) (parts-feed (b ∷ r) ∙ lines-fed (b ∷ r) (omega arith) n)
+pub parts-same : (l : List ℕ) → 0 < length l → (drop (length l - 1) l ≡ 10 ∷ [] → ⊥) → parts l ≡ lines l
+parts-same l h n = parts-feed l ∙ lines-fed l h n

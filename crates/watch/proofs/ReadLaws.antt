@@ -11,7 +11,9 @@ use lib.Dec.{ltb, eqb}
 use lib.ListN.{length, get_or, take, drop, length-append, take-append-drop}
 use lib.Seq.{take_all, drop-drop, length-take-le, sets}
 use Rattle.watch.specs.Input.{given, lines, digits_from, digits_value, size_of, kind_of, entry_in_line, Reading, reading_of, read_entries}
-use Rattle.watch.specs.Input.{read_lines, read_up_to, parsed_of}
+use Rattle.watch.specs.Input.{read_lines, read_up_to}
+use Rattle.watch.specs.Fault.{fault_in, parsed_of}
+use Rattle.watch.specs.declared.fault.Fault.{Fault}
 use Rattle.watch.proofs.NumberLaws.{number-has}
 use Rattle.lists.proofs.Writing.{sets-front}
 
@@ -101,6 +103,6 @@ sets-part s s₀ a h long e =
     rw (sets-front s₀ (take a s) (omega arith), len, ← e) (sym (take-append-drop a s))
 
 -- what is answered where the line of entry k is unreadable
-pub answer_stop : (n k : ℕ) (s : List ℕ)
-    → Err (record { line = k + 2; before = record { size = n; entries = k } }) ≡ parsed_of (reading_of (k + 2) n k s)
-answer_stop n k s = let e : eqb (k + 2) 0 ≡ false = ne_eqb (k + 2) 0 (λ (z : k + 2 ≡ 0). omega arith) in rw e
+pub answer_stop : (input : List ℕ) (n k : ℕ) (s : List ℕ) (f : Fault) → f ≡ fault_in (k + 2) (lines input)
+    → Err (record { line = k + 2; fault = f; before = record { size = n; entries = k } }) ≡ parsed_of input (reading_of (k + 2) n k s)
+answer_stop input n k s f told = let e : eqb (k + 2) 0 ≡ false = ne_eqb (k + 2) 0 (λ (z : k + 2 ≡ 0). omega arith) in rw (e, told)

@@ -20,7 +20,8 @@ use Rattle.plant.specs.Entry.{State, state_of}
 use Rattle.plant.specs.Run.{RunResult, outcome_with, start_check, run}
 use Rattle.watch.specs.declared.input.Parsed.{Parsed}
 use Rattle.watch.specs.declared.input.Unread.{Unread}
-use Rattle.watch.specs.Input.{Reading, room_for, read_input, read_into, parsed_of}
+use Rattle.watch.specs.Input.{Reading, lines, room_for, read_input, read_into}
+use Rattle.watch.specs.Fault.{fault_in, parsed_of}
 use Rattle.watch.specs.Watched.{Answer, said, says_run, said_with, watched_with, run_answer, carried_out, watched}
 use Rattle.watch.proofs.ReadLaws.{read_fits}
 
@@ -71,32 +72,34 @@ carried n t schedule lent r t' s' k shaped twice long fits e = pick (is_size n) 
         rw (carried-refused n schedule lent y, p, q, take-append-drop)
 
 -- what an answer says of the reading
-answer-ok : (r : Reading) (p : Parsed) → Ok p ≡ parsed_of r → (r.unread ≡ 0) × (p.size ≡ r.size) × (p.entries ≡ r.entries)
-answer-ok r p = go (eqb r.unread 0) refl
+answer-ok : (input : List ℕ) (r : Reading) (p : Parsed) → Ok p ≡ parsed_of input r → (r.unread ≡ 0) × (p.size ≡ r.size) × (p.entries ≡ r.entries)
+answer-ok input r p = go (eqb r.unread 0) refl
   where
     whole : Parsed
     whole = record { size = r.size; entries = r.entries }
 
     stop : Unread
-    stop = record { line = r.unread; before = whole }
+    stop = record { line = r.unread; fault = fault_in r.unread (lines input); before = whole }
 
     go : (b : Bool) → eqb r.unread 0 ≡ b → Ok p ≡ cond b (Ok whole) (Err stop)
         → (r.unread ≡ 0) × (p.size ≡ r.size) × (p.entries ≡ r.entries)
     go true e f = let g : ◌≡◌ {A = Parsed} p whole = cc in (eqb-true r.unread 0 e, ap (λ (q : Parsed). q.size) g, ap (λ (q : Parsed). q.entries) g)
     go false e f = cc
 
-answer-err : (r : Reading) (u : Unread) → Err u ≡ parsed_of r → (eqb r.unread 0 ≡ false) × (u.line ≡ r.unread)
-answer-err r u = go (eqb r.unread 0) refl
+answer-err : (input : List ℕ) (r : Reading) (u : Unread) → Err u ≡ parsed_of input r
+    → (eqb r.unread 0 ≡ false) × (u.line ≡ r.unread) × (u.fault ≡ fault_in u.line (lines input))
+answer-err input r u = go (eqb r.unread 0) refl
   where
     whole : Parsed
     whole = record { size = r.size; entries = r.entries }
 
     stop : Unread
-    stop = record { line = r.unread; before = whole }
+    stop = record { line = r.unread; fault = fault_in r.unread (lines input); before = whole }
 
-    go : (b : Bool) → eqb r.unread 0 ≡ b → Err u ≡ cond b (Ok whole) (Err stop) → (eqb r.unread 0 ≡ false) × (u.line ≡ r.unread)
+    go : (b : Bool) → eqb r.unread 0 ≡ b → Err u ≡ cond b (Ok whole) (Err stop)
+        → (eqb r.unread 0 ≡ false) × (u.line ≡ r.unread) × (u.fault ≡ fault_in u.line (lines input))
     go true e f = cc
-    go false e f = let g : ◌≡◌ {A = Unread} u stop = cc in (e, ap (λ (v : Unread). v.line) g)
+    go false e f = let g : ◌≡◌ {A = Unread} u stop = cc in (e, ap (λ (v : Unread). v.line) g, rw g)
 
 -- an input that is read into a schedule with room for all entries
 module _ (lent input schedule₀ schedule : List ℕ) (room : length schedule₀ ≡ 8192)
@@ -104,13 +107,14 @@ module _ (lent input schedule₀ schedule : List ℕ) (room : length schedule₀
   whole : read_into schedule₀ input ≡ read_input input
   whole = let e : room_for (length schedule₀) ≡ 4096 = omega arith in rw e
 
-  pub watched_unread : (u : Unread) → Err u ≡ parsed_of (read_into schedule₀ input) → watched_with (Err u) lent ≡ watched lent input
+  pub watched_unread : (u : Unread) → Err u ≡ parsed_of input (read_into schedule₀ input)
+      → (watched_with (Err u) lent ≡ watched lent input) × (u.fault ≡ fault_in u.line (lines input))
   unfolding watched
-  watched_unread u e = let f = answer-err (read_input input) u (rw whole at e) in rw (f.0, f.1)
+  watched_unread u e = let f = answer-err input (read_input input) u (rw whole at e) in (rw (f.0, f.1), f.2)
 
-  module _ (p : Parsed) (e : Ok p ≡ parsed_of (read_into schedule₀ input)) where
+  module _ (p : Parsed) (e : Ok p ≡ parsed_of input (read_into schedule₀ input)) where
     parts : ((read_input input).unread ≡ 0) × (p.size ≡ (read_input input).size) × (p.entries ≡ (read_input input).entries)
-    parts = answer-ok (read_input input) p (rw whole at e)
+    parts = answer-ok input (read_input input) p (rw whole at e)
 
     pub entries_within : p.entries ≤ 4096
     entries_within = let f = read_fits 4096 input in omega (arith, parts.2)

@@ -1,11 +1,9 @@
 -- The run program: what its standard input means, for all inputs.
 -- Assumes nothing.
 use Rattle.std.specs.Prelude.{ℕ, suc, ◌+◌, ◌*◌, ◌-◌, ◌/◌, min, Bool, ◌&&◌, List, [], ◌∷◌, ◌++◌, length, nat_lt, nat_le}
-use Rattle.std.specs.Prelude.{Option, None, Some, option_and_then, option_map, Result, Ok, Err, if◌then◌else◌, ◌==◌}
+use Rattle.std.specs.Prelude.{Option, None, Some, option_and_then, option_map, if◌then◌else◌, ◌==◌}
 use Rattle.plant.specs.Kind.{kind_byte}
 use Rattle.plant.specs.declared.entry.Entry.{Entry}
-use Rattle.watch.specs.declared.input.Parsed.{Parsed}
-use Rattle.watch.specs.declared.input.Unread.{Unread}
 
 -- `read` of the value, or `other` where there is none
 abbrev pub given : {A B : Type 0} → Option A → (A → B) → B → B
@@ -103,9 +101,3 @@ read_input input = read_up_to 4096 input
 -- the whole input, read into a lent schedule. One of 8,192 bytes or more has room for all entries: this is then read_input
 abbrev pub read_into : List ℕ → List ℕ → Reading
 read_into lent input = read_up_to (room_for (length lent)) input
-
--- what is answered of a reading: what was read, or the first unreadable line with what was read before it
-abbrev pub parsed_of : Reading → Result Parsed Unread
-parsed_of r =
-    if r.unread == 0 then Ok (record { size = r.size; entries = r.entries })
-    else Err (record { line = r.unread; before = record { size = r.size; entries = r.entries } })

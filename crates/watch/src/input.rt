@@ -1,10 +1,12 @@
 // What standard input holds: lines, the size, the entries. The one call is `parse`.
-ghost use Rattle.std.specs.Prelude.{◌≡◌, ℕ, [], ◌∷◌, ◌++◌, ◌+◌, ◌*◌, ◌≤◌, suc, length, take, drop, None, option_map, if◌then◌else◌, nat_lt};
+ghost use Rattle.std.specs.Prelude.{◌≡◌, [], ◌∷◌, ◌++◌, ◌+◌, ◌*◌, ◌≤◌, ◌<◌, suc, length, take, drop, None, option_map, if◌then◌else◌, nat_lt};
 ghost use Rattle.std.proofs.lemmas.List.Edits.{sets};
 ghost use Rattle.plant.specs.Kind.{kind_byte};
 ghost use Rattle.std.specs.List.{slice_split};
-ghost use Rattle.watch.specs.Input.{is_line_feed, lines, digits_value, kind_of, entry_in_line, pair_of, parsed_of, read_lines, read_up_to, room_for, read_into};
+ghost use Rattle.watch.specs.Input.{is_line_feed, lines, digits_value, kind_of, entry_in_line, pair_of, room_for, read_into};
+ghost use Rattle.watch.specs.Fault.{parsed_of, further_fault};
 
+use crate::fault::{self, Expected, Fault, Found};
 use plant::entry::Entry;
 use plant::kind::Kind;
 use std::error::Error;
@@ -19,16 +21,23 @@ pub struct Parsed {
     pub entries: usize,
 }
 
-// The first unreadable line: its number, from 1, and what was read before it.
+// What is read before a first line that is no size.
+const NOTHING: Parsed = Parsed {
+    size: 0,
+    entries: 0,
+};
+
+// The first unreadable line: its number, from 1, what is wrong in it, and what was read before it.
 #[derive(Clone, Copy, Debug, PartialEq, Eq)]
 pub struct Unread {
     pub line: usize,
+    pub fault: Fault,
     pub before: Parsed,
 }
 
 impl fmt::Display for Unread {
     fn fmt<W: fmt::Write>(&self, f: &mut fmt::Formatter<W>) -> fmt::Result {
-        write!(f, "unread {}", self.line)
+        write!(f, "unread {}: {}", self.line, self.fault)
     }
 }
 
@@ -37,29 +46,39 @@ impl Error for Unread {}
 // Reads the whole input. The entries before the first unreadable line go into the schedule, two bytes each, and its rest is unchanged. An
 // entry for which the schedule has no room counts as unreadable.
 pub fn parse(input: &[u8], schedule: &mut [u8]) -> Result<Parsed, Unread>
-    ensures answer { result ≡ parsed_of (read_into schedule.old input.now) }
+    ensures answer { result ≡ parsed_of input.now (read_into schedule.old input.now) }
     ensures schedule_after { let entries = (read_into schedule.old input.now).schedule in
         schedule.new ≡ sets schedule.old 0 entries }
 {
+    if input.is_empty() {
+        return Err(Unread {
+            line: 1,
+            fault: Fault {
+                found: Found::NoInput,
+                expected: Expected::Size,
+            },
+            before: NOTHING,
+        });
+    }
     let room = room_for(schedule.len());
     let text = without_last_feed(input);
     let mut lines = text.split(|b| *b == b'\n');
     let first = lines.next().unwrap_or(&[]);
     let Some(size) = read_number(first, 3) else {
-        let before = Parsed {
-            size: 0,
-            entries: 0,
-        };
-        return Err(Unread { line: 1, before });
+        return Err(Unread {
+            line: 1,
+            fault: fault::size_fault(first),
+            before: NOTHING,
+        });
     };
     // Counted by hand: it is the answer, and only lines that are taken count.
     let mut entries: usize = 0;
     for line in lines {
         let Some(entry) = entry_with_room(entries, room, line) else {
-            let before = Parsed { size, entries };
             return Err(Unread {
                 line: entries + 2,
-                before,
+                fault: further_fault(line),
+                before: Parsed { size, entries },
             });
         };
         put_entry(schedule, entries, entry);
@@ -70,9 +89,8 @@ pub fn parse(input: &[u8], schedule: &mut [u8]) -> Result<Parsed, Unread>
 
 // The input without the line feed at its end, if it has one.
 fn without_last_feed(input: &[u8]) -> &[u8]
-    ensures reading { (room : ℕ)
-        → read_lines room (slice_split is_line_feed result.now) ≡ read_up_to room input.now }
-    ensures lines_behind { drop 1 (slice_split is_line_feed result.now) ≡ drop 1 (lines input.now) }
+    requires { 0 < length input.now }
+    ensures { slice_split is_line_feed result.now ≡ lines input.now }
 {
     input.strip_suffix(b"\n").unwrap_or(input)
 }
@@ -102,6 +120,19 @@ fn entry_with_room(k: usize, room: usize, line: &[u8]) -> Option<Entry>
     if k < room { read_entry(line) } else { None }
 }
 
+// What is wrong in a line behind the first that counts as unreadable. One that is an entry is one too many.
+fn further_fault(line: &[u8]) -> Fault
+    ensures { result ≡ further_fault line.now }
+{
+    if read_entry(line).is_some() {
+        return Fault {
+            found: Found::EntryTooMany,
+            expected: Expected::InputEnd,
+        };
+    }
+    fault::entry_fault(line)
+}
+
 // The entry of a line, if it is one.
 #[tactic(auto, using(crate::proofs::ReadLaws::entry_short, crate::proofs::ReadLaws::entry_unspaced, crate::proofs::ReadLaws::entry_spaced, crate::proofs::NumberLaws::number_two))]
 fn read_entry(line: &[u8]) -> Option<Entry>
@@ -120,7 +151,7 @@ fn read_entry(line: &[u8]) -> Option<Entry>
 
 // The kind of a letter, if it is T, L or C. Not by `TryFrom`, which `Kind` has for the byte of a schedule.
 #[tactic(auto, unfolding(crate::specs::Input::kind_of))]
-fn kind_of(letter: u8) -> Option<Kind>
+pub fn kind_of(letter: u8) -> Option<Kind>
     ensures { option_map kind_byte result ≡ kind_of letter }
 {
     match letter {

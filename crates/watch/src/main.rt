@@ -1,47 +1,92 @@
-// The run program: it reads a size and a schedule from standard input, carries the schedule out on a fresh table with zero
-// tallies and prints the run sheet and the answer.
+// The run program: it reads a size and a schedule from a file or from standard input, carries the schedule out on a fresh table with zero
+// tallies and prints the run sheet and the answer. On standard error it says in words what was refused or cannot be read.
 #![tactic(auto)]
 
+mod call;
+mod fault;
 mod input;
 mod print;
 mod watched;
 
-ghost use Rattle.std.specs.Prelude.{◌≤◌, length, take};
-ghost use Rattle.std.specs.Io.KnownBytes.{Consumes};
+ghost use Rattle.std.specs.Prelude.{◌≡◌, IfOk, IfSome, take};
+ghost use Rattle.watch.specs.Watched.{deciding};
 
-use std::io::Read;
+use anyhow::Context;
+use call::Call;
+use print::{Line, RunSheet};
+use std::alloc::Global;
+use std::fmt::Display;
+use std::io::{self, IsTerminal, Read};
+use std::process::ExitCode;
 use table::cells;
 
-// The first 20,490 bytes decide every input. A readable line has at most three bytes (the size) or four (an entry) and its line feed, so
-// the size and 4,096 entries have at most 4 + 5 · 4,096 = 20,484. Where those bytes hold an unreadable line whole, or begin a 4,097th
-// entry's, that line's number is the answer, whatever follows. Else, in a longer input, at least six bytes with no line feed follow the
-// last whole line; the line that they begin is longer than four bytes and so unreadable, cut or not. The clause `decided` of
-// `watched::watch_plant` says it.
-fn main(rt: HostRuntime) {
-    let mut buffer = [0u8; 20490];
+fn main(rt: HostRuntime) -> anyhow::Result<ExitCode> {
+    match call::read_arguments(&rt) {
+        Ok(Call::Help) => rt.println(call::USAGE).context(UNWRITTEN)?,
+        Ok(Call::File(file)) => watch(&rt, file)?,
+        Ok(Call::StandardInput) => {
+            if rt.stdin().is_terminal() {
+                explain(&rt, HINT);
+            }
+            watch(&rt, rt.stdin())?;
+        }
+        Err(wrong) => {
+            explain(&rt, wrong);
+            return Ok(ExitCode::from(2));
+        }
+    }
+    Ok(ExitCode::SUCCESS)
+}
+
+const UNWRITTEN: &str = "standard output cannot be written";
+
+const HINT: &str = "reading standard input: a size, then a line per entry; Ctrl-D ends it";
+
+// Reads the input, carries it out and prints what comes of it; then says in words what was refused or cannot be read.
+fn watch<R: Read + Drop>(rt: &(impl Print + Eprint + AllocGlobal), input: R) -> anyhow::Result<()> {
+    let input = read_front(rt.alloc(), input).context("the input cannot be read")?;
     let mut schedule = [0u8; 8192];
     let mut table = [0u8; cells::GREATEST_TABLE];
     let mut sheet = [0u8; 16384];
-    let got = read_full(&mut rt.stdin(), &mut buffer);
-    let answer = watched::watch_plant(&buffer[..got], &mut schedule, &mut table, &mut sheet);
-    print::print_answer(&rt, &sheet, answer);
+    match watched::watch_plant(&input, &mut schedule, &mut table, &mut sheet) {
+        Ok(ran) => {
+            rt.println(RunSheet { sheet: &sheet, ran })
+                .context(UNWRITTEN)?;
+            if let Some(refusal) = ran.stopped {
+                let line = Line::refused(&input, refusal, ran.taken);
+                let number = refusal.number();
+                explain(
+                    rt,
+                    format_args!("refused {number} at {}: {refusal}{line}", ran.taken),
+                );
+            }
+        }
+        Err(unread) => {
+            println!(rt; "unread {}", unread.line).context(UNWRITTEN)?;
+            explain(
+                rt,
+                format_args!("{unread}{}", Line::of(&input, unread.line)),
+            );
+        }
+    }
+    Ok(())
 }
 
-// Reads until buf is full, the input ends or a read fails, and answers how many bytes it put at the start of buf: the front of the input.
-fn read_full<R: Read>(input: &mut R, buf: &mut [u8]) -> usize
-    ensures upper_bound { result ≤ length buf.new }
-    ensures consumed { Consumes (R.remaining input.old) (R.remaining input.new) (take result buf.new) }
+// Words for people: that they cannot be written changes nothing.
+fn explain(rt: &impl Eprint, words: impl Display + Drop) {
+    rt.eprintln(words).unwrap_or(());
+}
+
+// The front of the input, which decides what comes of it. The first 20,490 bytes decide every input. A readable line has at most three bytes
+// (the size) or four (an entry) and its line feed, so the size and 4,096 entries have at most 4 + 5 · 4,096 = 20,484. Where those bytes hold an
+// unreadable line whole, or begin a 4,097th entry's, that line's number is the answer, whatever follows. Else, in a longer input, at least six
+// bytes with no line feed follow the last whole line; the line that they begin is longer than four bytes and so unreadable, cut or not. The
+// clause `decided` of `watched::watch_plant` says it.
+fn read_front<R: Read + Drop>(alloc: Global, input: R) -> io::Result<Vec<u8>>
+    ensures { IfOk result (λ front. IfSome (R.remaining input)
+        (λ whole. front.items ≡ take deciding whole)) }
 {
-    let mut done = 0;
-    // Counted by hand: a read may bring less than there is room for, and `read_to_end` wants a heap.
-    while done < buf.len() {
-        let Ok(n) = input.read(&mut buf[done..]) else {
-            return done;
-        };
-        if n == 0 {
-            return done;
-        }
-        done += n;
-    }
-    done
+    let mut front = Vec::new(alloc);
+    input.take(20490).read_to_end(&mut front)?;
+    Ok(front)
 }

@@ -1,10 +1,12 @@
 // What comes of an input: it is read, and its schedule is carried out on a fresh table with zero tallies.
-ghost use Rattle.std.specs.Prelude.{◌≡◌, ℕ, List, ◌++◌, Ok, true, false, ◌*◌, ◌≤◌, length, take};
+ghost use Rattle.std.specs.Prelude.{◌≡◌, ℕ, List, ◌++◌, Ok, true, false, ◌*◌, ◌≤◌, length, take, IfErr};
 ghost use Rattle.table.specs.Sizes.{is_size};
 ghost use Rattle.table.specs.Table.{greatest_table, table_length};
 ghost use Rattle.table.specs.Fresh.{fresh_after};
 ghost use Rattle.plant.specs.Entry.{state_of};
 ghost use Rattle.plant.specs.Run.{outcome_with, run};
+ghost use Rattle.watch.specs.Input.{lines};
+ghost use Rattle.watch.specs.Fault.{fault_in};
 ghost use Rattle.watch.specs.Watched.{watched_with, carried_out, watched, deciding};
 
 use crate::input::{self, Unread};
@@ -19,6 +21,7 @@ pub fn watch_plant(
     sheet: &mut [u8; 16384],
 ) -> Result<Ran, Unread>
     ensures answer_and_sheet { watched_with result sheet.new ≡ watched sheet.old input.now }
+    ensures fault { IfErr result (λ u. u.fault ≡ fault_in u.line (lines input.now)) }
 
     // What follows so many bytes does not matter.
     ensures decided { (rest : List ℕ) → length input.now ≡ deciding

@@ -4,11 +4,12 @@ use Rattle.std.specs.Prelude.{Option, None, Some, unwrap_or}
 use Rattle.std.proofs.lemmas.Iterator.{YieldsList}
 use Rattle.std.proofs.lemmas.Iterator.Consumers.{YieldsList-at, YieldsList-turn, YieldsList-end}
 use Rattle.std.proofs.lemmas.Iterator.Splits.{YieldsList-from_slice_split}
-use Rattle.watch.specs.Input.{is_line_feed, lines, pair_of, reading_of, room_for, read_entries, read_lines, read_up_to, entry_in_line}
+use Rattle.watch.specs.Input.{is_line_feed, lines, pair_of, reading_of, room_for, read_entries, read_lines, read_up_to, entry_in_line, digits_value}
+use Rattle.watch.proofs.FaultLaws.{read_nothing, fault_nothing, fault-first, fault-further}
 use Rattle.watch.proofs.ReadLaws.{answer_stop, sets-part, rest-kept, taken-has}
 use Rattle.watch.proofs.PartLaws.{parts, parts-some, parts-unsized, parts-sized, read-stop, read-next}
 use Rattle.watch.proofs.input.parse.Goals as goal
-use Rattle.watch.proofs.input.parse.Goals.{In_default, In-Some-line, In-None}
+use Rattle.watch.proofs.input.parse.Goals.{After-unwrap_or-first, In-Some-line, In-None}
 
 -- the first item, and the road behind it
 started : {S : Type 0} {steps : S → Option (Bor (List ℕ)) → S → Type 0} (ps : List (List ℕ)) (s t : S) (o : Option (Bor (List ℕ))) (f d : Bor (List ℕ))
@@ -18,40 +19,56 @@ started [] s t o f d h k e a = absurd (omega arith)
 started (y ∷ ys) s t None f d h k e a = absurd (a.runs.0 t k)
 started (y ∷ ys) s t (Some x) f d h k e a = let m = a.runs.1 x t k in (rw e (ap (λ z. z ∷ ys) (sym m.0)), record { runs = m.1 })
 
-begun : (c : In_default) → (let ps = parts c.without_last_feed-text.result.now in ps ≡ c.unwrap_or-first.result.now ∷ drop 1 ps)
+-- the lines of an input that has some, and the road through those behind the first
+begun : (c : After-unwrap_or-first) → (let ls = lines c.args.input.now in (ls ≡ c.unwrap_or-first.result.now ∷ drop 1 ls))
 begun c =
     let text = c.without_last_feed-text.result.now in
     let split = c.split-lines.ensures in
-    (started (parts text) _ _ c.next.result c.unwrap_or-first.result _ (parts-some text) c.next.ensures.steps c.unwrap_or-first.ensures
+    let same = c.without_last_feed-text.ensures in
+    rw same at (started (parts text) _ _ c.next.result c.unwrap_or-first.result _ (parts-some text) c.next.ensures.steps c.unwrap_or-first.ensures
     (YieldsList-from_slice_split _ is_line_feed _ split.rest split.done split.closure (λ x b q k. search (rules, tests)))).0
 
-unsized : (c : In_default) → read_up_to (room_for (length c.args.schedule.now)) c.args.input.now ≡ reading_of 1 0 0 []
-unsized c =
-    let room = room_for (length c.args.schedule.now) in
-    let none = sym c.read_number.ensures ∙ c.in_default.is in
-    sym (c.without_last_feed-text.ensures.reading room) ∙ ap (read_lines room) (begun c) ∙ parts-unsized room _ _ none
+pub returns-then-is_empty-clause-answer : goal.returns-then-is_empty-clause-answer
+returns-then-is_empty-clause-answer c =
+    let none : length c.args.input.now ≡ 0 = search rules in
+    rw (read_nothing c.args.input.now (room_for (length c.args.schedule.now)) none, fault_nothing c.args.input.now none)
+
+pub returns-then-is_empty-clause-schedule_after : goal.returns-then-is_empty-clause-schedule_after
+returns-then-is_empty-clause-schedule_after c =
+    let none : length c.args.input.now ≡ 0 = search rules in
+    rw (read_nothing c.args.input.now (room_for (length c.args.schedule.now)) none)
+
+unsized : (room : ℕ) (input first : List ℕ) → (let ls = lines input in ls ≡ first ∷ drop 1 ls) → digits_value 3 first ≡ None
+    → read_up_to room input ≡ reading_of 1 0 0 []
+unfolding read_up_to
+unsized room input first e none = ap (read_lines room) e ∙ parts-unsized room first _ none
 
 pub returns-in_default-clause-answer : goal.returns-in_default-clause-answer
-returns-in_default-clause-answer c = rw (unsized c)
+returns-in_default-clause-answer c =
+    let e = begun (goal.at.returns-in_default-clause-answer c).After-unwrap_or-first in
+    let none = sym c.read_number.ensures ∙ c.in_default.is in
+    rw (unsized (room_for (length c.args.schedule.now)) c.args.input.now _ e none, fault-first _ _ _ e, c.size_fault.ensures)
 
 pub returns-in_default-clause-schedule_after : goal.returns-in_default-clause-schedule_after
-returns-in_default-clause-schedule_after c = rw (unsized c)
+returns-in_default-clause-schedule_after c =
+    let e = begun (goal.at.returns-in_default-clause-schedule_after c).After-unwrap_or-first in
+    let none = sym c.read_number.ensures ∙ c.in_default.is in
+    rw (unsized (room_for (length c.args.schedule.now)) c.args.input.now _ e none)
+
+sized : (room n : ℕ) (input first : List ℕ) → (let ls = lines input in ls ≡ first ∷ drop 1 ls) → digits_value 3 first ≡ Some n
+    → read_entries room n 0 [] (drop 1 (lines input)) ≡ read_up_to room input
+unfolding read_up_to
+sized room n input first e s = sym (ap (read_lines room) e ∙ parts-sized room n first _ s)
 
 pub loop-line-init : goal.loop-line-init
 loop-line-init c =
-    let room = room_for (length c.args.schedule.now) in
-    let text = c.without_last_feed-text.result.now in
-    let split = c.split-lines.ensures in
-    let first = (started (parts text) _ _ c.next.result c.unwrap_or-first.result _ (parts-some text) c.next.ensures.steps c.unwrap_or-first.ensures
-    (YieldsList-from_slice_split _ is_line_feed _ split.rest split.done split.closure (λ x b q k. search (rules, tests)))).0 in
-    let sized = parts-sized room c.in-Some.size _ _ (sym c.read_number.ensures ∙ c.in-Some.is) in
-    let behind = ap (read_entries room c.in-Some.size 0 []) c.without_last_feed-text.ensures.lines_behind in
+    let here = (goal.at.loop-line-init c).After-unwrap_or-first in
     record {
       few = omega arith;
       room = c.room_for-room.ensures;
       counted = refl;
       kept = refl;
-      read = sym (sym (c.without_last_feed-text.ensures.reading room) ∙ ap (read_lines room) first ∙ sized ∙ behind);
+      read = sized _ _ c.args.input.now _ (begun here) (sym c.read_number.ensures ∙ c.in-Some.is);
     }
 
 -- the lines behind the first are gone through
@@ -62,7 +79,7 @@ turn c =
     let split = c.split-lines.ensures in
     let road = (started (parts text) _ _ c.next.result c.unwrap_or-first.result _ (parts-some text) c.next.ensures.steps c.unwrap_or-first.ensures
     (YieldsList-from_slice_split _ is_line_feed _ split.rest split.done split.closure (λ x b q k. search (rules, tests)))).1 in
-    rw c.without_last_feed-text.ensures.lines_behind at (YieldsList-turn (YieldsList-at c.into_iter-line-iterator.ensures.into_iter_gives road)
+    rw c.without_last_feed-text.ensures at (YieldsList-turn (YieldsList-at c.into_iter-line-iterator.ensures.into_iter_gives road)
     c.loop-line.yielded _ c.loop-line.yielded_by _ _ _ c.in-Some-line.is c.next-in-loop-line.ensures.steps)
 
 ended : (c : In-None) → length c.loop-line.yielded ≡ length (drop 1 (lines c.args.input.now))
@@ -71,7 +88,7 @@ ended c =
     let split = c.split-lines.ensures in
     let road = (started (parts text) _ _ c.next.result c.unwrap_or-first.result _ (parts-some text) c.next.ensures.steps c.unwrap_or-first.ensures
     (YieldsList-from_slice_split _ is_line_feed _ split.rest split.done split.closure (λ x b q k. search (rules, tests)))).1 in
-    rw c.without_last_feed-text.ensures.lines_behind at (YieldsList-end (YieldsList-at c.into_iter-line-iterator.ensures.into_iter_gives road)
+    rw c.without_last_feed-text.ensures at (YieldsList-end (YieldsList-at c.into_iter-line-iterator.ensures.into_iter_gives road)
     c.loop-line.yielded _ c.loop-line.yielded_by _ _ c.in-None.is c.next-in-loop-line.ensures.steps).1
 
 cut : (c : In-Some-line)
@@ -118,7 +135,9 @@ returns-in_default-entry_with_room-clause-answer c =
     let p = (goal.at.returns-in_default-entry_with_room-clause-answer c).In-Some-line in
     let none = ap (option_map pair_of) c.in_default-entry_with_room.is in
     let l = c.loop-line in
-    rw (stopped p _ c.entry_with_room.ensures none) (answer_stop c.in-Some.size l.entries (take (2 * l.entries) l.schedule))
+    let here = (goal.at.returns-in_default-entry_with_room-clause-answer c).After-unwrap_or-first in
+    let fault = c.further_fault.ensures ∙ sym (fault-further l.entries (lines c.args.input.now) _ _ _ (begun here) (cut p)) in
+    rw (stopped p _ c.entry_with_room.ensures none) (answer_stop c.args.input.now c.in-Some.size l.entries (take (2 * l.entries) l.schedule) _ fault)
 
 pub returns-in_default-entry_with_room-clause-schedule_after : goal.returns-in_default-entry_with_room-clause-schedule_after
 returns-in_default-entry_with_room-clause-schedule_after c =

@@ -1,5 +1,5 @@
 -- The schedule has room for all entries that may be, and the entries read fit it.
-use Rattle.std.proofs.Common.{◌≡◌, ◌≤◌, Ok, sym, ◌∙◌, arith, length-take}
+use Rattle.std.proofs.Common.{◌≡◌, ◌≤◌, Ok, sym, ◌∙◌, arith, length-take, rules}
 use Rattle.std.proofs.lemmas.Result.{err_from_is_err_and}
 use Rattle.watch.specs.Watched.{watched_with, watched}
 use Rattle.watch.proofs.Buffer.{decided}
@@ -13,7 +13,7 @@ returns-in_err-parsed c =
     let p = err_from_is_err_and c.from_residual.result c.from_residual.ensures.1 in
     let answer = sym c.in_err-parsed.was ∙ e.answer in
     let unread = watched_unread c.args.sheet.now c.args.input.now _ _ c.told-schedule e.schedule_after c.in_err-parsed.field-0.0 answer in
-    rw (p.1, p.2) (record { answer_and_sheet = unread; decided = λ rest n. unread ∙ decided _ _ rest n })
+    rw (p.1, p.2) (record { answer_and_sheet = unread.0; fault = unread.1; decided = λ rest n. unread.0 ∙ decided _ _ rest n })
 
 few : (c : In_ok-parsed) → c.in_ok-parsed.parsed.entries ≤ 4096
 few c =
@@ -35,4 +35,4 @@ ran c =
     c.carry_out.ensures ∙ watched_ran _ c.args.input.now _ _ c.told-schedule e.schedule_after _ (sym c.in_ok-parsed.was ∙ e.answer)
 
 pub returns : goal.returns
-returns c = record { answer_and_sheet = ran c; decided = λ rest n. ran c ∙ decided _ _ rest n }
+returns c = record { answer_and_sheet = ran c; fault = search rules; decided = λ rest n. ran c ∙ decided _ _ rest n }
