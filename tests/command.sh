@@ -77,18 +77,18 @@ says_unwritten() { # WORDS...
     local status=0
     "$@" 2>"$made/err" || status=$?
     ((status == 1)) || fail "$asked: status $status, not 1"
-    said '^Error: standard output cannot be written$'
+    said_just 'Error: standard output cannot be written' '' 'Caused by:' '    No space left on device (os error 28)'
 }
 
-# On a full disk the command says so and ends with 1. If the reader of a pipe is gone it ends with 0, as with any other reader; but where
-# SIGPIPE is ignored, as on a full disk.
+# On a full disk the command says so and ends with 1. If the reader of a pipe is gone it ends with 0, as with any other reader.
 needs_output() { # WORDS...
     asked="$called $* >/dev/full"
     says_unwritten "$called" "$@" >/dev/full
-    asked="$called $* | true, with SIGPIPE ignored"
-    (sleep 0.5 && says_unwritten env --ignore-signal=PIPE "$called" "$@") | true
-    asked="$called $* | true"
-    (sleep 0.5 && env --default-signal=PIPE "$called" "$@" 2>"$made/err") | true || fail "$asked: a status that is not 0"
+    local pipe
+    for pipe in ignore default; do
+        asked="$called $* | true, with SIGPIPE: $pipe"
+        (sleep 0.5 && env "--$pipe-signal=PIPE" "$called" "$@" 2>"$made/err") | true || fail "$asked: a status that is not 0"
+    done
 }
 
 # As call, where standard error cannot be written.

@@ -16,13 +16,13 @@ use call::Call;
 use print::{Line, RunSheet};
 use std::alloc::Global;
 use std::fmt::Display;
-use std::io::{self, IsTerminal, Read};
+use std::io::{self, ErrorKind, IsTerminal, Read};
 use std::process::ExitCode;
 use table::cells;
 
 fn main(rt: HostRuntime) -> anyhow::Result<ExitCode> {
     match call::read_arguments(&rt) {
-        Ok(Call::Help) => rt.println(call::USAGE).context(UNWRITTEN)?,
+        Ok(Call::Help) => written(rt.println(call::USAGE))?,
         Ok(Call::File(file)) => watch(&rt, file)?,
         Ok(Call::StandardInput) => {
             if rt.stdin().is_terminal() {
@@ -38,8 +38,6 @@ fn main(rt: HostRuntime) -> anyhow::Result<ExitCode> {
     Ok(ExitCode::SUCCESS)
 }
 
-const UNWRITTEN: &str = "standard output cannot be written";
-
 const HINT: &str = "reading standard input: a size, then a line per entry; Ctrl-D ends it";
 
 // Reads the input, carries it out and prints what comes of it; then says in words what was refused or cannot be read.
@@ -50,8 +48,7 @@ fn watch<R: Read + Drop>(rt: &(impl Print + Eprint + AllocGlobal), input: R) -> 
     let mut sheet = [0u8; 16384];
     match watched::watch_plant(&input, &mut schedule, &mut table, &mut sheet) {
         Ok(ran) => {
-            rt.println(RunSheet { sheet: &sheet, ran })
-                .context(UNWRITTEN)?;
+            written(rt.println(RunSheet { sheet: &sheet, ran }))?;
             if let Some(refusal) = ran.stopped {
                 let line = Line::refused(&input, refusal, ran.taken);
                 let number = refusal.number();
@@ -62,7 +59,7 @@ fn watch<R: Read + Drop>(rt: &(impl Print + Eprint + AllocGlobal), input: R) -> 
             }
         }
         Err(unread) => {
-            println!(rt; "unread {}", unread.line).context(UNWRITTEN)?;
+            written(println!(rt; "unread {}", unread.line))?;
             explain(
                 rt,
                 format_args!("{unread}{}", Line::of(&input, unread.line)),
@@ -70,6 +67,14 @@ fn watch<R: Read + Drop>(rt: &(impl Print + Eprint + AllocGlobal), input: R) -> 
         }
     }
     Ok(())
+}
+
+// What became of a write to standard output. That the reader of a pipe stops reading is no failure.
+fn written(done: io::Result<()>) -> anyhow::Result<()> {
+    match done {
+        Err(error) if error.kind() == ErrorKind::BrokenPipe => Ok(()),
+        done => done.context("standard output cannot be written"),
+    }
 }
 
 // Words for people: that they cannot be written changes nothing.

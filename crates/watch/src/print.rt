@@ -1,5 +1,6 @@
 // What the run program prints. No contract can say what is written; these functions are safe.
-ghost use Rattle.std.specs.Prelude.{◌≡◌};
+ghost use Rattle.std.specs.Prelude.{◌≡◌, ◌≢◌, ◌≤◌, ◌+◌};
+ghost use Rattle.lists.specs.declared.refusal.Refusal.{Refusal};
 
 use lists::refusal::Refusal;
 use plant::{Ran, Tally};
@@ -73,7 +74,10 @@ impl<'a> fmt::Display for Line<'a> {
 }
 
 // The number of the line at which a run was refused.
-fn refused_line(refusal: Refusal, taken: usize) -> usize {
+fn refused_line(refusal: Refusal, taken: usize) -> usize
+    ensures size { refusal ≡ Refusal.SizeOutOfRange → result ≡ 1 }
+    ensures entry { refusal ≢ Refusal.SizeOutOfRange → taken ≤ 4096 → result ≡ taken + 2 }
+{
     match refusal {
         Refusal::SizeOutOfRange => 1,
         _ => taken.saturating_add(2),
