@@ -31,7 +31,7 @@ pub fn all(count: u64) -> Occurred<Seen> {
     Occurred::all(&CASES, count)
 }
 
-const LAMP: [Case; 25] = [
+const LAMP: [Case; 24] = [
     ("no pair, all live", |seen| {
         is_out(seen) && seen.live.len() == seen.n
     }),
@@ -62,9 +62,6 @@ const LAMP: [Case; 25] = [
     ("the pair (1, 0)", |seen| seen.pair == Some((1, 0))),
     ("the pair (n - 1, n - 2)", |seen| {
         is_pair(seen, |pair| pair == (seen.n - 1, seen.n - 2))
-    }),
-    ("the pair (n - 1, n - 2) alone", |seen| {
-        is_pair(seen, |pair| pair == (seen.n - 1, seen.n - 2)) && seen.pairs.len() == 1
     }),
     ("station 0 suspected", |seen| {
         is_pair(seen, |pair| pair.1 == 0)
