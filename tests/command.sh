@@ -77,7 +77,7 @@ says_unwritten() { # WORDS...
     local status=0
     "$@" 2>"$made/err" || status=$?
     ((status == 1)) || fail "$asked: status $status, not 1"
-    said_just "${tested#./}: standard output cannot be written"
+    said '^Error: standard output cannot be written$'
 }
 
 # On a full disk the command says so and ends with 1. If the reader of a pipe is gone it ends with 0, as with any other reader; but where

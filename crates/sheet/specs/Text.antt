@@ -1,12 +1,13 @@
 -- Numbers in the arguments, and how wide numbers are that are printed.
 -- Assumes nothing.
 use Rattle.std.specs.Prelude.{ℕ, ◌+◌, ◌*◌, ◌-◌, ◌&&◌, List, [], ◌∷◌, length, sum_by, Option, None, Some, nat_lt, nat_le, if◌then◌else◌}
+use Rattle.std.specs.Char.{is_ascii_digit}
 use Rattle.table.specs.declared.Station.{Station}
 
 -- the value of digits that follow a value; leading zeros are read
 unfoldable pub digits_from : ℕ → List ℕ → Option ℕ
 digits_from v [] = Some v
-digits_from v (b ∷ rest) = if nat_le 48 b && nat_le b 57 then digits_from (10 * v + (b - 48)) rest else None
+digits_from v (b ∷ rest) = if is_ascii_digit b then digits_from (10 * v + (b - 48)) rest else None
 
 -- the number that a word says: one to `most` digits and nothing else
 unfoldable pub number : ℕ → List ℕ → Option ℕ

@@ -27,8 +27,10 @@ impl Plant {
         let Some(mut plant) = Plant::of_size(size) else {
             return Err(WrongCall::NotASize);
         };
-        for (k, board) in boards.iter().enumerate() {
-            plant.name_dead(k + 2, board)?;
+        let mut argument: usize = 2;
+        for board in boards {
+            plant.name_dead(argument, board)?;
+            argument = argument.saturating_add(1);
         }
         if plant.live_boards() < 2 {
             return Err(WrongCall::TooFewLive);
@@ -37,6 +39,7 @@ impl Plant {
     }
 
     // A plant of the size that a word says, with nobody dead.
+    #[tactic(auto, using(table::proofs::SizeLaws::size_top))]
     fn of_size(word: &[u8]) -> Option<Plant>
         ensures size { option_map (λ p. p.size) result ≡ size_of word.now }
         ensures nobody_dead { IfSome result (λ p. p.row ≡ replicate 64 0) }
@@ -94,6 +97,7 @@ impl Plant {
     }
 
     // Whether board x is there and not dead.
+    #[tactic(auto, unfolding(station::specs::Tests::unsuspected))]
     pub fn is_live(&self, x: Station) -> bool
         ensures { result ≡ unsuspected (take self.now.size self.now.row) x.0 }
     {
@@ -106,7 +110,11 @@ fn read_number(word: &[u8], most: usize) -> Option<usize>
     requires { most ≤ 3 }
     ensures { result ≡ number most word.now }
 {
-    if word.is_empty() | (most < word.len()) {
+    let length = word.len();
+    if length == 0 {
+        return None;
+    }
+    if most < length {
         return None;
     }
     let mut value = 0;
