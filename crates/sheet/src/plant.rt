@@ -29,8 +29,10 @@ impl Plant {
         };
         let mut argument: usize = 2;
         for board in boards {
-            plant.name_dead(argument, board)?;
-            argument = argument.saturating_add(1);
+            if let Err(wrong) = plant.name_dead(argument, board) {
+                return Err(wrong);
+            }
+            argument += 1;
         }
         if plant.live_boards() < 2 {
             return Err(WrongCall::TooFewLive);
