@@ -3,22 +3,35 @@
 // a board at every size.
 #![tactic(auto)]
 
-mod arguments;
-mod boards;
+mod call;
+mod plant;
+mod sheet;
 mod sizes;
-mod text;
 
-use arguments::Asked;
+use anyhow::Context;
+use call::Call;
+use sheet::Sheet;
+use sizes::SizeTable;
+use std::io;
+use std::process::ExitCode;
 
-// What one print cannot write is left out, and the next is tried all the same. What is wrong with the arguments gets a line on standard
-// error, and nothing else is printed.
-fn main(rt: HostRuntime) {
-    let mut row = [0u8; 64];
-    match arguments::read(&rt, &mut row) {
-        Ok(Asked::Sheet(n)) => boards::print_sheet(&rt, n, &mut row),
-        Ok(Asked::Sizes) => sizes::print_sizes(&rt),
-        Err(error) => {
-            let _ = println!(&rt.stderr(); "sheet: {error}");
+fn main(rt: HostRuntime) -> anyhow::Result<ExitCode> {
+    match call::read_arguments(&rt) {
+        Ok(call) => print(&rt, call).context("standard output cannot be written")?,
+        Err(wrong) => {
+            // Words for people: that they cannot be written changes nothing.
+            rt.eprintln(wrong).unwrap_or(());
+            return Ok(ExitCode::from(2));
         }
+    }
+    Ok(ExitCode::SUCCESS)
+}
+
+// Prints what is asked for.
+fn print(rt: &impl Print, call: Call) -> io::Result<()> {
+    match call {
+        Call::Help => rt.println(call::USAGE),
+        Call::Sheet(plant) => rt.print(Sheet { plant }),
+        Call::Sizes => rt.print(SizeTable),
     }
 }

@@ -1,29 +1,29 @@
 // The most tests of a board at every size from 2 to 64, with nobody dead and with any one dead: a table of three sizes to a row.
+use std::fmt;
 
-pub fn print_sizes(rt: &impl Print) {
-    print_head(rt, "| boards | nobody dead | one dead ");
-    print_head(rt, "|--:|--:|--:");
-    let mut row = [0u8; 64];
-    for first in 2..23 {
-        for n in [first, first + 21, first + 42] {
-            print_size(rt, n, &mut row);
+#[derive(Clone, Copy)]
+pub struct SizeTable;
+
+impl fmt::Display for SizeTable {
+    fn fmt<W: fmt::Write>(&self, f: &mut fmt::Formatter<W>) -> fmt::Result {
+        for cells in ["| boards | nobody dead | one dead ", "|--:|--:|--:"] {
+            writeln!(f, "{cells}{cells}{cells}|")?;
         }
-        let _ = println!(rt; "|");
+        for first in 2..23 {
+            for n in [first, first + 21, first + 42] {
+                write_size(f, n)?;
+            }
+            f.write_str("|\n")?;
+        }
+        Ok(())
     }
 }
 
-// A row of the table's head.
-fn print_head(rt: &impl Print, cells: &str) {
-    let _ = println!(rt; "{cells}{cells}{cells}|");
-}
-
-// The three cells of size n, by the first n bytes of a row that suspects nobody: the size and the most tests of a board by the row, and with one
-// more dead. For a shorter row nothing is printed.
-fn print_size(rt: &impl Print, n: u8, row: &mut [u8]) {
-    let Some(row) = row.get_mut(..n as usize) else {
-        return;
-    };
+// The three cells of a size: the most tests of a board with nobody dead, and with any one dead.
+fn write_size<W: fmt::Write>(f: &mut fmt::Formatter<W>, n: u8) -> fmt::Result {
+    let mut row = [0; 64];
+    let row = &mut row[..usize::from(n).min(64)];
     let none_dead = slots::most_of_boards(n, row, false);
     let one_dead = slots::most_of_boards(n, row, true);
-    let _ = print!(rt; "| {n} | {none_dead} | {one_dead} ");
+    write!(f, "| {n} | {none_dead} | {one_dead} ")
 }

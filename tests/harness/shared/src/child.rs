@@ -68,13 +68,23 @@ impl Program {
     /// handed these pieces of its input one after the other, or why that is not
     /// known.
     pub fn run(&self, arguments: &[&[u8]], pieces: &[&[u8]]) -> Result<Written, String> {
+        self.run_to(0, arguments, pieces)
+    }
+
+    /// The same of a call that must end with this status.
+    pub fn run_to(
+        &self,
+        status: i32,
+        arguments: &[&[u8]],
+        pieces: &[&[u8]],
+    ) -> Result<Written, String> {
         let ended = self
             .end(arguments, pieces)
             .map_err(|error| format!("could not be run: {error}"))?;
         if ended.killed {
             return Err(format!("did not end in {:?}", self.limit));
         }
-        if !ended.status.success() {
+        if ended.status.code() != Some(status) {
             return Err(format!("ended with {}", ended.status));
         }
         Ok(ended.written)

@@ -83,7 +83,11 @@ impl Case {
     /// Compares simulator and sheet program with what is expected.
     pub fn check(&self, program: &Program) -> Option<Difference> {
         self.check_simulator()
-            .or_else(|| self.compare(By::Program, program.run(&slices(&self.arguments), &[])))
+            .or_else(|| self.compare(By::Program, self.run(program)))
+    }
+
+    fn run(&self, program: &Program) -> Result<Written, String> {
+        program.run_to(status(&self.expected), &slices(&self.arguments), &[])
     }
 
     /// Only for odd arguments can the simulator differ.
@@ -143,6 +147,14 @@ pub fn random_arguments(seed: u64, number: u64) -> Arguments {
 pub fn numbers(numbers: &[usize]) -> Arguments {
     let texts = numbers.iter().map(|number| number.to_string());
     texts.map(String::into_bytes).collect()
+}
+
+/// The status that a program ends with which writes this: 2 on a wrong call.
+pub fn status(written: &Written) -> i32 {
+    match written.err.is_empty() {
+        true => 0,
+        false => 2,
+    }
 }
 
 /// What the simulator writes.

@@ -1,12 +1,13 @@
 //! Odd arguments and what must be written for each, by hand from the rules for
 //! arguments, not taken from a program. Right arguments stand next to wrong ones.
+//! What asks for the usage, and no argument, which gets it, are not among them:
+//! tests/sheet-command calls these.
 
 use crate::case::{numbers, Arguments};
 
 /// How long an argument is that is longer than any buffer.
 const LONG: usize = 100_000;
 
-const NO_SIZE: &str = "sheet: a size is needed, from 2 to 64\n";
 const NOT_A_SIZE: &str = "sheet: argument 1 is not a size from 2 to 64\n";
 const FEW_LIVE: &str = "sheet: at least two boards must be live\n";
 const MORE_BEHIND_SIZES: &str = "sheet: nothing may follow --sizes\n";
@@ -77,14 +78,11 @@ const WRONG: &[(&str, &[&str])] = &[
             "-sizes",
             "sizes",
             "--sizes=8",
-            "-h",
-            "--help",
             "65 4",
             "65 99",
             "1 0",
             "x x",
             "065 64 64",
-            "--help 8",
             "+8 4",
         ],
     ),
@@ -213,7 +211,6 @@ const WRONG: &[(&str, &[&str])] = &[
 
 /// Arguments that are not such words, and the line on standard error.
 const WRONG_BYTES: &[(&str, &[&[&[u8]]])] = &[
-    (NO_SIZE, &[&[]]),
     (
         NOT_A_SIZE,
         &[

@@ -9,7 +9,7 @@ use std::time::Duration;
 use shared::child::Written;
 
 use crate::altered_sheet;
-use crate::case::simulate;
+use crate::case::{simulate, status};
 use crate::fault::Fault;
 use crate::reading;
 use crate::table;
@@ -22,9 +22,12 @@ pub fn run(fault: Fault, arguments: &[Vec<u8>]) -> ExitCode {
             thread::sleep(Duration::from_secs(1));
         }
     }
+    let right = status(&simulate(arguments)) == 0;
     match write(&written) {
-        Ok(()) if fault != Fault::Fails => ExitCode::SUCCESS,
-        _ => ExitCode::FAILURE,
+        Ok(()) if fault == Fault::Fails => ExitCode::FAILURE,
+        Ok(()) if right => ExitCode::SUCCESS,
+        Ok(()) => ExitCode::from(2),
+        Err(_) => ExitCode::FAILURE,
     }
 }
 

@@ -1,0 +1,130 @@
+// A plant whose dead boards are known to all, as the arguments name it.
+ghost use Rattle.std.specs.Prelude.{◌≡◌, ◌≤◌, ◌==◌, map, take, count_by, replicate, option_map, IfSome};
+ghost use Rattle.std.specs.Result.{result_map_both};
+ghost use Rattle.station.specs.Tests.{unsuspected};
+ghost use Rattle.slots.specs.Slots.{most_tests};
+ghost use Rattle.sheet.specs.Text.{number};
+
+use crate::call::{Word, WrongCall};
+use table::{Station, sizes};
+
+// The size, and the row of each live board: 1 at each dead one.
+#[derive(Clone, Copy)]
+pub struct Plant {
+    pub size: u8,
+    pub row: [u8; 64],
+    ghost in_range: { size ≤ 64 },
+}
+
+impl Plant {
+    ghost use Rattle.sheet.specs.Named.{size_of, row_with, plant_of};
+
+    // The plant that words name: its size, and each of its dead boards.
+    pub fn read(size: &[u8], boards: &[Word]) -> Result<Plant, WrongCall>
+        ensures { let words = map (λ w. w.items) boards.now in
+            result_map_both (λ p. (p.size, p.row)) (λ e. e) result ≡ plant_of (size_of size.now) words }
+    {
+        let Some(mut plant) = Plant::of_size(size) else {
+            return Err(WrongCall::NotASize);
+        };
+        let mut argument: usize = 2;
+        for board in boards {
+            if let Err(wrong) = plant.name_dead(argument, board) {
+                return Err(wrong);
+            }
+            argument += 1;
+        }
+        if plant.live_boards() < 2 {
+            return Err(WrongCall::TooFewLive);
+        }
+        Ok(plant)
+    }
+
+    // A plant of the size that a word says, with nobody dead.
+    #[tactic(auto, using(table::proofs::SizeLaws::size_top))]
+    fn of_size(word: &[u8]) -> Option<Plant>
+        ensures size { option_map (λ p. p.size) result ≡ size_of word.now }
+        ensures nobody_dead { IfSome result (λ p. p.row ≡ replicate 64 0) }
+    {
+        let size = read_number(word, 3)?;
+        if !sizes::is_size(size) {
+            return None;
+        }
+        Some(Plant {
+            size: size as u8,
+            row: [0; 64],
+        })
+    }
+
+    // Reads an argument, which names a board that no argument named before.
+    fn name_dead(&mut self, argument: usize, word: &[u8]) -> Result<(), WrongCall>
+        ensures row { let named = number 2 word.now in
+            result_map_both (λ _. self.new.row) (λ e. e) result ≡ row_with self.old.size argument self.old.row named }
+        ensures size_unchanged { self.new.size ≡ self.old.size }
+    {
+        let last = self.size.saturating_sub(1);
+        let Some(board) = read_number(word, 2) else {
+            return Err(WrongCall::NotABoard { argument, last });
+        };
+        if self.size as usize <= board {
+            return Err(WrongCall::NotABoard { argument, last });
+        }
+        if self.row[board] != 0 {
+            return Err(WrongCall::NamedAgain { argument });
+        }
+        self.row[board] = 1;
+        Ok(())
+    }
+
+    // How many boards are live.
+    fn live_boards(&self) -> usize
+        ensures { result ≡ count_by (λ dead. dead == 0) (take self.now.size self.now.row) }
+    {
+        self.row().iter().filter(|dead| **dead == 0).count()
+    }
+
+    // Its row, without what stands behind the last board.
+    pub fn row(&self) -> &[u8]
+        ensures { result.now ≡ take self.now.size self.now.row }
+    {
+        &self.row[..self.size as usize]
+    }
+
+    // The most tests of board i with one more dead.
+    pub fn most_tests(&self, i: Station) -> u8
+        ensures { result ≡ most_tests self.now.size (take self.now.size self.now.row) i.0 }
+    {
+        let mut row = self.row;
+        slots::most_tests(self.size, &mut row[..self.size as usize], i)
+    }
+
+    // Whether board x is there and not dead.
+    #[tactic(auto, unfolding(station::specs::Tests::unsuspected))]
+    pub fn is_live(&self, x: Station) -> bool
+        ensures { result ≡ unsuspected (take self.now.size self.now.row) x.0 }
+    {
+        self.row().get(x.0 as usize).copied().unwrap_or(1) == 0
+    }
+}
+
+// The value of one to `most` digits, if the word is that.
+fn read_number(word: &[u8], most: usize) -> Option<usize>
+    requires { most ≤ 3 }
+    ensures { result ≡ number most word.now }
+{
+    let length = word.len();
+    if length == 0 {
+        return None;
+    }
+    if most < length {
+        return None;
+    }
+    let mut value = 0;
+    for byte in word {
+        if !byte.is_ascii_digit() {
+            return None;
+        }
+        value = 10 * value + (*byte - b'0') as usize;
+    }
+    Some(value)
+}

@@ -1,0 +1,146 @@
+// The sheet of one plant, as it is printed.
+ghost use Rattle.std.specs.Prelude.{◌≡◌, ◌≤◌, length, if◌then◌else◌, map};
+ghost use Rattle.station.specs.Tests.{unsuspected};
+ghost use Rattle.lists.specs.Search.{greatest};
+ghost use Rattle.sheet.specs.Text.{digits, width};
+
+use crate::plant::Plant;
+use arrayvec::ArrayVec;
+use slots::untested::Untested;
+use std::fmt;
+use table::Station;
+
+// The head of the lists of tests.
+const LIST_HEAD: &str = "whom it tests, in order";
+
+#[derive(Clone, Copy)]
+pub struct Sheet {
+    pub plant: Plant,
+}
+
+impl fmt::Display for Sheet {
+    fn fmt<W: fmt::Write>(&self, f: &mut fmt::Formatter<W>) -> fmt::Result {
+        let plant = &self.plant;
+        writeln!(f, "{} boards, dead:{}\n", plant.size, Dead(plant))?;
+        let columns = widest(plant);
+        writeln!(
+            f,
+            "board  {LIST_HEAD:<columns$}  tests a round  most with one more dead"
+        )?;
+        for i in (0..plant.size).map(Station) {
+            if plant.is_live(i) {
+                write_tests(f, plant, i, columns)?;
+            }
+        }
+        f.write_str("\nboard  whom it does not test (who stands ahead)\n")?;
+        for i in (0..plant.size).map(Station) {
+            if plant.is_live(i) {
+                let untested = slots::untested::list_untested(plant.size, plant.row(), i);
+                writeln!(f, "{:>5}  {}", i.0, Ahead(&untested))?;
+            }
+        }
+        Ok(())
+    }
+}
+
+// The dead boards of a plant, each behind a space.
+#[derive(Clone, Copy)]
+struct Dead<'a>(&'a Plant);
+
+impl<'a> fmt::Display for Dead<'a> {
+    fn fmt<W: fmt::Write>(&self, f: &mut fmt::Formatter<W>) -> fmt::Result {
+        let row = self.0.row();
+        for (board, dead) in row.iter().enumerate() {
+            if *dead != 0 {
+                write!(f, " {board}")?;
+            }
+        }
+        if row.iter().all(|dead| *dead == 0) {
+            f.write_str(" none")?;
+        }
+        Ok(())
+    }
+}
+
+// The line of board i: whom it tests, how many these are, and the most with one more dead.
+fn write_tests<W: fmt::Write>(
+    f: &mut fmt::Formatter<W>,
+    plant: &Plant,
+    i: Station,
+    columns: usize,
+) -> fmt::Result {
+    let tests = slots::list_tests(plant.size, plant.row(), i);
+    let most = plant.most_tests(i);
+    let rest = columns.saturating_sub(width(&tests));
+    writeln!(
+        f,
+        "{:>5}  {}{:rest$}  {:>13}  {most:>23}",
+        i.0,
+        Boards(&tests),
+        "",
+        tests.len()
+    )
+}
+
+// The width of the widest list of tests of a live board, or of its head.
+fn widest(plant: &Plant) -> usize {
+    (0..plant.size)
+        .map(Station)
+        .filter(|i| plant.is_live(*i))
+        .map(|i| width(&slots::list_tests(plant.size, plant.row(), i)))
+        .fold(LIST_HEAD.len(), usize::max)
+}
+
+// Boards with a space between.
+#[derive(Clone, Copy)]
+struct Boards<'a>(&'a [Station]);
+
+impl<'a> fmt::Display for Boards<'a> {
+    fn fmt<W: fmt::Write>(&self, f: &mut fmt::Formatter<W>) -> fmt::Result {
+        for (k, board) in self.0.iter().enumerate() {
+            let gap = if k == 0 { "" } else { " " };
+            write!(f, "{gap}{}", board.0)?;
+        }
+        Ok(())
+    }
+}
+
+// How wide they are.
+fn width(boards: &[Station]) -> usize
+    requires { length boards.now ≤ 255 }
+    ensures { result ≡ width boards.now }
+{
+    let mut columns = boards.len().saturating_sub(1);
+    for board in boards {
+        columns += digits(board.0);
+    }
+    columns
+}
+
+// How many digits a number has.
+fn digits(x: u8) -> usize
+    ensures { result ≡ digits x }
+{
+    match x {
+        0..10 => 1,
+        10..100 => 2,
+        100.. => 3,
+    }
+}
+
+// Boards that are not tested, each with the one ahead in brackets, and commas between; - for none.
+#[derive(Clone, Copy)]
+struct Ahead<'a>(&'a [Untested]);
+
+impl<'a> fmt::Display for Ahead<'a> {
+    fn fmt<W: fmt::Write>(&self, f: &mut fmt::Formatter<W>) -> fmt::Result {
+        if self.0.is_empty() {
+            return f.write_str("-");
+        }
+        for (k, Untested { board, ahead }) in self.0.iter().enumerate() {
+            let gap = if k == 0 { "" } else { ", " };
+            write!(f, "{gap}{} ({})", board.0, ahead.0)?;
+        }
+        Ok(())
+    }
+}
