@@ -36,7 +36,13 @@ pub fn show(rt: &impl Print) {
 fn entry_of(table: &mut [u8], kind: Kind, i: u8) {
     let station = Station(i);
     let mut line = [0u8; 4];
-    let _ = run::run(4, table, Tally::default(), &Entry { kind, station }.bytes(), &mut line);
+    let _ = run::run(
+        4,
+        table,
+        Tally::default(),
+        &Entry { kind, station }.bytes(),
+        &mut line,
+    );
 }
 
 fn lamp_line(rt: &impl Print, n: usize, table: &[u8]) {
