@@ -11,7 +11,9 @@ returns-in_default c = rw (← c.in_default.ensures.size)
 pub returns-in-Err : goal.returns-in-Err
 returns-in-Err c =
     let i = c.loop-board.invariant in
-    let named = rw i.same at c.in-Err.ensures.row in
+    let d = c.deref.ensures in
+    let word : c.deref.result.now ≡ c.board-item.result.items = cc in
+    let named = rw (word, i.same) at c.in-Err.ensures.row in
     let wrong = rows-wrong (λ w. w.items) _ _ _ c.args.boards.now c.loop-board.board-index c.board-item.result c.loop-board-test.true c.board-item.is
     c.in-Err.wrong named in
     sym (plant-is _ _ c.in-Some.ensures.size _ _ c.in-Some.ensures.nobody_dead _ (sym i.rest ∙ wrong))
@@ -19,7 +21,9 @@ returns-in-Err c =
 pub loop-board-preserved : goal.loop-board-preserved
 loop-board-preserved c =
     let i = c.loop-board.invariant in
-    let named = rw i.same at c.in_default-name_dead.ensures.row in
+    let d = c.deref.ensures in
+    let word : c.deref.result.now ≡ c.board-item.result.items = cc in
+    let named = rw (word, i.same) at c.in_default-name_dead.ensures.row in
     let next = rows-next (λ w. w.items) _ _ _ c.args.boards.now c.loop-board.board-index c.board-item.result c.loop-board-test.true c.board-item.is
     _ named in
     record {
