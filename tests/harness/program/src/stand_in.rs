@@ -1,6 +1,7 @@
 //! Programs with a known fault, which stand in for the run program in the
 //! self-test.
 
+use crate::case;
 use std::io::{self, Read, Write};
 use std::process::ExitCode;
 use std::str::FromStr;
@@ -125,6 +126,9 @@ fn respond(fault: Fault) -> io::Result<()> {
             thread::sleep(Duration::from_secs(1));
         },
         _ => {}
+    }
+    if let Some(words) = case::words(&output) {
+        writeln!(io::stderr().lock(), "{words}: for some reason")?;
     }
     io::stdout().lock().write_all(&output)
 }
