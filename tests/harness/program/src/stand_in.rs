@@ -19,6 +19,8 @@ pub enum Fault {
     Fails,
     /// The output is right, but a line is written to standard error, too.
     Complains,
+    /// The output is right, but what was refused or cannot be read is not said.
+    Wordless,
     /// Only what the first read gives is taken for the input.
     FirstRead,
     /// It does not end.
@@ -34,7 +36,7 @@ pub enum Fault {
 }
 
 impl Fault {
-    pub const ALL: [Fault; 13] = [
+    pub const ALL: [Fault; 14] = [
         Fault::None,
         Fault::ByteChanged,
         Fault::ByteMissing,
@@ -42,6 +44,7 @@ impl Fault {
         Fault::Silent,
         Fault::Fails,
         Fault::Complains,
+        Fault::Wordless,
         Fault::FirstRead,
         Fault::Endless,
         Fault::PowersOnly,
@@ -54,7 +57,7 @@ impl Fault {
     pub fn is_seldom(self) -> bool {
         match self {
             Fault::FirstRead | Fault::PowersOnly | Fault::Dummies => true,
-            Fault::CutSize | Fault::Untold => true,
+            Fault::CutSize | Fault::Untold | Fault::Wordless => true,
             Fault::None | Fault::ByteChanged | Fault::ByteMissing | Fault::ByteMore => false,
             Fault::Silent | Fault::Fails | Fault::Complains | Fault::Endless => false,
         }
@@ -79,6 +82,7 @@ impl Fault {
             Fault::Silent => "silent",
             Fault::Fails => "fails",
             Fault::Complains => "complains",
+            Fault::Wordless => "wordless",
             Fault::FirstRead => "first-read",
             Fault::Endless => "endless",
             Fault::PowersOnly => "powers-only",
@@ -127,7 +131,8 @@ fn respond(fault: Fault) -> io::Result<()> {
         },
         _ => {}
     }
-    if let Some(words) = case::words(&output) {
+    let words = case::words(&output).filter(|_| fault != Fault::Wordless);
+    if let Some(words) = words {
         writeln!(io::stderr().lock(), "{words}: for some reason")?;
     }
     io::stdout().lock().write_all(&output)
