@@ -165,17 +165,41 @@ fn cuts(length: usize) -> Vec<usize> {
 }
 
 /// What the run program prints when it is handed these pieces of its input one
-/// after the other, or why that is not known. It must write nothing to standard
-/// error.
+/// after the other, or why that is not known. On standard error it must say
+/// what was refused or cannot be read, in one line, and nothing else.
 fn print(program: &Program, pieces: &[&[u8]]) -> Result<Vec<u8>, String> {
     let written = program.run(&[], pieces)?;
-    match written.err.is_empty() {
+    match says(&written.err, words(&written.out)) {
         true => Ok(written.out),
         false => {
             let said = report::part(&written.err, 0, report::CUT);
             Err(format!("writes to standard error {said}"))
         }
     }
+}
+
+/// The words that the line on standard error begins with, by the last line
+/// printed: `unread N`, or `refused X at K` where X is not 0. Else none.
+pub fn words(printed: &[u8]) -> Option<&str> {
+    let last = str::from_utf8(printed).ok()?.lines().last()?;
+    if last.starts_with("unread ") {
+        return Some(last);
+    }
+    let refused = &last[last.find("refused ")?..];
+    (!refused.starts_with("refused 0 ")).then_some(refused)
+}
+
+/// Whether just one line stands there, of characters that can be printed, which
+/// begins with these words, a colon and a space; or nothing, for no words.
+fn says(err: &[u8], words: Option<&str>) -> bool {
+    let Some(words) = words else {
+        return err.is_empty();
+    };
+    let Some(line) = err.strip_suffix(b"\n") else {
+        return false;
+    };
+    line.iter().all(|byte| (b' '..=b'~').contains(byte))
+        && line.starts_with(format!("{words}: ").as_bytes())
 }
 
 fn simulate(input: &[u8]) -> Vec<u8> {

@@ -1,6 +1,7 @@
 //! Programs with a known fault, which stand in for the run program in the
 //! self-test.
 
+use crate::case;
 use std::io::{self, Read, Write};
 use std::process::ExitCode;
 use std::str::FromStr;
@@ -18,6 +19,8 @@ pub enum Fault {
     Fails,
     /// The output is right, but a line is written to standard error, too.
     Complains,
+    /// The output is right, but what was refused or cannot be read is not said.
+    Wordless,
     /// Only what the first read gives is taken for the input.
     FirstRead,
     /// It does not end.
@@ -33,7 +36,7 @@ pub enum Fault {
 }
 
 impl Fault {
-    pub const ALL: [Fault; 13] = [
+    pub const ALL: [Fault; 14] = [
         Fault::None,
         Fault::ByteChanged,
         Fault::ByteMissing,
@@ -41,6 +44,7 @@ impl Fault {
         Fault::Silent,
         Fault::Fails,
         Fault::Complains,
+        Fault::Wordless,
         Fault::FirstRead,
         Fault::Endless,
         Fault::PowersOnly,
@@ -53,7 +57,7 @@ impl Fault {
     pub fn is_seldom(self) -> bool {
         match self {
             Fault::FirstRead | Fault::PowersOnly | Fault::Dummies => true,
-            Fault::CutSize | Fault::Untold => true,
+            Fault::CutSize | Fault::Untold | Fault::Wordless => true,
             Fault::None | Fault::ByteChanged | Fault::ByteMissing | Fault::ByteMore => false,
             Fault::Silent | Fault::Fails | Fault::Complains | Fault::Endless => false,
         }
@@ -78,6 +82,7 @@ impl Fault {
             Fault::Silent => "silent",
             Fault::Fails => "fails",
             Fault::Complains => "complains",
+            Fault::Wordless => "wordless",
             Fault::FirstRead => "first-read",
             Fault::Endless => "endless",
             Fault::PowersOnly => "powers-only",
@@ -125,6 +130,10 @@ fn respond(fault: Fault) -> io::Result<()> {
             thread::sleep(Duration::from_secs(1));
         },
         _ => {}
+    }
+    let words = case::words(&output).filter(|_| fault != Fault::Wordless);
+    if let Some(words) = words {
+        writeln!(io::stderr().lock(), "{words}: for some reason")?;
     }
     io::stdout().lock().write_all(&output)
 }
