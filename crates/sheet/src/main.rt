@@ -12,12 +12,12 @@ use anyhow::Context;
 use call::Call;
 use sheet::Sheet;
 use sizes::SizeTable;
-use std::io;
+use std::io::{self, ErrorKind};
 use std::process::ExitCode;
 
 fn main(rt: HostRuntime) -> anyhow::Result<ExitCode> {
     match call::read_arguments(&rt) {
-        Ok(call) => print(&rt, call).context("standard output cannot be written")?,
+        Ok(call) => written(print(&rt, call))?,
         Err(wrong) => {
             // Words for people: that they cannot be written changes nothing.
             rt.eprintln(wrong).unwrap_or(());
@@ -33,5 +33,13 @@ fn print(rt: &impl Print, call: Call) -> io::Result<()> {
         Call::Help => rt.println(call::USAGE),
         Call::Sheet(plant) => rt.print(Sheet { plant }),
         Call::Sizes => rt.print(SizeTable),
+    }
+}
+
+// What became of a write to standard output. That the reader of a pipe stops reading is no failure.
+fn written(done: io::Result<()>) -> anyhow::Result<()> {
+    match done {
+        Err(error) if error.kind() == ErrorKind::BrokenPipe => Ok(()),
+        done => done.context("standard output cannot be written"),
     }
 }
