@@ -88,16 +88,14 @@ fn a_late_reply_is_a_pair_until_its_station_is_told() {
 #[test]
 fn a_pair_that_is_handed_on() {
     let mut table = fresh(4);
-    let steps: [(&[u8], Option<(u8, u8)>); 4] = [
-        (&[2, 0], Some((0, 1))),
-        (&[1, 0, 1, 0], Some((0, 1))),
-        (&[3, 0, 1, 2, 1, 2], Some((2, 1))),
-        (&[1, 3, 1, 3], None),
-    ];
-    for (schedule, pair) in steps {
+    let mut then = |schedule: &[u8], pair| {
         run_with(4, &mut table, (0, 0), schedule);
         assert_eq!(doubt_lamp(4, &table), (0, pair));
-    }
+    };
+    then(&[2, 0], Some((0, 1)));
+    then(&[1, 0, 1, 0], Some((0, 1)));
+    then(&[3, 0, 1, 2, 1, 2], Some((2, 1)));
+    then(&[1, 3, 1, 3], None);
 }
 
 #[test]
