@@ -14,7 +14,7 @@ pub fn show(rt: &impl Print) {
     let _ = fresh::fresh_table(4, &mut table);
     lamp_line(rt, 4, &table);
     // The reply of 1 comes late: 0 suspects it. Then 0 exchanges rows with 2, and with 3.
-    entry_of(&mut table, Kind::LateTurn, 0);
+    entry_of(&mut table, Kind::LateReply, 0);
     lamp_line(rt, 4, &table);
     entry_of(&mut table, Kind::Turn, 0);
     entry_of(&mut table, Kind::Turn, 0);
@@ -36,7 +36,13 @@ pub fn show(rt: &impl Print) {
 fn entry_of(table: &mut [u8], kind: Kind, i: u8) {
     let station = Station(i);
     let mut line = [0u8; 4];
-    let _ = run::run(4, table, Tally::default(), &Entry { kind, station }.bytes(), &mut line);
+    let _ = run::run(
+        4,
+        table,
+        Tally::default(),
+        &Entry { kind, station }.bytes(),
+        &mut line,
+    );
 }
 
 fn lamp_line(rt: &impl Print, n: usize, table: &[u8]) {
