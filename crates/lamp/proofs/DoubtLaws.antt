@@ -1,7 +1,7 @@
 -- The first of the doubts, as two loops find it; and that there is none exactly if the table is accurate.
 -- Assumes nothing.
-use mathlib.Core.Path.{◌≡◌, refl, sym, ap, ◌∙◌}
-use mathlib.Core.Bool.{Bool, true, false, not, ◌&&◌, ◌||◌}
+use mathlib.Core.Path.{◌≡◌, refl, sym, ap, ap₂, ◌∙◌}
+use mathlib.Core.Bool.{Bool, true, false, not, ◌&&◌, ◌||◌, and-false}
 use mathlib.Core.List.{List, [], ◌∷◌, ◌++◌, map}
 use Prim.Native.Nat.{ℕ, zero, suc, ◌+◌, ◌-◌, ◌<◌}
 use native.Mathlib.Omega.{arith}
@@ -9,6 +9,7 @@ use lib.ListN.{length, get_or}
 use Rattle.std.specs.Prelude.{Some, None, Ok, ◌==◌}
 use Rattle.lists.proofs.RefusalLaws.{and_ok}
 use Rattle.std.specs.List.{filter, flat_map, list_all, range_with_len, slice_get}
+use Rattle.std.proofs.lemmas.Bool.{ne_eqb}
 use Rattle.std.proofs.lemmas.List.Elements.{filter-append}
 use Rattle.std.proofs.lemmas.Grind.{flat_map-append}
 use Rattle.std.proofs.lemmas.List.{map-append}
@@ -90,10 +91,30 @@ empty-lines n t m =
     lists-empty n t m
     ∙ every-same (λ i. not (live n t i) || is_empty (doubts_of n t i)) (doubtless n t) m (λ i h. ap (λ b. not (live n t i) || b) (empty-line n t i n))
 
--- what the code reads of it: a byte of the row, and whether its station is live
-pub read-doubt : (n : ℕ) (t : List ℕ) (i k : ℕ) (r : List ℕ) → r ≡ row n t i → length r ≡ n → k < length r
-    → is_doubted n t i k ≡ (get_or r k 0 == 1 && live n t k)
-read-doubt n t i k r e long h = ap (λ x. x == 1 && live n t k) (sym (row_at n t i k (omega arith)) ∙ ap (λ s. get_or s k 0) (sym e))
+-- what the code reads of it: byte k of the row, and whether its station is live, which is b
+pub read-doubt : (n : ℕ) (t : List ℕ) (i k : ℕ) (r : List ℕ) (b : Bool) → r ≡ row n t i → length r ≡ n → k < length r → b ≡ live n t k
+    → is_doubted n t i k ≡ (get_or r k 0 == 1 && b)
+read-doubt n t i k r b e long h l = ap₂ (λ x y. x == 1 && y) (sym (row_at n t i k (omega arith)) ∙ ap (λ s. get_or s k 0) (sym e)) (sym l)
+
+-- a station that is not live is passed over; so is one of whose row no byte shows a doubt
+pub passed-dead : (n : ℕ) (t : List ℕ) (i : ℕ) (b : Bool) → b ≡ live n t i → b ≡ false → true ≡ doubtless n t i
+passed-dead n t i b l e = rw (← l, e) refl
+
+pub passed-line : (n : ℕ) (t : List ℕ) (i : ℕ) → true ≡ every (undoubted n t i) n → true ≡ doubtless n t i
+passed-line n t i e = rw (← e) (sym (or-true (not (live n t i))))
+  where
+    or-true : (b : Bool) → (b || true) ≡ true
+    or-true true = refl
+    or-true false = refl
+
+-- a byte is passed over that is not 1, or whose station is not live
+pub passed-byte : (n : ℕ) (t : List ℕ) (i k : ℕ) (r : List ℕ) → r ≡ row n t i → length r ≡ n → k < length r → (get_or r k 0 ≡ 1 → ⊥)
+    → true ≡ undoubted n t i k
+passed-byte n t i k r e long h other = rw (read-doubt n t i k r (live n t k) e long h refl, ne_eqb (get_or r k 0) 1 other) refl
+
+pub passed-doubted : (n : ℕ) (t : List ℕ) (i k : ℕ) (r : List ℕ) (b : Bool) → r ≡ row n t i → length r ≡ n → k < length r → b ≡ live n t k → b ≡ false
+    → true ≡ undoubted n t i k
+passed-doubted n t i k r b e long h l dead = rw (read-doubt n t i k r b e long h l, dead, and-false) refl
 
 -- the first doubt of a station
 first-of-line : (n : ℕ) (t : List ℕ) (i k : ℕ) → k < n → every (undoubted n t i) k ≡ true → is_doubted n t i k ≡ true

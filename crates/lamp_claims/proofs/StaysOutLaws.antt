@@ -82,7 +82,9 @@ stays-out n s calls given = go (chain_first chain)
     go (inl e) = rw (e.1, accurate-none n s.table given.accurate) refl
     go (inr ok) =
         let after = (after_runs s calls).table in
-        let out = is-out n after (check-ok n after (chain-accepted chain ok)) (plain-accurate n (live n s.table) after (history n s calls given ok).0.last.plain) in
+        let kept = check-ok n after (chain-accepted chain ok) in
+        let none = plain-accurate n (live n s.table) after (history n s calls given ok).0.last.plain in
+        let out = is-out n after kept none in
         out ∙ rw (check-ok n s.table ok) refl
 
 pub mixed-stays-out : MixedStaysOut
