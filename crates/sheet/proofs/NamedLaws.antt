@@ -1,6 +1,6 @@
 -- The row that the named boards make.
 -- Assumes nothing.
-use Rattle.std.proofs.Common.{◌≡◌, ℕ, List, [], ◌∷◌, ◌+◌, ◌-◌, ◌<◌, ◌≤◌, Bool, true, false, refl, sym, ap, ◌∙◌, arith, add-one, drop-cons, length-drop, length, map, get_or, drop}
+use Rattle.std.proofs.Common.{◌≡◌, ℕ, List, [], ◌∷◌, ◌+◌, ◌-◌, ◌<◌, ◌≤◌, true, false, refl, sym, ap, ◌∙◌, arith, add-one, drop-cons, length-drop, length, map, get_or, drop}
 use Rattle.std.specs.Prelude.{suc, ◌≢◌, ◌==◌, take, count_by, replicate, Option, Some, None, Result, Ok, Err, slice_index_or, slice_set, nat_lt, nat_eq}
 use Rattle.std.proofs.lemmas.Bool.Decides.{nat_tests}
 use Rattle.sheet.specs.Text.{number}

@@ -1,4 +1,8 @@
 // What the arguments ask for, or what is wrong with them.
+ghost use Rattle.std.specs.Prelude.{◌≡◌, map};
+ghost use Rattle.std.specs.Result.{result_map_both};
+ghost use Rattle.sheet.specs.Call.{asked, understood};
+
 use crate::plant::Plant;
 use arrayvec::ArrayVec;
 use std::env::{Env, FillError};
@@ -66,6 +70,7 @@ impl fmt::Display for WrongCall {
 pub type Word = ArrayVec<u8, 8>;
 
 // Reads the arguments. What stands behind the 66th decides nothing: 65 words behind a size name one of its boards again, or one is no board.
+// It promises nothing, nor does `word`: std's `Env` does not say what the arguments are. What they ask for is the promise of `understand`.
 pub fn read_arguments(rt: &impl Env) -> Result<Call, WrongCall> {
     let mut words: ArrayVec<Word, 66> = ArrayVec::new();
     for k in 1..=66 {
@@ -89,14 +94,21 @@ fn word(rt: &impl Env, k: usize) -> Option<Word> {
 }
 
 // What the words ask for.
-pub fn understand(words: &[Word]) -> Result<Call, WrongCall> {
+pub fn understand(words: &[Word]) -> Result<Call, WrongCall>
+    ensures { result_map_both asked (λ e. e) result ≡ understood (map (λ w. w.items) words.now) }
+{
     let Some((first, boards)) = words.split_first() else {
         return Err(WrongCall::NoSize);
     };
-    match first.as_slice() {
-        b"-h" | b"--help" => Ok(Call::Help),
-        b"--sizes" if boards.is_empty() => Ok(Call::Sizes),
-        b"--sizes" => Err(WrongCall::MoreThanSizes),
-        size => Ok(Call::Sheet(Plant::read(size, boards)?)),
+    let word = first.as_slice();
+    if word == b"-h".as_slice() || word == b"--help".as_slice() {
+        return Ok(Call::Help);
     }
+    if word == b"--sizes".as_slice() {
+        if !boards.is_empty() {
+            return Err(WrongCall::MoreThanSizes);
+        }
+        return Ok(Call::Sizes);
+    }
+    Ok(Call::Sheet(Plant::read(word, boards)?))
 }

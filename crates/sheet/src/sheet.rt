@@ -1,8 +1,6 @@
 // The sheet of one plant, as it is printed.
-ghost use Rattle.std.specs.Prelude.{◌≡◌, ◌≤◌, length, if◌then◌else◌, map};
-ghost use Rattle.station.specs.Tests.{unsuspected};
-ghost use Rattle.lists.specs.Search.{greatest};
-ghost use Rattle.sheet.specs.Text.{digits, width};
+ghost use Rattle.std.specs.Prelude.{◌≡◌, ◌≤◌, length, map, take};
+ghost use Rattle.sheet.specs.Text.{digits, width, list_columns, widest};
 
 use crate::plant::Plant;
 use arrayvec::ArrayVec;
@@ -22,7 +20,7 @@ impl fmt::Display for Sheet {
     fn fmt<W: fmt::Write>(&self, f: &mut fmt::Formatter<W>) -> fmt::Result {
         let plant = &self.plant;
         writeln!(f, "{} boards, dead:{}\n", plant.size, Dead(plant))?;
-        let columns = widest(plant);
+        let columns = widest(plant).max(LIST_HEAD.len());
         writeln!(
             f,
             "board  {LIST_HEAD:<columns$}  tests a round  most with one more dead"
@@ -82,13 +80,25 @@ fn write_tests<W: fmt::Write>(
     )
 }
 
-// The width of the widest list of tests of a live board, or of its head.
-fn widest(plant: &Plant) -> usize {
+// How wide the widest list of tests of a live board is.
+fn widest(plant: &Plant) -> usize
+    ensures { result ≡ widest plant.now.size (take plant.now.size plant.now.row) }
+{
     (0..plant.size)
-        .map(Station)
-        .filter(|i| plant.is_live(*i))
-        .map(|i| width(&slots::list_tests(plant.size, plant.row(), i)))
-        .fold(LIST_HEAD.len(), usize::max)
+        .map(|i| list_columns(plant, Station(i)))
+        .max()
+        .unwrap_or(0)
+}
+
+// How wide the list of tests of a live board is; 0 for another.
+#[tactic(auto, unfolding(crate::specs::Text::list_columns))]
+fn list_columns(plant: &Plant, i: Station) -> usize
+    ensures { result ≡ list_columns plant.now.size (take plant.now.size plant.now.row) i.0 }
+{
+    if !plant.is_live(i) {
+        return 0;
+    }
+    width(&slots::list_tests(plant.size, plant.row(), i))
 }
 
 // Boards with a space between.
@@ -108,7 +118,7 @@ impl<'a> fmt::Display for Boards<'a> {
 // How wide they are.
 fn width(boards: &[Station]) -> usize
     requires { length boards.now ≤ 255 }
-    ensures { result ≡ width boards.now }
+    ensures { result ≡ width (map (λ x. x.0) boards.now) }
 {
     let mut columns = boards.len().saturating_sub(1);
     for board in boards {

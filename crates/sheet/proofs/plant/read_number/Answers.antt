@@ -1,5 +1,5 @@
 -- The digits are read one after the other.
-use Rattle.std.proofs.Common.{◌≡◌, ◌≤◌, sym, ◌∙◌, arith}
+use Rattle.std.proofs.Common.{sym, ◌∙◌, arith}
 use Rattle.sheet.proofs.NumberLaws.{number-empty, number-long, number-inside, digits-next, digits-stop, digits-end}
 use Rattle.sheet.proofs.plant.read_number.Goals as goal
 

@@ -1,5 +1,4 @@
 -- What is wrong with the word, or the row in which its board is dead too.
-use Rattle.std.proofs.Common.{arith}
 use Rattle.sheet.proofs.NamedLaws.{row_with-none, row_with-past, row_with-again, row_with-dead}
 use Rattle.sheet.proofs.plant.Plant.name_dead.Goals as goal
 

@@ -1,5 +1,5 @@
 -- The boards are named one after the other.
-use Rattle.std.proofs.Common.{◌≡◌, sym, ◌∙◌, arith, refl}
+use Rattle.std.proofs.Common.{◌≡◌, sym, ◌∙◌, arith}
 use Rattle.sheet.specs.Named.{plant_of}
 use Rattle.sheet.proofs.NamedLaws.{rows-next, rows-wrong, rows-end, plant-is, two-live, few-live}
 use Rattle.sheet.proofs.plant.Plant.read.Goals as goal
