@@ -42,7 +42,7 @@ module _ (n : ℕ) (s r : State) (b : Both n s r) (e : Entry) where
       there : e.station < n → entry_check n s e ≡ entry_check n r e
       there h =
           by_bool (live n s.table e.station)
-          (λ l. rw (b.rounds, b.tests, b.tables.statuses e.station h, b.tables.live_lines e.station (omega (arith, h)) l finished_column (omega arith)))
+          (λ l. rw (b.rounds, b.tests, b.tables.statuses e.station h, b.tables.live_lines e.station h l finished_column (omega arith)))
           (λ l. rw (b.rounds, b.tests, ← live-same n s.table r.table b.tables e.station h, l))
 
   pub refusal-same : entry_refusal n s e ≡ entry_refusal n r e
@@ -122,8 +122,8 @@ module _ (n : ℕ) (s r : State) (a : Alike n s r) where
     tables = record {
       long = long-alike;
       other_long = (accepted n r.table a.other_valid).long;
-      statuses = a.statuses;
-      live_lines = a.live_lines;
+      statuses = λ i h. a.statuses i (omega (arith, h));
+      live_lines = λ i h l. a.live_lines i (omega (arith, h)) l;
     };
     rounds = a.rounds;
     tests = a.tests;

@@ -48,7 +48,7 @@ module _ (n : ℕ) (t u : List ℕ) (w : Twins n t u) where
 
   pub finished-same : (i : ℕ) → i < n → finished_if_live n t i ≡ finished_if_live n u i
   finished-same i h =
-      by_bool (live n t i) (λ l. rw (w.statuses i h, w.live_lines i (omega (arith, h)) l finished_column (omega arith)))
+      by_bool (live n t i) (λ l. rw (w.statuses i h, w.live_lines i h l finished_column (omega arith)))
       (λ l. rw (← live-same i h, l))
 
   pub over-same : round_over n t ≡ round_over n u
@@ -58,7 +58,7 @@ module _ (n : ℕ) (t u : List ℕ) (w : Twins n t u) where
 -- station i tests station j, or ends its pass
 module _ (n : ℕ) (t u : List ℕ) (w : Twins n t u) (i : ℕ) (h : i < n) (alive : live n t i ≡ true) where
   line : SameLine n t u i
-  line = w.live_lines i (omega (arith, h)) alive
+  line = w.live_lines i h alive
 
   pub next-same : next_test n t i ≡ next_test n u i
   unfolding next_test
@@ -94,10 +94,10 @@ telling n t u w a b h =
 -- the test of j, which may be live or not
 module _ (n : ℕ) (t u : List ℕ) (w : Twins n t u) (i j : ℕ) (h : i < n) (hj : j < n) (alive : live n t i ≡ true) where
   tester : row n t i ≡ row n u i
-  tester = same-row n t u i w.long w.other_long h (w.live_lines i (omega (arith, h)) alive)
+  tester = same-row n t u i w.long w.other_long h (w.live_lines i h alive)
 
   tested : live n t j ≡ true → row n t j ≡ row n u j
-  tested l = same-row n t u j w.long w.other_long hj (w.live_lines j (omega (arith, hj)) l)
+  tested l = same-row n t u j w.long w.other_long hj (w.live_lines j hj l)
 
   reply-same : (kind : ℕ) → replies n t kind j ≡ replies n u kind j
   unfolding replies
@@ -111,8 +111,8 @@ module _ (n : ℕ) (t u : List ℕ) (w : Twins n t u) (i j : ℕ) (h : i < n) (h
   told-same : live n t j ≡ true → (is_told n t i j ≡ is_told n u i j) × (is_told n t j i ≡ is_told n u j i)
   unfolding is_told
   told-same l = (
-    ap (λ (x : ℕ). eqb x 1) (w.live_lines j (omega (arith, hj)) l (head + i) (omega arith)),
-    ap (λ (x : ℕ). eqb x 1) (w.live_lines i (omega (arith, h)) alive (head + j) (omega arith)),
+    ap (λ (x : ℕ). eqb x 1) (w.live_lines j hj l (head + i) (omega arith)),
+    ap (λ (x : ℕ). eqb x 1) (w.live_lines i h alive (head + j) (omega arith)),
   )
 
   pub outcome-same : (kind : ℕ) → test_outcome n t kind i j ≡ test_outcome n u kind i j

@@ -46,11 +46,11 @@ twins-after w s = record {
   long = s.long ∙ w.long;
   other_long = s.other_long ∙ w.other_long;
   statuses = λ i h. s.cells i status_column h (omega arith) (w.statuses i h);
-  live_lines = λ i h l c hc. s.cells i c h hc (w.live_lines i h (s.was_live i h l) c hc);
+  live_lines = λ i h l c hc. s.cells i c h (omega (arith, hc)) (w.live_lines i h (s.was_live i h l) c hc);
 }
 
 pub line-after : {n : ℕ} {t u t' u' : List ℕ} → Step n t u t' u' → (i : ℕ) → i < n → SameLine n t u i → SameLine n t' u' i
-line-after s i h line c hc = s.cells i c h hc (line c hc)
+line-after s i h line c hc = s.cells i c h (omega (arith, hc)) (line c hc)
 
 module _ (n : ℕ) (t u : List ℕ) (long : length t ≡ table_length n) (other_long : length u ≡ table_length n) (i : ℕ) (h : i < n) where
   -- one cell written, with equal bytes; a status only by one that is not live

@@ -30,7 +30,12 @@ pub fn run_whatever_dead_lines_hold(
 }
 
 // The drive: the same.
-pub fn drive_whatever_dead_lines_hold(n: usize, table: &mut [u8], tally: Tally, last: usize) -> Driven
+pub fn drive_whatever_dead_lines_hold(
+    n: usize,
+    table: &mut [u8],
+    tally: Tally,
+    last: usize,
+) -> Driven
     ensures outcome { drive_outcome_with result table.new ≡ drive n (state_with table.old tally) last }
     ensures dead_lines { DriveIgnoresDeadLines (state_with table.old tally) n last
         (drive_outcome_with result table.new) }
