@@ -1,27 +1,25 @@
 -- Grants, drives and mixed lists on alike tables.
 -- Assumes nothing.
 use mathlib.Core.Path.{◌≡◌, refl, sym, ap, ap₂, ◌∙◌}
-use mathlib.Core.Bool.{Bool, true, false, not, ◌||◌}
+use mathlib.Core.Bool.{false, not, ◌||◌}
 use mathlib.Core.List.{List, [], ◌∷◌}
 use Prim.Native.Nat.{ℕ, zero, suc, ◌-◌, ◌≤◌, ◌<◌}
 use native.Mathlib.Omega.{arith}
 use borrow.Author.Tests.{eqb-true}
 use lib.Dec.{eqb}
-use lib.ListN.{length}
-use Rattle.std.specs.Prelude.{Ok}
 use Rattle.lists.specs.Refusal.{number_of_result}
 use Rattle.lists.proofs.BoolLaws.{by_bool, least-same}
 use Rattle.lists.proofs.RefusalLaws.{and_same}
-use Rattle.table.specs.Rules.{table_check, table_refusal}
+use Rattle.table.specs.Rules.{table_check}
 use Rattle.table.proofs.Accepting.{Accepted, accepted, table_ok}
 use Rattle.plant.specs.Turn.{kind_turn}
-use Rattle.plant.specs.Entry.{Entry, State, entry_of, tally_full, entry_refusal, after}
+use Rattle.plant.specs.Entry.{Entry, State, entry_of, tally_full, entry_refusal}
 use Rattle.plant.proofs.RulesKept.{accepted-kept}
 use Rattle.plant.proofs.RunLaws.{accepted-number}
 use Rattle.granter.specs.Grant.{waits, first_from, following, granted, grant_check, grant_refusal, grant_answer}
 use Rattle.granter.specs.Drive.{Stand, stand_at, granted_at, grant_turn, after_grants, ended, ended_after, stops, grants_made, drive_outcome, outcome_after, drive, Stopped}
-use Rattle.granter.proofs.GrantLaws.{Grantable, grantable, grant_ok, waits-is}
-use Rattle.granter.proofs.DriveLaws.{Driving, not_stopped, next-taken, drive-made}
+use Rattle.granter.proofs.GrantLaws.{grantable, grant_ok, waits-is}
+use Rattle.granter.proofs.DriveLaws.{not_stopped, next-taken, drive-made}
 use Rattle.granter.proofs.Stops.{drive-stops}
 use Rattle.detection.specs.Driven.{RunOrDrive, a_run, a_drive, after_one, after_mixed}
 use Rattle.detection.proofs.DriveRuns.{driving-at}

@@ -1,7 +1,6 @@
 -- Entries, runs and lists of runs on alike tables: the same answers and sheets, and tables that stay alike.
 -- Assumes nothing.
 use mathlib.Core.Path.{◌≡◌, refl, sym, ap, ap₂, ◌∙◌}
-use mathlib.Core.Bool.{Bool, true, false}
 use mathlib.Core.List.{List, [], ◌∷◌}
 use Prim.Native.Nat.{ℕ, suc, ◌<◌}
 use native.Mathlib.Decide.{dec_lt}
@@ -13,17 +12,17 @@ use lib.ListN.{length}
 use Rattle.lists.specs.Refusal.{number_of_result}
 use Rattle.lists.proofs.BoolLaws.{by_bool}
 use Rattle.lists.proofs.RefusalLaws.{and_same}
-use Rattle.table.specs.Table.{table_length, status_column, finished_column, live, status}
+use Rattle.table.specs.Table.{table_length, finished_column, live}
 use Rattle.table.specs.Rules.{round_over, shape_check, table_check, table_refusal}
-use Rattle.table.proofs.Accepting.{Accepted, accepted, shape_ok}
-use Rattle.plant.specs.Round.{reset_lines, after_round}
+use Rattle.table.proofs.Accepting.{accepted, shape_ok}
+use Rattle.plant.specs.Round.{after_round}
 use Rattle.plant.specs.Entry.{Entry, State, entry_check, entry_refusal, acted, after, sheet_line}
 use Rattle.plant.specs.Run.{RunResult, entries, write_line, go_on, start_check, start_refusal, run}
 use Rattle.plant.proofs.RulesKept.{Takes, entry-facts, run-keeps-rules}
 use Rattle.plant.proofs.RunLaws.{start-facts}
-use Rattle.detection.specs.Runs.{Call, after_run, after_runs}
+use Rattle.detection.specs.Runs.{after_run, after_runs}
 use Rattle.detection.proofs.Chain.{size-unique}
-use Rattle.dead_lines.specs.Alike.{Alike, StayAlike, run_answer, SameRun, RunOfAlike, answers_of_runs, RunsOfAlike}
+use Rattle.dead_lines.specs.Alike.{Alike, StayAlike, RunOfAlike, answers_of_runs, RunsOfAlike}
 use Rattle.dead_lines.proofs.Writes.{Twins, Step, still, then, twins-after, line-after, closing}
 use Rattle.dead_lines.proofs.TurnAlike.{live-same, over-same, acted-step, test-same, tested-same, outcome-of-same}
 

@@ -1,18 +1,17 @@
 -- A turn, and a crash, of a live station in two twin tables: the same test with the same outcome, and the same writes.
 -- Assumes nothing.
-use mathlib.Core.Path.{◌≡◌, refl, sym, ap, ap₂, ◌∙◌}
-use mathlib.Core.Bool.{Bool, true, false, cond, not, ◌&&◌, ◌||◌}
+use mathlib.Core.Path.{◌≡◌, refl, ap, ap₂, ◌∙◌}
+use mathlib.Core.Bool.{Bool, true, not, ◌&&◌, ◌||◌}
 use mathlib.Core.List.{List}
 use Prim.Native.Nat.{ℕ, ◌+◌, ◌≤◌, ◌<◌}
 use native.Mathlib.Omega.{arith}
 use borrow.Author.Tests.{eqb-true}
 use lib.Dec.{eqb}
 use lib.ListN.{length}
-use Rattle.lists.specs.Search.{every}
 use Rattle.lists.proofs.BoolLaws.{by_bool, every-same}
 use Rattle.lists.proofs.SearchLaws.{both}
 use Rattle.table.specs.Sizes.{distances}
-use Rattle.table.specs.Table.{head, table_length, cell, status_column, next_column, finished_column, tests_column, told_by_column, next_distance, finished, tests_made, live, row, set_row, status_told, status_alone, status_crashed}
+use Rattle.table.specs.Table.{head, table_length, status_column, next_column, finished_column, tests_column, told_by_column, tests_made, live, row, status_told, status_alone, status_crashed}
 use Rattle.table.specs.Rules.{not_live, some_live, finished_if_live, live_finished, round_over}
 use Rattle.table.proofs.CellLaws.{row_same, row-length}
 use Rattle.station.specs.Groups.{station_at}
@@ -23,7 +22,7 @@ use Rattle.plant.specs.Entry.{Entry, is_crash, is_test, acted, tested_of, outcom
 use Rattle.plant.proofs.NextTest.{test-station}
 use Rattle.plant.proofs.StepCells.{count_test-other}
 use Rattle.dead_lines.specs.Alike.{SameLine}
-use Rattle.dead_lines.proofs.Writes.{Twins, Step, still, then, twins-after, line-after, write-cell, write-row}
+use Rattle.dead_lines.proofs.Writes.{Twins, Step, then, twins-after, line-after, write-cell, write-row}
 
 -- the row of a line that is the same
 same-row : (n : ℕ) (t u : List ℕ) (i : ℕ) → length t ≡ table_length n → length u ≡ table_length n → i < n → SameLine n t u i → row n t i ≡ row n u i

@@ -1,8 +1,7 @@
 -- Two alike tables of four stations, computed; and what a run does where one of the conditions fails.
 -- Assumes nothing.
 use Rattle.std.specs.Prelude.{ℕ, ◌≡◌, List, [], ◌∷◌}
-use Rattle.table.specs.Rules.{table_refusal}
-use Rattle.plant.specs.Entry.{State, state_of}
+use Rattle.plant.specs.Entry.{state_of}
 use Rattle.plant.specs.Run.{run}
 use Rattle.dead_lines.specs.Alike.{Alike, Answer, of_run, run_answer}
 
