@@ -3,6 +3,7 @@
 use mathlib.Core.Path.{◌≡◌, refl}
 use mathlib.Core.Bool.{Bool, true, not, ◌||◌}
 use Prim.Native.Nat.{ℕ, ◌<◌}
+use native.Mathlib.Omega.{arith}
 use borrow.Author.Tests.{eqb-true}
 use lib.Dec.{eqb}
 use Rattle.lists.specs.Bytes.{joined_byte}
@@ -53,8 +54,10 @@ worked-pair = record {
   alike = record {
     valid = refl;
     other_valid = refl;
-    statuses = λ i h. eqb-true (status 4 worked i) (status 4 other i) (every-at same_status 4 i statuses-same h);
-    live_lines = λ i h l c hc. eqb-true (cell 4 worked i c) (cell 4 other i c) (every-at (same_byte i) (stride 4) c (line-same i h l) hc);
+    statuses = λ i h. eqb-true (status 4 worked i) (status 4 other i) (every-at same_status 4 i statuses-same (omega (arith, h)));
+    live_lines = λ i h l c hc.
+        let bytes = every-at (same_byte i) (stride 4) c (line-same i (omega (arith, h)) l) (omega (arith, hc)) in
+        eqb-true (cell 4 worked i c) (cell 4 other i c) bytes;
     rounds = refl;
     tests = refl;
   };

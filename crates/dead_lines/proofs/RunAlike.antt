@@ -91,7 +91,8 @@ pub record SameFrom (n : ℕ) (s r : State) (a b : RunResult) : Type 0 where
 
 -- a run that is stopped, by the same refusal
 stopped : (n : ℕ) (s r : State) → Both n s r → (number k : ℕ) (sheet : List ℕ)
-    → SameFrom n s r (record { number = number; taken = k; state = s; sheet = sheet }) (record { number = number; taken = k; state = r; sheet = sheet })
+    → SameFrom n s r (record { number = number; taken = k; state = s; sheet = sheet })
+    (record { number = number; taken = k; state = r; sheet = sheet })
 stopped n s r b number k sheet =
     record { number = refl; taken = refl; sheet = refl; rounds = b.rounds; tests = b.tests; step = still n s.table r.table }
 
@@ -156,7 +157,8 @@ module _ (n : ℕ) (s r : State) (a : Alike n s r) where
       by_bool (eqb (start_refusal m s.table (length schedule) (length sheet)) 0)
       (λ t.
       let fits = (start-facts m s.table (length schedule) (length sheet) (eqb-true _ 0 t)).0 in
-      rw (← started m (length schedule) (length sheet), t, size-is m (sym fits.long ∙ same-length)) (run-on n 0 s r sheet (entries schedule) alike-both))
+      rw (← started m (length schedule) (length sheet), t, size-is m (sym fits.long ∙ same-length))
+      (run-on n 0 s r sheet (entries schedule) alike-both))
       (λ t.
       rw (← started m (length schedule) (length sheet), t)
       (stopped n s r alike-both (start_refusal m s.table (length schedule) (length sheet)) 0 sheet))

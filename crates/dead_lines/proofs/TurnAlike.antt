@@ -127,7 +127,8 @@ module _ (n : ℕ) (t u : List ℕ) (w : Twins n t u) (i j : ℕ) (h : i < n) (h
       let mine : length (union (row n u i) (row n u j) i) ≡ n = union-length (row n u i) (row n u j) i ∙ row-length n u i w.other_long h in
       let its : length (union (row n u j) (row n u i) j) ≡ n = union-length (row n u j) (row n u i) j ∙ row-length n u j w.other_long hj in
       let one = write-row n t u w.long w.other_long i h (union (row n u i) (row n u j) i) mine in
-      rw (tester, tested l) (then one (write-row n _ _ (one.long ∙ w.long) (one.other_long ∙ w.other_long) j hj (union (row n u j) (row n u i) j) its))
+      let two = write-row n _ _ (one.long ∙ w.long) (one.other_long ∙ w.other_long) j hj (union (row n u j) (row n u i) j) its in
+      rw (tester, tested l) (then one two)
 
   suspecting : Step n t u (suspect n t i j) (suspect n u i j)
   unfolding suspect
@@ -183,7 +184,9 @@ module _ (n : ℕ) (t u : List ℕ) (w : Twins n t u) (i : ℕ) (h : i < n) (ali
         let x : Twins n v v' = twins-after w tested-step in
         let same = alone-same n v v' i (line-after tested-step i h (line n t u w i h alive)) in
         by_bool (is_alone n v i)
-        (λ e. rw (← same, e) (then tested-step (write-cell n v v' x.long x.other_long i h status_column status_alone status_alone (omega arith) refl (λ _. omega arith))))
+        (λ e.
+        let leaves = write-cell n v v' x.long x.other_long i h status_column status_alone status_alone (omega arith) refl (λ _. omega arith) in
+        rw (← same, e) (then tested-step leaves))
         (λ e. rw (← same, e) tested-step)
 
   turn-step : Step n t u (turn n t kind i) (turn n u kind i)
@@ -202,7 +205,9 @@ module _ (n : ℕ) (t u : List ℕ) (w : Twins n t u) (i : ℕ) (h : i < n) (ali
 module _ (n : ℕ) (t u : List ℕ) (w : Twins n t u) (e : Entry) (h : e.station < n) (alive : live n t e.station ≡ true) where
   pub acted-step : Step n t u (acted n t e) (acted n u e)
   unfolding acted crash
-  acted-step = by_bool (is_crash e) (λ c. rw c (leaving n t u w e.station h alive status_crashed (omega arith))) (λ c. rw c (turn-step n t u w e.station h alive e.kind))
+  acted-step =
+      by_bool (is_crash e) (λ c. rw c (leaving n t u w e.station h alive status_crashed (omega arith)))
+      (λ c. rw c (turn-step n t u w e.station h alive e.kind))
 
   pub test-same : is_test n t e ≡ is_test n u e
   test-same = ap (λ (b : Bool). not (is_crash e) && b) (makes-same n t u w e.station h alive)

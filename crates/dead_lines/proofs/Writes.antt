@@ -116,7 +116,9 @@ unfolding rounds_after
 closing n t u w = record {
   long = reset-length n t;
   other_long = reset-length n u;
-  cells = λ i c h hc e. at i c h hc e (ℕ_discrete c next_column) (ℕ_discrete c finished_column) (ℕ_discrete c tests_column) (ℕ_discrete c rounds_ago_column);
+  cells = λ i c h hc e.
+      let five = ℕ_discrete c rounds_ago_column in
+      at i c h hc e (ℕ_discrete c next_column) (ℕ_discrete c finished_column) (ℕ_discrete c tests_column) five;
   was_live = λ i h l. rw (reset-other n t i status_column (omega arith) (λ p. omega arith)) at l;
 }
   where

@@ -15,7 +15,7 @@ use Rattle.detection.specs.Driven.{RunOrDrive, a_run, a_drive, after_one, after_
 abbrev pub SameLine : ℕ → List ℕ → List ℕ → ℕ → Type 0
 SameLine n t u i = (c : ℕ) → c < stride n → cell n t i c ≡ cell n u i c
 
--- Rule Dead lines, of what: two tables that refusals 1 to 4 let through, with equal statuses, equal live lines and one tally
+-- Rule Dead lines, its conditions: refusals 1 to 4 let both tables through, and statuses, live lines and tally are equal
 pub record Alike (n : ℕ) (s r : State) : Type 0 where
   pub valid : table_refusal n s.table ≡ 0
   pub other_valid : table_refusal n r.table ≡ 0
@@ -24,7 +24,7 @@ pub record Alike (n : ℕ) (s r : State) : Type 0 where
   pub rounds : s.rounds ≡ r.rounds
   pub tests : s.tests ≡ r.tests
 
--- Rule Dead lines: so it is afterwards. And each line that was the same in both is so still: the whole line of a station that left meanwhile
+-- Rule Dead lines: so it is afterwards. Each line that was the same in both is so still: of a station that left meanwhile the whole line
 pub record StayAlike (n : ℕ) (s r s' r' : State) : Type 0 where
   pub alike : Alike n s' r'
   pub lines : (i : ℕ) → i < n → SameLine n s.table r.table i → SameLine n s'.table r'.table i
@@ -88,7 +88,7 @@ MixedOfAlike =
     (n : ℕ) (s r : State) → Alike n s r → (xs : List RunOrDrive)
     → (answers_of s xs ≡ answers_of r xs) × StayAlike n s r (after_mixed s xs) (after_mixed r xs)
 
--- Rule Dead lines, of one run, or one drive, that was made of s with this outcome: made of any alike table and tally it is the same
+-- Rule Dead lines, of one run or drive that was made of s with this outcome: made of any state alike to s it answers the same
 abbrev pub RunIgnoresDeadLines : State → ℕ → List ℕ → List ℕ → RunResult → Type 0
 RunIgnoresDeadLines s m schedule sheet outcome =
     (n : ℕ) (r : State) → Alike n s r → SameRun n s r outcome (run m r schedule sheet)

@@ -5,7 +5,7 @@ use Rattle.plant.specs.Entry.{state_of}
 use Rattle.plant.specs.Run.{run}
 use Rattle.dead_lines.specs.Alike.{Alike, Answer, of_run, run_answer}
 
--- the table of rule Worked run: station 1 left because told by 0
+-- the table of the worked run in RULES: station 1 left because told by 0
 abbrev pub worked : List ℕ
 worked =
     0 ∷ 4 ∷ 0 ∷ 3 ∷ 255 ∷ 0 ∷ 0 ∷ 1 ∷ 0 ∷ 0

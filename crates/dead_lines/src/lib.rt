@@ -7,7 +7,8 @@ ghost use Rattle.std.specs.Prelude.{◌≡◌};
 ghost use Rattle.plant.specs.Entry.{state_with};
 ghost use Rattle.plant.specs.Run.{outcome_with, run};
 ghost use Rattle.granter.specs.Drive.{drive_outcome_with, drive};
-ghost use Rattle.dead_lines.specs.Alike.{RunIgnoresDeadLines, DriveIgnoresDeadLines, RunOfAlike, GrantOfAlike, DriveOfAlike, RunsOfAlike, MixedOfAlike};
+ghost use Rattle.dead_lines.specs.Alike.{RunIgnoresDeadLines, DriveIgnoresDeadLines};
+ghost use Rattle.dead_lines.specs.Alike.{RunOfAlike, GrantOfAlike, DriveOfAlike, RunsOfAlike, MixedOfAlike};
 ghost use Rattle.dead_lines.specs.Pair.{WorkedPair, EachIsNeeded};
 
 use granter::{Driven, drive};
