@@ -61,7 +61,7 @@ other_after =
     ∷ 0 ∷ 1 ∷ 0 ∷ 0 ∷ 255 ∷ 0 ∷ 0 ∷ 1 ∷ 0 ∷ 0
     ∷ []
 
--- the conditions hold of tables that differ, and the run does so of both
+-- Rule Each condition is needed: all are met by tables that differ, and the run writes the same sheet
 pub record WorkedPair : Type 0 where
   pub alike : Alike 4 (state_of worked 0 4) (state_of other 0 4)
   pub first : run 4 (state_of worked 0 4) schedule blank
@@ -86,7 +86,7 @@ one_crashed = 0 ∷ 1 ∷ 0 ∷ 0 ∷ 255 ∷ 0 ∷ 0 ∷ 0 ∷ 1 ∷ 1 ∷ 0 �
 abbrev pub broken_line : List ℕ
 broken_line = 0 ∷ 1 ∷ 0 ∷ 0 ∷ 255 ∷ 0 ∷ 0 ∷ 0 ∷ 1 ∷ 0 ∷ 0 ∷ 0 ∷ 255 ∷ 0 ∷ 0 ∷ 0 ∷ []
 
--- each differs from one of the others in what one condition asks, and the answers and sheets are others
+-- Rule Each condition is needed: each table differs from one of the others in what one condition asks, and the answers are others
 pub record EachIsNeeded : Type 0 where
   pub fresh : turn_of_0 both_live ≡ of_run 0 1 0 1 (0 ∷ 1 ∷ 1 ∷ 0 ∷ [])
   -- a live line: 1 is told and leaves, and 0, who suspects all others, leaves too
