@@ -58,7 +58,7 @@ not-less : (n m : ℕ) → table_length n ≡ table_length m → ¬ (n < m)
 unfolding table_length
 not-less n m e l = let more : stride n ≤ stride m = omega arith in omega (arith, mul-le-mul l more, suc-mul n (stride n))
 
-size-unique : (n m : ℕ) → table_length n ≡ table_length m → n ≡ m
+pub size-unique : (n m : ℕ) → table_length n ≡ table_length m → n ≡ m
 size-unique n m e = omega (arith, not-less n m e, not-less m n (sym e))
 
 -- the entries of one run: a run of another size, or on a table that is not accepted, is turned away, and takes none

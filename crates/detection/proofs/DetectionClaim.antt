@@ -25,7 +25,7 @@ use Rattle.lists.specs.Sums.{bit}
 use Rattle.detection.specs.Runs.{Call, taken_all, after_run, after_runs}
 use Rattle.detection.specs.Rounds.{count_taken, cut, tests_of_all}
 use Rattle.table.specs.Properties.{line_at_start, at_start, live_count, no_live_suspicion, none_suspected}
-use Rattle.detection.specs.Claim.{rounds_of, DetectionPremises, DetectionConclusion, Detection, DetectionAfter, square_bound, DetectionInSquare, DetectionInTriangle, worst_latency}
+use Rattle.detection.specs.Claim.{rounds_of, DetectionPremises, DetectionConclusion, Detection, DetectionAfter, square_bound, DetectionInSquare, triangle_bound, DetectionInTriangle, worst_latency}
 use Rattle.lists.proofs.BoolLaws.{by_bool}
 use Rattle.lists.proofs.SumLaws.{sum-single}
 use Rattle.detection.proofs.Latency.{latency-pos, latency-le-triangle, latency-le-square}
@@ -162,7 +162,7 @@ within rounds enough n s calls given =
 
 -- within 1 + d(d − 1)/2 rounds, an end in itself
 pub detection-in-triangle : DetectionInTriangle
-detection-in-triangle = within _ latency-le-triangle
+detection-in-triangle = within triangle_bound (λ d. omega (arith, latency-le-triangle d))
 
 -- within d·d rounds, an end in itself
 pub detection-in-square : DetectionInSquare

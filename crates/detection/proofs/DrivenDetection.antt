@@ -22,10 +22,10 @@ use Rattle.plant.specs.Entry.{Entry, State, entry_of, acted, after}
 use Rattle.detection.specs.Runs.{Taken, turn_run, after_runs, taken_all, crashes, is_late}
 use Rattle.detection.specs.Rounds.{all_taken}
 use Rattle.table.specs.Properties.{live_count}
-use Rattle.detection.specs.Claim.{rounds_of, DetectionPremises, DetectionConclusion, Detection, square_bound, worst_latency}
+use Rattle.detection.specs.Claim.{rounds_of, DetectionPremises, DetectionConclusion, Detection, square_bound, triangle_bound, worst_latency}
 use Rattle.detection.proofs.OneTurn.{after-append, runs_append, one_passes}
 use Rattle.detection.proofs.TakenLaws.{taken_at}
-use Rattle.detection.proofs.DetectionClaim.{detection-in-worst-case, detection-in-square}
+use Rattle.detection.proofs.DetectionClaim.{detection-in-worst-case, detection-in-triangle, detection-in-square}
 use Rattle.granter.specs.Grant.{grant_refusal}
 use Rattle.granter.specs.Drive.{Stand, stand_at, granted_at, grant_turn, after_grants, ended, ended_after, stops, grants_made, outcome_after, drive}
 use Rattle.granter.proofs.GrantLaws.{Grantable, grantable}
@@ -52,9 +52,12 @@ mixed-detection : (rounds : ℕ → ℕ) → Detection rounds → MixedDetection
 mixed-detection rounds claim n s xs given =
     subst (DetectionConclusion (rounds (dimension n)) n s (runs_of_mixed s xs)) (mixed-left s xs) (claim n s (runs_of_mixed s xs) given)
 
--- detection of such lists within d·d rounds and within the worst-case latency, ends in themselves
+-- detection of such lists within each of the three bounds, ends in themselves
 pub mixed-in-square : MixedDetection square_bound
 mixed-in-square = mixed-detection square_bound detection-in-square
+
+pub mixed-in-triangle : MixedDetection triangle_bound
+mixed-in-triangle = mixed-detection triangle_bound detection-in-triangle
 
 pub mixed-in-worst-case : MixedDetection worst_latency
 mixed-in-worst-case = mixed-detection worst_latency detection-in-worst-case
@@ -204,6 +207,10 @@ driven-detection rounds claim n s lasts given = driven rounds claim n s given la
 -- detection of driven plants within d·d rounds, an end in itself
 pub driven-in-square : DrivenDetectionInSquare
 driven-in-square = driven-detection square_bound detection-in-square
+
+-- within 1 + d(d − 1)/2 rounds, an end in itself
+pub driven-in-triangle : DrivenDetection triangle_bound
+driven-in-triangle = driven-detection triangle_bound detection-in-triangle
 
 -- and within fewer rounds, an end in itself. That still fewer do not suffice is shown of runs only (crate witness)
 pub driven-in-worst-case : DrivenDetection worst_latency

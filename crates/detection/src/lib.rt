@@ -15,14 +15,14 @@ ghost use Rattle.plant.specs.Entry.{state_with};
 ghost use Rattle.plant.specs.Run.{outcome_with, run};
 ghost use Rattle.detection.specs.Runs.{call_of, CountsTaken};
 ghost use Rattle.granter.specs.Drive.{drive_outcome_with, drive, StoppedIfTaken};
-ghost use Rattle.detection.specs.Claim.{DetectionAfter, square_bound, worst_latency};
+ghost use Rattle.detection.specs.Claim.{DetectionAfter, square_bound, triangle_bound, worst_latency};
 ghost use Rattle.detection.specs.Driven.{DrivenDetectionAfter};
 
 use granter::{Driven, drive};
 use plant::{Ran, Tally, run};
 
 // The run, wherever it stands in a list of runs: what the detection claim says of the list that ends with it holds of the table and tally that it
-// leaves, within d·d rounds and within the worst-case latency. It answers how many of its entries the list takes.
+// leaves, within d·d rounds, within 1 + d(d − 1)/2, and within the worst-case latency. It answers how many of its entries the list takes.
 pub fn run_in_list(
     n: usize,
     table: &mut [u8],
@@ -36,6 +36,8 @@ pub fn run_in_list(
         (state_with table.old tally) result.taken }
     ensures detection_in_square { DetectionAfter square_bound (call_of n schedule.now sheet.old)
         (state_with table.old tally) (state_with table.new result.tally) }
+    ensures detection_in_triangle { DetectionAfter triangle_bound (call_of n schedule.now sheet.old)
+        (state_with table.old tally) (state_with table.new result.tally) }
     ensures detection_in_worst_case { DetectionAfter worst_latency (call_of n schedule.now sheet.old)
         (state_with table.old tally) (state_with table.new result.tally) }
 {
@@ -43,11 +45,13 @@ pub fn run_in_list(
 }
 
 // The drive, wherever it stands behind other drives: what the detection claim says of the plant that they drove holds of the table and tally that
-// it leaves, within d·d rounds and within the worst-case latency.
+// it leaves, within d·d rounds, within 1 + d(d − 1)/2, and within the worst-case latency.
 pub fn drive_in_list(n: usize, table: &mut [u8], tally: Tally, last: usize) -> Driven
     ensures outcome { drive_outcome_with result table.new ≡ drive n (state_with table.old tally) last }
     ensures stopped_if_taken { StoppedIfTaken n (state_with table.old tally) last result.grants }
     ensures driven_in_square { DrivenDetectionAfter square_bound n last
+        (state_with table.old tally) (state_with table.new result.tally) }
+    ensures driven_in_triangle { DrivenDetectionAfter triangle_bound n last
         (state_with table.old tally) (state_with table.new result.tally) }
     ensures driven_in_worst_case { DrivenDetectionAfter worst_latency n last
         (state_with table.old tally) (state_with table.new result.tally) }

@@ -9,7 +9,7 @@ ghost use Rattle.station.specs.Calls.{group_refusal, group_after, row_refusal, r
 ghost use Rattle.plant.specs.Entry.{state_of};
 ghost use Rattle.plant.specs.Run.{run};
 ghost use Rattle.detection.specs.Runs.{call_of, CountsTaken};
-ghost use Rattle.detection.specs.Claim.{DetectionAfter, square_bound, worst_latency};
+ghost use Rattle.detection.specs.Claim.{DetectionAfter, square_bound, triangle_bound, worst_latency};
 ghost use Rattle.detection.specs.Driven.{DrivenDetectionAfter};
 ghost use Rattle.granter.specs.Grant.{grant_refusal, grant_station};
 ghost use Rattle.granter.specs.Drive.{drive, StoppedIfTaken};
@@ -123,6 +123,8 @@ pub extern "C" fn vcube_run(
         (state_of table.old rounds.old tests.old) taken.new }
     ensures detection_in_square { DetectionAfter square_bound (call_of n schedule.now sheet.old)
         (state_of table.old rounds.old tests.old) (state_of table.new rounds.new tests.new) }
+    ensures detection_in_triangle { DetectionAfter triangle_bound (call_of n schedule.now sheet.old)
+        (state_of table.old rounds.old tests.old) (state_of table.new rounds.new tests.new) }
     ensures detection_in_worst_case { DetectionAfter worst_latency (call_of n schedule.now sheet.old)
         (state_of table.old rounds.old tests.old) (state_of table.new rounds.new tests.new) }
 {
@@ -164,6 +166,8 @@ pub extern "C" fn vcube_drive(
         ≡ drive n (state_of table.old rounds.old tests.old) last.old }
     ensures stopped_if_taken { StoppedIfTaken n (state_of table.old rounds.old tests.old) last.old grants.new }
     ensures driven_in_square { DrivenDetectionAfter square_bound n last.old
+        (state_of table.old rounds.old tests.old) (state_of table.new rounds.new tests.new) }
+    ensures driven_in_triangle { DrivenDetectionAfter triangle_bound n last.old
         (state_of table.old rounds.old tests.old) (state_of table.new rounds.new tests.new) }
     ensures driven_in_worst_case { DrivenDetectionAfter worst_latency n last.old
         (state_of table.old rounds.old tests.old) (state_of table.new rounds.new tests.new) }

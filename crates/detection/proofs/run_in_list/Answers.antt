@@ -3,9 +3,9 @@ use Rattle.std.proofs.Common.{sym, ap, subst, ◌∙◌}
 use Rattle.plant.specs.Entry.{state_with}
 use Rattle.plant.specs.Run.{RunResult}
 use Rattle.detection.specs.Runs.{call_of}
-use Rattle.detection.specs.Claim.{DetectionAfter, square_bound, worst_latency}
+use Rattle.detection.specs.Claim.{DetectionAfter, square_bound, triangle_bound, worst_latency}
 use Rattle.detection.proofs.Chain.{taken_is}
-use Rattle.detection.proofs.DetectionClaim.{detection-in-worst-case, detection-in-square, last-run}
+use Rattle.detection.proofs.DetectionClaim.{detection-in-worst-case, detection-in-triangle, detection-in-square, last-run}
 use Rattle.detection.proofs.run_in_list.Goals as goal
 
 pub returns-clause-counts_taken : goal.returns-clause-counts_taken
@@ -19,6 +19,13 @@ returns-clause-detection_in_square c =
     let before = state_with c.args.table.now c.args.tally in
     subst (DetectionAfter square_bound call before) (sym (ap (λ (o : RunResult). o.state) c.run.ensures))
     (last-run square_bound detection-in-square call before)
+
+pub returns-clause-detection_in_triangle : goal.returns-clause-detection_in_triangle
+returns-clause-detection_in_triangle c =
+    let call = call_of c.args.n c.args.schedule.now c.args.sheet.now in
+    let before = state_with c.args.table.now c.args.tally in
+    subst (DetectionAfter triangle_bound call before) (sym (ap (λ (o : RunResult). o.state) c.run.ensures))
+    (last-run triangle_bound detection-in-triangle call before)
 
 pub returns-clause-detection_in_worst_case : goal.returns-clause-detection_in_worst_case
 returns-clause-detection_in_worst_case c =

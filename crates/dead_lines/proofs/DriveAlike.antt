@@ -1,0 +1,190 @@
+-- Grants, drives and mixed lists on alike tables.
+-- Assumes nothing.
+use mathlib.Core.Path.{◌≡◌, refl, sym, ap, ap₂, ◌∙◌}
+use mathlib.Core.Bool.{false, not, ◌||◌}
+use mathlib.Core.List.{List, [], ◌∷◌}
+use Prim.Native.Nat.{ℕ, zero, suc, ◌-◌, ◌≤◌, ◌<◌}
+use native.Mathlib.Omega.{arith}
+use borrow.Author.Tests.{eqb-true}
+use lib.Dec.{eqb}
+use Rattle.lists.specs.Refusal.{number_of_result}
+use Rattle.lists.proofs.BoolLaws.{by_bool, least-same}
+use Rattle.lists.proofs.RefusalLaws.{and_same}
+use Rattle.table.specs.Rules.{table_check}
+use Rattle.table.proofs.Accepting.{Accepted, accepted, table_ok}
+use Rattle.plant.specs.Turn.{kind_turn}
+use Rattle.plant.specs.Entry.{Entry, State, entry_of, tally_full, entry_refusal}
+use Rattle.plant.proofs.RulesKept.{accepted-kept}
+use Rattle.plant.proofs.RunLaws.{accepted-number}
+use Rattle.granter.specs.Grant.{waits, first_from, following, granted, grant_check, grant_refusal, grant_answer}
+use Rattle.granter.specs.Drive.{Stand, stand_at, granted_at, grant_turn, after_grants, ended, ended_after, stops, grants_made, drive_outcome, outcome_after, drive, Stopped}
+use Rattle.granter.proofs.GrantLaws.{grantable, grant_ok, waits-is}
+use Rattle.granter.proofs.DriveLaws.{not_stopped, next-taken, drive-made}
+use Rattle.granter.proofs.Stops.{drive-stops}
+use Rattle.detection.specs.Driven.{RunOrDrive, a_run, a_drive, after_one, after_mixed}
+use Rattle.detection.proofs.DriveRuns.{driving-at}
+use Rattle.dead_lines.specs.Alike.{Alike, StayAlike, SameDrive, GrantOfAlike, DriveOfAlike, answer_of, answers_of, MixedOfAlike}
+use Rattle.dead_lines.proofs.Writes.{Twins, Step, still, then}
+use Rattle.dead_lines.proofs.TurnAlike.{some-live-same, finished-same}
+use Rattle.dead_lines.proofs.RunAlike.{Both, refusal-same, after-step, after-both, alike-both, size-is, tables-checked, stays, stay-still, stay-then, run-of-alike}
+
+-- who is granted goes by who waits
+module _ (n : ℕ) (t u : List ℕ) (w : Twins n t u) where
+  waits-same : (i : ℕ) → i < n → waits n t i ≡ waits n u i
+  waits-same i h = sym (waits-is n t i) ∙ (ap not (finished-same n t u w i h) ∙ waits-is n u i)
+
+  first-same : (b : ℕ) → first_from n t b ≡ first_from n u b
+  unfolding first_from
+  first-same b = least-same (waits n t) (waits n u) (n - b) b (λ y low high. waits-same y (omega arith))
+
+  granted-same : (last : ℕ) → granted n t last ≡ granted n u last
+  unfolding granted
+  granted-same last = rw (first-same (following last), first-same 0)
+
+-- a grant of any size
+module _ (n : ℕ) (s r : State) (a : Alike n s r) (m last : ℕ) where
+  tables : Twins n s.table r.table
+  tables = (alike-both n s r a).tables
+
+  grant-checked : grant_check m s.table last ≡ grant_check m r.table last
+  unfolding grant_check
+  grant-checked =
+      rw (tables-checked n s r a m)
+      (and_same (table_check m r.table) _ _
+      (λ ok. rw (size-is n s r a m (sym (table_ok m r.table tt ok).long), some-live-same n s.table r.table tables)))
+
+  grant-same : grant_answer m s.table last ≡ grant_answer m r.table last
+  unfolding grant_answer
+  grant-same =
+      rw grant-checked
+      (and_same (grant_check m r.table last) _ _
+      (λ ok. rw (size-is n s r a m (sym (grant_ok m r.table last tt ok).ok.long), granted-same n s.table r.table tables last)))
+
+pub grant-of-alike : GrantOfAlike
+grant-of-alike = grant-same
+
+-- where two drives stand after k grants
+record Grants (n : ℕ) (p q : Stand) (k : ℕ) : Type 0 where
+  both : Both n (after_grants n p k).state (after_grants n q k).state
+  last : (after_grants n p k).last ≡ (after_grants n q k).last
+  ok : Accepted n (after_grants n p k).state.table
+  other_ok : Accepted n (after_grants n q k).state.table
+  step : Step n p.state.table q.state.table (after_grants n p k).state.table (after_grants n q k).state.table
+
+-- a grant and its turn more
+next-grants : (n : ℕ) (p q : Stand) (k : ℕ) → Grants n p q k
+    → entry_refusal n (after_grants n p k).state (entry_of kind_turn (granted_at n (after_grants n p k))) ≡ 0 → Grants n p q (suc k)
+unfolding after_grants grant_turn
+next-grants n p q k x taken =
+    record {
+      both = rw (← same) (after-both n before other x.both e taken);
+      last = same;
+      ok = accepted-kept n before e x.ok taken;
+      other_ok = rw (← same) (accepted-kept n other e x.other_ok (sym (refusal-same n before other x.both e) ∙ taken));
+      step = rw (← same) (then x.step (after-step n before other x.both e taken));
+    }
+  where
+    before : State
+    before = (after_grants n p k).state
+
+    other : State
+    other = (after_grants n q k).state
+
+    e : Entry
+    e = entry_of kind_turn (granted_at n (after_grants n p k))
+
+    same : granted_at n (after_grants n p k) ≡ granted_at n (after_grants n q k)
+    same = granted-same n before.table other.table x.both.tables (after_grants n p k).last ∙ ap (granted n other.table) x.last
+
+-- a drive that is not refused
+module _ (n : ℕ) (s r : State) (a : Alike n s r) (last : ℕ) (z : grant_refusal n s.table last ≡ 0) where
+  abbrev p : Stand
+  p = stand_at s last
+
+  abbrev q : Stand
+  q = stand_at r last
+
+  abbrev made : ℕ
+  made = grants_made n p
+
+  stop : Stopped n p made
+  stop = drive-stops n s last z
+
+  grants : (k : ℕ) → k ≤ made → Grants n p q k
+  unfolding after_grants
+  grants zero l = record {
+    both = alike-both n s r a;
+    last = refl;
+    ok = accepted n s.table a.valid;
+    other_ok = accepted n r.table a.other_valid;
+    step = still n s.table r.table;
+  }
+  grants (suc k) l =
+      let d = driving-at n s last (grantable n s.table last z) k (λ j h. stop.first j (omega arith)) in
+      next-grants n p q k (grants k (omega arith)) (next-taken n p k d (not_stopped n p k (stop.first k (omega arith))).1)
+
+  ended-same : (k : ℕ) → k ≤ made → ended_after n p k ≡ ended_after n q k
+  unfolding ended
+  ended-same k l =
+      let x = grants k l in
+      ap₂ ◌||◌ (ap not (ap₂ eqb x.both.rounds a.rounds))
+      (ap not (some-live-same n (after_grants n p k).state.table (after_grants n q k).state.table x.both.tables))
+
+  stops-same : (k : ℕ) → k ≤ made → stops n p k ≡ stops n q k
+  unfolding stops
+  stops-same k l = let x = grants k l in ap₂ ◌||◌ (ended-same k l) (ap₂ tally_full x.both.rounds x.both.tests)
+
+  other-stop : Stopped n q made
+  other-stop = record {
+    within = stop.within;
+    stopped = sym (stops-same made (omega arith)) ∙ stop.stopped;
+    first = λ k l. sym (stops-same k (omega arith)) ∙ stop.first k l;
+  }
+
+  made-same : SameDrive n s r (outcome_after n p made) (outcome_after n q made)
+  unfolding outcome_after
+  made-same =
+      let x = grants made (omega arith) in
+      record {
+        answer = rw (ended-same made (omega arith), x.both.rounds, x.both.tests, x.last);
+        left =
+            stays n s r _ _ (alike-both n s r a) x.step (accepted-number n _ x.ok) (accepted-number n _ x.other_ok) x.both.rounds x.both.tests;
+      }
+
+  drive-same : SameDrive n s r (drive n s last) (drive n r last)
+  drive-same =
+      let z' : grant_refusal n r.table last ≡ 0 = sym (ap number_of_result (grant-checked n s r a n last)) ∙ z in
+      rw (← drive-made n s last made z stop, ← drive-made n r last made z' other-stop) made-same
+
+refused : (n : ℕ) (s r : State) → Alike n s r → (number last : ℕ) → SameDrive n s r (drive_outcome number s last 0) (drive_outcome number r last 0)
+refused n s r a number last = record { answer = rw (a.rounds, a.tests); left = stay-still n s r a }
+
+-- a drive, an end in itself
+pub drive-of-alike : DriveOfAlike
+unfolding drive
+drive-of-alike n s r a m last =
+    by_bool (eqb (grant_refusal m s.table last) 0)
+    (λ t.
+    let z : grant_refusal m s.table last ≡ 0 = eqb-true _ 0 t in
+    let z' : grant_refusal m r.table last ≡ 0 = sym (ap number_of_result (grant-checked n s r a m last)) ∙ z in
+    let same : m ≡ n = size-is n s r a m (sym (grantable m r.table last z').ok.long) in
+    rw same (drive-same n s r a last (rw same at z)))
+    (λ t. turned-away t)
+  where
+    turned-away : eqb (grant_refusal m s.table last) 0 ≡ false → SameDrive n s r (drive m s last) (drive m r last)
+    turned-away t = rw (← grant-checked n s r a m last, t) (refused n s r a (grant_refusal m s.table last) last)
+
+-- one of a mixed list
+one-same : (n : ℕ) (s r : State) → Alike n s r → (x : RunOrDrive)
+    → (answer_of s x ≡ answer_of r x) × StayAlike n s r (after_one s x) (after_one r x)
+one-same n s r a (a_run c) = let f = run-of-alike n s r a c.size c.schedule c.sheet in (f.answer, f.left)
+one-same n s r a (a_drive m last) = let f = drive-of-alike n s r a m last in (f.answer, f.left)
+
+-- a mixed list, an end in itself
+pub mixed-of-alike : MixedOfAlike
+unfolding answers_of after_mixed
+mixed-of-alike n s r a [] = (refl, stay-still n s r a)
+mixed-of-alike n s r a (x ∷ xs) =
+    let one = one-same n s r a x in
+    let rest = mixed-of-alike n (after_one s x) (after_one r x) one.1.alike xs in
+    (ap₂ ◌∷◌ one.0 rest.0, stay-then one.1 rest.1)

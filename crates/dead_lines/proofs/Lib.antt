@@ -1,0 +1,5 @@
+pub mod Writes
+pub mod TurnAlike
+pub mod RunAlike
+pub mod DriveAlike
+pub mod Computed

@@ -1,0 +1,212 @@
+-- Entries, runs and lists of runs on alike tables: the same answers and sheets, and tables that stay alike.
+-- Assumes nothing.
+use mathlib.Core.Path.{◌≡◌, refl, sym, ap, ap₂, ◌∙◌}
+use mathlib.Core.List.{List, [], ◌∷◌}
+use Prim.Native.Nat.{ℕ, suc, ◌<◌}
+use native.Mathlib.Decide.{dec_lt}
+use native.Mathlib.Omega.{arith}
+use borrow.Author.Tests.{eqb-true, le-ltb}
+use mathlib.Core.Logic.{by_cases}
+use lib.Dec.{eqb}
+use lib.ListN.{length}
+use Rattle.lists.specs.Refusal.{number_of_result}
+use Rattle.lists.proofs.BoolLaws.{by_bool}
+use Rattle.lists.proofs.RefusalLaws.{and_same}
+use Rattle.table.specs.Table.{table_length, finished_column, live}
+use Rattle.table.specs.Rules.{round_over, shape_check, table_check, table_refusal}
+use Rattle.table.proofs.Accepting.{accepted, shape_ok}
+use Rattle.plant.specs.Round.{after_round}
+use Rattle.plant.specs.Entry.{Entry, State, entry_check, entry_refusal, acted, after, sheet_line}
+use Rattle.plant.specs.Run.{RunResult, entries, write_line, go_on, start_check, start_refusal, run}
+use Rattle.plant.proofs.RulesKept.{Takes, entry-facts, run-keeps-rules}
+use Rattle.plant.proofs.RunLaws.{start-facts}
+use Rattle.detection.specs.Runs.{after_run, after_runs}
+use Rattle.detection.proofs.Chain.{size-unique}
+use Rattle.dead_lines.specs.Alike.{Alike, StayAlike, RunOfAlike, answers_of_runs, RunsOfAlike}
+use Rattle.dead_lines.proofs.Writes.{Twins, Step, still, then, twins-after, line-after, closing}
+use Rattle.dead_lines.proofs.TurnAlike.{live-same, over-same, acted-step, test-same, tested-same, outcome-of-same}
+
+-- twin tables with one tally
+pub record Both (n : ℕ) (s r : State) : Type 0 where
+  pub tables : Twins n s.table r.table
+  pub rounds : s.rounds ≡ r.rounds
+  pub tests : s.tests ≡ r.tests
+
+-- an entry is refused in both or in neither
+module _ (n : ℕ) (s r : State) (b : Both n s r) (e : Entry) where
+  check-same : entry_check n s e ≡ entry_check n r e
+  unfolding entry_check
+  check-same = by_cases (dec_lt e.station n) there (λ d. rw (b.rounds, b.tests, le-ltb e.station n (omega arith)))
+    where
+      there : e.station < n → entry_check n s e ≡ entry_check n r e
+      there h =
+          by_bool (live n s.table e.station)
+          (λ l. rw (b.rounds, b.tests, b.tables.statuses e.station h, b.tables.live_lines e.station h l finished_column (omega arith)))
+          (λ l. rw (b.rounds, b.tests, ← live-same n s.table r.table b.tables e.station h, l))
+
+  pub refusal-same : entry_refusal n s e ≡ entry_refusal n r e
+  refusal-same = ap number_of_result check-same
+
+  -- one that is taken
+  module _ (z : entry_refusal n s e ≡ 0) where
+    takes : Takes n s e
+    takes = entry-facts n s e z
+
+    acted-both : Step n s.table r.table (acted n s.table e) (acted n r.table e)
+    acted-both = acted-step n s.table r.table b.tables e takes.below takes.is_live
+
+    over : round_over n (acted n s.table e) ≡ round_over n (acted n r.table e)
+    over = over-same n (acted n s.table e) (acted n r.table e) (twins-after b.tables acted-both)
+
+    pub after-step : Step n s.table r.table (after n s e).table (after n r e).table
+    unfolding after after_round
+    after-step =
+        by_bool (round_over n (acted n s.table e))
+        (λ o. rw (← over, o) (then acted-both (closing n (acted n s.table e) (acted n r.table e) (twins-after b.tables acted-both))))
+        (λ o. rw (← over, o) acted-both)
+
+    pub after-both : Both n (after n s e) (after n r e)
+    unfolding after
+    after-both = record {
+      tables = twins-after b.tables after-step;
+      rounds = rw (over, b.rounds);
+      tests = rw (test-same n s.table r.table b.tables e takes.below takes.is_live, b.tests);
+    }
+
+    pub sheet-same : sheet_line n s e ≡ sheet_line n r e
+    unfolding sheet_line
+    sheet-same =
+        let tested = tested-same n s.table r.table b.tables e takes.below takes.is_live in
+        let outcome = outcome-of-same n s.table r.table b.tables e takes.below takes.is_live in
+        rw (tested, outcome, after-both.tables.statuses e.station takes.below)
+
+-- two runs from twin tables
+pub record SameFrom (n : ℕ) (s r : State) (a b : RunResult) : Type 0 where
+  pub number : a.number ≡ b.number
+  pub taken : a.taken ≡ b.taken
+  pub sheet : a.sheet ≡ b.sheet
+  pub rounds : a.state.rounds ≡ b.state.rounds
+  pub tests : a.state.tests ≡ b.state.tests
+  pub step : Step n s.table r.table a.state.table b.state.table
+
+-- a run that is stopped, by the same refusal
+stopped : (n : ℕ) (s r : State) → Both n s r → (number k : ℕ) (sheet : List ℕ)
+    → SameFrom n s r (record { number = number; taken = k; state = s; sheet = sheet })
+    (record { number = number; taken = k; state = r; sheet = sheet })
+stopped n s r b number k sheet =
+    record { number = refl; taken = refl; sheet = refl; rounds = b.rounds; tests = b.tests; step = still n s.table r.table }
+
+-- what follows a step
+further : {n : ℕ} {s r s' r' : State} {a b : RunResult} → Step n s.table r.table s'.table r'.table → SameFrom n s' r' a b → SameFrom n s r a b
+further one rest =
+    record { number = rest.number; taken = rest.taken; sheet = rest.sheet; rounds = rest.rounds; tests = rest.tests; step = then one rest.step }
+
+run-on : (n k : ℕ) (s r : State) (sheet : List ℕ) (es : List Entry) → Both n s r → SameFrom n s r (go_on n k s sheet es) (go_on n k r sheet es)
+unfolding go_on
+run-on n k s r sheet [] b = stopped n s r b 0 k sheet
+run-on n k s r sheet (e ∷ es) b =
+    by_bool (eqb (entry_refusal n s e) 0)
+    (λ t.
+    let z = eqb-true (entry_refusal n s e) 0 t in
+    let rest = run-on n (suc k) (after n s e) (after n r e) (write_line sheet k (sheet_line n s e)) es (after-both n s r b e z) in
+    rw (← refusal-same n s r b e, t, ← sheet-same n s r b e z) (further (after-step n s r b e z) rest))
+    (λ t. rw (← refusal-same n s r b e, t) (stopped n s r b (entry_refusal n s e) k sheet))
+
+-- alike tables and tallies
+module _ (n : ℕ) (s r : State) (a : Alike n s r) where
+  pub long-alike : length s.table ≡ table_length n
+  long-alike = (accepted n s.table a.valid).long
+
+  pub alike-both : Both n s r
+  alike-both = record {
+    tables = record {
+      long = long-alike;
+      other_long = (accepted n r.table a.other_valid).long;
+      statuses = λ i h. a.statuses i (omega (arith, h));
+      live_lines = λ i h l. a.live_lines i (omega (arith, h)) l;
+    };
+    rounds = a.rounds;
+    tests = a.tests;
+  }
+
+  same-length : length s.table ≡ length r.table
+  same-length = long-alike ∙ sym alike-both.tables.other_long
+
+  -- a call whose size fits the other table has this size
+  pub size-is : (m : ℕ) → table_length m ≡ length r.table → m ≡ n
+  size-is m fits = size-unique m n (fits ∙ alike-both.tables.other_long)
+
+  -- a call of any size finds the same of refusals 1 to 4: one of another size by the length alone
+  pub tables-checked : (m : ℕ) → table_check m s.table ≡ table_check m r.table
+  unfolding table_check
+  tables-checked m =
+      rw same-length
+      (and_same (shape_check m (length r.table)) _ _
+      (λ ok.
+      let p = accepted n s.table a.valid in
+      let q = accepted n r.table a.other_valid in
+      rw (size-is m (sym (shape_ok m (length r.table) tt ok).1), p.lines, p.unclosed, q.lines, q.unclosed)))
+
+  started : (m x y : ℕ) → start_check m s.table x y ≡ start_check m r.table x y
+  unfolding start_check
+  started m x y = rw (tables-checked m)
+
+  run-same : (m : ℕ) (schedule sheet : List ℕ) → SameFrom n s r (run m s schedule sheet) (run m r schedule sheet)
+  unfolding run
+  run-same m schedule sheet =
+      by_bool (eqb (start_refusal m s.table (length schedule) (length sheet)) 0)
+      (λ t.
+      let fits = (start-facts m s.table (length schedule) (length sheet) (eqb-true _ 0 t)).0 in
+      rw (← started m (length schedule) (length sheet), t, size-is m (sym fits.long ∙ same-length))
+      (run-on n 0 s r sheet (entries schedule) alike-both))
+      (λ t.
+      rw (← started m (length schedule) (length sheet), t)
+      (stopped n s r alike-both (start_refusal m s.table (length schedule) (length sheet)) 0 sheet))
+
+-- a run of any size keeps the rules of size n
+still-valid : (n : ℕ) (s : State) → table_refusal n s.table ≡ 0 → (m : ℕ) (schedule sheet : List ℕ)
+    → table_refusal n (run m s schedule sheet).state.table ≡ 0
+unfolding run
+still-valid n s z m schedule sheet =
+    by_bool (eqb (start_refusal m s.table (length schedule) (length sheet)) 0)
+    (λ t.
+    let fits = (start-facts m s.table (length schedule) (length sheet) (eqb-true _ 0 t)).0 in
+    let same : m ≡ n = size-unique m n (sym fits.long ∙ (accepted n s.table z).long) in
+    rw same (run-keeps-rules n s schedule sheet z))
+    (λ t. rw t z)
+
+-- what stays alike
+pub stays : (n : ℕ) (s r s' r' : State) → Both n s r → Step n s.table r.table s'.table r'.table → table_refusal n s'.table ≡ 0
+    → table_refusal n r'.table ≡ 0 → s'.rounds ≡ r'.rounds → s'.tests ≡ r'.tests → StayAlike n s r s' r'
+stays n s r s' r' b step z z' rounds tests =
+    let w = twins-after b.tables step in
+    record {
+      alike = record { valid = z; other_valid = z'; statuses = w.statuses; live_lines = w.live_lines; rounds = rounds; tests = tests };
+      lines = line-after step;
+    }
+
+pub stay-still : (n : ℕ) (s r : State) → Alike n s r → StayAlike n s r s r
+stay-still n s r a = record { alike = a; lines = λ i h line. line }
+
+pub stay-then : {n : ℕ} {s r s' r' s'' r'' : State} → StayAlike n s r s' r' → StayAlike n s' r' s'' r'' → StayAlike n s r s'' r''
+stay-then one two = record { alike = two.alike; lines = λ i h line. two.lines i h (one.lines i h line) }
+
+-- a run, an end in itself
+pub run-of-alike : RunOfAlike
+run-of-alike n s r a m schedule sheet =
+    let f = run-same n s r a m schedule sheet in
+    record {
+      answer = rw (f.number, f.taken, f.rounds, f.tests, f.sheet);
+      left =
+          stays n s r _ _ (alike-both n s r a) f.step (still-valid n s a.valid m schedule sheet) (still-valid n r a.other_valid m schedule sheet)
+          f.rounds f.tests;
+    }
+
+-- a list of runs, an end in itself
+pub runs-of-alike : RunsOfAlike
+unfolding answers_of_runs after_runs
+runs-of-alike n s r a [] = (refl, stay-still n s r a)
+runs-of-alike n s r a (c ∷ cs) =
+    let one = run-of-alike n s r a c.size c.schedule c.sheet in
+    let rest = runs-of-alike n (after_run s c) (after_run r c) one.left.alike cs in
+    (ap₂ ◌∷◌ one.answer rest.0, stay-then one.left rest.1)

@@ -1,0 +1,97 @@
+-- That the lines of stations that are not live matter to no run, grant or drive. s and r are two tables, each with its tally, to which the same is
+-- done; s' and r' are what is left of them.
+-- Assumes nothing.
+use Rattle.std.specs.Prelude.{ℕ, ◌<◌, ◌≡◌, true, List, [], ◌∷◌}
+use Rattle.table.specs.Table.{stride, cell, status, live}
+use Rattle.table.specs.Rules.{table_refusal}
+use Rattle.plant.specs.Entry.{State}
+use Rattle.plant.specs.Run.{RunResult, run}
+use Rattle.granter.specs.Grant.{grant_answer}
+use Rattle.granter.specs.Drive.{DriveResult, drive}
+use Rattle.detection.specs.Runs.{Call, after_run, after_runs}
+use Rattle.detection.specs.Driven.{RunOrDrive, a_run, a_drive, after_one, after_mixed}
+
+-- line i is the same in both tables, byte by byte
+abbrev pub SameLine : ℕ → List ℕ → List ℕ → ℕ → Type 0
+SameLine n t u i = (c : ℕ) → c < stride n → cell n t i c ≡ cell n u i c
+
+-- Rule Dead lines, its conditions: refusals 1 to 4 let both tables through, and statuses, live lines and tally are equal
+pub record Alike (n : ℕ) (s r : State) : Type 0 where
+  pub valid : table_refusal n s.table ≡ 0
+  pub other_valid : table_refusal n r.table ≡ 0
+  pub statuses : (i : ℕ) → i < n → status n s.table i ≡ status n r.table i
+  pub live_lines : (i : ℕ) → i < n → live n s.table i ≡ true → SameLine n s.table r.table i
+  pub rounds : s.rounds ≡ r.rounds
+  pub tests : s.tests ≡ r.tests
+
+-- Rule Dead lines: so it is afterwards. Each line that was the same in both is so still: of a station that left meanwhile the whole line
+pub record StayAlike (n : ℕ) (s r s' r' : State) : Type 0 where
+  pub alike : Alike n s' r'
+  pub lines : (i : ℕ) → i < n → SameLine n s.table r.table i → SameLine n s'.table r'.table i
+
+-- what a run or a drive answers and writes, but for the table
+pub data Answer : Type 0 where
+  of_run : (number taken rounds tests : ℕ) → (sheet : List ℕ) → Answer
+  of_drive : (number rounds tests last grants : ℕ) → Answer
+
+abbrev pub run_answer : RunResult → Answer
+run_answer o = of_run o.number o.taken o.state.rounds o.state.tests o.sheet
+
+abbrev pub drive_answer : DriveResult → Answer
+drive_answer o = of_drive o.number o.state.rounds o.state.tests o.last o.grants
+
+-- two runs, or two drives, answer the same, and their tables stay alike
+pub record SameRun (n : ℕ) (s r : State) (a b : RunResult) : Type 0 where
+  pub answer : run_answer a ≡ run_answer b
+  pub left : StayAlike n s r a.state b.state
+
+pub record SameDrive (n : ℕ) (s r : State) (a b : DriveResult) : Type 0 where
+  pub answer : drive_answer a ≡ drive_answer b
+  pub left : StayAlike n s r a.state b.state
+
+-- Rule Dead lines, of a run: of any size, schedule and run sheet. One of another size than the tables' is refused
+abbrev pub RunOfAlike : Type 0
+RunOfAlike =
+    (n : ℕ) (s r : State) → Alike n s r → (m : ℕ) (schedule sheet : List ℕ)
+    → SameRun n s r (run m s schedule sheet) (run m r schedule sheet)
+
+-- Rule Dead lines, of a grant: the same station, or the same refusal
+abbrev pub GrantOfAlike : Type 0
+GrantOfAlike = (n : ℕ) (s r : State) → Alike n s r → (m last : ℕ) → grant_answer m s.table last ≡ grant_answer m r.table last
+
+-- Rule Dead lines, of a drive
+abbrev pub DriveOfAlike : Type 0
+DriveOfAlike = (n : ℕ) (s r : State) → Alike n s r → (m last : ℕ) → SameDrive n s r (drive m s last) (drive m r last)
+
+-- the answers of a list of runs, one behind the other, and of one that mixes runs and drives
+unfoldable pub answers_of_runs : State → List Call → List Answer
+answers_of_runs s [] = []
+answers_of_runs s (c ∷ cs) = run_answer (run c.size s c.schedule c.sheet) ∷ answers_of_runs (after_run s c) cs
+
+abbrev pub answer_of : State → RunOrDrive → Answer
+answer_of s (a_run c) = run_answer (run c.size s c.schedule c.sheet)
+answer_of s (a_drive n last) = drive_answer (drive n s last)
+
+unfoldable pub answers_of : State → List RunOrDrive → List Answer
+answers_of s [] = []
+answers_of s (x ∷ xs) = answer_of s x ∷ answers_of (after_one s x) xs
+
+-- Rule Dead lines, of a list of runs
+abbrev pub RunsOfAlike : Type 0
+RunsOfAlike =
+    (n : ℕ) (s r : State) → Alike n s r → (calls : List Call)
+    → (answers_of_runs s calls ≡ answers_of_runs r calls) × StayAlike n s r (after_runs s calls) (after_runs r calls)
+
+-- Rule Dead lines, of a list that mixes runs and drives
+abbrev pub MixedOfAlike : Type 0
+MixedOfAlike =
+    (n : ℕ) (s r : State) → Alike n s r → (xs : List RunOrDrive)
+    → (answers_of s xs ≡ answers_of r xs) × StayAlike n s r (after_mixed s xs) (after_mixed r xs)
+
+-- Rule Dead lines, of one run or drive that was made of s with this outcome: made of any state alike to s it answers the same
+abbrev pub RunIgnoresDeadLines : State → ℕ → List ℕ → List ℕ → RunResult → Type 0
+RunIgnoresDeadLines s m schedule sheet outcome =
+    (n : ℕ) (r : State) → Alike n s r → SameRun n s r outcome (run m r schedule sheet)
+
+abbrev pub DriveIgnoresDeadLines : State → ℕ → ℕ → DriveResult → Type 0
+DriveIgnoresDeadLines s m last outcome = (n : ℕ) (r : State) → Alike n s r → SameDrive n s r outcome (drive m r last)
