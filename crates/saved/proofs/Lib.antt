@@ -9,7 +9,6 @@ pub mod Copying
 pub mod Reading
 pub mod FirstPass
 pub mod SecondPass
-pub mod OrderLaws
 pub mod Loading
 pub mod TableLines
 pub mod FileLaws
