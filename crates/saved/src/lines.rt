@@ -1,5 +1,5 @@
 // The second pass over a file: the table that its lines give, in either edition. Refusal 20.
-ghost use Rattle.std.specs.Prelude.{◌≡◌, true, false, slice_index_or, length, set, Ok, OnErr};
+ghost use Rattle.std.specs.Prelude.{◌≡◌, ◌<◌, true, false, slice_index_or, length, set, Ok, OnErr};
 ghost use Rattle.std.proofs.lemmas.List.Edits.{sets};
 ghost use Rattle.lists.specs.Search.{every};
 ghost use Rattle.lists.specs.Refusal.{ensure};

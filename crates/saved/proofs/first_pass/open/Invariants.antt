@@ -8,7 +8,7 @@ use Rattle.saved.proofs.first_pass.open.Given as goal
 abbrev pub invariant-loop-field : goal.invariant-loop-field
 invariant-loop-field l = record {
   past : runs_past l.fields.rest.now ≡ runs_past l.file;
-  orders : runs_past l.file ≡ false → ordered l.order (fields_of l.fields.rest.now) ≡ ordered (Ok (start_of l.edition)) (fields_of l.file);
+  orders : runs_past l.file ≡ false → ordered l.order (fields_of l.fields.rest.now) ≡ ordered (Ok (start_of l.fn.edition)) (fields_of l.file);
   gives : runs_past l.file ≡ false → completed l.found (fields_of l.fields.rest.now) ≡ completed (Ok nothing_found) (fields_of l.file);
 }
 
