@@ -11,6 +11,9 @@ pub mod FirstPass
 pub mod SecondPass
 pub mod Loading
 pub mod TableLines
+pub mod LineLaws
+pub mod Edition1Laws
+pub mod Converter
 pub mod FileLaws
 pub mod Length
 pub mod Restored

@@ -114,7 +114,7 @@ line_err true r s e = cc
 line_err false r s e = (refl, cc)
 
 -- a line as it is read has the length of a line
-as-long : (e : Edition) (n : ℕ) (l : List ℕ) → length l ≡ line_length e n → length (line_as e l) ≡ stride n
+pub as-long : (e : Edition) (n : ℕ) (l : List ℕ) → length l ≡ line_length e n → length (line_as e l) ≡ stride n
 unfolding converted_line
 as-long One n l h =
     let a = length-append (take 4 l) (told_by_of (get_or l 0 0) ∷ 0 ∷ drop 4 l) in
