@@ -21,13 +21,18 @@ use Rattle.saved.specs.Fields.{runs_past, fields_of}
 use Rattle.saved.specs.Plant.{plant_check, line_field_length, lines_right, table_in}
 use Rattle.saved.specs.Order.{order_check}
 use Rattle.saved.specs.Load.{file_size, file_lines, size_check, rest_check, rest_after, load_check, size_refusal, load_refusal, saved_size, loaded_of, load_answer, load_after}
-use Rattle.saved.specs.Reading.{opened}
+use Rattle.saved.specs.Reading.{opened, table_read}
 use Rattle.saved.specs.declared.edition.Edition.TheVariants.{Two}
 use Rattle.saved.specs.declared.Loaded.{Loaded}
 
 pub table_fits : (n : ℕ) → is_size n ≡ true → table_length n ≤ greatest_table
 unfolding table_length
 table_fits n e = let s = size-bounds n e in mul-le-mul {n₁ = n} {m₁ = stride n} {n₂ = 64} {m₂ = stride 64} s.1 (omega arith)
+
+-- the table that is built of a file of edition 2 is the file's
+pub read_two : (n : ℕ) (cs : List (List ℕ)) → table_read Two n cs ≡ table_in n cs
+unfolding table_read table_in
+read_two n cs = refl
 
 -- an answer with a value, by its check
 pub answer_ok : {A : Type 0} (c : Result (Unit {0}) Refusal) (v x : A) → Ok x ≡ (c and Ok v) → (c ≡ Ok tt) × (x ≡ v)

@@ -1,7 +1,7 @@
 -- Lengths of fields, of lines and of a saved plant.
 -- Assumes nothing.
 use mathlib.Core.Path.{◌≡◌, ap, ap₂, ◌∙◌}
-use mathlib.Core.List.{List, ◌++◌}
+use mathlib.Core.List.{List, ◌++◌, append_assoc}
 use Prim.Native.Nat.{ℕ, ◌+◌, ◌*◌, ◌<◌}
 use native.Mathlib.Omega.{arith}
 use lib.ListN.{length, drop, length-append, length-drop}
@@ -25,6 +25,13 @@ pub tally-length : (tally : Tally) → length (tally_field tally).contents ≡ 8
 tally-length tally =
     let a = length-append (bytes_of 4 tally.rounds) (bytes_of 4 tally.tests) in
     omega (arith, bytes-length 4 tally.rounds, bytes-length 4 tally.tests)
+
+-- its fields, one behind the other
+pub saved-parts : (n : ℕ) (t : List ℕ) (tally : Tally)
+    → saved n t tally
+    ≡ field_bytes opening ++ (field_bytes (size_field n) ++ (field_bytes (tally_field tally) ++ saved_lines n t n))
+unfolding saved front_fields
+saved-parts n t tally = rw (append_assoc, append_assoc)
 
 pub front-length : (n : ℕ) (tally : Tally) → length (front_fields n tally) ≡ 19
 unfolding front_fields
