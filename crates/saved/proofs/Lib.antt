@@ -17,6 +17,7 @@ pub mod Converter
 pub mod FileLaws
 pub mod Length
 pub mod Restored
-pub mod SaveIsCanonical
+pub mod OneForm
+pub mod ConvertedFiles
 pub mod OrderIsFree
 pub mod Examples

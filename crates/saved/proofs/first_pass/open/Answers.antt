@@ -18,8 +18,8 @@ loop-field-preserved-in-Ok-found c =
     record {
       past = t.0 ∙ i.past;
       orders = elim c.match-order.branch [
-      | in-Ok w ↦ (λ h. rw w.order-is (order_on _ _ _ _ _ _ w.in-Ok.is w.with-order.ensures (t.1 (i.past ∙ h)) ∙ i.orders h))
-      | in_default-order w ↦ (λ h. rw (w.order-is, w.in_default-order.is) (rw w.in_default-order.is at (i.orders h)))
+        | in-Ok w ↦ (λ h. rw w.order-is (order_on _ _ _ _ _ _ w.in-Ok.is w.with-order.ensures (t.1 (i.past ∙ h)) ∙ i.orders h))
+        | in_default-order w ↦ (λ h. rw (w.order-is, w.in_default-order.is) (rw w.in_default-order.is at (i.orders h)))
       ];
       gives = λ h. pass_on _ _ _ _ _ _ c.in-Ok-found.is c.with-found.ensures (t.1 (i.past ∙ h)) ∙ i.gives h;
     }
@@ -31,8 +31,8 @@ loop-field-preserved c =
     record {
       past = t.0 ∙ i.past;
       orders = elim c.match-order.branch [
-      | in-Ok w ↦ (λ h. rw w.order-is (order_on _ _ _ _ _ _ w.in-Ok.is w.with-order.ensures (t.1 (i.past ∙ h)) ∙ i.orders h))
-      | in_default-order w ↦ (λ h. rw (w.order-is, w.in_default-order.is) (rw w.in_default-order.is at (i.orders h)))
+        | in-Ok w ↦ (λ h. rw w.order-is (order_on _ _ _ _ _ _ w.in-Ok.is w.with-order.ensures (t.1 (i.past ∙ h)) ∙ i.orders h))
+        | in_default-order w ↦ (λ h. rw (w.order-is, w.in_default-order.is) (rw w.in_default-order.is at (i.orders h)))
       ];
       gives = λ h. rw c.in_default-found.is (rw c.in_default-found.is at (i.gives h));
     }
