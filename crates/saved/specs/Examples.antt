@@ -1,4 +1,4 @@
--- Examples of saved plants, worked out by hand from the rules: the saved form of two fresh boards (docs/PANEL.md), the reader's number for some
+-- Examples of saved plants, worked out by hand from the rules: the saved form of two fresh boards (RULES, Saved plants), the reader's number for some
 -- files, what is converted of a file of edition 1, and the converter's number for some.
 -- Assumes nothing.
 use Rattle.std.specs.Prelude.{ℕ, ◌≡◌, Bool, true, ◌&&◌, List, [], ◌∷◌, ◌++◌, ◌==◌}

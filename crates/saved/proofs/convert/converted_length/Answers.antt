@@ -1,5 +1,4 @@
 -- The length, or the refusal of the first pass.
-use Rattle.std.proofs.Common.{◌∙◌, ap, Ok}
 use Rattle.std.proofs.lemmas.Result.{err_from_is_err_and}
 use Rattle.saved.proofs.Converter.{length_err, length_ok}
 use Rattle.saved.proofs.convert.converted_length.Goals as goal

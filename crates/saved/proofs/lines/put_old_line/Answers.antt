@@ -1,5 +1,5 @@
 -- The first four bytes, two more and the row are the converted line.
-use Rattle.std.proofs.Common.{arith, ap, ◌∙◌, length}
+use Rattle.std.proofs.Common.{arith, ap, ◌∙◌}
 use Rattle.table.specs.Table.{table_length, set_cell}
 use Rattle.table.proofs.CellLaws.{line-inside}
 use Rattle.saved.proofs.SecondPass.{old_written}
