@@ -25,8 +25,8 @@ ConverterTakes =
     (file t b : List ℕ) → length t ≡ old_table_length (file_size file) → length b ≡ saved_length (file_size file)
     → (convert_refusal file (length b) == 0) ≡ (reader_refusal file (length t) == 0 && all_known (fields_of file))
 
--- a converted file is read as the plant that the reader of edition 1 read, its table converted: a file that is converted into a buffer b, and read
--- from there into t', and that reader read it into t
+-- a converted file is loaded as the plant that the reader of edition 1 read, its table converted: of a file that is converted into a buffer b,
+-- and loaded from there into t', and that reader read it into t
 abbrev pub ConvertedLoads : Type 0
 ConvertedLoads =
     (file b t t' : List ℕ) → AreBytes file → convert_refusal file (length b) ≡ 0

@@ -40,16 +40,17 @@ suspects n t i k = cell n t i (head + k)
 unfoldable pub row_rule : ℕ → List ℕ → ℕ → Bool
 row_rule n t i = suspects n t i i == 0 && every (λ k. nat_le (suspects n t i k) 1) n
 
--- Rule Line rules of edition 1: bytes 0 to 3 and the row obey the rules that they obey in edition 2, and there are no bytes beside
+-- Rule Line rules of edition 1: bytes 0 to 3 and the row obey the rules that they obey in edition 2
 unfoldable pub line_rules : ℕ → List ℕ → ℕ → Bool
 line_rules n t i =
     status_rule (cell n t i status_column)
     && pass_rule n (cell n t i next_column) (cell n t i finished_column) (cell n t i tests_column) && row_rule n t i
 
--- Rule Round not over of edition 1: not some station live and every live one finished
+-- station i is not live
 abbrev pub not_live : ℕ → List ℕ → ℕ → Bool
 not_live n t i = not (cell n t i status_column == 0)
 
+-- Rule Round not over of edition 1: the round is over where some station is live and every live one has finished its pass
 unfoldable pub round_over : ℕ → List ℕ → Bool
 round_over n t = not (every (not_live n t) n) && every (λ i. not_live n t i || cell n t i finished_column == 1) n
 
@@ -57,7 +58,7 @@ round_over n t = not (every (not_live n t) n) && every (λ i. not_live n t i || 
 unfoldable pub rules_check : ℕ → List ℕ → Check
 rules_check n t = ensure (every (line_rules n t) n) LineRule and ensure (not (round_over n t)) RoundNotClosed
 
--- its reader, which is no more: 18, 19, 1, 20, 2, 3, 4; what it answered, and the table that it left, given t
+-- the reader of edition 1, which is no more: 18, 19, 1, 20, 2, 3, 4; what it answered, and the table that it left, given t
 unfoldable pub reader_check : List ℕ → ℕ → Check
 reader_check file len =
     ensure (not (runs_past file)) FieldPastEnd and plant_check (fields_of file)
