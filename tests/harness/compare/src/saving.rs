@@ -11,10 +11,10 @@ pub const TALLY: u8 = 2;
 pub const LINE: u8 = 3;
 
 // Refusals.
-pub const BUFFER_LENGTH: u8 = 13;
-pub const PAST_END: u8 = 18;
-pub const FRONT: u8 = 19;
-pub const LINES: u8 = 20;
+pub const LIST_LENGTH: u8 = 13;
+pub const FIELD_PAST_END: u8 = 18;
+pub const SIZE_OR_TALLY_FIELD: u8 = 19;
+pub const LINE_FIELD: u8 = 20;
 
 /// The bytes of a field before its contents: the tag and the length.
 pub const FIELD_HEAD: usize = 3;
@@ -140,7 +140,7 @@ pub struct Reader {
 
 /// The reader as it is.
 pub const READER: Reader = Reader {
-    order: [PAST_END, FRONT, 1, LINES, 2, 3, 4],
+    order: [FIELD_PAST_END, SIZE_OR_TALLY_FIELD, 1, LINE_FIELD, 2, 3, 4],
     length: |bytes| u16::from_be_bytes(bytes).into(),
     split: <[u8]>::split_at_checked,
     is_over: <[u8]>::is_empty,
@@ -227,7 +227,8 @@ impl Reader {
         let (fields, past_end) = self.fields(file);
         let read = Read::new(&fields, past_end, 0);
         let asked = self.order.into_iter();
-        let asked = asked.filter(|number| [PAST_END, FRONT, 1].contains(number));
+        let asked =
+            asked.filter(|number| [FIELD_PAST_END, SIZE_OR_TALLY_FIELD, 1].contains(number));
         match self.number(&read, &asked.collect::<Vec<u8>>()) {
             0 => (0, read.n),
             number => (number, 0),
@@ -257,13 +258,13 @@ impl Reader {
     fn is_met(&self, number: u8, read: &Read) -> bool {
         let n = read.n;
         match number {
-            PAST_END => read.past_end,
-            FRONT => {
+            FIELD_PAST_END => read.past_end,
+            SIZE_OR_TALLY_FIELD => {
                 let are_front = |tag, fields| (self.is_front)(tag, fields);
                 !are_front(SIZE, &read.sizes) || !are_front(TALLY, &read.tallies)
             }
             1 => !(self.is_size)(n),
-            LINES => !(self.are_lines)(n, &read.lines),
+            LINE_FIELD => !(self.are_lines)(n, &read.lines),
             2 => read.table != table_length(n),
             3 => simulator::check_table(n, &self.table(read)) == 3,
             _ => {

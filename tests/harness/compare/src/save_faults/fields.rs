@@ -4,7 +4,7 @@
 use super::{answer, load_by, refuse_if};
 use crate::call::{Kind, Name};
 use crate::faults::Fault;
-use crate::saving::{Reader, FRONT, LINE, READER, SIZE};
+use crate::saving::{Reader, LINE, READER, SIZE, SIZE_OR_TALLY_FIELD};
 
 /// Faults in how the fields are found.
 pub const OF_FIELDS: [Fault; 16] = [
@@ -59,7 +59,7 @@ pub const OF_FIELDS: [Fault; 16] = [
         load_by(&passing_over(|tag| tag < 128), call, outcome);
     }),
     ("load: another tag twice is refused", |call, outcome| {
-        refuse_if(call, outcome, FRONT, |fields| {
+        refuse_if(call, outcome, SIZE_OR_TALLY_FIELD, |fields| {
             let tags = fields.iter().map(|field| field.tag);
             let mut others: Vec<u8> = tags.filter(|tag| !(SIZE..=LINE).contains(tag)).collect();
             others.sort_unstable();

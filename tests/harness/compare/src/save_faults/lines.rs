@@ -6,7 +6,7 @@ use super::{load_by, refuse_if};
 use crate::ceasing::have_former_length;
 use crate::faults::Fault;
 use crate::saving::{have_line_length, line_contents, stations};
-use crate::saving::{Field, Reader, LINE, LINES, READER, SIZE};
+use crate::saving::{Field, Reader, LINE, LINE_FIELD, READER, SIZE};
 
 const TWICE: Reader = with_lines(|n, fields| {
     let mut found = stations(fields);
@@ -118,13 +118,13 @@ pub const ALL: [Fault; 15] = [
         load_by(&BY_THE_FILE, call, outcome);
     }),
     ("load: lines must ascend", |call, outcome| {
-        refuse_if(call, outcome, LINES, |fields| {
+        refuse_if(call, outcome, LINE_FIELD, |fields| {
             let lines = fields.iter().filter(|field| field.tag == LINE);
             !lines.map(Field::station).is_sorted()
         });
     }),
     ("load: a line before the size is lost", |call, outcome| {
-        refuse_if(call, outcome, LINES, |fields| {
+        refuse_if(call, outcome, LINE_FIELD, |fields| {
             let place = |tag| fields.iter().position(|field| field.tag == tag);
             place(LINE) < place(SIZE)
         });

@@ -2,30 +2,34 @@
 //! tally field, and by a field that runs past the end.
 
 use super::{is_met_too, with_tag, Case, Seen};
-use crate::saving::{FRONT, LINES, PAST_END, READER, SIZE, TALLY};
+use crate::saving::{FIELD_PAST_END, LINE_FIELD, READER, SIZE, SIZE_OR_TALLY_FIELD, TALLY};
 
 pub const ALL: [Case; 27] = [
     ("an empty file", |seen| {
-        seen.number == FRONT && seen.saved == 0
+        seen.number == SIZE_OR_TALLY_FIELD && seen.saved == 0
     }),
     ("one stray byte at the end", |seen| {
-        seen.number == PAST_END && seen.rest == 1
+        seen.number == FIELD_PAST_END && seen.rest == 1
     }),
     ("two stray bytes at the end", |seen| {
-        seen.number == PAST_END && seen.rest == 2
+        seen.number == FIELD_PAST_END && seen.rest == 2
     }),
     ("a head alone at the end", |seen| {
-        seen.number == PAST_END && seen.rest == 3
+        seen.number == FIELD_PAST_END && seen.rest == 3
     }),
     ("contents that run past the end", |seen| {
-        seen.number == PAST_END && seen.rest > 3
+        seen.number == FIELD_PAST_END && seen.rest > 3
     }),
     ("18 and neither 19 nor 1", |seen| {
-        seen.number == PAST_END && !seen.met.contains(&FRONT) && !seen.met.contains(&1)
+        seen.number == FIELD_PAST_END
+            && !seen.met.contains(&SIZE_OR_TALLY_FIELD)
+            && !seen.met.contains(&1)
     }),
-    ("18 before 19", |seen| is_met_too(seen, PAST_END, FRONT)),
+    ("18 before 19", |seen| {
+        is_met_too(seen, FIELD_PAST_END, SIZE_OR_TALLY_FIELD)
+    }),
     ("18 before 1, and not 19", |seen| {
-        is_met_too(seen, PAST_END, 1) && !seen.met.contains(&FRONT)
+        is_met_too(seen, FIELD_PAST_END, 1) && !seen.met.contains(&SIZE_OR_TALLY_FIELD)
     }),
     ("no size", |seen| {
         is_front(seen, SIZE, |sizes| sizes.is_empty())
@@ -66,17 +70,19 @@ pub const ALL: [Case; 27] = [
     }),
     ("neither size nor tally", |seen| {
         let is_absent = |tag| with_tag(seen, tag).is_empty();
-        seen.number == FRONT && is_absent(SIZE) && is_absent(TALLY)
+        seen.number == SIZE_OR_TALLY_FIELD && is_absent(SIZE) && is_absent(TALLY)
     }),
     ("19 before 1, the size is there", |seen| {
-        is_met_too(seen, FRONT, 1) && lengths(&with_tag(seen, SIZE)) == [1]
+        is_met_too(seen, SIZE_OR_TALLY_FIELD, 1) && lengths(&with_tag(seen, SIZE)) == [1]
     }),
     ("size 0", |seen| seen.number == 1 && seen.n == 0),
     ("size 1", |seen| seen.number == 1 && seen.n == 1),
     ("size 65", |seen| seen.number == 1 && seen.n == 65),
     ("size 255", |seen| seen.number == 1 && seen.n == 255),
-    ("1 before 20", |seen| is_met_too(seen, 1, LINES)),
-    ("19 before 20", |seen| is_met_too(seen, FRONT, LINES)),
+    ("1 before 20", |seen| is_met_too(seen, 1, LINE_FIELD)),
+    ("19 before 20", |seen| {
+        is_met_too(seen, SIZE_OR_TALLY_FIELD, LINE_FIELD)
+    }),
 ];
 
 fn lengths(fields: &[&[u8]]) -> Vec<usize> {
@@ -88,5 +94,5 @@ fn lengths(fields: &[&[u8]]) -> Vec<usize> {
 fn is_front(seen: &Seen, tag: u8, is_one: fn(&[&[u8]]) -> bool) -> bool {
     let other = if tag == SIZE { TALLY } else { SIZE };
     let is_right = (READER.is_front)(other, &with_tag(seen, other));
-    seen.number == FRONT && is_right && is_one(&with_tag(seen, tag))
+    seen.number == SIZE_OR_TALLY_FIELD && is_right && is_one(&with_tag(seen, tag))
 }

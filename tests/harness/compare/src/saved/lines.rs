@@ -6,10 +6,10 @@ use shared::table::{fresh, line_length, table_length};
 
 use super::{is_ascending, is_met_too, with_tag, Case, Seen};
 use crate::ceasing::have_former_length;
-use crate::saving::{have_line_length, line_contents, stations, LINE, LINES};
+use crate::saving::{have_line_length, line_contents, stations, LINE, LINE_FIELD};
 
 pub const ALL: [Case; 34] = [
-    ("20 alone", |seen| met(seen, LINES) == [LINES]),
+    ("20 alone", |seen| met(seen, LINE_FIELD) == [LINE_FIELD]),
     ("a line one byte short", |seen| {
         has_line(seen, |n, line| line.len() + 1 == line_contents(n))
     }),
@@ -24,7 +24,7 @@ pub const ALL: [Case; 34] = [
         let mut lines = with_tag(seen, LINE);
         let before = lines.len();
         lines.retain(|line| right(seen.n, line));
-        seen.number == LINES && lines.len() < before && are_all(seen.n, &lines)
+        seen.number == LINE_FIELD && lines.len() < before && are_all(seen.n, &lines)
     }),
     ("a station that is absent", |seen| {
         is_wrong_by_stations(seen, |n, found| {
@@ -38,10 +38,10 @@ pub const ALL: [Case; 34] = [
         is_wrong_by_stations(seen, |n, found| found.last() == n.checked_sub(2).as_ref())
     }),
     ("the same line twice", |seen| {
-        seen.number == LINES && is_doubled(seen, |one, other| one == other)
+        seen.number == LINE_FIELD && is_doubled(seen, |one, other| one == other)
     }),
     ("two lines of one station", |seen| {
-        seen.number == LINES && is_doubled(seen, |one, other| one != other)
+        seen.number == LINE_FIELD && is_doubled(seen, |one, other| one != other)
     }),
     ("one station twice, another absent", |seen| {
         is_wrong_by_stations(seen, |n, found| {
@@ -64,19 +64,19 @@ pub const ALL: [Case; 34] = [
         })
     }),
     ("no line", |seen| {
-        seen.number == LINES && with_tag(seen, LINE).is_empty()
+        seen.number == LINE_FIELD && with_tag(seen, LINE).is_empty()
     }),
     ("lines for another size", |seen| {
         let lines = with_tag(seen, LINE);
-        seen.number == LINES && !lines.is_empty() && have_line_length(lines.len(), &lines)
+        seen.number == LINE_FIELD && !lines.is_empty() && have_line_length(lines.len(), &lines)
     }),
     ("lines with heads of four bytes", |seen| {
         let lines = with_tag(seen, LINE);
-        seen.number == LINES && have_former_length(seen.n, &lines) && are_all(seen.n, &lines)
+        seen.number == LINE_FIELD && have_former_length(seen.n, &lines) && are_all(seen.n, &lines)
     }),
-    ("20 before 2", |seen| is_met_too(seen, LINES, 2)),
-    ("20 before 3", |seen| is_met_too(seen, LINES, 3)),
-    ("20 before 4", |seen| is_met_too(seen, LINES, 4)),
+    ("20 before 2", |seen| is_met_too(seen, LINE_FIELD, 2)),
+    ("20 before 3", |seen| is_met_too(seen, LINE_FIELD, 3)),
+    ("20 before 4", |seen| is_met_too(seen, LINE_FIELD, 4)),
     ("1 before 2", |seen| is_met_too(seen, 1, 2)),
     ("a table one byte short", |seen| {
         seen.number == 2 && seen.table + 1 == table_length(seen.n)
@@ -122,14 +122,14 @@ fn met(seen: &Seen, number: u8) -> &[u8] {
 /// Whether a load is refused with 20, and has such a line.
 fn has_line(seen: &Seen, is_one: fn(usize, &[u8]) -> bool) -> bool {
     let lines = with_tag(seen, LINE);
-    seen.number == LINES && lines.iter().any(|line| is_one(seen.n, line))
+    seen.number == LINE_FIELD && lines.iter().any(|line| is_one(seen.n, line))
 }
 
 /// Whether a load is refused by the stations alone, and they are such ones.
 fn is_wrong_by_stations(seen: &Seen, is_one: fn(usize, &[usize]) -> bool) -> bool {
     let lines = with_tag(seen, LINE);
     let right_lengths = have_line_length(seen.n, &lines);
-    seen.number == LINES && right_lengths && is_one(seen.n, &stations(&lines))
+    seen.number == LINE_FIELD && right_lengths && is_one(seen.n, &stations(&lines))
 }
 
 /// Whether all stations are there, and just one of them twice, with lines of

@@ -9,7 +9,7 @@ mod plants;
 use crate::call::{Call, Kind, Name};
 use crate::occurred::{self, Occurred};
 use crate::outcome::Outcome;
-use crate::saving::{contents_with, Field, LINE, LINES, READER, SIZE};
+use crate::saving::{contents_with, Field, LINE, LINE_FIELD, READER, SIZE};
 
 type Case = occurred::Case<Seen>;
 
@@ -52,7 +52,7 @@ pub fn all(count: u64) -> Occurred<Seen> {
 
 /// The size is given, whatever the lines hold.
 const ASKED: [Case; 5] = [
-    ("20 met", |seen| is_met_too(seen, 0, LINES)),
+    ("20 met", |seen| is_met_too(seen, 0, LINE_FIELD)),
     ("no line", |seen| {
         seen.number == 0 && with_tag(seen, LINE).is_empty()
     }),
