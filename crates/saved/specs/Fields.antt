@@ -49,7 +49,7 @@ runs_past file = is_none (fields file)
 unfoldable pub fields_of : List ℕ → List Field
 fields_of file = unwrap_or (fields file) []
 
--- Rule Reader: the contents of the fields with a tag, in the file's order. Fields of other tags are passed over
+-- the contents of the fields with a tag, in the file's order
 unfoldable pub tagged : ℕ → List Field → List (List ℕ)
 tagged k [] = []
 tagged k (f ∷ fs) = if f.tag == k then f.contents ∷ tagged k fs else tagged k fs

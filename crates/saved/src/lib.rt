@@ -1,10 +1,12 @@
-// Saved plants: a writer and a reader of table and tally, as tagged fields.
+// Saved plants: a writer and a reader of table and tally, as tagged fields, in edition 2; and a converter of files of edition 1.
 //
-// The calls are save::save, load::load and load::saved_size. None has a `requires`. Module order is in preparation; no call uses it yet.
+// The calls are save::save, load::load, load::saved_size, convert::convert and convert::converted_length. None has a `requires`.
 #![tactic(auto)]
 
 mod bytes;
 pub mod claims;
+pub mod convert;
+mod edition;
 mod fields;
 mod first_pass;
 mod lines;
@@ -21,7 +23,7 @@ pub struct Loaded {
     pub tally: Tally,
 }
 
-// The tags of the fields. They are bytes of the file, and no enum: a field may have any tag, and the reader passes over those that it does not know.
+// The tags of the fields. They are bytes of the file, and no enum: a field may have any tag, and those that are not known are refused.
 const SIZE: u8 = 1;
 
 const TALLY: u8 = 2;
@@ -30,5 +32,5 @@ const LINE: u8 = 3;
 
 const OPENING: u8 = 4;
 
-// The contents of the opening.
-const EDITION: u8 = 2;
+// The contents of the opening, which name edition 2.
+const SECOND: u8 = 2;
