@@ -80,6 +80,10 @@ numbered! {
         /// A line field has the wrong length or a number of n or more, or a
         /// station has none or several.
         LineField = 20,
+        /// The first field of the saved plant is not its opening.
+        NoOpening = 21,
+        /// A field has a tag that is not known, or stands out of order.
+        FieldOrder = 22,
     }
 }
 
@@ -162,6 +166,8 @@ impl fmt::Display for Refusal {
             Refusal::LineField => {
                 "a line field of the saved plant has the wrong length, or a station is absent, twice or too high"
             }
+            Refusal::NoOpening => "the file does not begin as edition 2 does",
+            Refusal::FieldOrder => "a field is out of order, or of an unknown tag",
         })
     }
 }

@@ -1,13 +1,10 @@
-//! The cases of loads and of questions for the size by the size field and the
-//! tally field, and by a field that runs past the end.
+//! The cases of loads and conversions, and of the questions before these, by the
+//! size field and the tally field, and by a field that runs past the end.
 
-use super::{is_met_too, with_tag, Case, Seen};
-use crate::saving::{FRONT, LINES, PAST_END, READER, SIZE, TALLY};
+use super::{is_met_but, is_met_too, with_tag, Case, Seen};
+use crate::saving::{FRONT, LINES, NO_OPENING, ORDER, PAST_END, READER, SIZE, TALLY};
 
-pub const ALL: [Case; 27] = [
-    ("an empty file", |seen| {
-        seen.number == FRONT && seen.saved == 0
-    }),
+pub const ALL: [Case; 25] = [
     ("one stray byte at the end", |seen| {
         seen.number == PAST_END && seen.rest == 1
     }),
@@ -20,12 +17,11 @@ pub const ALL: [Case; 27] = [
     ("contents that run past the end", |seen| {
         seen.number == PAST_END && seen.rest > 3
     }),
-    ("18 and neither 19 nor 1", |seen| {
-        seen.number == PAST_END && !seen.met.contains(&FRONT) && !seen.met.contains(&1)
+    ("18 before 19, and neither 21 nor 22", |seen| {
+        is_met_but(seen, PAST_END, FRONT, &[NO_OPENING, ORDER])
     }),
-    ("18 before 19", |seen| is_met_too(seen, PAST_END, FRONT)),
-    ("18 before 1, and not 19", |seen| {
-        is_met_too(seen, PAST_END, 1) && !seen.met.contains(&FRONT)
+    ("18 before 1, and none of 21, 22 and 19", |seen| {
+        is_met_but(seen, PAST_END, 1, &[NO_OPENING, ORDER, FRONT])
     }),
     ("no size", |seen| {
         is_front(seen, SIZE, |sizes| sizes.is_empty())
