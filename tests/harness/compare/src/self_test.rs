@@ -109,12 +109,12 @@ fn stand_in(seed: u64) -> Result<usize, String> {
             trial.library.clone_from(&right);
         }
     }
-    match noticed.iter().position(|count| *count == 0) {
-        Some(place) => Err(format!(
-            "a stand-in was not noticed: {}",
-            faults[place].1 .0
-        )),
-        None => Ok(noticed.iter().sum()),
+    let numbered = noticed.iter().zip(&faults);
+    let unnoticed = numbered.filter(|(count, _)| **count == 0);
+    let names: Vec<&str> = unnoticed.map(|(_, (_, (name, _)))| *name).collect();
+    match names[..] {
+        [] => Ok(noticed.iter().sum()),
+        _ => Err(format!("stand-ins not noticed: {}", names.join("; "))),
     }
 }
 

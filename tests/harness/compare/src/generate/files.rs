@@ -191,7 +191,7 @@ fn spoil_some(fields: &mut Vec<Field>, size: Size, edition: &Edition, random: &m
 /// The bytes of these fields, now and then some of them wrong.
 fn spoiled_bytes(fields: &[Field], random: &mut Random) -> Vec<u8> {
     let mut file = bytes(fields);
-    if random.once_in(6) {
+    if random.once_in(8) {
         spoil_bytes(&mut file, fields, random);
     }
     file
@@ -260,7 +260,12 @@ fn spoil_opening(fields: &mut Vec<Field>, random: &mut Random) {
     let end = fields.len();
     let contents = &mut fields[0].contents;
     match random.below(16) {
-        0..=3 => drop(fields.remove(0)),
+        0..=3 => {
+            fields.remove(0);
+            if random.once_in(3) {
+                set_size(fields, random);
+            }
+        }
         4 | 5 => *contents = vec![1],
         6 => *contents = vec![random.pick(&[0, 3, 3, 4, 255])],
         7 => contents.clear(),
@@ -391,13 +396,15 @@ fn find_line(fields: &[Field], size: Size, random: &mut Random) -> Option<usize>
     found.or_else(|| find(fields, LINE, random))
 }
 
-/// A line is dropped, doubled, or has a wrong length or a wrong station.
+/// A line is dropped, doubled, or has a wrong length or a wrong station, or there
+/// is an empty one in front of all.
 fn spoil_line(fields: &mut Vec<Field>, size: Size, edition: &Edition, random: &mut Random) {
     let Some(place) = find_line(fields, size, random) else {
         return;
     };
+    let first = fields.iter().position(|field| field.tag == LINE);
     let contents = &mut fields[place].contents;
-    match random.below(20) {
+    match random.below(24) {
         0 | 1 => drop(fields.remove(place)),
         2 => edition.double(fields, place, |_| {}, random),
         3 => edition.double(fields, place, change_last, random),
@@ -412,7 +419,16 @@ fn spoil_line(fields: &mut Vec<Field>, size: Size, edition: &Edition, random: &m
         11 | 17 => set_station(contents, size, random),
         // One station twice, another not at all.
         12 => set_station(contents, random.below(size), random),
+        22 => {
+            let station = fields[place].station().unwrap_or(0);
+            let twice = random.pick(&[station + 1, station.saturating_sub(1)]);
+            if let Some(first) = fields[place].contents.first_mut() {
+                *first = twice as u8;
+            }
+        }
         13 => fields.retain(|field| field.tag != LINE),
+        19 | 21 => fields[first.unwrap_or(place)].contents.clear(),
+        20 => fields.insert(first.unwrap_or(place), empty_line()),
         18 => {
             let station = contents.first().copied().map_or(0, usize::from);
             set_station(contents, station + 1, random);
@@ -427,6 +443,13 @@ fn add_station(fields: &mut Vec<Field>, place: usize, size: Size, random: &mut R
     set_station(&mut further.contents, size, random);
     let end = fields.iter().rposition(|field| field.tag == LINE);
     fields.insert(end.map_or(0, |end| end + 1), further);
+}
+
+fn empty_line() -> Field {
+    Field {
+        tag: LINE,
+        contents: Vec::new(),
+    }
 }
 
 fn shorten(field: &mut Field) {
