@@ -10,7 +10,7 @@ compare() { # PACKAGE NAME BINARY WORDS...
     if [[ -n $binary ]]; then
         binary=$(realpath -- "$binary")
     else
-        (program=$name && source "$root/prove.sh" && prove_program)
+        "$root/prove" "$name"
         binary=$root/target/bin/$name
     fi
     export CARGO_TARGET_DIR=$root/target/cargo

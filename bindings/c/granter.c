@@ -9,7 +9,7 @@
 
 #define N 8
 #define DEAD 5
-#define MOST_DRIVES 10 /* 4 would do: the open round, then the 3 rounds of 8 boards (Rule Worst case) */
+#define MOST_DRIVES 4 /* the open round, then the 3 rounds of 8 boards (Rule Worst case) */
 
 /* 1, 4 and 7 finish their passes before there is a bus master; then 5 crashes. Nobody who has turns left in this round tests 5. */
 static const uint8_t beforehand[] = {

@@ -1,6 +1,7 @@
 // Computes examples of the plant's rules, a plant of eight boards, the published table of groups, and the published counts of messages. What it
 // writes is compared with the file `stdout`, which has what the rules give by hand and by the simulator, and what was published (docs/SOURCES.md).
 
+use crate::lengths::{EIGHT, ELEVEN, FOUR, TWO};
 use lists::refusal;
 use plant::entry::Entry;
 use plant::kind::Kind;
@@ -10,15 +11,6 @@ use station::{due, groups};
 use std::ops::ControlFlow;
 use table::lent::{Table, TableMut};
 use table::{Level, Station, cells, fresh};
-
-// The lengths of tables of two, four, eight and eleven boards. A constant may call no function here, so not `cells::table_length`.
-const TWO: usize = 2 * (2 + cells::HEAD as usize);
-
-const FOUR: usize = 4 * (4 + cells::HEAD as usize);
-
-const EIGHT: usize = 8 * (8 + cells::HEAD as usize);
-
-const ELEVEN: usize = 11 * (11 + cells::HEAD as usize);
 
 // What one print cannot write is left out, and the next is tried all the same.
 pub fn show(rt: &impl Print) {

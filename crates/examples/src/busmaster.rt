@@ -1,6 +1,7 @@
 // Computes examples of grants and drives: a round of eight boards, grant by grant and as one drive, and drives that stop early. What it writes is
 // compared with the file `stdout`, which has what the rules give by hand and by the simulator.
 
+use crate::lengths::{EIGHT, TWO};
 use granter::grant::NO_GRANT;
 use granter::{Driven, drive, grant};
 use lists::refusal;
@@ -8,12 +9,7 @@ use plant::entry::Entry;
 use plant::kind::Kind;
 use plant::{Tally, run};
 use table::lent::TableMut;
-use table::{Station, cells, fresh};
-
-// The lengths of tables of two and of eight boards. A constant may call no function here, so not `cells::table_length`.
-const TWO: usize = 2 * (2 + cells::HEAD as usize);
-
-const EIGHT: usize = 8 * (8 + cells::HEAD as usize);
+use table::{Station, fresh};
 
 // What one print cannot write is left out, and the next is tried all the same.
 pub fn show(rt: &impl Print) {

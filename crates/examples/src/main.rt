@@ -4,6 +4,7 @@
 
 mod boards;
 mod busmaster;
+mod lengths;
 mod season;
 
 fn main(rt: HostRuntime) {

@@ -98,7 +98,8 @@ fn first_from(table: &Table, from: Station) -> Option<Station>
     ensures below { IfSome result (λ i. i.0 < table.now.n) }
     ensures none { IfNone result (table.now.n ≤ first_from table.now.n table.now.bytes.now from.0) }
 {
-    // A `for`: in the check of a table a chain took 1.7 to 2.2 times as long (docs/DECISIONS.md, "The port"). Here it was not measured.
+    // A `for`: in the check of a table a chain took 1.7 to 2.2 times as long (docs/DECISIONS.md, "The port to today's Rattle"). Here it was not
+    // measured.
     for i in from.0..table.n {
         if !table.finished_if_live(Station(i)) {
             return Some(Station(i));

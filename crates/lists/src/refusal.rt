@@ -45,9 +45,9 @@ impl Refusal {
 // What a refusal says to people.
 impl fmt::Display for Refusal {
     ghost use Rattle.std.specs.Prelude.{Some};
-    ghost use Rattle.lists.specs.Refusal.{words};
+    ghost use Rattle.lists.specs.Refusal.{refusal_words};
 
-    ghost output = { λ refusal. Some (words refusal) };
+    ghost output = { λ refusal. Some (refusal_words refusal) };
 
     fn fmt<W: fmt::Write>(&self, f: &mut fmt::Formatter<W>) -> fmt::Result {
         f.write_str(match self {

@@ -1,6 +1,6 @@
 -- The kinds of an entry as values, and the bytes of a schedule that stand for them.
 -- Assumes nothing.
-use Rattle.std.specs.Prelude.{ℕ, Result, Ok, Err, ◌==◌, if◌then◌else◌}
+use Rattle.std.specs.Prelude.{ℕ, List, codes, Result, Ok, Err, ◌==◌, if◌then◌else◌}
 use Rattle.lists.specs.declared.refusal.Refusal.{Refusal}
 use Rattle.lists.specs.declared.refusal.Refusal.TheVariants.{UnknownKind}
 use Rattle.plant.specs.declared.kind.Kind.{Kind}
@@ -20,3 +20,9 @@ kind_of byte =
     else (if byte == kind_late then Ok LateReply
     else (if byte == kind_crash then Ok Crash
     else Err UnknownKind))
+
+-- what it says to people
+abbrev pub kind_words : Kind → List ℕ
+kind_words Turn = codes "turn"
+kind_words LateReply = codes "turn whose reply comes late"
+kind_words Crash = codes "crash"

@@ -1,6 +1,6 @@
 -- What an entry did as a value, and the two bytes of a line of the sheet that show it.
 -- Assumes nothing.
-use Rattle.std.specs.Prelude.{ℕ}
+use Rattle.std.specs.Prelude.{ℕ, List, codes}
 use Rattle.plant.specs.declared.outcome.Outcome.{Outcome}
 use Rattle.plant.specs.declared.outcome.Outcome.TheVariants.{PassFinished, Exchanged, Told, NoReply, Crashed, TestedTold}
 use Rattle.plant.specs.Turn.{outcome_finished, outcome_exchanged, outcome_told, outcome_no_reply, outcome_crash, outcome_tested_told, no_station}
@@ -22,3 +22,12 @@ tested_byte (Told j) = j.0
 tested_byte (NoReply j) = j.0
 tested_byte Crashed = no_station
 tested_byte (TestedTold j) = j.0
+
+-- what it says to people
+abbrev pub outcome_words : Outcome → List ℕ
+outcome_words PassFinished = codes "pass finished"
+outcome_words (Exchanged j) = codes "exchanged"
+outcome_words (Told j) = codes "told, and left"
+outcome_words (NoReply j) = codes "no reply"
+outcome_words Crashed = codes "crash"
+outcome_words (TestedTold j) = codes "the tested board was told, and left"

@@ -15,8 +15,10 @@ unfoldable pub reset_line : ℕ → ℕ → List ℕ → List ℕ
 reset_line n i t =
     set_cell n (set_cell n (set_cell n (set_cell n t i next_column 1) i finished_column 0) i tests_column 0) i rounds_ago_column (rounds_after n t i)
 
+-- Rule Reset, of every line
 unfoldable pub reset_lines : ℕ → List ℕ → List ℕ
 reset_lines n t = after_steps (reset_line n) n t
 
+-- Rule Round closes: if some station is live and every live one has finished its pass, all lines are reset
 unfoldable pub after_round : ℕ → List ℕ → List ℕ
 after_round n t = if round_over n t then reset_lines n t else t

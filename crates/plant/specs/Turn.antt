@@ -82,11 +82,11 @@ exchange_rows n t i j = set_row n (set_row n t i (union (row n t i) (row n t j) 
 unfoldable pub suspect : ℕ → List ℕ → ℕ → ℕ → List ℕ
 suspect n t i j = set_row n t i (mark (row n t i) j)
 
--- the outcome where j replies: rule Tester told if j suspects i; else rule Tested told if i suspects j; else rule Exchange
+-- Rule Outcomes, where j replies: Tester told if j suspects i; else Tested told if i suspects j; else Exchange
 unfoldable pub reply_outcome : ℕ → List ℕ → ℕ → ℕ → ℕ
 reply_outcome n t i j = if is_told n t i j then outcome_told else (if is_told n t j i then outcome_tested_told else outcome_exchanged)
 
--- the outcome of the test of j, with a reply or without
+-- Rule Outcomes, of the test of j: as above if j replies in time, else No reply
 unfoldable pub test_outcome : ℕ → List ℕ → ℕ → ℕ → ℕ → ℕ
 test_outcome n t kind i j = if replies n t kind j then reply_outcome n t i j else outcome_no_reply
 
@@ -101,13 +101,15 @@ after_outcome n t i j outcome =
 abbrev pub after_test : ℕ → List ℕ → ℕ → ℕ → ℕ → List ℕ
 after_test n t kind i j = after_outcome n t i j (test_outcome n t kind i j)
 
--- Rule Alone: if i is still live and suspects all others, its status becomes 3. Byte 4 stays 255, which a live line has by the line rules
+-- Rule Alone, of one station k: i suspects it, or it is i itself
 unfoldable pub self_or_suspected : ℕ → List ℕ → ℕ → ℕ → Bool
 self_or_suspected n t i k = k == i || suspects n t i k == 1
 
+-- Rule Alone, when: i is still live and suspects all others, live or not
 unfoldable pub is_alone : ℕ → List ℕ → ℕ → Bool
 is_alone n t i = live n t i && every (self_or_suspected n t i) n
 
+-- Rule Alone: then i leaves, with status 3. Byte 4 stays 255, which a live line has by the line rules
 unfoldable pub after_alone : ℕ → List ℕ → ℕ → List ℕ
 after_alone n t i = if is_alone n t i then set_status n t i status_alone else t
 

@@ -3,6 +3,7 @@ ghost use Rattle.std.specs.Prelude.{◌≡◌};
 ghost use Rattle.plant.specs.Kind.{kind_byte, kind_of};
 
 use lists::refusal::Refusal;
+use std::fmt;
 
 // The kind of an entry.
 #[derive(Clone, Copy, Debug, PartialEq, Eq)]
@@ -37,5 +38,21 @@ impl From<Kind> for u8 {
 
     fn from(kind: Kind) -> u8 {
         kind as u8
+    }
+}
+
+// What a kind says to people.
+impl fmt::Display for Kind {
+    ghost use Rattle.std.specs.Prelude.{Some};
+    ghost use Rattle.plant.specs.Kind.{kind_words};
+
+    ghost output = { λ kind. Some (kind_words kind) };
+
+    fn fmt<W: fmt::Write>(&self, f: &mut fmt::Formatter<W>) -> fmt::Result {
+        f.write_str(match self {
+            Kind::Turn => "turn",
+            Kind::LateReply => "turn whose reply comes late",
+            Kind::Crash => "crash",
+        })
     }
 }

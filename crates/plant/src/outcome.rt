@@ -2,6 +2,7 @@
 ghost use Rattle.std.specs.Prelude.{◌≡◌};
 ghost use Rattle.plant.specs.Outcome.{tested_byte, outcome_byte};
 
+use std::fmt;
 use table::Station;
 
 // What an entry did, with the tested station where it made a test. The order is that of the outcomes' numbers, so that the number costs
@@ -48,5 +49,24 @@ impl Outcome {
             Outcome::Crashed => 4,
             Outcome::TestedTold(_) => 5,
         }
+    }
+}
+
+// What an outcome says to people.
+impl fmt::Display for Outcome {
+    ghost use Rattle.std.specs.Prelude.{Some};
+    ghost use Rattle.plant.specs.Outcome.{outcome_words};
+
+    ghost output = { λ outcome. Some (outcome_words outcome) };
+
+    fn fmt<W: fmt::Write>(&self, f: &mut fmt::Formatter<W>) -> fmt::Result {
+        f.write_str(match self {
+            Outcome::PassFinished => "pass finished",
+            Outcome::Exchanged(_) => "exchanged",
+            Outcome::Told(_) => "told, and left",
+            Outcome::NoReply(_) => "no reply",
+            Outcome::Crashed => "crash",
+            Outcome::TestedTold(_) => "the tested board was told, and left",
+        })
     }
 }

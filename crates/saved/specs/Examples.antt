@@ -1,5 +1,5 @@
--- Examples of saved plants, worked out by hand from the rules: the saved form of two fresh boards (docs/PANEL.md), and the reader's number for some
--- files.
+-- Examples of saved plants, worked out by hand from the rules: the saved form of two fresh boards (RULES, Saved plants), and the reader's number
+-- for some files.
 -- Assumes nothing.
 use Rattle.std.specs.Prelude.{ℕ, ◌≡◌, Bool, true, ◌&&◌, List, [], ◌∷◌, ◌++◌, ◌==◌}
 use Rattle.table.specs.Fresh.{fresh_table}

@@ -17,8 +17,10 @@ AreBytes l = (k : ℕ) → slice_index l k < 256
 abbrev pub Short : List Field → Type 0
 Short fs = (f : Field) → Memᴰ f fs → length f.contents < 2 ^ 16
 
+-- Rule Saved and loaded: the bytes of short fields have those fields
 abbrev pub FieldsOfBytes : Type 0
 FieldsOfBytes = (fs : List Field) → Short fs → fields (fields_bytes fs) ≡ Some fs
 
+-- Rule Saved and loaded: a file has one list of fields at most, for it is the bytes of its fields; and these are short
 abbrev pub BytesOfFields : Type 0
 BytesOfFields = (file : List ℕ) (fs : List Field) → AreBytes file → fields file ≡ Some fs → (fields_bytes fs ≡ file) × Short fs

@@ -2,8 +2,8 @@
 -- Assumes nothing.
 use mathlib.Core.Path.{◌≡◌, refl, sym, ap, ◌∙◌}
 use mathlib.Core.Logic.{◌≢◌, ◌⊎◌, inl, inr, by_cases}
-use mathlib.Core.Bool.{Bool, true, false, and-true, and-false}
-use mathlib.Core.List.{List, [], ◌∷◌, map, Memᴰ}
+use mathlib.Core.Bool.{Bool, true, false, and-true}
+use mathlib.Core.List.{List, map, Memᴰ}
 use Prim.Native.Nat.{ℕ, suc, ◌+◌, ◌^◌, ◌≤◌, ◌<◌}
 use native.Mathlib.Nat.{zero-add}
 use native.Mathlib.Decide.{ℕ_discrete}
@@ -11,18 +11,18 @@ use native.Mathlib.Omega.{arith}
 use borrow.Author.Tests.{lt-ltb}
 use lib.Bits.{xor_lt}
 use lib.ListN.{length, length-map}
-use Rattle.lists.specs.Search.{select, list_of}
+use Rattle.lists.specs.Search.{select}
 use Rattle.lists.specs.Sums.{sum_below, bit}
 use Rattle.table.specs.Sizes.{is_size, dimension, distances}
 use Rattle.station.specs.Groups.{distance, station_at}
-use Rattle.station.specs.Tests.{answer, says_due, stands, due, due_distances}
+use Rattle.station.specs.Tests.{answer, due, due_distances}
 use Rattle.station.specs.Calls.{is_other, other_distances, answer_byte}
 use Rattle.lists.proofs.BoolLaws.{by_bool}
 use Rattle.lists.proofs.SumLaws.{sum_by, sum-add}
 use Rattle.lists.proofs.FilterLaws.{mem-map, range-mem, mem-filter, select-sum}
 use Rattle.table.proofs.SizeLaws.{size-distances}
 use Rattle.lists.proofs.Xor.{xor-cancel, xor-zero-eq}
-use Rattle.station.proofs.DueLaws.{due-is, due-present}
+use Rattle.station.proofs.DueLaws.{due-present}
 use Rattle.station.proofs.Presence.{others-all}
 use Rattle.slots.specs.Slots.{tested, is_untested, untested_distances, untested, ahead, tests_due}
 use Rattle.slots.specs.Law.{NobodyLeftOut, ListsCounted}

@@ -20,6 +20,7 @@ is_untested r i m = is_other (length r) i m && not (due r i m)
 unfoldable pub untested_distances : ℕ → List ℕ → ℕ → List ℕ
 untested_distances n r i = select (is_untested r i) (distances n)
 
+-- Rule Untested: all stations but i that i does not test, by its row r of n bytes, in ascending order of distance
 unfoldable pub untested : ℕ → List ℕ → ℕ → List ℕ
 untested n r i = map (station_at i) (untested_distances n r i)
 

@@ -5,31 +5,28 @@
 // between two calls.
 #![tactic(auto)]
 
-ghost use Rattle.std.specs.Prelude.{◌≡◌, true, false};
+ghost use Rattle.std.specs.Prelude.{◌≡◌, map, true, false};
 ghost use Rattle.station.specs.Tests.{due};
 ghost use Rattle.slots.specs.Slots.{tested, tests_due, tests_with, most_tests, most_of_boards};
-ghost use Rattle.std.proofs.lemmas.List.Edits.{sets};
 
 pub mod claims;
 pub mod untested;
 
-use lists::bytes;
+use arrayvec::ArrayVec;
 use station::{due, order, rows};
 use table::{Distance, Station, sizes};
 
-// Whom i of n stations tests by its row of n bytes, in order, into a lent list; answers how many these are. Past the list's end nothing is written.
-pub fn list_tests(n: u8, row: &[u8], i: Station, list: &mut [u8]) -> u8
-    ensures count { result ≡ tests_due n row.now i.0 }
-    ensures list_after { list.new ≡ sets list.old 0 (tested n row.now i.0) }
+// Whom i of n stations tests by its row of n bytes, in order. At most 255: any n has at most 256 distances, and 0 is never due.
+pub fn list_tests(n: u8, row: &[u8], i: Station) -> ArrayVec<Station, 255>
+    ensures { map (λ x. x.0) result.items ≡ tested n row.now i.0 }
 {
     let end = sizes::distances(n);
-    // Counted by hand and not by `enumerate`, since the count is the answer, also where the list is too short.
-    let mut count = 0;
+    let mut list = ArrayVec::new();
+    // A loop, since of what `extend` answers a caller would have to look at an error that never comes.
     for m in (0..end).filter(|m| is_due(row, i, Distance(*m as u8))) {
-        bytes::put(list, count, order::station_at(i, Distance(m as u8)).0);
-        count += 1;
+        list.push(order::station_at(i, Distance(m as u8)));
     }
-    count
+    list
 }
 
 // How many distances are due for i of n stations, by its row.

@@ -1,29 +1,33 @@
 // Whom a board does not test by its row, and who stands ahead.
-ghost use Rattle.std.specs.Prelude.{◌≡◌, length};
-ghost use Rattle.slots.specs.Slots.{is_untested, untested_distances, untested, ahead};
-ghost use Rattle.std.proofs.lemmas.List.Edits.{sets};
+ghost use Rattle.std.specs.Prelude.{◌≡◌, map};
+ghost use Rattle.slots.specs.Slots.{is_untested, untested, ahead};
 
-use lists::bytes;
+use arrayvec::ArrayVec;
 use station::{due, order};
 use table::{Distance, Station, sizes};
 
-// Whom i of n stations does not test by its row of n bytes, in ascending distance, and who stands ahead of each, into two lent lists; answers how
-// many these are. Past a list's end nothing is written. Two lists and not one of pairs: a public function keeps its parameters.
-pub fn list_untested(n: u8, row: &[u8], i: Station, list: &mut [u8], firsts: &mut [u8]) -> u8
-    ensures count { result ≡ length (untested_distances n row.now i.0) }
-    ensures list_after { list.new ≡ sets list.old 0 (untested n row.now i.0) }
-    ensures firsts_after { firsts.new ≡ sets firsts.old 0 (ahead n row.now i.0) }
+// A board that is not tested, and who stands ahead.
+#[derive(Clone, Copy, Debug, Default, PartialEq, Eq)]
+pub struct Untested {
+    pub board: Station,
+    pub ahead: Station,
+}
+
+// Whom i of n stations does not test by its row of n bytes, in ascending distance, and who stands ahead of each. At most 255, as in `list_tests`.
+pub fn list_untested(n: u8, row: &[u8], i: Station) -> ArrayVec<Untested, 255>
+    ensures boards { map (λ u. u.board.0) result.items ≡ untested n row.now i.0 }
+    ensures ahead { map (λ u. u.ahead.0) result.items ≡ ahead n row.now i.0 }
 {
     let end = sizes::distances(n);
-    // Counted by hand, as in `list_tests`.
-    let mut count = 0;
+    let mut list = ArrayVec::new();
     for m in (0..end).filter(|m| is_untested(row, i, Distance(*m as u8))) {
         let m = Distance(m as u8);
-        bytes::put(list, count, order::station_at(i, m).0);
-        bytes::put(firsts, count, due::due_or_ahead(row, i, m).byte());
-        count += 1;
+        list.push(Untested {
+            board: order::station_at(i, m),
+            ahead: Station(due::due_or_ahead(row, i, m).byte()),
+        });
     }
-    count
+    list
 }
 
 // Whether another station stands at distance m from i and i does not test it.

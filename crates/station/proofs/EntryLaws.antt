@@ -73,16 +73,20 @@ module _ (n : ℕ) (r : List ℕ) (i : ℕ) (size : is_size n ≡ true) (long : 
     entry-fits h = omega (arith, at, h, ap length others-walk, others-all n i size own, fits)
 
     pub entry-written : t ≡ sets l 0 (assignment_entries r i ms)
-        → set (set t (2 * k) m) (2 * k + 1) (answer_byte (answer r i m)) ≡ sets l 0 (assignment_entries r i (map (λ (p : ℕ × ℕ). p.1) (ps ++ ((k, m) ∷ []))))
+        → set (set t (2 * k) m) (2 * k + 1) (answer_byte (answer r i m))
+        ≡ sets l 0 (assignment_entries r i (map (λ (p : ℕ × ℕ). p.1) (ps ++ ((k, m) ∷ []))))
     entry-written e =
         let len : 2 * k ≡ length (assignment_entries r i ms) = omega (arith, at, entries-length r i ms, length-map ps (λ (p : ℕ × ℕ). p.1)) in
-        rw (map-append (λ (p : ℕ × ℕ). p.1) ps, entries-more r i m ms) (sets-two l (assignment_entries r i ms) t (2 * k) m (answer_byte (answer r i m)) len e)
+        rw (map-append (λ (p : ℕ × ℕ). p.1) ps, entries-more r i m ms)
+        (sets-two l (assignment_entries r i ms) t (2 * k) m (answer_byte (answer r i m)) len e)
 
 -- b says whether it is due
-pub entry-counted : (q : ℕ → Bool) (ps : List (ℕ × ℕ)) (k m count : ℕ) (b : Bool) → b ≡ q m → count ≡ length (filter q (map (λ (p : ℕ × ℕ). p.1) ps))
+pub entry-counted : (q : ℕ → Bool) (ps : List (ℕ × ℕ)) (k m count : ℕ) (b : Bool) → b ≡ q m
+    → count ≡ length (filter q (map (λ (p : ℕ × ℕ). p.1) ps))
     → count + from_bool b ≡ length (filter q (map (λ (p : ℕ × ℕ). p.1) (ps ++ ((k, m) ∷ []))))
 entry-counted q ps k m count b f e =
-    rw (f, map-append (λ (p : ℕ × ℕ). p.1) ps, filter-append q (map (λ (p : ℕ × ℕ). p.1) ps) (m ∷ []), length-append (filter q (map (λ (p : ℕ × ℕ). p.1) ps)), ← e)
+    let ms : List ℕ = map (λ (p : ℕ × ℕ). p.1) ps in
+    rw (f, map-append (λ (p : ℕ × ℕ). p.1) ps, filter-append q ms (m ∷ []), length-append (filter q ms), ← e)
     (by_bool (q m) (λ p. rw p refl) (λ p. rw p refl))
 
 -- few are due

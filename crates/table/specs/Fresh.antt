@@ -10,6 +10,7 @@ use Rattle.lists.specs.Refusal.{unless_refused}
 unfoldable pub fresh_byte : ℕ → ℕ → ℕ
 fresh_byte n p = if p % stride n == next_column then 1 else (if p % stride n == told_by_column then told_by_none else 0)
 
+-- Rule Fresh: the fresh table of n stations, byte by byte
 unfoldable pub fresh_table : ℕ → List ℕ
 fresh_table n = list_of (fresh_byte n) (table_length n)
 

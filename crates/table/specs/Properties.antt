@@ -10,6 +10,7 @@ use Rattle.lists.specs.Sums.{sum_below, bit}
 abbrev pub line_at_start : ℕ → List ℕ → ℕ → Bool
 line_at_start n t i = next_distance n t i == 1 && finished n t i == 0 && tests_made n t i == 0
 
+-- Rule Start of a round: so it is of every line, live or not
 unfoldable pub at_start : ℕ → List ℕ → Bool
 at_start n t = every (line_at_start n t) n
 

@@ -1,6 +1,6 @@
 -- Byte 0, the status, as a value: 0 live, 1 crashed, 2 left because told, 3 left because alone.
 -- Assumes nothing.
-use Rattle.std.specs.Prelude.{ℕ, Result, Ok, Err, if◌then◌else◌, ◌==◌}
+use Rattle.std.specs.Prelude.{ℕ, List, codes, Result, Ok, Err, if◌then◌else◌, ◌==◌}
 use Rattle.table.specs.Table.{status_crashed, status_told, status_alone}
 use Rattle.table.specs.declared.status.Status.{Status}
 use Rattle.table.specs.declared.status.Status.TheVariants.{Live, Crashed, LeftTold, LeftAlone}
@@ -22,3 +22,10 @@ status_of byte =
     else (if byte == status_told then Ok LeftTold
     else (if byte == status_alone then Ok LeftAlone
     else Err LineRule)))
+
+-- what it says to people
+abbrev pub status_words : Status → List ℕ
+status_words Live = codes "live"
+status_words Crashed = codes "crashed"
+status_words LeftTold = codes "left because told"
+status_words LeftAlone = codes "left because alone"

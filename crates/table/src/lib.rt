@@ -12,7 +12,7 @@ pub mod sizes;
 pub mod status;
 
 // The number of a station, 0 to N − 1.
-#[derive(Clone, Copy, Debug, PartialEq, Eq, PartialOrd, Ord)]
+#[derive(Clone, Copy, Debug, Default, PartialEq, Eq, PartialOrd, Ord)]
 pub struct Station(pub u8);
 
 // The distance of two stations: the exclusive or of their numbers.

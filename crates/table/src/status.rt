@@ -3,6 +3,7 @@ ghost use Rattle.std.specs.Prelude.{◌≡◌};
 ghost use Rattle.table.specs.Status.{status_of, status_byte};
 
 use lists::refusal::Refusal;
+use std::fmt;
 
 // The status of a station.
 #[derive(Clone, Copy, Debug, PartialEq, Eq)]
@@ -38,5 +39,22 @@ impl From<Status> for u8 {
 
     fn from(status: Status) -> u8 {
         status as u8
+    }
+}
+
+// What a status says to people.
+impl fmt::Display for Status {
+    ghost use Rattle.std.specs.Prelude.{Some};
+    ghost use Rattle.table.specs.Status.{status_words};
+
+    ghost output = { λ status. Some (status_words status) };
+
+    fn fmt<W: fmt::Write>(&self, f: &mut fmt::Formatter<W>) -> fmt::Result {
+        f.write_str(match self {
+            Status::Live => "live",
+            Status::Crashed => "crashed",
+            Status::LeftTold => "left because told",
+            Status::LeftAlone => "left because alone",
+        })
     }
 }

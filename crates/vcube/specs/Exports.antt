@@ -20,7 +20,7 @@ use Rattle.figures.specs.declared.Totals.{Totals}
 abbrev pub IsRowAt : ℕ → List ℕ → ℕ → ℕ → ℕ → Type 0
 IsRowAt n t i start bytes = slice_range t start (start + bytes) ≡ row_part n t i
 
--- Run: the outcome by its parts: the number, the entries taken, table, rounds and tests, and the sheet
+-- Rule Exact calls, for C. Run: the outcome by its parts: the number, the entries taken, table, rounds and tests, and the sheet
 abbrev pub outcome_out : ℕ → ℕ → List ℕ → ℕ → ℕ → List ℕ → RunResult
 outcome_out number taken t rounds tests sheet = record { number = number; taken = taken; state = state_of t rounds tests; sheet = sheet }
 

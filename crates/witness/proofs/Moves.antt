@@ -244,9 +244,6 @@ module _ (n N : ℕ) (L : ℕ → Bool) (low : n ≤ N) (absent : (k : ℕ) → 
         abbrev w : ℕ
         w = station_at i (next_test n t i)
 
-        w-below : w < n
-        w-below = test-station n t i e like.small.lines.0 h
-
         Bytes : (k y : ℕ) → L k ≡ true → y < N → suspects N u' k y ≡ byte_after (L w) (suspects N u) i w k y
         Bytes k y l b = rw same at (test-bytes N L u i Size like.big big-company H li Going E k y (omega (arith, live_below k l)) b)
 

@@ -1,63 +1,40 @@
 -- The due distances are gone through in order.
-use Rattle.std.proofs.Common.{◌≡◌, ◌<◌, ◌+◌, refl, sym, ◌∙◌, ap, length, length-append, [], ◌∷◌, arith, rules, tests}
-use Rattle.std.proofs.lemmas.Iterator.{YieldsList-from_range}
-use Rattle.std.proofs.lemmas.Iterator.Consumers.{YieldsList-at, YieldsList-from_filter, YieldsList-turn, YieldsList-end}
-use Rattle.lists.proofs.Enumerated.{map-same}
+use Rattle.std.proofs.Common.{◌≡◌, ◌<◌, ap, length, map, arith, rules, tests, ◌∙◌}
+use Rattle.std.proofs.lemmas.List.{length-map}
 use Rattle.station.specs.Groups.{station_at}
 use Rattle.station.specs.Tests.{due, due_distances}
 use Rattle.station.proofs.DueLaws.{due-zero}
-use Rattle.slots.specs.Slots.{tested, tests_due}
-use Rattle.slots.proofs.ListLaws.{walked-is, walked-turn, written-next}
+use Rattle.slots.specs.Slots.{tested}
+use Rattle.slots.proofs.ListLaws.{walked-turn, walked-whole}
 use Rattle.slots.proofs.list_tests.Goals as goal
 use Rattle.slots.proofs.list_tests.Goals.{In-Some, In-None}
 
-pub loop-m-init : goal.loop-m-init
-loop-m-init c = record { counted = refl; listed = refl }
-
-turn : (c : In-Some) → (c.in-Some.m < 256) × (length c.loop-m.yielded + 1 < 256)
+turn : (c : In-Some) → (c.in-Some.m < 256) × (length c.loop-m.yielded < 255)
 turn c =
     let end = c.distances-end.ensures in
-    let filtered = c.filter-m-items.ensures in
-    let all = YieldsList-from_range 0 c.distances-end.result c.distances-end.result (search rules) (omega arith) in
-    let walked = YieldsList-at filtered.source all in
-    let here =
-    YieldsList-turn (YieldsList-at c.into_iter-m-iterator.ensures.into_iter_gives
-    (YieldsList-from_filter _ (due c.args.row.now c.args.i.0) walked filtered.closure (λ x r q k. search (rules, tests))))
-    c.loop-m.yielded _ c.loop-m.yielded_by _ _ _ c.in-Some.is c.next.ensures.steps in
-    walked-turn _ _ _ end.number_of_distances end.upper_bound (due-zero _ _) c.loop-m.yielded c.in-Some.m here
+    let f = c.filter-m-items.ensures in
+    walked-turn _ (due c.args.row.now c.args.i.0) _ f.source f.closure (λ x r q k. search (rules, tests))
+    _ end.number_of_distances end.upper_bound c.loop-m.yielded _
+    c.into_iter-m-iterator.ensures.into_iter_gives c.loop-m.yielded_by c.next.ensures.steps (due-zero _ _) _ c.in-Some.is
 
 pub overflow_cast-m : goal.overflow_cast-m
 overflow_cast-m c = omega (arith, (turn (goal.at.overflow_cast-m c).In-Some).0)
 
-pub overflow_add-count : goal.overflow_add-count
-overflow_add-count c = omega (arith, (turn (goal.at.overflow_add-count c).In-Some).1, c.loop-m.invariant.counted)
+pub push-requires : goal.push-requires
+push-requires c =
+    let listed = length-map c.loop-m.list.items (λ x. x.0) in
+    let gone = length-map c.loop-m.yielded (station_at c.args.i.0) in
+    omega (arith, (turn (goal.at.push-requires c).In-Some).1, listed, gone, ap length c.loop-m.invariant)
 
-pub loop-m-preserved : goal.loop-m-preserved
-loop-m-preserved c =
-    let i = c.loop-m.invariant in
-    let ms = c.loop-m.yielded in
-    record {
-      counted = omega (arith, i.counted, length-append ms (c.in-Some.m ∷ []));
-      listed = written-next (station_at c.args.i.0) _ _ _ ms _ _ _ c.put.ensures c.station_at.ensures i.counted i.listed;
-    }
-
-all : (c : In-None) → c.loop-m.yielded ≡ due_distances c.args.row.now c.args.i.0 c.args.n
+whole : (c : In-None) → c.loop-m.yielded ≡ due_distances c.args.row.now c.args.i.0 c.args.n
 unfolding due_distances
-all c =
+whole c =
     let end = c.distances-end.ensures in
-    let filtered = c.filter-m-items.ensures in
-    let all = YieldsList-from_range 0 c.distances-end.result c.distances-end.result (search rules) (omega arith) in
-    let walked = YieldsList-at filtered.source all in
-    let whole =
-    YieldsList-end (YieldsList-at c.into_iter-m-iterator.ensures.into_iter_gives
-    (YieldsList-from_filter _ (due c.args.row.now c.args.i.0) walked filtered.closure (λ x r q k. search (rules, tests))))
-    c.loop-m.yielded _ c.loop-m.yielded_by _ _ c.in-None.is c.next.ensures.steps in
-    sym (map-same c.loop-m.yielded) ∙ whole.0 ∙ walked-is _ _ _ end.number_of_distances end.upper_bound
+    let f = c.filter-m-items.ensures in
+    walked-whole _ (due c.args.row.now c.args.i.0) _ f.source f.closure (λ x r q k. search (rules, tests))
+    _ end.number_of_distances end.upper_bound c.loop-m.yielded _
+    c.into_iter-m-iterator.ensures.into_iter_gives c.loop-m.yielded_by c.next.ensures.steps c.in-None.is
 
-pub returns-clause-count : goal.returns-clause-count
-unfolding tests_due
-returns-clause-count c = c.loop-m.invariant.counted ∙ ap length (all c)
-
-pub returns-clause-list_after : goal.returns-clause-list_after
+pub returns : goal.returns
 unfolding tested
-returns-clause-list_after c = rw (all c) at c.loop-m.invariant.listed
+returns c = c.loop-m.invariant ∙ ap (map (station_at c.args.i.0)) (whole c)

@@ -1,6 +1,5 @@
--- What there is to say of the distances that were gone through is written.
-use Rattle.std.proofs.Common.{◌≡◌, length, map}
-use Rattle.std.proofs.lemmas.List.Edits.{sets}
+-- What there is to say of the distances that were gone through is listed.
+use Rattle.std.proofs.Common.{◌≡◌, map}
 use Rattle.station.specs.Groups.{station_at}
 use Rattle.station.specs.Tests.{answer}
 use Rattle.station.specs.Calls.{answer_byte}
@@ -8,7 +7,6 @@ use Rattle.slots.proofs.untested.list_untested.Given as goal
 
 abbrev pub invariant-loop-m : goal.invariant-loop-m
 invariant-loop-m l = record {
-  counted : l.count ≡ length l.yielded;
-  listed : l.list ≡ sets l.initial.list 0 (map (station_at l.fn.i.0) l.yielded);
-  named : l.firsts ≡ sets l.initial.firsts 0 (map (λ k. answer_byte (answer l.row l.fn.i.0 k)) l.yielded);
+  listed : map (λ u. u.board.0) l.list.items ≡ map (station_at l.fn.i.0) l.yielded;
+  named : map (λ u. u.ahead.0) l.list.items ≡ map (λ k. answer_byte (answer l.row l.fn.i.0 k)) l.yielded;
 }

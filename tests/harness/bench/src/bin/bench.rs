@@ -179,7 +179,7 @@ fn print_drives(repetitions: usize) {
     println!("grants has how many grants this takes. Drives per second, the best of");
     println!("{repetitions} repetitions; {DRIVES} drives are timed together, each on its own copy of the");
     println!("same table.\n");
-    println!("| N | dead | grants | {COLUMNS}");
+    println!("| n | dead | grants | {COLUMNS}");
     println!("|--:|--:|--:|--:|--:|--:|--:|--:|");
     let starts = SIZES.map(|n| [0, n / 4, n / 2].map(|dead| start(n, dead)));
     for work in starts.as_flattened() {
@@ -265,7 +265,7 @@ fn print_conversions(repetitions: usize) {
 
 /// A row for each size of plants that are saved, loaded or converted.
 fn print_table_of_saved(times: impl Fn(&[SavedWork]) -> [f64; 3]) {
-    println!("| N | {COLUMNS}");
+    println!("| n | {COLUMNS}");
     println!("|--:|--:|--:|--:|--:|--:|");
     for n in SAVED_SIZES {
         let times = times(&plants(n));
@@ -275,7 +275,7 @@ fn print_table_of_saved(times: impl Fn(&[SavedWork]) -> [f64; 3]) {
 
 /// A row for each batch of runs.
 fn print_table(batches: &[Vec<Work>], repetitions: usize) {
-    println!("| N | dead | {COLUMNS}");
+    println!("| n | dead | {COLUMNS}");
     println!("|--:|--:|--:|--:|--:|--:|--:|");
     for works in batches {
         print_row(works, repetitions);
