@@ -89,9 +89,9 @@
 #include <stdint.h>
 
 #define VCUBE_VERSION_MAJOR 0
-#define VCUBE_VERSION_MINOR 9
+#define VCUBE_VERSION_MINOR 10
 #define VCUBE_VERSION_PATCH 0
-#define VCUBE_VERSION "0.9.0"
+#define VCUBE_VERSION "0.10.0"
 
 #ifdef __cplusplus
 extern "C" {
@@ -128,57 +128,63 @@ extern "C" {
 #define VCUBE_MOST_RESULTS 4096
 
 /* What a call returns, in the order in which refusals are checked; but a drive looks for 7 after 16 and 17, a load looks for 18, 19, 1, 20,
- * 2, 3 and 4, in this order, and the size of a saved plant for 18, 19 and 1. */
+ * 2, 3 and 4, in this order, and the size of a saved plant for 18, 19 and 1.
+ *
+ * Here and in the three enums below: the words behind each number are those of the library itself, which calls a station a board. What
+ * stands in parentheses behind them says more. */
 enum vcube_refusal {
     VCUBE_ACCEPTED = 0,
-    VCUBE_REFUSED_SIZE = 1,                 /* the size n is not from 2 to 64 */
-    VCUBE_REFUSED_TABLE_LENGTH = 2,         /* the table's length is not n * (n + 6) */
+    VCUBE_REFUSED_SIZE_OUT_OF_RANGE = 1,    /* a plant has 2 to 64 boards (n is another number) */
+    VCUBE_REFUSED_TABLE_LENGTH = 2,         /* the table has not n(n + 6) bytes */
     VCUBE_REFUSED_LINE_RULE = 3,            /* a line of the table breaks a line rule */
-    VCUBE_REFUSED_ALL_FINISHED = 4,         /* some station is live and every live one is finished */
-    VCUBE_REFUSED_SCHEDULE_LENGTH = 5,      /* the schedule's length is odd */
-    VCUBE_REFUSED_SHEET_LENGTH = 6,         /* the sheet's length is not twice the schedule's */
-    VCUBE_REFUSED_TALLY = 7,                /* either tally stands at 4294967295 when an entry, or a grant of a drive, is reached */
-    VCUBE_REFUSED_KIND = 8,                 /* the kind is not 1, 2 or 3 */
-    VCUBE_REFUSED_STATION = 9,              /* the station number is n or more */
-    VCUBE_REFUSED_NOT_LIVE = 10,            /* the station is not live */
-    VCUBE_REFUSED_PASS_FINISHED = 11,       /* the kind is 1 or 2 and the station has finished its pass */
-    VCUBE_REFUSED_LEVEL = 12,               /* the level is 0 or above d */
-    VCUBE_REFUSED_LIST_LENGTH = 13,         /* the lent list, or buffer to save into, has not the length stated (group list:
+    VCUBE_REFUSED_ROUND_NOT_CLOSED = 4,     /* every live board has finished its pass, and the round was not closed (some board is live) */
+    VCUBE_REFUSED_SCHEDULE_LENGTH = 5,      /* the schedule has an odd number of bytes */
+    VCUBE_REFUSED_SHEET_LENGTH = 6,         /* the sheet has not twice the bytes of the schedule */
+    VCUBE_REFUSED_TALLY_FULL = 7,           /* a counter is full: rounds or tests stand at 4,294,967,295 (when an entry, or a grant of a
+                                             * drive, is reached) */
+    VCUBE_REFUSED_UNKNOWN_KIND = 8,         /* there is no such kind of entry (it is not 1, 2 or 3) */
+    VCUBE_REFUSED_NO_SUCH_STATION = 9,      /* there is no board with this number: they go from 0 to n - 1 */
+    VCUBE_REFUSED_NOT_LIVE = 10,            /* this board is not live */
+    VCUBE_REFUSED_PASS_FINISHED = 11,       /* this board has finished its pass in this round (and the kind is 1 or 2) */
+    VCUBE_REFUSED_NO_SUCH_LEVEL = 12,       /* there is no such level: they go from 1 to d */
+    VCUBE_REFUSED_LIST_LENGTH = 13,         /* the list or buffer for the answer has another length than the answer (group list:
                                              * vcube_group_length; assignment: 2 * (n - 1); saved plant: 15 + n * (n + 10)) */
-    VCUBE_REFUSED_NO_RESULT = 14,           /* there is no result at all (in both lists together, where two are given) */
-    VCUBE_REFUSED_TOO_MANY_RESULTS = 15,    /* there are more than 4096 results in all, or totals that 4096 results cannot have */
-    VCUBE_REFUSED_LAST_GRANTED = 16,        /* the last granted number is n or more and not 255 */
-    VCUBE_REFUSED_NONE_LIVE = 17,           /* no station is live */
-    VCUBE_REFUSED_FIELD_PAST_END = 18,      /* a field of the saved plant, or its head (tag and length), runs past the end */
-    VCUBE_REFUSED_SIZE_OR_TALLY_FIELD = 19, /* the size field or the tally field is absent, twice or of wrong length */
-    VCUBE_REFUSED_LINE_FIELD = 20           /* a line field has not the length n + 7, or a station is absent, twice or too high (n or
-                                             * more) */
+    VCUBE_REFUSED_NO_RESULT = 14,           /* there is no result to take figures of (in both lists together, where two are given) */
+    VCUBE_REFUSED_TOO_MANY_RESULTS = 15,    /* more than 4,096 results, or totals that so many cannot have (in both lists together) */
+    VCUBE_REFUSED_LAST_GRANTED = 16,        /* the last granted number is neither a board nor 255 (it is n or more, and not 255) */
+    VCUBE_REFUSED_NONE_LIVE = 17,           /* no board is live */
+    VCUBE_REFUSED_FIELD_PAST_END = 18,      /* the file is cut off: a field or its head goes past the end (the file is the saved plant,
+                                             * the head is tag and length) */
+    VCUBE_REFUSED_SIZE_OR_TALLY_FIELD = 19, /* the field with the size or the tally is missing, there twice or of a wrong length (or more
+                                             * than twice) */
+    VCUBE_REFUSED_LINE_FIELD = 20           /* a board's line in the file is missing, there twice, of a wrong length or of no board (more
+                                             * than once; not n + 7; a number of n or more) */
 };
 
 /* Byte 0 of an entry of a schedule. */
 enum vcube_kind {
-    VCUBE_KIND_TURN = 1,
-    VCUBE_KIND_LATE_TURN = 2,           /* a turn whose reply comes late */
-    VCUBE_KIND_CRASH = 3
+    VCUBE_KIND_TURN = 1,                /* turn */
+    VCUBE_KIND_LATE_TURN = 2,           /* turn whose reply comes late */
+    VCUBE_KIND_CRASH = 3                /* crash */
 };
 
 /* Byte 0 of a line of the table; byte 3 of a line of the run sheet, where it is that of the station in byte 0 and never of the tested one. */
 enum vcube_status {
-    VCUBE_STATUS_LIVE = 0,
-    VCUBE_STATUS_CRASHED = 1,
-    VCUBE_STATUS_TOLD = 2,              /* left because told that it is suspected, by a station that it tested or by one that tested it;
-                                         * byte 4 of its line names that station, if it was recorded */
-    VCUBE_STATUS_ALONE = 3              /* left because alone: it suspects all others */
+    VCUBE_STATUS_LIVE = 0,              /* live */
+    VCUBE_STATUS_CRASHED = 1,           /* crashed */
+    VCUBE_STATUS_TOLD = 2,              /* left because told (that it is suspected, by a station that it tested or by one that tested
+                                         * it; byte 4 of its line names that station, if it was recorded) */
+    VCUBE_STATUS_ALONE = 3              /* left because alone (it suspects all others) */
 };
 
 /* Byte 2 of a line of the run sheet. The tester is the station in byte 0, the tested station that in byte 1. */
 enum vcube_outcome {
-    VCUBE_OUTCOME_PASS_FINISHED = 0,    /* no test was due any more */
-    VCUBE_OUTCOME_EXCHANGED = 1,        /* neither suspected the other: both rows became the union of the two */
-    VCUBE_OUTCOME_TOLD = 2,             /* the tester was told and left: the tested station suspected it */
-    VCUBE_OUTCOME_NO_REPLY = 3,         /* the tested station is not live, or its reply was late: the tester suspects it */
-    VCUBE_OUTCOME_CRASH = 4,
-    VCUBE_OUTCOME_TESTED_TOLD = 5       /* the tested station was told and left: the tester suspected it, and was not suspected by it */
+    VCUBE_OUTCOME_PASS_FINISHED = 0,    /* pass finished (no test was due any more) */
+    VCUBE_OUTCOME_EXCHANGED = 1,        /* exchanged (neither suspected the other: both rows became the union of the two) */
+    VCUBE_OUTCOME_TOLD = 2,             /* told, and left (the tester, which the tested station suspected) */
+    VCUBE_OUTCOME_NO_REPLY = 3,         /* no reply (the tested station is not live, or its reply was late: the tester suspects it) */
+    VCUBE_OUTCOME_CRASH = 4,            /* crash */
+    VCUBE_OUTCOME_TESTED_TOLD = 5       /* the tested board was told, and left (the tester suspected it, and was not suspected by it) */
 };
 
 /* The tag of a field of a saved plant. */

@@ -329,9 +329,9 @@ struct refused_plant {
 
 /* Where later numbers stand in the text, their sentences hold of the plant too. */
 static const struct refused_plant refused_plants[] = {
-    {"grant and drive: size 1 gets 1 before 2", 1, 15, N, VCUBE_REFUSED_SIZE, {4, 1, 0, 0, NONE, 0, 0, 0, 1, 1, 0, 0, NONE, 0, 0, 0}},
-    {"grant and drive: size 65 gets 1 before 2", 65, 15, N, VCUBE_REFUSED_SIZE, {4, 1, 0, 0, NONE, 0, 0, 0, 1, 1, 0, 0, NONE, 0, 0, 0}},
-    {"grant and drive: size 258 is not cut to 2", 258, 16, 0, VCUBE_REFUSED_SIZE, FRESH},
+    {"grant and drive: size 1 gets 1 before 2", 1, 15, N, VCUBE_REFUSED_SIZE_OUT_OF_RANGE, {4, 1, 0, 0, NONE, 0, 0, 0, 1, 1, 0, 0, NONE, 0, 0, 0}},
+    {"grant and drive: size 65 gets 1 before 2", 65, 15, N, VCUBE_REFUSED_SIZE_OUT_OF_RANGE, {4, 1, 0, 0, NONE, 0, 0, 0, 1, 1, 0, 0, NONE, 0, 0, 0}},
+    {"grant and drive: size 258 is not cut to 2", 258, 16, 0, VCUBE_REFUSED_SIZE_OUT_OF_RANGE, FRESH},
     {"grant and drive: 15 bytes get 2 before 3 and 16", N, 15, N, VCUBE_REFUSED_TABLE_LENGTH,
      {4, 1, 0, 0, NONE, 0, 0, 0, 1, 1, 0, 0, NONE, 0, 0, 0}},
     {"grant and drive: the table of another size gets 2", 3, 16, 0, VCUBE_REFUSED_TABLE_LENGTH, FRESH},
@@ -340,7 +340,7 @@ static const struct refused_plant refused_plants[] = {
      {0, 2, 1, 0, NONE, 0, 0, 0, 0, 2, 1, 2, NONE, 0, 0, 0}},
     {"grant and drive: a row byte of 2 gets 3 before 16 and 17", N, 16, N, VCUBE_REFUSED_LINE_RULE,
      {1, 1, 0, 0, NONE, 0, 0, 0, 1, 1, 0, 0, NONE, 0, 2, 0}},
-    {"grant and drive: every live station is finished, 4 before 16", N, 16, N, VCUBE_REFUSED_ALL_FINISHED,
+    {"grant and drive: every live station is finished, 4 before 16", N, 16, N, VCUBE_REFUSED_ROUND_NOT_CLOSED,
      {0, 2, 1, 0, NONE, 0, 0, 0, 1, 1, 0, 0, NONE, 0, 0, 0}},
     {"grant and drive: 16 comes before 17", N, 16, N, VCUBE_REFUSED_LAST_GRANTED, {1, 1, 0, 0, NONE, 0, 0, 0, 1, 1, 0, 0, NONE, 0, 0, 0}},
     {"grant and drive: no station is live", N, 16, VCUBE_NO_STATION, VCUBE_REFUSED_NONE_LIVE,
@@ -432,16 +432,16 @@ static const struct drive drives[] = {
      {0, 1, 0, 0, NONE, 0, 0, 1, 0, 1, 0, 0, NONE, 0, 0, 0}, {5, 7, 0, ANY}, VCUBE_ACCEPTED,
      {3, 2, 0, 1, NONE, 0, 0, 1, 2, 2, 0, 1, 0, 0, 0, 0}, {5, 9, 0, 2}},
     {"drive: rounds at the top stop it before the first grant",
-     FRESH, {UINT32_MAX, 7, VCUBE_NO_STATION, ANY}, VCUBE_REFUSED_TALLY,
+     FRESH, {UINT32_MAX, 7, VCUBE_NO_STATION, ANY}, VCUBE_REFUSED_TALLY_FULL,
      FRESH, {UINT32_MAX, 7, VCUBE_NO_STATION, 0}},
     {"drive: tests at the top stop it before the first grant",
-     {0, 2, 1, 1, NONE, 0, 0, 0, 0, 2, 0, 1, NONE, 0, 0, 0}, {5, UINT32_MAX, 0, ANY}, VCUBE_REFUSED_TALLY,
+     {0, 2, 1, 1, NONE, 0, 0, 0, 0, 2, 0, 1, NONE, 0, 0, 0}, {5, UINT32_MAX, 0, ANY}, VCUBE_REFUSED_TALLY_FULL,
      {0, 2, 1, 1, NONE, 0, 0, 0, 0, 2, 0, 1, NONE, 0, 0, 0}, {5, UINT32_MAX, 0, 0}},
     {"drive: tests reach the top with the first turn",
-     FRESH, {5, UINT32_MAX - 1, VCUBE_NO_STATION, ANY}, VCUBE_REFUSED_TALLY,
+     FRESH, {5, UINT32_MAX - 1, VCUBE_NO_STATION, ANY}, VCUBE_REFUSED_TALLY_FULL,
      {0, 2, 0, 1, NONE, 0, 0, 0, 0, 1, 0, 0, NONE, 0, 0, 0}, {5, UINT32_MAX, 0, 1}},
     {"drive: tests reach the top with the second turn",
-     FRESH, {5, UINT32_MAX - 2, VCUBE_NO_STATION, ANY}, VCUBE_REFUSED_TALLY,
+     FRESH, {5, UINT32_MAX - 2, VCUBE_NO_STATION, ANY}, VCUBE_REFUSED_TALLY_FULL,
      {0, 2, 0, 1, NONE, 0, 0, 0, 0, 2, 0, 1, NONE, 0, 0, 0}, {5, UINT32_MAX, 1, 2}},
     {"drive: rounds reach the top with the turn that closes the round",
      FRESH, {UINT32_MAX - 1, 7, VCUBE_NO_STATION, ANY}, VCUBE_ACCEPTED,
@@ -529,11 +529,11 @@ static void refused_saves(void)
     const size_t sizes[] = {0, 1, 65, 255, 258, SIZE_MAX};
 
     for (size_t k = 0; k < sizeof sizes / sizeof sizes[0]; k++)
-        save(sizes[k], broken, 15, 38, VCUBE_REFUSED_SIZE, "save: a size that is not from 2 to 64 gets 1 before 2 and 13");
+        save(sizes[k], broken, 15, 38, VCUBE_REFUSED_SIZE_OUT_OF_RANGE, "save: a size that is not from 2 to 64 gets 1 before 2 and 13");
     save(N, broken, 15, 38, VCUBE_REFUSED_TABLE_LENGTH, "save: 15 bytes get 2 before 3 and 13");
     save(N, NULL, 0, 39, VCUBE_REFUSED_TABLE_LENGTH, "save: a table of length 0 gets 2");
     save(N, broken, 16, 38, VCUBE_REFUSED_LINE_RULE, "save: more tests than distances get 3 before 4 and 13");
-    save(N, finished, 16, 38, VCUBE_REFUSED_ALL_FINISHED, "save: every live station is finished, 4 before 13");
+    save(N, finished, 16, 38, VCUBE_REFUSED_ROUND_NOT_CLOSED, "save: every live station is finished, 4 before 13");
     save(N, saved_table, 16, 0, VCUBE_REFUSED_LIST_LENGTH, "save: a buffer of length 0 gets 13");
     save(N, saved_table, 16, 35, VCUBE_REFUSED_LIST_LENGTH, "save: 35 bytes, the length of before 0.9, get 13");
     save(N, saved_table, 16, 39, VCUBE_ACCEPTED, "save: 39 bytes are accepted");
@@ -558,7 +558,7 @@ static void saved_lengths(void)
 static void size_of_saved(const uint8_t *saved, size_t saved_length, size_t n, int number, const char *what)
 {
     const int of_fields = number == VCUBE_REFUSED_FIELD_PAST_END || number == VCUBE_REFUSED_SIZE_OR_TALLY_FIELD;
-    const int refused = of_fields || number == VCUBE_REFUSED_SIZE;
+    const int refused = of_fields || number == VCUBE_REFUSED_SIZE_OUT_OF_RANGE;
     size_t given = ANY;
 
     expect(vcube_saved_size(saved, saved_length, &given) == (refused ? number : VCUBE_ACCEPTED), what);
@@ -647,7 +647,7 @@ static void size_and_tally_fields(void)
     LOAD(wrong, "load: 19 for the tally comes before 1 for the size", 1, 0, 1, 65, LINE_0, LINE_1);
     for (size_t k = 0; k < sizeof sizes; k++) {
         const uint8_t saved[] = {1, 0, 1, sizes[k], TALLY, LINE_0, LINE_0};
-        load(saved, sizeof saved, 15, VCUBE_REFUSED_SIZE, "load: a size that is not from 2 to 64 gets 1 before 20 and 2");
+        load(saved, sizeof saved, 15, VCUBE_REFUSED_SIZE_OUT_OF_RANGE, "load: a size that is not from 2 to 64 gets 1 before 20 and 2");
     }
 }
 
@@ -692,7 +692,7 @@ static void table_and_rules(void)
          SIZE_2, TALLY, 3, 0, 9, 0, 0, 2, 0, 1, NONE, 1, 0, 1, LINE_1);
     LOAD(VCUBE_REFUSED_LINE_RULE, "load: a crashed station that was told", SIZE_2, TALLY, LINE_0, 3, 0, 9, 1, 1, 1, 0, 0, 0, 0, 0, 0);
     LOAD(VCUBE_REFUSED_LINE_RULE, "load: a station that told itself", SIZE_2, TALLY, LINE_0, 3, 0, 9, 1, 2, 1, 0, 0, 1, 0, 0, 0);
-    LOAD(VCUBE_REFUSED_ALL_FINISHED, "load: every live station is finished",
+    LOAD(VCUBE_REFUSED_ROUND_NOT_CLOSED, "load: every live station is finished",
          SIZE_2, TALLY, 3, 0, 9, 0, 0, 2, 1, 1, NONE, 0, 0, 1, LINE_1);
 }
 

@@ -62,5 +62,5 @@ fn check_former_lines(size: Size, lines: &[&[u8]]) -> Result<(), Refusal> {
     let keeps = owned.all(|(own, line)| keeps_former_line_rules(size, own, line));
     Refusal::LineRule.when(!keeps)?;
     let mut live = lines.iter().filter(|line| line[0] == 0).peekable();
-    Refusal::AllFinished.when(live.peek().is_some() && live.all(|line| line[2] == 1))
+    Refusal::RoundNotClosed.when(live.peek().is_some() && live.all(|line| line[2] == 1))
 }

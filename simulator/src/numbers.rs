@@ -24,7 +24,7 @@ impl Size {
     pub fn new(n: usize) -> Result<Size, Refusal> {
         match n {
             2..=64 => Ok(Size(n as u8)),
-            _ => Err(Refusal::Size),
+            _ => Err(Refusal::SizeOutOfRange),
         }
     }
 
@@ -52,13 +52,13 @@ impl Size {
 
     /// The station with this number, or refusal 9.
     pub fn station(self, number: u8) -> Result<Station, Refusal> {
-        Refusal::Station.when(number >= self.0)?;
+        Refusal::NoSuchStation.when(number >= self.0)?;
         Ok(Station(number))
     }
 
     /// The level with this number, or refusal 12.
     pub fn level(self, number: u8) -> Result<Level, Refusal> {
-        Refusal::Level.when(number == 0 || number > self.dimension())?;
+        Refusal::NoSuchLevel.when(number == 0 || number > self.dimension())?;
         Ok(Level(number))
     }
 

@@ -23,7 +23,7 @@ impl Plant {
         check_length(size, table)?;
         Refusal::LineRule.when(!keeps_all_line_rules(size, table))?;
         let plant = Plant::decode(size, table);
-        Refusal::AllFinished.when(plant.all_live_finished())?;
+        Refusal::RoundNotClosed.when(plant.all_live_finished())?;
         Ok(plant)
     }
 

@@ -106,7 +106,7 @@ impl Kind {
             1 => Ok(Kind::Turn),
             2 => Ok(Kind::LateTurn),
             3 => Ok(Kind::Crash),
-            _ => Err(Refusal::Kind),
+            _ => Err(Refusal::UnknownKind),
         }
     }
 }
@@ -136,7 +136,7 @@ impl Watch {
 
     /// Refusal 7.
     pub fn check_tally(&self) -> Result<(), Refusal> {
-        Refusal::Tally.when(self.rounds == u32::MAX || self.tests == u32::MAX)
+        Refusal::TallyFull.when(self.rounds == u32::MAX || self.tests == u32::MAX)
     }
 
     /// Refusals 7 to 11.

@@ -3,14 +3,20 @@
 use std::error::Error;
 use std::fmt;
 
-/// An enum whose cases have the numbers of the rules.
+/// An enum whose cases have the numbers of the rules, and the words of the
+/// library.
 macro_rules! numbered {
-    ($(#[$about:meta])* $name:ident { $($(#[$of_case:meta])* $case:ident = $number:literal,)+ }) => {
+    ($(#[$about:meta])* $name:ident { $($(#[$of_case:meta])* $case:ident = $number:literal => $words:literal,)+ }) => {
         $(#[$about])*
         #[derive(Clone, Copy, Debug, PartialEq, Eq, Hash, PartialOrd, Ord)]
         #[repr(u8)]
         pub enum $name {
-            $($(#[$of_case])* $case = $number,)+
+            $(
+                #[doc = $words]
+                #[doc = ""]
+                $(#[$of_case])*
+                $case = $number,
+            )+
         }
 
         impl $name {
@@ -29,85 +35,81 @@ macro_rules! numbered {
                 }
             }
         }
+
+        impl fmt::Display for $name {
+            fn fmt(&self, f: &mut fmt::Formatter<'_>) -> fmt::Result {
+                f.write_str(match self {
+                    $($name::$case => $words,)+
+                })
+            }
+        }
     };
 }
 
 numbered! {
     /// Why a call was refused: the refusal list, in checking order; but a drive
-    /// looks for `Tally` after `LastGranted` and `NoneLive`, and a load for
-    /// `FieldPastEnd`, `SizeOrTallyField`, `Size`, `LineField`, `TableLength`,
-    /// `LineRule` and `AllFinished` in this order.
+    /// looks for `TallyFull` after `LastGranted` and `NoneLive`, a load for
+    /// `FieldPastEnd`, `NoOpening`, `FieldOrder`, `SizeOrTallyField`,
+    /// `SizeOutOfRange`, `LineField`, `TableLength`, `LineRule` and
+    /// `RoundNotClosed` in this order, and a conversion for `FieldPastEnd`,
+    /// `FieldOrder`, `SizeOrTallyField`, `SizeOutOfRange`, `LineField`, `LineRule`,
+    /// `RoundNotClosed` and `ListLength`. A station is a board in the words of the
+    /// library.
     #[non_exhaustive]
     Refusal {
-        /// The size is not from 2 to 64.
-        Size = 1,
-        /// The table's length is not n times (n + 6).
-        TableLength = 2,
-        /// A line of the table breaks a line rule.
-        LineRule = 3,
-        /// Some station is live, and every live one has finished its pass.
-        AllFinished = 4,
-        /// The schedule's length is odd.
-        ScheduleLength = 5,
-        /// The sheet's length is not twice the schedule's.
-        SheetLength = 6,
-        /// One of the two counters of the [`Tally`](crate::Tally) is full.
-        Tally = 7,
-        /// The kind is not 1, 2 or 3, those of [`Kind`].
-        Kind = 8,
+        SizeOutOfRange = 1 => "a plant has 2 to 64 boards",
+        TableLength = 2 => "the table has not n(n + 6) bytes",
+        LineRule = 3 => "a line of the table breaks a line rule",
+        /// Some station is live.
+        RoundNotClosed = 4 => "every live board has finished its pass, and the round was not closed",
+        ScheduleLength = 5 => "the schedule has an odd number of bytes",
+        SheetLength = 6 => "the sheet has not twice the bytes of the schedule",
+        /// Those of the [`Tally`](crate::Tally).
+        TallyFull = 7 => "a counter is full: rounds or tests stand at 4,294,967,295",
+        /// It is not 1, 2 or 3, those of [`Kind`].
+        UnknownKind = 8 => "there is no such kind of entry",
         /// The number of a [`Station`](crate::Station) is n or more.
-        Station = 9,
-        /// The station is not live.
-        NotLive = 10,
-        /// The kind is 1 or 2, and the station has finished its pass.
-        PassFinished = 11,
+        NoSuchStation = 9 => "there is no board with this number: they go from 0 to n - 1",
+        NotLive = 10 => "this board is not live",
+        /// And the kind is 1 or 2.
+        PassFinished = 11 => "this board has finished its pass in this round",
         /// A [`Level`](crate::Level) is 0 or above d.
-        Level = 12,
-        /// The list, or the buffer for a saved plant, has not the length stated.
-        ListLength = 13,
-        /// There is no result at all.
-        NoResult = 14,
-        /// There are more than 4096 results, or totals above what they can have.
-        TooManyResults = 15,
-        /// The last granted number is n or more, and not 255.
-        LastGranted = 16,
-        /// No station is live.
-        NoneLive = 17,
-        /// A field of the saved plant, or its head, runs past the end.
-        FieldPastEnd = 18,
-        /// The size or tally field is absent, there more than once or of wrong length.
-        SizeOrTallyField = 19,
-        /// A line field has the wrong length or a number of n or more, or a
-        /// station has none or several.
-        LineField = 20,
-        /// The first field of the saved plant is not its opening.
-        NoOpening = 21,
-        /// A field has a tag that is not known, or stands out of order.
-        FieldOrder = 22,
+        NoSuchLevel = 12 => "there is no such level: they go from 1 to d",
+        ListLength = 13 => "the list or buffer for the answer has another length than the answer",
+        NoResult = 14 => "there is no result to take figures of",
+        TooManyResults = 15 => "more than 4,096 results, or totals that so many cannot have",
+        /// It is n or more, and not 255.
+        LastGranted = 16 => "the last granted number is neither a board nor 255",
+        NoneLive = 17 => "no board is live",
+        FieldPastEnd = 18 => "the file is cut off: a field or its head goes past the end",
+        /// Or it is there more than twice.
+        SizeOrTallyField = 19 => "the field with the size or the tally is missing, there twice or of a wrong length",
+        /// Or it is there more than twice. A number of n or more is of no board.
+        LineField = 20 => "a board's line in the file is missing, there twice, of a wrong length or of no board",
+        NoOpening = 21 => "the file does not begin as edition 2 does",
+        FieldOrder = 22 => "a field is out of order, or of an unknown tag",
     }
 }
 
 numbered! {
     /// What an entry asks of its station.
     Kind {
-        Turn = 1,
-        /// A turn whose reply comes late.
-        LateTurn = 2,
-        Crash = 3,
+        Turn = 1 => "turn",
+        LateTurn = 2 => "turn whose reply comes late",
+        Crash = 3 => "crash",
     }
 }
 
 numbered! {
     /// Whether a station is live, and if not, why.
     Status {
-        Live = 0,
-        Crashed = 1,
-        /// It left because it was told that it is suspected: by a station that
-        /// it tested, or by one that tested it. [`told_by`](crate::told_by)
-        /// says by which.
-        Told = 2,
-        /// It left because it suspects all others.
-        Alone = 3,
+        Live = 0 => "live",
+        Crashed = 1 => "crashed",
+        /// It was told that it is suspected: by a station that it tested, or by
+        /// one that tested it. [`told_by`](crate::told_by) says by which.
+        Told = 2 => "left because told",
+        /// It suspects all others.
+        Alone = 3 => "left because alone",
     }
 }
 
@@ -116,59 +118,17 @@ numbered! {
     #[non_exhaustive]
     Outcome {
         /// No test was due any more.
-        PassFinished = 0,
+        PassFinished = 0 => "pass finished",
         /// Neither suspected the other: both rows became the union of the two.
-        Exchanged = 1,
-        /// The tester was told and left: the tested station suspected it.
-        Told = 2,
+        Exchanged = 1 => "exchanged",
+        /// The tester left: the tested station suspected it.
+        Told = 2 => "told, and left",
         /// The tested station is not live, or its reply was late: the tester
         /// suspects it.
-        NoReply = 3,
-        Crash = 4,
-        /// The tested station was told and left: the tester suspected it, and
-        /// was not suspected by it.
-        TestedTold = 5,
-    }
-}
-
-impl fmt::Display for Refusal {
-    fn fmt(&self, f: &mut fmt::Formatter<'_>) -> fmt::Result {
-        f.write_str(match self {
-            Refusal::Size => "the size is not from 2 to 64",
-            Refusal::TableLength => "the table's length is not n times (n + 6)",
-            Refusal::LineRule => "a line of the table breaks a line rule",
-            Refusal::AllFinished => "some station is live and every live one is finished",
-            Refusal::ScheduleLength => "the schedule's length is odd",
-            Refusal::SheetLength => "the sheet's length is not twice the schedule's",
-            Refusal::Tally => {
-                "either tally stands at 4294967295 when an entry, or a grant of a drive, is reached"
-            }
-            Refusal::Kind => "the kind is not 1, 2 or 3",
-            Refusal::Station => "the station number is n or more",
-            Refusal::NotLive => "the station is not live",
-            Refusal::PassFinished => "the kind is 1 or 2 and the station has finished its pass",
-            Refusal::Level => {
-                "the level is 0 or above d, the size's logarithm to base 2, rounded up"
-            }
-            Refusal::ListLength => {
-                "the lent list, or the buffer for a saved plant, has not the length stated"
-            }
-            Refusal::NoResult => "there is no result at all",
-            Refusal::TooManyResults => {
-                "there are more than 4096 results in all, or totals that 4096 results cannot have"
-            }
-            Refusal::LastGranted => "the last granted number is n or more and not 255",
-            Refusal::NoneLive => "no station is live",
-            Refusal::FieldPastEnd => "a field of the saved plant, or its head, runs past the end",
-            Refusal::SizeOrTallyField => {
-                "the size or tally field of the saved plant is absent, twice or of wrong length"
-            }
-            Refusal::LineField => {
-                "a line field of the saved plant has the wrong length, or a station is absent, twice or too high"
-            }
-            Refusal::NoOpening => "the file does not begin as edition 2 does",
-            Refusal::FieldOrder => "a field is out of order, or of an unknown tag",
-        })
+        NoReply = 3 => "no reply",
+        Crash = 4 => "crash",
+        /// The tester suspected it, and was not suspected by it.
+        TestedTold = 5 => "the tested board was told, and left",
     }
 }
 

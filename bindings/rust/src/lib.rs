@@ -41,12 +41,6 @@
 //! include/vcube.h, which also says what to do with a table of before version 0.9:
 //! it is refused with 2.
 //!
-//! # Names
-//!
-//! [`Refusal::Station`], [`Refusal::Level`], [`Refusal::Tally`] and
-//! [`Refusal::Kind`] are refusals, not the types of these names: write them with
-//! `Refusal::`.
-//!
 //! # Examples
 //!
 //! Four entries in a plant of 4:

@@ -120,9 +120,9 @@ fn group_stations_are_refused_as_the_group_list() {
         assert_eq!(list, vec![9; length]);
         refused
     };
-    assert_eq!(refusal(65, 0, 1, 1), Some(Refusal::Size));
-    assert_eq!(refusal(8, 8, 1, 1), Some(Refusal::Station));
-    assert_eq!(refusal(8, 0, 4, 8), Some(Refusal::Level));
+    assert_eq!(refusal(65, 0, 1, 1), Some(Refusal::SizeOutOfRange));
+    assert_eq!(refusal(8, 8, 1, 1), Some(Refusal::NoSuchStation));
+    assert_eq!(refusal(8, 0, 4, 8), Some(Refusal::NoSuchLevel));
     assert_eq!(refusal(8, 0, 3, 3), Some(Refusal::ListLength));
     assert_eq!(refusal(3, 2, 1, 1), Some(Refusal::ListLength));
     assert_eq!(refusal(3, 2, 1, 0), None);
@@ -317,9 +317,9 @@ fn the_row_is_that_very_part_of_the_table() {
 #[test]
 fn a_refused_row_has_its_refusal() {
     let mut table = fresh(4);
-    assert_eq!(row(65, &table, Station(0)), Err(Refusal::Size));
+    assert_eq!(row(65, &table, Station(0)), Err(Refusal::SizeOutOfRange));
     assert_eq!(row(4, &table[1..], Station(0)), Err(Refusal::TableLength));
-    assert_eq!(row(4, &table, Station(4)), Err(Refusal::Station));
+    assert_eq!(row(4, &table, Station(4)), Err(Refusal::NoSuchStation));
     table[0] = 4;
     assert_eq!(row(4, &table, Station(0)), Err(Refusal::LineRule));
 }
@@ -452,7 +452,10 @@ fn a_testing_turn_is_taken_just_below_the_greatest_tally() {
         tests: 4_294_967_294,
     };
     let answer = run(2, &mut fresh(2), &mut tally, &[1, 0, 1, 1], &mut [0; 8]);
-    assert_eq!((answer.refusal, answer.taken), (Some(Refusal::Tally), 1));
+    assert_eq!(
+        (answer.refusal, answer.taken),
+        (Some(Refusal::TallyFull), 1)
+    );
     assert_eq!((tally.rounds, tally.tests), (0, u32::MAX));
 }
 
@@ -468,8 +471,8 @@ fn a_run_refused_at_its_start_leaves_the_tally() {
         assert_eq!((answer.taken, tally), (0, before));
         answer.refusal
     };
-    assert_eq!(refused(1, &[1, 0], 4), Some(Refusal::Size));
-    assert_eq!(refused(65, &[1, 0], 4), Some(Refusal::Size));
+    assert_eq!(refused(1, &[1, 0], 4), Some(Refusal::SizeOutOfRange));
+    assert_eq!(refused(65, &[1, 0], 4), Some(Refusal::SizeOutOfRange));
     assert_eq!(refused(3, &[1, 0], 4), Some(Refusal::TableLength));
     assert_eq!(refused(2, &[1], 2), Some(Refusal::ScheduleLength));
     assert_eq!(refused(2, &[1, 0], 2), Some(Refusal::SheetLength));
@@ -480,7 +483,7 @@ fn a_run_refused_at_its_start_leaves_the_tally() {
 fn wrong_sizes_and_lengths_are_refused() {
     for n in [0, 1, 65, 66, 128] {
         let mut table = vec![0; table_length(n)];
-        assert_eq!(fresh_table(n, &mut table), Err(Refusal::Size));
+        assert_eq!(fresh_table(n, &mut table), Err(Refusal::SizeOutOfRange));
     }
     // 12 is the length of before version 0.9; 40 is that of 4 stations.
     for length in [0, 12, 15, 17] {
@@ -497,13 +500,16 @@ fn numbers_out_of_range_are_refused() {
     let table = fresh(4);
     let mut list = [0; assignment_length(4)];
     for station in [4, 255, 256, usize::MAX] {
-        let refused = Err(Refusal::Station);
+        let refused = Err(Refusal::NoSuchStation);
         assert_eq!(assignment(4, &table, Station(station), &mut list), refused);
-        assert_eq!(row(4, &table, Station(station)), Err(Refusal::Station));
+        assert_eq!(
+            row(4, &table, Station(station)),
+            Err(Refusal::NoSuchStation)
+        );
     }
     for level in [0, 3, 257, usize::MAX] {
         let refused = group_list(4, Station(0), Level(level), &mut list);
-        assert_eq!(refused, Err(Refusal::Level));
+        assert_eq!(refused, Err(Refusal::NoSuchLevel));
     }
 }
 
@@ -535,9 +541,15 @@ fn refusals_of_tables_and_entries_have_their_names() {
         run(2, table, &mut Tally::default(), schedule, &mut sheet).refusal
     };
     let mut all_finished = [0, 2, 1, 0, NONE, 0, 0, 0].repeat(2);
-    assert_eq!(refusal(&mut all_finished, &[]), Some(Refusal::AllFinished));
-    assert_eq!(refusal(&mut fresh(2), &[4, 0]), Some(Refusal::Kind));
-    assert_eq!(refusal(&mut fresh(2), &[1, 2]), Some(Refusal::Station));
+    assert_eq!(
+        refusal(&mut all_finished, &[]),
+        Some(Refusal::RoundNotClosed)
+    );
+    assert_eq!(refusal(&mut fresh(2), &[4, 0]), Some(Refusal::UnknownKind));
+    assert_eq!(
+        refusal(&mut fresh(2), &[1, 2]),
+        Some(Refusal::NoSuchStation)
+    );
     let third_turn = refusal(&mut fresh(2), &[1, 0, 1, 0, 1, 0]);
     assert_eq!(third_turn, Some(Refusal::PassFinished));
 }
@@ -551,7 +563,14 @@ fn each_refusal_has_a_message_of_its_own() {
     messages.dedup();
     assert_eq!(messages.len(), 20);
     let error: Box<dyn std::error::Error> = Refusal::NotLive.into();
-    assert_eq!(error.to_string(), "the station is not live");
+    assert_eq!(error.to_string(), "this board is not live");
+}
+
+#[test]
+fn kinds_statuses_and_outcomes_have_words() {
+    assert_eq!(Kind::LateTurn.to_string(), "turn whose reply comes late");
+    assert_eq!(Status::Alone.to_string(), "left because alone");
+    assert_eq!(Outcome::Told.to_string(), "told, and left");
 }
 
 fn fraction(upper: u64, lower: u64) -> Fraction {

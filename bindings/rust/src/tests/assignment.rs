@@ -261,7 +261,7 @@ fn the_library_wants_lists_of_the_assignment_length() {
 #[test]
 fn assignments_are_refused_by_1_to_4_9_10_and_13() {
     let fresh = fresh(8);
-    assert_eq!(refusal(65, &fresh, 5, 14), Some(Refusal::Size));
+    assert_eq!(refusal(65, &fresh, 5, 14), Some(Refusal::SizeOutOfRange));
     assert_eq!(refusal(8, &fresh[1..], 5, 14), Some(Refusal::TableLength));
     let mut table = fresh.clone();
     table[0] = 4;
@@ -269,9 +269,9 @@ fn assignments_are_refused_by_1_to_4_9_10_and_13() {
     for line in table.chunks_mut(14) {
         line[..4].copy_from_slice(&[0, 8, 1, 3]);
     }
-    assert_eq!(refusal(8, &table, 5, 14), Some(Refusal::AllFinished));
-    assert_eq!(refusal(8, &fresh, 8, 14), Some(Refusal::Station));
-    assert_eq!(refusal(8, &fresh, 8, 7), Some(Refusal::Station));
+    assert_eq!(refusal(8, &table, 5, 14), Some(Refusal::RoundNotClosed));
+    assert_eq!(refusal(8, &fresh, 8, 14), Some(Refusal::NoSuchStation));
+    assert_eq!(refusal(8, &fresh, 8, 7), Some(Refusal::NoSuchStation));
     let mut table = fresh.clone();
     table[5 * 14] = 1;
     assert_eq!(refusal(8, &table, 5, 14), Some(Refusal::NotLive));

@@ -60,7 +60,7 @@ fn refusal(n: usize, table: &[u8], last: Option<usize>) -> Refusal {
 #[test]
 fn grants_and_drives_are_refused_by_1_to_4_before_16() {
     for n in [0, 1, 65, 258, usize::MAX] {
-        assert_eq!(refusal(n, &[9; 15], Some(n)), Refusal::Size);
+        assert_eq!(refusal(n, &[9; 15], Some(n)), Refusal::SizeOutOfRange);
     }
     assert_eq!(refusal(2, &[9; 15], Some(2)), Refusal::TableLength);
     assert_eq!(refusal(3, &fresh(2), Some(3)), Refusal::TableLength);
@@ -69,7 +69,10 @@ fn grants_and_drives_are_refused_by_1_to_4_before_16() {
     let mut lines = [[0, 2, 1, 0, NONE, 0, 0, 0], [0, 2, 1, 2, NONE, 0, 0, 0]];
     assert_eq!(refusal(2, &lines.concat(), Some(2)), Refusal::LineRule);
     lines[1][3] = 1;
-    assert_eq!(refusal(2, &lines.concat(), Some(2)), Refusal::AllFinished);
+    assert_eq!(
+        refusal(2, &lines.concat(), Some(2)),
+        Refusal::RoundNotClosed
+    );
 }
 
 #[test]
@@ -172,7 +175,7 @@ fn a_drive_stops_with_7_before_its_first_grant() {
         for last in [None, Some(Station(1)), Some(Station(255))] {
             let mut table = fresh(2);
             let given = after_drive(&mut table, before, last);
-            assert_eq!(given, (stopped(Refusal::Tally, 0), before, last));
+            assert_eq!(given, (stopped(Refusal::TallyFull, 0), before, last));
             assert_eq!(table, fresh(2));
         }
     }
@@ -184,11 +187,17 @@ fn a_drive_that_stops_with_7_keeps_the_turns_made() {
     let top = tally(5, u32::MAX);
     let mut table = fresh(2);
     let given = after_drive(&mut table, tally(5, u32::MAX - 1), None);
-    assert_eq!(given, (stopped(Refusal::Tally, 1), top, Some(Station(0))));
+    assert_eq!(
+        given,
+        (stopped(Refusal::TallyFull, 1), top, Some(Station(0)))
+    );
     assert_eq!(table, [tested, [0, 1, 0, 0, NONE, 0, 0, 0]].concat());
     let mut table = fresh(2);
     let given = after_drive(&mut table, tally(5, u32::MAX - 2), None);
-    assert_eq!(given, (stopped(Refusal::Tally, 2), top, Some(Station(1))));
+    assert_eq!(
+        given,
+        (stopped(Refusal::TallyFull, 2), top, Some(Station(1)))
+    );
     assert_eq!(table, [tested, tested].concat());
 }
 

@@ -88,7 +88,7 @@ fn refusal(n: usize, table: &[u8], station: usize) -> Option<Refusal> {
 fn lines_are_refused_by_1_to_4_and_9() {
     let mut table = fresh(4);
     for n in [0, 1, 65, 260, usize::MAX] {
-        assert_eq!(refusal(n, &table, 0), Some(Refusal::Size));
+        assert_eq!(refusal(n, &table, 0), Some(Refusal::SizeOutOfRange));
     }
     // 32 is the length of before version 0.9.
     for length in [0, 32, 39] {
@@ -96,12 +96,12 @@ fn lines_are_refused_by_1_to_4_and_9() {
         assert_eq!(refused, Some(Refusal::TableLength));
     }
     for station in [4, 255, 256, usize::MAX] {
-        assert_eq!(refusal(4, &table, station), Some(Refusal::Station));
+        assert_eq!(refusal(4, &table, station), Some(Refusal::NoSuchStation));
     }
     table[30] = 4;
     assert_eq!(refusal(4, &table, 0), Some(Refusal::LineRule));
     let finished = [0, 4, 1, 3, NONE, 0, 0, 0, 0, 0].repeat(4);
-    assert_eq!(refusal(4, &finished, 4), Some(Refusal::AllFinished));
+    assert_eq!(refusal(4, &finished, 4), Some(Refusal::RoundNotClosed));
 }
 
 /// Whether the rules Live line, Crashed or alone line and Told line take this

@@ -50,7 +50,7 @@ fn refusal(saved: &[u8], table_length: usize) -> Refusal {
     let refusal = load(saved, &mut table).expect_err("refused");
     assert_eq!(table, vec![9; table_length]);
     let size = match refusal {
-        Refusal::FieldPastEnd | Refusal::SizeOrTallyField | Refusal::Size => Err(refusal),
+        Refusal::FieldPastEnd | Refusal::SizeOrTallyField | Refusal::SizeOutOfRange => Err(refusal),
         _ => Ok(2),
     };
     assert_eq!(saved_size(saved), size);
@@ -131,7 +131,7 @@ fn saves_are_refused_by_1_to_4_before_13() {
         result.expect_err("refused")
     };
     for n in [0, 1, 65, 255, 258, usize::MAX] {
-        assert_eq!(refusal(n, &[9; 15]), Refusal::Size);
+        assert_eq!(refusal(n, &[9; 15]), Refusal::SizeOutOfRange);
     }
     // 12 is the length of before version 0.9.
     assert_eq!(refusal(2, &[9; 12]), Refusal::TableLength);
@@ -142,7 +142,7 @@ fn saves_are_refused_by_1_to_4_before_13() {
     table[2..4].copy_from_slice(&[1, 2]);
     assert_eq!(refusal(2, &table), Refusal::LineRule);
     table[3] = 1;
-    assert_eq!(refusal(2, &table), Refusal::AllFinished);
+    assert_eq!(refusal(2, &table), Refusal::RoundNotClosed);
     assert_eq!(refusal(2, &TABLE), Refusal::ListLength);
 }
 
@@ -288,7 +288,7 @@ fn the_size_field_and_the_tally_field_stand_there_once_with_their_length() {
 fn the_size_is_from_2_to_64() {
     for size in [0, 1, 65, 66, 128, 255] {
         let refused = refusal_in_place_of(SIZE_FIELD, &[1, 0, 1, size]);
-        assert_eq!(refused, Refusal::Size);
+        assert_eq!(refused, Refusal::SizeOutOfRange);
     }
 }
 
@@ -362,7 +362,7 @@ fn the_lines_that_were_saved_obey_the_rules() {
     }
     assert_eq!(
         with_line_0([0, 2, 1, 1, NONE, 0, 0, 1]),
-        Refusal::AllFinished
+        Refusal::RoundNotClosed
     );
 }
 
@@ -378,14 +378,14 @@ fn loads_are_refused_by_18_19_1_20_2_3_and_4_in_this_order() {
     fields.truncate(4);
     assert_eq!(refused(&fields, 15), Refusal::SizeOrTallyField);
     fields.truncate(3);
-    assert_eq!(refused(&fields, 15), Refusal::Size);
+    assert_eq!(refused(&fields, 15), Refusal::SizeOutOfRange);
     fields[2] = SIZE_FIELD;
     assert_eq!(refused(&fields, 15), Refusal::LineField);
     fields.push(LINE_1);
     assert_eq!(refused(&fields, 15), Refusal::TableLength);
     assert_eq!(refused(&fields, 16), Refusal::LineRule);
     fields[0] = FINISHED_0;
-    assert_eq!(refused(&fields, 16), Refusal::AllFinished);
+    assert_eq!(refused(&fields, 16), Refusal::RoundNotClosed);
     fields[0] = LINE_0;
     gives_the_plant(&fields.concat());
 }

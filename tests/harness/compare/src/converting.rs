@@ -4,7 +4,9 @@
 use shared::table::{line_length, HEAD, LEFT_TOLD, NOT_RECORDED, STATUS, TOLD_BY, TOLD_BY_NONE};
 
 use crate::saving::{put_from_start, saved_length, stations, Field, Reader, Writer};
-use crate::saving::{BUFFER_LENGTH, FIELD_HEAD, FRONT, LINE, LINES, ORDER, PAST_END};
+use crate::saving::{
+    FIELD_HEAD, FIELD_ORDER, FIELD_PAST_END, LINE, LINE_FIELD, LIST_LENGTH, SIZE_OR_TALLY_FIELD,
+};
 use crate::saving::{OPENING, READER, SIZE, TALLY, WRITER};
 
 /// The bytes of a line before its row in edition 1.
@@ -41,7 +43,16 @@ pub const FORMER_WRITER: Writer = Writer {
 
 /// How the converter reads a stored file.
 pub const FORMER_READER: Reader = Reader {
-    order: &[PAST_END, ORDER, FRONT, 1, LINES, 3, 4, BUFFER_LENGTH],
+    order: &[
+        FIELD_PAST_END,
+        FIELD_ORDER,
+        SIZE_OR_TALLY_FIELD,
+        1,
+        LINE_FIELD,
+        3,
+        4,
+        LIST_LENGTH,
+    ],
     is_opened: |_| false,
     is_ascending: |_, _| true,
     are_lines: |n, fields| have_former_length(n, fields) && stations(fields).into_iter().eq(0..n),

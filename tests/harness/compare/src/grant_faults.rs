@@ -6,7 +6,7 @@ use simulator::Driven;
 
 use crate::call::{Call, Kind, Name};
 use crate::faults::{clear_tally, grow, leave, put, Fault};
-use crate::granting::{is_wrong, Rule, LAST_GRANTED, NONE_LIVE, RIGHT, TALLY};
+use crate::granting::{is_wrong, Rule, LAST_GRANTED, NONE_LIVE, RIGHT, TALLY_FULL};
 use crate::outcome::Outcome;
 
 /// A drive by another rule is followed turn by turn, which takes long: only in
@@ -122,12 +122,12 @@ pub const OF_REFUSALS: [Fault; 9] = [
     }),
     ("7 comes before 16", |call, outcome| {
         if outcome.number == LAST_GRANTED && is_full_drive(call) {
-            outcome.number = TALLY;
+            outcome.number = TALLY_FULL;
         }
     }),
     ("7 comes before 17", |call, outcome| {
         if outcome.number == NONE_LIVE && is_full_drive(call) {
-            outcome.number = TALLY;
+            outcome.number = TALLY_FULL;
         }
     }),
     ("last number n is taken", |call, outcome| {
@@ -214,7 +214,7 @@ pub const OF_ANSWERS: [Fault; 15] = [
     }),
     ("a drive stops though it has ended", |call, outcome| {
         if is_ended(call, outcome) && is_full(tally_after(outcome)) {
-            outcome.number = TALLY;
+            outcome.number = TALLY_FULL;
         }
     }),
     ("7 is looked for at the start only", |call, outcome| {
@@ -310,7 +310,7 @@ fn number_from(call: &Call, last: usize) -> u8 {
 
 /// Whether the call is a drive that is refused by another number than 7.
 fn is_refused_drive(call: &Call, outcome: &Outcome) -> bool {
-    call.kind == Kind::Drive && !matches!(outcome.number, 0 | TALLY)
+    call.kind == Kind::Drive && !matches!(outcome.number, 0 | TALLY_FULL)
 }
 
 /// Whether the call is a drive that closed a round or left nobody live.
@@ -325,7 +325,7 @@ fn is_left_by_all(call: &Call, outcome: &Outcome) -> bool {
 }
 
 fn is_stopped(call: &Call, outcome: &Outcome) -> bool {
-    (call.kind, outcome.number) == (Kind::Drive, TALLY)
+    (call.kind, outcome.number) == (Kind::Drive, TALLY_FULL)
 }
 
 /// Whether the call is a drive that is handed a full tally.

@@ -4,7 +4,7 @@ use shared::grants::NONE_YET;
 use shared::table::{lines, live_stations, unfinished_stations};
 
 use crate::call::{Call, Kind, Name};
-use crate::granting::{is_wrong, LAST_GRANTED, NONE_LIVE, TALLY};
+use crate::granting::{is_wrong, LAST_GRANTED, NONE_LIVE, TALLY_FULL};
 use crate::occurred::{self, Occurred};
 use crate::outcome::Outcome;
 
@@ -223,7 +223,7 @@ fn is_full_too(seen: &Seen, number: u8) -> bool {
 }
 
 fn is_refused_at_start(seen: &Seen) -> bool {
-    !matches!(seen.number, 0 | TALLY)
+    !matches!(seen.number, 0 | TALLY_FULL)
 }
 
 /// Whether an accepted grant passes over the station that it looks at first,
@@ -247,7 +247,7 @@ fn is_left_by_all(seen: &Seen) -> bool {
 }
 
 fn is_stopped(seen: &Seen) -> bool {
-    seen.number == TALLY
+    seen.number == TALLY_FULL
 }
 
 /// Whether rounds and tests are full, handed in or given back.
@@ -311,7 +311,7 @@ impl Drive {
             grants: figure(Name::Grants),
             tallies: [call.tally(), given_back],
             left: match outcome.number {
-                0 | TALLY => live_stations(call.numbers.n, table).len(),
+                0 | TALLY_FULL => live_stations(call.numbers.n, table).len(),
                 _ => 0,
             },
         }

@@ -7,7 +7,7 @@ use shared::table::{lines, live_stations, Line};
 use simulator::Driven;
 
 // Refusals.
-pub const TALLY: u8 = 7;
+pub const TALLY_FULL: u8 = 7;
 pub const LAST_GRANTED: u8 = 16;
 pub const NONE_LIVE: u8 = 17;
 

@@ -9,7 +9,7 @@ use crate::words::{self, MOST, MOST_RESULTS};
 
 /// The refusals.
 const NO_RESULT: u8 = 14;
-const TOO_MANY: u8 = 15;
+const TOO_MANY_RESULTS: u8 = 15;
 
 pub const ALL: [Fault; 22] = [
     (
@@ -65,16 +65,16 @@ pub const ALL: [Fault; 22] = [
     ("15 comes before 14", |call, outcome| {
         let too_great = sums(call).is_some_and(too_great);
         if outcome.number == NO_RESULT && too_great {
-            outcome.number = TOO_MANY;
+            outcome.number = TOO_MANY_RESULTS;
         }
     }),
     ("4,096 results are refused", |call, outcome| {
         if outcome.number == 0 && count(call) == Some(4_096) {
-            refuse(outcome, TOO_MANY);
+            refuse(outcome, TOO_MANY_RESULTS);
         }
     }),
     ("4,097 results are taken", |call, outcome| {
-        if outcome.number == TOO_MANY && count(call) == Some(4_097) {
+        if outcome.number == TOO_MANY_RESULTS && count(call) == Some(4_097) {
             outcome.number = 0;
         }
     }),
@@ -117,7 +117,7 @@ pub const ALL: [Fault; 22] = [
     }),
     ("only the count of totals is bounded", |call, outcome| {
         let few = sums(call).is_some_and(|[count, ..]| count <= MOST[0].into());
-        if outcome.number == TOO_MANY && few {
+        if outcome.number == TOO_MANY_RESULTS && few {
             outcome.number = 0;
         }
     }),

@@ -15,16 +15,22 @@ pub const OPENING: u8 = 4;
 pub const EDITION: u8 = 2;
 
 // Refusals.
-pub const BUFFER_LENGTH: u8 = 13;
-pub const PAST_END: u8 = 18;
-pub const FRONT: u8 = 19;
-pub const LINES: u8 = 20;
+pub const LIST_LENGTH: u8 = 13;
+pub const FIELD_PAST_END: u8 = 18;
+pub const SIZE_OR_TALLY_FIELD: u8 = 19;
+pub const LINE_FIELD: u8 = 20;
 pub const NO_OPENING: u8 = 21;
-pub const ORDER: u8 = 22;
+pub const FIELD_ORDER: u8 = 22;
 
 /// Those of the question for the size, or for the length that a converter needs:
 /// they are about the fields but for the lines.
-const ASKED: [u8; 5] = [PAST_END, NO_OPENING, ORDER, FRONT, 1];
+const ASKED: [u8; 5] = [
+    FIELD_PAST_END,
+    NO_OPENING,
+    FIELD_ORDER,
+    SIZE_OR_TALLY_FIELD,
+    1,
+];
 
 /// The bytes of a field before its contents: the tag and the length.
 pub const FIELD_HEAD: usize = 3;
@@ -178,7 +184,17 @@ pub struct Reader {
 
 /// The reader as it is.
 pub const READER: Reader = Reader {
-    order: &[PAST_END, NO_OPENING, ORDER, FRONT, 1, LINES, 2, 3, 4],
+    order: &[
+        FIELD_PAST_END,
+        NO_OPENING,
+        FIELD_ORDER,
+        SIZE_OR_TALLY_FIELD,
+        1,
+        LINE_FIELD,
+        2,
+        3,
+        4,
+    ],
     length: |bytes| u16::from_be_bytes(bytes).into(),
     split: <[u8]>::split_at_checked,
     is_over: <[u8]>::is_empty,
@@ -344,17 +360,17 @@ impl Reader {
     fn is_met(&self, number: u8, read: &Read) -> bool {
         let n = read.n;
         match number {
-            PAST_END => read.past_end,
+            FIELD_PAST_END => read.past_end,
             NO_OPENING => !read.is_opened,
-            ORDER => !self.are_in_order(&read.fields),
-            FRONT => {
+            FIELD_ORDER => !self.are_in_order(&read.fields),
+            SIZE_OR_TALLY_FIELD => {
                 let are_front = |tag, fields| (self.is_front)(tag, fields);
                 !are_front(SIZE, &read.sizes) || !are_front(TALLY, &read.tallies)
             }
             1 => !(self.is_size)(n),
-            LINES => !(self.are_lines)(n, &read.lines),
+            LINE_FIELD => !(self.are_lines)(n, &read.lines),
             2 => read.lent != table_length(n),
-            BUFFER_LENGTH => read.lent != saved_length(n),
+            LIST_LENGTH => read.lent != saved_length(n),
             3 => simulator::check_table(n, &self.table(read)) == 3,
             _ => {
                 let table = self.table(read);

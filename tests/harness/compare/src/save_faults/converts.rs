@@ -4,14 +4,14 @@ use shared::groups::{distances, SIZES};
 use shared::table::{CRASHED, LEFT_ALONE, NOT_RECORDED, TOLD_BY_NONE};
 
 use super::fields::CUT_AT_THE_END;
-use super::{convert_by, is_full, is_refused, length_by, FULL_TALLY};
+use super::{convert_by, is_full, is_refused, length_by, TALLY_FULL};
 use crate::call::{Call, Kind, Name};
 use crate::converting::{former_line_contents, former_saved_length, have_former_length};
 use crate::converting::{Converter, CONVERTER, FORMER_READER, FORMER_WRITER};
 use crate::faults::{leave, put, Fault};
 use crate::outcome::Outcome;
 use crate::saving::{have_line_length, put_from_start, saved_length, stations, two_figures};
-use crate::saving::{Reader, Writer, BUFFER_LENGTH, LINE, LINES, OPENING, ORDER, READER};
+use crate::saving::{Reader, Writer, FIELD_ORDER, LINE, LINE_FIELD, LIST_LENGTH, OPENING, READER};
 use crate::saving::{SIZE, TALLY, WRITER};
 
 /// Faults in which files are taken, and in what is written.
@@ -381,17 +381,17 @@ pub const OF_ANSWERS: [Fault; 8] = [
         let (read, _) = FORMER_READER.load(call.buffers.get(Name::Old), length);
         if is_converted(call, outcome) && is_full((read.rounds, read.tests)) {
             leave(call, outcome, Name::Saved);
-            outcome.number = FULL_TALLY;
+            outcome.number = TALLY_FULL;
         }
     }),
     ("convert: written before 20 is judged", |call, outcome| {
-        write_though(call, outcome, LINES);
+        write_though(call, outcome, LINE_FIELD);
     }),
     ("convert: written before 3 is judged", |call, outcome| {
         write_though(call, outcome, 3);
     }),
     ("convert: written before 13 is judged", |call, outcome| {
-        write_though(call, outcome, BUFFER_LENGTH);
+        write_though(call, outcome, LIST_LENGTH);
     }),
     (
         "convert: a refused one clears the buffer",
@@ -473,8 +473,8 @@ pub const OF_LENGTH: [Fault; 9] = [
     ("length: the lines are judged", |call, outcome| {
         if (call.kind, outcome.number) == (Kind::ConvertedLength, 0) {
             let met = FORMER_READER.met(call.buffers.get(Name::Old), 0);
-            if met.contains(&LINES) {
-                outcome.number = LINES;
+            if met.contains(&LINE_FIELD) {
+                outcome.number = LINE_FIELD;
                 put(outcome, Name::Length, 0);
             }
         }
@@ -556,7 +556,7 @@ fn told_by_none_unless(is_one: bool, status: u8) -> [u8; 2] {
 fn take_empty(call: &Call, outcome: &mut Outcome) {
     let (fields, _) = FORMER_READER.fields(call.buffers.get(Name::Old));
     let mut others = fields.iter().filter(|field| !field.is_of_plant());
-    if is_refused(call, outcome, Kind::Convert, ORDER)
+    if is_refused(call, outcome, Kind::Convert, FIELD_ORDER)
         && others.all(|field| field.contents.is_empty())
     {
         read_by(
@@ -571,7 +571,7 @@ fn take_empty(call: &Call, outcome: &mut Outcome) {
 fn take_buffer(call: &Call, outcome: &mut Outcome, is_one: fn(usize, usize) -> bool) {
     let (_, n) = FORMER_READER.saved_size(call.buffers.get(Name::Old));
     let lent = call.buffers.get(Name::Saved).len();
-    if is_refused(call, outcome, Kind::Convert, BUFFER_LENGTH) && is_one(n, lent) {
+    if is_refused(call, outcome, Kind::Convert, LIST_LENGTH) && is_one(n, lent) {
         outcome.number = 0;
     }
 }

@@ -2,7 +2,7 @@
 
 use shared::groups::{distances, SIZES};
 
-use super::{is_full, is_loaded, load_by, refuse, FULL_TALLY};
+use super::{is_full, is_loaded, load_by, refuse, TALLY_FULL};
 use crate::faults::Fault;
 use crate::saved::given_tally;
 use crate::saving::{has_front_length, two_figures, Reader, READER, SIZE, TALLY};
@@ -50,7 +50,7 @@ pub const ALL: [Fault; 12] = [
     }),
     ("load: a full tally is refused", |call, outcome| {
         if is_loaded(call, outcome) && is_full(given_tally(outcome)) {
-            refuse(call, outcome, FULL_TALLY);
+            refuse(call, outcome, TALLY_FULL);
         }
     }),
 ];

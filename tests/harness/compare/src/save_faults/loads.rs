@@ -6,7 +6,7 @@ use super::{is_loaded, is_refused, put_tally};
 use crate::call::{Call, Kind, Name};
 use crate::faults::{clear_tally, leave, put, Fault};
 use crate::outcome::Outcome;
-use crate::saving::{contents_with, LINES, READER, TALLY};
+use crate::saving::{contents_with, LINE_FIELD, READER, TALLY};
 
 pub const ALL: [Fault; 14] = [
     ("a refused load leaves the size", |call, outcome| {
@@ -38,7 +38,7 @@ pub const ALL: [Fault; 14] = [
         }
     }),
     ("load: written before 20 is judged", |call, outcome| {
-        restore_though(call, outcome, LINES);
+        restore_though(call, outcome, LINE_FIELD);
     }),
     ("load: written before 3 is judged", |call, outcome| {
         restore_though(call, outcome, 3);

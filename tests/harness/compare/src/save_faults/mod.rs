@@ -19,7 +19,7 @@ use crate::outcome::Outcome;
 use crate::saving::{put_from_start, Field, Reader, Writer, READER, WRITER};
 
 /// A full tally stops a run or a drive, and nothing else.
-const FULL_TALLY: u8 = 7;
+const TALLY_FULL: u8 = 7;
 
 /// All of them.
 pub fn all() -> impl Iterator<Item = Fault> {

@@ -4,7 +4,7 @@
 use super::{load_by, refuse_if};
 use crate::faults::Fault;
 use crate::saving::{is_station_below, Field, Reader};
-use crate::saving::{EDITION, LINE, OPENING, ORDER, READER, SIZE, TALLY};
+use crate::saving::{EDITION, FIELD_ORDER, LINE, OPENING, READER, SIZE, TALLY};
 
 /// Faults in what is taken for an opening.
 pub const OF_OPENING: [Fault; 8] = [
@@ -48,7 +48,7 @@ pub const OF_OPENING: [Fault; 8] = [
         );
     }),
     ("load: the opening is the one before", |call, outcome| {
-        refuse_if(call, outcome, ORDER, |_| true);
+        refuse_if(call, outcome, FIELD_ORDER, |_| true);
     }),
 ];
 

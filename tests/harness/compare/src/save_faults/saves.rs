@@ -2,12 +2,12 @@
 
 use shared::groups::{distances, SIZES};
 
-use super::{is_full, is_refused, save_by, write, FULL_TALLY};
+use super::{is_full, is_refused, save_by, write, TALLY_FULL};
 use crate::call::{Call, Kind, Name};
 use crate::converting::former_saved_length;
 use crate::faults::{leave, Fault};
 use crate::outcome::Outcome;
-use crate::saving::{saved_length, Writer, BUFFER_LENGTH};
+use crate::saving::{saved_length, Writer, LIST_LENGTH};
 use crate::saving::{LINE, OPENING, SIZE, TALLY, WRITER};
 
 /// Faults in the bytes that are written.
@@ -78,16 +78,16 @@ pub const OF_SAVES: [Fault; 13] = [
     }),
     ("save: a longer buffer is taken", |call, outcome| {
         let length = call.buffers.get(Name::Saved).len();
-        if is_refused(call, outcome, Kind::Save, BUFFER_LENGTH) {
+        if is_refused(call, outcome, Kind::Save, LIST_LENGTH) {
             let is_longer = length > saved_length(call.numbers.n);
-            outcome.number = if is_longer { 0 } else { BUFFER_LENGTH };
+            outcome.number = if is_longer { 0 } else { LIST_LENGTH };
         }
     }),
     ("save: a buffer for 2^d lines", |call, outcome| {
-        if call.kind == Kind::Save && matches!(outcome.number, 0 | BUFFER_LENGTH) {
+        if call.kind == Kind::Save && matches!(outcome.number, 0 | LIST_LENGTH) {
             let wanted = saved_length(distances(call.numbers.n));
             let fits = call.buffers.get(Name::Saved).len() == wanted;
-            outcome.number = if fits { 0 } else { BUFFER_LENGTH };
+            outcome.number = if fits { 0 } else { LIST_LENGTH };
         }
     }),
     (
@@ -95,7 +95,7 @@ pub const OF_SAVES: [Fault; 13] = [
         |call, outcome| {
             let length = call.buffers.get(Name::Saved).len();
             let is_short = length + 4 == saved_length(call.numbers.n);
-            if is_refused(call, outcome, Kind::Save, BUFFER_LENGTH) && is_short {
+            if is_refused(call, outcome, Kind::Save, LIST_LENGTH) && is_short {
                 outcome.number = 0;
             }
         },
@@ -103,14 +103,14 @@ pub const OF_SAVES: [Fault; 13] = [
     ("save: a buffer for a file of edition 1", |call, outcome| {
         let length = call.buffers.get(Name::Saved).len();
         let is_former = length == former_saved_length(call.numbers.n);
-        if is_refused(call, outcome, Kind::Save, BUFFER_LENGTH) && is_former {
+        if is_refused(call, outcome, Kind::Save, LIST_LENGTH) && is_former {
             outcome.number = 0;
         }
     }),
     ("save: a full tally is refused", |call, outcome| {
         if (call.kind, outcome.number) == (Kind::Save, 0) && is_full(call.tally()) {
             leave(call, outcome, Name::Saved);
-            outcome.number = FULL_TALLY;
+            outcome.number = TALLY_FULL;
         }
     }),
     ("save: written before 3 is judged", |call, outcome| {
@@ -122,7 +122,7 @@ pub const OF_SAVES: [Fault; 13] = [
     (
         "save: a byte is written where 13 is met",
         |call, outcome| {
-            if is_refused(call, outcome, Kind::Save, BUFFER_LENGTH) {
+            if is_refused(call, outcome, Kind::Save, LIST_LENGTH) {
                 let saved = outcome.buffers.get_mut(Name::Saved).contents_mut();
                 saved.iter_mut().take(1).for_each(|byte| *byte = SIZE);
             }
@@ -150,6 +150,6 @@ fn save_sooner(call: &Call, outcome: &mut Outcome, number: u8) {
         .contains(&call.numbers.n)
         .then(|| saved_length(call.numbers.n));
     if is_refused(call, outcome, Kind::Save, number) && wanted != Some(length) {
-        outcome.number = BUFFER_LENGTH;
+        outcome.number = LIST_LENGTH;
     }
 }

@@ -7,7 +7,7 @@ use super::{is_refused, size_by};
 use crate::call::{Call, Kind, Name};
 use crate::faults::{leave, put, Fault};
 use crate::outcome::Outcome;
-use crate::saving::{contents_with, Reader, LINES, OPENING, READER, SIZE, TALLY};
+use crate::saving::{contents_with, Reader, LINE_FIELD, OPENING, READER, SIZE, TALLY};
 
 pub const ALL: [Fault; 22] = [
     ("size: lengths low byte first", |call, outcome| {
@@ -77,7 +77,7 @@ pub const ALL: [Fault; 22] = [
         size_by(&Reader { is_size, ..READER }, call, outcome);
     }),
     ("size: the lines are judged", |call, outcome| {
-        judge_more(call, outcome, &[LINES]);
+        judge_more(call, outcome, &[LINE_FIELD]);
     }),
     ("size: the table is judged", |call, outcome| {
         judge_more(call, outcome, &[3, 4]);

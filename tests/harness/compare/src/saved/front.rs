@@ -2,26 +2,38 @@
 //! size field and the tally field, and by a field that runs past the end.
 
 use super::{is_met_but, is_met_too, with_tag, Case, Seen};
-use crate::saving::{FRONT, LINES, NO_OPENING, ORDER, PAST_END, READER, SIZE, TALLY};
+use crate::saving::{
+    FIELD_ORDER, FIELD_PAST_END, LINE_FIELD, NO_OPENING, READER, SIZE, SIZE_OR_TALLY_FIELD, TALLY,
+};
 
 pub const ALL: [Case; 25] = [
     ("one stray byte at the end", |seen| {
-        seen.number == PAST_END && seen.rest == 1
+        seen.number == FIELD_PAST_END && seen.rest == 1
     }),
     ("two stray bytes at the end", |seen| {
-        seen.number == PAST_END && seen.rest == 2
+        seen.number == FIELD_PAST_END && seen.rest == 2
     }),
     ("a head alone at the end", |seen| {
-        seen.number == PAST_END && seen.rest == 3
+        seen.number == FIELD_PAST_END && seen.rest == 3
     }),
     ("contents that run past the end", |seen| {
-        seen.number == PAST_END && seen.rest > 3
+        seen.number == FIELD_PAST_END && seen.rest > 3
     }),
     ("18 before 19, and neither 21 nor 22", |seen| {
-        is_met_but(seen, PAST_END, FRONT, &[NO_OPENING, ORDER])
+        is_met_but(
+            seen,
+            FIELD_PAST_END,
+            SIZE_OR_TALLY_FIELD,
+            &[NO_OPENING, FIELD_ORDER],
+        )
     }),
     ("18 before 1, and none of 21, 22 and 19", |seen| {
-        is_met_but(seen, PAST_END, 1, &[NO_OPENING, ORDER, FRONT])
+        is_met_but(
+            seen,
+            FIELD_PAST_END,
+            1,
+            &[NO_OPENING, FIELD_ORDER, SIZE_OR_TALLY_FIELD],
+        )
     }),
     ("no size", |seen| {
         is_front(seen, SIZE, |sizes| sizes.is_empty())
@@ -62,17 +74,19 @@ pub const ALL: [Case; 25] = [
     }),
     ("neither size nor tally", |seen| {
         let is_absent = |tag| with_tag(seen, tag).is_empty();
-        seen.number == FRONT && is_absent(SIZE) && is_absent(TALLY)
+        seen.number == SIZE_OR_TALLY_FIELD && is_absent(SIZE) && is_absent(TALLY)
     }),
     ("19 before 1, the size is there", |seen| {
-        is_met_too(seen, FRONT, 1) && lengths(&with_tag(seen, SIZE)) == [1]
+        is_met_too(seen, SIZE_OR_TALLY_FIELD, 1) && lengths(&with_tag(seen, SIZE)) == [1]
     }),
     ("size 0", |seen| seen.number == 1 && seen.n == 0),
     ("size 1", |seen| seen.number == 1 && seen.n == 1),
     ("size 65", |seen| seen.number == 1 && seen.n == 65),
     ("size 255", |seen| seen.number == 1 && seen.n == 255),
-    ("1 before 20", |seen| is_met_too(seen, 1, LINES)),
-    ("19 before 20", |seen| is_met_too(seen, FRONT, LINES)),
+    ("1 before 20", |seen| is_met_too(seen, 1, LINE_FIELD)),
+    ("19 before 20", |seen| {
+        is_met_too(seen, SIZE_OR_TALLY_FIELD, LINE_FIELD)
+    }),
 ];
 
 fn lengths(fields: &[&[u8]]) -> Vec<usize> {
@@ -84,5 +98,5 @@ fn lengths(fields: &[&[u8]]) -> Vec<usize> {
 fn is_front(seen: &Seen, tag: u8, is_one: fn(&[&[u8]]) -> bool) -> bool {
     let other = if tag == SIZE { TALLY } else { SIZE };
     let is_right = (READER.is_front)(other, &with_tag(seen, other));
-    seen.number == FRONT && is_right && is_one(&with_tag(seen, tag))
+    seen.number == SIZE_OR_TALLY_FIELD && is_right && is_one(&with_tag(seen, tag))
 }

@@ -6,11 +6,11 @@ use shared::table::{fresh, line_length, table_length};
 
 use super::{is_met_too, with_tag, Case, Seen};
 use crate::converting::have_former_length;
-use crate::saving::{stations, LINE, LINES};
+use crate::saving::{stations, LINE, LINE_FIELD};
 
 /// By the lines of either edition.
 pub const ALL: [Case; 22] = [
-    ("20 alone", |seen| met(seen, LINES) == [LINES]),
+    ("20 alone", |seen| met(seen, LINE_FIELD) == [LINE_FIELD]),
     ("a line one byte short", |seen| {
         has_line(seen, |length, line| line.len() + 1 == length)
     }),
@@ -25,7 +25,7 @@ pub const ALL: [Case; 22] = [
         let mut lines = with_tag(seen, LINE);
         let before = lines.len();
         lines.retain(|line| line.len() == length);
-        seen.number == LINES && lines.len() < before && are_all(seen.n, &lines)
+        seen.number == LINE_FIELD && lines.len() < before && are_all(seen.n, &lines)
     }),
     ("a station that is absent", |seen| {
         is_wrong_by_stations(seen, |n, found| {
@@ -39,10 +39,10 @@ pub const ALL: [Case; 22] = [
         is_wrong_by_stations(seen, |n, found| found.last() == n.checked_sub(2).as_ref())
     }),
     ("the same line twice", |seen| {
-        seen.number == LINES && is_doubled(seen, |one, other| one == other)
+        seen.number == LINE_FIELD && is_doubled(seen, |one, other| one == other)
     }),
     ("two lines of one station", |seen| {
-        seen.number == LINES && is_doubled(seen, |one, other| one != other)
+        seen.number == LINE_FIELD && is_doubled(seen, |one, other| one != other)
     }),
     ("one station twice, another absent", |seen| {
         is_wrong_by_stations(seen, |n, found| {
@@ -65,14 +65,14 @@ pub const ALL: [Case; 22] = [
         })
     }),
     ("no line", |seen| {
-        seen.number == LINES && with_tag(seen, LINE).is_empty()
+        seen.number == LINE_FIELD && with_tag(seen, LINE).is_empty()
     }),
     ("lines for another size", |seen| {
         let lines = with_tag(seen, LINE);
-        seen.number == LINES && !lines.is_empty() && have_length(seen, lines.len(), &lines)
+        seen.number == LINE_FIELD && !lines.is_empty() && have_length(seen, lines.len(), &lines)
     }),
-    ("20 before 3", |seen| is_met_too(seen, LINES, 3)),
-    ("20 before 4", |seen| is_met_too(seen, LINES, 4)),
+    ("20 before 3", |seen| is_met_too(seen, LINE_FIELD, 3)),
+    ("20 before 4", |seen| is_met_too(seen, LINE_FIELD, 4)),
     ("3 alone", |seen| met(seen, 3) == [3]),
     ("3 before 4", |seen| is_met_too(seen, 3, 4)),
     ("3 by station 0", |seen| is_broken_at(seen, |_| 0)),
@@ -85,9 +85,9 @@ pub const ALL: [Case; 22] = [
 pub const BY_TABLE: [Case; 10] = [
     ("lines with heads of four bytes", |seen| {
         let lines = with_tag(seen, LINE);
-        seen.number == LINES && have_former_length(seen.n, &lines) && are_all(seen.n, &lines)
+        seen.number == LINE_FIELD && have_former_length(seen.n, &lines) && are_all(seen.n, &lines)
     }),
-    ("20 before 2", |seen| is_met_too(seen, LINES, 2)),
+    ("20 before 2", |seen| is_met_too(seen, LINE_FIELD, 2)),
     ("1 before 2", |seen| is_met_too(seen, 1, 2)),
     ("a table one byte short", |seen| {
         seen.number == 2 && seen.lent + 1 == table_length(seen.n)
@@ -129,14 +129,14 @@ fn have_length(seen: &Seen, n: usize, lines: &[&[u8]]) -> bool {
 fn has_line(seen: &Seen, is_one: fn(usize, &[u8]) -> bool) -> bool {
     let length = seen.reader.line_contents(seen.n);
     let lines = with_tag(seen, LINE);
-    seen.number == LINES && lines.iter().any(|line| is_one(length, line))
+    seen.number == LINE_FIELD && lines.iter().any(|line| is_one(length, line))
 }
 
 /// Whether the call is refused by the stations alone, and they are such ones.
 fn is_wrong_by_stations(seen: &Seen, is_one: fn(usize, &[usize]) -> bool) -> bool {
     let lines = with_tag(seen, LINE);
     let right_lengths = have_length(seen, seen.n, &lines);
-    seen.number == LINES && right_lengths && is_one(seen.n, &stations(&lines))
+    seen.number == LINE_FIELD && right_lengths && is_one(seen.n, &stations(&lines))
 }
 
 /// Whether all stations are there, and just one of them twice, with lines of

@@ -12,7 +12,7 @@ use crate::call::{Call, Kind, Name};
 use crate::converting::FORMER_READER;
 use crate::occurred::{self, Occurred};
 use crate::outcome::Outcome;
-use crate::saving::{contents_with, Field, Reader, LINE, LINES, READER, SIZE};
+use crate::saving::{contents_with, Field, Reader, LINE, LINE_FIELD, READER, SIZE};
 
 type Case = occurred::Case<Seen>;
 
@@ -68,7 +68,7 @@ pub fn all(count: u64) -> Occurred<Seen> {
 
 /// The size or the length is given, whatever the lines hold.
 const ASKED: [Case; 4] = [
-    ("20 met", |seen| is_met_too(seen, 0, LINES)),
+    ("20 met", |seen| is_met_too(seen, 0, LINE_FIELD)),
     ("no line", |seen| {
         seen.number == 0 && with_tag(seen, LINE).is_empty()
     }),

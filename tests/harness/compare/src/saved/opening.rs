@@ -2,33 +2,43 @@
 
 use super::{is_met_but, is_met_too, is_met_without, tags, with_tag, Case, Seen};
 use crate::converting::have_former_length;
-use crate::saving::{have_line_length, Field, EDITION, FRONT, LINE, LINES, NO_OPENING, OPENING};
-use crate::saving::{ORDER, PAST_END, SIZE, TALLY};
+use crate::saving::{
+    have_line_length, Field, EDITION, LINE, LINE_FIELD, NO_OPENING, OPENING, SIZE_OR_TALLY_FIELD,
+};
+use crate::saving::{FIELD_ORDER, FIELD_PAST_END, SIZE, TALLY};
 
 pub const ALL: [Case; 18] = [
     ("an empty file", |seen| {
         seen.number == NO_OPENING && seen.file == 0
     }),
     ("18 before 21", |seen| {
-        is_met_too(seen, PAST_END, NO_OPENING)
+        is_met_too(seen, FIELD_PAST_END, NO_OPENING)
     }),
     ("18 before 22, and not 21", |seen| {
-        is_met_but(seen, PAST_END, ORDER, &[NO_OPENING])
+        is_met_but(seen, FIELD_PAST_END, FIELD_ORDER, &[NO_OPENING])
     }),
     ("18 and none of 21, 22, 19 and 1", |seen| {
-        is_met_without(seen, PAST_END, &[NO_OPENING, ORDER, FRONT, 1])
+        is_met_without(
+            seen,
+            FIELD_PAST_END,
+            &[NO_OPENING, FIELD_ORDER, SIZE_OR_TALLY_FIELD, 1],
+        )
     }),
     ("21 alone", |seen| {
-        is_met_without(seen, NO_OPENING, &[ORDER, FRONT, 1, LINES, 3, 4])
+        is_met_without(
+            seen,
+            NO_OPENING,
+            &[FIELD_ORDER, SIZE_OR_TALLY_FIELD, 1, LINE_FIELD, 3, 4],
+        )
     }),
     ("21 before 22, and not 19", |seen| {
-        is_met_but(seen, NO_OPENING, ORDER, &[FRONT])
+        is_met_but(seen, NO_OPENING, FIELD_ORDER, &[SIZE_OR_TALLY_FIELD])
     }),
     ("21 before 19, and not 22", |seen| {
-        is_met_but(seen, NO_OPENING, FRONT, &[ORDER])
+        is_met_but(seen, NO_OPENING, SIZE_OR_TALLY_FIELD, &[FIELD_ORDER])
     }),
     ("21 before 1, and neither 22 nor 19", |seen| {
-        is_met_but(seen, NO_OPENING, 1, &[ORDER, FRONT])
+        is_met_but(seen, NO_OPENING, 1, &[FIELD_ORDER, SIZE_OR_TALLY_FIELD])
     }),
     ("a file as it was before the opening", |seen| {
         let lines = with_tag(seen, LINE);
@@ -83,5 +93,5 @@ fn begins(seen: &Seen, is_one: fn(&Field) -> bool) -> bool {
 fn has_no_opening(seen: &Seen) -> bool {
     let tags = tags(seen);
     let is_whole = tags.len() == 2 + seen.n && tags.starts_with(&[SIZE, TALLY, LINE]);
-    seen.number == NO_OPENING && is_whole && !seen.met.contains(&ORDER)
+    seen.number == NO_OPENING && is_whole && !seen.met.contains(&FIELD_ORDER)
 }

@@ -2,39 +2,45 @@
 //! after the opening, and by tags that are not known.
 
 use super::{is_ascending, is_met_but, is_met_without, place_of, tags, Case, Seen};
-use crate::saving::{is_station_below, line_contents, Field, EDITION, FRONT, LINE, LINES};
-use crate::saving::{OPENING, ORDER, READER, SIZE, TALLY};
+use crate::saving::{
+    is_station_below, line_contents, Field, EDITION, LINE, LINE_FIELD, SIZE_OR_TALLY_FIELD,
+};
+use crate::saving::{FIELD_ORDER, OPENING, READER, SIZE, TALLY};
 
 pub const ALL: [Case; 33] = [
     ("22 alone", |seen| {
-        is_met_without(seen, ORDER, &[FRONT, 1, LINES, 3, 4])
+        is_met_without(
+            seen,
+            FIELD_ORDER,
+            &[SIZE_OR_TALLY_FIELD, 1, LINE_FIELD, 3, 4],
+        )
     }),
     ("22 before 19, and not 20", |seen| {
-        is_met_but(seen, ORDER, FRONT, &[LINES])
+        is_met_but(seen, FIELD_ORDER, SIZE_OR_TALLY_FIELD, &[LINE_FIELD])
     }),
     ("22 before 1, and not 19", |seen| {
-        is_met_but(seen, ORDER, 1, &[FRONT])
+        is_met_but(seen, FIELD_ORDER, 1, &[SIZE_OR_TALLY_FIELD])
     }),
     ("22 before 20, and not 19", |seen| {
-        is_met_but(seen, ORDER, LINES, &[FRONT])
+        is_met_but(seen, FIELD_ORDER, LINE_FIELD, &[SIZE_OR_TALLY_FIELD])
     }),
     ("22 before 3", |seen| {
-        is_met_but(seen, ORDER, 3, &[FRONT, 1, LINES])
+        is_met_but(seen, FIELD_ORDER, 3, &[SIZE_OR_TALLY_FIELD, 1, LINE_FIELD])
     }),
     ("22 before 4", |seen| {
-        is_met_but(seen, ORDER, 4, &[FRONT, 1, LINES])
+        is_met_but(seen, FIELD_ORDER, 4, &[SIZE_OR_TALLY_FIELD, 1, LINE_FIELD])
     }),
     // Tag 4 again.
     ("the opening twice", |seen| {
         let again = seen.fields.get(1).is_some_and(Field::is_opening);
-        seen.number == ORDER && again
+        seen.number == FIELD_ORDER && again
     }),
     ("the opening again behind the size", |seen| {
         has_unknown(seen, |place, field| place > 1 && field.is_opening())
     }),
     ("the opening again at the end", |seen| {
         let ends = seen.fields.last().is_some_and(Field::is_opening);
-        seen.number == ORDER && ends
+        seen.number == FIELD_ORDER && ends
     }),
     ("tag 4 again with other contents", |seen| {
         has_unknown(seen, |_, field| {
@@ -62,7 +68,7 @@ pub const ALL: [Case; 33] = [
     ("another tag at the end, in rising order", |seen| {
         let tags = tags(seen);
         let ends = tags.last().is_some_and(|tag| *tag > OPENING);
-        seen.number == ORDER && ends && tags[1..].is_sorted() && is_ascending(seen)
+        seen.number == FIELD_ORDER && ends && tags[1..].is_sorted() && is_ascending(seen)
     }),
     ("another tag with no contents", |seen| {
         has_unknown(seen, |_, field| field.contents.is_empty())
@@ -136,7 +142,7 @@ pub const ALL: [Case; 33] = [
 fn has_unknown(seen: &Seen, is_one: impl Fn(usize, &Field) -> bool) -> bool {
     let mut numbered = seen.fields.iter().enumerate().skip(1);
     let found = numbered.any(|(place, field)| !field.is_of_plant() && is_one(place, field));
-    seen.number == ORDER && found
+    seen.number == FIELD_ORDER && found
 }
 
 /// Whether such a field, not of tag 4, stands between two of these tags.
@@ -145,13 +151,13 @@ fn has_unknown_between(seen: &Seen, before: u8, behind: u8) -> bool {
         let is_unknown = !three[1].is_of_plant() && three[1].tag != OPENING;
         is_unknown && three[0].tag == before && three[2].tag == behind
     };
-    seen.number == ORDER && seen.fields.windows(3).any(is_between)
+    seen.number == FIELD_ORDER && seen.fields.windows(3).any(is_between)
 }
 
 /// Whether the call is refused by the order, and all tags are known.
 fn are_known(seen: &Seen) -> bool {
     let mut behind = seen.fields.iter().skip(1);
-    seen.number == ORDER && behind.all(Field::is_of_plant)
+    seen.number == FIELD_ORDER && behind.all(Field::is_of_plant)
 }
 
 /// Whether the first field with one tag stands before the first with another.

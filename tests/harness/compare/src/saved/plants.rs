@@ -6,7 +6,7 @@ use shared::table::{lines, live_stations, table_length};
 
 use super::{Case, Seen};
 use crate::converting::former_saved_length;
-use crate::saving::{saved_length, BUFFER_LENGTH};
+use crate::saving::{saved_length, LIST_LENGTH};
 
 /// By the buffer of a save, and by refusals that are met together.
 pub const SAVE: [Case; 11] = [
@@ -78,5 +78,5 @@ pub const ACCEPTED: [Case; 8] = [
 ];
 
 fn is_refused_by_length(seen: &Seen) -> bool {
-    seen.number == BUFFER_LENGTH
+    seen.number == LIST_LENGTH
 }

@@ -6,8 +6,10 @@ use shared::table::{lines, table_length, CRASHED, LEFT_ALONE, LEFT_TOLD};
 use super::{is_ascending, is_met_but, is_met_too, is_met_without, place_of, tags, with_tag};
 use super::{Case, Seen};
 use crate::converting::{former_saved_length, is_opened};
-use crate::saving::{have_line_length, saved_length, stations, Field, BUFFER_LENGTH, FRONT};
-use crate::saving::{LINE, LINES, OPENING, ORDER, PAST_END, READER, SIZE, TALLY};
+use crate::saving::{
+    have_line_length, saved_length, stations, Field, LIST_LENGTH, SIZE_OR_TALLY_FIELD,
+};
+use crate::saving::{FIELD_ORDER, FIELD_PAST_END, LINE, LINE_FIELD, OPENING, READER, SIZE, TALLY};
 
 pub const ALL: [Case; 32] = [
     ("the order in which it was written", |seen| {
@@ -34,41 +36,52 @@ pub const ALL: [Case; 32] = [
         has_line_of(seen, LEFT_ALONE)
     }),
     ("an empty file", |seen| {
-        seen.number == FRONT && seen.file == 0
+        seen.number == SIZE_OR_TALLY_FIELD && seen.file == 0
     }),
-    ("18 before 22", |seen| is_met_too(seen, PAST_END, ORDER)),
+    ("18 before 22", |seen| {
+        is_met_too(seen, FIELD_PAST_END, FIELD_ORDER)
+    }),
     ("18 and none of 22, 19 and 1", |seen| {
-        is_met_without(seen, PAST_END, &[ORDER, FRONT, 1])
+        is_met_without(seen, FIELD_PAST_END, &[FIELD_ORDER, SIZE_OR_TALLY_FIELD, 1])
     }),
     ("22 alone", |seen| {
-        is_met_without(seen, ORDER, &[FRONT, 1, LINES, 3, 4, BUFFER_LENGTH])
+        is_met_without(
+            seen,
+            FIELD_ORDER,
+            &[SIZE_OR_TALLY_FIELD, 1, LINE_FIELD, 3, 4, LIST_LENGTH],
+        )
     }),
     ("22 before 19, and not 20", |seen| {
-        is_met_but(seen, ORDER, FRONT, &[LINES])
+        is_met_but(seen, FIELD_ORDER, SIZE_OR_TALLY_FIELD, &[LINE_FIELD])
     }),
     ("22 before 1, and not 19", |seen| {
-        is_met_but(seen, ORDER, 1, &[FRONT])
+        is_met_but(seen, FIELD_ORDER, 1, &[SIZE_OR_TALLY_FIELD])
     }),
     ("22 before 20, and not 19", |seen| {
-        is_met_but(seen, ORDER, LINES, &[FRONT])
+        is_met_but(seen, FIELD_ORDER, LINE_FIELD, &[SIZE_OR_TALLY_FIELD])
     }),
     ("22 before 3", |seen| {
-        is_met_but(seen, ORDER, 3, &[FRONT, 1, LINES])
+        is_met_but(seen, FIELD_ORDER, 3, &[SIZE_OR_TALLY_FIELD, 1, LINE_FIELD])
     }),
     ("22 before 4", |seen| {
-        is_met_but(seen, ORDER, 4, &[FRONT, 1, LINES])
+        is_met_but(seen, FIELD_ORDER, 4, &[SIZE_OR_TALLY_FIELD, 1, LINE_FIELD])
     }),
     ("22 before 13", |seen| {
-        is_met_but(seen, ORDER, BUFFER_LENGTH, &[FRONT, 1, LINES, 3, 4])
+        is_met_but(
+            seen,
+            FIELD_ORDER,
+            LIST_LENGTH,
+            &[SIZE_OR_TALLY_FIELD, 1, LINE_FIELD, 3, 4],
+        )
     }),
     ("a file of edition 2", |seen| {
         let lines = with_tag(seen, LINE);
         let is_whole = is_opened(&seen.fields) && (READER.are_lines)(seen.n, &lines);
-        seen.number == ORDER && is_whole
+        seen.number == FIELD_ORDER && is_whole
     }),
     ("a stored file behind the opening", |seen| {
         let is_first = seen.fields.first().is_some_and(Field::is_opening);
-        is_first && is_met_without(seen, ORDER, &[FRONT, 1, LINES])
+        is_first && is_met_without(seen, FIELD_ORDER, &[SIZE_OR_TALLY_FIELD, 1, LINE_FIELD])
     }),
     ("tag 4 with other contents", |seen| {
         has_unknown(seen, |field| field.tag == OPENING && !field.is_opening())
@@ -83,17 +96,17 @@ pub const ALL: [Case; 32] = [
             .fields
             .first()
             .is_some_and(|field| !field.is_of_plant());
-        seen.number == ORDER && is_first
+        seen.number == FIELD_ORDER && is_first
     }),
     ("another tag at the end", |seen| {
         let is_last = seen.fields.last().is_some_and(|field| !field.is_of_plant());
-        seen.number == ORDER && is_last
+        seen.number == FIELD_ORDER && is_last
     }),
     ("another tag between two lines", |seen| {
         let is_between = |three: &[Field]| {
             three[0].tag == LINE && !three[1].is_of_plant() && three[2].tag == LINE
         };
-        seen.number == ORDER && seen.fields.windows(3).any(is_between)
+        seen.number == FIELD_ORDER && seen.fields.windows(3).any(is_between)
     }),
     ("another tag with no contents", |seen| {
         has_unknown(seen, |field| field.contents.is_empty())
@@ -118,10 +131,10 @@ pub const LINES_AND_BUFFER: [Case; 18] = [
         let lines = with_tag(seen, LINE);
         let is_whole =
             have_line_length(seen.n, &lines) && stations(&lines).into_iter().eq(0..seen.n);
-        seen.number == LINES && is_whole && !is_opened(&seen.fields)
+        seen.number == LINE_FIELD && is_whole && !is_opened(&seen.fields)
     }),
     ("20 before 13", |seen| {
-        is_met_but(seen, LINES, BUFFER_LENGTH, &[3, 4])
+        is_met_but(seen, LINE_FIELD, LIST_LENGTH, &[3, 4])
     }),
     ("3 in another order than that of the writer", |seen| {
         seen.number == 3 && !is_ascending(seen)
@@ -129,12 +142,10 @@ pub const LINES_AND_BUFFER: [Case; 18] = [
     ("4 in another order than that of the writer", |seen| {
         seen.number == 4 && !is_ascending(seen)
     }),
-    ("3 before 13", |seen| {
-        is_met_but(seen, 3, BUFFER_LENGTH, &[4])
-    }),
-    ("4 before 13", |seen| is_met_too(seen, 4, BUFFER_LENGTH)),
+    ("3 before 13", |seen| is_met_but(seen, 3, LIST_LENGTH, &[4])),
+    ("4 before 13", |seen| is_met_too(seen, 4, LIST_LENGTH)),
     ("4 alone", |seen| seen.number == 4 && seen.met == [4]),
-    ("13 alone", |seen| seen.number == BUFFER_LENGTH),
+    ("13 alone", |seen| seen.number == LIST_LENGTH),
     ("a buffer one byte short", |seen| {
         has_buffer(seen, |n, lent| lent + 1 == saved_length(n))
     }),
@@ -157,12 +168,12 @@ pub const LINES_AND_BUFFER: [Case; 18] = [
         has_buffer(seen, |n, lent| lent > saved_length(n) + 1)
     }),
     ("18 before 13", |seen| {
-        is_met_too(seen, PAST_END, BUFFER_LENGTH)
+        is_met_too(seen, FIELD_PAST_END, LIST_LENGTH)
     }),
     ("19 before 13", |seen| {
-        is_met_too(seen, FRONT, BUFFER_LENGTH)
+        is_met_too(seen, SIZE_OR_TALLY_FIELD, LIST_LENGTH)
     }),
-    ("1 before 13", |seen| is_met_too(seen, 1, BUFFER_LENGTH)),
+    ("1 before 13", |seen| is_met_too(seen, 1, LIST_LENGTH)),
 ];
 
 /// Whether an accepted conversion has a line with this status.
@@ -174,9 +185,9 @@ fn has_line_of(seen: &Seen, status: u8) -> bool {
 /// such a one.
 fn has_unknown(seen: &Seen, is_one: impl Fn(&Field) -> bool) -> bool {
     let mut unknown = seen.fields.iter().filter(|field| !field.is_of_plant());
-    seen.number == ORDER && unknown.any(is_one)
+    seen.number == FIELD_ORDER && unknown.any(is_one)
 }
 
 fn has_buffer(seen: &Seen, is_one: fn(usize, usize) -> bool) -> bool {
-    seen.number == BUFFER_LENGTH && is_one(seen.n, seen.lent)
+    seen.number == LIST_LENGTH && is_one(seen.n, seen.lent)
 }
