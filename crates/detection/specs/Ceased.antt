@@ -54,7 +54,7 @@ FirstTold n (x ∷ xs) i b = LeftTold n x.before.table (table_after x) i b
 
 -- table and tally after a list of runs, beside those before it
 pub record ExitRecord (n : ℕ) (s : State) (calls : List Call) (end : State) : Type 0 where
-  -- 254 is written nowhere: a line that has it had it before
+  -- no byte 4 becomes 254: a line that has it had it before
   pub unrecorded : (i : ℕ) → i < n → told_by n end.table i ≡ not_recorded → told_by n s.table i ≡ not_recorded
   -- status and byte 4 of a line that was not live at first are as they were
   pub kept : (i : ℕ) → i < n → live n s.table i ≡ false

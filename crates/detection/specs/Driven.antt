@@ -35,7 +35,7 @@ pub record TurnByTurn (n : ℕ) (s : State) (last : ℕ) : Type 0 where
   pub seven : grant_refusal n s.table last ≡ 0 → (drive n s last).number ≡ 7
       → entry_refusal n (drive n s last).state (entry_of kind_turn (granted_at n (stand_at (drive n s last).state (drive n s last).last))) ≡ 7
 
--- for all inputs
+-- Rule Drive is turns: for all inputs
 abbrev pub DriveIsTurns : Type 0
 DriveIsTurns = (n : ℕ) (s : State) (last : ℕ) → TurnByTurn n s last
 

@@ -30,8 +30,8 @@ abbrev pub Grants : ℕ → (ℕ → List ℕ) → ℕ → ℕ → ℕ → Type 
 Grants n tables last k i =
     (grant_refusal n (tables k) (last_before n tables last k) ≡ 0) × (grant_station n (tables k) (last_before n tables last k) ≡ i)
 
--- a station that is live and unfinished in n tables one behind the other, from table a on, is granted in one of these n, if refusals 1 to 4
--- let them through: at most n − 1 grants to others come first. The tables before them may be any
+-- Rule Fair grants: a station that is live and unfinished in n tables one behind the other, from table a on, is granted in one of these n, if
+-- refusals 1 to 4 let them through: at most n − 1 grants to others come first. The tables before them may be any
 abbrev pub BoundedWaiting : Type 0
 BoundedWaiting =
     (n : ℕ) (tables : ℕ → List ℕ) (last a i : ℕ) → last_refusal n last ≡ 0

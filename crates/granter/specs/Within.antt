@@ -27,7 +27,7 @@ NoneRefused n kinds p =
     (k : ℕ) → k < n * n → ((j : ℕ) → j ≤ k → over_after n kinds p j ≡ false)
     → entry_refusal n (after_turns n kinds p k).state (entry_of (kinds k) (granted_at n (after_turns n kinds p k))) ≡ 0
 
--- from every table that refusals 1 to 4 let through, in the middle of a round too, with somebody live and a last number that 16 lets through
+-- Rule Enough grants: from every table that refusals 1 to 4 let through, in the middle of a round too, with somebody live and a last number that 16 lets through
 abbrev pub RoundEndsInSquare : Type 0
 RoundEndsInSquare =
     (n : ℕ) (kinds : ℕ → ℕ) (s : State) (last : ℕ) → TurnKinds kinds → grant_refusal n s.table last ≡ 0 → NoneRefused n kinds (stand_at s last)
@@ -37,7 +37,7 @@ RoundEndsInSquare =
 abbrev pub KindOneIsDriven : Type 0
 KindOneIsDriven = (n : ℕ) (p : Stand) (k : ℕ) → after_turns n (λ _. kind_turn) p k ≡ after_grants n p k
 
--- every drive that is not refused at its start stops, for one of the three reasons
+-- Rule Enough grants: every drive that is not refused at its start stops, for one of the three reasons
 abbrev pub DriveStops : Type 0
 DriveStops =
     (n : ℕ) (s : State) (last : ℕ) → grant_refusal n s.table last ≡ 0 → Stopped n (stand_at s last) (grants_made n (stand_at s last))

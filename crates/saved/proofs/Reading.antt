@@ -60,7 +60,7 @@ module _ (rest left : List ℕ) (o : Option FieldRead) (reads : Reads rest (Ok o
 
   pub tells_none : o ≡ None → (runs_past rest ≡ false) × (fields_of rest ≡ [])
   unfolding runs_past fields_of
-  tells_none e = let h : fields rest ≡ Some [] = rw e at reads in rw h (refl, refl)
+  tells_none e = let h : fields rest ≡ Some [] = (rw e at reads).0 in rw h (refl, refl)
 
 -- a field or its head that runs past the end
 pub tells_cut : (rest : List ℕ) → fields rest ≡ None → runs_past rest ≡ true

@@ -19,10 +19,10 @@ use Rattle.saved.specs.declared.first_pass.Found.{Found}
 abbrev pub field_value : FieldRead → Field
 field_value f = field f.tag f.contents.now
 
--- what the cursor answers where the rest of a file is to be read, and what it leaves of the rest
+-- what the cursor answers where the rest of a file is to be read, and what it leaves of the rest: without a field it stays
 abbrev pub Reads : List ℕ → Result (Option FieldRead) Refusal → List ℕ → Type 0
-Reads rest (Err r) left = (fields rest ≡ None) × (r ≡ FieldPastEnd)
-Reads rest (Ok None) left = fields rest ≡ Some []
+Reads rest (Err r) left = (fields rest ≡ None) × (r ≡ FieldPastEnd) × (left ≡ rest)
+Reads rest (Ok None) left = (fields rest ≡ Some []) × (left ≡ rest)
 Reads rest (Ok (Some f)) left = (fields rest ≡ infront (field_value f) (fields left)) × (length left < length rest)
 
 -- what is found of size and tally, with one field more: refused where that is not the first with its tag, or has the wrong length

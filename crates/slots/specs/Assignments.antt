@@ -33,7 +33,8 @@ abbrev pub NothingLeftOver : Type 0
 NothingLeftOver =
     (n : ℕ) (r : List ℕ) (i : ℕ) → is_size n ≡ true → i < n → length (assignment_entries r i (other_distances n i)) ≡ 2 * (n - 1)
 
--- for a row that does not suspect its own station the due distances are those of the entries with 255: no station that is ahead has that number
+-- Rule Assignment exact: for a row that does not suspect its own station the due distances are those of the entries with 255: no station that
+-- is ahead has that number
 abbrev pub DueEntriesAreMarked : Type 0
 DueEntriesAreMarked =
     (n : ℕ) (r : List ℕ) (i : ℕ) → is_size n ≡ true → length r ≡ n → unsuspected r i ≡ true

@@ -22,9 +22,11 @@ pub fn list_tests(n: u8, row: &[u8], i: Station) -> ArrayVec<Station, 255>
 {
     let end = sizes::distances(n);
     let mut list = ArrayVec::new();
-    // A loop, since of what `extend` answers a caller would have to look at an error that never comes.
-    for m in (0..end).filter(|m| is_due(row, i, Distance(*m as u8))) {
-        list.push(order::station_at(i, Distance(m as u8)));
+    for m in 0..end {
+        let m = Distance(m as u8);
+        if is_due(row, i, m) {
+            list.push(order::station_at(i, m));
+        }
     }
     list
 }

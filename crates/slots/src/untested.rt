@@ -1,9 +1,11 @@
 // Whom a board does not test by its row, and who stands ahead.
-ghost use Rattle.std.specs.Prelude.{◌≡◌, map};
+ghost use Rattle.std.specs.Prelude.{◌≡◌, map, is_some, IfSome};
+ghost use Rattle.station.specs.Tests.{answer};
+ghost use Rattle.station.specs.Calls.{answer_byte};
 ghost use Rattle.slots.specs.Slots.{is_untested, untested, ahead};
 
 use arrayvec::ArrayVec;
-use station::{due, order};
+use station::{DueOrAhead, due, order};
 use table::{Distance, Station, sizes};
 
 // A board that is not tested, and who stands ahead.
@@ -20,19 +22,29 @@ pub fn list_untested(n: u8, row: &[u8], i: Station) -> ArrayVec<Untested, 255>
 {
     let end = sizes::distances(n);
     let mut list = ArrayVec::new();
-    for m in (0..end).filter(|m| is_untested(row, i, Distance(*m as u8))) {
+    for m in 0..end {
         let m = Distance(m as u8);
-        list.push(Untested {
-            board: order::station_at(i, m),
-            ahead: Station(due::due_or_ahead(row, i, m).byte()),
-        });
+        if let Some(ahead) = ahead_at(row, i, m) {
+            let board = order::station_at(i, m);
+            list.push(Untested { board, ahead });
+        }
     }
     list
 }
 
-// Whether another station stands at distance m from i and i does not test it.
-fn is_untested(row: &[u8], i: Station, m: Distance) -> bool
-    ensures { result ≡ is_untested row.now i.0 m.0 }
+// Who stands ahead at distance m from i, if another station stands there and i does not test it.
+fn ahead_at(row: &[u8], i: Station, m: Distance) -> Option<Station>
+    ensures untested { is_some result ≡ is_untested row.now i.0 m.0 }
+    ensures ahead { IfSome result (λ x. x.0 ≡ answer_byte (answer row.now i.0 m.0)) }
 {
-    (0 < m.0) & due::stands(row, i, m) & !due::due_or_ahead(row, i, m).is_due()
+    if m.0 == 0 {
+        return None;
+    }
+    if !due::stands(row, i, m) {
+        return None;
+    }
+    match due::due_or_ahead(row, i, m) {
+        DueOrAhead::Due => None,
+        DueOrAhead::Ahead(x) => Some(x),
+    }
 }

@@ -1,40 +1,35 @@
--- The due distances are gone through in order.
-use Rattle.std.proofs.Common.{◌≡◌, ◌<◌, ap, length, map, arith, rules, tests, ◌∙◌}
-use Rattle.std.proofs.lemmas.List.{length-map}
+-- The distances are gone through in order.
+use Rattle.std.proofs.Common.{◌≡◌, ℕ, Bool, sym, ◌∙◌, ap, true, false, arith}
 use Rattle.station.specs.Groups.{station_at}
 use Rattle.station.specs.Tests.{due, due_distances}
 use Rattle.station.proofs.DueLaws.{due-zero}
 use Rattle.slots.specs.Slots.{tested}
-use Rattle.slots.proofs.ListLaws.{walked-turn, walked-whole}
+use Rattle.slots.proofs.ListLaws.{listed-next, listed-none, listed-few}
 use Rattle.slots.proofs.list_tests.Goals as goal
-use Rattle.slots.proofs.list_tests.Goals.{In-Some, In-None}
-
-turn : (c : In-Some) → (c.in-Some.m < 256) × (length c.loop-m.yielded < 255)
-turn c =
-    let end = c.distances-end.ensures in
-    let f = c.filter-m-items.ensures in
-    walked-turn _ (due c.args.row.now c.args.i.0) _ f.source f.closure (λ x r q k. search (rules, tests))
-    _ end.number_of_distances end.upper_bound c.loop-m.yielded _
-    c.into_iter-m-iterator.ensures.into_iter_gives c.loop-m.yielded_by c.next.ensures.steps (due-zero _ _) _ c.in-Some.is
-
-pub overflow_cast-m : goal.overflow_cast-m
-overflow_cast-m c = omega (arith, (turn (goal.at.overflow_cast-m c).In-Some).0)
+use Rattle.slots.proofs.list_tests.Goals.{then-is_due, else-is_due}
 
 pub push-requires : goal.push-requires
 push-requires c =
-    let listed = length-map c.loop-m.list.items (λ x. x.0) in
-    let gone = length-map c.loop-m.yielded (station_at c.args.i.0) in
-    omega (arith, (turn (goal.at.push-requires c).In-Some).1, listed, gone, ap length c.loop-m.invariant)
+    let few = listed-few _ _ _ c.loop-m.m c.loop-m.list.items c.loop-m.invariant (due-zero c.args.row.now c.args.i.0) in
+    omega (arith, few, c.distances-end.ensures.upper_bound, c.loop-m-test.true)
 
-whole : (c : In-None) → c.loop-m.yielded ≡ due_distances c.args.row.now c.args.i.0 c.args.n
-unfolding due_distances
-whole c =
-    let end = c.distances-end.ensures in
-    let f = c.filter-m-items.ensures in
-    walked-whole _ (due c.args.row.now c.args.i.0) _ f.source f.closure (λ x r q k. search (rules, tests))
-    _ end.number_of_distances end.upper_bound c.loop-m.yielded _
-    c.into_iter-m-iterator.ensures.into_iter_gives c.loop-m.yielded_by c.next.ensures.steps c.in-None.is
+pub loop-m-preserved : goal.loop-m-preserved
+loop-m-preserved c =
+    let at : ℕ → ℕ = station_at c.args.i.0 in
+    let q : ℕ → Bool = due c.args.row.now c.args.i.0 in
+    let items = c.loop-m.list.items in
+    elim c.if-is_due.branch [
+      | then-is_due w ↦
+          let passes : q c.loop-m.m ≡ true = sym c.is_due.ensures ∙ w.if-is_due.true in
+          let pushed = ap (λ v. v.items) w.list-is ∙ w.push.ensures.items in
+          listed-next (λ x. x.0) at q c.loop-m.m items c.loop-m.invariant _ _ passes pushed w.station_at.ensures
+      | else-is_due w ↦
+          let fails : q c.loop-m.m ≡ false = sym c.is_due.ensures ∙ w.if-is_due.false in
+          listed-none (λ x. x.0) at q c.loop-m.m items c.loop-m.invariant _ fails (ap (λ v. v.items) w.list-is)
+    ]
 
 pub returns : goal.returns
-unfolding tested
-returns c = c.loop-m.invariant ∙ ap (map (station_at c.args.i.0)) (whole c)
+unfolding tested due_distances
+returns c =
+    let all : c.loop-m.m ≡ c.distances-end.result = omega arith in
+    c.loop-m.invariant ∙ rw (all, c.distances-end.ensures.number_of_distances)

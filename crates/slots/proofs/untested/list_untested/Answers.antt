@@ -1,48 +1,54 @@
--- The distances of those that are not tested are gone through in order.
-use Rattle.std.proofs.Common.{◌≡◌, ℕ, ◌<◌, ◌∙◌, ap, length, map, arith, rules, tests}
-use Rattle.std.proofs.lemmas.List.{length-map}
+-- The distances are gone through in order.
+use Rattle.std.proofs.Common.{◌≡◌, ℕ, Bool, sym, ◌∙◌, ap, true, false, arith}
 use Rattle.station.specs.Groups.{station_at}
 use Rattle.station.specs.Tests.{answer}
 use Rattle.station.specs.Calls.{answer_byte}
 use Rattle.slots.specs.Slots.{is_untested, untested_distances, untested, ahead}
 use Rattle.slots.proofs.UntestedLaws.{untested-zero}
-use Rattle.slots.proofs.ListLaws.{walked-turn, walked-whole}
+use Rattle.slots.proofs.ListLaws.{listed-next, listed-none, listed-few}
 use Rattle.slots.proofs.untested.list_untested.Goals as goal
-use Rattle.slots.proofs.untested.list_untested.Goals.{In-Some, In-None}
-
-turn : (c : In-Some) → (c.in-Some.m < 256) × (length c.loop-m.yielded < 255)
-turn c =
-    let end = c.distances-end.ensures in
-    let f = c.filter-m-items.ensures in
-    let none = untested-zero c.args.row.now c.args.i.0 in
-    walked-turn _ (is_untested c.args.row.now c.args.i.0) _ f.source f.closure (λ x r q k. search (rules, tests))
-    _ end.number_of_distances end.upper_bound c.loop-m.yielded _
-    c.into_iter-m-iterator.ensures.into_iter_gives c.loop-m.yielded_by c.next.ensures.steps none _ c.in-Some.is
-
-pub overflow_cast-m : goal.overflow_cast-m
-overflow_cast-m c = omega (arith, (turn (goal.at.overflow_cast-m c).In-Some).0)
+use Rattle.slots.proofs.untested.list_untested.Goals.{in-Some, in_default}
 
 pub push-requires : goal.push-requires
 push-requires c =
-    let listed = length-map c.loop-m.list.items (λ u. u.board.0) in
-    let gone = length-map c.loop-m.yielded (station_at c.args.i.0) in
-    omega (arith, (turn (goal.at.push-requires c).In-Some).1, listed, gone, ap length c.loop-m.invariant.listed)
+    let i = c.loop-m.invariant in
+    omega (
+      arith,
+      listed-few _ _ _ c.loop-m.m c.loop-m.list.items i.boards (untested-zero c.args.row.now c.args.i.0),
+      c.distances-end.ensures.upper_bound,
+      c.loop-m-test.true,
+    )
 
-whole : (c : In-None) → c.loop-m.yielded ≡ untested_distances c.args.n c.args.row.now c.args.i.0
-unfolding untested_distances
-whole c =
-    let end = c.distances-end.ensures in
-    let f = c.filter-m-items.ensures in
-    walked-whole _ (is_untested c.args.row.now c.args.i.0) _ f.source f.closure (λ x r q k. search (rules, tests))
-    _ end.number_of_distances end.upper_bound c.loop-m.yielded _
-    c.into_iter-m-iterator.ensures.into_iter_gives c.loop-m.yielded_by c.next.ensures.steps c.in-None.is
+pub loop-m-preserved : goal.loop-m-preserved
+loop-m-preserved c =
+    let i = c.loop-m.invariant in
+    let q : ℕ → Bool = is_untested c.args.row.now c.args.i.0 in
+    let named : ℕ → ℕ = λ k. answer_byte (answer c.args.row.now c.args.i.0 k) in
+    let at : ℕ → ℕ = station_at c.args.i.0 in
+    elim c.match-ahead_at.branch [
+      | in-Some w ↦
+          let passes : q c.loop-m.m ≡ true = sym w.in-Some.ensures.untested in
+          let pushed = ap (λ v. v.items) w.list-is ∙ w.push.ensures.items in
+          record {
+            boards = listed-next (λ u. u.board.0) at q c.loop-m.m c.loop-m.list.items i.boards _ _ passes pushed w.station_at-board.ensures;
+            ahead = listed-next (λ u. u.ahead.0) named q c.loop-m.m c.loop-m.list.items i.ahead _ _ passes pushed w.in-Some.ensures.ahead;
+          }
+      | in_default w ↦
+          let fails : q c.loop-m.m ≡ false = sym w.in_default.ensures.untested in
+          record {
+            boards = listed-none (λ u. u.board.0) at q c.loop-m.m c.loop-m.list.items i.boards _ fails (ap (λ v. v.items) w.list-is);
+            ahead = listed-none (λ u. u.ahead.0) named q c.loop-m.m c.loop-m.list.items i.ahead _ fails (ap (λ v. v.items) w.list-is);
+          }
+    ]
 
 pub returns-clause-boards : goal.returns-clause-boards
-unfolding untested
-returns-clause-boards c = c.loop-m.invariant.listed ∙ ap (map (station_at c.args.i.0)) (whole c)
+unfolding untested untested_distances
+returns-clause-boards c =
+    let all : c.loop-m.m ≡ c.distances-end.result = omega arith in
+    c.loop-m.invariant.boards ∙ rw (all, c.distances-end.ensures.number_of_distances)
 
 pub returns-clause-ahead : goal.returns-clause-ahead
-unfolding ahead
+unfolding ahead untested_distances
 returns-clause-ahead c =
-    let named : ℕ → ℕ = λ k. answer_byte (answer c.args.row.now c.args.i.0 k) in
-    c.loop-m.invariant.named ∙ ap (map named) (whole c)
+    let all : c.loop-m.m ≡ c.distances-end.result = omega arith in
+    c.loop-m.invariant.ahead ∙ rw (all, c.distances-end.ensures.number_of_distances)
