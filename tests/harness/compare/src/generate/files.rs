@@ -46,6 +46,7 @@ pub fn saved(size: Size, random: &mut Random) -> (Size, Vec<u8>) {
         2..=7 => (2, cut_anywhere(&SECOND, random)),
         8 => (size, SECOND.bytes(size, give_former_head, random)),
         9 => (size, FIRST.bytes(size, |_| {}, random)),
+        10..=13 => (size, SECOND.bytes(size, |_| {}, random)),
         _ => (size, saved_plant(size, random)),
     }
 }
