@@ -224,7 +224,7 @@ fn put_in_order(fields: &mut [Field], random: &mut Random) {
 }
 
 /// Puts the fields after the first in a wrong order.
-fn unsort(fields: &mut Vec<Field>, random: &mut Random) {
+fn unsort(fields: &mut [Field], random: &mut Random) {
     let Some(([_], behind)) = fields.split_first_chunk_mut() else {
         return;
     };
