@@ -60,7 +60,7 @@ impl Found {
 
 // Size and tally of a file of that edition, or its refusal 18, 21, 22, 19 or 1. A field that is refused by one of the others does not end the pass,
 // since 18 comes first, and 21 and 22 come before 19.
-pub(crate) fn open(file: &[u8], edition: Edition) -> Result<Loaded, Refusal>
+pub fn open(file: &[u8], edition: Edition) -> Result<Loaded, Refusal>
     ensures { result ≡ opened edition file.now }
 {
     let mut fields = Fields { rest: file };

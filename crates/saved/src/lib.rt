@@ -30,7 +30,7 @@ pub const TALLY: u8 = 2;
 
 pub const LINE: u8 = 3;
 
-const OPENING: u8 = 4;
+pub const OPENING: u8 = 4;
 
 // The contents of the opening, which name edition 2.
-const SECOND: u8 = 2;
+pub const SECOND: u8 = 2;
