@@ -3,7 +3,7 @@
 use mathlib.Core.Path.{◌≡◌, refl, sym, ap, ◌∙◌}
 use mathlib.Core.Bool.{true, false}
 use mathlib.Core.List.{List}
-use Rattle.std.specs.Prelude.{Result, Ok, Err}
+use Rattle.std.specs.Prelude.{Option, Some, None, Result, Ok, Err}
 use Rattle.std.proofs.lemmas.List.Edits.{sets}
 use Prim.Native.Nat.{ℕ, zero, suc, ◌+◌, ◌≤◌, ◌<◌}
 use native.Mathlib.Omega.{arith}
@@ -18,10 +18,11 @@ use Rattle.table.specs.Fresh.{fresh_table, fresh_after}
 use Rattle.table.specs.Rules.{shape_check, table_check}
 use Rattle.saved.specs.Fields.{extent, first_field}
 use Rattle.saved.specs.Plant.{station_in}
-use Rattle.saved.specs.Reading.{contents_length, line_as}
+use Rattle.saved.specs.Reading.{field_value, contents_length, line_as}
+use Rattle.saved.specs.declared.fields.Field.{Field as FieldRead}
 use Rattle.convert.specs.declared.place.Form.{Form}
 use Rattle.convert.specs.declared.place.Search.{Search}
-use Rattle.convert.specs.Place.{is_line, rules_check, search_with, and_behind, place_up_to, place}
+use Rattle.convert.specs.Place.{is_line, rules_check, search_with, and_behind, place_up_to, place, ReadsWhole}
 
 -- contents of a line field that are none
 pub empty_line : (form : Form) (c : List ℕ) → length c < 1 → is_line form c ≡ false
@@ -90,3 +91,24 @@ module _ (s : Search) (file : List ℕ) (whole : extent file ≤ length file) wh
       let rest : List ℕ = drop (extent file) file in
       let d = length-drop (extent file) file in
       go_on ∙ rw (← e) (ap (λ k. extent file + k) (place-more (length file) (length rest) x rest (omega arith) (omega arith)))
+
+-- what the code reads at the cursor, with a search that goes on there, or that the field ends
+module _ (rest left : List ℕ) (o : Option FieldRead) (reads : ReadsWhole rest o left) where
+  pub read_none : o ≡ None → (s : Search) → place s rest ≡ 0
+  read_none e s = place_end s rest (rw e at reads)
+
+  module _ (f : FieldRead) (e : o ≡ Some f) where
+    read_some : (field_value f ≡ first_field rest) × (extent rest ≤ length rest) × (left ≡ drop (extent rest) rest)
+    read_some = rw e at reads
+
+    pub read_less : length left < length rest
+    read_less = omega (arith, read_some.1, ap length read_some.2, length-drop (extent rest) rest)
+
+    pub read_fault : (s : Search) (r : Refusal) → Err r ≡ search_with s (field_value f) → place s rest ≡ 0
+    read_fault s r h = place_here s rest read_some.1 r (h ∙ ap (search_with s) read_some.0)
+
+    pub read_on : (s x : Search) → Ok x ≡ search_with s (field_value f) → place s rest ≡ extent rest + place x left
+    read_on s x h = place_behind s rest read_some.1 x (h ∙ ap (search_with s) read_some.0) ∙ ap (λ l. extent rest + place x l) (sym read_some.2)
+
+    pub read_length : length left + extent rest ≡ length rest
+    read_length = omega (arith, read_some.1, ap length read_some.2, length-drop (extent rest) rest)

@@ -1,9 +1,8 @@
 // How the program was called: what its arguments ask for, or what is wrong with them.
 use crate::output::NewFile;
-use std::env;
-use std::fmt;
 use std::fs::{self, File};
 use std::rt::{Env, Files};
+use std::{env, fmt};
 
 // What is printed on --help.
 pub const USAGE: &str = "\
@@ -56,7 +55,10 @@ impl fmt::Display for WrongCall {
             WrongCall::NotText => f.write_str("convert: an argument is not text in UTF-8"),
             WrongCall::WrongNumber => f.write_str(USAGE),
             WrongCall::UnknownOption(word) => {
-                write!(f, "convert: unknown option: {word} (./convert --help says what there is)")
+                write!(
+                    f,
+                    "convert: unknown option: {word} (./convert --help says what there is)"
+                )
             }
             WrongCall::NoSuchFile(path) => write!(f, "convert: no such file: {path}"),
             WrongCall::Folder(path) => write!(f, "convert: a folder, not a file: {path}"),
@@ -104,11 +106,7 @@ pub fn read_arguments(
 }
 
 // To convert a file.
-fn convert(
-    rt: &impl Files<File = File>,
-    old: String,
-    new: NewFile,
-) -> Result<Call, WrongCall> {
+fn convert(rt: &impl Files<File = File>, old: String, new: NewFile) -> Result<Call, WrongCall> {
     let old = open(rt, old)?;
     Ok(Call::Convert { old, new })
 }

@@ -13,17 +13,24 @@ pub struct NewFile {
 
 impl NewFile {
     // Writes the file. Where one is there, it is written beside and then renamed, so that a reader finds the old or the new one.
-    pub fn write(&self, rt: &(impl Files<File = File> + AllocGlobal), bytes: &[u8]) -> anyhow::Result<()> {
+    pub fn write(
+        &self,
+        rt: &(impl Files<File = File> + AllocGlobal),
+        bytes: &[u8],
+    ) -> anyhow::Result<()> {
         let path = self.path.as_str();
         match create(rt, path, bytes) {
             Err(e) if e.kind() == ErrorKind::AlreadyExists => {}
-            written => return written.with_context(|| format!(in rt.alloc(); "{path} cannot be written")),
-        }
-        if !self.force {
-            bail!("{path} is there already (--force replaces it)");
+            written => {
+                let words = format!(in rt.alloc(); "{path} cannot be written")?;
+                return written.context(words);
+            }
         }
         if !is_file(rt, path) {
             bail!("{path} is there already, and no file");
+        }
+        if !self.force {
+            bail!("{path} is there already (--force replaces it)");
         }
         let beside = format!(in rt.alloc(); "{path}.part")?;
         create(rt, beside.as_str(), bytes).context("it cannot be written beside")?;

@@ -1,9 +1,11 @@
 // What a stored file is, and what is wrong with it.
-ghost use Rattle.std.specs.Prelude.{◌≡◌, ◌≤◌, ◌++◌, true, false, length, take, is_ok, IfOk, OnErr};
+ghost use Rattle.std.specs.Prelude.{◌≡◌, ◌+◌, ◌≤◌, ◌++◌, ◌==◌, Err, length, take, slice_index_or, IfOk, OnErr};
+ghost use Rattle.saved.specs.Fields.{field_bytes};
+ghost use Rattle.saved.specs.Order.{opening, opening_tag};
 ghost use Rattle.std.specs.Result.{result_map_both};
 ghost use Rattle.saved.specs.Convert.{converted};
 ghost use Rattle.saved.specs.declared.edition.Edition.TheVariants.{One, Two};
-ghost use Rattle.convert.specs.What.{reader_check, converter_check, fault_at, read_as, lacks_opening, what_of};
+ghost use Rattle.convert.specs.What.{reader_check, converter_check, fault_at, read_as, lacks_opening, judged, what_of};
 
 use crate::place::{self, Form, Search};
 use lists::refusal::Refusal;
@@ -56,23 +58,49 @@ impl fmt::Display for What {
 }
 
 // What a file is.
+#[tactic(auto, unfolding(crate::specs::What::what_of))]
 pub fn look_at(file: &[u8]) -> What
     ensures { result ≡ what_of file.now }
 {
-    let Err(second) = read_second(file) else {
-        return What::SecondEdition;
-    };
-    let mut converted = [0u8; GREATEST_SAVED];
-    let Err(first) = convert_file(file, &mut converted) else {
-        return What::FirstEdition;
-    };
-    if lacks_opening(file) {
-        return What::WithoutOpening;
+    match read_second(file) {
+        Ok(()) => What::SecondEdition,
+        Err(second) => look_further(file, second),
     }
-    if file.first().copied().unwrap_or(0) == OPENING {
+}
+
+// What a file is that is not of edition 2 for that fault.
+fn look_further(file: &[u8], second: Fault) -> What
+    ensures { let begins = slice_index_or file.now 0 0 == opening_tag in
+        result ≡ judged (Err second) (read_as One file.now) (lacks_opening file.now) begins }
+{
+    match read_first(file) {
+        Ok(()) => What::FirstEdition,
+        Err(first) => look_at_damaged(file, second, first),
+    }
+}
+
+// What a file is that is of no edition, by what is wrong with it as edition 2 and as edition 1.
+fn look_at_damaged(file: &[u8], second: Fault, first: Fault) -> What
+    ensures { let begins = slice_index_or file.now 0 0 == opening_tag in
+        result ≡ judged (Err second) (Err first) (lacks_opening file.now) begins }
+{
+    if lacks_opening(file) {
+        What::WithoutOpening
+    } else if file.first().copied().unwrap_or(0) == OPENING {
         What::Damaged(second)
     } else {
         What::Damaged(first)
+    }
+}
+
+// What is wrong with a file as edition 1.
+fn read_first(file: &[u8]) -> Result<(), Fault>
+    ensures { result ≡ read_as One file.now }
+{
+    let mut buffer = [0u8; GREATEST_SAVED];
+    match convert_file(file, &mut buffer) {
+        Ok(_) => Ok(()),
+        Err(fault) => Err(fault),
     }
 }
 
@@ -128,17 +156,28 @@ fn check_second(file: &[u8]) -> Result<(), Refusal>
 }
 
 // Whether a file is one of edition 2 without its opening.
+#[tactic(auto, using(crate::proofs::WhatLaws::long_opened))]
 fn lacks_opening(file: &[u8]) -> bool
     ensures { result ≡ lacks_opening file.now }
 {
-    let mut whole = [0u8; GREATEST_SAVED + 4];
-    if GREATEST_SAVED < file.len() {
+    if GREATEST_SAVED - 4 < file.len() {
         return false;
     }
+    let mut whole = [0u8; GREATEST_SAVED];
+    let len = write_opened(file, &mut whole);
+    read_second(&whole[..len]).is_ok()
+}
+
+// Writes a file with the opening of edition 2 in front, and answers how many bytes these are.
+fn write_opened(file: &[u8], whole: &mut [u8; GREATEST_SAVED]) -> usize
+    requires { 4 + length file.now ≤ length whole.old }
+    ensures long { result ≡ 4 + length file.now }
+    ensures bytes { take result whole.new ≡ field_bytes opening ++ file.now }
+{
     let len = 4 + file.len();
     whole[..4].copy_from_slice(&[OPENING, 0, 1, SECOND]);
     whole[4..len].copy_from_slice(file);
-    read_second(&whole[..len]).is_ok()
+    len
 }
 
 // A refusal of a file that is read as that edition, and the byte where it shows.

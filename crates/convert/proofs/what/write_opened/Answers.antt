@@ -1,0 +1,7 @@
+-- The opening, and the file behind it.
+use Rattle.std.proofs.Common.{sym}
+use Rattle.convert.proofs.WhatLaws.{opening_bytes, opened_front}
+use Rattle.convert.proofs.what.write_opened.Goals as goal
+
+pub returns-clause-bytes : goal.returns-clause-bytes
+returns-clause-bytes c = opened_front _ _ _ (sym opening_bytes)
