@@ -4,4 +4,5 @@ use Rattle.convert.proofs.WhatLaws.{opening_bytes, opened_front}
 use Rattle.convert.proofs.what.write_opened.Goals as goal
 
 pub returns-clause-bytes : goal.returns-clause-bytes
-returns-clause-bytes c = opened_front _ _ _ (sym opening_bytes)
+returns-clause-bytes c =
+    rw (c.copy_from_slice.ensures.after, c.copy_from_slice-2.ensures.after) (opened_front _ _ _ (sym opening_bytes))
