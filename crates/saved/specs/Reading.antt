@@ -1,7 +1,7 @@
 -- What the code answers on its way, in either edition: the next field of a file; where in its order a file stands, and what is found of size and
 -- tally, with one field more; which lines are new, and the table that they give. The promises of the calls do not cite these.
 -- Assumes nothing.
-use Rattle.std.specs.Prelude.{◌≡◌, ℕ, ◌+◌, ◌<◌, Bool, false, not, ◌&&◌, List, [], length, take, drop, if◌then◌else◌, ◌==◌, slice_index_or}
+use Rattle.std.specs.Prelude.{◌≡◌, ℕ, ◌+◌, ◌<◌, ◌≤◌, Bool, false, not, ◌&&◌, List, [], length, take, drop, if◌then◌else◌, ◌==◌, slice_index_or}
 use Rattle.std.specs.Prelude.{Option, Some, None, is_none, Result, Ok, Err}
 use Rattle.lists.specs.declared.refusal.Refusal.{Refusal}
 use Rattle.lists.specs.declared.refusal.Refusal.TheVariants.{SizeOutOfRange, FieldPastEnd, SizeOrTallyField, NoOpening, FieldOrder}
@@ -10,7 +10,7 @@ use Rattle.table.specs.Sizes.{is_size}
 use Rattle.table.specs.Table.{stride}
 use Rattle.plant.specs.declared.Tally.{Tally}
 use Rattle.saved.specs.Bytes.{bytes_value, concat_of}
-use Rattle.saved.specs.Fields.{Field, field, infront, fields, runs_past, fields_of, only_contents}
+use Rattle.saved.specs.Fields.{Field, field, infront, extent, first_field, fields, runs_past, fields_of, only_contents}
 use Rattle.saved.specs.Plant.{size_tag, size_length, tally_tag, tally_length, plant_check, station_in, line_in, fits, of_station}
 use Rattle.saved.specs.Order.{is_known, is_opening, nothing_before, behind, follows, order_check}
 use Rattle.saved.specs.Load.{loaded_of}
@@ -34,6 +34,12 @@ abbrev pub Reads : List ℕ → Result (Option FieldRead) Refusal → List ℕ �
 Reads rest (Err r) left = (fields rest ≡ None) × (r ≡ FieldPastEnd) × (left ≡ rest)
 Reads rest (Ok None) left = (fields rest ≡ Some []) × (left ≡ rest)
 Reads rest (Ok (Some f)) left = (fields rest ≡ infront (field_value f) (fields left)) × (length left < length rest)
+
+-- the same of the field read alone, whatever stands behind it
+abbrev pub ReadsFirst : List ℕ → Result (Option FieldRead) Refusal → List ℕ → Type 0
+ReadsFirst rest (Err r) left = length rest < extent rest
+ReadsFirst rest (Ok None) left = length rest ≡ 0
+ReadsFirst rest (Ok (Some f)) left = (field_value f ≡ first_field rest) × (extent rest ≤ length rest) × (left ≡ drop (extent rest) rest)
 
 -- where a file stands before its first field, with one field more, and whether it may end there
 abbrev pub start_of : Edition → Order

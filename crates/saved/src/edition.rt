@@ -16,7 +16,7 @@ pub enum Edition {
 
 impl Edition {
     // The length of a line of a plant of n stations.
-    pub(crate) fn line_length(self, n: u8) -> usize
+    pub fn line_length(self, n: u8) -> usize
         ensures { result ≡ line_length self n }
     {
         let head = match self {

@@ -20,7 +20,7 @@ pub struct Found {
 impl Found {
     // What is found with one field more. It is refused if it stands there twice or has the wrong length.
     #[tactic(auto, using(crate::proofs::FirstPass::size_read), unfolding(crate::specs::Reading::found_with))]
-    fn with(self, field: Field) -> Result<Found, Refusal>
+    pub fn with(self, field: Field) -> Result<Found, Refusal>
         ensures { result ≡ found_with self (field_value field.entry) }
     {
         match field.tag {
@@ -60,7 +60,7 @@ impl Found {
 
 // Size and tally of a file of that edition, or its refusal 18, 21, 22, 19 or 1. A field that is refused by one of the others does not end the pass,
 // since 18 comes first, and 21 and 22 come before 19.
-pub(crate) fn open(file: &[u8], edition: Edition) -> Result<Loaded, Refusal>
+pub fn open(file: &[u8], edition: Edition) -> Result<Loaded, Refusal>
     ensures { result ≡ opened edition file.now }
 {
     let mut fields = Fields { rest: file };

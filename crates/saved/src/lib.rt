@@ -6,12 +6,12 @@
 mod bytes;
 pub mod claims;
 pub mod convert;
-mod edition;
-mod fields;
-mod first_pass;
-mod lines;
+pub mod edition;
+pub mod fields;
+pub mod first_pass;
+pub mod lines;
 pub mod load;
-mod order;
+pub mod order;
 pub mod save;
 
 use plant::Tally;
@@ -24,13 +24,13 @@ pub struct Loaded {
 }
 
 // The tags of the fields. They are bytes of the file, and no enum: a field may have any tag, and those that are not known are refused.
-const SIZE: u8 = 1;
+pub const SIZE: u8 = 1;
 
-const TALLY: u8 = 2;
+pub const TALLY: u8 = 2;
 
-const LINE: u8 = 3;
+pub const LINE: u8 = 3;
 
-const OPENING: u8 = 4;
+pub const OPENING: u8 = 4;
 
 // The contents of the opening, which name edition 2.
-const SECOND: u8 = 2;
+pub const SECOND: u8 = 2;

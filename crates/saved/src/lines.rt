@@ -52,7 +52,7 @@ fn take_line(
 }
 
 // Writes a line of that edition into the table.
-fn put_line(table: &mut TableMut, edition: Edition, i: Station, line: &[u8])
+pub fn put_line(table: &mut TableMut, edition: Edition, i: Station, line: &[u8])
     requires station { i.0 < table.old.n }
     requires width { length line.now ≡ line_length edition table.old.n }
     ensures same_loan { IsSameLoan table.old table.new }

@@ -30,7 +30,7 @@ pub struct Previous {
 
 impl Order {
     // Before the first field.
-    pub(crate) fn start(edition: Edition) -> Order
+    pub fn start(edition: Edition) -> Order
         ensures { result ≡ start_of edition }
     {
         match edition {
@@ -40,7 +40,7 @@ impl Order {
     }
 
     // Behind one field more.
-    pub(crate) fn with(self, field: Field) -> Result<Order, Refusal>
+    pub fn with(self, field: Field) -> Result<Order, Refusal>
         ensures { result ≡ order_with self (field_value field.entry) }
     {
         match self {

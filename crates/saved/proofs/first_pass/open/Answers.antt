@@ -9,11 +9,11 @@ use Rattle.saved.proofs.first_pass.open.Goals.{in-Ok, in_default-order}
 pub returns-in_err-field : goal.returns-in_err-field
 returns-in_err-field c =
     let p = err_from_is_err_and c.from_residual.result c.from_residual.ensures.1 in
-    rw (p.1, p.2, c.in_err-field.ensures.1) (opened_cut _ _ (sym c.loop-field.invariant.past ∙ tells_cut _ c.in_err-field.ensures.0))
+    rw (p.1, p.2, c.in_err-field.ensures.fields.1) (opened_cut _ _ (sym c.loop-field.invariant.past ∙ tells_cut _ c.in_err-field.ensures.fields.0))
 
 pub loop-field-preserved-in-Ok-found : goal.loop-field-preserved-in-Ok-found
 loop-field-preserved-in-Ok-found c =
-    let t = tells_more _ _ _ c.in_ok-field.ensures _ c.in-Some.is in
+    let t = tells_more _ _ _ c.in_ok-field.ensures.fields _ c.in-Some.is in
     let i = c.loop-field.invariant in
     record {
       past = t.0 ∙ i.past;
@@ -26,7 +26,7 @@ loop-field-preserved-in-Ok-found c =
 
 pub loop-field-preserved : goal.loop-field-preserved
 loop-field-preserved c =
-    let t = tells_more _ _ _ c.in_ok-field.ensures _ c.in-Some.is in
+    let t = tells_more _ _ _ c.in_ok-field.ensures.fields _ c.in-Some.is in
     let i = c.loop-field.invariant in
     record {
       past = t.0 ∙ i.past;
@@ -40,14 +40,14 @@ loop-field-preserved c =
 pub returns-in_err-order : goal.returns-in_err-order
 returns-in_err-order c =
     let p = err_from_is_err_and c.from_residual-in_err-order.result c.from_residual-in_err-order.ensures.1 in
-    let t = tells_none _ _ _ c.in_ok-field.ensures c.in_default.is in
+    let t = tells_none _ _ _ c.in_ok-field.ensures.fields c.in_default.is in
     let w = sym c.loop-field.invariant.past ∙ t.0 in
     rw (p.1, p.2) (opened_not _ _ w _ (ap₂ ordered (sym c.in_err-order.was) (sym t.1) ∙ c.loop-field.invariant.orders w))
 
 pub returns-in_err-end : goal.returns-in_err-end
 returns-in_err-end c =
     let p = err_from_is_err_and c.from_residual-in_err-end.result c.from_residual-in_err-end.ensures.1 in
-    let t = tells_none _ _ _ c.in_ok-field.ensures c.in_default.is in
+    let t = tells_none _ _ _ c.in_ok-field.ensures.fields c.in_default.is in
     let w = sym c.loop-field.invariant.past ∙ t.0 in
     let o = ap₂ ordered (sym c.in_ok-order.was) (sym t.1) ∙ c.loop-field.invariant.orders w in
     rw (p.1, p.2) (opened_unended _ _ w _ o _ c.in_err-end.ensures)
@@ -55,7 +55,7 @@ returns-in_err-end c =
 pub returns-in_err-found : goal.returns-in_err-found
 returns-in_err-found c =
     let p = err_from_is_err_and c.from_residual-in_err-found.result c.from_residual-in_err-found.ensures.1 in
-    let t = tells_none _ _ _ c.in_ok-field.ensures c.in_default.is in
+    let t = tells_none _ _ _ c.in_ok-field.ensures.fields c.in_default.is in
     let w = sym c.loop-field.invariant.past ∙ t.0 in
     let o = ap₂ ordered (sym c.in_ok-order.was) (sym t.1) ∙ c.loop-field.invariant.orders w in
     rw (p.1, p.2)
@@ -63,7 +63,7 @@ returns-in_err-found c =
 
 pub returns : goal.returns
 returns c =
-    let t = tells_none _ _ _ c.in_ok-field.ensures c.in_default.is in
+    let t = tells_none _ _ _ c.in_ok-field.ensures.fields c.in_default.is in
     let w = sym c.loop-field.invariant.past ∙ t.0 in
     let o = ap₂ ordered (sym c.in_ok-order.was) (sym t.1) ∙ c.loop-field.invariant.orders w in
     c.complete.ensures
