@@ -6,20 +6,21 @@ mod output;
 mod place;
 mod what;
 
-ghost use Rattle.std.specs.Prelude.{◌≡◌, ◌≤◌, length, take, IfOk, IfSome};
+ghost use Rattle.std.specs.Prelude.{◌≡◌, ◌+◌, ◌≤◌, length, take, IfOk, IfSome};
+ghost use Rattle.convert.specs.What.{greatest_saved};
 
 use anyhow::Context;
 use call::Call;
 use std::alloc::Global;
 use std::fmt::Display;
 use std::fs::File;
-use std::io::{self, IsTerminal, Read};
+use std::io::{self, ErrorKind, IsTerminal, Read};
 use std::process::ExitCode;
 use what::{GREATEST_SAVED, What};
 
 fn main(rt: HostRuntime) -> anyhow::Result<ExitCode> {
     match call::read_arguments(&rt) {
-        Ok(Call::Help) => rt.println(call::USAGE).context(UNWRITTEN)?,
+        Ok(Call::Help) => printed(rt.println(call::USAGE))?,
         Ok(Call::Check(file)) => return check(&rt, file),
         Ok(Call::Convert { old, new }) => {
             let mut buffer = [0u8; GREATEST_SAVED];
@@ -56,7 +57,7 @@ const HINT: &str = "reading standard input: a stored file";
 fn check(rt: &(impl Print + AllocGlobal), file: File) -> anyhow::Result<ExitCode> {
     let file = read_front(rt.alloc(), file).context(UNREAD)?;
     let what = what::look_at(&file);
-    rt.println(what).context(UNWRITTEN)?;
+    printed(rt.println(what))?;
     match what {
         What::FirstEdition | What::SecondEdition => Ok(ExitCode::SUCCESS),
         What::WithoutOpening | What::Damaged(_) => Ok(ExitCode::from(1)),
@@ -85,6 +86,14 @@ fn convert<R: Read + Drop>(
     }
 }
 
+// What became of printing for a person. That the reader of a pipe stops reading is no failure then. It is one where a converted file is written.
+fn printed(done: io::Result<()>) -> anyhow::Result<()> {
+    match done {
+        Err(error) if error.kind() == ErrorKind::BrokenPipe => Ok(()),
+        done => done.context(UNWRITTEN),
+    }
+}
+
 // Words for people: that they cannot be written changes nothing.
 fn explain(rt: &impl Eprint, words: impl Display + Drop) {
     rt.eprintln(words).unwrap_or(());
@@ -92,9 +101,11 @@ fn explain(rt: &impl Eprint, words: impl Display + Drop) {
 
 // The front of a file, of one byte more than any saved plant has: a longer one is not looked into.
 fn read_front<R: Read + Drop>(alloc: Global, input: R) -> io::Result<Vec<u8>>
-    ensures { IfOk result (λ front. IfSome (R.remaining input) (λ whole. front.items ≡ take 4756 whole)) }
+    ensures { IfOk result (λ front. IfSome (R.remaining input) (λ whole. front.items ≡ take (greatest_saved + 1) whole)) }
 {
     let mut front = Vec::new(alloc);
-    input.take(4756).read_to_end(&mut front)?;
+    input
+        .take(GREATEST_SAVED as u64 + 1)
+        .read_to_end(&mut front)?;
     Ok(front)
 }

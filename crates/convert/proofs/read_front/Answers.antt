@@ -1,6 +1,7 @@
 -- What `take` lets through of a reader's bytes is their front.
-use Rattle.std.proofs.Common.{◌≡◌, ℕ, List, [], ◌++◌, take, IfSome}
+use Rattle.std.proofs.Common.{◌≡◌, ℕ, ◌+◌, List, [], ◌++◌, take, IfSome}
 use Rattle.std.specs.Prelude.{Option, None, Some, option_map}
+use Rattle.convert.specs.What.{greatest_saved}
 use Rattle.convert.proofs.read_front.Goals as goal
 
 front : (o o' : Option (List ℕ)) (n m : ℕ) (old new : List ℕ) → o' ≡ o → m ≡ n → old ≡ [] → IfSome (option_map (take m) o') (λ xs. new ≡ old ++ xs)
@@ -14,4 +15,4 @@ front o o' n m old new e f g h = go o (rw (e, f, g) at h)
 pub returns : goal.returns
 returns g c =
     let t = c.take.ensures in
-    front (g.R.Read.remaining c.args.input) _ 4756 _ _ _ (rw t.inner) t.limit c.new-front.ensures.items c.in_ok-read_to_end.ensures.bytes
+    front (g.R.Read.remaining c.args.input) _ (greatest_saved + 1) _ _ _ (rw t.inner) t.limit c.new-front.ensures.items c.in_ok-read_to_end.ensures.bytes
