@@ -1,11 +1,13 @@
--- At which byte a refused file is at fault, for people: where the field begins at which its refusal shows. A field that is there too often, too short or
--- wrong in itself is found so. Where a field is missing, none is at fault, and the place is the end of the file.
+-- At which byte a refused file is at fault, for people: where the field begins at which its refusal shows. A field that is there too often, too
+-- short or wrong in itself is found so. Where a field is missing, none is at fault, and the place is the end of the file.
 -- Assumes nothing.
-use Rattle.std.specs.Prelude.{◌≡◌, ℕ, ◌≤◌, ◌<◌, Bool, zero, suc, ◌+◌, ◌&&◌, not, List, length, take, drop, replicate, set, Result, Ok, Err, Option, None, Some, if◌then◌else◌, ◌==◌, nat_lt, slice_index, slice_index_or, false, true}
+use Rattle.std.specs.Prelude.{◌≡◌, ℕ, ◌≤◌, ◌<◌, Bool, zero, suc, ◌+◌, ◌&&◌, not, false, true, if◌then◌else◌, ◌==◌, nat_lt}
+use Rattle.std.specs.Prelude.{List, length, take, drop, replicate, set, slice_index, slice_index_or, Result, Ok, Err, Option, None, Some}
 use Rattle.std.specs.Result.{result_map_both}
 use Rattle.std.proofs.lemmas.List.Edits.{sets}
 use Rattle.lists.specs.declared.refusal.Refusal.{Refusal}
-use Rattle.lists.specs.declared.refusal.Refusal.TheVariants.{SizeOutOfRange, LineRule, RoundNotClosed, SizeOrTallyField, LineField, NoOpening, FieldOrder}
+use Rattle.lists.specs.declared.refusal.Refusal.TheVariants.{SizeOutOfRange, LineRule, RoundNotClosed, SizeOrTallyField, LineField}
+use Rattle.lists.specs.declared.refusal.Refusal.TheVariants.{NoOpening, FieldOrder}
 use Rattle.lists.specs.Refusal.{Check, ensure, ◌and◌}
 use Rattle.table.specs.Table.{line_start}
 use Rattle.table.specs.Fresh.{fresh_table}

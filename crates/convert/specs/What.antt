@@ -60,7 +60,7 @@ judged (Ok u) first lacks begins = SecondEdition
 judged (Err s) (Ok u) lacks begins = FirstEdition
 judged (Err s) (Err f) lacks begins = if lacks then WithoutOpening else Damaged (if begins then s else f)
 
--- Rule What a file is: edition 2 where the reader takes it, edition 1 where the converter does, without the opening where the reader takes it with one in
--- front, and damaged otherwise: as edition 2 where it begins with the opening's tag
+-- Rule What a file is: edition 2 where the reader takes it, edition 1 where the converter does, without the opening where the reader takes it with
+-- one in front, and damaged otherwise: as edition 2 where it begins with the opening's tag
 unfoldable pub what_of : List ℕ → What
 what_of file = judged (read_as Two file) (read_as One file) (lacks_opening file) (slice_index_or file 0 0 == opening_tag)

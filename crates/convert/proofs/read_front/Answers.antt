@@ -15,4 +15,5 @@ front o o' n m old new e f g h = go o (rw (e, f, g) at h)
 pub returns : goal.returns
 returns g c =
     let t = c.take.ensures in
-    front (g.R.Read.remaining c.args.input) _ (greatest_saved + 1) _ _ _ (rw t.inner) t.limit c.new-front.ensures.items c.in_ok-read_to_end.ensures.bytes
+    front (g.R.Read.remaining c.args.input) _ (greatest_saved + 1) _ _ _ (rw t.inner) t.limit c.new-front.ensures.items
+    c.in_ok-read_to_end.ensures.bytes
