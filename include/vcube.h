@@ -5,8 +5,8 @@
  * that name. What is needed to use the calls is said here too.
  *
  * To build: the archive is made by tests/archive as target/staticlib/libvcube.a, and bindings/c/install installs it with this header. It is
- * for x86-64 Linux, and processors of the level x86-64-v2 or above. It needs memcpy, memmove and memset, and nothing else. A load takes 4664
- * bytes of stack, every other call less than 400.
+ * for x86-64 Linux, and processors of the level x86-64-v2 or above. It needs memcpy, memmove and memset, and nothing else. A load or a
+ * conversion takes less than 4800 bytes of stack, every other call less than 400.
  *
  * Who keeps what. There is one table for a plant, and whoever makes the calls keeps it: a bus master, a panel or a test bench. Tally and last
  * granted number are the caller's too. The library keeps no state and no pointer; calls may run at once in several threads, if none writes
@@ -63,14 +63,18 @@
  *
  * A table of before version 0.9, whose heads have four bytes, is refused with 2. Begin with a fresh table instead; or make the heads longer
  * by hand, with these as bytes 4 and 5 of each line: VCUBE_TOLD_BY_NONE and 0 where the status is 0, 1 or 3, VCUBE_TOLD_NOT_RECORDED and 0
- * where it is 2. Byte 5 then counts the rounds closed from there on. A plant saved before 0.9 is refused with 20 when it is loaded, and no
- * call converts it.
+ * where it is 2. Byte 5 then counts the rounds closed from there on.
  *
  * A saved plant holds size, tally and table as fields, one behind the other. A field is a tag of one byte (enum vcube_tag), the length of
- * its contents in two bytes, high byte first, and the contents. Those of the size field are n, in one byte; those of the tally field are
- * rounds and tests, in four bytes each, high byte first; those of a line field are a station number, in one byte, and the n + 6 bytes of
- * that station's line. There is one size field, one tally field, and one line field for each station; fields of other tags may stand among
- * them.
+ * its contents in two bytes, high byte first, and the contents. Those of the opening are VCUBE_EDITION, in one byte; those of the size field
+ * are n, in one byte; those of the tally field are rounds and tests, in four bytes each, high byte first; those of a line field are a
+ * station number, in one byte, and the n + 6 bytes of that station's line. The fields are the opening, the size field, the tally field, and
+ * one line field for each station, in this order and with the stations ascending. So a plant has one saved form.
+ *
+ * That is edition 2. In edition 1, as versions before 0.9 saved plants, there is no opening, the heads of lines have four bytes (bytes 0 to
+ * 3), and the fields may stand in any order. vcube_convert makes a saved plant of such a file; a load refuses it with 21. A file that version
+ * 0.9 or 0.10 saved has heads of six bytes and no opening: a load refuses it with 21, a conversion with 20. With the opening (the bytes 4, 0,
+ * 1, 2) put in front of what vcube_save wrote then, it is a file of edition 2.
  *
  * Figures are taken over results, which are numbers of 16 bits: for instance the rounds that each trial took until all dead boards were
  * known. Totals are what is kept of results so that figures can be had without them, and are joined with the totals of further results. A
@@ -89,9 +93,9 @@
 #include <stdint.h>
 
 #define VCUBE_VERSION_MAJOR 0
-#define VCUBE_VERSION_MINOR 10
+#define VCUBE_VERSION_MINOR 11
 #define VCUBE_VERSION_PATCH 0
-#define VCUBE_VERSION "0.10.0"
+#define VCUBE_VERSION "0.11.0"
 
 #ifdef __cplusplus
 extern "C" {
@@ -103,8 +107,11 @@ extern "C" {
 /* The length of a table of n stations. */
 #define VCUBE_TABLE_LENGTH(n) ((size_t)(n) * ((size_t)(n) + VCUBE_HEAD))
 
-/* The length of a saved plant of n stations, as vcube_save writes it: 15 bytes for size and tally, and n line fields of n + 10 bytes. */
-#define VCUBE_SAVED_LENGTH(n) (15 + (size_t)(n) * ((size_t)(n) + 10))
+/* The length of a saved plant of n stations: 19 bytes for opening, size and tally, and n line fields of n + 10 bytes. */
+#define VCUBE_SAVED_LENGTH(n) (19 + (size_t)(n) * ((size_t)(n) + 10))
+
+/* What the opening of a saved plant holds. */
+#define VCUBE_EDITION 2
 
 /* The length of the longest group list. */
 #define VCUBE_LONGEST_GROUP 32
@@ -128,8 +135,9 @@ extern "C" {
 /* The most results that figures are taken over. */
 #define VCUBE_MOST_RESULTS 4096
 
-/* What a call returns, in the order in which refusals are checked; but a drive looks for 7 after 16 and 17, a load looks for 18, 19, 1, 20,
- * 2, 3 and 4, in this order, and the size of a saved plant for 18, 19 and 1.
+/* What a call returns, in the order in which refusals are checked; but a drive looks for 7 after 16 and 17, a load looks for 18, 21, 22, 19,
+ * 1, 20, 2, 3 and 4, in this order, the size of a saved plant for 18, 21, 22, 19 and 1, a conversion for 18, 22, 19, 1, 20, 3, 4 and 13, and
+ * the length that it needs for 18, 22, 19 and 1.
  *
  * Here and in the three enums below: the words behind each number are those of the library itself, which calls a station a board. What
  * stands in parentheses behind them says more. */
@@ -149,17 +157,19 @@ enum vcube_refusal {
     VCUBE_REFUSED_PASS_FINISHED = 11,       /* this board has finished its pass in this round (and the kind is 1 or 2) */
     VCUBE_REFUSED_NO_SUCH_LEVEL = 12,       /* there is no such level: they go from 1 to d */
     VCUBE_REFUSED_LIST_LENGTH = 13,         /* the list or buffer for the answer has another length than the answer (group list:
-                                             * vcube_group_length; assignment: 2 * (n - 1); saved plant: 15 + n * (n + 10)) */
+                                             * vcube_group_length; assignment: 2 * (n - 1); saved plant: 19 + n * (n + 10)) */
     VCUBE_REFUSED_NO_RESULT = 14,           /* there is no result to take figures of (in both lists together, where two are given) */
     VCUBE_REFUSED_TOO_MANY_RESULTS = 15,    /* more than 4,096 results, or totals that so many cannot have (in both lists together) */
     VCUBE_REFUSED_LAST_GRANTED = 16,        /* the last granted number is neither a board nor 255 (it is n or more, and not 255) */
     VCUBE_REFUSED_NONE_LIVE = 17,           /* no board is live */
-    VCUBE_REFUSED_FIELD_PAST_END = 18,      /* the file is cut off: a field or its head goes past the end (the file is the saved plant,
-                                             * the head is tag and length) */
+    VCUBE_REFUSED_FIELD_PAST_END = 18,      /* the file is cut off: a field or its head goes past the end (the head is tag and
+                                             * length) */
     VCUBE_REFUSED_SIZE_OR_TALLY_FIELD = 19, /* the field with the size or the tally is missing, there twice or of a wrong length (or more
                                              * than twice) */
-    VCUBE_REFUSED_LINE_FIELD = 20           /* a board's line in the file is missing, there twice, of a wrong length or of no board (more
-                                             * than once; not n + 7; a number of n or more) */
+    VCUBE_REFUSED_LINE_FIELD = 20,          /* a board's line in the file is missing, there twice, of a wrong length or of no board (more
+                                             * than once; not n + 7, or n + 5 in edition 1; a number of n or more) */
+    VCUBE_REFUSED_NO_OPENING = 21,          /* the file does not begin as edition 2 does (with just the opening) */
+    VCUBE_REFUSED_FIELD_ORDER = 22          /* a field is out of order, or of an unknown tag (a conversion looks for the tag only) */
 };
 
 /* Byte 0 of an entry of a schedule. */
@@ -192,7 +202,8 @@ enum vcube_outcome {
 enum vcube_tag {
     VCUBE_TAG_SIZE = 1,
     VCUBE_TAG_TALLY = 2,
-    VCUBE_TAG_LINE = 3
+    VCUBE_TAG_LINE = 3,
+    VCUBE_TAG_OPENING = 4
 };
 
 /* Fresh table: every line live, next distance 1, VCUBE_TOLD_BY_NONE in byte 4, all else 0.
@@ -287,32 +298,47 @@ uint8_t vcube_drive(size_t n, uint8_t *table, size_t table_length, uint32_t *rou
  * Refusals: 1 to 4. */
 uint8_t vcube_doubt_lamp(size_t n, const uint8_t *table, size_t table_length, size_t *by, size_t *of);
 
-/* Save: writes size, tally and table as a saved plant into a buffer of VCUBE_SAVED_LENGTH(n) bytes: the size field, the tally field, then
- * the line fields by ascending station. Every byte of the buffer is written. Tallies at 4294967295 are saved like others. The last granted
- * number of a bus master is not saved.
+/* Save: writes size, tally and table as a saved plant into a buffer of VCUBE_SAVED_LENGTH(n) bytes, every one of which is written. Tallies at
+ * 4294967295 are saved like others. The last granted number of a bus master is not saved.
  * Refusals: 1 to 4, 13. */
 uint8_t vcube_save(size_t n, const uint8_t *table, size_t table_length, uint32_t rounds, uint32_t tests, uint8_t *saved,
                    size_t saved_length);
 
 /* Load: reads a saved plant; its size into *n, its tally into *rounds and *tests, and its lines into the table, which has
- * n * (n + 6) bytes for the saved plant's n, all of them written (vcube_saved_size gives n beforehand). The fields may stand in any order.
- * Fields of other tags, 0 included, are passed over: there may be any number of them, with any contents. *n, *rounds and *tests are 0 where
+ * n * (n + 6) bytes for the saved plant's n, all of them written (vcube_saved_size gives n beforehand). *n, *rounds and *tests are 0 where
  * the call is refused.
  *
- * A refusal is that of the whole saved plant, wherever in it the fault stands: 18 is looked for in all fields first, then 19, and so on. 20
- * is judged by the size in the size field, which may stand behind the line fields. 3 and 4 are judged on the lines of the saved plant, 2 on
- * the table's length.
+ * A refusal is that of the whole saved plant, wherever in it the fault stands: 18 is looked for in all fields first, then 21, and so on. 21
+ * is for a first field that is not the opening, or for no field at all. 22 is for a field after it with a tag below that of the field before
+ * it, with a tag other than those of size, tally and line, the opening's included, or of a line whose station number is below that of the
+ * line before it; an empty line field counts as that of station 0. Two fields of one tag or one station side by side are not out of order:
+ * they get 19 or 20. 3 and 4 are judged on the lines of the saved plant, 2 on the table's length.
  *
- * Loading what was saved gives size, table and tally as they were; saving what was loaded gives the form that vcube_save writes, with no
- * field of another tag.
- * Refusals: 18, 19, 1, 20, 2, 3, 4, in this order. */
+ * Loading what was saved gives size, table and tally as they were; saving what was loaded gives the very bytes that were loaded.
+ * Refusals: 18, 21, 22, 19, 1, 20, 2, 3, 4, in this order. */
 uint8_t vcube_load(const uint8_t *saved, size_t saved_length, uint8_t *table, size_t table_length, size_t *n, uint32_t *rounds,
                    uint32_t *tests);
 
 /* Size of a saved plant: that of its size field, into *n, so that a table of just the right length can be lent to vcube_load. *n is 0 where
- * the call is refused. What the line fields hold is not looked at, so a load may still be refused.
- * Refusals: 18, 19, 1, in this order. */
+ * the call is refused. What the line fields hold is not looked at, but for the order of their stations, so a load may still be refused.
+ * Refusals: 18, 21, 22, 19, 1, in this order. */
 uint8_t vcube_saved_size(const uint8_t *saved, size_t saved_length, size_t *n);
+
+/* Conversion: writes the plant of a file of edition 1 as a saved plant into a buffer of VCUBE_SAVED_LENGTH(n) bytes for the file's n, every
+ * one of which is written (vcube_converted_length gives their number beforehand). Size, tally, bytes 0 to 3 and rows are those of the file;
+ * byte 4 of a line is VCUBE_TOLD_NOT_RECORDED where the status is 2 and VCUBE_TOLD_BY_NONE where it is another, byte 5 is 0.
+ *
+ * The fields of the file may stand in any order, of which 20 is judged by the size in the size field, wherever that stands. 22 is for a field
+ * with a tag other than those of size, tally and line, wherever it stands and be it empty: its contents would be lost. So a file of edition 2
+ * gets 22, for its opening. 20 is for a line field of another length than n + 5, and for a station that is absent, twice or too high. 3 and 4
+ * are judged by the line rules without those of bytes 4 and 5.
+ * Refusals: 18, 22, 19, 1, 20, 3, 4, 13, in this order. */
+uint8_t vcube_convert(const uint8_t *old, size_t old_length, uint8_t *saved, size_t saved_length);
+
+/* Length of a conversion: that of the saved plant which vcube_convert makes of this file, into *length, so that a buffer of just that length
+ * can be lent. *length is 0 where the call is refused. What the line fields hold is not looked at, so a conversion may still be refused.
+ * Refusals: 18, 22, 19, 1, in this order. */
+uint8_t vcube_converted_length(const uint8_t *old, size_t old_length, size_t *length);
 
 /* A fraction in lowest terms: no number above 1 divides both parts, and the lower part is positive. Zero is 0/1. */
 struct vcube_fraction {

@@ -1,4 +1,4 @@
-# What tests/watch-command and tests/sheet-command share. This file is sourced; $tested names the command, ./watch or ./sheet.
+# What tests/watch-command, tests/sheet-command and tests/convert-command share. This file is sourced; $tested names the command, such as ./watch.
 # shellcheck shell=bash
 : "${tested:?}"
 

@@ -497,17 +497,27 @@ static void grants_and_drives(void)
 }
 
 /* The fields of a plant of 2: 0 is live and suspects 1, which crashed 9 rounds ago. */
+#define OPENING 4, 0, 1, 2
 #define SIZE_2 1, 0, 1, 2
 #define TALLY 2, 0, 8, 1, 2, 3, 4, 245, 246, 247, 248
 #define LINE_0 3, 0, 9, 0, 0, 2, 0, 1, NONE, 0, 0, 1
 #define LINE_1 3, 0, 9, 1, 1, 1, 0, 0, NONE, 9, 0, 0
 
+/* Its lines in edition 1, and what line 1 is converted to. */
+#define OLD_0 3, 0, 7, 0, 0, 2, 0, 1, 0, 1
+#define OLD_1 3, 0, 7, 1, 1, 1, 0, 0, 0, 0
+#define NEW_1 3, 0, 9, 1, 1, 1, 0, 0, NONE, 0, 0, 0
+
 /* The plant itself. */
 static const uint8_t saved_table[VCUBE_TABLE_LENGTH(N)] = {0, 2, 0, 1, NONE, 0, 0, 1, 1, 1, 0, 0, NONE, 9, 0, 0};
 static const uint32_t saved_rounds = 0x01020304, saved_tests = 0xf5f6f7f8;
 
-/* As the writer puts it. */
-static const uint8_t saved_bytes[VCUBE_SAVED_LENGTH(N)] = {SIZE_2, TALLY, LINE_0, LINE_1};
+/* As it is saved. */
+static const uint8_t saved_bytes[VCUBE_SAVED_LENGTH(N)] = {OPENING, SIZE_2, TALLY, LINE_0, LINE_1};
+
+/* As version 0.8 saved it, and what that is converted to. */
+static const uint8_t old_bytes[] = {SIZE_2, TALLY, OLD_0, OLD_1};
+static const uint8_t converted_bytes[VCUBE_SAVED_LENGTH(N)] = {OPENING, SIZE_2, TALLY, LINE_0, NEW_1};
 
 /* The save with this buffer's length gives the number; refused, it changes no byte of the buffer. */
 static void save(size_t n, const uint8_t *table, size_t table_length, size_t saved_length, int number, const char *what)
@@ -529,14 +539,15 @@ static void refused_saves(void)
     const size_t sizes[] = {0, 1, 65, 255, 258, SIZE_MAX};
 
     for (size_t k = 0; k < sizeof sizes / sizeof sizes[0]; k++)
-        save(sizes[k], broken, 15, 38, VCUBE_REFUSED_SIZE_OUT_OF_RANGE, "save: a size that is not from 2 to 64 gets 1 before 2 and 13");
-    save(N, broken, 15, 38, VCUBE_REFUSED_TABLE_LENGTH, "save: 15 bytes get 2 before 3 and 13");
-    save(N, NULL, 0, 39, VCUBE_REFUSED_TABLE_LENGTH, "save: a table of length 0 gets 2");
-    save(N, broken, 16, 38, VCUBE_REFUSED_LINE_RULE, "save: more tests than distances get 3 before 4 and 13");
-    save(N, finished, 16, 38, VCUBE_REFUSED_ROUND_NOT_CLOSED, "save: every live station is finished, 4 before 13");
+        save(sizes[k], broken, 15, 42, VCUBE_REFUSED_SIZE_OUT_OF_RANGE, "save: a size that is not from 2 to 64 gets 1 before 2 and 13");
+    save(N, broken, 15, 42, VCUBE_REFUSED_TABLE_LENGTH, "save: 15 bytes get 2 before 3 and 13");
+    save(N, NULL, 0, 43, VCUBE_REFUSED_TABLE_LENGTH, "save: a table of length 0 gets 2");
+    save(N, broken, 16, 42, VCUBE_REFUSED_LINE_RULE, "save: more tests than distances get 3 before 4 and 13");
+    save(N, finished, 16, 42, VCUBE_REFUSED_ROUND_NOT_CLOSED, "save: every live station is finished, 4 before 13");
     save(N, saved_table, 16, 0, VCUBE_REFUSED_LIST_LENGTH, "save: a buffer of length 0 gets 13");
     save(N, saved_table, 16, 35, VCUBE_REFUSED_LIST_LENGTH, "save: 35 bytes, the length of before 0.9, get 13");
-    save(N, saved_table, 16, 39, VCUBE_ACCEPTED, "save: 39 bytes are accepted");
+    save(N, saved_table, 16, 39, VCUBE_REFUSED_LIST_LENGTH, "save: 39 bytes, the length of before 0.11, get 13");
+    save(N, saved_table, 16, 43, VCUBE_ACCEPTED, "save: 43 bytes are accepted");
 }
 
 /* VCUBE_SAVED_LENGTH, for every size. */
@@ -544,7 +555,7 @@ static void saved_lengths(void)
 {
     static uint8_t table[VCUBE_TABLE_LENGTH(64)];
 
-    expect(VCUBE_SAVED_LENGTH(2) == 39 && VCUBE_SAVED_LENGTH(8) == 159 && VCUBE_SAVED_LENGTH(64) == 4751, "the length of a saved plant");
+    expect(VCUBE_SAVED_LENGTH(2) == 43 && VCUBE_SAVED_LENGTH(8) == 163 && VCUBE_SAVED_LENGTH(64) == 4755, "the length of a saved plant");
     for (size_t n = 2; n <= 64; n++) {
         const size_t right = VCUBE_SAVED_LENGTH(n), wrong[] = {0, 1, right - 1, right + 1, right + 256};
         expect(vcube_fresh_table(n, table, VCUBE_TABLE_LENGTH(n)) == VCUBE_ACCEPTED, "a fresh table");
@@ -554,11 +565,17 @@ static void saved_lengths(void)
     }
 }
 
+/* Whether the number is that of a refusal which does not look at table, buffer or lines. */
+static int is_of_fields(int number)
+{
+    return number == VCUBE_REFUSED_FIELD_PAST_END || number == VCUBE_REFUSED_NO_OPENING || number == VCUBE_REFUSED_FIELD_ORDER ||
+           number == VCUBE_REFUSED_SIZE_OR_TALLY_FIELD || number == VCUBE_REFUSED_SIZE_OUT_OF_RANGE;
+}
+
 /* The size is given, or refused with the number where that is one of its refusals. */
 static void size_of_saved(const uint8_t *saved, size_t saved_length, size_t n, int number, const char *what)
 {
-    const int of_fields = number == VCUBE_REFUSED_FIELD_PAST_END || number == VCUBE_REFUSED_SIZE_OR_TALLY_FIELD;
-    const int refused = of_fields || number == VCUBE_REFUSED_SIZE_OUT_OF_RANGE;
+    const int refused = is_of_fields(number);
     size_t given = ANY;
 
     expect(vcube_saved_size(saved, saved_length, &given) == (refused ? number : VCUBE_ACCEPTED), what);
@@ -585,48 +602,83 @@ static void load(const uint8_t *saved, size_t saved_length, size_t table_length,
 }
 
 /* The load of these bytes into a table of 16. */
-#define LOAD(number, what, ...)                                      \
+#define LOAD_BYTES(number, what, ...)                                \
     do {                                                             \
         static const uint8_t bytes[] = {__VA_ARGS__};                \
         load(bytes, sizeof bytes, sizeof saved_table, number, what); \
     } while (0)
 
-/* Fields in another order, and fields of other tags. */
-static void accepted_loads(void)
-{
-    static uint8_t longest[sizeof saved_bytes + 3 + 65535];
-
-    LOAD(VCUBE_ACCEPTED, "load: as it was saved", SIZE_2, TALLY, LINE_0, LINE_1);
-    LOAD(VCUBE_ACCEPTED, "load: lines descending", SIZE_2, TALLY, LINE_1, LINE_0);
-    LOAD(VCUBE_ACCEPTED, "load: the size last", LINE_1, TALLY, LINE_0, SIZE_2);
-    LOAD(VCUBE_ACCEPTED, "load: the tally last", LINE_0, LINE_1, SIZE_2, TALLY);
-    LOAD(VCUBE_ACCEPTED, "load: tags 0, 4 and 255, even twice, and with no contents",
-         0, 0, 0, 4, 0, 1, 2, SIZE_2, 4, 0, 1, 2, TALLY, 255, 0, 3, 1, 2, 3, LINE_0, LINE_1, 0, 0, 0);
-    LOAD(VCUBE_ACCEPTED, "load: contents of another tag that look like fields", 9, 0, 16, SIZE_2, LINE_0, SIZE_2, TALLY, LINE_0, LINE_1);
-    for (unsigned tag = 4; tag <= 256; tag++) {
-        const uint8_t saved[] = {(uint8_t)tag, 0, 1, 2, SIZE_2, TALLY, LINE_0, LINE_1};
-        load(saved, sizeof saved, sizeof saved_table, VCUBE_ACCEPTED, "load: tags 4 to 255 and 0");
-    }
-    memcpy(longest, saved_bytes, sizeof saved_bytes);
-    memset(longest + sizeof saved_bytes, 255, sizeof longest - sizeof saved_bytes);
-    load(longest, sizeof longest, 16, VCUBE_ACCEPTED, "load: another tag with the most contents");
-    load(longest, sizeof longest - 1, 16, VCUBE_REFUSED_FIELD_PAST_END, "load: one byte of them is absent");
-}
+/* The same with the opening before them. */
+#define LOAD(number, what, ...) LOAD_BYTES(number, what, OPENING, __VA_ARGS__)
 
 static void fields_past_end(void)
 {
     const int past_end = VCUBE_REFUSED_FIELD_PAST_END;
 
     for (size_t length = 0; length < sizeof saved_bytes; length++) {
-        const int in_field = length != 0 && length != 4 && length != 15 && length != 27;
-        const int absent = length < 15 ? VCUBE_REFUSED_SIZE_OR_TALLY_FIELD : VCUBE_REFUSED_LINE_FIELD;
-        load(saved_bytes, length, 16, in_field ? past_end : absent, "load: 18 where a field is cut off, else 19 or 20");
+        const int in_field = length != 0 && length != 4 && length != 8 && length != 19 && length != 31;
+        const int absent = length == 0  ? VCUBE_REFUSED_NO_OPENING
+                           : length < 19 ? VCUBE_REFUSED_SIZE_OR_TALLY_FIELD
+                                         : VCUBE_REFUSED_LINE_FIELD;
+        load(saved_bytes, length, 16, in_field ? past_end : absent, "load: 18 where a field is cut off, else 21, 19 or 20");
     }
     LOAD(past_end, "load: one stray byte", SIZE_2, TALLY, LINE_0, LINE_1, 0);
     LOAD(past_end, "load: two stray bytes", SIZE_2, TALLY, LINE_0, LINE_1, 4, 0);
     LOAD(past_end, "load: a head with no contents, of which there is to be one byte", SIZE_2, TALLY, LINE_0, LINE_1, 4, 0, 1);
     LOAD(past_end, "load: the length's high byte comes first", SIZE_2, TALLY, LINE_0, LINE_1, 4, 1, 0, 7);
-    LOAD(past_end, "load: 18 comes before all others", 1, 0, 1, 0, TALLY, TALLY, 3, 0, 0, 9);
+    LOAD_BYTES(past_end, "load: 18 comes before all others", 9, 0, 0, 1, 0, 1, 0, TALLY, TALLY, 3, 0, 0, 9);
+}
+
+/* The first field is the opening, and just that. */
+static void openings(void)
+{
+    const int none = VCUBE_REFUSED_NO_OPENING;
+
+    load(NULL, 0, 16, none, "load: a saved plant of length 0 gets 21");
+    LOAD_BYTES(none, "load: no opening, as of before 0.11", SIZE_2, TALLY, LINE_0, LINE_1);
+    LOAD_BYTES(none, "load: no opening, as of before 0.9", SIZE_2, TALLY, OLD_0, OLD_1);
+    LOAD_BYTES(none, "load: an empty opening", 4, 0, 0, SIZE_2, TALLY, LINE_0, LINE_1);
+    LOAD_BYTES(none, "load: an opening of two bytes", 4, 0, 2, 2, 2, SIZE_2, TALLY, LINE_0, LINE_1);
+    LOAD_BYTES(none, "load: the opening behind the size", SIZE_2, OPENING, TALLY, LINE_0, LINE_1);
+    LOAD_BYTES(none, "load: the opening at the end", SIZE_2, TALLY, LINE_0, LINE_1, OPENING);
+    LOAD_BYTES(none, "load: 21 comes before 22", 9, 0, 0, SIZE_2, TALLY, LINE_0, LINE_1);
+    LOAD_BYTES(none, "load: 21 comes before 19", SIZE_2);
+    for (unsigned k = 0; k < 256; k++) {
+        const uint8_t edition[] = {4, 0, 1, (uint8_t)k, SIZE_2, TALLY, LINE_0, LINE_1};
+        const uint8_t tag[] = {(uint8_t)k, 0, 1, 2, SIZE_2, TALLY, LINE_0, LINE_1};
+        load(edition, sizeof edition, 16, k == VCUBE_EDITION ? VCUBE_ACCEPTED : none, "load: an opening with other contents gets 21");
+        load(tag, sizeof tag, 16, k == VCUBE_TAG_OPENING ? VCUBE_ACCEPTED : none, "load: another tag in place of the opening's gets 21");
+    }
+}
+
+/* After the opening tags and stations ascend, and no other tag is known. */
+static void order_of_fields(void)
+{
+    static uint8_t longest[sizeof saved_bytes + 3 + 65535];
+    const int wrong = VCUBE_REFUSED_FIELD_ORDER;
+
+    LOAD(VCUBE_ACCEPTED, "load: as it was saved", SIZE_2, TALLY, LINE_0, LINE_1);
+    LOAD(wrong, "load: the tally before the size", TALLY, SIZE_2, LINE_0, LINE_1);
+    LOAD(wrong, "load: a line before the tally", SIZE_2, LINE_0, TALLY, LINE_1);
+    LOAD(wrong, "load: the size last", TALLY, LINE_0, LINE_1, SIZE_2);
+    LOAD(wrong, "load: lines descending", SIZE_2, TALLY, LINE_1, LINE_0);
+    LOAD(wrong, "load: the size again behind the tally", SIZE_2, TALLY, SIZE_2, LINE_0, LINE_1);
+    LOAD(wrong, "load: a line again behind the next one", SIZE_2, TALLY, LINE_0, LINE_1, LINE_0);
+    LOAD(wrong, "load: an empty line field behind that of station 1", SIZE_2, TALLY, LINE_0, LINE_1, 3, 0, 0);
+    LOAD(wrong, "load: the opening twice", OPENING, SIZE_2, TALLY, LINE_0, LINE_1);
+    LOAD(wrong, "load: the opening again at the end", SIZE_2, TALLY, LINE_0, LINE_1, OPENING);
+    LOAD(wrong, "load: tag 4 again, and empty", SIZE_2, TALLY, LINE_0, LINE_1, 4, 0, 0);
+    LOAD(wrong, "load: contents of another tag that look like fields", 0, 0, 16, SIZE_2, LINE_0, SIZE_2, TALLY, LINE_0, LINE_1);
+    LOAD(wrong, "load: 22 comes before 19", TALLY, SIZE_2, SIZE_2);
+    LOAD(wrong, "load: 22 comes before 1 and 20", 1, 0, 1, 65, TALLY, LINE_1, LINE_0);
+    for (unsigned tag = 4; tag <= 256; tag++) {
+        const uint8_t saved[] = {OPENING, SIZE_2, TALLY, LINE_0, LINE_1, (uint8_t)tag, 0, 1, 2};
+        load(saved, sizeof saved, sizeof saved_table, wrong, "load: tags 4 to 255 and 0 at the end");
+    }
+    memcpy(longest, saved_bytes, sizeof saved_bytes);
+    memset(longest + sizeof saved_bytes, 255, sizeof longest - sizeof saved_bytes);
+    load(longest, sizeof longest, 16, wrong, "load: another tag with the most contents");
+    load(longest, sizeof longest - 1, 16, VCUBE_REFUSED_FIELD_PAST_END, "load: one byte of them is absent");
 }
 
 static void size_and_tally_fields(void)
@@ -634,10 +686,10 @@ static void size_and_tally_fields(void)
     const int wrong = VCUBE_REFUSED_SIZE_OR_TALLY_FIELD;
     const uint8_t sizes[] = {0, 1, 65, 66, 255};
 
-    load(NULL, 0, 16, wrong, "load: a saved plant of length 0 gets 19");
+    LOAD_BYTES(wrong, "load: the opening alone", OPENING);
     LOAD(wrong, "load: no size field", TALLY, LINE_0, LINE_1);
     LOAD(wrong, "load: no tally field", SIZE_2, LINE_0, LINE_1);
-    LOAD(wrong, "load: the size field twice", SIZE_2, TALLY, LINE_0, LINE_1, SIZE_2);
+    LOAD(wrong, "load: the size field twice", SIZE_2, SIZE_2, TALLY, LINE_0, LINE_1);
     LOAD(wrong, "load: the tally field twice", SIZE_2, TALLY, TALLY, LINE_0, LINE_1);
     LOAD(wrong, "load: an empty size field", 1, 0, 0, TALLY, LINE_0, LINE_1);
     LOAD(wrong, "load: a size field of two bytes", 1, 0, 2, 0, 2, TALLY, LINE_0, LINE_1);
@@ -646,7 +698,7 @@ static void size_and_tally_fields(void)
     LOAD(wrong, "load: a second size field is one too many, be it empty", 1, 0, 0, SIZE_2, TALLY, LINE_0, LINE_1);
     LOAD(wrong, "load: 19 for the tally comes before 1 for the size", 1, 0, 1, 65, LINE_0, LINE_1);
     for (size_t k = 0; k < sizeof sizes; k++) {
-        const uint8_t saved[] = {1, 0, 1, sizes[k], TALLY, LINE_0, LINE_0};
+        const uint8_t saved[] = {OPENING, 1, 0, 1, sizes[k], TALLY, LINE_0, LINE_0};
         load(saved, sizeof saved, 15, VCUBE_REFUSED_SIZE_OUT_OF_RANGE, "load: a size that is not from 2 to 64 gets 1 before 20 and 2");
     }
 }
@@ -663,13 +715,14 @@ static void line_fields(void)
     LOAD(wrong, "load: station 0 is there in place of 1", SIZE_2, TALLY, LINE_0, LINE_0);
     LOAD(wrong, "load: station 2 is too high", SIZE_2, TALLY, LINE_0, LINE_1, 3, 0, 9, 2, 1, 1, 0, 0, NONE, 0, 0, 0);
     LOAD(wrong, "load: station 255 is too high", SIZE_2, TALLY, LINE_0, LINE_1, 3, 0, 9, 255, 1, 1, 0, 0, NONE, 0, 0, 0);
-    LOAD(wrong, "load: an empty line field", SIZE_2, TALLY, LINE_0, LINE_1, 3, 0, 0);
+    LOAD(wrong, "load: an empty line field before that of station 0", SIZE_2, TALLY, 3, 0, 0, LINE_0, LINE_1);
+    LOAD(wrong, "load: an empty line field beside that of station 0", SIZE_2, TALLY, LINE_0, 3, 0, 0, LINE_1);
     LOAD(wrong, "load: a line field of 8 bytes", SIZE_2, TALLY, LINE_0, 3, 0, 8, 1, 1, 1, 0, 0, NONE, 9, 0);
     LOAD(wrong, "load: a line field of 10 bytes", SIZE_2, TALLY, LINE_0, 3, 0, 10, 1, 1, 1, 0, 0, NONE, 9, 0, 0, 0);
-    LOAD(wrong, "load: a plant saved before 0.9", SIZE_2, TALLY, 3, 0, 7, 0, 0, 2, 0, 1, 0, 1, 3, 0, 7, 1, 1, 1, 0, 0, 0, 0);
-    LOAD(wrong, "load: one line field of before 0.9", SIZE_2, TALLY, LINE_0, 3, 0, 7, 1, 1, 1, 0, 0, 0, 0);
+    LOAD(wrong, "load: lines of before 0.9 behind the opening", SIZE_2, TALLY, OLD_0, OLD_1);
+    LOAD(wrong, "load: one line field of before 0.9", SIZE_2, TALLY, LINE_0, OLD_1);
     memcpy(longer, saved_bytes, sizeof saved_bytes);
-    longer[28] = 1;
+    longer[32] = 1;
     load(longer, sizeof longer, 16, wrong, "load: a length of 256 + 9 bytes is not cut to 9");
     load(longer, sizeof longer, 15, wrong, "load: 20 comes before 2");
 }
@@ -677,7 +730,7 @@ static void line_fields(void)
 /* The lent table's length and what the lines hold. */
 static void table_and_rules(void)
 {
-    const uint8_t broken[] = {SIZE_2, TALLY, 3, 0, 9, 0, 0, 2, 1, 2, NONE, 0, 0, 1, LINE_1};
+    const uint8_t broken[] = {OPENING, SIZE_2, TALLY, 3, 0, 9, 0, 0, 2, 1, 2, NONE, 0, 0, 1, LINE_1};
     const size_t lengths[] = {0, 12, 15, 17, VCUBE_TABLE_LENGTH(3)}; /* 12: that of before 0.9 */
 
     for (size_t k = 0; k < sizeof lengths / sizeof lengths[0]; k++) {
@@ -699,7 +752,7 @@ static void table_and_rules(void)
 /* What is to be saved of a table. */
 static void expected_saved(size_t n, const uint8_t *table, uint8_t *saved)
 {
-    const uint8_t head[] = {VCUBE_TAG_SIZE, 0, 1, (uint8_t)n, TALLY};
+    const uint8_t head[] = {VCUBE_TAG_OPENING, 0, 1, VCUBE_EDITION, VCUBE_TAG_SIZE, 0, 1, (uint8_t)n, TALLY};
 
     memcpy(saved, head, sizeof head);
     for (size_t station = 0; station < n; station++) {
@@ -739,7 +792,7 @@ static void save_and_load(size_t n, size_t begin)
     memset(buffer, ANY, sizeof buffer);
     memset(again, ANY, sizeof again);
     expect(vcube_save(n, table, table_length, saved_rounds, saved_tests, saved, saved_length) == VCUBE_ACCEPTED, "save: every size");
-    expect(memcmp(saved, expected, saved_length) == 0, "save: size, tally, then the lines");
+    expect(memcmp(saved, expected, saved_length) == 0, "save: opening, size, tally, then the lines");
     expect(all_are(ANY, buffer, begin) && all_are(ANY, saved + saved_length, sizeof buffer - begin - saved_length),
            "save: only the buffer is written");
     size_of_saved(saved, saved_length, n, VCUBE_ACCEPTED, "saved size: every size");
@@ -751,6 +804,112 @@ static void save_and_load(size_t n, size_t begin)
     expect(memcmp(saved, expected, saved_length) == 0, "load: the saved plant is only read");
 }
 
+/* The conversion into a buffer of this length gives the number. Accepted, it writes the plant above; refused, it changes no byte. The length
+ * is asked for, too. */
+static void convert(const uint8_t *old, size_t old_length, size_t saved_length, int number, const char *what)
+{
+    const int refused = is_of_fields(number);
+    static uint8_t saved[VCUBE_SAVED_LENGTH(64) + 256];
+    const size_t written = number == VCUBE_ACCEPTED ? saved_length : 0;
+    size_t length = ANY;
+
+    expect(vcube_converted_length(old, old_length, &length) == (refused ? number : VCUBE_ACCEPTED), what);
+    expect(length == (refused ? 0 : sizeof converted_bytes), "converted length: the length, which is 0 where refused");
+    memset(saved, ANY, sizeof saved);
+    expect(vcube_convert(old, old_length, saved_length == 0 ? NULL : saved, saved_length) == number, what);
+    expect(memcmp(saved, converted_bytes, written) == 0, what);
+    expect(all_are(ANY, saved + written, sizeof saved - written), "convert: only the buffer is written, and not where refused");
+}
+
+/* The conversion of these bytes into a buffer of 43. */
+#define CONVERT(number, what, ...)                                          \
+    do {                                                                    \
+        static const uint8_t bytes[] = {__VA_ARGS__};                       \
+        convert(bytes, sizeof bytes, sizeof converted_bytes, number, what); \
+    } while (0)
+
+/* Fields of edition 1 in any order. */
+static void accepted_conversions(void)
+{
+    CONVERT(VCUBE_ACCEPTED, "convert: as it was saved", SIZE_2, TALLY, OLD_0, OLD_1);
+    CONVERT(VCUBE_ACCEPTED, "convert: lines descending", SIZE_2, TALLY, OLD_1, OLD_0);
+    CONVERT(VCUBE_ACCEPTED, "convert: the size last", OLD_1, TALLY, OLD_0, SIZE_2);
+    CONVERT(VCUBE_ACCEPTED, "convert: the tally last", OLD_0, OLD_1, SIZE_2, TALLY);
+}
+
+/* Where later numbers stand in the text, their sentences hold too. */
+static void refused_conversions(void)
+{
+    const size_t lengths[] = {0, 35, 39, 42, 44, VCUBE_SAVED_LENGTH(3), VCUBE_SAVED_LENGTH(64)};
+    const uint8_t sizes[] = {0, 1, 65, 66, 255};
+    const uint8_t finished[] = {SIZE_2, TALLY, 3, 0, 7, 0, 0, 2, 1, 1, 0, 1, OLD_1};
+
+    for (size_t length = 0; length < sizeof old_bytes; length++) {
+        const int in_field = length != 0 && length != 4 && length != 15 && length != 25;
+        const int absent = length < 15 ? VCUBE_REFUSED_SIZE_OR_TALLY_FIELD : VCUBE_REFUSED_LINE_FIELD;
+        convert(length == 0 ? NULL : old_bytes, length, 43, in_field ? VCUBE_REFUSED_FIELD_PAST_END : absent,
+                "convert: 18 where a field is cut off, else 19 or 20");
+    }
+    CONVERT(VCUBE_REFUSED_FIELD_PAST_END, "convert: 18 comes before 22", 9, 0, 0, SIZE_2, TALLY, OLD_0, OLD_1, 0);
+    for (unsigned tag = 4; tag <= 256; tag++) {
+        const uint8_t old[] = {(uint8_t)tag, 0, 0, SIZE_2, TALLY, OLD_0, OLD_1};
+        convert(old, sizeof old, 43, VCUBE_REFUSED_FIELD_ORDER, "convert: tags 4 to 255 and 0");
+    }
+    CONVERT(VCUBE_REFUSED_FIELD_ORDER, "convert: a saved plant of edition 2", OPENING, SIZE_2, TALLY, LINE_0, LINE_1);
+    CONVERT(VCUBE_REFUSED_FIELD_ORDER, "convert: a tag of a panel's own at the end", SIZE_2, TALLY, OLD_0, OLD_1, 9, 0, 3, 1, 2, 3);
+    CONVERT(VCUBE_REFUSED_FIELD_ORDER, "convert: 22 comes before 19", 9, 0, 0, SIZE_2, OLD_0, OLD_1);
+    CONVERT(VCUBE_REFUSED_SIZE_OR_TALLY_FIELD, "convert: the size field twice", SIZE_2, TALLY, OLD_0, OLD_1, SIZE_2);
+    CONVERT(VCUBE_REFUSED_SIZE_OR_TALLY_FIELD, "convert: no tally field", SIZE_2, OLD_0, OLD_1);
+    for (size_t k = 0; k < sizeof sizes; k++) {
+        const uint8_t old[] = {1, 0, 1, sizes[k], TALLY, OLD_0, OLD_0};
+        convert(old, sizeof old, 42, VCUBE_REFUSED_SIZE_OUT_OF_RANGE, "convert: a size that is not from 2 to 64 gets 1 before 20 and 13");
+    }
+    CONVERT(VCUBE_REFUSED_LINE_FIELD, "convert: a plant that 0.9 or 0.10 saved", SIZE_2, TALLY, LINE_0, LINE_1);
+    CONVERT(VCUBE_REFUSED_LINE_FIELD, "convert: one line of six bytes before its row", SIZE_2, TALLY, OLD_0, LINE_1);
+    CONVERT(VCUBE_REFUSED_LINE_FIELD, "convert: station 0 is there twice", SIZE_2, TALLY, OLD_0, OLD_0);
+    CONVERT(VCUBE_REFUSED_LINE_FIELD, "convert: an empty line field", SIZE_2, TALLY, OLD_0, OLD_1, 3, 0, 0);
+    CONVERT(VCUBE_REFUSED_LINE_RULE, "convert: more tests than distances", SIZE_2, TALLY, 3, 0, 7, 0, 0, 2, 1, 2, 0, 1, OLD_1);
+    CONVERT(VCUBE_REFUSED_LINE_RULE, "convert: a status of 4", SIZE_2, TALLY, OLD_0, 3, 0, 7, 1, 4, 1, 0, 0, 0, 0);
+    CONVERT(VCUBE_REFUSED_LINE_RULE, "convert: a station that suspects itself", SIZE_2, TALLY, OLD_0, 3, 0, 7, 1, 1, 1, 0, 0, 0, 1);
+    convert(finished, sizeof finished, 42, VCUBE_REFUSED_ROUND_NOT_CLOSED, "convert: every live station is finished, 4 before 13");
+    for (size_t k = 0; k < sizeof lengths / sizeof lengths[0]; k++)
+        convert(old_bytes, sizeof old_bytes, lengths[k], VCUBE_REFUSED_LIST_LENGTH, "convert: a buffer of another length gets 13");
+}
+
+/* A plant of n as edition 1 has it, its lines descending, is converted to what is saved of it with bytes 4 and 5 as they are where nothing was
+ * recorded; by buffers that begin at some byte. */
+static void convert_every_status(size_t n, size_t begin)
+{
+    static uint8_t tables[VCUBE_TABLE_LENGTH(64)], old[VCUBE_SAVED_LENGTH(64)], expected[VCUBE_SAVED_LENGTH(64)];
+    static uint8_t buffer[VCUBE_SAVED_LENGTH(64) + 8];
+    const uint8_t front[] = {VCUBE_TAG_SIZE, 0, 1, (uint8_t)n, TALLY};
+    const size_t saved_length = VCUBE_SAVED_LENGTH(n), field_length = n + 8;
+    uint8_t *saved = buffer + begin, *stored = old + begin;
+    size_t length = ANY;
+
+    expect(vcube_fresh_table(n, tables, VCUBE_TABLE_LENGTH(n)) == VCUBE_ACCEPTED, "a fresh table");
+    memcpy(stored, front, sizeof front);
+    for (size_t station = 0; station < n; station++) {
+        uint8_t *line = tables + station * (n + VCUBE_HEAD);
+        uint8_t *field = stored + sizeof front + (n - 1 - station) * field_length;
+        const uint8_t field_head[] = {VCUBE_TAG_LINE, 0, (uint8_t)(n + 5), (uint8_t)station};
+        vary_line(n, station, line);
+        line[4] = line[0] == VCUBE_STATUS_TOLD ? NOT_RECORDED : NONE;
+        line[5] = 0;
+        memcpy(field, field_head, sizeof field_head);
+        memcpy(field + 4, line, 4);
+        memcpy(field + 8, line + VCUBE_HEAD, n);
+    }
+    expected_saved(n, tables, expected);
+    memset(buffer, ANY, sizeof buffer);
+    length = sizeof front + n * field_length;
+    expect(vcube_convert(stored, length, saved, saved_length) == VCUBE_ACCEPTED, "convert: every size");
+    expect(memcmp(saved, expected, saved_length) == 0, "convert: what is saved of the plant, with nothing recorded");
+    expect(all_are(ANY, buffer, begin) && all_are(ANY, saved + saved_length, sizeof buffer - begin - saved_length),
+           "convert: only the buffer is written");
+    expect(vcube_converted_length(stored, length, &length) == VCUBE_ACCEPTED && length == saved_length, "converted length: every size");
+}
+
 /* Tallies at the top are no reason to refuse. */
 static void greatest_tallies(void)
 {
@@ -760,25 +919,28 @@ static void greatest_tallies(void)
 
     expect(vcube_save(N, saved_table, sizeof saved_table, UINT32_MAX, UINT32_MAX, saved, sizeof saved) == VCUBE_ACCEPTED,
            "save: tallies at the top");
-    expect(all_are(255, saved + 7, 8), "save: tallies at the top");
+    expect(all_are(255, saved + 11, 8), "save: tallies at the top");
     expect(vcube_load(saved, sizeof saved, table, sizeof table, &n, &rounds, &tests) == VCUBE_ACCEPTED, "load: tallies at the top");
     expect(n == N && rounds == UINT32_MAX && tests == UINT32_MAX, "load: tallies at the top");
 }
 
 static void saved_plants(void)
 {
-    expect(VCUBE_TAG_SIZE == 1 && VCUBE_TAG_TALLY == 2 && VCUBE_TAG_LINE == 3, "the tags are those of the document");
+    expect(VCUBE_TAG_SIZE == 1 && VCUBE_TAG_TALLY == 2 && VCUBE_TAG_LINE == 3 && VCUBE_TAG_OPENING == 4, "the tags are those of the rules");
     refused_saves();
     saved_lengths();
-    accepted_loads();
     fields_past_end();
+    openings();
+    order_of_fields();
     size_and_tally_fields();
     line_fields();
     table_and_rules();
     for (size_t n = 2; n <= 64; n++)
         for (size_t begin = 0; begin < 8; begin++)
-            save_and_load(n, begin);
+            save_and_load(n, begin), convert_every_status(n, begin);
     greatest_tallies();
+    accepted_conversions();
+    refused_conversions();
 }
 
 /* Bytes 0, 4 and 5 of a line, and what the calls give for a table that has it. */

@@ -1,7 +1,7 @@
 /* Saving a plant to the panel, by the C interface of the library: the four entries that docs/RULES.md, "A worked run", begins with are run,
- * and the plant is saved, loaded by a panel that does not know its size, and driven on. Then a saved plant of another panel, whose fields
- * stand in another order, and the same one cut off. Of each plant the panel says which boards are not live, who told them to leave and how
- * many rounds ago. */
+ * and the plant is saved, loaded by a panel that does not know its size, and driven on. Then a saved plant of another panel, the same one
+ * cut off, and an old file of edition 1, which is converted before it is loaded. Of each plant the panel says which boards are not live, who
+ * told them to leave and how many rounds ago. */
 
 #include "vcube.h"
 
@@ -20,16 +20,24 @@ static const uint8_t example[] = {
     VCUBE_KIND_TURN, 1,
 };
 
-/* A plant of 4 after 384 rounds. Board 1 left long ago, when nobody recorded who told it; board 2 crashed 2 rounds ago. Tag 9 is one of
- * that panel's own. */
+/* A plant of 4 after 384 rounds. Board 1 left long ago, when nobody recorded who told it; board 2 crashed 2 rounds ago. */
 static const uint8_t elsewhere[] = {
-    VCUBE_TAG_LINE, 0, 11, 3, VCUBE_STATUS_LIVE, 1, 0, 0, VCUBE_TOLD_BY_NONE, 0, 0, 1, 1, 0,
-    VCUBE_TAG_LINE, 0, 11, 1, VCUBE_STATUS_TOLD, 1, 0, 0, VCUBE_TOLD_NOT_RECORDED, 255, 0, 0, 0, 0,
-    9, 0, 3, 'g', 'i', 'n',
-    VCUBE_TAG_TALLY, 0, 8, 0, 0, 1, 128, 0, 0, 8, 0,
-    VCUBE_TAG_LINE, 0, 11, 2, VCUBE_STATUS_CRASHED, 1, 0, 0, VCUBE_TOLD_BY_NONE, 2, 0, 1, 0, 0,
-    VCUBE_TAG_LINE, 0, 11, 0, VCUBE_STATUS_LIVE, 1, 0, 0, VCUBE_TOLD_BY_NONE, 0, 0, 1, 1, 0,
+    VCUBE_TAG_OPENING, 0, 1, VCUBE_EDITION,
     VCUBE_TAG_SIZE, 0, 1, 4,
+    VCUBE_TAG_TALLY, 0, 8, 0, 0, 1, 128, 0, 0, 8, 0,
+    VCUBE_TAG_LINE, 0, 11, 0, VCUBE_STATUS_LIVE, 1, 0, 0, VCUBE_TOLD_BY_NONE, 0, 0, 1, 1, 0,
+    VCUBE_TAG_LINE, 0, 11, 1, VCUBE_STATUS_TOLD, 1, 0, 0, VCUBE_TOLD_NOT_RECORDED, 255, 0, 0, 0, 0,
+    VCUBE_TAG_LINE, 0, 11, 2, VCUBE_STATUS_CRASHED, 1, 0, 0, VCUBE_TOLD_BY_NONE, 2, 0, 1, 0, 0,
+    VCUBE_TAG_LINE, 0, 11, 3, VCUBE_STATUS_LIVE, 1, 0, 0, VCUBE_TOLD_BY_NONE, 0, 0, 1, 1, 0,
+};
+
+/* A plant of 3 as edition 1 has it, its fields in another order, after 256 rounds: board 0 was told to leave, board 2 crashed. */
+static const uint8_t stored[] = {
+    VCUBE_TAG_LINE, 0, 8, 2, VCUBE_STATUS_CRASHED, 1, 0, 0, 0, 0, 0,
+    VCUBE_TAG_LINE, 0, 8, 0, VCUBE_STATUS_TOLD, 1, 0, 0, 0, 0, 0,
+    VCUBE_TAG_TALLY, 0, 8, 0, 0, 1, 0, 0, 0, 4, 0,
+    VCUBE_TAG_LINE, 0, 8, 1, VCUBE_STATUS_LIVE, 1, 0, 0, 1, 0, 1,
+    VCUBE_TAG_SIZE, 0, 1, 3,
 };
 
 /* A plant of any size. */
@@ -78,6 +86,15 @@ static int load(const uint8_t *file, size_t length, struct plant *plant)
 
     return refused("saved size", vcube_saved_size(file, length, &n)) ||
            refused("load", vcube_load(file, length, plant->table, VCUBE_TABLE_LENGTH(n), &plant->n, &plant->rounds, &plant->tests));
+}
+
+/* Converts an old file and loads what it becomes. The length is asked for first. */
+static int convert(const uint8_t *file, size_t length, struct plant *plant)
+{
+    size_t converted;
+
+    return refused("converted length", vcube_converted_length(file, length, &converted)) ||
+           refused("convert", vcube_convert(file, length, saved, converted)) || load(saved, converted, plant);
 }
 
 /* The rest of the round. The last granted number is not saved: the bus master begins anew. */
@@ -165,5 +182,10 @@ int main(void)
     if (print_saved(&panel) || load(elsewhere, sizeof elsewhere, &panel))
         return 1;
     print_plant("loaded from elsewhere", &panel);
-    return print_saved(&panel) || !load(elsewhere, sizeof elsewhere - 1, &panel);
+    if (print_saved(&panel) || !load(elsewhere, sizeof elsewhere - 1, &panel) || !load(stored, sizeof stored, &panel))
+        return 1;
+    if (convert(stored, sizeof stored, &panel))
+        return 1;
+    print_plant("converted and loaded", &panel);
+    return print_saved(&panel) || !convert(elsewhere, sizeof elsewhere, &panel);
 }

@@ -15,8 +15,13 @@
 //! a whole first, and for 19 by both fields before 1; two fields of one kind are
 //! refused even if they are the same; a line field has 1 + n + 6 bytes with the
 //! file's n, wherever that stands; a load answers number, size, rounds and
-//! tests; and the size of a saved plant can be asked for, with refusals 18, 19
-//! and 1.
+//! tests; and the size of a saved plant can be asked for, with the reader's
+//! refusals up to 1. Of edition 2: the opening is just those four bytes, as the
+//! first field, and is not the one before another; a tag or a station below the
+//! one before is out of order, an equal one is not; a line field of wrong length
+//! is ordered by its first byte. The converter takes its fields in any order and
+//! sizes 2 to 64, and the length of what it writes can be asked for, with its
+//! refusals up to 1.
 //! So were those of bytes 4 and 5: with outcome 2 the tester's byte 4 is the
 //! tested station, with outcome 5 the tested station's is the tester; another
 //! station's number is any below n but the line's own, be that station live or
@@ -32,6 +37,8 @@
 
 #![forbid(unsafe_code)]
 
+mod converter;
+mod fields;
 mod figures;
 mod fraction;
 mod granter;
@@ -52,6 +59,7 @@ mod totals;
 #[cfg(test)]
 mod tests;
 
+pub use converter::{convert, converted_length};
 pub use figures::{figures, figures_of_two, Figures};
 pub use fraction::Fraction;
 pub use granter::{drive, grant, Driven};

@@ -5,6 +5,9 @@ use crate::numbers::{Distance, Size, Station};
 /// The bytes of a line before its row.
 pub const HEAD: usize = 6;
 
+/// The bytes of a line of edition 1 before its row: the first four of `HEAD`.
+pub const FORMER_HEAD: usize = 4;
+
 /// Byte 4 of a line whose station was told by none.
 const NONE: u8 = 255;
 
@@ -181,6 +184,25 @@ pub fn keeps_line_rules(size: Size, own: Station, bytes: &[u8]) -> bool {
         && head_agrees(size, bytes)
         && leaving_agrees(size, own, bytes)
         && row_is_valid(own, row_part(bytes))
+}
+
+/// Whether the bytes of a line of edition 1 keep the line rules, which say
+/// nothing there of who told the station and of rounds closed since.
+pub fn keeps_former_line_rules(size: Size, own: Station, bytes: &[u8]) -> bool {
+    head_in_range(size, bytes)
+        && head_agrees(size, bytes)
+        && row_is_valid(own, &bytes[FORMER_HEAD..])
+}
+
+/// A line of edition 1 with bytes 4 and 5: who told the station was never
+/// recorded, and no round is counted.
+pub fn widened(bytes: &[u8]) -> Vec<u8> {
+    let (head, row) = bytes.split_at(FORMER_HEAD);
+    let told_by = match head[0] {
+        2 => NOT_RECORDED,
+        _ => NONE,
+    };
+    [head, &[told_by, 0], row].concat()
 }
 
 /// The bytes 0, 1 and 2 in their ranges.

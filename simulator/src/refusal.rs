@@ -24,6 +24,8 @@ pub enum Refusal {
     FieldPastEnd = 18,
     SizeOrTallyField = 19,
     LineField = 20,
+    NoOpening = 21,
+    FieldOrder = 22,
 }
 
 impl Refusal {

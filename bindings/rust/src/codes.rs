@@ -48,10 +48,13 @@ macro_rules! numbered {
 
 numbered! {
     /// Why a call was refused: the refusal list, in checking order; but a drive
-    /// looks for `TallyFull` after `LastGranted` and `NoneLive`, and a load for
-    /// `FieldPastEnd`, `SizeOrTallyField`, `SizeOutOfRange`, `LineField`,
-    /// `TableLength`, `LineRule` and `RoundNotClosed` in this order. A station is
-    /// a board in the words of the library.
+    /// looks for `TallyFull` after `LastGranted` and `NoneLive`, a load for
+    /// `FieldPastEnd`, `NoOpening`, `FieldOrder`, `SizeOrTallyField`,
+    /// `SizeOutOfRange`, `LineField`, `TableLength`, `LineRule` and
+    /// `RoundNotClosed` in this order, and a conversion for `FieldPastEnd`,
+    /// `FieldOrder`, `SizeOrTallyField`, `SizeOutOfRange`, `LineField`, `LineRule`,
+    /// `RoundNotClosed` and `ListLength`. A station is a board in the words of the
+    /// library.
     #[non_exhaustive]
     Refusal {
         SizeOutOfRange = 1 => "a plant has 2 to 64 boards",
@@ -83,6 +86,8 @@ numbered! {
         SizeOrTallyField = 19 => "the field with the size or the tally is missing, there twice or of a wrong length",
         /// Or it is there more than twice. A number of n or more is of no board.
         LineField = 20 => "a board's line in the file is missing, there twice, of a wrong length or of no board",
+        NoOpening = 21 => "the file does not begin as edition 2 does",
+        FieldOrder = 22 => "a field is out of order, or of an unknown tag",
     }
 }
 

@@ -180,7 +180,8 @@
 //! ```
 //!
 //! A plant is saved to the panel as tagged fields, and loaded again. The saved
-//! plant says how long the table must be that is lent for it:
+//! plant says how long the table must be that is lent for it. A file of edition 1,
+//! as versions before 0.9 saved plants, is converted first:
 //!
 //! ```
 //! use vcube::{Loaded, Tally};
@@ -192,14 +193,19 @@
 //!
 //! let mut saved = [0; vcube::saved_length(2)];
 //! vcube::save(n, &table, tally, &mut saved)?;
-//! assert_eq!(saved[..4], [1, 0, 1, 2]);
-//! assert_eq!(saved[4..15], [2, 0, 8, 0, 0, 0, 128, 0, 0, 1, 0]);
-//! assert_eq!(saved[15..27], [3, 0, 9, 0, 0, 1, 0, 0, 255, 0, 0, 0]);
-//! assert_eq!(saved[27..], [3, 0, 9, 1, 0, 1, 0, 0, 255, 0, 0, 0]);
+//! assert_eq!(saved[..8], [4, 0, 1, 2, 1, 0, 1, 2]);
+//! assert_eq!(saved[8..19], [2, 0, 8, 0, 0, 0, 128, 0, 0, 1, 0]);
+//! assert_eq!(saved[19..31], [3, 0, 9, 0, 0, 1, 0, 0, 255, 0, 0, 0]);
+//! assert_eq!(saved[31..], [3, 0, 9, 1, 0, 1, 0, 0, 255, 0, 0, 0]);
 //!
 //! let mut restored = vec![0; vcube::table_length(vcube::saved_size(&saved)?)];
 //! assert_eq!(vcube::load(&saved, &mut restored)?, Loaded { n, tally });
 //! assert_eq!(restored, table);
+//!
+//! let old = [&saved[4..19], &[3, 0, 7, 0, 0, 1, 0, 0, 0, 0], &[3, 0, 7, 1, 0, 1, 0, 0, 0, 0]].concat();
+//! let mut converted = vec![0; vcube::converted_length(&old)?];
+//! vcube::convert(&old, &mut converted)?;
+//! assert_eq!(converted, saved);
 //! # Ok::<(), vcube::Refusal>(())
 //! ```
 //!
@@ -254,7 +260,7 @@ pub use figures::{figures, figures_of_two, Figures, Fraction, Totals, MOST_RESUL
 pub use granter::{drive, grant, Driven};
 pub use lamp::{doubt_lamp, Doubt};
 pub use lines::{rounds_ago, status, told_by, ToldBy, HEAD, TOLD_BY_NONE, TOLD_NOT_RECORDED};
-pub use saved::{load, save, saved_length, saved_size, Loaded};
+pub use saved::{convert, converted_length, load, save, saved_length, saved_size, Loaded};
 
 /// A station number. Any number can stand here; the library refuses n or more.
 #[derive(Clone, Copy, Debug, PartialEq, Eq, Hash, PartialOrd, Ord)]

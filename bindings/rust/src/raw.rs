@@ -110,6 +110,15 @@ mod c {
 
         pub fn vcube_saved_size(saved: *const u8, saved_length: usize, n: &mut usize) -> u8;
 
+        pub fn vcube_convert(
+            old: *const u8,
+            old_length: usize,
+            saved: *mut u8,
+            saved_length: usize,
+        ) -> u8;
+
+        pub fn vcube_converted_length(old: *const u8, old_length: usize, length: &mut usize) -> u8;
+
         pub fn vcube_figures_of_list(
             results: *const u16,
             length: usize,
@@ -276,6 +285,17 @@ pub fn saved_size(saved: &[u8]) -> (u8, usize) {
     let mut n = 0;
     let number = unsafe { c::vcube_saved_size(saved.as_ptr(), saved.len(), &mut n) };
     (number, n)
+}
+
+pub fn convert(old: &[u8], saved: &mut [u8]) -> u8 {
+    unsafe { c::vcube_convert(old.as_ptr(), old.len(), saved.as_mut_ptr(), saved.len()) }
+}
+
+/// Gives the number and the length.
+pub fn converted_length(old: &[u8]) -> (u8, usize) {
+    let mut length = 0;
+    let number = unsafe { c::vcube_converted_length(old.as_ptr(), old.len(), &mut length) };
+    (number, length)
 }
 
 /// What figures hold before a call fills them.

@@ -1,4 +1,4 @@
-//! Saving a plant to the panel.
+//! Saving a plant to the panel, and converting files of edition 1.
 
 use crate::{accepted, raw, Refusal, Tally};
 
@@ -10,29 +10,29 @@ pub struct Loaded {
     pub tally: Tally,
 }
 
-/// The length of a saved plant of n stations: a size field of 4 bytes, a tally
-/// field of 11, and n line fields of n + 10.
+/// The length of a saved plant of n stations: the opening of 4 bytes, a size field
+/// of 4, a tally field of 11, and n line fields of n + 10.
 /// It has no meaning for a size that the library refuses.
 #[must_use]
 pub const fn saved_length(n: usize) -> usize {
-    n.wrapping_mul(n.wrapping_add(10)).wrapping_add(15)
+    n.wrapping_mul(n.wrapping_add(10)).wrapping_add(19)
 }
 
-/// Save: writes the size, the tally and then the lines, ascending, as fields
-/// into a buffer of the length [`saved_length`]. The last granted number of a
-/// bus master is not saved.
+/// Save: writes the opening, the size, the tally and then the lines, ascending, as
+/// fields into a buffer of the length [`saved_length`]. The last granted number of
+/// a bus master is not saved.
 /// Refusals: 1 to 4, 13.
 pub fn save(n: usize, table: &[u8], tally: Tally, saved: &mut [u8]) -> Result<(), Refusal> {
     let Tally { rounds, tests } = tally;
     accepted(raw::save(n, table, rounds, tests, saved))
 }
 
-/// Load: restores the table and gives size and tally. The fields may stand in
-/// any order, and those of other tags are passed over. The table has the length
+/// Load: restores the table and gives size and tally. A plant has one file: what
+/// is taken is just what [`save`] writes of it. The table has the length
 /// [`table_length`](crate::table_length) of the saved plant's size, which
-/// [`saved_size`] gives beforehand. A plant saved before version 0.9, whose line
-/// fields are two bytes shorter, is refused with 20.
-/// Refusals: 18, 19, 1, 20, 2, 3, 4, in this order.
+/// [`saved_size`] gives beforehand. A file without the opening, as they were saved
+/// before version 0.11, is refused with 21: [`convert`] takes those of edition 1.
+/// Refusals: 18, 21, 22, 19, 1, 20, 2, 3, 4, in this order.
 pub fn load(saved: &[u8], table: &mut [u8]) -> Result<Loaded, Refusal> {
     let (number, n, rounds, tests) = raw::load(saved, table);
     accepted(number).map(|()| Loaded {
@@ -42,9 +42,27 @@ pub fn load(saved: &[u8], table: &mut [u8]) -> Result<Loaded, Refusal> {
 }
 
 /// The size of a saved plant, which says how long a table has to be lent for
-/// [`load`]. What the line fields hold is not looked at.
-/// Refusals: 18, 19, 1, in this order.
+/// [`load`]. What the line fields hold is not looked at, but for the order of their
+/// stations.
+/// Refusals: 18, 21, 22, 19, 1, in this order.
 pub fn saved_size(saved: &[u8]) -> Result<usize, Refusal> {
     let (number, n) = raw::saved_size(saved);
     accepted(number).map(|()| n)
+}
+
+/// Convert: writes a file of edition 1 anew as a saved plant, into a buffer of the
+/// length [`converted_length`]. Edition 1 is what version 0.8 saved: heads of four
+/// bytes, no opening, fields in any order. Where a station was told to leave it is
+/// not recorded by whom, and rounds ago begin at 0.
+/// Refusals: 18, 22, 19, 1, 20, 3, 4, 13, in this order.
+pub fn convert(old: &[u8], saved: &mut [u8]) -> Result<(), Refusal> {
+    accepted(raw::convert(old, saved))
+}
+
+/// The length of the saved plant that [`convert`] makes of a file of edition 1.
+/// What the line fields hold is not looked at.
+/// Refusals: 18, 22, 19, 1, in this order.
+pub fn converted_length(old: &[u8]) -> Result<usize, Refusal> {
+    let (number, length) = raw::converted_length(old);
+    accepted(number).map(|()| length)
 }

@@ -1,4 +1,4 @@
--- Laws of the first pass over a file's fields: what it finds of size and tally, and what it answers.
+-- Laws of the first pass over a file's fields: whether they stand in order, what is found of size and tally, and what the pass answers.
 -- Assumes nothing.
 use mathlib.Core.Path.{◌≡◌, refl, sym, ap, ap₂, ◌∙◌}
 use mathlib.Core.Bool.{Bool, true, false, ◌&&◌, and-false, and-true}
@@ -12,15 +12,22 @@ use lib.ListN.{length, get_or, take, drop, length-drop}
 use lib.Seq.{drop-cons}
 use lib.Dec.{eqb}
 use Rattle.lists.specs.declared.refusal.Refusal.{Refusal}
-use Rattle.lists.specs.declared.refusal.Refusal.TheVariants.{FieldPastEnd, SizeOrTallyField}
-use Rattle.lists.specs.Refusal.{ensure, ◌and◌}
+use Rattle.lists.specs.declared.refusal.Refusal.TheVariants.{FieldPastEnd, SizeOrTallyField, FieldOrder}
+use Rattle.lists.specs.Refusal.{Check, ensure, ◌and◌}
 use Rattle.lists.proofs.BoolLaws.{by_bool}
 use Rattle.plant.specs.declared.Tally.{Tally}
 use Rattle.saved.specs.Bytes.{bytes_value}
 use Rattle.saved.specs.Fields.{Field, runs_past, fields_of, tagged, only_one, only_contents}
 use Rattle.saved.specs.Plant.{size_tag, size_length, tally_tag, tally_length, size_in, tally_rounds, tally_tests, size_and_tally}
-use Rattle.saved.specs.Load.{size_check, loaded_of, opened}
-use Rattle.saved.specs.Reading.{found_with, with_size, both_found, complete}
+use Rattle.saved.specs.Plant.{plant_check}
+use Rattle.saved.specs.Order.{is_known, is_opening, follows, in_order, order_check}
+use Rattle.saved.specs.Load.{loaded_of}
+use Rattle.saved.specs.Convert.{all_known}
+use Rattle.saved.specs.Reading.{start_of, order_with, may_end, fields_check, found_with, with_size, both_found, complete, opened}
+use Rattle.saved.specs.declared.edition.Edition.{Edition}
+use Rattle.saved.specs.declared.edition.Edition.TheVariants.{One, Two}
+use Rattle.saved.specs.declared.order.Order.{Order}
+use Rattle.saved.specs.declared.order.Order.TheVariants.{Any, First, Behind}
 use Rattle.saved.specs.declared.Loaded.{Loaded}
 use Rattle.saved.specs.declared.first_pass.Found.{Found}
 
@@ -151,28 +158,77 @@ size_read [] e = absurd (omega arith)
 size_read (x ∷ []) e = omega arith
 size_read (x ∷ y ∷ c) e = absurd (omega arith)
 
--- what is found of the whole file settles 18, 19 and 1, and size and tally
-pub opened_cut : (file : List ℕ) → runs_past file ≡ true → Err FieldPastEnd ≡ opened file
-unfolding opened size_check tagged
-opened_cut file e = rw e
+-- the order's refusal in the end, by where the file stands and the fields that are left
+abbrev pub order_left : Order → List Field → Check
+order_left Any fs = ensure (all_known fs) FieldOrder
+order_left First fs = order_check fs
+order_left (Behind b) fs = ensure (in_order b fs) FieldOrder
 
-opened_is : (file : List ℕ) (found : Result Found Refusal) → runs_past file ≡ false
-    → completed found [] ≡ completed (Ok nothing_found) (fields_of file) → with_size (completed found []) ≡ opened file
-unfolding opened size_check tagged
-opened_is file found whole e =
-    rw (e, completed_start (fields_of file), whole)
-    (by_bool (size_and_tally (fields_of file)) (λ h. rw h) (λ h. rw h))
+abbrev pub ordered : Result Order Refusal → List Field → Check
+ordered (Err r) fs = Err r
+ordered (Ok o) fs = order_left o fs
 
-module _ (file : List ℕ) (whole : runs_past file ≡ false) where
-  pub opened_wrong : (r : Refusal) → completed (Err r) [] ≡ completed (Ok nothing_found) (fields_of file) → Err r ≡ opened file
-  opened_wrong r e = opened_is file (Err r) whole e
+ordered_start : (e : Edition) (fs : List Field) → fields_check e fs ≡ ordered (Ok (start_of e)) fs
+ordered_start One fs = refl
+ordered_start Two fs = refl
 
-  pub opened_found : (o : Found) → completed (Ok o) [] ≡ completed (Ok nothing_found) (fields_of file) → complete o ≡ opened file
-  unfolding tagged
-  opened_found o e = ap with_size (all o.size o.tally) ∙ opened_is file (Ok o) whole e
-    where
-      all : (a : Option ℕ) (b : Option Tally) → both_found a b ≡ completed (Ok (record { size = a; tally = b })) []
-      all (Some a) (Some b) = refl
-      all (Some a) None = refl
-      all None (Some b) = refl
-      all None None = refl
+ordered_end : (o : Order) → order_left o [] ≡ may_end o
+unfolding all_known in_order order_check
+ordered_end Any = refl
+ordered_end First = refl
+ordered_end (Behind b) = refl
+
+ordered_more : (o : Order) (f : Field) (fs : List Field) → ordered (order_with o f) fs ≡ order_left o (f ∷ fs)
+unfolding all_known in_order order_check
+ordered_more Any f fs = by_bool (is_known f.tag) (λ h. rw h) (λ h. rw h)
+ordered_more First f fs = by_bool (is_opening f) (λ h. rw h) (λ h. rw h)
+ordered_more (Behind b) f fs = by_bool (follows b f) (λ h. rw h) (λ h. rw h)
+
+pub order_on : (order next : Result Order Refusal) (o : Order) (f : Field) (fs rest : List Field)
+    → order ≡ Ok o → next ≡ order_with o f → rest ≡ f ∷ fs → ordered next fs ≡ ordered order rest
+order_on order next o f fs rest e h k = rw (e, h, k) (ordered_more o f fs)
+
+-- the whole file settles 18, 21 and 22, 19 and 1, and size and tally
+pub opened_cut : (e : Edition) (file : List ℕ) → runs_past file ≡ true → Err FieldPastEnd ≡ opened e file
+unfolding opened
+opened_cut e file h = rw h
+
+opened_plant : (fs : List Field) (found : Result Found Refusal) → completed found [] ≡ completed (Ok nothing_found) fs
+    → with_size (completed found []) ≡ (plant_check fs and Ok (loaded_of fs))
+unfolding plant_check tagged
+opened_plant fs found e = rw (e, completed_start fs) (by_bool (size_and_tally fs) (λ h. rw h) (λ h. rw h))
+
+module _ (e : Edition) (file : List ℕ) (whole : runs_past file ≡ false) where
+  opened_disordered : (r : Refusal) → fields_check e (fields_of file) ≡ Err r → Err r ≡ opened e file
+  unfolding opened
+  opened_disordered r h = rw (whole, h)
+
+  opened_ordered : fields_check e (fields_of file) ≡ Ok tt → (plant_check (fields_of file) and Ok (loaded_of (fields_of file))) ≡ opened e file
+  unfolding opened
+  opened_ordered h = rw (whole, h)
+
+  -- a field out of order, and a file that may not end where it ends
+  pub opened_not : (r : Refusal) → ordered (Err r) [] ≡ ordered (Ok (start_of e)) (fields_of file) → Err r ≡ opened e file
+  opened_not r h = opened_disordered r (ordered_start e (fields_of file) ∙ sym h)
+
+  module _ (o : Order) (h : ordered (Ok o) [] ≡ ordered (Ok (start_of e)) (fields_of file)) where
+    pub opened_unended : (r : Refusal) → Err r ≡ may_end o → Err r ≡ opened e file
+    opened_unended r k = opened_disordered r (ordered_start e (fields_of file) ∙ sym h ∙ ordered_end o ∙ sym k)
+
+    module _ (k : Ok tt ≡ may_end o) where
+      known : fields_check e (fields_of file) ≡ Ok tt
+      known = ordered_start e (fields_of file) ∙ sym h ∙ ordered_end o ∙ sym k
+
+      -- then what is found
+      pub opened_wrong : (r : Refusal) → completed (Err r) [] ≡ completed (Ok nothing_found) (fields_of file) → Err r ≡ opened e file
+      opened_wrong r g = opened_plant (fields_of file) (Err r) g ∙ opened_ordered known
+
+      pub opened_found : (f : Found) → completed (Ok f) [] ≡ completed (Ok nothing_found) (fields_of file) → complete f ≡ opened e file
+      unfolding tagged
+      opened_found f g = ap with_size (all f.size f.tally) ∙ opened_plant (fields_of file) (Ok f) g ∙ opened_ordered known
+        where
+          all : (a : Option ℕ) (b : Option Tally) → both_found a b ≡ completed (Ok (record { size = a; tally = b })) []
+          all (Some a) (Some b) = refl
+          all (Some a) None = refl
+          all None (Some b) = refl
+          all None None = refl

@@ -1,11 +1,8 @@
 -- The length of a saved plant.
 -- Assumes nothing.
-use mathlib.Core.Path.{ap, ◌∙◌}
-use Prim.Native.Nat.{◌+◌, ◌*◌}
-use native.Mathlib.Omega.{arith}
 use Rattle.table.proofs.Accepting.{accepted}
 use Rattle.saved.proofs.SaveLaws.{length-saved}
 use Rattle.saved.specs.Restoring.{SavedLength}
 
 pub saved-length : SavedLength
-saved-length n t tally z = length-saved n t (accepted n t z).long tally ∙ ap (λ k. 15 + n * k) (omega arith)
+saved-length n t tally z = length-saved n t (accepted n t z).long tally

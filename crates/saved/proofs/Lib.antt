@@ -9,12 +9,15 @@ pub mod Copying
 pub mod Reading
 pub mod FirstPass
 pub mod SecondPass
-pub mod OrderLaws
 pub mod Loading
 pub mod TableLines
+pub mod LineLaws
+pub mod Edition1Laws
+pub mod Converter
 pub mod FileLaws
 pub mod Length
 pub mod Restored
-pub mod SaveIsCanonical
+pub mod OneForm
+pub mod ConvertedFiles
 pub mod OrderIsFree
 pub mod Examples

@@ -24,7 +24,7 @@ use Rattle.saved.proofs.Copying.{sets_then}
 
 -- where the field of line i begins
 abbrev pub field_start : ℕ → ℕ → ℕ
-field_start n i = 15 + i * (stride n + 4)
+field_start n i = 19 + i * (stride n + 4)
 
 pub field-inside : (n i : ℕ) → i < n → field_start n i + (stride n + 4) ≤ field_start n n
 field-inside n i h = omega (arith, suc-mul i (stride n + 4), mul-le-mul_right {m = suc i} {n = n} (stride n + 4) h)
@@ -73,14 +73,14 @@ module _ (n : ℕ) (t : List ℕ) (long : length t ≡ table_length n) where
       pick (no h) = omega arith
 
 -- the fields of the first k lines behind the opening, as a loop writes them
-pub lines_start : (b t : List ℕ) (n : ℕ) → b ≡ sets b 15 (saved_lines n t 0)
+pub lines_start : (b t : List ℕ) (n : ℕ) → b ≡ sets b 19 (saved_lines n t 0)
 unfolding saved_lines concat_of
 lines_start b t n = refl
 
-pub lines_next : (b r s t : List ℕ) (n k : ℕ) → length t ≡ table_length n → k < n → r ≡ sets b 15 (saved_lines n t k)
-    → s ≡ sets r (field_start n k) (field_bytes (line_field n t k)) → s ≡ sets b 15 (saved_lines n t (k + 1))
+pub lines_next : (b r s t : List ℕ) (n k : ℕ) → length t ≡ table_length n → k < n → r ≡ sets b 19 (saved_lines n t k)
+    → s ≡ sets r (field_start n k) (field_bytes (line_field n t k)) → s ≡ sets b 19 (saved_lines n t (k + 1))
 unfolding saved_lines concat_of
 lines_next b r s t n k long h e f =
     let l : length (saved_lines n t k) ≡ k * (stride n + 4) =
     concat-length _ (stride n + 4) k (λ i g. field_of n t long _ (omega arith)) in
-    f ∙ rw (e, add-one, ← l) (sets_then b (saved_lines n t k) (field_bytes (line_field n t k)) 15)
+    f ∙ rw (e, add-one, ← l) (sets_then b (saved_lines n t k) (field_bytes (line_field n t k)) 19)

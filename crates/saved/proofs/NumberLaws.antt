@@ -19,7 +19,7 @@ number_append (x ∷ a) b =
     rw (length-append a b, pow-add 256 (length a) (length b), number_append a b, add-mul, mul_assoc) (omega arith)
 
 -- of a list of bytes
-number_lt : (l : List ℕ) → ((k : ℕ) → k < length l → get_or l k 0 < 256) → bytes_value l < 256 ^ length l
+pub number_lt : (l : List ℕ) → ((k : ℕ) → k < length l → get_or l k 0 < 256) → bytes_value l < 256 ^ length l
 unfolding bytes_value
 number_lt [] small = omega arith
 number_lt (x ∷ l) small =

@@ -1,21 +1,23 @@
--- The claim OrderIsFree of specs/Restoring holds: neither the order of the fields nor other tags matter.
+-- The claim OrderIsFree of specs/Converting holds: the order of the fields does not matter to the converter.
 -- Assumes nothing.
 use mathlib.Core.Path.{◌≡◌, refl, ap, ap₂, sym, ◌∙◌}
-use mathlib.Core.Bool.{Bool, true, false, cond, ◌&&◌, ◌||◌}
+use mathlib.Core.Bool.{Bool, true, false, cond, ◌&&◌}
 use mathlib.Core.List.{List, [], ◌∷◌, Permᴰ}
 use Prim.Native.Nat.{ℕ}
 use lib.Dec.{eqb}
 use Rattle.lists.specs.Search.{every}
-use Rattle.lists.proofs.BoolLaws.{by_bool, neither, every-same}
+use Rattle.lists.proofs.BoolLaws.{by_bool, every-same}
 use Rattle.lists.proofs.SearchLaws.{both, every-at}
 use Rattle.table.specs.Sizes.{is_size}
 use Rattle.saved.specs.Fields.{Field, fields_of, tagged, only_one, only_contents}
-use Rattle.saved.specs.Plant.{size_tag, size_length, tally_tag, tally_length, line_tag, line_field_length}
-use Rattle.saved.specs.Plant.{size_in, tally_rounds, tally_tests, size_and_tally, station_in, line_in, of_station, fits, all_fit, lines_right, table_in}
-use Rattle.saved.specs.Load.{file_lines, size_check, rest_check, load_check, saved_size, load_answer, load_after}
-use Rattle.saved.proofs.ConcatLaws.{concat-same}
+use Rattle.saved.specs.Plant.{size_tag, size_length, tally_tag, tally_length, line_tag}
+use Rattle.saved.specs.Plant.{size_in, tally_rounds, tally_tests, size_and_tally, plant_check, station_in, line_in, of_station, fits, all_fit, lines_right, table_in}
 use Rattle.saved.specs.Order.{is_known}
-use Rattle.saved.specs.Restoring.{known, OrderIsFree}
+use Rattle.saved.specs.Load.{file_lines}
+use Rattle.saved.specs.Edition1.{line_field_length}
+use Rattle.saved.specs.Convert.{all_known, old_check, old_lines_check, converted, convert_check, convert_after, converted_length}
+use Rattle.saved.specs.Converting.{OrderIsFree}
+use Rattle.saved.proofs.ConcatLaws.{concat-same}
 
 -- an answer about a list that does not depend on the order of its elements
 record Blind {A B : Type 0} (F : List A → B) : Type 0 where
@@ -74,14 +76,18 @@ blind-once : Blind once
 unfolding once
 blind-once = record { under = λ c l m e. cc (once-once c l, once-once c m); past = λ c d l. refl }
 
-blind-fits : (n : ℕ) → Blind (all_fit n)
+swapped : (a b c : Bool) → (a && (b && c)) ≡ (b && (a && c))
+swapped true b c = refl
+swapped false true c = refl
+swapped false false c = refl
+
+blind-fits : (len n : ℕ) → Blind (all_fit len n)
 unfolding all_fit
-blind-fits n = record { under = λ c l m e. rw e; past = λ c d l. swapped (fits n c) (fits n d) (all_fit n l) }
-  where
-    swapped : (a b c : Bool) → (a && (b && c)) ≡ (b && (a && c))
-    swapped true b c = refl
-    swapped false true c = refl
-    swapped false false c = refl
+blind-fits len n = record { under = λ c l m e. rw e; past = λ c d l. swapped (fits len n c) (fits len n d) (all_fit len n l) }
+
+blind-known : Blind all_known
+unfolding all_known
+blind-known = record { under = λ f l m e. rw e; past = λ f g l. swapped (is_known f.tag) (is_known g.tag) (all_known l) }
 
 -- that keeps whether there is one, and which
 only_one-once : (len : ℕ) (cs : List (List ℕ)) → only_one len cs ≡ only_one len (once cs)
@@ -103,40 +109,22 @@ module _ (len : ℕ) (cs cs' : List (List ℕ)) (same : once cs ≡ once cs') wh
   first-same : only_one len cs ≡ true → only_contents cs ≡ only_contents cs'
   first-same e = cc (first-once len cs e, first-once len cs' (sym only_one-same ∙ e))
 
--- k is one of the three: no other tag is k
-abbrev Known : ℕ → Type 0
-Known k = (tag : ℕ) → is_known tag ≡ false → eqb tag k ≡ false
+-- two lists of fields, which are the same in some order
+module _ (fs fs' : List Field) (perm : Permᴰ fs fs') where
+  tagged-same : (k : ℕ) {B : Type 0} (F : List (List ℕ) → B) → Blind F → F (tagged k fs) ≡ F (tagged k fs')
+  tagged-same k F blind = perm_same (λ gs. F (tagged k gs)) (blind-tagged F blind k) perm
 
-unknown : (tag : ℕ) → is_known tag ≡ false → (eqb tag size_tag ≡ false) × (eqb tag tally_tag ≡ false) × (eqb tag line_tag ≡ false)
-unknown tag e =
-    let a = neither (eqb tag size_tag || eqb tag tally_tag) (eqb tag line_tag) e in
-    let b = neither (eqb tag size_tag) (eqb tag tally_tag) a.0 in (b.0, b.1, a.1)
-
-all_known : Known size_tag × Known tally_tag × Known line_tag
-all_known = (λ tag e. (unknown tag e).0, λ tag e. (unknown tag e).1, λ tag e. (unknown tag e).2)
-
--- other tags are passed over
-tagged-known : (k : ℕ) → Known k → (fs : List Field) → tagged k (known fs) ≡ tagged k fs
-unfolding tagged known
-tagged-known k is_Known [] = refl
-tagged-known k is_Known (f ∷ fs) =
-    let rest = tagged-known k is_Known fs in
-    by_bool (is_known f.tag) (λ e. rw (e, rest)) (λ e. rw (e, is_Known f.tag e, rest))
-
--- two lists of fields, whose known fields are the same in some order
-module _ (fs fs' : List Field) (perm : Permᴰ (known fs) (known fs')) where
-  tagged-same : (k : ℕ) → Known k → {B : Type 0} (F : List (List ℕ) → B) → Blind F → F (tagged k fs) ≡ F (tagged k fs')
-  tagged-same k is_Known F blind =
-      rw (tagged-known k is_Known fs, tagged-known k is_Known fs') at (perm_same (λ gs. F (tagged k gs)) (blind-tagged F blind k) perm)
+  known-same : all_known fs ≡ all_known fs'
+  known-same = perm_same all_known blind-known perm
 
   size-once : once (tagged size_tag fs) ≡ once (tagged size_tag fs')
-  size-once = tagged-same size_tag all_known.0 once blind-once
+  size-once = tagged-same size_tag once blind-once
 
   tally-once : once (tagged tally_tag fs) ≡ once (tagged tally_tag fs')
-  tally-once = tagged-same tally_tag all_known.1 once blind-once
+  tally-once = tagged-same tally_tag once blind-once
 
   station-once : (i : ℕ) → once (of_station i (tagged line_tag fs)) ≡ once (of_station i (tagged line_tag fs'))
-  station-once i = tagged-same line_tag all_known.2 (λ cs. once (of_station i cs)) (blind-station once blind-once i)
+  station-once i = tagged-same line_tag (λ cs. once (of_station i cs)) (blind-station once blind-once i)
 
   -- size and tally: where they stand there once, they are the same
   right-same : size_and_tally fs ≡ size_and_tally fs'
@@ -158,7 +146,7 @@ module _ (fs fs' : List Field) (perm : Permᴰ (known fs) (known fs')) where
     tally-same = first-same tally_length (tagged tally_tag fs) (tagged tally_tag fs') tally-once parts.1
 
   -- the lines: where they are right, the table is the same
-  module _ (n : ℕ) where
+  module _ (len n : ℕ) where
     abbrev cs : List (List ℕ)
     cs = tagged line_tag fs
 
@@ -167,37 +155,41 @@ module _ (fs fs' : List Field) (perm : Permᴰ (known fs) (known fs')) where
 
     -- whether there is one line of station i
     abbrev has : List (List ℕ) → ℕ → Bool
-    has ds i = only_one (line_field_length n) (of_station i ds)
+    has ds i = only_one len (of_station i ds)
 
-    lines_same : lines_right n cs ≡ lines_right n cs'
+    lines_same : lines_right len n cs ≡ lines_right len n cs'
     unfolding lines_right
     lines_same =
-        ap₂ ◌&&◌ (tagged-same line_tag all_known.2 (all_fit n) (blind-fits n))
-        (every-same (has cs) (has cs') n (λ i h. only_one-same (line_field_length n) (of_station i cs) (of_station i cs') (station-once i)))
+        ap₂ ◌&&◌ (tagged-same line_tag (all_fit len n) (blind-fits len n))
+        (every-same (has cs) (has cs') n (λ i h. only_one-same len (of_station i cs) (of_station i cs') (station-once i)))
 
-    table_same : lines_right n cs ≡ true → table_in n cs ≡ table_in n cs'
+    table_same : lines_right len n cs ≡ true → table_in n cs ≡ table_in n cs'
     unfolding lines_right table_in
     table_same e =
-        let all = (both (all_fit n cs) (every (has cs) n) e).1 in
+        let all = (both (all_fit len n cs) (every (has cs) n) e).1 in
         concat-same _ _ n
-        (λ i h. ap line_in (first-same (line_field_length n) (of_station i cs) (of_station i cs') (station-once i) (every-at (has cs) n i all h)))
+        (λ i h. ap line_in (first-same len (of_station i cs) (of_station i cs') (station-once i) (every-at (has cs) n i all h)))
 
--- the claim, an end in itself: the files are both read, or refused by 2 to 4, by 20, by 1, or by 19
+-- the claim, an end in itself: the files are both converted, or refused by 3, 4 or 13, by 20, by 1, by 19, or by 22
 pub order_is_free : OrderIsFree
-unfolding saved_size load_answer load_after size_check load_check rest_check tally_rounds tally_tests
-order_is_free file file' past past' perm t =
+unfolding converted_length convert_check convert_after converted old_check old_lines_check plant_check tally_rounds tally_tests
+order_is_free file file' past past' perm b =
     let fs : List Field = fields_of file in
     let fs' : List Field = fields_of file' in
     let n : ℕ = size_in fs' in
     let right = right-same fs fs' perm in
-    let lines = lines_same fs fs' perm n in
-    rw (past, past', ← right)
+    let known = known-same fs fs' perm in
+    let lines = lines_same fs fs' perm (line_field_length n) n in
+    rw (past, past', ← right, ← known)
+    (by_bool (all_known fs)
+    (λ k. rw k
     (by_bool (size_and_tally fs)
     (λ e. rw (e, size_same fs fs' perm e)
     (by_bool (is_size n)
     (λ s. rw s
-    (by_bool (lines_right n (file_lines file))
-    (λ h. rw (← lines, h, table_same fs fs' perm n h, tally-same fs fs' perm e) (refl, refl, refl))
+    (by_bool (lines_right (line_field_length n) n (file_lines file))
+    (λ h. rw (← lines, h, table_same fs fs' perm (line_field_length n) n h, tally-same fs fs' perm e) (refl, refl, refl))
     (λ h. rw (← lines, h) (refl, refl, refl))))
     (λ s. rw s (refl, refl, refl))))
-    (λ e. rw e (refl, refl, refl)))
+    (λ e. rw e (refl, refl, refl))))
+    (λ k. rw k (refl, refl, refl)))

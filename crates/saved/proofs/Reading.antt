@@ -10,7 +10,7 @@ use native.Mathlib.Omega.{arith}
 use lib.ListN.{length, get_or, take, drop, length-drop}
 use lib.Seq.{take_all, drop-drop}
 use Rattle.saved.specs.Bytes.{bytes_value}
-use Rattle.saved.specs.Fields.{Field, field, infront, length_in, fields, runs_past, fields_of}
+use Rattle.saved.specs.Fields.{Field, field, infront, length_in, extent, first_field, fields, runs_past, fields_of}
 use Rattle.saved.specs.Reading.{field_value, Reads}
 use Rattle.saved.specs.declared.fields.Field.{Field as FieldRead}
 use Rattle.saved.proofs.FieldLaws.{fields-nil, fields-cut, fields-cons}
@@ -45,6 +45,14 @@ module _ (rest : List ℕ) (len : ℕ) (head : 3 ≤ length rest) (said : len �
         fields-cons rest (omega arith) (omega (arith, says, length-drop 3 rest, t.0)) ∙ rw (says, t.1, t.2, drop-drop),
         omega (arith, length-drop 3 rest, t.4),
       )
+
+  pub first_past : length (behind_head rest) < len → length rest < extent rest
+  first_past h = omega (arith, says, length-drop 3 rest, rw whole at h)
+
+  pub first_read : (contents left : List ℕ) → IsSplitAt (behind_head rest) len contents left
+      → (field (get_or rest 0 0) contents ≡ first_field rest) × (extent rest ≤ length rest) × (left ≡ drop (extent rest) rest)
+  first_read contents left s =
+      let t = rw whole at s in (rw (says, t.1), omega (arith, says, length-drop 3 rest, t.0), rw (says, t.2, drop-drop))
 
 -- what an answer of the cursor tells of the fields of the rest: a field and those of what is left; none
 module _ (rest left : List ℕ) (o : Option FieldRead) (reads : Reads rest (Ok o) left) where

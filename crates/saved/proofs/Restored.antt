@@ -2,6 +2,8 @@
 -- Assumes nothing.
 use mathlib.Core.Path.{◌≡◌, refl, ap, ◌∙◌}
 use mathlib.Core.Bool.{true, false, cond}
+use Rattle.std.specs.Prelude.{nat_le}
+use Rattle.std.proofs.lemmas.Bool.{leb-true, le-leb}
 use mathlib.Core.List.{List, [], ◌∷◌, ◌++◌, append-nil, append_assoc}
 use Rattle.std.specs.Prelude.{Some, Ok}
 use Prim.Native.Nat.{ℕ, zero, suc, ◌^◌, ◌≤◌, ◌<◌}
@@ -11,7 +13,8 @@ use borrow.Author.Tests.{lt-ltb, eq-eqb, ne_eqb}
 use lib.Dec.{eqb}
 use lib.ListN.{length}
 use lib.Seq.{take_at, drop_at}
-use Rattle.lists.proofs.SearchLaws.{every-all}
+use Rattle.lists.proofs.BoolLaws.{by_bool}
+use Rattle.lists.proofs.SearchLaws.{both, every-all}
 use Rattle.lists.proofs.RefusalLaws.{check_zero}
 use Rattle.table.specs.Sizes.{is_size}
 use Rattle.table.specs.Table.{stride, table_length, line_start}
@@ -22,13 +25,15 @@ use Rattle.plant.specs.declared.Tally.{Tally}
 use Rattle.saved.specs.Bytes.{bytes_value, bytes_of, concat_of}
 use Rattle.saved.specs.Fields.{Field, field_bytes, fields, runs_past, fields_of, tagged, only_one, only_contents}
 use Rattle.saved.specs.Plant.{size_tag, tally_tag, line_tag, line_field_length, size_in, tally_rounds, tally_tests, size_and_tally}
-use Rattle.saved.specs.Plant.{of_station, line_in, all_fit, lines_right, table_in}
+use Rattle.saved.specs.Plant.{plant_check, station_in, of_station, line_in, all_fit, lines_right, table_in}
+use Rattle.saved.specs.Order.{opening, is_known, is_line, behind, follows, in_order, order_check}
+use Rattle.saved.specs.declared.order.Previous.{Previous}
 use Rattle.saved.specs.Load.{size_check, rest_check, load_check, saved_size, load_answer, load_after}
 use Rattle.saved.specs.Save.{line_of, size_field, tally_field, line_field, saved_lines, saved}
 use Rattle.saved.proofs.NumberLaws.{bytes-length, number-bytes}
 use Rattle.saved.proofs.ConcatLaws.{concat-same, concat-parts}
 use Rattle.saved.proofs.FieldLaws.{fields-nil, fields-first}
-use Rattle.saved.proofs.SaveLaws.{tally-length, line-length}
+use Rattle.saved.proofs.SaveLaws.{tally-length, line-length, saved-parts}
 use Rattle.saved.specs.Restoring.{IsTally, LoadRestores}
 
 -- g 0, g 1, .., g (k − 1) in front of a list
@@ -86,7 +91,10 @@ module _ (n : ℕ) (t : List ℕ) where
 
 -- of a table of the right length
 module _ (n : ℕ) (t : List ℕ) (long : length t ≡ table_length n) where
-  lines_fit : (k : ℕ) (cs : List (List ℕ)) → k ≤ n → all_fit n cs ≡ true → all_fit n (front (line n t) k cs) ≡ true
+  abbrev len : ℕ
+  len = line_field_length n
+
+  lines_fit : (k : ℕ) (cs : List (List ℕ)) → k ≤ n → all_fit len n cs ≡ true → all_fit len n (front (line n t) k cs) ≡ true
   unfolding all_fit
   lines_fit zero cs h e = e
   lines_fit (suc k) cs h e =
@@ -97,7 +105,7 @@ module _ (n : ℕ) (t : List ℕ) (long : length t ≡ table_length n) where
   unfolding of_station
   lines-station i h = station-front n t i n [] h
 
-  lines-right : lines_right n (lines n t) ≡ true
+  lines-right : lines_right len n (lines n t) ≡ true
   unfolding lines_right all_fit
   lines-right =
       rw (lines_fit n [] (omega arith) refl)
@@ -110,6 +118,33 @@ module _ (n : ℕ) (t : List ℕ) (long : length t ≡ table_length n) where
       concat-same (λ i. line_in (only_contents (of_station i (lines n t)))) (line_of n t) n (λ i h. rw (lines-station i h))
       ∙ concat-parts t (stride n) n long
 
+-- what is in order behind others is in order behind fewer
+weaker : (fs : List Field) (b b' : Previous) → b'.tag ≤ b.tag → b'.station ≤ b.station → in_order b fs ≡ true → in_order b' fs ≡ true
+unfolding in_order
+weaker [] b b' h g e = refl
+weaker (f ∷ fs) b b' h g e =
+    let p = both (follows b f) (in_order (behind b f) fs) e in
+    let q = both (is_known f.tag) _ p.0 in
+    let r = both (nat_le b.tag f.tag) _ q.1 in
+    let tag : nat_le b'.tag f.tag ≡ true = le-leb b'.tag f.tag (omega (arith, leb-true b.tag f.tag r.0)) in
+    by_bool (is_line f)
+    (λ l. let s : nat_le b.station (station_in f.contents) ≡ true = rw l at r.1 in
+    let station : nat_le b'.station (station_in f.contents) ≡ true =
+    le-leb b'.station (station_in f.contents) (omega (arith, leb-true b.station (station_in f.contents) s)) in
+    rw (q.0, tag, l, station) (rw l at p.1))
+    (λ l. let rest : in_order (record { tag = f.tag; station = b.station }) fs ≡ true = rw l at p.1 in
+    rw (q.0, tag, l) (weaker fs (record { tag = f.tag; station = b.station }) (record { tag = f.tag; station = b'.station }) (omega arith) g rest))
+
+-- the lines of a table are in order
+ordered-lines : (n : ℕ) (t : List ℕ) (k : ℕ) (fs : List Field) → in_order (record { tag = line_tag; station = k }) fs ≡ true
+    → in_order (record { tag = tally_tag; station = 0 }) (front (line_field n t) k fs) ≡ true
+unfolding in_order
+ordered-lines n t zero fs e = weaker fs (record { tag = line_tag; station = 0 }) (record { tag = tally_tag; station = 0 }) (omega arith) (omega arith) e
+ordered-lines n t (suc k) fs e =
+    ordered-lines n t k (line_field n t k ∷ fs)
+    (rw (le-leb k k (omega arith))
+    (weaker fs (record { tag = line_tag; station = suc k }) (record { tag = line_tag; station = k }) (omega arith) (omega arith) e))
+
 -- what a saved plant says
 module _ (n : ℕ) (t : List ℕ) (tally : Tally) (z : table_refusal n t ≡ 0) (small : IsTally tally) where
   long : length t ≡ table_length n
@@ -119,7 +154,7 @@ module _ (n : ℕ) (t : List ℕ) (tally : Tally) (z : table_refusal n t ≡ 0) 
   size = (accepted n t z).size
 
   abbrev plant_fields : List Field
-  plant_fields = size_field n ∷ tally_field tally ∷ front (line_field n t) n []
+  plant_fields = opening ∷ size_field n ∷ tally_field tally ∷ front (line_field n t) n []
 
   lines-fields : fields (saved_lines n t n) ≡ Some (front (line_field n t) n [])
   unfolding saved_lines
@@ -129,11 +164,12 @@ module _ (n : ℕ) (t : List ℕ) (tally : Tally) (z : table_refusal n t ≡ 0) 
       rw append-nil at (fields-front (line_field n t) n [] [] short fields-nil)
 
   saved-fields : fields (saved n t tally) ≡ Some plant_fields
-  unfolding saved
   saved-fields =
-      let s = fields-first (size_field n) (field_bytes (tally_field tally) ++ saved_lines n t n) (omega arith) in
+      let behind : List ℕ = field_bytes (tally_field tally) ++ saved_lines n t n in
+      let o = fields-first opening (field_bytes (size_field n) ++ behind) (omega arith) in
+      let s = fields-first (size_field n) behind (omega arith) in
       let r = fields-first (tally_field tally) (saved_lines n t n) (omega (arith, tally-length tally)) in
-      rw (s, r, lines-fields)
+      rw (saved-parts n t tally, o, s, r, lines-fields)
 
   of-saved : fields_of (saved n t tally) ≡ plant_fields
   unfolding fields_of
@@ -171,9 +207,13 @@ module _ (n : ℕ) (t : List ℕ) (tally : Tally) (z : table_refusal n t ≡ 0) 
   unfolding size_and_tally
   both-only_one = rw (size-contents, tally-contents) (eq-eqb (length (tally_field tally).contents) 8 (tally-length tally))
 
+  in-order : order_check plant_fields ≡ Ok tt
+  unfolding order_check in_order
+  in-order = rw (ordered-lines n t n [] refl)
+
   size-ok : size_check (saved n t tally) ≡ Ok tt
-  unfolding size_check runs_past
-  size-ok = rw (saved-fields, of-saved, both-only_one, size-restored, size)
+  unfolding size_check plant_check runs_past
+  size-ok = rw (saved-fields, of-saved, in-order, both-only_one, size-restored, size)
 
   table-restored : table_in (size_in plant_fields) (tagged line_tag plant_fields) ≡ t
   table-restored = rw (size-restored, line-contents) (lines-table n t long)
@@ -181,7 +221,7 @@ module _ (n : ℕ) (t : List ℕ) (tally : Tally) (z : table_refusal n t ≡ 0) 
   load-ok : (len : ℕ) → len ≡ length t → load_check (saved n t tally) len ≡ Ok tt
   unfolding load_check rest_check
   load-ok len e =
-      let right : lines_right n (tagged line_tag plant_fields) ≡ true = rw line-contents (lines-right n t long) in
+      let right : lines_right (line_field_length n) n (tagged line_tag plant_fields) ≡ true = rw line-contents (lines-right n t long) in
       let same : eqb len (table_length n) ≡ true = eq-eqb len (table_length n) (e ∙ long) in
       rw (size-ok, of-saved, table-restored, size-restored, right, same) (check_zero (table_check n t) z)
 

@@ -28,6 +28,10 @@ length_in file = bytes_value (slice_index file 1 ∷ slice_index file 2 ∷ [])
 abbrev pub extent : List ℕ → ℕ
 extent file = 3 + length_in file
 
+-- the first field, where it goes not past the end
+abbrev pub first_field : List ℕ → Field
+first_field file = field (slice_index file 0) (take (length_in file) (drop 3 file))
+
 -- the fields of a file that has at most so many; none where a field or its head goes past the end. The bound is for the recursion only: from
 -- the file's length on it does not matter (`fields-more` of proofs/FieldLaws.antt)
 unfoldable pub fields_up_to : ℕ → List ℕ → Option (List Field)
@@ -35,7 +39,7 @@ fields_up_to zero file = Some []
 fields_up_to (suc most) file =
     if length file == 0 then Some []
     else (if nat_lt (length file) (extent file) then None
-    else infront (field (slice_index file 0) (take (length_in file) (drop 3 file))) (fields_up_to most (drop (extent file) file)))
+    else infront (first_field file) (fields_up_to most (drop (extent file) file)))
 
 -- Rule Field: the fields of a file, no more than it has bytes
 unfoldable pub fields : List ℕ → Option (List Field)
@@ -49,7 +53,7 @@ runs_past file = is_none (fields file)
 unfoldable pub fields_of : List ℕ → List Field
 fields_of file = unwrap_or (fields file) []
 
--- Rule Reader: the contents of the fields with a tag, in the file's order. Fields of other tags are passed over
+-- the contents of the fields with a tag, in the file's order
 unfoldable pub tagged : ℕ → List Field → List (List ℕ)
 tagged k [] = []
 tagged k (f ∷ fs) = if f.tag == k then f.contents ∷ tagged k fs else tagged k fs

@@ -1,20 +1,24 @@
--- The reader, for all files and buffers. Its refusals, in this order: 18, 19, 1, 20, 2, 3, 4.
+-- The reader, for all files and buffers. Its refusals, in this order: 18, 21, 22, 19, 1, 20, 2, 3, 4.
 -- Assumes nothing.
 use Rattle.std.specs.Prelude.{ℕ, not, List, length, Result, Ok, ◌==◌}
 use Rattle.std.specs.Result.{result_unwrap_or}
 use Rattle.lists.specs.declared.refusal.Refusal.{Refusal}
-use Rattle.lists.specs.declared.refusal.Refusal.TheVariants.{SizeOutOfRange, TableLength, FieldPastEnd, SizeOrTallyField, LineField}
+use Rattle.lists.specs.declared.refusal.Refusal.TheVariants.{TableLength, FieldPastEnd, LineField}
 use Rattle.lists.specs.Refusal.{Check, ensure, ◌and◌, number_of_result, unless_refused}
-use Rattle.table.specs.Sizes.{is_size}
 use Rattle.table.specs.Table.{table_length}
 use Rattle.table.specs.Rules.{table_check}
 use Rattle.saved.specs.Fields.{Field, runs_past, fields_of, tagged}
-use Rattle.saved.specs.Plant.{size_in, tally_rounds, tally_tests, size_and_tally, line_tag, lines_right, table_in}
+use Rattle.saved.specs.Plant.{size_in, tally_in, plant_check, line_tag, line_field_length, lines_right, table_in}
+use Rattle.saved.specs.Order.{order_check}
+use Rattle.plant.specs.declared.Tally.{Tally}
 use Rattle.saved.specs.declared.Loaded.{Loaded}
 
--- what a file says: size, the contents with tag 3, and the table
+-- what a file says: size, tally, the contents with tag 3, and the table
 abbrev pub file_size : List ℕ → ℕ
 file_size file = size_in (fields_of file)
+
+abbrev pub file_tally : List ℕ → Tally
+file_tally file = tally_in (fields_of file)
 
 abbrev pub file_lines : List ℕ → List (List ℕ)
 file_lines file = tagged line_tag (fields_of file)
@@ -22,17 +26,15 @@ file_lines file = tagged line_tag (fields_of file)
 abbrev pub file_table : List ℕ → List ℕ
 file_table file = table_in (file_size file) (file_lines file)
 
--- the size's own refusals: 18, 19, 1
+-- the size's own refusals: 18, 21, 22, 19, 1
 unfoldable pub size_check : List ℕ → Check
-size_check file =
-    ensure (not (runs_past file)) FieldPastEnd and ensure (size_and_tally (fields_of file)) SizeOrTallyField
-    and ensure (is_size (file_size file)) SizeOutOfRange
+size_check file = ensure (not (runs_past file)) FieldPastEnd and order_check (fields_of file) and plant_check (fields_of file)
 
 -- of a file of that size with those contents of tag 3, for a table buffer of length len: 20, 2, 3, 4. The file's own table has that size and the
 -- right length, so that of table_check's refusals only 3 and 4 are left
 unfoldable pub rest_check : ℕ → List (List ℕ) → ℕ → Check
 rest_check n cs len =
-    ensure (lines_right n cs) LineField and ensure (len == table_length n) TableLength and table_check n (table_in n cs)
+    ensure (lines_right (line_field_length n) n cs) LineField and ensure (len == table_length n) TableLength and table_check n (table_in n cs)
 
 -- Rule Judged as a whole: all refusals of the reader
 unfoldable pub load_check : List ℕ → ℕ → Check
@@ -51,14 +53,10 @@ saved_size file = size_check file and Ok (file_size file)
 
 -- what the reader answers: size and tally
 abbrev pub loaded_of : List Field → Loaded
-loaded_of fs = record { size = size_in fs; tally = record { rounds = tally_rounds fs; tests = tally_tests fs } }
+loaded_of fs = record { size = size_in fs; tally = tally_in fs }
 
 unfoldable pub load_answer : List ℕ → ℕ → Result Loaded Refusal
 load_answer file len = load_check file len and Ok (loaded_of (fields_of file))
-
--- the same before the lines are read
-unfoldable pub opened : List ℕ → Result Loaded Refusal
-opened file = size_check file and Ok (loaded_of (fields_of file))
 
 -- rule Refused means untouched: a refused call answers 0 for every figure
 abbrev pub size_figure : Result ℕ Refusal → ℕ

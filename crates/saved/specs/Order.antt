@@ -1,25 +1,28 @@
--- In preparation: the opening of edition 2, a field with tag 4 and contents 2, and the order of the fields behind it: size, tally, lines ascending.
--- No call goes by this yet.
+-- The opening of edition 2, and the order of the fields behind it. Refusals 21 and 22.
 -- Assumes nothing.
 use Rattle.std.specs.Prelude.{ℕ, Bool, true, false, not, ◌&&◌, ◌||◌, List, [], ◌∷◌, length, if◌then◌else◌, ◌==◌, nat_le, slice_index}
 use Rattle.lists.specs.declared.refusal.Refusal.TheVariants.{NoOpening, FieldOrder}
 use Rattle.lists.specs.Refusal.{Check, ensure, ◌and◌}
-use Rattle.saved.specs.Fields.{Field}
+use Rattle.saved.specs.Fields.{Field, field}
 use Rattle.saved.specs.Plant.{size_tag, tally_tag, line_tag, station_in}
 use Rattle.saved.specs.declared.order.Previous.{Previous}
 
--- the opening's tag, and its contents of one byte
+-- Rule Opening: tag 4, one byte: 2
 abbrev pub opening_tag : ℕ
 opening_tag = 4
 
 abbrev pub edition : ℕ
 edition = 2
 
+-- the opening, as a field
+abbrev pub opening : Field
+opening = field opening_tag (edition ∷ [])
+
 -- whether a field is the opening
 abbrev pub is_opening : Field → Bool
 is_opening f = f.tag == opening_tag && (length f.contents == 1 && slice_index f.contents 0 == edition)
 
--- whether the first field is the opening; if not, refusal 21
+-- Rule Opening: whether the first field is the opening; if not, refusal 21
 abbrev pub opens : List Field → Bool
 opens [] = false
 opens (f ∷ fs) = is_opening f
@@ -50,7 +53,7 @@ behind b f = record { tag = f.tag; station = if is_line f then station_in f.cont
 abbrev pub follows : Previous → Field → Bool
 follows b f = is_known f.tag && (nat_le b.tag f.tag && (not (is_line f) || nat_le b.station (station_in f.contents)))
 
--- whether all fields behind some others are in order, with known tags; if not, refusal 22
+-- Rule Order of fields: whether all fields behind some others are in order, with known tags; if not, refusal 22
 unfoldable pub in_order : Previous → List Field → Bool
 in_order b [] = true
 in_order b (f ∷ fs) = follows b f && in_order (behind b f) fs

@@ -1,19 +1,29 @@
--- What the code of the reader answers on its way: the next field of a file; what is found of size and tally with one field more; which lines are
--- new. The promises of the calls do not cite these.
+-- What the code answers on its way, in either edition: the next field of a file; where in its order a file stands, and what is found of size and
+-- tally, with one field more; which lines are new, and the table that they give. The promises of the calls do not cite these.
 -- Assumes nothing.
-use Rattle.std.specs.Prelude.{◌≡◌, ℕ, ◌<◌, Bool, false, not, ◌&&◌, List, [], length, take, drop, if◌then◌else◌, ◌==◌, slice_index_or}
+use Rattle.std.specs.Prelude.{◌≡◌, ℕ, ◌+◌, ◌<◌, ◌≤◌, Bool, false, not, ◌&&◌, List, [], length, take, drop, if◌then◌else◌, ◌==◌, slice_index_or}
 use Rattle.std.specs.Prelude.{Option, Some, None, is_none, Result, Ok, Err}
 use Rattle.lists.specs.declared.refusal.Refusal.{Refusal}
-use Rattle.lists.specs.declared.refusal.Refusal.TheVariants.{SizeOutOfRange, FieldPastEnd, SizeOrTallyField}
-use Rattle.lists.specs.Refusal.{ensure, ◌and◌}
+use Rattle.lists.specs.declared.refusal.Refusal.TheVariants.{SizeOutOfRange, FieldPastEnd, SizeOrTallyField, NoOpening, FieldOrder}
+use Rattle.lists.specs.Refusal.{Check, ensure, ◌and◌}
 use Rattle.table.specs.Sizes.{is_size}
+use Rattle.table.specs.Table.{stride}
 use Rattle.plant.specs.declared.Tally.{Tally}
-use Rattle.saved.specs.Bytes.{bytes_value}
-use Rattle.saved.specs.Fields.{Field, field, infront, fields}
-use Rattle.saved.specs.Plant.{size_tag, size_length, tally_tag, tally_length, station_in, fits}
+use Rattle.saved.specs.Bytes.{bytes_value, concat_of}
+use Rattle.saved.specs.Fields.{Field, field, infront, extent, first_field, fields, runs_past, fields_of, only_contents}
+use Rattle.saved.specs.Plant.{size_tag, size_length, tally_tag, tally_length, plant_check, station_in, line_in, fits, of_station}
+use Rattle.saved.specs.Order.{is_known, is_opening, nothing_before, behind, follows, order_check}
+use Rattle.saved.specs.Load.{loaded_of}
+use Rattle.saved.specs.Edition1.{converted_line}
+use Rattle.saved.specs.Edition1.{stride as old_stride}
+use Rattle.saved.specs.Convert.{all_known}
 use Rattle.saved.specs.declared.Loaded.{Loaded}
+use Rattle.saved.specs.declared.edition.Edition.{Edition}
+use Rattle.saved.specs.declared.edition.Edition.TheVariants.{One, Two}
 use Rattle.saved.specs.declared.fields.Field.{Field as FieldRead}
 use Rattle.saved.specs.declared.first_pass.Found.{Found}
+use Rattle.saved.specs.declared.order.Order.{Order}
+use Rattle.saved.specs.declared.order.Order.TheVariants.{Any, First, Behind}
 
 -- what the code's Field stands for
 abbrev pub field_value : FieldRead → Field
@@ -24,6 +34,27 @@ abbrev pub Reads : List ℕ → Result (Option FieldRead) Refusal → List ℕ �
 Reads rest (Err r) left = (fields rest ≡ None) × (r ≡ FieldPastEnd) × (left ≡ rest)
 Reads rest (Ok None) left = (fields rest ≡ Some []) × (left ≡ rest)
 Reads rest (Ok (Some f)) left = (fields rest ≡ infront (field_value f) (fields left)) × (length left < length rest)
+
+-- the same of the field read alone, whatever stands behind it
+abbrev pub ReadsFirst : List ℕ → Result (Option FieldRead) Refusal → List ℕ → Type 0
+ReadsFirst rest (Err r) left = length rest < extent rest
+ReadsFirst rest (Ok None) left = length rest ≡ 0
+ReadsFirst rest (Ok (Some f)) left = (field_value f ≡ first_field rest) × (extent rest ≤ length rest) × (left ≡ drop (extent rest) rest)
+
+-- where a file stands before its first field, with one field more, and whether it may end there
+abbrev pub start_of : Edition → Order
+start_of One = Any
+start_of Two = First
+
+abbrev pub order_with : Order → Field → Result Order Refusal
+order_with Any f = ensure (is_known f.tag) FieldOrder and Ok Any
+order_with First f = ensure (is_opening f) NoOpening and Ok (Behind nothing_before)
+order_with (Behind b) f = ensure (follows b f) FieldOrder and Ok (Behind (behind b f))
+
+abbrev pub may_end : Order → Check
+may_end Any = Ok tt
+may_end First = Err NoOpening
+may_end (Behind b) = Ok tt
 
 -- what is found of size and tally, with one field more: refused where that is not the first with its tag, or has the wrong length
 unfoldable pub found_with : Found → Field → Result Found Refusal
@@ -50,6 +81,37 @@ with_size (Err r) = Err r
 abbrev pub complete : Found → Result Loaded Refusal
 complete o = with_size (both_found o.size o.tally)
 
+-- the fields' refusals 21 and 22, by edition
+abbrev pub fields_check : Edition → List Field → Check
+fields_check One fs = ensure (all_known fs) FieldOrder
+fields_check Two fs = order_check fs
+
+-- size and tally of a file, before its lines are read
+unfoldable pub opened : Edition → List ℕ → Result Loaded Refusal
+opened e file =
+    ensure (not (runs_past file)) FieldPastEnd and fields_check e (fields_of file) and plant_check (fields_of file)
+    and Ok (loaded_of (fields_of file))
+
+-- the length of a line, by edition, and the line of n + 6 bytes that it gives
+abbrev pub line_length : Edition → ℕ → ℕ
+line_length One n = old_stride n
+line_length Two n = stride n
+
+abbrev pub line_as : Edition → List ℕ → List ℕ
+line_as One l = converted_line l
+line_as Two l = l
+
+-- the same of the contents of a line field
+abbrev pub contents_length : Edition → ℕ → ℕ
+contents_length e n = 1 + line_length e n
+
+abbrev pub line_read : Edition → List ℕ → List ℕ
+line_read e c = line_as e (line_in c)
+
+-- the table of such lines, each station's, ascending
+unfoldable pub table_read : Edition → ℕ → List (List ℕ) → List ℕ
+table_read e n cs = concat_of (λ i. line_read e (only_contents (of_station i cs))) n
+
 -- contents that fit, of a station not yet seen
-abbrev pub is_new : ℕ → List ℕ → List Bool → Bool
-is_new n c seen = fits n c && not (slice_index_or seen (station_in c) false)
+abbrev pub is_new : ℕ → ℕ → List ℕ → List Bool → Bool
+is_new len n c seen = fits len n c && not (slice_index_or seen (station_in c) false)

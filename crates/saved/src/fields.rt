@@ -1,5 +1,5 @@
 // Tagged fields: a one-byte tag, a two-byte length (high byte first), then the contents. A cursor reads them one after the other.
-ghost use Rattle.saved.specs.Reading.{Reads};
+ghost use Rattle.saved.specs.Reading.{Reads, ReadsFirst};
 
 use lists::refusal::Refusal;
 
@@ -19,7 +19,8 @@ pub struct Fields<'a> {
 impl<'a> Fields<'a> {
     // The next field, or none at the end. Refusal 18: it or its head runs past the end.
     pub fn next(&mut self) -> Result<Option<Field<'a>>, Refusal>
-        ensures { Reads self.old.rest.now result self.new.rest.now }
+        ensures fields { Reads self.old.rest.now result self.new.rest.now }
+        ensures first_field { ReadsFirst self.old.rest.now result self.new.rest.now }
     {
         match self.rest {
             [] => Ok(None),

@@ -1,9 +1,10 @@
-// The first pass over a file: whether its fields end where it ends, its size and its tally. Refusals 18, 19 and 1.
+// The first pass over a file: whether its fields end where it ends and stand in order, its size and its tally. Refusals 18, 21, 22, 19 and 1.
 ghost use Rattle.std.specs.Prelude.{◌≡◌};
-ghost use Rattle.saved.specs.Load.{opened};
-ghost use Rattle.saved.specs.Reading.{field_value, found_with, complete};
+ghost use Rattle.saved.specs.Reading.{field_value, found_with, complete, opened};
 
+use crate::edition::Edition;
 use crate::fields::{Field, Fields};
+use crate::order::Order;
 use crate::{Loaded, SIZE, TALLY};
 use lists::refusal::Refusal;
 use plant::Tally;
@@ -19,7 +20,7 @@ pub struct Found {
 impl Found {
     // What is found with one field more. It is refused if it stands there twice or has the wrong length.
     #[tactic(auto, using(crate::proofs::FirstPass::size_read), unfolding(crate::specs::Reading::found_with))]
-    fn with(self, field: Field) -> Result<Found, Refusal>
+    pub fn with(self, field: Field) -> Result<Found, Refusal>
         ensures { result ≡ found_with self (field_value field.entry) }
     {
         match field.tag {
@@ -57,20 +58,26 @@ impl Found {
     }
 }
 
-// Size and tally of a file, or its refusal 18, 19 or 1. A field that is refused by 19 does not end the pass, since 18 comes first.
-pub(crate) fn open(file: &[u8]) -> Result<Loaded, Refusal>
-    ensures { result ≡ opened file.now }
+// Size and tally of a file of that edition, or its refusal 18, 21, 22, 19 or 1. A field that is refused by one of the others does not end the pass,
+// since 18 comes first, and 21 and 22 come before 19.
+pub fn open(file: &[u8], edition: Edition) -> Result<Loaded, Refusal>
+    ensures { result ≡ opened edition file.now }
 {
     let mut fields = Fields { rest: file };
+    let mut order = Ok(Order::start(edition));
     let mut found = Ok(Found {
         size: None,
         tally: None,
     });
     while let Some(field) = fields.next()? {
         // Not `and_then`: a proof learns nothing of what a closure over a borrowed field returns.
+        if let Ok(before) = order {
+            order = before.with(field);
+        }
         if let Ok(before) = found {
             found = before.with(field);
         }
     }
+    order?.end()?;
     found?.complete()
 }

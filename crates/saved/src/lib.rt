@@ -1,15 +1,17 @@
-// Saved plants: a writer and a reader of table and tally, as tagged fields.
+// Saved plants: a writer and a reader of table and tally, as tagged fields, in edition 2; and a converter of files of edition 1.
 //
-// The calls are save::save, load::load and load::saved_size. None has a `requires`. Module order is in preparation; no call uses it yet.
+// The calls are save::save, load::load, load::saved_size, convert::convert and convert::converted_length. None has a `requires`.
 #![tactic(auto)]
 
 mod bytes;
 pub mod claims;
-mod fields;
-mod first_pass;
-mod lines;
+pub mod convert;
+pub mod edition;
+pub mod fields;
+pub mod first_pass;
+pub mod lines;
 pub mod load;
-mod order;
+pub mod order;
 pub mod save;
 
 use plant::Tally;
@@ -21,14 +23,14 @@ pub struct Loaded {
     pub tally: Tally,
 }
 
-// The tags of the fields. They are bytes of the file, and no enum: a field may have any tag, and the reader passes over those that it does not know.
-const SIZE: u8 = 1;
+// The tags of the fields. They are bytes of the file, and no enum: a field may have any tag, and those that are not known are refused.
+pub const SIZE: u8 = 1;
 
-const TALLY: u8 = 2;
+pub const TALLY: u8 = 2;
 
-const LINE: u8 = 3;
+pub const LINE: u8 = 3;
 
-const OPENING: u8 = 4;
+pub const OPENING: u8 = 4;
 
-// The contents of the opening.
-const EDITION: u8 = 2;
+// The contents of the opening, which name edition 2.
+pub const SECOND: u8 = 2;

@@ -4,16 +4,17 @@ ghost use Rattle.table.specs.Sizes.{is_size};
 ghost use Rattle.saved.specs.Fields.{runs_past};
 ghost use Rattle.saved.specs.Load.{file_lines, rest_check, rest_after, saved_size, load_answer, load_after};
 
+use crate::edition::Edition;
 use crate::{Loaded, first_pass, lines};
 use lists::refusal::Refusal;
 use table::lent::TableMut;
 use table::{cells, rules};
 
-// The size of a saved plant, or its refusal 18, 19 or 1.
+// The size of a saved plant, or its refusal 18, 21, 22, 19 or 1.
 pub fn saved_size(file: &[u8]) -> Result<u8, Refusal>
     ensures { result ≡ saved_size file.now }
 {
-    let opened = first_pass::open(file)?;
+    let opened = first_pass::open(file, Edition::Two)?;
     Ok(opened.size)
 }
 
@@ -23,7 +24,7 @@ pub fn load(file: &[u8], table: &mut [u8]) -> Result<Loaded, Refusal>
     ensures answer { result ≡ load_answer file.now (length table.old) }
     ensures table_after { table.new ≡ load_after file.now table.old }
 {
-    let opened = first_pass::open(file)?;
+    let opened = first_pass::open(file, Edition::Two)?;
     let mut own = [0u8; cells::GREATEST_TABLE];
     read_table(opened.size, file, table, &mut own)?;
     Ok(opened)
@@ -44,7 +45,7 @@ fn read_table(
     ensures table_after { table.new ≡ rest_after n (file_lines file.now) table.old }
 {
     let own = &mut own[..cells::table_length(n)];
-    lines::build_table(file, &mut TableMut { n, bytes: own })?;
+    lines::build_table(file, Edition::Two, &mut TableMut { n, bytes: own })?;
     if table.len() != own.len() {
         return Err(Refusal::TableLength);
     }

@@ -1,15 +1,24 @@
-// The opening of edition 2, and the order of the fields behind it. Refusals 21 and 22.
-//
-// In preparation: no call uses this module yet. The reader and the writer know no opening, and the reader takes the fields in any order.
-ghost use Rattle.std.specs.Prelude.{◌≡◌, false};
-ghost use Rattle.saved.specs.Fields.{runs_past, fields_of};
+// What a file opens with, which tags are known, and in which order the fields stand. Refusals 21 and 22.
+ghost use Rattle.std.specs.Prelude.{◌≡◌};
 ghost use Rattle.saved.specs.Plant.{station_in};
-ghost use Rattle.saved.specs.Reading.{field_value};
-ghost use Rattle.saved.specs.Order.{is_known, is_opening, behind, follows, order_check};
+ghost use Rattle.saved.specs.Reading.{field_value, start_of, order_with, may_end};
+ghost use Rattle.saved.specs.Order.{is_known, is_opening, behind, follows};
 
-use crate::fields::{Field, Fields};
-use crate::{EDITION, LINE, OPENING, SIZE, TALLY};
+use crate::edition::Edition;
+use crate::fields::Field;
+use crate::{LINE, OPENING, SECOND, SIZE, TALLY};
 use lists::refusal::Refusal;
+
+// Where a file stands, before its next field.
+#[derive(Clone, Copy)]
+pub enum Order {
+    // Edition 1: the fields stand in any order.
+    Any,
+    // Edition 2: the opening comes first.
+    First,
+    // Edition 2: behind the opening, and behind these.
+    Behind(Previous),
+}
 
 // What a field is held against: the tag of the one before and the station of the previous line, 0 where there is none. Not `Option`: no tag and no
 // station is below 0, so that nobody need ask whether there is one before.
@@ -17,6 +26,43 @@ use lists::refusal::Refusal;
 pub struct Previous {
     pub tag: u8,
     pub station: u8,
+}
+
+impl Order {
+    // Before the first field.
+    pub fn start(edition: Edition) -> Order
+        ensures { result ≡ start_of edition }
+    {
+        match edition {
+            Edition::One => Order::Any,
+            Edition::Two => Order::First,
+        }
+    }
+
+    // Behind one field more.
+    pub fn with(self, field: Field) -> Result<Order, Refusal>
+        ensures { result ≡ order_with self (field_value field.entry) }
+    {
+        match self {
+            Order::Any if is_known(field.tag) => Ok(Order::Any),
+            Order::First if is_opening(field) => Ok(Order::Behind(Previous { tag: 0, station: 0 })),
+            Order::Behind(before) if before.allows(field) => Ok(Order::Behind(before.behind(
+                field,
+            ))),
+            Order::First => Err(Refusal::NoOpening),
+            _ => Err(Refusal::FieldOrder),
+        }
+    }
+
+    // Whether the file may end here.
+    pub(crate) fn end(self) -> Result<(), Refusal>
+        ensures { result ≡ may_end self }
+    {
+        match self {
+            Order::First => Err(Refusal::NoOpening),
+            Order::Any | Order::Behind(_) => Ok(()),
+        }
+    }
 }
 
 // Whether a tag is that of size, tally or line.
@@ -62,27 +108,5 @@ impl Previous {
 fn is_opening(field: Field) -> bool
     ensures { result ≡ is_opening (field_value field.entry) }
 {
-    field.tag == OPENING && matches!(field.contents, [EDITION])
-}
-
-// Refusals 21 and 22 of a file in which no field runs past the end.
-pub fn check_order(file: &[u8]) -> Result<(), Refusal>
-    requires { runs_past file.now ≡ false }
-    ensures { result ≡ order_check (fields_of file.now) }
-{
-    let mut fields = Fields { rest: file };
-    let Some(opening) = fields.next()? else {
-        return Err(Refusal::NoOpening);
-    };
-    if !is_opening(opening) {
-        return Err(Refusal::NoOpening);
-    }
-    let mut before = Previous { tag: 0, station: 0 };
-    while let Some(field) = fields.next()? {
-        if !before.allows(field) {
-            return Err(Refusal::FieldOrder);
-        }
-        before = before.behind(field);
-    }
-    Ok(())
+    field.tag == OPENING && matches!(field.contents, [SECOND])
 }

@@ -5,16 +5,16 @@ ghost use Rattle.table.specs.Table.{stride};
 ghost use Rattle.saved.specs.Bytes.{bytes_of};
 ghost use Rattle.saved.specs.Fields.{field, field_bytes};
 ghost use Rattle.saved.specs.Plant.{line_tag};
-ghost use Rattle.saved.specs.Save.{size_field, tally_field, saved_lines, saved, save_check, save_after};
+ghost use Rattle.saved.specs.Save.{front_fields, saved_lines, saved_length, save_check, save_after};
 
-use crate::{LINE, SIZE, TALLY, bytes};
+use crate::{LINE, OPENING, SECOND, SIZE, TALLY, bytes};
 use lists::refusal::Refusal;
 use plant::Tally;
 use table::cells;
 use table::lent::Table;
 
-// The bytes of the size field and the tally field.
-const FRONT: usize = 15;
+// The bytes of the opening, the size field and the tally field.
+const FRONT: usize = 19;
 
 // The bytes of a line field besides the line: the field's head and the station.
 const BESIDE_LINE: usize = 3 + 1;
@@ -26,33 +26,42 @@ pub fn save(n: usize, table: &[u8], tally: Tally, buffer: &mut [u8]) -> Result<(
     ensures buffer_after { buffer.new ≡ save_after n table.now tally buffer.old }
 {
     let table = Table::checked(n, table)?;
-    if buffer.len() != FRONT + n * (n + cells::HEAD as usize + BESIDE_LINE) {
+    if buffer.len() != saved_length(table.n) {
         return Err(Refusal::ListLength);
     }
-    write_size_and_tally(table.n, tally, buffer);
+    write_front(table.n, tally, buffer);
     write_lines(&table, buffer);
     Ok(())
 }
 
-// The size field and the tally field. By places, here and below. Tried: a struct with the rest of the buffer, which each write moves on; of what is
-// written through a cursor that `split_at_mut` moves on a proof knows nothing afterwards.
-fn write_size_and_tally(n: u8, tally: Tally, buffer: &mut [u8])
-    requires { 15 ≤ length buffer.old }
-    ensures { let first_two = field_bytes (size_field n) ++ field_bytes (tally_field tally) in
-        buffer.new ≡ sets buffer.old 0 first_two }
+// The length of a saved plant of n stations.
+pub(crate) fn saved_length(n: u8) -> usize
+    ensures { result ≡ saved_length n }
 {
-    put_head(buffer, 0, SIZE, 1);
-    buffer[3] = n;
-    put_head(buffer, 4, TALLY, 8);
-    bytes::put_word(buffer, 7, tally.rounds);
-    bytes::put_word(buffer, 11, tally.tests);
+    let n = n as usize;
+    FRONT + n * (n + cells::HEAD as usize + BESIDE_LINE)
+}
+
+// The opening, the size field and the tally field. By places, here and below. Tried: a struct with the rest of the buffer, which each write moves on; of what is
+// written through a cursor that `split_at_mut` moves on a proof knows nothing afterwards.
+fn write_front(n: u8, tally: Tally, buffer: &mut [u8])
+    requires { 19 ≤ length buffer.old }
+    ensures { buffer.new ≡ sets buffer.old 0 (front_fields n tally) }
+{
+    put_head(buffer, 0, OPENING, 1);
+    buffer[3] = SECOND;
+    put_head(buffer, 4, SIZE, 1);
+    buffer[7] = n;
+    put_head(buffer, 8, TALLY, 8);
+    bytes::put_word(buffer, 11, tally.rounds);
+    bytes::put_word(buffer, 15, tally.tests);
 }
 
 // The line fields behind them, ascending.
 fn write_lines(table: &Table, buffer: &mut [u8])
-    requires { length buffer.old ≡ 15 + table.now.n * (stride table.now.n + 4) }
+    requires { length buffer.old ≡ saved_length table.now.n }
     ensures { let n = table.now.n in
-        buffer.new ≡ sets buffer.old 15 (saved_lines n table.now.bytes.now n) }
+        buffer.new ≡ sets buffer.old 19 (saved_lines n table.now.bytes.now n) }
 {
     let stride = table.n as usize + cells::HEAD as usize;
     // Not `chunks_exact`, which divides: a save of 8 boards was 0.92 times as fast.
@@ -65,8 +74,8 @@ fn write_lines(table: &Table, buffer: &mut [u8])
 fn write_line(i: usize, line: &[u8], buffer: &mut [u8])
     requires station_low { i < 64 }
     requires line_short { length line.now ≤ 255 }
-    requires field_inside { 15 + i * (length line.now + 4) + (length line.now + 4) ≤ length buffer.old }
-    ensures { buffer.new ≡ sets buffer.old (15 + i * (length line.now + 4))
+    requires field_inside { 19 + i * (length line.now + 4) + (length line.now + 4) ≤ length buffer.old }
+    ensures { buffer.new ≡ sets buffer.old (19 + i * (length line.now + 4))
         (field_bytes (field line_tag (i ∷ line.now))) }
 {
     let at = FRONT + i * (line.len() + BESIDE_LINE);

@@ -16,6 +16,7 @@ ghost use Rattle.granter.specs.Drive.{drive, StoppedIfTaken};
 ghost use Rattle.lamp.specs.Doubt.{doubt_lamp};
 ghost use Rattle.saved.specs.Load.{size_refusal, saved_size, size_figure, load_refusal, load_answer, loaded_figures, load_after};
 ghost use Rattle.saved.specs.Save.{save_refusal, save_after};
+ghost use Rattle.saved.specs.Convert.{convert_refusal, convert_after, converted_length, converted_length_refusal, length_figure};
 ghost use Rattle.figures.specs.Batch.{figures};
 ghost use Rattle.figures.specs.Totals.{totals, join, figures_of_totals};
 ghost use Rattle.vcube.specs.Exports.{IsRowAt, outcome_out, drive_out, pair_out, pair_of, tally_of, loaded_out, filled, figures_members, totals_members, totals_with, figures_out, totals_out};
@@ -24,7 +25,7 @@ use figures::{Figures, Totals, adding, batch};
 use granter::grant;
 use lists::refusal::{number_of, parts};
 use plant::Tally;
-use saved::{Loaded, load, save};
+use saved::{Loaded, convert, load, save};
 use station::{due, groups, rows};
 use table::{Level, Station, cells, fresh};
 
@@ -245,6 +246,27 @@ pub extern "C" fn vcube_saved_size(file: &[u8], n: &mut usize) -> u8
 {
     let (number, size) = parts(load::saved_size(file), 0);
     *n = size as usize;
+    number
+}
+
+// Convert: a file of edition 1 as a saved plant, into a buffer of just its length.
+#[unsafe(no_mangle)]
+pub extern "C" fn vcube_convert(old: &[u8], buffer: &mut [u8]) -> u8
+    ensures number { result ≡ convert_refusal old.now (length buffer.old) }
+    ensures buffer_after { buffer.new ≡ convert_after old.now buffer.old }
+{
+    number_of(convert::convert(old, buffer))
+}
+
+// The length of what a file of edition 1 is converted to, into len, 0 where it is refused.
+#[tactic(auto, using(saved::proofs::Converter::length_numbered))]
+#[unsafe(no_mangle)]
+pub extern "C" fn vcube_converted_length(old: &[u8], len: &mut usize) -> u8
+    ensures number { result ≡ converted_length_refusal old.now }
+    ensures len_after { len.new ≡ length_figure (converted_length old.now) }
+{
+    let (number, converted) = parts(convert::converted_length(old), 0);
+    *len = converted;
     number
 }
 

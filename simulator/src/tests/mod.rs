@@ -2,10 +2,13 @@
 //! (docs/SOURCES.md).
 
 mod claim;
+mod converter;
+mod converter_refused;
 mod drive;
 mod due;
 mod entries;
 mod figures;
+mod files;
 mod granter;
 mod groups;
 mod lamp;

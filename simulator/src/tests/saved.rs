@@ -1,13 +1,15 @@
 //! The saved plant: what is written, and which files are read.
 
+use super::files::{fields, fresh_fields, orders, random_tally, saved_length};
 use super::{answer, cease, end, finish, fresh, random_table, run_with, set, sizes, suspect};
 use super::{Numbers, HEAD, MOST, UNWRITTEN};
 use crate::program::saved_after_run;
 use crate::{load, save, saved_size, Loaded};
 
-/// A fresh plant of two boards: size 2, no rounds, no tests, two lines.
+/// A fresh plant of two boards: opening, size 2, no rounds, no tests, two lines.
 #[rustfmt::skip]
-const TWO_BOARDS: [u8; 39] = [
+const TWO_BOARDS: [u8; 43] = [
+    0x04, 0x00, 0x01, 0x02,
     0x01, 0x00, 0x01, 0x02,
     0x02, 0x00, 0x08, 0x00, 0x00, 0x00, 0x00, 0x00, 0x00, 0x00, 0x00,
     0x03, 0x00, 0x09, 0x00, 0x00, 0x01, 0x00, 0x00, 0xFF, 0x00, 0x00, 0x00,
@@ -25,60 +27,14 @@ const THREE_LINES: [u8; 27] = [
 
 /// The same three boards saved, with 16,909,060 rounds and 2,712,847,316 tests.
 #[rustfmt::skip]
-const THREE_BOARDS: [u8; 54] = [
+const THREE_BOARDS: [u8; 58] = [
+    0x04, 0x00, 0x01, 0x02,
     0x01, 0x00, 0x01, 0x03,
     0x02, 0x00, 0x08, 0x01, 0x02, 0x03, 0x04, 0xA1, 0xB2, 0xC3, 0xD4,
     0x03, 0x00, 0x0A, 0x00, 0x00, 0x02, 0x00, 0x01, 0xFF, 0x00, 0x00, 0x01, 0x00,
     0x03, 0x00, 0x0A, 0x01, 0x01, 0x04, 0x01, 0x02, 0xFF, 0x00, 0x01, 0x00, 0x01,
     0x03, 0x00, 0x0A, 0x02, 0x02, 0x03, 0x00, 0x00, 0x01, 0xA5, 0x00, 0x00, 0x00,
 ];
-
-/// All tags but 1, 2 and 3.
-pub fn other_tags() -> impl Iterator<Item = u8> {
-    [0].into_iter().chain(4..=255)
-}
-
-/// The bytes of a field.
-pub fn field(tag: u8, contents: &[u8]) -> Vec<u8> {
-    let (high, low) = (contents.len() / 256, contents.len() % 256);
-    assert!(high < 256);
-    [&[tag, high as u8, low as u8], contents].concat()
-}
-
-/// The field with the size.
-pub fn size_field(n: usize) -> Vec<u8> {
-    field(1, &[n as u8])
-}
-
-/// The field with the tally.
-pub fn tally_field(rounds: u32, tests: u32) -> Vec<u8> {
-    let byte = |figure: u32, k: u32| (figure / 256_u32.pow(3 - k) % 256) as u8;
-    let bytes = [rounds, tests].map(|figure| [0, 1, 2, 3].map(|k| byte(figure, k)));
-    field(2, &bytes.concat())
-}
-
-/// The field with a station and its line.
-pub fn line_field(station: usize, line: &[u8]) -> Vec<u8> {
-    field(3, &[&[station as u8], line].concat())
-}
-
-/// The fields of a saved plant: size, tally and lines ascending.
-pub fn fields(n: usize, table: &[u8], (rounds, tests): (u32, u32)) -> Vec<Vec<u8>> {
-    let lines = table.chunks(n + HEAD).enumerate();
-    let mut fields = vec![size_field(n), tally_field(rounds, tests)];
-    fields.extend(lines.map(|(station, line)| line_field(station, line)));
-    fields
-}
-
-/// The fields of a fresh plant with rounds 5 and tests 6.
-pub fn fresh_fields(n: usize) -> Vec<Vec<u8>> {
-    fields(n, &fresh(n), (5, 6))
-}
-
-/// The length of a saved plant.
-pub fn saved_length(n: usize) -> usize {
-    15 + n * (n + 10)
-}
 
 /// What a load answers, with all its figures.
 pub fn loaded(number: u8, size: usize, rounds: u32, tests: u32) -> Loaded {
@@ -106,36 +62,6 @@ fn reads(file: &[u8], n: usize, table: &[u8], (rounds, tests): (u32, u32)) {
     assert_eq!(saved_size(file), (0, n));
 }
 
-/// Checks that these fields are read as a fresh plant with rounds 5 and tests 6.
-fn reads_fresh(fields: &[Vec<u8>], n: usize) {
-    reads(&fields.concat(), n, &fresh(n), (5, 6));
-}
-
-/// A random tally, also near the top.
-fn random_tally(numbers: &mut Numbers) -> (u32, u32) {
-    let mut figure = || match numbers.below(4) {
-        0 => numbers.below(3) as u32,
-        1 => MOST - numbers.below(3) as u32,
-        _ => ((numbers.below(65_536) << 16) + numbers.below(65_536)) as u32,
-    };
-    (figure(), figure())
-}
-
-/// A random field with another tag.
-fn random_other_field(numbers: &mut Numbers) -> Vec<u8> {
-    let tag = other_tags().nth(numbers.below(253)).unwrap();
-    let length = numbers.below(12);
-    let contents: Vec<u8> = (0..length).map(|_| numbers.below(256) as u8).collect();
-    field(tag, &contents)
-}
-
-/// Puts the fields in a random order.
-fn shuffle(fields: &mut [Vec<u8>], numbers: &mut Numbers) {
-    for k in 1..fields.len() {
-        fields.swap(k, numbers.below(k + 1));
-    }
-}
-
 #[test]
 fn two_fresh_boards() {
     assert_eq!(saved(2, &fresh(2), (0, 0)), TWO_BOARDS);
@@ -152,7 +78,7 @@ fn three_boards() {
 #[test]
 fn lengths_of_saved_plants() {
     let lengths = [2, 3, 8, 11, 19, 64].map(saved_length);
-    assert_eq!(lengths, [39, 54, 159, 246, 566, 4751]);
+    assert_eq!(lengths, [43, 58, 163, 250, 570, 4755]);
     for (n, _) in sizes() {
         let length = fresh_fields(n).concat().len();
         assert_eq!(length, saved_length(n));
@@ -182,114 +108,22 @@ fn random_plants_of_all_sizes() {
     }
 }
 
-/// What is read from them is what was saved, so saving it gives the writer's
-/// form again.
-#[test]
-fn random_order_and_other_fields() {
-    let mut numbers = Numbers::new(18);
-    for (n, _) in sizes() {
-        for _ in 0..5 + 100 / n {
-            let table = random_table(n, &mut numbers);
-            let tally = random_tally(&mut numbers);
-            let mut fields = fields(n, &table, tally);
-            let others = numbers.below(4);
-            fields.extend((0..others).map(|_| random_other_field(&mut numbers)));
-            shuffle(&mut fields, &mut numbers);
-            reads(&fields.concat(), n, &table, tally);
-        }
-    }
-}
-
-/// The orders of four fields: the next to come is each of those left.
-fn orders(left: &[Vec<u8>]) -> Vec<Vec<u8>> {
-    if left.is_empty() {
-        return vec![Vec::new()];
-    }
-    let mut files = Vec::new();
-    for k in 0..left.len() {
-        let mut others = left.to_vec();
-        let first = others.remove(k);
-        let behind = orders(&others);
-        files.extend(behind.iter().map(|rest| [&first[..], rest].concat()));
-    }
-    files
-}
-
+/// Of all orders of the fields of two boards only the one that is written is
+/// read: edition 2 has one form.
 #[test]
 fn all_orders_of_two_boards() {
     let mut table = fresh(2);
     suspect(2, &mut table, 1, 0);
     cease(2, &mut table, 0, 3);
+    let written = saved(2, &table, (7, 8));
     let files = orders(&fields(2, &table, (7, 8)));
-    assert_eq!(files.len(), 24);
+    assert_eq!(files.len(), 120);
     for file in files {
-        reads(&file, 2, &table, (7, 8));
-    }
-}
-
-#[test]
-fn lines_before_the_size() {
-    for (n, _) in sizes() {
-        let mut fields = fresh_fields(n);
-        fields.reverse();
-        reads_fresh(&fields, n);
-        fields.rotate_right(1);
-        reads_fresh(&fields, n);
-    }
-}
-
-#[test]
-fn each_other_tag_at_each_place() {
-    for tag in other_tags() {
-        for length in [0, 1, 7, 8, 9] {
-            for place in 0..=4 {
-                let mut fields = fresh_fields(2);
-                fields.insert(place, field(tag, &vec![2; length]));
-                reads_fresh(&fields, 2);
-            }
+        match file == written {
+            true => reads(&file, 2, &table, (7, 8)),
+            false => assert_ne!(load(&file, &mut [0; 16]).number, 0),
         }
     }
-}
-
-#[test]
-fn other_tags_twice() {
-    for tag in other_tags() {
-        let mut fields = fresh_fields(3);
-        fields.insert(0, field(tag, &[1, 0, 1]));
-        fields.insert(2, field(tag, &[1, 0, 1]));
-        fields.push(field(tag, &[]));
-        reads_fresh(&fields, 3);
-    }
-}
-
-/// The contents of another tag are passed over, whatever they look like.
-#[test]
-fn saved_plants_inside_another_field() {
-    for tag in [0, 4, 255] {
-        let mut fields = fresh_fields(3);
-        fields.insert(1, field(tag, &fresh_fields(3).concat()));
-        fields.push(field(tag, &TWO_BOARDS[..30]));
-        reads_fresh(&fields, 3);
-    }
-}
-
-/// 256 bytes are length 1, 0, and 65,535 the greatest length there is.
-#[test]
-fn long_other_fields() {
-    for length in [255, 256, 257, 511, 512, 65_534, 65_535] {
-        for place in [0, 1, 3, 6] {
-            let mut fields = fresh_fields(4);
-            fields.insert(place, field(200, &vec![3; length]));
-            reads_fresh(&fields, 4);
-        }
-    }
-}
-
-#[test]
-fn many_empty_other_fields() {
-    let mut fields = vec![field(0, &[]); 30_000];
-    fields.extend(fresh_fields(2));
-    reads_fresh(&fields, 2);
 }
 
 #[test]
@@ -299,7 +133,7 @@ fn tallies_at_the_top() {
         reads(&file, 2, &fresh(2), tally);
     }
     let file = saved(2, &fresh(2), (MOST, 256));
-    assert_eq!(file[7..15], [255, 255, 255, 255, 0, 0, 1, 0]);
+    assert_eq!(file[11..19], [255, 255, 255, 255, 0, 0, 1, 0]);
 }
 
 /// Refusal 4 needs a live station.

@@ -1,9 +1,10 @@
 //! The saved plant: which calls are refused, and in which order.
 
-use super::saved::{
-    field, fields, fresh_fields, line_field, loaded, other_tags, saved_length, size_field,
-    tally_field,
+use super::files::{
+    field, fields, former_fresh_fields, former_line, fresh_fields, line_field, opening,
+    saved_length, size_field, spoil, tally_field, unknown_tags,
 };
+use super::saved::loaded;
 use super::{
     cease, finish, fresh, random_table, set, sizes, wrong, Numbers, HEAD, MOST, UNWRITTEN,
 };
@@ -18,8 +19,8 @@ fn load_refused(file: &[u8], length: usize, number: u8) {
     assert_eq!(table, before);
 }
 
-/// Checks that the file is refused with 18, 19 or 1, by a load whatever its
-/// buffer, and by the question for the size.
+/// Checks that the file is refused with 18, 21, 22, 19 or 1, by a load whatever
+/// its buffer, and by the question for the size.
 fn size_refused(file: &[u8], number: u8) {
     for length in [0, 1, 16, 27, 40, 4480] {
         load_refused(file, length, number);
@@ -75,6 +76,13 @@ fn fresh_but(n: usize, k: usize, field: Vec<u8>) -> Vec<Vec<u8>> {
 fn fresh_without(n: usize, k: usize) -> Vec<Vec<u8>> {
     let mut fields = fresh_fields(n);
     fields.remove(k);
+    fields
+}
+
+/// The fields of a fresh plant with this one at place k.
+fn fresh_with(n: usize, k: usize, field: Vec<u8>) -> Vec<Vec<u8>> {
+    let mut fields = fresh_fields(n);
+    fields.insert(k, field);
     fields
 }
 
@@ -139,21 +147,22 @@ fn last_field_runs_past_the_end() {
 fn first_field_runs_past_the_end() {
     let behind = fresh_fields(2).concat();
     for tag in [0, 1, 2, 3, 4] {
-        size_refused(&[&[tag, 0, 40][..], &behind].concat(), 18);
+        size_refused(&[&[tag, 0, 44][..], &behind].concat(), 18);
         size_refused(&[&[tag, 255, 255][..], &behind].concat(), 18);
     }
 }
 
-/// Cut between two fields a file lacks the tally or a line, else the end of a
-/// field.
+/// Cut between two fields a file lacks all, size and tally, the tally, or a line;
+/// else the end of a field.
 #[test]
 fn cut_files() {
     for n in [2, 3, 11, 64] {
         let file = fresh_fields(n).concat();
         for length in 0..file.len() {
             let number = match length {
-                0 | 4 => 19,
-                15.. if (length - 15) % (n + 10) == 0 => 20,
+                0 => 21,
+                4 | 8 => 19,
+                19.. if (length - 19) % (n + 10) == 0 => 20,
                 _ => 18,
             };
             load_refused(&file[..length], n * (n + HEAD), number);
@@ -165,42 +174,211 @@ fn cut_files() {
 
 #[test]
 fn empty_file() {
-    size_refused(&[], 19);
+    size_refused(&[], 21);
 }
 
 #[test]
-fn only_other_fields() {
-    for tag in other_tags() {
-        size_refused(&field(tag, &[2]), 19);
-        size_refused(&field(tag, &[]), 19);
+fn no_opening() {
+    for (n, _) in sizes() {
+        size_refused(&fresh_without(n, 0).concat(), 21);
     }
+    for tag in (0..=3).chain(5..=255) {
+        size_refused(&field(tag, &[2]), 21);
+        size_refused(&fresh_but(3, 0, field(tag, &[2])).concat(), 21);
+        size_refused(&fresh_with(3, 0, field(tag, &[])).concat(), 21);
+    }
+}
+
+#[test]
+fn opening_with_other_contents() {
+    for byte in (0..=1).chain(3..=255) {
+        size_refused(&fresh_but(3, 0, field(4, &[byte])).concat(), 21);
+        size_refused(&fresh_with(3, 0, field(4, &[byte])).concat(), 21);
+    }
+}
+
+#[test]
+fn opening_of_wrong_length() {
+    for length in [0, 2, 3, 255, 256, 257] {
+        let wrong = field(4, &vec![2; length]);
+        size_refused(&fresh_but(3, 0, wrong.clone()).concat(), 21);
+        size_refused(&fresh_with(3, 0, wrong).concat(), 21);
+    }
+}
+
+/// The opening has to be the first field.
+#[test]
+fn opening_at_another_place() {
+    for place in 1..=5 {
+        let mut fields = fresh_fields(3);
+        let opening = fields.remove(0);
+        fields.insert(place, opening);
+        size_refused(&fields.concat(), 21);
+    }
+}
+
+/// Stored files, which have no opening, with heads of four bytes or of six.
+#[test]
+fn stored_files() {
+    for (n, _) in sizes() {
+        let file = former_fresh_fields(n).concat();
+        size_refused(&file, 21);
+        load_refused(&file, n * (n + 4), 21);
+        size_refused(&fresh_without(n, 0).concat(), 21);
+    }
+}
+
+/// Even if it is the same, and wherever it stands.
+#[test]
+fn tag_4_again() {
+    for again in [opening(), field(4, &[]), field(4, &[1]), field(4, &[2, 2])] {
+        for place in 1..=6 {
+            size_refused(&fresh_with(3, place, again.clone()).concat(), 22);
+        }
+        size_refused(&[opening(), again].concat(), 22);
+    }
+}
+
+#[test]
+fn unknown_tags_at_each_place() {
+    for tag in unknown_tags() {
+        for length in [0, 1, 8, 9] {
+            for place in 1..=5 {
+                let unknown = field(tag, &vec![2; length]);
+                size_refused(&fresh_with(2, place, unknown).concat(), 22);
+            }
+        }
+        size_refused(&[opening(), field(tag, &[2])].concat(), 22);
+    }
+}
+
+/// A whole saved plant in a field of another tag, also in the longest one.
+#[test]
+fn unknown_tags_with_any_contents() {
+    for tag in [0, 5, 255] {
+        for contents in [fresh_fields(3).concat(), vec![3; 65_535]] {
+            for place in [1, 3, 6] {
+                let unknown = field(tag, &contents);
+                size_refused(&fresh_with(3, place, unknown).concat(), 22);
+            }
+        }
+    }
+}
+
+/// Two fields that are next to each other change places: a tag or a station is
+/// then below the one before.
+#[test]
+fn neighbours_in_the_other_order() {
+    for (n, _) in sizes() {
+        for place in 1..n + 2 {
+            let mut fields = fresh_fields(n);
+            fields.swap(place, place + 1);
+            size_refused(&fields.concat(), 22);
+        }
+    }
+}
+
+/// Each field after the opening at each other place.
+#[test]
+fn one_field_out_of_order() {
+    for from in 1..8 {
+        for to in (1..8).filter(|to| *to != from) {
+            let mut fields = fresh_fields(5);
+            let moved = fields.remove(from);
+            fields.insert(to, moved);
+            size_refused(&fields.concat(), 22);
+        }
+    }
+}
+
+/// A second field of a kind is out of order unless it stands beside the first.
+#[test]
+fn second_field_out_of_order() {
+    for (second, beside) in [(size_field(3), [1, 2]), (tally_field(5, 6), [2, 3])] {
+        for place in (1..=6).filter(|place| !beside.contains(place)) {
+            size_refused(&fresh_with(3, place, second.clone()).concat(), 22);
+        }
+    }
+}
+
+/// Stations are compared by the byte, also where there are none such.
+#[test]
+fn stations_that_descend() {
+    for (before, station) in [(1, 0), (4, 3), (255, 254), (128, 127), (64, 4)] {
+        let mut fields = fresh_fields(5)[..3].to_vec();
+        for station in [before, station] {
+            fields.push(line_field(station, &fresh_line(5)));
+        }
+        size_refused(&fields.concat(), 22);
+    }
+}
+
+/// A line field of wrong length is ordered by its first byte.
+#[test]
+fn stations_of_wrong_lines_that_descend() {
+    for length in [1, 2, 11, 13, 300] {
+        for station in 0..4 {
+            let wrong = field(3, &vec![station as u8; length]);
+            size_refused(&fresh_with(5, 5 + station, wrong.clone()).concat(), 22);
+            lines_refused(&fresh_with(5, 4 + station, wrong.clone()), 5);
+            lines_refused(&fresh_with(5, 3 + station, wrong), 5);
+        }
+    }
+}
+
+/// An empty line field counts as station 0: it may stand beside that one, and
+/// before all, but not behind a higher one.
+#[test]
+fn empty_line_fields() {
+    for (n, _) in sizes() {
+        let empty = field(3, &[]);
+        for place in [3, 4] {
+            lines_refused(&fresh_with(n, place, empty.clone()), n);
+        }
+        for place in [5, n + 3] {
+            size_refused(&fresh_with(n, place, empty.clone()).concat(), 22);
+        }
+        lines_refused(&fresh_but(n, 3, empty.clone()), n);
+        let last = fresh_but(n, n + 2, empty.clone());
+        match n {
+            2 => lines_refused(&last, n),
+            _ => size_refused(&last.concat(), 22),
+        }
+        let [front, empties] = [&fresh_fields(n)[..3], &vec![empty; n]];
+        lines_refused(&[front, empties].concat(), n);
+    }
+}
+
+/// Tags are compared with the one before, and not with the opening's.
+#[test]
+fn opening_is_not_the_one_before() {
+    size_refused(&[opening(), size_field(3)].concat(), 19);
+    size_refused(&[opening(), tally_field(5, 6)].concat(), 19);
+    size_refused(&[opening(), line_field(0, &fresh_line(3))].concat(), 19);
 }
 
 #[test]
 fn size_or_tally_absent() {
+    size_refused(&opening(), 19);
     for (n, _) in sizes() {
-        size_refused(&fresh_without(n, 0).concat(), 19);
         size_refused(&fresh_without(n, 1).concat(), 19);
-        size_refused(&fresh_fields(n)[2..].concat(), 19);
+        size_refused(&fresh_without(n, 2).concat(), 19);
+        let lines = &fresh_fields(n)[3..];
+        size_refused(&[opening(), lines.concat()].concat(), 19);
     }
 }
 
-/// Even if the second field is the same, and wherever it stands.
+/// Even if the second field is the same: side by side they are in order.
 #[test]
 fn size_or_tally_twice() {
-    let second = [
-        size_field(3),
-        size_field(4),
-        field(1, &[]),
-        tally_field(5, 6),
-        tally_field(6, 5),
-        field(2, &[]),
-    ];
-    for second in second {
-        for place in 0..=5 {
-            let mut fields = fresh_fields(3);
-            fields.insert(place, second.clone());
-            size_refused(&fields.concat(), 19);
+    for second in [size_field(3), size_field(4), field(1, &[])] {
+        for place in [1, 2] {
+            size_refused(&fresh_with(3, place, second.clone()).concat(), 19);
+        }
+    }
+    for second in [tally_field(5, 6), tally_field(6, 5), field(2, &[])] {
+        for place in [2, 3] {
+            size_refused(&fresh_with(3, place, second.clone()).concat(), 19);
         }
     }
 }
@@ -209,19 +387,19 @@ fn size_or_tally_twice() {
 fn size_or_tally_of_wrong_length() {
     for length in [0, 2, 3, 4, 255, 256, 257] {
         let wrong = field(1, &vec![2; length]);
-        size_refused(&fresh_but(2, 0, wrong).concat(), 19);
+        size_refused(&fresh_but(2, 1, wrong).concat(), 19);
     }
     for length in [0, 1, 4, 7, 9, 16, 256, 264] {
         let wrong = field(2, &vec![0; length]);
-        size_refused(&fresh_but(2, 1, wrong).concat(), 19);
+        size_refused(&fresh_but(2, 2, wrong).concat(), 19);
     }
 }
 
 #[test]
 fn refused_sizes() {
     for n in (0..=1).chain(65..=255) {
-        size_refused(&fresh_but(2, 0, size_field(n)).concat(), 1);
-        let alone = [size_field(n), tally_field(5, 6)];
+        size_refused(&fresh_but(2, 1, size_field(n)).concat(), 1);
+        let alone = [opening(), size_field(n), tally_field(5, 6)];
         size_refused(&alone.concat(), 1);
     }
 }
@@ -231,7 +409,7 @@ fn refused_sizes() {
 fn size_of_another_plant() {
     for n in 3..=63 {
         for other in [n - 1, n + 1] {
-            lines_refused(&fresh_but(n, 0, size_field(other)), other);
+            lines_refused(&fresh_but(n, 1, size_field(other)), other);
         }
     }
 }
@@ -239,25 +417,24 @@ fn size_of_another_plant() {
 #[test]
 fn line_field_of_wrong_length() {
     for (n, _) in sizes() {
-        for length in [0, 1, n + 5, n + 6, n + 8, 256 + n + 7] {
+        for length in [1, n + 5, n + 6, n + 8, 256 + n + 7] {
             for station in [0, n - 1] {
                 let wrong = field(3, &vec![station as u8; length]);
-                lines_refused(&fresh_but(n, 2 + station, wrong.clone()), n);
-                lines_refused(&fresh_and(n, wrong), n);
+                lines_refused(&fresh_but(n, 3 + station, wrong.clone()), n);
+                lines_refused(&fresh_with(n, 3 + station, wrong.clone()), n);
+                lines_refused(&fresh_with(n, 4 + station, wrong), n);
             }
         }
     }
 }
 
-/// Files whose lines have heads of four bytes.
+/// An opening before lines whose heads have four bytes.
 #[test]
 fn heads_of_four_bytes() {
     for (n, _) in sizes() {
-        let mut line = vec![0; n + 4];
-        line[1] = 1;
         let mut fields = fresh_fields(n);
         for station in 0..n {
-            fields[2 + station] = line_field(station, &line);
+            fields[3 + station] = line_field(station, &former_line(n));
         }
         lines_refused(&fields, n);
         load_refused(&fields.concat(), n * (n + 4), 20);
@@ -268,47 +445,52 @@ fn heads_of_four_bytes() {
 fn station_absent() {
     for (n, _) in sizes() {
         for station in 0..n {
-            lines_refused(&fresh_without(n, 2 + station), n);
+            lines_refused(&fresh_without(n, 3 + station), n);
         }
-        lines_refused(&fresh_fields(n)[..2], n);
+        lines_refused(&fresh_fields(n)[..3], n);
     }
 }
 
-/// A station twice, with the same line or another one.
+/// A station twice, with the same line or another one: side by side the two are
+/// in order.
 #[test]
 fn station_twice() {
     let [same, mut other] = [fresh_line(5), fresh_line(5)];
     other[0] = 1;
     for line in [same, other] {
         for station in 0..5 {
-            for place in 0..=7 {
-                let mut fields = fresh_fields(5);
-                fields.insert(place, line_field(station, &line));
-                lines_refused(&fields, 5);
+            for place in 3..=8 {
+                let second = line_field(station, &line);
+                let fields = fresh_with(5, place, second);
+                match place - 3 == station || place - 3 == station + 1 {
+                    true => lines_refused(&fields, 5),
+                    false => size_refused(&fields.concat(), 22),
+                }
             }
         }
     }
 }
 
-/// There are n line fields, but one station stands in another's place.
+/// There are n line fields in order, but one station stands in the place of the
+/// one before or behind it.
 #[test]
 fn station_twice_and_another_absent() {
-    for absent in 0..5 {
-        for twice in (0..5).filter(|twice| *twice != absent) {
+    for absent in 0..5_usize {
+        for twice in (0..5_usize).filter(|twice| twice.abs_diff(absent) == 1) {
             let second = line_field(twice, &fresh_line(5));
-            lines_refused(&fresh_but(5, 2 + absent, second), 5);
+            lines_refused(&fresh_but(5, 3 + absent, second), 5);
         }
     }
 }
 
-/// Besides all stations, or in the place of one.
+/// Behind all stations, or in the place of the last.
 #[test]
 fn station_too_high() {
     for (n, _) in sizes() {
         for station in [n, n + 1, 64, 128, 128 + n, 255] {
             let too_high = line_field(station, &fresh_line(n));
             lines_refused(&fresh_and(n, too_high.clone()), n);
-            lines_refused(&fresh_but(n, 1 + n, too_high), n);
+            lines_refused(&fresh_but(n, 2 + n, too_high), n);
         }
     }
 }
@@ -346,36 +528,33 @@ fn broken_line_rules() {
     }
 }
 
-/// A station's 1 about itself, in whatever order the lines stand.
+/// A station's 1 about itself.
 #[test]
 fn rows_are_judged_by_their_own_station() {
     for station in 0..5 {
         let mut line = fresh_line(5);
         line[HEAD + station] = 1;
-        let mut fields = fresh_but(5, 2 + station, line_field(station, &line));
-        fields.reverse();
+        let fields = fresh_but(5, 3 + station, line_field(station, &line));
         load_refused(&fields.concat(), 55, 3);
         for other in (0..5).filter(|other| *other != station) {
-            let fields = fresh_but(5, 2 + other, line_field(other, &line));
+            let fields = fresh_but(5, 3 + other, line_field(other, &line));
             let mut table = vec![UNWRITTEN; 55];
             assert_eq!(load(&fields.concat(), &mut table), loaded(0, 5, 5, 6));
         }
     }
 }
 
-/// A station's own number as the one that told it, in whatever order the lines
-/// stand.
+/// A station's own number as the one that told it.
 #[test]
 fn who_told_is_judged_by_the_own_station() {
     for station in 0..5 {
         let mut line = fresh_line(5);
         line[0] = 2;
         line[4] = station as u8;
-        let mut fields = fresh_but(5, 2 + station, line_field(station, &line));
-        fields.reverse();
+        let fields = fresh_but(5, 3 + station, line_field(station, &line));
         load_refused(&fields.concat(), 55, 3);
         for other in (0..5).filter(|other| *other != station) {
-            let fields = fresh_but(5, 2 + other, line_field(other, &line));
+            let fields = fresh_but(5, 3 + other, line_field(other, &line));
             let mut table = vec![UNWRITTEN; 55];
             assert_eq!(load(&fields.concat(), &mut table), loaded(0, 5, 5, 6));
         }
@@ -404,7 +583,7 @@ fn broken_rules_of_bytes_4_and_5() {
             set(5, &mut table, 0, byte, value);
         }
         table_refused(5, &table, 3);
-        save_refused(5, &table, 90, 3);
+        save_refused(5, &table, 94, 3);
     }
 }
 
@@ -418,7 +597,7 @@ fn next_distance_of_a_finished_line() {
         let file = fields(5, &table, (5, 6)).concat();
         let mut read = vec![UNWRITTEN; 55];
         assert_eq!(load(&file, &mut read).number, number);
-        let mut file = vec![UNWRITTEN; 90];
+        let mut file = vec![UNWRITTEN; 94];
         assert_eq!(save(5, &table, (5, 6), &mut file), number);
     }
 }
@@ -438,7 +617,7 @@ fn all_live_stations_finished() {
 #[test]
 fn refused_sizes_of_the_writer() {
     for n in [0, 1, 65, 66, 128, 255, 256, 258, 65_538, usize::MAX] {
-        save_refused(n, &fresh(2), 39, 1);
+        save_refused(n, &fresh(2), 43, 1);
     }
 }
 
@@ -449,7 +628,14 @@ fn refused_lengths_of_the_writer() {
         save_refused(n, &table[1..], right, 2);
         save_refused(n, &[&table[..], &[0]].concat(), right, 2);
         save_refused(n, &[], right, 2);
-        for length in [0, right - 1, right + 1, right - 2 * n, right + n + 10] {
+        for length in [
+            0,
+            right - 1,
+            right + 1,
+            right - 2 * n,
+            right - 4,
+            right + n + 10,
+        ] {
             save_refused(n, &table, length, 13);
         }
     }
@@ -476,9 +662,11 @@ type Fault = (u8, fn(&mut Case));
 
 /// The reader's refusals in checking order, each with a fault of a file of four
 /// boards that leaves the other faults possible.
-const FAULTS: [Fault; 7] = [
+const FAULTS: [Fault; 9] = [
     (18, |case| case.fields.push(vec![4])),
-    (19, |case| case.fields.insert(0, tally_field(5, 6))),
+    (21, |case| set_contents(case, 4, 0, 1)),
+    (22, |case| case.fields.push(field(5, &[]))),
+    (19, |case| case.fields.insert(2, tally_field(5, 6))),
     (1, |case| set_contents(case, 1, 0, 65)),
     (20, |case| case.fields.push(line_field(4, &fresh_line(4)))),
     (2, |case| case.length += 1),
@@ -517,55 +705,78 @@ fn with_faults(has: impl Fn(usize) -> bool) -> Case {
 /// them in checking order is the refusal.
 #[test]
 fn refusals_of_the_reader_in_order() {
-    for choice in 1..128_u32 {
+    for choice in 1..512_u32 {
         let case = with_faults(|k| choice >> k & 1 == 1);
         let (number, _) = FAULTS[choice.trailing_zeros() as usize];
         let file = case.fields.concat();
         load_refused(&file, case.length, number);
         let size = match number {
-            18 | 19 | 1 => (number, 0),
+            18 | 21 | 22 | 19 | 1 => (number, 0),
             _ => (0, 4),
         };
         assert_eq!(saved_size(&file), size);
     }
 }
 
-/// Size or tally absent, twice or of wrong length, and a stray byte at the end.
+/// No opening, fields out of order, or a wrong size or tally, and a stray byte at
+/// the end.
 #[test]
-fn refusal_18_before_19() {
-    for fields in [
-        fresh_without(3, 0),
-        fresh_without(3, 1),
-        fresh_and(3, size_field(3)),
-        fresh_but(3, 1, field(2, &[0; 7])),
+fn refusal_18_before_21_22_and_19() {
+    for (number, fields) in [
+        (21, fresh_without(3, 0)),
+        (22, fresh_with(3, 3, size_field(3))),
+        (19, fresh_without(3, 1)),
+        (19, fresh_without(3, 2)),
+        (19, fresh_with(3, 1, size_field(3))),
+        (19, fresh_but(3, 2, field(2, &[0; 7]))),
     ] {
         let file = fields.concat();
-        size_refused(&file, 19);
+        size_refused(&file, number);
         size_refused(&[&file[..], &[0]].concat(), 18);
     }
+}
+
+/// Files without the opening are not looked at for order or tags.
+#[test]
+fn refusal_21_before_22() {
+    for tag in unknown_tags() {
+        size_refused(&field(tag, &[2]), 21);
+    }
+    let mut fields = fresh_without(3, 0);
+    fields.reverse();
+    size_refused(&fields.concat(), 21);
+    size_refused(&[field(4, &[1]), opening()].concat(), 21);
+}
+
+/// Fields out of order, and the size or tally absent or twice.
+#[test]
+fn refusal_22_before_19() {
+    size_refused(&[opening(), opening()].concat(), 22);
+    size_refused(&[opening(), tally_field(5, 6), size_field(3)].concat(), 22);
+    size_refused(&[opening(), field(3, &[1]), field(3, &[0])].concat(), 22);
+    size_refused(&fresh_with(3, 3, size_field(3)).concat(), 22);
+    size_refused(&fresh_with(3, 4, tally_field(5, 6)).concat(), 22);
 }
 
 /// Both fields are looked at for 19 before the size is looked at for 1.
 #[test]
 fn refusal_19_before_1() {
     let size = size_field(65);
-    size_refused(&size, 19);
-    size_refused(&[size.clone(), field(2, &[0; 9])].concat(), 19);
-    size_refused(
-        &[size.clone(), size.clone(), tally_field(5, 6)].concat(),
-        19,
-    );
-    size_refused(&[size, tally_field(5, 6)].concat(), 1);
+    let file = |fields: &[&[u8]]| [&opening()[..], &fields.concat()].concat();
+    size_refused(&file(&[&size]), 19);
+    size_refused(&file(&[&size, &field(2, &[0; 9])]), 19);
+    size_refused(&file(&[&size, &size, &tally_field(5, 6)]), 19);
+    size_refused(&file(&[&size, &tally_field(5, 6)]), 1);
 }
 
 /// With a refused size no line field has the right length or station.
 #[test]
 fn refusal_1_before_20() {
     for n in [0, 1, 65, 255] {
-        let behind = [size_field(n), tally_field(5, 6), field(3, &[])];
-        size_refused(&behind.concat(), 1);
-        let before = [line_field(255, &[1, 2]), tally_field(5, 6), size_field(n)];
-        size_refused(&before.concat(), 1);
+        for line in [field(3, &[]), line_field(255, &[1, 2])] {
+            let fields = [opening(), size_field(n), tally_field(5, 6), line];
+            size_refused(&fields.concat(), 1);
+        }
     }
 }
 
@@ -579,23 +790,10 @@ fn refusal_20_before_2_before_3_before_4() {
     set(4, &mut table, 3, 1, 0);
     load_refused(&of_table(&table), 40, 3);
     load_refused(&of_table(&table), 41, 2);
-    let without_last = &of_table(&table)[..57];
+    let without_last = &of_table(&table)[..61];
     load_refused(without_last, 41, 20);
     load_refused(without_last, 30, 20);
     load_refused(without_last, 40, 20);
-}
-
-/// Changes some bytes of a file, cuts some out or puts some in.
-fn spoil(file: &mut Vec<u8>, numbers: &mut Numbers) {
-    for _ in 0..1 + numbers.below(3) {
-        let place = numbers.below(file.len());
-        match numbers.below(4) {
-            0 => file.insert(place, numbers.below(5) as u8),
-            1 => drop(file.remove(place)),
-            2 => file[place] = numbers.below(5) as u8,
-            _ => file[place] = numbers.below(256) as u8,
-        }
-    }
 }
 
 /// Checks what holds of a file of any content. Gives the number.
@@ -605,11 +803,11 @@ fn check_any(file: &[u8], length: usize) -> u8 {
     let (number, size) = saved_size(file);
     match given.number {
         0 => assert_eq!((number, size), (0, given.size)),
-        18 | 19 | 1 => assert_eq!((number, size), (given.number, 0)),
+        18 | 21 | 22 | 19 | 1 => assert_eq!((number, size), (given.number, 0)),
         _ => assert_eq!(number, 0),
     }
     if given.number == 0 {
-        saves_and_loads_again(given.size, &table, (given.rounds, given.tests));
+        saves_again(given.size, &table, (given.rounds, given.tests), file);
     } else {
         assert_eq!(given, loaded(given.number, 0, 0, 0));
         assert_eq!(table, vec![UNWRITTEN; length]);
@@ -617,19 +815,20 @@ fn check_any(file: &[u8], length: usize) -> u8 {
     given.number
 }
 
-/// What was read can be saved, in the writer's form.
-fn saves_and_loads_again(n: usize, table: &[u8], tally: (u32, u32)) {
+/// What was read can be saved, and gives the very file: edition 2 has one form.
+fn saves_again(n: usize, table: &[u8], tally: (u32, u32), read: &[u8]) {
     let mut file = vec![UNWRITTEN; saved_length(n)];
     assert_eq!(save(n, table, tally, &mut file), 0);
     assert_eq!(file, fields(n, table, tally).concat());
+    assert_eq!(file, read);
 }
 
 /// Each number comes up.
 #[test]
 fn spoiled_files() {
     let mut numbers = Numbers::new(19);
-    let mut met = [false; 21];
-    for case in 0..10_000 {
+    let mut met = [false; 23];
+    for case in 0..20_000 {
         let n = 2 + numbers.below(4 + case % 7);
         let table = random_table(n, &mut numbers);
         let mut file = fields(n, &table, (5, 6)).concat();
@@ -637,8 +836,8 @@ fn spoiled_files() {
         let length = n * (n + HEAD) + usize::from(numbers.below(8) == 0);
         met[usize::from(check_any(&file, length))] = true;
     }
-    let numbers: Vec<usize> = (0..21).filter(|number| met[*number]).collect();
-    assert_eq!(numbers, [0, 1, 2, 3, 4, 18, 19, 20]);
+    let numbers: Vec<usize> = (0..23).filter(|number| met[*number]).collect();
+    assert_eq!(numbers, [0, 1, 2, 3, 4, 18, 19, 20, 21, 22]);
 }
 
 #[test]
@@ -648,5 +847,6 @@ fn files_of_any_bytes() {
         let (length, greatest) = (numbers.below(40), 1 + numbers.below(256));
         let file: Vec<u8> = (0..length).map(|_| numbers.below(greatest) as u8).collect();
         check_any(&file, 16);
+        check_any(&[opening(), file].concat(), 16);
     }
 }

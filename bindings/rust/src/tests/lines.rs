@@ -194,14 +194,14 @@ fn numbers_of_calls(table: &[u8]) -> [u8; 7] {
         number(of_run),
         number(grant(3, table, None).err()),
         number(of_drive),
-        number(save(3, table, tally, &mut [0; 54]).err()),
+        number(save(3, table, tally, &mut [0; 58]).err()),
         number(load(&saved_by_hand(table), &mut [0; 27]).err()),
     ]
 }
 
 /// A table of 3 as a saved plant, whether its lines obey the rules or not.
 fn saved_by_hand(table: &[u8]) -> Vec<u8> {
-    let mut saved = vec![1, 0, 1, 3, 2, 0, 8, 0, 0, 0, 0, 0, 0, 0, 0];
+    let mut saved = vec![4, 0, 1, 2, 1, 0, 1, 3, 2, 0, 8, 0, 0, 0, 0, 0, 0, 0, 0];
     for (station, line) in (0..3).zip(table.chunks(9)) {
         saved.extend([3, 0, 10, station]);
         saved.extend(line);

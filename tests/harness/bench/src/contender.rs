@@ -1,5 +1,5 @@
 //! The three implementations of the run, of the drive, of the figures, of the
-//! doubt lamp and of saving and loading, called the same way.
+//! doubt lamp and of saving, loading and converting, called the same way.
 
 use crate::{plain, plain_drive, plain_figures, plain_lamp, plain_saved};
 use shared::grants::NONE_YET;
@@ -8,7 +8,7 @@ use simulator::{Answer, Driven, Loaded};
 use vcube::{Figures, Fraction, Refusal, Tally};
 
 /// An implementation of the run, of the drive, of the figures, of the doubt lamp
-/// and of saving and loading.
+/// and of saving, loading and converting.
 #[derive(Clone, Copy, Debug, PartialEq, Eq)]
 pub enum Contender {
     Library,
@@ -70,6 +70,15 @@ impl Contender {
             Contender::Library => save_library(n, table, tally, saved),
             Contender::Plain => plain_saved::save(n, table, tally, saved),
             Contender::Simulator => simulator::save(n, table, tally, saved),
+        }
+    }
+
+    /// Converts a stored file; gives the number.
+    pub fn convert(self, old: &[u8], saved: &mut [u8]) -> u8 {
+        match self {
+            Contender::Library => number(vcube::convert(old, saved).err()),
+            Contender::Plain => plain_saved::convert(old, saved),
+            Contender::Simulator => simulator::convert(old, saved),
         }
     }
 

@@ -1,5 +1,5 @@
 //! A benchmark of the run, of the drive, of the figures, of the doubt lamp and of
-//! saving and loading, and an experiment on how many rounds pass until the dead boards are
+//! saving, loading and converting, and an experiment on how many rounds pass until the dead boards are
 //! known.
 
 #![forbid(unsafe_code)]

@@ -101,17 +101,27 @@ pub fn best_times_of_saves(works: &[SavedWork], repetitions: usize) -> [f64; 3] 
     })
 }
 
-/// The same of loads from the files that are picked of the plants, each into a
-/// table of its own.
-pub fn best_times_of_loads(
-    works: &[SavedWork],
-    file: fn(&SavedWork) -> &[u8],
-    repetitions: usize,
-) -> [f64; 3] {
+/// The same of loads, each into a table of its own.
+pub fn best_times_of_loads(works: &[SavedWork], repetitions: usize) -> [f64; 3] {
     let mut tables: Vec<Vec<u8>> = works.iter().map(|work| work.table.clone()).collect();
     best(repetitions, |contender| {
         time_into(&mut tables, works, |work, table| {
-            contender.load(file(work), table)
+            contender.load(&work.file, table)
+        })
+    })
+}
+
+/// The same of conversions of the stored files that are picked of the plants, each
+/// into a buffer of its own.
+pub fn best_times_of_conversions(
+    works: &[SavedWork],
+    stored: fn(&SavedWork) -> &[u8],
+    repetitions: usize,
+) -> [f64; 3] {
+    let mut buffers: Vec<Vec<u8>> = works.iter().map(|work| work.file.clone()).collect();
+    best(repetitions, |contender| {
+        time_into(&mut buffers, works, |work, saved| {
+            contender.convert(stored(work), saved)
         })
     })
 }
@@ -204,26 +214,30 @@ pub fn check_equal_lamps(work: &LampWork) {
     }
 }
 
-/// Stops unless all three save the plant as its file, and load it from either
-/// file.
+/// Stops unless all three save the plant as its file, load it from there, and
+/// convert the stored files to what they must become.
 pub fn check_equal_saved(work: &SavedWork) {
     for contender in Contender::ALL {
         let mut saved = vec![0; work.file.len()];
         let number = contender.save(work.n, &work.table, work.tally, &mut saved);
         assert_eq!(number, 0, "{contender:?}: the save is refused");
         assert!(saved == work.file, "{contender:?}: another file");
-        for file in [&work.file, &work.shuffled] {
-            let mut table = vec![0; work.table.len()];
-            let loaded = contender.load(file, &mut table);
-            let (rounds, tests) = work.tally;
-            let expected = Loaded {
-                number: 0,
-                size: work.n,
-                rounds,
-                tests,
-            };
-            assert_eq!(loaded, expected, "{contender:?}: another answer");
-            assert!(table == work.table, "{contender:?}: another table");
+        let mut table = vec![0; work.table.len()];
+        let loaded = contender.load(&work.file, &mut table);
+        let (rounds, tests) = work.tally;
+        let expected = Loaded {
+            number: 0,
+            size: work.n,
+            rounds,
+            tests,
+        };
+        assert_eq!(loaded, expected, "{contender:?}: another answer");
+        assert!(table == work.table, "{contender:?}: another table");
+        for stored in [&work.stored, &work.shuffled] {
+            let mut converted = vec![0; work.converted.len()];
+            let number = contender.convert(stored, &mut converted);
+            assert_eq!(number, 0, "{contender:?}: the conversion is refused");
+            assert!(converted == work.converted, "{contender:?}: another file");
         }
     }
 }

@@ -21,12 +21,12 @@ const CLOSED_SINCE: usize = 5;
 
 pub const LIVE: u8 = 0;
 const CRASHED: u8 = 1;
-const TOLD: u8 = 2;
-const ALONE: u8 = 3;
+pub const TOLD: u8 = 2;
+pub const ALONE: u8 = 3;
 
 /// Byte 4 where no station told it to leave; where that was never recorded.
-const TOLD_BY_NONE: u8 = 255;
-const NOT_RECORDED: u8 = 254;
+pub const TOLD_BY_NONE: u8 = 255;
+pub const NOT_RECORDED: u8 = 254;
 
 pub const TURN: u8 = 1;
 const CRASH: u8 = 3;
@@ -111,9 +111,13 @@ pub fn distances(n: usize) -> usize {
 
 pub fn keeps_line_rules(end: usize, i: usize, line: &[u8]) -> bool {
     let (head, row) = line.split_at(HEAD);
+    keeps_status_rules(row.len(), i, head) && keeps_pass_rules(end, i, head, row)
+}
+
+/// The rules of bytes 1 to 3 and of the row.
+pub fn keeps_pass_rules(end: usize, i: usize, head: &[u8], row: &[u8]) -> bool {
     let next = usize::from(head[NEXT]);
-    keeps_status_rules(row.len(), i, head)
-        && (1..=end).contains(&next)
+    (1..=end).contains(&next)
         && head[FINISHED] <= 1
         && head[TESTS] < head[NEXT]
         && (head[FINISHED] == 0 || next == end)

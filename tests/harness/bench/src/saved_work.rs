@@ -1,16 +1,24 @@
-//! Plants to be saved, and their files in the writer's order and in another.
+//! Plants to be saved, and their files: the saved one, and stored ones of edition
+//! 1 in the order in which they were written and in another.
 
 use crate::work::Work;
 use shared::random::Random;
+use shared::table::HEAD;
 
 /// Rounds that are run before a plant is saved: the dead are partly known then.
 const ENTRIES_PER_STATION: usize = 6;
 
-/// Another tag stands before every so many fields.
-const FIELDS_PER_OTHER: usize = 4;
+/// The bytes of a line before its row in edition 1.
+const FORMER_HEAD: usize = 4;
 
-/// Tags that are passed over.
-const OTHER_TAGS: [u8; 4] = [0, 4, 128, 255];
+/// The opening of a saved plant.
+const OPENING: usize = 4;
+
+/// The bytes of a line field before the line: its head and the station.
+const LINE_FIELD: usize = 4;
+
+/// Tags that are not known, and tag 4.
+const OTHER_TAGS: [u8; 4] = [0, 4, 5, 255];
 
 /// The longest contents of a field of another tag.
 const LONGEST_OTHER: usize = 16;
@@ -24,8 +32,11 @@ pub struct SavedWork {
     pub tally: (u32, u32),
     /// As the writer writes it, by the simulator.
     pub file: Vec<u8>,
-    /// In any order, with fields of other tags between.
+    /// The file as edition 1 has it: in the writer's order, and in any.
+    pub stored: Vec<u8>,
     pub shuffled: Vec<u8>,
+    /// What both are converted to: the file, but bytes 4 and 5 are not recorded.
+    pub converted: Vec<u8>,
 }
 
 impl SavedWork {
@@ -41,12 +52,20 @@ impl SavedWork {
     pub fn of(n: usize, table: Vec<u8>, tally: (u32, u32), random: &mut Random) -> SavedWork {
         let mut file = vec![0; vcube::saved_length(n)];
         assert_eq!(simulator::save(n, &table, tally, &mut file), 0);
+        let stored = stored(&file);
+        let mut shuffled = stored.clone();
+        random.shuffle(&mut shuffled);
+        let stored = stored.concat();
+        let mut converted = vec![0; vcube::saved_length(n)];
+        assert_eq!(simulator::convert(&stored, &mut converted), 0);
         SavedWork {
             n,
             table,
             tally,
-            shuffled: shuffle(&file, random),
             file,
+            stored,
+            shuffled: shuffled.concat(),
+            converted,
         }
     }
 }
@@ -63,15 +82,18 @@ pub fn fields(file: &[u8]) -> Vec<Vec<u8>> {
     fields
 }
 
-fn shuffle(file: &[u8], random: &mut Random) -> Vec<u8> {
-    let mut fields = fields(file);
-    random.shuffle(&mut fields);
-    let groups = fields.chunks(FIELDS_PER_OTHER);
-    let groups = groups.map(|group| [other_field(random), group.concat()].concat());
-    groups.collect::<Vec<_>>().concat()
+/// The fields of a saved plant as edition 1 has them: without the opening, and
+/// without bytes 4 and 5 of the lines.
+pub fn stored(file: &[u8]) -> Vec<Vec<u8>> {
+    let mut fields = fields(&file[OPENING..]);
+    for field in &mut fields[2..] {
+        field.drain(LINE_FIELD + FORMER_HEAD..LINE_FIELD + HEAD);
+        field[2] -= (HEAD - FORMER_HEAD) as u8;
+    }
+    fields
 }
 
-/// A field that is passed over.
+/// A field with a tag that is not known, or with tag 4.
 pub fn other_field(random: &mut Random) -> Vec<u8> {
     let length = random.below(LONGEST_OTHER + 1);
     let head = [random.pick(&OTHER_TAGS), 0, length as u8];

@@ -63,6 +63,7 @@ impl Absent {
         match (call.kind, number) {
             // Their size and their table stand in the file.
             (Kind::Load | Kind::SavedSize, _) => {}
+            (Kind::Convert | Kind::ConvertedLength, _) => {}
             (_, 1) => self.add_size(call.numbers.n),
             (_, 2) | (Kind::FreshTable, _) => {}
             (Kind::GroupList, 0) => self.groups[call.buffers.get(Name::List).len()] += 1,

@@ -94,6 +94,8 @@ extern "C" {
         tests: *mut u32,
     ) -> u8;
     fn vcube_saved_size(saved: *const u8, saved_length: usize, n: *mut usize) -> u8;
+    fn vcube_convert(old: *const u8, old_length: usize, saved: *mut u8, saved_length: usize) -> u8;
+    fn vcube_converted_length(old: *const u8, old_length: usize, length: *mut usize) -> u8;
     fn vcube_figures_of_list(results: *const u16, length: usize, figures: *mut Figures) -> u8;
     fn vcube_figures_of_two_lists(
         first: *const u16,
@@ -239,6 +241,17 @@ impl Calls for Library {
     fn saved_size([saved, size]: [&mut Guarded; 2]) -> u8 {
         let (saved, length) = bytes(saved);
         unsafe { vcube_saved_size(saved, length, figure(size)) }
+    }
+
+    fn convert([old, saved]: [&mut Guarded; 2]) -> u8 {
+        let (old, old_length) = bytes(old);
+        let (saved, saved_length) = bytes(saved);
+        unsafe { vcube_convert(old, old_length, saved, saved_length) }
+    }
+
+    fn converted_length([old, length]: [&mut Guarded; 2]) -> u8 {
+        let (old, old_length) = bytes(old);
+        unsafe { vcube_converted_length(old, old_length, figure(length)) }
     }
 
     fn figures_of_list([list, figures]: [&mut Guarded; 2]) -> u8 {

@@ -116,6 +116,16 @@ impl Calls for Simulator {
         number
     }
 
+    fn convert([old, saved]: [&mut Guarded; 2]) -> u8 {
+        simulator::convert(old.contents(), saved.contents_mut())
+    }
+
+    fn converted_length([old, length]: [&mut Guarded; 2]) -> u8 {
+        let (number, converted) = simulator::converted_length(old.contents());
+        length.put_figure(converted);
+        number
+    }
+
     fn figures_of_list([list, figures]: [&mut Guarded; 2]) -> u8 {
         put_figures(figures, &simulator::figures(&results(list)))
     }

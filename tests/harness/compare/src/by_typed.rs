@@ -147,6 +147,16 @@ impl Calls for Typed {
         number(&given)
     }
 
+    fn convert([old, saved]: [&mut Guarded; 2]) -> u8 {
+        number(&vcube::convert(old.contents(), saved.contents_mut()))
+    }
+
+    fn converted_length([old, length]: [&mut Guarded; 2]) -> u8 {
+        let given = vcube::converted_length(old.contents());
+        length.put_figure(given.unwrap_or(0));
+        number(&given)
+    }
+
     fn figures_of_list([list, figures]: [&mut Guarded; 2]) -> u8 {
         put_figures(figures, vcube::figures(&results(list)))
     }

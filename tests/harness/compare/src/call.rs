@@ -21,6 +21,8 @@ pub enum Kind {
     Save,
     Load,
     SavedSize,
+    Convert,
+    ConvertedLength,
     FiguresOfList,
     FiguresOfTwoLists,
     TotalsOfList,
@@ -65,6 +67,8 @@ pub enum Name {
     Of,
     /// A saved plant: the file.
     Saved,
+    /// A stored file of edition 1.
+    Old,
     /// The size of a saved plant.
     Size,
     /// A list of results, or the first of two.
@@ -115,7 +119,7 @@ impl Call {
 }
 
 impl Kind {
-    pub const ALL: [Kind; 16] = [
+    pub const ALL: [Kind; 18] = [
         Kind::FreshTable,
         Kind::GroupList,
         Kind::Assignment,
@@ -127,6 +131,8 @@ impl Kind {
         Kind::Save,
         Kind::Load,
         Kind::SavedSize,
+        Kind::Convert,
+        Kind::ConvertedLength,
         Kind::FiguresOfList,
         Kind::FiguresOfTwoLists,
         Kind::TotalsOfList,
@@ -134,9 +140,8 @@ impl Kind {
         Kind::FiguresOfTotals,
     ];
 
-    /// Those about a plant, which take a size or give the size of a saved one:
-    /// the first ones. The others are about results.
-    pub const OF_PLANTS: [Kind; 11] = [
+    /// Those about a plant, which take a size or a file with one: the first ones. The others are about results.
+    pub const OF_PLANTS: [Kind; 13] = [
         Kind::FreshTable,
         Kind::GroupList,
         Kind::Assignment,
@@ -148,6 +153,8 @@ impl Kind {
         Kind::Save,
         Kind::Load,
         Kind::SavedSize,
+        Kind::Convert,
+        Kind::ConvertedLength,
     ];
 
     pub fn text(self) -> &'static str {
@@ -163,6 +170,8 @@ impl Kind {
             Kind::Save => "save",
             Kind::Load => "load",
             Kind::SavedSize => "size of a saved plant",
+            Kind::Convert => "conversion",
+            Kind::ConvertedLength => "length of a conversion",
             Kind::FiguresOfList => "figures of a list",
             Kind::FiguresOfTwoLists => "figures of two lists",
             Kind::TotalsOfList => "totals of a list",
@@ -204,6 +213,8 @@ impl Kind {
                 Name::Tests,
             ],
             Kind::SavedSize => &[Name::Saved, Name::Size],
+            Kind::Convert => &[Name::Old, Name::Saved],
+            Kind::ConvertedLength => &[Name::Old, Name::Length],
             Kind::FiguresOfList => &[Name::Results, Name::Figures],
             Kind::FiguresOfTwoLists => &[Name::Results, Name::SecondResults, Name::Figures],
             Kind::TotalsOfList => &[Name::Results, Name::GivenTotals],
@@ -224,8 +235,10 @@ impl Kind {
             Kind::Drive => &[0, 1, 2, 3, 4, 7, 16, 17],
             Kind::DoubtLamp => &[0, 1, 2, 3, 4],
             Kind::Save => &[0, 1, 2, 3, 4, 13],
-            Kind::Load => &[0, 1, 2, 3, 4, 18, 19, 20],
-            Kind::SavedSize => &[0, 1, 18, 19],
+            Kind::Load => &[0, 1, 2, 3, 4, 18, 19, 20, 21, 22],
+            Kind::SavedSize => &[0, 1, 18, 19, 21, 22],
+            Kind::Convert => &[0, 1, 3, 4, 13, 18, 19, 20, 22],
+            Kind::ConvertedLength => &[0, 1, 18, 19, 22],
             Kind::FiguresOfList | Kind::FiguresOfTwoLists | Kind::FiguresOfTotals => &[0, 14, 15],
             Kind::TotalsOfList | Kind::JoinTotals => &[0, 15],
         }
@@ -233,7 +246,7 @@ impl Kind {
 }
 
 impl Name {
-    pub const ALL: [Name; 23] = [
+    pub const ALL: [Name; 24] = [
         Name::Table,
         Name::List,
         Name::Schedule,
@@ -250,6 +263,7 @@ impl Name {
         Name::By,
         Name::Of,
         Name::Saved,
+        Name::Old,
         Name::Size,
         Name::Results,
         Name::SecondResults,
@@ -277,6 +291,7 @@ impl Name {
             Name::By => "suspecting station",
             Name::Of => "suspected station",
             Name::Saved => "saved plant",
+            Name::Old => "stored file",
             Name::Size => "size",
             Name::Results => "results",
             Name::SecondResults => "second results",
@@ -291,7 +306,7 @@ impl Name {
     pub fn width(self) -> usize {
         match self {
             Name::Table | Name::List | Name::Schedule | Name::Sheet => size_of::<u8>(),
-            Name::Saved => size_of::<u8>(),
+            Name::Saved | Name::Old => size_of::<u8>(),
             Name::Rounds | Name::Tests => size_of::<u32>(),
             Name::Count | Name::Start | Name::Length | Name::Taken => size_of::<usize>(),
             Name::Station | Name::Last | Name::Grants | Name::Size => size_of::<usize>(),

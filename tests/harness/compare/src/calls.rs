@@ -38,6 +38,12 @@ pub trait Calls {
     /// Saved plant, size.
     fn saved_size(lent: [&mut Guarded; 2]) -> u8;
 
+    /// Stored file, saved plant.
+    fn convert(lent: [&mut Guarded; 2]) -> u8;
+
+    /// Stored file, length.
+    fn converted_length(lent: [&mut Guarded; 2]) -> u8;
+
     /// Results, figures.
     fn figures_of_list(lent: [&mut Guarded; 2]) -> u8;
 
@@ -90,6 +96,8 @@ pub fn make<By: Calls>(call: &Call, mut buffers: Buffers<Guarded>) -> Outcome {
         Kind::Save => By::save(numbers, lent(call.kind, &mut buffers)),
         Kind::Load => By::load(lent(call.kind, &mut buffers)),
         Kind::SavedSize => By::saved_size(lent(call.kind, &mut buffers)),
+        Kind::Convert => By::convert(lent(call.kind, &mut buffers)),
+        Kind::ConvertedLength => By::converted_length(lent(call.kind, &mut buffers)),
         Kind::FiguresOfList => By::figures_of_list(lent(call.kind, &mut buffers)),
         Kind::FiguresOfTwoLists => By::figures_of_two_lists(lent(call.kind, &mut buffers)),
         Kind::TotalsOfList => By::totals_of_list(lent(call.kind, &mut buffers)),

@@ -1,30 +1,10 @@
 //! The rules of bytes 4 and 5 of a line, right or with a fault: what they may
 //! hold, and what entries write there.
 
-use shared::table::{self, line_length, CLOSED_SINCE, HEAD, TOLD_BY};
+use shared::table::{self, line_length, CLOSED_SINCE, TOLD_BY};
 use shared::table::{CRASHED, LEFT_ALONE, LEFT_TOLD, LIVE, NOT_RECORDED, TOLD_BY_NONE};
 
 use crate::entries::{Entry, NO_REPLY, TESTED_TOLD, TOLD};
-use crate::saving::{line_contents, saved_length};
-
-/// The bytes of a line before its row in version 0.8.
-pub const FORMER_HEAD: usize = 4;
-
-/// The length of a table until then.
-pub fn former_table_length(n: usize) -> usize {
-    n * (n + FORMER_HEAD)
-}
-
-/// The length of a saved plant until then.
-pub fn former_saved_length(n: usize) -> usize {
-    saved_length(n) - n * (HEAD - FORMER_HEAD)
-}
-
-/// Whether these line fields have the length that they had until then.
-pub fn have_former_length(n: usize, fields: &[&[u8]]) -> bool {
-    let former = line_contents(n) - (HEAD - FORMER_HEAD);
-    fields.iter().all(|field| field.len() == former)
-}
 
 /// Bytes 0, 4 and 5 of a line.
 #[derive(Clone, Copy, Debug, PartialEq, Eq)]

@@ -10,6 +10,7 @@ use crate::assigned;
 use crate::call::{Call, Kind, Name};
 use crate::cases;
 use crate::ceased::Ceased;
+use crate::converting::FORMER_READER;
 use crate::cuts::Cuts;
 use crate::doubted;
 use crate::entries::{self, Answer, Entry};
@@ -24,7 +25,7 @@ const KINDS: usize = Kind::ALL.len();
 const PLANT_KINDS: usize = Kind::OF_PLANTS.len();
 
 /// Refusals have the numbers from 1 up to but without this one.
-const NUMBERS: usize = 21;
+const NUMBERS: usize = 23;
 
 /// Outcomes have the numbers from 0 up to but without this one.
 pub const OUTCOMES: usize = 6;
@@ -39,12 +40,13 @@ pub const LEAST: u64 = 30;
 const LONG_RUN: usize = 256;
 
 /// The buffers of any length.
-const OF_ANY_LENGTH: [Name; 7] = [
+const OF_ANY_LENGTH: [Name; 8] = [
     Name::Table,
     Name::List,
     Name::Schedule,
     Name::Sheet,
     Name::Saved,
+    Name::Old,
     Name::Results,
     Name::SecondResults,
 ];
@@ -91,11 +93,11 @@ pub struct Counts {
     pub granted: Occurred<granted::Seen>,
     /// The cases of doubt lamps.
     pub doubted: Occurred<doubted::Seen>,
-    /// The cases of saves, loads and questions for the size of a saved plant.
+    /// The cases of saves, loads, conversions and the questions before these.
     pub saved: Occurred<saved::Seen>,
-    /// Loads of files that are cut.
+    /// Loads and conversions of files that are cut.
     pub cuts: Cuts,
-    /// What was saved and loaded, or loaded and saved.
+    /// What was saved and loaded, loaded and saved, or converted and loaded.
     pub ways_back: WaysBack,
     /// The cases of calls about results.
     pub cases: Occurred<cases::Seen>,
@@ -188,7 +190,7 @@ impl Counts {
                 let seen = doubted::Seen::new(call, outcome);
                 self.doubted.add(call.kind, &seen);
             }
-            Kind::Save | Kind::Load | Kind::SavedSize => {
+            Kind::Save | Kind::Load | Kind::SavedSize | Kind::Convert | Kind::ConvertedLength => {
                 let seen = saved::Seen::new(call, outcome);
                 self.saved.add(call.kind, &seen);
                 self.cuts.add(call);
@@ -330,10 +332,13 @@ fn place(size: usize) -> usize {
     size - groups::SIZES.start()
 }
 
-/// The size of an accepted call: the one handed in, or that of a saved plant.
+/// The size of an accepted call: the one handed in, or that of the file.
 fn size(call: &Call, outcome: &Outcome) -> usize {
     match call.kind {
         Kind::Load | Kind::SavedSize => outcome.buffers.get(Name::Size).figure(),
+        Kind::Convert | Kind::ConvertedLength => {
+            FORMER_READER.saved_size(call.buffers.get(Name::Old)).1
+        }
         _ => call.numbers.n,
     }
 }

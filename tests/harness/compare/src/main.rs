@@ -17,6 +17,7 @@ mod cases;
 mod ceased;
 mod ceased_faults;
 mod ceasing;
+mod converting;
 mod counts;
 mod cuts;
 mod doubted;
@@ -99,9 +100,9 @@ fn compare(seed: u64, calls: u64, trace: bool) -> Result<String, String> {
             if let Some(found) = back.difference() {
                 return Err(report::difference(seed, number, &back, &found));
             }
-            let (there, back) = (trial.made(), back.made());
-            ways_back::check(there, back).map_err(|text| report::failed(seed, number, &text))?;
-            counts.ways_back.add(there, back);
+            ways_back::check(trial.made(), back.made())
+                .map_err(|text| report::failed(seed, number, &text))?;
+            counts.ways_back.add(trial.made());
         }
     }
     shared::counts::check(&counts.missing(), calls >= ENOUGH_CALLS)?;

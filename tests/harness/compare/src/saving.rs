@@ -1,20 +1,36 @@
-//! The form of a saved plant, and the rules of its writer and of its reader,
-//! right or with a fault.
+//! The form of a saved plant, and the rules of its writer and of a reader of
+//! files, right or with a fault.
 
 use shared::groups::SIZES;
-use shared::table::{fresh, line_length, live_stations, table_length, unfinished_stations};
+use shared::table::{fresh, line_length, live_stations, table_length, unfinished_stations, HEAD};
 use simulator::Loaded;
 
 /// The tags.
 pub const SIZE: u8 = 1;
 pub const TALLY: u8 = 2;
 pub const LINE: u8 = 3;
+pub const OPENING: u8 = 4;
+
+/// What the opening holds.
+pub const EDITION: u8 = 2;
 
 // Refusals.
 pub const LIST_LENGTH: u8 = 13;
 pub const FIELD_PAST_END: u8 = 18;
 pub const SIZE_OR_TALLY_FIELD: u8 = 19;
 pub const LINE_FIELD: u8 = 20;
+pub const NO_OPENING: u8 = 21;
+pub const FIELD_ORDER: u8 = 22;
+
+/// Those of the question for the size, or for the length that a converter needs:
+/// they are about the fields but for the lines.
+const ASKED: [u8; 5] = [
+    FIELD_PAST_END,
+    NO_OPENING,
+    FIELD_ORDER,
+    SIZE_OR_TALLY_FIELD,
+    1,
+];
 
 /// The bytes of a field before its contents: the tag and the length.
 pub const FIELD_HEAD: usize = 3;
@@ -36,6 +52,16 @@ impl Field {
     pub fn station(&self) -> Option<usize> {
         self.contents.first().copied().map(usize::from)
     }
+
+    /// Whether this is the opening of edition 2.
+    pub fn is_opening(&self) -> bool {
+        self.tag == OPENING && self.contents == [EDITION]
+    }
+
+    /// Whether its tag is that of a size, a tally or a line.
+    pub fn is_of_plant(&self) -> bool {
+        (SIZE..=LINE).contains(&self.tag)
+    }
 }
 
 /// The length of a line field's contents: the station and its line.
@@ -43,9 +69,10 @@ pub fn line_contents(n: usize) -> usize {
     1 + line_length(n)
 }
 
-/// The length of a saved plant: the size field, the tally field and the lines.
+/// The length of a saved plant: the opening, the size field, the tally field and
+/// the lines.
 pub fn saved_length(n: usize) -> usize {
-    15 + n * (FIELD_HEAD + line_contents(n))
+    19 + n * (FIELD_HEAD + line_contents(n))
 }
 
 /// A rule of writing.
@@ -60,8 +87,12 @@ pub struct Writer {
     pub stations: fn(usize) -> Vec<usize>,
     /// The byte that names a station.
     pub named: fn(usize) -> u8,
+    /// A line of the table as it is written.
+    pub line: fn(&[u8]) -> Vec<u8>,
+    /// What the opening holds.
+    pub edition: u8,
     /// The order of the tags.
-    pub tags: [u8; 3],
+    pub tags: &'static [u8],
 }
 
 /// The writer as it is.
@@ -71,7 +102,9 @@ pub const WRITER: Writer = Writer {
     tally: |(rounds, tests)| [rounds, tests],
     stations: |n| (0..n).collect(),
     named: |station| station as u8,
-    tags: [SIZE, TALLY, LINE],
+    line: <[u8]>::to_vec,
+    edition: EDITION,
+    tags: &[OPENING, SIZE, TALLY, LINE],
 };
 
 impl Writer {
@@ -86,10 +119,11 @@ impl Writer {
     pub fn fields(&self, n: usize, table: &[u8], tally: (u32, u32)) -> Vec<Field> {
         let field = |tag, contents| Field { tag, contents };
         let lines: Vec<&[u8]> = table.chunks_exact(line_length(n)).collect();
-        let line = |i: usize| [&[(self.named)(i)], lines[i]].concat();
+        let line = |i: usize| [vec![(self.named)(i)], (self.line)(lines[i])].concat();
         let mut fields = Vec::new();
         for tag in self.tags {
-            match tag {
+            match *tag {
+                OPENING => fields.push(field(OPENING, vec![self.edition])),
                 SIZE => fields.push(field(SIZE, vec![n as u8])),
                 TALLY => {
                     let figures = (self.tally)(tally).map(self.figure);
@@ -117,15 +151,21 @@ pub type Split = fn(&[u8], usize) -> Option<(&[u8], &[u8])>;
 /// A rule of reading.
 pub struct Reader {
     /// The refusals in the order in which they are looked for.
-    pub order: [u8; 7],
+    pub order: &'static [u8],
     /// The length of a field's contents by the last two bytes of its head.
     pub length: fn([u8; 2]) -> usize,
     pub split: Split,
     /// Whether the file is over before this rest of it.
     pub is_over: fn(&[u8]) -> bool,
-    /// Whether a field with this tag, which is none of 1 to 3, is passed over.
-    /// Else it is refused with 18.
+    /// Whether a file that begins with this field has an opening. The fields
+    /// after it are then those behind the first.
+    pub is_opened: fn(&Field) -> bool,
+    /// Whether a field after the opening with this tag is passed over.
     pub passes_over: fn(u8) -> bool,
+    /// Whether there may be another field after the opening with this tag.
+    pub is_known: fn(u8) -> bool,
+    /// Whether two fields after the opening, one behind the other, are in order.
+    pub is_ascending: fn(&Field, &Field) -> bool,
     /// Whether the fields with this tag, 1 or 2, are as they must be.
     pub is_front: fn(u8, &[&[u8]]) -> bool,
     pub is_size: fn(usize) -> bool,
@@ -136,21 +176,55 @@ pub struct Reader {
     /// The place of a line in the table, by its place among the line fields and
     /// its station.
     pub place: fn(usize, usize) -> usize,
+    /// Puts a line of the file into its place in the table.
+    pub put: fn(&mut [u8], &[u8]),
+    /// The bytes of a line before its row.
+    pub head: usize,
 }
 
 /// The reader as it is.
 pub const READER: Reader = Reader {
-    order: [FIELD_PAST_END, SIZE_OR_TALLY_FIELD, 1, LINE_FIELD, 2, 3, 4],
+    order: &[
+        FIELD_PAST_END,
+        NO_OPENING,
+        FIELD_ORDER,
+        SIZE_OR_TALLY_FIELD,
+        1,
+        LINE_FIELD,
+        2,
+        3,
+        4,
+    ],
     length: |bytes| u16::from_be_bytes(bytes).into(),
     split: <[u8]>::split_at_checked,
     is_over: <[u8]>::is_empty,
-    passes_over: |_| true,
+    is_opened: Field::is_opening,
+    passes_over: |_| false,
+    is_known: |tag| (SIZE..=LINE).contains(&tag),
+    is_ascending: |before, field| field.tag >= before.tag && !is_station_below(before, field),
     is_front: |tag, fields| fields.len() == 1 && has_front_length(tag, fields[0]),
     is_size: |n| SIZES.contains(&n),
     tally: |contents| two_figures(contents, u32::from_be_bytes),
     are_lines: |n, fields| have_line_length(n, fields) && stations(fields).into_iter().eq(0..n),
     place: |_, station| station,
+    put: put_from_start,
+    head: HEAD,
 };
+
+/// Whether both are lines, and the station is below the one before. An empty
+/// line counts as that of station 0.
+pub fn is_station_below(before: &Field, field: &Field) -> bool {
+    let [before_station, station] = [before, field].map(|field| field.station().unwrap_or(0));
+    before.tag == LINE && field.tag == LINE && station < before_station
+}
+
+/// Puts as many bytes as there are, and as there is room for.
+pub fn put_from_start(place: &mut [u8], bytes: &[u8]) {
+    place
+        .iter_mut()
+        .zip(bytes)
+        .for_each(|(place, byte)| *place = *byte);
+}
 
 /// Whether the contents of the size field or the tally field have their length.
 pub fn has_front_length(tag: u8, contents: &[u8]) -> bool {
@@ -179,13 +253,17 @@ pub fn two_figures(contents: &[u8], figure: fn([u8; 4]) -> u32) -> (u32, u32) {
 /// What a rule reads of a file.
 struct Read<'a> {
     past_end: bool,
+    is_opened: bool,
+    /// The fields after the opening, all of them if there is none, but not those
+    /// that are passed over.
+    fields: Vec<&'a Field>,
     sizes: Vec<&'a [u8]>,
     tallies: Vec<&'a [u8]>,
     lines: Vec<&'a [u8]>,
     /// By the first size field; 0 if there is none.
     n: usize,
-    /// The length of the table buffer.
-    table: usize,
+    /// The length of the buffer that the call fills.
+    lent: usize,
 }
 
 impl Reader {
@@ -207,16 +285,15 @@ impl Reader {
     fn next<'a>(&self, rest: &'a [u8]) -> Option<(u8, &'a [u8], &'a [u8])> {
         let ([tag, first, second], behind) = rest.split_first_chunk()?;
         let (contents, behind) = (self.split)(behind, (self.length)([*first, *second]))?;
-        let is_known = [SIZE, TALLY, LINE].contains(tag);
-        (is_known || (self.passes_over)(*tag)).then_some((*tag, contents, behind))
+        Some((*tag, contents, behind))
     }
 
     /// What a load answers, and the table that it restores; an empty one where
-    /// it is refused.
-    pub fn load(&self, file: &[u8], table: usize) -> (Loaded, Vec<u8>) {
+    /// it is refused. The buffer lent has this length.
+    pub fn load(&self, file: &[u8], lent: usize) -> (Loaded, Vec<u8>) {
         let (fields, past_end) = self.fields(file);
-        let read = Read::new(&fields, past_end, table);
-        match self.number(&read, &self.order) {
+        let read = self.read(&fields, past_end, lent);
+        match self.number(&read, self.order) {
             0 => (self.answer(&read), self.table(&read)),
             number => (refused(number), Vec::new()),
         }
@@ -225,28 +302,53 @@ impl Reader {
     /// The number and the size that the question for the size answers.
     pub fn saved_size(&self, file: &[u8]) -> (u8, usize) {
         let (fields, past_end) = self.fields(file);
-        let read = Read::new(&fields, past_end, 0);
-        let asked = self.order.into_iter();
-        let asked =
-            asked.filter(|number| [FIELD_PAST_END, SIZE_OR_TALLY_FIELD, 1].contains(number));
+        let read = self.read(&fields, past_end, 0);
+        let asked = self.order.iter().copied();
+        let asked = asked.filter(|number| ASKED.contains(number));
         match self.number(&read, &asked.collect::<Vec<u8>>()) {
             0 => (0, read.n),
             number => (number, 0),
         }
     }
 
-    /// All refusals that a load of the file meets, in their order.
-    pub fn met(&self, file: &[u8], table: usize) -> Vec<u8> {
+    /// All refusals that a call with this file and a buffer of this length meets,
+    /// in their order.
+    pub fn met(&self, file: &[u8], lent: usize) -> Vec<u8> {
         let (fields, past_end) = self.fields(file);
-        let read = Read::new(&fields, past_end, table);
-        let met = self.order.into_iter();
+        let read = self.read(&fields, past_end, lent);
+        let met = self.order.iter().copied();
         met.filter(|number| self.is_met(*number, &read)).collect()
     }
 
     /// The table that the lines of a file make, whatever is wrong with it.
     pub fn table_of(&self, file: &[u8]) -> Vec<u8> {
         let (fields, past_end) = self.fields(file);
-        self.table(&Read::new(&fields, past_end, 0))
+        self.table(&self.read(&fields, past_end, 0))
+    }
+
+    /// The length of a line field's contents: the station, the head and the row.
+    pub fn line_contents(&self, n: usize) -> usize {
+        1 + self.head + n
+    }
+
+    fn read<'a>(&self, fields: &'a [Field], past_end: bool, lent: usize) -> Read<'a> {
+        let with_tag = |tag| contents_with(fields, tag);
+        let sizes = with_tag(SIZE);
+        let size = sizes.first().and_then(|contents| contents.first());
+        let is_opened = fields.first().is_some_and(self.is_opened);
+        let behind = fields.iter().skip(usize::from(is_opened));
+        Read {
+            past_end,
+            is_opened,
+            fields: behind
+                .filter(|field| !(self.passes_over)(field.tag))
+                .collect(),
+            n: size.copied().map_or(0, usize::from),
+            sizes,
+            tallies: with_tag(TALLY),
+            lines: with_tag(LINE),
+            lent,
+        }
     }
 
     /// The first of the refusals that is met, or 0.
@@ -259,19 +361,29 @@ impl Reader {
         let n = read.n;
         match number {
             FIELD_PAST_END => read.past_end,
+            NO_OPENING => !read.is_opened,
+            FIELD_ORDER => !self.are_in_order(&read.fields),
             SIZE_OR_TALLY_FIELD => {
                 let are_front = |tag, fields| (self.is_front)(tag, fields);
                 !are_front(SIZE, &read.sizes) || !are_front(TALLY, &read.tallies)
             }
             1 => !(self.is_size)(n),
             LINE_FIELD => !(self.are_lines)(n, &read.lines),
-            2 => read.table != table_length(n),
+            2 => read.lent != table_length(n),
+            LIST_LENGTH => read.lent != saved_length(n),
             3 => simulator::check_table(n, &self.table(read)) == 3,
             _ => {
                 let table = self.table(read);
                 !live_stations(n, &table).is_empty() && unfinished_stations(n, &table).is_empty()
             }
         }
+    }
+
+    /// Whether all tags are known, and each field is in order with the next.
+    fn are_in_order(&self, fields: &[&Field]) -> bool {
+        let are_known = fields.iter().all(|field| (self.is_known)(field.tag));
+        let mut pairs = fields.windows(2);
+        are_known && pairs.all(|pair| (self.is_ascending)(pair[0], pair[1]))
     }
 
     fn answer(&self, read: &Read) -> Loaded {
@@ -293,8 +405,8 @@ impl Reader {
             };
             let place = (self.place)(ordinal, (*station).into());
             let mut places = table.chunks_exact_mut(line_length(read.n));
-            for (byte, read) in places.nth(place).into_iter().flatten().zip(line) {
-                *byte = *read;
+            if let Some(place) = places.nth(place) {
+                (self.put)(place, line);
             }
         }
         table
@@ -307,22 +419,6 @@ fn refused(number: u8) -> Loaded {
         size: 0,
         rounds: 0,
         tests: 0,
-    }
-}
-
-impl<'a> Read<'a> {
-    fn new(fields: &'a [Field], past_end: bool, table: usize) -> Read<'a> {
-        let with_tag = |tag| contents_with(fields, tag);
-        let sizes = with_tag(SIZE);
-        let size = sizes.first().and_then(|contents| contents.first());
-        Read {
-            past_end,
-            n: size.copied().map_or(0, usize::from),
-            sizes,
-            tallies: with_tag(TALLY),
-            lines: with_tag(LINE),
-            table,
-        }
     }
 }
 

@@ -19,10 +19,10 @@ use crate::trial::Trial;
 use crate::ways_back;
 
 /// How many calls are altered.
-const CALLS: u64 = 2_000;
+const CALLS: u64 = 2_400;
 
 /// How many calls are made by each library with a fault.
-const FAULTY_CALLS: u64 = 12_000;
+const FAULTY_CALLS: u64 = 14_400;
 
 /// What was altered, and on which side.
 type Altered = Vec<(Side, Place)>;
@@ -71,8 +71,14 @@ fn all_faults() -> Vec<(&'static [Kind], Fault)> {
     others.chain(of_saves).collect()
 }
 
-/// The calls about saved plants.
-const SAVING: [Kind; 3] = [Kind::Save, Kind::Load, Kind::SavedSize];
+/// The calls about files.
+const SAVING: [Kind; 5] = [
+    Kind::Save,
+    Kind::Load,
+    Kind::SavedSize,
+    Kind::Convert,
+    Kind::ConvertedLength,
+];
 
 /// The right rules, which are no fault: what they are of, and what they give.
 const RIGHT: [Fault; 5] = [
@@ -106,12 +112,12 @@ fn stand_in(seed: u64) -> Result<usize, String> {
             trial.library.clone_from(&right);
         }
     }
-    match noticed.iter().position(|count| *count == 0) {
-        Some(place) => Err(format!(
-            "a stand-in was not noticed: {}",
-            faults[place].1 .0
-        )),
-        None => Ok(noticed.iter().sum()),
+    let numbered = noticed.iter().zip(&faults);
+    let unnoticed = numbered.filter(|(count, _)| **count == 0);
+    let names: Vec<&str> = unnoticed.map(|(_, (_, (name, _)))| *name).collect();
+    match names[..] {
+        [] => Ok(noticed.iter().sum()),
+        _ => Err(format!("stand-ins not noticed: {}", names.join("; "))),
     }
 }
 
@@ -381,14 +387,16 @@ impl Lowered {
         }
     }
 
-    /// The cases of saves, loads and questions for the size; cut files; ways
-    /// back.
+    /// The cases of calls about files; cut files; ways back.
     fn lower_saved(&mut self) {
         for case in 0..Counts::all(0).saved.counts.len() {
             self.lower(|counts| &mut counts.saved.counts[case]);
         }
-        for length in 0..Counts::all(0).cuts.0.len() {
-            self.lower(|counts| &mut counts.cuts.0[length]);
+        for length in 0..Counts::all(0).cuts.loads.len() {
+            self.lower(|counts| &mut counts.cuts.loads[length]);
+        }
+        for length in 0..Counts::all(0).cuts.conversions.len() {
+            self.lower(|counts| &mut counts.cuts.conversions[length]);
         }
         for way in 0..Counts::all(0).ways_back.0.len() {
             self.lower(|counts| &mut counts.ways_back.0[way]);

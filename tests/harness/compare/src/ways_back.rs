@@ -1,28 +1,29 @@
 //! The way back of a save is a load of what it saved, that of a load a save of
-//! what it restored: loading a saved plant restores table and tally, and saving
-//! what was loaded gives the writer's form.
+//! what it restored, that of a conversion a load of what it wrote. Loading a
+//! saved plant restores table and tally; saving what was loaded gives the file
+//! again; a converted file is read as the plant that was stored.
 
 use std::fmt;
 
 use shared::counts::Required;
 
 use crate::call::{Call, Kind, Name};
+use crate::converting::FORMER_READER;
 use crate::outcome::Outcome;
 use crate::saved::given_tally;
-use crate::saving::{Field, LINE, READER, SIZE};
 
 /// A call and what it gave.
 pub type Made<'a> = (&'a Call, &'a Outcome);
 
-/// How often a saved plant was loaded, how often a loaded one was saved, and
-/// how often this gave another file than the loaded one.
+/// How often a saved plant was loaded, a loaded one was saved, and a converted
+/// one was loaded.
 #[derive(Clone)]
 pub struct WaysBack(pub [u64; 3]);
 
 const TEXTS: [&str; 3] = [
     "plant saved and loaded again",
     "plant loaded and saved again",
-    "plant saved again in another form",
+    "plant converted and loaded",
 ];
 
 impl WaysBack {
@@ -31,16 +32,13 @@ impl WaysBack {
         WaysBack([count; 3])
     }
 
-    /// Counts a call and its way back.
-    pub fn add(&mut self, there: Made, back: Made) {
-        let [saved, loaded, changed] = &mut self.0;
+    /// Counts the way back of a call.
+    pub fn add(&mut self, there: Made) {
+        let [saved, loaded, converted] = &mut self.0;
         match there.0.kind {
             Kind::Save => *saved += 1,
-            _ => {
-                *loaded += 1;
-                let file = there.0.buffers.get(Name::Saved);
-                *changed += u64::from(back.1.buffers.get(Name::Saved).contents() != file);
-            }
+            Kind::Load => *loaded += 1,
+            _ => *converted += 1,
         }
     }
 
@@ -52,11 +50,12 @@ impl WaysBack {
     }
 }
 
-/// The way back must give what the call was handed, or the writer's form of it.
+/// The way back must give what the call was handed.
 pub fn check(there: Made, back: Made) -> Result<(), String> {
     let holds = match there.0.kind {
         Kind::Save => restores(there.0, back.1),
-        _ => gives_writers_form(there.0, back.1),
+        Kind::Load => gives_the_file(there.0, back.1),
+        _ => restores_stored(there.0, back.1),
     };
     let kinds = [there, back].map(|(call, _)| call.kind.text());
     let problem = || format!("the way back fails: {} and {}", kinds[0], kinds[1]);
@@ -65,21 +64,34 @@ pub fn check(there: Made, back: Made) -> Result<(), String> {
 
 /// Whether a load gives what the save was handed.
 fn restores(save: &Call, loaded: &Outcome) -> bool {
-    let contents = |name| loaded.buffers.get(name).contents();
-    loaded.number == 0
-        && contents(Name::Table) == save.buffers.get(Name::Table)
-        && loaded.buffers.get(Name::Size).figure() == save.numbers.n
-        && given_tally(loaded) == save.tally()
+    gives(
+        loaded,
+        save.buffers.get(Name::Table),
+        save.numbers.n,
+        save.tally(),
+    )
 }
 
-/// Whether a save gives the fields of the loaded file with tags 1 to 3, in
-/// rising order; a line's first byte is its station.
-fn gives_writers_form(load: &Call, saved: &Outcome) -> bool {
-    let (mut fields, _) = READER.fields(load.buffers.get(Name::Saved));
-    fields.retain(|field| (SIZE..=LINE).contains(&field.tag));
-    fields.sort_unstable();
-    let form: Vec<u8> = fields.iter().flat_map(Field::bytes).collect();
-    saved.number == 0 && saved.buffers.get(Name::Saved).contents() == form
+/// Whether a save gives the loaded file.
+fn gives_the_file(load: &Call, saved: &Outcome) -> bool {
+    let file = load.buffers.get(Name::Saved);
+    saved.number == 0 && saved.buffers.get(Name::Saved).contents() == file
+}
+
+/// Whether a load gives what a reader of edition 1 read.
+fn restores_stored(convert: &Call, loaded: &Outcome) -> bool {
+    let length = convert.buffers.get(Name::Saved).len();
+    let (stored, table) = FORMER_READER.load(convert.buffers.get(Name::Old), length);
+    let tally = (stored.rounds, stored.tests);
+    stored.number == 0 && gives(loaded, &table, stored.size, tally)
+}
+
+/// Whether a load gives this table, this size and this tally.
+fn gives(loaded: &Outcome, table: &[u8], n: usize, tally: (u32, u32)) -> bool {
+    loaded.number == 0
+        && loaded.buffers.get(Name::Table).contents() == table
+        && loaded.buffers.get(Name::Size).figure() == n
+        && given_tally(loaded) == tally
 }
 
 impl fmt::Display for WaysBack {

@@ -12,7 +12,7 @@ invariant-loop-field l = record {
   same : IsSameLoan l.initial.table l.table;
   whole : runs_past l.fields.rest.now ≡ false;
   wide : length l.seen ≡ 64;
-  passed : Passed l.initial.table.n (file_lines l.file) l.table.bytes.now l.seen (tagged line_tag (fields_of l.fields.rest.now));
+  passed : Passed l.fn.edition l.initial.table.n (file_lines l.file) l.table.bytes.now l.seen (tagged line_tag (fields_of l.fields.rest.now));
 }
 
 abbrev pub decreases-loop-field : goal.decreases-loop-field

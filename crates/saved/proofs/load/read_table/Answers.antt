@@ -2,7 +2,7 @@
 use Rattle.std.proofs.Common.{rules, arith, refl, sym, ◌∙◌}
 use Rattle.std.proofs.lemmas.Result.{err_from_is_err_and}
 use lib.Seq.{length-take-le}
-use Rattle.saved.proofs.Loading.{table_fits, lines_err, long_err, rules_err, rules_ok}
+use Rattle.saved.proofs.Loading.{table_fits, read_two, lines_err, long_err, rules_err, rules_ok}
 use Rattle.saved.proofs.load.read_table.Goals as goal
 
 pub slice_bounds-own-end : goal.slice_bounds-own-end
@@ -31,12 +31,12 @@ returns-then-table-own c =
 pub returns-in_err-check_table : goal.returns-in_err-check_table
 returns-in_err-check_table c =
     let p = err_from_is_err_and c.from_residual-in_err-check_table.result c.from_residual-in_err-check_table.ensures.1 in
-    let bytes = c.in_ok-build_table.ensures.table_built refl in
+    let bytes = c.in_ok-build_table.ensures.table_built refl ∙ read_two _ _ in
     let g = rules_err _ _ c.args.table.now _ c.in_ok-build_table.ensures.check _ (omega arith) (search rules) _ c.in_err-check_table.ensures in
     record { check = rw (p.1, p.2) g.0; table_after = g.1 }
 
 pub returns : goal.returns
 returns c =
-    let bytes = c.in_ok-build_table.ensures.table_built refl in
+    let bytes = c.in_ok-build_table.ensures.table_built refl ∙ read_two _ _ in
     let g = rules_ok _ _ c.args.table.now _ c.in_ok-build_table.ensures.check _ (omega arith) (search rules) _ c.in_ok-check_table.ensures in
     record { check = g.0; table_after = c.copy_from_slice.ensures.after ∙ g.1 }

@@ -45,4 +45,4 @@ returns c =
     let i = c.loop-i.invariant in
     let s = c.in-None.ensures.steps in
     let e = lines_end _ _ c.args.table.now.fits _ _ i.most i.left s.0.1.0 in
-    i.written ∙ ap (λ k. sets c.args.buffer.now 15 (saved_lines c.args.table.now.n c.args.table.now.bytes.now k)) e
+    i.written ∙ ap (λ k. sets c.args.buffer.now 19 (saved_lines c.args.table.now.n c.args.table.now.bytes.now k)) e

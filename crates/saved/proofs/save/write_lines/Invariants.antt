@@ -10,5 +10,5 @@ invariant-loop-i l = record {
   size : l.i-iterator.iter.size ≡ stride l.table.n;
   most : l.i-iterator.count ≤ l.table.n;
   left : l.i-iterator.iter.rest.now ≡ drop (line_start l.table.n l.i-iterator.count) l.table.bytes.now;
-  written : l.buffer ≡ sets l.initial.buffer 15 (saved_lines l.table.n l.table.bytes.now l.i-iterator.count);
+  written : l.buffer ≡ sets l.initial.buffer 19 (saved_lines l.table.n l.table.bytes.now l.i-iterator.count);
 }

@@ -1,6 +1,6 @@
 //! Entries per second of the run, drives per second, and calls per second of
-//! the figures, of the doubt lamp, of saves and of loads: the library, plain Rust over the same
-//! bytes, and the simulator.
+//! the figures, of the doubt lamp, of saves, loads and conversions: the library,
+//! plain Rust over the same bytes, and the simulator.
 //!
 //! `bench` prints the tables; `--quick` repeats less.
 //! `--only NAME N DEAD` runs one of library, plain and simulator once, for a
@@ -38,10 +38,10 @@ const LAMPS: usize = 200;
 /// The sizes of the plants of which the lamp is asked.
 const LAMP_SIZES: [usize; 3] = [8, 19, 64];
 
-/// The sizes of the plants that are saved and loaded.
+/// The sizes of the plants that are saved, loaded and converted.
 const SAVED_SIZES: [usize; 3] = [8, 19, 64];
 
-/// How many saves or loads are timed together.
+/// How many saves, loads or conversions are timed together.
 const SAVES: usize = 50;
 
 /// By this the repetitions are divided where calls are timed together.
@@ -112,6 +112,7 @@ fn print_tables(repetitions: usize) {
     print_lamps(fewer);
     print_saves(fewer);
     print_loads(fewer);
+    print_conversions(fewer);
 }
 
 fn print_many_rounds(repetitions: usize) {
@@ -295,18 +296,25 @@ fn print_loads(repetitions: usize) {
     println!("\nLoads\n");
     println!("A load of what these saves write. Thousands of calls per second, the best of");
     println!("{repetitions} repetitions; {SAVES} calls are timed together, each into a table of its own.\n");
+    print_table_of_saved(|works| measure::best_times_of_loads(works, repetitions));
+}
+
+fn print_conversions(repetitions: usize) {
+    println!("\nConversions\n");
+    println!("A conversion of the same plants as edition 1 has them, in the order in which they");
+    println!("were written. Thousands of calls per second, the best of {repetitions} repetitions;");
+    println!("{SAVES} calls are timed together, each into a buffer of its own.\n");
     print_table_of_saved(|works| {
-        measure::best_times_of_loads(works, |work| &work.file, repetitions)
+        measure::best_times_of_conversions(works, |work| &work.stored, repetitions)
     });
-    println!("\nLoads in another order\n");
-    println!("As before, but the fields stand in any order, with a field of another tag before");
-    println!("every fourth one.\n");
+    println!("\nConversions of files in another order\n");
+    println!("As before, but the fields stand in any order.\n");
     print_table_of_saved(|works| {
-        measure::best_times_of_loads(works, |work| &work.shuffled, repetitions)
+        measure::best_times_of_conversions(works, |work| &work.shuffled, repetitions)
     });
 }
 
-/// A row for each size of plants that are saved or loaded.
+/// A row for each size of plants that are saved, loaded or converted.
 fn print_table_of_saved(times: impl Fn(&[SavedWork]) -> [f64; 3]) {
     println!("| n | {COLUMNS}");
     println!("|--:|--:|--:|--:|--:|--:|");

@@ -3,7 +3,8 @@
 use shared::table::{CRASHED, LEFT_ALONE, LEFT_TOLD, LIVE, NOT_RECORDED, TOLD_BY_NONE};
 
 use crate::call::{Call, Kind, Name};
-use crate::ceasing::{broken, former_table_length, heads, Head};
+use crate::ceasing::{broken, heads, Head};
+use crate::converting::former_table_length;
 use crate::occurred;
 use crate::outcome::Outcome;
 use crate::saving::READER;
@@ -214,6 +215,7 @@ impl Table {
         let lent = call.buffers.get(Name::Table);
         let plant = match (call.kind, number) {
             (Kind::GroupList | Kind::FreshTable | Kind::SavedSize, _) => Vec::new(),
+            (Kind::Convert | Kind::ConvertedLength, _) => Vec::new(),
             (_, 1 | 2 | 18..) => Vec::new(),
             (Kind::Load, _) => READER.table_of(call.buffers.get(Name::Saved)),
             _ => lent.clone(),

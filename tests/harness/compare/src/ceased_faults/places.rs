@@ -5,7 +5,8 @@ use shared::table::{line_length, CLOSED_SINCE, HEAD, LEFT_TOLD, NOT_RECORDED, TO
 
 use super::{judge_by, size};
 use crate::call::{Call, Kind, Name};
-use crate::ceasing::{former_table_length, heads, put, Head, FORMER_HEAD};
+use crate::ceasing::{heads, put, Head};
+use crate::converting::{former_table_length, FORMER_HEAD};
 use crate::faults::{self, Fault};
 use crate::outcome::Outcome;
 use crate::saving::WRITER;

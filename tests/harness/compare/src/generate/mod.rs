@@ -4,6 +4,7 @@
 
 mod ceased;
 mod drives;
+mod files;
 mod lamps;
 mod numbers;
 mod results;
@@ -24,19 +25,21 @@ pub use saves::way_back;
 type Size = usize;
 
 pub fn call(random: &mut Random) -> Call {
-    match random.below(30) {
+    match random.below(36) {
         0..=3 => results::call(random),
-        4..=9 => of_saved_plant(random),
+        4..=15 => of_file(random),
         _ => of_plant(random),
     }
 }
 
-fn of_saved_plant(random: &mut Random) -> Call {
+fn of_file(random: &mut Random) -> Call {
     let size = groups::random_size(random);
-    match random.below(4) {
-        0 => saves::save(size, random),
-        1 => saves::saved_size(size, random),
-        _ => saves::load(size, random),
+    match random.below(16) {
+        0 | 1 => saves::save(size, random),
+        2..=4 => saves::saved_size(size, random),
+        5..=9 => saves::load(size, random),
+        10..=13 => saves::convert(size, random),
+        _ => saves::converted_length(size, random),
     }
 }
 

@@ -7,7 +7,7 @@ use shared::random::Random;
 use shared::table;
 
 use super::Size;
-use crate::ceasing::former_table_length;
+use crate::converting::former_table_length;
 
 const WRONG_SIZES: [usize; 12] = [
     0,

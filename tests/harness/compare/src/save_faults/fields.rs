@@ -1,13 +1,13 @@
 //! Faults in how the fields of a file are found, and in the order of the
 //! refusals.
 
-use super::{answer, load_by, refuse_if};
+use super::{answer, load_by};
 use crate::call::{Kind, Name};
 use crate::faults::Fault;
-use crate::saving::{Reader, LINE, READER, SIZE, SIZE_OR_TALLY_FIELD};
+use crate::saving::{Reader, READER};
 
 /// Faults in how the fields are found.
-pub const OF_FIELDS: [Fault; 16] = [
+pub const OF_FIELDS: [Fault; 9] = [
     ("load: lengths low byte first", |call, outcome| {
         let length = |bytes| u16::from_le_bytes(bytes).into();
         load_by(&Reader { length, ..READER }, call, outcome);
@@ -38,34 +38,6 @@ pub const OF_FIELDS: [Fault; 16] = [
     ("load: no field may end the file", |call, outcome| {
         load_by(&NOT_AT_THE_END, call, outcome);
     }),
-    ("load: tag 0 ends the file", |call, outcome| {
-        let is_over = |rest: &[u8]| rest.first().is_none_or(|tag| *tag == 0);
-        load_by(&Reader { is_over, ..READER }, call, outcome);
-    }),
-    ("load: tag 255 ends the file", |call, outcome| {
-        let is_over = |rest: &[u8]| rest.first().is_none_or(|tag| *tag == 255);
-        load_by(&Reader { is_over, ..READER }, call, outcome);
-    }),
-    ("load: other tags are refused", |call, outcome| {
-        load_by(&passing_over(|_| false), call, outcome);
-    }),
-    ("load: tag 0 is refused", |call, outcome| {
-        load_by(&passing_over(|tag| tag != 0), call, outcome);
-    }),
-    ("load: tag 4 is refused", |call, outcome| {
-        load_by(&passing_over(|tag| tag != 4), call, outcome);
-    }),
-    ("load: tags from 128 on are refused", |call, outcome| {
-        load_by(&passing_over(|tag| tag < 128), call, outcome);
-    }),
-    ("load: another tag twice is refused", |call, outcome| {
-        refuse_if(call, outcome, SIZE_OR_TALLY_FIELD, |fields| {
-            let tags = fields.iter().map(|field| field.tag);
-            let mut others: Vec<u8> = tags.filter(|tag| !(SIZE..=LINE).contains(tag)).collect();
-            others.sort_unstable();
-            others.windows(2).any(|pair| pair[0] == pair[1])
-        });
-    }),
     ("load: a file's length in 16 bits", |call, outcome| {
         let file = call.buffers.get(Name::Saved);
         if call.kind == Kind::Load {
@@ -89,56 +61,73 @@ const NOT_AT_THE_END: Reader = Reader {
     ..READER
 };
 
-pub const fn passing_over(passes_over: fn(u8) -> bool) -> Reader {
-    Reader {
-        passes_over,
-        ..READER
-    }
-}
-
 /// Faults in the order of the refusals.
-pub const OF_ORDER: [Fault; 13] = [
+pub const OF_ORDER: [Fault; 21] = [
+    ("load: 21 before 18", |call, outcome| {
+        load_by(&ordered(&[21, 18, 22, 19, 1, 20, 2, 3, 4]), call, outcome);
+    }),
+    ("load: 22 before 18", |call, outcome| {
+        load_by(&ordered(&[22, 18, 21, 19, 1, 20, 2, 3, 4]), call, outcome);
+    }),
+    ("load: 22 before 21", |call, outcome| {
+        load_by(&ordered(&[18, 22, 21, 19, 1, 20, 2, 3, 4]), call, outcome);
+    }),
+    ("load: 19 before 21", |call, outcome| {
+        load_by(&ordered(&[18, 19, 21, 22, 1, 20, 2, 3, 4]), call, outcome);
+    }),
+    ("load: 1 before 21", |call, outcome| {
+        load_by(&ordered(&[18, 1, 21, 22, 19, 20, 2, 3, 4]), call, outcome);
+    }),
+    ("load: 19 before 22", |call, outcome| {
+        load_by(&ordered(&[18, 21, 19, 22, 1, 20, 2, 3, 4]), call, outcome);
+    }),
+    ("load: 1 before 22", |call, outcome| {
+        load_by(&ordered(&[18, 21, 1, 22, 19, 20, 2, 3, 4]), call, outcome);
+    }),
+    ("load: 20 before 22", |call, outcome| {
+        load_by(&ordered(&[18, 21, 20, 22, 19, 1, 2, 3, 4]), call, outcome);
+    }),
+    ("load: 22 at last", |call, outcome| {
+        load_by(&ordered(&[18, 21, 19, 1, 20, 2, 3, 4, 22]), call, outcome);
+    }),
     ("load: 19 before 18", |call, outcome| {
-        load_by(&ordered([19, 18, 1, 20, 2, 3, 4]), call, outcome);
+        load_by(&ordered(&[19, 18, 21, 22, 1, 20, 2, 3, 4]), call, outcome);
     }),
     ("load: 19 after 1", |call, outcome| {
-        load_by(&ordered([18, 1, 19, 20, 2, 3, 4]), call, outcome);
+        load_by(&ordered(&[18, 21, 22, 1, 19, 20, 2, 3, 4]), call, outcome);
     }),
     ("load: 20 before 19", |call, outcome| {
-        load_by(&ordered([18, 20, 19, 1, 2, 3, 4]), call, outcome);
+        load_by(&ordered(&[18, 21, 22, 20, 19, 1, 2, 3, 4]), call, outcome);
     }),
     ("load: 20 before 1", |call, outcome| {
-        load_by(&ordered([18, 19, 20, 1, 2, 3, 4]), call, outcome);
+        load_by(&ordered(&[18, 21, 22, 19, 20, 1, 2, 3, 4]), call, outcome);
     }),
     ("load: 20 after 2", |call, outcome| {
-        load_by(&ordered([18, 19, 1, 2, 20, 3, 4]), call, outcome);
+        load_by(&ordered(&[18, 21, 22, 19, 1, 2, 20, 3, 4]), call, outcome);
     }),
     ("load: 20 after 3", |call, outcome| {
-        load_by(&ordered([18, 19, 1, 2, 3, 20, 4]), call, outcome);
-    }),
-    ("load: 20 after 4", |call, outcome| {
-        load_by(&ordered([18, 19, 1, 2, 3, 4, 20]), call, outcome);
+        load_by(&ordered(&[18, 21, 22, 19, 1, 2, 3, 20, 4]), call, outcome);
     }),
     ("load: 2 before 18", |call, outcome| {
-        load_by(&ordered([2, 18, 19, 1, 20, 3, 4]), call, outcome);
+        load_by(&ordered(&[2, 18, 21, 22, 19, 1, 20, 3, 4]), call, outcome);
     }),
     ("load: 2 before 1", |call, outcome| {
-        load_by(&ordered([18, 19, 2, 1, 20, 3, 4]), call, outcome);
+        load_by(&ordered(&[18, 21, 22, 19, 2, 1, 20, 3, 4]), call, outcome);
     }),
     ("load: 2 after 3", |call, outcome| {
-        load_by(&ordered([18, 19, 1, 20, 3, 2, 4]), call, outcome);
+        load_by(&ordered(&[18, 21, 22, 19, 1, 20, 3, 2, 4]), call, outcome);
     }),
     ("load: 2 after 4", |call, outcome| {
-        load_by(&ordered([18, 19, 1, 20, 3, 4, 2]), call, outcome);
+        load_by(&ordered(&[18, 21, 22, 19, 1, 20, 3, 4, 2]), call, outcome);
     }),
     ("load: 4 before 3", |call, outcome| {
-        load_by(&ordered([18, 19, 1, 20, 2, 4, 3]), call, outcome);
+        load_by(&ordered(&[18, 21, 22, 19, 1, 20, 2, 4, 3]), call, outcome);
     }),
     ("load: 18 at last", |call, outcome| {
-        load_by(&ordered([19, 1, 20, 2, 3, 4, 18]), call, outcome);
+        load_by(&ordered(&[21, 22, 19, 1, 20, 2, 3, 4, 18]), call, outcome);
     }),
 ];
 
-pub const fn ordered(order: [u8; 7]) -> Reader {
+pub const fn ordered(order: &'static [u8]) -> Reader {
     Reader { order, ..READER }
 }

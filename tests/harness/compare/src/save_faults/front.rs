@@ -2,14 +2,12 @@
 
 use shared::groups::{distances, SIZES};
 
-use super::{is_full, is_loaded, load_by, refuse, refuse_if, TALLY_FULL};
+use super::{is_full, is_loaded, load_by, refuse, TALLY_FULL};
 use crate::faults::Fault;
 use crate::saved::given_tally;
-use crate::saving::{
-    has_front_length, two_figures, Reader, READER, SIZE, SIZE_OR_TALLY_FIELD, TALLY,
-};
+use crate::saving::{has_front_length, two_figures, Reader, READER, SIZE, TALLY};
 
-pub const ALL: [Fault; 14] = [
+pub const ALL: [Fault; 12] = [
     ("load: the tally low byte first", |call, outcome| {
         let tally = |contents: &[u8]| two_figures(contents, u32::from_le_bytes);
         load_by(&Reader { tally, ..READER }, call, outcome);
@@ -49,17 +47,6 @@ pub const ALL: [Fault; 14] = [
     ("load: only powers of two are taken", |call, outcome| {
         let is_size = |n| SIZES.contains(&n) && n == distances(n);
         load_by(&Reader { is_size, ..READER }, call, outcome);
-    }),
-    ("load: the size comes first", |call, outcome| {
-        refuse_if(call, outcome, SIZE_OR_TALLY_FIELD, |fields| {
-            fields[0].tag != SIZE
-        });
-    }),
-    ("load: the tally behind the size", |call, outcome| {
-        refuse_if(call, outcome, SIZE_OR_TALLY_FIELD, |fields| {
-            let place = |tag| fields.iter().position(|field| field.tag == tag);
-            place(TALLY) < place(SIZE)
-        });
     }),
     ("load: a full tally is refused", |call, outcome| {
         if is_loaded(call, outcome) && is_full(given_tally(outcome)) {

@@ -2,11 +2,11 @@
 
 use shared::groups::distances;
 
-use super::{load_by, refuse_if};
-use crate::ceasing::have_former_length;
+use super::load_by;
+use crate::converting::have_former_length;
 use crate::faults::Fault;
 use crate::saving::{have_line_length, line_contents, stations};
-use crate::saving::{Field, Reader, LINE, LINE_FIELD, READER, SIZE};
+use crate::saving::{Reader, READER};
 
 const TWICE: Reader = with_lines(|n, fields| {
     let mut found = stations(fields);
@@ -69,12 +69,7 @@ const OF_ABSENT_TOO: Reader = with_lines(|n, fields| {
 const OF_FORMER_LENGTH: Reader =
     with_lines(|n, fields| have_former_length(n, fields) && stations(fields).into_iter().eq(0..n));
 
-const BY_THE_FILE: Reader = Reader {
-    place: |ordinal, _| ordinal,
-    ..READER
-};
-
-pub const ALL: [Fault; 15] = [
+pub const ALL: [Fault; 12] = [
     ("load: a line twice is taken", |call, outcome| {
         load_by(&TWICE, call, outcome);
     }),
@@ -113,21 +108,6 @@ pub const ALL: [Fault; 15] = [
     }),
     ("load: lines have heads of four bytes", |call, outcome| {
         load_by(&OF_FORMER_LENGTH, call, outcome);
-    }),
-    ("load: lines in the order of the file", |call, outcome| {
-        load_by(&BY_THE_FILE, call, outcome);
-    }),
-    ("load: lines must ascend", |call, outcome| {
-        refuse_if(call, outcome, LINE_FIELD, |fields| {
-            let lines = fields.iter().filter(|field| field.tag == LINE);
-            !lines.map(Field::station).is_sorted()
-        });
-    }),
-    ("load: a line before the size is lost", |call, outcome| {
-        refuse_if(call, outcome, LINE_FIELD, |fields| {
-            let place = |tag| fields.iter().position(|field| field.tag == tag);
-            place(LINE) < place(SIZE)
-        });
     }),
 ];
 

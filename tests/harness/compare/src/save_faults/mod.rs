@@ -1,19 +1,22 @@
-//! Libraries with a fault in the save, in the load or in the question for the
-//! size of a saved plant.
+//! Libraries with a fault in the save, in the load, in the converter or in the
+//! questions before these.
 
+mod converts;
 mod fields;
 mod front;
 mod lines;
 mod loads;
+mod opening;
 mod saves;
 mod sizes;
 
 use simulator::Loaded;
 
 use crate::call::{Call, Kind, Name};
+use crate::converting::{Converter, CONVERTER};
 use crate::faults::{clear_tally, leave, put, Fault};
 use crate::outcome::Outcome;
-use crate::saving::{Field, Reader, Writer, READER, WRITER};
+use crate::saving::{put_from_start, Field, Reader, Writer, READER, WRITER};
 
 /// A full tally stops a run or a drive, and nothing else.
 const TALLY_FULL: u8 = 7;
@@ -22,9 +25,18 @@ const TALLY_FULL: u8 = 7;
 pub fn all() -> impl Iterator<Item = Fault> {
     let of_saves = saves::OF_WRITER.into_iter().chain(saves::OF_SAVES);
     let of_files = fields::OF_FIELDS.into_iter().chain(fields::OF_ORDER);
+    let of_files = of_files
+        .chain(opening::OF_OPENING)
+        .chain(opening::OF_FIELDS);
     let of_files = of_files.chain(front::ALL).chain(lines::ALL);
     let of_answers = loads::ALL.into_iter().chain(sizes::ALL);
-    of_saves.chain(of_files).chain(of_answers)
+    let of_converter = converts::OF_FILES.into_iter().chain(converts::OF_ORDER);
+    let of_converter = of_converter.chain(converts::OF_ANSWERS);
+    let of_converter = of_converter.chain(converts::OF_LENGTH);
+    of_saves
+        .chain(of_files)
+        .chain(of_answers)
+        .chain(of_converter)
 }
 
 /// What the right rules give, which must be no fault.
@@ -32,6 +44,8 @@ pub fn right(call: &Call, outcome: &mut Outcome) {
     save_by(&WRITER, call, outcome);
     load_by(&READER, call, outcome);
     size_by(&READER, call, outcome);
+    convert_by(&CONVERTER, call, outcome);
+    length_by(&CONVERTER, call, outcome);
 }
 
 /// An accepted save by another rule.
@@ -46,10 +60,7 @@ fn write(rule: &Writer, call: &Call, outcome: &mut Outcome) {
     let table = call.buffers.get(Name::Table);
     let written = rule.save(call.numbers.n, table, call.tally());
     let saved = outcome.buffers.get_mut(Name::Saved).contents_mut();
-    saved
-        .iter_mut()
-        .zip(written)
-        .for_each(|(place, byte)| *place = byte);
+    put_from_start(saved, &written);
 }
 
 /// A load by another rule.
@@ -71,10 +82,7 @@ fn answer(call: &Call, outcome: &mut Outcome, (loaded, table): (Loaded, Vec<u8>)
     put_tally(outcome, (loaded.rounds, loaded.tests));
     leave(call, outcome, Name::Table);
     let place = outcome.buffers.get_mut(Name::Table).contents_mut();
-    place
-        .iter_mut()
-        .zip(table)
-        .for_each(|(place, byte)| *place = byte);
+    put_from_start(place, &table);
 }
 
 fn put_tally(outcome: &mut Outcome, (rounds, tests): (u32, u32)) {
@@ -88,6 +96,26 @@ fn size_by(rule: &Reader, call: &Call, outcome: &mut Outcome) {
         let (number, size) = rule.saved_size(call.buffers.get(Name::Saved));
         outcome.number = number;
         put(outcome, Name::Size, size);
+    }
+}
+
+/// A conversion by another rule; of the file as much as there is room for.
+fn convert_by(rule: &Converter, call: &Call, outcome: &mut Outcome) {
+    if call.kind == Kind::Convert {
+        let lent = call.buffers.get(Name::Saved).len();
+        let (number, file) = rule.convert(call.buffers.get(Name::Old), lent);
+        outcome.number = number;
+        leave(call, outcome, Name::Saved);
+        put_from_start(outcome.buffers.get_mut(Name::Saved).contents_mut(), &file);
+    }
+}
+
+/// A question for the length by another rule.
+fn length_by(rule: &Converter, call: &Call, outcome: &mut Outcome) {
+    if call.kind == Kind::ConvertedLength {
+        let (number, length) = rule.length(call.buffers.get(Name::Old));
+        outcome.number = number;
+        put(outcome, Name::Length, length);
     }
 }
 

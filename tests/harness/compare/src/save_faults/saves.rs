@@ -4,13 +4,14 @@ use shared::groups::{distances, SIZES};
 
 use super::{is_full, is_refused, save_by, write, TALLY_FULL};
 use crate::call::{Call, Kind, Name};
-use crate::ceasing::former_saved_length;
+use crate::converting::former_saved_length;
 use crate::faults::{leave, Fault};
 use crate::outcome::Outcome;
-use crate::saving::{saved_length, Writer, LINE, LIST_LENGTH, SIZE, TALLY, WRITER};
+use crate::saving::{saved_length, Writer, LIST_LENGTH};
+use crate::saving::{LINE, OPENING, SIZE, TALLY, WRITER};
 
 /// Faults in the bytes that are written.
-pub const OF_WRITER: [Fault; 9] = [
+pub const OF_WRITER: [Fault; 12] = [
     ("save: lengths low byte first", |call, outcome| {
         let length = |length| (length as u16).to_le_bytes();
         save_by(&Writer { length, ..WRITER }, call, outcome);
@@ -40,17 +41,29 @@ pub const OF_WRITER: [Fault; 9] = [
         save_by(&Writer { named, ..WRITER }, call, outcome);
     }),
     ("save: the tally before the size", |call, outcome| {
-        let tags = [TALLY, SIZE, LINE];
+        let tags = &[OPENING, TALLY, SIZE, LINE];
         save_by(&Writer { tags, ..WRITER }, call, outcome);
     }),
     ("save: the lines before the tally", |call, outcome| {
-        let tags = [SIZE, LINE, TALLY];
+        let tags = &[OPENING, SIZE, LINE, TALLY];
         save_by(&Writer { tags, ..WRITER }, call, outcome);
+    }),
+    ("save: no opening", |call, outcome| {
+        let tags = &[SIZE, TALLY, LINE];
+        save_by(&Writer { tags, ..WRITER }, call, outcome);
+    }),
+    ("save: the opening at the end", |call, outcome| {
+        let tags = &[SIZE, TALLY, LINE, OPENING];
+        save_by(&Writer { tags, ..WRITER }, call, outcome);
+    }),
+    ("save: the opening says 1", |call, outcome| {
+        let edition = 1;
+        save_by(&Writer { edition, ..WRITER }, call, outcome);
     }),
 ];
 
 /// Faults in what a save refuses, and in what it does then.
-pub const OF_SAVES: [Fault; 12] = [
+pub const OF_SAVES: [Fault; 13] = [
     ("save: 13 before 1", |call, outcome| {
         save_sooner(call, outcome, 1)
     }),
@@ -77,7 +90,17 @@ pub const OF_SAVES: [Fault; 12] = [
             outcome.number = if fits { 0 } else { LIST_LENGTH };
         }
     }),
-    ("save: a buffer for heads of four bytes", |call, outcome| {
+    (
+        "save: a buffer without room for the opening",
+        |call, outcome| {
+            let length = call.buffers.get(Name::Saved).len();
+            let is_short = length + 4 == saved_length(call.numbers.n);
+            if is_refused(call, outcome, Kind::Save, LIST_LENGTH) && is_short {
+                outcome.number = 0;
+            }
+        },
+    ),
+    ("save: a buffer for a file of edition 1", |call, outcome| {
         let length = call.buffers.get(Name::Saved).len();
         let is_former = length == former_saved_length(call.numbers.n);
         if is_refused(call, outcome, Kind::Save, LIST_LENGTH) && is_former {

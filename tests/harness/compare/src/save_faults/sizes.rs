@@ -1,14 +1,15 @@
 //! Faults in the question for the size.
 
-use super::fields::{ordered, passing_over, CUT_AT_THE_END};
+use super::fields::{ordered, CUT_AT_THE_END};
 use super::front::{first_of, NO_TALLY};
+use super::opening::{ascending, opened, passing_over, UNOPENED};
 use super::{is_refused, size_by};
 use crate::call::{Call, Kind, Name};
 use crate::faults::{leave, put, Fault};
 use crate::outcome::Outcome;
-use crate::saving::{contents_with, Reader, LINE_FIELD, READER, SIZE, TALLY};
+use crate::saving::{contents_with, Reader, LINE_FIELD, OPENING, READER, SIZE, TALLY};
 
-pub const ALL: [Fault; 15] = [
+pub const ALL: [Fault; 22] = [
     ("size: lengths low byte first", |call, outcome| {
         let length = |bytes| u16::from_le_bytes(bytes).into();
         size_by(&Reader { length, ..READER }, call, outcome);
@@ -20,14 +21,43 @@ pub const ALL: [Fault; 15] = [
     ("size: a field is cut at the end", |call, outcome| {
         size_by(&CUT_AT_THE_END, call, outcome);
     }),
-    ("size: other tags are refused", |call, outcome| {
-        size_by(&passing_over(|_| false), call, outcome);
+    ("size: no opening is needed", |call, outcome| {
+        size_by(&UNOPENED, call, outcome);
+    }),
+    ("size: an opening with any contents", |call, outcome| {
+        size_by(&opened(|first| first.tag == OPENING), call, outcome);
+    }),
+    ("size: a second opening is taken", |call, outcome| {
+        size_by(&passing_over(|tag| tag == OPENING), call, outcome);
+    }),
+    ("size: other tags are passed over", |call, outcome| {
+        size_by(
+            &passing_over(|tag| !(READER.is_known)(tag) && tag != OPENING),
+            call,
+            outcome,
+        );
+    }),
+    ("size: any order is taken", |call, outcome| {
+        size_by(&ascending(|_, _| true), call, outcome);
+    }),
+    ("size: lines in any order", |call, outcome| {
+        size_by(
+            &ascending(|before, field| field.tag >= before.tag),
+            call,
+            outcome,
+        );
+    }),
+    ("size: 22 before 21", |call, outcome| {
+        size_by(&ordered(&[18, 22, 21, 19, 1, 20, 2, 3, 4]), call, outcome);
+    }),
+    ("size: 19 before 22", |call, outcome| {
+        size_by(&ordered(&[18, 21, 19, 22, 1, 20, 2, 3, 4]), call, outcome);
     }),
     ("size: 19 before 18", |call, outcome| {
-        size_by(&ordered([19, 18, 1, 20, 2, 3, 4]), call, outcome);
+        size_by(&ordered(&[19, 18, 21, 22, 1, 20, 2, 3, 4]), call, outcome);
     }),
     ("size: 19 after 1", |call, outcome| {
-        size_by(&ordered([18, 1, 19, 20, 2, 3, 4]), call, outcome);
+        size_by(&ordered(&[18, 21, 22, 1, 19, 20, 2, 3, 4]), call, outcome);
     }),
     ("size: the first of two sizes", |call, outcome| {
         size_by(&first_of(SIZE), call, outcome);

@@ -1,13 +1,12 @@
-//! The cases of loads and of questions for the size by the size field and the
-//! tally field, and by a field that runs past the end.
+//! The cases of loads and conversions, and of the questions before these, by the
+//! size field and the tally field, and by a field that runs past the end.
 
-use super::{is_met_too, with_tag, Case, Seen};
-use crate::saving::{FIELD_PAST_END, LINE_FIELD, READER, SIZE, SIZE_OR_TALLY_FIELD, TALLY};
+use super::{is_met_but, is_met_too, with_tag, Case, Seen};
+use crate::saving::{
+    FIELD_ORDER, FIELD_PAST_END, LINE_FIELD, NO_OPENING, READER, SIZE, SIZE_OR_TALLY_FIELD, TALLY,
+};
 
-pub const ALL: [Case; 27] = [
-    ("an empty file", |seen| {
-        seen.number == SIZE_OR_TALLY_FIELD && seen.saved == 0
-    }),
+pub const ALL: [Case; 25] = [
     ("one stray byte at the end", |seen| {
         seen.number == FIELD_PAST_END && seen.rest == 1
     }),
@@ -20,16 +19,21 @@ pub const ALL: [Case; 27] = [
     ("contents that run past the end", |seen| {
         seen.number == FIELD_PAST_END && seen.rest > 3
     }),
-    ("18 and neither 19 nor 1", |seen| {
-        seen.number == FIELD_PAST_END
-            && !seen.met.contains(&SIZE_OR_TALLY_FIELD)
-            && !seen.met.contains(&1)
+    ("18 before 19, and neither 21 nor 22", |seen| {
+        is_met_but(
+            seen,
+            FIELD_PAST_END,
+            SIZE_OR_TALLY_FIELD,
+            &[NO_OPENING, FIELD_ORDER],
+        )
     }),
-    ("18 before 19", |seen| {
-        is_met_too(seen, FIELD_PAST_END, SIZE_OR_TALLY_FIELD)
-    }),
-    ("18 before 1, and not 19", |seen| {
-        is_met_too(seen, FIELD_PAST_END, 1) && !seen.met.contains(&SIZE_OR_TALLY_FIELD)
+    ("18 before 1, and none of 21, 22 and 19", |seen| {
+        is_met_but(
+            seen,
+            FIELD_PAST_END,
+            1,
+            &[NO_OPENING, FIELD_ORDER, SIZE_OR_TALLY_FIELD],
+        )
     }),
     ("no size", |seen| {
         is_front(seen, SIZE, |sizes| sizes.is_empty())

@@ -1,29 +1,30 @@
-//! The cases of loads by their lines, by the table buffer, and by refusals that
-//! are met together.
+//! The cases of loads and conversions by their lines, of loads by the table
+//! buffer, and of both by refusals that are met together.
 
 use shared::groups::SIZES;
 use shared::table::{fresh, line_length, table_length};
 
-use super::{is_ascending, is_met_too, with_tag, Case, Seen};
-use crate::ceasing::have_former_length;
-use crate::saving::{have_line_length, line_contents, stations, LINE, LINE_FIELD};
+use super::{is_met_too, with_tag, Case, Seen};
+use crate::converting::have_former_length;
+use crate::saving::{stations, LINE, LINE_FIELD};
 
-pub const ALL: [Case; 34] = [
+/// By the lines of either edition.
+pub const ALL: [Case; 22] = [
     ("20 alone", |seen| met(seen, LINE_FIELD) == [LINE_FIELD]),
     ("a line one byte short", |seen| {
-        has_line(seen, |n, line| line.len() + 1 == line_contents(n))
+        has_line(seen, |length, line| line.len() + 1 == length)
     }),
     ("a line one byte long", |seen| {
-        has_line(seen, |n, line| line.len() == line_contents(n) + 1)
+        has_line(seen, |length, line| line.len() == length + 1)
     }),
     ("an empty line", |seen| {
         has_line(seen, |_, line| line.is_empty())
     }),
     ("a wrong line besides all others", |seen| {
-        let right = |n, line: &&[u8]| line.len() == line_contents(n);
+        let length = seen.reader.line_contents(seen.n);
         let mut lines = with_tag(seen, LINE);
         let before = lines.len();
-        lines.retain(|line| right(seen.n, line));
+        lines.retain(|line| line.len() == length);
         seen.number == LINE_FIELD && lines.len() < before && are_all(seen.n, &lines)
     }),
     ("a station that is absent", |seen| {
@@ -68,42 +69,40 @@ pub const ALL: [Case; 34] = [
     }),
     ("lines for another size", |seen| {
         let lines = with_tag(seen, LINE);
-        seen.number == LINE_FIELD && !lines.is_empty() && have_line_length(lines.len(), &lines)
+        seen.number == LINE_FIELD && !lines.is_empty() && have_length(seen, lines.len(), &lines)
     }),
-    ("lines with heads of four bytes", |seen| {
-        let lines = with_tag(seen, LINE);
-        seen.number == LINE_FIELD && have_former_length(seen.n, &lines) && are_all(seen.n, &lines)
-    }),
-    ("20 before 2", |seen| is_met_too(seen, LINE_FIELD, 2)),
     ("20 before 3", |seen| is_met_too(seen, LINE_FIELD, 3)),
     ("20 before 4", |seen| is_met_too(seen, LINE_FIELD, 4)),
-    ("1 before 2", |seen| is_met_too(seen, 1, 2)),
-    ("a table one byte short", |seen| {
-        seen.number == 2 && seen.table + 1 == table_length(seen.n)
-    }),
-    ("a table one byte long", |seen| {
-        seen.number == 2 && seen.table == table_length(seen.n) + 1
-    }),
-    ("an empty table", |seen| seen.number == 2 && seen.table == 0),
-    ("a table for another size", |seen| {
-        let mut others = SIZES.filter(|n| *n != seen.n).map(table_length);
-        seen.number == 2 && others.any(|length| length == seen.table)
-    }),
-    ("2 alone", |seen| met(seen, 2) == [2]),
-    ("2 before 3", |seen| is_met_too(seen, 2, 3)),
-    ("2 before 4", |seen| is_met_too(seen, 2, 4)),
     ("3 alone", |seen| met(seen, 3) == [3]),
     ("3 before 4", |seen| is_met_too(seen, 3, 4)),
     ("3 by station 0", |seen| is_broken_at(seen, |_| 0)),
     ("3 by the last station", |seen| {
         is_broken_at(seen, |n| n - 1)
     }),
-    ("3 in another order than the writer's", |seen| {
-        seen.number == 3 && !is_ascending(seen)
+];
+
+/// By the table buffer of a load, and by lines of the other edition.
+pub const BY_TABLE: [Case; 10] = [
+    ("lines with heads of four bytes", |seen| {
+        let lines = with_tag(seen, LINE);
+        seen.number == LINE_FIELD && have_former_length(seen.n, &lines) && are_all(seen.n, &lines)
     }),
-    ("4 in another order than the writer's", |seen| {
-        seen.number == 4 && !is_ascending(seen)
+    ("20 before 2", |seen| is_met_too(seen, LINE_FIELD, 2)),
+    ("1 before 2", |seen| is_met_too(seen, 1, 2)),
+    ("a table one byte short", |seen| {
+        seen.number == 2 && seen.lent + 1 == table_length(seen.n)
     }),
+    ("a table one byte long", |seen| {
+        seen.number == 2 && seen.lent == table_length(seen.n) + 1
+    }),
+    ("an empty table", |seen| seen.number == 2 && seen.lent == 0),
+    ("a table for another size", |seen| {
+        let mut others = SIZES.filter(|n| *n != seen.n).map(table_length);
+        seen.number == 2 && others.any(|length| length == seen.lent)
+    }),
+    ("2 alone", |seen| met(seen, 2) == [2]),
+    ("2 before 3", |seen| is_met_too(seen, 2, 3)),
+    ("2 before 4", |seen| is_met_too(seen, 2, 4)),
 ];
 
 /// Whether the lines are those of all stations.
@@ -119,16 +118,24 @@ fn met(seen: &Seen, number: u8) -> &[u8] {
     }
 }
 
-/// Whether a load is refused with 20, and has such a line.
-fn has_line(seen: &Seen, is_one: fn(usize, &[u8]) -> bool) -> bool {
-    let lines = with_tag(seen, LINE);
-    seen.number == LINE_FIELD && lines.iter().any(|line| is_one(seen.n, line))
+/// Whether these line fields have the length for so many stations.
+fn have_length(seen: &Seen, n: usize, lines: &[&[u8]]) -> bool {
+    let length = seen.reader.line_contents(n);
+    lines.iter().all(|line| line.len() == length)
 }
 
-/// Whether a load is refused by the stations alone, and they are such ones.
+/// Whether the call is refused with 20, and there is such a line, by the right
+/// length.
+fn has_line(seen: &Seen, is_one: fn(usize, &[u8]) -> bool) -> bool {
+    let length = seen.reader.line_contents(seen.n);
+    let lines = with_tag(seen, LINE);
+    seen.number == LINE_FIELD && lines.iter().any(|line| is_one(length, line))
+}
+
+/// Whether the call is refused by the stations alone, and they are such ones.
 fn is_wrong_by_stations(seen: &Seen, is_one: fn(usize, &[usize]) -> bool) -> bool {
     let lines = with_tag(seen, LINE);
-    let right_lengths = have_line_length(seen.n, &lines);
+    let right_lengths = have_length(seen, seen.n, &lines);
     seen.number == LINE_FIELD && right_lengths && is_one(seen.n, &stations(&lines))
 }
 
@@ -145,10 +152,10 @@ fn is_doubled(seen: &Seen, holds: fn(&[u8], &[u8]) -> bool) -> bool {
         .collect::<Vec<_>>();
     let mut found = stations(&lines);
     found.dedup();
-    have_line_length(seen.n, &lines) && found.into_iter().eq(0..seen.n) && twice == [true]
+    have_length(seen, seen.n, &lines) && found.into_iter().eq(0..seen.n) && twice == [true]
 }
 
-/// Whether a load is refused by the line of this station alone.
+/// Whether the call is refused by the line of this station alone.
 fn is_broken_at(seen: &Seen, station: fn(usize) -> usize) -> bool {
     if seen.number != 3 {
         return false;

@@ -1,0 +1,3 @@
+-- Laws that the proofs of `convert` share.
+pub mod PlaceLaws
+pub mod WhatLaws
