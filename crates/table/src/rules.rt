@@ -103,7 +103,7 @@ fn line_rules(table: &Table, i: Station) -> bool
 }
 
 // The rules of bytes 1 to 3. Byte 1 is 1 or more where byte 3 is below it.
-fn pass_rule(n: u8, next: u8, finished: u8, tests: u8) -> bool
+pub fn pass_rule(n: u8, next: u8, finished: u8, tests: u8) -> bool
     ensures { result ≡ pass_rule n next finished tests }
 {
     let last = sizes::distances(n);
@@ -119,7 +119,7 @@ fn pass_rule(n: u8, next: u8, finished: u8, tests: u8) -> bool
 // The rules of bytes 4 and 5, by the status. Byte 4 is asked first, since most often it is 255, and the rest makes no branch: measured, a save
 // of 8 boards was 0.95 times as fast by a match on byte 4, and 0.86 times by one on the status.
 #[tactic(auto, unfolding(crate::specs::Rules::exit_rule))]
-fn exit_rule(n: u8, i: Station, status: Status, by: u8, ago: u8) -> bool
+pub fn exit_rule(n: u8, i: Station, status: Status, by: u8, ago: u8) -> bool
     ensures { result ≡ exit_rule n i.0 (status_byte status) by ago }
 {
     if by == cells::TOLD_BY_NONE {

@@ -1,0 +1,3 @@
+-- The laws that the proofs of `mender` share.
+pub mod CellLaws
+pub mod Progress
