@@ -24,6 +24,7 @@ pub enum Refusal {
     FieldPastEnd = 18,
     SizeOrTallyField = 19,
     LineField = 20,
+    ReportTooShort = 23,
 }
 
 impl Refusal {

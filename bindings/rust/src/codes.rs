@@ -83,6 +83,8 @@ numbered! {
         SizeOrTallyField = 19 => "the field with the size or the tally is missing, there twice or of a wrong length",
         /// Or it is there more than twice. A number of n or more is of no board.
         LineField = 20 => "a board's line in the file is missing, there twice, of a wrong length or of no board",
+        /// The report of a mending.
+        ReportTooShort = 23 => "the report has fewer than 4n(n + 6) bytes",
     }
 }
 

@@ -7,6 +7,7 @@ mod assignment;
 mod granter;
 mod lamp;
 mod lines;
+mod mender;
 mod saved;
 
 /// Byte 4 of a line whose station nobody told to leave.

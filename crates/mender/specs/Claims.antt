@@ -1,7 +1,6 @@
 -- What is claimed of mending, for each size n and table t of n(n + 6) bytes.
 -- Assumes nothing.
-use Rattle.std.specs.Prelude.{ℕ, ◌*◌, ◌≡◌, ◌≢◌, ◌<◌, ◌≤◌, true, List, [], map, length, Contains, All, Ok, slice_index}
-use Rattle.std.specs.List.{IsStrictlyIncreasing}
+use Rattle.std.specs.Prelude.{ℕ, ◌*◌, ◌≡◌, ◌≢◌, ◌<◌, ◌≤◌, true, List, [], length, All, Ok, slice_index}
 use Rattle.table.specs.Sizes.{is_size}
 use Rattle.table.specs.Table.{table_length, status, suspects}
 use Rattle.table.specs.Rules.{table_check}
@@ -33,11 +32,11 @@ IsTrueChange n t c = (slice_index t c.offset ≡ c.before) × (slice_index (mend
 abbrev pub ListedIsTrue : Type 0
 ListedIsTrue = OfEachTable (λ n t. All (IsTrueChange n t) (mends n t))
 
--- Rule Unlisted stays: a byte at whose offset no change is listed is what it was
+-- Rule Unlisted stays: where no change is listed the byte is what it was
 abbrev pub UnlistedStays : Type 0
 UnlistedStays =
     OfEachTable (λ n t.
-    (p : ℕ) → (Contains (map (λ c. c.offset) (mends n t)) p → ⊥) → slice_index (mended n t) p ≡ slice_index t p)
+    (p : ℕ) → All (λ c. c.offset ≢ p) (mends n t) → slice_index (mended n t) p ≡ slice_index t p)
 
 -- Rule Report has room: no table has more changes than a report of 4n(n + 6) bytes takes
 abbrev pub ReportHasRoom : Type 0

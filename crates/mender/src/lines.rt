@@ -1,5 +1,5 @@
 // What the bytes of a line become.
-ghost use Rattle.std.specs.Prelude.{◌≡◌, ◌<◌};
+ghost use Rattle.std.specs.Prelude.{◌≡◌, ◌<◌, ◌∷◌, []};
 ghost use Rattle.lists.specs.Search.{list_of};
 ghost use Rattle.table.specs.Status.{status_byte};
 ghost use Rattle.table.specs.Rules.{finished_if_live, round_over};
@@ -9,7 +9,7 @@ use table::lent::Table;
 use table::status::Status;
 use table::{Station, cells, rules};
 
-// Whether the round is over once each line is mended: then refusal 4 would still apply.
+// Whether the round is over once each line is mended: then refusal 4 would still apply. The loop of `Table::is_round_over`.
 #[tactic(auto, using(lists::proofs::Loops::loops, table::proofs::Accepting::rounds))]
 pub(crate) fn is_over(table: &Table) -> bool
     ensures { result ≡ round_over table.now.n (lines_mended table.now.n table.now.bytes.now) }

@@ -11,6 +11,7 @@ mod groups;
 mod lamp;
 mod laws;
 mod leaving;
+mod mender;
 mod program;
 mod questions;
 mod rounds;
