@@ -13,7 +13,7 @@ use lib.Dec.{eqb}
 use lib.ListN.{length, get_or}
 use Rattle.std.proofs.lemmas.List.{get_or_past}
 use Rattle.std.specs.List.{filter, range_with_len, All}
-use Rattle.std.proofs.lemmas.List.Elements.{All-map, All-weaker, filter_passes, recursion_from_All, ByRecursion}
+use Rattle.std.proofs.lemmas.List.Elements.{All-map, All-weaker, filter_passes, All-head, All-tail}
 use Rattle.lists.specs.Search.{select}
 use Rattle.lists.proofs.BoolLaws.{by_bool}
 use Rattle.lists.proofs.FilterLaws.{select-stays, range-mem}
@@ -42,11 +42,18 @@ unfolding changes
 changes-all t u p l none =
     by_cases (dec_lt p (length t))
     (λ h. by_bool (eqb (get_or t p 0) (get_or u p 0)) (λ e. sym (eqb-true (get_or t p 0) (get_or u p 0) e))
-    (λ e. absurd (among (range_with_len 0 (length t)) (range-mem (length t) p h) (rw e refl) (recursion_from_All (λ c. c.offset ≢ p) (map (change_at t u) (select (differs t u) (length t))) none))))
+    (λ e. absurd (among (range_with_len 0 (length t)) (range-mem (length t) p h) (rw e refl) none)))
     (λ h. get_or_past u p 0 (omega arith) ∙ sym (get_or_past t p 0 (omega arith)))
   where
-    among : (ps : List ℕ) → Memᴰ p ps → differs t u p ≡ true → ByRecursion (λ c. c.offset ≢ p) (map (change_at t u) (filter (differs t u) ps)) → ⊥
+    away : Change → Type 0
+    away c = c.offset ≢ p
+
+    among : (ps : List ℕ) → Memᴰ p ps → differs t u p ≡ true → All away (map (change_at t u) (filter (differs t u) ps)) → ⊥
     among [] m e none = Memᴰ.not-nil m
-    among (q ∷ ps) (Memᴰ.head s) e none = let d : differs t u q ≡ true = ap (differs t u) (sym s) ∙ e in let both = rw d at none in both.0 (sym s)
+    among (q ∷ ps) (Memᴰ.head s) e none =
+        let d : differs t u q ≡ true = ap (differs t u) (sym s) ∙ e in
+        All-head away (change_at t u q) (map (change_at t u) (filter (differs t u) ps)) (rw d at none) (sym s)
     among (q ∷ ps) (Memᴰ.tail m) e none =
-        by_bool (differs t u q) (λ d. among ps m e (let both = rw d at none in both.1)) (λ d. among ps m e (rw d at none))
+        by_bool (differs t u q)
+        (λ d. among ps m e (All-tail away (change_at t u q) (map (change_at t u) (filter (differs t u) ps)) (rw d at none)))
+        (λ d. among ps m e (rw d at none))

@@ -3,3 +3,4 @@ pub mod CellLaws
 pub mod Progress
 pub mod MendedLaws
 pub mod ChangeLaws
+pub mod Call

@@ -153,7 +153,7 @@ mended-passes n t size =
 -- a line that keeps its rules
 exit-zero : (n i s by ago : ℕ) → exit_rule n i s by ago ≡ true → exit_rule n i s by 0 ≡ true
 unfolding exit_rule
-exit-zero n i s by ago e = by_bool (eqb s 0) (λ z. rw z (let a = both _ _ (rw z at e) in rw a.0 refl)) (λ z. rw z (rw z at e))
+exit-zero n i s by ago e = by_bool (eqb s 0) (λ z. rw z (let a = both (eqb by told_by_none) (eqb ago 0) (rw z at e) in rw a.0 refl)) (λ z. rw z (rw z at e))
 
 good-byte : (n : ℕ) (t : List ℕ) (i c : ℕ) → line_rules n t i ≡ true → i < n → c < stride n → line_byte n t i c ≡ cell n t i c
 unfolding line_byte line_rules row_rule
@@ -162,11 +162,14 @@ good-byte n t i c e h hc =
     let b = both _ _ a.0 in
     let d = both _ _ b.0 in
     let r = both _ _ a.1 in
-    let zero = exit-zero n i (status n t i) (told_by n t i) (rounds_ago n t i) b.1 in
-    by_bool (eqb c 0) (λ z. rw (z, d.0, eqb-true c 0 z) refl)
-    (λ z. by_bool (leb c 3) (λ y. rw (z, y, d.1) refl)
-    (λ y. by_bool (eqb c 4) (λ x. rw (z, y, x, d.0, zero, eqb-true c 4 x) refl)
-    (λ x. by_bool (eqb c 5) (λ w. rw (z, y, x, w, d.0, zero, b.1, eqb-true c 5 w) refl)
+    let live : leb (status n t i) 3 ≡ true = d.0 in
+    let pass : keeps_pass n t i ≡ true = d.1 in
+    let exits : exit_rule n i (status n t i) (told_by n t i) (rounds_ago n t i) ≡ true = b.1 in
+    let zero = exit-zero n i (status n t i) (told_by n t i) (rounds_ago n t i) exits in
+    by_bool (eqb c 0) (λ z. rw (z, live, eqb-true c 0 z) refl)
+    (λ z. by_bool (leb c 3) (λ y. rw (z, y, pass) refl)
+    (λ y. by_bool (eqb c 4) (λ x. rw (z, y, x, live, zero, eqb-true c 4 x) refl)
+    (λ x. by_bool (eqb c 5) (λ w. rw (z, y, x, w, live, zero, exits, eqb-true c 5 w) refl)
     (λ w. rw (z, y, x, w) (row-kept (eqb-false c 0 z) (eqb-false c 4 x) (eqb-false c 5 w) (leb-false c 3 y) r)))))
   where
     row-kept : c ≢ 0 → c ≢ 4 → c ≢ 5 → 3 < c → (eqb (suspects n t i i) 0 ≡ true) × (every (suspicion_rule n t i) n ≡ true)
@@ -180,7 +183,7 @@ good-byte n t i c e h hc =
       where
         stays : (k : ℕ) → suspects n t i i ≡ 0 → suspects n t i k ≤ 1 → mended_suspicion i k (suspects n t i k) ≡ suspects n t i k
         stays k own low =
-            by_bool (eqb k i) (λ e. rw e (sym (ap (suspects n t i) (eqb-true k i e) ∙ own))) (λ e. rw (e, le-ltb (suspects n t i k) 1 low) refl)
+            by_bool (eqb k i) (λ e. rw e (sym (ap (suspects n t i) (eqb-true k i e) ∙ own))) (λ e. rw (e, le-ltb 1 (suspects n t i k) low) refl)
 
 pub good-lines : (n : ℕ) (t : List ℕ) → Accepted n t → lines_mended n t ≡ t
 good-lines n t a = table_of-is n (line_byte n t) t a.long (λ i c h hc. good-byte n t i c (every-at (line_rules n t) n i a.lines h) h hc)

@@ -28,7 +28,7 @@ use Rattle.mender.specs.Report.{differs, change_at, changes, change_bytes}
 use Rattle.mender.specs.declared.mending.Mending.{Mending}
 use Rattle.mender.specs.Mended.{table_of, mended_byte, mended_suspicion}
 use Rattle.mender.specs.Mending.{IsSameMending, with_change, count_with}
-use Rattle.mender.proofs.CellLaws.{table_of-at, row-byte, head-same}
+use Rattle.mender.proofs.CellLaws.{table_of-length, table_of-at, row-byte, head-same}
 
 -- a place in a table has a number of two bytes
 pub place_low : (n len at : ℕ) → is_size n ≡ true → len ≡ table_length n → at < len → at < 65536
@@ -144,33 +144,34 @@ progress-done t u r p now report count g e l =
         ext_get_or 0 (list_of (λ q. get_or u q 0) (length t)) u (list_of-length (λ q. get_or u q 0) (length t) ∙ sym l)
         (λ k h. list_of-at (λ q. get_or u q 0) (length t) k (omega (arith, list_of-length (λ q. get_or u q 0) (length t))))
 
--- the mended table, as the loops put it byte by byte
-module _ (n : ℕ) (t r : List ℕ) (over : Bool) where
-  pub goal_table : List ℕ
-  goal_table = table_of n (mended_byte n t over)
+-- the mended table, where it is known whether the round is over
+abbrev pub mended_by : ℕ → List ℕ → Bool → List ℕ
+mended_by n t over = table_of n (mended_byte n t over)
 
+-- as the loops put it byte by byte
+module _ (n : ℕ) (t r : List ℕ) (over : Bool) where
   -- a byte of a line that the loops have not reached
-  line-ahead : (p : ℕ) (now report : List ℕ) (count i c : ℕ) → Progress t goal_table r p now report count → p ≤ line_start n i + c → cell n now i c ≡ cell n t i c
+  line-ahead : (p : ℕ) (now report : List ℕ) (count i c : ℕ) → Progress t (mended_by n t over) r p now report count → p ≤ line_start n i + c → cell n now i c ≡ cell n t i c
   unfolding cell
-  line-ahead p now report count i c g h = progress-ahead t goal_table r p now report count (line_start n i + c) g h
+  line-ahead p now report count i c g h = progress-ahead t (mended_by n t over) r p now report count (line_start n i + c) g h
 
   -- bytes 0 to 5 of line i, made when the loops came to the line
-  pub head-put : (now report : List ℕ) (count i c n' byte : ℕ) (read made : List ℕ) → Progress t goal_table r (line_start n i) now report count
+  pub head-put : (now report : List ℕ) (count i c n' byte : ℕ) (read made : List ℕ) → Progress t (mended_by n t over) r (line_start n i) now report count
       → i < n → c < head → n' ≡ n → read ≡ now → made ≡ list_of (mended_byte n' read over i) 6 → byte ≡ get_or made c 0
-      → byte ≡ get_or goal_table (line_start n i + c) 0
+      → byte ≡ get_or (mended_by n t over) (line_start n i + c) 0
   head-put now report count i c n' byte read made g h hc e d m b =
       b ∙ rw (m, e, d) (list_of-at (mended_byte n now over i) 6 c hc)
       ∙ head-same n now t over i c (λ k hk. line-ahead (line_start n i) now report count i k g (omega arith)) hc
       ∙ sym (table_of-at n (mended_byte n t over) i c h (omega arith))
 
   -- a byte of the row of line i, made when the loop came to it
-  pub row-put : (now report : List ℕ) (count i k at byte : ℕ) → Progress t goal_table r (line_start n i + (head + k)) now report count
+  pub row-put : (now report : List ℕ) (count i k at byte : ℕ) → Progress t (mended_by n t over) r (line_start n i + (head + k)) now report count
       → i < n → k < n → at ≡ line_start n i + (head + k) → byte ≡ mended_suspicion i k (get_or now at 0)
-      → byte ≡ get_or goal_table (line_start n i + (head + k)) 0
+      → byte ≡ get_or (mended_by n t over) (line_start n i + (head + k)) 0
   unfolding cell
   row-put now report count i k at byte g h hk a b =
       let p = line_start n i + (head + k) in
-      b ∙ rw (a, progress-ahead t goal_table r p now report count p g (omega arith)) refl
+      b ∙ rw (a, progress-ahead t (mended_by n t over) r p now report count p g (omega arith)) refl
       ∙ sym (row-byte n t over i k) ∙ sym (table_of-at n (mended_byte n t over) i (head + k) h (omega arith))
 
 -- where the next line begins, and where the last one ends
@@ -197,3 +198,10 @@ same-then a b c s e =
       table_reference = e.table_reference ∙ s.table_reference;
       report_reference = e.report_reference ∙ s.report_reference;
     }
+
+-- after the last line
+pub all-done : (n : ℕ) (t r : List ℕ) (over : Bool) (i : ℕ) (now report : List ℕ) (count : ℕ) → length t ≡ table_length n
+    → Progress t (mended_by n t over) r (line_start n i) now report count → i ≡ n
+    → (now ≡ mended_by n t over) × (report ≡ sets r 0 (flat_map change_bytes (changes t (mended_by n t over)))) × (count ≡ length (changes t (mended_by n t over)))
+all-done n t r over i now report count long g e =
+    progress-done t (mended_by n t over) r (line_start n i) now report count g (rw e (line-last n ∙ sym long)) (table_of-length n (mended_byte n t over) ∙ sym long)

@@ -1,9 +1,8 @@
 -- The loops go from place to place.
 use Rattle.std.proofs.Common.{◌≡◌, ◌+◌, ◌<◌, refl, sym, ap, ◌∙◌, length, arith}
 use Rattle.table.specs.Table.{head, table_length, line_start}
-use Rattle.mender.specs.Mended.{table_of, mended_byte}
-use Rattle.mender.proofs.CellLaws.{inside, table_of-length}
-use Rattle.mender.proofs.Progress.{Progress, goal_table, progress-start, progress-few, progress-at, progress-next, progress-done, head-put, row-put, line-next, line-first, line-last, same-start, same-then}
+use Rattle.mender.proofs.CellLaws.{inside}
+use Rattle.mender.proofs.Progress.{Progress, mended_by, progress-start, progress-few, progress-at, progress-next, all-done, head-put, row-put, line-next, line-first, line-last, same-start, same-then}
 use Rattle.mender.proofs.mending.Mending.mend_lines.Goals as goal
 
 pub loop-i-init : goal.loop-i-init
@@ -35,7 +34,7 @@ loop-c-preserved c =
     let byte = head-put n t r c.args.over c.loop-i.self.table.now c.loop-i.self.report.now c.loop-i.self.changes i c.loop-c.c c.read.result.n _ c.read.result.bytes.now c.mended_head-head.result c.loop-i.invariant.1 c.loop-i-test.true low (c.read.ensures.same_size ∙ c.loop-i.invariant.0.size) c.read.ensures.same_bytes c.mended_head-head.ensures refl in
     (
       same-then c.args.self.now c.loop-c.self c.put.new.self c.loop-c.invariant.0 c.put.ensures.same_mending,
-      progress-next t (goal_table n t r c.args.over) r (line_start n i + c.loop-c.c) (c.line_start-line.result + c.loop-c.c) (line_start n i + (c.loop-c.c + 1)) _ _ _ _ _ _ _ c.loop-c.invariant.1 (omega (arith, line)) (omega arith) byte c.put.ensures.byte_written c.put.ensures.change_listed c.put.ensures.change_counted,
+      progress-next t (mended_by n t c.args.over) r (line_start n i + c.loop-c.c) (c.line_start-line.result + c.loop-c.c) (line_start n i + (c.loop-c.c + 1)) _ _ _ _ _ _ _ c.loop-c.invariant.1 (omega (arith, line)) (omega arith) byte c.put.ensures.byte_written c.put.ensures.change_listed c.put.ensures.change_counted,
     )
 
 pub bounds-self-at : goal.bounds-self-at
@@ -78,7 +77,7 @@ loop-k-preserved c =
     let byte = row-put n t r c.args.over c.loop-k.self.table.now c.loop-k.self.report.now c.loop-k.self.changes i k (c.line_start-line.result + 6 + k) c.mended_suspicion-byte.result c.loop-k.invariant.1 c.loop-i-test.true low at c.mended_suspicion-byte.ensures in
     (
       same-then c.args.self.now c.loop-k.self put.new.self c.loop-k.invariant.0 put.ensures.same_mending,
-      progress-next t (goal_table n t r c.args.over) r (line_start n i + (head + k)) (c.line_start-line.result + 6 + k) (line_start n i + (head + (k + 1))) _ _ _ _ _ _ _ c.loop-k.invariant.1 at (omega arith) byte put.ensures.byte_written put.ensures.change_listed put.ensures.change_counted,
+      progress-next t (mended_by n t c.args.over) r (line_start n i + (head + k)) (c.line_start-line.result + 6 + k) (line_start n i + (head + (k + 1))) _ _ _ _ _ _ _ c.loop-k.invariant.1 at (omega arith) byte put.ensures.byte_written put.ensures.change_listed put.ensures.change_counted,
     )
 
 pub loop-i-preserved : goal.loop-i-preserved
@@ -87,3 +86,12 @@ loop-i-preserved c =
     let end : c.loop-k.k ≡ n = omega (arith, c.loop-k-test.false, c.loop-c.invariant.0.size) in
     let next : line_start n c.loop-i.i + (head + c.loop-k.k) ≡ line_start n (c.loop-i.i + 1) = omega (arith, line-next n c.loop-i.i) in
     (c.loop-k.invariant.0, progress-at _ _ _ _ _ _ _ _ c.loop-k.invariant.1 next)
+
+pub returns-clause-bytes_mended : goal.returns-clause-bytes_mended
+returns-clause-bytes_mended c = let done = all-done c.args.self.now.n c.args.self.now.table.now c.args.self.now.report.now c.args.over c.loop-i.i _ _ _ c.args.self.now.fits c.loop-i.invariant.1 (omega (arith, c.loop-i-test.false)) in done.0
+
+pub returns-clause-changes_listed : goal.returns-clause-changes_listed
+returns-clause-changes_listed c = let done = all-done c.args.self.now.n c.args.self.now.table.now c.args.self.now.report.now c.args.over c.loop-i.i _ _ _ c.args.self.now.fits c.loop-i.invariant.1 (omega (arith, c.loop-i-test.false)) in rw done.0 done.1
+
+pub returns-clause-changes_counted : goal.returns-clause-changes_counted
+returns-clause-changes_counted c = let done = all-done c.args.self.now.n c.args.self.now.table.now c.args.self.now.report.now c.args.over c.loop-i.i _ _ _ c.args.self.now.fits c.loop-i.invariant.1 (omega (arith, c.loop-i-test.false)) in rw done.0 done.2
