@@ -4,9 +4,9 @@
 #![tactic(auto)]
 
 pub mod claims;
-pub mod report;
-mod mending;
 mod lines;
+mod mending;
+pub mod report;
 
 ghost use Rattle.std.specs.Prelude.{◌≡◌, length};
 ghost use Rattle.mender.specs.Report.{mend, table_after, report_after};

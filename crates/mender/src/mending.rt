@@ -47,10 +47,10 @@ impl<'a> Mending<'a> {
         ensures byte_written { self.new.table.now ≡ set self.old.table.now at byte }
         ensures change_listed { let before = slice_index self.old.table.now at in
             self.new.report.now ≡ with_change self.old.report.now self.old.changes
-                (record { offset = at; before = before; after = byte }) }
+            (record { offset = at; before = before; after = byte }) }
         ensures change_counted { let before = slice_index self.old.table.now at in
             self.new.changes ≡ count_with self.old.changes
-                (record { offset = at; before = before; after = byte }) }
+            (record { offset = at; before = before; after = byte }) }
     {
         let before = self.table[at];
         if before == byte {
@@ -100,7 +100,7 @@ impl<'a> Mending<'a> {
         ensures same_count { self.new.changes ≡ self.old.changes }
         ensures rest_cleared { let listed = 4 * self.old.changes in
             self.new.report.now ≡ take listed self.old.report.now
-                ++ replicate (length self.old.report.now - listed) 0 }
+            ++ replicate (length self.old.report.now - listed) 0 }
     {
         let listed = 4 * self.changes;
         self.report[listed..].fill(0);

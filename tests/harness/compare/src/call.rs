@@ -18,6 +18,7 @@ pub enum Kind {
     Grant,
     Drive,
     DoubtLamp,
+    Mend,
     Save,
     Load,
     SavedSize,
@@ -63,6 +64,9 @@ pub enum Name {
     /// The pair of a doubt lamp: which station suspects, and which one.
     By,
     Of,
+    /// What a mending changed, and how many changes there are.
+    Report,
+    Changes,
     /// A saved plant: the file.
     Saved,
     /// The size of a saved plant.
@@ -115,7 +119,7 @@ impl Call {
 }
 
 impl Kind {
-    pub const ALL: [Kind; 16] = [
+    pub const ALL: [Kind; 17] = [
         Kind::FreshTable,
         Kind::GroupList,
         Kind::Assignment,
@@ -124,6 +128,7 @@ impl Kind {
         Kind::Grant,
         Kind::Drive,
         Kind::DoubtLamp,
+        Kind::Mend,
         Kind::Save,
         Kind::Load,
         Kind::SavedSize,
@@ -136,7 +141,7 @@ impl Kind {
 
     /// Those about a plant, which take a size or give the size of a saved one:
     /// the first ones. The others are about results.
-    pub const OF_PLANTS: [Kind; 11] = [
+    pub const OF_PLANTS: [Kind; 12] = [
         Kind::FreshTable,
         Kind::GroupList,
         Kind::Assignment,
@@ -145,6 +150,7 @@ impl Kind {
         Kind::Grant,
         Kind::Drive,
         Kind::DoubtLamp,
+        Kind::Mend,
         Kind::Save,
         Kind::Load,
         Kind::SavedSize,
@@ -160,6 +166,7 @@ impl Kind {
             Kind::Grant => "grant",
             Kind::Drive => "drive",
             Kind::DoubtLamp => "doubt lamp",
+            Kind::Mend => "mend",
             Kind::Save => "save",
             Kind::Load => "load",
             Kind::SavedSize => "size of a saved plant",
@@ -195,6 +202,7 @@ impl Kind {
                 Name::Grants,
             ],
             Kind::DoubtLamp => &[Name::Table, Name::By, Name::Of],
+            Kind::Mend => &[Name::Table, Name::Report, Name::Changes],
             Kind::Save => &[Name::Table, Name::Saved],
             Kind::Load => &[
                 Name::Saved,
@@ -223,6 +231,7 @@ impl Kind {
             Kind::Grant => &[0, 1, 2, 3, 4, 16, 17],
             Kind::Drive => &[0, 1, 2, 3, 4, 7, 16, 17],
             Kind::DoubtLamp => &[0, 1, 2, 3, 4],
+            Kind::Mend => &[0, 1, 2, 23],
             Kind::Save => &[0, 1, 2, 3, 4, 13],
             Kind::Load => &[0, 1, 2, 3, 4, 18, 19, 20],
             Kind::SavedSize => &[0, 1, 18, 19],
@@ -233,7 +242,7 @@ impl Kind {
 }
 
 impl Name {
-    pub const ALL: [Name; 23] = [
+    pub const ALL: [Name; 25] = [
         Name::Table,
         Name::List,
         Name::Schedule,
@@ -249,6 +258,8 @@ impl Name {
         Name::Grants,
         Name::By,
         Name::Of,
+        Name::Report,
+        Name::Changes,
         Name::Saved,
         Name::Size,
         Name::Results,
@@ -276,6 +287,8 @@ impl Name {
             Name::Grants => "grants",
             Name::By => "suspecting station",
             Name::Of => "suspected station",
+            Name::Report => "report",
+            Name::Changes => "number of changes",
             Name::Saved => "saved plant",
             Name::Size => "size",
             Name::Results => "results",
@@ -291,11 +304,11 @@ impl Name {
     pub fn width(self) -> usize {
         match self {
             Name::Table | Name::List | Name::Schedule | Name::Sheet => size_of::<u8>(),
-            Name::Saved => size_of::<u8>(),
+            Name::Saved | Name::Report => size_of::<u8>(),
             Name::Rounds | Name::Tests => size_of::<u32>(),
             Name::Count | Name::Start | Name::Length | Name::Taken => size_of::<usize>(),
             Name::Station | Name::Last | Name::Grants | Name::Size => size_of::<usize>(),
-            Name::By | Name::Of => size_of::<usize>(),
+            Name::By | Name::Of | Name::Changes => size_of::<usize>(),
             Name::Results | Name::SecondResults => size_of::<u16>(),
             Name::Totals | Name::SecondTotals | Name::GivenTotals | Name::Figures => {
                 size_of::<u64>()

@@ -31,8 +31,7 @@ loop-c-preserved c =
     let i = c.loop-i.i in
     let line : c.line_start-line.result ≡ line_start n i = c.line_start-line.ensures.start_of_line ∙ ap (λ m. line_start m i) c.loop-i.invariant.0.size in
     let low : c.loop-c.c < head = omega (arith, c.loop-c-test.true) in
-    let byte = head-put n t r c.args.over c.loop-i.self.table.now c.loop-i.self.report.now c.loop-i.self.changes i c.loop-c.c c.read.result.n _ c.read.result.bytes.now c.mended_head-head.result c.loop-i.invariant.1 c.loop-i-test.true low (c.read.ensures.same_size ∙ c.loop-i.invariant.0.size) c.read.ensures.same_bytes c.mended_head-head.ensures refl in
-    (
+    let byte = head-put n t r c.args.over c.loop-i.self.table.now c.loop-i.self.report.now c.loop-i.self.changes i c.loop-c.c c.read.result.n _ c.read.result.bytes.now c.mended_head-head.result c.loop-i.invariant.1 c.loop-i-test.true low (c.read.ensures.same_size ∙ c.loop-i.invariant.0.size) c.read.ensures.same_bytes c.mended_head-head.ensures refl in (
       same-then c.args.self.now c.loop-c.self c.put.new.self c.loop-c.invariant.0 c.put.ensures.same_mending,
       progress-next t (mended_by n t c.args.over) r (line_start n i + c.loop-c.c) (c.line_start-line.result + c.loop-c.c) (line_start n i + (c.loop-c.c + 1)) _ _ _ _ _ _ _ c.loop-c.invariant.1 (omega (arith, line)) (omega arith) byte c.put.ensures.byte_written c.put.ensures.change_listed c.put.ensures.change_counted,
     )
@@ -74,8 +73,7 @@ loop-k-preserved c =
     let line : c.line_start-line.result ≡ line_start n i = c.line_start-line.ensures.start_of_line ∙ ap (λ m. line_start m i) c.loop-i.invariant.0.size in
     let low : k < n = omega (arith, c.loop-k-test.true, c.loop-c.invariant.0.size) in
     let at : c.line_start-line.result + 6 + k ≡ line_start n i + (head + k) = omega (arith, line) in
-    let byte = row-put n t r c.args.over c.loop-k.self.table.now c.loop-k.self.report.now c.loop-k.self.changes i k (c.line_start-line.result + 6 + k) c.mended_suspicion-byte.result c.loop-k.invariant.1 c.loop-i-test.true low at c.mended_suspicion-byte.ensures in
-    (
+    let byte = row-put n t r c.args.over c.loop-k.self.table.now c.loop-k.self.report.now c.loop-k.self.changes i k (c.line_start-line.result + 6 + k) c.mended_suspicion-byte.result c.loop-k.invariant.1 c.loop-i-test.true low at c.mended_suspicion-byte.ensures in (
       same-then c.args.self.now c.loop-k.self put.new.self c.loop-k.invariant.0 put.ensures.same_mending,
       progress-next t (mended_by n t c.args.over) r (line_start n i + (head + k)) (c.line_start-line.result + 6 + k) (line_start n i + (head + (k + 1))) _ _ _ _ _ _ _ c.loop-k.invariant.1 at (omega arith) byte put.ensures.byte_written put.ensures.change_listed put.ensures.change_counted,
     )
