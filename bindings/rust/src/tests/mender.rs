@@ -61,7 +61,10 @@ fn a_refused_mending_changes_nothing() {
     table[0] = 9;
     let before = table.clone();
     let mut report = vec![170; report_length(4)];
-    assert_eq!(mend(65, &mut table, &mut report), Err(Refusal::SizeOutOfRange));
+    assert_eq!(
+        mend(65, &mut table, &mut report),
+        Err(Refusal::SizeOutOfRange)
+    );
     assert_eq!(mend(5, &mut table, &mut report), Err(Refusal::TableLength));
     let short = &mut report[1..];
     assert_eq!(mend(4, &mut table, short), Err(Refusal::ReportTooShort));

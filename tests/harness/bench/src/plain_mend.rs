@@ -80,7 +80,11 @@ fn keeps_pass(end: usize, line: &[u8]) -> bool {
 
 /// Bytes 0 to 5 of a line, mended.
 fn mended_head(end: usize, n: usize, own: usize, line: &[u8], over: bool) -> [u8; HEAD] {
-    let status = if line[STATUS] > 3 { CRASHED } else { line[STATUS] };
+    let status = if line[STATUS] > 3 {
+        CRASHED
+    } else {
+        line[STATUS]
+    };
     let [next, finished, tests] = match over || !keeps_pass(end, line) {
         true => [1, 0, 0],
         false => [line[NEXT_DISTANCE], line[FINISHED], line[TESTS]],
@@ -91,6 +95,10 @@ fn mended_head(end: usize, n: usize, own: usize, line: &[u8], over: bool) -> [u8
         true => NOT_RECORDED,
         false => TOLD_BY_NONE,
     };
-    let since = if status == LIVE { 0 } else { line[CLOSED_SINCE] };
+    let since = if status == LIVE {
+        0
+    } else {
+        line[CLOSED_SINCE]
+    };
     [status, next, finished, tests, told_by, since]
 }

@@ -17,12 +17,7 @@ const STATUS_TOLD: Rule = Rule {
     ..RIGHT
 };
 
-const OLD_STATUS: Rule = Rule {
-    judged: |old, _| old,
-    ..RIGHT
-};
-
-/// As if a status above 3 were 2.
+/// By the old status, as if one above 3 were 2.
 const DAMAGED_IS_TOLD: Rule = Rule {
     judged: |old, mended| if old > 3 { LEFT_TOLD } else { mended },
     ..RIGHT
@@ -90,19 +85,19 @@ const NONE_RESTARTED: Rule = Rule {
 };
 
 /// Faults in what a byte becomes.
-const OF_RULE: [Fault; 16] = [
+const OF_RULE: [Fault; 15] = [
     ("mend: a status above 3 is live", |call, outcome| {
         mend_by(&STATUS_LIVE, call, outcome);
     }),
     ("mend: a status above 3 is told", |call, outcome| {
         mend_by(&STATUS_TOLD, call, outcome);
     }),
-    ("mend: byte 4 by the old status", |call, outcome| {
-        mend_by(&OLD_STATUS, call, outcome);
-    }),
-    ("mend: byte 4 as if a status above 3 were 2", |call, outcome| {
-        mend_by(&DAMAGED_IS_TOLD, call, outcome);
-    }),
+    (
+        "mend: byte 4 as if a status above 3 were 2",
+        |call, outcome| {
+            mend_by(&DAMAGED_IS_TOLD, call, outcome);
+        },
+    ),
     ("mend: byte 4 becomes 255 always", |call, outcome| {
         mend_by(&TOLD_BY_255, call, outcome);
     }),
@@ -127,15 +122,21 @@ const OF_RULE: [Fault; 16] = [
     ("mend: a row byte above 1 becomes 1", |call, outcome| {
         mend_by(&ROW_INVENTS, call, outcome);
     }),
-    ("mend: a row byte becomes its lowest bit", |call, outcome| {
-        mend_by(&ROW_LOWEST_BIT, call, outcome);
-    }),
+    (
+        "mend: a row byte becomes its lowest bit",
+        |call, outcome| {
+            mend_by(&ROW_LOWEST_BIT, call, outcome);
+        },
+    ),
     ("mend: 4 is looked at first", |call, outcome| {
         mend_by(&OVER_AT_FIRST, call, outcome);
     }),
-    ("mend: with 4 only live lines begin anew", |call, outcome| {
-        mend_by(&LIVE_RESTARTED, call, outcome);
-    }),
+    (
+        "mend: with 4 only live lines begin anew",
+        |call, outcome| {
+            mend_by(&LIVE_RESTARTED, call, outcome);
+        },
+    ),
     ("mend: 4 is not looked at", |call, outcome| {
         mend_by(&NONE_RESTARTED, call, outcome);
     }),
@@ -186,13 +187,16 @@ const OF_ANSWERS: [Fault; 12] = [
             report(outcome)[listed..].copy_from_slice(rest);
         }
     }),
-    ("mend: cleared to the length asked for only", |call, outcome| {
-        if is_taken(call, outcome) {
-            let asked = CHANGE * call.buffers.get(Name::Table).len();
-            let rest = &call.buffers.get(Name::Report)[asked..];
-            report(outcome)[asked..].copy_from_slice(rest);
-        }
-    }),
+    (
+        "mend: cleared to the length asked for only",
+        |call, outcome| {
+            if is_taken(call, outcome) {
+                let asked = CHANGE * call.buffers.get(Name::Table).len();
+                let rest = &call.buffers.get(Name::Report)[asked..];
+                report(outcome)[asked..].copy_from_slice(rest);
+            }
+        },
+    ),
     ("mend: a longer report is refused", |call, outcome| {
         let asked = CHANGE * call.buffers.get(Name::Table).len();
         if is_taken(call, outcome) && call.buffers.get(Name::Report).len() != asked {

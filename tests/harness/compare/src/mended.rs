@@ -41,13 +41,18 @@ const MEND: [Case; 30] = [
     ("byte 2", |seen| changes_byte(seen, 2)),
     ("byte 3", |seen| changes_byte(seen, 3)),
     ("byte 4 to 254", |seen| {
-        seen.changes.iter().any(|change| column(seen, change) == 4 && change.2 == 254)
+        seen.changes
+            .iter()
+            .any(|change| column(seen, change) == 4 && change.2 == 254)
     }),
     ("byte 4 to 255", |seen| {
-        seen.changes.iter().any(|change| column(seen, change) == 4 && change.2 == 255)
+        seen.changes
+            .iter()
+            .any(|change| column(seen, change) == 4 && change.2 == 255)
     }),
     ("byte 4 to 255 with the status", |seen| {
-        let with_status = |change: &Change| column(seen, change) == 4 && is_listed(seen, change.0 - 4);
+        let with_status =
+            |change: &Change| column(seen, change) == 4 && is_listed(seen, change.0 - 4);
         seen.changes.iter().any(with_status)
     }),
     ("byte 5", |seen| changes_byte(seen, 5)),
@@ -67,7 +72,8 @@ const MEND: [Case; 30] = [
         seen.changes.iter().any(|change| change.0 > 255)
     }),
     ("bytes 1 to 3 of a line that is not live", |seen| {
-        let damaged = |change: &Change| column(seen, change) == 1 && status_after(seen, change) != LIVE;
+        let damaged =
+            |change: &Change| column(seen, change) == 1 && status_after(seen, change) != LIVE;
         seen.number == 0 && seen.changes.iter().any(damaged)
     }),
     ("4 before and after the lines", |seen| {
@@ -113,7 +119,9 @@ fn column(seen: &Seen, change: &Change) -> usize {
 }
 
 fn changes_byte(seen: &Seen, byte: usize) -> bool {
-    seen.changes.iter().any(|change| column(seen, change) == byte)
+    seen.changes
+        .iter()
+        .any(|change| column(seen, change) == byte)
 }
 
 fn is_listed(seen: &Seen, offset: usize) -> bool {

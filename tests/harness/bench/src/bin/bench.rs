@@ -284,7 +284,9 @@ fn print_rows_of_lamps(n: usize, dead: usize, repetitions: usize) {
 fn print_mendings(repetitions: usize) {
     println!("\nMendings\n");
     println!("A mending of a good table with a quarter of the stations dead, of one with one byte");
-    println!("damaged, and of random bytes, each other ones. Thousands of calls per second, the best");
+    println!(
+        "damaged, and of random bytes, each other ones. Thousands of calls per second, the best"
+    );
     println!("of {repetitions} repetitions; {MENDINGS} are timed together, each on its own copy of its table.\n");
     println!("| n | table | {COLUMNS}");
     println!("|--:|:--|--:|--:|--:|--:|--:|");
