@@ -1,27 +1,30 @@
 -- How far the loops over the table have come: the bytes before place p are mended, and their changes are listed.
 -- Assumes nothing.
 use mathlib.Core.Path.{◌≡◌, refl, sym, ap, ap₂, subst, ◌∙◌}
-use mathlib.Core.Bool.{Bool, true, false, not, cond}
+use mathlib.Core.Bool.{Bool, true, false, not, cond, ◌&&◌}
 use mathlib.Core.List.{List, ◌∷◌, [], ◌++◌, append-nil, map}
 use Prim.Native.Nat.{ℕ, zero, suc, ◌+◌, ◌-◌, ◌*◌, ◌/◌, ◌%◌, ◌^◌, ◌≤◌, ◌<◌}
 use native.Mathlib.Numerals.{add-one}
 use native.Mathlib.Nat.{mul-le-mul, suc-mul, zero-mul}
+use native.Mathlib.Decide.{le_ind}
 use native.Mathlib.Omega.{arith}
+use borrow.Author.Tests.{eqb-true, eq-eqb, leb-true, le-ltb}
 use lib.Dec.{eqb}
 use lib.ListN.{length, get_or, set, length-append}
 use lib.Seq.{sets, ext_get_or}
 use Rattle.std.specs.List.{flat_map}
-use Rattle.std.proofs.lemmas.List.{map-append}
+use Rattle.std.proofs.lemmas.List.{map-append, set-get_or}
 use Rattle.std.proofs.lemmas.Grind.{flat_map-append}
 use Rattle.std.proofs.lemmas.List.Concat.{length-flat_map}
-use Rattle.lists.specs.Search.{list_of, select}
+use Rattle.lists.specs.Search.{every, list_of, select}
 use Rattle.lists.proofs.Loops.{fill-ahead, fill-next}
 use Rattle.lists.proofs.Writing.{sets-ahead, sets-all}
-use Rattle.lists.proofs.SearchLaws.{list_of-length, list_of-at}
+use Rattle.lists.proofs.SearchLaws.{both, every-at, list_of-length, list_of-at}
 use Rattle.lists.proofs.BoolLaws.{by_bool}
 use Rattle.lists.proofs.FilterLaws.{select-suc}
 use Rattle.table.specs.Sizes.{is_size}
 use Rattle.table.specs.Table.{head, stride, table_length, line_start, cell}
+use Rattle.table.specs.Rules.{suspicion_rule, row_rule}
 use Rattle.table.proofs.SizeLaws.{size-bounds}
 use Rattle.mender.specs.declared.report.Change.{Change}
 use Rattle.mender.specs.Report.{differs, change_at, changes, change_bytes}
@@ -132,6 +135,22 @@ progress-next t u r p at next now report now' report' count count' byte g a n b 
     same : change_of at (get_or now at 0) byte ≡ change_at t u p
     same = rw (a, progress-ahead t u r p now report count p g (omega arith), b) refl
 
+-- bytes that are as mended already are passed over
+pub progress-skip : (t u r : List ℕ) (p q : ℕ) (now report : List ℕ) (count : ℕ) → Progress t u r p now report count → p ≤ q
+    → ((y : ℕ) → p ≤ y → y < q → get_or u y 0 ≡ get_or now y 0) → Progress t u r q now report count
+progress-skip t u r p q now report count g l =
+    le_ind (λ (x : ℕ). ((y : ℕ) → p ≤ y → y < x → get_or u y 0 ≡ get_or now y 0) → Progress t u r x now report count) (λ same. g)
+    (λ x h rest same.
+    let here = rest (λ y a b. same y a (omega arith)) in
+    let byte : get_or u x 0 ≡ get_or now x 0 = same x h (omega arith) in
+    let kept : eqb (get_or now x 0) (get_or u x 0) ≡ true = eq-eqb (get_or now x 0) (get_or u x 0) (sym byte) in
+    progress-next t u r x x (suc x) now report now report count count (get_or u x 0) here refl (omega arith) refl
+    (sym (ap (set now x) byte ∙ set-get_or now x 0)) (rw kept refl) (rw kept refl)) q l
+
+-- a byte of a row that is 0 or 1, and 0 if it is the station's own
+suspicion-stays : (i k byte : ℕ) → byte ≤ 1 → (k ≡ i → byte ≡ 0) → mended_suspicion i k byte ≡ byte
+suspicion-stays i k byte low own = by_bool (eqb k i) (λ e. rw e (sym (own (eqb-true k i e)))) (λ e. rw (e, le-ltb 1 byte low) refl)
+
 -- all bytes are put
 pub progress-done : (t u r : List ℕ) (p : ℕ) (now report : List ℕ) (count : ℕ) → Progress t u r p now report count → p ≡ length t → length u ≡ length t
     → (now ≡ u) × (report ≡ sets r 0 (flat_map change_bytes (changes t u))) × (count ≡ length (changes t u))
@@ -173,6 +192,27 @@ module _ (n : ℕ) (t r : List ℕ) (over : Bool) where
       let p = line_start n i + (head + k) in
       b ∙ rw (a, progress-ahead t (mended_by n t over) r p now report count p g (omega arith)) refl
       ∙ sym (row-byte n t over i k) ∙ sym (table_of-at n (mended_byte n t over) i (head + k) h (omega arith))
+
+  -- a row that keeps its rules stays
+  pub row-skip : (now report : List ℕ) (count i n' : ℕ) (read : List ℕ) → Progress t (mended_by n t over) r (line_start n i + head) now report count
+      → i < n → n' ≡ n → read ≡ now → row_rule n' read i ≡ true → Progress t (mended_by n t over) r (line_start n i + (head + n)) now report count
+  unfolding row_rule cell
+  row-skip now report count i n' read g h e d kept =
+      let start = line_start n i + head in
+      let here : row_rule n now i ≡ true = subst (λ (x : ℕ). row_rule x now i ≡ true) e (subst (λ (x : List ℕ). row_rule n' x i ≡ true) d kept) in
+      let parts = both (eqb (get_or now (line_start n i + (head + i)) 0) 0) (every (suspicion_rule n now i) n) here in
+      let end = progress-skip t (mended_by n t over) r start (start + n) now report count g (omega arith)
+      (λ y a b.
+      let k = y - start in
+      let at : line_start n i + (head + k) ≡ y = omega arith in
+      let hk : k < n = omega arith in
+      let low : get_or now (line_start n i + (head + k)) 0 ≤ 1 = leb-true (get_or now (line_start n i + (head + k)) 0) 1 (every-at (suspicion_rule n now i) n k parts.1 hk) in
+      let own : get_or now (line_start n i + (head + i)) 0 ≡ 0 = eqb-true (get_or now (line_start n i + (head + i)) 0) 0 parts.0 in
+      let stays = suspicion-stays i k (get_or now (line_start n i + (head + k)) 0) low (λ s. ap (λ (x : ℕ). get_or now (line_start n i + (head + x)) 0) s ∙ own) in
+      let ahead = progress-ahead t (mended_by n t over) r start now report count (line_start n i + (head + k)) g (omega arith) in
+      subst (λ (x : ℕ). get_or (mended_by n t over) x 0 ≡ get_or now x 0) at
+      (table_of-at n (mended_byte n t over) i (head + k) h (omega arith) ∙ row-byte n t over i k ∙ ap (mended_suspicion i k) (sym ahead) ∙ stays)) in
+      progress-at t (mended_by n t over) r (start + n) (line_start n i + (head + n)) now report count end (omega arith)
 
 -- where the next line begins, and where the last one ends
 pub line-next : (n i : ℕ) → line_start n (i + 1) ≡ line_start n i + (head + n)

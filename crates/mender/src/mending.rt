@@ -6,7 +6,7 @@ ghost use Rattle.table.specs.Table.{table_length};
 use crate::lines;
 use crate::report::Change;
 use table::lent::Table;
-use table::{Station, cells};
+use table::{Station, cells, rules};
 
 // A lent table and a lent report that has room for a change of each byte, and how many changes the report has so far.
 #[derive(Drop)]
@@ -83,6 +83,10 @@ impl<'a> Mending<'a> {
             let head = lines::mended_head(&self.read(), Station(i), over);
             for (c, byte) in head.iter().enumerate() {
                 self.put(line + c, *byte);
+            }
+            // Most rows keep their rules. To ask that first takes many bytes at a time.
+            if rules::row_rule(&self.read(), Station(i)) {
+                continue;
             }
             for k in 0..self.n {
                 let at = line + cells::HEAD as usize + k as usize;

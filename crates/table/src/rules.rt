@@ -131,7 +131,7 @@ pub fn exit_rule(n: u8, i: Station, status: Status, by: u8, ago: u8) -> bool
 // The rules of the row: the station's byte about itself, and every byte, by the greatest one. The loop has no exit, so that the compiler
 // takes many bytes at a time. By std's `max` a save of 8 boards was 0.96 times as fast.
 #[tactic(auto, using(lists::proofs::Loops::loops, crate::proofs::CellLaws::row_at), unfolding(crate::specs::Rules::row_rule))]
-fn row_rule(table: &Table, i: Station) -> bool
+pub fn row_rule(table: &Table, i: Station) -> bool
     requires { i.0 < table.now.n }
     ensures { result ≡ row_rule table.now.n table.now.bytes.now i.0 }
 {
