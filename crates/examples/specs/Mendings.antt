@@ -51,8 +51,8 @@ mendings =
     -- the round is over only once line 1 is mended: then line 0 is begun anew too
     ∷ expect (mended 2 damaged) (line 0 1 0 0 255 0 ++ (1 ∷ 1 ∷ 0 ∷ 0 ∷ 255 ∷ 9 ∷ 1 ∷ 0 ∷ []))
     ∷ expect (listed damaged)
-        ((0 ∷ 1 ∷ 2 ∷ 1 ∷ []) ++ (0 ∷ 2 ∷ 1 ∷ 0 ∷ []) ++ (0 ∷ 3 ∷ 1 ∷ 0 ∷ []) ++ (0 ∷ 8 ∷ 7 ∷ 1 ∷ []) ++ (0 ∷ 9 ∷ 2 ∷ 1 ∷ [])
-        ++ (0 ∷ 10 ∷ 2 ∷ 0 ∷ []) ++ (0 ∷ 12 ∷ 3 ∷ 255 ∷ []) ++ (0 ∷ 15 ∷ 1 ∷ 0 ∷ []))
+    ((0 ∷ 1 ∷ 2 ∷ 1 ∷ []) ++ (0 ∷ 2 ∷ 1 ∷ 0 ∷ []) ++ (0 ∷ 3 ∷ 1 ∷ 0 ∷ []) ++ (0 ∷ 8 ∷ 7 ∷ 1 ∷ []) ++ (0 ∷ 9 ∷ 2 ∷ 1 ∷ [])
+    ++ (0 ∷ 10 ∷ 2 ∷ 0 ∷ []) ++ (0 ∷ 12 ∷ 3 ∷ 255 ∷ []) ++ (0 ∷ 15 ∷ 1 ∷ 0 ∷ []))
     -- a line that is not live is begun anew too
     ∷ expect (listed (line 0 2 1 0 255 0 ++ line 1 2 0 0 255 4)) ((0 ∷ 1 ∷ 2 ∷ 1 ∷ []) ++ (0 ∷ 2 ∷ 1 ∷ 0 ∷ []) ++ (0 ∷ 9 ∷ 2 ∷ 1 ∷ []))
     -- zeros behind the changes, in a longer report too
