@@ -48,7 +48,7 @@ mendings =
     ∷ expect (listed (line 0 2 0 2 255 0 ++ fresh_line)) (0 ∷ 1 ∷ 2 ∷ 1 ∷ 0 ∷ 3 ∷ 2 ∷ 0 ∷ [])
     -- a row byte of 3; a board's 1 about itself
     ∷ expect (listed (fresh_line ++ (0 ∷ 1 ∷ 0 ∷ 0 ∷ 255 ∷ 0 ∷ 3 ∷ 1 ∷ []))) (0 ∷ 14 ∷ 3 ∷ 0 ∷ 0 ∷ 15 ∷ 1 ∷ 0 ∷ [])
-    -- the round is over only once line 1 is mended: then line 0 is begun anew too
+    -- once line 1 is mended the round is over: line 0 is begun anew too
     ∷ expect (mended 2 damaged) (line 0 1 0 0 255 0 ++ (1 ∷ 1 ∷ 0 ∷ 0 ∷ 255 ∷ 9 ∷ 1 ∷ 0 ∷ []))
     ∷ expect (listed damaged)
     ((0 ∷ 1 ∷ 2 ∷ 1 ∷ []) ++ (0 ∷ 2 ∷ 1 ∷ 0 ∷ []) ++ (0 ∷ 3 ∷ 1 ∷ 0 ∷ []) ++ (0 ∷ 8 ∷ 7 ∷ 1 ∷ []) ++ (0 ∷ 9 ∷ 2 ∷ 1 ∷ [])

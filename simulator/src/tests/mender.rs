@@ -119,7 +119,7 @@ fn a_damaged_pass_keeps_the_round_open() {
 }
 
 #[test]
-fn a_damaged_status_may_end_the_round() {
+fn a_station_of_a_damaged_status_keeps_no_round_open() {
     let mut table = fresh(4);
     for station in 0..3 {
         finish(4, &mut table, station);

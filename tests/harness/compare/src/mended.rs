@@ -28,7 +28,7 @@ pub fn all(count: u64) -> Occurred<Seen> {
     Occurred::all(&CASES, count)
 }
 
-const MEND: [Case; 30] = [
+const MEND: [Case; 29] = [
     ("nothing to mend", |seen| is_count(seen, 0..=0)),
     ("one change", |seen| is_count(seen, 1..=1)),
     ("two changes", |seen| is_count(seen, 2..=2)),
@@ -78,9 +78,6 @@ const MEND: [Case; 30] = [
     }),
     ("4 before and after the lines", |seen| {
         is_begun_anew(seen) && is_over(seen.n, &seen.before)
-    }),
-    ("4 only once the lines are mended", |seen| {
-        is_begun_anew(seen) && !is_over(seen.n, &seen.before)
     }),
     ("4 before, no more once the lines are mended", |seen| {
         seen.number == 0 && is_over(seen.n, &seen.before) && !is_begun_anew(seen)
