@@ -113,6 +113,12 @@ extern "C" {
 /* What the opening of a saved plant holds. */
 #define VCUBE_EDITION 2
 
+/* The length of a change in the report of a mending. */
+#define VCUBE_CHANGE_LENGTH 4
+
+/* The length of a report that has room for a change of every byte of the table. */
+#define VCUBE_REPORT_LENGTH(n) (VCUBE_CHANGE_LENGTH * VCUBE_TABLE_LENGTH(n))
+
 /* The length of the longest group list. */
 #define VCUBE_LONGEST_GROUP 32
 
@@ -169,7 +175,8 @@ enum vcube_refusal {
     VCUBE_REFUSED_LINE_FIELD = 20,          /* a board's line in the file is missing, there twice, of a wrong length or of no board (more
                                              * than once; not n + 7, or n + 5 in edition 1; a number of n or more) */
     VCUBE_REFUSED_NO_OPENING = 21,          /* the file does not begin as edition 2 does (with just the opening) */
-    VCUBE_REFUSED_FIELD_ORDER = 22          /* a field is out of order, or of an unknown tag (a conversion looks for the tag only) */
+    VCUBE_REFUSED_FIELD_ORDER = 22,         /* a field is out of order, or of an unknown tag (a conversion looks for the tag only) */
+    VCUBE_REFUSED_REPORT_TOO_SHORT = 23     /* the report has fewer than 4n(n + 6) bytes */
 };
 
 /* Byte 0 of an entry of a schedule. */
@@ -297,6 +304,19 @@ uint8_t vcube_drive(size_t n, uint8_t *table, size_t table_length, uint32_t *rou
  * a round begins the wait of the detection claim (Rules Detection conditions and Lamp begins the wait).
  * Refusals: 1 to 4. */
 uint8_t vcube_doubt_lamp(size_t n, const uint8_t *table, size_t table_length, size_t *by, size_t *of);
+
+/* Mend: makes a table that a brownout damaged obey all rules, so that refusals 1 to 4 let it through, and lists each byte that it changed. A status
+ * above 3 becomes 1 (crashed). Bytes 1 to 3 of a line become 1, 0, 0 if one of them breaks a rule. Byte 4, by the mended status, becomes 254
+ * for status 2, else 255, if it is wrong; byte 5 of a live line becomes 0. A byte of a row above 1, and that of a station about itself, becomes 0.
+ * If 4 then still applies, bytes 1 to 3 of all lines become 1, 0, 0. A table that 1 to 4 let through is not changed.
+ *
+ * The report has room for a change of every byte, VCUBE_REPORT_LENGTH(n) bytes; it may be longer. Its front holds *changes changes of
+ * VCUBE_CHANGE_LENGTH bytes each, by rising offset; all bytes behind them become 0. To read change k, from report + 4 * k: the first two bytes,
+ * the high one first, are the offset of the byte in the table; the third is what it was, the fourth what it is. Offset / (n + 6) is the station
+ * of its line, offset % (n + 6) the byte of that line as the table above has it, so 6 + k is its suspicion of station k. Bytes that are not listed
+ * are unchanged. *changes is 0 where the call is refused, which leaves table and report as they were.
+ * Refusals: 1, 2, 23. */
+uint8_t vcube_mend(size_t n, uint8_t *table, size_t table_length, uint8_t *report, size_t report_length, size_t *changes);
 
 /* Save: writes size, tally and table as a saved plant into a buffer of VCUBE_SAVED_LENGTH(n) bytes, every one of which is written. Tallies at
  * 4294967295 are saved like others. The last granted number of a bus master is not saved.

@@ -1,5 +1,5 @@
 /* What vcube.h says of NULL with length 0, of figures after a refusal, of a group's length, of who is ahead, of who leaves at a test, of
- * grants and drives, of the doubt lamp, of saved plants, of who told a station to leave and how long ago, of the most results and the
+ * grants and drives, of the doubt lamp, of mending, of saved plants, of who told a station to leave and how long ago, of the most results and the
  * totals that they can have, of its structs, and of its version. */
 
 #include "vcube.h"
@@ -1525,6 +1525,44 @@ static void doubt_lamps(void)
     lamp(4, table, sizeof table, VCUBE_REFUSED_LINE_RULE, 0, 0, "doubt lamp: the last line breaks a rule, 3 before 4");
 }
 
+/* A mending gives the number and how many changes there are. */
+static void mend(size_t n, uint8_t *table, size_t table_length, uint8_t *report, size_t report_length, int number, size_t changes,
+                 const char *what)
+{
+    size_t given = ANY;
+
+    expect(vcube_mend(n, table, table_length, report, report_length, &given) == number, what);
+    expect(given == changes, what);
+}
+
+/* Of 4 stations, whose lines have 10 bytes: 1 has status 9, and told by 254; 3 has a 1 about itself. */
+static void mendings(void)
+{
+    uint8_t table[VCUBE_TABLE_LENGTH(4)], before[sizeof table], report[VCUBE_REPORT_LENGTH(4) + 3], left[sizeof report];
+    static const uint8_t listed[] = {0, 10, 9, 1, 0, 14, 254, 255, 0, 39, 1, 0};
+
+    expect(vcube_fresh_table(4, table, sizeof table) == VCUBE_ACCEPTED, "a fresh table");
+    memset(report, ANY, sizeof report);
+    memset(left, ANY, sizeof left);
+    table[10] = 9;
+    table[14] = VCUBE_TOLD_NOT_RECORDED;
+    table[39] = 1;
+    memcpy(before, table, sizeof table);
+    mend(1, table, sizeof table, report, sizeof report, VCUBE_REFUSED_SIZE_OUT_OF_RANGE, 0, "mend: size 1 gets 1");
+    mend(260, table, sizeof table, report, sizeof report, VCUBE_REFUSED_SIZE_OUT_OF_RANGE, 0, "mend: size 260 is not cut to 4");
+    mend(4, table, sizeof table - 1, report, sizeof report, VCUBE_REFUSED_TABLE_LENGTH, 0, "mend: a table too short gets 2");
+    mend(4, NULL, 0, report, sizeof report, VCUBE_REFUSED_TABLE_LENGTH, 0, "mend: a table of length 0 gets 2");
+    mend(4, table, sizeof table, report, VCUBE_REPORT_LENGTH(4) - 1, VCUBE_REFUSED_REPORT_TOO_SHORT, 0, "mend: a report too short gets 23");
+    mend(4, table, sizeof table, NULL, 0, VCUBE_REFUSED_REPORT_TOO_SHORT, 0, "mend: a report of length 0 gets 23");
+    expect(memcmp(table, before, sizeof table) == 0 && memcmp(report, left, sizeof report) == 0, "mend: refused, nothing is written");
+    mend(4, table, sizeof table, report, sizeof report, VCUBE_ACCEPTED, 3, "mend: a longer report is taken");
+    expect(memcmp(report, listed, sizeof listed) == 0, "mend: the changes");
+    memset(left, 0, sizeof left);
+    expect(memcmp(report + sizeof listed, left, sizeof report - sizeof listed) == 0, "mend: zeros behind the changes");
+    mend(4, table, sizeof table, report, sizeof report, VCUBE_ACCEPTED, 0, "mend: a mended table is not changed");
+    expect(memcmp(report, left, sizeof report) == 0, "mend: zeros where there is no change");
+}
+
 int main(void)
 {
     uint8_t table[VCUBE_TABLE_LENGTH(N)];
@@ -1540,6 +1578,7 @@ int main(void)
     who_leaves();
     grants_and_drives();
     doubt_lamps();
+    mendings();
     saved_plants();
     who_told_and_how_long_ago();
     figures_over_results();

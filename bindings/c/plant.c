@@ -1,6 +1,6 @@
 /* The four entries that docs/RULES.md, "A worked run", begins with, by the C interface of the library, and the doubt lamp after the first
  * and after all; a group in a plant of 11, and which distances are due and who is ahead at the others; then a board that leaves when it is
- * tested. */
+ * tested; and a table of eight boards that is mended after a brownout. */
 
 #include "vcube.h"
 
@@ -151,6 +151,36 @@ static int print_lines(void)
     return 0;
 }
 
+/* Eight boards after a brownout that damaged five bytes: mends the table and prints what was mended. */
+static int print_mending(void)
+{
+    static const char *const names[VCUBE_HEAD] = {"status", "next distance", "pass finished", "tests made", "told by", "rounds ago"};
+    const size_t line = 8 + VCUBE_HEAD;
+    uint8_t mended[VCUBE_TABLE_LENGTH(8)], report[VCUBE_REPORT_LENGTH(8)];
+    size_t changes;
+
+    if (refused("fresh table", vcube_fresh_table(8, mended, sizeof mended)))
+        return 1;
+    mended[2 * line] = 12;
+    mended[2 * line + 4] = 0;
+    mended[5 * line + 1] = 0;
+    mended[5 * line + VCUBE_HEAD + 6] = 64;
+    mended[7 * line + VCUBE_HEAD + 7] = 1;
+    if (refused("mend", vcube_mend(8, mended, sizeof mended, report, sizeof report, &changes)))
+        return 1;
+    printf("bytes mended: %zu\n", changes);
+    for (const uint8_t *change = report; change < report + VCUBE_CHANGE_LENGTH * changes; change += VCUBE_CHANGE_LENGTH) {
+        size_t offset = 256 * (size_t)change[0] + change[1];
+        size_t board = offset / line, byte = offset % line;
+
+        if (byte < VCUBE_HEAD)
+            printf("board %zu, %s: %u became %u\n", board, names[byte], change[2], change[3]);
+        else
+            printf("board %zu, about board %zu: %u became %u\n", board, byte - VCUBE_HEAD, change[2], change[3]);
+    }
+    return 0;
+}
+
 int main(void)
 {
     /* After the first entry 0 suspects 1, which is live; after all four 1 has left. */
@@ -159,5 +189,5 @@ int main(void)
     if (print_group(N, 3, 2) || print_group(11, 2, 4) || print_assignment(0) || print_assignment(2) ||
         print_assignment(3) || print_lines())
         return 1;
-    return run(late_after_passes, sizeof late_after_passes) || print_lines();
+    return run(late_after_passes, sizeof late_after_passes) || print_lines() || print_mending();
 }

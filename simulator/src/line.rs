@@ -178,19 +178,25 @@ pub fn row_part(line: &[u8]) -> &[u8] {
     &line[HEAD..]
 }
 
+/// The same, to be written.
+pub fn row_part_mut(line: &mut [u8]) -> &mut [u8] {
+    &mut line[HEAD..]
+}
+
 /// Whether the bytes of the line of station `own` keep the line rules.
 pub fn keeps_line_rules(size: Size, own: Station, bytes: &[u8]) -> bool {
-    head_in_range(size, bytes)
-        && head_agrees(size, bytes)
-        && leaving_agrees(size, own, bytes)
+    bytes[0] <= 3
+        && pass_is_valid(size, bytes)
+        && told_by_is_valid(size, own, bytes)
+        && rounds_are_valid(bytes)
         && row_is_valid(own, row_part(bytes))
 }
 
 /// Whether the bytes of a line of edition 1 keep the line rules, which say
 /// nothing there of who told the station and of rounds closed since.
 pub fn keeps_former_line_rules(size: Size, own: Station, bytes: &[u8]) -> bool {
-    head_in_range(size, bytes)
-        && head_agrees(size, bytes)
+    bytes[0] <= 3
+        && pass_is_valid(size, bytes)
         && row_is_valid(own, &bytes[FORMER_HEAD..])
 }
 
@@ -205,24 +211,26 @@ pub fn widened(bytes: &[u8]) -> Vec<u8> {
     [head, &[told_by, 0], row].concat()
 }
 
-/// The bytes 0, 1 and 2 in their ranges.
-fn head_in_range(size: Size, bytes: &[u8]) -> bool {
-    bytes[0] <= 3 && 1 <= bytes[1] && bytes[1] <= size.end().number() && bytes[2] <= 1
+/// Bytes 1 and 2 are in their ranges; byte 3 is at most byte 1 less 1; a finished
+/// line has next distance 2^d.
+pub fn pass_is_valid(size: Size, bytes: &[u8]) -> bool {
+    let end = size.end().number();
+    let in_range = 1 <= bytes[1] && bytes[1] <= end && bytes[2] <= 1;
+    in_range && bytes[3] < bytes[1] && (bytes[2] == 0 || bytes[1] == end)
 }
 
-/// Byte 3 is at most byte 1 less 1; a finished line has next distance 2^d.
-fn head_agrees(size: Size, bytes: &[u8]) -> bool {
-    bytes[3] < bytes[1] && (bytes[2] == 0 || bytes[1] == size.end().number())
-}
-
-/// Bytes 4 and 5 agree with the status: a live line has 255 and 0, status 1 or 3
-/// has 255, status 2 has 254 or another station's number.
-fn leaving_agrees(size: Size, own: Station, bytes: &[u8]) -> bool {
+/// Byte 4 agrees with the status: status 2 has 254 or another station's number,
+/// any other has 255.
+pub fn told_by_is_valid(size: Size, own: Station, bytes: &[u8]) -> bool {
     match bytes[0] {
-        0 => bytes[4] == NONE && bytes[5] == 0,
         2 => bytes[4] == NOT_RECORDED || is_another_station(size, own, bytes[4]),
         _ => bytes[4] == NONE,
     }
+}
+
+/// Byte 5 of a live line is 0.
+pub fn rounds_are_valid(bytes: &[u8]) -> bool {
+    bytes[0] != 0 || bytes[5] == 0
 }
 
 /// The byte is the number of a station of the plant other than `own`.

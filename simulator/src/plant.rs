@@ -28,7 +28,7 @@ impl Plant {
     }
 
     /// Used only on bytes that keep the line rules.
-    fn decode(size: Size, table: &[u8]) -> Plant {
+    pub fn decode(size: Size, table: &[u8]) -> Plant {
         let parts = table.chunks_exact(size.line_length());
         let lines = parts.map(|part| Line::decode(size, part)).collect();
         Plant { size, lines }

@@ -26,6 +26,7 @@ pub enum Refusal {
     LineField = 20,
     NoOpening = 21,
     FieldOrder = 22,
+    ReportTooShort = 23,
 }
 
 impl Refusal {

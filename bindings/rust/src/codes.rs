@@ -88,6 +88,8 @@ numbered! {
         LineField = 20 => "a board's line in the file is missing, there twice, of a wrong length or of no board",
         NoOpening = 21 => "the file does not begin as edition 2 does",
         FieldOrder = 22 => "a field is out of order, or of an unknown tag",
+        /// The report of a mending.
+        ReportTooShort = 23 => "the report has fewer than 4n(n + 6) bytes",
     }
 }
 

@@ -243,6 +243,7 @@ mod figures;
 mod granter;
 mod lamp;
 mod lines;
+mod mender;
 #[allow(unsafe_code)]
 mod raw;
 mod saved;
@@ -260,6 +261,7 @@ pub use figures::{figures, figures_of_two, Figures, Fraction, Totals, MOST_RESUL
 pub use granter::{drive, grant, Driven};
 pub use lamp::{doubt_lamp, Doubt};
 pub use lines::{rounds_ago, status, told_by, ToldBy, HEAD, TOLD_BY_NONE, TOLD_NOT_RECORDED};
+pub use mender::{changes, mend, report_length, Change, LineByte};
 pub use saved::{convert, converted_length, load, save, saved_length, saved_size, Loaded};
 
 /// A station number. Any number can stand here; the library refuses n or more.

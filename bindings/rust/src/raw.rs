@@ -88,6 +88,15 @@ mod c {
             of: &mut usize,
         ) -> u8;
 
+        pub fn vcube_mend(
+            n: usize,
+            table: *mut u8,
+            table_length: usize,
+            report: *mut u8,
+            report_length: usize,
+            changes: &mut usize,
+        ) -> u8;
+
         pub fn vcube_save(
             n: usize,
             table: *const u8,
@@ -246,6 +255,22 @@ pub fn doubt_lamp(n: usize, table: &[u8]) -> (u8, usize, usize) {
     let (mut by, mut of) = (0, 0);
     let number = unsafe { c::vcube_doubt_lamp(n, table.as_ptr(), table.len(), &mut by, &mut of) };
     (number, by, of)
+}
+
+/// Gives the number and how many changes there are.
+pub fn mend(n: usize, table: &mut [u8], report: &mut [u8]) -> (u8, usize) {
+    let mut changes = 0;
+    let number = unsafe {
+        c::vcube_mend(
+            n,
+            table.as_mut_ptr(),
+            table.len(),
+            report.as_mut_ptr(),
+            report.len(),
+            &mut changes,
+        )
+    };
+    (number, changes)
 }
 
 /// Gives the number.

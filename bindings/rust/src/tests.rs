@@ -8,6 +8,7 @@ mod converted;
 mod granter;
 mod lamp;
 mod lines;
+mod mender;
 mod saved;
 
 /// Byte 4 of a line whose station nobody told to leave.

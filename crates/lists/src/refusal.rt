@@ -31,6 +31,7 @@ pub enum Refusal {
     LineField = 20,
     NoOpening = 21,
     FieldOrder = 22,
+    ReportTooShort = 23,
 }
 
 impl Refusal {
@@ -78,6 +79,7 @@ impl fmt::Display for Refusal {
                 "a board's line in the file is missing, there twice, of a wrong length or of no board",
             Refusal::NoOpening => "the file does not begin as edition 2 does",
             Refusal::FieldOrder => "a field is out of order, or of an unknown tag",
+            Refusal::ReportTooShort => "the report has fewer than 4n(n + 6) bytes",
         })
     }
 }

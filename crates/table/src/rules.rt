@@ -103,7 +103,7 @@ fn line_rules(table: &Table, i: Station) -> bool
 }
 
 // The rules of bytes 1 to 3. Byte 1 is 1 or more where byte 3 is below it.
-fn pass_rule(n: u8, next: u8, finished: u8, tests: u8) -> bool
+pub fn pass_rule(n: u8, next: u8, finished: u8, tests: u8) -> bool
     ensures { result ≡ pass_rule n next finished tests }
 {
     let last = sizes::distances(n);
@@ -119,7 +119,7 @@ fn pass_rule(n: u8, next: u8, finished: u8, tests: u8) -> bool
 // The rules of bytes 4 and 5, by the status. Byte 4 is asked first, since most often it is 255, and the rest makes no branch: measured, a save
 // of 8 boards was 0.95 times as fast by a match on byte 4, and 0.86 times by one on the status.
 #[tactic(auto, unfolding(crate::specs::Rules::exit_rule))]
-fn exit_rule(n: u8, i: Station, status: Status, by: u8, ago: u8) -> bool
+pub fn exit_rule(n: u8, i: Station, status: Status, by: u8, ago: u8) -> bool
     ensures { result ≡ exit_rule n i.0 (status_byte status) by ago }
 {
     if by == cells::TOLD_BY_NONE {
@@ -131,7 +131,7 @@ fn exit_rule(n: u8, i: Station, status: Status, by: u8, ago: u8) -> bool
 // The rules of the row: the station's byte about itself, and every byte, by the greatest one. The loop has no exit, so that the compiler
 // takes many bytes at a time. By std's `max` a save of 8 boards was 0.96 times as fast.
 #[tactic(auto, using(lists::proofs::Loops::loops, crate::proofs::CellLaws::row_at), unfolding(crate::specs::Rules::row_rule))]
-fn row_rule(table: &Table, i: Station) -> bool
+pub fn row_rule(table: &Table, i: Station) -> bool
     requires { i.0 < table.now.n }
     ensures { result ≡ row_rule table.now.n table.now.bytes.now i.0 }
 {

@@ -3,6 +3,8 @@
 #![tactic(auto)]
 
 ghost use Rattle.std.specs.Prelude.{◌≡◌, min, ◌++◌, length};
+ghost use Rattle.std.specs.Result.{result_unwrap_or};
+ghost use Rattle.lists.specs.Refusal.{number_of_result};
 ghost use Rattle.table.specs.Rules.{shape_refusal};
 ghost use Rattle.table.specs.Fresh.{fresh_after};
 ghost use Rattle.station.specs.Calls.{group_refusal, group_after, row_refusal, row_part, row_offset, assignment_refusal, assignment_after, assignment_count};
@@ -14,6 +16,7 @@ ghost use Rattle.detection.specs.Driven.{DrivenDetectionAfter};
 ghost use Rattle.granter.specs.Grant.{grant_refusal, grant_station};
 ghost use Rattle.granter.specs.Drive.{drive, StoppedIfTaken};
 ghost use Rattle.lamp.specs.Doubt.{doubt_lamp};
+ghost use Rattle.mender.specs.Report.{mend, table_after, report_after};
 ghost use Rattle.saved.specs.Load.{size_refusal, saved_size, size_figure, load_refusal, load_answer, loaded_figures, load_after};
 ghost use Rattle.saved.specs.Save.{save_refusal, save_after};
 ghost use Rattle.saved.specs.Convert.{convert_refusal, convert_after, converted_length, converted_length_refusal, length_figure};
@@ -197,6 +200,26 @@ pub extern "C" fn vcube_doubt_lamp(n: usize, table: &[u8], by: &mut usize, of: &
     };
     *by = usize::from(i);
     *of = usize::from(k);
+    number
+}
+
+// Mend: after a brownout the table made to obey all rules, each changed byte listed in the report; how many they are into changes, 0 where it is
+// refused.
+#[unsafe(no_mangle)]
+pub extern "C" fn vcube_mend(
+    n: usize,
+    table: &mut [u8],
+    report: &mut [u8],
+    changes: &mut usize,
+) -> u8
+    ensures number { result ≡ number_of_result (mend n table.old (length report.old)) }
+    ensures changes_after { changes.new
+        ≡ result_unwrap_or (mend n table.old (length report.old)) 0 }
+    ensures mended_table { table.new ≡ table_after n table.old (length report.old) }
+    ensures listed_changes { report.new ≡ report_after n table.old report.old }
+{
+    let (number, listed) = parts(mender::mend(n, table, report), 0);
+    *changes = listed;
     number
 }
 

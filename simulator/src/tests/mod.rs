@@ -14,6 +14,7 @@ mod groups;
 mod lamp;
 mod laws;
 mod leaving;
+mod mender;
 mod program;
 mod questions;
 mod rounds;

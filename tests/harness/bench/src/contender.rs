@@ -1,7 +1,7 @@
 //! The three implementations of the run, of the drive, of the figures, of the
-//! doubt lamp and of saving, loading and converting, called the same way.
+//! doubt lamp, of mending and of saving, loading and converting, called the same way.
 
-use crate::{plain, plain_drive, plain_figures, plain_lamp, plain_saved};
+use crate::{plain, plain_drive, plain_figures, plain_lamp, plain_mend, plain_saved};
 use shared::grants::NONE_YET;
 use shared::schedule::Entry;
 use simulator::{Answer, Driven, Loaded};
@@ -61,6 +61,15 @@ impl Contender {
             Contender::Library => doubt_lamp_library(n, table),
             Contender::Plain => plain_lamp::doubt_lamp(n, table),
             Contender::Simulator => simulator::doubt_lamp(n, table),
+        }
+    }
+
+    /// Mends a table; gives the number and how many changes are listed.
+    pub fn mend(self, n: usize, table: &mut [u8], report: &mut [u8]) -> (u8, usize) {
+        match self {
+            Contender::Library => mend_library(n, table, report),
+            Contender::Plain => plain_mend::mend(n, table, report),
+            Contender::Simulator => simulator::mend(n, table, report),
         }
     }
 
@@ -148,6 +157,13 @@ fn doubt_lamp_library(n: usize, table: &[u8]) -> (u8, Option<(u8, u8)>) {
     match vcube::doubt_lamp(n, table) {
         Ok(pair) => (0, pair.map(|doubt| (doubt.by.0 as u8, doubt.of.0 as u8))),
         Err(refusal) => (refusal.number(), None),
+    }
+}
+
+fn mend_library(n: usize, table: &mut [u8], report: &mut [u8]) -> (u8, usize) {
+    match vcube::mend(n, table, report) {
+        Ok(changes) => (0, changes),
+        Err(refusal) => (refusal.number(), 0),
     }
 }
 

@@ -1,5 +1,5 @@
-//! A benchmark of the run, of the drive, of the figures, of the doubt lamp and of
-//! saving, loading and converting, and an experiment on how many rounds pass until the dead boards are
+//! A benchmark of the run, of the drive, of the figures, of the doubt lamp, of
+//! mending and of saving, loading and converting, and an experiment on how many rounds pass until the dead boards are
 //! known.
 
 #![forbid(unsafe_code)]
@@ -10,10 +10,12 @@ pub mod contender;
 pub mod detection;
 pub mod lamp_work;
 pub mod measure;
+pub mod mend_work;
 pub mod plain;
 pub mod plain_drive;
 pub mod plain_figures;
 pub mod plain_lamp;
+pub mod plain_mend;
 pub mod plain_saved;
 pub mod saved_work;
 pub mod slowest;

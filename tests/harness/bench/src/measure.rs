@@ -2,6 +2,7 @@
 
 use crate::contender::Contender;
 use crate::lamp_work::LampWork;
+use crate::mend_work::MendWork;
 use crate::saved_work::SavedWork;
 use crate::work::Work;
 use simulator::{Answer, Driven, Loaded};
@@ -87,6 +88,25 @@ pub fn best_times_of_lamps(works: &[LampWork], repetitions: usize) -> [f64; 3] {
             black_box(contender.doubt_lamp(work.n, &work.table));
         }
         start.elapsed().as_secs_f64()
+    })
+}
+
+/// The seconds that the mendings of all tables take together with each
+/// implementation, each of its own copy and into a report of its own.
+pub fn best_times_of_mendings(works: &[MendWork], repetitions: usize) -> [f64; 3] {
+    let mut lent: Vec<(Vec<u8>, Vec<u8>)> = works.iter().map(MendWork::lent).collect();
+    best(repetitions, |contender| {
+        for ((table, _), work) in lent.iter_mut().zip(works) {
+            table.copy_from_slice(&work.table);
+        }
+        let lent = black_box(&mut lent);
+        let start = Instant::now();
+        for ((table, report), work) in lent.iter_mut().zip(works) {
+            black_box(contender.mend(work.n, table, report));
+        }
+        let seconds = start.elapsed().as_secs_f64();
+        black_box(lent);
+        seconds
     })
 }
 
@@ -212,6 +232,18 @@ pub fn check_equal_lamps(work: &LampWork) {
         let given = contender.doubt_lamp(work.n, &work.table);
         assert_eq!(given, (0, work.pair), "{contender:?}: another pair");
     }
+}
+
+/// Stops unless all three mend the table alike, with so many changes.
+pub fn check_equal_mendings(work: &MendWork) {
+    let mended = Contender::ALL.map(|contender| {
+        let (mut table, mut report) = work.lent();
+        let given = contender.mend(work.n, &mut table, &mut report);
+        assert_eq!(given.0, 0, "{contender:?}: the mending is refused");
+        (given.1, table, report)
+    });
+    assert!(mended[0] == mended[1], "library and plain Rust differ");
+    assert!(mended[0] == mended[2], "library and simulator differ");
 }
 
 /// Stops unless all three save the plant as its file, load it from there, and

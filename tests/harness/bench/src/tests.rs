@@ -4,6 +4,7 @@
 mod detection;
 mod drives;
 mod lamps;
+mod mendings;
 mod saves;
 
 use crate::contender::Contender;

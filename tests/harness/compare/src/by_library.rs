@@ -75,6 +75,14 @@ extern "C" {
         by: *mut usize,
         of: *mut usize,
     ) -> u8;
+    fn vcube_mend(
+        n: usize,
+        table: *mut u8,
+        table_length: usize,
+        report: *mut u8,
+        report_length: usize,
+        changes: *mut usize,
+    ) -> u8;
     fn vcube_save(
         n: usize,
         table: *const u8,
@@ -210,6 +218,13 @@ impl Calls for Library {
     fn doubt_lamp(numbers: &Numbers, [table, by, of]: [&mut Guarded; 3]) -> u8 {
         let (table, length) = bytes(table);
         unsafe { vcube_doubt_lamp(numbers.n, table, length, figure(by), figure(of)) }
+    }
+
+    fn mend(numbers: &Numbers, [table, report, changes]: [&mut Guarded; 3]) -> u8 {
+        let (table, table_length) = bytes(table);
+        let (report, report_length) = bytes(report);
+        let (n, changes) = (numbers.n, figure(changes));
+        unsafe { vcube_mend(n, table, table_length, report, report_length, changes) }
     }
 
     fn save(numbers: &Numbers, [table, saved]: [&mut Guarded; 2]) -> u8 {

@@ -94,6 +94,13 @@ impl Calls for Simulator {
         number
     }
 
+    fn mend(numbers: &Numbers, [table, report, changes]: [&mut Guarded; 3]) -> u8 {
+        let (table, report) = (table.contents_mut(), report.contents_mut());
+        let (number, count) = simulator::mend(numbers.n, table, report);
+        changes.put_figure(count);
+        number
+    }
+
     fn save(numbers: &Numbers, [table, saved]: [&mut Guarded; 2]) -> u8 {
         let Numbers {
             n, rounds, tests, ..

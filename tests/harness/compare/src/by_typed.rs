@@ -119,6 +119,12 @@ impl Calls for Typed {
         number(&given)
     }
 
+    fn mend(numbers: &Numbers, [table, report, changes]: [&mut Guarded; 3]) -> u8 {
+        let given = vcube::mend(numbers.n, table.contents_mut(), report.contents_mut());
+        changes.put_figure(*given.as_ref().unwrap_or(&0));
+        number(&given)
+    }
+
     fn save(numbers: &Numbers, [table, saved]: [&mut Guarded; 2]) -> u8 {
         let Numbers {
             n, rounds, tests, ..

@@ -18,6 +18,7 @@ pub enum Kind {
     Grant,
     Drive,
     DoubtLamp,
+    Mend,
     Save,
     Load,
     SavedSize,
@@ -65,6 +66,9 @@ pub enum Name {
     /// The pair of a doubt lamp: which station suspects, and which one.
     By,
     Of,
+    /// What a mending changed, and how many changes there are.
+    Report,
+    Changes,
     /// A saved plant: the file.
     Saved,
     /// A stored file of edition 1.
@@ -119,7 +123,7 @@ impl Call {
 }
 
 impl Kind {
-    pub const ALL: [Kind; 18] = [
+    pub const ALL: [Kind; 19] = [
         Kind::FreshTable,
         Kind::GroupList,
         Kind::Assignment,
@@ -128,6 +132,7 @@ impl Kind {
         Kind::Grant,
         Kind::Drive,
         Kind::DoubtLamp,
+        Kind::Mend,
         Kind::Save,
         Kind::Load,
         Kind::SavedSize,
@@ -141,7 +146,7 @@ impl Kind {
     ];
 
     /// Those about a plant, which take a size or a file with one: the first ones. The others are about results.
-    pub const OF_PLANTS: [Kind; 13] = [
+    pub const OF_PLANTS: [Kind; 14] = [
         Kind::FreshTable,
         Kind::GroupList,
         Kind::Assignment,
@@ -150,6 +155,7 @@ impl Kind {
         Kind::Grant,
         Kind::Drive,
         Kind::DoubtLamp,
+        Kind::Mend,
         Kind::Save,
         Kind::Load,
         Kind::SavedSize,
@@ -167,6 +173,7 @@ impl Kind {
             Kind::Grant => "grant",
             Kind::Drive => "drive",
             Kind::DoubtLamp => "doubt lamp",
+            Kind::Mend => "mend",
             Kind::Save => "save",
             Kind::Load => "load",
             Kind::SavedSize => "size of a saved plant",
@@ -204,6 +211,7 @@ impl Kind {
                 Name::Grants,
             ],
             Kind::DoubtLamp => &[Name::Table, Name::By, Name::Of],
+            Kind::Mend => &[Name::Table, Name::Report, Name::Changes],
             Kind::Save => &[Name::Table, Name::Saved],
             Kind::Load => &[
                 Name::Saved,
@@ -234,6 +242,7 @@ impl Kind {
             Kind::Grant => &[0, 1, 2, 3, 4, 16, 17],
             Kind::Drive => &[0, 1, 2, 3, 4, 7, 16, 17],
             Kind::DoubtLamp => &[0, 1, 2, 3, 4],
+            Kind::Mend => &[0, 1, 2, 23],
             Kind::Save => &[0, 1, 2, 3, 4, 13],
             Kind::Load => &[0, 1, 2, 3, 4, 18, 19, 20, 21, 22],
             Kind::SavedSize => &[0, 1, 18, 19, 21, 22],
@@ -246,7 +255,7 @@ impl Kind {
 }
 
 impl Name {
-    pub const ALL: [Name; 24] = [
+    pub const ALL: [Name; 26] = [
         Name::Table,
         Name::List,
         Name::Schedule,
@@ -262,6 +271,8 @@ impl Name {
         Name::Grants,
         Name::By,
         Name::Of,
+        Name::Report,
+        Name::Changes,
         Name::Saved,
         Name::Old,
         Name::Size,
@@ -290,6 +301,8 @@ impl Name {
             Name::Grants => "grants",
             Name::By => "suspecting station",
             Name::Of => "suspected station",
+            Name::Report => "report",
+            Name::Changes => "number of changes",
             Name::Saved => "saved plant",
             Name::Old => "stored file",
             Name::Size => "size",
@@ -306,11 +319,11 @@ impl Name {
     pub fn width(self) -> usize {
         match self {
             Name::Table | Name::List | Name::Schedule | Name::Sheet => size_of::<u8>(),
-            Name::Saved | Name::Old => size_of::<u8>(),
+            Name::Saved | Name::Old | Name::Report => size_of::<u8>(),
             Name::Rounds | Name::Tests => size_of::<u32>(),
             Name::Count | Name::Start | Name::Length | Name::Taken => size_of::<usize>(),
             Name::Station | Name::Last | Name::Grants | Name::Size => size_of::<usize>(),
-            Name::By | Name::Of => size_of::<usize>(),
+            Name::By | Name::Of | Name::Changes => size_of::<usize>(),
             Name::Results | Name::SecondResults => size_of::<u16>(),
             Name::Totals | Name::SecondTotals | Name::GivenTotals | Name::Figures => {
                 size_of::<u64>()

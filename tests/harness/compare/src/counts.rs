@@ -15,6 +15,7 @@ use crate::cuts::Cuts;
 use crate::doubted;
 use crate::entries::{self, Answer, Entry};
 use crate::granted;
+use crate::mended;
 use crate::occurred::Occurred;
 use crate::outcome::Outcome;
 use crate::saved;
@@ -25,7 +26,7 @@ const KINDS: usize = Kind::ALL.len();
 const PLANT_KINDS: usize = Kind::OF_PLANTS.len();
 
 /// Refusals have the numbers from 1 up to but without this one.
-const NUMBERS: usize = 23;
+const NUMBERS: usize = 24;
 
 /// Outcomes have the numbers from 0 up to but without this one.
 pub const OUTCOMES: usize = 6;
@@ -40,8 +41,9 @@ pub const LEAST: u64 = 30;
 const LONG_RUN: usize = 256;
 
 /// The buffers of any length.
-const OF_ANY_LENGTH: [Name; 8] = [
+const OF_ANY_LENGTH: [Name; 9] = [
     Name::Table,
+    Name::Report,
     Name::List,
     Name::Schedule,
     Name::Sheet,
@@ -93,6 +95,8 @@ pub struct Counts {
     pub granted: Occurred<granted::Seen>,
     /// The cases of doubt lamps.
     pub doubted: Occurred<doubted::Seen>,
+    /// The cases of mendings.
+    pub mended: Occurred<mended::Seen>,
     /// The cases of saves, loads, conversions and the questions before these.
     pub saved: Occurred<saved::Seen>,
     /// Loads and conversions of files that are cut.
@@ -150,6 +154,7 @@ impl Counts {
             assigned: assigned::all(count),
             granted: granted::all(count),
             doubted: doubted::all(count),
+            mended: mended::all(count),
             saved: saved::all(count),
             cuts: Cuts::all(count),
             ways_back: WaysBack::all(count),
@@ -189,6 +194,10 @@ impl Counts {
             Kind::DoubtLamp => {
                 let seen = doubted::Seen::new(call, outcome);
                 self.doubted.add(call.kind, &seen);
+            }
+            Kind::Mend => {
+                let seen = mended::Seen::new(call, outcome);
+                self.mended.add(call.kind, &seen);
             }
             Kind::Save | Kind::Load | Kind::SavedSize | Kind::Convert | Kind::ConvertedLength => {
                 let seen = saved::Seen::new(call, outcome);
@@ -260,6 +269,7 @@ impl Counts {
         self.assigned.require(&mut required);
         self.granted.require(&mut required);
         self.doubted.require(&mut required);
+        self.mended.require(&mut required);
         self.saved.require(&mut required);
         self.cuts.require(&mut required);
         self.ways_back.require(&mut required);
@@ -375,6 +385,7 @@ impl fmt::Display for Counts {
         }
         write!(f, "; {}; {}; {}; ", self.absent, self.told, self.ceased)?;
         write!(f, "{}; {}; {}; ", self.assigned, self.granted, self.doubted)?;
+        write!(f, "{}; ", self.mended)?;
         write!(f, "{}; {}; ", self.saved, self.cuts)?;
         write!(f, "{}; {}", self.ways_back, self.cases)?;
         let rarest = self.required().into_iter().min();

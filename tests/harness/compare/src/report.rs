@@ -53,7 +53,8 @@ fn numbers(kind: Kind, numbers: &Numbers) -> String {
         tests,
     } = numbers;
     match kind {
-        Kind::FreshTable | Kind::Run | Kind::Drive | Kind::DoubtLamp => format!("  n {n}\n"),
+        Kind::FreshTable | Kind::Run | Kind::Drive => format!("  n {n}\n"),
+        Kind::DoubtLamp | Kind::Mend => format!("  n {n}\n"),
         Kind::Grant => format!("  n {n}, last number {last}\n"),
         Kind::Save => format!("  n {n}, rounds {rounds}, tests {tests}\n"),
         Kind::GroupList => format!("  n {n}, station {station}, level {level}\n"),

@@ -9,6 +9,7 @@ use crate::counts::{Counts, LEAST, LENGTHS, OUTCOMES, SIZES};
 use crate::faults::{self, Fault};
 use crate::grant_faults;
 use crate::lamp_faults;
+use crate::mend_faults;
 use crate::outcome::{Outcome, Place, Side};
 use crate::report;
 use crate::result_faults;
@@ -66,6 +67,7 @@ fn all_faults() -> Vec<(&'static [Kind], Fault)> {
     let of_grants = of_grants.chain(grant_faults::OF_ANSWERS);
     let others = of_plants.chain(of_grants).chain(result_faults::ALL);
     let others = others.chain(lamp_faults::all());
+    let others = others.chain(mend_faults::all());
     let others = others.map(|fault| (&Kind::ALL[..], fault));
     let of_saves = save_faults::all().map(|fault| (&SAVING[..], fault));
     others.chain(of_saves).collect()
@@ -81,10 +83,11 @@ const SAVING: [Kind; 5] = [
 ];
 
 /// The right rules, which are no fault: what they are of, and what they give.
-const RIGHT: [Fault; 5] = [
+const RIGHT: [Fault; 6] = [
     ("granting", grant_faults::right),
     ("assigning", assign_faults::right),
     ("doubting", lamp_faults::right),
+    ("mending", mend_faults::right),
     ("saving", save_faults::right),
     ("bytes 4 and 5", ceased_faults::right),
 ];
@@ -274,6 +277,7 @@ fn lowered_counts() -> Vec<Counts> {
     all.lower_assigned();
     all.lower_granted();
     all.lower_doubted();
+    all.lower_mended();
     all.lower_saved();
     all.lower_cases();
     all.0
@@ -384,6 +388,13 @@ impl Lowered {
     fn lower_doubted(&mut self) {
         for case in 0..Counts::all(0).doubted.counts.len() {
             self.lower(|counts| &mut counts.doubted.counts[case]);
+        }
+    }
+
+    /// The cases of mendings.
+    fn lower_mended(&mut self) {
+        for case in 0..Counts::all(0).mended.counts.len() {
+            self.lower(|counts| &mut counts.mended.counts[case]);
         }
     }
 

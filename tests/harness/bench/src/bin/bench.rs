@@ -1,6 +1,6 @@
 //! Entries per second of the run, drives per second, and calls per second of
-//! the figures, of the doubt lamp, of saves, loads and conversions: the library,
-//! plain Rust over the same bytes, and the simulator.
+//! the figures, of the doubt lamp, of mendings, of saves, loads and conversions:
+//! the library, plain Rust over the same bytes, and the simulator.
 //!
 //! `bench` prints the tables; `--quick` repeats less.
 //! `--only NAME N DEAD` runs one of library, plain and simulator once, for a
@@ -9,6 +9,7 @@
 use bench::contender::Contender;
 use bench::lamp_work::LampWork;
 use bench::measure;
+use bench::mend_work::{Damage, MendWork};
 use bench::saved_work::SavedWork;
 use bench::work::Work;
 use shared::random::Random;
@@ -37,6 +38,12 @@ const LAMPS: usize = 200;
 
 /// The sizes of the plants of which the lamp is asked.
 const LAMP_SIZES: [usize; 3] = [8, 19, 64];
+
+/// How many mendings are timed together.
+const MENDINGS: usize = 50;
+
+/// The sizes of the plants that are mended.
+const MENDED_SIZES: [usize; 3] = [8, 19, 64];
 
 /// The sizes of the plants that are saved, loaded and converted.
 const SAVED_SIZES: [usize; 3] = [8, 19, 64];
@@ -110,6 +117,7 @@ fn print_tables(repetitions: usize) {
     print_drives(fewer);
     print_figures(fewer);
     print_lamps(fewer);
+    print_mendings(fewer);
     print_saves(fewer);
     print_loads(fewer);
     print_conversions(fewer);
@@ -271,6 +279,29 @@ fn print_rows_of_lamps(n: usize, dead: usize, repetitions: usize) {
         let share = 100.0 * check / times[0];
         let speeds = speeds(thousands(LAMPS), times);
         println!("| {n} | {dead} | {pair} | {share:.0} | {speeds} |");
+    }
+}
+
+fn print_mendings(repetitions: usize) {
+    println!("\nMendings\n");
+    println!("A mending of a good table with a quarter of the stations dead, of one with one byte");
+    println!(
+        "damaged, and of random bytes, each other ones. Thousands of calls per second, the best"
+    );
+    println!("of {repetitions} repetitions; {MENDINGS} are timed together, each on its own copy of its table.\n");
+    println!("| n | table | {COLUMNS}");
+    println!("|--:|:--|--:|--:|--:|--:|--:|");
+    for n in MENDED_SIZES {
+        for damage in Damage::ALL {
+            let mut random = Random::new(SEED);
+            let works: Vec<_> = (0..MENDINGS)
+                .map(|_| MendWork::new(n, damage, &mut random))
+                .collect();
+            works.iter().for_each(measure::check_equal_mendings);
+            let times = measure::best_times_of_mendings(&works, repetitions);
+            let speeds = speeds(thousands(MENDINGS), times);
+            println!("| {n} | {} | {speeds} |", damage.text());
+        }
     }
 }
 

@@ -6,6 +6,7 @@ mod ceased;
 mod drives;
 mod files;
 mod lamps;
+mod mendings;
 mod numbers;
 mod results;
 mod saves;
@@ -45,7 +46,7 @@ fn of_file(random: &mut Random) -> Call {
 
 fn of_plant(random: &mut Random) -> Call {
     let size = groups::random_size(random);
-    match random.below(43) {
+    match random.below(47) {
         0 | 1 => fresh_table(size, random),
         2..=8 => group_list(size, random),
         9..=11 => assignment(size, random),
@@ -53,6 +54,7 @@ fn of_plant(random: &mut Random) -> Call {
         15..=17 => drives::grant(size, random),
         18..=21 => drives::drive(size, random),
         22..=24 => lamps::doubt_lamp(size, random),
+        25..=28 => mendings::mend(size, random),
         _ => run(size, random),
     }
 }

@@ -33,6 +33,22 @@ pub fn any(size: Size, random: &mut Random) -> Vec<u8> {
     table
 }
 
+/// A valid table, or one whose every live line is finished.
+pub fn round_over(size: Size, random: &mut Random) -> Vec<u8> {
+    let mut table = valid(size, random);
+    if random.once_in(2) {
+        finish_all_live(&mut table, size);
+    }
+    table
+}
+
+/// Changes one byte of a line. The table can still be valid afterwards.
+pub fn damage_one(table: &mut [u8], size: Size, random: &mut Random) {
+    let own = random.below(size);
+    let length = line_length(size);
+    damage_line(&mut table[own * length..][..length], own, size, random);
+}
+
 /// A table that refusals 1 to 4 do not meet.
 fn valid(size: Size, random: &mut Random) -> Vec<u8> {
     match random.below(8) {
@@ -190,10 +206,7 @@ fn finish_all_live(table: &mut [u8], size: Size) {
 /// Changes one to three bytes. The table can still be valid afterwards.
 fn damage(table: &mut [u8], size: Size, random: &mut Random) {
     for _ in 0..random.between(1, 3) {
-        let own = random.below(size);
-        let length = line_length(size);
-        let line = &mut table[own * length..][..length];
-        damage_line(line, own, size, random);
+        damage_one(table, size, random);
     }
 }
 

@@ -1,0 +1,14 @@
+-- The mended table passes, so it stays.
+use Rattle.std.proofs.Common.{ap, ◌∙◌}
+use Rattle.table.proofs.Accepting.{table_ok}
+use Rattle.mender.specs.Mended.{mended}
+use Rattle.mender.specs.Report.{changes}
+use Rattle.mender.proofs.MendedLaws.{mended-passes, good-stays}
+use Rattle.mender.proofs.ChangeLaws.{changes-none}
+use Rattle.mender.proofs.claims.mended_once.Goals as goal
+
+pub returns : goal.returns
+returns c n t size long =
+    let u = mended n t in
+    let same = good-stays n u (table_ok n u _ (mended-passes n t size)) in
+    (same, ap (changes u) same ∙ changes-none u)

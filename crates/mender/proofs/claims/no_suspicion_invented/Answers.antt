@@ -1,0 +1,7 @@
+-- A mended byte of a row is what it was, or 0.
+use Rattle.std.proofs.Common.{sym, ◌∙◌, arith}
+use Rattle.mender.proofs.MendedLaws.{suspects-mended, suspicion-was}
+use Rattle.mender.proofs.claims.no_suspicion_invented.Goals as goal
+
+pub returns : goal.returns
+returns c n t size long i k h hk one = suspicion-was i k _ (sym (suspects-mended n t i k h hk) ∙ one)

@@ -1,0 +1,40 @@
+// The mender: after a brownout it makes a lent table obey all rules, and lists each byte that it changed.
+//
+// The call is `mend`. It has no `requires`.
+#![tactic(auto)]
+
+pub mod claims;
+mod lines;
+mod mending;
+pub mod report;
+
+ghost use Rattle.std.specs.Prelude.{◌≡◌, length};
+ghost use Rattle.mender.specs.Report.{mend, table_after, report_after};
+
+use crate::mending::Mending;
+use lists::refusal::Refusal;
+use table::lent::Table;
+
+// Mends the table, lists the changes in the report, and answers how many they are: refusals 1, 2 and 23.
+#[tactic(auto, unfolding(crate::specs::Report::mend, crate::specs::Report::mend_check, crate::specs::Report::table_after, crate::specs::Report::report_after))]
+pub fn mend(n: usize, table: &mut [u8], report: &mut [u8]) -> Result<usize, Refusal>
+    ensures number_of_changes { result ≡ mend n table.old (length report.old) }
+    ensures mended_table { table.new ≡ table_after n table.old (length report.old) }
+    ensures listed_changes { report.new ≡ report_after n table.old report.old }
+{
+    let lent = Table::of(n, table)?;
+    if report.len() / 4 < lent.bytes.len() {
+        return Err(Refusal::ReportTooShort);
+    }
+    let n = lent.n;
+    let over = lines::is_over(&lent);
+    let mut mending = Mending {
+        n,
+        table,
+        report,
+        changes: 0,
+    };
+    mending.mend_lines(over);
+    mending.clear_rest();
+    Ok(mending.changes)
+}

@@ -1,0 +1,73 @@
+//! Mending in plain Rust against the simulator.
+
+use super::{damage, table_with};
+use crate::mend_work::{Damage, MendWork};
+use crate::plain_mend;
+use shared::groups::{distances, SIZES};
+use shared::random::Random;
+use shared::table::{fresh, line_length, table_length, FINISHED, HEAD, NEXT_DISTANCE};
+
+/// Both give the same, and leave the same table and report; gives how many
+/// changes there are.
+fn compare(n: usize, table: &[u8], report: usize) -> (u8, usize) {
+    let (mut table_a, mut table_b) = (table.to_vec(), table.to_vec());
+    let (mut report_a, mut report_b) = (vec![7; report], vec![7; report]);
+    let given = plain_mend::mend(n, &mut table_a, &mut report_a);
+    assert_eq!(given, simulator::mend(n, &mut table_b, &mut report_b));
+    assert_eq!(table_a, table_b);
+    assert_eq!(report_a, report_b);
+    given
+}
+
+#[test]
+fn mended_by_hand() {
+    let mut table = table_with(4, &[], &[(2, 0)]);
+    assert_eq!(compare(4, &table, 160), (0, 0));
+    table[0] = 9;
+    table[2 * line_length(4) + HEAD + 2] = 1;
+    assert_eq!(compare(4, &table, 160), (0, 2));
+    assert_eq!(compare(4, &table, 163), (0, 2));
+    assert_eq!(compare(4, &table, 159), (23, 0));
+    assert_eq!(compare(5, &table, 160), (2, 0));
+    assert_eq!(compare(1, &table, 160), (1, 0));
+}
+
+#[test]
+fn tables_of_the_bench() {
+    let mut random = Random::new(21);
+    for n in [8, 19, 64] {
+        for damage in Damage::ALL {
+            let work = MendWork::new(n, damage, &mut random);
+            let (number, changes) = compare(n, &work.table, 4 * work.table.len());
+            assert_eq!(number, 0);
+            match damage {
+                Damage::Nothing => assert_eq!(changes, 0),
+                Damage::OneByte => assert_eq!(changes, 1),
+                Damage::RandomBytes => assert!(changes > work.table.len() / 2),
+            }
+        }
+    }
+}
+
+#[test]
+fn random_tables_of_all_sizes() {
+    let mut random = Random::new(22);
+    for n in SIZES {
+        for _ in 0..30 {
+            let mut table = match random.below(3) {
+                0 => random.bytes(table_length(n)),
+                _ => fresh(n),
+            };
+            if random.once_in(2) {
+                for line in table.chunks_exact_mut(line_length(n)) {
+                    line[NEXT_DISTANCE] = distances(n) as u8;
+                    line[FINISHED] = 1;
+                }
+            }
+            for _ in 0..random.below(4) {
+                damage(n, &mut table, &mut random);
+            }
+            compare(n, &table, 4 * table_length(n) + random.below(3));
+        }
+    }
+}
