@@ -1,24 +1,24 @@
 -- The mended table keeps all rules; a table that does is not changed.
 -- Assumes nothing.
-use mathlib.Core.Path.{◌≡◌, refl, sym, ap, ap₂, ◌∙◌}
+use mathlib.Core.Path.{◌≡◌, refl, sym, ap, ◌∙◌}
 use mathlib.Core.Bool.{Bool, true, false, not, cond, ◌&&◌, ◌||◌}
 use mathlib.Core.List.{List}
 use mathlib.Core.Logic.{◌≢◌}
-use Prim.Native.Nat.{ℕ, zero, suc, ◌+◌, ◌-◌, ◌≤◌, ◌<◌}
+use Prim.Native.Nat.{ℕ, ◌+◌, ◌-◌, ◌≤◌, ◌<◌}
 use native.Mathlib.Omega.{arith}
 use borrow.Author.Tests.{leb-true, leb-false, eqb-true, eqb-false, le-leb, le-ltb, eq-eqb}
 use lib.Dec.{leb, eqb, ltb}
-use lib.ListN.{length, get_or}
+use lib.ListN.{length}
 use Rattle.std.specs.Prelude.{Ok}
 use Rattle.std.proofs.lemmas.Bool.Decides.{nat_tests}
 use Rattle.lists.specs.Search.{every}
-use Rattle.lists.proofs.SearchLaws.{both, every-at, every-all, list_of-same}
+use Rattle.lists.proofs.SearchLaws.{both, every-at, every-all}
 use Rattle.lists.proofs.BoolLaws.{by_bool, every-same}
 use Rattle.table.specs.Sizes.{is_size, distances}
-use Rattle.table.specs.Table.{head, stride, table_length, cell, status, status_told, next_distance, finished, tests_made, told_by, told_by_none, not_recorded, rounds_ago, suspects}
-use Rattle.table.specs.Rules.{pass_rule, exit_rule, told_by_rule, suspicion_rule, row_rule, line_rules, not_live, some_live, finished_if_live, live_finished, round_over, shape_check, table_check}
+use Rattle.table.specs.Table.{head, stride, table_length, cell, status, status_told, next_distance, finished, tests_made, told_by, told_by_none, rounds_ago, suspects}
+use Rattle.table.specs.Rules.{pass_rule, exit_rule, suspicion_rule, row_rule, line_rules, not_live, some_live, finished_if_live, live_finished, round_over, shape_check, table_check}
 use Rattle.table.proofs.SizeLaws.{distances-pos}
-use Rattle.table.proofs.Accepting.{Accepted, table_ok}
+use Rattle.table.proofs.Accepting.{Accepted}
 use Rattle.mender.specs.Mended.{mended_status, keeps_pass, mended_told_by, mended_rounds_ago, mended_suspicion, new_status, new_told_by, line_byte, table_of, lines_mended, mended_byte, mended}
 use Rattle.mender.proofs.CellLaws.{table_of-length, table_of-cell, table_of-is, outside-pass, row-byte}
 

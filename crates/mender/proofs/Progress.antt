@@ -1,9 +1,9 @@
 -- How far the loops over the table have come: the bytes before place p are mended, and their changes are listed.
 -- Assumes nothing.
 use mathlib.Core.Path.{◌≡◌, refl, sym, ap, ap₂, subst, ◌∙◌}
-use mathlib.Core.Bool.{Bool, true, false, not, cond, ◌&&◌}
+use mathlib.Core.Bool.{Bool, true, cond}
 use mathlib.Core.List.{List, ◌∷◌, [], ◌++◌, append-nil, map}
-use Prim.Native.Nat.{ℕ, zero, suc, ◌+◌, ◌-◌, ◌*◌, ◌/◌, ◌%◌, ◌^◌, ◌≤◌, ◌<◌}
+use Prim.Native.Nat.{ℕ, zero, suc, ◌+◌, ◌-◌, ◌*◌, ◌≤◌, ◌<◌}
 use native.Mathlib.Numerals.{add-one}
 use native.Mathlib.Nat.{mul-le-mul, suc-mul, zero-mul}
 use native.Mathlib.Decide.{le_ind}
@@ -15,9 +15,8 @@ use lib.Seq.{sets, ext_get_or}
 use Rattle.std.specs.List.{flat_map}
 use Rattle.std.proofs.lemmas.List.{map-append, set-get_or}
 use Rattle.std.proofs.lemmas.Grind.{flat_map-append}
-use Rattle.std.proofs.lemmas.List.Concat.{length-flat_map}
 use Rattle.lists.specs.Search.{every, list_of, select}
-use Rattle.lists.proofs.Loops.{fill-ahead, fill-next}
+use Rattle.lists.proofs.Loops.{fill-next}
 use Rattle.lists.proofs.Writing.{sets-ahead, sets-all}
 use Rattle.lists.proofs.SearchLaws.{both, every-at, list_of-length, list_of-at}
 use Rattle.lists.proofs.BoolLaws.{by_bool}

@@ -1,5 +1,5 @@
 -- What the loops and the clearing leave is what the definitions say.
-use Rattle.std.proofs.Common.{rules, ◌≡◌, length, sym, ap, ◌∙◌, arith}
+use Rattle.std.proofs.Common.{rules, length, ap, ◌∙◌, arith}
 use Rattle.mender.proofs.Call.{done}
 use Rattle.mender.proofs.mend.Goals as goal
 

@@ -1,5 +1,5 @@
 -- A mended byte of a row is what it was, or 0.
-use Rattle.std.proofs.Common.{sym, ◌∙◌, arith}
+use Rattle.std.proofs.Common.{sym, ◌∙◌}
 use Rattle.mender.proofs.MendedLaws.{suspects-mended, suspicion-was}
 use Rattle.mender.proofs.claims.no_suspicion_invented.Goals as goal
 

@@ -1,5 +1,4 @@
 -- By whether the round is over and the bytes keep their rules.
-use Rattle.std.proofs.Common.{◌∙◌}
 use Rattle.mender.proofs.CellLaws.{pass-new, pass-old}
 use Rattle.mender.proofs.lines.mended_pass.Goals as goal
 

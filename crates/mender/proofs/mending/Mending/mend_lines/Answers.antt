@@ -2,7 +2,7 @@
 use Rattle.std.proofs.Common.{◌≡◌, ◌+◌, ◌<◌, refl, sym, ap, ◌∙◌, length, arith}
 use Rattle.table.specs.Table.{head, table_length, line_start}
 use Rattle.mender.proofs.CellLaws.{inside}
-use Rattle.mender.proofs.Progress.{Progress, mended_by, progress-start, progress-few, progress-at, progress-next, all-done, head-put, row-put, row-skip, line-next, line-first, line-last, same-start, same-then}
+use Rattle.mender.proofs.Progress.{mended_by, progress-start, progress-few, progress-at, progress-next, all-done, head-put, row-put, row-skip, line-next, line-first, same-start, same-then}
 use Rattle.mender.proofs.mending.Mending.mend_lines.Goals as goal
 
 pub loop-i-init : goal.loop-i-init

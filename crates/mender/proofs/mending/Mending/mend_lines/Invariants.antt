@@ -1,5 +1,5 @@
 -- Before the place that the loops have come to the bytes are mended and their changes listed.
-use Rattle.std.proofs.Common.{ℕ, ◌+◌, List}
+use Rattle.std.proofs.Common.{◌+◌}
 use Rattle.table.specs.Table.{head, line_start}
 use Rattle.mender.specs.Mended.{table_of, mended_byte}
 use Rattle.mender.specs.Mending.{IsSameMending}
