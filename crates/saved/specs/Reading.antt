@@ -1,5 +1,5 @@
--- What the code answers on its way, in either edition: the next field of a file; the opening, what a field is held against, and what is found of size and
--- tally, with one field more; which lines are new, and the table that they give. The promises of the calls do not cite these.
+-- What the code answers on its way, in either edition: the next field of a file; the opening, what a field is held against, and what is found of
+-- size and tally, with one field more; which lines are new, and the table that they give. The promises of the calls do not cite these.
 -- Assumes nothing.
 use Rattle.std.specs.Prelude.{◌≡◌, ℕ, ◌+◌, ◌<◌, Bool, true, false, not, ◌&&◌, List, [], length, take, drop, if◌then◌else◌, ◌==◌, slice_index_or}
 use Rattle.std.specs.Prelude.{Option, Some, None, is_none, Result, Ok, Err}
