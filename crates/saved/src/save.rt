@@ -42,8 +42,8 @@ pub(crate) fn saved_length(n: u8) -> usize
     FRONT + n * (n + cells::HEAD as usize + BESIDE_LINE)
 }
 
-// The opening, the size field and the tally field. By places, here and below. Tried: a struct with the rest of the buffer, which each write moves on; of what is
-// written through a cursor that `split_at_mut` moves on a proof knows nothing afterwards.
+// The opening, the size field and the tally field. By places, here and below. Tried: a struct with the rest of the buffer, which each write moves on;
+// of what is written through a cursor that `split_at_mut` moves on a proof knows nothing afterwards.
 fn write_front(n: u8, tally: Tally, buffer: &mut [u8])
     requires { 19 ≤ length buffer.old }
     ensures { buffer.new ≡ sets buffer.old 0 (front_fields n tally) }
