@@ -162,7 +162,7 @@ impl Form {
     }
 
     // Whether a line obeys the line rules: whether a fresh table that has it is accepted.
-    #[tactic(auto, using(crate::proofs::PlaceLaws::empty_line, crate::proofs::PlaceLaws::rules_not, crate::proofs::PlaceLaws::rules_size, crate::proofs::PlaceLaws::rules_in, saved::proofs::Loading::table_fits))]
+    #[tactic(auto, using(crate::proofs::PlaceLaws::line_judged, saved::proofs::Loading::table_fits))]
     fn check_rules(self, contents: &[u8]) -> Result<(), Refusal>
         ensures { result ≡ rules_check self contents.now }
     {

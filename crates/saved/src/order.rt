@@ -20,7 +20,7 @@ pub struct Previous {
 // Before the first field, and behind the opening.
 pub const NOTHING_BEFORE: Previous = Previous { tag: 0, station: 0 };
 
-// Whether a file opens as its edition does. Behind it stand the fields behind the opening, which edition 1 has not. Refusal 18.
+// Whether a file opens as its edition does. What is left to read are the fields behind the opening, which edition 1 has not. Refusal 18.
 pub(crate) fn opens(edition: Edition, fields: &mut Fields) -> Result<bool, Refusal>
     ensures { Opens edition fields.old.rest.now result fields.new.rest.now }
 {

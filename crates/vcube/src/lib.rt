@@ -5,7 +5,8 @@
 ghost use Rattle.std.specs.Prelude.{◌≡◌, min, ◌++◌, length};
 ghost use Rattle.table.specs.Rules.{shape_refusal};
 ghost use Rattle.table.specs.Fresh.{fresh_after};
-ghost use Rattle.station.specs.Calls.{group_refusal, group_after, row_refusal, row_part, row_offset, assignment_refusal, assignment_after, assignment_count};
+ghost use Rattle.station.specs.Calls.{group_refusal, group_after, row_refusal, row_part, row_offset, assignment_refusal, assignment_after};
+ghost use Rattle.station.specs.Calls.{assignment_count};
 ghost use Rattle.plant.specs.Entry.{state_of};
 ghost use Rattle.plant.specs.Run.{run};
 ghost use Rattle.detection.specs.Runs.{call_of, CountsTaken};
@@ -19,7 +20,8 @@ ghost use Rattle.saved.specs.Save.{save_refusal, save_after};
 ghost use Rattle.saved.specs.Convert.{convert_refusal, convert_after, converted_length, converted_length_refusal, length_figure};
 ghost use Rattle.figures.specs.Batch.{figures};
 ghost use Rattle.figures.specs.Totals.{totals, join, figures_of_totals};
-ghost use Rattle.vcube.specs.Exports.{IsRowAt, outcome_out, drive_out, pair_out, pair_of, tally_of, loaded_out, filled, figures_members, totals_members, totals_with, figures_out, totals_out};
+ghost use Rattle.vcube.specs.Exports.{IsRowAt, outcome_out, drive_out, pair_out, pair_of, tally_of, loaded_out, filled, figures_members};
+ghost use Rattle.vcube.specs.Exports.{totals_members, totals_with, figures_out, totals_out};
 
 use figures::{Figures, Totals, adding, batch};
 use granter::grant;
