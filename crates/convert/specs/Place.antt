@@ -2,7 +2,7 @@
 -- short or wrong in itself is found so. Where a field is missing, none is at fault, and the place is the end of the file.
 -- Assumes nothing.
 use Rattle.std.specs.Prelude.{◌≡◌, ℕ, ◌≤◌, ◌<◌, Bool, zero, suc, ◌+◌, ◌&&◌, not, false, true, if◌then◌else◌, ◌==◌, nat_lt}
-use Rattle.std.specs.Prelude.{List, length, take, drop, replicate, set, slice_index, slice_index_or, Result, Ok, Err, Option, None, Some}
+use Rattle.std.specs.Prelude.{List, length, drop, replicate, set, slice_index_or, Result, Ok, Err, Option, None, Some}
 use Rattle.std.specs.Result.{result_map_both}
 use Rattle.std.proofs.lemmas.List.Edits.{sets}
 use Rattle.lists.specs.declared.refusal.Refusal.{Refusal}
