@@ -44,6 +44,9 @@ module _ (form : Form) (c : List ℕ) (line : is_line form c ≡ true) where
   unfolding rules_check
   rules_in l answer e z = z ∙ rw (line, e) refl
 
+-- what the goals of judging a line want of these
+pub ruleset line_judged = (empty_line, rules_not, rules_size, rules_in)
+
 -- a buffer of the right length is one of a table of that size
 pub right_shape : (n : ℕ) (t : List ℕ) → is_size n ≡ true → length t ≡ table_length n → shape_check n (length t) ≡ Ok tt
 unfolding shape_check

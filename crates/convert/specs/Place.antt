@@ -2,7 +2,7 @@
 -- short or wrong in itself is found so. Where a field is missing, none is at fault, and the place is the end of the file.
 -- Assumes nothing.
 use Rattle.std.specs.Prelude.{◌≡◌, ℕ, ◌≤◌, ◌<◌, Bool, zero, suc, ◌+◌, ◌&&◌, not, false, true, if◌then◌else◌, ◌==◌, nat_lt}
-use Rattle.std.specs.Prelude.{List, length, take, drop, replicate, set, slice_index, slice_index_or, Result, Ok, Err, Option, None, Some}
+use Rattle.std.specs.Prelude.{List, length, drop, replicate, set, slice_index_or, Result, Ok, Err, Option, None, Some}
 use Rattle.std.specs.Result.{result_map_both}
 use Rattle.std.proofs.lemmas.List.Edits.{sets}
 use Rattle.lists.specs.declared.refusal.Refusal.{Refusal}
@@ -14,17 +14,25 @@ use Rattle.table.specs.Fresh.{fresh_table}
 use Rattle.table.specs.Rules.{table_check}
 use Rattle.saved.specs.Fields.{Field, extent, first_field}
 use Rattle.saved.specs.Plant.{size_tag, line_tag, station_in, fits}
-use Rattle.saved.specs.Reading.{field_value, start_of, order_with, found_with, contents_length, line_read}
+use Rattle.saved.specs.Order.{is_opening, nothing_before, follows}
+use Rattle.saved.specs.Reading.{field_value, behind_as, found_with, contents_length, line_read}
+use Rattle.saved.specs.declared.edition.Edition.{Edition}
+use Rattle.saved.specs.declared.edition.Edition.TheVariants.{One, Two}
 use Rattle.saved.specs.declared.fields.Field.{Field as FieldRead}
 use Rattle.convert.specs.declared.place.Form.{Form}
 use Rattle.convert.specs.declared.place.Lines.{Lines}
 use Rattle.convert.specs.declared.place.Search.{Search}
-use Rattle.convert.specs.declared.place.Search.TheVariants.{Order, SizeAndTally, Size, Line, Rules, Live, PastEnd}
+use Rattle.convert.specs.declared.place.Search.TheVariants.{Opening, Order, SizeAndTally, Size, Line, Rules, Live, PastEnd}
+
+-- where a field is out of order or unknown: in edition 2 that stands behind the opening
+abbrev pub order_search : Edition → Search
+order_search One = Order One nothing_before
+order_search Two = Opening
 
 -- what is looked for in the fields, by the refusal of a file of that edition and size
 abbrev pub search_for : Form → Refusal → Search
-search_for form NoOpening = Order (start_of form.edition)
-search_for form FieldOrder = Order (start_of form.edition)
+search_for form NoOpening = Opening
+search_for form FieldOrder = order_search form.edition
 search_for form SizeOrTallyField = SizeAndTally (record { size = None; tally = None })
 search_for form SizeOutOfRange = Size
 search_for form LineField = Line (record { form = form; seen = replicate 64 false })
@@ -55,7 +63,8 @@ live_check c = ensure (not (slice_index_or c 1 1 == 0)) RoundNotClosed
 -- the search with one field more, or the refusal that shows at it: 21 and 22 at a field that is not the opening, out of order or unknown; 19 at a
 -- second one or one of a wrong length; 1 at the size; 20, 3 and 4 at a line
 abbrev pub search_with : Search → Field → Result Search Refusal
-search_with (Order order) f = result_map_both Order (λ r. r) (order_with order f)
+search_with Opening f = ensure (is_opening f) NoOpening and Ok (Order Two nothing_before)
+search_with (Order e before) f = ensure (follows before f) FieldOrder and Ok (Order e (behind_as e before f))
 search_with (SizeAndTally found) f = result_map_both SizeAndTally (λ r. r) (found_with found f)
 search_with Size f = ensure (not (f.tag == size_tag)) SizeOutOfRange and Ok Size
 search_with (Line lines) f = if f.tag == line_tag then result_map_both Line (λ r. r) (lines_with lines f.contents) else Ok (Line lines)

@@ -6,13 +6,13 @@ ghost use Rattle.table.specs.Table.{line_start, table_length};
 ghost use Rattle.table.specs.Fresh.{fresh_table};
 ghost use Rattle.table.specs.Rules.{table_check};
 ghost use Rattle.saved.specs.Reading.{field_value, line_length, line_as};
-ghost use Rattle.convert.specs.Place.{search_for, is_line, lines_with, rules_check, search_with, place, ReadsWhole};
+ghost use Rattle.convert.specs.Place.{search_for, order_search, is_line, lines_with, rules_check, search_with, place, ReadsWhole};
 
 use lists::refusal::Refusal;
 use saved::edition::Edition;
 use saved::fields::{Field, Fields};
 use saved::first_pass::Found;
-use saved::order::Order;
+use saved::order::{self, NOTHING_BEFORE, Previous};
 use saved::{LINE, SIZE, lines};
 use table::lent::TableMut;
 use table::{Station, cells, fresh, rules, sizes};
@@ -34,7 +34,8 @@ pub struct Lines {
 // What is looked for in the fields of a refused file, one after the other.
 #[derive(Clone, Copy)]
 pub enum Search {
-    Order(Order),
+    Opening,
+    Order(Edition, Previous),
     SizeAndTally(Found),
     Size,
     Line(Lines),
@@ -75,7 +76,8 @@ impl Search {
         ensures { result ≡ search_for form refusal }
     {
         match refusal {
-            Refusal::NoOpening | Refusal::FieldOrder => Search::Order(Order::start(form.edition)),
+            Refusal::NoOpening => Search::Opening,
+            Refusal::FieldOrder => Search::of_order(form.edition),
             Refusal::SizeOrTallyField => Search::SizeAndTally(Found {
                 size: None,
                 tally: None,
@@ -91,12 +93,29 @@ impl Search {
         }
     }
 
+    // What is looked for where a field is out of order or unknown: in edition 2 that stands behind the opening.
+    fn of_order(edition: Edition) -> Search
+        ensures { result ≡ order_search edition }
+    {
+        match edition {
+            Edition::One => Search::Order(Edition::One, NOTHING_BEFORE),
+            Edition::Two => Search::Opening,
+        }
+    }
+
     // With one field more, or the refusal that shows at it.
     fn with(self, field: Field) -> Result<Search, Refusal>
         ensures { result ≡ search_with self (field_value field.entry) }
     {
         match self {
-            Search::Order(order) => Ok(Search::Order(order.with(field)?)),
+            Search::Opening if order::is_opening(field) => {
+                Ok(Search::Order(Edition::Two, NOTHING_BEFORE))
+            }
+            Search::Opening => Err(Refusal::NoOpening),
+            Search::Order(edition, before) if before.allows(field) => {
+                Ok(Search::Order(edition, before.behind(field, edition)))
+            }
+            Search::Order(..) => Err(Refusal::FieldOrder),
             Search::SizeAndTally(found) => Ok(Search::SizeAndTally(found.with(field)?)),
             Search::Size if field.tag == SIZE => Err(Refusal::SizeOutOfRange),
             Search::Line(lines) if field.tag == LINE => Ok(Search::Line(lines.with(
@@ -143,7 +162,7 @@ impl Form {
     }
 
     // Whether a line obeys the line rules: whether a fresh table that has it is accepted.
-    #[tactic(auto, using(crate::proofs::PlaceLaws::empty_line, crate::proofs::PlaceLaws::rules_not, crate::proofs::PlaceLaws::rules_size, crate::proofs::PlaceLaws::rules_in, saved::proofs::Loading::table_fits))]
+    #[tactic(auto, using(crate::proofs::PlaceLaws::line_judged, saved::proofs::Loading::table_fits))]
     fn check_rules(self, contents: &[u8]) -> Result<(), Refusal>
         ensures { result ≡ rules_check self contents.now }
     {

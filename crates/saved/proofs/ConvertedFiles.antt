@@ -1,29 +1,28 @@
 -- The claims ConverterTakes and ConvertedLoads of specs/Converting hold: which files are converted, and what is read of what is written.
 -- Assumes nothing.
-use mathlib.Core.Path.{◌≡◌, refl, sym, ap, ap₂, ◌∙◌}
+use mathlib.Core.Path.{◌≡◌, refl, sym, ap, ◌∙◌}
 use mathlib.Core.Bool.{Bool, true, false, not, ◌&&◌}
 use mathlib.Core.List.{List}
-use Rattle.std.specs.Prelude.{Result, Ok, Err}
-use Prim.Native.Nat.{ℕ, ◌^◌, ◌≤◌, ◌<◌}
+use Rattle.std.specs.Prelude.{Ok, Err}
+use Prim.Native.Nat.{ℕ}
 use native.Mathlib.Omega.{arith}
 use borrow.Author.Tests.{eq-eqb, ne_eqb, not-true}
 use lib.Dec.{eqb}
-use lib.ListN.{length, get_or, take, drop, length-drop}
+use lib.ListN.{length, take, drop, length-drop}
 use lib.Seq.{length-take-le}
 use Rattle.lists.specs.declared.refusal.Refusal.{Refusal}
-use Rattle.lists.specs.declared.refusal.Refusal.TheVariants.{TableLength, FieldPastEnd, SizeOrTallyField, LineField, FieldOrder, ListLength}
+use Rattle.lists.specs.declared.refusal.Refusal.TheVariants.{TableLength, FieldPastEnd, LineField, FieldOrder, ListLength}
 use Rattle.lists.specs.Refusal.{Check, ensure, ◌and◌, number_of, number_of_result}
 use Rattle.lists.proofs.BoolLaws.{by_bool}
 use Rattle.lists.proofs.SearchLaws.{both}
 use Rattle.lists.proofs.RefusalLaws.{number_nonzero, check_zero, ensure_ok, and_ok}
 use Rattle.table.specs.Sizes.{is_size}
 use Rattle.table.specs.Table.{table_length}
-use Rattle.table.specs.Rules.{table_check, table_refusal}
-use Rattle.plant.specs.declared.Tally.{Tally}
-use Rattle.saved.specs.Bytes.{bytes_value}
+use Rattle.table.specs.Rules.{table_refusal}
 use Rattle.saved.specs.Fields.{runs_past, fields_of, tagged, only_one, only_contents}
-use Rattle.saved.specs.Plant.{size_tag, size_length, tally_tag, tally_length, size_in, tally_rounds, tally_tests, size_and_tally, plant_check, lines_right, table_in}
-use Rattle.saved.specs.Load.{file_size, file_tally, file_lines, file_table, loaded_of, load_answer, load_after}
+use Rattle.saved.specs.Plant.{size_tag, size_length, tally_tag, tally_length, tally_rounds, tally_tests, size_and_tally, plant_check}
+use Rattle.saved.specs.Plant.{lines_right, table_in}
+use Rattle.saved.specs.Load.{file_size, file_tally, file_lines, file_table}
 use Rattle.saved.specs.Save.{saved, saved_length}
 use Rattle.saved.specs.Edition1.{line_field_length, rules_check, converted_table, reader_check, reader_answer, reader_after}
 use Rattle.saved.specs.Edition1.{table_length as old_table_length}
@@ -81,7 +80,8 @@ converter-takes file t b long wide =
     let old_same : Bool = eqb (length t) (old_table_length n) in
     let left : accepts (convert_check file (length b)) ≡ ((whole && (known && accepts plant)) && ((lines && accepts old_rules) && same)) =
     rw (
-      accepts-and ((ensure whole FieldPastEnd) and (ensure known FieldOrder) and plant) ((ensure lines LineField and old_rules) and ensure same ListLength),
+      accepts-and ((ensure whole FieldPastEnd) and (ensure known FieldOrder) and plant)
+          ((ensure lines LineField and old_rules) and ensure same ListLength),
       accepts-and (ensure whole FieldPastEnd) (ensure known FieldOrder and plant),
       accepts-and (ensure known FieldOrder) plant,
       accepts-and (ensure lines LineField and old_rules) (ensure same ListLength),

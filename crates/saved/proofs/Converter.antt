@@ -3,7 +3,7 @@
 use mathlib.Core.Path.{◌≡◌, refl, sym, ap, ◌∙◌}
 use mathlib.Core.Bool.{true, false}
 use mathlib.Core.List.{List}
-use Rattle.std.specs.Prelude.{Result, Ok, Err}
+use Rattle.std.specs.Prelude.{Ok, Err}
 use Prim.Native.Nat.{ℕ}
 use borrow.Author.Tests.{not-true}
 use lib.ListN.{length}
@@ -14,11 +14,12 @@ use Rattle.lists.proofs.RefusalLaws.{ensure_ok, and_ok}
 use Rattle.table.specs.Sizes.{is_size}
 use Rattle.table.specs.Rules.{table_check}
 use Rattle.saved.specs.Fields.{runs_past, fields_of}
-use Rattle.saved.specs.Plant.{plant_check, lines_right, table_in}
-use Rattle.saved.specs.Load.{file_size, file_tally, file_lines, file_table, loaded_of}
-use Rattle.saved.specs.Save.{saved, saved_length, save_check, save_after}
+use Rattle.saved.specs.Plant.{plant_check, lines_right}
+use Rattle.saved.specs.Load.{file_size, file_lines, file_table, loaded_of}
+use Rattle.saved.specs.Save.{saved_length, save_check, save_after}
 use Rattle.saved.specs.Edition1.{line_field_length, rules_check, converted_table}
-use Rattle.saved.specs.Convert.{all_known, old_check, old_lines_check, converted, convert_check, convert_after, converted_length, converted_length_refusal}
+use Rattle.saved.specs.Convert.{all_known, old_check, old_lines_check, converted, convert_check, convert_after, converted_length}
+use Rattle.saved.specs.Convert.{converted_length_refusal}
 use Rattle.saved.specs.Reading.{opened, table_read}
 use Rattle.saved.specs.declared.Loaded.{Loaded}
 use Rattle.saved.specs.declared.edition.Edition.TheVariants.{One}
@@ -87,12 +88,15 @@ module _ (file b : List ℕ) where
       size = ap (λ l. is_size l.size) (sym known.1) ∙ old_right.1
 
       judged : table_check (file_size file) own ≡ rules_check (file_size file) (file_table file)
-      judged = ap (table_check (file_size file)) own_is ∙ rules-converted (file_size file) (file_table file) size (length-in (file_size file) (file_lines file) right)
+      judged =
+          ap (table_check (file_size file)) own_is
+          ∙ rules-converted (file_size file) (file_table file) size (length-in (file_size file) (file_lines file) right)
 
       same_check : save_check x.size own x.tally (length b) ≡ convert_check file (length b)
       unfolding save_check convert_check old_lines_check converted
       same_check = rw (known.0, known.1, right, judged, own_is)
 
-      pub saved_gives : (c : Check) (after : List ℕ) → c ≡ save_check x.size own x.tally (length b) → after ≡ save_after x.size own x.tally b → Gives c after
+      pub saved_gives : (c : Check) (after : List ℕ) → c ≡ save_check x.size own x.tally (length b)
+          → after ≡ save_after x.size own x.tally b → Gives c after
       unfolding save_after convert_after converted
       saved_gives c after p q = (p ∙ same_check, q ∙ rw (same_check, known.1, own_is))

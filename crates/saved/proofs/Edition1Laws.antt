@@ -1,27 +1,24 @@
 -- Laws of edition 1, of specs/Edition1: its rules are those of the converted table.
 -- Assumes nothing.
-use mathlib.Core.Path.{◌≡◌, refl, sym, ap, ap₂, ◌∙◌}
-use mathlib.Core.Bool.{Bool, true, false, not, ◌&&◌, ◌||◌, and-true}
+use mathlib.Core.Path.{◌≡◌, sym, ap, ap₂, ◌∙◌}
+use mathlib.Core.Bool.{Bool, true, not, ◌&&◌, and-true}
 use Rattle.std.specs.Prelude.{nat_eq, nat_le}
-use mathlib.Core.List.{List, [], ◌∷◌, ◌++◌}
+use mathlib.Core.List.{List, ◌∷◌}
 use Prim.Native.Nat.{ℕ, suc, ◌+◌, ◌-◌, ◌*◌, ◌≤◌, ◌<◌}
 use native.Mathlib.Nat.{suc-mul, mul-le-mul_right}
 use native.Mathlib.Omega.{arith}
 use borrow.Author.Tests.{eqb-true, eq-eqb}
-use lib.ListN.{length, get_or, take, drop, get_or-append, length-append, length-drop}
+use lib.ListN.{length, get_or, take, drop, get_or-append, length-drop}
 use lib.Seq.{length-take-le, get_or-take, get_or-drop, get_or-append_right}
 use lib.Dec.{eqb}
-use Rattle.lists.specs.Search.{every}
 use Rattle.lists.proofs.BoolLaws.{by_bool, every-same}
-use Rattle.lists.proofs.SearchLaws.{both, every-at}
-use Rattle.table.specs.Sizes.{is_size}
 use Rattle.table.specs.Table.{line_start, cell}
-use Rattle.table.specs.Table.{stride as stride_2, table_length as table_length_2, status, suspects as suspects_2}
+use Rattle.table.specs.Table.{stride as stride_2, table_length as table_length_2, suspects as suspects_2}
 use Rattle.table.specs.Rules.{exit_rule, suspicion_rule, shape_check, table_check, some_live, live_finished}
 use Rattle.table.specs.Rules.{row_rule as row_rule_2, line_rules as line_rules_2, round_over as round_over_2}
-use Rattle.saved.specs.Fields.{only_one, only_contents}
-use Rattle.saved.specs.Plant.{line_in, of_station, all_fit, lines_right, table_in}
-use Rattle.saved.specs.Edition1.{head, stride, table_length, line_field_length, cell as cell_1, row_rule, line_rules, not_live, round_over, rules_check}
+use Rattle.saved.specs.Fields.{only_contents}
+use Rattle.saved.specs.Plant.{line_in, of_station, lines_right, table_in}
+use Rattle.saved.specs.Edition1.{head, stride, table_length, line_field_length, cell as cell_1, row_rule, line_rules, round_over, rules_check}
 use Rattle.saved.specs.Edition1.{told_by_of, converted_line, line_of, converted_table}
 use Rattle.saved.specs.Reading.{line_read, table_read}
 use Rattle.saved.specs.declared.edition.Edition.TheVariants.{One}
@@ -149,5 +146,6 @@ module _ (n : ℕ) (cs : List (List ℕ)) (right : lines_right (line_field_lengt
   pub read-converted : table_read One n cs ≡ converted_table n (table_in n cs)
   unfolding table_read converted_table line_of table_in
   read-converted =
-      concat-same (λ i. line_read One (only_contents (of_station i cs))) (λ i. converted_line (take (stride n) (drop (i * stride n) (table_in n cs)))) n
+      concat-same (λ i. line_read One (only_contents (of_station i cs)))
+      (λ i. converted_line (take (stride n) (drop (i * stride n) (table_in n cs)))) n
       (λ i h. ap converted_line (sym (concat-at (λ i. line_in (only_contents (of_station i cs))) (stride n) n i old-line h)))

@@ -1,33 +1,33 @@
 -- Laws of the first pass over a file's fields: whether they stand in order, what is found of size and tally, and what the pass answers.
 -- Assumes nothing.
 use mathlib.Core.Path.{◌≡◌, refl, sym, ap, ap₂, ◌∙◌}
-use mathlib.Core.Bool.{Bool, true, false, ◌&&◌, and-false, and-true}
+use mathlib.Core.Bool.{Bool, true, false, not, ◌&&◌, ◌||◌, and-false, and-true}
 use mathlib.Core.List.{List, [], ◌∷◌}
 use Rattle.std.specs.Int.{w32, from_be_bytes}
 use native.Mathlib.Omega.{arith}
-use Rattle.std.specs.Prelude.{Option, Some, None, is_none, Result, Ok, Err}
+use Rattle.std.specs.Prelude.{Option, Some, None, is_none, Result, Ok, Err, nat_le}
 use Prim.Native.Nat.{ℕ}
 use borrow.Author.Tests.{eqb-true}
 use lib.ListN.{length, get_or, take, drop, length-drop}
 use lib.Seq.{drop-cons}
 use lib.Dec.{eqb}
+use Rattle.std.proofs.Math.Dec.{leb-zero}
 use Rattle.lists.specs.declared.refusal.Refusal.{Refusal}
-use Rattle.lists.specs.declared.refusal.Refusal.TheVariants.{FieldPastEnd, SizeOrTallyField, FieldOrder}
-use Rattle.lists.specs.Refusal.{Check, ensure, ◌and◌}
+use Rattle.lists.specs.declared.refusal.Refusal.TheVariants.{FieldPastEnd, SizeOrTallyField, NoOpening, FieldOrder}
+use Rattle.lists.specs.Refusal.{ensure, ◌and◌}
 use Rattle.lists.proofs.BoolLaws.{by_bool}
 use Rattle.plant.specs.declared.Tally.{Tally}
 use Rattle.saved.specs.Bytes.{bytes_value}
 use Rattle.saved.specs.Fields.{Field, runs_past, fields_of, tagged, only_one, only_contents}
 use Rattle.saved.specs.Plant.{size_tag, size_length, tally_tag, tally_length, size_in, tally_rounds, tally_tests, size_and_tally}
-use Rattle.saved.specs.Plant.{plant_check}
-use Rattle.saved.specs.Order.{is_known, is_opening, follows, in_order, order_check}
+use Rattle.saved.specs.Plant.{plant_check, line_tag, station_in}
+use Rattle.saved.specs.Order.{opening_tag, after_opening, is_known, is_line, nothing_before, behind, follows, in_order, order_check}
 use Rattle.saved.specs.Load.{loaded_of}
 use Rattle.saved.specs.Convert.{all_known}
-use Rattle.saved.specs.Reading.{start_of, order_with, may_end, fields_check, found_with, with_size, both_found, complete, opened}
+use Rattle.saved.specs.Reading.{opens_as, behind_opening, behind_as, fields_check, found_with, with_size, both_found, complete, opened}
 use Rattle.saved.specs.declared.edition.Edition.{Edition}
 use Rattle.saved.specs.declared.edition.Edition.TheVariants.{One, Two}
-use Rattle.saved.specs.declared.order.Order.{Order}
-use Rattle.saved.specs.declared.order.Order.TheVariants.{Any, First, Behind}
+use Rattle.saved.specs.declared.order.Previous.{Previous}
 use Rattle.saved.specs.declared.Loaded.{Loaded}
 use Rattle.saved.specs.declared.first_pass.Found.{Found}
 
@@ -158,35 +158,63 @@ size_read [] e = absurd (omega arith)
 size_read (x ∷ []) e = omega arith
 size_read (x ∷ y ∷ c) e = absurd (omega arith)
 
--- the order's refusal in the end, by where the file stands and the fields that are left
-abbrev pub order_left : Order → List Field → Check
-order_left Any fs = ensure (all_known fs) FieldOrder
-order_left First fs = order_check fs
-order_left (Behind b) fs = ensure (in_order b fs) FieldOrder
+-- a line field says nothing of size and tally
+pub pass_line : (found : Result Found Refusal) (f : Field) (fs rest : List Field)
+    → f.tag ≡ line_tag → rest ≡ f ∷ fs → completed found fs ≡ completed found rest
+unfolding tagged
+pass_line (Err r) f fs rest h k = refl
+pass_line (Ok o) f fs rest h k = rw (k, h) refl
 
-abbrev pub ordered : Result Order Refusal → List Field → Check
-ordered (Err r) fs = Err r
-ordered (Ok o) fs = order_left o fs
+-- whether the fields that are left are in order, by edition
+unfoldable pub keeps : Edition → Previous → List Field → Bool
+keeps e b [] = true
+keeps e b (f ∷ fs) = follows b f && keeps e (behind_as e b f) fs
 
-ordered_start : (e : Edition) (fs : List Field) → fields_check e fs ≡ ordered (Ok (start_of e)) fs
-ordered_start One fs = refl
-ordered_start Two fs = refl
+keeps_two : (b : Previous) (fs : List Field) → keeps Two b fs ≡ in_order b fs
+unfolding keeps in_order
+keeps_two b [] = refl
+keeps_two b (f ∷ fs) = ap (λ r. follows b f && r) (keeps_two (behind b f) fs)
 
-ordered_end : (o : Order) → order_left o [] ≡ may_end o
-unfolding all_known in_order order_check
-ordered_end Any = refl
-ordered_end First = refl
-ordered_end (Behind b) = refl
+follows_nothing : (f : Field) → follows nothing_before f ≡ is_known f.tag
+follows_nothing f = ap (λ r. is_known f.tag && r) (free (is_line f) f.tag (station_in f.contents)) ∙ and-true (is_known f.tag)
+  where
+    free : (line : Bool) (tag station : ℕ) → (nat_le 0 tag && (not line || nat_le 0 station)) ≡ true
+    free true tag station = rw (leb-zero, leb-zero) refl
+    free false tag station = rw leb-zero refl
 
-ordered_more : (o : Order) (f : Field) (fs : List Field) → ordered (order_with o f) fs ≡ order_left o (f ∷ fs)
-unfolding all_known in_order order_check
-ordered_more Any f fs = by_bool (is_known f.tag) (λ h. rw h) (λ h. rw h)
-ordered_more First f fs = by_bool (is_opening f) (λ h. rw h) (λ h. rw h)
-ordered_more (Behind b) f fs = by_bool (follows b f) (λ h. rw h) (λ h. rw h)
+keeps_one : (fs : List Field) → keeps One nothing_before fs ≡ all_known fs
+unfolding keeps all_known
+keeps_one [] = refl
+keeps_one (f ∷ fs) = ap₂ (λ a b. a && b) (follows_nothing f) (keeps_one fs)
 
-pub order_on : (order next : Result Order Refusal) (o : Order) (f : Field) (fs rest : List Field)
-    → order ≡ Ok o → next ≡ order_with o f → rest ≡ f ∷ fs → ordered next fs ≡ ordered order rest
-order_on order next o f fs rest e h k = rw (e, h, k) (ordered_more o f fs)
+-- the fields of a file are in order, behind the opening
+abbrev pub all_keep : Edition → List Field → Bool
+all_keep e fs = keeps e nothing_before (behind_opening e fs)
+
+checked : (e : Edition) (fs : List Field) → fields_check e fs ≡ (ensure (opens_as e fs) NoOpening and ensure (all_keep e fs) FieldOrder)
+unfolding order_check
+checked One fs = rw (keeps_one fs) refl
+checked Two fs = rw (keeps_two nothing_before (after_opening fs)) refl
+
+pub keeps_on : (e : Edition) (so_far allowed : Bool) (b next : Previous) (f : Field) (fs rest : List Field)
+    → allowed ≡ follows b f → next ≡ behind_as e b f → rest ≡ f ∷ fs
+    → ((so_far && allowed) && keeps e next fs) ≡ (so_far && keeps e b rest)
+unfolding keeps
+keeps_on e so_far allowed b next f fs rest a h k = rw (a, h, k) (by_bool so_far (λ w. rw w) (λ w. rw w))
+
+pub keeps_end : (e : Edition) (so_far : Bool) (b : Previous) (fs : List Field) → fs ≡ [] → (so_far && keeps e b fs) ≡ so_far
+unfolding keeps
+keeps_end e so_far b fs h = rw (h, and-true)
+
+-- the opening says nothing of size and tally
+pass_opening : (e : Edition) (fs : List Field) → opens_as e fs ≡ true
+    → completed (Ok nothing_found) (behind_opening e fs) ≡ completed (Ok nothing_found) fs
+unfolding tagged
+pass_opening One fs h = refl
+pass_opening Two [] h = refl
+pass_opening Two (f ∷ fs) h =
+    by_bool (eqb f.tag opening_tag) (λ t. let z : f.tag ≡ opening_tag = eqb-true f.tag opening_tag t in rw z refl)
+    (λ t. let z : false ≡ true = rw t at h in cc)
 
 -- the whole file settles 18, 21 and 22, 19 and 1, and size and tally
 pub opened_cut : (e : Edition) (file : List ℕ) → runs_past file ≡ true → Err FieldPastEnd ≡ opened e file
@@ -199,36 +227,34 @@ unfolding plant_check tagged
 opened_plant fs found e = rw (e, completed_start fs) (by_bool (size_and_tally fs) (λ h. rw h) (λ h. rw h))
 
 module _ (e : Edition) (file : List ℕ) (whole : runs_past file ≡ false) where
-  opened_disordered : (r : Refusal) → fields_check e (fields_of file) ≡ Err r → Err r ≡ opened e file
+  abbrev all : List Field
+  all = fields_of file
+
+  pub opened_unopened : opens_as e all ≡ false → Err NoOpening ≡ opened e file
   unfolding opened
-  opened_disordered r h = rw (whole, h)
+  opened_unopened h = rw (whole, checked e all, h) refl
 
-  opened_ordered : fields_check e (fields_of file) ≡ Ok tt → (plant_check (fields_of file) and Ok (loaded_of (fields_of file))) ≡ opened e file
-  unfolding opened
-  opened_ordered h = rw (whole, h)
+  module _ (opening : opens_as e all ≡ true) where
+    pub opened_disordered : all_keep e all ≡ false → Err FieldOrder ≡ opened e file
+    unfolding opened
+    opened_disordered h = rw (whole, checked e all, opening, h) refl
 
-  -- a field out of order, and a file that may not end where it ends
-  pub opened_not : (r : Refusal) → ordered (Err r) [] ≡ ordered (Ok (start_of e)) (fields_of file) → Err r ≡ opened e file
-  opened_not r h = opened_disordered r (ordered_start e (fields_of file) ∙ sym h)
-
-  module _ (o : Order) (h : ordered (Ok o) [] ≡ ordered (Ok (start_of e)) (fields_of file)) where
-    pub opened_unended : (r : Refusal) → Err r ≡ may_end o → Err r ≡ opened e file
-    opened_unended r k = opened_disordered r (ordered_start e (fields_of file) ∙ sym h ∙ ordered_end o ∙ sym k)
-
-    module _ (k : Ok tt ≡ may_end o) where
-      known : fields_check e (fields_of file) ≡ Ok tt
-      known = ordered_start e (fields_of file) ∙ sym h ∙ ordered_end o ∙ sym k
+    module _ (keep : all_keep e all ≡ true) where
+      opened_ordered : (plant_check all and Ok (loaded_of all)) ≡ opened e file
+      unfolding opened
+      opened_ordered = rw (whole, checked e all, opening, keep) refl
 
       -- then what is found
-      pub opened_wrong : (r : Refusal) → completed (Err r) [] ≡ completed (Ok nothing_found) (fields_of file) → Err r ≡ opened e file
-      opened_wrong r g = opened_plant (fields_of file) (Err r) g ∙ opened_ordered known
+      pub opened_wrong : (r : Refusal) → completed (Err r) [] ≡ completed (Ok nothing_found) (behind_opening e all) → Err r ≡ opened e file
+      opened_wrong r g = opened_plant all (Err r) (g ∙ pass_opening e all opening) ∙ opened_ordered
 
-      pub opened_found : (f : Found) → completed (Ok f) [] ≡ completed (Ok nothing_found) (fields_of file) → complete f ≡ opened e file
+      pub opened_found : (f : Found) → completed (Ok f) [] ≡ completed (Ok nothing_found) (behind_opening e all) → complete f ≡ opened e file
       unfolding tagged
-      opened_found f g = ap with_size (all f.size f.tally) ∙ opened_plant (fields_of file) (Ok f) g ∙ opened_ordered known
+      opened_found f g =
+          ap with_size (both f.size f.tally) ∙ opened_plant all (Ok f) (g ∙ pass_opening e all opening) ∙ opened_ordered
         where
-          all : (a : Option ℕ) (b : Option Tally) → both_found a b ≡ completed (Ok (record { size = a; tally = b })) []
-          all (Some a) (Some b) = refl
-          all (Some a) None = refl
-          all None (Some b) = refl
-          all None None = refl
+          both : (a : Option ℕ) (b : Option Tally) → both_found a b ≡ completed (Ok (record { size = a; tally = b })) []
+          both (Some a) (Some b) = refl
+          both (Some a) None = refl
+          both None (Some b) = refl
+          both None None = refl

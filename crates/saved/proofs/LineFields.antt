@@ -1,19 +1,16 @@
 -- Laws of the line fields that the writer writes: their places in the buffer, and one field after the other.
 -- Assumes nothing.
 use mathlib.Core.Path.{◌≡◌, refl, ap, ◌∙◌}
-use mathlib.Core.Bool.{true}
 use mathlib.Core.List.{List, ◌∷◌, ◌++◌}
 use Prim.Native.Nat.{ℕ, suc, min, ◌-◌, ◌+◌, ◌*◌, ◌≤◌, ◌<◌}
-use native.Mathlib.Nat.{suc-mul, mul-le-mul, mul-le-mul_right}
+use native.Mathlib.Nat.{suc-mul, mul-le-mul_right}
 use native.Mathlib.Numerals.{add-one}
 use native.Mathlib.Decide.{dec_lt}
 use native.Mathlib.Omega.{arith}
 use lib.ListN.{length, set, take, drop, length-drop}
 use lib.Seq.{sets, take_all, take-append-le, drop_at, drop-drop}
-use Rattle.table.specs.Sizes.{is_size}
 use Rattle.table.specs.Table.{stride, table_length, line_start}
 use Rattle.table.proofs.CellLaws.{line-inside}
-use Rattle.table.proofs.SizeLaws.{size-bounds}
 use Rattle.saved.specs.Bytes.{bytes_of, concat_of}
 use Rattle.saved.specs.Fields.{field, field_bytes}
 use Rattle.saved.specs.Plant.{line_tag}

@@ -2,14 +2,12 @@
 -- Assumes nothing.
 use mathlib.Core.Path.{◌≡◌, refl, ap, ◌∙◌}
 use mathlib.Core.List.{List, [], ◌∷◌, ◌++◌}
-use Prim.Native.Nat.{ℕ, zero, suc, ◌+◌, ◌*◌, ◌/◌, ◌%◌, ◌^◌, ◌≤◌, ◌<◌}
-use native.Mathlib.Nat.{add-mul, mul_assoc, pow-suc, pow-succ', pow-le-pow_right, lt_of_lt_of_le}
-use native.Mathlib.Numerals.{add-one}
+use Prim.Native.Nat.{ℕ, zero, suc, ◌+◌, ◌*◌, ◌/◌, ◌%◌, ◌^◌, ◌<◌}
+use native.Mathlib.Nat.{add-mul, mul_assoc, pow-suc, pow-succ'}
 use native.Mathlib.Omega.{arith}
 use lib.Arith.{digits_lt}
 use lib.Pow.{pow-add}
-use lib.ListN.{length, get_or, take, length-append, length-take}
-use lib.Seq.{take-suc, get_or-take}
+use lib.ListN.{length, get_or, length-append}
 use Rattle.saved.specs.Bytes.{bytes_value, bytes_of}
 
 number_append : (a b : List ℕ) → bytes_value (a ++ b) ≡ bytes_value a * 256 ^ length b + bytes_value b

@@ -19,14 +19,16 @@ use Rattle.lists.proofs.SearchLaws.{both}
 use Rattle.lists.proofs.RefusalLaws.{check_zero, ensure_ok, and_ok}
 use Rattle.table.specs.Table.{stride, line_start}
 use Rattle.table.specs.Rules.{table_refusal}
-use Rattle.plant.specs.declared.Tally.{Tally}
 use Rattle.saved.specs.Bytes.{bytes_value, bytes_of, concat_of}
 use Rattle.saved.specs.Fields.{Field, field, field_bytes, infront, length_in, extent, fields_up_to, fields, runs_past}
 use Rattle.saved.specs.Fields.{fields_of, tagged, only_one, only_contents}
-use Rattle.saved.specs.Plant.{size_tag, size_length, tally_tag, tally_length, line_tag, line_field_length, size_in, tally_rounds, tally_tests, size_and_tally}
+use Rattle.saved.specs.Plant.{size_tag, size_length, tally_tag, tally_length, line_tag, line_field_length, size_in, tally_rounds, tally_tests}
+use Rattle.saved.specs.Plant.{size_and_tally}
 use Rattle.saved.specs.Plant.{plant_check, station_in, line_in, of_station, fits, all_fit, lines_right, table_in}
-use Rattle.saved.specs.Order.{opening_tag, edition, opening, is_opening, opens, after_opening, is_known, is_line, nothing_before, behind, follows, in_order, order_check}
-use Rattle.saved.specs.Load.{file_size, file_tally, file_lines, file_table, size_check, rest_check, load_check, load_answer, loaded_figures, load_after}
+use Rattle.saved.specs.Order.{opening_tag, edition, opening, is_opening, opens, after_opening, is_known, is_line, nothing_before, behind}
+use Rattle.saved.specs.Order.{follows, in_order, order_check}
+use Rattle.saved.specs.Load.{file_size, file_tally, file_lines, file_table, size_check, rest_check, load_check, load_answer, loaded_figures}
+use Rattle.saved.specs.Load.{load_after}
 use Rattle.saved.specs.Save.{line_of, line_field, saved_lines, saved, save_check, save_after}
 use Rattle.saved.specs.Files.{fields_bytes, AreBytes}
 use Rattle.saved.specs.Restoring.{OneForm}
@@ -123,7 +125,9 @@ by_tag fs = as_fields size_tag (tagged size_tag fs) ++ (as_fields tally_tag (tag
 by_tag_more : (k : ℕ) (c : List ℕ) (s : ℕ) (fs : List Field) → is_known k ≡ true → in_order (record { tag = k; station = s }) fs ≡ true
     → fs ≡ by_tag fs → field k c ∷ fs ≡ by_tag (field k c ∷ fs)
 unfolding tagged as_fields
-by_tag_more k c s fs known e r = by_bool (eqb k size_tag) (λ h. sized (eqb-true k size_tag h)) (λ h. by_bool (eqb k tally_tag) (λ g. tallied (eqb-true k tally_tag g)) (λ g. lined (line h g)))
+by_tag_more k c s fs known e r =
+    by_bool (eqb k size_tag) (λ h. sized (eqb-true k size_tag h))
+    (λ h. by_bool (eqb k tally_tag) (λ g. tallied (eqb-true k tally_tag g)) (λ g. lined (line h g)))
   where
     line : eqb k size_tag ≡ false → eqb k tally_tag ≡ false → k ≡ line_tag
     line h g = eqb-true k line_tag (rw (h, g) at known)
@@ -232,7 +236,8 @@ module _ (len n : ℕ) (g : ℕ → List ℕ) where
       here : (suc m ≤ n → rising (suc m) cs ≡ true → all_fit len n cs ≡ true
           → ((i : ℕ) → suc m ≤ i → i < n → only_one len (of_station i cs) ≡ true)
           → ((i : ℕ) → suc m ≤ i → i < n → g i ≡ only_contents (of_station i cs))
-          → concat_of its_field (suc m) ++ fields_bytes (as_fields line_tag cs) ≡ concat_of its_field n) → station_in c ≡ m → concat_of its_field m ++ fields_bytes (as_fields line_tag (c ∷ cs)) ≡ concat_of its_field n
+          → concat_of its_field (suc m) ++ fields_bytes (as_fields line_tag cs) ≡ concat_of its_field n)
+          → station_in c ≡ m → concat_of its_field m ++ fields_bytes (as_fields line_tag (c ∷ cs)) ≡ concat_of its_field n
       here further s =
           let k : eqb (station_in c) m ≡ true = eq-eqb (station_in c) m s in
           let b : m < n = rw (← s) low in

@@ -11,7 +11,8 @@ use Rattle.lists.proofs.SearchLaws.{both, every-at}
 use Rattle.table.specs.Sizes.{is_size}
 use Rattle.saved.specs.Fields.{Field, fields_of, tagged, only_one, only_contents}
 use Rattle.saved.specs.Plant.{size_tag, size_length, tally_tag, tally_length, line_tag}
-use Rattle.saved.specs.Plant.{size_in, tally_rounds, tally_tests, size_and_tally, plant_check, station_in, line_in, of_station, fits, all_fit, lines_right, table_in}
+use Rattle.saved.specs.Plant.{size_in, tally_rounds, tally_tests, size_and_tally, plant_check, station_in, line_in, of_station, fits, all_fit}
+use Rattle.saved.specs.Plant.{lines_right, table_in}
 use Rattle.saved.specs.Order.{is_known}
 use Rattle.saved.specs.Load.{file_lines}
 use Rattle.saved.specs.Edition1.{line_field_length}

@@ -70,6 +70,9 @@ module _ (rest left : List ℕ) (o : Option FieldRead) (reads : Reads rest (Ok o
   unfolding runs_past fields_of
   tells_none e = let h : fields rest ≡ Some [] = (rw e at reads).0 in rw h (refl, refl)
 
+  pub ends : o ≡ None → left ≡ rest
+  ends e = (rw e at reads).1
+
 -- a field or its head that runs past the end
 pub tells_cut : (rest : List ℕ) → fields rest ≡ None → runs_past rest ≡ true
 unfolding runs_past

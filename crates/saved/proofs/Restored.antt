@@ -139,7 +139,8 @@ weaker (f ∷ fs) b b' h g e =
 ordered-lines : (n : ℕ) (t : List ℕ) (k : ℕ) (fs : List Field) → in_order (record { tag = line_tag; station = k }) fs ≡ true
     → in_order (record { tag = tally_tag; station = 0 }) (front (line_field n t) k fs) ≡ true
 unfolding in_order
-ordered-lines n t zero fs e = weaker fs (record { tag = line_tag; station = 0 }) (record { tag = tally_tag; station = 0 }) (omega arith) (omega arith) e
+ordered-lines n t zero fs e =
+    weaker fs (record { tag = line_tag; station = 0 }) (record { tag = tally_tag; station = 0 }) (omega arith) (omega arith) e
 ordered-lines n t (suc k) fs e =
     ordered-lines n t k (line_field n t k ∷ fs)
     (rw (le-leb k k (omega arith))

@@ -42,3 +42,6 @@ module _ (n : ℕ) (t : List ℕ) (x : Unit {0}) (e : table_check n t ≡ Ok x) 
 
 pub sets_long : (b u l : List ℕ) (k : ℕ) → u ≡ sets b k l → length u ≡ length b
 sets_long b u l k e = rw e (length-sets b k l)
+
+-- what the writer's goals want of these
+pub ruleset writing = (save_low, save_table, save_long, save_done, sets_long)

@@ -1,7 +1,8 @@
 -- Edition 1, of which only the converter takes files: the head of a line has four bytes, nothing opens the file, the fields stand in any order, and
 -- the reader passed over fields of other tags.
 -- Assumes nothing.
-use Rattle.std.specs.Prelude.{ℕ, ◌+◌, ◌*◌, Bool, not, ◌&&◌, ◌||◌, List, ◌∷◌, ◌++◌, length, take, drop, Result, Ok, if◌then◌else◌, ◌==◌, nat_le, slice_index}
+use Rattle.std.specs.Prelude.{ℕ, ◌+◌, ◌*◌, Bool, not, ◌&&◌, ◌||◌, List, ◌∷◌, ◌++◌, length, take, drop, Result, Ok, if◌then◌else◌, ◌==◌, nat_le}
+use Rattle.std.specs.Prelude.{slice_index}
 use Rattle.lists.specs.declared.refusal.Refusal.{Refusal}
 use Rattle.lists.specs.declared.refusal.Refusal.TheVariants.{TableLength, LineRule, RoundNotClosed, FieldPastEnd, LineField}
 use Rattle.lists.specs.Refusal.{Check, ensure, ◌and◌, number_of_result, unless_refused}

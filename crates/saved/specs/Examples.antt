@@ -92,8 +92,8 @@ examples =
     -- 1: sizes 1 and 65, also where 20 applies
     ∷ example (opening ++ ((1 ∷ 0 ∷ 1 ∷ 1 ∷ []) ++ tally)) 16 1
     ∷ example (opening ++ ((1 ∷ 0 ∷ 1 ∷ 65 ∷ []) ++ tally)) 16 1
-    -- 20: a station absent, twice, too high, a line one byte short, an empty line field, which counts as station 0, before the lines and behind one of
-    -- station 0, lines with heads of four bytes; also where 2 applies
+    -- 20: a station absent, twice, too high, a line one byte short, an empty line field, which counts as station 0, before the lines and behind one
+    -- of station 0, lines with heads of four bytes; also where 2 applies
     ∷ example (front ++ line0) 16 20
     ∷ example (front ++ (line0 ++ (line0 ++ line1))) 16 20
     ∷ example (two_boards ++ (3 ∷ 0 ∷ 9 ∷ 2 ∷ 0 ∷ 1 ∷ 0 ∷ 0 ∷ 255 ∷ 0 ∷ 0 ∷ 0 ∷ [])) 16 20

@@ -1,10 +1,11 @@
--- What the code answers on its way, in either edition: the next field of a file; where in its order a file stands, and what is found of size and
--- tally, with one field more; which lines are new, and the table that they give. The promises of the calls do not cite these.
+-- What the code answers on its way, in either edition: the next field of a file; the opening, what a field is held against, and what is found of
+-- size and tally, with one field more; which lines are new, and the table that they give. The promises of the calls do not cite these.
 -- Assumes nothing.
-use Rattle.std.specs.Prelude.{◌≡◌, ℕ, ◌+◌, ◌<◌, ◌≤◌, Bool, false, not, ◌&&◌, List, [], length, take, drop, if◌then◌else◌, ◌==◌, slice_index_or}
+use Rattle.std.specs.Prelude.{◌≡◌, ℕ, ◌+◌, ◌<◌, ◌≤◌, Bool, true, false, not, ◌&&◌, List, [], length, take, drop, if◌then◌else◌}
+use Rattle.std.specs.Prelude.{◌==◌, slice_index_or}
 use Rattle.std.specs.Prelude.{Option, Some, None, is_none, Result, Ok, Err}
 use Rattle.lists.specs.declared.refusal.Refusal.{Refusal}
-use Rattle.lists.specs.declared.refusal.Refusal.TheVariants.{SizeOutOfRange, FieldPastEnd, SizeOrTallyField, NoOpening, FieldOrder}
+use Rattle.lists.specs.declared.refusal.Refusal.TheVariants.{SizeOutOfRange, FieldPastEnd, SizeOrTallyField, FieldOrder}
 use Rattle.lists.specs.Refusal.{Check, ensure, ◌and◌}
 use Rattle.table.specs.Sizes.{is_size}
 use Rattle.table.specs.Table.{stride}
@@ -12,7 +13,7 @@ use Rattle.plant.specs.declared.Tally.{Tally}
 use Rattle.saved.specs.Bytes.{bytes_value, concat_of}
 use Rattle.saved.specs.Fields.{Field, field, infront, extent, first_field, fields, runs_past, fields_of, only_contents}
 use Rattle.saved.specs.Plant.{size_tag, size_length, tally_tag, tally_length, plant_check, station_in, line_in, fits, of_station}
-use Rattle.saved.specs.Order.{is_known, is_opening, nothing_before, behind, follows, order_check}
+use Rattle.saved.specs.Order.{opens, after_opening, behind, order_check}
 use Rattle.saved.specs.Load.{loaded_of}
 use Rattle.saved.specs.Edition1.{converted_line}
 use Rattle.saved.specs.Edition1.{stride as old_stride}
@@ -22,8 +23,7 @@ use Rattle.saved.specs.declared.edition.Edition.{Edition}
 use Rattle.saved.specs.declared.edition.Edition.TheVariants.{One, Two}
 use Rattle.saved.specs.declared.fields.Field.{Field as FieldRead}
 use Rattle.saved.specs.declared.first_pass.Found.{Found}
-use Rattle.saved.specs.declared.order.Order.{Order}
-use Rattle.saved.specs.declared.order.Order.TheVariants.{Any, First, Behind}
+use Rattle.saved.specs.declared.order.Previous.{Previous}
 
 -- what the code's Field stands for
 abbrev pub field_value : FieldRead → Field
@@ -41,20 +41,26 @@ ReadsFirst rest (Err r) left = length rest < extent rest
 ReadsFirst rest (Ok None) left = length rest ≡ 0
 ReadsFirst rest (Ok (Some f)) left = (field_value f ≡ first_field rest) × (extent rest ≤ length rest) × (left ≡ drop (extent rest) rest)
 
--- where a file stands before its first field, with one field more, and whether it may end there
-abbrev pub start_of : Edition → Order
-start_of One = Any
-start_of Two = First
+-- whether fields open as the edition says, and those behind the opening, which edition 1 has not
+abbrev pub opens_as : Edition → List Field → Bool
+opens_as One fs = true
+opens_as Two fs = opens fs
 
-abbrev pub order_with : Order → Field → Result Order Refusal
-order_with Any f = ensure (is_known f.tag) FieldOrder and Ok Any
-order_with First f = ensure (is_opening f) NoOpening and Ok (Behind nothing_before)
-order_with (Behind b) f = ensure (follows b f) FieldOrder and Ok (Behind (behind b f))
+abbrev pub behind_opening : Edition → List Field → List Field
+behind_opening One fs = fs
+behind_opening Two fs = after_opening fs
 
-abbrev pub may_end : Order → Check
-may_end Any = Ok tt
-may_end First = Err NoOpening
-may_end (Behind b) = Ok tt
+-- what is answered of the opening where the rest of a file is to be read, and what is left of the rest
+abbrev pub Opens : Edition → List ℕ → Result Bool Refusal → List ℕ → Type 0
+Opens e rest (Err r) left = (runs_past rest ≡ true) × (r ≡ FieldPastEnd)
+Opens e rest (Ok opens) left =
+    (runs_past left ≡ runs_past rest)
+    × (runs_past rest ≡ false → (opens ≡ opens_as e (fields_of rest)) × (fields_of left ≡ behind_opening e (fields_of rest)))
+
+-- what the next field is held against, by edition: the fields of edition 1 stand in any order
+abbrev pub behind_as : Edition → Previous → Field → Previous
+behind_as One b f = b
+behind_as Two b f = behind b f
 
 -- what is found of size and tally, with one field more: refused where that is not the first with its tag, or has the wrong length
 unfoldable pub found_with : Found → Field → Result Found Refusal

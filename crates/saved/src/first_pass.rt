@@ -4,8 +4,8 @@ ghost use Rattle.saved.specs.Reading.{field_value, found_with, complete, opened}
 
 use crate::edition::Edition;
 use crate::fields::{Field, Fields};
-use crate::order::Order;
-use crate::{Loaded, SIZE, TALLY};
+use crate::order::NOTHING_BEFORE;
+use crate::{LINE, Loaded, SIZE, TALLY, order};
 use lists::refusal::Refusal;
 use plant::Tally;
 use table::sizes;
@@ -64,20 +64,29 @@ pub fn open(file: &[u8], edition: Edition) -> Result<Loaded, Refusal>
     ensures { result ≡ opened edition file.now }
 {
     let mut fields = Fields { rest: file };
-    let mut order = Ok(Order::start(edition));
+    let opens = order::opens(edition, &mut fields)?;
+    let mut in_order = true;
+    let mut previous = NOTHING_BEFORE;
     let mut found = Ok(Found {
         size: None,
         tally: None,
     });
     while let Some(field) = fields.next()? {
-        // Not `and_then`: a proof learns nothing of what a closure over a borrowed field returns.
-        if let Ok(before) = order {
-            order = before.with(field);
+        in_order &= previous.allows(field);
+        previous = previous.behind(field, edition);
+        if field.tag == LINE {
+            continue; // most fields are lines, and say nothing of size and tally
         }
+        // Not `and_then`: a proof learns nothing of what a closure over a borrowed field returns.
         if let Ok(before) = found {
             found = before.with(field);
         }
     }
-    order?.end()?;
+    if !opens {
+        return Err(Refusal::NoOpening);
+    }
+    if !in_order {
+        return Err(Refusal::FieldOrder);
+    }
     found?.complete()
 }

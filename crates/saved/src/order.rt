@@ -1,24 +1,13 @@
 // What a file opens with, which tags are known, and in which order the fields stand. Refusals 21 and 22.
 ghost use Rattle.std.specs.Prelude.{◌≡◌};
 ghost use Rattle.saved.specs.Plant.{station_in};
-ghost use Rattle.saved.specs.Reading.{field_value, start_of, order_with, may_end};
-ghost use Rattle.saved.specs.Order.{is_known, is_opening, behind, follows};
+ghost use Rattle.saved.specs.Reading.{field_value, Opens, behind_as};
+ghost use Rattle.saved.specs.Order.{is_known, is_opening, follows};
 
 use crate::edition::Edition;
-use crate::fields::Field;
+use crate::fields::{Field, Fields};
 use crate::{LINE, OPENING, SECOND, SIZE, TALLY};
 use lists::refusal::Refusal;
-
-// Where a file stands, before its next field.
-#[derive(Clone, Copy)]
-pub enum Order {
-    // Edition 1: the fields stand in any order.
-    Any,
-    // Edition 2: the opening comes first.
-    First,
-    // Edition 2: behind the opening, and behind these.
-    Behind(Previous),
-}
 
 // What a field is held against: the tag of the one before and the station of the previous line, 0 where there is none. Not `Option`: no tag and no
 // station is below 0, so that nobody need ask whether there is one before.
@@ -28,40 +17,19 @@ pub struct Previous {
     pub station: u8,
 }
 
-impl Order {
-    // Before the first field.
-    pub fn start(edition: Edition) -> Order
-        ensures { result ≡ start_of edition }
-    {
-        match edition {
-            Edition::One => Order::Any,
-            Edition::Two => Order::First,
-        }
-    }
+// Before the first field, and behind the opening.
+pub const NOTHING_BEFORE: Previous = Previous { tag: 0, station: 0 };
 
-    // Behind one field more.
-    pub fn with(self, field: Field) -> Result<Order, Refusal>
-        ensures { result ≡ order_with self (field_value field.entry) }
-    {
-        match self {
-            Order::Any if is_known(field.tag) => Ok(Order::Any),
-            Order::First if is_opening(field) => Ok(Order::Behind(Previous { tag: 0, station: 0 })),
-            Order::Behind(before) if before.allows(field) => Ok(Order::Behind(before.behind(
-                field,
-            ))),
-            Order::First => Err(Refusal::NoOpening),
-            _ => Err(Refusal::FieldOrder),
-        }
-    }
-
-    // Whether the file may end here.
-    pub(crate) fn end(self) -> Result<(), Refusal>
-        ensures { result ≡ may_end self }
-    {
-        match self {
-            Order::First => Err(Refusal::NoOpening),
-            Order::Any | Order::Behind(_) => Ok(()),
-        }
+// Whether a file opens as its edition does. What is left to read are the fields behind the opening, which edition 1 has not. Refusal 18.
+pub(crate) fn opens(edition: Edition, fields: &mut Fields) -> Result<bool, Refusal>
+    ensures { Opens edition fields.old.rest.now result fields.new.rest.now }
+{
+    match edition {
+        Edition::One => Ok(true),
+        Edition::Two => match fields.next()? {
+            Some(field) => Ok(is_opening(field)),
+            None => Ok(false),
+        },
     }
 }
 
@@ -81,7 +49,7 @@ fn station_of(contents: &[u8]) -> u8
 
 impl Previous {
     // Whether a field is in order and its tag known.
-    fn allows(self, field: Field) -> bool
+    pub fn allows(self, field: Field) -> bool
         ensures { result ≡ follows self (field_value field.entry) }
     {
         is_known(field.tag)
@@ -89,23 +57,26 @@ impl Previous {
             & ((field.tag != LINE) | (self.station <= station_of(field.contents)))
     }
 
-    // What the next field is held against.
-    fn behind(self, field: Field) -> Previous
-        ensures { result ≡ behind self (field_value field.entry) }
+    // What the next field is held against. In edition 1 it stays as it is, with nothing before: the fields stand in any order.
+    pub fn behind(self, field: Field, edition: Edition) -> Previous
+        ensures { result ≡ behind_as edition self (field_value field.entry) }
     {
-        Previous {
-            tag: field.tag,
-            station: if field.tag == LINE {
-                station_of(field.contents)
-            } else {
-                self.station
+        match edition {
+            Edition::One => self,
+            Edition::Two => Previous {
+                tag: field.tag,
+                station: if field.tag == LINE {
+                    station_of(field.contents)
+                } else {
+                    self.station
+                },
             },
         }
     }
 }
 
 // Whether a field is the opening.
-fn is_opening(field: Field) -> bool
+pub fn is_opening(field: Field) -> bool
     ensures { result ≡ is_opening (field_value field.entry) }
 {
     field.tag == OPENING && matches!(field.contents, [SECOND])

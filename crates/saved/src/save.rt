@@ -20,7 +20,7 @@ const FRONT: usize = 19;
 const BESIDE_LINE: usize = 3 + 1;
 
 // Writes the saved plant into the buffer, which has just its length.
-#[tactic(auto, using(crate::proofs::Saving::save_low, crate::proofs::Saving::save_table, crate::proofs::Saving::save_long, crate::proofs::Saving::save_done, crate::proofs::Saving::sets_long), unfolding(crate::specs::Save::save_check, crate::specs::Save::save_after))]
+#[tactic(auto, using(crate::proofs::Saving::writing), unfolding(crate::specs::Save::save_check, crate::specs::Save::save_after))]
 pub fn save(n: usize, table: &[u8], tally: Tally, buffer: &mut [u8]) -> Result<(), Refusal>
     ensures check { result ≡ save_check n table.now tally (length buffer.old) }
     ensures buffer_after { buffer.new ≡ save_after n table.now tally buffer.old }
@@ -42,8 +42,8 @@ pub(crate) fn saved_length(n: u8) -> usize
     FRONT + n * (n + cells::HEAD as usize + BESIDE_LINE)
 }
 
-// The opening, the size field and the tally field. By places, here and below. Tried: a struct with the rest of the buffer, which each write moves on; of what is
-// written through a cursor that `split_at_mut` moves on a proof knows nothing afterwards.
+// The opening, the size field and the tally field. By places, here and below. Tried: a struct with the rest of the buffer, which each write moves on;
+// of what is written through a cursor that `split_at_mut` moves on a proof knows nothing afterwards.
 fn write_front(n: u8, tally: Tally, buffer: &mut [u8])
     requires { 19 ≤ length buffer.old }
     ensures { buffer.new ≡ sets buffer.old 0 (front_fields n tally) }

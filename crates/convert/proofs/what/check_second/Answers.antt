@@ -1,5 +1,5 @@
 -- The size's own refusal, or what the reader answers with a table of that size.
-use Rattle.std.proofs.Common.{arith, sym, refl, ◌∙◌, ap}
+use Rattle.std.proofs.Common.{arith, sym, ◌∙◌, ap}
 use Rattle.std.proofs.lemmas.Result.{err_from_is_err_and}
 use lib.Seq.{length-take-le}
 use Rattle.table.specs.Table.{table_length}

@@ -1,5 +1,5 @@
 -- The length's own refusal, or what the converter answers with a part of that length.
-use Rattle.std.proofs.Common.{arith, sym, refl, ◌∙◌, take, drop, ◌++◌, ap}
+use Rattle.std.proofs.Common.{arith, sym}
 use Rattle.std.proofs.lemmas.Result.{err_from_is_err_and}
 use Rattle.std.proofs.lemmas.List.{take-append-drop}
 use lib.Seq.{length-take-le, take-append_seam}

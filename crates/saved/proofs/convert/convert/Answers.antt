@@ -38,5 +38,7 @@ returns-in_err-build_table c =
 pub returns : goal.returns
 returns c =
     let bytes = c.in_ok-build_table.ensures.table_built refl in
-    let g = saved_gives _ c.args.buffer.now _ c.in_ok-opened.ensures _ _ c.in_ok-build_table.ensures.check (search rules) _ _ c.save.ensures.check c.save.ensures.buffer_after in
+    let g =
+    saved_gives _ c.args.buffer.now _ c.in_ok-opened.ensures _ _ c.in_ok-build_table.ensures.check (search rules) _ _ c.save.ensures.check
+    c.save.ensures.buffer_after in
     record { check = g.0; buffer_after = g.1 }

@@ -28,7 +28,8 @@ pub loop-field-preserved-then-field-ne-LINE : goal.loop-field-preserved-then-fie
 loop-field-preserved-then-field-ne-LINE c =
     let i = c.loop-field.invariant in
     let t = tells_more _ _ _ c.in_ok-field.ensures.fields _ c.in-Some.is in
-    record { same = i.same; whole = t.0 ∙ i.whole; wide = i.wide; passed = passed_other _ _ _ _ _ _ _ _ (t.1 i.whole) c.if-field-ne-LINE.true i.passed }
+    let p = passed_other _ _ _ _ _ _ _ _ (t.1 i.whole) c.if-field-ne-LINE.true i.passed in
+    record { same = i.same; whole = t.0 ∙ i.whole; wide = i.wide; passed = p }
 
 pub returns-in_err-take_line-clause-check : goal.returns-in_err-take_line-clause-check
 returns-in_err-take_line-clause-check c =

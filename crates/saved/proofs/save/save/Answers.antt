@@ -13,5 +13,6 @@ returns-clause-buffer_after c =
     let long = rw t.same_size at (c.if-buffer-saved_length.false ∙ c.saved_length.ensures) ∙ sym (save_long a.n a.table.now _ e a.tally) in
     let front = rw t.same_size at c.write_front.ensures in
     let lines = rw (t.same_size, t.same_bytes) at c.write_lines.ensures in
-    let w = save_done a.n a.table.now _ e a.tally a.buffer.now _ _ (rw t.same_size at (c.if-buffer-saved_length.false ∙ c.saved_length.ensures)) front lines in
+    let whole = rw t.same_size at (c.if-buffer-saved_length.false ∙ c.saved_length.ensures) in
+    let w = save_done a.n a.table.now _ e a.tally a.buffer.now _ _ whole front lines in
     rw (e, eq-eqb (length a.buffer.now) (length (saved a.n a.table.now a.tally)) long) w

@@ -1,5 +1,5 @@
 -- A fresh table of that size has room for the line.
-use Rattle.std.proofs.Common.{rules, arith, sym, refl, ◌∙◌, ◌-◌, length, drop}
+use Rattle.std.proofs.Common.{rules, arith, sym, ◌∙◌, ◌-◌, length, drop}
 use lib.ListN.{length-drop}
 use lib.Seq.{length-take-le, take_all}
 use Rattle.saved.proofs.Loading.{table_fits}
