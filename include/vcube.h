@@ -95,7 +95,7 @@
 #define VCUBE_VERSION_MAJOR 0
 #define VCUBE_VERSION_MINOR 11
 #define VCUBE_VERSION_PATCH 0
-#define VCUBE_VERSION "0.11.0"
+#define VCUBE_VERSION "0.12.0"
 
 #ifdef __cplusplus
 extern "C" {

@@ -195,9 +195,7 @@ pub fn keeps_line_rules(size: Size, own: Station, bytes: &[u8]) -> bool {
 /// Whether the bytes of a line of edition 1 keep the line rules, which say
 /// nothing there of who told the station and of rounds closed since.
 pub fn keeps_former_line_rules(size: Size, own: Station, bytes: &[u8]) -> bool {
-    bytes[0] <= 3
-        && pass_is_valid(size, bytes)
-        && row_is_valid(own, &bytes[FORMER_HEAD..])
+    bytes[0] <= 3 && pass_is_valid(size, bytes) && row_is_valid(own, &bytes[FORMER_HEAD..])
 }
 
 /// A line of edition 1 with bytes 4 and 5: who told the station was never
