@@ -93,7 +93,7 @@
 #include <stdint.h>
 
 #define VCUBE_VERSION_MAJOR 0
-#define VCUBE_VERSION_MINOR 11
+#define VCUBE_VERSION_MINOR 12
 #define VCUBE_VERSION_PATCH 0
 #define VCUBE_VERSION "0.12.0"
 

@@ -520,7 +520,7 @@ fn numbers_out_of_range_are_refused() {
 fn numbers_are_those_of_the_documents() {
     let names = |name: fn(u8) -> Option<String>| (0..=255).filter_map(name).collect::<Vec<_>>();
     let refusals = names(|k| Refusal::from_number(k).map(|one| format!("{k} {}", one.number())));
-    assert_eq!((refusals.len(), refusals[21].as_str()), (22, "22 22"));
+    assert_eq!((refusals.len(), refusals[22].as_str()), (23, "23 23"));
     let kinds = names(|k| Kind::from_number(k).map(|one| format!("{} {one:?}", one.number())));
     assert_eq!(kinds, ["1 Turn", "2 LateTurn", "3 Crash"]);
     let statuses = names(|k| Status::from_number(k).map(|one| format!("{k} {one:?}")));
@@ -559,12 +559,12 @@ fn refusals_of_tables_and_entries_have_their_names() {
 
 #[test]
 fn each_refusal_has_a_message_of_its_own() {
-    let refusals = (1..=22).map(|k| Refusal::from_number(k).expect("22 refusals"));
+    let refusals = (1..=23).map(|k| Refusal::from_number(k).expect("23 refusals"));
     let mut messages: Vec<String> = refusals.map(|refusal| refusal.to_string()).collect();
     assert!(messages.iter().all(|message| !message.is_empty()));
     messages.sort();
     messages.dedup();
-    assert_eq!(messages.len(), 22);
+    assert_eq!(messages.len(), 23);
     let error: Box<dyn std::error::Error> = Refusal::NotLive.into();
     assert_eq!(error.to_string(), "this board is not live");
 }
