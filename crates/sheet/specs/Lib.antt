@@ -1,3 +1,4 @@
 pub mod Text
 pub mod Named
 pub mod Call
+pub mod Printed

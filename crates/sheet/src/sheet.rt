@@ -46,15 +46,20 @@ impl fmt::Display for Sheet {
 struct Dead<'a>(&'a Plant);
 
 impl<'a> fmt::Display for Dead<'a> {
+    ghost use Rattle.std.specs.Prelude.{Some};
+    ghost use Rattle.sheet.specs.Printed.{dead_text};
+
+    ghost output = { λ dead. Some (dead_text (take dead.0.now.size dead.0.now.row)) };
+
     fn fmt<W: fmt::Write>(&self, f: &mut fmt::Formatter<W>) -> fmt::Result {
         let row = self.0.row();
+        if row.iter().all(|dead| *dead == 0) {
+            return f.write_str(" none");
+        }
         for (board, dead) in row.iter().enumerate() {
             if *dead != 0 {
                 write!(f, " {board}")?;
             }
-        }
-        if row.iter().all(|dead| *dead == 0) {
-            f.write_str(" none")?;
         }
         Ok(())
     }
@@ -106,10 +111,17 @@ fn list_columns(plant: &Plant, i: Station) -> usize
 struct Boards<'a>(&'a [Station]);
 
 impl<'a> fmt::Display for Boards<'a> {
+    ghost use Rattle.std.specs.Prelude.{Some};
+    ghost use Rattle.sheet.specs.Printed.{boards_text};
+
+    ghost output = { λ boards. Some (boards_text (map (λ x. x.0) boards.0.now)) };
+
     fn fmt<W: fmt::Write>(&self, f: &mut fmt::Formatter<W>) -> fmt::Result {
-        for (k, board) in self.0.iter().enumerate() {
-            let gap = if k == 0 { "" } else { " " };
-            write!(f, "{gap}{}", board.0)?;
+        if let [first, rest @ ..] = self.0 {
+            write!(f, "{}", first.0)?;
+            for board in rest {
+                write!(f, " {}", board.0)?;
+            }
         }
         Ok(())
     }
@@ -143,13 +155,18 @@ fn digits(x: u8) -> usize
 struct Ahead<'a>(&'a [Untested]);
 
 impl<'a> fmt::Display for Ahead<'a> {
+    ghost use Rattle.std.specs.Prelude.{Some};
+    ghost use Rattle.sheet.specs.Printed.{ahead_text};
+
+    ghost output = { λ boards. Some (ahead_text boards.0.now) };
+
     fn fmt<W: fmt::Write>(&self, f: &mut fmt::Formatter<W>) -> fmt::Result {
-        if self.0.is_empty() {
+        let [Untested { board, ahead }, rest @ ..] = self.0 else {
             return f.write_str("-");
-        }
-        for (k, Untested { board, ahead }) in self.0.iter().enumerate() {
-            let gap = if k == 0 { "" } else { ", " };
-            write!(f, "{gap}{} ({})", board.0, ahead.0)?;
+        };
+        write!(f, "{} ({})", board.0, ahead.0)?;
+        for Untested { board, ahead } in rest {
+            write!(f, ", {} ({})", board.0, ahead.0)?;
         }
         Ok(())
     }

@@ -1,4 +1,4 @@
-// What the run program prints. No contract can say what is written; these functions are safe.
+// What the run program prints.
 ghost use Rattle.std.specs.Prelude.{◌≡◌, ◌≢◌, ◌≤◌, ◌+◌};
 ghost use Rattle.lists.specs.declared.refusal.Refusal.{Refusal};
 
@@ -14,6 +14,11 @@ pub struct RunSheet<'a> {
 }
 
 impl<'a> fmt::Display for RunSheet<'a> {
+    ghost use Rattle.std.specs.Prelude.{Some};
+    ghost use Rattle.watch.specs.Words.{run_words};
+
+    ghost output = { λ run. Some (run_words run.sheet.now run.ran) };
+
     fn fmt<W: fmt::Write>(&self, f: &mut fmt::Formatter<W>) -> fmt::Result {
         f.write_str("station tested outcome status\n")?;
         for line in self.sheet.chunks_exact(4).take(self.ran.taken) {
@@ -61,6 +66,11 @@ impl<'a> Line<'a> {
 
 // Its number and text, in ASCII characters that can be printed; after 40 bytes it is cut. Nothing of an empty line.
 impl<'a> fmt::Display for Line<'a> {
+    ghost use Rattle.std.specs.Prelude.{Some};
+    ghost use Rattle.watch.specs.Words.{line_words};
+
+    ghost output = { λ line. Some (line_words line.number line.text.now) };
+
     fn fmt<W: fmt::Write>(&self, f: &mut fmt::Formatter<W>) -> fmt::Result {
         if self.text.is_empty() {
             return Ok(());
