@@ -2,3 +2,4 @@ pub mod Text
 pub mod Named
 pub mod Call
 pub mod Printed
+pub mod SizeLines

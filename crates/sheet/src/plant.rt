@@ -77,7 +77,7 @@ impl Plant {
     }
 
     // How many boards are live.
-    fn live_boards(&self) -> usize
+    pub fn live_boards(&self) -> usize
         ensures { result ≡ count_by (λ dead. dead == 0) (take self.now.size self.now.row) }
     {
         self.row().iter().filter(|dead| **dead == 0).count()
