@@ -69,7 +69,10 @@ pub fn respond(arguments: &[&[u8]]) -> Response {
 
 /// Other arguments that begin with a hyphen are the program's matter.
 fn read_arguments(arguments: &[&[u8]]) -> Result<Request, Wrong> {
-    if arguments.iter().any(|one| std::str::from_utf8(one).is_err()) {
+    if arguments
+        .iter()
+        .any(|one| std::str::from_utf8(one).is_err())
+    {
         return Err(Wrong::NotText);
     }
     match arguments {

@@ -1,6 +1,7 @@
 -- What clap makes of the words of a call, and what that asks for.
 -- Assumes nothing.
-use Rattle.std.proofs.Common.{◌≡◌, ◌≢◌, ◌<◌, ◌≤◌, ◌⊎◌, inl, inr, ℕ, List, [], ◌∷◌, true, false, refl, sym, ap, ap₂, ◌∙◌, codes, arith, Bor, map, length}
+use Rattle.std.proofs.Common.{◌≡◌, ◌≢◌, ◌<◌, ◌≤◌, ◌⊎◌, inl, inr, ℕ, List, [], ◌∷◌, true, false, refl, sym, ap, ap₂, ◌∙◌}
+use Rattle.std.proofs.Common.{codes, arith, Bor, map, length}
 use Rattle.std.specs.Prelude.{◌&&◌, Option, None, Some, IsSomeAnd, Result, Ok, Err, unwrap_or, option_map, nat_eq}
 use Rattle.std.proofs.lemmas.Bool.{and_left, and_right}
 use Rattle.std.proofs.lemmas.Bool.Decides.{nat_tests}
@@ -9,27 +10,20 @@ use Rattle.clap.specs.Matches.{matched_of, raw_values}
 use Rattle.clap.specs.Walk.{Rule, count_of, rows_of, rule_of}
 use Rattle.clap.specs.declared.parser.matches.Found.{Found}
 use Rattle.clap.proofs.WalkLemmas.{raw_values-rows}
-use Rattle.clap.specs.Simple.{is_simple, new_rule}
-use Rattle.clap.specs.Faults.{is_simple_and_free}
+use Rattle.clap.specs.Simple.{new_rule}
 use Rattle.clap.specs.declared.builder.arg.Arg.{Arg}
 use Rattle.clap.specs.declared.builder.range.ValueRange.{ValueRange}
 use Rattle.sheet.specs.Named.{size_of, plant_of}
-use Rattle.sheet.specs.Call.{numbers_rule, sheet_command, sheet_of, sizes, asked_by, understood}
+use Rattle.sheet.specs.Call.{numbers_rule, sheet_of, sizes, asked_by, understood}
 use Rattle.sheet.specs.declared.call.WrongCall.{WrongCall}
 use Rattle.sheet.specs.declared.call.WrongCall.TheVariants.{NoSize, MoreThanSizes}
-
--- the words are read word by word, and no argument has a rule on another
-pub command_simple : is_simple sheet_command ≡ true
-command_simple = refl
-
-pub command_free : is_simple_and_free sheet_command ≡ true
-command_free = refl
 
 -- an argument of one number or more
 pub numbers_ruled : (a : Arg) (o : Option ValueRange) (b : Arg) → rule_of a ≡ new_rule (codes "numbers") → b ≡ record a { num_vals = o }
     → IsSomeAnd o (λ r. r ≡ record { start_inclusive = 1; end_inclusive = usize_max }) → rule_of b ≡ numbers_rule
 numbers_ruled a None b e is h = absurd h
-numbers_ruled a (Some r) b e is h = rw (is, h) (ap (λ (rule : Rule). record rule { range = Some (record { start_inclusive = 1; end_inclusive = usize_max }) }) e)
+numbers_ruled a (Some r) b e is h =
+    rw (is, h) (ap (λ (rule : Rule). record rule { range = Some (record { start_inclusive = 1; end_inclusive = usize_max }) }) e)
 
 -- the numbers that were found, none where there are none
 numbers_found : (o : Option (Bor (List (Bor (List ℕ))))) (none numbers : Bor (List (Bor (List ℕ)))) (p : Option (List (List ℕ)))
@@ -39,7 +33,8 @@ numbers_found (Some s) none numbers p e empty is = rw (← e, ← is) refl
 
 -- what is asked for by what the getters of the matches answer
 pub found_in : (f : Found) (flags : ℕ) (o : Option (Bor (List (Bor (List ℕ))))) (none numbers : Bor (List (Bor (List ℕ))))
-    → flags ≡ count_of (codes "sizes") (rows_of f) → option_map (λ s. map (λ v. v.now) s.now) o ≡ option_map raw_values (matched_of f (codes "numbers"))
+    → flags ≡ count_of (codes "sizes") (rows_of f)
+    → option_map (λ s. map (λ v. v.now) s.now) o ≡ option_map raw_values (matched_of f (codes "numbers"))
     → none.now ≡ [] → numbers ≡ unwrap_or o none → asked_by flags (map (λ v. v.now) numbers.now) ≡ understood (rows_of f)
 found_in f flags o none numbers value raw empty is =
     ap₂ asked_by value (sym (numbers_found o none numbers _ (raw ∙ raw_values-rows f (codes "numbers")) empty (sym is)))

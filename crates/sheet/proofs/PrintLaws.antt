@@ -1,6 +1,7 @@
 -- What is written of one board or one row more.
 -- Assumes nothing.
-use Rattle.std.proofs.Common.{◌≡◌, ◌≢◌, ℕ, List, [], ◌∷◌, ◌++◌, ◌+◌, ◌<◌, zero, suc, true, false, refl, sym, ap, ◌∙◌, arith, take, length, get_or, append_assoc, append-nil, codes}
+use Rattle.std.proofs.Common.{◌≡◌, ◌≢◌, ℕ, List, [], ◌∷◌, ◌++◌, ◌+◌, ◌<◌, zero, suc, true, false, refl}
+use Rattle.std.proofs.Common.{sym, ap, ◌∙◌, arith, take, length, get_or, append_assoc, append-nil, codes}
 use Rattle.std.specs.Prelude.{decimal, count_by, nat_eq, ◌==◌}
 use Rattle.std.proofs.lemmas.Bool.Decides.{nat_tests}
 use Rattle.sheet.specs.Printed.{dead_one, dead_from, dead_text}

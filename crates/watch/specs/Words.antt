@@ -1,6 +1,7 @@
 -- What the run program prints, and says to people.
 -- Assumes nothing.
-use Rattle.std.specs.Prelude.{ℕ, ◌-◌, ◌/◌, ◌^◌, ◌==◌, if◌then◌else◌, false, List, [], ◌++◌, codes, decimal, encode_utf8, string_bytes, take, length, flat_map, slice_index}
+use Rattle.std.specs.Prelude.{ℕ, ◌-◌, ◌/◌, ◌^◌, ◌==◌, if◌then◌else◌, false, List, [], ◌++◌, codes}
+use Rattle.std.specs.Prelude.{decimal, encode_utf8, string_bytes, take, length, flat_map, slice_index}
 use Rattle.std.specs.Fmt.{digits, format_spec, padded_integral}
 use Rattle.std.specs.Simd.{first_chunks}
 use Rattle.plant.specs.Run.{stop_refusal}

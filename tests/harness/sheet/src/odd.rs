@@ -126,12 +126,7 @@ const WRONG: &[(&str, &[&str])] = &[
     ),
     (
         "sheet: argument 3 is not a board from 0 to 7\n",
-        &[
-            "8 4 8",
-            "8 0 x",
-            "8 4 004",
-            "8 7 8 7",
-        ],
+        &["8 4 8", "8 0 x", "8 4 004", "8 7 8 7"],
     ),
     (
         "sheet: argument 4 is not a board from 0 to 7\n",
@@ -227,10 +222,7 @@ const WRONG_BYTES: &[(&str, &[&[&[u8]]])] = &[
             &[b" --sizes"],
         ],
     ),
-    (
-        MORE_BESIDE_SIZES,
-        &[&[b"--sizes", b""]],
-    ),
+    (MORE_BESIDE_SIZES, &[&[b"--sizes", b""]]),
     (
         NOT_TEXT,
         &[

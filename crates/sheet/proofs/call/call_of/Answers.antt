@@ -21,7 +21,8 @@ returns-in_err-read c =
     let numbers = ap (map (λ v. v.now)) c.in-Some.ensures.cases.0 in
     let wrong = err_from_is_err_and c.from_residual.result c.from_residual.ensures.1 in
     let read = rw c.as_bytes.ensures.value at c.in_err-read.ensures in
-    rw (wrong.1, wrong.2) (asks_sheet c.get_count-flags.result _ _ _ c.if-flags-eq0.true read) ∙ (ap (asked_by c.get_count-flags.result) (sym numbers) ∙ all)
+    rw (wrong.1, wrong.2) (asks_sheet c.get_count-flags.result _ _ _ c.if-flags-eq0.true read)
+    ∙ (ap (asked_by c.get_count-flags.result) (sym numbers) ∙ all)
 
 pub returns-then-flags-eq0 : goal.returns-then-flags-eq0
 returns-then-flags-eq0 c =
@@ -35,7 +36,8 @@ returns-then-flags-gt1 c =
     let all = found_in (found_of c.args.matches.now) _ _ _ _ c.get_count-flags.ensures.value c.get_raw.ensures refl c.unwrap_or-numbers.ensures in
     asks_more _ _ c.if-flags-eq0.false (elim c.then-flags-gt1.branch [
       | then-flags-gt1-via-then-flags-gt1 w ↦ inl w.if-flags-gt1.true
-      | then-flags-gt1-via-else-flags-gt1+then-not-is_empty w ↦ inr (grind (arith, nat_tests, length-map, w.is_empty.ensures, w.if-not-is_empty.ensures))
+      | then-flags-gt1-via-else-flags-gt1+then-not-is_empty w ↦
+          inr (grind (arith, nat_tests, length-map, w.is_empty.ensures, w.if-not-is_empty.ensures))
     ]) ∙ all
 
 pub returns : goal.returns
