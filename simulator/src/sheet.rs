@@ -34,7 +34,8 @@ enum Wrong {
     Board { argument: usize, size: Size },
     BoardAgain { argument: usize },
     FewLive,
-    BehindSizes,
+    BesideSizes,
+    NotText,
 }
 
 /// The size and the dead boards, which are the row of every live one.
@@ -66,11 +67,18 @@ pub fn respond(arguments: &[&[u8]]) -> Response {
     }
 }
 
+/// Other arguments that begin with a hyphen are the program's matter.
 fn read_arguments(arguments: &[&[u8]]) -> Result<Request, Wrong> {
+    if arguments
+        .iter()
+        .any(|one| std::str::from_utf8(one).is_err())
+    {
+        return Err(Wrong::NotText);
+    }
     match arguments {
         [] => Err(Wrong::NoArgument),
         [SIZES] => Ok(Request::Sizes),
-        [SIZES, ..] => Err(Wrong::BehindSizes),
+        _ if arguments.contains(&SIZES) => Err(Wrong::BesideSizes),
         [first, boards @ ..] => read_plant(first, boards).map(Request::Sheet),
     }
 }
@@ -106,7 +114,8 @@ impl Wrong {
             }
             Wrong::BoardAgain { argument } => format!("argument {argument} names a board again"),
             Wrong::FewLive => String::from("at least two boards must be live"),
-            Wrong::BehindSizes => String::from("nothing may follow --sizes"),
+            Wrong::BesideSizes => String::from("nothing may stand beside --sizes"),
+            Wrong::NotText => String::from("an argument is not text in UTF-8"),
         }
     }
 }

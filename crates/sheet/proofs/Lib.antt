@@ -1,3 +1,4 @@
 mod NumberLaws
 mod NamedLaws
 mod CallLaws
+mod PrintLaws

@@ -31,9 +31,9 @@ module _ (n k : ℕ) (row : List ℕ) (o : Option ℕ) where
 
 -- where the words before place i were read, the next is read, or is wrong, or there is none
 module _ {X : Type 0} (f : X → List ℕ) (n k : ℕ) (row : List ℕ) (bs : List X) (i : ℕ) where
-  module _ (x : X) (h : i < length bs) (e : x ≡ get_or bs i x) where
+  module _ (d x : X) (h : i < length bs) (e : x ≡ get_or bs i d) where
     next : drop i bs ≡ x ∷ drop (i + 1) bs
-    next = rw add-one (drop-cons bs i x h ∙ ap (λ (y : X). y ∷ drop (suc i) bs) (sym e))
+    next = rw add-one (drop-cons bs i d h ∙ ap (λ (y : X). y ∷ drop (suc i) bs) (sym e))
 
     pub rows-next : (after : List ℕ) → Ok after ≡ row_with n k row (number 2 (f x))
         → rows_with n k (map f (drop i bs)) row ≡ rows_with n (k + 1) (map f (drop (i + 1) bs)) after

@@ -1,3 +1,5 @@
 pub mod Text
 pub mod Named
 pub mod Call
+pub mod Printed
+pub mod SizeLines

@@ -1,12 +1,19 @@
-// What the arguments ask for, or what is wrong with them.
-ghost use Rattle.std.specs.Prelude.{◌≡◌, map};
+// What the arguments ask for, or what is wrong with them. `clap` reads the words.
+ghost use Rattle.std.specs.Prelude.{◌≡◌, map, IfOk, string_bytes};
 ghost use Rattle.std.specs.Result.{result_map_both};
-ghost use Rattle.sheet.specs.Call.{asked, understood};
+ghost use Rattle.clap.specs.Matches.{found_of};
+ghost use Rattle.clap.specs.Faults.{fault_of};
+ghost use Rattle.clap.specs.Kinds.{FailsBy};
+ghost use Rattle.clap.specs.Simple.{app_of, matches_of};
+ghost use Rattle.clap.specs.Walk.{rows_of};
+ghost use Rattle.sheet.specs.Call.{Answers, asked, sheet_command, understood};
 
 use crate::plant::Plant;
-use arrayvec::ArrayVec;
-use std::env::{Env, FillError};
-use std::fmt;
+use clap::error::ErrorKind;
+use clap::{Arg, ArgAction, ArgMatches, Command};
+use std::alloc::{AllocError, Global};
+use std::rt::Env;
+use std::{env, fmt};
 
 // What is printed on --help.
 pub const USAGE: &str = "\
@@ -35,9 +42,11 @@ pub enum Call {
     Sizes,
 }
 
-// What is wrong with the arguments, which are counted from 1.
-#[derive(Clone, Copy)]
+// What is wrong with the arguments. Numbers are counted from 1, the size first.
+#[derive(Debug, Drop)]
 pub enum WrongCall {
+    NotText,
+    Words(clap::Error),
     NoSize,
     NotASize,
     MoreThanSizes,
@@ -47,11 +56,17 @@ pub enum WrongCall {
 }
 
 impl fmt::Display for WrongCall {
+    ghost use Rattle.sheet.specs.Printed.{wrong_call_words};
+
+    ghost output = { wrong_call_words };
+
     fn fmt<W: fmt::Write>(&self, f: &mut fmt::Formatter<W>) -> fmt::Result {
         match self {
-            WrongCall::NoSize => f.write_str(USAGE),
+            WrongCall::NotText => f.write_str("sheet: an argument is not text in UTF-8"),
+            WrongCall::Words(error) => write!(f, "{error}"),
+            WrongCall::NoSize => f.write_str("sheet: a size is needed, from 2 to 64"),
             WrongCall::NotASize => f.write_str("sheet: argument 1 is not a size from 2 to 64"),
-            WrongCall::MoreThanSizes => f.write_str("sheet: nothing may follow --sizes"),
+            WrongCall::MoreThanSizes => f.write_str("sheet: nothing may stand beside --sizes"),
             WrongCall::NotABoard { argument, last } => {
                 write!(
                     f,
@@ -66,49 +81,63 @@ impl fmt::Display for WrongCall {
     }
 }
 
-// An argument. None that says anything is longer.
-pub type Word = ArrayVec<u8, 8>;
-
-// Reads the arguments. What stands behind the 66th decides nothing: 65 words behind a size name one of its boards again, or one is no board.
-// It promises nothing, nor does `word`: std's `Env` does not say what the arguments are. What they ask for is the promise of `understand`.
-pub fn read_arguments(rt: &impl Env) -> Result<Call, WrongCall> {
-    let mut words: ArrayVec<Word, 66> = ArrayVec::new();
-    for k in 1..=66 {
-        match word(rt, k) {
-            Some(word) => words.push(word),
-            None => break,
-        }
-    }
-    understand(&words)
+// Reads the arguments. It promises nothing: std's `Env` does not say what the arguments are. What they ask for is the promise of `understand`.
+pub fn read_arguments(rt: &(impl Env + AllocGlobal)) -> Result<Call, WrongCall> {
+    let arguments = env::args(rt).map_err(|_| WrongCall::NotText)?;
+    let words: Vec<String> = arguments
+        .collect(rt.alloc())
+        .map_err(|error| WrongCall::Words(error.into()))?;
+    understand(rt.alloc(), &words)
 }
 
-// Argument k, if there is one.
-fn word(rt: &impl Env, k: usize) -> Option<Word> {
-    let mut bytes = [0; 8];
-    match rt.arg(k, &mut bytes) {
-        Ok(length) => Word::try_from(&bytes[..length]).ok(),
-        // Eight zeros say as little as a longer word.
-        Err(FillError::TooLong) => Some(Word::from([0; 8])),
-        Err(FillError::NotPresent) => None,
-    }
-}
-
-// What the words ask for.
-pub fn understand(words: &[Word]) -> Result<Call, WrongCall>
-    ensures { result_map_both asked (λ e. e) result ≡ understood (map (λ w. w.items) words.now) }
+// What the words ask for, of which the first is the program's name.
+pub fn understand(alloc: Global, words: &[String]) -> Result<Call, WrongCall>
+    ensures { Answers (map (λ w. string_bytes w) words.now) result }
 {
-    let Some((first, boards)) = words.split_first() else {
-        return Err(WrongCall::NoSize);
-    };
-    let word = first.as_slice();
-    if word == b"-h".as_slice() || word == b"--help".as_slice() {
-        return Ok(Call::Help);
+    match parse(alloc, words) {
+        Ok(matches) => call_of(&matches),
+        Err(error) if error.kind() == ErrorKind::DisplayHelp => Ok(Call::Help),
+        Err(error) => Err(WrongCall::Words(error)),
     }
-    if word == b"--sizes".as_slice() {
-        if !boards.is_empty() {
-            return Err(WrongCall::MoreThanSizes);
-        }
-        return Ok(Call::Sizes);
+}
+
+// What clap makes of the words.
+fn parse(alloc: Global, words: &[String]) -> Result<ArgMatches<'_>, clap::Error>
+    ensures found { let texts = map (λ w. string_bytes w) words.now in
+        IfOk result (λ m. rows_of (found_of m) ≡ matches_of sheet_command texts) }
+    ensures faults { FailsBy (fault_of sheet_command (map (λ w. string_bytes w) words.now)) result }
+{
+    command(alloc)?.try_get_matches_from(words)
+}
+
+// The flag --sizes, and the size and the dead boards, which are all numbers.
+fn command<'a>(alloc: Global) -> Result<Command<'a>, AllocError>
+    ensures { IfOk result (λ c. app_of c ≡ sheet_command) }
+{
+    let sizes = Arg::new(alloc, "sizes")
+        .long("sizes")
+        .action(ArgAction::Count);
+    let numbers = Arg::new(alloc, "numbers").num_args(1..);
+    Command::new(alloc, "sheet")
+        .override_usage("./sheet SIZE [DEAD BOARDS ..]\n       ./sheet --sizes")
+        .arg(sizes)?
+        .arg(numbers)
+}
+
+// What they ask for by what clap makes of them.
+fn call_of(matches: &ArgMatches<'_>) -> Result<Call, WrongCall>
+    ensures { result_map_both asked (λ e. e) result ≡ understood (rows_of (found_of matches.now)) }
+{
+    let numbers = matches.get_raw("numbers").unwrap_or(&[]);
+    let flags = matches.get_count("sizes");
+    if flags == 0 {
+        let Some((size, boards)) = numbers.split_first() else {
+            return Err(WrongCall::NoSize);
+        };
+        return Ok(Call::Sheet(Plant::read(size.as_bytes(), boards)?));
     }
-    Ok(Call::Sheet(Plant::read(word, boards)?))
+    if 1 < flags || !numbers.is_empty() {
+        return Err(WrongCall::MoreThanSizes);
+    }
+    Ok(Call::Sizes)
 }

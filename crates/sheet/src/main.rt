@@ -9,7 +9,7 @@ mod sheet;
 mod sizes;
 
 use anyhow::Context;
-use call::Call;
+use call::{Call, WrongCall};
 use sheet::Sheet;
 use sizes::SizeTable;
 use std::io::{self, ErrorKind};
@@ -19,12 +19,22 @@ fn main(rt: HostRuntime) -> anyhow::Result<ExitCode> {
     match call::read_arguments(&rt) {
         Ok(call) => written(print(&rt, call))?,
         Err(wrong) => {
-            // Words for people: that they cannot be written changes nothing.
-            rt.eprintln(wrong).unwrap_or(());
+            explain(&rt, wrong);
             return Ok(ExitCode::from(2));
         }
     }
     Ok(ExitCode::SUCCESS)
+}
+
+// Words for people: that they cannot be written changes nothing.
+fn explain(rt: &impl Eprint, wrong: WrongCall) {
+    let said = match wrong {
+        // clap's words have their line feed.
+        WrongCall::Words(_) => rt.eprint(wrong),
+        WrongCall::NoSize => rt.eprintln(format_args!("{wrong}\n{}", call::USAGE)),
+        _ => rt.eprintln(wrong),
+    };
+    said.unwrap_or(());
 }
 
 // Prints what is asked for.

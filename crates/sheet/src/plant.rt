@@ -5,7 +5,7 @@ ghost use Rattle.station.specs.Tests.{unsuspected};
 ghost use Rattle.slots.specs.Slots.{most_tests};
 ghost use Rattle.sheet.specs.Text.{number};
 
-use crate::call::{Word, WrongCall};
+use crate::call::WrongCall;
 use table::{Station, sizes};
 
 // The size, and the row of each live board: 1 at each dead one.
@@ -20,8 +20,8 @@ impl Plant {
     ghost use Rattle.sheet.specs.Named.{size_of, row_with, plant_of};
 
     // The plant that words name: its size, and each of its dead boards.
-    pub fn read(size: &[u8], boards: &[Word]) -> Result<Plant, WrongCall>
-        ensures { let words = map (λ w. w.items) boards.now in
+    pub fn read(size: &[u8], boards: &[&str]) -> Result<Plant, WrongCall>
+        ensures { let words = map (λ w. w.now) boards.now in
             result_map_both (λ p. (p.size, p.row)) (λ e. e) result ≡ plant_of (size_of size.now) words }
     {
         let Some(mut plant) = Plant::of_size(size) else {
@@ -29,7 +29,7 @@ impl Plant {
         };
         let mut argument: usize = 2;
         for board in boards {
-            if let Err(wrong) = plant.name_dead(argument, board) {
+            if let Err(wrong) = plant.name_dead(argument, board.as_bytes()) {
                 return Err(wrong);
             }
             argument += 1;
@@ -77,7 +77,7 @@ impl Plant {
     }
 
     // How many boards are live.
-    fn live_boards(&self) -> usize
+    pub fn live_boards(&self) -> usize
         ensures { result ≡ count_by (λ dead. dead == 0) (take self.now.size self.now.row) }
     {
         self.row().iter().filter(|dead| **dead == 0).count()

@@ -1,5 +1,7 @@
 // The sheet of one plant, as it is printed.
-ghost use Rattle.std.specs.Prelude.{◌≡◌, ◌≤◌, length, map, take};
+ghost use Rattle.std.specs.Prelude.{◌≡◌, ◌≤◌, length, map, take, Some};
+ghost use Rattle.std.specs.Fmt.{DisplaysOnOk};
+ghost use Rattle.sheet.specs.Printed.{dead_from, dead_one, further_boards, untested_text, further_untested};
 ghost use Rattle.sheet.specs.Text.{digits, width, list_columns, widest};
 
 use crate::plant::Plant;
@@ -46,18 +48,39 @@ impl fmt::Display for Sheet {
 struct Dead<'a>(&'a Plant);
 
 impl<'a> fmt::Display for Dead<'a> {
+    ghost use Rattle.sheet.specs.Printed.{dead_text};
+
+    ghost output = { λ dead. Some (dead_text (take dead.0.now.size dead.0.now.row)) };
+
+    #[tactic(auto, using(crate::proofs::PrintLaws::none_dead, crate::proofs::PrintLaws::some_dead))]
     fn fmt<W: fmt::Write>(&self, f: &mut fmt::Formatter<W>) -> fmt::Result {
         let row = self.0.row();
-        for (board, dead) in row.iter().enumerate() {
-            if *dead != 0 {
-                write!(f, " {board}")?;
-            }
+        if self.0.live_boards() == row.len() {
+            return f.write_str(" none");
         }
-        if row.iter().all(|dead| *dead == 0) {
-            f.write_str(" none")?;
-        }
-        Ok(())
+        write_dead(f, row)
     }
+}
+
+// The dead boards by a row, each behind a space.
+#[tactic(auto, unfolding(crate::specs::Printed::dead_from))]
+fn write_dead<W: fmt::Write>(f: &mut fmt::Formatter<W>, row: &[u8]) -> fmt::Result
+    ensures { DisplaysOnOk W.write_str_gives f.old result (Some (dead_from 0 row.now)) f.new }
+{
+    for (board, dead) in row.iter().enumerate() {
+        write_if_dead(f, board, *dead)?;
+    }
+    Ok(())
+}
+
+// A board behind a space, if it is dead.
+fn write_if_dead<W: fmt::Write>(f: &mut fmt::Formatter<W>, board: usize, dead: u8) -> fmt::Result
+    ensures { DisplaysOnOk W.write_str_gives f.old result (Some (dead_one board dead)) f.new }
+{
+    if dead == 0 {
+        return Ok(());
+    }
+    write!(f, " {board}")
 }
 
 // The line of board i: whom it tests, how many these are, and the most with one more dead.
@@ -106,13 +129,27 @@ fn list_columns(plant: &Plant, i: Station) -> usize
 struct Boards<'a>(&'a [Station]);
 
 impl<'a> fmt::Display for Boards<'a> {
+    ghost use Rattle.sheet.specs.Printed.{boards_text};
+
+    ghost output = { λ boards. Some (boards_text boards.0.now) };
+
     fn fmt<W: fmt::Write>(&self, f: &mut fmt::Formatter<W>) -> fmt::Result {
-        for (k, board) in self.0.iter().enumerate() {
-            let gap = if k == 0 { "" } else { " " };
-            write!(f, "{gap}{}", board.0)?;
-        }
-        Ok(())
+        let [first, rest @ ..] = self.0 else {
+            return Ok(());
+        };
+        write!(f, "{}", first.0)?;
+        write_further(f, rest)
     }
+}
+
+// Boards, each behind a space.
+fn write_further<W: fmt::Write>(f: &mut fmt::Formatter<W>, boards: &[Station]) -> fmt::Result
+    ensures { DisplaysOnOk W.write_str_gives f.old result (Some (further_boards boards.now)) f.new }
+{
+    for board in boards {
+        write!(f, " {}", board.0)?;
+    }
+    Ok(())
 }
 
 // How wide they are.
@@ -143,14 +180,36 @@ fn digits(x: u8) -> usize
 struct Ahead<'a>(&'a [Untested]);
 
 impl<'a> fmt::Display for Ahead<'a> {
+    ghost use Rattle.sheet.specs.Printed.{ahead_text};
+
+    ghost output = { λ boards. Some (ahead_text boards.0.now) };
+
     fn fmt<W: fmt::Write>(&self, f: &mut fmt::Formatter<W>) -> fmt::Result {
-        if self.0.is_empty() {
+        let [first, rest @ ..] = self.0 else {
             return f.write_str("-");
-        }
-        for (k, Untested { board, ahead }) in self.0.iter().enumerate() {
-            let gap = if k == 0 { "" } else { ", " };
-            write!(f, "{gap}{} ({})", board.0, ahead.0)?;
-        }
-        Ok(())
+        };
+        write_untested(f, *first)?;
+        write_further_untested(f, rest)
     }
+}
+
+// A board that is not tested, with the one ahead in brackets.
+fn write_untested<W: fmt::Write>(f: &mut fmt::Formatter<W>, untested: Untested) -> fmt::Result
+    ensures { DisplaysOnOk W.write_str_gives f.old result (Some (untested_text untested)) f.new }
+{
+    write!(f, "{} ({})", untested.board.0, untested.ahead.0)
+}
+
+// Such boards, each behind a comma.
+fn write_further_untested<W: fmt::Write>(
+    f: &mut fmt::Formatter<W>,
+    boards: &[Untested],
+) -> fmt::Result
+    ensures { DisplaysOnOk W.write_str_gives f.old result (Some (further_untested boards.now)) f.new }
+{
+    for untested in boards {
+        f.write_str(", ")?;
+        write_untested(f, *untested)?;
+    }
+    Ok(())
 }

@@ -1,18 +1,32 @@
 // The most tests of a board at every size from 2 to 64, with nobody dead and with any one dead: a table of three sizes to a row.
+ghost use Rattle.std.specs.Prelude.{◌≡◌, ◌≤◌, replicate, Some};
+ghost use Rattle.std.specs.Fmt.{DisplaysOnOk};
+ghost use Rattle.slots.specs.Slots.{most_of_boards};
+ghost use Rattle.sheet.specs.SizeLines.{size_cells};
+
 use std::fmt;
+
+// The head of the table.
+const HEAD: &str = "\
+| boards | nobody dead | one dead | boards | nobody dead | one dead | boards | nobody dead | one dead |
+|--:|--:|--:|--:|--:|--:|--:|--:|--:|
+";
 
 #[derive(Clone, Copy)]
 pub struct SizeTable;
 
 impl fmt::Display for SizeTable {
+    ghost use Rattle.sheet.specs.SizeLines.{size_table};
+
+    ghost output = { λ _. Some size_table };
+
+    #[tactic(auto, unfolding(crate::specs::SizeLines::each_below))]
     fn fmt<W: fmt::Write>(&self, f: &mut fmt::Formatter<W>) -> fmt::Result {
-        for cells in ["| boards | nobody dead | one dead ", "|--:|--:|--:"] {
-            writeln!(f, "{cells}{cells}{cells}|")?;
-        }
-        for first in 2..23 {
-            for n in [first, first + 21, first + 42] {
-                write_size(f, n)?;
-            }
+        f.write_str(HEAD)?;
+        for k in 0..21 {
+            write_size(f, k + 2)?;
+            write_size(f, k + 23)?;
+            write_size(f, k + 44)?;
             f.write_str("|\n")?;
         }
         Ok(())
@@ -20,10 +34,20 @@ impl fmt::Display for SizeTable {
 }
 
 // The three cells of a size: the most tests of a board with nobody dead, and with any one dead.
-fn write_size<W: fmt::Write>(f: &mut fmt::Formatter<W>, n: u8) -> fmt::Result {
-    let mut row = [0; 64];
-    let row = &mut row[..usize::from(n).min(64)];
-    let none_dead = slots::most_of_boards(n, row, false);
-    let one_dead = slots::most_of_boards(n, row, true);
+fn write_size<W: fmt::Write>(f: &mut fmt::Formatter<W>, n: u8) -> fmt::Result
+    requires { n ≤ 64 }
+    ensures { DisplaysOnOk W.write_str_gives f.old result (Some (size_cells n)) f.new }
+{
+    let none_dead = most_tests(n, false);
+    let one_dead = most_tests(n, true);
     write!(f, "| {n} | {none_dead} | {one_dead} ")
+}
+
+// The most tests of any of n boards where nobody is dead, or any one.
+fn most_tests(n: u8, one_dead: bool) -> u8
+    requires { n ≤ 64 }
+    ensures { result ≡ most_of_boards n (replicate n 0) one_dead }
+{
+    let mut row = [0; 64];
+    slots::most_of_boards(n, &mut row[..n as usize], one_dead)
 }

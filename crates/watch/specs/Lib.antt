@@ -2,3 +2,4 @@
 pub mod Input
 pub mod Fault
 pub mod Watched
+pub mod Words

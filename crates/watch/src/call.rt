@@ -59,10 +59,15 @@ pub enum WrongCall {
 }
 
 impl fmt::Display for WrongCall {
+    ghost use Rattle.std.specs.Prelude.{Some};
+    ghost use Rattle.watch.specs.Words.{wrong_call_words};
+
+    ghost output = { λ wrong. Some (wrong_call_words wrong) };
+
     fn fmt<W: fmt::Write>(&self, f: &mut fmt::Formatter<W>) -> fmt::Result {
         match self {
             WrongCall::NotText => f.write_str("watch: an argument is not text in UTF-8"),
-            WrongCall::TooMany => f.write_str(USAGE),
+            WrongCall::TooMany => f.write_str("watch: more than one argument"),
             WrongCall::UnknownOption(word) => {
                 write!(
                     f,

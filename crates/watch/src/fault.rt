@@ -43,6 +43,11 @@ pub struct Fault {
 }
 
 impl fmt::Display for Found {
+    ghost use Rattle.std.specs.Prelude.{Some};
+    ghost use Rattle.watch.specs.Words.{found_words};
+
+    ghost output = { λ found. Some (found_words found) };
+
     fn fmt<W: fmt::Write>(&self, f: &mut fmt::Formatter<W>) -> fmt::Result {
         match *self {
             Found::NoInput => f.write_str("an empty input"),
@@ -63,6 +68,11 @@ impl fmt::Display for Found {
 }
 
 impl fmt::Display for Expected {
+    ghost use Rattle.std.specs.Prelude.{Some};
+    ghost use Rattle.watch.specs.Words.{expected_words};
+
+    ghost output = { λ expected. Some (expected_words expected) };
+
     fn fmt<W: fmt::Write>(&self, f: &mut fmt::Formatter<W>) -> fmt::Result {
         f.write_str(match self {
             Expected::Size => "the size (one to three digits)",
@@ -77,6 +87,11 @@ impl fmt::Display for Expected {
 }
 
 impl fmt::Display for Fault {
+    ghost use Rattle.std.specs.Prelude.{Some};
+    ghost use Rattle.watch.specs.Words.{fault_words};
+
+    ghost output = { λ fault. Some (fault_words fault) };
+
     fn fmt<W: fmt::Write>(&self, f: &mut fmt::Formatter<W>) -> fmt::Result {
         write!(f, "{} where {} is expected", self.found, self.expected)
     }

@@ -36,6 +36,11 @@ pub struct Unread {
 }
 
 impl fmt::Display for Unread {
+    ghost use Rattle.std.specs.Prelude.{Some};
+    ghost use Rattle.watch.specs.Words.{unread_words};
+
+    ghost output = { λ unread. Some (unread_words unread) };
+
     fn fmt<W: fmt::Write>(&self, f: &mut fmt::Formatter<W>) -> fmt::Result {
         write!(f, "unread {}: {}", self.line, self.fault)
     }

@@ -12,7 +12,7 @@ ghost use Rattle.std.specs.Prelude.{◌≡◌, IfOk, IfSome, take};
 ghost use Rattle.watch.specs.Watched.{deciding};
 
 use anyhow::Context;
-use call::Call;
+use call::{Call, WrongCall};
 use print::{Line, RunSheet};
 use std::alloc::Global;
 use std::fmt::Display;
@@ -31,7 +31,11 @@ fn main(rt: HostRuntime) -> anyhow::Result<ExitCode> {
             watch(&rt, rt.stdin())?;
         }
         Err(wrong) => {
+            let too_many = matches!(wrong, WrongCall::TooMany);
             explain(&rt, wrong);
+            if too_many {
+                explain(&rt, call::USAGE);
+            }
             return Ok(ExitCode::from(2));
         }
     }

@@ -1,5 +1,7 @@
-// What the run program prints. No contract can say what is written; these functions are safe.
-ghost use Rattle.std.specs.Prelude.{◌≡◌, ◌≢◌, ◌≤◌, ◌+◌};
+// What the run program prints.
+ghost use Rattle.std.specs.Prelude.{◌≡◌, ◌≢◌, ◌≤◌, ◌+◌, Some};
+ghost use Rattle.std.specs.Fmt.{DisplaysOnOk};
+ghost use Rattle.watch.specs.Words.{line_text, lines_text, last_line};
 ghost use Rattle.lists.specs.declared.refusal.Refusal.{Refusal};
 
 use lists::refusal::Refusal;
@@ -14,28 +16,52 @@ pub struct RunSheet<'a> {
 }
 
 impl<'a> fmt::Display for RunSheet<'a> {
+    ghost use Rattle.watch.specs.Words.{run_text};
+
+    ghost output = { λ run. Some (run_text run.ran run.sheet.now) };
+
+    #[tactic(auto, using(std::proofs::lemmas::List::take_min))]
     fn fmt<W: fmt::Write>(&self, f: &mut fmt::Formatter<W>) -> fmt::Result {
         f.write_str("station tested outcome status\n")?;
-        for line in self.sheet.chunks_exact(4).take(self.ran.taken) {
-            write_line(f, line)?;
-        }
-        let Tally { rounds, tests } = self.ran.tally;
-        let number = plant::stop_refusal(self.ran.stopped);
-        let taken = self.ran.taken;
-        write!(
-            f,
-            "rounds {rounds} tests {tests} refused {number} at {taken}"
-        )
+        let lines = self.sheet.as_chunks::<4>().0;
+        write_lines(f, &lines[..self.ran.taken.min(lines.len())])?;
+        write_last_line(f, self.ran)
     }
 }
 
-// A line of the sheet, of four bytes; - where no station was tested.
-fn write_line<W: fmt::Write>(f: &mut fmt::Formatter<W>, line: &[u8]) -> fmt::Result {
-    match line {
-        [station, 255, outcome, status] => writeln!(f, "{station} - {outcome} {status}"),
-        [station, tested, outcome, status] => writeln!(f, "{station} {tested} {outcome} {status}"),
-        _ => Ok(()),
+// Lines of the sheet.
+fn write_lines<W: fmt::Write>(f: &mut fmt::Formatter<W>, lines: &[[u8; 4]]) -> fmt::Result
+    ensures { DisplaysOnOk W.write_str_gives f.old result (Some (lines_text lines.now)) f.new }
+{
+    for line in lines {
+        write_line(f, *line)?;
     }
+    Ok(())
+}
+
+// A line of the sheet; - where no station was tested.
+fn write_line<W: fmt::Write>(f: &mut fmt::Formatter<W>, line: [u8; 4]) -> fmt::Result
+    ensures { DisplaysOnOk W.write_str_gives f.old result (Some (line_text line)) f.new }
+{
+    let [station, tested, outcome, status] = line;
+    if tested == 255 {
+        writeln!(f, "{station} - {outcome} {status}")
+    } else {
+        writeln!(f, "{station} {tested} {outcome} {status}")
+    }
+}
+
+// The tally, and how the run ended.
+fn write_last_line<W: fmt::Write>(f: &mut fmt::Formatter<W>, ran: Ran) -> fmt::Result
+    ensures { DisplaysOnOk W.write_str_gives f.old result (Some (last_line ran)) f.new }
+{
+    let Tally { rounds, tests } = ran.tally;
+    let number = plant::stop_refusal(ran.stopped);
+    let taken = ran.taken;
+    write!(
+        f,
+        "rounds {rounds} tests {tests} refused {number} at {taken}"
+    )
 }
 
 // A line of the input, for people.
@@ -59,7 +85,8 @@ impl<'a> Line<'a> {
     }
 }
 
-// Its number and text, in ASCII characters that can be printed; after 40 bytes it is cut. Nothing of an empty line.
+// Its number and text, in ASCII characters that can be printed; after 40 bytes it is cut. Nothing of an empty line. It promises no text, since std's
+// `escape_ascii` does not.
 impl<'a> fmt::Display for Line<'a> {
     fn fmt<W: fmt::Write>(&self, f: &mut fmt::Formatter<W>) -> fmt::Result {
         if self.text.is_empty() {

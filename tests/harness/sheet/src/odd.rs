@@ -1,7 +1,7 @@
 //! Odd arguments and what must be written for each, by hand from the rules for
 //! arguments, not taken from a program. Right arguments stand next to wrong ones.
-//! What asks for the usage, and no argument, which gets it, are not among them:
-//! tests/sheet-command calls these.
+//! What asks for the usage, no argument, which gets it, and other words that
+//! begin with a hyphen are not among them: tests/sheet-command calls these.
 
 use crate::case::{numbers, Arguments};
 
@@ -10,7 +10,8 @@ const LONG: usize = 100_000;
 
 const NOT_A_SIZE: &str = "sheet: argument 1 is not a size from 2 to 64\n";
 const FEW_LIVE: &str = "sheet: at least two boards must be live\n";
-const MORE_BEHIND_SIZES: &str = "sheet: nothing may follow --sizes\n";
+const MORE_BESIDE_SIZES: &str = "sheet: nothing may stand beside --sizes\n";
+const NOT_TEXT: &str = "sheet: an argument is not text in UTF-8\n";
 
 /// How the table over all sizes begins.
 const TABLE: &str = "\
@@ -57,8 +58,6 @@ const WRONG: &[(&str, &[&str])] = &[
             "4294967298",
             "18446744073709551618",
             "+8",
-            "-8",
-            "-0",
             "x",
             "8x",
             "x8",
@@ -71,13 +70,7 @@ const WRONG: &[(&str, &[&str])] = &[
             "/8",
             ":8",
             "-",
-            "--",
-            "--size",
-            "--sizess",
-            "--Sizes",
-            "-sizes",
             "sizes",
-            "--sizes=8",
             "65 4",
             "65 99",
             "1 0",
@@ -87,8 +80,16 @@ const WRONG: &[(&str, &[&str])] = &[
         ],
     ),
     (
-        MORE_BEHIND_SIZES,
-        &["--sizes 8", "--sizes --sizes", "--sizes 8 4", "--sizes x"],
+        MORE_BESIDE_SIZES,
+        &[
+            "--sizes 8",
+            "--sizes --sizes",
+            "--sizes 8 4",
+            "--sizes x",
+            "8 --sizes",
+            "8 4 --sizes",
+            "x --sizes 4",
+        ],
     ),
     (
         "sheet: argument 2 is not a board from 0 to 7\n",
@@ -106,8 +107,6 @@ const WRONG: &[(&str, &[&str])] = &[
             "8 256",
             "8 260",
             "8 +4",
-            "8 -4",
-            "8 -0",
             "8 x",
             "8 4x",
             "8 0x4",
@@ -116,8 +115,6 @@ const WRONG: &[(&str, &[&str])] = &[
             "8 4.",
             "8 1/",
             "8 1:",
-            "8 --sizes",
-            "8 --help",
             "8 -",
             "8 8 8",
             "8 x 9",
@@ -129,14 +126,7 @@ const WRONG: &[(&str, &[&str])] = &[
     ),
     (
         "sheet: argument 3 is not a board from 0 to 7\n",
-        &[
-            "8 4 8",
-            "8 0 x",
-            "8 4 004",
-            "8 7 8 7",
-            "8 4 -4",
-            "8 4 --sizes",
-        ],
+        &["8 4 8", "8 0 x", "8 4 004", "8 7 8 7"],
     ),
     (
         "sheet: argument 4 is not a board from 0 to 7\n",
@@ -223,24 +213,29 @@ const WRONG_BYTES: &[(&str, &[&[&[u8]]])] = &[
             &[b"\n8"],
             &[b"8\t"],
             &[b"8\r"],
-            &[b"\xb8"],
-            &[b"\xff"],
-            &[b"8\x80"],
             &[b"\x01"],
             &[b"\xc3\xa9"],
             &["\u{668}".as_bytes()],
             &["\u{ff18}".as_bytes()],
             &[b"", b"8"],
             &[b" ", b"4"],
-            &[b"--sizes "],
             &[b" --sizes"],
-            &[b"--sizes\n"],
-            &[b"--size\xf3"],
         ],
     ),
+    (MORE_BESIDE_SIZES, &[&[b"--sizes", b""]]),
     (
-        MORE_BEHIND_SIZES,
-        &[&[b"--sizes", b""], &[b"--sizes", b"\xff"]],
+        NOT_TEXT,
+        &[
+            &[b"\xb8"],
+            &[b"\xff"],
+            &[b"8\x80"],
+            &[b"--size\xf3"],
+            &[b"--sizes", b"\xff"],
+            &[b"8", b"\xb4"],
+            &[b"8", b"\xff"],
+            &[b"8", b"4\x80"],
+            &[b"x", b"\xff"],
+        ],
     ),
     (
         "sheet: argument 2 is not a board from 0 to 7\n",
@@ -252,9 +247,6 @@ const WRONG_BYTES: &[(&str, &[&[&[u8]]])] = &[
             &[b"8", b"4 5"],
             &[b"8", b"4\n"],
             &[b"8", b"4\t"],
-            &[b"8", b"\xb4"],
-            &[b"8", b"\xff"],
-            &[b"8", b"4\x80"],
             &[b"8", "\u{664}".as_bytes()],
             &[b"8", b"", b"4"],
         ],
@@ -323,17 +315,15 @@ pub fn all() -> Vec<Odd> {
 fn long() -> Vec<Odd> {
     let eight = [b"0".repeat(LONG), b"8".to_vec()].concat();
     let digits = b"8".repeat(LONG);
-    let sizes = [b"--sizes".to_vec(), b"s".repeat(LONG)].concat();
     let board = "sheet: argument 2 is not a board from 0 to 7\n";
     let first = |argument: &Vec<u8>| wrong(vec![argument.clone()], NOT_A_SIZE);
     let second = |argument: &Vec<u8>| wrong(vec![b"8".to_vec(), argument.clone()], board);
     vec![
         first(&eight),
         first(&digits),
-        first(&sizes),
         second(&eight),
         second(&digits),
-        wrong(vec![b"--sizes".to_vec(), digits], MORE_BEHIND_SIZES),
+        wrong(vec![b"--sizes".to_vec(), digits], MORE_BESIDE_SIZES),
     ]
 }
 

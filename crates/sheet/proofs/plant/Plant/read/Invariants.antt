@@ -6,7 +6,7 @@ use Rattle.sheet.proofs.plant.Plant.read.Given as goal
 abbrev pub invariant-loop-board : goal.invariant-loop-board
 invariant-loop-board l = record {
   counted : l.argument ≡ l.board-index + 2;
-  rest : rows_with l.initial.plant.size l.argument (map (λ w. w.items) (drop l.board-index l.boards)) l.plant.row
-      ≡ rows_with l.initial.plant.size 2 (map (λ w. w.items) l.boards) l.initial.plant.row;
+  rest : rows_with l.initial.plant.size l.argument (map (λ w. w.now) (drop l.board-index l.boards)) l.plant.row
+      ≡ rows_with l.initial.plant.size 2 (map (λ w. w.now) l.boards) l.initial.plant.row;
   same : l.plant.size ≡ l.initial.plant.size;
 }

@@ -1,0 +1,25 @@
+-- The table over all sizes, as it is printed.
+-- Assumes nothing.
+use Rattle.std.specs.Prelude.{ℕ, zero, suc, ◌+◌, List, [], ◌++◌, codes, decimal, replicate, true, false}
+use Rattle.slots.specs.Slots.{most_of_boards}
+
+-- what is printed of each number below n, one after the other
+unfoldable pub each_below : (ℕ → List ℕ) → ℕ → List ℕ
+each_below text zero = []
+each_below text (suc k) = each_below text k ++ text k
+
+-- the three cells of size n: the most tests of a board with nobody dead, and with any one dead
+abbrev pub size_cells : ℕ → List ℕ
+size_cells n =
+    codes "| " ++ decimal n ++ codes " | " ++ decimal (most_of_boards n (replicate n 0) false) ++ codes " | "
+    ++ decimal (most_of_boards n (replicate n 0) true) ++ codes " "
+
+-- row k of the table over all sizes
+abbrev pub size_line : ℕ → List ℕ
+size_line k = size_cells (k + 2) ++ (size_cells (k + 23) ++ (size_cells (k + 44) ++ codes "|\n"))
+
+-- the table over all sizes
+abbrev pub size_table : List ℕ
+size_table =
+    codes "| boards | nobody dead | one dead | boards | nobody dead | one dead | boards | nobody dead | one dead |\n"
+    ++ codes "|--:|--:|--:|--:|--:|--:|--:|--:|--:|\n" ++ each_below size_line 21
