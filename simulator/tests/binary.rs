@@ -86,7 +86,7 @@ fn wrong_arguments_of_the_sheet() {
         (&[b""], "sheet: argument 1 is not a size from 2 to 64\n"),
         (
             &[b"8", b"\xff"],
-            "sheet: argument 2 is not a board from 0 to 7\n",
+            "sheet: an argument is not text in UTF-8\n",
         ),
     ];
     for (arguments, line) in wrong {
