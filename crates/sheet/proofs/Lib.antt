@@ -2,3 +2,4 @@ mod NumberLaws
 mod NamedLaws
 mod CallLaws
 mod PrintLaws
+mod LayoutLaws

@@ -3,3 +3,4 @@ pub mod Named
 pub mod Call
 pub mod Printed
 pub mod SizeLines
+pub mod Layout

@@ -3,6 +3,8 @@ ghost use Rattle.std.specs.Prelude.{◌≡◌, ◌≤◌, length, map, take, Som
 ghost use Rattle.std.specs.Fmt.{DisplaysOnOk};
 ghost use Rattle.sheet.specs.Printed.{dead_from, dead_one, further_boards, untested_text, further_untested};
 ghost use Rattle.sheet.specs.Text.{digits, width, list_columns, widest};
+ghost use Rattle.sheet.specs.Layout.{spaces, board_cell, count_cells, tests_head};
+ghost use Rattle.sheet.specs.Layout.{tests_line, untested_line, live_line, live_lines};
 
 use crate::plant::Plant;
 use arrayvec::ArrayVec;
@@ -19,27 +21,18 @@ pub struct Sheet {
 }
 
 impl fmt::Display for Sheet {
+    ghost use Rattle.sheet.specs.Layout.{sheet_text};
+
+    ghost output = { λ sheet. Some (sheet_text sheet.plant.size (take sheet.plant.size sheet.plant.row)) };
+
     fn fmt<W: fmt::Write>(&self, f: &mut fmt::Formatter<W>) -> fmt::Result {
         let plant = &self.plant;
-        writeln!(f, "{} boards, dead:{}\n", plant.size, Dead(plant))?;
         let columns = widest(plant).max(LIST_HEAD.len());
-        writeln!(
-            f,
-            "board  {LIST_HEAD:<columns$}  tests a round  most with one more dead"
-        )?;
-        for i in (0..plant.size).map(Station) {
-            if plant.is_live(i) {
-                write_tests(f, plant, i, columns)?;
-            }
-        }
+        writeln!(f, "{} boards, dead:{}\n", plant.size, Dead(plant))?;
+        write_tests_head(f, columns)?;
+        write_all_tests(f, plant, columns)?;
         f.write_str("\nboard  whom it does not test (who stands ahead)\n")?;
-        for i in (0..plant.size).map(Station) {
-            if plant.is_live(i) {
-                let untested = slots::untested::list_untested(plant.size, plant.row(), i);
-                writeln!(f, "{:>5}  {}", i.0, Ahead(&untested))?;
-            }
-        }
-        Ok(())
+        write_all_untested(f, plant)
     }
 }
 
@@ -83,24 +76,122 @@ fn write_if_dead<W: fmt::Write>(f: &mut fmt::Formatter<W>, board: usize, dead: u
     write!(f, " {board}")
 }
 
+// The head of the lines of tests, where the lists are so wide.
+fn write_tests_head<W: fmt::Write>(f: &mut fmt::Formatter<W>, columns: usize) -> fmt::Result
+    ensures { DisplaysOnOk W.write_str_gives f.old result (Some (tests_head columns)) f.new }
+{
+    write!(f, "board  {LIST_HEAD}")?;
+    write_spaces(f, columns.saturating_sub(LIST_HEAD.len()))?;
+    f.write_str("  tests a round  most with one more dead\n")
+}
+
+// The line of tests of each live board.
+#[tactic(auto, unfolding(crate::specs::SizeLines::each_below))]
+fn write_all_tests<W: fmt::Write>(
+    f: &mut fmt::Formatter<W>,
+    plant: &Plant,
+    columns: usize,
+) -> fmt::Result
+    ensures { let row = take plant.now.size plant.now.row in
+        let text = live_lines (tests_line plant.now.size row columns) row plant.now.size in
+        DisplaysOnOk W.write_str_gives f.old result (Some text) f.new }
+{
+    for i in 0..plant.size {
+        write_tests_if_live(f, plant, Station(i), columns)?;
+    }
+    Ok(())
+}
+
+// The line of tests of a board, if it is live.
+#[tactic(auto, unfolding(crate::specs::Layout::live_line))]
+fn write_tests_if_live<W: fmt::Write>(
+    f: &mut fmt::Formatter<W>,
+    plant: &Plant,
+    board: Station,
+    columns: usize,
+) -> fmt::Result
+    ensures { let row = take plant.now.size plant.now.row in
+        let text = live_line (tests_line plant.now.size row columns) row board.0 in
+        DisplaysOnOk W.write_str_gives f.old result (Some text) f.new }
+{
+    if !plant.is_live(board) {
+        return Ok(());
+    }
+    write_tests(f, plant, board, columns)
+}
+
 // The line of board i: whom it tests, how many these are, and the most with one more dead.
+#[tactic(auto, unfolding(crate::specs::Layout::tests_line))]
 fn write_tests<W: fmt::Write>(
     f: &mut fmt::Formatter<W>,
     plant: &Plant,
     i: Station,
     columns: usize,
-) -> fmt::Result {
+) -> fmt::Result
+    ensures { let text = tests_line plant.now.size (take plant.now.size plant.now.row) columns i.0 in
+        DisplaysOnOk W.write_str_gives f.old result (Some text) f.new }
+{
     let tests = slots::list_tests(plant.size, plant.row(), i);
-    let most = plant.most_tests(i);
-    let rest = columns.saturating_sub(width(&tests));
-    writeln!(
-        f,
-        "{:>5}  {}{:rest$}  {:>13}  {most:>23}",
-        i.0,
-        Boards(&tests),
-        "",
-        tests.len()
-    )
+    write_board(f, i)?;
+    write!(f, "{}", Boards(&tests))?;
+    write_spaces(f, columns.saturating_sub(width(&tests)))?;
+    write_counts(f, tests.len(), plant.most_tests(i))
+}
+
+// Board i at the head of its line.
+fn write_board<W: fmt::Write>(f: &mut fmt::Formatter<W>, i: Station) -> fmt::Result
+    ensures { DisplaysOnOk W.write_str_gives f.old result (Some (board_cell i.0)) f.new }
+{
+    write!(f, "{:>5}  ", i.0)
+}
+
+// The number of tests, and the most with one more dead.
+fn write_counts<W: fmt::Write>(f: &mut fmt::Formatter<W>, tests: usize, most: u8) -> fmt::Result
+    ensures { DisplaysOnOk W.write_str_gives f.old result (Some (count_cells tests most)) f.new }
+{
+    writeln!(f, "  {tests:>13}  {most:>23}")
+}
+
+// The line of untested boards of each live board.
+#[tactic(auto, unfolding(crate::specs::SizeLines::each_below))]
+fn write_all_untested<W: fmt::Write>(f: &mut fmt::Formatter<W>, plant: &Plant) -> fmt::Result
+    ensures { let row = take plant.now.size plant.now.row in
+        let text = live_lines (untested_line plant.now.size row) row plant.now.size in
+        DisplaysOnOk W.write_str_gives f.old result (Some text) f.new }
+{
+    for i in 0..plant.size {
+        write_untested_if_live(f, plant, Station(i))?;
+    }
+    Ok(())
+}
+
+// The line of board i, if it is live: whom it does not test, and who stands ahead.
+#[tactic(auto, unfolding(crate::specs::Layout::live_line, crate::specs::Layout::untested_line))]
+fn write_untested_if_live<W: fmt::Write>(
+    f: &mut fmt::Formatter<W>,
+    plant: &Plant,
+    i: Station,
+) -> fmt::Result
+    ensures { let row = take plant.now.size plant.now.row in
+        let text = live_line (untested_line plant.now.size row) row i.0 in
+        DisplaysOnOk W.write_str_gives f.old result (Some text) f.new }
+{
+    if !plant.is_live(i) {
+        return Ok(());
+    }
+    let untested = slots::untested::list_untested(plant.size, plant.row(), i);
+    write_board(f, i)?;
+    writeln!(f, "{}", Ahead(&untested))
+}
+
+// So many spaces.
+fn write_spaces<W: fmt::Write>(f: &mut fmt::Formatter<W>, count: usize) -> fmt::Result
+    ensures { DisplaysOnOk W.write_str_gives f.old result (Some (spaces count)) f.new }
+{
+    for k in 0..count {
+        f.write_str(" ")?;
+    }
+    Ok(())
 }
 
 // How wide the widest list of tests of a live board is.
