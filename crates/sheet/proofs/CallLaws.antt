@@ -1,6 +1,6 @@
 -- What clap makes of the words of a call, and what that asks for.
 -- Assumes nothing.
-use Rattle.std.proofs.Common.{◌≡◌, ◌≢◌, ◌<◌, ◌≤◌, ◌⊎◌, inl, inr, ℕ, List, [], ◌∷◌, true, false, refl, sym, ap, ap₂, ◌∙◌}
+use Rattle.std.proofs.Common.{◌≡◌, ◌≢◌, ◌<◌, ◌≤◌, ◌⊎◌, inl, inr, ℕ, List, [], ◌∷◌, false, refl, sym, ap, ap₂, ◌∙◌}
 use Rattle.std.proofs.Common.{codes, arith, Bor, map, length}
 use Rattle.std.specs.Prelude.{◌&&◌, Option, None, Some, IsSomeAnd, Result, Ok, Err, unwrap_or, option_map, nat_eq}
 use Rattle.std.proofs.lemmas.Bool.{and_left, and_right}

@@ -1,7 +1,7 @@
 -- What std writes of a number that is put to the right, and the lists that boards and their numbers make.
 -- Assumes nothing.
-use Rattle.std.proofs.Common.{◌≡◌, append_assoc, codes, ℕ, List, [], ◌∷◌, ◌++◌, ◌+◌, ◌-◌, ◌^◌, ◌<◌, true, false, refl, sym, ap, ◌∙◌, arith, map, length}
-use Rattle.std.specs.Prelude.{decimal, replicate}
+use Rattle.std.proofs.Common.{◌≡◌, append_assoc, codes, ℕ, List, [], ◌∷◌, ◌++◌, ◌-◌, ◌^◌, refl, ap, ◌∙◌, arith, map}
+use Rattle.std.specs.Prelude.{decimal}
 use Rattle.std.specs.List.{zip}
 use Rattle.std.specs.Fmt.{format_spec, styled_decimal}
 use Rattle.std.proofs.Padding.{padded_integral_right, styled_decimal_is}

@@ -2,7 +2,7 @@
 -- Assumes nothing.
 use Rattle.std.proofs.Common.{◌≡◌, ◌≢◌, ℕ, List, [], ◌∷◌, ◌++◌, ◌+◌, ◌<◌, zero, suc, true, false, refl}
 use Rattle.std.proofs.Common.{sym, ap, ◌∙◌, arith, take, length, get_or, append_assoc, append-nil, codes}
-use Rattle.std.specs.Prelude.{decimal, count_by, nat_eq, ◌==◌}
+use Rattle.std.specs.Prelude.{count_by, nat_eq, ◌==◌}
 use Rattle.std.proofs.lemmas.Bool.Decides.{nat_tests}
 use Rattle.sheet.specs.Printed.{dead_one, dead_from, dead_text}
 use Rattle.sheet.specs.SizeLines.{each_below, size_cells, size_line}

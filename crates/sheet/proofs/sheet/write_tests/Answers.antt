@@ -1,5 +1,5 @@
 -- The list that is written is that of the board's tests.
-use Rattle.std.proofs.Common.{arith, ap, sym, ◌∙◌, length, take}
+use Rattle.std.proofs.Common.{arith, ap, sym, ◌∙◌, length}
 use Rattle.std.proofs.lemmas.Grind.{common_steps}
 use Rattle.std.proofs.lemmas.List.{length-map}
 use Rattle.sheet.specs.Layout.{tests_line}
