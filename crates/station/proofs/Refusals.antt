@@ -12,7 +12,7 @@ use Rattle.table.specs.Sizes.{is_size, dimension}
 use Rattle.station.specs.Groups.{group}
 use Rattle.table.specs.Table.{live}
 use Rattle.table.specs.Wiring.{wiring_cube}
-use Rattle.table.specs.Rules.{station_check}
+use Rattle.table.specs.Rules.{table_check, station_check}
 use Rattle.station.specs.Calls.{row_check, range_check, group_check, assignment_check}
 use Rattle.lists.proofs.BoolLaws.{neither}
 use Rattle.lists.proofs.RefusalLaws.{ensure_ok, and_ok}
@@ -50,6 +50,9 @@ unfolding row_check
 row_ok w n t i x e =
     let p = and_ok _ _ x e in
     (table_ok w n t _ p.0, station_ok n i x p.1)
+
+pub checked_ok : (n : ℕ) (t : List ℕ) (x : Unit {0}) → table_check n t ≡ Ok x → (2 ≤ n) × (n ≤ 64)
+checked_ok n t x e = size-bounds n (table_ok wiring_cube n t x e).size
 
 pub accepted_top : (w n : ℕ) (t : List ℕ) → Accepted w n t → (2 ≤ n) × (n ≤ 64)
 accepted_top w n t a = size-bounds n a.size

@@ -23,9 +23,9 @@ unfolding end_distance
 end-cube n = refl
 
 -- and of the ring
-pub end-ring : (w n : ℕ) → is_ring w ≡ true → end_distance w n ≡ n
+pub end_ring : (w n : ℕ) → is_ring w ≡ true → end_distance w n ≡ n
 unfolding end_distance
-end-ring w n e = rw e
+end_ring w n e = rw e
 
 -- where there is a station it is 1 or more
 pub end-pos : (w n k : ℕ) → k < n → 1 ≤ end_distance w n
