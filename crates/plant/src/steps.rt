@@ -13,8 +13,8 @@ ghost use Rattle.plant.specs.Turn.{next_test, finish_pass, count_test, replies, 
 
 use crate::kind::Kind;
 use crate::outcome::Outcome;
-use lists::bytes;
 use crate::wired::Wired;
+use lists::bytes;
 use station::{DueOrAhead, due, rows};
 use table::lent::{Table, TableMut};
 use table::status::Status;
