@@ -17,7 +17,7 @@ pub test_outcome-outcome-requires : goal.test_outcome-outcome-requires
 test_outcome-outcome-requires c =
     let p = c.requires in
     let n = c.read.ensures.same_size in
-    record { tester_below = rw n p.tester_below; tested_below = rw (n, c.station_at-j.ensures, p.same_size) (rw p.same_size at p.tested_below) }
+    record { tester_below = rw n p.tester_below; tested_below = rw (n, c.station_at-j.ensures, p.same_size) p.tested_below }
 
 pub count_test-requires : goal.count_test-requires
 count_test-requires c =

@@ -13,13 +13,13 @@ next_test-m-requires c =
     let r = c.read.ensures in
     record { same_size = c.requires.same_size ∙ sym r.same_size; station_below = rw r.same_size c.requires.station_below }
 
-pub returns-then-end-m : goal.returns-then-end-m
+pub returns-then-wired-m : goal.returns-then-wired-m
 unfolding turn turn_tested turn_outcome makes_test
-returns-then-end-m c =
+returns-then-wired-m c =
     let r = c.read.ensures in
     let m = rw (r.same_size, r.same_bytes) at c.next_test-m.ensures in
     let end = rw c.requires.same_size at c.args.wired.last_of_pass in
-    let e = le-ltb _ _ (rw end at c.if-end-m.true) in
+    let e = le-ltb _ _ (rw end at c.if-wired-m.true) in
     let f = c.finish_pass.ensures in
     rw (← m, e) (record { tested_station = refl; outcome_number = refl; same_loan = f.same_loan; turn_made = f.pass_finished })
 
@@ -35,13 +35,13 @@ make_test-requires c =
     let l = accepted-line w a.n a.bytes.now t i p.station_below in
     let m = rw (r.same_size, r.same_bytes) at c.next_test-m.ensures in
     let end = rw p.same_size at c.args.wired.last_of_pass in
-    let e = lt-ltb _ _ (rw (end, m) at c.if-end-m.false) in
+    let e = lt-ltb _ _ (rw (end, m) at c.if-wired-m.false) in
     record {
       same_size = p.same_size;
       table_obeys = p.table_obeys;
       tester_below = p.station_below;
       distance_above_0 = omega (arith, m, next_test-low w a.n a.bytes.now i, l.pass.next_low);
-      distance_below = omega arith;
+      distance_below = c.if-wired-m.false;
       tested_below = rw m (test-station w a.n a.bytes.now i e t.long p.station_below);
     }
 
@@ -51,6 +51,6 @@ returns c =
     let r = c.read.ensures in
     let m = rw (r.same_size, r.same_bytes) at c.next_test-m.ensures in
     let end = rw c.requires.same_size at c.args.wired.last_of_pass in
-    let e = lt-ltb _ _ (rw end at c.if-end-m.false) in
+    let e = lt-ltb _ _ (rw end at c.if-wired-m.false) in
     let o = c.make_test.ensures in
     rw (← m, e) (record { tested_station = o.tested_station; outcome_number = o.outcome_number; same_loan = o.same_loan; turn_made = o.test_made })
