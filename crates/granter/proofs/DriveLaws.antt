@@ -137,7 +137,7 @@ stopped-full w n p k d full = record { within = omega (arith, d.room); stopped =
 
 pub stopped-ended : (w n : ℕ) (p : Stand) (k : ℕ) → Driving w n p k → full_after w n p k ≡ false → ended_after w n p (suc k) ≡ true → Stopped w n p (suc k)
 unfolding stops
-stopped-ended w n p k d fits o = record { within = next-within w n p k d; stopped = rw o; first = next-before n p k d fits }
+stopped-ended w n p k d fits o = record { within = next-within w n p k d; stopped = rw o; first = next-before w n p k d fits }
 
 -- a drive that is refused
 pub drive-refused : (w n : ℕ) (s : State) (last : ℕ) (r : Refusal) → grant_check w n s.table last ≡ Err r

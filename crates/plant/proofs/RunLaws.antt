@@ -75,8 +75,8 @@ pub line-back : (w n : ℕ) (s : State) (e : Entry) (sheet : List ℕ) (k : ℕ)
     → take (4 * k) sheet ++ (line ++ drop (4 * k + 4 - 4 * k) (drop (4 * k) sheet)) ≡ write_line sheet k (sheet_line w n s e)
 unfolding sheet_line
 line-back w n s e sheet k line same fits =
-    let w : 4 * k + 4 - 4 * k ≡ 4 = omega arith in
-    rw (w, drop-drop, same) (sym (rw append_assoc at (sets-eq (sheet_line w n s e) sheet (4 * k) fits)))
+    let four : 4 * k + 4 - 4 * k ≡ 4 = omega arith in
+    rw (four, drop-drop, same) (sym (rw append_assoc at (sets-eq (sheet_line w n s e) sheet (4 * k) fits)))
 
 -- the run from entry k on
 module _ (w n k : ℕ) (s : State) (sheet schedule : List ℕ) where

@@ -10,7 +10,6 @@ use native.Mathlib.Omega.{arith}
 use borrow.Author.Tests.{eqb-true}
 use lib.Dec.{eqb}
 use lib.ListN.{length}
-use Rattle.table.specs.Sizes.{is_size}
 use Rattle.table.specs.Wiring.{is_ring, end_distance}
 use Rattle.table.proofs.WiringLaws.{end_ring}
 use Rattle.station.specs.Wired.{wired_station}

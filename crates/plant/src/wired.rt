@@ -1,5 +1,5 @@
 // What a turn goes by, computed once for a run and handed on by value: the wiring, the size, and the end distance of both. So no turn computes the
-// end distance again. Measured by instructions of a run, with 8, 11 and 64 boards: 0.96 to 0.99 of those with the cube alone and no wiring; 1.04 to
+// end distance again. Measured by instructions of a run, with 8, 11 and 64 boards: 0.94 to 0.98 of those with the cube alone and no wiring; 1.05 to
 // 1.06 with the wiring by itself; 1.08 to 1.10 with a trait that has a type for each wiring, since what both have in common is then called from two
 // places, so that the compiler puts it in line no more.
 ghost use Rattle.std.specs.Prelude.{◌≡◌, true};
@@ -22,7 +22,7 @@ pub struct Wired {
 }
 
 impl Wired {
-    ghost use Rattle.std.specs.Prelude.{◌<◌};
+    ghost use Rattle.std.specs.Prelude.{◌+◌, ◌%◌, ◌<◌};
     ghost use Rattle.station.specs.Wired.{wired_station};
     ghost use Rattle.plant.specs.Turn.{next_after};
     ghost use Rattle.plant.specs.Outcome.{outcome_byte};

@@ -1,5 +1,5 @@
 -- The station tested is another one of the plant.
-use Rattle.std.proofs.Common.{sym, ◌∙◌, arith}
+use Rattle.std.proofs.Common.{◌∙◌, arith}
 use Rattle.table.proofs.Accepting.{accepted}
 use Rattle.table.proofs.WiringLaws.{size-end}
 use Rattle.table.proofs.CellLaws.{accepted-line}
