@@ -17,7 +17,8 @@ use table::wiring::Wiring;
 pub fn drive(wiring: usize, n: usize, table: &mut [u8], tally: Tally, last: usize) -> Driven
     ensures outcome { drive_outcome_with result table.new
         ≡ drive wiring n (state_with table.old tally) last }
-    ensures stopped_if_taken { StoppedIfTaken wiring n (state_with table.old tally) last result.grants }
+    ensures stopped_if_taken { let start = state_with table.old tally in
+        StoppedIfTaken wiring n start last result.grants }
 {
     // By hand and not by `?`: the answer is no Result, since a drive that is stopped keeps the turns that it made.
     let (wiring, n, before) = match grant::check_grant(wiring, n, table, last) {
@@ -41,9 +42,9 @@ fn drive_on(wiring: Wiring, table: &mut TableMut, tally: Tally, last: Option<Sta
         grant_refusal w table.old.n table.old.bytes.now (last_number last) ≡ 0 }
     requires last_below { IfSome last (λ i. i.0 < table.old.n) }
     ensures same_loan { IsSameLoan table.old table.new }
-    ensures outcome { let start = stand_at (state_with table.old.bytes.now tally) (last_number last) in
+    ensures outcome { let s = state_with table.old.bytes.now tally in
         drive_outcome_with result table.new.bytes.now
-        ≡ outcome_after (wiring_number wiring) table.old.n start result.grants }
+        ≡ outcome_after (wiring_number wiring) table.old.n (stand_at s (last_number last)) result.grants }
     ensures stopped { Stopped (wiring_number wiring) table.old.n
         (stand_at (state_with table.old.bytes.now tally) (last_number last)) result.grants }
 {

@@ -2,7 +2,7 @@
 -- Assumes nothing.
 use mathlib.Core.Path.{◌≡◌, refl, sym, ◌∙◌, ap, ap₂}
 use mathlib.Core.Logic.{◌≢◌}
-use mathlib.Core.Bool.{Bool, true, cond}
+use mathlib.Core.Bool.{Bool, true, false, cond}
 use mathlib.Core.List.{List, [], ◌∷◌, ◌++◌, append-nil}
 use Prim.Native.Nat.{ℕ, ◌+◌, ◌≤◌, ◌<◌}
 use native.Mathlib.Numerals.{add-one}
@@ -17,7 +17,8 @@ use Rattle.table.proofs.CellLaws.{TurnCounts, cell_other}
 use Rattle.plant.specs.Turn.{outcome_exchanged, outcome_told, outcome_tested_told, set_status, leave_told, next_test, makes_test, next_after, count_test, after_outcome, after_test, is_alone, after_alone, outcome_at, testing, turn}
 use Rattle.plant.proofs.NextTest.{next_test-low, not-due-before, test_below, test-station, test-due, none-due}
 use Rattle.plant.proofs.StepCells.{leave_told-other, finish_pass-other, finish_pass-next, finish_pass-finished, count_test-length, count_test-other, count_test-next, count_test-tests, suspect-other, exchange-other}
-use Rattle.station.proofs.WiredLaws.{station-apart}
+use Rattle.station.specs.Tests.{due}
+use Rattle.station.proofs.WiredLaws.{cube_due, station-apart}
 use Rattle.plant.proofs.StepLines.{Lines}
 use Rattle.lists.specs.Sums.{sum_below, bit}
 use Rattle.lists.proofs.BoolLaws.{by_bool, choice}
@@ -91,12 +92,17 @@ turn-heads w n t kind i lines h =
         }
 
 -- on the cube: of the distances that a turn passes one is due if it makes a test, and none if it makes none
-module _ (n : ℕ) (t t' : List ℕ) (i o : ℕ) (heads : Heads wiring_cube n t t' i o (makes_test wiring_cube n t i)) (high : next_distance n t i ≤ end_distance wiring_cube n) where
+module _ (n : ℕ) (t t' : List ℕ) (i o : ℕ) (heads : Heads wiring_cube n t t' i o (makes_test wiring_cube n t i))
+    (high : next_distance n t i ≤ end_distance wiring_cube n) where
   abbrev q : ℕ → Bool
-  q = wired_due wiring_cube (row n t i) i
+  q = due (row n t i) i
 
   abbrev m : ℕ
   m = next_test wiring_cube n t i
+
+  -- what is asked on the cube is whether the distance is due
+  asked : (y : ℕ) (b : Bool) → wired_due wiring_cube (row n t i) i y ≡ b → q y ≡ b
+  asked y b e = sym (cube_due wiring_cube (row n t i) i y refl) ∙ e
 
   stays : next_after wiring_cube n m o ≡ m + 1
   unfolding next_after
@@ -106,10 +112,10 @@ module _ (n : ℕ) (t t' : List ℕ) (i o : ℕ) (heads : Heads wiring_cube n t 
   passed-list =
       by_bool (makes_test wiring_cube n t i)
       (λ e.
-      let stay = select-stays q (next_distance n t i) m (next_test-low wiring_cube n t i) (not-due-before wiring_cube n t i) in
-      rw (heads.next, e, stays, add-one m, select-suc q m, test-due wiring_cube n t i e, stay))
+      let stay = select-stays q (next_distance n t i) m (next_test-low wiring_cube n t i) (λ y a b. asked y false (not-due-before wiring_cube n t i y a b)) in
+      rw (heads.next, e, stays, add-one m, select-suc q m, asked m true (test-due wiring_cube n t i e), stay))
       (λ e.
-      let stay = select-stays q (next_distance n t i) (end_distance wiring_cube n) high (none-due wiring_cube n t i e high) in
+      let stay = select-stays q (next_distance n t i) (end_distance wiring_cube n) high (λ y a b. asked y false (none-due wiring_cube n t i e high y a b)) in
       rw (heads.next, e, append-nil) stay)
 
   pub passed-dues : sum_below (λ x. bit (q x)) (next_distance n t' i) ≡ sum_below (λ x. bit (q x)) (next_distance n t i) + bit (makes_test wiring_cube n t i)

@@ -27,8 +27,8 @@ use table::{Distance, Station, cells};
 // put not even the line rules hold.
 pub fn take_turn(wired: Wired, table: &mut TableMut, kind: u8, i: Station) -> Outcome
     requires same_size { wired.n ≡ table.old.n }
-    requires table_obeys { wired_table_refusal (wiring_number wired.wiring) table.old.n table.old.bytes.now
-        ≡ 0 }
+    requires table_obeys { let w = wiring_number wired.wiring in
+        wired_table_refusal w table.old.n table.old.bytes.now ≡ 0 }
     requires station_below { i.0 < table.old.n }
     ensures tested_station { tested_byte result
         ≡ turn_tested (wiring_number wired.wiring) table.old.n table.old.bytes.now i.0 }
@@ -50,7 +50,8 @@ pub fn take_turn(wired: Wired, table: &mut TableMut, kind: u8, i: Station) -> Ou
 fn next_test(wired: Wired, table: &Table, i: Station) -> Distance
     requires same_size { wired.n ≡ table.now.n }
     requires station_below { i.0 < table.now.n }
-    ensures { result.0 ≡ next_test (wiring_number wired.wiring) table.now.n table.now.bytes.now i.0 }
+    ensures { let w = wiring_number wired.wiring in
+        result.0 ≡ next_test w table.now.n table.now.bytes.now i.0 }
 {
     let next = table.next_distance(i);
     match wired.wiring {
@@ -99,12 +100,13 @@ fn finish_pass(wired: Wired, table: &mut TableMut, i: Station)
 // Station i tests the station at distance m: the test is counted by its outcome, takes effect, and i leaves if it is alone.
 fn make_test(wired: Wired, table: &mut TableMut, kind: u8, i: Station, m: Distance) -> Outcome
     requires same_size { wired.n ≡ table.old.n }
-    requires table_obeys { wired_table_refusal (wiring_number wired.wiring) table.old.n table.old.bytes.now
-        ≡ 0 }
+    requires table_obeys { let w = wiring_number wired.wiring in
+        wired_table_refusal w table.old.n table.old.bytes.now ≡ 0 }
     requires tester_below { i.0 < table.old.n }
     requires distance_above_0 { 0 < m.0 }
     requires distance_below { m.0 < wired.end }
-    requires tested_below { wired_station (wiring_number wired.wiring) table.old.n i.0 m.0 < table.old.n }
+    requires tested_below { let w = wiring_number wired.wiring in
+        wired_station w table.old.n i.0 m.0 < table.old.n }
     ensures tested_station { tested_byte result
         ≡ wired_station (wiring_number wired.wiring) table.old.n i.0 m.0 }
     ensures outcome_number { outcome_byte result

@@ -71,7 +71,8 @@ impl Wired {
     #[tactic(auto, unfolding(crate::specs::Turn::next_after))]
     pub fn next_after(self, m: Distance, outcome: Outcome) -> u8
         requires { m.0 < 255 }
-        ensures { result ≡ next_after (wiring_number self.wiring) self.n m.0 (outcome_byte outcome) }
+        ensures { let w = wiring_number self.wiring in
+            result ≡ next_after w self.n m.0 (outcome_byte outcome) }
     {
         match self.wiring {
             Wiring::Cube => m.0 + 1,
