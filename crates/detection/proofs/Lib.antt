@@ -5,6 +5,9 @@ pub mod Latency
 pub mod Leaders
 pub mod Spread
 pub mod Detected
+pub mod Circle
+pub mod RingSpread
+pub mod RingCount
 pub mod Count
 pub mod DueLaw
 pub mod TurnEffect
