@@ -11,6 +11,9 @@ pub mod RingCount
 pub mod Count
 pub mod DueLaw
 pub mod TurnEffect
+pub mod RingTurns
+pub mod RingClosing
+pub mod RingKnown
 pub mod TakenLaws
 pub mod Counting
 pub mod Knowledge

@@ -9,8 +9,8 @@ returns-in-Cube c =
     let a = c.args.table.now in
     let w = c.args.wired in
     let end = rw c.requires.same_size at w.last_of_pass in
-    rw (c.row.ensures.row_of_line, c.next_distance-next.ensures, end) at c.scan.ensures
-    ∙ sym (cube-next (wiring_number w.wiring) a.n a.bytes.now c.args.i.0 (rw c.in-Cube.is refl))
+    let next = cube-next (wiring_number w.wiring) a.n a.bytes.now c.args.i.0 (rw c.in-Cube.is refl) in
+    rw (next, ← c.row.ensures.row_of_line, ← c.next_distance-next.ensures, ← end) c.scan.ensures
 
 pub returns-in-Ring : goal.returns-in-Ring
 returns-in-Ring c =
