@@ -15,6 +15,7 @@ use saved::first_pass::Found;
 use saved::order::{self, NOTHING_BEFORE, Previous};
 use saved::{LINE, SIZE, lines};
 use table::lent::TableMut;
+use table::wiring::Wiring;
 use table::{Station, cells, fresh, rules, sizes};
 
 // The form of the lines of a file: its edition and size.
@@ -190,7 +191,7 @@ impl Form {
         ensures { let lines = fresh_table self.size in
             result ≡ table_check self.size (sets lines (line_start self.size i.0) (line_as self.edition line.now)) }
     {
-        fresh::fresh_table(self.size as usize, own)?;
+        fresh::fresh_table(Wiring::Cube as usize, self.size as usize, own)?;
         let table = &mut TableMut {
             n: self.size,
             bytes: own,

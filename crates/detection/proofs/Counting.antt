@@ -8,21 +8,20 @@ use mathlib.Core.List.{List, [], ◌∷◌, ◌++◌}
 use Prim.Native.Nat.{ℕ, suc, ◌+◌, ◌≤◌, ◌<◌}
 use native.Mathlib.Decide.{ℕ_discrete}
 use native.Mathlib.Omega.{arith}
-use native.Mathlib.Numerals.{add-one}
-use borrow.Author.Tests.{eq-eqb, ne_eqb, eqb-true, lt-ltb}
-use lib.Bits.{xor_zero_r}
+use borrow.Author.Tests.{eq-eqb, ne_eqb, eqb-true}
 use lib.Dec.{eqb}
-use Rattle.table.specs.Sizes.{is_size, distances}
+use Rattle.table.specs.Sizes.{is_size}
+use Rattle.table.specs.Wiring.{end_distance}
 use Rattle.table.specs.Table.{cell, status_column, next_column, finished_column, tests_column, next_distance, finished, tests_made, live}
-use Rattle.station.proofs.Presence.{standing, standing-all, standing-more, standing-grows}
+use Rattle.station.proofs.Presence.{standing, standing-all, standing-more, standing-grows, standing-own}
 use Rattle.table.specs.Rules.{not_live, some_live, finished_if_live, live_finished, round_over}
-use Rattle.plant.specs.Turn.{next_test, makes_test}
+use Rattle.plant.specs.Turn.{next_test, makes_test, next_after}
 use Rattle.plant.specs.Round.{after_round}
-use Rattle.plant.proofs.NextTest.{next_test-low, test-station}
+use Rattle.plant.proofs.NextTest.{next_test-low, test_below, test-station}
 use Rattle.plant.specs.Entry.{Entry, State, is_crash, acted, after}
 use Rattle.table.proofs.CellLaws.{TurnCounts}
 use Rattle.plant.proofs.RoundLaws.{Reset, reset-other}
-use Rattle.plant.proofs.StepLines.{Lines}
+use Rattle.plant.proofs.StepLines.{Lines, next_after-between}
 use Rattle.lists.specs.Sums.{sum_below, bit}
 use Rattle.detection.specs.Runs.{Taken, table_after, is_turn_of, taken_test}
 use Rattle.detection.specs.Rounds.{any_taken, count_taken, closes, finishes_of, finished_or_not_live, tests_in, turns_in, nth_turn_finishes}
@@ -46,8 +45,8 @@ counts_start n t =
     record { turns = λ i h. omega arith; ended = λ i h. omega arith; last_ends = λ i h e. absurd (omega arith); tests = omega arith }
 
 -- a taken turn keeps it
-module _ (n : ℕ) (s : State) (e : Entry) (t₀ t' : List ℕ) (cur : List Taken) (no_crash : is_crash e ≡ false) (below : e.station < n)
-    (unfinished : finished n s.table e.station ≡ 0) (heads : Heads n s.table t' e.station (makes_test n s.table e.station))
+module _ (w n : ℕ) (s : State) (e : Entry) (t₀ t' : List ℕ) (cur : List Taken) (o : ℕ) (no_crash : is_crash e ≡ false) (below : e.station < n)
+    (unfinished : finished n s.table e.station ≡ 0) (heads : Heads w n s.table t' e.station o (makes_test w n s.table e.station))
     (c : Counts n t₀ cur s.table) where
   abbrev t : List ℕ
   t = s.table
@@ -56,10 +55,10 @@ module _ (n : ℕ) (s : State) (e : Entry) (t₀ t' : List ℕ) (cur : List Take
   i = e.station
 
   abbrev b : Bool
-  b = makes_test n t i
+  b = makes_test w n t i
 
   abbrev x : Taken
-  x = taken_at n s e
+  x = taken_at w n s e
 
   abbrev here : List Taken
   here = cur ++ (x ∷ [])
@@ -114,9 +113,9 @@ module _ (n : ℕ) (s : State) (e : Entry) (t₀ t' : List ℕ) (cur : List Take
   }
 
 -- and so does a crash, which is no turn and leaves bytes 2 and 3
-pub crash-counts : (n : ℕ) (s : State) (e : Entry) (t₀ t' : List ℕ) (cur : List Taken) → is_crash e ≡ true
-    → ((k c : ℕ) → TurnCounts c → cell n t' k c ≡ cell n s.table k c) → Counts n t₀ cur s.table → Counts n t₀ (cur ++ (taken_at n s e ∷ [])) t'
-crash-counts n s e t₀ t' cur crashed same c = record {
+pub crash-counts : (w n : ℕ) (s : State) (e : Entry) (t₀ t' : List ℕ) (cur : List Taken) → is_crash e ≡ true
+    → ((k c : ℕ) → TurnCounts c → cell n t' k c ≡ cell n s.table k c) → Counts n t₀ cur s.table → Counts n t₀ (cur ++ (taken_at w n s e ∷ [])) t'
+crash-counts w n s e t₀ t' cur crashed same c = record {
   turns = λ k h. omega (arith, tests_same k, finish-same k, c.turns k h, no-turn k);
   ended = λ k h. omega (arith, finish-same k, c.ended k h, no_end k);
   last_ends = λ k h some.
@@ -125,7 +124,7 @@ crash-counts n s e t₀ t' cur crashed same c = record {
 }
   where
     x : Taken
-    x = taken_at n s e
+    x = taken_at w n s e
 
     tests_same : (k : ℕ) → tests_made n t' k ≡ tests_made n s.table k
     tests_same k = same k tests_column (omega arith)
@@ -144,7 +143,7 @@ pub turns-split : (i : ℕ) (xs : List Taken) → turns_in i xs ≡ count_taken 
 unfolding count_taken
 turns-split i [] = omega arith
 turns-split i (x ∷ xs) =
-    omega (arith, turns-split i xs, bits (eqb x.entry.station i) (is_crash x.entry) (makes_test x.size x.before.table x.entry.station))
+    omega (arith, turns-split i xs, bits (eqb x.entry.station i) (is_crash x.entry) (makes_test x.wiring x.size x.before.table x.entry.station))
   where
     bits : (own crashed tests : Bool)
         → bit (not crashed && own) ≡ bit (own && (not crashed && tests)) + bit (own && (not crashed && not (not crashed && tests)))
@@ -154,41 +153,42 @@ turns-split i (x ∷ xs) =
     bits false false tests = refl
 
 -- fewer tests are made in a round than stations stand at the distances passed, for the station itself stands at 0
-abbrev pub Roomy : ℕ → List ℕ → Type 0
-Roomy n t = (i : ℕ) → i < n → suc (tests_made n t i) ≤ standing n i (next_distance n t i)
+abbrev pub Roomy : ℕ → ℕ → List ℕ → Type 0
+Roomy w n t = (i : ℕ) → i < n → suc (tests_made n t i) ≤ standing w n i (next_distance n t i)
 
 -- where a round starts
-pub roomy-start : (n : ℕ) (t : List ℕ) → ((i : ℕ) → i < n → Reset n t i) → Roomy n t
-unfolding sum_below
-roomy-start n t fresh i h = rw ((fresh i h).untested, (fresh i h).next, xor_zero_r i, lt-ltb i n h) (omega arith)
+pub roomy-start : (w n : ℕ) (t : List ℕ) → ((i : ℕ) → i < n → Reset n t i) → Roomy w n t
+roomy-start w n t fresh i h = rw ((fresh i h).untested, (fresh i h).next, standing-own w n i h) (omega arith)
 
 -- a turn keeps it
-pub turn-roomy : (n : ℕ) (t t' : List ℕ) (i : ℕ) → Lines n t → i < n → Heads n t t' i (makes_test n t i) → Roomy n t → Roomy n t'
-turn-roomy n t t' i lines below heads roomy k h = by_cases (ℕ_discrete k i) (λ e. rw e own) other
+pub turn-roomy : (w n : ℕ) (t t' : List ℕ) (i o : ℕ) → Lines w n t → i < n → Heads w n t t' i o (makes_test w n t i) → Roomy w n t → Roomy w n t'
+turn-roomy w n t t' i o lines below heads roomy k h = by_cases (ℕ_discrete k i) (λ e. rw e own) other
   where
-    own : suc (tests_made n t' i) ≤ standing n i (next_distance n t' i)
+    own : suc (tests_made n t' i) ≤ standing w n i (next_distance n t' i)
     own =
-        by_bool (makes_test n t i)
+        by_bool (makes_test w n t i)
         (λ e.
-        let more = standing-more n i (next_test n t i) (test-station n t i e lines.0 below) in
-        let up = standing-grows n i (next_distance n t i) (next_test n t i) (next_test-low n t i) in
-        rw (heads.next, heads.tests, e, add-one (next_test n t i)) (omega (arith, roomy i below)))
+        let more = standing-more w n i (next_test w n t i) (test-station w n t i e lines.0 below) in
+        let up = standing-grows w n i (next_distance n t i) (next_test w n t i) (next_test-low w n t i) in
+        let past = next_after-between w n (next_test w n t i) o (test_below w n t i e) in
+        let on = standing-grows w n i (suc (next_test w n t i)) (next_after w n (next_test w n t i) o) past.0 in
+        rw (heads.next, heads.tests, e) (omega (arith, roomy i below)))
         (λ e.
-        let up = standing-grows n i (next_distance n t i) (distances n) (lines.1 i below).pass.next_high in
+        let up = standing-grows w n i (next_distance n t i) (end_distance w n) (lines.1 i below).pass.next_high in
         rw (heads.next, heads.tests, e) (omega (arith, roomy i below)))
 
-    other : ¬ (k ≡ i) → suc (tests_made n t' k) ≤ standing n k (next_distance n t' k)
+    other : ¬ (k ≡ i) → suc (tests_made n t' k) ≤ standing w n k (next_distance n t' k)
     other e =
         rw (heads.others k tests_column e (omega arith), heads.others k next_column e (omega arith)) (roomy k h)
 
 -- in a round, from its start on
-module _ (n : ℕ) (t₀ t : List ℕ) (cur : List Taken) (fresh : (i : ℕ) → i < n → Reset n t₀ i) (lines : Lines n t)
+module _ (w n : ℕ) (t₀ t : List ℕ) (cur : List Taken) (fresh : (i : ℕ) → i < n → Reset n t₀ i) (lines : Lines w n t)
     (c : Counts n t₀ cur t) where
-  pub turns-ok : is_size n ≡ true → Roomy n t → (i : ℕ) → i < n → TurnsOk n i cur
+  pub turns-ok : is_size n ≡ true → Roomy w n t → (i : ℕ) → i < n → TurnsOk n i cur
   turns-ok size roomy i h =
       let line = lines.1 i h in
-      let up = standing-grows n i (next_distance n t i) (distances n) line.pass.next_high in
-      let room : suc (tests_made n t i) ≤ n = omega (arith, roomy i h, up, standing-all n i size h) in
+      let up = standing-grows w n i (next_distance n t i) (end_distance w n) line.pass.next_high in
+      let room : suc (tests_made n t i) ≤ n = omega (arith, roomy i h, up, standing-all w n i size h) in
       let spent : finished n t i + tests_made n t i ≡ turns_in i cur = omega (arith, c.turns i h, fresh i h) in (
         omega arith,
         λ e.
@@ -202,14 +202,14 @@ module _ (n : ℕ) (t₀ t : List ℕ) (cur : List Taken) (fresh : (i : ℕ) →
       rw same (any-one (finishes_of i) cur (omega (arith, (lines.1 i h).pass.finished_range)))
 
   -- a round of entries closes exactly where the table's round does
-  pub closes-is : (s : State) (e : Entry) → acted n s.table e ≡ t → closes cur (taken_at n s e) ≡ round_over n t
+  pub closes-is : (s : State) (e : Entry) → acted w n s.table e ≡ t → closes cur (taken_at w n s e) ≡ round_over n t
   unfolding closes some_live live_finished after after_round
   closes-is s e acts =
       ap₂ ◌&&◌ (ap not (every-same (not_live n (table_after x)) (not_live n t) n (λ k h. ap not (alike k))))
       (every-same (finished_or_not_live cur x) (finished_if_live n t) n (λ k h. ap₂ ◌||◌ (ap not (alike k)) (any-finished k h)))
     where
       x : Taken
-      x = taken_at n s e
+      x = taken_at w n s e
 
       alike : (k : ℕ) → live n (table_after x) k ≡ live n t k
       alike k =

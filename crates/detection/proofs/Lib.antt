@@ -5,9 +5,15 @@ pub mod Latency
 pub mod Leaders
 pub mod Spread
 pub mod Detected
+pub mod Circle
+pub mod RingSpread
+pub mod RingCount
 pub mod Count
 pub mod DueLaw
 pub mod TurnEffect
+pub mod RingTurns
+pub mod RingClosing
+pub mod RingKnown
 pub mod TakenLaws
 pub mod Counting
 pub mod Knowledge

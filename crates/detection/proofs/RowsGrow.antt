@@ -1,4 +1,4 @@
--- No entry takes a suspicion back, whatever its kind and outcome.
+-- No entry takes a suspicion back, whatever its kind and outcome, on either wiring.
 -- Assumes nothing.
 use mathlib.Core.Path.{◌≡◌, ◌∙◌}
 use mathlib.Core.Logic.{◌≢◌}
@@ -9,15 +9,16 @@ use native.Mathlib.Decide.{ℕ_discrete}
 use native.Mathlib.Omega.{arith}
 use lib.Dec.{eqb}
 use lib.ListN.{length}
-use Rattle.station.specs.Groups.{station_at}
+use Rattle.station.specs.Wired.{wired_station}
+use Rattle.station.proofs.WiredLaws.{station-apart}
 use Rattle.table.specs.Table.{head, table_length, status_column, suspects, status_alone, status_crashed}
 use Rattle.lists.proofs.BoolLaws.{by_bool, choice}
 use Rattle.table.proofs.CellLaws.{cell_other}
-use Rattle.plant.specs.Turn.{outcome_exchanged, outcome_told, outcome_tested_told, set_status, leave_told, next_test, makes_test, finish_pass, count_test, suspect, test_outcome, after_outcome, after_test, is_alone, after_alone, testing, turn, crash}
+use Rattle.plant.specs.Turn.{outcome_exchanged, outcome_told, outcome_tested_told, set_status, leave_told, next_test, makes_test, finish_pass, count_test, suspect, after_outcome, after_test, outcome_at, is_alone, after_alone, testing, turn, crash}
 use Rattle.plant.specs.Entry.{Entry, is_crash, acted}
-use Rattle.plant.proofs.NextTest.{next_test-low, test-station}
+use Rattle.plant.proofs.NextTest.{next_test-low, test_below, test-station}
 use Rattle.plant.proofs.StepCells.{leave_told-other, finish_pass-other, count_test-length, count_test-other, suspect-same, suspect-other}
-use Rattle.plant.proofs.StepLines.{Lines, station-apart}
+use Rattle.plant.proofs.StepLines.{Lines}
 use Rattle.detection.proofs.TurnEffect.{exchange-between}
 
 -- each row suspects after it whom it suspected before
@@ -37,14 +38,14 @@ told-rows n t a b k y h = leave_told-other n t a b k (head + y) (omega arith) (�
 same_grows : (n : ℕ) (t t' : List ℕ) → RowsStay n t t' → Grows n t t'
 same_grows n t t' same k y hk hy = omega (arith, same k y hy)
 
--- the test of j; a row has bytes of at most 1
-test-grows : (n : ℕ) (t : List ℕ) (kind i j : ℕ) → length t ≡ table_length n → i < n → j < n → i ≢ j
-    → ((k y : ℕ) → k < n → y < n → suspects n t k y ≤ 1) → Grows n t (after_test n t kind i j)
+-- what the outcome o of the test of j does; a row has bytes of at most 1
+outcome-grows : (n : ℕ) (t : List ℕ) (o i j : ℕ) → length t ≡ table_length n → i < n → j < n → i ≢ j
+    → ((k y : ℕ) → k < n → y < n → suspects n t k y ≤ 1) → Grows n t (after_outcome n t i j o)
 unfolding after_outcome
-test-grows n t kind i j long hi hj apart small =
-    choice (Grows n t) (eqb (test_outcome n t kind i j) outcome_told) (same_grows n t _ (told-rows n t i j))
-    (choice (Grows n t) (eqb (test_outcome n t kind i j) outcome_tested_told) (same_grows n t _ (told-rows n t j i))
-    (choice (Grows n t) (eqb (test_outcome n t kind i j) outcome_exchanged)
+outcome-grows n t o i j long hi hj apart small =
+    choice (Grows n t) (eqb o outcome_told) (same_grows n t _ (told-rows n t i j))
+    (choice (Grows n t) (eqb o outcome_tested_told) (same_grows n t _ (told-rows n t j i))
+    (choice (Grows n t) (eqb o outcome_exchanged)
     (λ k y hk hy. (exchange-between n t i j long hi hj apart k y hy).0) suspected))
   where
     suspected : Grows n t (suspect n t i j)
@@ -55,34 +56,40 @@ test-grows n t kind i j long hi hj apart small =
         pick (yes e) (no f) = omega (arith, suspect-other n t i long hi j k (head + y) (omega arith) (λ q. omega arith))
         pick (no e) f = omega (arith, suspect-other n t i long hi j k (head + y) (omega arith) (λ q. absurd (e q)))
 
-turn-grows : (n : ℕ) (t : List ℕ) (kind i : ℕ) → Lines n t → i < n → Grows n t (turn n t kind i)
-unfolding turn testing after_alone
-turn-grows n t kind i lines h =
-    by_bool (makes_test n t i) (λ e. rw e (tests e))
-    (λ e. rw e (same_grows n t (finish_pass n t i) (λ k y hy. finish_pass-other n t i k (head + y) (omega arith) (λ q. omega arith))))
+turn-grows : (w n : ℕ) (t : List ℕ) (kind i : ℕ) → Lines w n t → i < n → Grows n t (turn w n t kind i)
+unfolding turn testing after_test after_alone
+turn-grows w n t kind i lines h =
+    by_bool (makes_test w n t i) (λ e. rw e (tests e))
+    (λ e. rw e (same_grows n t (finish_pass w n t i) (λ k y hy. finish_pass-other n t i w k (head + y) (omega arith) (λ q. omega arith))))
   where
     m : ℕ
-    m = next_test n t i
+    m = next_test w n t i
+
+    j : ℕ
+    j = wired_station w n i m
+
+    o : ℕ
+    o = outcome_at w n t kind i m
 
     t₁ : List ℕ
-    t₁ = count_test n t i m
+    t₁ = count_test w n t i m o
 
     counted : RowsStay n t t₁
-    counted k y hy = count_test-other n t i m k (head + y) (omega arith) (λ q. omega arith)
+    counted k y hy = count_test-other n t i w m o k (head + y) (omega arith) (λ q. omega arith)
 
-    tests : makes_test n t i ≡ true → Grows n t (testing n t kind i m)
+    tests : makes_test w n t i ≡ true → Grows n t (testing w n t kind i m)
     tests e k y hk hy =
-        let x<n = test-station n t i e lines.0 h in
-        let apart = station-apart i m (omega (arith, (lines.1 i h).pass.next_low, next_test-low n t i)) in
-        let long : length t₁ ≡ table_length n = count_test-length n t i m ∙ lines.0 in
+        let x<n = test-station w n t i e lines.0 h in
+        let apart = station-apart w n i m h (omega (arith, (lines.1 i h).pass.next_low, next_test-low w n t i)) (test_below w n t i e) in
+        let long : length t₁ ≡ table_length n = count_test-length n t i w m o ∙ lines.0 in
         let small : (a b : ℕ) → a < n → b < n → suspects n t₁ a b ≤ 1 = λ a b ha hb. omega (arith, counted a b hb, (lines.1 a ha).range b hb) in
-        let t₂ : List ℕ = after_test n t₁ kind i (station_at i m) in
-        let grown = test-grows n t₁ kind i (station_at i m) long h x<n apart small k y hk hy in
+        let t₂ : List ℕ = after_outcome n t₁ i j o in
+        let grown = outcome-grows n t₁ o i j long h x<n apart small k y hk hy in
         let last : suspects n t₂ k y ≤ suspects n (after_alone n t₂ i) k y =
         choice (λ u. suspects n t₂ k y ≤ suspects n u k y) (is_alone n t₂ i) (omega (arith, left-rows n t₂ i status_alone k y hy)) (omega arith) in
         omega (arith, counted k y hy, grown, last)
 
-pub acted-grows : (n : ℕ) (t : List ℕ) (e : Entry) → Lines n t → e.station < n → Grows n t (acted n t e)
+pub acted-grows : (w n : ℕ) (t : List ℕ) (e : Entry) → Lines w n t → e.station < n → Grows n t (acted w n t e)
 unfolding acted crash
-acted-grows n t e lines h =
-    choice (Grows n t) (is_crash e) (same_grows n t _ (left-rows n t e.station status_crashed)) (turn-grows n t e.kind e.station lines h)
+acted-grows w n t e lines h =
+    choice (Grows n t) (is_crash e) (same_grows n t _ (left-rows n t e.station status_crashed)) (turn-grows w n t e.kind e.station lines h)

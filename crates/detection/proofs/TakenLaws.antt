@@ -14,8 +14,8 @@ use Rattle.detection.specs.Rounds.{any_taken, count_taken, turns_in, nth_turn_fi
 use Rattle.lists.proofs.BoolLaws.{by_bool}
 
 -- an entry as it is taken
-abbrev pub taken_at : ℕ → State → Entry → Taken
-taken_at n s e = record { size = n; before = s; entry = e }
+abbrev pub taken_at : ℕ → ℕ → State → Entry → Taken
+taken_at w n s e = record { wiring = w; size = n; before = s; entry = e }
 
 -- whether any entry passes q, where at most one does
 pub any-one : (q : Taken → Bool) (xs : List Taken) → count_taken q xs ≤ 1 → any_taken q xs ≡ eqb (count_taken q xs) 1

@@ -1,6 +1,6 @@
--- What a turn does to status and rows, in a table in which no live board suspects a live one.
+-- What a turn does to status and rows, in a table in which no live board suspects a live one: on either wiring, and what the cube adds.
 -- Assumes nothing.
-use mathlib.Core.Path.{◌≡◌, sym, ◌∙◌}
+use mathlib.Core.Path.{◌≡◌, refl, sym, ◌∙◌}
 use mathlib.Core.Logic.{◌≢◌, by_cases}
 use mathlib.Core.Bool.{Bool, true, false, cond, and-false, true≢false}
 use mathlib.Core.List.{List}
@@ -9,22 +9,24 @@ use native.Mathlib.Decide.{dec_lt, ℕ_discrete}
 use native.Mathlib.Omega.{arith}
 use borrow.Author.Tests.{eq-eqb, ne_eqb}
 use lib.ListN.{length}
-use Rattle.table.specs.Sizes.{is_size, distances}
+use Rattle.table.specs.Wiring.{wiring_cube, end_distance}
 use Rattle.station.specs.Groups.{station_at}
+use Rattle.station.specs.Wired.{wired_station, wired_due}
+use Rattle.station.proofs.WiredLaws.{cube-station, cube_due, station-apart}
 use Rattle.table.specs.Table.{head, stride, table_length, cell, status_column, status, next_distance, finished, suspects, live, row}
 use Rattle.station.specs.Tests.{due}
 use Rattle.lists.proofs.SearchLaws.{every-not}
-use Rattle.plant.specs.Turn.{kind_turn, outcome_exchanged, next_test, makes_test, finish_pass, count_test, replies, is_told, exchange_rows, suspect, reply_outcome, test_outcome, after_outcome, after_test, self_or_suspected, is_alone, after_alone, testing, turn}
+use Rattle.plant.specs.Turn.{kind_turn, outcome_exchanged, outcome_no_reply, next_test, makes_test, finish_pass, next_after, count_test, replies, is_told, exchange_rows, suspect, reply_outcome, test_outcome, after_outcome, after_test, outcome_at, self_or_suspected, is_alone, after_alone, testing, turn}
 use Rattle.plant.proofs.StepCells.{finish_pass-other, count_test-other, suspect-same, suspect-other, exchange-other, exchange-tester, exchange-tested, exchange-tester-own, exchange-tested-own}
-use Rattle.plant.proofs.StepLines.{Lines, finish_pass-lines, count_test-lines, suspect-lines, exchange-lines, station-apart}
+use Rattle.plant.proofs.StepLines.{Lines, finish_pass-lines, count_test-lines, suspect-lines, exchange-lines}
 use Rattle.plant.proofs.NextTest.{next_test-low, not-due-before, test_below, test-station, none-due}
 use Rattle.lists.proofs.BoolLaws.{by_bool}
 use Rattle.plant.proofs.TurnHeads.{turn-heads}
 use Rattle.table.proofs.CellLaws.{TurnCounts, ClosingChanges}
 
 -- a table that obeys the line rules, with live set L, in which no live station suspects a live one
-pub record Plain (n : ℕ) (L : ℕ → Bool) (t : List ℕ) : Type 0 where
-  pub lines : Lines n t
+pub record Plain (w n : ℕ) (L : ℕ → Bool) (t : List ℕ) : Type 0 where
+  pub lines : Lines w n t
   pub lives : (i : ℕ) → i < n → live n t i ≡ L i
   pub accurate : (i j : ℕ) → i < n → j < n → L i ≡ true → L j ≡ true → suspects n t i j ≡ 0
 
@@ -50,17 +52,17 @@ Row n t i j = suspects n t i j ≡ 1
 -- where they had less, and in a later table
 pub tested-more : (n : ℕ) (L : ℕ → Bool) {mine its mine' its' : ℕ → Type 0} (t t' : List ℕ) (i x : ℕ) → i < n → x < n → Grown n t t'
     → ((j : ℕ) → j < n → mine' j → mine j) → ((j : ℕ) → j < n → its' j → its j) → Tested n L mine its t i x → Tested n L mine' its' t' i x
-tested-more n L t t' i x hi hx grows m s w = record {
-  finds = λ e. grows i x hi hx (w.finds e);
-  tells = λ e j h k. grows x j hx h (w.tells e j h (m j h k));
-  hears = λ e j h k. grows i j hi h (w.hears e j h (s j h k));
+tested-more n L t t' i x hi hx grows m s had = record {
+  finds = λ e. grows i x hi hx (had.finds e);
+  tells = λ e j h k. grows x j hx h (had.tells e j h (m j h k));
+  hears = λ e j h k. grows i j hi h (had.hears e j h (s j h k));
 }
 
 -- a table with other bytes only where a turn counts or closing a round changes them
-pub same_rows : (n : ℕ) (L : ℕ → Bool) (t t' : List ℕ) → Lines n t'
+pub same_rows : (w n : ℕ) (L : ℕ → Bool) (t t' : List ℕ) → Lines w n t'
     → ((k c : ℕ) → c < stride n → ¬ (TurnCounts c) → ¬ (ClosingChanges c) → cell n t' k c ≡ cell n t k c)
-    → Plain n L t → Plain n L t' × Grown n t t'
-same_rows n L t t' lines same p = (
+    → Plain w n L t → Plain w n L t' × Grown n t t'
+same_rows w n L t t' lines same p = (
   record {
     lines = lines;
     lives = λ i h. rw (same i status_column (omega arith) (λ p. omega arith) (λ p. omega arith)) (p.lives i h);
@@ -88,18 +90,18 @@ module _ (n : ℕ) (t : List ℕ) (i x : ℕ) (long : length t ≡ table_length 
   exchange-between k y h = between k y h (ℕ_discrete i k) (ℕ_discrete x k) (ℕ_discrete y k)
 
 -- the test of x by the live i
-module _ (n : ℕ) (L : ℕ → Bool) (t : List ℕ) (i x : ℕ) (p : Plain n L t) (hi : i < n) (hx : x < n) (apart : i ≢ x) (li : L i ≡ true) where
+module _ (w n : ℕ) (L : ℕ → Bool) (t : List ℕ) (i x : ℕ) (p : Plain w n L t) (hi : i < n) (hx : x < n) (apart : i ≢ x) (li : L i ≡ true) where
   long : length t ≡ table_length n
   long = p.lines.0
 
   abbrev Step : List ℕ → Type 0
-  Step t' = Plain n L t' × Grown n t t' × Tested n L (Row n t i) (Row n t x) t' i x
+  Step t' = Plain w n L t' × Grown n t t' × Tested n L (Row n t i) (Row n t x) t' i x
 
   -- what is to be shown of byte y of the row of k
   abbrev Byte : List ℕ → ℕ → ℕ → Type 0
   Byte t' k y = (suspects n t k y ≤ suspects n t' k y) × (L k ≡ true → L y ≡ true → suspects n t' k y ≡ 0)
 
-  step : (t' : List ℕ) → Lines n t' → ((k : ℕ) → status n t' k ≡ status n t k)
+  step : (t' : List ℕ) → Lines w n t' → ((k : ℕ) → status n t' k ≡ status n t k)
       → ((k y : ℕ) → k < n → y < n → Byte t' k y) → Tested n L (Row n t i) (Row n t x) t' i x → Step t'
   step t' lines same bytes done = (
     record { lines = lines; lives = λ k h. rw (same k) (p.lives k h); accurate = λ k y hk hy. (bytes k y hk hy).1 },
@@ -121,8 +123,8 @@ module _ (n : ℕ) (L : ℕ → Bool) (t : List ℕ) (i x : ℕ) (p : Plain n L 
       t' : List ℕ
       t' = suspect n t i x
 
-      lines : Lines n t'
-      lines = suspect-lines n t i p.lines hi x hx apart
+      lines : Lines w n t'
+      lines = suspect-lines w n t i p.lines hi x hx apart
 
       now : suspects n t' i x ≡ 1
       now = suspect-same n t i long hi x hx
@@ -152,78 +154,148 @@ module _ (n : ℕ) (L : ℕ → Bool) (t : List ℕ) (i x : ℕ) (p : Plain n L 
       t' : List ℕ
       t' = exchange_rows n t i x
 
-      lines : Lines n t'
-      lines = exchange-lines n t i p.lines hi x hx apart
+      lines : Lines w n t'
+      lines = exchange-lines w n t i p.lines hi x hx apart
 
   -- neither of two live stations suspects the other: a test with a reply tells nobody
   pub none_told : L x ≡ true → reply_outcome n t i x ≡ outcome_exchanged
   unfolding reply_outcome is_told
   none_told e = rw (p.accurate x i hx hi e li, p.accurate i x hi hx li e)
 
-  -- the reply of a live station is not late
-  pub tested : (kind : ℕ) → (L x ≡ true → kind ≡ kind_turn) → Step (after_test n t kind i x)
-  unfolding after_outcome test_outcome replies
-  tested kind prompt =
-      by_bool (L x) (λ e. rw (p.lives x hx ∙ e, eq-eqb kind kind_turn (prompt e), none_told e) (exchanged e))
-      (λ e. rw (p.lives x hx ∙ e) (marked e))
+  -- where the reply of a live station is not late: an exchange with a live one, and no reply of another
+  pub outcome-is : (kind : ℕ) → (L x ≡ true → kind ≡ kind_turn)
+      → (L x ≡ true → test_outcome n t kind i x ≡ outcome_exchanged) × (L x ≡ false → test_outcome n t kind i x ≡ outcome_no_reply)
+  unfolding test_outcome replies
+  outcome-is kind prompt =
+      (λ e. rw (p.lives x hx ∙ e, eq-eqb kind kind_turn (prompt e), none_told e), λ e. rw (p.lives x hx ∙ e))
 
--- a turn of i: of the distances that it passes none before the last was due, and at one that was due it tested
+  -- what such an outcome does
+  pub tested : (o : ℕ) → (L x ≡ true → o ≡ outcome_exchanged) → (L x ≡ false → o ≡ outcome_no_reply) → Step (after_outcome n t i x o)
+  unfolding after_outcome
+  tested o exchanges silent = by_bool (L x) (λ e. rw (exchanges e) (exchanged e)) (λ e. rw (silent e) (marked e))
+
+-- a station with a live one beside it that it does not suspect is not alone
+pub not-alone : (w n : ℕ) (L : ℕ → Bool) (t : List ℕ) (i : ℕ) → Plain w n L t → Company n L → i < n → L i ≡ true → after_alone n t i ≡ t
+unfolding after_alone is_alone self_or_suspected
+not-alone w n L t i p company hi li =
+    let o = company i hi li in
+    let fails : self_or_suspected n t i o.0 ≡ false = rw (ne_eqb o.0 i (λ e. o.2 (sym e)), p.accurate i o.0 hi o.1 li o.3) in
+    rw (every-not (self_or_suspected n t i) n o.0 o.1 fails, and-false)
+
+-- a turn of i on either wiring: x is the station at its next test, and o what comes of it
+pub record TurnMade (w n : ℕ) (L : ℕ → Bool) (t t' : List ℕ) (i x o : ℕ) : Type 0 where
+  pub plain : Plain w n L t'
+  pub grows : Grown n t t'
+  pub tests : makes_test w n t i ≡ true → Tested n L (Row n t i) (Row n t x) t' i x
+  pub exchanges : makes_test w n t i ≡ true → L x ≡ true → o ≡ outcome_exchanged
+  pub silent : makes_test w n t i ≡ true → L x ≡ false → o ≡ outcome_no_reply
+
+-- a turn of a live station, where the reply of a live station is not late
+module _ (w n : ℕ) (L : ℕ → Bool) (t : List ℕ) (kind i : ℕ) (p : Plain w n L t) (company : Company n L) (hi : i < n) (li : L i ≡ true)
+    (going : finished n t i ≡ 0) where
+  abbrev m : ℕ
+  m = next_test w n t i
+
+  abbrev x : ℕ
+  x = wired_station w n i m
+
+  abbrev o : ℕ
+  o = outcome_at w n t kind i m
+
+  module _ (prompt : makes_test w n t i ≡ true → L x ≡ true → kind ≡ kind_turn) where
+    finishes : makes_test w n t i ≡ false → TurnMade w n L t (finish_pass w n t i) i x o
+    finishes e =
+        let lines = finish_pass-lines w n t i p.lines hi in
+        let same = same_rows w n L t _ lines (λ k c h counts _. finish_pass-other n t i w k c h (λ _. (λ e. counts (omega arith), λ e. counts (omega arith)))) p in
+        record {
+          plain = same.0;
+          grows = same.1;
+          tests = λ f. absurd (true≢false (sym f ∙ e));
+          exchanges = λ f. absurd (true≢false (sym f ∙ e));
+          silent = λ f. absurd (true≢false (sym f ∙ e));
+        }
+
+    makes : makes_test w n t i ≡ true → TurnMade w n L t (testing w n t kind i m) i x o
+    unfolding testing after_test
+    makes e =
+        let t₁ : List ℕ = count_test w n t i m o in
+        let m<n = test_below w n t i e in
+        let low = next_test-low w n t i in
+        let lines₁ = count_test-lines w n t i p.lines hi m o (omega arith) low m<n in
+        let same = same_rows w n L t t₁ lines₁ (λ k c h counts _. count_test-other n t i w m o k c h (λ _. (λ e. counts (omega arith), λ e. counts (omega arith)))) p in
+        let apart = station-apart w n i m hi (omega (arith, (p.lines.1 i hi).pass.next_low, low)) m<n in
+        let x<n = test-station w n t i e p.lines.0 hi in
+        let outcome = outcome-is w n L t i x p hi x<n apart li kind (prompt e) in
+        let done = tested w n L t₁ i x same.0 hi x<n apart li o outcome.0 outcome.1 in
+        let stays = not-alone w n L _ i done.0 company hi li in
+        rw stays (record {
+          plain = done.0;
+          grows = λ k y hk hy s. done.1 k y hk hy (same.1 k y hk hy s);
+          tests = λ f. tested-more n L _ _ i x hi x<n (λ k y a b s. s) (λ k a. same.1 i k hi a) (λ k a. same.1 x k x<n a) done.2;
+          exchanges = λ f. outcome.0;
+          silent = λ f. outcome.1;
+        })
+
+    pub turn-made : TurnMade w n L t (turn w n t kind i) i x o
+    unfolding turn
+    turn-made = by_bool (makes_test w n t i) (λ e. rw e (makes e)) (λ e. rw e (finishes e))
+
+-- a turn of i on the cube: of the distances that it passes none before the last was due, and at one that was due it tested
 pub record TurnKept (n : ℕ) (L : ℕ → Bool) (t t' : List ℕ) (i : ℕ) : Type 0 where
-  pub plain : Plain n L t'
+  pub plain : Plain wiring_cube n L t'
   pub grows : Grown n t t'
   pub undue : (m k : ℕ) → next_distance n t i ≤ k → k < m → m < next_distance n t' i → due (row n t i) i k ≡ false
   pub passed : (m : ℕ) → next_distance n t i ≤ m → m < next_distance n t' i → due (row n t i) i m ≡ true
       → Tested n L (Row n t i) (Row n t (station_at i m)) t' i (station_at i m)
 
--- a station with a live one beside it that it does not suspect is not alone
-pub not-alone : (n : ℕ) (L : ℕ → Bool) (t : List ℕ) (i : ℕ) → Plain n L t → Company n L → i < n → L i ≡ true → after_alone n t i ≡ t
-unfolding after_alone is_alone self_or_suspected
-not-alone n L t i p company hi li =
-    let o = company i hi li in
-    let fails : self_or_suspected n t i o.0 ≡ false = rw (ne_eqb o.0 i (λ e. o.2 (sym e)), p.accurate i o.0 hi o.1 li o.3) in
-    rw (every-not (self_or_suspected n t i) n o.0 o.1 fails, and-false)
-
--- a turn of a live station, where the reply of a live station is not late
-pub turn-effect : (n : ℕ) (L : ℕ → Bool) (t : List ℕ) (kind i : ℕ) → is_size n ≡ true → Plain n L t → Company n L → i < n → L i ≡ true
+pub turn-effect : (n : ℕ) (L : ℕ → Bool) (t : List ℕ) (kind i : ℕ) → Plain wiring_cube n L t → Company n L → i < n → L i ≡ true
     → finished n t i ≡ 0
-    → (makes_test n t i ≡ true → L (station_at i (next_test n t i)) ≡ true → kind ≡ kind_turn) → TurnKept n L t (turn n t kind i) i
-unfolding turn testing
-turn-effect n L t kind i size p company hi li going prompt = by_bool (makes_test n t i) makes (λ e. rw e (finishes e))
+    → (makes_test wiring_cube n t i ≡ true → L (station_at i (next_test wiring_cube n t i)) ≡ true → kind ≡ kind_turn)
+    → TurnKept n L t (turn wiring_cube n t kind i) i
+unfolding next_after
+turn-effect n L t kind i p company hi li going prompt = by_bool (makes_test wiring_cube n t i) makes finishes
   where
-    next : next_distance n (turn n t kind i) i ≡ cond (makes_test n t i) (next_test n t i + 1) (distances n)
-    next = (turn-heads n t kind i size p.lines hi).next
+    m : ℕ
+    m = next_test wiring_cube n t i
 
-    finishes : makes_test n t i ≡ false → TurnKept n L t (finish_pass n t i) i
+    o : ℕ
+    o = outcome_at wiring_cube n t kind i m
+
+    x : ℕ
+    x = wired_station wiring_cube n i m
+
+    here : x ≡ station_at i m
+    here = cube-station wiring_cube n i m refl
+
+    made : TurnMade wiring_cube n L t (turn wiring_cube n t kind i) i x o
+    made = turn-made wiring_cube n L t kind i p company hi li going (λ e l. prompt e (rw here at l))
+
+    next : next_distance n (turn wiring_cube n t kind i) i ≡ cond (makes_test wiring_cube n t i) (m + 1) (end_distance wiring_cube n)
+    next = (turn-heads wiring_cube n t kind i p.lines hi).next
+
+    undue-at : (y : ℕ) → wired_due wiring_cube (row n t i) i y ≡ false → due (row n t i) i y ≡ false
+    undue-at y e = sym (cube_due wiring_cube (row n t i) i y refl) ∙ e
+
+    finishes : makes_test wiring_cube n t i ≡ false → TurnKept n L t (turn wiring_cube n t kind i) i
     finishes e =
-        let lines = finish_pass-lines n t i p.lines hi in
-        let same = same_rows n L t _ lines (λ k c h counts _. finish_pass-other n t i k c h (λ _. (λ e. counts (omega arith), λ e. counts (omega arith)))) p in
-        let none = none-due n t i e (p.lines.1 i hi).pass.next_high in
+        let none = none-due wiring_cube n t i e (p.lines.1 i hi).pass.next_high in
+        let last = rw e at next in
         record {
-          plain = same.0;
-          grows = same.1;
-          undue = λ m k lo l below. none k lo (omega (arith, rw e at next));
-          passed = λ m lo below is_due. absurd (true≢false (sym is_due ∙ none m lo (omega (arith, rw e at next))));
+          plain = made.plain;
+          grows = made.grows;
+          undue = λ y k lo l below. undue-at k (none k lo (omega (arith, last)));
+          passed = λ y lo below is_due. absurd (true≢false (sym is_due ∙ undue-at y (none y lo (omega (arith, last)))));
         }
 
-    makes : makes_test n t i ≡ true → TurnKept n L t (turn n t kind i) i
+    makes : makes_test wiring_cube n t i ≡ true → TurnKept n L t (turn wiring_cube n t kind i) i
     makes e =
-        let m : ℕ = next_test n t i in
-        let t₁ : List ℕ = count_test n t i m in
-        let m<n = test_below n t i e in
-        let low = next_test-low n t i in
-        let lines₁ = count_test-lines n t i p.lines hi m (omega arith) low m<n in
-        let same = same_rows n L t t₁ lines₁ (λ k c h counts _. count_test-other n t i m k c h (λ _. (λ e. counts (omega arith), λ e. counts (omega arith)))) p in
-        let apart = station-apart i m (omega (arith, (p.lines.1 i hi).pass.next_low)) in
-        let x<n = test-station n t i e p.lines.0 hi in
-        let done = tested n L t₁ i (station_at i m) same.0 hi x<n apart li kind (prompt e) in
-        let stays = not-alone n L _ i done.0 company hi li in
-        rw (e, stays) (record {
-          plain = done.0;
-          grows = λ k y hk hy s. done.1 k y hk hy (same.1 k y hk hy s);
-          undue = λ y k lo l below. not-due-before n t i k lo (omega (arith, rw (e, stays) at next));
+        let last = rw e at next in
+        let before = not-due-before wiring_cube n t i in
+        record {
+          plain = made.plain;
+          grows = made.grows;
+          undue = λ y k lo l below. undue-at k (before k lo (omega (arith, last)));
           passed = λ y lo hi' is_due. by_cases (dec_lt y m)
-              (λ l. absurd (true≢false (sym is_due ∙ not-due-before n t i y lo l)))
-              (λ l.
-              let last : y ≡ m = omega (arith, rw (e, stays) at next) in
-              rw last (tested-more n L _ _ i _ hi x<n (λ k y a b s. s) (λ k a. same.1 i k hi a) (λ k a. same.1 _ k x<n a) done.2));
-        })
+              (λ l. absurd (true≢false (sym is_due ∙ undue-at y (before y lo l))))
+              (λ l. let same : y ≡ m = omega (arith, last) in rw (same, ← here) (made.tests e));
+        }

@@ -12,7 +12,7 @@ use Rattle.table.specs.Properties.{exact_row, ExactRows}
 
 -- the station that the taken entry tests; 255 where it makes no test
 abbrev pub station_tested : Taken → ℕ
-station_tested x = tested_of x.size x.before.table x.entry
+station_tested x = tested_of x.wiring x.size x.before.table x.entry
 
 -- whether the taken entry is a turn of station i that makes a test
 abbrev pub is_test_of : ℕ → Taken → Bool

@@ -1,48 +1,54 @@
 -- The list of runs and its taken entries.
 -- Assumes nothing.
-use Rattle.std.specs.Prelude.{◌≡◌, ℕ, Bool, not, ◌&&◌, List, [], ◌∷◌, ◌++◌, length, if◌then◌else◌, ◌==◌}
+use Rattle.std.specs.Prelude.{◌≡◌, ℕ, Bool, not, ◌&&◌, List, [], ◌∷◌, ◌++◌, length, All, Ok, if◌then◌else◌, ◌==◌}
+use Rattle.table.specs.Wiring.{wiring_check}
 use Rattle.table.specs.Table.{live}
 use Rattle.plant.specs.Turn.{kind_turn, kind_late}
 use Rattle.plant.specs.Entry.{Entry, State, is_crash, is_test, entry_refusal, after, tested_of}
 use Rattle.plant.specs.Run.{entries, start_refusal, run}
 
--- what one run of the list is given anew: its size, schedule and run sheet, which may be any
+-- what one run of the list is given anew: its wiring, size, schedule and run sheet, which may be any
 pub record Call : Type 0 where
+  pub wiring : ℕ
   pub size : ℕ
   pub schedule : List ℕ
   pub sheet : List ℕ
 
 -- a run's own inputs by their parts
-abbrev pub call_of : ℕ → List ℕ → List ℕ → Call
-call_of n schedule sheet = record { size = n; schedule = schedule; sheet = sheet }
+abbrev pub call_of : ℕ → ℕ → List ℕ → List ℕ → Call
+call_of w n schedule sheet = record { wiring = w; size = n; schedule = schedule; sheet = sheet }
 
 -- a run of one entry, (1, i): a turn of station i. What its sheet of four bytes held does not matter
-abbrev pub turn_run : ℕ → ℕ → Call
-turn_run n i = call_of n (kind_turn ∷ i ∷ []) (0 ∷ 0 ∷ 0 ∷ 0 ∷ [])
+abbrev pub turn_run : ℕ → ℕ → ℕ → Call
+turn_run w n i = call_of w n (kind_turn ∷ i ∷ []) (0 ∷ 0 ∷ 0 ∷ 0 ∷ [])
 
 -- table and tally as a run leaves them
 abbrev pub after_run : State → Call → State
-after_run s c = (run c.size s c.schedule c.sheet).state
+after_run s c = (run c.wiring c.size s c.schedule c.sheet).state
 
 -- table and tally after the list: each run finds them as the one before left them
 unfoldable pub after_runs : State → List Call → State
 after_runs s [] = s
 after_runs s (c ∷ cs) = after_runs (after_run s c) cs
 
--- a taken entry: the size of its run, and table and tally as it found them
+-- a taken entry: wiring and size of its run, and table and tally as it found them
 pub record Taken : Type 0 where
+  pub wiring : ℕ
   pub size : ℕ
   pub before : State
   pub entry : Entry
 
 -- the taken entries of a run that is not refused at its start: it takes an entry if it comes to it and none of refusals 7 to 11 applies
-unfoldable pub taken_from : ℕ → State → List Entry → List Taken
-taken_from n s [] = []
-taken_from n s (e ∷ es) = if entry_refusal n s e == 0 then (record { size = n; before = s; entry = e } ∷ taken_from n (after n s e) es) else []
+unfoldable pub taken_from : ℕ → ℕ → State → List Entry → List Taken
+taken_from w n s [] = []
+taken_from w n s (e ∷ es) =
+    if entry_refusal n s e == 0 then (record { wiring = w; size = n; before = s; entry = e } ∷ taken_from w n (after w n s e) es) else []
 
 -- the taken entries of one run
 unfoldable pub taken_in : State → Call → List Taken
-taken_in s c = if start_refusal c.size s.table (length c.schedule) (length c.sheet) == 0 then taken_from c.size s (entries c.schedule) else []
+taken_in s c =
+    if start_refusal c.wiring c.size s.table (length c.schedule) (length c.sheet) == 0
+    then taken_from c.wiring c.size s (entries c.schedule) else []
 
 -- a run that finds this table and tally answers how many entries it takes
 abbrev pub CountsTaken : Call → State → ℕ → Type 0
@@ -53,9 +59,17 @@ unfoldable pub taken_all : State → List Call → List Taken
 taken_all s [] = []
 taken_all s (c ∷ cs) = taken_in s c ++ taken_all (after_run s c) cs
 
+-- a run is on wiring w, if refusal 24 lets it through
+abbrev pub IsOnWiring : ℕ → Call → Type 0
+IsOnWiring w c = wiring_check c.wiring ≡ Ok tt → c.wiring ≡ w
+
+-- the list does not mix wirings
+abbrev pub AllOnWiring : ℕ → List Call → Type 0
+AllOnWiring w calls = All (IsOnWiring w) calls
+
 -- the table after the taken entry
 abbrev pub table_after : Taken → List ℕ
-table_after x = (after x.size x.before x.entry).table
+table_after x = (after x.wiring x.size x.before x.entry).table
 
 -- a turn of station i: a taken entry of kind 1 or 2
 abbrev pub is_turn_of : ℕ → Taken → Bool
@@ -63,7 +77,7 @@ is_turn_of i x = not (is_crash x.entry) && x.entry.station == i
 
 -- a turn that makes a test
 abbrev pub taken_test : Taken → Bool
-taken_test x = is_test x.size x.before.table x.entry
+taken_test x = is_test x.wiring x.size x.before.table x.entry
 
 -- Rule Pass: a turn that makes no test finishes its pass
 abbrev pub finishes : Taken → Bool
@@ -75,4 +89,4 @@ crashes x = is_crash x.entry
 
 -- a taken entry of kind 2 that tests a live station
 abbrev pub is_late : Taken → Bool
-is_late x = x.entry.kind == kind_late && taken_test x && live x.size x.before.table (tested_of x.size x.before.table x.entry)
+is_late x = x.entry.kind == kind_late && taken_test x && live x.size x.before.table (tested_of x.wiring x.size x.before.table x.entry)

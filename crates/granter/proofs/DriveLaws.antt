@@ -11,7 +11,7 @@ use native.Mathlib.Numerals.{add-one}
 use native.Mathlib.Omega.{arith}
 use borrow.Author.Tests.{eqb-true, eqb-false, eq-eqb, ne_eqb, not-false}
 use lib.Dec.{eqb}
-use Rattle.table.specs.Rules.{some_live, round_over, table_refusal}
+use Rattle.table.specs.Rules.{some_live, round_over, wired_table_refusal}
 use Rattle.lists.proofs.BoolLaws.{by_bool, neither}
 use Rattle.lists.proofs.SearchLaws.{least-is, least-none}
 use Rattle.table.proofs.SizeLaws.{size-bounds}
@@ -38,9 +38,9 @@ unfolding ended
 not-ended n rounds s e = let a = neither _ _ e in (eqb-true _ _ (not-false _ a.0), not-false _ a.1)
 
 -- a drive that does not stop has not ended, and no tally is full
-pub not_stopped : (n : ℕ) (p : Stand) (k : ℕ) → stops n p k ≡ false → (ended_after n p k ≡ false) × (full_after n p k ≡ false)
+pub not_stopped : (w n : ℕ) (p : Stand) (k : ℕ) → stops w n p k ≡ false → (ended_after w n p k ≡ false) × (full_after w n p k ≡ false)
 unfolding stops
-not_stopped n p k e = neither _ _ e
+not_stopped w n p k e = neither _ _ e
 
 -- at its start
 pub unended : (n : ℕ) (s : State) → some_live n s.table ≡ true → ended n s.rounds s ≡ false
@@ -48,27 +48,27 @@ unfolding ended
 unended n s l = rw (eq-eqb s.rounds s.rounds refl, l)
 
 -- after k grants it has not ended, and did not stop before
-pub record Driving (n : ℕ) (p : Stand) (k : ℕ) : Type 0 where
-  pub ok : Accepted n (after_grants n p k).state.table
-  pub open-still : ended_after n p k ≡ false
-  pub room : k + all_left n (after_grants n p k).state.table ≤ n * n
-  pub before : (j : ℕ) → j < k → stops n p j ≡ false
+pub record Driving (w n : ℕ) (p : Stand) (k : ℕ) : Type 0 where
+  pub ok : Accepted w n (after_grants w n p k).state.table
+  pub open-still : ended_after w n p k ≡ false
+  pub room : k + all_left w n (after_grants w n p k).state.table ≤ n * n
+  pub before : (j : ℕ) → j < k → stops w n p j ≡ false
 
 -- a table that refusals 1 to 4 let through, line by line
-lines_of : (n : ℕ) (t : List ℕ) → Accepted n t → Lines n t
-lines_of n t ok = (ok.long, accepted-line n t ok)
+lines_of : (w n : ℕ) (t : List ℕ) → Accepted w n t → Lines w n t
+lines_of w n t ok = (ok.long, accepted-line w n t ok)
 
-pub driving-start : (n : ℕ) (s : State) (last : ℕ) → Grantable n s.table last → Driving n (stand_at s last) 0
+pub driving-start : (w n : ℕ) (s : State) (last : ℕ) → Grantable w n s.table last → Driving w n (stand_at s last) 0
 unfolding after_grants
-driving-start n s last g = record {
+driving-start w n s last g = record {
   ok = g.ok;
   open-still = unended n s g.someone;
-  room = omega (arith, all-left-most n s.table g.ok.size (lines_of n s.table g.ok));
+  room = omega (arith, all-left-most w n s.table g.ok.size (lines_of w n s.table g.ok));
   before = λ j h. absurd (omega arith);
 }
 
 -- a grant and its turn, of any kind but a crash
-module _ (n : ℕ) (s : State) (last kind : ℕ) (ok : Accepted n s.table) (someone : some_live n s.table ≡ true)
+module _ (w n : ℕ) (s : State) (last kind : ℕ) (ok : Accepted w n s.table) (someone : some_live n s.table ≡ true)
     (no_crash : eqb kind kind_crash ≡ false) where
   abbrev station : ℕ
   station = granted n s.table last
@@ -77,25 +77,25 @@ module _ (n : ℕ) (s : State) (last kind : ℕ) (ok : Accepted n s.table) (some
   entry = entry_of kind station
 
   -- fewer turns are left
-  pub turn-fewer : all_left n (acted n s.table entry) < all_left n s.table
+  pub turn-fewer : all_left w n (acted w n s.table entry) < all_left w n s.table
   unfolding acted
   turn-fewer =
-      let w = granted-waits n s.table ok someone last in
-      rw no_crash (turn-left n s.table ok.size (lines_of n s.table ok) kind station w.0 (eqb-false _ _ (waits-parts n s.table station w.1).1))
+      let c = granted-waits n s.table ok.unclosed someone last in
+      rw no_crash (turn-left w n s.table ok.size (lines_of w n s.table ok) kind station c.0 (eqb-false _ _ (waits-parts n s.table station c.1).1))
 
   -- also in the table that is left, if the round does not close
-  pub fewer-after : (after n s entry).rounds ≡ s.rounds → all_left n (after n s entry).table < all_left n s.table
+  pub fewer-after : (after w n s entry).rounds ≡ s.rounds → all_left w n (after w n s entry).table < all_left w n s.table
   unfolding after after_round
   fewer-after same =
-      by_bool (round_over n (acted n s.table entry)) (λ over. absurd (omega (arith, rw over at same))) (λ over. rw over turn-fewer)
+      by_bool (round_over n (acted w n s.table entry)) (λ over. absurd (omega (arith, rw over at same))) (λ over. rw over turn-fewer)
 
 -- the next grant
-module _ (n : ℕ) (p : Stand) (k : ℕ) (d : Driving n p k) where
+module _ (w n : ℕ) (p : Stand) (k : ℕ) (d : Driving w n p k) where
   abbrev s : State
-  s = (after_grants n p k).state
+  s = (after_grants w n p k).state
 
   abbrev i : ℕ
-  i = granted_at n (after_grants n p k)
+  i = granted_at n (after_grants w n p k)
 
   abbrev e : Entry
   e = entry_of kind_turn i
@@ -104,108 +104,108 @@ module _ (n : ℕ) (p : Stand) (k : ℕ) (d : Driving n p k) where
   still = not-ended n p.state.rounds s d.open-still
 
   pub chosen : (i < n) × (waits n s.table i ≡ true)
-  chosen = granted-waits n s.table d.ok still.1 (after_grants n p k).last
+  chosen = granted-waits n s.table d.ok.unclosed still.1 (after_grants w n p k).last
 
   pub next-within : suc k ≤ n * n
-  next-within = omega (arith, turn-fewer n s (after_grants n p k).last kind_turn d.ok still.1 refl, d.room)
+  next-within = omega (arith, turn-fewer w n s (after_grants w n p k).last kind_turn d.ok still.1 refl, d.room)
 
   -- where no tally is full
-  module _ (fits : full_after n p k ≡ false) where
+  module _ (fits : full_after w n p k ≡ false) where
     pub next-taken : entry_refusal n s e ≡ 0
     next-taken = turn-taken n s i fits chosen.0 chosen.1
 
-    pub next-before : (j : ℕ) → j < suc k → stops n p j ≡ false
+    pub next-before : (j : ℕ) → j < suc k → stops w n p j ≡ false
     unfolding stops
     next-before j h =
         by_cases (dec_lt j k) (d.before j) (λ l. let same : j ≡ k = omega arith in rw (same, d.open-still, fits))
 
-    pub next-driving : ended_after n p (suc k) ≡ false → Driving n p (suc k)
+    pub next-driving : ended_after w n p (suc k) ≡ false → Driving w n p (suc k)
     unfolding after_grants grant_turn
     next-driving o =
-        let same : (after n s e).rounds ≡ s.rounds = (not-ended n p.state.rounds (after n s e) o).0 ∙ sym still.0 in
+        let same : (after w n s e).rounds ≡ s.rounds = (not-ended n p.state.rounds (after w n s e) o).0 ∙ sym still.0 in
         record {
-          ok = accepted-kept n s e d.ok next-taken;
+          ok = accepted-kept w n s e d.ok next-taken;
           open-still = o;
-          room = omega (arith, fewer-after n s (after_grants n p k).last kind_turn d.ok still.1 refl same, d.room);
+          room = omega (arith, fewer-after w n s (after_grants w n p k).last kind_turn d.ok still.1 refl same, d.room);
           before = next-before;
         }
 
 -- where a drive stops: it stops there, and not before
-pub stopped-full : (n : ℕ) (p : Stand) (k : ℕ) → Driving n p k → full_after n p k ≡ true → Stopped n p k
+pub stopped-full : (w n : ℕ) (p : Stand) (k : ℕ) → Driving w n p k → full_after w n p k ≡ true → Stopped w n p k
 unfolding stops
-stopped-full n p k d full = record { within = omega (arith, d.room); stopped = rw (d.open-still, full); first = d.before }
+stopped-full w n p k d full = record { within = omega (arith, d.room); stopped = rw (d.open-still, full); first = d.before }
 
-pub stopped-ended : (n : ℕ) (p : Stand) (k : ℕ) → Driving n p k → full_after n p k ≡ false → ended_after n p (suc k) ≡ true → Stopped n p (suc k)
+pub stopped-ended : (w n : ℕ) (p : Stand) (k : ℕ) → Driving w n p k → full_after w n p k ≡ false → ended_after w n p (suc k) ≡ true → Stopped w n p (suc k)
 unfolding stops
-stopped-ended n p k d fits o = record { within = next-within n p k d; stopped = rw o; first = next-before n p k d fits }
+stopped-ended w n p k d fits o = record { within = next-within w n p k d; stopped = rw o; first = next-before w n p k d fits }
 
 -- a drive that is refused
-pub drive-refused : (n : ℕ) (s : State) (last : ℕ) (r : Refusal) → grant_check n s.table last ≡ Err r
-    → drive n s last ≡ drive_outcome (number_of r) s last 0
+pub drive-refused : (w n : ℕ) (s : State) (last : ℕ) (r : Refusal) → grant_check w n s.table last ≡ Err r
+    → drive w n s last ≡ drive_outcome (number_of r) s last 0
 unfolding drive
-drive-refused n s last r e = rw (e, ne_eqb (number_of r) 0 (number_nonzero r))
+drive-refused w n s last r e = rw (e, ne_eqb (number_of r) 0 (number_nonzero r))
 
 -- the grants made are the first after which it stops
-pub made-is : (n : ℕ) (p : Stand) (k : ℕ) → Stopped n p k → grants_made n p ≡ k
+pub made-is : (w n : ℕ) (p : Stand) (k : ℕ) → Stopped w n p k → grants_made w n p ≡ k
 unfolding grants_made
-made-is n p k s =
+made-is w n p k s =
     by_cases (dec_lt k (n * n))
-    (λ l. least-is (stops n p) (n * n) 0 k (omega arith) (omega arith) s.stopped (λ j a b. s.first j b))
+    (λ l. least-is (stops w n p) (n * n) 0 k (omega arith) (omega arith) s.stopped (λ j a b. s.first j b))
     (λ l.
     let same : k ≡ n * n = omega (arith, s.within) in
-    least-none (stops n p) (n * n) 0 (λ j a b. s.first j (omega arith)) ∙ omega arith)
+    least-none (stops w n p) (n * n) 0 (λ j a b. s.first j (omega arith)) ∙ omega arith)
 
 -- the whole drive
-pub drive-made : (n : ℕ) (s : State) (last k : ℕ) → grant_refusal n s.table last ≡ 0 → Stopped n (stand_at s last) k
-    → outcome_after n (stand_at s last) k ≡ drive n s last
+pub drive-made : (w n : ℕ) (s : State) (last k : ℕ) → grant_refusal w n s.table last ≡ 0 → Stopped w n (stand_at s last) k
+    → outcome_after w n (stand_at s last) k ≡ drive w n s last
 unfolding drive
-drive-made n s last k z stop = rw (z, made-is n (stand_at s last) k stop)
+drive-made w n s last k z stop = rw (z, made-is w n (stand_at s last) k stop)
 
 -- the grants made so far are few
-pub grants-small : (n : ℕ) (p : Stand) (k : ℕ) → Driving n p k → k ≤ 4096
-grants-small n p k d =
+pub grants-small : (w n : ℕ) (p : Stand) (k : ℕ) → Driving w n p k → k ≤ 4096
+grants-small w n p k d =
     let top = (size-bounds n d.ok.size).1 in
     omega (arith, d.room, mul-le-mul top top)
 
 -- a grant and its turn, by the station and the state after it
-pub turned-is : (n : ℕ) (q : Stand) (s : State) (i : ℕ) → i ≡ granted_at n q → s ≡ after n q.state (entry_of kind_turn i)
-    → stand_at s i ≡ grant_turn n q
+pub turned-is : (w n : ℕ) (q : Stand) (s : State) (i : ℕ) → i ≡ granted_at n q → s ≡ after w n q.state (entry_of kind_turn i)
+    → stand_at s i ≡ grant_turn w n q
 unfolding grant_turn
-turned-is n q s i e f = rw (f, e)
+turned-is w n q s i e f = rw (f, e)
 
 -- a drive as the code finds it: q is where it stands after k grants
-module _ (n : ℕ) (p : Stand) (k : ℕ) (q : Stand) (at-k : q ≡ after_grants n p k) (d : Driving n p k) where
+module _ (w n : ℕ) (p : Stand) (k : ℕ) (q : Stand) (at-k : q ≡ after_grants w n p k) (d : Driving w n p k) where
   -- a tally is full: it stops here
-  pub full-stop : tally_full q.state.rounds q.state.tests ≡ true → (drive_outcome 7 q.state q.last k ≡ outcome_after n p k) × Stopped n p k
+  pub full-stop : tally_full q.state.rounds q.state.tests ≡ true → (drive_outcome 7 q.state q.last k ≡ outcome_after w n p k) × Stopped w n p k
   unfolding outcome_after
-  full-stop full = (rw (at-k, d.open-still), stopped-full n p k d (rw at-k at full))
+  full-stop full = (rw (at-k, d.open-still), stopped-full w n p k d (rw at-k at full))
 
   -- somebody is live, so that a station can be granted
-  pub grant-ready : (table_refusal n q.state.table ≡ 0) × (some_live n q.state.table ≡ true)
-  grant-ready = rw at-k (accepted-number n _ d.ok, (still n p k d).1)
+  pub grant-ready : (round_over n q.state.table ≡ false) × (some_live n q.state.table ≡ true)
+  grant-ready = rw at-k (d.ok.unclosed, (still w n p k d).1)
 
   -- which is one of the plant's
   pub granted-below : granted_at n q < n
-  granted-below = rw at-k (chosen n p k d).0
+  granted-below = rw at-k (chosen w n p k d).0
 
   module _ (fits : tally_full q.state.rounds q.state.tests ≡ false) where
-    pub turn-ready : (table_refusal n q.state.table ≡ 0) × (entry_refusal n q.state (entry_of kind_turn (granted_at n q)) ≡ 0)
-    turn-ready = rw at-k (accepted-number n _ d.ok, next-taken n p k d (rw at-k at fits))
+    pub turn-ready : (wired_table_refusal w n q.state.table ≡ 0) × (entry_refusal n q.state (entry_of kind_turn (granted_at n q)) ≡ 0)
+    turn-ready = rw at-k (accepted-number w n _ d.ok, next-taken w n p k d (rw at-k at fits))
 
     -- the next grant
-    module _ (q' : Stand) (turned : q' ≡ grant_turn n q) where
-      pub turned_on : q' ≡ after_grants n p (k + 1)
+    module _ (q' : Stand) (turned : q' ≡ grant_turn w n q) where
+      pub turned_on : q' ≡ after_grants w n p (k + 1)
       unfolding after_grants
-      turned_on = rw (add-one k) (turned ∙ ap (grant_turn n) at-k)
+      turned_on = rw (add-one k) (turned ∙ ap (grant_turn w n) at-k)
 
       pub end-stop : ended n p.state.rounds q'.state ≡ true
-          → (drive_outcome 0 q'.state q'.last (k + 1) ≡ outcome_after n p (k + 1)) × Stopped n p (k + 1)
+          → (drive_outcome 0 q'.state q'.last (k + 1) ≡ outcome_after w n p (k + 1)) × Stopped w n p (k + 1)
       unfolding outcome_after
       end-stop o =
-          let here : ended_after n p (k + 1) ≡ true = rw turned_on at o in
-          (rw (turned_on, here), rw (add-one k) (stopped-ended n p k d (rw at-k at fits) (rw (add-one k) at here)))
+          let here : ended_after w n p (k + 1) ≡ true = rw turned_on at o in
+          (rw (turned_on, here), rw (add-one k) (stopped-ended w n p k d (rw at-k at fits) (rw (add-one k) at here)))
 
-      pub drives-on : ended n p.state.rounds q'.state ≡ false → Driving n p (k + 1)
+      pub drives-on : ended n p.state.rounds q'.state ≡ false → Driving w n p (k + 1)
       drives-on o =
-          let here : ended_after n p (k + 1) ≡ false = rw turned_on at o in
-          rw (add-one k) (next-driving n p k d (rw at-k at fits) (rw (add-one k) at here))
+          let here : ended_after w n p (k + 1) ≡ false = rw turned_on at o in
+          rw (add-one k) (next-driving w n p k d (rw at-k at fits) (rw (add-one k) at here))

@@ -11,7 +11,7 @@ use native.Mathlib.Numerals.{add-one}
 use native.Mathlib.Omega.{arith}
 use borrow.Author.Tests.{ltb-true, ltb-false, lt-ltb, le-ltb, eqb-true, ne_eqb}
 use lib.Dec.{ltb, eqb}
-use Rattle.table.specs.Rules.{not_live, some_live, table_refusal}
+use Rattle.table.specs.Rules.{not_live, some_live, wired_table_refusal}
 use Rattle.lists.specs.Refusal.{unless}
 use Rattle.lists.proofs.BoolLaws.{by_bool}
 use Rattle.lists.proofs.SearchLaws.{every-not, least-between, least-before}
@@ -67,10 +67,10 @@ no-later n t last i below gw h w = by_bool (ltb p n) on round
 
 -- the granted station is the next that waits, going round: an end in itself
 pub next-going-round : NextGoingRound
-next-going-round n t last z =
-    let g = grantable n t last z in
-    let c = granted-waits n t g.ok g.someone last in
-    (c.0, c.1, λ i h w. no-later n t last i c.0 c.1 h w)
+next-going-round w n t last z =
+    let g = grantable w n t last z in
+    let c = granted-waits n t g.ok.unclosed g.someone last in
+    (c.0, c.1, λ i h waiting. no-later n t last i c.0 c.1 h waiting)
 
 before-most : (n b i : ℕ) → b ≤ n → i < n → stations_before n b i < n
 unfolding stations_before
@@ -103,19 +103,19 @@ unfolding following
 following-granted n g top h = rw (ne_eqb g no_grant (omega arith), add-one g)
 
 -- one grant, from a table that refusals 1 to 4 let through and in which i waits
-module _ (n : ℕ) (t : List ℕ) (last i : ℕ) (z : table_refusal n t ≡ 0) (fits : last_refusal n last ≡ 0) (h : i < n) (w : waits n t i ≡ true) where
-  ok : Accepted n t
-  ok = accepted n t z
+module _ (w n : ℕ) (t : List ℕ) (last i : ℕ) (z : wired_table_refusal w n t ≡ 0) (fits : last_refusal n last ≡ 0) (h : i < n) (waiting : waits n t i ≡ true) where
+  ok : Accepted w n t
+  ok = accepted w n t z
 
   someone : some_live n t ≡ true
   unfolding some_live
-  someone = let l : not_live n t i ≡ false = rw (waits-parts n t i w).0 in rw (every-not (not_live n t) n i h l)
+  someone = let l : not_live n t i ≡ false = rw (waits-parts n t i waiting).0 in rw (every-not (not_live n t) n i h l)
 
-  made : grant_refusal n t last ≡ 0
-  made = grant-zero n t last z fits someone
+  made : grant_refusal w n t last ≡ 0
+  made = grant-zero w n t last z fits someone
 
   found : granted n t last < n
-  found = (granted-waits n t ok someone last).0
+  found = (granted-waits n t ok.unclosed someone last).0
 
   closer : i ≢ granted n t last → stations_before n (suc (granted n t last)) i < stations_before n (following last) i
   unfolding granted
@@ -133,67 +133,67 @@ module _ (n : ℕ) (t : List ℕ) (last i : ℕ) (z : table_refusal n t ≡ 0) (
       on : ltb p n ≡ true → i ≢ granted n t last → stations_before n (suc (granted n t last)) i < stations_before n b i
       on e apart =
           let here : granted n t last ≡ p = rw e in
-          rw here (nearer-on n b p i (ltb-true p n e) (first-low n t b) (λ f. apart (f ∙ sym here)) (passed n t i w b))
+          rw here (nearer-on n b p i (ltb-true p n e) (first-low n t b) (λ f. apart (f ∙ sym here)) (passed n t i waiting b))
 
       round : ltb p n ≡ false → i ≢ granted n t last → stations_before n (suc (granted n t last)) i < stations_before n b i
       round e apart =
           let here : granted n t last ≡ q = rw e in
           let far = ltb-false p n e in
-          let before : i < b = by_cases (dec_lt i b) (λ l. l) (λ l. absurd (passed n t i w b (omega arith) (omega arith))) in
+          let before : i < b = by_cases (dec_lt i b) (λ l. l) (λ l. absurd (passed n t i waiting b (omega arith) (omega arith))) in
           let other : i ≢ q = λ f. apart (f ∙ sym here) in
-          let later : q < i = by_cases (dec_lt i q) (λ l. absurd (passed n t i w 0 (omega arith) l)) (λ l. omega arith) in
+          let later : q < i = by_cases (dec_lt i q) (λ l. absurd (passed n t i waiting 0 (omega arith) l)) (λ l. omega arith) in
           rw here (nearer-round n b q i (following-most n last fits) before later)
 
   nearer : i ≢ granted n t last → stations_before n (following (granted n t last)) i < stations_before n (following last) i
   nearer apart = rw (following-granted n (granted n t last) (size-bounds n ok.size).1 found) (closer apart)
 
 -- the last numbers between are let through
-module _ (n : ℕ) (tables : ℕ → List ℕ) (last : ℕ) (fits : last_refusal n last ≡ 0) where
-  last_fits : (k : ℕ) → last_refusal n (last_before n tables last k) ≡ 0
+module _ (w n : ℕ) (tables : ℕ → List ℕ) (last : ℕ) (fits : last_refusal n last ≡ 0) where
+  last_fits : (k : ℕ) → last_refusal n (last_before w n tables last k) ≡ 0
   unfolding last_before
   last_fits zero = fits
-  last_fits (suc k) = step (last_before n tables last k) (last_fits k)
+  last_fits (suc k) = step (last_before w n tables last k) (last_fits k)
     where
       step : (before : ℕ) → last_refusal n before ≡ 0
-          → last_refusal n (unless (grant_refusal n (tables k) before) before (granted n (tables k) before)) ≡ 0
+          → last_refusal n (unless (grant_refusal w n (tables k) before) before (granted n (tables k) before)) ≡ 0
       step before f =
-          by_bool (eqb (grant_refusal n (tables k) before) 0)
+          by_bool (eqb (grant_refusal w n (tables k) before) 0)
           (λ e.
-          let g = grantable n (tables k) before (eqb-true _ 0 e) in
-          rw e (station-fits n (granted n (tables k) before) (granted-waits n (tables k) g.ok g.someone before).0))
+          let g = grantable w n (tables k) before (eqb-true _ 0 e) in
+          rw e (station-fits n (granted n (tables k) before) (granted-waits n (tables k) g.ok.unclosed g.someone before).0))
           (λ e. rw e f)
 
 -- the station waits in n tables one behind the other, from table a on
-module _ (n : ℕ) (tables : ℕ → List ℕ) (last a i : ℕ) (fits : last_refusal n last ≡ 0) (h : i < n)
-    (w : (k : ℕ) → a ≤ k → k < a + n → (table_refusal n (tables k) ≡ 0) × (waits n (tables k) i ≡ true)) where
+module _ (w n : ℕ) (tables : ℕ → List ℕ) (last a i : ℕ) (fits : last_refusal n last ≡ 0) (h : i < n)
+    (waiting : (k : ℕ) → a ≤ k → k < a + n → (wired_table_refusal w n (tables k) ≡ 0) × (waits n (tables k) i ≡ true)) where
   abbrev from : ℕ → ℕ
-  from k = last_before n tables last k
+  from k = last_before w n tables last k
 
   abbrev Granted : ℕ → Type 0
-  Granted j = (k : ℕ) × (a ≤ k) × (k < a + j) × Grants n tables last k i
+  Granted j = (k : ℕ) × (a ≤ k) × (k < a + j) × Grants w n tables last k i
 
   -- after j of them it was granted, or it is j nearer
   after : (j : ℕ) → j ≤ n → Granted j ⊎ (stations_before n (following (from (a + j))) i + j < n)
   unfolding last_before grant_answer
   after zero le =
-      let fits = last_fits n tables last fits (a + 0) in
+      let fits = last_fits w n tables last fits (a + 0) in
       inr (omega (arith, before-most n (following (from (a + 0))) i (following-most n (from (a + 0)) fits) h))
   after (suc j) le = step (after j (omega arith))
     where
       k : ℕ
       k = a + j
 
-      z : table_refusal n (tables k) ≡ 0
-      z = (w k (omega arith) (omega arith)).0
+      z : wired_table_refusal w n (tables k) ≡ 0
+      z = (waiting k (omega arith) (omega arith)).0
 
       f : last_refusal n (from k) ≡ 0
-      f = last_fits n tables last fits k
+      f = last_fits w n tables last fits k
 
       here : waits n (tables k) i ≡ true
-      here = (w k (omega arith) (omega arith)).1
+      here = (waiting k (omega arith) (omega arith)).1
 
-      taken : grant_refusal n (tables k) (from k) ≡ 0
-      taken = made n (tables k) (from k) i z f h here
+      taken : grant_refusal w n (tables k) (from k) ≡ 0
+      taken = made w n (tables k) (from k) i z f h here
 
       next : from (suc k) ≡ granted n (tables k) (from k)
       next = rw taken
@@ -205,13 +205,13 @@ module _ (n : ℕ) (tables : ℕ → List ℕ) (last a i : ℕ) (fits : last_ref
           (λ e. inl (k, omega arith, omega arith, (taken, rw (check_zero _ taken) (sym e))))
           (λ e.
           let s : a + suc j ≡ suc k = omega arith in
-          inr (rw (s, next) (omega (arith, near, nearer n (tables k) (from k) i z f h here e))))
+          inr (rw (s, next) (omega (arith, near, nearer w n (tables k) (from k) i z f h here e))))
 
 -- fairness, an end in itself
 pub bounded-waiting : BoundedWaiting
-bounded-waiting n tables last a i fits h w = pick (after n tables last a i fits h w n (omega arith))
+bounded-waiting w n tables last a i fits h waiting = pick (after w n tables last a i fits h waiting n (omega arith))
   where
-    pick : ((k : ℕ) × (a ≤ k) × (k < a + n) × Grants n tables last k i) ⊎ (stations_before n (following (last_before n tables last (a + n))) i + n < n)
-        → (k : ℕ) × (a ≤ k) × (k < a + n) × Grants n tables last k i
+    pick : ((k : ℕ) × (a ≤ k) × (k < a + n) × Grants w n tables last k i) ⊎ (stations_before n (following (last_before w n tables last (a + n))) i + n < n)
+        → (k : ℕ) × (a ≤ k) × (k < a + n) × Grants w n tables last k i
     pick (inl g) = g
     pick (inr l) = absurd (omega arith)

@@ -10,14 +10,13 @@ use lib.Dec.{ltb, leb, eqb}
 use Rattle.lists.specs.Search.{least, every}
 use Rattle.lists.specs.Refusal.{Check, ◌and◌, number_of_result}
 use Rattle.table.specs.Table.{finished, live}
-use Rattle.table.specs.Rules.{some_live, finished_if_live, live_finished, table_refusal}
+use Rattle.table.specs.Rules.{some_live, finished_if_live, live_finished, round_over, wired_table_refusal}
 use Rattle.lists.proofs.BoolLaws.{by_bool}
 use Rattle.lists.proofs.SearchLaws.{both, every-all, least-between, least-passes, least-before}
 use Rattle.table.proofs.Accepting.{Accepted, table_ok}
 use Rattle.std.specs.Prelude.{Ok, Err}
 use Rattle.lists.proofs.RefusalLaws.{check_zero, ensure_ok, and_ok}
 use Rattle.plant.specs.Turn.{kind_turn}
-use Rattle.plant.proofs.RunLaws.{accepted-number}
 use Rattle.plant.specs.Entry.{State, entry_of, tally_full, entry_check, entry_refusal}
 use Rattle.granter.specs.Grant.{no_grant, waits, first_from, following, granted, last_refusal, grant_check, grant_refusal, grant_answer}
 
@@ -38,37 +37,37 @@ waits-parts n t i w =
     (b.0, not-true (eqb (finished n t i) 1) b.1)
 
 -- what a grant has that is not refused
-pub record Grantable (n : ℕ) (t : List ℕ) (last : ℕ) : Type 0 where
-  pub ok : Accepted n t
+pub record Grantable (w n : ℕ) (t : List ℕ) (last : ℕ) : Type 0 where
+  pub ok : Accepted w n t
   pub last_fits : last_refusal n last ≡ 0
   pub someone : some_live n t ≡ true
 
-pub grant_ok : (n : ℕ) (t : List ℕ) (last : ℕ) (x : Unit {0}) → grant_check n t last ≡ Ok x → Grantable n t last
+pub grant_ok : (w n : ℕ) (t : List ℕ) (last : ℕ) (x : Unit {0}) → grant_check w n t last ≡ Ok x → Grantable w n t last
 unfolding grant_check
-grant_ok n t last x e =
+grant_ok w n t last x e =
     let a = and_ok _ _ x e in
     let b = and_ok _ _ x a.1 in
-    record { ok = table_ok n t _ a.0; last_fits = ap number_of_result b.0; someone = ensure_ok _ _ _ b.1 }
+    record { ok = table_ok w n t _ a.0; last_fits = ap number_of_result b.0; someone = ensure_ok _ _ _ b.1 }
 
--- the table that is granted on obeys the rules
-pub grantable_obeys : (n : ℕ) (t : List ℕ) (last : ℕ) → Grantable n t last → table_refusal n t ≡ 0
-grantable_obeys n t last g = accepted-number n t g.ok
+-- its round is not over
+pub grantable_open : (w n : ℕ) (t : List ℕ) (last : ℕ) → Grantable w n t last → round_over n t ≡ false
+grantable_open w n t last g = g.ok.unclosed
 
-pub grant_answer_refusal : (n : ℕ) (t : List ℕ) (last : ℕ) → number_of_result (grant_answer n t last) ≡ grant_refusal n t last
+pub grant_answer_refusal : (w n : ℕ) (t : List ℕ) (last : ℕ) → number_of_result (grant_answer w n t last) ≡ grant_refusal w n t last
 unfolding grant_answer
-grant_answer_refusal n t last = pick (grant_check n t last)
+grant_answer_refusal w n t last = pick (grant_check w n t last)
   where
     pick : (c : Check) → number_of_result (c and Ok (granted n t last)) ≡ number_of_result c
     pick (Ok x) = refl
     pick (Err r) = refl
 
-pub grantable : (n : ℕ) (t : List ℕ) (last : ℕ) → grant_refusal n t last ≡ 0 → Grantable n t last
-grantable n t last z = grant_ok n t last _ (check_zero _ z)
+pub grantable : (w n : ℕ) (t : List ℕ) (last : ℕ) → grant_refusal w n t last ≡ 0 → Grantable w n t last
+grantable w n t last z = grant_ok w n t last _ (check_zero _ z)
 
-pub grant-zero : (n : ℕ) (t : List ℕ) (last : ℕ) → table_refusal n t ≡ 0 → last_refusal n last ≡ 0 → some_live n t ≡ true
-    → grant_refusal n t last ≡ 0
+pub grant-zero : (w n : ℕ) (t : List ℕ) (last : ℕ) → wired_table_refusal w n t ≡ 0 → last_refusal n last ≡ 0 → some_live n t ≡ true
+    → grant_refusal w n t last ≡ 0
 unfolding grant_check
-grant-zero n t last z fits someone = rw (check_zero _ z, check_zero _ fits, someone)
+grant-zero w n t last z fits someone = rw (check_zero _ z, check_zero _ fits, someone)
 
 -- a station is a last number that is let through
 pub station-fits : (n g : ℕ) → g < n → last_refusal n g ≡ 0
@@ -80,8 +79,8 @@ last-below n last fits e =
     let low : (leb n last && not (eqb last no_grant)) ≡ false = not-true _ (ensure_ok _ _ _ (check_zero _ fits)) in
     leb-false n last (simp and-true at (rw e at low))
 
--- in a table that refusals 1 to 4 let through, with a live station
-module _ (n : ℕ) (t : List ℕ) (ok : Accepted n t) (someone : some_live n t ≡ true) where
+-- in a table whose round is not over, with a live station
+module _ (n : ℕ) (t : List ℕ) (unclosed : round_over n t ≡ false) (someone : some_live n t ≡ true) where
   -- somebody waits
   pub first-waits : first_from n t 0 < n
   unfolding first_from live_finished
@@ -96,7 +95,7 @@ module _ (n : ℕ) (t : List ℕ) (ok : Accepted n t) (someone : some_live n t �
           not-false _ (waits-is n t i ∙ none)
 
       closed : every (finished_if_live n t) n ≡ true → ⊥
-      closed e = true≢false (rw (someone, e) at ok.unclosed)
+      closed e = true≢false (rw (someone, e) at unclosed)
 
   -- the granted station is one of the plant's and waits
   pub granted-waits : (last : ℕ) → (granted n t last < n) × (waits n t (granted n t last) ≡ true)

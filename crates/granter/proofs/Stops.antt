@@ -20,62 +20,62 @@ use Rattle.granter.proofs.DriveLaws.{Driving, not-ended, driving-start, turn-few
 use Rattle.granter.specs.Within.{TurnKinds, after_turns, over_after, NoneRefused, RoundEndsInSquare, KindOneIsDriven, DriveStops}
 
 -- from k grants on, with so many grants left to n·n
-search-on : (n : ℕ) (p : Stand) (left k : ℕ) → k + left ≡ n * n → Driving n p k → (g : ℕ) × Stopped n p g
-search-on n p zero k e d = absurd (omega (arith, next-within n p k d))
-search-on n p (suc left) k e d =
-    by_bool (full_after n p k) (λ full. (k, stopped-full n p k d full))
+search-on : (w n : ℕ) (p : Stand) (left k : ℕ) → k + left ≡ n * n → Driving w n p k → (g : ℕ) × Stopped w n p g
+search-on w n p zero k e d = absurd (omega (arith, next-within w n p k d))
+search-on w n p (suc left) k e d =
+    by_bool (full_after w n p k) (λ full. (k, stopped-full w n p k d full))
     (λ fits.
-    by_bool (ended_after n p (suc k)) (λ o. (suc k, stopped-ended n p k d fits o))
-    (λ o. search-on n p left (suc k) (omega arith) (next-driving n p k d fits o)))
+    by_bool (ended_after w n p (suc k)) (λ o. (suc k, stopped-ended w n p k d fits o))
+    (λ o. search-on w n p left (suc k) (omega arith) (next-driving w n p k d fits o)))
 
 -- grants, each with its turn of any kind: the table after k of them, of which none ended the round
-record Turning (n : ℕ) (kinds : ℕ → ℕ) (p : Stand) (k : ℕ) : Type 0 where
-  pub ok : Accepted n (after_turns n kinds p k).state.table
-  pub going : (j : ℕ) → j ≤ k → over_after n kinds p j ≡ false
-  pub room : k + all_left n (after_turns n kinds p k).state.table ≤ n * n
+record Turning (w n : ℕ) (kinds : ℕ → ℕ) (p : Stand) (k : ℕ) : Type 0 where
+  pub ok : Accepted w n (after_turns w n kinds p k).state.table
+  pub going : (j : ℕ) → j ≤ k → over_after w n kinds p j ≡ false
+  pub room : k + all_left w n (after_turns w n kinds p k).state.table ≤ n * n
 
 -- a turn's kind is no crash
 no-crash : (kind : ℕ) → (kind ≡ kind_turn) ⊎ (kind ≡ kind_late) → eqb kind kind_crash ≡ false
 no-crash kind (inl e) = rw e
 no-crash kind (inr e) = rw e
 
-module _ (n : ℕ) (kinds : ℕ → ℕ) (p : Stand) (turns : TurnKinds kinds) (taken : NoneRefused n kinds p) where
+module _ (w n : ℕ) (kinds : ℕ → ℕ) (p : Stand) (turns : TurnKinds kinds) (taken : NoneRefused w n kinds p) where
   -- the next grant, with its turn
-  module _ (k : ℕ) (d : Turning n kinds p k) where
+  module _ (k : ℕ) (d : Turning w n kinds p k) where
     abbrev s : State
-    s = (after_turns n kinds p k).state
+    s = (after_turns w n kinds p k).state
 
     abbrev last : ℕ
-    last = (after_turns n kinds p k).last
+    last = (after_turns w n kinds p k).last
 
     still : (s.rounds ≡ p.state.rounds) × (some_live n s.table ≡ true)
     still = not-ended n p.state.rounds s (d.going k (omega arith))
 
     turn-within : suc k ≤ n * n
-    turn-within = omega (arith, turn-fewer n s last (kinds k) d.ok still.1 (no-crash (kinds k) (turns k)), d.room)
+    turn-within = omega (arith, turn-fewer w n s last (kinds k) d.ok still.1 (no-crash (kinds k) (turns k)), d.room)
 
-    turning-on : over_after n kinds p (suc k) ≡ false → Turning n kinds p (suc k)
+    turning-on : over_after w n kinds p (suc k) ≡ false → Turning w n kinds p (suc k)
     unfolding after_turns
     turning-on o =
-        let same = (not-ended n p.state.rounds (after_turns n kinds p (suc k)).state o).0 ∙ sym still.0 in
+        let same = (not-ended n p.state.rounds (after_turns w n kinds p (suc k)).state o).0 ∙ sym still.0 in
         record {
-          ok = accepted-kept n s _ d.ok (taken k turn-within d.going);
+          ok = accepted-kept w n s _ d.ok (taken k turn-within d.going);
           going = λ j h. by_cases (dec_lt j (suc k)) (λ l. d.going j (omega arith)) (λ l. let e : j ≡ suc k = omega arith in rw e o);
-          room = omega (arith, fewer-after n s last (kinds k) d.ok still.1 (no-crash (kinds k) (turns k)) same, d.room);
+          room = omega (arith, fewer-after w n s last (kinds k) d.ok still.1 (no-crash (kinds k) (turns k)) same, d.room);
         }
 
-  ending-on : (left k : ℕ) → k + left ≡ n * n → Turning n kinds p k → (g : ℕ) × (g ≤ n * n) × (over_after n kinds p g ≡ true)
+  ending-on : (left k : ℕ) → k + left ≡ n * n → Turning w n kinds p k → (g : ℕ) × (g ≤ n * n) × (over_after w n kinds p g ≡ true)
   ending-on zero k e d = absurd (omega (arith, turn-within k d))
   ending-on (suc left) k e d =
-      by_bool (over_after n kinds p (suc k)) (λ o. (suc k, turn-within k d, o)) (λ o. ending-on left (suc k) (omega arith) (turning-on k d o))
+      by_bool (over_after w n kinds p (suc k)) (λ o. (suc k, turn-within k d, o)) (λ o. ending-on left (suc k) (omega arith) (turning-on k d o))
 
 -- a round closes, or nobody is left live, an end in itself
 pub round-ends-in-square : RoundEndsInSquare
 unfolding after_turns after_grants
-round-ends-in-square n kinds s last turns z taken =
-    let d = driving-start n s last (grantable n s.table last z) in
-    ending-on n kinds (stand_at s last) turns taken (n * n) 0 (omega arith) (record {
-      ok = (grantable n s.table last z).ok;
+round-ends-in-square w n kinds s last turns z taken =
+    let d = driving-start w n s last (grantable w n s.table last z) in
+    ending-on w n kinds (stand_at s last) turns taken (n * n) 0 (omega arith) (record {
+      ok = (grantable w n s.table last z).ok;
       going = λ j h. let e : j ≡ 0 = omega arith in rw e d.open-still;
       room = d.room;
     })
@@ -83,12 +83,12 @@ round-ends-in-square n kinds s last turns z taken =
 -- turns of kind 1 are the drive's, an end in itself
 pub kind-one-is-driven : KindOneIsDriven
 unfolding after_turns after_grants grant_turn
-kind-one-is-driven n p zero = refl
-kind-one-is-driven n p (suc k) = rw (kind-one-is-driven n p k)
+kind-one-is-driven w n p zero = refl
+kind-one-is-driven w n p (suc k) = rw (kind-one-is-driven w n p k)
 
 -- every drive stops, an end in itself
 pub drive-stops : DriveStops
-drive-stops n s last z =
+drive-stops w n s last z =
     let p = stand_at s last in
-    let found = search-on n p (n * n) 0 (omega arith) (driving-start n s last (grantable n s.table last z)) in
-    rw (made-is n p found.0 found.1) found.1
+    let found = search-on w n p (n * n) 0 (omega arith) (driving-start w n s last (grantable w n s.table last z)) in
+    rw (made-is w n p found.0 found.1) found.1

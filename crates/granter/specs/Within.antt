@@ -1,4 +1,4 @@
--- That n·n grants, each with its turn, are enough to close a round or to leave nobody live.
+-- That n·n grants, each with its turn, are enough to close a round or to leave nobody live, on each wiring.
 -- Assumes nothing.
 use Rattle.std.specs.Prelude.{◌≡◌, ◌⊎◌, Bool, true, false, ℕ, zero, suc, ◌*◌, ◌≤◌, ◌<◌}
 use Rattle.plant.specs.Turn.{kind_turn, kind_late}
@@ -11,33 +11,34 @@ abbrev pub TurnKinds : (ℕ → ℕ) → Type 0
 TurnKinds kinds = (k : ℕ) → (kinds k ≡ kind_turn) ⊎ (kinds k ≡ kind_late)
 
 -- where they stand after k grants, each followed by its turn
-unfoldable pub after_turns : ℕ → (ℕ → ℕ) → Stand → ℕ → Stand
-after_turns n kinds p zero = p
-after_turns n kinds p (suc k) =
-    let q = after_turns n kinds p k in
-    stand_at (after n q.state (entry_of (kinds k) (granted_at n q))) (granted_at n q)
+unfoldable pub after_turns : ℕ → ℕ → (ℕ → ℕ) → Stand → ℕ → Stand
+after_turns w n kinds p zero = p
+after_turns w n kinds p (suc k) =
+    let q = after_turns w n kinds p k in
+    stand_at (after w n q.state (entry_of (kinds k) (granted_at n q))) (granted_at n q)
 
 -- whether a round has closed, or nobody is live, after k grants
-abbrev pub over_after : ℕ → (ℕ → ℕ) → Stand → ℕ → Bool
-over_after n kinds p k = ended n p.state.rounds (after_turns n kinds p k).state
+abbrev pub over_after : ℕ → ℕ → (ℕ → ℕ) → Stand → ℕ → Bool
+over_after w n kinds p k = ended n p.state.rounds (after_turns w n kinds p k).state
 
 -- no turn is refused, as long as no round has closed and somebody is live. Of the grants only the first is asked not to be (below)
-abbrev pub NoneRefused : ℕ → (ℕ → ℕ) → Stand → Type 0
-NoneRefused n kinds p =
-    (k : ℕ) → k < n * n → ((j : ℕ) → j ≤ k → over_after n kinds p j ≡ false)
-    → entry_refusal n (after_turns n kinds p k).state (entry_of (kinds k) (granted_at n (after_turns n kinds p k))) ≡ 0
+abbrev pub NoneRefused : ℕ → ℕ → (ℕ → ℕ) → Stand → Type 0
+NoneRefused w n kinds p =
+    (k : ℕ) → k < n * n → ((j : ℕ) → j ≤ k → over_after w n kinds p j ≡ false)
+    → entry_refusal n (after_turns w n kinds p k).state (entry_of (kinds k) (granted_at n (after_turns w n kinds p k))) ≡ 0
 
--- Rule Enough grants: from every table that refusals 1 to 4 let through, in the middle of a round too, with somebody live and a last number that 16 lets through
+-- Rule Enough grants: from every table that refusals 24 and 1 to 4 let through, in the middle of a round too, with somebody live and a last number
+-- that 16 lets through
 abbrev pub RoundEndsInSquare : Type 0
 RoundEndsInSquare =
-    (n : ℕ) (kinds : ℕ → ℕ) (s : State) (last : ℕ) → TurnKinds kinds → grant_refusal n s.table last ≡ 0 → NoneRefused n kinds (stand_at s last)
-    → (k : ℕ) × (k ≤ n * n) × (over_after n kinds (stand_at s last) k ≡ true)
+    (w n : ℕ) (kinds : ℕ → ℕ) (s : State) (last : ℕ) → TurnKinds kinds → grant_refusal w n s.table last ≡ 0 → NoneRefused w n kinds (stand_at s last)
+    → (k : ℕ) × (k ≤ n * n) × (over_after w n kinds (stand_at s last) k ≡ true)
 
 -- with turns of kind 1 only, grants and turns are those of the drive
 abbrev pub KindOneIsDriven : Type 0
-KindOneIsDriven = (n : ℕ) (p : Stand) (k : ℕ) → after_turns n (λ _. kind_turn) p k ≡ after_grants n p k
+KindOneIsDriven = (w n : ℕ) (p : Stand) (k : ℕ) → after_turns w n (λ _. kind_turn) p k ≡ after_grants w n p k
 
 -- Rule Enough grants: every drive that is not refused at its start stops, for one of the three reasons
 abbrev pub DriveStops : Type 0
 DriveStops =
-    (n : ℕ) (s : State) (last : ℕ) → grant_refusal n s.table last ≡ 0 → Stopped n (stand_at s last) (grants_made n (stand_at s last))
+    (w n : ℕ) (s : State) (last : ℕ) → grant_refusal w n s.table last ≡ 0 → Stopped w n (stand_at s last) (grants_made w n (stand_at s last))

@@ -1,6 +1,7 @@
 // The drive: grant and turn on the lent table, again and again.
 ghost use Rattle.std.specs.Prelude.{◌≡◌, ◌<◌, IfSome};
 ghost use Rattle.table.specs.Lent.{IsSameLoan};
+ghost use Rattle.table.specs.Wiring.{wiring_number};
 ghost use Rattle.plant.specs.Entry.{state_with};
 ghost use Rattle.granter.specs.Grant.{last_number, grant_refusal};
 ghost use Rattle.granter.specs.Drive.{stand_at, ended, drive_outcome_with, outcome_after, drive, Stopped, StoppedIfTaken};
@@ -10,15 +11,18 @@ use lists::refusal::Refusal;
 use plant::{Tally, single};
 use table::Station;
 use table::lent::{Table, TableMut};
+use table::wiring::Wiring;
 
 // Grants and turns of kind 1 until a round closes, nobody is left live, or a tally is full. A drive refused at its start changes no byte.
-pub fn drive(n: usize, table: &mut [u8], tally: Tally, last: usize) -> Driven
-    ensures outcome { drive_outcome_with result table.new ≡ drive n (state_with table.old tally) last }
-    ensures stopped_if_taken { StoppedIfTaken n (state_with table.old tally) last result.grants }
+pub fn drive(wiring: usize, n: usize, table: &mut [u8], tally: Tally, last: usize) -> Driven
+    ensures outcome { drive_outcome_with result table.new
+        ≡ drive wiring n (state_with table.old tally) last }
+    ensures stopped_if_taken { let start = state_with table.old tally in
+        StoppedIfTaken wiring n start last result.grants }
 {
     // By hand and not by `?`: the answer is no Result, since a drive that is stopped keeps the turns that it made.
-    let (n, before) = match grant::check_grant(n, table, last) {
-        Ok((lent, before)) => (lent.n, before),
+    let (wiring, n, before) = match grant::check_grant(wiring, n, table, last) {
+        Ok((wiring, lent, before)) => (wiring, lent.n, before),
         Err(refusal) => {
             return Driven {
                 tally,
@@ -29,17 +33,19 @@ pub fn drive(n: usize, table: &mut [u8], tally: Tally, last: usize) -> Driven
         }
     };
     let mut lent = TableMut { n, bytes: table };
-    drive_on(&mut lent, tally, before)
+    drive_on(wiring, &mut lent, tally, before)
 }
 
 // A drive that is not refused at its start: grant and turn until it stops.
-fn drive_on(table: &mut TableMut, tally: Tally, last: Option<Station>) -> Driven
-    requires taken { grant_refusal table.old.n table.old.bytes.now (last_number last) ≡ 0 }
+fn drive_on(wiring: Wiring, table: &mut TableMut, tally: Tally, last: Option<Station>) -> Driven
+    requires taken { let w = wiring_number wiring in
+        grant_refusal w table.old.n table.old.bytes.now (last_number last) ≡ 0 }
     requires last_below { IfSome last (λ i. i.0 < table.old.n) }
     ensures same_loan { IsSameLoan table.old table.new }
-    ensures outcome { drive_outcome_with result table.new.bytes.now
-        ≡ outcome_after table.old.n (stand_at (state_with table.old.bytes.now tally) (last_number last)) result.grants }
-    ensures stopped { Stopped table.old.n
+    ensures outcome { let s = state_with table.old.bytes.now tally in
+        drive_outcome_with result table.new.bytes.now
+        ≡ outcome_after (wiring_number wiring) table.old.n (stand_at s (last_number last)) result.grants }
+    ensures stopped { Stopped (wiring_number wiring) table.old.n
         (stand_at (state_with table.old.bytes.now tally) (last_number last)) result.grants }
 {
     let mut held = tally;
@@ -50,7 +56,7 @@ fn drive_on(table: &mut TableMut, tally: Tally, last: Option<Station>) -> Driven
             break Some(Refusal::TallyFull);
         }
         let i = grant::next_station(&table.read(), before);
-        held = single::take_turn(table, held, i);
+        held = single::take_turn(wiring, table, held, i);
         before = Some(i);
         grants += 1;
         let ended = has_ended(&table.read(), tally.rounds, held);

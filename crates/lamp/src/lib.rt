@@ -19,12 +19,12 @@ pub struct Doubt {
     pub of: Station,
 }
 
-// The first pair of a live station and a live one that it suspects, if there is one: refusals 1 to 4.
+// The first pair of a live station and a live one that it suspects, if there is one: refusals 24 and 1 to 4.
 #[tactic(auto, unfolding(crate::specs::Doubt::doubt_lamp))]
-pub fn doubt_lamp(n: usize, table: &[u8]) -> Result<Option<Doubt>, Refusal>
-    ensures { result ≡ doubt_lamp n table.now }
+pub fn doubt_lamp(wiring: usize, n: usize, table: &[u8]) -> Result<Option<Doubt>, Refusal>
+    ensures { result ≡ doubt_lamp wiring n table.now }
 {
-    let table = Table::checked(n, table)?;
+    let (_, table) = Table::wired(wiring, n, table)?;
     Ok(first_doubt(&table))
 }
 

@@ -4,7 +4,7 @@ use Rattle.std.specs.Prelude.{ℕ, Bool, List, codes, Result, Ok, Err, ◌==◌,
 use Rattle.std.specs.Result.{result_and}
 use Rattle.lists.specs.declared.refusal.Refusal.{Refusal}
 use Rattle.lists.specs.declared.refusal.Refusal.TheVariants.{SizeOutOfRange, TableLength, LineRule, RoundNotClosed, ScheduleLength, SheetLength, TallyFull, UnknownKind, NoSuchStation, NotLive, PassFinished, NoSuchLevel, ListLength, NoResult, TooManyResults, LastGranted, NoneLive, FieldPastEnd, SizeOrTallyField, LineField}
-use Rattle.lists.specs.declared.refusal.Refusal.TheVariants.{NoOpening, FieldOrder, ReportTooShort}
+use Rattle.lists.specs.declared.refusal.Refusal.TheVariants.{NoOpening, FieldOrder, ReportTooShort, NoSuchWiring}
 
 -- its number in the refusal list
 abbrev pub number_of : Refusal → ℕ
@@ -31,6 +31,7 @@ number_of LineField = 20
 number_of NoOpening = 21
 number_of FieldOrder = 22
 number_of ReportTooShort = 23
+number_of NoSuchWiring = 24
 
 -- what it says to people
 abbrev pub refusal_words : Refusal → List ℕ
@@ -57,6 +58,7 @@ refusal_words LineField = codes "a board's line in the file is missing, there tw
 refusal_words NoOpening = codes "the file does not begin as edition 2 does"
 refusal_words FieldOrder = codes "a field is out of order, or of an unknown tag"
 refusal_words ReportTooShort = codes "the report has fewer than 4n(n + 6) bytes"
+refusal_words NoSuchWiring = codes "the wiring is neither 1 (cube) nor 2 (ring)"
 
 -- the number of an answer: 0 where the call is not refused
 abbrev pub number_of_result : {A : Type 0} → Result A Refusal → ℕ

@@ -56,35 +56,35 @@ table_of-is n f t long same =
     ap (λ (x : ℕ). get_or (table_of n f) x 0) (sym parts.0) ∙ here ∙ same (p / stride n) (p % stride n) parts.1 parts.2 ∙ at)
 
 -- a station is live after mending if it was before
-pub lines_live : (n : ℕ) (t : List ℕ) (i : ℕ) → i < n → live n (lines_mended n t) i ≡ live n t i
+pub lines_live : (w n : ℕ) (t : List ℕ) (i : ℕ) → i < n → live n (lines_mended w n t) i ≡ live n t i
 unfolding line_byte
-lines_live n t i h = ap (λ (x : ℕ). eqb x 0) (table_of-cell n (line_byte n t) i 0 h (omega arith)) ∙ stays (status n t i)
+lines_live w n t i h = ap (λ (x : ℕ). eqb x 0) (table_of-cell n (line_byte w n t) i 0 h (omega arith)) ∙ stays (status n t i)
   where
     stays : (s : ℕ) → eqb (mended_status s) 0 ≡ eqb s 0
     stays s = grind (arith, nat_tests)
 
 -- it has finished its pass after mending if it had before and bytes 1 to 3 keep their rules
-pub lines_finished : (n : ℕ) (t : List ℕ) (i : ℕ) → i < n → eqb (finished n (lines_mended n t) i) 1 ≡ (eqb (finished n t i) 1 && keeps_pass n t i)
+pub lines_finished : (w n : ℕ) (t : List ℕ) (i : ℕ) → i < n → eqb (finished n (lines_mended w n t) i) 1 ≡ (eqb (finished n t i) 1 && keeps_pass w n t i)
 unfolding line_byte
-lines_finished n t i h =
-    ap (λ (x : ℕ). eqb x 1) (table_of-cell n (line_byte n t) i 2 h (omega arith)) ∙ stays (keeps_pass n t i) (finished n t i)
+lines_finished w n t i h =
+    ap (λ (x : ℕ). eqb x 1) (table_of-cell n (line_byte w n t) i 2 h (omega arith)) ∙ stays (keeps_pass w n t i) (finished n t i)
   where
     stays : (b : Bool) (f : ℕ) → eqb (cond b f 0) 1 ≡ (eqb f 1 && b)
     stays true f = grind (arith, nat_tests)
     stays false f = grind (arith, nat_tests)
 
 -- a byte of the mended table that the round has no part in
-pub outside-pass : (n : ℕ) (t : List ℕ) (over : Bool) (i c : ℕ) → (leb 1 c && leb c 3) ≡ false → mended_byte n t over i c ≡ line_byte n t i c
+pub outside-pass : (w n : ℕ) (t : List ℕ) (over : Bool) (i c : ℕ) → (leb 1 c && leb c 3) ≡ false → mended_byte w n t over i c ≡ line_byte w n t i c
 unfolding mended_byte
-outside-pass n t true i c e = rw e refl
-outside-pass n t false i c e = refl
+outside-pass w n t true i c e = rw e refl
+outside-pass w n t false i c e = refl
 
 -- of a row
-pub row-byte : (n : ℕ) (t : List ℕ) (over : Bool) (i k : ℕ) → mended_byte n t over i (head + k) ≡ mended_suspicion i k (cell n t i (head + k))
+pub row-byte : (w n : ℕ) (t : List ℕ) (over : Bool) (i k : ℕ) → mended_byte w n t over i (head + k) ≡ mended_suspicion i k (cell n t i (head + k))
 unfolding line_byte
-row-byte n t over i k =
+row-byte w n t over i k =
     let back : head + k - head ≡ k = omega arith in
-    outside-pass n t over i (head + k) (rw (le-leb 1 (head + k) (omega arith), lt-leb (head + k) 3 (omega arith)) refl)
+    outside-pass w n t over i (head + k) (rw (le-leb 1 (head + k) (omega arith), lt-leb (head + k) 3 (omega arith)) refl)
     ∙ rw (
       ne_eqb (head + k) 0 (λ e. omega arith),
       lt-leb (head + k) 3 (omega arith),
@@ -94,10 +94,10 @@ row-byte n t over i k =
     ) refl
 
 -- bytes 0 to 5 go by bytes 0 to 5
-pub head-same : (n : ℕ) (t t' : List ℕ) (over : Bool) (i c : ℕ) → ((b : ℕ) → b < head → cell n t i b ≡ cell n t' i b) → c < head
-    → mended_byte n t over i c ≡ mended_byte n t' over i c
+pub head-same : (w n : ℕ) (t t' : List ℕ) (over : Bool) (i c : ℕ) → ((b : ℕ) → b < head → cell n t i b ≡ cell n t' i b) → c < head
+    → mended_byte w n t over i c ≡ mended_byte w n t' over i c
 unfolding mended_byte line_byte
-head-same n t t' over i c same h =
+head-same w n t t' over i c same h =
     rw (
       same 0 (omega arith),
       same 1 (omega arith),
@@ -109,25 +109,25 @@ head-same n t t' over i c same h =
     ) refl
 
 -- bytes 1 to 3 as the code makes them
-pub pass-new : (n : ℕ) (t : List ℕ) (over : Bool) (i : ℕ) (b : Bool) → b ≡ keeps_pass n t i → (over || not b) ≡ true
-    → (1 ∷ 0 ∷ 0 ∷ []) ≡ (mended_byte n t over i 1 ∷ mended_byte n t over i 2 ∷ mended_byte n t over i 3 ∷ [])
+pub pass-new : (w n : ℕ) (t : List ℕ) (over : Bool) (i : ℕ) (b : Bool) → b ≡ keeps_pass w n t i → (over || not b) ≡ true
+    → (1 ∷ 0 ∷ 0 ∷ []) ≡ (mended_byte w n t over i 1 ∷ mended_byte w n t over i 2 ∷ mended_byte w n t over i 3 ∷ [])
 unfolding mended_byte line_byte
-pass-new n t true i b e h = refl
-pass-new n t false i true e h = cc
-pass-new n t false i false e h = rw (← e) refl
+pass-new w n t true i b e h = refl
+pass-new w n t false i true e h = cc
+pass-new w n t false i false e h = rw (← e) refl
 
-pub pass-old : (n : ℕ) (t : List ℕ) (over : Bool) (i : ℕ) (b : Bool) → b ≡ keeps_pass n t i → (over || not b) ≡ false
-    → (cell n t i 1 ∷ cell n t i 2 ∷ cell n t i 3 ∷ []) ≡ (mended_byte n t over i 1 ∷ mended_byte n t over i 2 ∷ mended_byte n t over i 3 ∷ [])
+pub pass-old : (w n : ℕ) (t : List ℕ) (over : Bool) (i : ℕ) (b : Bool) → b ≡ keeps_pass w n t i → (over || not b) ≡ false
+    → (cell n t i 1 ∷ cell n t i 2 ∷ cell n t i 3 ∷ []) ≡ (mended_byte w n t over i 1 ∷ mended_byte w n t over i 2 ∷ mended_byte w n t over i 3 ∷ [])
 unfolding mended_byte line_byte
-pass-old n t true i b e h = cc
-pass-old n t false i true e h = rw (← e) refl
-pass-old n t false i false e h = cc
+pass-old w n t true i b e h = cc
+pass-old w n t false i true e h = rw (← e) refl
+pass-old w n t false i false e h = cc
 
 -- bytes 0 to 5
-pub head-is : (n : ℕ) (t : List ℕ) (over : Bool) (i s by ago : ℕ) (pass : List ℕ) → s ≡ new_status n t i
-    → pass ≡ mended_byte n t over i 1 ∷ mended_byte n t over i 2 ∷ mended_byte n t over i 3 ∷ [] → by ≡ new_told_by n t i
+pub head-is : (w n : ℕ) (t : List ℕ) (over : Bool) (i s by ago : ℕ) (pass : List ℕ) → s ≡ new_status n t i
+    → pass ≡ mended_byte w n t over i 1 ∷ mended_byte w n t over i 2 ∷ mended_byte w n t over i 3 ∷ [] → by ≡ new_told_by n t i
     → ago ≡ mended_rounds_ago n i (new_status n t i) (new_told_by n t i) (rounds_ago n t i)
-    → (s ∷ get_or pass 0 0 ∷ get_or pass 1 0 ∷ get_or pass 2 0 ∷ by ∷ ago ∷ []) ≡ list_of (mended_byte n t over i) 6
+    → (s ∷ get_or pass 0 0 ∷ get_or pass 1 0 ∷ get_or pass 2 0 ∷ by ∷ ago ∷ []) ≡ list_of (mended_byte w n t over i) 6
 unfolding list_of line_byte
-head-is n t over i s by ago pass es ep eb ea =
-    rw (es, ep, eb, ea, outside-pass n t over i 0 refl, outside-pass n t over i 4 refl, outside-pass n t over i 5 refl) refl
+head-is w n t over i s by ago pass es ep eb ea =
+    rw (es, ep, eb, ea, outside-pass w n t over i 0 refl, outside-pass w n t over i 4 refl, outside-pass w n t over i 5 refl) refl

@@ -14,72 +14,75 @@ use Rattle.std.proofs.lemmas.Bool.Decides.{nat_tests}
 use Rattle.lists.specs.Search.{every}
 use Rattle.lists.proofs.SearchLaws.{both, every-at, every-all}
 use Rattle.lists.proofs.BoolLaws.{by_bool, every-same}
-use Rattle.table.specs.Sizes.{is_size, distances}
+use Rattle.table.specs.Sizes.{is_size}
+use Rattle.table.specs.Wiring.{wiring_check, end_distance}
 use Rattle.table.specs.Table.{head, stride, table_length, cell, status, status_told, next_distance, finished, tests_made, told_by, told_by_none, rounds_ago, suspects}
-use Rattle.table.specs.Rules.{pass_rule, exit_rule, suspicion_rule, row_rule, line_rules, not_live, some_live, finished_if_live, live_finished, round_over, shape_check, table_check}
-use Rattle.table.proofs.SizeLaws.{distances-pos}
+use Rattle.table.specs.Rules.{pass_rule, exit_rule, suspicion_rule, row_rule, wired_line_rules, not_live, some_live, finished_if_live, live_finished, round_over, shape_check, table_check_on, wired_table_check}
+use Rattle.table.proofs.WiringLaws.{end-pos}
 use Rattle.table.proofs.Accepting.{Accepted}
 use Rattle.mender.specs.Mended.{mended_status, keeps_pass, mended_told_by, mended_rounds_ago, mended_suspicion, new_status, new_told_by, line_byte, table_of, lines_mended, mended_byte, mended}
 use Rattle.mender.proofs.CellLaws.{table_of-length, table_of-cell, table_of-is, outside-pass, row-byte}
 
 -- whether the round is over once each line is mended
-abbrev pub is_over : ℕ → List ℕ → Bool
-is_over n t = round_over n (lines_mended n t)
+abbrev pub is_over : ℕ → ℕ → List ℕ → Bool
+is_over w n t = round_over n (lines_mended w n t)
 
-pub mended-length : (n : ℕ) (t : List ℕ) → length (mended n t) ≡ table_length n
+pub mended-length : (w n : ℕ) (t : List ℕ) → length (mended w n t) ≡ table_length n
 unfolding mended
-mended-length n t = table_of-length n (mended_byte n t (is_over n t))
+mended-length w n t = table_of-length n (mended_byte w n t (is_over w n t))
 
-pub mended-cell : (n : ℕ) (t : List ℕ) (i c : ℕ) → i < n → c < stride n → cell n (mended n t) i c ≡ mended_byte n t (is_over n t) i c
+pub mended-cell : (w n : ℕ) (t : List ℕ) (i c : ℕ) → i < n → c < stride n → cell n (mended w n t) i c ≡ mended_byte w n t (is_over w n t) i c
 unfolding mended
-mended-cell n t i c h hc = table_of-cell n (mended_byte n t (is_over n t)) i c h hc
+mended-cell w n t i c h hc = table_of-cell n (mended_byte w n t (is_over w n t)) i c h hc
 
 -- the status, byte 4, byte 5 and the row after mending
-pub status-mended : (n : ℕ) (t : List ℕ) (i : ℕ) → i < n → status n (mended n t) i ≡ new_status n t i
+pub status-mended : (w n : ℕ) (t : List ℕ) (i : ℕ) → i < n → status n (mended w n t) i ≡ new_status n t i
 unfolding line_byte
-status-mended n t i h = mended-cell n t i 0 h (omega arith) ∙ outside-pass n t (is_over n t) i 0 refl
+status-mended w n t i h = mended-cell w n t i 0 h (omega arith) ∙ outside-pass w n t (is_over w n t) i 0 refl
 
-pub told_by-mended : (n : ℕ) (t : List ℕ) (i : ℕ) → i < n → told_by n (mended n t) i ≡ new_told_by n t i
+pub told_by-mended : (w n : ℕ) (t : List ℕ) (i : ℕ) → i < n → told_by n (mended w n t) i ≡ new_told_by n t i
 unfolding line_byte
-told_by-mended n t i h = mended-cell n t i 4 h (omega arith) ∙ outside-pass n t (is_over n t) i 4 refl
+told_by-mended w n t i h = mended-cell w n t i 4 h (omega arith) ∙ outside-pass w n t (is_over w n t) i 4 refl
 
-pub rounds_ago-mended : (n : ℕ) (t : List ℕ) (i : ℕ) → i < n
-    → rounds_ago n (mended n t) i ≡ mended_rounds_ago n i (new_status n t i) (new_told_by n t i) (rounds_ago n t i)
+pub rounds_ago-mended : (w n : ℕ) (t : List ℕ) (i : ℕ) → i < n
+    → rounds_ago n (mended w n t) i ≡ mended_rounds_ago n i (new_status n t i) (new_told_by n t i) (rounds_ago n t i)
 unfolding line_byte
-rounds_ago-mended n t i h = mended-cell n t i 5 h (omega arith) ∙ outside-pass n t (is_over n t) i 5 refl
+rounds_ago-mended w n t i h = mended-cell w n t i 5 h (omega arith) ∙ outside-pass w n t (is_over w n t) i 5 refl
 
-pub suspects-mended : (n : ℕ) (t : List ℕ) (i k : ℕ) → i < n → k < n → suspects n (mended n t) i k ≡ mended_suspicion i k (suspects n t i k)
-suspects-mended n t i k h hk = mended-cell n t i (head + k) h (omega arith) ∙ row-byte n t (is_over n t) i k
+pub suspects-mended : (w n : ℕ) (t : List ℕ) (i k : ℕ) → i < n → k < n → suspects n (mended w n t) i k ≡ mended_suspicion i k (suspects n t i k)
+suspects-mended w n t i k h hk = mended-cell w n t i (head + k) h (omega arith) ∙ row-byte w n t (is_over w n t) i k
 
 -- bytes 1 to 3 after mending
-pub record PassMended (n : ℕ) (t : List ℕ) (over : Bool) (next finished' tests : ℕ) (i : ℕ) : Type 0 where
-  pub next_is : next ≡ cond over 1 (cond (keeps_pass n t i) (next_distance n t i) 1)
-  pub finished_is : finished' ≡ cond over 0 (cond (keeps_pass n t i) (finished n t i) 0)
-  pub tests_is : tests ≡ cond over 0 (cond (keeps_pass n t i) (tests_made n t i) 0)
+pub record PassMended (w n : ℕ) (t : List ℕ) (over : Bool) (next finished' tests : ℕ) (i : ℕ) : Type 0 where
+  pub next_is : next ≡ cond over 1 (cond (keeps_pass w n t i) (next_distance n t i) 1)
+  pub finished_is : finished' ≡ cond over 0 (cond (keeps_pass w n t i) (finished n t i) 0)
+  pub tests_is : tests ≡ cond over 0 (cond (keeps_pass w n t i) (tests_made n t i) 0)
 
-pass-bytes : (n : ℕ) (t : List ℕ) (over : Bool) (i : ℕ) → PassMended n t over (mended_byte n t over i 1) (mended_byte n t over i 2) (mended_byte n t over i 3) i
+pass-bytes : (w n : ℕ) (t : List ℕ) (over : Bool) (i : ℕ) → PassMended w n t over (mended_byte w n t over i 1) (mended_byte w n t over i 2) (mended_byte w n t over i 3) i
 unfolding mended_byte line_byte
-pass-bytes n t true i = record { next_is = refl; finished_is = refl; tests_is = refl }
-pass-bytes n t false i = record { next_is = refl; finished_is = refl; tests_is = refl }
+pass-bytes w n t true i = record { next_is = refl; finished_is = refl; tests_is = refl }
+pass-bytes w n t false i = record { next_is = refl; finished_is = refl; tests_is = refl }
 
-pub pass-mended : (n : ℕ) (t : List ℕ) (i : ℕ) → i < n
-    → PassMended n t (is_over n t) (next_distance n (mended n t) i) (finished n (mended n t) i) (tests_made n (mended n t) i) i
-pass-mended n t i h =
-    let b = pass-bytes n t (is_over n t) i in
+pub pass-mended : (w n : ℕ) (t : List ℕ) (i : ℕ) → i < n
+    → PassMended w n t (is_over w n t) (next_distance n (mended w n t) i) (finished n (mended w n t) i) (tests_made n (mended w n t) i) i
+pass-mended w n t i h =
+    let b = pass-bytes w n t (is_over w n t) i in
     record {
-      next_is = mended-cell n t i 1 h (omega arith) ∙ b.next_is;
-      finished_is = mended-cell n t i 2 h (omega arith) ∙ b.finished_is;
-      tests_is = mended-cell n t i 3 h (omega arith) ∙ b.tests_is;
+      next_is = mended-cell w n t i 1 h (omega arith) ∙ b.next_is;
+      finished_is = mended-cell w n t i 2 h (omega arith) ∙ b.finished_is;
+      tests_is = mended-cell w n t i 3 h (omega arith) ∙ b.tests_is;
     }
 
 -- 1, 0, 0 keep the rules of bytes 1 to 3
-start-kept : (n : ℕ) → pass_rule n 1 0 0 ≡ true
-start-kept n = rw (le-leb 1 (distances n) (distances-pos n)) refl
+start-kept : (end : ℕ) → 1 ≤ end → pass_rule end 1 0 0 ≡ true
+start-kept end low = rw (le-leb 1 end low) refl
 
-pass-right : (n : ℕ) (t : List ℕ) (i : ℕ) (over : Bool) (x f m : ℕ) → PassMended n t over x f m i → pass_rule n x f m ≡ true
-pass-right n t i over x f m p =
+pass-right : (w n : ℕ) (t : List ℕ) (i : ℕ) (over : Bool) (x f m : ℕ) → 1 ≤ end_distance w n → PassMended w n t over x f m i
+    → pass_rule (end_distance w n) x f m ≡ true
+pass-right w n t i over x f m low p =
     rw (p.next_is, p.finished_is, p.tests_is)
-    (by_bool over (λ e. rw e (start-kept n)) (λ e. rw e (by_bool (keeps_pass n t i) (λ k. rw k k) (λ k. rw k (start-kept n)))))
+    (by_bool over (λ e. rw e (start-kept (end_distance w n) low))
+    (λ e. rw e (by_bool (keeps_pass w n t i) (λ k. rw k k) (λ k. rw k (start-kept (end_distance w n) low)))))
 
 status-right : (s : ℕ) → leb (mended_status s) 3 ≡ true
 status-right s = by_bool (leb s 3) (λ e. rw e e) (λ e. rw e refl)
@@ -102,23 +105,23 @@ suspicion-was i k byte e = by_bool (eqb k i || ltb 1 byte) (λ d. let z = rw d a
 own-right : (i byte : ℕ) → mended_suspicion i i byte ≡ 0
 own-right i byte = rw (eq-eqb i i refl) refl
 
-line-right : (n : ℕ) (t : List ℕ) (i : ℕ) → i < n → line_rules n (mended n t) i ≡ true
-unfolding line_rules row_rule
-line-right n t i h =
-    let u = mended n t in
+line-right : (w n : ℕ) (t : List ℕ) (i : ℕ) → i < n → wired_line_rules w n (mended w n t) i ≡ true
+unfolding wired_line_rules row_rule
+line-right w n t i h =
+    let u = mended w n t in
     let exits : exit_rule n i (status n u i) (told_by n u i) (rounds_ago n u i) ≡ true =
-    rw (status-mended n t i h, told_by-mended n t i h, rounds_ago-mended n t i h)
+    rw (status-mended w n t i h, told_by-mended w n t i h, rounds_ago-mended w n t i h)
     (rounds-right n i (new_status n t i) (new_told_by n t i) (rounds_ago n t i) (told-right n i (new_status n t i) (told_by n t i))) in
-    let own : suspects n u i i ≡ 0 = suspects-mended n t i i h h ∙ own-right i (suspects n t i i) in
-    let kept : leb (status n u i) 3 ≡ true = rw (status-mended n t i h) (status-right (status n t i)) in
-    let pass = pass-right n t i (is_over n t) (next_distance n u i) (finished n u i) (tests_made n u i) (pass-mended n t i h) in
+    let own : suspects n u i i ≡ 0 = suspects-mended w n t i i h h ∙ own-right i (suspects n t i i) in
+    let kept : leb (status n u i) 3 ≡ true = rw (status-mended w n t i h) (status-right (status n t i)) in
+    let pass = pass-right w n t i (is_over w n t) (next_distance n u i) (finished n u i) (tests_made n u i) (end-pos w n i h) (pass-mended w n t i h) in
     rw (kept, pass, exits, own)
-    (every-all (suspicion_rule n u i) n (λ k hk. rw (suspects-mended n t i k h hk) (row-right i k (suspects n t i k))))
+    (every-all (suspicion_rule n u i) n (λ k hk. rw (suspects-mended w n t i k h hk) (row-right i k (suspects n t i k))))
 
 -- with no restart the table is that of the mended lines
-pub no-restart : (n : ℕ) (t : List ℕ) → is_over n t ≡ false → mended n t ≡ lines_mended n t
+pub no-restart : (w n : ℕ) (t : List ℕ) → is_over w n t ≡ false → mended w n t ≡ lines_mended w n t
 unfolding mended table_of mended_byte
-no-restart n t e = rw e refl
+no-restart w n t e = rw e refl
 
 -- with it no station has finished its pass
 not-both : (b : Bool) → (not b && b) ≡ false
@@ -134,20 +137,21 @@ restarted n u none =
     or-false true = refl
     or-false false = refl
 
-pub mended-open : (n : ℕ) (t : List ℕ) → round_over n (mended n t) ≡ false
-mended-open n t =
-    by_bool (is_over n t)
-    (λ e. restarted n (mended n t) (λ i h. (pass-mended n t i h).finished_is ∙ rw e refl))
-    (λ e. ap (round_over n) (no-restart n t e) ∙ e)
+pub mended-open : (w n : ℕ) (t : List ℕ) → round_over n (mended w n t) ≡ false
+mended-open w n t =
+    by_bool (is_over w n t)
+    (λ e. restarted n (mended w n t) (λ i h. (pass-mended w n t i h).finished_is ∙ rw e refl))
+    (λ e. ap (round_over n) (no-restart w n t e) ∙ e)
 
-pub mended-passes : (n : ℕ) (t : List ℕ) → is_size n ≡ true → table_check n (mended n t) ≡ Ok tt
-unfolding table_check shape_check
-mended-passes n t size =
+pub mended-passes : (w n : ℕ) (t : List ℕ) → wiring_check w ≡ Ok tt → is_size n ≡ true → wired_table_check w n (mended w n t) ≡ Ok tt
+unfolding table_check_on shape_check
+mended-passes w n t wired size =
     rw (
+      wired,
       size,
-      eq-eqb (length (mended n t)) (table_length n) (mended-length n t),
-      every-all (line_rules n (mended n t)) n (line-right n t),
-      mended-open n t,
+      eq-eqb (length (mended w n t)) (table_length n) (mended-length w n t),
+      every-all (wired_line_rules w n (mended w n t)) n (line-right w n t),
+      mended-open w n t,
     ) refl
 
 -- a line that keeps its rules
@@ -155,15 +159,15 @@ exit-zero : (n i s by ago : ℕ) → exit_rule n i s by ago ≡ true → exit_ru
 unfolding exit_rule
 exit-zero n i s by ago e = by_bool (eqb s 0) (λ z. rw z (let a = both (eqb by told_by_none) (eqb ago 0) (rw z at e) in rw a.0 refl)) (λ z. rw z (rw z at e))
 
-good-byte : (n : ℕ) (t : List ℕ) (i c : ℕ) → line_rules n t i ≡ true → i < n → c < stride n → line_byte n t i c ≡ cell n t i c
-unfolding line_byte line_rules row_rule
-good-byte n t i c e h hc =
+good-byte : (w n : ℕ) (t : List ℕ) (i c : ℕ) → wired_line_rules w n t i ≡ true → i < n → c < stride n → line_byte w n t i c ≡ cell n t i c
+unfolding line_byte wired_line_rules row_rule
+good-byte w n t i c e h hc =
     let a = both _ _ e in
     let b = both _ _ a.0 in
     let d = both _ _ b.0 in
     let r = both _ _ a.1 in
     let live : leb (status n t i) 3 ≡ true = d.0 in
-    let pass : keeps_pass n t i ≡ true = d.1 in
+    let pass : keeps_pass w n t i ≡ true = d.1 in
     let exits : exit_rule n i (status n t i) (told_by n t i) (rounds_ago n t i) ≡ true = b.1 in
     let zero = exit-zero n i (status n t i) (told_by n t i) (rounds_ago n t i) exits in
     by_bool (eqb c 0) (λ z. rw (z, live, eqb-true c 0 z) refl)
@@ -185,10 +189,10 @@ good-byte n t i c e h hc =
         stays k own low =
             by_bool (eqb k i) (λ e. rw e (sym (ap (suspects n t i) (eqb-true k i e) ∙ own))) (λ e. rw (e, le-ltb 1 (suspects n t i k) low) refl)
 
-pub good-lines : (n : ℕ) (t : List ℕ) → Accepted n t → lines_mended n t ≡ t
-good-lines n t a = table_of-is n (line_byte n t) t a.long (λ i c h hc. good-byte n t i c (every-at (line_rules n t) n i a.lines h) h hc)
+pub good-lines : (w n : ℕ) (t : List ℕ) → Accepted w n t → lines_mended w n t ≡ t
+good-lines w n t a = table_of-is n (line_byte w n t) t a.long (λ i c h hc. good-byte w n t i c (every-at (wired_line_rules w n t) n i a.lines h) h hc)
 
-pub good-stays : (n : ℕ) (t : List ℕ) → Accepted n t → mended n t ≡ t
-good-stays n t a =
-    let over : is_over n t ≡ false = ap (round_over n) (good-lines n t a) ∙ a.unclosed in
-    no-restart n t over ∙ good-lines n t a
+pub good-stays : (w n : ℕ) (t : List ℕ) → Accepted w n t → mended w n t ≡ t
+good-stays w n t a =
+    let over : is_over w n t ≡ false = ap (round_over n) (good-lines w n t a) ∙ a.unclosed in
+    no-restart w n t over ∙ good-lines w n t a

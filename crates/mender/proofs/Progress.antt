@@ -163,44 +163,44 @@ progress-done t u r p now report count g e l =
         (λ k h. list_of-at (λ q. get_or u q 0) (length t) k (omega (arith, list_of-length (λ q. get_or u q 0) (length t))))
 
 -- the mended table, where it is known whether the round is over
-abbrev pub mended_by : ℕ → List ℕ → Bool → List ℕ
-mended_by n t over = table_of n (mended_byte n t over)
+abbrev pub mended_by : ℕ → ℕ → List ℕ → Bool → List ℕ
+mended_by w n t over = table_of n (mended_byte w n t over)
 
 -- as the loops put it byte by byte
-module _ (n : ℕ) (t r : List ℕ) (over : Bool) where
+module _ (w n : ℕ) (t r : List ℕ) (over : Bool) where
   -- a byte of a line that the loops have not reached
-  line-ahead : (p : ℕ) (now report : List ℕ) (count i c : ℕ) → Progress t (mended_by n t over) r p now report count → p ≤ line_start n i + c → cell n now i c ≡ cell n t i c
+  line-ahead : (p : ℕ) (now report : List ℕ) (count i c : ℕ) → Progress t (mended_by w n t over) r p now report count → p ≤ line_start n i + c → cell n now i c ≡ cell n t i c
   unfolding cell
-  line-ahead p now report count i c g h = progress-ahead t (mended_by n t over) r p now report count (line_start n i + c) g h
+  line-ahead p now report count i c g h = progress-ahead t (mended_by w n t over) r p now report count (line_start n i + c) g h
 
   -- bytes 0 to 5 of line i, made when the loops came to the line
-  pub head-put : (now report : List ℕ) (count i c n' byte : ℕ) (read made : List ℕ) → Progress t (mended_by n t over) r (line_start n i) now report count
-      → i < n → c < head → n' ≡ n → read ≡ now → made ≡ list_of (mended_byte n' read over i) 6 → byte ≡ get_or made c 0
-      → byte ≡ get_or (mended_by n t over) (line_start n i + c) 0
+  pub head-put : (now report : List ℕ) (count i c n' byte : ℕ) (read made : List ℕ) → Progress t (mended_by w n t over) r (line_start n i) now report count
+      → i < n → c < head → n' ≡ n → read ≡ now → made ≡ list_of (mended_byte w n' read over i) 6 → byte ≡ get_or made c 0
+      → byte ≡ get_or (mended_by w n t over) (line_start n i + c) 0
   head-put now report count i c n' byte read made g h hc e d m b =
-      b ∙ rw (m, e, d) (list_of-at (mended_byte n now over i) 6 c hc)
-      ∙ head-same n now t over i c (λ k hk. line-ahead (line_start n i) now report count i k g (omega arith)) hc
-      ∙ sym (table_of-at n (mended_byte n t over) i c h (omega arith))
+      b ∙ rw (m, e, d) (list_of-at (mended_byte w n now over i) 6 c hc)
+      ∙ head-same w n now t over i c (λ k hk. line-ahead (line_start n i) now report count i k g (omega arith)) hc
+      ∙ sym (table_of-at n (mended_byte w n t over) i c h (omega arith))
 
   -- a byte of the row of line i, made when the loop came to it
-  pub row-put : (now report : List ℕ) (count i k at byte : ℕ) → Progress t (mended_by n t over) r (line_start n i + (head + k)) now report count
+  pub row-put : (now report : List ℕ) (count i k at byte : ℕ) → Progress t (mended_by w n t over) r (line_start n i + (head + k)) now report count
       → i < n → k < n → at ≡ line_start n i + (head + k) → byte ≡ mended_suspicion i k (get_or now at 0)
-      → byte ≡ get_or (mended_by n t over) (line_start n i + (head + k)) 0
+      → byte ≡ get_or (mended_by w n t over) (line_start n i + (head + k)) 0
   unfolding cell
   row-put now report count i k at byte g h hk a b =
       let p = line_start n i + (head + k) in
-      b ∙ rw (a, progress-ahead t (mended_by n t over) r p now report count p g (omega arith)) refl
-      ∙ sym (row-byte n t over i k) ∙ sym (table_of-at n (mended_byte n t over) i (head + k) h (omega arith))
+      b ∙ rw (a, progress-ahead t (mended_by w n t over) r p now report count p g (omega arith)) refl
+      ∙ sym (row-byte w n t over i k) ∙ sym (table_of-at n (mended_byte w n t over) i (head + k) h (omega arith))
 
   -- a row that keeps its rules stays
-  pub row-skip : (now report : List ℕ) (count i n' : ℕ) (read : List ℕ) → Progress t (mended_by n t over) r (line_start n i + head) now report count
-      → i < n → n' ≡ n → read ≡ now → row_rule n' read i ≡ true → Progress t (mended_by n t over) r (line_start n i + (head + n)) now report count
+  pub row-skip : (now report : List ℕ) (count i n' : ℕ) (read : List ℕ) → Progress t (mended_by w n t over) r (line_start n i + head) now report count
+      → i < n → n' ≡ n → read ≡ now → row_rule n' read i ≡ true → Progress t (mended_by w n t over) r (line_start n i + (head + n)) now report count
   unfolding row_rule cell
   row-skip now report count i n' read g h e d kept =
       let start = line_start n i + head in
       let here : row_rule n now i ≡ true = subst (λ (x : ℕ). row_rule x now i ≡ true) e (subst (λ (x : List ℕ). row_rule n' x i ≡ true) d kept) in
       let parts = both (eqb (get_or now (line_start n i + (head + i)) 0) 0) (every (suspicion_rule n now i) n) here in
-      let end = progress-skip t (mended_by n t over) r start (start + n) now report count g (omega arith)
+      let end = progress-skip t (mended_by w n t over) r start (start + n) now report count g (omega arith)
       (λ y a b.
       let k = y - start in
       let at : line_start n i + (head + k) ≡ y = omega arith in
@@ -208,10 +208,10 @@ module _ (n : ℕ) (t r : List ℕ) (over : Bool) where
       let low : get_or now (line_start n i + (head + k)) 0 ≤ 1 = leb-true (get_or now (line_start n i + (head + k)) 0) 1 (every-at (suspicion_rule n now i) n k parts.1 hk) in
       let own : get_or now (line_start n i + (head + i)) 0 ≡ 0 = eqb-true (get_or now (line_start n i + (head + i)) 0) 0 parts.0 in
       let stays = suspicion-stays i k (get_or now (line_start n i + (head + k)) 0) low (λ s. ap (λ (x : ℕ). get_or now (line_start n i + (head + x)) 0) s ∙ own) in
-      let ahead = progress-ahead t (mended_by n t over) r start now report count (line_start n i + (head + k)) g (omega arith) in
-      subst (λ (x : ℕ). get_or (mended_by n t over) x 0 ≡ get_or now x 0) at
-      (table_of-at n (mended_byte n t over) i (head + k) h (omega arith) ∙ row-byte n t over i k ∙ ap (mended_suspicion i k) (sym ahead) ∙ stays)) in
-      progress-at t (mended_by n t over) r (start + n) (line_start n i + (head + n)) now report count end (omega arith)
+      let ahead = progress-ahead t (mended_by w n t over) r start now report count (line_start n i + (head + k)) g (omega arith) in
+      subst (λ (x : ℕ). get_or (mended_by w n t over) x 0 ≡ get_or now x 0) at
+      (table_of-at n (mended_byte w n t over) i (head + k) h (omega arith) ∙ row-byte w n t over i k ∙ ap (mended_suspicion i k) (sym ahead) ∙ stays)) in
+      progress-at t (mended_by w n t over) r (start + n) (line_start n i + (head + n)) now report count end (omega arith)
 
 -- where the next line begins, and where the last one ends
 pub line-next : (n i : ℕ) → line_start n (i + 1) ≡ line_start n i + (head + n)
@@ -239,8 +239,8 @@ same-then a b c s e =
     }
 
 -- after the last line
-pub all-done : (n : ℕ) (t r : List ℕ) (over : Bool) (i : ℕ) (now report : List ℕ) (count : ℕ) → length t ≡ table_length n
-    → Progress t (mended_by n t over) r (line_start n i) now report count → i ≡ n
-    → (now ≡ mended_by n t over) × (report ≡ sets r 0 (flat_map change_bytes (changes t (mended_by n t over)))) × (count ≡ length (changes t (mended_by n t over)))
-all-done n t r over i now report count long g e =
-    progress-done t (mended_by n t over) r (line_start n i) now report count g (rw e (line-last n ∙ sym long)) (table_of-length n (mended_byte n t over) ∙ sym long)
+pub all-done : (w n : ℕ) (t r : List ℕ) (over : Bool) (i : ℕ) (now report : List ℕ) (count : ℕ) → length t ≡ table_length n
+    → Progress t (mended_by w n t over) r (line_start n i) now report count → i ≡ n
+    → (now ≡ mended_by w n t over) × (report ≡ sets r 0 (flat_map change_bytes (changes t (mended_by w n t over)))) × (count ≡ length (changes t (mended_by w n t over)))
+all-done w n t r over i now report count long g e =
+    progress-done t (mended_by w n t over) r (line_start n i) now report count g (rw e (line-last n ∙ sym long)) (table_of-length n (mended_byte w n t over) ∙ sym long)

@@ -2,7 +2,7 @@
 
 ghost use Rattle.mender.specs.Claims.{MendedPasses, MendedOnce, GoodTableStays, ListedIsTrue, UnlistedStays, ReportHasRoom, StatusStays, NoSuspicionInvented};
 
-// Refusals 1 to 4 let a mended table through.
+// Refusals 24 and 1 to 4 let a mended table through.
 pub fn mended_passes()
     ensures { MendedPasses }
 {}
@@ -12,7 +12,7 @@ pub fn mended_once()
     ensures { MendedOnce }
 {}
 
-// Mending a table that refusals 1 to 4 let through changes and lists nothing.
+// Mending a table that refusals 24 and 1 to 4 let through changes and lists nothing.
 pub fn good_table_stays()
     ensures { GoodTableStays }
 {}

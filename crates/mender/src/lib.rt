@@ -14,27 +14,29 @@ ghost use Rattle.mender.specs.Report.{mend, table_after, report_after};
 use crate::mending::Mending;
 use lists::refusal::Refusal;
 use table::lent::Table;
+use table::wiring::Wiring;
 
-// Mends the table, lists the changes in the report, and answers how many they are: refusals 1, 2 and 23.
-#[tactic(auto, unfolding(crate::specs::Report::mend, crate::specs::Report::mend_check, crate::specs::Report::table_after, crate::specs::Report::report_after))]
-pub fn mend(n: usize, table: &mut [u8], report: &mut [u8]) -> Result<usize, Refusal>
-    ensures number_of_changes { result ≡ mend n table.old (length report.old) }
-    ensures mended_table { table.new ≡ table_after n table.old (length report.old) }
-    ensures listed_changes { report.new ≡ report_after n table.old report.old }
+// Mends the table, lists the changes in the report, and answers how many they are: refusals 24, 1, 2 and 23.
+#[tactic(auto, using(table::proofs::WiringLaws::wiring_ok, table::proofs::WiringLaws::wiring_err), unfolding(crate::specs::Report::mend, crate::specs::Report::mend_check, crate::specs::Report::table_after, crate::specs::Report::report_after))]
+pub fn mend(wiring: usize, n: usize, table: &mut [u8], report: &mut [u8]) -> Result<usize, Refusal>
+    ensures number_of_changes { result ≡ mend wiring n table.old (length report.old) }
+    ensures mended_table { table.new ≡ table_after wiring n table.old (length report.old) }
+    ensures listed_changes { report.new ≡ report_after wiring n table.old report.old }
 {
+    let wiring = Wiring::try_from(wiring)?;
     let lent = Table::of(n, table)?;
     if report.len() / 4 < lent.bytes.len() {
         return Err(Refusal::ReportTooShort);
     }
     let n = lent.n;
-    let over = lines::is_over(&lent);
+    let over = lines::is_over(wiring, &lent);
     let mut mending = Mending {
         n,
         table,
         report,
         changes: 0,
     };
-    mending.mend_lines(over);
+    mending.mend_lines(wiring, over);
     mending.clear_rest();
     Ok(mending.changes)
 }

@@ -6,6 +6,7 @@ ghost use Rattle.table.specs.Table.{table_length};
 use crate::lines;
 use crate::report::Change;
 use table::lent::Table;
+use table::wiring::Wiring;
 use table::{Station, cells, rules};
 
 // A lent table and a lent report that has room for a change of each byte, and how many changes the report has so far.
@@ -23,6 +24,7 @@ pub(crate) struct Mending<'a> {
 impl<'a> Mending<'a> {
     ghost use Rattle.std.specs.Prelude.{◌≡◌, ◌+◌, ◌-◌, ◌*◌, ◌<◌, ◌≤◌, ◌++◌, length, slice_index, flat_map, take, replicate, set};
     ghost use Rattle.std.proofs.lemmas.List.Edits.{sets};
+    ghost use Rattle.table.specs.Wiring.{wiring_number};
     ghost use Rattle.mender.specs.Mended.{table_of, mended_byte};
     ghost use Rattle.mender.specs.Report.{change_bytes, changes};
     ghost use Rattle.mender.specs.Mending.{IsSameMending, with_change, count_with};
@@ -73,11 +75,11 @@ impl<'a> Mending<'a> {
     }
 
     // Puts each byte of the table, by rising offset.
-    pub fn mend_lines(&mut self, over: bool)
+    pub fn mend_lines(&mut self, wiring: Wiring, over: bool)
         requires { self.old.changes ≡ 0 }
         ensures same_mending { IsSameMending self.old self.new }
         ensures bytes_mended { self.new.table.now
-            ≡ table_of self.old.n (mended_byte self.old.n self.old.table.now over) }
+            ≡ table_of self.old.n (mended_byte (wiring_number wiring) self.old.n self.old.table.now over) }
         ensures changes_listed { let listed = changes self.old.table.now self.new.table.now in
             self.new.report.now ≡ sets self.old.report.now 0 (flat_map change_bytes listed) }
         ensures changes_counted { self.new.changes
@@ -85,7 +87,7 @@ impl<'a> Mending<'a> {
     {
         for i in 0..self.n {
             let line = cells::line_start(self.n, Station(i));
-            let head = lines::mended_head(&self.read(), Station(i), over);
+            let head = lines::mended_head(wiring, &self.read(), Station(i), over);
             for (c, byte) in head.iter().enumerate() {
                 self.put(line + c, *byte);
             }

@@ -7,3 +7,4 @@ pub mod TurnHeads
 pub mod RoundLaws
 pub mod RunLaws
 pub mod RulesKept
+pub mod Computed

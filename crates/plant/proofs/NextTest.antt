@@ -1,53 +1,70 @@
--- Laws of the distance that a turn tests.
+-- Laws of the distance that a turn tests, on either wiring.
 -- Assumes nothing.
 use mathlib.Core.Path.{◌≡◌}
+use mathlib.Core.Logic.{by_cases}
 use mathlib.Core.Bool.{true, false}
 use mathlib.Core.List.{List}
 use Prim.Native.Nat.{ℕ, ◌-◌, ◌≤◌, ◌<◌}
+use native.Mathlib.Decide.{dec_lt}
 use native.Mathlib.Omega.{arith}
 use borrow.Author.Tests.{ltb-true, ltb-false}
 use lib.ListN.{length}
-use Rattle.table.specs.Sizes.{distances}
-use Rattle.station.specs.Groups.{station_at}
+use Rattle.lists.specs.Search.{least}
+use Rattle.table.specs.Wiring.{is_ring, end_distance}
+use Rattle.station.specs.Wired.{wired_station, wired_due}
 use Rattle.table.specs.Table.{table_length, next_distance, row}
 use Rattle.station.specs.Tests.{due}
-use Rattle.lists.proofs.SearchLaws.{least-between, least-passes, least-before}
+use Rattle.lists.proofs.BoolLaws.{least-same}
+use Rattle.lists.proofs.SearchLaws.{least-between, least-passes, least-before, least-is}
 use Rattle.table.proofs.CellLaws.{row-length}
-use Rattle.station.proofs.DueLaws.{due-present}
+use Rattle.station.proofs.WiredLaws.{cube_due, ring_due, station-present}
 use Rattle.plant.specs.Turn.{next_test, makes_test}
 
-module _ (n : ℕ) (t : List ℕ) (i : ℕ) where
-  pub next_test-low : next_distance n t i ≤ next_test n t i
+module _ (w n : ℕ) (t : List ℕ) (i : ℕ) where
+  -- on the cube it is the least due distance, on the ring the next one
+  pub cube-next : is_ring w ≡ false → next_test w n t i ≡ least (due (row n t i) i) (end_distance w n - next_distance n t i) (next_distance n t i)
   unfolding next_test
-  next_test-low = (least-between (due (row n t i) i) (distances n - next_distance n t i) (next_distance n t i)).0
+  cube-next c = least-same _ _ _ _ (λ y a b. cube_due w (row n t i) i y c)
 
-  next_test-high : next_distance n t i ≤ distances n → next_test n t i ≤ distances n
+  pub ring-next : is_ring w ≡ true → next_test w n t i ≡ next_distance n t i
   unfolding next_test
-  next_test-high h = omega (arith, (least-between (due (row n t i) i) (distances n - next_distance n t i) (next_distance n t i)).1)
+  ring-next r =
+      by_cases (dec_lt (next_distance n t i) (end_distance w n))
+      (λ l. least-is _ _ _ _ (omega arith) (omega arith) (ring_due w (row n t i) i (next_distance n t i) r) (λ y a b. absurd (omega arith)))
+      (λ l. omega (arith, least-between (wired_due w (row n t i) i) (end_distance w n - next_distance n t i) (next_distance n t i)))
 
-  -- no distance from the next one on is due before the one tested
-  pub not-due-before : (y : ℕ) → next_distance n t i ≤ y → y < next_test n t i → due (row n t i) i y ≡ false
+  pub next_test-low : next_distance n t i ≤ next_test w n t i
   unfolding next_test
-  not-due-before y = least-before (due (row n t i) i) (distances n - next_distance n t i) (next_distance n t i) y
+  next_test-low = (least-between (wired_due w (row n t i) i) (end_distance w n - next_distance n t i) (next_distance n t i)).0
+
+  next_test-high : next_distance n t i ≤ end_distance w n → next_test w n t i ≤ end_distance w n
+  unfolding next_test
+  next_test-high h = omega (arith, (least-between (wired_due w (row n t i) i) (end_distance w n - next_distance n t i) (next_distance n t i)).1)
+
+  -- at no distance from the next one on is it to test before the one tested
+  pub not-due-before : (y : ℕ) → next_distance n t i ≤ y → y < next_test w n t i → wired_due w (row n t i) i y ≡ false
+  unfolding next_test
+  not-due-before y = least-before (wired_due w (row n t i) i) (end_distance w n - next_distance n t i) (next_distance n t i) y
 
   -- a turn that makes a test
-  pub test_below : makes_test n t i ≡ true → next_test n t i < distances n
+  pub test_below : makes_test w n t i ≡ true → next_test w n t i < end_distance w n
   unfolding makes_test
-  test_below e = ltb-true (next_test n t i) (distances n) e
+  test_below e = ltb-true (next_test w n t i) (end_distance w n) e
 
-  pub test-due : makes_test n t i ≡ true → due (row n t i) i (next_test n t i) ≡ true
+  pub test-due : makes_test w n t i ≡ true → wired_due w (row n t i) i (next_test w n t i) ≡ true
   unfolding next_test
   test-due e =
-      least-passes (due (row n t i) i) (distances n - next_distance n t i) (next_distance n t i) (omega (arith, test_below e, next_test-low))
+      least-passes (wired_due w (row n t i) i) (end_distance w n - next_distance n t i) (next_distance n t i) (omega (arith, test_below e, next_test-low))
 
   -- a station stands there
-  pub test-station : makes_test n t i ≡ true → length t ≡ table_length n → i < n → station_at i (next_test n t i) < n
-  test-station e long h = rw (row-length n t i long h) at (due-present (row n t i) i (next_test n t i) (test-due e))
+  pub test-station : makes_test w n t i ≡ true → length t ≡ table_length n → i < n → wired_station w n i (next_test w n t i) < n
+  test-station e long h = station-present w (row n t i) n i (next_test w n t i) (row-length n t i long h) h (test_below e) (test-due e)
 
   -- a turn that makes none
-  no_test : makes_test n t i ≡ false → next_distance n t i ≤ distances n → next_test n t i ≡ distances n
+  no_test : makes_test w n t i ≡ false → next_distance n t i ≤ end_distance w n → next_test w n t i ≡ end_distance w n
   unfolding makes_test
-  no_test e h = omega (arith, ltb-false (next_test n t i) (distances n) e, next_test-high h)
+  no_test e h = omega (arith, ltb-false (next_test w n t i) (end_distance w n) e, next_test-high h)
 
-  pub none-due : makes_test n t i ≡ false → next_distance n t i ≤ distances n → (y : ℕ) → next_distance n t i ≤ y → y < distances n → due (row n t i) i y ≡ false
+  pub none-due : makes_test w n t i ≡ false → next_distance n t i ≤ end_distance w n
+      → (y : ℕ) → next_distance n t i ≤ y → y < end_distance w n → wired_due w (row n t i) i y ≡ false
   none-due e h y lo hi = not-due-before y lo (omega (arith, no_test e h))

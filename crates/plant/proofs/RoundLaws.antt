@@ -14,7 +14,7 @@ use Rattle.table.specs.Rules.{exit_rule}
 use Rattle.lists.specs.Steps.{after_steps}
 use Rattle.lists.proofs.BoolLaws.{by_bool}
 use Rattle.plant.specs.Round.{rounds_after, reset_line, reset_lines}
-use Rattle.table.proofs.SizeLaws.{distances-pos}
+use Rattle.table.proofs.WiringLaws.{end-pos}
 use Rattle.plant.proofs.StepLines.{Lines}
 
 -- the line as the round rule leaves it, but for byte 5
@@ -140,8 +140,8 @@ unfolding exit_rule rounds_after
 after-exit n t k e = by_bool (live n t k) (λ f. rw f (rw f at e)) (λ f. rw f (rw f at e))
 
 -- a closing keeps the line rules
-pub reset-lines : (n : ℕ) (t : List ℕ) → Lines n t → Lines n (reset_lines n t)
-reset-lines n t lines = (
+pub reset-lines : (w n : ℕ) (t : List ℕ) → Lines w n t → Lines w n (reset_lines n t)
+reset-lines w n t lines = (
   reset-length n t ∙ lines.0,
   λ k h.
       let l = lines.1 k h in
@@ -149,7 +149,7 @@ reset-lines n t lines = (
       record {
         status_range = rw (reset-other n t k status_column (omega arith) (λ p. omega arith)) l.status_range;
         pass = rw (r.next, r.unfinished, r.untested)
-            (record { next_low = omega arith; next_high = distances-pos n; finished_range = omega arith; tests_bound = omega arith; finished_next = λ p. absurd (omega arith) });
+            (record { next_low = omega arith; next_high = end-pos w n k h; finished_range = omega arith; tests_bound = omega arith; finished_next = λ p. absurd (omega arith) });
         exits =
             let s = reset-other n t k status_column (omega arith) (λ p. omega arith) in
             let b = reset-other n t k told_by_column (omega arith) (λ p. omega arith) in

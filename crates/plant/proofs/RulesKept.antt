@@ -10,7 +10,7 @@ use lib.Dec.{eqb}
 use lib.ListN.{length}
 use Rattle.lists.specs.Search.{every}
 use Rattle.table.specs.Table.{table_length, finished, live}
-use Rattle.table.specs.Rules.{line_rules, not_live, some_live, finished_if_live, live_finished, table_refusal, round_over}
+use Rattle.table.specs.Rules.{wired_line_rules, not_live, some_live, finished_if_live, live_finished, wired_table_refusal, round_over}
 use Rattle.lists.proofs.BoolLaws.{neither}
 use Rattle.lists.proofs.SearchLaws.{both, every-at, every-all}
 use Rattle.table.proofs.Accepting.{Accepted, accepted}
@@ -61,20 +61,20 @@ entry_ok n s e x z =
 pub entry-facts : (n : ℕ) (s : State) (e : Entry) → entry_refusal n s e ≡ 0 → Takes n s e
 entry-facts n s e z = entry_ok n s e _ (check_zero _ z)
 
-pub acted-lines : (n : ℕ) (s : State) (e : Entry) → Accepted n s.table → entry_refusal n s e ≡ 0
-    → (length (acted n s.table e) ≡ table_length n) × ((i : ℕ) → i < n → Line n (acted n s.table e) i)
+pub acted-lines : (w n : ℕ) (s : State) (e : Entry) → Accepted w n s.table → entry_refusal n s e ≡ 0
+    → (length (acted w n s.table e) ≡ table_length n) × ((i : ℕ) → i < n → Line w n (acted w n s.table e) i)
 unfolding acted crash
-acted-lines n s e a z = pick (is_crash e) refl
+acted-lines w n s e a z = pick (is_crash e) refl
   where
-    lines : Lines n s.table
-    lines = (a.long, accepted-line n s.table a)
+    lines : Lines w n s.table
+    lines = (a.long, accepted-line w n s.table a)
 
     f : Takes n s e
     f = entry-facts n s e z
 
-    pick : (b : Bool) → is_crash e ≡ b → Lines n (cond b (crash n s.table e.station) (turn n s.table e.kind e.station))
-    pick true c = leave-lines n s.table e.station lines f.below f.is_live 1 (omega arith) (omega arith) (omega arith)
-    pick false c = turn_lines n s.table e.kind e.station a.size lines f.below (f.unfinished (eqb-false e.kind 3 c))
+    pick : (b : Bool) → is_crash e ≡ b → Lines w n (cond b (crash n s.table e.station) (turn w n s.table e.kind e.station))
+    pick true c = leave-lines w n s.table e.station lines f.below f.is_live 1 (omega arith) (omega arith) (omega arith)
+    pick false c = turn_lines w n s.table e.kind e.station lines f.below (f.unfinished (eqb-false e.kind 3 c))
 
 -- where no line is finished, no live one is
 pub unfinished-open : (n : ℕ) (t : List ℕ) → ((i : ℕ) → i < n → finished n t i ≡ 0) → (some_live n t && live_finished n t) ≡ false
@@ -89,56 +89,64 @@ unfinished-open n t zeros = pick (every (finished_if_live n t) n) refl
         rw none
     pick false e = and-false (not (every (not_live n t) n))
 
-pub accepted-kept : (n : ℕ) (s : State) (e : Entry) → Accepted n s.table → entry_refusal n s e ≡ 0 → Accepted n (after n s e).table
+pub accepted-kept : (w n : ℕ) (s : State) (e : Entry) → Accepted w n s.table → entry_refusal n s e ≡ 0 → Accepted w n (after w n s e).table
 unfolding after after_round
-accepted-kept n s e a z = pick (round_over n t) refl
+accepted-kept w n s e a z = pick (round_over n t) refl
   where
     t : List ℕ
-    t = acted n s.table e
+    t = acted w n s.table e
 
-    lines : Lines n t
-    lines = acted-lines n s e a z
+    lines : Lines w n t
+    lines = acted-lines w n s e a z
 
-    make : (u : List ℕ) → Lines n u → (some_live n u && live_finished n u) ≡ false → Accepted n u
-    make u l open-still = record { size = a.size; long = l.0; lines = every-all (line_rules n u) n (λ i h. line-holds n u i (l.1 i h)); unclosed = open-still }
+    make : (u : List ℕ) → Lines w n u → (some_live n u && live_finished n u) ≡ false → Accepted w n u
+    make u l open-still =
+        record {
+          wired = a.wired;
+          size = a.size;
+          long = l.0;
+          lines = every-all (wired_line_rules w n u) n (λ i h. line-holds w n u i (l.1 i h));
+          unclosed = open-still;
+        }
 
-    pick : (b : Bool) → round_over n t ≡ b → Accepted n (cond b (reset_lines n t) t)
+    pick : (b : Bool) → round_over n t ≡ b → Accepted w n (cond b (reset_lines n t) t)
     pick true c =
-        make (reset_lines n t) (reset-lines n t lines) (unfinished-open n (reset_lines n t) (λ i h. (reset-cells n t lines.0 i h).unfinished))
+        make (reset_lines n t) (reset-lines w n t lines) (unfinished-open n (reset_lines n t) (λ i h. (reset-cells n t lines.0 i h).unfinished))
     pick false c = make t lines c
 
--- rule Empty schedule: on a table that refusals 1 to 4 let through it is accepted and changes nothing. An end in itself
-pub empty-run : (n : ℕ) (s : State) → table_refusal n s.table ≡ 0 → run n s [] [] ≡ record { number = 0; taken = 0; state = s; sheet = [] }
+-- rule Empty schedule: on a wiring and a table that refusals 24 and 1 to 4 let through it is accepted and changes nothing. An end in itself
+pub empty-run : (w n : ℕ) (s : State) → wired_table_refusal w n s.table ≡ 0 → run w n s [] [] ≡ record { number = 0; taken = 0; state = s; sheet = [] }
 unfolding run start_check go_on entries
-empty-run n s z = rw (check_zero _ z)
+empty-run w n s z = rw (check_zero _ z)
 
 -- the rest of a run
-accepted-on : (n k : ℕ) (s : State) (sheet : List ℕ) (es : List Entry) → Accepted n s.table → Accepted n (go_on n k s sheet es).state.table
+accepted-on : (w n k : ℕ) (s : State) (sheet : List ℕ) (es : List Entry) → Accepted w n s.table → Accepted w n (go_on w n k s sheet es).state.table
 unfolding go_on
-accepted-on n k s sheet [] a = a
-accepted-on n k s sheet (e ∷ es) a =
-    pick (eqb (entry_refusal n s e) 0) refl (λ z. accepted-on n (suc k) (after n s e) (write_line sheet k (sheet_line n s e)) es (accepted-kept n s e a z))
+accepted-on w n k s sheet [] a = a
+accepted-on w n k s sheet (e ∷ es) a =
+    pick (eqb (entry_refusal n s e) 0) refl (λ z. accepted-on w n (suc k) (after w n s e) (write_line sheet k (sheet_line w n s e)) es (accepted-kept w n s e a z))
   where
     rest : RunResult
-    rest = go_on n (suc k) (after n s e) (write_line sheet k (sheet_line n s e)) es
+    rest = go_on w n (suc k) (after w n s e) (write_line sheet k (sheet_line w n s e)) es
 
-    pick : (b : Bool) → eqb (entry_refusal n s e) 0 ≡ b → (entry_refusal n s e ≡ 0 → Accepted n rest.state.table)
-        → Accepted n (cond b rest (record { number = entry_refusal n s e; taken = k; state = s; sheet = sheet })).state.table
+    pick : (b : Bool) → eqb (entry_refusal n s e) 0 ≡ b → (entry_refusal n s e ≡ 0 → Accepted w n rest.state.table)
+        → Accepted w n (cond b rest (record { number = entry_refusal n s e; taken = k; state = s; sheet = sheet })).state.table
     pick true c next = next (eqb-true (entry_refusal n s e) 0 c)
     pick false c next = a
 
-accepted-run : (n : ℕ) (s : State) (schedule sheet : List ℕ) → Accepted n s.table → Accepted n (run n s schedule sheet).state.table
+accepted-run : (w n : ℕ) (s : State) (schedule sheet : List ℕ) → Accepted w n s.table → Accepted w n (run w n s schedule sheet).state.table
 unfolding run
-accepted-run n s schedule sheet a = pick (eqb (start_refusal n s.table (length schedule) (length sheet)) 0)
+accepted-run w n s schedule sheet a = pick (eqb (start_refusal w n s.table (length schedule) (length sheet)) 0)
   where
     rest : RunResult
-    rest = go_on n 0 s sheet (entries schedule)
+    rest = go_on w n 0 s sheet (entries schedule)
 
     pick : (b : Bool)
-        → Accepted n (cond b rest (record { number = start_refusal n s.table (length schedule) (length sheet); taken = 0; state = s; sheet = sheet })).state.table
-    pick true = accepted-on n 0 s sheet (entries schedule) a
+        → Accepted w n (cond b rest (record { number = start_refusal w n s.table (length schedule) (length sheet); taken = 0; state = s; sheet = sheet })).state.table
+    pick true = accepted-on w n 0 s sheet (entries schedule) a
     pick false = a
 
--- a table that refusals 1 to 4 let through is let through after every run, an end in itself
-pub run-keeps-rules : (n : ℕ) (s : State) (schedule sheet : List ℕ) → table_refusal n s.table ≡ 0 → table_refusal n (run n s schedule sheet).state.table ≡ 0
-run-keeps-rules n s schedule sheet z = accepted-number n _ (accepted-run n s schedule sheet (accepted n s.table z))
+-- a table that refusals 24 and 1 to 4 let through is let through after every run, an end in itself
+pub run-keeps-rules : (w n : ℕ) (s : State) (schedule sheet : List ℕ)
+    → wired_table_refusal w n s.table ≡ 0 → wired_table_refusal w n (run w n s schedule sheet).state.table ≡ 0
+run-keeps-rules w n s schedule sheet z = accepted-number w n _ (accepted-run w n s schedule sheet (accepted w n s.table z))

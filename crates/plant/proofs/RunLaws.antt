@@ -9,8 +9,8 @@ use native.Mathlib.Omega.{arith}
 use borrow.Author.Tests.{eqb-true, eqb-false, eq-eqb, ne_eqb, not-true}
 use lib.ListN.{length, get_or, take, drop, drop_of_length-le}
 use lib.Seq.{drop-drop, sets-eq}
-use Rattle.station.specs.Groups.{station_at}
-use Rattle.table.specs.Rules.{shape_check, table_check, table_refusal}
+use Rattle.station.specs.Wired.{wired_station}
+use Rattle.table.specs.Rules.{shape_check, table_check_on, wired_table_refusal}
 use Rattle.table.specs.Table.{table_length}
 use Rattle.lists.proofs.BoolLaws.{choice}
 use Rattle.table.proofs.Accepting.{Accepted, table_ok}
@@ -19,14 +19,14 @@ use Rattle.std.specs.Simd.{first_chunks}
 use Rattle.lists.specs.declared.refusal.Refusal.{Refusal}
 use Rattle.lists.specs.Refusal.{number_of}
 use Rattle.lists.proofs.RefusalLaws.{number_nonzero, check_zero, ensure_ok, and_ok}
-use Rattle.plant.specs.Turn.{count_test, replies, is_told, reply_outcome, test_outcome, makes_test, next_test, turn_outcome}
+use Rattle.plant.specs.Turn.{replies, is_told, reply_outcome, test_outcome, makes_test, next_test, turn_outcome}
 use Rattle.plant.specs.Entry.{Entry, State, entry_of, is_crash, is_test, entry_check, entry_refusal, after, shows_test, outcome_of, sheet_line}
 use Rattle.plant.specs.Run.{RunResult, entries, write_line, go_on, start_check, start_refusal, run}
 
 -- a table that obeys the rules gets no refusal
-pub accepted-number : (n : ℕ) (t : List ℕ) → Accepted n t → table_refusal n t ≡ 0
-unfolding table_check shape_check
-accepted-number n t a = rw (a.size, eq-eqb (length t) (table_length n) a.long, a.lines, a.unclosed)
+pub accepted-number : (w n : ℕ) (t : List ℕ) → Accepted w n t → wired_table_refusal w n t ≡ 0
+unfolding table_check_on shape_check
+accepted-number w n t a = rw (a.wired, a.size, eq-eqb (length t) (table_length n) a.long, a.lines, a.unclosed)
 
 -- the entries of a schedule
 entries-length : (s : List ℕ) → length (entries s) ≡ length s / 2
@@ -58,36 +58,33 @@ some-outcome n t kind i j =
     let P : ℕ → Type 0 = λ o. shows_test o ≡ true in
     choice P (replies n t kind j) (choice P (is_told n t i j) refl (choice P (is_told n t j i) refl refl)) refl
 
-pub made-test : (n : ℕ) (t : List ℕ) (e : Entry) → shows_test (outcome_of n t e) ≡ is_test n t e
+pub made-test : (w n : ℕ) (t : List ℕ) (e : Entry) → shows_test (outcome_of w n t e) ≡ is_test w n t e
 unfolding outcome_of turn_outcome
-made-test n t e = pick (is_crash e) (makes_test n t e.station)
+made-test w n t e = pick (is_crash e) (makes_test w n t e.station)
   where
-    u : List ℕ
-    u = count_test n t e.station (next_test n t e.station)
-
     j : ℕ
-    j = station_at e.station (next_test n t e.station)
+    j = wired_station w n e.station (next_test w n t e.station)
 
-    pick : (b c : Bool) → shows_test (cond b 4 (cond c (test_outcome n u e.kind e.station j) 0)) ≡ (not b && c)
+    pick : (b c : Bool) → shows_test (cond b 4 (cond c (test_outcome n t e.kind e.station j) 0)) ≡ (not b && c)
     pick true c = refl
-    pick false true = rw (some-outcome n u e.kind e.station j)
+    pick false true = rw (some-outcome n t e.kind e.station j)
     pick false false = refl
 
 -- a line that is lent as a part of the sheet and comes back as that of an entry
-pub line-back : (n : ℕ) (s : State) (e : Entry) (sheet : List ℕ) (k : ℕ) (line : List ℕ) → line ≡ sheet_line n s e → 4 * k + 4 ≤ length sheet
-    → take (4 * k) sheet ++ (line ++ drop (4 * k + 4 - 4 * k) (drop (4 * k) sheet)) ≡ write_line sheet k (sheet_line n s e)
+pub line-back : (w n : ℕ) (s : State) (e : Entry) (sheet : List ℕ) (k : ℕ) (line : List ℕ) → line ≡ sheet_line w n s e → 4 * k + 4 ≤ length sheet
+    → take (4 * k) sheet ++ (line ++ drop (4 * k + 4 - 4 * k) (drop (4 * k) sheet)) ≡ write_line sheet k (sheet_line w n s e)
 unfolding sheet_line
-line-back n s e sheet k line same fits =
-    let w : 4 * k + 4 - 4 * k ≡ 4 = omega arith in
-    rw (w, drop-drop, same) (sym (rw append_assoc at (sets-eq (sheet_line n s e) sheet (4 * k) fits)))
+line-back w n s e sheet k line same fits =
+    let four : 4 * k + 4 - 4 * k ≡ 4 = omega arith in
+    rw (four, drop-drop, same) (sym (rw append_assoc at (sets-eq (sheet_line w n s e) sheet (4 * k) fits)))
 
 -- the run from entry k on
-module _ (n k : ℕ) (s : State) (sheet schedule : List ℕ) where
+module _ (w n k : ℕ) (s : State) (sheet schedule : List ℕ) where
   abbrev pub from-here : RunResult
-  from-here = go_on n k s sheet (drop k (entries schedule))
+  from-here = go_on w n k s sheet (drop k (entries schedule))
 
   pub go-taken : (e : Entry) (s' : State) (sheet' : List ℕ) → k < length schedule / 2 → e ≡ entry_at schedule k → entry_refusal n s e ≡ 0
-      → s' ≡ after n s e → sheet' ≡ write_line sheet k (sheet_line n s e) → go_on n (k + 1) s' sheet' (drop (k + 1) (entries schedule)) ≡ from-here
+      → s' ≡ after w n s e → sheet' ≡ write_line sheet k (sheet_line w n s e) → go_on w n (k + 1) s' sheet' (drop (k + 1) (entries schedule)) ≡ from-here
   unfolding go_on
   go-taken e s' sheet' h at z a b = rw (a, b, entries_at schedule k h, ← at, z, add-one k)
 
@@ -101,32 +98,32 @@ module _ (n k : ℕ) (s : State) (sheet schedule : List ℕ) where
   go-done h = rw (drop_of_length-le (entries schedule) {i = k} (omega (arith, entries-length schedule)))
 
 -- a run of one entry, which is taken
-pub start-one : (n : ℕ) (t : List ℕ) → table_refusal n t ≡ 0 → start_refusal n t 2 4 ≡ 0
+pub start-one : (w n : ℕ) (t : List ℕ) → wired_table_refusal w n t ≡ 0 → start_refusal w n t 2 4 ≡ 0
 unfolding start_check
-start-one n t z = rw (check_zero _ z)
+start-one w n t z = rw (check_zero _ z)
 
-pub go-one : (n : ℕ) (s : State) (sheet : List ℕ) (k i : ℕ) → entry_refusal n s (entry_of k i) ≡ 0
-    → (go_on n 0 s sheet (entries (k ∷ i ∷ []))).state ≡ after n s (entry_of k i)
+pub go-one : (w n : ℕ) (s : State) (sheet : List ℕ) (k i : ℕ) → entry_refusal n s (entry_of k i) ≡ 0
+    → (go_on w n 0 s sheet (entries (k ∷ i ∷ []))).state ≡ after w n s (entry_of k i)
 unfolding go_on entries
-go-one n s sheet k i z = rw z
+go-one w n s sheet k i z = rw z
 
--- what a run has that refusals 1 to 6 let through
-start_ok : (n : ℕ) (t : List ℕ) (a b : ℕ) (x : Unit {0}) → start_check n t a b ≡ Ok x → Accepted n t × (a % 2 ≡ 1 → ⊥) × (b ≡ 2 * a)
+-- what a run has that refusals 24 and 1 to 6 let through
+start_ok : (w n : ℕ) (t : List ℕ) (a b : ℕ) (x : Unit {0}) → start_check w n t a b ≡ Ok x → Accepted w n t × (a % 2 ≡ 1 → ⊥) × (b ≡ 2 * a)
 unfolding start_check
-start_ok n t a b x e =
+start_ok w n t a b x e =
     let p = and_ok _ _ x e in
     let q = and_ok _ _ x p.1 in
-    (table_ok n t _ p.0, eqb-false _ _ (not-true _ (ensure_ok _ _ _ q.0)), eqb-true _ _ (ensure_ok _ _ _ q.1))
+    (table_ok w n t _ p.0, eqb-false _ _ (not-true _ (ensure_ok _ _ _ q.0)), eqb-true _ _ (ensure_ok _ _ _ q.1))
 
-pub start-facts : (n : ℕ) (t : List ℕ) (a b : ℕ) → start_refusal n t a b ≡ 0 → Accepted n t × (a % 2 ≡ 1 → ⊥) × (b ≡ 2 * a)
-start-facts n t a b z = start_ok n t a b _ (check_zero _ z)
+pub start-facts : (w n : ℕ) (t : List ℕ) (a b : ℕ) → start_refusal w n t a b ≡ 0 → Accepted w n t × (a % 2 ≡ 1 → ⊥) × (b ≡ 2 * a)
+start-facts w n t a b z = start_ok w n t a b _ (check_zero _ z)
 
-module _ (n : ℕ) (s : State) (schedule sheet : List ℕ) where
-  pub run-refused : (r : Refusal) → start_check n s.table (length schedule) (length sheet) ≡ Err r
-      → run n s schedule sheet ≡ record { number = number_of r; taken = 0; state = s; sheet = sheet }
+module _ (w n : ℕ) (s : State) (schedule sheet : List ℕ) where
+  pub run-refused : (r : Refusal) → start_check w n s.table (length schedule) (length sheet) ≡ Err r
+      → run w n s schedule sheet ≡ record { number = number_of r; taken = 0; state = s; sheet = sheet }
   unfolding run
   run-refused r e = rw (e, ne_eqb (number_of r) 0 (number_nonzero r))
 
-  pub run-goes : start_refusal n s.table (length schedule) (length sheet) ≡ 0 → run n s schedule sheet ≡ go_on n 0 s sheet (entries schedule)
+  pub run-goes : start_refusal w n s.table (length schedule) (length sheet) ≡ 0 → run w n s schedule sheet ≡ go_on w n 0 s sheet (entries schedule)
   unfolding run
   run-goes z = rw z

@@ -7,38 +7,38 @@ use Prim.Native.Nat.{ℕ, ◌+◌, ◌-◌, max, ◌<◌}
 use native.Mathlib.Decide.{dec_lt, ℕ_discrete}
 use native.Mathlib.Omega.{arith}
 use lib.ListN.{length}
-use Rattle.table.specs.Sizes.{distances}
+use Rattle.table.specs.Wiring.{end_distance}
 use Rattle.table.specs.Table.{head, stride, table_length, cell, status_column, next_column, finished_column, tests_column, told_by_column, status, status_told, next_distance, finished, tests_made, told_by, suspects, row, set_row}
 use Rattle.lists.specs.Bytes.{joined_byte}
 use Rattle.station.specs.Rows.{union_byte, union, mark}
 use Rattle.table.proofs.CellLaws.{cell_same, cell_other, set_cell-length, row-length, row_at, set_row-length, set_row-in, set_row-out}
 use Rattle.station.proofs.UnionLaws.{union-length, union-at, union-own, union-others, mark-length, mark-same, mark-other}
-use Rattle.plant.specs.Turn.{set_status, leave_told, finish_pass, count_test, exchange_rows, suspect}
+use Rattle.plant.specs.Turn.{set_status, leave_told, finish_pass, next_after, count_test, exchange_rows, suspect}
 
 module _ (n : ℕ) (t : List ℕ) (i : ℕ) where
-  -- the end of a pass: next distance the number of distances, finished 1
-  pub finish_pass-length : length (finish_pass n t i) ≡ length t
+  -- the end of a pass: next distance the end distance, finished 1
+  pub finish_pass-length : (w : ℕ) → length (finish_pass w n t i) ≡ length t
   unfolding finish_pass
-  finish_pass-length = simp set_cell-length
+  finish_pass-length w = simp set_cell-length
 
-  pub finish_pass-other : (i' c : ℕ) → c < stride n → (i ≡ i' → (c ≢ next_column) × (c ≢ finished_column))
-      → cell n (finish_pass n t i) i' c ≡ cell n t i' c
+  pub finish_pass-other : (w i' c : ℕ) → c < stride n → (i ≡ i' → (c ≢ next_column) × (c ≢ finished_column))
+      → cell n (finish_pass w n t i) i' c ≡ cell n t i' c
   unfolding finish_pass
-  finish_pass-other i' c h out =
+  finish_pass-other w i' c h out =
       cell_other n _ i finished_column 1 i' c (omega arith) h (λ e f. (out e).1 (sym f))
-      ∙ cell_other n t i next_column (distances n) i' c (omega arith) h (λ e f. (out e).0 (sym f))
+      ∙ cell_other n t i next_column (end_distance w n) i' c (omega arith) h (λ e f. (out e).0 (sym f))
 
-  -- the test is counted: next distance m + 1, one test more
-  pub count_test-length : (m : ℕ) → length (count_test n t i m) ≡ length t
+  -- the test is counted, by its outcome o: next distance what the wiring says, one test more
+  pub count_test-length : (w m o : ℕ) → length (count_test w n t i m o) ≡ length t
   unfolding count_test
-  count_test-length m = simp set_cell-length
+  count_test-length w m o = simp set_cell-length
 
-  pub count_test-other : (m i' c : ℕ) → c < stride n → (i ≡ i' → (c ≢ next_column) × (c ≢ tests_column))
-      → cell n (count_test n t i m) i' c ≡ cell n t i' c
+  pub count_test-other : (w m o i' c : ℕ) → c < stride n → (i ≡ i' → (c ≢ next_column) × (c ≢ tests_column))
+      → cell n (count_test w n t i m o) i' c ≡ cell n t i' c
   unfolding count_test
-  count_test-other m i' c h out =
+  count_test-other w m o i' c h out =
       cell_other n _ i tests_column _ i' c (omega arith) h (λ e f. (out e).1 (sym f))
-      ∙ cell_other n t i next_column (m + 1) i' c (omega arith) h (λ e f. (out e).0 (sym f))
+      ∙ cell_other n t i next_column (next_after w n m o) i' c (omega arith) h (λ e f. (out e).0 (sym f))
 
   -- i is told by j: status 2 and byte 4
   pub leave_told-length : (j : ℕ) → length (leave_told n t i j) ≡ length t
@@ -64,25 +64,25 @@ module _ (n : ℕ) (t : List ℕ) (i : ℕ) where
     leave_told-teller j =
         cell_same n (set_status n t i status_told) i told_by_column j (set_cell-length n t i status_column status_told ∙ long) h (omega arith)
 
-    pub finish_pass-next : next_distance n (finish_pass n t i) i ≡ distances n
+    pub finish_pass-next : (w : ℕ) → next_distance n (finish_pass w n t i) i ≡ end_distance w n
     unfolding finish_pass
-    finish_pass-next =
+    finish_pass-next w =
         cell_other n _ i finished_column 1 i next_column (omega arith) (omega arith) (omega arith)
-        ∙ cell_same n t i next_column (distances n) long h (omega arith)
+        ∙ cell_same n t i next_column (end_distance w n) long h (omega arith)
 
-    pub finish_pass-finished : finished n (finish_pass n t i) i ≡ 1
+    pub finish_pass-finished : (w : ℕ) → finished n (finish_pass w n t i) i ≡ 1
     unfolding finish_pass
-    finish_pass-finished = cell_same n _ i finished_column 1 (set_cell-length n t i next_column (distances n) ∙ long) h (omega arith)
+    finish_pass-finished w = cell_same n _ i finished_column 1 (set_cell-length n t i next_column (end_distance w n) ∙ long) h (omega arith)
 
-    pub count_test-next : (m : ℕ) → next_distance n (count_test n t i m) i ≡ m + 1
+    pub count_test-next : (w m o : ℕ) → next_distance n (count_test w n t i m o) i ≡ next_after w n m o
     unfolding count_test
-    count_test-next m =
+    count_test-next w m o =
         cell_other n _ i tests_column _ i next_column (omega arith) (omega arith) (omega arith)
-        ∙ cell_same n t i next_column (m + 1) long h (omega arith)
+        ∙ cell_same n t i next_column (next_after w n m o) long h (omega arith)
 
-    pub count_test-tests : (m : ℕ) → tests_made n (count_test n t i m) i ≡ tests_made n t i + 1
+    pub count_test-tests : (w m o : ℕ) → tests_made n (count_test w n t i m o) i ≡ tests_made n t i + 1
     unfolding count_test
-    count_test-tests m = cell_same n _ i tests_column _ (set_cell-length n t i next_column (m + 1) ∙ long) h (omega arith)
+    count_test-tests w m o = cell_same n _ i tests_column _ (set_cell-length n t i next_column (next_after w n m o) ∙ long) h (omega arith)
 
     -- no reply: only the byte about j changes, to 1
     pub suspect-length : (j : ℕ) → length (suspect n t i j) ≡ length t

@@ -2,35 +2,41 @@
 -- Assumes nothing.
 use mathlib.Core.Path.{◌≡◌, refl, sym, ◌∙◌}
 use mathlib.Core.Logic.{◌≢◌}
-use mathlib.Core.Bool.{Bool, true, false, cond}
+use mathlib.Core.Bool.{Bool, true, false, cond, ◌&&◌}
 use mathlib.Core.List.{List}
 use Prim.Native.Nat.{ℕ, ◌+◌, ◌≤◌, ◌<◌}
 use native.Mathlib.Decide.{ℕ_discrete}
 use native.Mathlib.Omega.{arith}
 use borrow.Author.Tests.{eqb-true}
-use lib.Bits.{xor_self}
 use lib.Dec.{eqb}
 use lib.ListN.{length}
-use Rattle.table.specs.Sizes.{is_size, distances}
-use Rattle.station.specs.Groups.{station_at}
+use Rattle.table.specs.Wiring.{is_ring, end_distance}
+use Rattle.table.proofs.WiringLaws.{end_ring}
+use Rattle.station.specs.Wired.{wired_station}
 use Rattle.table.specs.Table.{head, stride, table_length, cell, status_column, next_column, finished_column, tests_column, told_by_column, rounds_ago_column, status, status_told, status_alone, next_distance, finished, told_by, rounds_ago, suspects, live}
 use Rattle.lists.proofs.BoolLaws.{by_bool, choice}
 use Rattle.lists.proofs.SearchLaws.{both}
-use Rattle.lists.proofs.Xor.{xor-cancel}
+use Rattle.station.proofs.WiredLaws.{station-apart}
 use Rattle.table.specs.Rules.{exit_rule}
 use Rattle.table.proofs.CellLaws.{Line, live_exit, told-exit, none-exit, cell_same, cell_other, set_cell-length}
-use Rattle.plant.specs.Turn.{outcome_exchanged, outcome_told, outcome_tested_told, set_status, leave_told, makes_test, next_test, finish_pass, count_test, exchange_rows, suspect, test_outcome, after_outcome, after_test, is_alone, after_alone, testing, turn}
+use Rattle.plant.specs.Turn.{outcome_exchanged, outcome_told, outcome_tested_told, set_status, leave_told, makes_test, next_test, finish_pass, next_after, count_test, exchange_rows, suspect, after_outcome, after_test, is_alone, after_alone, outcome_at, testing, turn}
 use Rattle.plant.proofs.NextTest.{next_test-low, test_below, test-station}
 use Rattle.plant.proofs.StepCells.{leave_told-length, leave_told-other, leave_told-status, leave_told-teller, finish_pass-length, finish_pass-other, finish_pass-next, finish_pass-finished, count_test-length, count_test-other, count_test-next, count_test-tests, suspect-length, suspect-same, suspect-other, exchange-length, exchange-other, exchange-tester, exchange-tested, exchange-tester-own, exchange-tested-own}
 
+-- what each wiring must satisfy of the next distance after a test: it is greater than the distance, and the end distance at most
+pub next_after-between : (w n m o : ℕ) → m < end_distance w n → (m < next_after w n m o) × (next_after w n m o ≤ end_distance w n)
+unfolding next_after
+next_after-between w n m o h =
+    by_bool (is_ring w && eqb o outcome_exchanged) (λ e. rw e (omega (arith, end_ring w n (both _ _ e).0))) (λ e. rw e (omega arith))
+
 -- the table has its length, and each line obeys the rules
-abbrev pub Lines : ℕ → List ℕ → Type 0
-Lines n t = (length t ≡ table_length n) × ((i : ℕ) → i < n → Line n t i)
+abbrev pub Lines : ℕ → ℕ → List ℕ → Type 0
+Lines w n t = (length t ≡ table_length n) × ((i : ℕ) → i < n → Line w n t i)
 
 -- a line whose head is as before
-line_row : (n : ℕ) (t t' : List ℕ) (k : ℕ) → Line n t k → ((c : ℕ) → c < head → cell n t' k c ≡ cell n t k c)
-    → suspects n t' k k ≡ 0 → ((x : ℕ) → x < n → suspects n t' k x ≤ 1) → Line n t' k
-line_row n t t' k l same own range =
+line_row : (w n : ℕ) (t t' : List ℕ) (k : ℕ) → Line w n t k → ((c : ℕ) → c < head → cell n t' k c ≡ cell n t k c)
+    → suspects n t' k k ≡ 0 → ((x : ℕ) → x < n → suspects n t' k x ≤ 1) → Line w n t' k
+line_row w n t t' k l same own range =
     record {
       status_range = rw (same status_column (omega arith)) l.status_range;
       pass = rw (same next_column (omega arith), same finished_column (omega arith), same tests_column (omega arith)) l.pass;
@@ -40,22 +46,22 @@ line_row n t t' k l same own range =
     }
 
 -- all lines obey the rules where line i does and no other is written
-one_line : (n : ℕ) (t t' : List ℕ) (i : ℕ) → length t' ≡ length t → ((k c : ℕ) → c < stride n → i ≢ k → cell n t' k c ≡ cell n t k c)
-    → Line n t' i → Lines n t → Lines n t'
-one_line n t t' i len same here old = (len ∙ old.0, λ k h. pick k h (ℕ_discrete i k))
+one_line : (w n : ℕ) (t t' : List ℕ) (i : ℕ) → length t' ≡ length t → ((k c : ℕ) → c < stride n → i ≢ k → cell n t' k c ≡ cell n t k c)
+    → Line w n t' i → Lines w n t → Lines w n t'
+one_line w n t t' i len same here old = (len ∙ old.0, λ k h. pick k h (ℕ_discrete i k))
   where
-    pick : (k : ℕ) → k < n → Dec (i ≡ k) → Line n t' k
+    pick : (k : ℕ) → k < n → Dec (i ≡ k) → Line w n t' k
     pick k h (yes e) = rw (← e) here
     pick k h (no d) =
         let l = old.1 k h in
-        line_row n t t' k l (λ c hc. same k c (omega arith) d) (same k (head + k) (omega arith) d ∙ l.own)
+        line_row w n t t' k l (λ c hc. same k c (omega arith) d) (same k (head + k) (omega arith) d ∙ l.own)
         (λ x hx. rw (same k (head + x) (omega arith) d) (l.range x hx))
 
 -- a line of which only bytes 0 and 4 are written
-line-exit : (n : ℕ) (t t' : List ℕ) (k : ℕ) → Line n t k
+line-exit : (w n : ℕ) (t t' : List ℕ) (k : ℕ) → Line w n t k
     → ((c : ℕ) → c < stride n → (c ≢ status_column) × (c ≢ told_by_column) → cell n t' k c ≡ cell n t k c)
-    → (s : ℕ) → status n t' k ≡ s → s ≤ 3 → exit_rule n k s (told_by n t' k) (rounds_ago n t k) ≡ true → k < n → Line n t' k
-line-exit n t t' k l same s e hs exits h =
+    → (s : ℕ) → status n t' k ≡ s → s ≤ 3 → exit_rule n k s (told_by n t' k) (rounds_ago n t k) ≡ true → k < n → Line w n t' k
+line-exit w n t t' k l same s e hs exits h =
     let pass : (c : ℕ) → (c ≢ status_column) × (c < told_by_column) → cell n t' k c ≡ cell n t k c = λ c p. same c (omega arith) (omega arith) in
     record {
       status_range = omega arith;
@@ -66,34 +72,34 @@ line-exit n t t' k l same s e hs exits h =
     }
 
 -- alone or crashed: the status of a live station, not because told
-pub leave-lines : (n : ℕ) (t : List ℕ) (i : ℕ) → Lines n t → i < n → live n t i ≡ true
-    → (s : ℕ) → 1 ≤ s → s ≤ 3 → s ≢ status_told → Lines n (set_status n t i s)
-leave-lines n t i lines h alive s low high untold =
+pub leave-lines : (w n : ℕ) (t : List ℕ) (i : ℕ) → Lines w n t → i < n → live n t i ≡ true
+    → (s : ℕ) → 1 ≤ s → s ≤ 3 → s ≢ status_told → Lines w n (set_status n t i s)
+leave-lines w n t i lines h alive s low high untold =
     let other : (c : ℕ) → c < stride n → (c ≢ status_column) × (c ≢ told_by_column) → cell n (set_status n t i s) i c ≡ cell n t i c =
     λ c hc d. cell_other n t i status_column s i c (omega arith) hc (omega arith) in
     let none : told_by n t i ≡ 255 =
     (live_exit n i (told_by n t i) (rounds_ago n t i) (rw (eqb-true (status n t i) 0 alive) at (lines.1 i h).exits)).0 in
-    one_line n t (set_status n t i s) i (set_cell-length n t i status_column s)
+    one_line w n t (set_status n t i s) i (set_cell-length n t i status_column s)
     (λ k c hc d. cell_other n t i status_column s k c (omega arith) hc (λ f. absurd (d f)))
-    (line-exit n t (set_status n t i s) i (lines.1 i h) other s (cell_same n t i status_column s lines.0 h (omega arith)) high
+    (line-exit w n t (set_status n t i s) i (lines.1 i h) other s (cell_same n t i status_column s lines.0 h (omega arith)) high
     (none-exit n i s _ _ low untold (cell_other n t i status_column s i told_by_column (omega arith) (omega arith) (omega arith) ∙ none)) h) lines
 
 -- a station that is told by another
-told-lines : (n : ℕ) (t : List ℕ) (a b : ℕ) → Lines n t → a < n → b < n → b ≢ a → Lines n (leave_told n t a b)
-told-lines n t a b lines h hb apart =
-    one_line n t (leave_told n t a b) a (leave_told-length n t a b) (λ k c hc d. leave_told-other n t a b k c hc (λ f. absurd (d f)))
-    (line-exit n t (leave_told n t a b) a (lines.1 a h) (λ c hc d. leave_told-other n t a b a c hc (λ _. d)) status_told
+told-lines : (w n : ℕ) (t : List ℕ) (a b : ℕ) → Lines w n t → a < n → b < n → b ≢ a → Lines w n (leave_told n t a b)
+told-lines w n t a b lines h hb apart =
+    one_line w n t (leave_told n t a b) a (leave_told-length n t a b) (λ k c hc d. leave_told-other n t a b k c hc (λ f. absurd (d f)))
+    (line-exit w n t (leave_told n t a b) a (lines.1 a h) (λ c hc d. leave_told-other n t a b a c hc (λ _. d)) status_told
     (leave_told-status n t a lines.0 h b) (omega arith) (rw (leave_told-teller n t a lines.0 h b) (told-exit n a b _ hb apart)) h) lines
 
-module _ (n : ℕ) (t : List ℕ) (i : ℕ) (lines : Lines n t) (h : i < n) where
+module _ (w n : ℕ) (t : List ℕ) (i : ℕ) (lines : Lines w n t) (h : i < n) where
   -- the end of a pass
-  pub finish_pass-lines : Lines n (finish_pass n t i)
+  pub finish_pass-lines : Lines w n (finish_pass w n t i)
   finish_pass-lines =
       let l = lines.1 i h in
-      let e = finish_pass-next n t i lines.0 h in
-      let f = finish_pass-finished n t i lines.0 h in
-      let other = finish_pass-other n t i i in
-      one_line n t (finish_pass n t i) i (finish_pass-length n t i) (λ k c hc d. finish_pass-other n t i k c hc (λ f. absurd (d f)))
+      let e = finish_pass-next n t i lines.0 h w in
+      let f = finish_pass-finished n t i lines.0 h w in
+      let other = finish_pass-other n t i w i in
+      one_line w n t (finish_pass w n t i) i (finish_pass-length n t i w) (λ k c hc d. finish_pass-other n t i w k c hc (λ f. absurd (d f)))
       (record {
         status_range = rw (other status_column (omega arith) (omega arith)) l.status_range;
         pass = record {
@@ -111,13 +117,14 @@ module _ (n : ℕ) (t : List ℕ) (i : ℕ) (lines : Lines n t) (h : i < n) wher
       }) lines
 
   -- the test is counted
-  pub count_test-lines : (m : ℕ) → (finished n t i ≡ 1 → ⊥) → next_distance n t i ≤ m → m < distances n → Lines n (count_test n t i m)
-  count_test-lines m going lo hi =
+  pub count_test-lines : (m o : ℕ) → (finished n t i ≡ 1 → ⊥) → next_distance n t i ≤ m → m < end_distance w n → Lines w n (count_test w n t i m o)
+  count_test-lines m o going lo hi =
       let l = lines.1 i h in
-      let e = count_test-next n t i lines.0 h m in
-      let f = count_test-tests n t i lines.0 h m in
-      let other = count_test-other n t i m i in
-      one_line n t (count_test n t i m) i (count_test-length n t i m) (λ k c hc d. count_test-other n t i m k c hc (λ f. absurd (d f)))
+      let e = count_test-next n t i lines.0 h w m o in
+      let f = count_test-tests n t i lines.0 h w m o in
+      let b = next_after-between w n m o hi in
+      let other = count_test-other n t i w m o i in
+      one_line w n t (count_test w n t i m o) i (count_test-length n t i w m o) (λ k c hc d. count_test-other n t i w m o k c hc (λ f. absurd (d f)))
       (record {
         status_range = rw (other status_column (omega arith) (omega arith)) l.status_range;
         pass = record {
@@ -136,12 +143,12 @@ module _ (n : ℕ) (t : List ℕ) (i : ℕ) (lines : Lines n t) (h : i < n) wher
 
   module _ (j : ℕ) (hj : j < n) (apart : i ≢ j) where
     -- no reply
-    pub suspect-lines : Lines n (suspect n t i j)
+    pub suspect-lines : Lines w n (suspect n t i j)
     suspect-lines = (
       suspect-length n t i lines.0 h j ∙ lines.0,
       λ k hk.
           let l = lines.1 k hk in
-          line_row n t (suspect n t i j) k l (λ c hc. other k c (omega arith) (omega arith)) (other k (head + k) (omega arith) (omega arith) ∙ l.own)
+          line_row w n t (suspect n t i j) k l (λ c hc. other k c (omega arith) (omega arith)) (other k (head + k) (omega arith) (omega arith) ∙ l.own)
           (λ x hx. pick k x hx (l.range x hx) (ℕ_discrete i k) (ℕ_discrete x j)),
     )
       where
@@ -154,11 +161,11 @@ module _ (n : ℕ) (t : List ℕ) (i : ℕ) (lines : Lines n t) (h : i < n) wher
         pick k x hx old (no e) f = rw (other k (head + x) (omega arith) (λ g. absurd (e g))) old
 
     -- an exchange
-    pub exchange-lines : Lines n (exchange_rows n t i j)
+    pub exchange-lines : Lines w n (exchange_rows n t i j)
     exchange-lines = (
       exchange-length n t i lines.0 h j hj apart ∙ lines.0,
       λ k hk.
-          line_row n t (exchange_rows n t i j) k (lines.1 k hk) (λ c hc. other k c (omega arith) (λ _. hc) (λ _. hc))
+          line_row w n t (exchange_rows n t i j) k (lines.1 k hk) (λ c hc. other k c (omega arith) (λ _. hc) (λ _. hc))
           (own k hk (ℕ_discrete i k) (ℕ_discrete j k))
           (λ x hx. byte k hk x hx (ℕ_discrete i k) (ℕ_discrete j k) (ℕ_discrete x k)),
     )
@@ -181,40 +188,39 @@ module _ (n : ℕ) (t : List ℕ) (i : ℕ) (lines : Lines n t) (h : i < n) wher
             rw (other k (head + x) (omega arith) (λ g. absurd (e g)) (λ g. absurd (f g))) ((lines.1 k hk).range x hx)
 
     -- a test, whatever comes of it
-    pub after_test-lines : (kind : ℕ) → Lines n (after_test n t kind i j)
+    pub after_outcome-lines : (o : ℕ) → Lines w n (after_outcome n t i j o)
     unfolding after_outcome
-    after_test-lines kind =
-        let o : ℕ = test_outcome n t kind i j in
-        choice (Lines n) (eqb o outcome_told) (told-lines n t i j lines h hj (λ e. apart (sym e)))
-        (choice (Lines n) (eqb o outcome_tested_told) (told-lines n t j i lines hj h apart)
-        (choice (Lines n) (eqb o outcome_exchanged) exchange-lines suspect-lines))
+    after_outcome-lines o =
+        choice (Lines w n) (eqb o outcome_told) (told-lines w n t i j lines h hj (λ e. apart (sym e)))
+        (choice (Lines w n) (eqb o outcome_tested_told) (told-lines w n t j i lines hj h apart)
+        (choice (Lines w n) (eqb o outcome_exchanged) exchange-lines suspect-lines))
 
-  after_alone-lines : Lines n (after_alone n t i)
+  after_alone-lines : Lines w n (after_alone n t i)
   unfolding after_alone is_alone
   after_alone-lines =
-      by_bool (is_alone n t i) (λ e. rw e (leave-lines n t i lines h (both _ _ e).0 status_alone (omega arith) (omega arith) (omega arith)))
+      by_bool (is_alone n t i) (λ e. rw e (leave-lines w n t i lines h (both _ _ e).0 status_alone (omega arith) (omega arith) (omega arith)))
       (λ e. rw e lines)
 
--- no station is at a positive distance from itself
-pub station-apart : (i m : ℕ) → 1 ≤ m → i ≢ station_at i m
-station-apart i m pos e = let z : 0 ≡ m = cc (xor_self i, xor-cancel i m) in omega arith
-
 -- a whole turn
-pub turn_lines : (n : ℕ) (t : List ℕ) (kind i : ℕ) → is_size n ≡ true → Lines n t → i < n → (finished n t i ≡ 1 → ⊥) → Lines n (turn n t kind i)
-unfolding turn testing
-turn_lines n t kind i size lines h going = pick (makes_test n t i) refl
+pub turn_lines : (w n : ℕ) (t : List ℕ) (kind i : ℕ) → Lines w n t → i < n → (finished n t i ≡ 1 → ⊥) → Lines w n (turn w n t kind i)
+unfolding turn testing after_test
+turn_lines w n t kind i lines h going = pick (makes_test w n t i) refl
   where
     m : ℕ
-    m = next_test n t i
+    m = next_test w n t i
 
     j : ℕ
-    j = station_at i m
+    j = wired_station w n i m
 
-    pick : (b : Bool) → makes_test n t i ≡ b → Lines n (cond b (testing n t kind i m) (finish_pass n t i))
+    o : ℕ
+    o = outcome_at w n t kind i m
+
+    pick : (b : Bool) → makes_test w n t i ≡ b → Lines w n (cond b (testing w n t kind i m) (finish_pass w n t i))
     pick true e =
-        let hm : m < distances n = test_below n t i e in
-        let lo : next_distance n t i ≤ m = next_test-low n t i in
-        let counted = count_test-lines n t i lines h m going lo hm in
-        let tested = after_test-lines n (count_test n t i m) i counted h j (test-station n t i e lines.0 h) (station-apart i m (omega (arith, (lines.1 i h).pass.next_low))) kind in
-        after_alone-lines n (after_test n (count_test n t i m) kind i j) i tested h
-    pick false e = finish_pass-lines n t i lines h
+        let hm : m < end_distance w n = test_below w n t i e in
+        let lo : next_distance n t i ≤ m = next_test-low w n t i in
+        let counted = count_test-lines w n t i lines h m o going lo hm in
+        let apart = station-apart w n i m h (omega (arith, (lines.1 i h).pass.next_low)) hm in
+        let tested = after_outcome-lines w n (count_test w n t i m o) i counted h j (test-station w n t i e lines.0 h) apart o in
+        after_alone-lines w n (after_outcome n (count_test w n t i m o) i j o) i tested h
+    pick false e = finish_pass-lines w n t i lines h

@@ -5,3 +5,4 @@ pub mod Outcome
 pub mod Round
 pub mod Entry
 pub mod Run
+pub mod Example

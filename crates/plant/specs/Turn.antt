@@ -1,11 +1,11 @@
--- A turn of one station and a crash, as functions of the table. Station i is the entry's, kind its kind, j the tested station.
+-- A turn of one station and a crash, as functions of the table. w is the wiring's number, station i the entry's, kind its kind, j the tested
+-- station.
 -- Assumes nothing.
 use Rattle.std.specs.Prelude.{ℕ, ◌+◌, ◌-◌, Bool, ◌&&◌, ◌||◌, List, if◌then◌else◌, ◌==◌, nat_lt}
 use Rattle.lists.specs.Search.{least, every}
-use Rattle.station.specs.Groups.{station_at}
-use Rattle.table.specs.Sizes.{distances}
+use Rattle.table.specs.Wiring.{is_ring, end_distance}
 use Rattle.table.specs.Table.{set_cell, status_column, next_column, finished_column, tests_column, told_by_column, next_distance, tests_made, suspects, live, row, set_row, status_alone, status_crashed, status_told}
-use Rattle.station.specs.Tests.{due}
+use Rattle.station.specs.Wired.{wired_station, wired_due}
 use Rattle.station.specs.Rows.{union, mark}
 
 -- Rule Kinds: 1 turn, 2 turn whose reply comes late, 3 crash
@@ -49,22 +49,27 @@ set_status n t i s = set_cell n t i status_column s
 unfoldable pub leave_told : ℕ → List ℕ → ℕ → ℕ → List ℕ
 leave_told n t a b = set_cell n (set_status n t a status_told) a told_by_column b
 
--- Rule Next test of the cube: the least due distance that is not below i's next distance. Where there is none: the number of distances
-unfoldable pub next_test : ℕ → List ℕ → ℕ → ℕ
-next_test n t i = least (due (row n t i) i) (distances n - next_distance n t i) (next_distance n t i)
+-- Rules Next test of the cube and Next test of the ring: the least distance that is not below i's next distance and at which i is to test. On the
+-- ring that is the next distance itself. Where there is none: the end distance
+unfoldable pub next_test : ℕ → ℕ → List ℕ → ℕ → ℕ
+next_test w n t i = least (wired_due w (row n t i) i) (end_distance w n - next_distance n t i) (next_distance n t i)
 
 -- whether there is one
-unfoldable pub makes_test : ℕ → List ℕ → ℕ → Bool
-makes_test n t i = nat_lt (next_test n t i) (distances n)
+unfoldable pub makes_test : ℕ → ℕ → List ℕ → ℕ → Bool
+makes_test w n t i = nat_lt (next_test w n t i) (end_distance w n)
 
--- Rule End of a pass: next distance becomes 2^d, and the pass is finished. No test is made
-unfoldable pub finish_pass : ℕ → List ℕ → ℕ → List ℕ
-finish_pass n t i = set_cell n (set_cell n t i next_column (distances n)) i finished_column 1
+-- Rule End of a pass: next distance becomes the end distance, and the pass is finished. No test is made
+unfoldable pub finish_pass : ℕ → ℕ → List ℕ → ℕ → List ℕ
+finish_pass w n t i = set_cell n (set_cell n t i next_column (end_distance w n)) i finished_column 1
 
--- Rules Count the test and Next distance of the cube: next distance becomes m + 1, and i's tests made go up by one. The tally's tests grow in
+-- Rules Next distance of the cube and Next distance of the ring: after a test at distance m it is m + 1; but n after an exchange on the ring
+unfoldable pub next_after : ℕ → ℕ → ℕ → ℕ → ℕ
+next_after w n m outcome = if is_ring w && outcome == outcome_exchanged then n else m + 1
+
+-- Rule Count the test, by its outcome: next distance becomes what the wiring says, and i's tests made go up by one. The tally's tests grow in
 -- `after`
-unfoldable pub count_test : ℕ → List ℕ → ℕ → ℕ → List ℕ
-count_test n t i m = set_cell n (set_cell n t i next_column (m + 1)) i tests_column (tests_made n t i + 1)
+unfoldable pub count_test : ℕ → ℕ → List ℕ → ℕ → ℕ → ℕ → List ℕ
+count_test w n t i m outcome = set_cell n (set_cell n t i next_column (next_after w n m outcome)) i tests_column (tests_made n t i + 1)
 
 -- Rule Reply in time: j is live, and the kind is 1
 unfoldable pub replies : ℕ → List ℕ → ℕ → ℕ → Bool
@@ -97,10 +102,6 @@ after_outcome n t i j outcome =
     else (if outcome == outcome_tested_told then leave_told n t j i
     else (if outcome == outcome_exchanged then exchange_rows n t i j else suspect n t i j))
 
--- the table after the test of j
-abbrev pub after_test : ℕ → List ℕ → ℕ → ℕ → ℕ → List ℕ
-after_test n t kind i j = after_outcome n t i j (test_outcome n t kind i j)
-
 -- Rule Alone, of one station k: i suspects it, or it is i itself
 unfoldable pub self_or_suspected : ℕ → List ℕ → ℕ → ℕ → Bool
 self_or_suspected n t i k = k == i || suspects n t i k == 1
@@ -113,21 +114,29 @@ is_alone n t i = live n t i && every (self_or_suspected n t i) n
 unfoldable pub after_alone : ℕ → List ℕ → ℕ → List ℕ
 after_alone n t i = if is_alone n t i then set_status n t i status_alone else t
 
--- a turn that tests the station at distance m: Count the test, the outcome of the test, then Alone
-unfoldable pub testing : ℕ → List ℕ → ℕ → ℕ → ℕ → List ℕ
-testing n t kind i m = after_alone n (after_test n (count_test n t i m) kind i (station_at i m)) i
+-- the table after a test of j at distance m, by its outcome: Count the test, what the outcome does, then Alone
+unfoldable pub after_test : ℕ → ℕ → List ℕ → ℕ → ℕ → ℕ → ℕ → List ℕ
+after_test w n t i m j outcome = after_alone n (after_outcome n (count_test w n t i m outcome) i j outcome) i
+
+-- the outcome of the test of the station at distance m
+abbrev pub outcome_at : ℕ → ℕ → List ℕ → ℕ → ℕ → ℕ → ℕ
+outcome_at w n t kind i m = test_outcome n t kind i (wired_station w n i m)
+
+-- a turn that tests the station at distance m
+unfoldable pub testing : ℕ → ℕ → List ℕ → ℕ → ℕ → ℕ → List ℕ
+testing w n t kind i m = after_test w n t i m (wired_station w n i m) (outcome_at w n t kind i m)
 
 -- a turn of station i: the next test, or the end of its pass
-unfoldable pub turn : ℕ → List ℕ → ℕ → ℕ → List ℕ
-turn n t kind i = if makes_test n t i then testing n t kind i (next_test n t i) else finish_pass n t i
+unfoldable pub turn : ℕ → ℕ → List ℕ → ℕ → ℕ → List ℕ
+turn w n t kind i = if makes_test w n t i then testing w n t kind i (next_test w n t i) else finish_pass w n t i
 
 -- the tested station or 255
-unfoldable pub turn_tested : ℕ → List ℕ → ℕ → ℕ
-turn_tested n t i = if makes_test n t i then station_at i (next_test n t i) else no_station
+unfoldable pub turn_tested : ℕ → ℕ → List ℕ → ℕ → ℕ
+turn_tested w n t i = if makes_test w n t i then wired_station w n i (next_test w n t i) else no_station
 
 -- the outcome of the turn
-unfoldable pub turn_outcome : ℕ → List ℕ → ℕ → ℕ → ℕ
-turn_outcome n t kind i = if makes_test n t i then test_outcome n (count_test n t i (next_test n t i)) kind i (station_at i (next_test n t i)) else outcome_finished
+unfoldable pub turn_outcome : ℕ → ℕ → List ℕ → ℕ → ℕ → ℕ
+turn_outcome w n t kind i = if makes_test w n t i then outcome_at w n t kind i (next_test w n t i) else outcome_finished
 
 -- Rule Crash: the status becomes 1, and nothing else on the line changes. Byte 4 stays 255, which a live line has by the line rules
 unfoldable pub crash : ℕ → List ℕ → ℕ → List ℕ

@@ -2,23 +2,33 @@
 ghost use Rattle.std.specs.Prelude.{◌≡◌, length, IfOk};
 ghost use Rattle.std.specs.Result.{result_map_both};
 ghost use Rattle.table.specs.Lent.{IsSameLoan};
+ghost use Rattle.table.specs.Wiring.{wiring_number};
 ghost use Rattle.plant.specs.Entry.{state_with};
 ghost use Rattle.plant.specs.Run.{entries, go_on, start_check, start_refusal, outcome_with, run};
 
+use crate::wired::Wired;
 use crate::{Ran, Tally, entry};
 use lists::refusal::Refusal;
 use table::Station;
 use table::lent::{Table, TableMut};
+use table::wiring::Wiring;
 
 // Carries out a schedule on a table and a tally and fills the sheet, four bytes for each entry taken. A run refused at its start changes
 // no byte; one stopped at an entry keeps the work of the entries before it and no other.
-pub fn run(n: usize, table: &mut [u8], tally: Tally, schedule: &[u8], sheet: &mut [u8]) -> Ran
+pub fn run(
+    wiring: usize,
+    n: usize,
+    table: &mut [u8],
+    tally: Tally,
+    schedule: &[u8],
+    sheet: &mut [u8],
+) -> Ran
     ensures { outcome_with result table.new sheet.new
-        ≡ run n (state_with table.old tally) schedule.now sheet.old }
+        ≡ run wiring n (state_with table.old tally) schedule.now sheet.old }
 {
     // By hand and not by `?`, here and in `go_on`: the answer is no Result, since a run that is stopped keeps what it did.
-    let n = match check_start(n, table, schedule.len(), sheet.len()) {
-        Ok(lent) => lent.n,
+    let (wiring, n) = match check_start(wiring, n, table, schedule.len(), sheet.len()) {
+        Ok((wiring, lent)) => (wiring, lent.n),
         Err(refusal) => {
             return Ran {
                 taken: 0,
@@ -28,35 +38,51 @@ pub fn run(n: usize, table: &mut [u8], tally: Tally, schedule: &[u8], sheet: &mu
         }
     };
     let mut lent = TableMut { n, bytes: table };
-    go_on(&mut lent, tally, schedule, sheet)
+    go_on(wiring, &mut lent, tally, schedule, sheet)
 }
 
-// Refusals 1 to 6; answers the checked table.
+// Refusals 24 and 1 to 6; answers the wiring and the checked table.
 #[tactic(auto, unfolding(crate::specs::Run::start_check))]
-fn check_start(n: usize, table: &[u8], schedule: usize, sheet: usize) -> Result<Table<'_>, Refusal>
-    ensures check { result_map_both (λ t. tt) (λ r. r) result
-        ≡ start_check n table.now schedule sheet }
-    ensures same_size { IfOk result (λ t. t.n ≡ n) }
-    ensures same_bytes { IfOk result (λ t. t.bytes.now ≡ table.now) }
+fn check_start(
+    wiring: usize,
+    n: usize,
+    table: &[u8],
+    schedule: usize,
+    sheet: usize,
+) -> Result<(Wiring, Table<'_>), Refusal>
+    ensures check { result_map_both (λ s. tt) (λ r. r) result
+        ≡ start_check wiring n table.now schedule sheet }
+    ensures same_wiring { IfOk result (λ s. wiring_number s.0 ≡ wiring) }
+    ensures same_size { IfOk result (λ s. s.1.n ≡ n) }
+    ensures same_bytes { IfOk result (λ s. s.1.bytes.now ≡ table.now) }
 {
-    let lent = Table::checked(n, table)?;
+    let wired = Table::wired(wiring, n, table)?;
     if schedule % 2 == 1 {
         return Err(Refusal::ScheduleLength);
     }
     if schedule.checked_mul(2) != Some(sheet) {
         return Err(Refusal::SheetLength);
     }
-    Ok(lent)
+    Ok(wired)
 }
 
 // Takes the entries in order. `single` uses it too, so that an entry is taken in one place only, which the compiler then puts in line.
-pub(crate) fn go_on(table: &mut TableMut, tally: Tally, schedule: &[u8], sheet: &mut [u8]) -> Ran
-    requires { start_refusal table.old.n table.old.bytes.now (length schedule.now) (length sheet.old)
-        ≡ 0 }
+pub(crate) fn go_on(
+    wiring: Wiring,
+    table: &mut TableMut,
+    tally: Tally,
+    schedule: &[u8],
+    sheet: &mut [u8],
+) -> Ran
+    requires { let w = wiring_number wiring in
+        start_refusal w table.old.n table.old.bytes.now (length schedule.now) (length sheet.old) ≡ 0 }
     ensures same_loan { IsSameLoan table.old table.new }
-    ensures run { outcome_with result table.new.bytes.now sheet.new
-        ≡ go_on table.old.n 0 (state_with table.old.bytes.now tally) sheet.old (entries schedule.now) }
+    ensures run { let w = wiring_number wiring in
+        let s = state_with table.old.bytes.now tally in
+        outcome_with result table.new.bytes.now sheet.new
+        ≡ go_on w table.old.n 0 s sheet.old (entries schedule.now) }
 {
+    let wired = Wired::new(wiring, table.n);
     // A table of its own, whose size and place stay in registers: behind the reference they were read again after each byte that is written,
     // which made 1.16 to 1.27 times as many instructions (4,000 entries with 8, 11, 16 and 64 boards).
     let bytes = &mut *table.bytes;
@@ -81,7 +107,7 @@ pub(crate) fn go_on(table: &mut TableMut, tally: Tally, schedule: &[u8], sheet: 
         // long the sheet is in the end, and none of its bytes.
         let a = 4 * ran.taken;
         let e = a + 4;
-        ran.tally = entry::take_entry(&mut lent, ran.tally, entry, &mut sheet[a..e]);
+        ran.tally = entry::take_entry(wired, &mut lent, ran.tally, entry, &mut sheet[a..e]);
         ran.taken += 1;
     }
     ran

@@ -2,7 +2,8 @@
 // `requires`.
 ghost use Rattle.std.specs.Prelude.{◌≡◌};
 ghost use Rattle.table.specs.Lent.{IsSameLoan};
-ghost use Rattle.table.specs.Rules.{table_refusal};
+ghost use Rattle.table.specs.Wiring.{wiring_number};
+ghost use Rattle.table.specs.Rules.{wired_table_refusal};
 ghost use Rattle.plant.specs.Turn.{kind_turn};
 ghost use Rattle.plant.specs.Entry.{state_with, entry_of, entry_refusal, after};
 
@@ -11,21 +12,24 @@ use crate::kind::Kind;
 use crate::{Tally, run};
 use table::Station;
 use table::lent::TableMut;
+use table::wiring::Wiring;
 
 // A turn of kind 1 of station i, with no line of a sheet: the rest of a run that has this one entry. The answer is the tally after it.
-pub fn take_turn(table: &mut TableMut, tally: Tally, i: Station) -> Tally
-    requires table_obeys { table_refusal table.old.n table.old.bytes.now ≡ 0 }
+pub fn take_turn(wiring: Wiring, table: &mut TableMut, tally: Tally, i: Station) -> Tally
+    requires table_obeys { let w = wiring_number wiring in
+        wired_table_refusal w table.old.n table.old.bytes.now ≡ 0 }
     requires turn_taken { entry_refusal table.old.n
         (state_with table.old.bytes.now tally) (entry_of kind_turn i.0) ≡ 0 }
     ensures same_loan { IsSameLoan table.old table.new }
-    ensures state_after { state_with table.new.bytes.now result
-        ≡ after table.old.n (state_with table.old.bytes.now tally) (entry_of kind_turn i.0) }
+    ensures state_after { let w = wiring_number wiring in
+        state_with table.new.bytes.now result
+        ≡ after w table.old.n (state_with table.old.bytes.now tally) (entry_of kind_turn i.0) }
 {
     let entry = Entry {
         kind: Kind::Turn,
         station: i,
     };
     let mut line = [0u8; 4];
-    let ran = run::go_on(table, tally, &entry.bytes(), &mut line);
+    let ran = run::go_on(wiring, table, tally, &entry.bytes(), &mut line);
     ran.tally
 }

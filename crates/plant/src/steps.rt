@@ -3,51 +3,61 @@ ghost use Rattle.std.specs.Prelude.{◌≡◌, ◌≢◌, ◌-◌, ◌<◌};
 ghost use Rattle.lists.specs.Search.{least};
 ghost use Rattle.table.specs.Lent.{IsSameLoan};
 ghost use Rattle.table.specs.Table.{tests_made, row, set_row};
-ghost use Rattle.station.specs.Groups.{station_at};
+ghost use Rattle.table.specs.Wiring.{wiring_number};
+ghost use Rattle.station.specs.Wired.{wired_station};
 ghost use Rattle.station.specs.Rows.{union};
-ghost use Rattle.table.specs.Rules.{table_refusal};
+ghost use Rattle.table.specs.Rules.{wired_table_refusal};
 ghost use Rattle.station.specs.Tests.{due};
 ghost use Rattle.plant.specs.Outcome.{tested_byte, outcome_byte};
-ghost use Rattle.plant.specs.Turn.{next_test, finish_pass, count_test, replies, exchange_rows, set_status, leave_told, reply_outcome, test_outcome, after_outcome, self_or_suspected, is_alone, after_alone, testing, turn, turn_tested, turn_outcome};
+ghost use Rattle.plant.specs.Turn.{next_test, finish_pass, count_test, replies, exchange_rows, set_status, leave_told, reply_outcome, test_outcome, after_outcome, self_or_suspected, is_alone, after_alone, outcome_at, testing, turn, turn_tested, turn_outcome};
 
 use crate::kind::Kind;
 use crate::outcome::Outcome;
+use crate::wired::Wired;
 use lists::bytes;
-use station::{DueOrAhead, due, order, rows};
+use station::{DueOrAhead, due, rows};
 use table::lent::{Table, TableMut};
 use table::status::Status;
-use table::{Distance, Station, cells, sizes};
+use table::wiring::Wiring;
+use table::{Distance, Station, cells};
 
 // The turn of station i. The kind stays the schedule's byte: a public function keeps what its parameters take. The functions below
 // have the byte too: a `Kind` made of it here would have to be refused where there is none. That the table obeys the rules is asked, here and
 // above, and is no ghost field: from the turn that ends a round to its closing the table has refusal 4, and between two bytes of a line that are
 // put not even the line rules hold.
-pub fn take_turn(table: &mut TableMut, kind: u8, i: Station) -> Outcome
-    requires table_obeys { table_refusal table.old.n table.old.bytes.now ≡ 0 }
+pub fn take_turn(wired: Wired, table: &mut TableMut, kind: u8, i: Station) -> Outcome
+    requires same_size { wired.n ≡ table.old.n }
+    requires table_obeys { let w = wiring_number wired.wiring in
+        wired_table_refusal w table.old.n table.old.bytes.now ≡ 0 }
     requires station_below { i.0 < table.old.n }
-    ensures tested_station { tested_byte result ≡ turn_tested table.old.n table.old.bytes.now i.0 }
+    ensures tested_station { tested_byte result
+        ≡ turn_tested (wiring_number wired.wiring) table.old.n table.old.bytes.now i.0 }
     ensures outcome_number { outcome_byte result
-        ≡ turn_outcome table.old.n table.old.bytes.now kind i.0 }
+        ≡ turn_outcome (wiring_number wired.wiring) table.old.n table.old.bytes.now kind i.0 }
     ensures same_loan { IsSameLoan table.old table.new }
-    ensures turn_made { table.new.bytes.now ≡ turn table.old.n table.old.bytes.now kind i.0 }
+    ensures turn_made { table.new.bytes.now
+        ≡ turn (wiring_number wired.wiring) table.old.n table.old.bytes.now kind i.0 }
 {
-    let m = next_test(&table.read(), i);
-    if sizes::distances(table.n) <= m.0 as u16 {
-        finish_pass(table, i);
+    let m = next_test(wired, &table.read(), i);
+    if wired.end <= m.0 {
+        finish_pass(wired, table, i);
         return Outcome::PassFinished;
     }
-    make_test(table, kind, i, m)
+    make_test(wired, table, kind, i, m)
 }
 
-// The next test: the least due distance not below the next one; the number of distances where there is none.
-#[tactic(auto, using(table::proofs::SizeLaws::size_top, table::proofs::SizeLaws::distances_top), unfolding(crate::specs::Turn::next_test))]
-fn next_test(table: &Table, i: Station) -> Distance
-    requires { i.0 < table.now.n }
-    ensures { result.0 ≡ next_test table.now.n table.now.bytes.now i.0 }
+// The next test: the least distance to test at that is not below the next one; the end distance where there is none.
+fn next_test(wired: Wired, table: &Table, i: Station) -> Distance
+    requires same_size { wired.n ≡ table.now.n }
+    requires station_below { i.0 < table.now.n }
+    ensures { let w = wiring_number wired.wiring in
+        result.0 ≡ next_test w table.now.n table.now.bytes.now i.0 }
 {
     let next = table.next_distance(i);
-    let end = sizes::distances(table.n) as u8;
-    scan(table.row(i), i, end, next)
+    match wired.wiring {
+        Wiring::Cube => scan(table.row(i), i, wired.end, next),
+        Wiring::Ring => next,
+    }
 }
 
 // The least distance from `from` on, and below `end`, that is due for i by its row; `end`, or `from` if that is greater, where there is none.
@@ -74,51 +84,60 @@ fn scan(row: &[u8], i: Station, end: u8, from: Distance) -> Distance
     Distance(end.max(from.0))
 }
 
-// The end of a pass: no distance is due any more.
-#[tactic(auto, using(table::proofs::SizeLaws::size_top, table::proofs::SizeLaws::distances_top), unfolding(crate::specs::Turn::finish_pass))]
-fn finish_pass(table: &mut TableMut, i: Station)
-    requires { i.0 < table.old.n }
+// The end of a pass: there is no next test.
+#[tactic(auto, unfolding(crate::specs::Turn::finish_pass))]
+fn finish_pass(wired: Wired, table: &mut TableMut, i: Station)
+    requires same_size { wired.n ≡ table.old.n }
+    requires station_below { i.0 < table.old.n }
     ensures same_loan { IsSameLoan table.old table.new }
-    ensures pass_finished { table.new.bytes.now ≡ finish_pass table.old.n table.old.bytes.now i.0 }
+    ensures pass_finished { table.new.bytes.now
+        ≡ finish_pass (wiring_number wired.wiring) table.old.n table.old.bytes.now i.0 }
 {
-    let end = sizes::distances(table.n) as u8;
-    table.put(i, cells::NEXT, end);
+    table.put(i, cells::NEXT, wired.end);
     table.put(i, cells::FINISHED, 1);
 }
 
-// Station i tests the station at distance m: the test is counted, takes effect, and i leaves if it is alone.
-fn make_test(table: &mut TableMut, kind: u8, i: Station, m: Distance) -> Outcome
-    requires table_obeys { table_refusal table.old.n table.old.bytes.now ≡ 0 }
+// Station i tests the station at distance m: the test is counted by its outcome, takes effect, and i leaves if it is alone.
+fn make_test(wired: Wired, table: &mut TableMut, kind: u8, i: Station, m: Distance) -> Outcome
+    requires same_size { wired.n ≡ table.old.n }
+    requires table_obeys { let w = wiring_number wired.wiring in
+        wired_table_refusal w table.old.n table.old.bytes.now ≡ 0 }
     requires tester_below { i.0 < table.old.n }
     requires distance_above_0 { 0 < m.0 }
-    requires distance_below { m.0 < 64 }
-    requires tested_below { station_at i.0 m.0 < table.old.n }
-    ensures tested_station { tested_byte result ≡ station_at i.0 m.0 }
-    ensures outcome_number { let counted = count_test table.old.n table.old.bytes.now i.0 m.0 in
-        outcome_byte result ≡ test_outcome table.old.n counted kind i.0 (station_at i.0 m.0) }
+    requires distance_below { m.0 < wired.end }
+    requires tested_below { let w = wiring_number wired.wiring in
+        wired_station w table.old.n i.0 m.0 < table.old.n }
+    ensures tested_station { tested_byte result
+        ≡ wired_station (wiring_number wired.wiring) table.old.n i.0 m.0 }
+    ensures outcome_number { outcome_byte result
+        ≡ outcome_at (wiring_number wired.wiring) table.old.n table.old.bytes.now kind i.0 m.0 }
     ensures same_loan { IsSameLoan table.old table.new }
-    ensures test_made { table.new.bytes.now ≡ testing table.old.n table.old.bytes.now kind i.0 m.0 }
+    ensures test_made { table.new.bytes.now
+        ≡ testing (wiring_number wired.wiring) table.old.n table.old.bytes.now kind i.0 m.0 }
 {
-    let j = order::station_at(i, m);
-    count_test(table, i, m);
+    let j = wired.station_at(i, m);
     let outcome = test_outcome(&table.read(), kind, i, j);
+    count_test(wired, table, i, m, outcome);
     apply_outcome(table, i, outcome);
     leave_if_alone(table, i);
     outcome
 }
 
-// Counts the test: next distance and tests made of i.
+// Counts the test by its outcome: next distance and tests made of i.
 #[tactic(auto, unfolding(crate::specs::Turn::count_test))]
-fn count_test(table: &mut TableMut, i: Station, m: Distance)
+fn count_test(wired: Wired, table: &mut TableMut, i: Station, m: Distance, outcome: Outcome)
+    requires same_size { wired.n ≡ table.old.n }
     requires line { i.0 < table.old.n }
     requires distance_fits { m.0 < 255 }
     requires tests_fit { tests_made table.old.n table.old.bytes.now i.0 < 255 }
     ensures same_loan { IsSameLoan table.old table.new }
-    ensures test_counted { table.new.bytes.now
-        ≡ count_test table.old.n table.old.bytes.now i.0 m.0 }
+    ensures test_counted { let w = wiring_number wired.wiring in
+        table.new.bytes.now
+        ≡ count_test w table.old.n table.old.bytes.now i.0 m.0 (outcome_byte outcome) }
 {
     let tests = table.read().get(i, cells::TESTS);
-    table.put(i, cells::NEXT, m.0 + 1);
+    let next = wired.next_after(m, outcome);
+    table.put(i, cells::NEXT, next);
     table.put(i, cells::TESTS, tests + 1);
 }
 

@@ -19,6 +19,7 @@ use Rattle.lists.proofs.RefusalLaws.{check_zero}
 use Rattle.table.specs.Sizes.{is_size}
 use Rattle.table.specs.Table.{stride, table_length, line_start}
 use Rattle.table.specs.Rules.{table_check, table_refusal}
+use Rattle.table.specs.Wiring.{wiring_cube}
 use Rattle.table.proofs.Accepting.{accepted}
 use Rattle.table.proofs.SizeLaws.{size-bounds}
 use Rattle.plant.specs.declared.Tally.{Tally}
@@ -149,10 +150,10 @@ ordered-lines n t (suc k) fs e =
 -- what a saved plant says
 module _ (n : ℕ) (t : List ℕ) (tally : Tally) (z : table_refusal n t ≡ 0) (small : IsTally tally) where
   long : length t ≡ table_length n
-  long = (accepted n t z).long
+  long = (accepted wiring_cube n t z).long
 
   size : is_size n ≡ true
-  size = (accepted n t z).size
+  size = (accepted wiring_cube n t z).size
 
   abbrev plant_fields : List Field
   plant_fields = opening ∷ size_field n ∷ tally_field tally ∷ front (line_field n t) n []

@@ -4,6 +4,7 @@ pub mod Refusals
 pub mod UnionLaws
 pub mod GroupWalk
 pub mod DueLaws
+pub mod WiredLaws
 pub mod AheadLaws
 pub mod Presence
 pub mod EntryLaws

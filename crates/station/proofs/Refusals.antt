@@ -11,6 +11,8 @@ use Rattle.std.specs.Prelude.{Ok}
 use Rattle.table.specs.Sizes.{is_size, dimension}
 use Rattle.station.specs.Groups.{group}
 use Rattle.table.specs.Table.{live}
+use Rattle.table.specs.Wiring.{wiring_cube}
+use Rattle.table.specs.Rules.{table_check, station_check}
 use Rattle.station.specs.Calls.{row_check, range_check, group_check, assignment_check}
 use Rattle.lists.proofs.BoolLaws.{neither}
 use Rattle.lists.proofs.RefusalLaws.{ensure_ok, and_ok}
@@ -40,20 +42,26 @@ group_ok n i s len x e =
     let r = range_ok n i s _ q.0 in
     ((size-bounds n size).1, r.0, r.1, omega (arith, r.2, size-dimension n size), eqb-true len (length (group n i s)) (ensure_ok _ _ _ q.1))
 
-pub row_ok : (n : ℕ) (t : List ℕ) (i : ℕ) (x : Unit {0}) → row_check n t i ≡ Ok x → Accepted n t × (i < n)
-unfolding row_check
-row_ok n t i x e =
-    let p = and_ok _ _ x e in
-    (table_ok n t _ p.0, ltb-true i n (ensure_ok _ _ _ p.1))
+pub station_ok : (n i : ℕ) (x : Unit {0}) → station_check n i ≡ Ok x → i < n
+station_ok n i x e = ltb-true i n (ensure_ok _ _ _ e)
 
-pub accepted_top : (n : ℕ) (t : List ℕ) → Accepted n t → (2 ≤ n) × (n ≤ 64)
-accepted_top n t a = size-bounds n a.size
+pub row_ok : (w n : ℕ) (t : List ℕ) (i : ℕ) (x : Unit {0}) → row_check w n t i ≡ Ok x → Accepted w n t × (i < n)
+unfolding row_check
+row_ok w n t i x e =
+    let p = and_ok _ _ x e in
+    (table_ok w n t _ p.0, station_ok n i x p.1)
+
+pub checked_ok : (n : ℕ) (t : List ℕ) (x : Unit {0}) → table_check n t ≡ Ok x → (2 ≤ n) × (n ≤ 64)
+checked_ok n t x e = size-bounds n (table_ok wiring_cube n t x e).size
+
+pub accepted_top : (w n : ℕ) (t : List ℕ) → Accepted w n t → (2 ≤ n) × (n ≤ 64)
+accepted_top w n t a = size-bounds n a.size
 
 pub assignment_ok : (n : ℕ) (t : List ℕ) (i len : ℕ) (x : Unit {0}) → assignment_check n t i len ≡ Ok x
-    → Accepted n t × (i < n) × (live n t i ≡ true) × (len ≡ 2 * (n - 1))
+    → Accepted wiring_cube n t × (i < n) × (live n t i ≡ true) × (len ≡ 2 * (n - 1))
 unfolding assignment_check
 assignment_ok n t i len x e =
     let p = and_ok _ _ x e in
-    let r = row_ok n t i _ p.0 in
-    let q = and_ok _ _ x p.1 in
-    (r.0, r.1, ensure_ok _ _ _ q.0, eqb-true len (2 * (n - 1)) (ensure_ok _ _ _ q.1))
+    let r = and_ok _ _ x p.1 in
+    let q = and_ok _ _ x r.1 in
+    (table_ok wiring_cube n t _ p.0, station_ok n i _ r.0, ensure_ok _ _ _ q.0, eqb-true len (2 * (n - 1)) (ensure_ok _ _ _ q.1))

@@ -3,6 +3,7 @@ pub mod Groups
 pub mod Partition
 pub mod Nested
 pub mod Tests
+pub mod Wired
 pub mod Rows
 pub mod Calls
 pub mod Ahead

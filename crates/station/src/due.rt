@@ -97,14 +97,15 @@ pub fn assignment(n: usize, table: &[u8], i: Station, list: &mut [u8]) -> Result
 }
 
 // Refusals 1 to 4, 9, 10, 13.
-#[tactic(auto, using(crate::proofs::Refusals::row_ok, crate::proofs::Refusals::accepted_top), unfolding(crate::specs::Calls::assignment_check))]
+#[tactic(auto, using(crate::proofs::Refusals::checked_ok, crate::proofs::Refusals::station_ok), unfolding(crate::specs::Calls::assignment_check))]
 fn check_assignment(n: usize, table: &[u8], i: Station, len: usize) -> Result<Table<'_>, Refusal>
     ensures check { result_map_both (λ t. tt) (λ r. r) result
         ≡ assignment_check n table.now i.0 len }
     ensures same_size { IfOk result (λ t. t.n ≡ n) }
     ensures same_bytes { IfOk result (λ t. t.bytes.now ≡ table.now) }
 {
-    let lent = rows::checked_line(n, table, i)?;
+    let lent = Table::checked(n, table)?;
+    rows::check_station(&lent, i)?;
     if !lent.is_live(i) {
         return Err(Refusal::NotLive);
     }

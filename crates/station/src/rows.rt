@@ -2,6 +2,7 @@
 ghost use Rattle.std.specs.Prelude.{◌≡◌, ◌+◌, ◌<◌, IfOk};
 ghost use Rattle.std.specs.Result.{result_map_both};
 ghost use Rattle.station.specs.Rows.{union, mark};
+ghost use Rattle.table.specs.Rules.{station_check};
 ghost use Rattle.station.specs.Calls.{row_check, row_part, row_offset};
 
 use lists::bytes;
@@ -12,38 +13,52 @@ use table::lent::Table;
 // The row of station i, as that very part of the table: its bytes, and its place in the lent memory. A refused call gives the empty part, by rule
 // Row part, and no `Err`.
 #[tactic(auto, unfolding(crate::specs::Calls::row_part, crate::specs::Calls::row_offset))]
-pub fn row(n: usize, table: &[u8], i: Station) -> &[u8]
-    ensures row_bytes { result.now ≡ row_part n table.now i.0 }
+pub fn row(wiring: usize, n: usize, table: &[u8], i: Station) -> &[u8]
+    ensures row_bytes { result.now ≡ row_part wiring n table.now i.0 }
     ensures same_memory { result.ref_ptr.0 ≡ table.entry.ref_ptr.0 }
-    ensures place_of_row { result.ref_ptr.1 ≡ table.entry.ref_ptr.1 + row_offset n table.now i.0 }
+    ensures place_of_row { result.ref_ptr.1
+        ≡ table.entry.ref_ptr.1 + row_offset wiring n table.now i.0 }
 {
-    match checked_line(n, table, i) {
+    match checked_line(wiring, n, table, i) {
         Ok(lent) => lent.row(i),
         Err(_) => &table[0..0],
     }
 }
 
-// Refusals 1 to 4 and 9 of the row on the same inputs.
-pub fn check_row(n: usize, table: &[u8], i: Station) -> Result<(), Refusal>
-    ensures { result ≡ row_check n table.now i.0 }
+// Refusals 24, 1 to 4 and 9 of the row on the same inputs.
+pub fn check_row(wiring: usize, n: usize, table: &[u8], i: Station) -> Result<(), Refusal>
+    ensures { result ≡ row_check wiring n table.now i.0 }
 {
-    checked_line(n, table, i).map(|_| ())
+    checked_line(wiring, n, table, i).map(|_| ())
 }
 
 // The lent bytes as a table that has a line i: the same refusals.
-#[tactic(auto, using(crate::proofs::Refusals::row_ok), unfolding(crate::specs::Calls::row_check))]
-pub(crate) fn checked_line(n: usize, table: &[u8], i: Station) -> Result<Table<'_>, Refusal>
-    ensures check { result_map_both (λ t. tt) (λ r. r) result ≡ row_check n table.now i.0 }
+#[tactic(auto, unfolding(crate::specs::Calls::row_check))]
+fn checked_line(
+    wiring: usize,
+    n: usize,
+    table: &[u8],
+    i: Station,
+) -> Result<Table<'_>, Refusal>
+    ensures check { result_map_both (λ t. tt) (λ r. r) result ≡ row_check wiring n table.now i.0 }
     ensures same_size { IfOk result (λ t. t.n ≡ n) }
     ensures same_bytes { IfOk result (λ t. t.bytes.now ≡ table.now) }
     ensures same_place { IfOk result (λ t. t.bytes.ref_ptr ≡ table.entry.ref_ptr) }
     ensures has_line { IfOk result (λ t. i.0 < t.n) }
 {
-    let lent = Table::checked(n, table)?;
-    if lent.n <= i.0 {
+    let (_, lent) = Table::wired(wiring, n, table)?;
+    check_station(&lent, i)?;
+    Ok(lent)
+}
+
+// Refusal 9.
+pub(crate) fn check_station(table: &Table, i: Station) -> Result<(), Refusal>
+    ensures { result ≡ station_check table.now.n i.0 }
+{
+    if table.n <= i.0 {
         return Err(Refusal::NoSuchStation);
     }
-    Ok(lent)
+    Ok(())
 }
 
 // Joins another row into the row of station own: the union, but for own's byte about itself.

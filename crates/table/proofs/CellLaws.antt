@@ -14,9 +14,9 @@ use lib.Arith.{digits_div, digits_mod}
 use lib.Dec.{leb, eqb}
 use lib.ListN.{length, get_or, take, drop, length-append, length-take, length-drop, length-set, get_or-append}
 use lib.Seq.{length-take-le, get_or-append-add, get_or-take, get_or-drop, get_or-set_same, get_or-set_other, ext_get_or}
-use Rattle.table.specs.Sizes.{distances}
+use Rattle.table.specs.Wiring.{end_distance}
 use Rattle.table.specs.Table.{head, stride, table_length, line_start, cell, set_cell, status, next_distance, finished, tests_made, status_told, told_by, told_by_column, told_by_none, not_recorded, rounds_ago, rounds_ago_column, suspects, row_start, row, set_row, next_column, tests_column}
-use Rattle.table.specs.Rules.{pass_rule, exit_rule, suspicion_rule, row_rule, line_rules}
+use Rattle.table.specs.Rules.{pass_rule, exit_rule, suspicion_rule, row_rule, wired_line_rules}
 use Rattle.lists.specs.Search.{every}
 use Rattle.lists.proofs.SearchLaws.{both, every-suc, every-at, every-all}
 use Rattle.table.proofs.Accepting.{Accepted}
@@ -149,18 +149,18 @@ range-next n t r i k greatest x e h f g =
     max-leb a b c (yes p) (no q) = rw (le-leb a c p, lt-leb b c (omega arith)) (lt-leb (max a b) c (omega arith))
     max-leb a b c (no p) q = rw (lt-leb a c (omega arith)) (lt-leb (max a b) c (omega arith))
 
--- the rules of bytes 1 to 3, of their values
-pub record Pass (n next finished tests : ℕ) : Type 0 where
+-- the rules of bytes 1 to 3, of their values, by the end distance
+pub record Pass (end next finished tests : ℕ) : Type 0 where
   pub next_low : 1 ≤ next
-  pub next_high : next ≤ distances n
+  pub next_high : next ≤ end
   pub finished_range : finished ≤ 1
   pub tests_bound : tests ≤ next - 1
-  pub finished_next : finished ≡ 1 → next ≡ distances n
+  pub finished_next : finished ≡ 1 → next ≡ end
 
--- the line rules of line i
-pub record Line (n : ℕ) (t : List ℕ) (i : ℕ) : Type 0 where
+-- the line rules of line i, on wiring w
+pub record Line (w n : ℕ) (t : List ℕ) (i : ℕ) : Type 0 where
   pub status_range : status n t i ≤ 3
-  pub pass : Pass n (next_distance n t i) (finished n t i) (tests_made n t i)
+  pub pass : Pass (end_distance w n) (next_distance n t i) (finished n t i) (tests_made n t i)
   pub exits : exit_rule n i (status n t i) (told_by n t i) (rounds_ago n t i) ≡ true
   pub own : suspects n t i i ≡ 0
   pub range : (k : ℕ) → k < n → suspects n t i k ≤ 1
@@ -188,8 +188,8 @@ or_right : (a b : Bool) → (a ≡ false → b ≡ true) → (a || b) ≡ true
 or_right true b h = refl
 or_right false b h = h refl
 
-pass-facts : (n x f m : ℕ) → pass_rule n x f m ≡ true → Pass n x f m
-pass-facts n x f m e =
+pass-facts : (end x f m : ℕ) → pass_rule end x f m ≡ true → Pass end x f m
+pass-facts end x f m e =
     let a = both _ _ e in
     let b = both _ _ a.0 in
     let c = both _ _ b.0 in
@@ -202,31 +202,31 @@ pass-facts n x f m e =
       finished_next = λ p. eqb-true _ _ (one_of _ _ a.1 (ne_eqb f 0 (omega arith)));
     }
 
-pass-holds : (n x f m : ℕ) → Pass n x f m → pass_rule n x f m ≡ true
-pass-holds n x f m p =
-    rw (le-leb 1 x p.next_low, le-leb x (distances n) p.next_high, le-leb f 1 p.finished_range, le-leb m (x - 1) p.tests_bound)
-    (or_right (eqb f 0) (eqb x (distances n)) (λ g. eq-eqb x (distances n) (p.finished_next (omega (arith, p.finished_range, eqb-false f 0 g)))))
+pass-holds : (end x f m : ℕ) → Pass end x f m → pass_rule end x f m ≡ true
+pass-holds end x f m p =
+    rw (le-leb 1 x p.next_low, le-leb x end p.next_high, le-leb f 1 p.finished_range, le-leb m (x - 1) p.tests_bound)
+    (or_right (eqb f 0) (eqb x end) (λ g. eq-eqb x end (p.finished_next (omega (arith, p.finished_range, eqb-false f 0 g)))))
 
-line-facts : (n : ℕ) (t : List ℕ) (i : ℕ) → line_rules n t i ≡ true → Line n t i
-unfolding line_rules row_rule
-line-facts n t i e =
+line-facts : (w n : ℕ) (t : List ℕ) (i : ℕ) → wired_line_rules w n t i ≡ true → Line w n t i
+unfolding wired_line_rules row_rule
+line-facts w n t i e =
     let a = both _ _ e in
     let b = both _ _ a.0 in
     let c = both _ _ b.0 in
     let r = both _ _ a.1 in
     record {
       status_range = leb-true _ _ c.0;
-      pass = pass-facts n _ _ _ c.1;
+      pass = pass-facts _ _ _ _ c.1;
       exits = b.1;
       own = eqb-true _ _ r.0;
       range = λ k h. leb-true _ _ (every-at (suspicion_rule n t i) n k r.1 h);
     }
 
-pub line-holds : (n : ℕ) (t : List ℕ) (i : ℕ) → Line n t i → line_rules n t i ≡ true
-unfolding line_rules row_rule
-line-holds n t i l =
-    rw (le-leb (status n t i) 3 l.status_range, pass-holds n (next_distance n t i) (finished n t i) (tests_made n t i) l.pass, l.exits, eq-eqb (suspects n t i i) 0 l.own)
+pub line-holds : (w n : ℕ) (t : List ℕ) (i : ℕ) → Line w n t i → wired_line_rules w n t i ≡ true
+unfolding wired_line_rules row_rule
+line-holds w n t i l =
+    rw (le-leb (status n t i) 3 l.status_range, pass-holds (end_distance w n) (next_distance n t i) (finished n t i) (tests_made n t i) l.pass, l.exits, eq-eqb (suspects n t i i) 0 l.own)
     (every-all (suspicion_rule n t i) n (λ k h. le-leb (suspects n t i k) 1 (l.range k h)))
 
-pub accepted-line : (n : ℕ) (t : List ℕ) → Accepted n t → (i : ℕ) → i < n → Line n t i
-accepted-line n t a i h = line-facts n t i (every-at (line_rules n t) n i a.lines h)
+pub accepted-line : (w n : ℕ) (t : List ℕ) → Accepted w n t → (i : ℕ) → i < n → Line w n t i
+accepted-line w n t a i h = line-facts w n t i (every-at (wired_line_rules w n t) n i a.lines h)

@@ -1,5 +1,6 @@
 -- What the contracts and theorems of `table` cite; properties serve the crates above.
 pub mod Sizes
+pub mod Wiring
 pub mod Table
 pub mod Status
 pub mod Lent

@@ -1,8 +1,9 @@
--- The line rules, and refusals 1 to 4, 9 and 13, which several calls have.
+-- The line rules, and refusals 24, 1 to 4, 9 and 13, which several calls have.
 -- Assumes nothing.
 use Rattle.std.specs.Prelude.{ℕ, ◌-◌, Bool, not, ◌&&◌, ◌||◌, List, length, if◌then◌else◌, ◌==◌, nat_lt, nat_le}
 use Rattle.lists.specs.Search.{every}
-use Rattle.table.specs.Sizes.{is_size, distances}
+use Rattle.table.specs.Sizes.{is_size}
+use Rattle.table.specs.Wiring.{wiring_cube, wiring_check, end_distance}
 use Rattle.table.specs.Table.{table_length, status, status_told, next_distance, finished, tests_made, told_by, told_by_none, not_recorded, rounds_ago, suspects, live}
 use Rattle.lists.specs.declared.refusal.Refusal.TheVariants.{SizeOutOfRange, TableLength, LineRule, RoundNotClosed, NoSuchStation, ListLength}
 use Rattle.lists.specs.Refusal.{Check, ensure, ◌and◌, number_of_result}
@@ -11,11 +12,11 @@ use Rattle.lists.specs.Refusal.{Check, ensure, ◌and◌, number_of_result}
 abbrev pub status_rule : ℕ → Bool
 status_rule status = nat_le status 3
 
--- Rules Next distance range, Finished range, Tests range and Finished at the end: next distance is 1 to 2^d; finished is 0 or 1; there are fewer
--- tests than the next distance; a finished line has next distance 2^d
+-- Rules Next distance range, Finished range, Tests range and Finished at the end, by the end distance: next distance is 1 to that; finished is 0
+-- or 1; there are fewer tests than the next distance; a finished line has the end distance as next distance
 abbrev pub pass_rule : ℕ → ℕ → ℕ → ℕ → Bool
-pass_rule n next finished tests =
-    nat_le 1 next && nat_le next (distances n) && nat_le finished 1 && nat_le tests (next - 1) && (finished == 0 || next == distances n)
+pass_rule end next finished tests =
+    nat_le 1 next && nat_le next end && nat_le finished 1 && nat_le tests (next - 1) && (finished == 0 || next == end)
 
 -- Rule Told line: byte 4 of a line with status 2 is 254, or a number below n that is not i, the line's own
 abbrev pub told_by_rule : ℕ → ℕ → ℕ → Bool
@@ -35,11 +36,15 @@ suspicion_rule n t i k = nat_le (suspects n t i k) 1
 unfoldable pub row_rule : ℕ → List ℕ → ℕ → Bool
 row_rule n t i = suspects n t i i == 0 && every (suspicion_rule n t i) n
 
--- all line rules, of line i
-unfoldable pub line_rules : ℕ → List ℕ → ℕ → Bool
-line_rules n t i =
-    status_rule (status n t i) && pass_rule n (next_distance n t i) (finished n t i) (tests_made n t i)
+-- all line rules, of line i of a plant with wiring w
+unfoldable pub wired_line_rules : ℕ → ℕ → List ℕ → ℕ → Bool
+wired_line_rules w n t i =
+    status_rule (status n t i) && pass_rule (end_distance w n) (next_distance n t i) (finished n t i) (tests_made n t i)
     && exit_rule n i (status n t i) (told_by n t i) (rounds_ago n t i) && row_rule n t i
+
+-- and on the cube
+abbrev pub line_rules : ℕ → List ℕ → ℕ → Bool
+line_rules = wired_line_rules wiring_cube
 
 -- station i is not live
 abbrev pub not_live : ℕ → List ℕ → ℕ → Bool
@@ -65,9 +70,21 @@ round_over n t = some_live n t && live_finished n t
 unfoldable pub shape_check : ℕ → ℕ → Check
 shape_check n len = ensure (is_size n) SizeOutOfRange and ensure (len == table_length n) TableLength
 
--- refusals 1 to 4: then a line breaks a line rule; the round is over and was not closed
-unfoldable pub table_check : ℕ → List ℕ → Check
-table_check n t = shape_check n (length t) and ensure (every (line_rules n t) n) LineRule and ensure (not (round_over n t)) RoundNotClosed
+-- refusals 1 to 4 on a wiring: then a line breaks a line rule; the round is over and was not closed
+unfoldable pub table_check_on : ℕ → ℕ → List ℕ → Check
+table_check_on w n t =
+    shape_check n (length t) and ensure (every (wired_line_rules w n t) n) LineRule and ensure (not (round_over n t)) RoundNotClosed
+
+-- and on the cube
+abbrev pub table_check : ℕ → List ℕ → Check
+table_check = table_check_on wiring_cube
+
+-- refusal 24, then 1 and 2, or 1 to 4, where the wiring is given by a number
+abbrev pub wired_shape_check : ℕ → ℕ → ℕ → Check
+wired_shape_check w n len = wiring_check w and shape_check n len
+
+abbrev pub wired_table_check : ℕ → ℕ → List ℕ → Check
+wired_table_check w n t = wiring_check w and table_check_on w n t
 
 -- their numbers
 abbrev pub shape_refusal : ℕ → ℕ → ℕ
@@ -75,6 +92,9 @@ shape_refusal n len = number_of_result (shape_check n len)
 
 abbrev pub table_refusal : ℕ → List ℕ → ℕ
 table_refusal n t = number_of_result (table_check n t)
+
+abbrev pub wired_table_refusal : ℕ → ℕ → List ℕ → ℕ
+wired_table_refusal w n t = number_of_result (wired_table_check w n t)
 
 -- refusal 9: the station's number is n or more
 abbrev pub station_check : ℕ → ℕ → Check

@@ -15,6 +15,6 @@ level m = least (λ s. nat_lt m (2 ^ s)) m 0
 unfoldable pub dimension : ℕ → ℕ
 dimension n = level (n - 1)
 
--- Rule End distance of the cube: 2^d, which is also how many distances there are, 0 included. A finished line has it as next distance
+-- Rule End distance of the cube: 2^d, which is also how many distances there are, 0 included
 unfoldable pub distances : ℕ → ℕ
 distances n = 2 ^ dimension n

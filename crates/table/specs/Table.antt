@@ -63,7 +63,7 @@ status_told = 2
 abbrev pub status_alone : ℕ
 status_alone = 3
 
--- Rule Next distance: byte 1, the distance from which the station's next turn looks for a test, 1 to 2^d
+-- Rule Next distance: byte 1, the distance from which the station's next turn looks for a test, 1 to the end distance
 abbrev pub next_distance : ℕ → List ℕ → ℕ → ℕ
 next_distance n t i = cell n t i next_column
 

@@ -4,10 +4,12 @@ ghost use Rattle.std.specs.Prelude.{◌≡◌, ◌<◌};
 ghost use Rattle.lists.specs.Search.{every};
 ghost use Rattle.table.specs.Status.{status_byte};
 ghost use Rattle.table.specs.Table.{live};
-ghost use Rattle.table.specs.Rules.{pass_rule, exit_rule, row_rule, line_rules, finished_if_live, round_over, shape_check, table_check};
+ghost use Rattle.table.specs.Wiring.{wiring_number};
+ghost use Rattle.table.specs.Rules.{pass_rule, exit_rule, row_rule, wired_line_rules, finished_if_live, round_over, shape_check, table_check};
 
 use crate::lent::Table;
 use crate::status::Status;
+use crate::wiring::Wiring;
 use crate::{Station, cells, sizes};
 use lists::bytes;
 use lists::refusal::Refusal;
@@ -26,7 +28,7 @@ pub(crate) fn check_shape(n: usize, len: usize) -> Result<(), Refusal>
     Ok(())
 }
 
-// Refusals 1 to 4.
+// Refusals 1 to 4, on the cube.
 pub fn check_table(n: usize, table: &[u8]) -> Result<(), Refusal>
     ensures { result ≡ table_check n table.now }
 {
@@ -69,21 +71,23 @@ pub fn finished_if_live(n: u8, table: &[u8], i: Station) -> bool
 // Whether every line obeys the line rules. A loop with an exit: by std's `all` a check took 1.7 to 2.2 times as long, 111 for 64 ns with 8
 // stations and 843 for 379 ns with 64.
 #[tactic(auto, using(lists::proofs::Loops::loops))]
-pub(crate) fn all_lines(table: &Table) -> bool
-    ensures { result ≡ every (line_rules table.now.n table.now.bytes.now) table.now.n }
+pub(crate) fn all_lines(wiring: Wiring, table: &Table) -> bool
+    ensures { let n = table.now.n in
+        result ≡ every (wired_line_rules (wiring_number wiring) n table.now.bytes.now) n }
 {
     for i in 0..table.n {
-        if !line_rules(table, Station(i)) {
+        if !line_rules(wiring, table, Station(i)) {
             return false;
         }
     }
     true
 }
 
-#[tactic(auto, using(crate::proofs::StatusLaws::status_ok, crate::proofs::StatusLaws::status_err), unfolding(crate::specs::Rules::line_rules))]
-fn line_rules(table: &Table, i: Station) -> bool
+#[tactic(auto, using(crate::proofs::StatusLaws::status_ok, crate::proofs::StatusLaws::status_err), unfolding(crate::specs::Rules::wired_line_rules))]
+fn line_rules(wiring: Wiring, table: &Table, i: Station) -> bool
     requires { i.0 < table.now.n }
-    ensures { result ≡ line_rules table.now.n table.now.bytes.now i.0 }
+    ensures { result
+        ≡ wired_line_rules (wiring_number wiring) table.now.n table.now.bytes.now i.0 }
 {
     let Ok(status) = Status::try_from(table.get(i, cells::STATUS)) else {
         return false;
@@ -91,7 +95,7 @@ fn line_rules(table: &Table, i: Station) -> bool
     let next = table.get(i, cells::NEXT);
     let finished = table.get(i, cells::FINISHED);
     let tests = table.get(i, cells::TESTS);
-    if !pass_rule(table.n, next, finished, tests) {
+    if !pass_rule(wiring.end_distance(table.n), next, finished, tests) {
         return false;
     }
     let by = table.get(i, cells::TOLD_BY);
@@ -102,18 +106,17 @@ fn line_rules(table: &Table, i: Station) -> bool
     row_rule(table, i)
 }
 
-// The rules of bytes 1 to 3. Byte 1 is 1 or more where byte 3 is below it.
-pub fn pass_rule(n: u8, next: u8, finished: u8, tests: u8) -> bool
-    ensures { result ≡ pass_rule n next finished tests }
+// The rules of bytes 1 to 3, by the end distance. Byte 1 is 1 or more where byte 3 is below it.
+pub fn pass_rule(end: u16, next: u8, finished: u8, tests: u8) -> bool
+    ensures { result ≡ pass_rule end next finished tests }
 {
-    let last = sizes::distances(n);
-    if last < next as u16 {
+    if end < next as u16 {
         return false;
     }
     if next <= tests {
         return false;
     }
-    (finished == 0) | ((finished == 1) & (next as u16 == last))
+    (finished == 0) | ((finished == 1) & (next as u16 == end))
 }
 
 // The rules of bytes 4 and 5, by the status. Byte 4 is asked first, since most often it is 255, and the rest makes no branch: measured, a save

@@ -13,7 +13,8 @@ use lib.Seq.{take_at, sets}
 use Rattle.lists.proofs.Writing.{sets-front}
 use Rattle.table.specs.Sizes.{is_size}
 use Rattle.table.specs.Table.{table_length}
-use Rattle.table.specs.Rules.{shape_check, table_check}
+use Rattle.table.specs.Wiring.{wiring_cube}
+use Rattle.table.specs.Rules.{shape_check, table_check_on}
 use Rattle.table.specs.Fresh.{fresh_table, fresh_after}
 use Rattle.plant.specs.declared.Ran.{Ran as RanPlant}
 use Rattle.plant.specs.Entry.{State, state_of}
@@ -27,8 +28,8 @@ use Rattle.watch.proofs.ReadLaws.{read_fits}
 
 -- a run of what is no size is refused, whatever the table
 size-refused : (n : ℕ) (s : State) (schedule sheet : List ℕ) → is_size n ≡ false
-    → run n s schedule sheet ≡ record { number = 1; taken = 0; state = s; sheet = sheet }
-unfolding run start_check table_check shape_check
+    → run wiring_cube n s schedule sheet ≡ record { number = 1; taken = 0; state = s; sheet = sheet }
+unfolding run start_check table_check_on shape_check
 size-refused n s schedule sheet e = rw e
 
 -- a part that comes back as it was lent
@@ -52,7 +53,7 @@ carried-refused n schedule lent e = rw (size-refused n (state_of (fresh_table n)
 -- a run on the lent table after it was made fresh, with the first k bytes of a lent sheet, answers what a run of a fresh table answers
 pub carried : (n : ℕ) (t schedule lent : List ℕ) (r : RanPlant) (t' s' : List ℕ) (k : ℕ)
     → (is_size n ≡ true → length t ≡ table_length n) → k ≡ 2 * length schedule → length s' ≡ k → k ≤ length lent
-    → outcome_with r t' s' ≡ run n (state_of (fresh_after n t) 0 0) schedule (take k lent)
+    → outcome_with r t' s' ≡ run wiring_cube n (state_of (fresh_after wiring_cube n t) 0 0) schedule (take k lent)
     → watched_with (Ok r) (s' ++ drop k lent) ≡ carried_out n schedule lent
 unfolding fresh_after shape_check
 carried n t schedule lent r t' s' k shaped twice long fits e = pick (is_size n) refl
@@ -62,11 +63,11 @@ carried n t schedule lent r t' s' k shaped twice long fits e = pick (is_size n) 
 
     pick : (b : Bool) → is_size n ≡ b → watched_with (Ok r) (s' ++ drop k lent) ≡ carried_out n schedule lent
     pick true y =
-        let f : fresh_after n t ≡ fresh_table n = rw (y, eq-eqb (length t) (table_length n) (shaped y)) in
+        let f : fresh_after wiring_cube n t ≡ fresh_table n = rw (y, eq-eqb (length t) (table_length n) (shaped y)) in
         let g = rw f at e in
         rw (← twice, ← g) (rw (sym front))
     pick false y =
-        let g = e ∙ size-refused n (state_of (fresh_after n t) 0 0) schedule (take k lent) y in
+        let g = e ∙ size-refused n (state_of (fresh_after wiring_cube n t) 0 0) schedule (take k lent) y in
         let p : said (Ok r) ≡ says_run refused = ap (λ (o : RunResult). says_run (run_answer o)) g in
         let q : s' ≡ take k lent = ap (λ (o : RunResult). o.sheet) g in
         rw (carried-refused n schedule lent y, p, q, take-append-drop)

@@ -2,6 +2,7 @@
 -- Assumes nothing.
 use Rattle.std.specs.Prelude.{ℕ, ◌*◌, List, length, take, Result, Ok, Err, if◌then◌else◌, ◌==◌}
 use Rattle.std.proofs.lemmas.List.Edits.{sets}
+use Rattle.table.specs.Wiring.{wiring_cube}
 use Rattle.table.specs.Fresh.{fresh_table}
 use Rattle.plant.specs.declared.Ran.{Ran}
 use Rattle.plant.specs.declared.Tally.{Tally}
@@ -46,9 +47,9 @@ run_answer o = record { number = o.number; taken = o.taken; tally = record { rou
 abbrev ran_on : List ℕ → RunResult → Watched
 ran_on lent o = said_with (says_run (run_answer o)) (sets lent 0 o.sheet)
 
--- the run of the entries on a fresh table with a tally of 0 and 0. It takes a part of the lent run sheet, of twice the schedule's length
+-- the run of the entries on the cube, on a fresh table with a tally of 0 and 0. It takes a part of the lent run sheet, of twice the schedule's length
 abbrev pub carried_out : ℕ → List ℕ → List ℕ → Watched
-carried_out n schedule lent = ran_on lent (run n (state_of (fresh_table n) 0 0) schedule (take (2 * length schedule) lent))
+carried_out n schedule lent = ran_on lent (run wiring_cube n (state_of (fresh_table n) 0 0) schedule (take (2 * length schedule) lent))
 
 -- what comes of a reading: the number of the first unreadable line and nothing else, or the run
 abbrev watched_of : List ℕ → Reading → Watched

@@ -2,6 +2,7 @@
 ghost use Rattle.std.specs.Prelude.{◌≡◌, ℕ, List, ◌++◌, Ok, true, false, ◌*◌, ◌≤◌, length, take, IfErr};
 ghost use Rattle.table.specs.Sizes.{is_size};
 ghost use Rattle.table.specs.Table.{greatest_table, table_length};
+ghost use Rattle.table.specs.Wiring.{wiring_cube};
 ghost use Rattle.table.specs.Fresh.{fresh_after};
 ghost use Rattle.plant.specs.Entry.{state_of};
 ghost use Rattle.plant.specs.Run.{outcome_with, run};
@@ -11,6 +12,7 @@ ghost use Rattle.watch.specs.Watched.{watched_with, carried_out, watched, decidi
 
 use crate::input::{self, Unread};
 use plant::{Ran, Tally, run};
+use table::wiring::Wiring;
 use table::{cells, fresh, sizes};
 
 // Reads an input and carries its schedule out; answers how the run went, or the first unreadable line.
@@ -49,11 +51,18 @@ fn carry_out(
 
 // Makes the table fresh and runs the schedule with zero tallies.
 fn run_fresh(size: usize, schedule: &[u8], table: &mut [u8], sheet: &mut [u8]) -> Ran
-    ensures { let start = state_of (fresh_after size table.old) 0 0 in
-        outcome_with result table.new sheet.new ≡ run size start schedule.now sheet.old }
+    ensures { let start = state_of (fresh_after wiring_cube size table.old) 0 0 in
+        outcome_with result table.new sheet.new ≡ run wiring_cube size start schedule.now sheet.old }
 {
-    let _ = fresh::fresh_table(size, table);
-    run::run(size, table, Tally::default(), schedule, sheet)
+    let _ = fresh::fresh_table(Wiring::Cube as usize, size, table);
+    run::run(
+        Wiring::Cube as usize,
+        size,
+        table,
+        Tally::default(),
+        schedule,
+        sheet,
+    )
 }
 
 // The length of the part of the table that a plant of this size has; 0 for what is no size, which the run refuses: of an Option the caller would

@@ -1,7 +1,6 @@
 -- The first one that waits behind the last one, or else the first one of all.
 use Rattle.std.proofs.Common.{refl, lt-ltb, le-ltb, arith}
 use Rattle.std.specs.Prelude.{Option, Some, None, IfNone, IsSome}
-use Rattle.table.proofs.Accepting.{accepted}
 use Rattle.granter.specs.Grant.{granted}
 use Rattle.granter.proofs.GrantLaws.{first-waits}
 use Rattle.granter.proofs.grant.next_station.Goals as goal
@@ -16,7 +15,7 @@ returns-in-Some c = let f = c.in-Some.ensures in rw (← c.following.ensures, �
 
 pub unwrap-requires : goal.unwrap-requires
 unwrap-requires c =
-    let some = first-waits _ _ (accepted c.args.table.now.n c.args.table.now.bytes.now c.requires.table_obeys) c.requires.someone_live in
+    let some = first-waits _ _ c.requires.round_open c.requires.someone_live in
     is-some _ _ c.first_from-2.ensures.none (λ none. omega arith)
 
 pub returns : goal.returns

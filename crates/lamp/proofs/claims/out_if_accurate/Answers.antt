@@ -3,4 +3,4 @@ use Rattle.lamp.proofs.DoubtLaws.{out-is, is-out}
 use Rattle.lamp.proofs.claims.out_if_accurate.Goals as goal
 
 pub returns : goal.returns
-returns c n t = (out-is n t, λ e. is-out n t e.0 e.1)
+returns c w n t = (out-is w n t, λ e. is-out w n t e.0 e.1)

@@ -7,4 +7,4 @@ use Rattle.mender.proofs.ChangeLaws.{changes-none}
 use Rattle.mender.proofs.claims.good_table_stays.Goals as goal
 
 pub returns : goal.returns
-returns c n t ok = let same = good-stays n t (table_ok n t _ ok) in (same, ap (changes t) same ∙ changes-none t)
+returns c w n t ok = let same = good-stays w n t (table_ok w n t _ ok) in (same, ap (changes t) same ∙ changes-none t)

@@ -4,4 +4,4 @@ use Rattle.mender.proofs.ChangeLaws.{changes-true}
 use Rattle.mender.proofs.claims.listed_is_true.Goals as goal
 
 pub returns : goal.returns
-returns c n t size long = changes-true t (mended n t)
+returns c w n t wired size long = changes-true t (mended w n t)

@@ -8,7 +8,7 @@ use Rattle.mender.proofs.ChangeLaws.{changes-none}
 use Rattle.mender.proofs.claims.mended_once.Goals as goal
 
 pub returns : goal.returns
-returns c n t size long =
-    let u = mended n t in
-    let same = good-stays n u (table_ok n u _ (mended-passes n t size)) in
+returns c w n t wired size long =
+    let u = mended w n t in
+    let same = good-stays w n u (table_ok w n u _ (mended-passes w n t wired size)) in
     (same, ap (changes u) same ∙ changes-none u)

@@ -4,4 +4,4 @@ use Rattle.mender.proofs.MendedLaws.{suspects-mended, suspicion-was}
 use Rattle.mender.proofs.claims.no_suspicion_invented.Goals as goal
 
 pub returns : goal.returns
-returns c n t size long i k h hk one = suspicion-was i k _ (sym (suspects-mended n t i k h hk) ∙ one)
+returns c w n t wired size long i k h hk one = suspicion-was i k _ (sym (suspects-mended w n t i k h hk) ∙ one)

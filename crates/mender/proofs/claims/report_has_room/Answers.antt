@@ -7,4 +7,4 @@ use Rattle.mender.proofs.claims.report_has_room.Goals as goal
 
 pub returns : goal.returns
 unfolding changes
-returns c n t size long = let few = changes-few t (mended n t) (length t) in omega arith
+returns c w n t wired size long = let few = changes-few t (mended w n t) (length t) in omega arith

@@ -6,4 +6,4 @@ use Rattle.mender.proofs.MendedLaws.{status-mended}
 use Rattle.mender.proofs.claims.status_stays.Goals as goal
 
 pub returns : goal.returns
-returns c n t size long i h low = status-mended n t i h ∙ rw (le-leb (status n t i) 3 low) refl
+returns c w n t wired size long i h low = status-mended w n t i h ∙ rw (le-leb (status n t i) 3 low) refl

@@ -6,4 +6,4 @@ use Rattle.mender.proofs.ChangeLaws.{changes-all}
 use Rattle.mender.proofs.claims.unlisted_stays.Goals as goal
 
 pub returns : goal.returns
-returns c n t size long p none = changes-all t (mended n t) p (mended-length n t ∙ sym long) none
+returns c w n t wired size long p none = changes-all t (mended w n t) p (mended-length w n t ∙ sym long) none

@@ -1,6 +1,7 @@
 -- The rest of the run, from where it stands, gives what the whole gives, and the table obeys the rules.
 use Rattle.std.proofs.Common.{rules, ◌≡◌, ◌<◌, ◌≤◌, ◌/◌, length, refl, sym, ap, ◌∙◌, subst, arith, length-take, length-drop}
 use Rattle.lists.specs.Refusal.{number_of_result}
+use Rattle.table.specs.Wiring.{wiring_number}
 use Rattle.plant.specs.Entry.{Entry, State, state_with, entry_known, entry_refusal}
 use Rattle.plant.proofs.RulesKept.{accepted-kept}
 use Rattle.plant.proofs.RunLaws.{accepted-number, line-back, go-taken, go-stopped, go-done, start-facts}
@@ -8,7 +9,7 @@ use Rattle.plant.proofs.run.go_on.Goals as goal
 
 pub loop-kind-init : goal.loop-kind-init
 loop-kind-init c =
-    let f = start-facts _ _ _ _ c.requires in
+    let f = start-facts _ _ _ _ _ c.requires in
     record { loan = record { reference = refl; size = refl }; twice = f.2; rules = f.0; count = refl; going = refl; goes = refl }
 
 pub returns-in-Err-clause-run : goal.returns-in-Err-clause-run
@@ -18,7 +19,7 @@ returns-in-Err-clause-run c =
     let h : l.kind-index < length c.args.schedule.now / 2 = omega (arith, c.as_chunks.ensures.front_len) in
     let r = rw (c.read.ensures.same_size, c.read.ensures.same_bytes, i.loan.size, c.as_chunks.ensures.front) at c.in-Err.ensures.check in
     let s = state_with l.lent.bytes.now l.ran.tally in
-    rw (sym i.goes ∙ go-stopped c.args.table.now.n l.kind-index s l.sheet c.args.schedule.now _ h (sym r), i.count) (search rules)
+    rw (sym i.goes ∙ go-stopped (wiring_number c.args.wiring) c.args.table.now.n l.kind-index s l.sheet c.args.schedule.now _ h (sym r), i.count) (search rules)
 
 pub take_entry-ran-requires : goal.take_entry-ran-requires
 take_entry-ran-requires c =
@@ -26,7 +27,8 @@ take_entry-ran-requires c =
     let i = l.invariant in
     let z = rw (c.read.ensures.same_size, c.read.ensures.same_bytes) at (ap number_of_result (sym c.in-Ok.ensures.check)) in
     record {
-      table_obeys = rw i.loan.size (accepted-number _ _ i.rules);
+      same_size = c.new-wired.ensures.same_size ∙ sym i.loan.size;
+      table_obeys = rw (c.new-wired.ensures.same_wiring, i.loan.size) (accepted-number _ _ _ i.rules);
       entry_taken =
           subst (λ (e : Entry). entry_refusal l.lent.n (state_with l.lent.bytes.now l.ran.tally) e ≡ 0) (sym c.in-Ok.ensures.entry) z;
       line_length = simp (length-take, length-drop) (omega (arith, i.twice, i.count, c.loop-kind-test.true, c.as_chunks.ensures.front_len));
@@ -34,6 +36,7 @@ take_entry-ran-requires c =
 
 pub loop-kind-preserved : goal.loop-kind-preserved
 loop-kind-preserved c =
+    let w = wiring_number c.args.wiring in
     let n = c.args.table.now.n in
     let l = c.loop-kind in
     let i = l.invariant in
@@ -45,17 +48,17 @@ loop-kind-preserved c =
     let y = rw (c.read.ensures.same_size, c.read.ensures.same_bytes, i.loan.size) at (ap number_of_result (sym o.check)) in
     let z = subst (λ (x : Entry). entry_refusal n s x ≡ 0) (sym o.entry) y in
     let p = c.take_entry-ran.ensures in
-    let after = rw i.loan.size at p.state_after in
-    let line = rw i.loan.size at p.line_after in
-    let w = line-back n s e l.sheet l.kind-index _ line (omega (arith, i.twice, h)) in
+    let after = rw (c.new-wired.ensures.same_wiring, i.loan.size) at p.state_after in
+    let line = rw (c.new-wired.ensures.same_wiring, i.loan.size) at p.line_after in
+    let b = line-back w n s e l.sheet l.kind-index _ line (omega (arith, i.twice, h)) in
     record {
       loan = record { reference = p.same_loan.reference ∙ i.loan.reference; size = p.same_loan.size ∙ i.loan.size };
       twice = omega arith;
-      rules = rw (ap (λ (z : State). z.table) after) (accepted-kept n s e i.rules z);
+      rules = rw (ap (λ (z : State). z.table) after) (accepted-kept w n s e i.rules z);
       count = omega arith;
       going = i.going;
       goes =
-          go-taken n l.kind-index s l.sheet c.args.schedule.now e _ _ h (rw a.front at o.entry) z after (rw i.count w) ∙ i.goes;
+          go-taken w n l.kind-index s l.sheet c.args.schedule.now e _ _ h (rw a.front at o.entry) z after (rw i.count b) ∙ i.goes;
     }
 
 pub returns-clause-run : goal.returns-clause-run
@@ -64,4 +67,4 @@ returns-clause-run c =
     let i = l.invariant in
     let h : length c.args.schedule.now / 2 ≤ l.kind-index = omega (arith, c.as_chunks.ensures.front_len) in
     let s = state_with l.lent.bytes.now l.ran.tally in
-    rw (sym i.goes ∙ go-done c.args.table.now.n l.kind-index s l.sheet c.args.schedule.now h, i.going, i.count) (search rules)
+    rw (sym i.goes ∙ go-done (wiring_number c.args.wiring) c.args.table.now.n l.kind-index s l.sheet c.args.schedule.now h, i.going, i.count) (search rules)

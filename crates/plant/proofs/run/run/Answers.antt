@@ -8,13 +8,13 @@ use Rattle.plant.proofs.run.run.Goals as goal
 pub returns-in-Err : goal.returns-in-Err
 returns-in-Err c =
     let a = c.args in
-    sym (run-refused a.n (state_with a.table.now a.tally) a.schedule.now a.sheet.now _ (sym c.in-Err.ensures.check))
+    sym (run-refused a.wiring a.n (state_with a.table.now a.tally) a.schedule.now a.sheet.now _ (sym c.in-Err.ensures.check))
 
 pub go_on-requires : goal.go_on-requires
-go_on-requires c = rw c.in-Ok.ensures.same_size (ap number_of_result (sym c.in-Ok.ensures.check))
+go_on-requires c = rw (c.in-Ok.ensures.same_size, c.in-Ok.ensures.same_wiring) (ap number_of_result (sym c.in-Ok.ensures.check))
 
 pub returns : goal.returns
 returns c =
     let a = c.args in
     let z = ap number_of_result (sym c.in-Ok.ensures.check) in
-    rw (run-goes a.n (state_with a.table.now a.tally) a.schedule.now a.sheet.now z, ← c.in-Ok.ensures.same_size) (search rules)
+    rw (run-goes a.wiring a.n (state_with a.table.now a.tally) a.schedule.now a.sheet.now z, ← c.in-Ok.ensures.same_size, ← c.in-Ok.ensures.same_wiring) (search rules)

@@ -1,0 +1,14 @@
+-- What a wiring says of the stations that a station tests: who stands at a distance, and at which distances it tests. w is the wiring's number.
+-- Assumes nothing.
+use Rattle.std.specs.Prelude.{ℕ, ◌+◌, ◌%◌, Bool, ◌||◌, List, if◌then◌else◌}
+use Rattle.table.specs.Wiring.{is_ring}
+use Rattle.station.specs.Groups.{station_at}
+use Rattle.station.specs.Tests.{due}
+
+-- Rules Distance and Distance on the ring: the station at distance m from i. On the ring it is the one m places after i, where behind n − 1 comes 0
+unfoldable pub wired_station : ℕ → ℕ → ℕ → ℕ → ℕ
+wired_station w n i m = if is_ring w then (i + m) % n else station_at i m
+
+-- Rules Due and Every distance is due: whether i, whose row is r, is to test at distance m. On the ring it is at each, whomever it suspects
+unfoldable pub wired_due : ℕ → List ℕ → ℕ → ℕ → Bool
+wired_due w r i m = is_ring w || due r i m
