@@ -25,10 +25,11 @@ use Rattle.detection.specs.Claim.{rounds_of, DetectionPremises}
 use Rattle.table.specs.Properties.{exact_row, ExactRows}
 use Rattle.detection.specs.Boards.{TestsAreTheDue, ExactRoundTests, ExactRoundTestsAfterLatency}
 use Rattle.detection.proofs.Chain.{chain-all, chain_first}
-use Rattle.detection.proofs.TurnEffect.{Plain}
-use Rattle.detection.proofs.Knowledge.{Exact, leads_at, row-due}
+use Rattle.detection.proofs.TurnEffect.{Plain, Exact}
+use Rattle.detection.proofs.Knowledge.{leads_at, row-due}
 use Rattle.detection.proofs.Listing.{led_below}
-use Rattle.detection.proofs.DetectionClaim.{history, exact}
+use Rattle.detection.proofs.Cube.{exact-at}
+use Rattle.detection.proofs.DetectionClaim.{history}
 
 -- the distances due by the exact row are those at which a station leads
 exact-list : (n : ℕ) (T : List ℕ) (i : ℕ) → due_distances (exact_row n T) i n ≡ led_below n (live n T) i (distances n)
@@ -59,7 +60,7 @@ module _ (n : ℕ) (s : State) (calls : List Call) (given : DetectionPremises n 
       go (inr ok) = ok
 
   tests-are-the-due : Exact n L ((history n s calls given accepted).0.start k) → TestsAreTheDue n s calls k
-  tests-are-the-due e i h l = (history n s calls given accepted).0.listed k closed e i h l ∙ ap (map (station_at i)) (sym (exact-list n s.table i))
+  tests-are-the-due e i h l = ((history n s calls given accepted).0.gave k closed).listed e i h l ∙ ap (map (station_at i)) (sym (exact-list n s.table i))
 
 pub exact-round-tests : ExactRoundTests
 exact-round-tests n s calls given k closed rows =
@@ -68,4 +69,5 @@ exact-round-tests n s calls given k closed rows =
 
 pub exact-round-tests-after-latency : ExactRoundTestsAfterLatency
 exact-round-tests-after-latency n s calls given k far closed =
-    tests-are-the-due n s calls given k closed (exact n s calls given (accepted n s calls given k closed) k far (omega arith))
+    let course = (history n s calls given (accepted n s calls given k closed)).0 in
+    tests-are-the-due n s calls given k closed (exact-at n s.table given.size course.start _ _ course.gave k far (omega arith))

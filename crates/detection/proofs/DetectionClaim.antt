@@ -1,7 +1,7 @@
--- Detection within the worst-case latency and the greater bounds, proved: the chain of taken entries is cut into rounds, and the spread of
--- knowledge bounds the rounds after which all is known.
+-- Detection, proved: the chain of taken entries is cut into rounds, and what closed rounds give bounds the rounds after which all is known. The
+-- wiring is a parameter (`RoundKnowledge`); with the cube's the claim holds within the worst-case latency and the greater bounds.
 -- Assumes nothing.
-use mathlib.Core.Path.{◌≡◌, refl, sym, ap}
+use mathlib.Core.Path.{◌≡◌, refl, sym, ap, ◌∙◌}
 use mathlib.Core.Logic.{◌⊎◌, inl, inr, ◌≢◌}
 use mathlib.Core.Bool.{Bool, true, false, not, ◌&&◌}
 use mathlib.Core.List.{List, [], ◌∷◌, ◌++◌}
@@ -18,22 +18,23 @@ use Rattle.table.specs.Rules.{not_live}
 use Rattle.lists.proofs.SearchLaws.{both, every-at, least-passes, least-before}
 use Rattle.table.proofs.Accepting.{Accepted}
 use Rattle.table.proofs.CellLaws.{accepted-line}
-use Rattle.table.proofs.SizeLaws.{size-bounds, size-log}
+use Rattle.table.proofs.SizeLaws.{size-bounds}
 use Rattle.plant.specs.Entry.{State}
 use Rattle.plant.proofs.RoundLaws.{Reset}
 use Rattle.lists.specs.Sums.{bit}
 use Rattle.detection.specs.Runs.{Call, taken_all, after_run, after_runs}
 use Rattle.detection.specs.Rounds.{count_taken, cut, tests_of_all}
 use Rattle.table.specs.Properties.{line_at_start, at_start, live_count, no_live_suspicion, none_suspected}
-use Rattle.detection.specs.Claim.{rounds_of, DetectionPremises, DetectionConclusion, Detection, DetectionAfter, square_bound, DetectionInSquare, triangle_bound, DetectionInTriangle, worst_latency}
+use Rattle.detection.specs.Claim.{tests_per_round, rounds_of, DetectionPremises, DetectionConclusion, Detection, DetectionAfter, square_bound, DetectionInSquare, triangle_bound, DetectionInTriangle, worst_latency}
 use Rattle.lists.proofs.BoolLaws.{by_bool}
 use Rattle.lists.proofs.SumLaws.{sum-single}
-use Rattle.detection.proofs.Latency.{latency-pos, latency-le-triangle, latency-le-square}
+use Rattle.detection.proofs.Latency.{latency-le-triangle, latency-le-square}
 use Rattle.detection.proofs.Chain.{chain-all, chain_first}
 use Rattle.detection.proofs.TurnEffect.{Company}
-use Rattle.detection.proofs.Knowledge.{Exact}
-use Rattle.detection.proofs.Closing.{InRound, round-start}
-use Rattle.detection.proofs.Course.{Course, Tallied, exact-at, course}
+use Rattle.detection.proofs.RoundKnowledge.{InRound, round-start, RoundKnowledge}
+use Rattle.detection.proofs.Course.{Course, Tallied, course}
+use Rattle.detection.proofs.Closing.{CubeRound}
+use Rattle.detection.proofs.Cube.{cube}
 
 -- no live station suspects a live one: the byte is 0, where rows hold 0 and 1 only
 pub trusts : (n : ℕ) (t : List ℕ) → Accepted n t → none_suspected n t ≡ true → (i j : ℕ) → i < n → j < n → live n t i ≡ true → live n t j ≡ true
@@ -82,83 +83,77 @@ first_round n s calls given ok =
         let head = both _ _ all.0 in
         record { next = eqb-true _ 1 head.0; unfinished = eqb-true _ 0 head.1; untested = eqb-true _ 0 all.1 }
 
--- a table that refusals let through
-module _ (n : ℕ) (s : State) (calls : List Call) (given : DetectionPremises n s calls) (ok : Accepted n s.table) where
+-- the rounds of a list of runs, from a table that refusals let through, on any wiring
+pub rounds-from : (n : ℕ) (s : State) (calls : List Call) → DetectionPremises n s calls → Accepted n s.table
+    → (K : RoundKnowledge n (live n s.table))
+    → Course n (live n s.table) K.Gives s.table (rounds_of s calls) (after_runs s calls).table × Tallied [] s (rounds_of s calls) (after_runs s calls)
+rounds-from n s calls given ok K =
+    let first = first_round n s calls given ok in
+    course n (live n s.table) K given.size (company-of n s.table given.two_live) (chain-all n s calls given.long) given.no_crash given.no_late
+    s.table [] first (K.starts s.table first)
+
+-- the claim, on a wiring on which `enough` rounds are enough, and after so many the closed ones have the count of tests
+module _ (n : ℕ) (s : State) (calls : List Call) (given : DetectionPremises n s calls) (K : RoundKnowledge n (live n s.table)) (enough : ℕ)
+    (known : K.enough ≤ enough) (from : K.counted_from ≤ enough) (count : K.count ≡ tests_per_round n s.table) where
   abbrev L : ℕ → Bool
   L = live n s.table
 
-  pub history : Course n s.table s.table (rounds_of s calls) (after_runs s calls).table
-      × Tallied [] s (rounds_of s calls) (after_runs s calls)
-  history =
-      course n s.table given.size (company-of n s.table given.two_live) (chain-all n s calls given.long)
-      given.no_crash given.no_late
-      s.table [] (first_round n s calls given ok)
-
-  -- after the worst-case latency all rounds start exact
-  pub exact : (q : ℕ) → worst_latency (dimension n) ≤ q → q ≤ length (rounds_of s calls).closed → Exact n L (history.0.start q)
-  exact =
-      exact-at n (dimension n) s.table s.table (rounds_of s calls) (after_runs s calls).table history.0 (let d = size-log n given.size in rw d.1 d.3)
-
-  exact_rows : worst_latency (dimension n) ≤ length (rounds_of s calls).closed
-      → (i j : ℕ) → i < n → j < n → L i ≡ true → suspects n (after_runs s calls).table i j ≡ bit (not_live n s.table j)
-  exact_rows far i j h g l =
-      let last = history.0.last in
-      by_bool (L j) (λ e. rw e (last.plain.accurate i j h g l e)) (λ e. rw e (last.grown i j h g (exact _ far (omega arith) i j h g l e)))
-
-  detection-accepted : DetectionConclusion (worst_latency (dimension n)) n s calls (after_runs s calls)
+  detection-accepted : Accepted n s.table → DetectionConclusion enough n s calls (after_runs s calls)
   unfolding count_taken
-  detection-accepted = record {
-    same_live = history.0.last.plain.lives;
-    turns = λ k i h g l. history.0.turns k i h g;
-    exact_rows = exact_rows;
-    tests = λ k far h. history.0.counted k h (exact k far (omega arith));
-    rounds_tally = history.1.rounds;
-    tests_tally = omega (arith, history.1.tests);
-  }
+  detection-accepted ok =
+      let rounds = rounds-from n s calls given ok K in
+      let c = rounds.0 in
+      record {
+        same_live = c.plain.lives;
+        turns = λ k i h g l. c.turns k i h g;
+        exact_rows = λ far i j h g l.
+            let exact = K.exact c.start _ _ c.gave _ (le_trans known far) (omega arith) i j h g l in
+            by_bool (L j) (λ e. rw e (c.plain.accurate i j h g l e)) (λ e. rw e (c.grown i j h g (exact e)));
+        tests = λ k far h. K.counted c.start _ _ c.gave k (le_trans from far) h ∙ count;
+        rounds_tally = rounds.1.rounds;
+        tests_tally = omega (arith, rounds.1.tests);
+      }
 
--- no entry is taken, as on a table that the refusals turn away
-detection-none : (n : ℕ) (s : State) (calls : List Call) → is_size n ≡ true → taken_all s calls ≡ [] → after_runs s calls ≡ s
-    → DetectionConclusion (worst_latency (dimension n)) n s calls (after_runs s calls)
-unfolding cut count_taken tests_of_all
-detection-none n s calls size none stays =
-    rw stays (record {
-      same_live = λ i h. refl;
-      turns = λ k i h g l.
-          let first : k ≡ 0 = omega (arith, closed) in
-          rw (first, none) (omega arith, λ e. absurd (omega (arith, size-bounds n size)));
-      exact_rows = λ far. absurd (some_level far);
-      tests = λ k far h. absurd (omega (arith, closed));
-      rounds_tally = omega (arith, closed);
-      tests_tally = rw none (omega arith);
-    })
-  where
-    closed : length (rounds_of s calls).closed ≡ 0
-    closed = rw none
+  -- no entry is taken, as on a table that the refusals turn away
+  detection-none : taken_all s calls ≡ [] → after_runs s calls ≡ s → DetectionConclusion enough n s calls (after_runs s calls)
+  unfolding cut count_taken tests_of_all
+  detection-none none stays =
+      rw stays (record {
+        same_live = λ i h. refl;
+        turns = λ k i h g l.
+            let first : k ≡ 0 = omega (arith, closed) in
+            rw (first, none) (omega arith, λ e. absurd (omega (arith, size-bounds n given.size)));
+        exact_rows = λ far. absurd (omega (arith, K.some_round, closed));
+        tests = λ k far h. absurd (omega (arith, closed));
+        rounds_tally = omega (arith, closed);
+        tests_tally = rw none (omega arith);
+      })
+    where
+      closed : length (rounds_of s calls).closed ≡ 0
+      closed = rw none
 
-    some_level : worst_latency (dimension n) ≤ length (rounds_of s calls).closed → ⊥
-    some_level far = let d = size-log n size in omega (arith, closed, rw (← d.1) at (latency-pos d.0))
+  detection-by : DetectionConclusion enough n s calls (after_runs s calls)
+  detection-by = go (chain_first (chain-all n s calls given.long))
+    where
+      go : ((taken_all s calls ≡ []) × (after_runs s calls ≡ s)) ⊎ Accepted n s.table
+          → DetectionConclusion enough n s calls (after_runs s calls)
+      go (inl e) = detection-none e.0 e.1
+      go (inr ok) = detection-accepted ok
 
--- the claim within the worst-case latency, an end in itself
-pub detection-in-worst-case : Detection worst_latency
-detection-in-worst-case n s calls given = go (chain_first (chain-all n s calls given.long))
-  where
-    go : ((taken_all s calls ≡ []) × (after_runs s calls ≡ s)) ⊎ Accepted n s.table
-        → DetectionConclusion (worst_latency (dimension n)) n s calls (after_runs s calls)
-    go (inl e) = detection-none n s calls given.size e.0 e.1
-    go (inr ok) = detection-accepted n s calls given ok
+-- the rounds on the cube
+pub history : (n : ℕ) (s : State) (calls : List Call) → DetectionPremises n s calls → Accepted n s.table
+    → Course n (live n s.table) (CubeRound n s.table) s.table (rounds_of s calls) (after_runs s calls).table
+    × Tallied [] s (rounds_of s calls) (after_runs s calls)
+history n s calls given ok = rounds-from n s calls given ok (cube n s.table given.size)
 
--- and so within any number of rounds that is not less
+-- the claim within any number of rounds that is not less than the worst-case latency
 pub within : (rounds : ℕ → ℕ) → ((d : ℕ) → worst_latency d ≤ rounds d) → Detection rounds
 within rounds enough n s calls given =
-    let c = detection-in-worst-case n s calls given in
-    record {
-      same_live = c.same_live;
-      turns = c.turns;
-      exact_rows = λ far. c.exact_rows (le_trans (enough (dimension n)) far);
-      tests = λ k far. c.tests k (le_trans (enough (dimension n)) far);
-      rounds_tally = c.rounds_tally;
-      tests_tally = c.tests_tally;
-    }
+    detection-by n s calls given (cube n s.table given.size) (rounds (dimension n)) (enough (dimension n)) (enough (dimension n)) refl
+
+-- within the worst-case latency, an end in itself
+pub detection-in-worst-case : Detection worst_latency
+detection-in-worst-case = within worst_latency (λ d. omega arith)
 
 -- within 1 + d(d − 1)/2 rounds, an end in itself
 pub detection-in-triangle : DetectionInTriangle

@@ -10,11 +10,13 @@ pub mod DueLaw
 pub mod TurnEffect
 pub mod TakenLaws
 pub mod Counting
+pub mod RoundKnowledge
 pub mod Knowledge
 pub mod Listing
 pub mod Closing
 pub mod Chain
 pub mod Course
+pub mod Cube
 pub mod DetectionClaim
 pub mod BoardLaws
 pub mod OneTurn

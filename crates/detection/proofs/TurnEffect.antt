@@ -43,6 +43,10 @@ pub record Tested (n : ℕ) (L : ℕ → Bool) (mine its : ℕ → Type 0) (t : 
   pub tells : L x ≡ true → (j : ℕ) → j < n → mine j → suspects n t x j ≡ 1
   pub hears : L x ≡ true → (j : ℕ) → j < n → its j → suspects n t i j ≡ 1
 
+-- each live station suspects each station that is not live
+abbrev pub Exact : ℕ → (ℕ → Bool) → List ℕ → Type 0
+Exact n L t = (i j : ℕ) → i < n → j < n → L i ≡ true → L j ≡ false → suspects n t i j ≡ 1
+
 -- what i suspects
 abbrev pub Row : ℕ → List ℕ → ℕ → ℕ → Type 0
 Row n t i j = suspects n t i j ≡ 1
@@ -167,13 +171,12 @@ module _ (n : ℕ) (L : ℕ → Bool) (t : List ℕ) (i x : ℕ) (p : Plain n L 
       by_bool (L x) (λ e. rw (p.lives x hx ∙ e, eq-eqb kind kind_turn (prompt e), none_told e) (exchanged e))
       (λ e. rw (p.lives x hx ∙ e) (marked e))
 
--- a turn of i: of the distances that it passes none before the last was due, and at one that was due it tested
+-- a turn of i, whatever the wiring: where it makes a test, it tests the station there
 pub record TurnKept (n : ℕ) (L : ℕ → Bool) (t t' : List ℕ) (i : ℕ) : Type 0 where
   pub plain : Plain n L t'
   pub grows : Grown n t t'
-  pub undue : (m k : ℕ) → next_distance n t i ≤ k → k < m → m < next_distance n t' i → due (row n t i) i k ≡ false
-  pub passed : (m : ℕ) → next_distance n t i ≤ m → m < next_distance n t' i → due (row n t i) i m ≡ true
-      → Tested n L (Row n t i) (Row n t (station_at i m)) t' i (station_at i m)
+  pub tests : makes_test n t i ≡ true
+      → Tested n L (Row n t i) (Row n t (station_at i (next_test n t i))) t' i (station_at i (next_test n t i))
 
 -- a station with a live one beside it that it does not suspect is not alone
 pub not-alone : (n : ℕ) (L : ℕ → Bool) (t : List ℕ) (i : ℕ) → Plain n L t → Company n L → i < n → L i ≡ true → after_alone n t i ≡ t
@@ -184,26 +187,16 @@ not-alone n L t i p company hi li =
     rw (every-not (self_or_suspected n t i) n o.0 o.1 fails, and-false)
 
 -- a turn of a live station, where the reply of a live station is not late
-pub turn-effect : (n : ℕ) (L : ℕ → Bool) (t : List ℕ) (kind i : ℕ) → is_size n ≡ true → Plain n L t → Company n L → i < n → L i ≡ true
-    → finished n t i ≡ 0
+pub turn-effect : (n : ℕ) (L : ℕ → Bool) (t : List ℕ) (kind i : ℕ) → Plain n L t → Company n L → i < n → L i ≡ true → finished n t i ≡ 0
     → (makes_test n t i ≡ true → L (station_at i (next_test n t i)) ≡ true → kind ≡ kind_turn) → TurnKept n L t (turn n t kind i) i
 unfolding turn testing
-turn-effect n L t kind i size p company hi li going prompt = by_bool (makes_test n t i) makes (λ e. rw e (finishes e))
+turn-effect n L t kind i p company hi li going prompt = by_bool (makes_test n t i) makes (λ e. rw e (finishes e))
   where
-    next : next_distance n (turn n t kind i) i ≡ cond (makes_test n t i) (next_test n t i + 1) (distances n)
-    next = (turn-heads n t kind i size p.lines hi).next
-
     finishes : makes_test n t i ≡ false → TurnKept n L t (finish_pass n t i) i
     finishes e =
         let lines = finish_pass-lines n t i p.lines hi in
         let same = same_rows n L t _ lines (λ k c h counts _. finish_pass-other n t i k c h (λ _. (λ e. counts (omega arith), λ e. counts (omega arith)))) p in
-        let none = none-due n t i e (p.lines.1 i hi).pass.next_high in
-        record {
-          plain = same.0;
-          grows = same.1;
-          undue = λ m k lo l below. none k lo (omega (arith, rw e at next));
-          passed = λ m lo below is_due. absurd (true≢false (sym is_due ∙ none m lo (omega (arith, rw e at next))));
-        }
+        record { plain = same.0; grows = same.1; tests = λ m. absurd (true≢false (sym m ∙ e)) }
 
     makes : makes_test n t i ≡ true → TurnKept n L t (turn n t kind i) i
     makes e =
@@ -220,10 +213,5 @@ turn-effect n L t kind i size p company hi li going prompt = by_bool (makes_test
         rw (e, stays) (record {
           plain = done.0;
           grows = λ k y hk hy s. done.1 k y hk hy (same.1 k y hk hy s);
-          undue = λ y k lo l below. not-due-before n t i k lo (omega (arith, rw (e, stays) at next));
-          passed = λ y lo hi' is_due. by_cases (dec_lt y m)
-              (λ l. absurd (true≢false (sym is_due ∙ not-due-before n t i y lo l)))
-              (λ l.
-              let last : y ≡ m = omega (arith, rw (e, stays) at next) in
-              rw last (tested-more n L _ _ i _ hi x<n (λ k y a b s. s) (λ k a. same.1 i k hi a) (λ k a. same.1 _ k x<n a) done.2));
+          tests = λ _. tested-more n L _ _ i _ hi x<n (λ k y a b s. s) (λ k a. same.1 i k hi a) (λ k a. same.1 _ k x<n a) done.2;
         })
