@@ -2,7 +2,7 @@
 -- Assumes nothing.
 use mathlib.Core.Path.{◌≡◌}
 use mathlib.Core.Bool.{Bool, true}
-use mathlib.Core.List.{List, []}
+use mathlib.Core.List.{List}
 use Prim.Native.Nat.{ℕ, suc, ◌^◌, ◌≤◌, ◌<◌}
 use native.Mathlib.Omega.{arith}
 use borrow.Author.Tests.{lt-ltb}
@@ -64,8 +64,8 @@ cube n T size = record {
   Knows = CubeKnows n (live n T);
   starts = λ t inv. (knows_start n (live n T) t inv.fresh, listed_start n (live n T) t inv.fresh);
   turns = λ t₀ t' cur s e inv turn know. (
-      turn-knows n (live n T) t₀ t' cur s e inv turn know.0,
-      turn-listed n (live n T) t₀ t' cur s e inv turn know.1,
+    turn-knows n (live n T) t₀ t' cur s e inv turn know.0,
+    turn-listed n (live n T) t₀ t' cur s e inv turn know.1,
   );
   Gives = CubeRound n T;
   closes = λ t₀ t round inv know over. round-gives n T t₀ t round (size-distances n size).0 inv know over;

@@ -12,9 +12,8 @@ use borrow.Author.Tests.{ltb-true, ltb-false, eqb-true, eqb-false, ne_eqb, not-t
 use lib.ListN.{length}
 use lib.Dec.{ltb, eqb}
 use Rattle.lists.specs.Search.{least, every}
-use Rattle.table.specs.Sizes.{is_size, dimension}
+use Rattle.table.specs.Sizes.{dimension}
 use Rattle.table.specs.Table.{suspects, live}
-use Rattle.table.specs.Rules.{not_live}
 use Rattle.lists.proofs.SearchLaws.{both, every-at, least-passes, least-before}
 use Rattle.table.proofs.Accepting.{Accepted}
 use Rattle.table.proofs.CellLaws.{accepted-line}

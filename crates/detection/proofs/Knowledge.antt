@@ -15,7 +15,7 @@ use lib.Dec.{eqb, ltb}
 use lib.Pow.{pow_pos}
 use Rattle.station.specs.Groups.{station_at, is_present, member}
 use Rattle.table.specs.Sizes.{level, distances}
-use Rattle.table.specs.Table.{next_column, tests_column, next_distance, tests_made, suspects, row}
+use Rattle.table.specs.Table.{next_column, tests_column, next_distance, tests_made, row}
 use Rattle.station.specs.Tests.{unsuspected, due}
 use Rattle.lists.proofs.Xor.{xor-cancel}
 use Rattle.lists.proofs.SearchLaws.{both}

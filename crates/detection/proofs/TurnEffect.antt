@@ -2,24 +2,21 @@
 -- Assumes nothing.
 use mathlib.Core.Path.{◌≡◌, sym, ◌∙◌}
 use mathlib.Core.Logic.{◌≢◌, by_cases}
-use mathlib.Core.Bool.{Bool, true, false, cond, and-false, true≢false}
+use mathlib.Core.Bool.{Bool, true, false, and-false, true≢false}
 use mathlib.Core.List.{List}
 use Prim.Native.Nat.{ℕ, ◌+◌, max, ◌≤◌, ◌<◌}
-use native.Mathlib.Decide.{dec_lt, ℕ_discrete}
+use native.Mathlib.Decide.{ℕ_discrete}
 use native.Mathlib.Omega.{arith}
 use borrow.Author.Tests.{eq-eqb, ne_eqb}
 use lib.ListN.{length}
-use Rattle.table.specs.Sizes.{is_size, distances}
 use Rattle.station.specs.Groups.{station_at}
-use Rattle.table.specs.Table.{head, stride, table_length, cell, status_column, status, next_distance, finished, suspects, live, row}
-use Rattle.station.specs.Tests.{due}
+use Rattle.table.specs.Table.{head, stride, table_length, cell, status_column, status, finished, suspects, live}
 use Rattle.lists.proofs.SearchLaws.{every-not}
 use Rattle.plant.specs.Turn.{kind_turn, outcome_exchanged, next_test, makes_test, finish_pass, count_test, replies, is_told, exchange_rows, suspect, reply_outcome, test_outcome, after_outcome, after_test, self_or_suspected, is_alone, after_alone, testing, turn}
 use Rattle.plant.proofs.StepCells.{finish_pass-other, count_test-other, suspect-same, suspect-other, exchange-other, exchange-tester, exchange-tested, exchange-tester-own, exchange-tested-own}
 use Rattle.plant.proofs.StepLines.{Lines, finish_pass-lines, count_test-lines, suspect-lines, exchange-lines, station-apart}
-use Rattle.plant.proofs.NextTest.{next_test-low, not-due-before, test_below, test-station, none-due}
+use Rattle.plant.proofs.NextTest.{next_test-low, test_below, test-station}
 use Rattle.lists.proofs.BoolLaws.{by_bool}
-use Rattle.plant.proofs.TurnHeads.{turn-heads}
 use Rattle.table.proofs.CellLaws.{TurnCounts, ClosingChanges}
 
 -- a table that obeys the line rules, with live set L, in which no live station suspects a live one
