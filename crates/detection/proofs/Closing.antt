@@ -24,7 +24,7 @@ use Rattle.lists.proofs.BoolLaws.{by_bool}
 use Rattle.lists.proofs.SumLaws.{sum_by, sum-zero, sum-stays, sum-const}
 use Rattle.detection.proofs.Count.{nobody, tests-and-rest}
 use Rattle.detection.proofs.TurnEffect.{Grown, Exact}
-use Rattle.detection.proofs.RoundKnowledge.{InRound, reset-rows}
+use Rattle.detection.proofs.RoundKnowledge.{InRound, reset-rows, all-finished}
 use Rattle.detection.proofs.Pass.{lift, Round}
 use Rattle.detection.proofs.Knowledge.{LiveOf, live_of, RowOf, InPassOf, leads_at, Knows, known-now}
 use Rattle.detection.proofs.Listing.{led_below, Listed}
@@ -46,11 +46,7 @@ CubeKnows n L t₀ cur t = Knows n L t₀ t × Listed n L t₀ cur t
 module _ (n : ℕ) (L : ℕ → Bool) (t₀ t : List ℕ) (here : List Taken) (inv : InRound n L t₀ here t) (know : CubeKnows n L t₀ here t)
     (over : round_over n t ≡ true) where
   at-end : (i : ℕ) → i < n → L i ≡ true → next_distance n t i ≡ distances n
-  unfolding live_finished
-  at-end i h l =
-      let all = (both (some_live n t) (every (finished_if_live n t) n) over).1 in
-      let ended : finished_if_live n t i ≡ true = every-at (finished_if_live n t) n i all h in
-      (inv.plain.lines.1 i h).pass.finished_next (eqb-true (finished n t i) 1 (rw (inv.plain.lives i h ∙ l) at ended))
+  at-end i h l = (inv.plain.lines.1 i h).pass.finished_next (all-finished n L t inv.plain over i h l)
 
   -- where it started exact, each live station has tested just the stations whose groups it leads
   round-list : Exact n L t₀ → (i : ℕ) → i < n → L i ≡ true → tested_in i here ≡ map (station_at i) (led_below n L i (distances n))

@@ -18,6 +18,10 @@ pub mod Chain
 pub mod Course
 pub mod Cube
 pub mod DetectionClaim
+pub mod Ring
+pub mod RingCount
+pub mod RingPass
+pub mod RingKnowledge
 pub mod BoardLaws
 pub mod OneTurn
 pub mod FreshStart

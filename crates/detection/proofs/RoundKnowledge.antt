@@ -5,8 +5,11 @@ use mathlib.Core.Path.{◌≡◌, refl, ◌∙◌}
 use mathlib.Core.Bool.{Bool, true, false}
 use mathlib.Core.List.{List, [], ◌∷◌, ◌++◌}
 use Prim.Native.Nat.{ℕ, suc, ◌≤◌, ◌<◌}
+use borrow.Author.Tests.{eqb-true}
+use Rattle.lists.specs.Search.{every}
+use Rattle.lists.proofs.SearchLaws.{both, every-at}
 use Rattle.table.specs.Table.{finished}
-use Rattle.table.specs.Rules.{round_over}
+use Rattle.table.specs.Rules.{some_live, finished_if_live, live_finished, round_over}
 use Rattle.plant.specs.Turn.{makes_test}
 use Rattle.plant.specs.Round.{reset_lines}
 use Rattle.plant.specs.Entry.{Entry, State, is_crash}
@@ -75,6 +78,14 @@ turn-in-round n L t₀ t' cur s e inv turn = record {
   plain = turn.kept.plain;
   grown = λ k j h g b. turn.kept.grows k j h g (inv.grown k j h g b);
 }
+
+-- where the round is over every live station has finished its pass
+pub all-finished : (n : ℕ) (L : ℕ → Bool) (t : List ℕ) → Plain n L t → round_over n t ≡ true → (i : ℕ) → i < n → L i ≡ true → finished n t i ≡ 1
+unfolding live_finished
+all-finished n L t p over i h l =
+    let all = (both (some_live n t) (every (finished_if_live n t) n) over).1 in
+    let ended : finished_if_live n t i ≡ true = every-at (finished_if_live n t) n i all h in
+    eqb-true (finished n t i) 1 (rw (p.lives i h ∙ l) at ended)
 
 -- what each of the closed rounds gave: the tables at the rounds' starts, their entries, and how many have closed
 abbrev pub Gave : (List ℕ → List Taken → List ℕ → Type 0) → (ℕ → List ℕ) → (ℕ → List Taken) → ℕ → Type 0
