@@ -70,4 +70,4 @@ exact-round-tests n s calls given k closed rows =
 pub exact-round-tests-after-latency : ExactRoundTestsAfterLatency
 exact-round-tests-after-latency n s calls given k far closed =
     let course = (history n s calls given (accepted n s calls given k closed)).0 in
-    tests-are-the-due n s calls given k closed (exact-at n s.table given.size course.start _ _ course.gave k far (omega arith))
+    tests-are-the-due n s calls given k closed (exact-at n s.table given.size course.start _ _ course.gave k (omega arith) (omega arith))

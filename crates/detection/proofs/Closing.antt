@@ -5,14 +5,12 @@ use mathlib.Core.Bool.{Bool, true, false, cond, ◌&&◌, and-false}
 use mathlib.Core.List.{List, map}
 use Prim.Native.Nat.{ℕ, suc, ◌+◌, ◌*◌, ◌≤◌, ◌<◌}
 use native.Mathlib.Omega.{arith}
-use borrow.Author.Tests.{eqb-true, lt-ltb, le-ltb}
+use borrow.Author.Tests.{lt-ltb, le-ltb}
 use lib.Bits.{bit_xor, xor_lt}
-use Rattle.lists.specs.Search.{every}
 use Rattle.station.specs.Groups.{station_at, is_present}
 use Rattle.table.specs.Sizes.{level, dimension, distances}
-use Rattle.table.specs.Table.{next_distance, finished, tests_made, live}
-use Rattle.table.specs.Rules.{some_live, finished_if_live, live_finished, round_over}
-use Rattle.lists.proofs.SearchLaws.{both, every-at}
+use Rattle.table.specs.Table.{next_distance, tests_made, live}
+use Rattle.table.specs.Rules.{round_over}
 use Rattle.station.proofs.DueLaws.{first-not}
 use Rattle.plant.specs.Round.{reset_lines}
 use Rattle.lists.specs.Sums.{sum_below, bit}

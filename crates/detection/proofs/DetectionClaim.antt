@@ -6,7 +6,6 @@ use mathlib.Core.Logic.{◌⊎◌, inl, inr, ◌≢◌}
 use mathlib.Core.Bool.{Bool, true, false, not, ◌&&◌}
 use mathlib.Core.List.{List, [], ◌∷◌, ◌++◌}
 use Prim.Native.Nat.{ℕ, ◌≤◌, ◌<◌}
-use native.Mathlib.Nat.{le_trans}
 use native.Mathlib.Omega.{arith}
 use borrow.Author.Tests.{ltb-true, ltb-false, eqb-true, eqb-false, ne_eqb, not-true}
 use lib.ListN.{length}
@@ -106,9 +105,9 @@ module _ (n : ℕ) (s : State) (calls : List Call) (given : DetectionPremises n 
         same_live = c.plain.lives;
         turns = λ k i h g l. c.turns k i h g;
         exact_rows = λ far i j h g l.
-            let exact = K.exact c.start _ _ c.gave _ (le_trans known far) (omega arith) i j h g l in
+            let exact = K.exact c.start _ _ c.gave (length (rounds_of s calls).closed) (omega arith) (omega arith) i j h g l in
             by_bool (L j) (λ e. rw e (c.plain.accurate i j h g l e)) (λ e. rw e (c.grown i j h g (exact e)));
-        tests = λ k far h. K.counted c.start _ _ c.gave k (le_trans from far) h ∙ count;
+        tests = λ k far h. K.counted c.start _ _ c.gave k (omega arith) h ∙ count;
         rounds_tally = rounds.1.rounds;
         tests_tally = omega (arith, rounds.1.tests);
       }

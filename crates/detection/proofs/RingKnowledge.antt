@@ -1,7 +1,7 @@
 -- The ring: what is known within its rounds, what its closed rounds give, and after how many of them all is known. Who tests whom is supposed: that
 -- a turn does on the table what `RingTurn` says, and that a finished line has next distance n.
 -- Assumes nothing.
-use mathlib.Core.Path.{◌≡◌, ◌∙◌}
+use mathlib.Core.Path.{◌≡◌}
 use mathlib.Core.Bool.{Bool, true}
 use mathlib.Core.List.{List}
 use Prim.Native.Nat.{ℕ, suc, ◌/◌, ◌≤◌, ◌<◌}
@@ -41,8 +41,7 @@ module _ (n : ℕ) (L : ℕ → Bool) (two : 2 ≤ n) (company : Company n L) (w
       λ i h l. ended t inv.plain i h (all-finished n L t inv.plain over i h l) in
       let gave = ring-round n L (Row n t₀) (Row n t) (next_distance n t) (tests_made n t) know company last in
       let made = ring-made n L (Row n t₀) (Row n t) (next_distance n t) (tests_made n t) know company last in
-      let count = ring-tests n L (tests_made n t) w hw alive made know.rest in
-      (
+      let count = ring-tests n L (tests_made n t) w hw alive made know.rest in (
         round-later n L (Row n t₀) (Row n t) (Row n (reset_lines n t)) (λ i j h g r. (reset-rows n L t inv.plain).1 i j h g r) gave,
         omega (arith, inv.counts.tests, sum-zero n (λ i h. (inv.fresh i h).untested), count),
       )
