@@ -2,7 +2,7 @@
 -- Assumes nothing.
 use mathlib.Core.Path.{◌≡◌, sym, ◌∙◌}
 use mathlib.Core.Logic.{◌≢◌, by_cases}
-use mathlib.Core.Bool.{Bool, true, false, and-false, true≢false}
+use mathlib.Core.Bool.{Bool, true, false, cond, and-false, true≢false}
 use mathlib.Core.List.{List}
 use Prim.Native.Nat.{ℕ, ◌+◌, max, ◌≤◌, ◌<◌}
 use native.Mathlib.Decide.{ℕ_discrete}
@@ -12,7 +12,7 @@ use lib.ListN.{length}
 use Rattle.station.specs.Groups.{station_at}
 use Rattle.table.specs.Table.{head, stride, table_length, cell, status_column, status, finished, suspects, live}
 use Rattle.lists.proofs.SearchLaws.{every-not}
-use Rattle.plant.specs.Turn.{kind_turn, outcome_exchanged, next_test, makes_test, finish_pass, count_test, replies, is_told, exchange_rows, suspect, reply_outcome, test_outcome, after_outcome, after_test, self_or_suspected, is_alone, after_alone, testing, turn}
+use Rattle.plant.specs.Turn.{kind_turn, outcome_exchanged, outcome_no_reply, next_test, makes_test, finish_pass, count_test, replies, is_told, exchange_rows, suspect, reply_outcome, test_outcome, after_outcome, after_test, self_or_suspected, is_alone, after_alone, testing, turn}
 use Rattle.plant.proofs.StepCells.{finish_pass-other, count_test-other, suspect-same, suspect-other, exchange-other, exchange-tester, exchange-tested, exchange-tester-own, exchange-tested-own}
 use Rattle.plant.proofs.StepLines.{Lines, finish_pass-lines, count_test-lines, suspect-lines, exchange-lines, station-apart}
 use Rattle.plant.proofs.NextTest.{next_test-low, test_below, test-station}
@@ -161,12 +161,19 @@ module _ (n : ℕ) (L : ℕ → Bool) (t : List ℕ) (i x : ℕ) (p : Plain n L 
   unfolding reply_outcome is_told
   none_told e = rw (p.accurate x i hx hi e li, p.accurate i x hi hx li e)
 
-  -- the reply of a live station is not late
+  -- the outcome, where the reply of a live station is not late
+  pub outcome-is : (kind : ℕ) → (L x ≡ true → kind ≡ kind_turn) → test_outcome n t kind i x ≡ cond (L x) outcome_exchanged outcome_no_reply
+  unfolding test_outcome replies
+  outcome-is kind prompt =
+      by_bool (L x) (λ e. rw (p.lives x hx ∙ e, eq-eqb kind kind_turn (prompt e), none_told e, e)) (λ e. rw (p.lives x hx ∙ e, e))
+
+  -- what comes of it
+  pub outcome-effect : Step (after_outcome n t i x (cond (L x) outcome_exchanged outcome_no_reply))
+  unfolding after_outcome
+  outcome-effect = by_bool (L x) (λ e. rw e (exchanged e)) (λ e. rw e (marked e))
+
   pub tested : (kind : ℕ) → (L x ≡ true → kind ≡ kind_turn) → Step (after_test n t kind i x)
-  unfolding after_outcome test_outcome replies
-  tested kind prompt =
-      by_bool (L x) (λ e. rw (p.lives x hx ∙ e, eq-eqb kind kind_turn (prompt e), none_told e) (exchanged e))
-      (λ e. rw (p.lives x hx ∙ e) (marked e))
+  tested kind prompt = rw (outcome-is kind prompt) outcome-effect
 
 -- a turn of i, whatever the wiring: where it makes a test, it tests the station there
 pub record TurnKept (n : ℕ) (L : ℕ → Bool) (t t' : List ℕ) (i : ℕ) : Type 0 where
