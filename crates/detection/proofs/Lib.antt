@@ -5,6 +5,9 @@ pub mod Latency
 pub mod Leaders
 pub mod Spread
 pub mod Detected
+pub mod Circle
+pub mod RingSpread
+pub mod RingCount
 pub mod Count
 pub mod DueLaw
 pub mod TurnEffect
@@ -18,8 +21,6 @@ pub mod Chain
 pub mod Course
 pub mod Cube
 pub mod DetectionClaim
-pub mod Ring
-pub mod RingCount
 pub mod RingPass
 pub mod RingKnowledge
 pub mod BoardLaws

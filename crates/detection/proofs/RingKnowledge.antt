@@ -4,7 +4,7 @@
 use mathlib.Core.Path.{◌≡◌}
 use mathlib.Core.Bool.{Bool, true}
 use mathlib.Core.List.{List}
-use Prim.Native.Nat.{ℕ, suc, ◌/◌, ◌≤◌, ◌<◌}
+use Prim.Native.Nat.{ℕ, suc, ◌+◌, ◌-◌, ◌/◌, ◌≤◌, ◌<◌}
 use native.Mathlib.Omega.{arith}
 use Rattle.table.specs.Table.{next_distance, finished, tests_made}
 use Rattle.table.specs.Rules.{round_over}
@@ -15,9 +15,9 @@ use Rattle.detection.specs.Runs.{Taken}
 use Rattle.detection.specs.Rounds.{tests_in}
 use Rattle.detection.proofs.TurnEffect.{Plain, Company, Row, Exact}
 use Rattle.detection.proofs.RoundKnowledge.{InRound, reset-rows, TurnTaken, all-finished, Gave, RoundKnowledge}
-use Rattle.detection.proofs.Ring.{RingRound, round-later, ring-known}
-use Rattle.detection.proofs.RingCount.{ring-tests}
-use Rattle.detection.proofs.RingPass.{RingKnows, ring-start, RingTurn, ring-turn, ring-round, ring-made}
+use Rattle.detection.proofs.RingSpread.{all-known}
+use Rattle.detection.proofs.RingCount.{all-tests}
+use Rattle.detection.proofs.RingPass.{RingStep, RingKnows, ring-start, RingTurn, ring-turn, ring-step, ring-made, step-later, Among, ring-round}
 
 -- what is known within a round
 abbrev pub KnowsOf : ℕ → (ℕ → Bool) → List ℕ → List ℕ → Type 0
@@ -29,9 +29,9 @@ TurnOf n L t t' i = RingTurn n L (Row n t) (Row n t') (next_distance n t) (next_
 
 -- what a closed round gives: what it did to the rows, and n tests
 abbrev pub RoundOf : ℕ → (ℕ → Bool) → List ℕ → List Taken → List ℕ → Type 0
-RoundOf n L t₀ round t₁ = RingRound n L (Row n t₀) (Row n t₁) × (tests_in round ≡ n)
+RoundOf n L t₀ round t₁ = RingStep n L (Row n t₀) (Row n t₁) × (tests_in round ≡ n)
 
-module _ (n : ℕ) (L : ℕ → Bool) (two : 2 ≤ n) (company : Company n L) (w : ℕ) (hw : w < n) (alive : L w ≡ true)
+module _ (n : ℕ) (L : ℕ → Bool) (two : 2 ≤ n) (company : Company n L) (z : ℕ) (hz : z < n) (lz : L z ≡ true)
     (ended : (t : List ℕ) → Plain n L t → (i : ℕ) → i < n → finished n t i ≡ 1 → next_distance n t i ≡ n)
     (tests : (s : State) (e : Entry) (t' : List ℕ) → Plain n L s.table → TurnTaken n L s e t' → TurnOf n L s.table t' e.station) where
   closed-gives : (t₀ t : List ℕ) (round : List Taken) → InRound n L t₀ round t → KnowsOf n L t₀ t → round_over n t ≡ true
@@ -39,29 +39,24 @@ module _ (n : ℕ) (L : ℕ → Bool) (two : 2 ≤ n) (company : Company n L) (w
   closed-gives t₀ t round inv know over =
       let last : (i : ℕ) → i < n → L i ≡ true → next_distance n t i ≡ n =
       λ i h l. ended t inv.plain i h (all-finished n L t inv.plain over i h l) in
-      let gave = ring-round n L (Row n t₀) (Row n t) (next_distance n t) (tests_made n t) know company last in
-      let made = ring-made n L (Row n t₀) (Row n t) (next_distance n t) (tests_made n t) know company last in
-      let count = ring-tests n L (tests_made n t) w hw alive made know.rest in (
-        round-later n L (Row n t₀) (Row n t) (Row n (reset_lines n t)) (λ i j h g r. (reset-rows n L t inv.plain).1 i j h g r) gave,
-        omega (arith, inv.counts.tests, sum-zero n (λ i h. (inv.fresh i h).untested), count),
+      let step = ring-step n L (Row n t₀) (Row n t) (next_distance n t) (tests_made n t) know company last in
+      let made = ring-made n L (Row n t₀) (Row n t) (next_distance n t) (tests_made n t) know company last in (
+        step-later n L (Row n t₀) (Row n t) (Row n (reset_lines n t)) (λ i j h g r. (reset-rows n L t inv.plain).1 i j h g r) step,
+        omega (arith, inv.counts.tests, sum-zero n (λ i h. (inv.fresh i h).untested), all-tests n L z hz lz (tests_made n t) made know.rest),
       )
 
+  -- the last ⌊n/2⌋ rounds before round q
   exact-after : (start : ℕ → List ℕ) (round : ℕ → List Taken) (closed : ℕ) → Gave (RoundOf n L) start round closed
       → (q : ℕ) → n / 2 ≤ q → q ≤ closed → Exact n L (start q)
-  exact-after start round closed gave q far last i j h g l f = ring-known n L rows rounds (omega arith) q i j h g l f far last
+  exact-after start round closed gave q far last i j h g l f =
+      let now : q - n / 2 + n / 2 ≡ q = omega arith in
+      rw now at (all-known n L (Among n rows) (λ r b. ring-round n L rows r (omega arith) (step r b)) i j h g l f h g)
     where
-      -- after the last closed round a row holds every number
       rows : ℕ → ℕ → ℕ → Type 0
-      rows q i j = q ≤ closed → Row n (start q) i j
+      rows r i j = Row n (start (q - n / 2 + r)) i j
 
-      rounds : (q : ℕ) → RingRound n L (rows q) (rows (suc q))
-      rounds q = record {
-        keeps = λ i j h g r l. (gave q l).0.keeps i j h g (r (omega arith));
-        finds = λ i b k h next lo hi.
-            (λ l. ((gave q l).0.finds i b k h next lo hi).0, λ l. ((gave q l).0.finds i b k h next lo hi).1);
-        joins = λ i b j h g next.
-            (λ r l. ((gave q l).0.joins i b j h g next).0 (r (omega arith)), λ r l. ((gave q l).0.joins i b j h g next).1 (r (omega arith)));
-      }
+      step : (r : ℕ) → r < n / 2 → RingStep n L (rows r) (rows (suc r))
+      step r b = let next : suc (q - n / 2 + r) ≡ q - n / 2 + suc r = omega arith in rw next at (gave (q - n / 2 + r) (omega arith)).0
 
   -- what the claim takes of the ring
   pub ring : RoundKnowledge n L

@@ -1,15 +1,15 @@
--- What live stations have done in their passes of a round on the ring. A live set, rows, next distances and tests made over numbers, nothing else;
--- positions are those of Ring.antt.
+-- What live stations have done in their passes of a round on the ring, and what the round gives where it closes. A live set, rows, next distances
+-- and tests made over numbers, nothing else; positions are those of Circle.antt.
 -- Assumes nothing.
-use mathlib.Core.Path.{◌≡◌, sym, ◌∙◌}
+use mathlib.Core.Path.{◌≡◌, sym, ap, ◌∙◌}
 use mathlib.Core.Logic.{◌⊎◌, inl, inr, ◌≢◌, by_cases}
 use mathlib.Core.Bool.{Bool, true, false, true≢false}
-use Prim.Native.Nat.{ℕ, suc, ◌+◌, ◌%◌, ◌≤◌, ◌<◌}
-use native.Mathlib.Nat.{mod-lt, mod-eq_of_lt, add-mod_right}
+use Prim.Native.Nat.{ℕ, suc, ◌+◌, ◌-◌, ◌%◌, ◌≤◌, ◌<◌}
+use native.Mathlib.Nat.{mod-lt, mod-eq_of_lt, mod-add-mod, add-mod_right}
 use native.Mathlib.Decide.{dec_lt, ℕ_discrete}
 use native.Mathlib.Omega.{arith}
 use Rattle.lists.proofs.BoolLaws.{by_bool}
-use Rattle.detection.proofs.Ring.{Next, next-same, RingRound}
+use Rattle.detection.proofs.Circle.{NextLive, RingRound}
 
 -- station i, whose next distance is q, has found that nobody before it is live
 pub record Walking (n : ℕ) (live : ℕ → Bool) (row : ℕ → ℕ → Type 0) (i q made : ℕ) : Type 0 where
@@ -20,9 +20,20 @@ pub record Walking (n : ℕ) (live : ℕ → Bool) (row : ℕ → ℕ → Type 0
 
 -- it has exchanged with the next live station, which stands at position b; `old` has the rows at the round's start
 pub record Exchanged (n : ℕ) (live : ℕ → Bool) (old row : ℕ → ℕ → Type 0) (i b : ℕ) : Type 0 where
-  pub next : Next n live i b
+  pub next : NextLive n live i b
   pub found : (k : ℕ) → i < k → k < b → row i (k % n) × row (b % n) (k % n)
   pub joined : (j : ℕ) → j < n → (old i j → row (b % n) j) × (old (b % n) j → row i j)
+
+-- the next live position after a live one is one only
+next-same : (n : ℕ) (live : ℕ → Bool) (i a b : ℕ) → NextLive n live i a → NextLive n live i b → a ≡ b
+next-same n live i a b f g =
+    by_cases (dec_lt a b) (λ l. absurd (true≢false (sym f.to ∙ g.between a f.later l)))
+    (λ l. by_cases (dec_lt b a) (λ m. absurd (true≢false (sym g.to ∙ f.between b g.later m))) (λ m. omega arith))
+
+-- what a closed round gives of the rows at its start, `old`, and those at its end, `row`: each live station has exchanged with the next one
+pub record RingStep (n : ℕ) (live : ℕ → Bool) (old row : ℕ → ℕ → Type 0) : Type 0 where
+  pub keeps : (k j : ℕ) → k < n → j < n → old k j → row k j
+  pub met : (i b : ℕ) → i < n → NextLive n live i b → Exchanged n live old row i b
 
 -- what is known within a round, by next distances and tests made
 pub record RingKnows (n : ℕ) (live : ℕ → Bool) (old row : ℕ → ℕ → Type 0) (next made : ℕ → ℕ) : Type 0 where
@@ -72,6 +83,14 @@ module _ (n : ℕ) (live : ℕ → Bool) (row row' : ℕ → ℕ → Type 0) (gr
     joined = λ j h. (λ r. grows (b % n) j (mod-lt b (omega arith)) h ((x.joined j h).0 r), λ r. grows i j hi h ((x.joined j h).1 r));
   }
 
+-- what a closed round gives is given of larger rows too
+pub step-later : (n : ℕ) (live : ℕ → Bool) (old row row' : ℕ → ℕ → Type 0) → ((k j : ℕ) → k < n → j < n → row k j → row' k j)
+    → RingStep n live old row → RingStep n live old row'
+step-later n live old row row' grows step = record {
+  keeps = λ k j h g r. grows k j h g (step.keeps k j h g r);
+  met = λ i b h next. exchanged-later n live row row' grows i h old b (step.met i b h next);
+}
+
 -- a turn keeps what is known
 module _ (n : ℕ) (live : ℕ → Bool) (old row row' : ℕ → ℕ → Type 0) (next next' made made' : ℕ → ℕ) (i : ℕ) (hi : i < n) (alive : live i ≡ true)
     (turn : RingTurn n live row row' next next' made made' i) (know : RingKnows n live old row next made) where
@@ -98,7 +117,7 @@ module _ (n : ℕ) (live : ℕ → Bool) (old row row' : ℕ → ℕ → Type 0)
   meets w below l =
       let got = (turn.exchanges below l).1 in
       record {
-        next = record { from = rw (mod-eq_of_lt hi) alive; to = l; after = omega (arith, w.tests); none = w.dead };
+        next = record { later = omega (arith, w.tests); from = rw (mod-eq_of_lt hi) alive; to = l; between = w.dead };
         found = λ k a b.
             let c : k % n < n = mod-lt k (omega arith) in
             (turn.grows i (k % n) hi c (w.found k a b), (got (k % n) c).0 (w.found k a b));
@@ -156,20 +175,65 @@ module _ (n : ℕ) (live : ℕ → Bool) (old row : ℕ → ℕ → Type 0) (nex
           let back = add-mod_right o.0 n ∙ mod-eq_of_lt o.1 in
           absurd (true≢false (sym o.3 ∙ (rw back at (w.dead (o.0 + n) (omega (arith, o.1)) (omega (arith, ended i h l, o.1)))))))
 
-  -- the round gives what is asked of a closed round
-  pub ring-round : RingRound n live old row
-  ring-round = record {
+  -- what the round gives
+  pub ring-step : RingStep n live old row
+  ring-step = record {
     keeps = know.grown;
-    finds = λ i b k h next lo hi.
+    met = λ i b h next.
         let x = exchanged i h (rw (mod-eq_of_lt h) at next.from) in
-        let same = next-same n live i _ _ x.next next in
-        rw same at (x.found k lo (omega arith));
-    joins = λ i b j h g next.
-        let x = exchanged i h (rw (mod-eq_of_lt h) at next.from) in
-        let same = next-same n live i _ _ x.next next in
-        rw same at (x.joined j g);
+        rw (next-same n live i _ _ x.next next) at x;
   }
 
   -- each live station has made a test for each place up to the next live one
-  pub ring-made : (i b : ℕ) → i < n → Next n live i b → i + made i ≡ b
-  ring-made i b h next = next-same n live i _ _ (exchanged i h (rw (mod-eq_of_lt h) at next.from)).next next
+  pub ring-made : (i b : ℕ) → i < n → NextLive n live i b → made i ≡ b - i
+  ring-made i b h next =
+      let same = next-same n live i _ _ (exchanged i h (rw (mod-eq_of_lt h) at next.from)).next next in
+      omega arith
+
+-- from a station's number to any of its positions
+place : (n a k : ℕ) → a ≤ k → (a % n + (k - a)) % n ≡ k % n
+place n a k l = let e : a + (k - a) ≡ k = omega arith in mod-add-mod a n (k - a) ∙ ap (λ (x : ℕ). x % n) e
+
+next-shift : (n : ℕ) (live : ℕ → Bool) (a b : ℕ) → 0 < n → NextLive n live a b → NextLive n live (a % n) (a % n + (b - a))
+next-shift n live a b pos next = record {
+  later = omega (arith, next.later);
+  from = rw (mod-eq_of_lt (mod-lt a pos)) next.from;
+  to = rw (place n a b (omega (arith, next.later))) next.to;
+  between = λ k lo hi.
+      let y : ℕ = a + (k - a % n) in
+      let e : a % n + (y - a) ≡ k = omega arith in
+      rw (← e, place n a y (omega arith)) (next.between y (omega arith) (omega (arith, next.later)));
+}
+
+-- absent numbers suspect and are suspected; `rows q` has the rows where round q starts
+abbrev pub Among : ℕ → (ℕ → ℕ → ℕ → Type 0) → ℕ → ℕ → ℕ → Type 0
+Among n rows q i j = i < n → j < n → rows q i j
+
+-- a closed round gives what RingSpread.antt supposes of it
+module _ (n : ℕ) (live : ℕ → Bool) (rows : ℕ → ℕ → ℕ → Type 0) (r : ℕ) (pos : 0 < n) (step : RingStep n live (rows r) (rows (suc r))) where
+  module _ (a b : ℕ) (next : NextLive n live a b) where
+    same : (a % n + (b - a)) % n ≡ b % n
+    same = place n a b (omega (arith, next.later))
+
+    at-place : Exchanged n live (rows r) (rows (suc r)) (a % n) (a % n + (b - a))
+    at-place = step.met (a % n) (a % n + (b - a)) (mod-lt a pos) (next-shift n live a b pos next)
+
+    finds-at : (k : ℕ) → a < k → k < b → Among n rows (suc r) (a % n) (k % n) × Among n rows (suc r) (b % n) (k % n)
+    finds-at k lo hi =
+        let got = at-place.found (a % n + (k - a)) (omega arith) (omega arith) in
+        let here = rw (same, place n a k (omega arith)) at got in
+        (λ h g. here.0, λ h g. here.1)
+
+    tells-at : (j : ℕ) → Among n rows r (a % n) j → Among n rows (suc r) (b % n) j
+    tells-at j had h g = (rw same at (at-place.joined j g).0) (had (mod-lt a pos) g)
+
+    hears-at : (j : ℕ) → Among n rows r (b % n) j → Among n rows (suc r) (a % n) j
+    hears-at j had h g = (rw same at (at-place.joined j g).1) (had (mod-lt b pos) g)
+
+  pub ring-round : RingRound n live (Among n rows) r
+  ring-round = record {
+    keeps = λ i j had h g. step.keeps i j h g (had h g);
+    finds = λ a b k next lo hi. finds-at a b next k lo hi;
+    tells = λ a b j next. tells-at a b next j;
+    hears = λ a b j next. hears-at a b next j;
+  }
