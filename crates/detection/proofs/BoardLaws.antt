@@ -11,6 +11,7 @@ use Rattle.std.specs.List.{range_with_len}
 use Rattle.lists.specs.Sums.{bit}
 use Rattle.station.specs.Groups.{station_at}
 use Rattle.table.specs.Sizes.{distances}
+use Rattle.table.specs.Wiring.{wiring_cube}
 use Rattle.table.specs.Table.{live}
 use Rattle.table.specs.Rules.{not_live}
 use Rattle.station.specs.Tests.{due, due_distances}
@@ -24,11 +25,12 @@ use Rattle.detection.specs.Rounds.{cut}
 use Rattle.detection.specs.Claim.{rounds_of, DetectionPremises}
 use Rattle.table.specs.Properties.{exact_row, ExactRows}
 use Rattle.detection.specs.Boards.{TestsAreTheDue, ExactRoundTests, ExactRoundTestsAfterLatency}
-use Rattle.detection.proofs.Chain.{chain-all, chain_first}
-use Rattle.detection.proofs.TurnEffect.{Plain}
-use Rattle.detection.proofs.Knowledge.{Exact, leads_at, row-due}
+use Rattle.detection.proofs.Chain.{on-wiring, chain-all, chain_first}
+use Rattle.detection.proofs.TurnEffect.{Plain, Exact}
+use Rattle.detection.proofs.Knowledge.{leads_at, row-due}
 use Rattle.detection.proofs.Listing.{led_below}
-use Rattle.detection.proofs.DetectionClaim.{history, exact}
+use Rattle.detection.proofs.Cube.{exact-at}
+use Rattle.detection.proofs.DetectionClaim.{history}
 
 -- the distances due by the exact row are those at which a station leads
 exact-list : (n : ℕ) (T : List ℕ) (i : ℕ) → due_distances (exact_row n T) i n ≡ led_below n (live n T) i (distances n)
@@ -39,27 +41,27 @@ exact-list n T i =
     (range_with_len 0 (distances n))
 
 -- exact rows, byte by byte
-exact_bytes : (n : ℕ) (L : ℕ → Bool) (t : List ℕ) → Plain n L t → ExactRows n t → Exact n L t
+exact_bytes : (n : ℕ) (L : ℕ → Bool) (t : List ℕ) → Plain wiring_cube n L t → ExactRows n t → Exact n L t
 unfolding exact_row
 exact_bytes n L t p rows i j hi hj li lj =
     sym (row_at n t i j hj) ∙ ap (λ (r : List ℕ). get_or r j 0) (rows i hi (p.lives i hi ∙ li)) ∙ list_of-at (λ j. bit (not_live n t j)) n j hj
     ∙ ap (λ b. bit (not b)) (p.lives j hj ∙ lj)
 
-module _ (n : ℕ) (s : State) (calls : List Call) (given : DetectionPremises n s calls) (k : ℕ) (closed : k < length (rounds_of s calls).closed) where
+module _ (n : ℕ) (s : State) (calls : List Call) (given : DetectionPremises wiring_cube n s calls) (k : ℕ) (closed : k < length (rounds_of s calls).closed) where
   abbrev L : ℕ → Bool
   L = live n s.table
 
   -- some round has closed, so that an entry was taken
-  accepted : Accepted n s.table
+  accepted : Accepted wiring_cube n s.table
   unfolding cut
-  accepted = go (chain_first (chain-all n s calls given.long))
+  accepted = go (chain_first (on-wiring (chain-all n s calls given.long) given.one_wiring))
     where
-      go : ((taken_all s calls ≡ []) × (after_runs s calls ≡ s)) ⊎ Accepted n s.table → Accepted n s.table
+      go : ((taken_all s calls ≡ []) × (after_runs s calls ≡ s)) ⊎ Accepted wiring_cube n s.table → Accepted wiring_cube n s.table
       go (inl e) = let none : length (rounds_of s calls).closed ≡ 0 = rw e.0 in absurd (omega (arith, none))
       go (inr ok) = ok
 
   tests-are-the-due : Exact n L ((history n s calls given accepted).0.start k) → TestsAreTheDue n s calls k
-  tests-are-the-due e i h l = (history n s calls given accepted).0.listed k closed e i h l ∙ ap (map (station_at i)) (sym (exact-list n s.table i))
+  tests-are-the-due e i h l = ((history n s calls given accepted).0.gave k closed).listed e i h l ∙ ap (map (station_at i)) (sym (exact-list n s.table i))
 
 pub exact-round-tests : ExactRoundTests
 exact-round-tests n s calls given k closed rows =
@@ -68,4 +70,5 @@ exact-round-tests n s calls given k closed rows =
 
 pub exact-round-tests-after-latency : ExactRoundTestsAfterLatency
 exact-round-tests-after-latency n s calls given k far closed =
-    tests-are-the-due n s calls given k closed (exact n s calls given (accepted n s calls given k closed) k far (omega arith))
+    let course = (history n s calls given (accepted n s calls given k closed)).0 in
+    tests-are-the-due n s calls given k closed (exact-at n s.table given.size course.start _ _ course.gave k (omega arith) (omega arith))

@@ -3,7 +3,8 @@
 use mathlib.Core.Path.{◌≡◌, refl, sym, ◌∙◌}
 use mathlib.Core.Logic.{◌⊎◌, inl, inr}
 use mathlib.Core.List.{List, [], ◌∷◌, ◌++◌}
-use Prim.Native.Nat.{ℕ, suc, ◌+◌, ◌≤◌, ◌<◌}
+use mathlib.Core.Bool.{true}
+use Prim.Native.Nat.{ℕ, suc, ◌≤◌, ◌<◌}
 use native.Mathlib.Nat.{mul-le-mul, suc-mul}
 use native.Mathlib.Omega.{arith}
 use lib.ListN.{length}
@@ -15,43 +16,58 @@ use Rattle.plant.proofs.RunLaws.{start-facts}
 use Rattle.plant.specs.Entry.{Entry, State, entry_refusal, after, sheet_line}
 use Rattle.plant.specs.Run.{entries, write_line, go_on, start_check, start_refusal, run}
 use Rattle.plant.proofs.RulesKept.{accepted-kept}
-use Rattle.std.proofs.lemmas.List.Elements.{All-head, All-tail}
-use Rattle.detection.specs.Runs.{Call, Taken, IsOnWiring, AllOnWiring, after_run, after_runs, taken_from, taken_in, taken_all}
+use Rattle.detection.specs.Runs.{Call, Taken, after_run, after_runs, taken_from, taken_in, taken_all, is_on}
+use Rattle.detection.specs.Rounds.{all_taken}
 use Rattle.lists.proofs.BoolLaws.{by_bool}
+use Rattle.lists.proofs.SearchLaws.{both}
 use Rattle.detection.proofs.TakenLaws.{taken_at}
 
--- entries taken one behind the other at size n, from a state to a state
-pub data Chain (w n : ℕ) : State → List Taken → State → Type 0 where
-  done : {s : State} → Chain w n s [] s
-  more : {s s' : State} {xs : List Taken} (e : Entry) → Accepted w n s.table → entry_refusal n s e ≡ 0 → Chain w n (after w n s e) xs s'
-      → Chain w n s (taken_at w n s e ∷ xs) s'
+-- entries taken one behind the other at size n, each on the wiring of its run, from a state to a state
+pub data Chain (n : ℕ) : State → List Taken → State → Type 0 where
+  done : {s : State} → Chain n s [] s
+  more : {s s' : State} {xs : List Taken} (w : ℕ) (e : Entry) → Accepted w n s.table → entry_refusal n s e ≡ 0 → Chain n (after w n s e) xs s'
+      → Chain n s (taken_at w n s e ∷ xs) s'
+
+-- all on one wiring
+pub data WiredChain (w n : ℕ) : State → List Taken → State → Type 0 where
+  ends : {s : State} → WiredChain w n s [] s
+  next : {s s' : State} {xs : List Taken} (e : Entry) → Accepted w n s.table → entry_refusal n s e ≡ 0 → WiredChain w n (after w n s e) xs s'
+      → WiredChain w n s (taken_at w n s e ∷ xs) s'
+
+pub on-wiring : {w n : ℕ} {s s' : State} {xs : List Taken} → Chain n s xs s' → all_taken (is_on w) xs ≡ true → WiredChain w n s xs s'
+unfolding all_taken
+on-wiring done one = ends
+on-wiring {w} (more {xs = xs} v e a z c) one =
+    let p = both (eqb v w) (all_taken (is_on w) xs) one in
+    let same = eqb-true v w p.0 in
+    rw same (next e (rw same at a) z (rw same at (on-wiring c p.1)))
 
 -- two chains, one behind the other
-chain-append : {w n : ℕ} {s s' s'' : State} {xs ys : List Taken} → Chain w n s xs s' → Chain w n s' ys s'' → Chain w n s (xs ++ ys) s''
+chain-append : {n : ℕ} {s s' s'' : State} {xs ys : List Taken} → Chain n s xs s' → Chain n s' ys s'' → Chain n s (xs ++ ys) s''
 chain-append done d = d
-chain-append (more e a z c) d = more e a z (chain-append c d)
+chain-append (more w e a z c) d = more w e a z (chain-append c d)
 
 -- the table keeps its length
-chain-long : {w n : ℕ} {s s' : State} {xs : List Taken} → Chain w n s xs s' → length s.table ≡ table_length n
+chain-long : {n : ℕ} {s s' : State} {xs : List Taken} → Chain n s xs s' → length s.table ≡ table_length n
     → length s'.table ≡ table_length n
 chain-long done long = long
-chain-long {w} {n} (more {s} e a z c) long = chain-long c (accepted-kept w n s e a z).long
+chain-long {n} (more {s} w e a z c) long = chain-long c (accepted-kept w n s e a z).long
 
 -- an entry is taken in an accepted table only
-pub chain_first : {w n : ℕ} {s s' : State} {xs : List Taken} → Chain w n s xs s' → ((xs ≡ []) × (s' ≡ s)) ⊎ Accepted w n s.table
-chain_first done = inl (refl, refl)
-chain_first (more e a z c) = inr a
+pub chain_first : {w n : ℕ} {s s' : State} {xs : List Taken} → WiredChain w n s xs s' → ((xs ≡ []) × (s' ≡ s)) ⊎ Accepted w n s.table
+chain_first ends = inl (refl, refl)
+chain_first (next e a z c) = inr a
 
 -- the entries that a run takes
 chain-entries : (w n k : ℕ) (s : State) (sheet : List ℕ) (es : List Entry) → Accepted w n s.table
-    → Chain w n s (taken_from w n s es) (go_on w n k s sheet es).state
+    → Chain n s (taken_from w n s es) (go_on w n k s sheet es).state
 unfolding taken_from go_on
 chain-entries w n k s sheet [] a = done
 chain-entries w n k s sheet (e ∷ es) a =
     by_bool (eqb (entry_refusal n s e) 0)
     (λ t.
     let z = eqb-true (entry_refusal n s e) 0 t in
-    rw t (more e a z (chain-entries w n (suc k) (after w n s e) (write_line sheet k (sheet_line w n s e)) es (accepted-kept w n s e a z))))
+    rw t (more w e a z (chain-entries w n (suc k) (after w n s e) (write_line sheet k (sheet_line w n s e)) es (accepted-kept w n s e a z))))
     (λ t. rw t done)
 
 -- a table's length fits one size only
@@ -62,38 +78,22 @@ not-less n m e l = let more : stride n ≤ stride m = omega arith in omega (arit
 pub size-unique : (n m : ℕ) → table_length n ≡ table_length m → n ≡ m
 size-unique n m e = omega (arith, not-less n m e, not-less m n (sym e))
 
--- the entries of one run: a run of another size, or on a table that is not accepted, is turned away, and takes none; so is one of no wiring
-chain_run : (w n : ℕ) (s : State) (c : Call) → IsOnWiring w c → length s.table ≡ table_length n
-    → Chain w n s (taken_in s c) (after_run s c)
+-- the entries of one run: a run of another size, or on a table that is not accepted, is turned away, and takes none
+chain_run : (n : ℕ) (s : State) (c : Call) → length s.table ≡ table_length n → Chain n s (taken_in s c) (after_run s c)
 unfolding taken_in run start_check
-chain_run w n s c one long =
+chain_run n s c long =
     by_bool (eqb (start_refusal c.wiring c.size s.table (length c.schedule) (length c.sheet)) 0)
     (λ t.
     let fits = (start-facts c.wiring c.size s.table (length c.schedule) (length c.sheet) (eqb-true _ 0 t)).0 in
     let same : c.size ≡ n = size-unique c.size n (sym fits.long ∙ long) in
-    let on : c.wiring ≡ w = one fits.wired in
-    rw (after_run, t, same, on) (chain-entries w n 0 s c.sheet (entries c.schedule) (rw (same, on) at fits)))
+    rw (after_run, t, same) (chain-entries c.wiring n 0 s c.sheet (entries c.schedule) (rw same at fits)))
     (λ t. rw (after_run, t) done)
 
 -- the entries of all runs
-pub chain-all : (w n : ℕ) (s : State) (calls : List Call) → AllOnWiring w calls → length s.table ≡ table_length n
-    → Chain w n s (taken_all s calls) (after_runs s calls)
+pub chain-all : (n : ℕ) (s : State) (calls : List Call) → length s.table ≡ table_length n
+    → Chain n s (taken_all s calls) (after_runs s calls)
 unfolding taken_all after_runs
-chain-all w n s [] on long = done
-chain-all w n s (c ∷ calls) on long =
-    let first = chain_run w n s c (All-head (IsOnWiring w) c calls on) long in
-    chain-append first (chain-all w n (after_run s c) calls (All-tail (IsOnWiring w) c calls on) (chain-long first long))
-
-taken-from : (w n k : ℕ) (s : State) (sheet : List ℕ) (es : List Entry) → (go_on w n k s sheet es).taken ≡ k + length (taken_from w n s es)
-unfolding taken_from go_on
-taken-from w n k s sheet [] = omega arith
-taken-from w n k s sheet (e ∷ es) =
-    by_bool (eqb (entry_refusal n s e) 0)
-    (λ t. rw t (omega (arith, taken-from w n (suc k) (after w n s e) (write_line sheet k (sheet_line w n s e)) es))) (λ t. rw t (omega arith))
-
--- a run answers how many entries it takes
-pub taken_is : (s : State) (c : Call) → (run c.wiring c.size s c.schedule c.sheet).taken ≡ length (taken_in s c)
-unfolding taken_in run
-taken_is s c =
-    by_bool (eqb (start_refusal c.wiring c.size s.table (length c.schedule) (length c.sheet)) 0)
-    (λ t. rw t (omega (arith, taken-from c.wiring c.size 0 s c.sheet (entries c.schedule)))) (λ t. rw t)
+chain-all n s [] long = done
+chain-all n s (c ∷ calls) long =
+    let first = chain_run n s c long in
+    chain-append first (chain-all n (after_run s c) calls (chain-long first long))

@@ -1,21 +1,20 @@
--- What a round, where it closes, has done to the rows, and its tests.
+-- What a closed round on the cube has done to the rows, and its tests.
 -- Assumes nothing.
 use mathlib.Core.Path.{◌≡◌, sym, ap, ◌∙◌}
 use mathlib.Core.Bool.{Bool, true, false, cond, ◌&&◌, and-false}
-use mathlib.Core.List.{List, [], map}
+use mathlib.Core.List.{List, map}
 use Prim.Native.Nat.{ℕ, suc, ◌+◌, ◌*◌, ◌≤◌, ◌<◌}
 use native.Mathlib.Omega.{arith}
-use borrow.Author.Tests.{eqb-true, lt-ltb, le-ltb}
+use borrow.Author.Tests.{lt-ltb, le-ltb}
 use lib.Bits.{bit_xor, xor_lt}
-use Rattle.lists.specs.Search.{every}
 use Rattle.station.specs.Groups.{station_at, is_present}
 use Rattle.table.specs.Sizes.{level, dimension, distances}
-use Rattle.table.specs.Table.{next_distance, finished, tests_made, live}
-use Rattle.table.specs.Rules.{some_live, finished_if_live, live_finished, round_over}
-use Rattle.lists.proofs.SearchLaws.{both, every-at}
+use Rattle.table.specs.Wiring.{wiring_cube}
+use Rattle.table.proofs.WiringLaws.{end-cube}
+use Rattle.table.specs.Table.{next_distance, tests_made, live}
+use Rattle.table.specs.Rules.{round_over}
 use Rattle.station.proofs.DueLaws.{first-not}
 use Rattle.plant.specs.Round.{reset_lines}
-use Rattle.plant.proofs.RoundLaws.{Reset, reset-cells, reset-other, reset-lines}
 use Rattle.lists.specs.Sums.{sum_below, bit}
 use Rattle.detection.specs.Runs.{Taken}
 use Rattle.detection.specs.Rounds.{tests_in}
@@ -24,37 +23,11 @@ use Rattle.detection.specs.Boards.{tested_in}
 use Rattle.lists.proofs.BoolLaws.{by_bool}
 use Rattle.lists.proofs.SumLaws.{sum_by, sum-zero, sum-stays, sum-const}
 use Rattle.detection.proofs.Count.{nobody, tests-and-rest}
-use Rattle.detection.proofs.Counting.{Counts, counts_start, Roomy, roomy-start}
-use Rattle.detection.proofs.TurnEffect.{Plain, Grown, same_rows}
+use Rattle.detection.proofs.TurnEffect.{Grown, Exact}
+use Rattle.detection.proofs.RoundKnowledge.{InRound, reset-rows, all-finished}
 use Rattle.detection.proofs.Pass.{lift, Round}
-use Rattle.detection.proofs.Knowledge.{LiveOf, live_of, RowOf, InPassOf, Exact, leads_at, Knows, knows_start, known-now}
-use Rattle.detection.proofs.Listing.{led_below, Listed, listed_start}
-
--- within a round that started with t₀, after its entries `cur`
-pub record InRound (n : ℕ) (L : ℕ → Bool) (t₀ : List ℕ) (cur : List Taken) (t : List ℕ) : Type 0 where
-  pub fresh : (i : ℕ) → i < n → Reset n t₀ i
-  pub counts : Counts n t₀ cur t
-  pub roomy : Roomy n t
-  pub knows : Knows n L t₀ t
-  pub lists : Listed n L t₀ cur t
-
-pub round-start : (n : ℕ) (L : ℕ → Bool) (t : List ℕ) → Plain n L t → ((i : ℕ) → i < n → Reset n t i) → InRound n L t [] t
-round-start n L t p fresh =
-    record {
-      fresh = fresh;
-      counts = counts_start n t;
-      roomy = roomy-start n t fresh;
-      knows = knows_start n L t p fresh;
-      lists = listed_start n L t p fresh;
-    }
-
--- the round rule leaves status and rows
-pub reset-rows : (n : ℕ) (L : ℕ → Bool) (t : List ℕ) → Plain n L t → Plain n L (reset_lines n t) × Grown n t (reset_lines n t)
-reset-rows n L t p = same_rows n L t (reset_lines n t) (reset-lines n t p.lines) (λ k c h _ changes. reset-other n t k c h changes) p
-
--- the table after a round has closed is the start of the next
-pub restart : (n : ℕ) (L : ℕ → Bool) (t : List ℕ) → Plain n L t → InRound n L (reset_lines n t) [] (reset_lines n t)
-restart n L t p = round-start n L (reset_lines n t) (reset-rows n L t p).0 (reset-cells n t p.lines.0)
+use Rattle.detection.proofs.Knowledge.{LiveOf, live_of, RowOf, InPassOf, leads_at, Knows, known-now}
+use Rattle.detection.proofs.Listing.{led_below, Listed}
 
 -- two stations are at one of the plant's distances
 distance-below : (n i x : ℕ) → n ≤ distances n → i < n → x < n → bit_xor i x < distances n
@@ -65,38 +38,39 @@ distance-below n i x low a b = xor_lt (dimension n) i x (omega arith) (omega ari
 abbrev pub RoundStep : ℕ → (ℕ → Bool) → List ℕ → List ℕ → Type 0
 RoundStep n L t₀ t = Round (LiveOf n L) (RowOf n t₀) (RowOf n t)
 
+-- what is known within a round
+abbrev pub CubeKnows : ℕ → (ℕ → Bool) → List ℕ → List Taken → List ℕ → Type 0
+CubeKnows n L t₀ cur t = Knows n L t₀ t × Listed n L t₀ cur t
+
 -- where the round is over every live station has finished, so that it has passed all distances
-module _ (n : ℕ) (L : ℕ → Bool) (t₀ t : List ℕ) (here : List Taken) (inv : InRound n L t₀ here t) (over : round_over n t ≡ true) where
+module _ (n : ℕ) (L : ℕ → Bool) (t₀ t : List ℕ) (here : List Taken) (inv : InRound wiring_cube n L t₀ here t) (know : CubeKnows n L t₀ here t)
+    (over : round_over n t ≡ true) where
   at-end : (i : ℕ) → i < n → L i ≡ true → next_distance n t i ≡ distances n
-  unfolding live_finished
-  at-end i h l =
-      let all = (both (some_live n t) (every (finished_if_live n t) n) over).1 in
-      let ended : finished_if_live n t i ≡ true = every-at (finished_if_live n t) n i all h in
-      (inv.knows.plain.lines.1 i h).pass.finished_next (eqb-true (finished n t i) 1 (rw (inv.knows.plain.lives i h ∙ l) at ended))
+  at-end i h l = (inv.plain.lines.1 i h).pass.finished_next (all-finished wiring_cube n L t inv.plain over i h l) ∙ end-cube n
 
   -- where it started exact, each live station has tested just the stations whose groups it leads
-  pub round-list : Exact n L t₀ → (i : ℕ) → i < n → L i ≡ true → tested_in i here ≡ map (station_at i) (led_below n L i (distances n))
-  round-list exact i h l = rw (← at-end i h l) (inv.lists.listed exact i h)
+  round-list : Exact n L t₀ → (i : ℕ) → i < n → L i ≡ true → tested_in i here ≡ map (station_at i) (led_below n L i (distances n))
+  round-list exact i h l = rw (← at-end i h l) (know.1 exact i h)
 
-  pub round-step : n ≤ distances n → RoundStep n L t₀ (reset_lines n t)
+  round-step : n ≤ distances n → RoundStep n L t₀ (reset_lines n t)
   round-step low = record {
     keeps = λ i h j l known hj. let v = live_of n L i l in reset-grows i j v.0 hj (at_last i v.0 v.1 h j known hj);
     pushes = λ i g h x j below l lx asks known hj.
         let v = live_of n L i l in
         let w = live_of n L x lx in
-        let met = inv.knows.met i v.0 v.1 h x w.0 (omega (arith, at-end i v.0 v.1, inside i x v.0 w.0)) asks in
+        let met = know.0.met i v.0 v.1 h x w.0 (omega (arith, at-end i v.0 v.1, inside i x v.0 w.0)) asks in
         reset-grows x j w.0 hj (met.tells w.1 j hj (lift g h (omega arith) known));
   }
     where
       reset-grows : Grown n t (reset_lines n t)
-      reset-grows k y hk = (reset-rows n L t inv.knows.plain).1 k y hk
+      reset-grows k y hk = (reset-rows wiring_cube n L t inv.plain).1 k y hk
 
       inside : (i x : ℕ) → i < n → x < n → bit_xor i x < distances n
       inside i x a b = distance-below n i x low a b
 
       at_last : (i : ℕ) → i < n → L i ≡ true → (h j : ℕ) → InPassOf n L t₀ i h j → RowOf n t i j
       at_last i hi l h j =
-          known-now n L t₀ t inv.knows i hi l (distances n) (λ m a b. absurd (omega (arith, at-end i hi l))) h j
+          known-now n L t₀ t here inv know.0 i hi l (distances n) (λ m a b. absurd (omega (arith, at-end i hi l))) h j
           (λ x hx b. inside i x hi hx)
 
 -- a sum over all numbers whose terms for the absent ones are 0
@@ -104,8 +78,8 @@ present-sum : (n : ℕ) (f : ℕ → ℕ) → n ≤ distances n → ((i : ℕ) �
 present-sum n f low none = sum-stays f n (distances n) low (λ i a b. none i a)
 
 -- the tests of a round that starts exact
-module _ (n : ℕ) (T t₀ t : List ℕ) (here : List Taken) (low : n ≤ distances n) (inv : InRound n (live n T) t₀ here t)
-    (over : round_over n t ≡ true) (exact : Exact n (live n T) t₀) where
+module _ (n : ℕ) (T t₀ t : List ℕ) (here : List Taken) (low : n ≤ distances n) (inv : InRound wiring_cube n (live n T) t₀ here t)
+    (know : CubeKnows n (live n T) t₀ here t) (over : round_over n t ≡ true) (exact : Exact n (live n T) t₀) where
   abbrev L : ℕ → Bool
   L = live n T
 
@@ -117,8 +91,8 @@ module _ (n : ℕ) (T t₀ t : List ℕ) (here : List Taken) (low : n ≤ distan
 
   made : (i : ℕ) → i < n → tests_made n t i ≡ sum_below (λ m. bit (leads_at n L i m)) (distances n)
   made i h =
-      inv.knows.counted exact i h
-      ∙ by_bool (L i) (λ l. rw (at-end n L t₀ t here inv over i h l))
+      know.0.counted exact i h
+      ∙ by_bool (L i) (λ l. rw (at-end n L t₀ t here inv know over i h l))
       (λ l.
       let none : (m : ℕ) → bit (leads_at n L i m) ≡ 0 = λ m. leads-none i m (rw (l, and-false)) in
       sum-zero (next_distance n t i) (λ m g. none m) ∙ sym (sum-zero (distances n) (λ m g. none m)))
@@ -145,5 +119,21 @@ module _ (n : ℕ) (T t₀ t : List ℕ) (here : List Taken) (low : n ≤ distan
   unfolding distances
   split = tests-and-rest (is_present n) (LiveOf n L) (dimension n)
 
-  pub round-count : tests_in here ≡ tests_per_round n T
+  round-count : tests_in here ≡ tests_per_round n T
   round-count = omega (arith, inv.counts.tests, sum-zero n (λ i h. (inv.fresh i h).untested), split, all_made, pairs, stations)
+
+-- what a closed round gives, from the table t₀ at its start to the table t₁ at the start of the next
+pub record CubeRound (n : ℕ) (T t₀ : List ℕ) (round : List Taken) (t₁ : List ℕ) : Type 0 where
+  pub step : RoundStep n (live n T) t₀ t₁
+  -- where it starts exact, it has the count of tests, and each live station tests whom it leads
+  pub counted : Exact n (live n T) t₀ → tests_in round ≡ tests_per_round n T
+  pub listed : Exact n (live n T) t₀ → (i : ℕ) → i < n → live n T i ≡ true
+      → tested_in i round ≡ map (station_at i) (led_below n (live n T) i (distances n))
+
+pub round-gives : (n : ℕ) (T t₀ t : List ℕ) (here : List Taken) → n ≤ distances n → InRound wiring_cube n (live n T) t₀ here t
+    → CubeKnows n (live n T) t₀ here t → round_over n t ≡ true → CubeRound n T t₀ here (reset_lines n t)
+round-gives n T t₀ t here low inv know over = record {
+  step = round-step n (live n T) t₀ t here inv know over low;
+  counted = round-count n T t₀ t here low inv know over;
+  listed = round-list n (live n T) t₀ t here inv know over;
+}

@@ -45,7 +45,7 @@ counts_start n t =
     record { turns = λ i h. omega arith; ended = λ i h. omega arith; last_ends = λ i h e. absurd (omega arith); tests = omega arith }
 
 -- a taken turn keeps it
-module _ (w n : ℕ) (s : State) (e : Entry) (t₀ t' : List ℕ) (cur : List Taken) (o : ℕ) (no_crash : is_crash e ≡ false) (below : e.station < n)
+module _ (w n : ℕ) (s : State) (e : Entry) (o : ℕ) (t₀ t' : List ℕ) (cur : List Taken) (no_crash : is_crash e ≡ false) (below : e.station < n)
     (unfinished : finished n s.table e.station ≡ 0) (heads : Heads w n s.table t' e.station o (makes_test w n s.table e.station))
     (c : Counts n t₀ cur s.table) where
   abbrev t : List ℕ
@@ -158,7 +158,7 @@ Roomy w n t = (i : ℕ) → i < n → suc (tests_made n t i) ≤ standing w n i 
 
 -- where a round starts
 pub roomy-start : (w n : ℕ) (t : List ℕ) → ((i : ℕ) → i < n → Reset n t i) → Roomy w n t
-roomy-start w n t fresh i h = rw ((fresh i h).untested, (fresh i h).next, standing-own w n i h) (omega arith)
+roomy-start w n t fresh i h = rw ((fresh i h).untested, (fresh i h).next) (omega (arith, standing-own w n i h))
 
 -- a turn keeps it
 pub turn-roomy : (w n : ℕ) (t t' : List ℕ) (i o : ℕ) → Lines w n t → i < n → Heads w n t t' i o (makes_test w n t i) → Roomy w n t → Roomy w n t'
@@ -168,10 +168,10 @@ turn-roomy w n t t' i o lines below heads roomy k h = by_cases (ℕ_discrete k i
     own =
         by_bool (makes_test w n t i)
         (λ e.
-        let more = standing-more w n i (next_test w n t i) (test-station w n t i e lines.0 below) in
-        let up = standing-grows w n i (next_distance n t i) (next_test w n t i) (next_test-low w n t i) in
-        let past = next_after-between w n (next_test w n t i) o (test_below w n t i e) in
-        let on = standing-grows w n i (suc (next_test w n t i)) (next_after w n (next_test w n t i) o) past.0 in
+        let m : ℕ = next_test w n t i in
+        let more = standing-more w n i m (test-station w n t i e lines.0 below) in
+        let up = standing-grows w n i (next_distance n t i) m (next_test-low w n t i) in
+        let on = standing-grows w n i (suc m) (next_after w n m o) (next_after-between w n m o (test_below w n t i e)).0 in
         rw (heads.next, heads.tests, e) (omega (arith, roomy i below)))
         (λ e.
         let up = standing-grows w n i (next_distance n t i) (end_distance w n) (lines.1 i below).pass.next_high in

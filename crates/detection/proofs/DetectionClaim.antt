@@ -1,49 +1,49 @@
--- Detection within the worst-case latency and the greater bounds, proved: the chain of taken entries is cut into rounds, and the spread of
--- knowledge bounds the rounds after which all is known.
+-- Detection, proved: the chain of taken entries is cut into rounds, and what closed rounds give bounds the rounds after which all is known. The
+-- wiring is a parameter (`RoundKnowledge`); with the cube's the claim holds within the worst-case latency and the greater bounds.
 -- Assumes nothing.
-use mathlib.Core.Path.{◌≡◌, refl, sym, ap}
+use mathlib.Core.Path.{◌≡◌, refl, sym, ap, ◌∙◌}
 use mathlib.Core.Logic.{◌⊎◌, inl, inr, ◌≢◌}
 use mathlib.Core.Bool.{Bool, true, false, not, ◌&&◌}
-use mathlib.Core.List.{List, [], ◌∷◌, ◌++◌}
-use Prim.Native.Nat.{ℕ, ◌≤◌, ◌<◌}
-use native.Mathlib.Nat.{le_trans}
+use mathlib.Core.List.{List, []}
+use Prim.Native.Nat.{ℕ, ◌/◌, ◌≤◌, ◌<◌}
 use native.Mathlib.Omega.{arith}
 use borrow.Author.Tests.{ltb-true, ltb-false, eqb-true, eqb-false, ne_eqb, not-true}
 use lib.ListN.{length}
 use lib.Dec.{ltb, eqb}
 use Rattle.lists.specs.Search.{least, every}
-use Rattle.table.specs.Sizes.{is_size, dimension}
+use Rattle.table.specs.Sizes.{dimension}
 use Rattle.table.specs.Table.{suspects, live}
-use Rattle.table.specs.Rules.{not_live}
 use Rattle.lists.proofs.SearchLaws.{both, every-at, least-passes, least-before}
 use Rattle.table.proofs.Accepting.{Accepted}
 use Rattle.table.proofs.CellLaws.{accepted-line}
-use Rattle.table.proofs.SizeLaws.{size-bounds, size-log}
+use Rattle.table.proofs.SizeLaws.{size-bounds}
 use Rattle.plant.specs.Entry.{State}
 use Rattle.plant.proofs.RoundLaws.{Reset}
 use Rattle.lists.specs.Sums.{bit}
-use Rattle.detection.specs.Runs.{Call, taken_all, after_run, after_runs}
+use Rattle.detection.specs.Runs.{Call, taken_all, after_runs}
 use Rattle.detection.specs.Rounds.{count_taken, cut, tests_of_all}
 use Rattle.table.specs.Properties.{line_at_start, at_start, live_count, no_live_suspicion, none_suspected}
-use Rattle.detection.specs.Claim.{rounds_of, DetectionPremises, DetectionConclusion, Detection, DetectionAfter, square_bound, DetectionInSquare, triangle_bound, DetectionInTriangle, worst_latency}
+use Rattle.detection.specs.Claim.{rounds_of, count_of, counted_from, DetectionPremises, DetectionConclusion, DetectionOnCube, DetectionOnRing, worst_latency}
 use Rattle.lists.proofs.BoolLaws.{by_bool}
-use Rattle.lists.proofs.SumLaws.{sum-single}
-use Rattle.detection.proofs.Latency.{latency-pos, latency-le-triangle, latency-le-square}
-use Rattle.detection.proofs.Chain.{chain-all, chain_first}
+use Rattle.lists.proofs.SumLaws.{sum-single, sum-zero}
+use Rattle.table.specs.Wiring.{wiring_cube, wiring_ring}
+use Rattle.detection.proofs.Chain.{on-wiring, chain-all, chain_first}
 use Rattle.detection.proofs.TurnEffect.{Company}
-use Rattle.detection.proofs.Knowledge.{Exact}
-use Rattle.detection.proofs.Closing.{InRound, round-start}
-use Rattle.detection.proofs.Course.{Course, Tallied, exact-at, course}
+use Rattle.detection.proofs.RoundKnowledge.{InRound, round-start, RoundKnowledge}
+use Rattle.detection.proofs.Course.{Course, Tallied, course}
+use Rattle.detection.proofs.Closing.{CubeRound}
+use Rattle.detection.proofs.Cube.{cube}
+use Rattle.detection.proofs.RingKnowledge.{ring}
 
 -- no live station suspects a live one: the byte is 0, where rows hold 0 and 1 only
-pub trusts : (n : ℕ) (t : List ℕ) → Accepted n t → none_suspected n t ≡ true → (i j : ℕ) → i < n → j < n → live n t i ≡ true → live n t j ≡ true
+pub trusts : (w n : ℕ) (t : List ℕ) → Accepted w n t → none_suspected n t ≡ true → (i j : ℕ) → i < n → j < n → live n t i ≡ true → live n t j ≡ true
     → suspects n t i j ≡ 0
 unfolding none_suspected
-trusts n t ok none i j h g a b =
+trusts w n t ok none i j h g a b =
     let mine = every-at (λ k. every (no_live_suspicion n t k) n) n i none h in
     let all : no_live_suspicion n t i j ≡ true = every-at (no_live_suspicion n t i) n j mine g in
     let not_one = eqb-false (suspects n t i j) 1 (not-true _ (rw (a, b) at all)) in
-    omega (arith, (accepted-line n t ok i h).range j g)
+    omega (arith, (accepted-line w n t ok i h).range j g)
 
 -- where two stations are live each live one has another
 pub company-of : (n : ℕ) (t : List ℕ) → 2 ≤ live_count n t → Company n (live n t)
@@ -66,12 +66,12 @@ company-of n t two i h l =
     p = least other n 0
 
 -- the first table, at the start of a round
-first_round : (n : ℕ) (s : State) (calls : List Call) → DetectionPremises n s calls → Accepted n s.table
-    → InRound n (live n s.table) s.table [] s.table
+first_round : (w n : ℕ) (s : State) (calls : List Call) → DetectionPremises w n s calls → Accepted w n s.table
+    → InRound w n (live n s.table) s.table [] s.table
 unfolding at_start
-first_round n s calls given ok =
-    round-start n (live n t) t
-    (record { lines = (ok.long, accepted-line n t ok); lives = λ i h. refl; accurate = trusts n t ok given.accurate }) fresh
+first_round w n s calls given ok =
+    round-start w n (live n t) t
+    (record { lines = (ok.long, accepted-line w n t ok); lives = λ i h. refl; accurate = trusts w n t ok given.accurate }) fresh
   where
     t : List ℕ
     t = s.table
@@ -82,98 +82,90 @@ first_round n s calls given ok =
         let head = both _ _ all.0 in
         record { next = eqb-true _ 1 head.0; unfinished = eqb-true _ 0 head.1; untested = eqb-true _ 0 all.1 }
 
--- a table that refusals let through
-module _ (n : ℕ) (s : State) (calls : List Call) (given : DetectionPremises n s calls) (ok : Accepted n s.table) where
+-- the rounds of a list of runs, from a table that refusals let through, on any wiring
+pub rounds-from : (w n : ℕ) (s : State) (calls : List Call) → DetectionPremises w n s calls → Accepted w n s.table
+    → (K : RoundKnowledge w n (live n s.table))
+    → Course w n (live n s.table) K.Gives s.table (rounds_of s calls) (after_runs s calls).table × Tallied [] s (rounds_of s calls) (after_runs s calls)
+rounds-from w n s calls given ok K =
+    let first = first_round w n s calls given ok in
+    course w n (live n s.table) K given.size (company-of n s.table given.two_live) (on-wiring (chain-all n s calls given.long) given.one_wiring) given.no_crash given.no_late
+    s.table [] first (K.starts s.table first)
+
+-- the claim, on a wiring on which `enough` rounds are enough, and after so many the closed ones have the count of tests
+module _ (w n : ℕ) (s : State) (calls : List Call) (given : DetectionPremises w n s calls) (K : RoundKnowledge w n (live n s.table)) (enough : ℕ)
+    (known : K.enough ≤ enough) (from : K.counted_from ≤ counted_from w enough) (count : K.count ≡ count_of w n s.table) where
   abbrev L : ℕ → Bool
   L = live n s.table
 
-  pub history : Course n s.table s.table (rounds_of s calls) (after_runs s calls).table
-      × Tallied [] s (rounds_of s calls) (after_runs s calls)
-  history =
-      course n s.table given.size (company-of n s.table given.two_live) (chain-all n s calls given.long)
-      given.no_crash given.no_late
-      s.table [] (first_round n s calls given ok)
-
-  -- after the worst-case latency all rounds start exact
-  pub exact : (q : ℕ) → worst_latency (dimension n) ≤ q → q ≤ length (rounds_of s calls).closed → Exact n L (history.0.start q)
-  exact =
-      exact-at n (dimension n) s.table s.table (rounds_of s calls) (after_runs s calls).table history.0 (let d = size-log n given.size in rw d.1 d.3)
-
-  exact_rows : worst_latency (dimension n) ≤ length (rounds_of s calls).closed
-      → (i j : ℕ) → i < n → j < n → L i ≡ true → suspects n (after_runs s calls).table i j ≡ bit (not_live n s.table j)
-  exact_rows far i j h g l =
-      let last = history.0.last in
-      by_bool (L j) (λ e. rw e (last.plain.accurate i j h g l e)) (λ e. rw e (last.grown i j h g (exact _ far (omega arith) i j h g l e)))
-
-  detection-accepted : DetectionConclusion (worst_latency (dimension n)) n s calls (after_runs s calls)
+  detection-accepted : Accepted w n s.table → DetectionConclusion enough w n s calls (after_runs s calls)
   unfolding count_taken
-  detection-accepted = record {
-    same_live = history.0.last.plain.lives;
-    turns = λ k i h g l. history.0.turns k i h g;
-    exact_rows = exact_rows;
-    tests = λ k far h. history.0.counted k h (exact k far (omega arith));
-    rounds_tally = history.1.rounds;
-    tests_tally = omega (arith, history.1.tests);
-  }
+  detection-accepted ok =
+      let rounds = rounds-from w n s calls given ok K in
+      let c = rounds.0 in
+      record {
+        same_live = c.plain.lives;
+        turns = λ k i h g l. c.turns k i h g;
+        exact_rows = λ far i j h g l.
+            let exact = K.exact c.start _ _ c.gave (length (rounds_of s calls).closed) (omega arith) (omega arith) i j h g l in
+            by_bool (L j) (λ e. rw e (c.plain.accurate i j h g l e)) (λ e. rw e (c.grown i j h g (exact e)));
+        tests = λ k far h. K.counted c.start _ _ c.gave k (omega arith) h ∙ count;
+        rounds_tally = rounds.1.rounds;
+        tests_tally = omega (arith, rounds.1.tests);
+      }
 
--- no entry is taken, as on a table that the refusals turn away
-detection-none : (n : ℕ) (s : State) (calls : List Call) → is_size n ≡ true → taken_all s calls ≡ [] → after_runs s calls ≡ s
-    → DetectionConclusion (worst_latency (dimension n)) n s calls (after_runs s calls)
-unfolding cut count_taken tests_of_all
-detection-none n s calls size none stays =
-    rw stays (record {
-      same_live = λ i h. refl;
-      turns = λ k i h g l.
-          let first : k ≡ 0 = omega (arith, closed) in
-          rw (first, none) (omega arith, λ e. absurd (omega (arith, size-bounds n size)));
-      exact_rows = λ far. absurd (some_level far);
-      tests = λ k far h. absurd (omega (arith, closed));
-      rounds_tally = omega (arith, closed);
-      tests_tally = rw none (omega arith);
-    })
+  -- no entry is taken, as on a table that the refusals turn away
+  detection-none : taken_all s calls ≡ [] → after_runs s calls ≡ s → DetectionConclusion enough w n s calls (after_runs s calls)
+  unfolding cut count_taken tests_of_all
+  detection-none none stays =
+      rw stays (record {
+        same_live = λ i h. refl;
+        turns = λ k i h g l.
+            let first : k ≡ 0 = omega (arith, closed) in
+            rw (first, none) (omega arith, λ e. absurd (omega (arith, size-bounds n given.size)));
+        exact_rows = λ far. absurd (omega (arith, K.some_round, closed));
+        tests = λ k far h. absurd (omega (arith, closed));
+        rounds_tally = omega (arith, closed);
+        tests_tally = rw none (omega arith);
+      })
+    where
+      closed : length (rounds_of s calls).closed ≡ 0
+      closed = rw none
+
+  detection-by : DetectionConclusion enough w n s calls (after_runs s calls)
+  detection-by = go (chain_first (on-wiring (chain-all n s calls given.long) given.one_wiring))
+    where
+      go : ((taken_all s calls ≡ []) × (after_runs s calls ≡ s)) ⊎ Accepted w n s.table
+          → DetectionConclusion enough w n s calls (after_runs s calls)
+      go (inl e) = detection-none e.0 e.1
+      go (inr ok) = detection-accepted ok
+
+-- the rounds on the cube
+pub history : (n : ℕ) (s : State) (calls : List Call) → DetectionPremises wiring_cube n s calls → Accepted wiring_cube n s.table
+    → Course wiring_cube n (live n s.table) (CubeRound n s.table) s.table (rounds_of s calls) (after_runs s calls).table
+    × Tallied [] s (rounds_of s calls) (after_runs s calls)
+history n s calls given ok = rounds-from wiring_cube n s calls given ok (cube n s.table given.size)
+
+-- some station is live
+someone : (n : ℕ) (t : List ℕ) → 1 ≤ live_count n t → (z : ℕ) × (z < n) × (live n t z ≡ true)
+unfolding live_count
+someone n t one =
+    by_bool (ltb p n) (λ e. let below = ltb-true p n e in (p, below, least-passes (live n t) n 0 (omega arith)))
+    (λ e.
+    let none : (k : ℕ) → k < n → live n t k ≡ false = λ k h. least-before (live n t) n 0 k (omega arith) (omega (arith, ltb-false p n e)) in
+    absurd (omega (arith, sum-zero {f = λ k. bit (live n t k)} n (λ k h. ap bit (none k h)))))
   where
-    closed : length (rounds_of s calls).closed ≡ 0
-    closed = rw none
+    p : ℕ
+    p = least (live n t) n 0
 
-    some_level : worst_latency (dimension n) ≤ length (rounds_of s calls).closed → ⊥
-    some_level far = let d = size-log n size in omega (arith, closed, rw (← d.1) at (latency-pos d.0))
+-- the claim on the cube, an end in itself
+pub detection-on-cube : DetectionOnCube
+detection-on-cube n s calls given =
+    detection-by wiring_cube n s calls given (cube n s.table given.size) (worst_latency (dimension n)) (omega arith) (omega arith) refl
 
--- the claim within the worst-case latency, an end in itself
-pub detection-in-worst-case : Detection worst_latency
-detection-in-worst-case n s calls given = go (chain_first (chain-all n s calls given.long))
-  where
-    go : ((taken_all s calls ≡ []) × (after_runs s calls ≡ s)) ⊎ Accepted n s.table
-        → DetectionConclusion (worst_latency (dimension n)) n s calls (after_runs s calls)
-    go (inl e) = detection-none n s calls given.size e.0 e.1
-    go (inr ok) = detection-accepted n s calls given ok
-
--- and so within any number of rounds that is not less
-pub within : (rounds : ℕ → ℕ) → ((d : ℕ) → worst_latency d ≤ rounds d) → Detection rounds
-within rounds enough n s calls given =
-    let c = detection-in-worst-case n s calls given in
-    record {
-      same_live = c.same_live;
-      turns = c.turns;
-      exact_rows = λ far. c.exact_rows (le_trans (enough (dimension n)) far);
-      tests = λ k far. c.tests k (le_trans (enough (dimension n)) far);
-      rounds_tally = c.rounds_tally;
-      tests_tally = c.tests_tally;
-    }
-
--- within 1 + d(d − 1)/2 rounds, an end in itself
-pub detection-in-triangle : DetectionInTriangle
-detection-in-triangle = within triangle_bound (λ d. omega (arith, latency-le-triangle d))
-
--- within d·d rounds, an end in itself
-pub detection-in-square : DetectionInSquare
-detection-in-square = within square_bound (λ d. omega (arith, latency-le-square d))
-
--- the runs of a list and one more
-after-one-more : (s : State) (calls : List Call) (c : Call) → after_runs s (calls ++ (c ∷ [])) ≡ after_run (after_runs s calls) c
-unfolding after_runs
-after-one-more s [] c = refl
-after-one-more s (b ∷ calls) c = after-one-more (after_run s b) calls c
-
--- a claim about lists, of the last run of a list
-pub last-run : (rounds : ℕ → ℕ) → Detection rounds → (c : Call) (before : State) → DetectionAfter rounds c before (after_run before c)
-last-run rounds claim c before n s calls e given = rw (after-one-more s calls c, e) at (claim n s (calls ++ (c ∷ [])) given)
+-- and on the ring
+pub detection-on-ring : DetectionOnRing
+detection-on-ring n s calls given =
+    let z = someone n s.table (omega (arith, given.two_live)) in
+    let two : 2 ≤ n = omega (arith, size-bounds n given.size) in
+    detection-by wiring_ring n s calls given
+    (ring wiring_ring n (live n s.table) refl two (company-of n s.table given.two_live) z.0 z.1 z.2) (n / 2) (omega arith) (omega arith) refl

@@ -8,7 +8,7 @@ use native.Mathlib.Omega.{arith}
 use borrow.Author.Tests.{eqb-true, eqb-false}
 use lib.Dec.{eqb}
 use lib.ListN.{length, length-append}
-use Rattle.table.specs.Rules.{table_refusal}
+use Rattle.table.specs.Rules.{wired_table_refusal}
 use Rattle.lists.proofs.BoolLaws.{by_bool}
 use Rattle.plant.specs.Turn.{kind_turn}
 use Rattle.plant.specs.Entry.{State, entry_of, entry_check, entry_refusal}
@@ -24,89 +24,89 @@ use Rattle.detection.specs.Driven.{runs_of, DriveIsTurns}
 use Rattle.granter.proofs.Stops.{drive-stops}
 
 -- as long as a drive does not stop
-pub driving-at : (n : ℕ) (s : State) (last : ℕ) → Grantable n s.table last → (k : ℕ)
-    → ((j : ℕ) → j < suc k → stops n (stand_at s last) j ≡ false) → Driving n (stand_at s last) k
-driving-at n s last g zero going = driving-start n s last g
-driving-at n s last g (suc k) going =
-    next-driving n (stand_at s last) k (driving-at n s last g k (λ j l. going j (omega arith)))
-    (not_stopped n (stand_at s last) k (going k (omega arith))).1
-    (not_stopped n (stand_at s last) (suc k) (going (suc k) (omega arith))).0
+pub driving-at : (w n : ℕ) (s : State) (last : ℕ) → Grantable w n s.table last → (k : ℕ)
+    → ((j : ℕ) → j < suc k → stops w n (stand_at s last) j ≡ false) → Driving w n (stand_at s last) k
+driving-at w n s last g zero going = driving-start w n s last g
+driving-at w n s last g (suc k) going =
+    next-driving w n (stand_at s last) k (driving-at w n s last g k (λ j l. going j (omega arith)))
+    (not_stopped w n (stand_at s last) k (going k (omega arith))).1
+    (not_stopped w n (stand_at s last) (suc k) (going (suc k) (omega arith))).0
 
 -- the runs of k grants leave what the grants leave, and each takes its entry
-runs-left : (n : ℕ) (s : State) (last : ℕ) → Grantable n s.table last → (k : ℕ)
-    → ((j : ℕ) → j < k → stops n (stand_at s last) j ≡ false)
-    → (after_runs s (runs_of n (stand_at s last) k) ≡ (after_grants n (stand_at s last) k).state) × (length (taken_all s (runs_of n (stand_at s last) k)) ≡ k)
+runs-left : (w n : ℕ) (s : State) (last : ℕ) → Grantable w n s.table last → (k : ℕ)
+    → ((j : ℕ) → j < k → stops w n (stand_at s last) j ≡ false)
+    → (after_runs s (runs_of w n (stand_at s last) k) ≡ (after_grants w n (stand_at s last) k).state) × (length (taken_all s (runs_of w n (stand_at s last) k)) ≡ k)
 unfolding runs_of after_runs taken_all after_grants grant_turn
-runs-left n s last g zero going = (refl, refl)
-runs-left n s last g (suc k) going = step (runs-left n s last g k (λ j l. going j (omega arith)))
+runs-left w n s last g zero going = (refl, refl)
+runs-left w n s last g (suc k) going = step (runs-left w n s last g k (λ j l. going j (omega arith)))
   where
     p : Stand
     p = stand_at s last
 
     q : State
-    q = (after_grants n p k).state
+    q = (after_grants w n p k).state
 
     i : ℕ
-    i = granted_at n (after_grants n p k)
+    i = granted_at n (after_grants w n p k)
 
-    d : Driving n p k
-    d = driving-at n s last g k going
+    d : Driving w n p k
+    d = driving-at w n s last g k going
 
     z : entry_refusal n q (entry_of kind_turn i) ≡ 0
-    z = next-taken n p k d (not_stopped n p k (going k (omega arith))).1
+    z = next-taken w n p k d (not_stopped w n p k (going k (omega arith))).1
 
-    ok : table_refusal n q.table ≡ 0
-    ok = accepted-number n q.table d.ok
+    ok : wired_table_refusal w n q.table ≡ 0
+    ok = accepted-number w n q.table d.ok
 
-    step : (after_runs s (runs_of n p k) ≡ q) × (length (taken_all s (runs_of n p k)) ≡ k)
-        → (after_runs s (runs_of n p k ++ (turn_run n i ∷ [])) ≡ (after_grants n p (suc k)).state)
-        × (length (taken_all s (runs_of n p k ++ (turn_run n i ∷ []))) ≡ suc k)
+    step : (after_runs s (runs_of w n p k) ≡ q) × (length (taken_all s (runs_of w n p k)) ≡ k)
+        → (after_runs s (runs_of w n p k ++ (turn_run w n i ∷ [])) ≡ (after_grants w n p (suc k)).state)
+        × (length (taken_all s (runs_of w n p k ++ (turn_run w n i ∷ []))) ≡ suc k)
     step e = (
-      rw (after-append s (runs_of n p k) (turn_run n i ∷ []), e.0) (one_left n q i ok z),
-      rw (taken-append s (runs_of n p k) (turn_run n i ∷ []), e.0, one-taken n q i ok z)
-          (omega (arith, length-append (taken_all s (runs_of n p k)) (taken_at n q (entry_of kind_turn i) ∷ []), e.1)),
+      rw (after-append s (runs_of w n p k) (turn_run w n i ∷ []), e.0) (one_left w n q i ok z),
+      rw (taken-append s (runs_of w n p k) (turn_run w n i ∷ []), e.0, one-taken w n q i ok z)
+          (omega (arith, length-append (taken_all s (runs_of w n p k)) (taken_at w n q (entry_of kind_turn i) ∷ []), e.1)),
     )
 
 -- the last numbers of a drive are let through
-last_fits : (n : ℕ) (s : State) (last : ℕ) → Grantable n s.table last → (k : ℕ)
-    → ((j : ℕ) → j < k → stops n (stand_at s last) j ≡ false) → last_refusal n (after_grants n (stand_at s last) k).last ≡ 0
+last_fits : (w n : ℕ) (s : State) (last : ℕ) → Grantable w n s.table last → (k : ℕ)
+    → ((j : ℕ) → j < k → stops w n (stand_at s last) j ≡ false) → last_refusal n (after_grants w n (stand_at s last) k).last ≡ 0
 unfolding after_grants grant_turn
-last_fits n s last g zero going = g.last_fits
-last_fits n s last g (suc k) going =
-    station-fits n (granted_at n (after_grants n (stand_at s last) k)) (chosen n (stand_at s last) k (driving-at n s last g k going)).0
+last_fits w n s last g zero going = g.last_fits
+last_fits w n s last g (suc k) going =
+    station-fits n (granted_at n (after_grants w n (stand_at s last) k)) (chosen w n (stand_at s last) k (driving-at w n s last g k going)).0
 
 -- no grant of a drive is refused
-grants-taken : (n : ℕ) (s : State) (last : ℕ) → Grantable n s.table last → (k : ℕ)
-    → ((j : ℕ) → j < suc k → stops n (stand_at s last) j ≡ false)
-    → grant_refusal n (after_grants n (stand_at s last) k).state.table (after_grants n (stand_at s last) k).last ≡ 0
-grants-taken n s last g k going =
-    let d = driving-at n s last g k going in
-    grant-zero n _ _ (accepted-number n _ d.ok) (last_fits n s last g k (λ j l. going j (omega arith))) (still n (stand_at s last) k d).1
+grants-taken : (w n : ℕ) (s : State) (last : ℕ) → Grantable w n s.table last → (k : ℕ)
+    → ((j : ℕ) → j < suc k → stops w n (stand_at s last) j ≡ false)
+    → grant_refusal w n (after_grants w n (stand_at s last) k).state.table (after_grants w n (stand_at s last) k).last ≡ 0
+grants-taken w n s last g k going =
+    let d = driving-at w n s last g k going in
+    grant-zero w n _ _ (accepted-number w n _ d.ok) (last_fits w n s last g k (λ j l. going j (omega arith))) (still w n (stand_at s last) k d).1
 
 -- where a drive stops and has not ended, a tally is full
-full-number : (n : ℕ) (p : Stand) (k i : ℕ) → stops n p k ≡ true → ◌≡◌ {A = ℕ} (cond (ended_after n p k) 0 7) 7
-    → entry_refusal n (after_grants n p k).state (entry_of kind_turn i) ≡ 7
+full-number : (w n : ℕ) (p : Stand) (k i : ℕ) → stops w n p k ≡ true → ◌≡◌ {A = ℕ} (cond (ended_after w n p k) 0 7) 7
+    → entry_refusal n (after_grants w n p k).state (entry_of kind_turn i) ≡ 7
 unfolding stops entry_check
-full-number n p k i stop seven =
-    by_bool (ended_after n p k) (λ e. absurd (omega (arith, rw e at seven)))
-    (λ e. let full : full_after n p k ≡ true = rw e at stop in rw full)
+full-number w n p k i stop seven =
+    by_bool (ended_after w n p k) (λ e. absurd (omega (arith, rw e at seven)))
+    (λ e. let full : full_after w n p k ≡ true = rw e at stop in rw full)
 
 -- a drive is the granting rule followed turn by turn, an end in itself
 pub drive-is-turns : DriveIsTurns
 unfolding drive outcome_after runs_of after_runs taken_all after_grants
-drive-is-turns n s last =
-    by_bool (eqb (grant_refusal n s.table last) 0)
+drive-is-turns w n s last =
+    by_bool (eqb (grant_refusal w n s.table last) 0)
     (λ e.
     let z = eqb-true _ 0 e in
-    let g = grantable n s.table last z in
-    let stop = drive-stops n s last z in
-    let r = runs-left n s last g made stop.first in
+    let g = grantable w n s.table last z in
+    let stop = drive-stops w n s last z in
+    let r = runs-left w n s last g made stop.first in
     record {
-      granted = rw e (λ k h. grants-taken n s last g k (λ j l. stop.first j (omega arith)));
+      granted = rw e (λ k h. grants-taken w n s last g k (λ j l. stop.first j (omega arith)));
       taken = rw e r.1;
       left = rw e r.0;
       last_is = rw e refl;
-      seven = rw e (λ _ seven. full-number n (stand_at s last) made _ stop.stopped seven);
+      seven = rw e (λ _ seven. full-number w n (stand_at s last) made _ stop.stopped seven);
     })
     (λ e. record {
       granted = rw e (λ k h. absurd (omega arith));
@@ -117,4 +117,4 @@ drive-is-turns n s last =
     })
   where
     made : ℕ
-    made = grants_made n (stand_at s last)
+    made = grants_made w n (stand_at s last)

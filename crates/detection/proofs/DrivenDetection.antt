@@ -4,7 +4,7 @@
 use mathlib.Core.Path.{◌≡◌, refl, sym, ap, subst, ◌∙◌}
 use mathlib.Core.Bool.{Bool, true, false, cond, not, true≢false}
 use mathlib.Core.List.{List, [], ◌∷◌, ◌++◌, map}
-use Prim.Native.Nat.{ℕ, zero, suc, ◌+◌, ◌<◌}
+use Prim.Native.Nat.{ℕ, zero, suc, ◌+◌, ◌/◌, ◌<◌}
 use native.Mathlib.Omega.{arith}
 use borrow.Author.Tests.{eqb-true, eqb-false, eq-eqb, not-true}
 use lib.Dec.{eqb}
@@ -12,6 +12,7 @@ use lib.ListN.{length}
 use Rattle.lists.specs.Search.{every}
 use Rattle.lists.specs.Sums.{bit}
 use Rattle.table.specs.Sizes.{dimension}
+use Rattle.table.specs.Wiring.{wiring_cube, wiring_ring}
 use Rattle.table.specs.Table.{live}
 use Rattle.table.specs.Rules.{not_live, some_live, round_over}
 use Rattle.lists.proofs.BoolLaws.{by_bool}
@@ -19,18 +20,18 @@ use Rattle.lists.proofs.SearchLaws.{every-at}
 use Rattle.lists.proofs.SumLaws.{sum-zero}
 use Rattle.plant.specs.Turn.{kind_turn}
 use Rattle.plant.specs.Entry.{Entry, State, entry_of, acted, after}
-use Rattle.detection.specs.Runs.{Taken, turn_run, after_runs, taken_all, crashes, is_late}
+use Rattle.detection.specs.Runs.{Taken, turn_run, after_runs, taken_all, crashes, is_late, is_on}
 use Rattle.detection.specs.Rounds.{all_taken}
 use Rattle.table.specs.Properties.{live_count}
-use Rattle.detection.specs.Claim.{rounds_of, DetectionPremises, DetectionConclusion, Detection, square_bound, triangle_bound, worst_latency}
+use Rattle.detection.specs.Claim.{rounds_of, DetectionPremises, DetectionConclusion, DetectionAt, worst_latency}
 use Rattle.detection.proofs.OneTurn.{after-append, runs_append, one_passes}
 use Rattle.detection.proofs.TakenLaws.{taken_at}
-use Rattle.detection.proofs.DetectionClaim.{detection-in-worst-case, detection-in-triangle, detection-in-square}
+use Rattle.detection.proofs.DetectionClaim.{detection-on-cube, detection-on-ring}
 use Rattle.granter.specs.Grant.{grant_refusal}
 use Rattle.granter.specs.Drive.{Stand, stand_at, granted_at, grant_turn, after_grants, ended, ended_after, stops, grants_made, outcome_after, drive}
 use Rattle.granter.proofs.GrantLaws.{Grantable, grantable}
 use Rattle.granter.proofs.DriveLaws.{Driving, not-ended, unended}
-use Rattle.detection.specs.Driven.{runs_of, runs_of_drive, RunOrDrive, a_run, a_drive, after_one, runs_of_one, after_mixed, runs_of_mixed, MixedDetection, after_drives, runs_of_drives, ending, DrivenDetectionConclusion, DrivenDetection, DrivenDetectionInSquare, DrivenDetectionAfter}
+use Rattle.detection.specs.Driven.{runs_of, runs_of_drive, RunOrDrive, a_run, a_drive, after_one, runs_of_one, after_mixed, runs_of_mixed, MixedDetection, after_drives, runs_of_drives, ending, DrivenDetectionConclusion, DrivenDetection, DrivenOnCube, DrivenOnRing}
 use Rattle.granter.proofs.Stops.{drive-stops}
 use Rattle.detection.proofs.DriveRuns.{driving-at, drive-is-turns}
 
@@ -38,7 +39,7 @@ use Rattle.detection.proofs.DriveRuns.{driving-at, drive-is-turns}
 one-mixed-left : (s : State) (x : RunOrDrive) → after_runs s (runs_of_one s x) ≡ after_one s x
 unfolding after_runs
 one-mixed-left s (a_run c) = refl
-one-mixed-left s (a_drive n last) = (drive-is-turns n s last).left
+one-mixed-left s (a_drive w n last) = (drive-is-turns w n s last).left
 
 -- and so do those of a list
 pub mixed-left : (s : State) (xs : List RunOrDrive) → after_runs s (runs_of_mixed s xs) ≡ after_mixed s xs
@@ -48,175 +49,156 @@ mixed-left s (x ∷ xs) =
     rw (after-append s (runs_of_one s x) (runs_of_mixed (after_one s x) xs), one-mixed-left s x) (mixed-left (after_one s x) xs)
 
 -- a claim about lists of runs, of lists that mix runs and drives
-mixed-detection : (rounds : ℕ → ℕ) → Detection rounds → MixedDetection rounds
-mixed-detection rounds claim n s xs given =
-    subst (DetectionConclusion (rounds (dimension n)) n s (runs_of_mixed s xs)) (mixed-left s xs) (claim n s (runs_of_mixed s xs) given)
-
--- detection of such lists within each of the three bounds, ends in themselves
-pub mixed-in-square : MixedDetection square_bound
-mixed-in-square = mixed-detection square_bound detection-in-square
-
-pub mixed-in-triangle : MixedDetection triangle_bound
-mixed-in-triangle = mixed-detection triangle_bound detection-in-triangle
-
-pub mixed-in-worst-case : MixedDetection worst_latency
-mixed-in-worst-case = mixed-detection worst_latency detection-in-worst-case
+mixed-detection : (w : ℕ) (rounds : ℕ → ℕ) → ((n : ℕ) → DetectionAt w n (rounds n)) → MixedDetection w rounds
+mixed-detection w rounds claim n s xs given =
+    subst (DetectionConclusion (rounds n) w n s (runs_of_mixed s xs)) (mixed-left s xs) (claim n s (runs_of_mixed s xs) given)
 
 -- what turns pass, all entries pass that drives take
-module _ (q : Taken → Bool) (turns : (n : ℕ) (s : State) (i : ℕ) → q (taken_at n s (entry_of kind_turn i)) ≡ true) where
-  grants-pass : (n : ℕ) (s : State) (p : Stand) (k : ℕ) → all_taken q (taken_all s (runs_of n p k)) ≡ true
+module _ (w : ℕ) (q : Taken → Bool) (turns : (n : ℕ) (s : State) (i : ℕ) → q (taken_at w n s (entry_of kind_turn i)) ≡ true) where
+  grants-pass : (n : ℕ) (s : State) (p : Stand) (k : ℕ) → all_taken q (taken_all s (runs_of w n p k)) ≡ true
   unfolding runs_of taken_all all_taken
   grants-pass n s p zero = refl
   grants-pass n s p (suc k) =
-      runs_append q s (runs_of n p k) (turn_run n (granted_at n (after_grants n p k)) ∷ []) (grants-pass n s p k)
-      (one_passes q turns n (after_runs s (runs_of n p k)) (granted_at n (after_grants n p k)))
+      runs_append q s (runs_of w n p k) (turn_run w n (granted_at n (after_grants w n p k)) ∷ []) (grants-pass n s p k)
+      (one_passes w q turns n (after_runs s (runs_of w n p k)) (granted_at n (after_grants w n p k)))
 
-  drives-pass : (n : ℕ) (s : State) (lasts : List ℕ) → all_taken q (taken_all s (runs_of_drives n s lasts)) ≡ true
+  drives-pass : (n : ℕ) (s : State) (lasts : List ℕ) → all_taken q (taken_all s (runs_of_drives w n s lasts)) ≡ true
   unfolding runs_of_mixed taken_all all_taken
   drives-pass n s [] = refl
   drives-pass n s (last ∷ lasts) =
-      runs_append q s (runs_of_drive n s last) (runs_of_drives n (drive n s last).state lasts)
-      (grants-pass n s (stand_at s last) (drive n s last).grants)
-      (rw (drive-is-turns n s last).left (drives-pass n (drive n s last).state lasts))
+      runs_append q s (runs_of_drive w n s last) (runs_of_drives w n (drive w n s last).state lasts)
+      (grants-pass n s (stand_at s last) (drive w n s last).grants)
+      (rw (drive-is-turns w n s last).left (drives-pass n (drive w n s last).state lasts))
 
 -- drives and one more
-after-one-more : (n : ℕ) (s : State) (lasts : List ℕ) (last : ℕ) → after_drives n s (lasts ++ (last ∷ [])) ≡ (drive n (after_drives n s lasts) last).state
+after-one-more : (w n : ℕ) (s : State) (lasts : List ℕ) (last : ℕ) → after_drives w n s (lasts ++ (last ∷ [])) ≡ (drive w n (after_drives w n s lasts) last).state
 unfolding after_mixed
-after-one-more n s [] last = refl
-after-one-more n s (first ∷ lasts) last = after-one-more n (drive n s first).state lasts last
+after-one-more w n s [] last = refl
+after-one-more w n s (first ∷ lasts) last = after-one-more w n (drive w n s first).state lasts last
 
 -- a drive that ends with somebody live closes one round
-closes_at : (n : ℕ) (s : State) (last : ℕ) → Grantable n s.table last → (k : ℕ)
-    → ((j : ℕ) → j < k → stops n (stand_at s last) j ≡ false) → ended_after n (stand_at s last) k ≡ true
-    → some_live n (after_grants n (stand_at s last) k).state.table ≡ true → (after_grants n (stand_at s last) k).state.rounds ≡ s.rounds + 1
+closes_at : (w n : ℕ) (s : State) (last : ℕ) → Grantable w n s.table last → (k : ℕ)
+    → ((j : ℕ) → j < k → stops w n (stand_at s last) j ≡ false) → ended_after w n (stand_at s last) k ≡ true
+    → some_live n (after_grants w n (stand_at s last) k).state.table ≡ true → (after_grants w n (stand_at s last) k).state.rounds ≡ s.rounds + 1
 unfolding after_grants grant_turn after ended
-closes_at n s last g zero going o lives =
+closes_at w n s last g zero going o lives =
     absurd (true≢false (sym o ∙ unended n s g.someone))
-closes_at n s last g (suc k) going o lives =
-    by_bool (round_over n (acted n q.table e)) (λ c. rw c (omega (arith, still)))
+closes_at w n s last g (suc k) going o lives =
+    by_bool (round_over n (acted w n q.table e)) (λ c. rw c (omega (arith, still)))
     (λ c.
-    let same : (after n q e).rounds ≡ s.rounds = rw c still in
+    let same : (after w n q e).rounds ≡ s.rounds = rw c still in
     absurd (true≢false (sym o ∙ open-then same)))
   where
     p : Stand
     p = stand_at s last
 
     q : State
-    q = (after_grants n p k).state
+    q = (after_grants w n p k).state
 
     e : Entry
-    e = entry_of kind_turn (granted_at n (after_grants n p k))
+    e = entry_of kind_turn (granted_at n (after_grants w n p k))
 
-    d : Driving n p k
-    d = driving-at n s last g k going
+    d : Driving w n p k
+    d = driving-at w n s last g k going
 
     still : q.rounds ≡ s.rounds
     still = (not-ended n s.rounds q d.open-still).0
 
-    open-then : (after n q e).rounds ≡ s.rounds → ended n s.rounds (after n q e) ≡ false
+    open-then : (after w n q e).rounds ≡ s.rounds → ended n s.rounds (after w n q e) ≡ false
     open-then same = rw (eq-eqb _ _ same, lives)
 
-drive-closes : (n : ℕ) (s : State) (last : ℕ) → (drive n s last).number ≡ 0 → some_live n (drive n s last).state.table ≡ true
-    → (drive n s last).state.rounds ≡ s.rounds + 1
+drive-closes : (w n : ℕ) (s : State) (last : ℕ) → (drive w n s last).number ≡ 0 → some_live n (drive w n s last).state.table ≡ true
+    → (drive w n s last).state.rounds ≡ s.rounds + 1
 unfolding drive outcome_after
-drive-closes n s last z lives =
-    by_bool (eqb (grant_refusal n s.table last) 0)
+drive-closes w n s last z lives =
+    by_bool (eqb (grant_refusal w n s.table last) 0)
     (λ e.
     let g = eqb-true _ 0 e in
-    let stop = drive-stops n s last g in
-    let over = ended_of (ended_after n (stand_at s last) (grants_made n (stand_at s last))) refl (rw e at z) in
-    rw e (closes_at n s last (grantable n s.table last g) (grants_made n (stand_at s last)) stop.first over (rw e at lives)))
+    let stop = drive-stops w n s last g in
+    let over = ended_of (ended_after w n (stand_at s last) (grants_made w n (stand_at s last))) refl (rw e at z) in
+    rw e (closes_at w n s last (grantable w n s.table last g) (grants_made w n (stand_at s last)) stop.first over (rw e at lives)))
     (λ e. absurd (eqb-false _ 0 e (rw e at z)))
   where
-    ended_of : (b : Bool) → ended_after n (stand_at s last) (grants_made n (stand_at s last)) ≡ b → ◌≡◌ {A = ℕ} (cond b 0 7) 0
-        → ended_after n (stand_at s last) (grants_made n (stand_at s last)) ≡ true
+    ended_of : (b : Bool) → ended_after w n (stand_at s last) (grants_made w n (stand_at s last)) ≡ b → ◌≡◌ {A = ℕ} (cond b 0 7) 0
+        → ended_after w n (stand_at s last) (grants_made w n (stand_at s last)) ≡ true
     ended_of true e z = e
     ended_of false e z = absurd (omega arith)
 
 -- any other drive closes none
-drive-stays : (n : ℕ) (s : State) (last : ℕ) → ((drive n s last).number ≡ 0 → ⊥) → (drive n s last).state.rounds ≡ s.rounds
+drive-stays : (w n : ℕ) (s : State) (last : ℕ) → ((drive w n s last).number ≡ 0 → ⊥) → (drive w n s last).state.rounds ≡ s.rounds
 unfolding drive outcome_after
-drive-stays n s last z =
-    by_bool (eqb (grant_refusal n s.table last) 0)
+drive-stays w n s last z =
+    by_bool (eqb (grant_refusal w n s.table last) 0)
     (λ e.
-    by_bool (ended_after n p made) (λ o. absurd (z (rw (e, o))))
-    (λ o. rw e (not-ended n s.rounds (after_grants n p made).state o).0))
+    by_bool (ended_after w n p made) (λ o. absurd (z (rw (e, o))))
+    (λ o. rw e (not-ended n s.rounds (after_grants w n p made).state o).0))
     (λ e. rw e)
   where
     p : Stand
     p = stand_at s last
 
     made : ℕ
-    made = grants_made n p
+    made = grants_made w n p
 
 -- the rounds that a drive adds, where somebody is live after it
-drive-adds : (n : ℕ) (s : State) (last : ℕ) → some_live n (drive n s last).state.table ≡ true
-    → (drive n s last).state.rounds ≡ s.rounds + bit (eqb (drive n s last).number 0)
-drive-adds n s last lives =
-    by_bool (eqb (drive n s last).number 0) (λ e. rw e (drive-closes n s last (eqb-true _ 0 e) lives))
-    (λ e. rw e (omega (arith, drive-stays n s last (eqb-false _ 0 e))))
+drive-adds : (w n : ℕ) (s : State) (last : ℕ) → some_live n (drive w n s last).state.table ≡ true
+    → (drive w n s last).state.rounds ≡ s.rounds + bit (eqb (drive w n s last).number 0)
+drive-adds w n s last lives =
+    by_bool (eqb (drive w n s last).number 0) (λ e. rw e (drive-closes w n s last (eqb-true _ 0 e) lives))
+    (λ e. rw e (omega (arith, drive-stays w n s last (eqb-false _ 0 e))))
 
 -- within so many rounds
-module _ (rounds : ℕ → ℕ) (claim : Detection rounds) (n : ℕ) (s : State) (given : DetectionPremises n s []) where
-  premises : (lasts : List ℕ) → DetectionPremises n s (runs_of_drives n s lasts)
+module _ (w : ℕ) (rounds : ℕ → ℕ) (claim : (n : ℕ) → DetectionAt w n (rounds n)) (n : ℕ) (s : State) (given : DetectionPremises w n s []) where
+  premises : (lasts : List ℕ) → DetectionPremises w n s (runs_of_drives w n s lasts)
   premises lasts = record {
     size = given.size;
     long = given.long;
     start = given.start;
     two_live = given.two_live;
     accurate = given.accurate;
-    no_crash = drives-pass (λ x. not (crashes x)) (λ n s i. refl) n s lasts;
-    no_late = drives-pass (λ x. not (is_late x)) (λ n s i. refl) n s lasts;
+    one_wiring = drives-pass w (is_on w) (λ n s i. eq-eqb w w refl) n s lasts;
+    no_crash = drives-pass w (λ x. not (crashes x)) (λ n s i. refl) n s lasts;
+    no_late = drives-pass w (λ x. not (is_late x)) (λ n s i. refl) n s lasts;
   }
 
-  concluded : (lasts : List ℕ) → DetectionConclusion (rounds (dimension n)) n s (runs_of_drives n s lasts) (after_drives n s lasts)
-  concluded lasts = mixed-detection rounds claim n s (map (a_drive n) lasts) (premises lasts)
+  concluded : (lasts : List ℕ) → DetectionConclusion (rounds n) w n s (runs_of_drives w n s lasts) (after_drives w n s lasts)
+  concluded lasts = mixed-detection w rounds claim n s (map (a_drive w n) lasts) (premises lasts)
 
   -- somebody is live after every drive
-  lives-after : (lasts : List ℕ) → some_live n (after_drives n s lasts).table ≡ true
+  lives-after : (lasts : List ℕ) → some_live n (after_drives w n s lasts).table ≡ true
   unfolding some_live live_count
   lives-after lasts =
-      by_bool (every (not_live n (after_drives n s lasts).table) n)
+      by_bool (every (not_live n (after_drives w n s lasts).table) n)
       (λ e.
       let dead : (i : ℕ) → i < n → live n s.table i ≡ false = λ i h.
-      sym ((concluded lasts).same_live i h) ∙ not-true _ (every-at (not_live n (after_drives n s lasts).table) n i e h) in
+      sym ((concluded lasts).same_live i h) ∙ not-true _ (every-at (not_live n (after_drives w n s lasts).table) n i e h) in
       absurd (omega (arith, given.two_live, sum-zero {f = λ i. bit (live n s.table i)} n (λ i h. ap bit (dead i h)))))
       (λ e. rw e)
 
   -- the rounds of the tally are those of the drives that answer 0
   grows : (done rest : List ℕ)
-      → (after_drives n (after_drives n s done) rest).rounds ≡ (after_drives n s done).rounds + ending n (after_drives n s done) rest
+      → (after_drives w n (after_drives w n s done) rest).rounds ≡ (after_drives w n s done).rounds + ending w n (after_drives w n s done) rest
   unfolding after_mixed ending
   grows done [] = omega arith
   grows done (last ∷ rest) =
-      let one = after-one-more n s done last in
-      let added = drive-adds n (after_drives n s done) last (rw one at (lives-after (done ++ (last ∷ [])))) in
+      let one = after-one-more w n s done last in
+      let added = drive-adds w n (after_drives w n s done) last (rw one at (lives-after (done ++ (last ∷ [])))) in
       omega (arith, added, rw one at (grows (done ++ (last ∷ [])) rest))
 
-  driven : (lasts : List ℕ) → DrivenDetectionConclusion (rounds (dimension n)) n s lasts (after_drives n s lasts)
+  driven : (lasts : List ℕ) → DrivenDetectionConclusion (rounds n) w n s lasts (after_drives w n s lasts)
   unfolding after_mixed
   driven lasts =
       let c = concluded lasts in
-      let count : length (rounds_of s (runs_of_drives n s lasts)).closed ≡ ending n s lasts = omega (arith, grows [] lasts, c.rounds_tally) in
+      let count : length (rounds_of s (runs_of_drives w n s lasts)).closed ≡ ending w n s lasts = omega (arith, grows [] lasts, c.rounds_tally) in
       record { detection = c; rounds = count; exact_rows = λ far. c.exact_rows (rw count far) }
 
 -- a claim about lists of runs, of driven plants
-driven-detection : (rounds : ℕ → ℕ) → Detection rounds → DrivenDetection rounds
-driven-detection rounds claim n s lasts given = driven rounds claim n s given lasts
+driven-detection : (w : ℕ) (rounds : ℕ → ℕ) → ((n : ℕ) → DetectionAt w n (rounds n)) → DrivenDetection w rounds
+driven-detection w rounds claim n s lasts given = driven w rounds claim n s given lasts
 
--- detection of driven plants within d·d rounds, an end in itself
-pub driven-in-square : DrivenDetectionInSquare
-driven-in-square = driven-detection square_bound detection-in-square
+-- driven plants on the cube and on the ring, ends in themselves
+pub driven-on-cube : DrivenOnCube
+driven-on-cube = driven-detection wiring_cube (λ n. worst_latency (dimension n)) detection-on-cube
 
--- within 1 + d(d − 1)/2 rounds, an end in itself
-pub driven-in-triangle : DrivenDetection triangle_bound
-driven-in-triangle = driven-detection triangle_bound detection-in-triangle
-
--- and within fewer rounds, an end in itself. That still fewer do not suffice is shown of runs only (crate witness)
-pub driven-in-worst-case : DrivenDetection worst_latency
-driven-in-worst-case = driven-detection worst_latency detection-in-worst-case
-
--- of the last drive of a list
-pub last-drive : (rounds : ℕ → ℕ) → DrivenDetection rounds → (n last : ℕ) (before : State)
-    → DrivenDetectionAfter rounds n last before (drive n before last).state
-last-drive rounds claim n last before s lasts e given = rw (after-one-more n s lasts last, e) at (claim n s (lasts ++ (last ∷ [])) given)
+pub driven-on-ring : DrivenOnRing
+driven-on-ring = driven-detection wiring_ring (λ n. n / 2) detection-on-ring

@@ -27,37 +27,37 @@ use Rattle.detection.specs.Ceased.{LeftTold, closes_round, rounds_closed, since_
 use Rattle.detection.proofs.Fates.{SameExit, Fate, stays, leaves, hears, after-fate, acted-ago}
 
 -- one taken entry, and line k
-module _ (n : ℕ) (s : State) (e : Entry) (ok : Accepted n s.table) (z : entry_refusal n s e ≡ 0) (k : ℕ) (h : k < n) where
+module _ (w n : ℕ) (s : State) (e : Entry) (ok : Accepted w n s.table) (z : entry_refusal n s e ≡ 0) (k : ℕ) (h : k < n) where
   abbrev t : List ℕ
   t = s.table
 
   abbrev t' : List ℕ
-  t' = (after n s e).table
+  t' = (after w n s e).table
 
   -- byte 5 goes by whether the round closes, and whether the station is live after the entry
   ago-step : rounds_ago n t' k
-      ≡ cond (round_over n (acted n t e)) (cond (live n t' k) (rounds_ago n t k) (min (rounds_ago n t k + 1) rounds_ago_top)) (rounds_ago n t k)
+      ≡ cond (round_over n (acted w n t e)) (cond (live n t' k) (rounds_ago n t k) (min (rounds_ago n t k + 1) rounds_ago_top)) (rounds_ago n t k)
   unfolding after after_round rounds_after
   ago-step =
-      let v : List ℕ = acted n t e in
+      let v : List ℕ = acted w n t e in
       by_bool (round_over n v)
       (λ o.
       let stays-live = reset-other n v k status_column (omega arith) (λ p. omega arith) in
-      rw (o, reset-ago n v (acted-lines n s e ok z).0 k h, stays-live, acted-ago n s e ok z k))
-      (λ o. rw o (acted-ago n s e ok z k))
+      rw (o, reset-ago n v (acted-lines w n s e ok z).0 k h, stays-live, acted-ago w n s e ok z k))
+      (λ o. rw o (acted-ago w n s e ok z k))
 
   gone-step : live n t' k ≡ false → rounds_ago n t k ≤ rounds_ago_top
-      → rounds_ago n t' k ≡ min (rounds_ago n t k + bit (closes_round (taken_at n s e))) rounds_ago_top
+      → rounds_ago n t' k ≡ min (rounds_ago n t k + bit (closes_round (taken_at w n s e))) rounds_ago_top
   gone-step d small =
-      by_bool (round_over n (acted n t e)) (λ o. rw o (rw (o, d) at ago-step)) (λ o. rw o (omega (arith, rw o at ago-step)))
+      by_bool (round_over n (acted w n t e)) (λ o. rw o (rw (o, d) at ago-step)) (λ o. rw o (omega (arith, rw o at ago-step)))
 
   -- of a live line it is 0
   live-ago : live n t k ≡ true → rounds_ago n t k ≡ 0
-  live-ago l = (live_exit n k (told_by n t k) (rounds_ago n t k) (rw (eqb-true (status n t k) 0 l) at (accepted-line n t ok k h).exits)).1
+  live-ago l = (live_exit n k (told_by n t k) (rounds_ago n t k) (rw (eqb-true (status n t k) 0 l) at (accepted-line w n t ok k h).exits)).1
 
   -- a station that is not live stays so, and its byte 4 stays
   dead-step : live n t k ≡ false → SameExit n t t' k
-  dead-step d = by-fate (after-fate n s e ok z k h)
+  dead-step d = by-fate (after-fate w n s e ok z k h)
     where
       not-both : live n t k ≡ true → ⊥
       not-both l = omega (arith, eqb-true (status n t k) 0 l, eqb-false (status n t k) 0 d)
@@ -69,7 +69,7 @@ module _ (n : ℕ) (s : State) (e : Entry) (ok : Accepted n s.table) (z : entry_
 
   -- 254 is not written
   unrecorded-step : told_by n t' k ≡ not_recorded → told_by n t k ≡ not_recorded
-  unrecorded-step e' = by-fate (after-fate n s e ok z k h)
+  unrecorded-step e' = by-fate (after-fate w n s e ok z k h)
     where
       by-fate : Fate n t t' k → told_by n t k ≡ not_recorded
       by-fate (stays p) = sym p.1 ∙ e'
@@ -78,7 +78,7 @@ module _ (n : ℕ) (s : State) (e : Entry) (ok : Accepted n s.table) (z : entry_
 
   -- a live station that has status 2 after the entry was told
   told-step : live n t k ≡ true → live n t' k ≡ false → status n t' k ≡ status_told → LeftTold n t t' k (told_by n t' k)
-  told-step l d two = by-fate (after-fate n s e ok z k h)
+  told-step l d two = by-fate (after-fate w n s e ok z k h)
     where
       by-fate : Fate n t t' k → LeftTold n t t' k (told_by n t' k)
       by-fate (stays p) = absurd (omega (arith, eqb-true (status n t k) 0 l, eqb-false (status n t' k) 0 d, p.0))
@@ -89,54 +89,54 @@ module _ (n : ℕ) (s : State) (e : Entry) (ok : Accepted n s.table) (z : entry_
 module _ {n : ℕ} (k : ℕ) (h : k < n) where
   dead-chain : {s s' : State} {xs : List Taken} → Chain n s xs s' → live n s.table k ≡ false → SameExit n s.table s'.table k
   dead-chain done d = (refl, refl)
-  dead-chain (more {s} e a z c) d =
-      let one = dead-step n s e a z k h d in
+  dead-chain (more {s} w e a z c) d =
+      let one = dead-step w n s e a z k h d in
       let rest = dead-chain c (rw one.0 d) in
       (rest.0 ∙ one.0, rest.1 ∙ one.1)
 
   unrecorded-chain : {s s' : State} {xs : List Taken} → Chain n s xs s' → told_by n s'.table k ≡ not_recorded → told_by n s.table k ≡ not_recorded
   unrecorded-chain done e = e
-  unrecorded-chain (more {s} e a z c) w = unrecorded-step n s e a z k h (unrecorded-chain c w)
+  unrecorded-chain (more {s} w e a z c) f = unrecorded-step w n s e a z k h (unrecorded-chain c f)
 
   gone-chain : {s s' : State} {xs : List Taken} → Chain n s xs s' → live n s.table k ≡ false → rounds_ago n s.table k ≤ rounds_ago_top
       → rounds_ago n s'.table k ≡ min (rounds_ago n s.table k + rounds_closed xs) rounds_ago_top
   unfolding count_taken
   gone-chain done d small = omega arith
-  gone-chain (more {s} e a z c) d small =
-      let d' : live n (after n s e).table k ≡ false = rw (dead-step n s e a z k h d).0 d in
-      let one = gone-step n s e a z k h d' small in
+  gone-chain (more {s} w e a z c) d small =
+      let d' : live n (after w n s e).table k ≡ false = rw (dead-step w n s e a z k h d).0 d in
+      let one = gone-step w n s e a z k h d' small in
       omega (arith, gone-chain c d' (omega arith))
 
   ceased-chain : {s s' : State} {xs : List Taken} → Chain n s xs s' → live n s.table k ≡ true → live n s'.table k ≡ false
       → rounds_ago n s'.table k ≡ min (rounds_closed (since_ceased k xs)) rounds_ago_top
   unfolding count_taken since_ceased
   ceased-chain (done {s}) l d = absurd (omega (arith, eqb-true (status n s.table k) 0 l, eqb-false (status n s.table k) 0 d))
-  ceased-chain (more {s} e a z c) l d =
-      by_bool (live n (after n s e).table k) (λ m. rw m (ceased-chain c m d))
+  ceased-chain (more {s} w e a z c) l d =
+      by_bool (live n (after w n s e).table k) (λ m. rw m (ceased-chain c m d))
       (λ m.
-      let zero = live-ago n s e a z k h l in
-      let one = gone-step n s e a z k h m (omega arith) in
+      let zero = live-ago w n s e a z k h l in
+      let one = gone-step w n s e a z k h m (omega arith) in
       rw m (omega (arith, gone-chain c m (omega arith))))
 
   told-chain : {s s' : State} {xs : List Taken} → Chain n s xs s' → live n s.table k ≡ true → status n s'.table k ≡ status_told
       → FirstTold n (since_ceased k xs) k (told_by n s'.table k)
   unfolding since_ceased
   told-chain (done {s}) l two = absurd (omega (arith, eqb-true (status n s.table k) 0 l))
-  told-chain (more {s} e a z c) l two =
-      by_bool (live n (after n s e).table k) (λ m. rw m (told-chain c m two))
+  told-chain (more {s} w e a z c) l two =
+      by_bool (live n (after w n s e).table k) (λ m. rw m (told-chain c m two))
       (λ m.
       let same = dead-chain c m in
-      rw (m, same.1) (told-step n s e a z k h l m (sym same.0 ∙ two)))
+      rw (m, same.1) (told-step w n s e a z k h l m (sym same.0 ∙ two)))
 
 -- the tally of rounds
-tally-step : (n : ℕ) (s : State) (e : Entry) → (after n s e).rounds ≡ s.rounds + bit (closes_round (taken_at n s e))
+tally-step : (w n : ℕ) (s : State) (e : Entry) → (after w n s e).rounds ≡ s.rounds + bit (closes_round (taken_at w n s e))
 unfolding after
-tally-step n s e = by_bool (round_over n (acted n s.table e)) (λ o. rw o) (λ o. rw o (omega arith))
+tally-step w n s e = by_bool (round_over n (acted w n s.table e)) (λ o. rw o) (λ o. rw o (omega arith))
 
 tally-chain : {n : ℕ} {s s' : State} {xs : List Taken} → Chain n s xs s' → s'.rounds ≡ s.rounds + rounds_closed xs
 unfolding count_taken
 tally-chain done = omega arith
-tally-chain {n} (more {s} e a z c) = omega (arith, tally-chain c, tally-step n s e)
+tally-chain {n} (more {s} w e a z c) = omega (arith, tally-chain c, tally-step w n s e)
 
 -- the claims, ends in themselves
 pub exits-recorded : ExitsRecorded

@@ -20,7 +20,7 @@ use Rattle.plant.specs.Turn.{outcome_exchanged, outcome_told, outcome_tested_tol
 use Rattle.plant.specs.Round.{after_round}
 use Rattle.plant.specs.Entry.{Entry, State, is_crash, entry_refusal, acted, after, tested_of, outcome_of}
 use Rattle.plant.proofs.StepCells.{leave_told-other, leave_told-status, leave_told-teller, finish_pass-other, suspect-other, exchange-other}
-use Rattle.plant.proofs.StepLines.{after_test-lines}
+use Rattle.plant.proofs.StepLines.{after_outcome-lines}
 use Rattle.plant.proofs.RoundLaws.{reset-other}
 use Rattle.plant.proofs.RulesKept.{Takes, entry-facts}
 use Rattle.detection.specs.Ceased.{LeftTold, TellerIsNamed}
@@ -134,14 +134,14 @@ module _ (n : ℕ) (u : List ℕ) (kind i j : ℕ) (long : length u ≡ table_le
       by_cases (ℕ_discrete a k) (λ e. rw (← e) (hears b hb l))
       (λ d. stays (same-exit n u (leave_told n u a b) k (λ c hc _. leave_told-other n u a b k c (omega arith) (λ q. absurd (d q)))))
 
-  test-fate : (k : ℕ) → Fate n u (after_test n u kind i j) k
+  test-fate : (k o : ℕ) → o ≡ test_outcome n u kind i j → Fate n u (after_outcome n u i j o) k
   unfolding after_outcome test_outcome reply_outcome
-  test-fate k =
-      by_bool (replies n u kind j)
+  test-fate k o same =
+      rw same (by_bool (replies n u kind j)
       (λ r.
       by_bool (is_told n u i j) (λ q. rw (r, q) (left-fate i j k hj (left-tester r q)))
       (λ q. by_bool (is_told n u j i) (λ p. rw (r, q, p) (left-fate j i k hi (left-tested r p))) (λ p. rw (r, q, p) exchanged)))
-      (λ r. rw r suspected)
+      (λ r. rw r suspected))
     where
       exchanged : Fate n u (exchange_rows n u i j) k
       exchanged =
@@ -153,11 +153,10 @@ module _ (n : ℕ) (u : List ℕ) (kind i j : ℕ) (long : length u ≡ table_le
           stays (same-exit n u (suspect n u i j) k (λ c hc _. suspect-other n u i long hi j k c (omega arith) (λ _. omega arith)))
 
   -- bytes 4 and 5 stay, but for byte 4 of a station that leaves by the test
-  test-record : (k c : ℕ) → told_by_column ≤ c → c ≤ rounds_ago_column
-      → (test_outcome n u kind i j ≡ outcome_told → i ≡ k → c ≢ told_by_column)
-      → (test_outcome n u kind i j ≡ outcome_tested_told → j ≡ k → c ≢ told_by_column) → cell n (after_test n u kind i j) k c ≡ cell n u k c
+  test-record : (o k c : ℕ) → told_by_column ≤ c → c ≤ rounds_ago_column → (o ≡ outcome_told → i ≡ k → c ≢ told_by_column)
+      → (o ≡ outcome_tested_told → j ≡ k → c ≢ told_by_column) → cell n (after_outcome n u i j o) k c ≡ cell n u k c
   unfolding after_outcome
-  test-record k c low high p q =
+  test-record o k c low high p q =
       by_bool (eqb o outcome_told)
       (λ x. rw x (leave_told-other n u i j k c (omega arith) (λ same. (omega arith, p (eqb-true o outcome_told x) same))))
       (λ x.
@@ -167,43 +166,69 @@ module _ (n : ℕ) (u : List ℕ) (kind i j : ℕ) (long : length u ≡ table_le
       by_bool (eqb o outcome_exchanged)
       (λ z. rw (x, y, z) (exchange-other n u i long hi j hj apart k c (omega arith) (λ _. omega arith) (λ _. omega arith)))
       (λ z. rw (x, y, z) (suspect-other n u i long hi j k c (omega arith) (λ _. omega arith)))))
-    where
-      o : ℕ
-      o = test_outcome n u kind i j
+
+  -- who is told by an outcome
+  told-tester : (o : ℕ) → o ≡ test_outcome n u kind i j → o ≡ outcome_told → LeftTold n u (after_outcome n u i j o) i j
+  unfolding after_outcome test_outcome reply_outcome
+  told-tester o same told =
+      by_bool (replies n u kind j)
+      (λ r. by_bool (is_told n u i j) (λ q. rw told (left-tester r q))
+      (λ q. by_bool (is_told n u j i) (λ p. absurd (omega (arith, rw (r, q, p) at same))) (λ p. absurd (omega (arith, rw (r, q, p) at same)))))
+      (λ r. absurd (omega (arith, rw r at same)))
+
+  told-tested : (o : ℕ) → o ≡ test_outcome n u kind i j → o ≡ outcome_tested_told → LeftTold n u (after_outcome n u i j o) j i
+  unfolding after_outcome test_outcome reply_outcome
+  told-tested o same told =
+      by_bool (replies n u kind j)
+      (λ r. by_bool (is_told n u i j) (λ q. absurd (omega (arith, rw (r, q) at same)))
+      (λ q. by_bool (is_told n u j i) (λ p. rw told (left-tested r p)) (λ p. absurd (omega (arith, rw (r, q, p) at same)))))
+      (λ r. absurd (omega (arith, rw r at same)))
+
+-- the outcome reads no byte that is counted
+outcome-counted : (n : ℕ) (t u : List ℕ) (kind i j : ℕ) → Counted n t u → i < n → j < n → test_outcome n t kind i j ≡ test_outcome n u kind i j
+unfolding test_outcome replies reply_outcome is_told
+outcome-counted n t u kind i j same hi hj =
+    rw (same j status_column (omega arith) (omega arith), same j (head + i) (omega arith) (omega arith), same i (head + j) (omega arith) (omega arith))
 
 -- a taken entry
-module _ (n : ℕ) (s : State) (e : Entry) (ok : Accepted n s.table) (z : entry_refusal n s e ≡ 0) where
-  open parts_of n s e use {before as t, tester as i, distance as m, tested as j, counted as u}
+module _ (w n : ℕ) (s : State) (e : Entry) (ok : Accepted w n s.table) (z : entry_refusal n s e ≡ 0) where
+  open parts_of w n s e use {before as t, tester as i, distance as m, tested as j, outcome as o, counted as u}
 
   facts : Takes n s e
   facts = entry-facts n s e z
 
   -- where it makes a test
-  module _ (no-crash : is_crash e ≡ false) (makes : makes_test n t i ≡ true) where
-    pair : Pair n t u i j
-    pair = testing-pair n s e ok z no-crash makes
+  module _ (no-crash : is_crash e ≡ false) (makes : makes_test w n t i ≡ true) where
+    pair : Pair w n t u i j
+    pair = testing-pair w n s e ok z no-crash makes
 
     alive : live n u i ≡ true
     alive = rw (pair.others i status_column (omega arith) (omega arith)) pair.is_live
 
-    long-tested : length (after_test n u e.kind i j) ≡ table_length n
-    long-tested = (after_test-lines n u i pair.counted_lines pair.below j pair.tested_below pair.apart e.kind).0
+    same-outcome : o ≡ test_outcome n u e.kind i j
+    same-outcome = outcome-counted n t u e.kind i j pair.others pair.below pair.tested_below
 
-    testing-fate : (k : ℕ) → k < n → Fate n t (testing n t e.kind i m) k
-    unfolding testing
+    abbrev v : List ℕ
+    v = after_outcome n u i j o
+
+    long-tested : length v ≡ table_length n
+    long-tested = (after_outcome-lines w n u i pair.counted_lines pair.below j pair.tested_below pair.apart o).0
+
+    testing-fate : (k : ℕ) → k < n → Fate n t (testing w n t e.kind i m) k
+    unfolding testing after_test
     testing-fate k h =
         fate-earlier n t u _ k pair.others h
-        (alone-fate n (after_test n u e.kind i j) i u k long-tested facts.below
-        (test-fate n u e.kind i j pair.counted_lines.0 facts.below pair.tested_below pair.apart alive k))
+        (alone-fate n v i u k long-tested facts.below
+        (test-fate n u e.kind i j pair.counted_lines.0 facts.below pair.tested_below pair.apart alive k o same-outcome))
 
-  acted-fate : (k : ℕ) → k < n → Fate n t (acted n t e) k
+  acted-fate : (k : ℕ) → k < n → Fate n t (acted w n t e) k
   unfolding acted crash turn
   acted-fate k h =
       by_bool (is_crash e)
       (λ c. rw c (by_cases (ℕ_discrete i k) (λ q. rw (← q) crashed) (λ d. stays (same-exit n t (set_status n t i status_crashed) k (other d)))))
       (λ c.
-      by_bool (makes_test n t i) (λ b. rw (c, b) (testing-fate c b k h))
-      (λ b. rw (c, b) (stays (same-exit n t (finish_pass n t i) k (λ c hc out. finish_pass-other n t i k c (omega arith) (λ _. not-counted c out))))))
+      by_bool (makes_test w n t i) (λ b. rw (c, b) (testing-fate c b k h))
+      (λ b. rw (c, b) (stays (same-exit n t (finish_pass w n t i) k (λ c hc out. finish_pass-other n t i w k c (omega arith) (λ _. not-counted c out))))))
     where
       other : i ≢ k → (c : ℕ) → c < head → ¬ (TurnCounts c) → cell n (set_status n t i status_crashed) k c ≡ cell n t k c
       other d c hc _ = cell_other n t i status_column status_crashed k c (omega arith) (omega arith) (λ q. absurd (d q))
@@ -219,106 +244,90 @@ module _ (n : ℕ) (s : State) (e : Entry) (ok : Accepted n s.table) (z : entry_
 
   -- what an entry does before the round is looked at leaves bytes 4 and 5, but for byte 4 of a station that is told to leave
   acted-record : (k c : ℕ) → told_by_column ≤ c → c ≤ rounds_ago_column
-      → (outcome_of n t e ≡ outcome_told → i ≡ k → c ≢ told_by_column)
-      → (outcome_of n t e ≡ outcome_tested_told → tested_of n t e ≡ k → c ≢ told_by_column) → cell n (acted n t e) k c ≡ cell n t k c
-  unfolding outcome_of turn_outcome tested_of turn_tested acted crash turn testing after_alone
+      → (outcome_of w n t e ≡ outcome_told → i ≡ k → c ≢ told_by_column)
+      → (outcome_of w n t e ≡ outcome_tested_told → tested_of w n t e ≡ k → c ≢ told_by_column) → cell n (acted w n t e) k c ≡ cell n t k c
+  unfolding outcome_of turn_outcome tested_of turn_tested acted crash turn testing after_test after_alone
   acted-record k c low high p q =
       by_bool (is_crash e) (λ x. rw x (status-only t status_crashed))
       (λ x.
-      by_bool (makes_test n t i)
-      (λ b. rw (x, b) (alone (after_test n u e.kind i j) ∙ (test x b ∙ count-others n s e k c (omega arith) (omega arith))))
-      (λ b. rw (x, b) (finish_pass-other n t i k c (omega arith) (λ _. omega arith))))
+      by_bool (makes_test w n t i)
+      (λ b. rw (x, b) (alone (after_outcome n u i j o) ∙ (test x b ∙ count-others w n s e k c (omega arith) (omega arith))))
+      (λ b. rw (x, b) (finish_pass-other n t i w k c (omega arith) (λ _. omega arith))))
     where
-      status-only : (w : List ℕ) (x : ℕ) → cell n (set_status n w i x) k c ≡ cell n w k c
-      status-only w x = cell_other n w i status_column x k c (omega arith) (omega arith) (λ _. omega arith)
+      status-only : (a : List ℕ) (x : ℕ) → cell n (set_status n a i x) k c ≡ cell n a k c
+      status-only a x = cell_other n a i status_column x k c (omega arith) (omega arith) (λ _. omega arith)
 
-      alone : (w : List ℕ) → cell n (after_alone n w i) k c ≡ cell n w k c
-      alone w = choice (λ (v : List ℕ). cell n v k c ≡ cell n w k c) (is_alone n w i) (status-only w status_alone) refl
+      alone : (a : List ℕ) → cell n (after_alone n a i) k c ≡ cell n a k c
+      alone a = choice (λ (v : List ℕ). cell n v k c ≡ cell n a k c) (is_alone n a i) (status-only a status_alone) refl
 
-      test : (x : is_crash e ≡ false) (b : makes_test n t i ≡ true) → cell n (after_test n u e.kind i j) k c ≡ cell n u k c
+      test : (x : is_crash e ≡ false) (b : makes_test w n t i ≡ true) → cell n (after_outcome n u i j o) k c ≡ cell n u k c
       test x b =
           let y = pair x b in
-          test-record n u e.kind i j y.counted_lines.0 y.below y.tested_below y.apart (alive x b) k c low high (rw (x, b) at p) (rw (x, b) at q)
+          test-record n u e.kind i j y.counted_lines.0 y.below y.tested_below y.apart (alive x b) o k c low high (rw (x, b) at p) (rw (x, b) at q)
 
-  pub acted-ago : (k : ℕ) → rounds_ago n (acted n t e) k ≡ rounds_ago n t k
+  pub acted-ago : (k : ℕ) → rounds_ago n (acted w n t e) k ≡ rounds_ago n t k
   acted-ago k = acted-record k rounds_ago_column (omega arith) (omega arith) (λ _ _. omega arith) (λ _ _. omega arith)
 
   -- the closing of a round leaves status and byte 4
-  closing_same : (k : ℕ) → SameExit n (acted n t e) (after n s e).table k
+  closing_same : (k : ℕ) → SameExit n (acted w n t e) (after w n s e).table k
   unfolding after after_round
   closing_same k =
-      choice (λ (v : List ℕ). SameExit n (acted n t e) v k) (round_over n (acted n t e))
-      (reset-other n (acted n t e) k status_column (omega arith) (λ p. omega arith), reset-other n (acted n t e) k told_by_column (omega arith) (λ p. omega arith))
+      choice (λ (v : List ℕ). SameExit n (acted w n t e) v k) (round_over n (acted w n t e))
+      (reset-other n (acted w n t e) k status_column (omega arith) (λ p. omega arith), reset-other n (acted w n t e) k told_by_column (omega arith) (λ p. omega arith))
       (refl, refl)
 
-  pub after-fate : (k : ℕ) → k < n → Fate n t (after n s e).table k
-  after-fate k h = fate-later n t (acted n t e) (after n s e).table k (closing_same k) (acted-fate k h)
+  pub after-fate : (k : ℕ) → k < n → Fate n t (after w n s e).table k
+  after-fate k h = fate-later n t (acted w n t e) (after w n s e).table k (closing_same k) (acted-fate k h)
 
   -- where the test of j makes station a leave because told by x
-  module _ (no-crash : is_crash e ≡ false) (makes : makes_test n t i ≡ true) where
-    abbrev v : List ℕ
-    v = after_test n u e.kind i j
-
-    after-left : (a x : ℕ) → a < n → (i ≡ a → live n v a ≡ false) → LeftTold n u v a x → LeftTold n t (after n s e).table a x
-    unfolding acted turn testing
-    after-left a x h out l = left-later n t (acted n t e) (after n s e).table a x (closing_same a) acted-left
+  module _ (no-crash : is_crash e ≡ false) (makes : makes_test w n t i ≡ true) where
+    after-left : (a x : ℕ) → a < n → (i ≡ a → live n (v no-crash makes) a ≡ false) → LeftTold n u (v no-crash makes) a x → LeftTold n t (after w n s e).table a x
+    unfolding acted turn testing after_test
+    after-left a x h out l = left-later n t (acted w n t e) (after w n s e).table a x (closing_same a) acted-left
       where
-        acted-left : LeftTold n t (acted n t e) a x
+        acted-left : LeftTold n t (acted w n t e) a x
         acted-left =
             rw (no-crash, makes)
-            (left-earlier n t u (after_alone n v i) a x (count-others n s e) h (left-later n u v (after_alone n v i) a x (alone-other n v i a out) l))
+            (left-earlier n t u (after_alone n (v no-crash makes) i) a x (count-others w n s e) h
+            (left-later n u (v no-crash makes) (after_alone n (v no-crash makes) i) a x (alone-other n (v no-crash makes) i a out) l))
 
-    tester-left : replies n u e.kind j ≡ true → is_told n u i j ≡ true → LeftTold n t (after n s e).table i j
-    unfolding after_outcome test_outcome reply_outcome
-    tester-left r q =
+    tester-left : o ≡ outcome_told → LeftTold n t (after w n s e).table i j
+    tester-left told =
         let y = pair no-crash makes in
-        let l : LeftTold n u v i j =
-        rw (r, q) (left-tester n u e.kind i j y.counted_lines.0 y.below y.tested_below y.apart (alive no-crash makes) r q) in
+        let l = told-tester n u e.kind i j y.counted_lines.0 y.below y.tested_below y.apart (alive no-crash makes) o (same-outcome no-crash makes) told in
         after-left i j y.below (λ _. rw l.left) l
 
-    tested-left : replies n u e.kind j ≡ true → is_told n u i j ≡ false → is_told n u j i ≡ true → LeftTold n t (after n s e).table j i
-    unfolding after_outcome test_outcome reply_outcome
-    tested-left r q p =
+    tested-left : o ≡ outcome_tested_told → LeftTold n t (after w n s e).table j i
+    tested-left told =
         let y = pair no-crash makes in
-        let l : LeftTold n u v j i =
-        rw (r, q, p) (left-tested n u e.kind i j y.counted_lines.0 y.below y.tested_below y.apart (alive no-crash makes) r p) in
+        let l = told-tested n u e.kind i j y.counted_lines.0 y.below y.tested_below y.apart (alive no-crash makes) o (same-outcome no-crash makes) told in
         after-left j i y.tested_below (λ same. absurd (y.apart same)) l
 
-  others-told : (k : ℕ) → (outcome_of n t e ≡ outcome_told → k ≢ i) → (outcome_of n t e ≡ outcome_tested_told → k ≢ tested_of n t e)
-      → told_by n (after n s e).table k ≡ told_by n t k
+  others-told : (k : ℕ) → (outcome_of w n t e ≡ outcome_told → k ≢ i) → (outcome_of w n t e ≡ outcome_tested_told → k ≢ tested_of w n t e)
+      → told_by n (after w n s e).table k ≡ told_by n t k
   others-told k p q =
       (closing_same k).1
-      ∙ acted-record k told_by_column (omega arith) (omega arith) (λ o same. absurd (p o (sym same))) (λ o same. absurd (q o (sym same)))
+      ∙ acted-record k told_by_column (omega arith) (omega arith) (λ a same. absurd (p a (sym same))) (λ a same. absurd (q a (sym same)))
 
   -- by the outcome
-  tester-told : outcome_of n t e ≡ outcome_told → LeftTold n t (after n s e).table i (tested_of n t e)
-  unfolding outcome_of turn_outcome tested_of turn_tested test_outcome reply_outcome
-  tester-told o =
-      by_bool (is_crash e) (λ c. absurd (omega (arith, rw c at o)))
-      (λ c. by_bool (makes_test n t i)
-      (λ b. by_bool (replies n u e.kind j)
-      (λ r. by_bool (is_told n u i j) (λ q. rw (c, b) (tester-left c b r q))
-      (λ q. by_bool (is_told n u j i) (λ p. absurd (omega (arith, rw (c, b, r, q, p) at o))) (λ p. absurd (omega (arith, rw (c, b, r, q, p) at o)))))
-      (λ r. absurd (omega (arith, rw (c, b, r) at o))))
-      (λ b. absurd (omega (arith, rw (c, b) at o))))
+  tester-told : outcome_of w n t e ≡ outcome_told → LeftTold n t (after w n s e).table i (tested_of w n t e)
+  unfolding outcome_of turn_outcome tested_of turn_tested
+  tester-told told =
+      by_bool (is_crash e) (λ c. absurd (omega (arith, rw c at told)))
+      (λ c. by_bool (makes_test w n t i) (λ b. rw (c, b) (tester-left c b (rw (c, b) at told))) (λ b. absurd (omega (arith, rw (c, b) at told))))
 
-  tested-told : outcome_of n t e ≡ outcome_tested_told → LeftTold n t (after n s e).table (tested_of n t e) i
-  unfolding outcome_of turn_outcome tested_of turn_tested test_outcome reply_outcome
-  tested-told o =
-      by_bool (is_crash e) (λ c. absurd (omega (arith, rw c at o)))
-      (λ c. by_bool (makes_test n t i)
-      (λ b. by_bool (replies n u e.kind j)
-      (λ r. by_bool (is_told n u i j) (λ q. absurd (omega (arith, rw (c, b, r, q) at o)))
-      (λ q. by_bool (is_told n u j i) (λ p. rw (c, b) (tested-left c b r q p)) (λ p. absurd (omega (arith, rw (c, b, r, q, p) at o)))))
-      (λ r. absurd (omega (arith, rw (c, b, r) at o))))
-      (λ b. absurd (omega (arith, rw (c, b) at o))))
+  tested-told : outcome_of w n t e ≡ outcome_tested_told → LeftTold n t (after w n s e).table (tested_of w n t e) i
+  unfolding outcome_of turn_outcome tested_of turn_tested
+  tested-told told =
+      by_bool (is_crash e) (λ c. absurd (omega (arith, rw c at told)))
+      (λ c. by_bool (makes_test w n t i) (λ b. rw (c, b) (tested-left c b (rw (c, b) at told))) (λ b. absurd (omega (arith, rw (c, b) at told))))
 
 -- the claim about one entry, an end in itself
 pub teller-is-named : TellerIsNamed
-teller-is-named n s e shape z =
-    let ok = accepted n s.table shape in
+teller-is-named w n s e shape z =
+    let ok = accepted w n s.table shape in
     record {
-      tester = tester-told n s e ok z;
-      tested = tested-told n s e ok z;
-      others = λ k h p q. others-told n s e ok z k p q;
+      tester = tester-told w n s e ok z;
+      tested = tested-told w n s e ok z;
+      others = λ k h p q. others-told w n s e ok z k p q;
     }

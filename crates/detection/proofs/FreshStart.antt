@@ -11,12 +11,15 @@ use lib.Dec.{eqb}
 use lib.ListN.{length}
 use Rattle.table.specs.Sizes.{is_size}
 use Rattle.table.specs.Table.{head, stride, table_length, line_start, cell, status_column, next_column, finished_column, tests_column, told_by_column, told_by_none, rounds_ago_column, suspects, live, status}
-use Rattle.table.specs.Rules.{exit_rule, line_rules, table_refusal}
+use Rattle.table.specs.Rules.{exit_rule, wired_line_rules, wired_table_refusal}
+use Rattle.table.specs.Wiring.{wiring_check}
+use Rattle.table.proofs.WiringLaws.{end-pos}
+use Rattle.std.specs.Prelude.{Ok}
 use Rattle.table.specs.Fresh.{fresh_byte, fresh_table}
 use Rattle.lists.proofs.SearchLaws.{every-all, list_of-length, list_of-at}
 use Rattle.lists.specs.Sums.{bit}
 use Rattle.lists.proofs.SumLaws.{sum_by, sum-const}
-use Rattle.table.proofs.SizeLaws.{size-bounds, distances-pos}
+use Rattle.table.proofs.SizeLaws.{size-bounds}
 use Rattle.table.proofs.CellLaws.{line-inside, Line, line-holds}
 use Rattle.plant.proofs.RulesKept.{unfinished-open}
 use Rattle.plant.proofs.RunLaws.{accepted-number}
@@ -41,12 +44,12 @@ fresh-row n i k g l =
 fresh-live : (n i : ℕ) → i < n → live n (fresh_table n) i ≡ true
 fresh-live n i h = eq-eqb (status n (fresh_table n) i) 0 (fresh-cell n i status_column h (omega arith))
 
-fresh-line : (n i : ℕ) → i < n → Line n (fresh_table n) i
+fresh-line : (w n i : ℕ) → i < n → Line w n (fresh_table n) i
 unfolding exit_rule
-fresh-line n i g = record {
+fresh-line w n i g = record {
   status_range = omega (arith, fresh-cell n i status_column g (omega arith));
   pass = rw (fresh-cell n i next_column g (omega arith), fresh-cell n i finished_column g (omega arith), fresh-cell n i tests_column g (omega arith))
-      (record { next_low = omega arith; next_high = distances-pos n; finished_range = omega arith; tests_bound = omega arith; finished_next = λ e. absurd (omega arith) });
+      (record { next_low = omega arith; next_high = end-pos w n i g; finished_range = omega arith; tests_bound = omega arith; finished_next = λ e. absurd (omega arith) });
   exits =
       rw (fresh-cell n i status_column g (omega arith), fresh-cell n i told_by_column g (omega arith), fresh-cell n i rounds_ago_column g (omega arith));
   own = fresh-row n i i g g;
@@ -62,12 +65,13 @@ module _ (n : ℕ) where
   fresh-long = list_of-length (fresh_byte n) (table_length n)
 
   -- it passes refusals 1 to 4
-  pub fresh-accepted : is_size n ≡ true → table_refusal n t ≡ 0
-  fresh-accepted size =
-      accepted-number n t (record {
+  pub fresh-accepted : (w : ℕ) → wiring_check w ≡ Ok tt → is_size n ≡ true → wired_table_refusal w n t ≡ 0
+  fresh-accepted w wired size =
+      accepted-number w n t (record {
+        wired = wired;
         size = size;
         long = fresh-long;
-        lines = every-all (line_rules n t) n (λ i h. line-holds n t i (fresh-line n i h));
+        lines = every-all (wired_line_rules w n t) n (λ i h. line-holds w n t i (fresh-line w n i h));
         unclosed = unfinished-open n t (λ i h. fresh-cell n i finished_column h (omega arith));
       })
 
@@ -92,12 +96,13 @@ module _ (n : ℕ) where
 
 pub fresh-premises : FreshMeetsPremises
 unfolding all_taken taken_all
-fresh-premises n rounds tests size = record {
+fresh-premises w n rounds tests size = record {
   size = size;
   long = fresh-long n;
   start = fresh_start n;
   two_live = omega (arith, all_live n, size-bounds n size);
   accurate = none-suspected n;
+  one_wiring = refl;
   no_crash = refl;
   no_late = refl;
 }

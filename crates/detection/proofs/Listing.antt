@@ -1,8 +1,8 @@
--- Whom each station has tested since a round's start, where the round starts exact.
+-- Whom each station has tested since a round's start on the cube, where the round starts exact.
 -- Assumes nothing.
 use mathlib.Core.Path.{◌≡◌, refl, sym, ap, ◌∙◌}
 use mathlib.Core.Logic.{◌≢◌, by_cases}
-use mathlib.Core.Bool.{Bool, true, false, cond, ◌&&◌, and-false}
+use mathlib.Core.Bool.{Bool, false, cond, ◌&&◌, and-false}
 use mathlib.Core.List.{List, [], ◌∷◌, ◌++◌, map, map-append, append-nil}
 use Prim.Native.Nat.{ℕ, ◌<◌}
 use native.Mathlib.Decide.{ℕ_discrete}
@@ -13,18 +13,21 @@ use Rattle.lists.specs.Search.{select}
 use Rattle.station.specs.Groups.{station_at}
 use Rattle.table.specs.Table.{next_column, next_distance, row}
 use Rattle.station.specs.Tests.{due}
+use Rattle.table.specs.Wiring.{wiring_cube}
+use Rattle.station.proofs.WiredLaws.{cube-station}
 use Rattle.lists.proofs.BoolLaws.{by_bool}
 use Rattle.lists.proofs.FilterLaws.{filter_same}
 use Rattle.plant.specs.Turn.{next_test, makes_test, turn_tested}
-use Rattle.plant.specs.Entry.{Entry, State, is_crash, tested_of}
+use Rattle.plant.specs.Entry.{Entry, State, tested_of}
 use Rattle.plant.proofs.RoundLaws.{Reset}
-use Rattle.plant.proofs.TurnHeads.{Heads, passed-list}
+use Rattle.plant.proofs.TurnHeads.{passed-list}
 use Rattle.detection.specs.Runs.{Taken, taken_test}
-use Rattle.detection.specs.Boards.{station_tested, is_test_of, tested_in, first_table}
+use Rattle.detection.specs.Boards.{station_tested, is_test_of, tested_in}
 use Rattle.detection.proofs.TakenLaws.{taken_at}
 use Rattle.detection.proofs.Count.{leads-zero}
-use Rattle.detection.proofs.TurnEffect.{Plain}
-use Rattle.detection.proofs.Knowledge.{LiveOf, Exact, leads_at, exact-due, Knows}
+use Rattle.detection.proofs.TurnEffect.{Exact}
+use Rattle.detection.proofs.RoundKnowledge.{InRound, TurnTaken}
+use Rattle.detection.proofs.Knowledge.{LiveOf, leads_at, exact-due}
 
 -- one entry more
 tested-snoc : (i : ℕ) (xs : List Taken) (x : Taken)
@@ -34,34 +37,21 @@ tested-snoc i [] x = refl
 tested-snoc i (y ∷ xs) x =
     by_bool (is_test_of i y) (λ e. rw (e, tested-snoc i xs x)) (λ e. rw (e, tested-snoc i xs x))
 
-first-snoc : (xs : List Taken) (x y : Taken) → first_table ((xs ++ (x ∷ [])) ++ (y ∷ [])) ≡ first_table (xs ++ (x ∷ []))
-unfolding first_table
-first-snoc [] x y = refl
-first-snoc (z ∷ xs) x y = refl
-
 -- the distances below the next one at which i leads the group of a station
 abbrev pub led_below : ℕ → (ℕ → Bool) → ℕ → ℕ → List ℕ
 led_below n L i m = select (leads_at n L i) m
 
 -- within a round that started with t₀, after its entries `cur`, at the table t
-pub record Listed (n : ℕ) (L : ℕ → Bool) (t₀ : List ℕ) (cur : List Taken) (t : List ℕ) : Type 0 where
-  pub opened : Plain n L t₀
-  pub opens : (x : Taken) → x.before.table ≡ t → first_table (cur ++ (x ∷ [])) ≡ t₀
-  pub listed : Exact n L t₀ → (i : ℕ) → i < n → tested_in i cur ≡ map (station_at i) (led_below n L i (next_distance n t i))
+abbrev pub Listed : ℕ → (ℕ → Bool) → List ℕ → List Taken → List ℕ → Type 0
+Listed n L t₀ cur t = Exact n L t₀ → (i : ℕ) → i < n → tested_in i cur ≡ map (station_at i) (led_below n L i (next_distance n t i))
 
-pub listed_start : (n : ℕ) (L : ℕ → Bool) (t : List ℕ) → Plain n L t → ((i : ℕ) → i < n → Reset n t i) → Listed n L t [] t
-unfolding tested_in first_table
-listed_start n L t p fresh = record {
-  opened = p;
-  opens = λ x e. e;
-  listed = λ exact i h. rw ((fresh i h).next, leads-zero (LiveOf n L) i, and-false);
-}
+pub listed_start : (n : ℕ) (L : ℕ → Bool) (t : List ℕ) → ((i : ℕ) → i < n → Reset n t i) → Listed n L t [] t
+unfolding tested_in
+listed_start n L t fresh exact i h = rw ((fresh i h).next, leads-zero (LiveOf n L) i, and-false)
 
 -- a taken turn keeps it
-module _ (n : ℕ) (L : ℕ → Bool) (s : State) (e : Entry) (t₀ t' : List ℕ) (cur : List Taken) (no_crash : is_crash e ≡ false)
-    (below : e.station < n) (is_live : L e.station ≡ true)
-    (heads : Heads n s.table t' e.station (makes_test n s.table e.station))
-    (know : Knows n L t₀ s.table) (had : Listed n L t₀ cur s.table) where
+module _ (n : ℕ) (L : ℕ → Bool) (t₀ t' : List ℕ) (cur : List Taken) (s : State) (e : Entry) (inv : InRound wiring_cube n L t₀ cur s.table)
+    (turn : TurnTaken wiring_cube n L s e t') (had : Listed n L t₀ cur s.table) where
   abbrev t : List ℕ
   t = s.table
 
@@ -69,36 +59,32 @@ module _ (n : ℕ) (L : ℕ → Bool) (s : State) (e : Entry) (t₀ t' : List �
   i = e.station
 
   abbrev x : Taken
-  x = taken_at n s e
+  x = taken_at wiring_cube n s e
 
   -- the turn's own station, in a round that started exact
-  own-more : Exact n L t₀ → led_below n L i (next_distance n t' i) ≡ led_below n L i (next_distance n t i) ++ cond (makes_test n t i) (next_test n t i ∷ []) []
+  own-more : Exact n L t₀ → led_below n L i (next_distance n t' i) ≡ led_below n L i (next_distance n t i) ++ cond (makes_test wiring_cube n t i) (next_test wiring_cube n t i ∷ []) []
   own-more exact =
-      let exact_now : Exact n L t = λ k j g c q f. know.grown k j g c (exact k j g c q f) in
+      let exact_now : Exact n L t = λ k j g c q f. inv.grown k j g c (exact k j g c q f) in
       let same : (m : ℕ) → select (due (row n t i) i) m ≡ led_below n L i m =
-      λ m. filter_same (due (row n t i) i) (leads_at n L i) (λ y. exact-due n L t know.plain exact_now i y below is_live) (range_with_len 0 m) in
-      sym (same (next_distance n t' i)) ∙ (passed-list n t t' i heads (know.plain.lines.1 i below).pass.next_high
-      ∙ ap (λ (l : List ℕ). l ++ cond (makes_test n t i) (next_test n t i ∷ []) []) (same (next_distance n t i)))
+      λ m. filter_same (due (row n t i) i) (leads_at n L i) (λ y. exact-due n L t inv.plain exact_now i y turn.below turn.is_live) (range_with_len 0 m) in
+      sym (same (next_distance n t' i)) ∙ (passed-list n t t' i turn.outcome turn.heads (inv.plain.lines.1 i turn.below).pass.next_high
+      ∙ ap (λ (l : List ℕ). l ++ cond (makes_test wiring_cube n t i) (next_test wiring_cube n t i ∷ []) []) (same (next_distance n t i)))
 
   own-listed : Exact n L t₀ → tested_in i (cur ++ (x ∷ [])) ≡ map (station_at i) (led_below n L i (next_distance n t' i))
   unfolding tested_of turn_tested
   own-listed exact =
       rw (
         own-more exact,
-        map-append (station_at i) (led_below n L i (next_distance n t i)) (cond (makes_test n t i) (next_test n t i ∷ []) []),
-        ← had.listed exact i below,
-      ) (tested-snoc i cur x ∙ rw (eq-eqb i i refl, no_crash)
-      (by_bool (makes_test n t i) (λ q. rw q) (λ q. rw q)))
+        map-append (station_at i) (led_below n L i (next_distance n t i)) (cond (makes_test wiring_cube n t i) (next_test wiring_cube n t i ∷ []) []),
+        ← had exact i turn.below,
+      ) (tested-snoc i cur x ∙ rw (eq-eqb i i refl, turn.no_crash)
+      (by_bool (makes_test wiring_cube n t i) (λ q. rw (q, cube-station wiring_cube n i (next_test wiring_cube n t i) refl)) (λ q. rw q)))
 
   other-listed : (k : ℕ) → k < n → k ≢ i → Exact n L t₀ → tested_in k (cur ++ (x ∷ [])) ≡ map (station_at k) (led_below n L k (next_distance n t' k))
   other-listed k h apart exact =
-      let next = heads.others k next_column apart (omega arith) in
+      let next = turn.heads.others k next_column apart (omega arith) in
       let none : is_test_of k x ≡ false = ap (λ b. b && taken_test x) (ne_eqb i k (λ q. apart (sym q))) in
-      tested-snoc k cur x ∙ rw (none, append-nil, next) (had.listed exact k h)
+      tested-snoc k cur x ∙ rw (none, append-nil, next) (had exact k h)
 
   pub turn-listed : Listed n L t₀ (cur ++ (x ∷ [])) t'
-  turn-listed = record {
-    opened = had.opened;
-    opens = λ y q. first-snoc cur x y ∙ had.opens x refl;
-    listed = λ exact k h. by_cases (ℕ_discrete k i) (λ q. rw q (own-listed exact)) (λ q. other-listed k h q exact);
-  }
+  turn-listed exact k h = by_cases (ℕ_discrete k i) (λ q. rw q (own-listed exact)) (λ q. other-listed k h q exact)

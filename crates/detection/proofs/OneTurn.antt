@@ -5,7 +5,7 @@ use mathlib.Core.Bool.{Bool, true}
 use mathlib.Core.List.{List, [], ◌∷◌, ◌++◌, append_assoc}
 use Prim.Native.Nat.{ℕ}
 use lib.Dec.{eqb}
-use Rattle.table.specs.Rules.{table_refusal}
+use Rattle.table.specs.Rules.{wired_table_refusal}
 use Rattle.lists.proofs.BoolLaws.{choice}
 use Rattle.lists.proofs.SearchLaws.{both}
 use Rattle.plant.specs.Turn.{kind_turn}
@@ -30,13 +30,13 @@ taken-append s (c ∷ a) b =
     rw (taken-append (after_run s c) a b) (sym (append_assoc (taken_in s c) (taken_all (after_run s c) a) (taken_all (after_runs (after_run s c) a) b)))
 
 -- a run of one turn that is taken
-module _ (n : ℕ) (s : State) (i : ℕ) (ok : table_refusal n s.table ≡ 0) (z : entry_refusal n s (entry_of kind_turn i) ≡ 0) where
-  pub one_left : after_run s (turn_run n i) ≡ after n s (entry_of kind_turn i)
+module _ (w n : ℕ) (s : State) (i : ℕ) (ok : wired_table_refusal w n s.table ≡ 0) (z : entry_refusal n s (entry_of kind_turn i) ≡ 0) where
+  pub one_left : after_run s (turn_run w n i) ≡ after w n s (entry_of kind_turn i)
   one_left =
-      ap (λ (o : RunResult). o.state) (run-goes n s (turn_run n i).schedule (turn_run n i).sheet (start-one n s.table ok))
-      ∙ go-one n s (turn_run n i).sheet kind_turn i z
+      ap (λ (o : RunResult). o.state) (run-goes w n s (turn_run w n i).schedule (turn_run w n i).sheet (start-one w n s.table ok))
+      ∙ go-one w n s (turn_run w n i).sheet kind_turn i z
 
-  pub one-taken : taken_in s (turn_run n i) ≡ taken_at n s (entry_of kind_turn i) ∷ []
+  pub one-taken : taken_in s (turn_run w n i) ≡ taken_at w n s (entry_of kind_turn i) ∷ []
   unfolding taken_in start_check taken_from entries
   one-taken = rw (check_zero _ ok, z)
 
@@ -52,10 +52,10 @@ pub runs_append : (q : Taken → Bool) (s : State) (a b : List Call) → all_tak
 runs_append q s a b x y = rw (taken-append s a b) (all_append q (taken_all s a) (taken_all (after_runs s a) b) x y)
 
 -- what turns pass, a run of one turn passes
-module _ (q : Taken → Bool) (turns : (n : ℕ) (s : State) (i : ℕ) → q (taken_at n s (entry_of kind_turn i)) ≡ true) where
-  pub one_passes : (n : ℕ) (s : State) (i : ℕ) → all_taken q (taken_all s (turn_run n i ∷ [])) ≡ true
+module _ (w : ℕ) (q : Taken → Bool) (turns : (n : ℕ) (s : State) (i : ℕ) → q (taken_at w n s (entry_of kind_turn i)) ≡ true) where
+  pub one_passes : (n : ℕ) (s : State) (i : ℕ) → all_taken q (taken_all s (turn_run w n i ∷ [])) ≡ true
   unfolding taken_all taken_in taken_from entries all_taken
   one_passes n s i =
-      let passes : all_taken q (taken_at n s (entry_of kind_turn i) ∷ []) ≡ true = rw (turns n s i) in
-      all_append q (taken_in s (turn_run n i)) [] (choice (λ xs. all_taken q xs ≡ true) (eqb (start_refusal n s.table 2 4) 0)
+      let passes : all_taken q (taken_at w n s (entry_of kind_turn i) ∷ []) ≡ true = rw (turns n s i) in
+      all_append q (taken_in s (turn_run w n i)) [] (choice (λ xs. all_taken q xs ≡ true) (eqb (start_refusal w n s.table 2 4) 0)
       (choice (λ xs. all_taken q xs ≡ true) (eqb (entry_refusal n s (entry_of kind_turn i)) 0) passes refl) refl) refl

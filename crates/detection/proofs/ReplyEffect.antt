@@ -17,7 +17,7 @@ use Rattle.lists.proofs.BoolLaws.{by_bool, choice, every-same}
 use Rattle.lists.proofs.SearchLaws.{both, every-not}
 use Rattle.table.proofs.Accepting.{accepted}
 use Rattle.table.proofs.CellLaws.{cell_same, cell_other, ClosingChanges}
-use Rattle.plant.specs.Turn.{kind_turn, outcome_exchanged, outcome_told, outcome_tested_told, leave_told, makes_test, replies, is_told, exchange_rows, reply_outcome, test_outcome, after_outcome, self_or_suspected, is_alone, after_alone, testing, turn, turn_tested, turn_outcome}
+use Rattle.plant.specs.Turn.{kind_turn, outcome_exchanged, outcome_told, outcome_tested_told, leave_told, makes_test, replies, is_told, exchange_rows, reply_outcome, test_outcome, after_outcome, self_or_suspected, is_alone, after_alone, after_test, testing, turn, turn_tested, turn_outcome}
 use Rattle.plant.specs.Round.{after_round}
 use Rattle.plant.specs.Entry.{Entry, State, is_crash, acted, after, tested_of, outcome_of}
 use Rattle.plant.proofs.StepCells.{leave_told-length, leave_told-other, leave_told-status, exchange-other, exchange-tester, exchange-tested, exchange-tester-own, exchange-tested-own}
@@ -53,24 +53,24 @@ module _ (n i : ℕ) (v : List ℕ) where
   later-stays e = later-round i status_column (omega arith) (λ p. omega arith) ∙ rw e
 
 -- a taken turn whose test has a reply: i tests j at distance m, and u is the table with the test counted
-module _ (n : ℕ) (s : State) (e : Entry) (r : RepliedTest n s e) where
-  open parts_of n s e use {before as t, tester as i, tested as j, counted as u}
+module _ (w n : ℕ) (s : State) (e : Entry) (r : RepliedTest w n s e) where
+  open parts_of w n s e use {before as t, tester as i, tested as j, counted as u}
 
   no-crash : is_crash e ≡ false
-  no-crash = not-true (is_crash e) (both (not (is_crash e)) (makes_test n t i) r.makes).0
+  no-crash = not-true (is_crash e) (both (not (is_crash e)) (makes_test w n t i) r.makes).0
 
-  tests : makes_test n t i ≡ true
-  tests = (both (not (is_crash e)) (makes_test n t i) r.makes).1
+  tests : makes_test w n t i ≡ true
+  tests = (both (not (is_crash e)) (makes_test w n t i) r.makes).1
 
-  pair : Pair n t u i j
-  pair = testing-pair n s e (accepted n t r.shape) r.taken no-crash tests
+  pair : Pair w n t u i j
+  pair = testing-pair w n s e (accepted w n t r.shape) r.taken no-crash tests
 
   open pair use {lines as lines₀, below as hi, tested_below as hj, apart, counted_lines as lines, others as counted}
 
   row-counted : (k x : ℕ) → x < n → suspects n u k x ≡ suspects n t k x
   row-counted k x h = counted k (head + x) (omega arith) (omega arith)
 
-  tested-is : tested_of n t e ≡ j
+  tested-is : tested_of w n t e ≡ j
   unfolding tested_of turn_tested
   tested-is = rw (no-crash, tests)
 
@@ -78,12 +78,12 @@ module _ (n : ℕ) (s : State) (e : Entry) (r : RepliedTest n s e) where
   reply = rw tested-is at r.reply
 
   -- the outcome is that of a reply; the table is what that, Alone and the closing of a round make of it
-  outcome-is : outcome_of n t e ≡ reply_outcome n u i j
+  outcome-is : outcome_of w n t e ≡ reply_outcome n t i j
   unfolding outcome_of turn_outcome test_outcome replies
-  outcome-is = rw (no-crash, tests, counted j status_column (omega arith) (omega arith), reply)
+  outcome-is = rw (no-crash, tests, reply)
 
-  after_is : (after n s e).table ≡ later n i (after_outcome n u i j (outcome_of n t e))
-  unfolding after acted turn testing outcome_of turn_outcome
+  after_is : (after w n s e).table ≡ later n i (after_outcome n u i j (outcome_of w n t e))
+  unfolding after acted turn testing after_test outcome_of turn_outcome
   after_is = rw (no-crash, tests)
 
   j-live : status n t j ≡ 0
@@ -99,26 +99,26 @@ module _ (n : ℕ) (s : State) (e : Entry) (r : RepliedTest n s e) where
       later-other n i (leave_told n u k x) a (head + b) (omega arith) (λ p. omega arith) (λ _. omega arith)
       ∙ (leave_told-other n u k x a (head + b) (omega arith) (λ _. omega arith) ∙ row-counted a b hb)
 
-  tester-told : suspects n t j i ≡ 1 → outcome_of n t e ≡ outcome_told
+  tester-told : suspects n t j i ≡ 1 → outcome_of w n t e ≡ outcome_told
   unfolding reply_outcome is_told
-  tester-told w = outcome-is ∙ rw (row-counted j i hi ∙ w)
+  tester-told f = outcome-is ∙ rw f
 
-  tested-told : suspects n t j i ≡ 0 → suspects n t i j ≡ 1 → outcome_of n t e ≡ outcome_tested_told
+  tested-told : suspects n t j i ≡ 0 → suspects n t i j ≡ 1 → outcome_of w n t e ≡ outcome_tested_told
   unfolding reply_outcome is_told
-  tested-told w x = outcome-is ∙ rw (row-counted j i hi ∙ w, row-counted i j hj ∙ x)
+  tested-told f x = outcome-is ∙ rw (f, x)
 
-  none_told : NeitherSuspects n t i j → outcome_of n t e ≡ outcome_exchanged
+  none_told : NeitherSuspects n t i j → outcome_of w n t e ≡ outcome_exchanged
   unfolding reply_outcome is_told
-  none_told w = outcome-is ∙ rw (row-counted j i hi ∙ w.1, row-counted i j hj ∙ w.0)
+  none_told f = outcome-is ∙ rw (f.1, f.0)
 
   -- outcome 2
   tester-leaves : suspects n t j i ≡ 1
-      → (outcome_of n t e ≡ outcome_told) × (status n (after n s e).table i ≡ status_told) × (live n (after n s e).table j ≡ true) × SameRows n t (after n s e).table
+      → (outcome_of w n t e ≡ outcome_told) × (status n (after w n s e).table i ≡ status_told) × (live n (after w n s e).table j ≡ true) × SameRows n t (after w n s e).table
   unfolding after_outcome is_alone
-  tester-leaves w =
+  tester-leaves f =
       let v : List ℕ = leave_told n u i j in
-      let q = tester-told w in
-      let a : (after n s e).table ≡ later n i v = rw q at after_is in
+      let q = tester-told f in
+      let a : (after w n s e).table ≡ later n i v = rw q at after_is in
       let mine : status n v i ≡ status_told = leave_told-status n u i lines.0 hi j in
       let gone : is_alone n v i ≡ false = rw mine in
       let its : status n (later n i v) j ≡ 0 =
@@ -128,15 +128,15 @@ module _ (n : ℕ) (s : State) (e : Entry) (r : RepliedTest n s e) where
 
   -- outcome 5
   tested-leaves : suspects n t j i ≡ 0 → suspects n t i j ≡ 1
-      → (outcome_of n t e ≡ outcome_tested_told)
-      × (status n (after n s e).table j ≡ status_told)
-      × SameRows n t (after n s e).table
-      × (status n (after n s e).table i ≡ cond (every (self_or_suspected n t i) n) status_alone 0)
+      → (outcome_of w n t e ≡ outcome_tested_told)
+      × (status n (after w n s e).table j ≡ status_told)
+      × SameRows n t (after w n s e).table
+      × (status n (after w n s e).table i ≡ cond (every (self_or_suspected n t i) n) status_alone 0)
   unfolding after_outcome is_alone self_or_suspected
-  tested-leaves w x =
+  tested-leaves f x =
       let v : List ℕ = leave_told n u j i in
-      let q = tested-told w x in
-      let a : (after n s e).table ≡ later n i v = rw q at after_is in
+      let q = tested-told f x in
+      let a : (after w n s e).table ≡ later n i v = rw q at after_is in
       let its : status n (later n i v) j ≡ status_told =
       later-other n i v j status_column (omega arith) (λ p. omega arith) (λ p. absurd (apart p)) ∙ leave_told-status n u j lines.0 hj i in
       let mine : status n v i ≡ 0 =
@@ -149,26 +149,26 @@ module _ (n : ℕ) (s : State) (e : Entry) (r : RepliedTest n s e) where
 
   -- where neither suspects the other, the exception for a station's own byte makes no difference to the union
   joined-tester : NeitherSuspects n t i j → (x : ℕ) → x < n → suspects n (exchange_rows n u i j) i x ≡ max (suspects n t i x) (suspects n t j x)
-  joined-tester w x h =
+  joined-tester f x h =
       by_cases (ℕ_discrete x i)
-      (λ q. rw q (omega (arith, exchange-tester-own n u i lines.0 hi j hj apart, (lines.1 i hi).own, (lines₀.1 i hi).own, w.1)))
+      (λ q. rw q (omega (arith, exchange-tester-own n u i lines.0 hi j hj apart, (lines.1 i hi).own, (lines₀.1 i hi).own, f.1)))
       (λ d. omega (arith, exchange-tester n u i lines.0 hi j hj apart x h d, row-counted i x h, row-counted j x h))
 
   joined-tested : NeitherSuspects n t i j → (x : ℕ) → x < n → suspects n (exchange_rows n u i j) j x ≡ max (suspects n t j x) (suspects n t i x)
-  joined-tested w x h =
+  joined-tested f x h =
       by_cases (ℕ_discrete x j)
-      (λ q. rw q (omega (arith, exchange-tested-own n u i lines.0 hi j hj apart, (lines.1 j hj).own, (lines₀.1 j hj).own, w.0)))
+      (λ q. rw q (omega (arith, exchange-tested-own n u i lines.0 hi j hj apart, (lines.1 j hj).own, (lines₀.1 j hj).own, f.0)))
       (λ d. omega (arith, exchange-tested n u i lines.0 hi j hj apart x h d, row-counted i x h, row-counted j x h))
 
   -- outcome 1: i does not suspect j afterwards, and so is not alone
   both-stay : NeitherSuspects n t i j
-      → (outcome_of n t e ≡ outcome_exchanged) × (live n (after n s e).table i ≡ true) × (live n (after n s e).table j ≡ true) × RowsJoined n t (after n s e).table i j
+      → (outcome_of w n t e ≡ outcome_exchanged) × (live n (after w n s e).table i ≡ true) × (live n (after w n s e).table j ≡ true) × RowsJoined n t (after w n s e).table i j
   unfolding after_outcome is_alone self_or_suspected
-  both-stay w =
+  both-stay f =
       let v : List ℕ = exchange_rows n u i j in
-      let q = none_told w in
-      let a : (after n s e).table ≡ later n i v = rw q at after_is in
-      let mine : suspects n v i j ≡ 0 = omega (arith, joined-tester w j hj, w.0, (lines₀.1 j hj).own) in
+      let q = none_told f in
+      let a : (after w n s e).table ≡ later n i v = rw q at after_is in
+      let mine : suspects n v i j ≡ 0 = omega (arith, joined-tester f j hj, f.0, (lines₀.1 j hj).own) in
       let fails : self_or_suspected n v i j ≡ false = rw (ne_eqb j i (λ p. apart (sym p)), mine) in
       let company : is_alone n v i ≡ false = rw (every-not (self_or_suspected n v i) n j hj fails, and-false) in
       let same : (k : ℕ) → status n v k ≡ status n t k =
@@ -181,26 +181,26 @@ module _ (n : ℕ) (s : State) (e : Entry) (r : RepliedTest n s e) where
         rw (a, i-stays),
         rw (a, j-stays),
         rw a (
-          λ x h. kept i x h ∙ joined-tester w x h,
-          λ x h. kept j x h ∙ joined-tested w x h,
+          λ x h. kept i x h ∙ joined-tester f x h,
+          λ x h. kept j x h ∙ joined-tested f x h,
           λ k x hk h c d. kept k x h
               ∙ (exchange-other n u i lines.0 hi j hj apart k (head + x) (omega arith) (λ p. absurd (c p)) (λ p. absurd (d p)) ∙ row-counted k x h),
         ),
       )
 
   -- a byte of a row is 0 or 1, so that one of the three applies
-  parted : live n (after n s e).table i ≡ true → live n (after n s e).table j ≡ true → NeitherSuspects n (after n s e).table i j
+  parted : live n (after w n s e).table i ≡ true → live n (after w n s e).table j ≡ true → NeitherSuspects n (after w n s e).table i j
   parted a b =
-      by_cases (ℕ_discrete (suspects n t j i) 1) (λ w. absurd (omega (arith, eqb-true (status n (after n s e).table i) 0 a, (tester-leaves w).1)))
-      (λ w.
-      let w' : suspects n t j i ≡ 0 = omega (arith, (lines₀.1 j hj).range i hi) in
-      by_cases (ℕ_discrete (suspects n t i j) 1) (λ x. absurd (omega (arith, eqb-true (status n (after n s e).table j) 0 b, (tested-leaves w' x).1)))
+      by_cases (ℕ_discrete (suspects n t j i) 1) (λ f. absurd (omega (arith, eqb-true (status n (after w n s e).table i) 0 a, (tester-leaves f).1)))
+      (λ f.
+      let f' : suspects n t j i ≡ 0 = omega (arith, (lines₀.1 j hj).range i hi) in
+      by_cases (ℕ_discrete (suspects n t i j) 1) (λ x. absurd (omega (arith, eqb-true (status n (after w n s e).table j) 0 b, (tested-leaves f' x).1)))
       (λ x.
       let x' : suspects n t i j ≡ 0 = omega (arith, (lines₀.1 i hi).range j hj) in
-      let z = (both-stay (x', w')).3 in
+      let z = (both-stay (x', f')).3 in
       (omega (arith, z.0 j hj, (lines₀.1 j hj).own), omega (arith, z.1 i hi, (lines₀.1 i hi).own))))
 
 -- the claim, an end in itself
 pub reply-ends : ReplyEnds
-reply-ends n s e r =
-    rw (tested-is n s e r) (record { tester = tester-leaves n s e r; tested = tested-leaves n s e r; neither = both-stay n s e r; parted = parted n s e r })
+reply-ends w n s e r =
+    rw (tested-is w n s e r) (record { tester = tester-leaves w n s e r; tested = tested-leaves w n s e r; neither = both-stay w n s e r; parted = parted w n s e r })

@@ -43,7 +43,7 @@ live-on : (n : ℕ) (live : ℕ → Bool) (k : ℕ) → at_position n live k ≡
 live-on n live k e = rw (add-mod_right k n) e
 
 -- the position of i behind j, less than n places on
-pub position : (n i j : ℕ) → i < n → j < n → (i ≡ j → ⊥) → (x : ℕ) × (j < x) × (x < j + n) × (x % n ≡ i)
+position : (n i j : ℕ) → i < n → j < n → (i ≡ j → ⊥) → (x : ℕ) × (j < x) × (x < j + n) × (x % n ≡ i)
 position n i j h hj apart =
     by_cases (dec_lt j i) (λ l. (i, l, omega arith, mod-eq_of_lt h))
     (λ l. (i + n, omega arith, omega arith, add-mod_right i n ∙ mod-eq_of_lt h))

@@ -12,6 +12,8 @@ use borrow.Author.Tests.{eqb-true, eqb-false, eq-eqb}
 use lib.ListN.{length, get_or}
 use Rattle.lists.specs.Sums.{bit}
 use Rattle.table.specs.Sizes.{distances}
+use Rattle.table.specs.Wiring.{wiring_cube, end_distance}
+use Rattle.table.proofs.WiringLaws.{end-cube}
 use Rattle.table.specs.Table.{head, table_length, status_column, next_distance, finished, tests_made, suspects, row, status_crashed}
 use Rattle.table.specs.Rules.{round_over}
 use Rattle.table.specs.Properties.{line_at_start, at_start}
@@ -24,18 +26,18 @@ use Rattle.table.proofs.Accepting.{Accepted}
 use Rattle.table.proofs.CellLaws.{cell_other, row-length, row_same, accepted-line}
 use Rattle.station.proofs.UnionLaws.{mark-length}
 use Rattle.station.proofs.EntryLaws.{unsuspected-below}
-use Rattle.plant.specs.Turn.{kind_crash, crash}
+use Rattle.plant.specs.Turn.{kind_crash, crash, next_test, outcome_at}
 use Rattle.plant.proofs.StepLines.{Lines}
 use Rattle.plant.proofs.TurnHeads.{turn-heads}
 use Rattle.plant.specs.Round.{reset_lines, after_round}
 use Rattle.plant.specs.Entry.{Entry, State, is_crash, entry_refusal, acted, after}
 use Rattle.plant.proofs.RulesKept.{entry-facts, acted-lines}
 use Rattle.plant.proofs.RoundLaws.{Reset, reset-cells, reset-other, reset-lines}
-use Rattle.detection.specs.Runs.{Call, Taken, table_after, taken_all, after_runs}
-use Rattle.detection.specs.Rounds.{count_taken, Rounds, closes, cut}
+use Rattle.detection.specs.Runs.{Call, Taken, table_after, taken_all, after_runs, is_on}
+use Rattle.detection.specs.Rounds.{count_taken, all_taken, Rounds, closes, cut}
 use Rattle.detection.specs.Claim.{all_rounds, rounds_of, round_at}
 use Rattle.detection.proofs.TakenLaws.{taken_at}
-use Rattle.detection.proofs.Chain.{Chain, done, more, chain_first, chain-all}
+use Rattle.detection.proofs.Chain.{WiredChain, ends, next, on-wiring, chain_first, chain-all}
 use Rattle.detection.proofs.Counting.{Counts, counts_start, turn-counts, crash-counts, turns-split, closes-is}
 use Rattle.slots.specs.Slots.{tests_due, most_tests}
 use Rattle.slots.specs.Law.{Wider}
@@ -49,27 +51,28 @@ tests-counted : (n : ℕ) (t₀ : List ℕ) (cur : List Taken) (t : List ℕ) �
 tests-counted n t₀ cur t fresh c i h = omega (arith, c.turns i h, c.ended i h, (fresh i h).unfinished, (fresh i h).untested, turns-split i cur)
 
 -- in a round that started with t₀, behind the entries `cur`
-record Timed (n : ℕ) (t₀ : List ℕ) (cur : List Taken) (t : List ℕ) : Type 0 where
+record Timed (w n : ℕ) (t₀ : List ℕ) (cur : List Taken) (t : List ℕ) : Type 0 where
   pub fresh : (i : ℕ) → i < n → Reset n t₀ i
   pub counts : Counts n t₀ cur t
-  pub fits : TestsAreDue n t
-  pub lines : Lines n t
+  pub fits : w ≡ wiring_cube → TestsAreDue n t
+  pub lines : Lines w n t
 
 -- what a round with entries leaves: a table whose rows all its tests are due by
-record Leaves (n : ℕ) (round : List Taken) (t : List ℕ) : Type 0 where
-  pub lines : Lines n t
-  pub within : (i : ℕ) → i < n → tests_by i round ≤ tests_due n (row n t i) i
+record Leaves (w n : ℕ) (round : List Taken) (t : List ℕ) : Type 0 where
+  pub lines : Lines w n t
+  pub within : w ≡ wiring_cube → (i : ℕ) → i < n → tests_by i round ≤ tests_due n (row n t i) i
 
 -- the distances passed are some of all
-leaves : (n : ℕ) (t₀ : List ℕ) (cur : List Taken) (t : List ℕ) → Timed n t₀ cur t → Leaves n cur t
-leaves n t₀ cur t inv = record {
+leaves : (w n : ℕ) (t₀ : List ℕ) (cur : List Taken) (t : List ℕ) → Timed w n t₀ cur t → Leaves w n cur t
+leaves w n t₀ cur t inv = record {
   lines = inv.lines;
-  within = λ i h.
+  within = λ c i h.
+      let last : end_distance w n ≡ distances n = rw c (end-cube n) in
       let next : ℕ = next_distance n t i in
       let whole : next + (distances n - next) ≡ distances n = omega (arith, (inv.lines.1 i h).pass.next_high) in
       omega (
         arith,
-        inv.fits i h,
+        inv.fits c i h,
         tests-counted n t₀ cur t inv.fresh inv.counts i h,
         rw whole at (sum-split (λ m. bit (due (row n t i) i m)) next (distances n - next)),
         tests-sum n (row n t i) i,
@@ -77,23 +80,23 @@ leaves n t₀ cur t inv = record {
 }
 
 -- the closing of a round leaves the rows
-closed-leaves : (n : ℕ) (round : List Taken) (t : List ℕ) → Leaves n round t → Leaves n round (reset_lines n t)
-closed-leaves n round t l =
-    let lines = reset-lines n t l.lines in
+closed-leaves : (w n : ℕ) (round : List Taken) (t : List ℕ) → Leaves w n round t → Leaves w n round (reset_lines n t)
+closed-leaves w n round t l =
+    let lines = reset-lines w n t l.lines in
     record {
       lines = lines;
-      within = λ i h.
+      within = λ c i h.
           let same : row n (reset_lines n t) i ≡ row n t i =
           row_same n (reset_lines n t) t i lines.0 l.lines.0 h (λ k g. reset-other n t i (head + k) (omega arith) (λ p. omega arith)) in
-          rw same (l.within i h);
+          rw same (l.within c i h);
     }
 
 -- where a round starts
-timed-start : (n : ℕ) (t : List ℕ) → ((i : ℕ) → i < n → Reset n t i) → Lines n t → Timed n t [] t
-timed-start n t fresh lines = record {
+timed-start : (w n : ℕ) (t : List ℕ) → ((i : ℕ) → i < n → Reset n t i) → Lines w n t → Timed w n t [] t
+timed-start w n t fresh lines = record {
   fresh = fresh;
   counts = counts_start n t;
-  fits = λ i h. omega (arith, (fresh i h).untested);
+  fits = λ c i h. omega (arith, (fresh i h).untested);
   lines = lines;
 }
 
@@ -104,91 +107,92 @@ left-snoc t [] x = refl
 left-snoc t (y ∷ xs) x = left-snoc (table_after y) xs x
 
 -- a round without entries, or one that leaves such a table; T is any table
-abbrev RoundFits : ℕ → List ℕ → List Taken → Type 0
-RoundFits n T round = (round ≡ []) ⊎ Leaves n round (table_left T round)
+abbrev RoundFits : ℕ → ℕ → List ℕ → List Taken → Type 0
+RoundFits w n T round = (round ≡ []) ⊎ Leaves w n round (table_left T round)
 
 -- the rounds r, to the table `end`
-record Cut (n : ℕ) (T : List ℕ) (r : Rounds) (end : List ℕ) : Type 0 where
-  pub each : (k : ℕ) → k ≤ length r.closed → RoundFits n T (get_or (all_rounds r) k [])
+record Cut (w n : ℕ) (T : List ℕ) (r : Rounds) (end : List ℕ) : Type 0 where
+  pub each : (k : ℕ) → k ≤ length r.closed → RoundFits w n T (get_or (all_rounds r) k [])
   pub counts : (i : ℕ) → i < n → tests_made n end i ≡ tests_by i r.open_round
 
 -- a taken entry
-module _ (n : ℕ) (s : State) (e : Entry) (ok : Accepted n s.table) (takes : entry_refusal n s e ≡ 0) (t₀ : List ℕ) (cur : List Taken)
-    (inv : Timed n t₀ cur s.table) where
+module _ (w n : ℕ) (s : State) (e : Entry) (ok : Accepted w n s.table) (takes : entry_refusal n s e ≡ 0) (t₀ : List ℕ) (cur : List Taken)
+    (inv : Timed w n t₀ cur s.table) where
   abbrev t : List ℕ
   t = s.table
 
   abbrev t' : List ℕ
-  t' = acted n t e
+  t' = acted w n t e
 
   abbrev here : List Taken
-  here = cur ++ (taken_at n s e ∷ [])
+  here = cur ++ (taken_at w n s e ∷ [])
 
   counted : Counts n t₀ here t'
   unfolding acted crash
   counted =
       by_bool (is_crash e)
-      (λ crashed. rw crashed (crash-counts n s e t₀ _ cur crashed (λ k c counts.
+      (λ crashed. rw crashed (crash-counts w n s e t₀ _ cur crashed (λ k c counts.
       cell_other n t e.station status_column status_crashed k c (omega arith) (omega arith) (λ _. omega arith)) inv.counts))
       (λ turns.
       let facts = entry-facts n s e takes in
       let line = inv.lines.1 e.station facts.below in
       let going : finished n t e.station ≡ 0 = omega (arith, facts.unfinished (eqb-false e.kind kind_crash turns), line.pass.finished_range) in
-      rw turns (turn-counts n s e t₀ _ cur turns facts.below going
-      (turn-heads n t e.kind e.station ok.size inv.lines facts.below) inv.counts))
+      rw turns (turn-counts w n s e (outcome_at w n t e.kind e.station (next_test w n t e.station)) t₀ _ cur turns facts.below going
+      (turn-heads w n t e.kind e.station inv.lines facts.below) inv.counts))
 
-  moved : Timed n t₀ here t'
+  moved : Timed w n t₀ here t'
   moved = record {
     fresh = inv.fresh;
     counts = counted;
-    fits = acted-fits n s e ok takes inv.fits;
-    lines = acted-lines n s e ok takes;
+    fits = λ c. rw c (acted-fits n s e (rw c at ok) takes (inv.fits c));
+    lines = acted-lines w n s e ok takes;
   }
 
-  closing-is : closes here (taken_at n s e) ≡ round_over n t'
-  closing-is = closes-is n t₀ t' here inv.fresh moved.lines counted s e refl
+  closing-is : closes here (taken_at w n s e) ≡ round_over n t'
+  closing-is = closes-is w n t₀ t' here inv.fresh moved.lines counted s e refl
 
   -- with it the round closes, or goes on
   cut-more : (T : List ℕ) (xs : List Taken) (s' : State)
-      → ((t₁ : List ℕ) (now : List Taken) → Timed n t₁ now (after n s e).table → RoundFits n T now → Cut n T (cut now xs) s'.table)
-      → Cut n T (cut cur (taken_at n s e ∷ xs)) s'.table
+      → ((t₁ : List ℕ) (now : List Taken) → Timed w n t₁ now (after w n s e).table → RoundFits w n T now → Cut w n T (cut now xs) s'.table)
+      → Cut w n T (cut cur (taken_at w n s e ∷ xs)) s'.table
   unfolding cut after after_round
   cut-more T xs s' rest = by_bool (round_over n t') closing going
     where
-      left : Leaves n here t'
-      left = leaves n t₀ here t' moved
+      left : Leaves w n here t'
+      left = leaves w n t₀ here t' moved
 
-      closing : round_over n t' ≡ true → Cut n T (cut cur (taken_at n s e ∷ xs)) s'.table
+      closing : round_over n t' ≡ true → Cut w n T (cut cur (taken_at w n s e ∷ xs)) s'.table
       closing over =
-          let anew = timed-start n (reset_lines n t') (reset-cells n t' moved.lines.0) (reset-lines n t' moved.lines) in
+          let anew = timed-start w n (reset_lines n t') (reset-cells n t' moved.lines.0) (reset-lines w n t' moved.lines) in
           let r = rest (reset_lines n t') [] (rw over anew) (inl refl) in
-          let end : table_left T here ≡ reset_lines n t' = left-snoc T cur (taken_at n s e) ∙ rw over in
+          let end : table_left T here ≡ reset_lines n t' = left-snoc T cur (taken_at w n s e) ∙ rw over in
           rw (closing-is ∙ over) (record {
-            each = λ k. elim k as (λ x. x ≤ length (here ∷ (cut [] xs).closed) → RoundFits n T (get_or (here ∷ all_rounds (cut [] xs)) x [])) [
-              | zero ↦ λ h. inr (rw end (closed-leaves n here t' left))
+            each = λ k. elim k as (λ x. x ≤ length (here ∷ (cut [] xs).closed) → RoundFits w n T (get_or (here ∷ all_rounds (cut [] xs)) x [])) [
+              | zero ↦ λ h. inr (rw end (closed-leaves w n here t' left))
               | suc k ↦ λ h. r.each k (omega arith)
             ];
             counts = r.counts;
           })
 
-      going : round_over n t' ≡ false → Cut n T (cut cur (taken_at n s e ∷ xs)) s'.table
+      going : round_over n t' ≡ false → Cut w n T (cut cur (taken_at w n s e ∷ xs)) s'.table
       going over =
-          let end : table_left T here ≡ t' = left-snoc T cur (taken_at n s e) ∙ rw over in
+          let end : table_left T here ≡ t' = left-snoc T cur (taken_at w n s e) ∙ rw over in
           rw (closing-is ∙ over) (rest t₀ here (rw over moved) (inr (rw end left)))
 
 -- a chain, cut into rounds
-cut-chain : (n : ℕ) (T : List ℕ) {s s' : State} {xs : List Taken} → Chain n s xs s' → (t₀ : List ℕ) (cur : List Taken)
-    → Timed n t₀ cur s.table → RoundFits n T cur → Cut n T (cut cur xs) s'.table
+cut-chain : (w n : ℕ) (T : List ℕ) {s s' : State} {xs : List Taken} → WiredChain w n s xs s' → (t₀ : List ℕ) (cur : List Taken)
+    → Timed w n t₀ cur s.table → RoundFits w n T cur → Cut w n T (cut cur xs) s'.table
 unfolding cut
-cut-chain n T {s} done t₀ cur inv fits = record {
+cut-chain w n T {s} ends t₀ cur inv fits = record {
   each = λ k h. let e : k ≡ 0 = omega arith in rw e fits;
   counts = tests-counted n t₀ cur s.table inv.fresh inv.counts;
 }
-cut-chain n T {s} {s'} (more {xs = xs} e ok takes chain) t₀ cur inv fits =
-    cut-more n s e ok takes t₀ cur inv T xs s' (λ t₁ now inv fits. cut-chain n T chain t₁ now inv fits)
+cut-chain w n T {s} {s'} (next {xs = xs} e ok takes chain) t₀ cur inv fits =
+    cut-more w n s e ok takes t₀ cur inv T xs s' (λ t₁ now inv fits. cut-chain w n T chain t₁ now inv fits)
 
 -- a list of runs from the start of a round on
-module _ (n : ℕ) (s : State) (calls : List Call) (long : length s.table ≡ table_length n) (start : at_start n s.table ≡ true) where
+module _ (w n : ℕ) (s : State) (calls : List Call) (long : length s.table ≡ table_length n) (start : at_start n s.table ≡ true)
+    (one : all_taken (is_on w) (taken_all s calls) ≡ true) where
   at-start : (i : ℕ) → i < n → Reset n s.table i
   unfolding at_start
   at-start i h =
@@ -196,21 +200,21 @@ module _ (n : ℕ) (s : State) (calls : List Call) (long : length s.table ≡ ta
       let head = both _ _ all.0 in
       record { next = eqb-true _ 1 head.0; unfinished = eqb-true _ 0 head.1; untested = eqb-true _ 0 all.1 }
 
-  rounds-cut : Cut n s.table (rounds_of s calls) (after_runs s calls).table
+  rounds-cut : Cut w n s.table (rounds_of s calls) (after_runs s calls).table
   unfolding cut count_taken
-  rounds-cut = go (chain_first (chain-all n s calls long))
+  rounds-cut = go (chain_first (on-wiring (chain-all n s calls long) one))
     where
-      go : ((taken_all s calls ≡ []) × (after_runs s calls ≡ s)) ⊎ Accepted n s.table → Cut n s.table (rounds_of s calls) (after_runs s calls).table
+      go : ((taken_all s calls ≡ []) × (after_runs s calls ≡ s)) ⊎ Accepted w n s.table → Cut w n s.table (rounds_of s calls) (after_runs s calls).table
       go (inl none) = rw (none.0, none.1) (record {
         each = λ k h. let e : k ≡ 0 = omega arith in rw e (inl refl);
         counts = λ i h. (at-start i h).untested;
       })
       go (inr ok) =
-          cut-chain n s.table (chain-all n s calls long) s.table []
-          (timed-start n s.table at-start (long, accepted-line n s.table ok)) (inl refl)
+          cut-chain w n s.table (on-wiring (chain-all n s calls long) one) s.table []
+          (timed-start w n s.table at-start (long, accepted-line w n s.table ok)) (inl refl)
 
 -- a row that suspects no more than r and j
-wider-mark-row : (n : ℕ) (t : List ℕ) → Lines n t → (r : List ℕ) (i j : ℕ) → i < n → j ≢ i → length r ≡ n → unsuspected r i ≡ true → SuspectsAtMost n t i r j
+wider-mark-row : (n : ℕ) (t : List ℕ) → Lines wiring_cube n t → (r : List ℕ) (i j : ℕ) → i < n → j ≢ i → length r ≡ n → unsuspected r i ≡ true → SuspectsAtMost n t i r j
     → Wider (row n t i) (mark r j) i
 wider-mark-row n t lines r i j h apart long own few = record {
   long = mark-length r j ∙ long ∙ sym (row-length n t i lines.0 h);
@@ -230,20 +234,20 @@ wider-mark-row n t lines r i j h apart long own few = record {
         pick (inr f) = absurd (true≢false (sym free ∙ rw f (mark-suspected r j (omega (arith, long, f)))))
 
 pub tests-byte-counts : TestsByteCounts
-tests-byte-counts n s calls i long start h = (rounds-cut n s calls long start).counts i h
+tests-byte-counts w n s calls i long start one h = (rounds-cut w n s calls long start one).counts i h
 
 pub tests-within-due : TestsWithinDue
 unfolding count_taken
-tests-within-due n s calls k i long start far h = pick ((rounds-cut n s calls long start).each k far)
+tests-within-due n s calls k i long start one far h = pick ((rounds-cut wiring_cube n s calls long start one).each k far)
   where
-    pick : RoundFits n s.table (round_at s calls k) → tests_by i (round_at s calls k) ≤ tests_due n (row n (end_of s calls k) i) i
+    pick : RoundFits wiring_cube n s.table (round_at s calls k) → tests_by i (round_at s calls k) ≤ tests_due n (row n (end_of s calls k) i) i
     pick (inl none) = rw none (omega arith)
-    pick (inr l) = l.within i h
+    pick (inr l) = l.within refl i h
 
 pub slot-suffices : SlotSuffices
 unfolding count_taken
-slot-suffices n s calls k r i j long start far h l apart row_long own few = pick ((rounds-cut n s calls long start).each k far)
+slot-suffices n s calls k r i j long start one far h l apart row_long own few = pick ((rounds-cut wiring_cube n s calls long start one).each k far)
   where
-    pick : RoundFits n s.table (round_at s calls k) → tests_by i (round_at s calls k) ≤ most_tests n r i
+    pick : RoundFits wiring_cube n s.table (round_at s calls k) → tests_by i (round_at s calls k) ≤ most_tests n r i
     pick (inl none) = rw none (omega arith)
-    pick (inr at) = le_trans (at.within i h) (most-covers n r _ i j l apart (wider-mark-row n (end_of s calls k) at.lines r i j h apart row_long own few))
+    pick (inr at) = le_trans (at.within refl i h) (most-covers n r _ i j l apart (wider-mark-row n (end_of s calls k) at.lines r i j h apart row_long own few))

@@ -1,4 +1,4 @@
--- No entry takes a suspicion back, whatever its kind and outcome, on either wiring.
+-- No entry takes a suspicion back, whatever its kind and outcome.
 -- Assumes nothing.
 use mathlib.Core.Path.{◌≡◌, ◌∙◌}
 use mathlib.Core.Logic.{◌≢◌}
@@ -9,14 +9,14 @@ use native.Mathlib.Decide.{ℕ_discrete}
 use native.Mathlib.Omega.{arith}
 use lib.Dec.{eqb}
 use lib.ListN.{length}
-use Rattle.station.specs.Wired.{wired_station}
-use Rattle.station.proofs.WiredLaws.{station-apart}
 use Rattle.table.specs.Table.{head, table_length, status_column, suspects, status_alone, status_crashed}
 use Rattle.lists.proofs.BoolLaws.{by_bool, choice}
 use Rattle.table.proofs.CellLaws.{cell_other}
-use Rattle.plant.specs.Turn.{outcome_exchanged, outcome_told, outcome_tested_told, set_status, leave_told, next_test, makes_test, finish_pass, count_test, suspect, after_outcome, after_test, outcome_at, is_alone, after_alone, testing, turn, crash}
+use Rattle.plant.specs.Turn.{outcome_at, outcome_exchanged, outcome_told, outcome_tested_told, set_status, leave_told, next_test, makes_test, finish_pass, count_test, suspect, after_outcome, after_test, is_alone, after_alone, testing, turn, crash}
 use Rattle.plant.specs.Entry.{Entry, is_crash, acted}
-use Rattle.plant.proofs.NextTest.{next_test-low, test_below, test-station}
+use Rattle.plant.proofs.NextTest.{test_below, next_test-low, test-station}
+use Rattle.station.specs.Wired.{wired_station}
+use Rattle.station.proofs.WiredLaws.{station-apart}
 use Rattle.plant.proofs.StepCells.{leave_told-other, finish_pass-other, count_test-length, count_test-other, suspect-same, suspect-other}
 use Rattle.plant.proofs.StepLines.{Lines}
 use Rattle.detection.proofs.TurnEffect.{exchange-between}
@@ -38,11 +38,11 @@ told-rows n t a b k y h = leave_told-other n t a b k (head + y) (omega arith) (�
 same_grows : (n : ℕ) (t t' : List ℕ) → RowsStay n t t' → Grows n t t'
 same_grows n t t' same k y hk hy = omega (arith, same k y hy)
 
--- what the outcome o of the test of j does; a row has bytes of at most 1
-outcome-grows : (n : ℕ) (t : List ℕ) (o i j : ℕ) → length t ≡ table_length n → i < n → j < n → i ≢ j
+-- the test of j; a row has bytes of at most 1
+test-grows : (n : ℕ) (t : List ℕ) (o i j : ℕ) → length t ≡ table_length n → i < n → j < n → i ≢ j
     → ((k y : ℕ) → k < n → y < n → suspects n t k y ≤ 1) → Grows n t (after_outcome n t i j o)
 unfolding after_outcome
-outcome-grows n t o i j long hi hj apart small =
+test-grows n t o i j long hi hj apart small =
     choice (Grows n t) (eqb o outcome_told) (same_grows n t _ (told-rows n t i j))
     (choice (Grows n t) (eqb o outcome_tested_told) (same_grows n t _ (told-rows n t j i))
     (choice (Grows n t) (eqb o outcome_exchanged)
@@ -84,7 +84,7 @@ turn-grows w n t kind i lines h =
         let long : length t₁ ≡ table_length n = count_test-length n t i w m o ∙ lines.0 in
         let small : (a b : ℕ) → a < n → b < n → suspects n t₁ a b ≤ 1 = λ a b ha hb. omega (arith, counted a b hb, (lines.1 a ha).range b hb) in
         let t₂ : List ℕ = after_outcome n t₁ i j o in
-        let grown = outcome-grows n t₁ o i j long h x<n apart small k y hk hy in
+        let grown = test-grows n t₁ o i j long h x<n apart small k y hk hy in
         let last : suspects n t₂ k y ≤ suspects n (after_alone n t₂ i) k y =
         choice (λ u. suspects n t₂ k y ≤ suspects n u k y) (is_alone n t₂ i) (omega (arith, left-rows n t₂ i status_alone k y hy)) (omega arith) in
         omega (arith, counted k y hy, grown, last)

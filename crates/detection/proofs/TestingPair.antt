@@ -1,4 +1,4 @@
--- A taken entry that makes a test, on either wiring: the names that proofs give its parts, and what holds of the two stations.
+-- A taken entry that makes a test: the names that proofs give its parts, and what holds of the two stations.
 -- Assumes nothing.
 use mathlib.Core.Path.{◌≡◌}
 use mathlib.Core.Logic.{◌≢◌}
@@ -12,15 +12,14 @@ use Rattle.station.specs.Wired.{wired_station}
 use Rattle.station.proofs.WiredLaws.{station-apart}
 use Rattle.table.proofs.Accepting.{Accepted}
 use Rattle.table.proofs.CellLaws.{accepted-line}
-use Rattle.plant.specs.Turn.{next_test, makes_test, outcome_at, count_test}
+use Rattle.plant.specs.Turn.{next_test, makes_test, count_test, outcome_at}
 use Rattle.plant.proofs.NextTest.{next_test-low, test_below, test-station}
 use Rattle.plant.proofs.StepCells.{count_test-other}
 use Rattle.plant.proofs.StepLines.{Lines, count_test-lines}
 use Rattle.plant.specs.Entry.{Entry, State, is_crash, entry_refusal}
 use Rattle.plant.proofs.RulesKept.{entry-facts}
 
--- the table before an entry, its station, the distance of that one's next test and the station there, what comes of it, and the table with the test
--- counted
+-- the table before an entry, its station, the distance of that one's next test, the station there and the outcome, and the table with the test counted
 pub record Parts : Type 0 where
   pub before : List ℕ
   pub tester : ℕ
@@ -63,15 +62,13 @@ testing-pair w n s e ok z no-crash makes =
     let m = next_test w n t i in
     let facts = entry-facts n s e z in
     let lines : Lines w n t = (ok.long, accepted-line w n t ok) in
-    let low = next_test-low w n t i in
-    let below = test_below w n t i makes in
     record {
       lines = lines;
       below = facts.below;
       tested_below = test-station w n t i makes ok.long facts.below;
-      apart = station-apart w n i m facts.below (omega (arith, low, (lines.1 i facts.below).pass.next_low)) below;
+      apart = station-apart w n i m facts.below (omega (arith, next_test-low w n t i, (lines.1 i facts.below).pass.next_low)) (test_below w n t i makes);
       is_live = facts.is_live;
       counted_lines =
-          count_test-lines w n t i lines facts.below m (parts_of w n s e).outcome (facts.unfinished (eqb-false e.kind 3 no-crash)) low below;
+          count_test-lines w n t i lines facts.below m (parts_of w n s e).outcome (facts.unfinished (eqb-false e.kind 3 no-crash)) (next_test-low w n t i) (test_below w n t i makes);
       others = count-others w n s e;
     }

@@ -1,27 +1,23 @@
--- What a turn does to status and rows, in a table in which no live board suspects a live one: on either wiring, and what the cube adds.
+-- What a turn does to status and rows, in a table in which no live board suspects a live one.
 -- Assumes nothing.
 use mathlib.Core.Path.{◌≡◌, refl, sym, ◌∙◌}
 use mathlib.Core.Logic.{◌≢◌, by_cases}
 use mathlib.Core.Bool.{Bool, true, false, cond, and-false, true≢false}
 use mathlib.Core.List.{List}
 use Prim.Native.Nat.{ℕ, ◌+◌, max, ◌≤◌, ◌<◌}
-use native.Mathlib.Decide.{dec_lt, ℕ_discrete}
+use native.Mathlib.Decide.{ℕ_discrete}
 use native.Mathlib.Omega.{arith}
 use borrow.Author.Tests.{eq-eqb, ne_eqb}
 use lib.ListN.{length}
-use Rattle.table.specs.Wiring.{wiring_cube, end_distance}
-use Rattle.station.specs.Groups.{station_at}
-use Rattle.station.specs.Wired.{wired_station, wired_due}
-use Rattle.station.proofs.WiredLaws.{cube-station, cube_due, station-apart}
-use Rattle.table.specs.Table.{head, stride, table_length, cell, status_column, status, next_distance, finished, suspects, live, row}
-use Rattle.station.specs.Tests.{due}
+use Rattle.station.specs.Wired.{wired_station}
+use Rattle.table.specs.Table.{head, stride, table_length, cell, status_column, status, finished, suspects, live}
+use Rattle.station.proofs.WiredLaws.{station-apart}
 use Rattle.lists.proofs.SearchLaws.{every-not}
-use Rattle.plant.specs.Turn.{kind_turn, outcome_exchanged, outcome_no_reply, next_test, makes_test, finish_pass, next_after, count_test, replies, is_told, exchange_rows, suspect, reply_outcome, test_outcome, after_outcome, after_test, outcome_at, self_or_suspected, is_alone, after_alone, testing, turn}
+use Rattle.plant.specs.Turn.{outcome_at, kind_turn, outcome_exchanged, outcome_no_reply, next_test, makes_test, finish_pass, count_test, replies, is_told, exchange_rows, suspect, reply_outcome, test_outcome, after_outcome, after_test, self_or_suspected, is_alone, after_alone, testing, turn}
 use Rattle.plant.proofs.StepCells.{finish_pass-other, count_test-other, suspect-same, suspect-other, exchange-other, exchange-tester, exchange-tested, exchange-tester-own, exchange-tested-own}
 use Rattle.plant.proofs.StepLines.{Lines, finish_pass-lines, count_test-lines, suspect-lines, exchange-lines}
-use Rattle.plant.proofs.NextTest.{next_test-low, not-due-before, test_below, test-station, none-due}
+use Rattle.plant.proofs.NextTest.{next_test-low, test_below, test-station}
 use Rattle.lists.proofs.BoolLaws.{by_bool}
-use Rattle.plant.proofs.TurnHeads.{turn-heads}
 use Rattle.table.proofs.CellLaws.{TurnCounts, ClosingChanges}
 
 -- a table that obeys the line rules, with live set L, in which no live station suspects a live one
@@ -45,6 +41,10 @@ pub record Tested (n : ℕ) (L : ℕ → Bool) (mine its : ℕ → Type 0) (t : 
   pub tells : L x ≡ true → (j : ℕ) → j < n → mine j → suspects n t x j ≡ 1
   pub hears : L x ≡ true → (j : ℕ) → j < n → its j → suspects n t i j ≡ 1
 
+-- each live station suspects each station that is not live
+abbrev pub Exact : ℕ → (ℕ → Bool) → List ℕ → Type 0
+Exact n L t = (i j : ℕ) → i < n → j < n → L i ≡ true → L j ≡ false → suspects n t i j ≡ 1
+
 -- what i suspects
 abbrev pub Row : ℕ → List ℕ → ℕ → ℕ → Type 0
 Row n t i j = suspects n t i j ≡ 1
@@ -52,10 +52,10 @@ Row n t i j = suspects n t i j ≡ 1
 -- where they had less, and in a later table
 pub tested-more : (n : ℕ) (L : ℕ → Bool) {mine its mine' its' : ℕ → Type 0} (t t' : List ℕ) (i x : ℕ) → i < n → x < n → Grown n t t'
     → ((j : ℕ) → j < n → mine' j → mine j) → ((j : ℕ) → j < n → its' j → its j) → Tested n L mine its t i x → Tested n L mine' its' t' i x
-tested-more n L t t' i x hi hx grows m s had = record {
-  finds = λ e. grows i x hi hx (had.finds e);
-  tells = λ e j h k. grows x j hx h (had.tells e j h (m j h k));
-  hears = λ e j h k. grows i j hi h (had.hears e j h (s j h k));
+tested-more n L t t' i x hi hx grows m s w = record {
+  finds = λ e. grows i x hi hx (w.finds e);
+  tells = λ e j h k. grows x j hx h (w.tells e j h (m j h k));
+  hears = λ e j h k. grows i j hi h (w.hears e j h (s j h k));
 }
 
 -- a table with other bytes only where a turn counts or closing a round changes them
@@ -162,17 +162,25 @@ module _ (w n : ℕ) (L : ℕ → Bool) (t : List ℕ) (i x : ℕ) (p : Plain w 
   unfolding reply_outcome is_told
   none_told e = rw (p.accurate x i hx hi e li, p.accurate i x hi hx li e)
 
-  -- where the reply of a live station is not late: an exchange with a live one, and no reply of another
-  pub outcome-is : (kind : ℕ) → (L x ≡ true → kind ≡ kind_turn)
-      → (L x ≡ true → test_outcome n t kind i x ≡ outcome_exchanged) × (L x ≡ false → test_outcome n t kind i x ≡ outcome_no_reply)
+  -- the outcome, where the reply of a live station is not late
+  pub outcome-is : (kind : ℕ) → (L x ≡ true → kind ≡ kind_turn) → test_outcome n t kind i x ≡ cond (L x) outcome_exchanged outcome_no_reply
   unfolding test_outcome replies
   outcome-is kind prompt =
-      (λ e. rw (p.lives x hx ∙ e, eq-eqb kind kind_turn (prompt e), none_told e), λ e. rw (p.lives x hx ∙ e))
+      by_bool (L x) (λ e. rw (p.lives x hx ∙ e, eq-eqb kind kind_turn (prompt e), none_told e, e)) (λ e. rw (p.lives x hx ∙ e, e))
 
-  -- what such an outcome does
-  pub tested : (o : ℕ) → (L x ≡ true → o ≡ outcome_exchanged) → (L x ≡ false → o ≡ outcome_no_reply) → Step (after_outcome n t i x o)
+  -- what comes of it
+  pub outcome-effect : Step (after_outcome n t i x (cond (L x) outcome_exchanged outcome_no_reply))
   unfolding after_outcome
-  tested o exchanges silent = by_bool (L x) (λ e. rw (exchanges e) (exchanged e)) (λ e. rw (silent e) (marked e))
+  outcome-effect = by_bool (L x) (λ e. rw e (exchanged e)) (λ e. rw e (marked e))
+
+-- a turn of i, whatever the wiring, of whose test o is the outcome: where it makes a test, it tests the station there
+pub record TurnKept (w n : ℕ) (L : ℕ → Bool) (t t' : List ℕ) (i o : ℕ) : Type 0 where
+  pub plain : Plain w n L t'
+  pub grows : Grown n t t'
+  pub outcome : makes_test w n t i ≡ true
+      → o ≡ cond (L (wired_station w n i (next_test w n t i))) outcome_exchanged outcome_no_reply
+  pub tests : makes_test w n t i ≡ true
+      → Tested n L (Row n t i) (Row n t (wired_station w n i (next_test w n t i))) t' i (wired_station w n i (next_test w n t i))
 
 -- a station with a live one beside it that it does not suspect is not alone
 pub not-alone : (w n : ℕ) (L : ℕ → Bool) (t : List ℕ) (i : ℕ) → Plain w n L t → Company n L → i < n → L i ≡ true → after_alone n t i ≡ t
@@ -182,120 +190,42 @@ not-alone w n L t i p company hi li =
     let fails : self_or_suspected n t i o.0 ≡ false = rw (ne_eqb o.0 i (λ e. o.2 (sym e)), p.accurate i o.0 hi o.1 li o.3) in
     rw (every-not (self_or_suspected n t i) n o.0 o.1 fails, and-false)
 
--- a turn of i on either wiring: x is the station at its next test, and o what comes of it
-pub record TurnMade (w n : ℕ) (L : ℕ → Bool) (t t' : List ℕ) (i x o : ℕ) : Type 0 where
-  pub plain : Plain w n L t'
-  pub grows : Grown n t t'
-  pub tests : makes_test w n t i ≡ true → Tested n L (Row n t i) (Row n t x) t' i x
-  pub exchanges : makes_test w n t i ≡ true → L x ≡ true → o ≡ outcome_exchanged
-  pub silent : makes_test w n t i ≡ true → L x ≡ false → o ≡ outcome_no_reply
-
 -- a turn of a live station, where the reply of a live station is not late
-module _ (w n : ℕ) (L : ℕ → Bool) (t : List ℕ) (kind i : ℕ) (p : Plain w n L t) (company : Company n L) (hi : i < n) (li : L i ≡ true)
-    (going : finished n t i ≡ 0) where
-  abbrev m : ℕ
-  m = next_test w n t i
+pub turn-effect : (w n : ℕ) (L : ℕ → Bool) (t : List ℕ) (kind i : ℕ) → Plain w n L t → Company n L → i < n → L i ≡ true → finished n t i ≡ 0
+    → (makes_test w n t i ≡ true → L (wired_station w n i (next_test w n t i)) ≡ true → kind ≡ kind_turn)
+    → TurnKept w n L t (turn w n t kind i) i (outcome_at w n t kind i (next_test w n t i))
+unfolding turn testing after_test
+turn-effect w n L t kind i p company hi li going prompt = by_bool (makes_test w n t i) makes (λ e. rw e (finishes e))
+  where
+    m : ℕ
+    m = next_test w n t i
 
-  abbrev x : ℕ
-  x = wired_station w n i m
+    o : ℕ
+    o = outcome_at w n t kind i m
 
-  abbrev o : ℕ
-  o = outcome_at w n t kind i m
-
-  module _ (prompt : makes_test w n t i ≡ true → L x ≡ true → kind ≡ kind_turn) where
-    finishes : makes_test w n t i ≡ false → TurnMade w n L t (finish_pass w n t i) i x o
+    finishes : makes_test w n t i ≡ false → TurnKept w n L t (finish_pass w n t i) i o
     finishes e =
         let lines = finish_pass-lines w n t i p.lines hi in
         let same = same_rows w n L t _ lines (λ k c h counts _. finish_pass-other n t i w k c h (λ _. (λ e. counts (omega arith), λ e. counts (omega arith)))) p in
-        record {
-          plain = same.0;
-          grows = same.1;
-          tests = λ f. absurd (true≢false (sym f ∙ e));
-          exchanges = λ f. absurd (true≢false (sym f ∙ e));
-          silent = λ f. absurd (true≢false (sym f ∙ e));
-        }
+        record { plain = same.0; grows = same.1; outcome = λ m. absurd (true≢false (sym m ∙ e)); tests = λ m. absurd (true≢false (sym m ∙ e)) }
 
-    makes : makes_test w n t i ≡ true → TurnMade w n L t (testing w n t kind i m) i x o
-    unfolding testing after_test
+    makes : makes_test w n t i ≡ true → TurnKept w n L t (turn w n t kind i) i o
     makes e =
-        let t₁ : List ℕ = count_test w n t i m o in
+        let x : ℕ = wired_station w n i m in
+        let b : ℕ = cond (L x) outcome_exchanged outcome_no_reply in
+        let t₁ : List ℕ = count_test w n t i m b in
         let m<n = test_below w n t i e in
         let low = next_test-low w n t i in
-        let lines₁ = count_test-lines w n t i p.lines hi m o (omega arith) low m<n in
-        let same = same_rows w n L t t₁ lines₁ (λ k c h counts _. count_test-other n t i w m o k c h (λ _. (λ e. counts (omega arith), λ e. counts (omega arith)))) p in
-        let apart = station-apart w n i m hi (omega (arith, (p.lines.1 i hi).pass.next_low, low)) m<n in
+        let lines₁ = count_test-lines w n t i p.lines hi m b (λ f. omega arith) low m<n in
+        let same = same_rows w n L t t₁ lines₁ (λ k c h counts _. count_test-other n t i w m b k c h (λ _. (λ e. counts (omega arith), λ e. counts (omega arith)))) p in
+        let apart = station-apart w n i m hi (omega (arith, (p.lines.1 i hi).pass.next_low)) m<n in
         let x<n = test-station w n t i e p.lines.0 hi in
-        let outcome = outcome-is w n L t i x p hi x<n apart li kind (prompt e) in
-        let done = tested w n L t₁ i x same.0 hi x<n apart li o outcome.0 outcome.1 in
+        let is = outcome-is w n L t i x p hi x<n apart li kind (prompt e) in
+        let done = outcome-effect w n L t₁ i x same.0 hi x<n apart li in
         let stays = not-alone w n L _ i done.0 company hi li in
-        rw stays (record {
+        rw (e, is, stays) (record {
           plain = done.0;
           grows = λ k y hk hy s. done.1 k y hk hy (same.1 k y hk hy s);
-          tests = λ f. tested-more n L _ _ i x hi x<n (λ k y a b s. s) (λ k a. same.1 i k hi a) (λ k a. same.1 x k x<n a) done.2;
-          exchanges = λ f. outcome.0;
-          silent = λ f. outcome.1;
+          outcome = λ _. refl;
+          tests = λ _. tested-more n L _ _ i _ hi x<n (λ k y a b s. s) (λ k a. same.1 i k hi a) (λ k a. same.1 _ k x<n a) done.2;
         })
-
-    pub turn-made : TurnMade w n L t (turn w n t kind i) i x o
-    unfolding turn
-    turn-made = by_bool (makes_test w n t i) (λ e. rw e (makes e)) (λ e. rw e (finishes e))
-
--- a turn of i on the cube: of the distances that it passes none before the last was due, and at one that was due it tested
-pub record TurnKept (n : ℕ) (L : ℕ → Bool) (t t' : List ℕ) (i : ℕ) : Type 0 where
-  pub plain : Plain wiring_cube n L t'
-  pub grows : Grown n t t'
-  pub undue : (m k : ℕ) → next_distance n t i ≤ k → k < m → m < next_distance n t' i → due (row n t i) i k ≡ false
-  pub passed : (m : ℕ) → next_distance n t i ≤ m → m < next_distance n t' i → due (row n t i) i m ≡ true
-      → Tested n L (Row n t i) (Row n t (station_at i m)) t' i (station_at i m)
-
-pub turn-effect : (n : ℕ) (L : ℕ → Bool) (t : List ℕ) (kind i : ℕ) → Plain wiring_cube n L t → Company n L → i < n → L i ≡ true
-    → finished n t i ≡ 0
-    → (makes_test wiring_cube n t i ≡ true → L (station_at i (next_test wiring_cube n t i)) ≡ true → kind ≡ kind_turn)
-    → TurnKept n L t (turn wiring_cube n t kind i) i
-unfolding next_after
-turn-effect n L t kind i p company hi li going prompt = by_bool (makes_test wiring_cube n t i) makes finishes
-  where
-    m : ℕ
-    m = next_test wiring_cube n t i
-
-    o : ℕ
-    o = outcome_at wiring_cube n t kind i m
-
-    x : ℕ
-    x = wired_station wiring_cube n i m
-
-    here : x ≡ station_at i m
-    here = cube-station wiring_cube n i m refl
-
-    made : TurnMade wiring_cube n L t (turn wiring_cube n t kind i) i x o
-    made = turn-made wiring_cube n L t kind i p company hi li going (λ e l. prompt e (rw here at l))
-
-    next : next_distance n (turn wiring_cube n t kind i) i ≡ cond (makes_test wiring_cube n t i) (m + 1) (end_distance wiring_cube n)
-    next = (turn-heads wiring_cube n t kind i p.lines hi).next
-
-    undue-at : (y : ℕ) → wired_due wiring_cube (row n t i) i y ≡ false → due (row n t i) i y ≡ false
-    undue-at y e = sym (cube_due wiring_cube (row n t i) i y refl) ∙ e
-
-    finishes : makes_test wiring_cube n t i ≡ false → TurnKept n L t (turn wiring_cube n t kind i) i
-    finishes e =
-        let none = none-due wiring_cube n t i e (p.lines.1 i hi).pass.next_high in
-        let last = rw e at next in
-        record {
-          plain = made.plain;
-          grows = made.grows;
-          undue = λ y k lo l below. undue-at k (none k lo (omega (arith, last)));
-          passed = λ y lo below is_due. absurd (true≢false (sym is_due ∙ undue-at y (none y lo (omega (arith, last)))));
-        }
-
-    makes : makes_test wiring_cube n t i ≡ true → TurnKept n L t (turn wiring_cube n t kind i) i
-    makes e =
-        let last = rw e at next in
-        let before = not-due-before wiring_cube n t i in
-        record {
-          plain = made.plain;
-          grows = made.grows;
-          undue = λ y k lo l below. undue-at k (before k lo (omega (arith, last)));
-          passed = λ y lo hi' is_due. by_cases (dec_lt y m)
-              (λ l. absurd (true≢false (sym is_due ∙ undue-at y (before y lo l))))
-              (λ l. let same : y ≡ m = omega (arith, last) in rw (same, ← here) (made.tests e));
-        }

@@ -1,15 +1,16 @@
 -- The detection claim, within any number of rounds, and the bounds for which it holds.
 -- Assumes nothing.
-use Rattle.std.specs.Prelude.{ℕ, suc, ◌+◌, ◌-◌, ◌*◌, ◌/◌, ◌≤◌, ◌<◌, ◌≡◌, Bool, true, not, ◌&&◌, List, [], ◌∷◌, ◌++◌, length, if◌then◌else◌, nat_lt, slice_index_or}
+use Rattle.std.specs.Prelude.{Ok, ℕ, suc, ◌+◌, ◌-◌, ◌*◌, ◌/◌, ◌≤◌, ◌<◌, ◌≡◌, Bool, true, not, ◌&&◌, List, [], ◌∷◌, ◌++◌, length, if◌then◌else◌, nat_lt, slice_index_or}
 use Rattle.lists.specs.Search.{every}
 use Rattle.table.specs.Sizes.{is_size, dimension}
+use Rattle.table.specs.Wiring.{wiring_cube, wiring_ring, is_ring, wiring_check}
+use Rattle.table.specs.Fresh.{fresh_table}
 use Rattle.station.specs.Groups.{is_present, width, member}
 use Rattle.table.specs.Table.{table_length, suspects, live}
-use Rattle.table.specs.Rules.{not_live, table_refusal}
-use Rattle.table.specs.Fresh.{fresh_table}
+use Rattle.table.specs.Rules.{not_live, wired_table_refusal}
 use Rattle.plant.specs.Entry.{State, state_of}
 use Rattle.lists.specs.Sums.{sum_below, bit}
-use Rattle.detection.specs.Runs.{Call, Taken, after_runs, taken_all, crashes, is_late}
+use Rattle.detection.specs.Runs.{Call, Taken, after_runs, taken_all, crashes, is_late, is_on}
 use Rattle.detection.specs.Rounds.{all_taken, Rounds, cut, tests_in, tests_of_all, turns_in, nth_turn_finishes}
 use Rattle.table.specs.Properties.{at_start, live_count, none_suspected}
 
@@ -45,28 +46,28 @@ round_at s calls k = slice_index_or (all_rounds (rounds_of s calls)) k []
 abbrev pub TurnsOk : ℕ → ℕ → List Taken → Type 0
 TurnsOk n i round = (turns_in i round ≤ n) × (n ≤ turns_in i round → nth_turn_finishes i n round ≡ true)
 
--- Rule Detection conditions: a size and a table of its length, at the start of a round, two live boards at least, no live one suspecting a
+-- Rule Count of tests, of any wiring: on the ring n
+abbrev pub count_of : ℕ → ℕ → List ℕ → ℕ
+count_of w n t = if is_ring w then n else tests_per_round n t
+
+-- from which round on it holds, where so many are enough: on the ring from the first
+abbrev pub counted_from : ℕ → ℕ → ℕ
+counted_from w enough = if is_ring w then 0 else enough
+
+-- Rule Detection conditions: a wiring, a size and a table of its length, at the start of a round, two live boards at least, no live one suspecting a
 -- live one; any tally, any list of runs, without crashes and late replies of live boards
-pub record DetectionPremises (n : ℕ) (s : State) (calls : List Call) : Type 0 where
+pub record DetectionPremises (w n : ℕ) (s : State) (calls : List Call) : Type 0 where
   pub size : is_size n ≡ true
   pub long : length s.table ≡ table_length n
   pub start : at_start n s.table ≡ true
   pub two_live : 2 ≤ live_count n s.table
   pub accurate : none_suspected n s.table ≡ true
+  pub one_wiring : all_taken (is_on w) (taken_all s calls) ≡ true
   pub no_crash : all_taken (λ x. not (crashes x)) (taken_all s calls) ≡ true
   pub no_late : all_taken (λ x. not (is_late x)) (taken_all s calls) ≡ true
 
--- a fresh table of any size passes refusals 1 to 4
-abbrev pub FreshIsAccepted : Type 0
-FreshIsAccepted = (n : ℕ) → is_size n ≡ true → table_refusal n (fresh_table n) ≡ 0
-
--- Rule Conditions are met: a fresh table, with any tally, meets at every size what is supposed of size and table. Drives need no more
--- (`DrivenDetection`)
-abbrev pub FreshMeetsPremises : Type 0
-FreshMeetsPremises = (n rounds tests : ℕ) → is_size n ≡ true → DetectionPremises n (state_of (fresh_table n) rounds tests) []
-
 -- Rule Detection: what the claim says of table and tally after the list, where so many rounds are enough
-pub record DetectionConclusion (enough n : ℕ) (s : State) (calls : List Call) (end : State) : Type 0 where
+pub record DetectionConclusion (enough w n : ℕ) (s : State) (calls : List Call) (end : State) : Type 0 where
   -- the live boards are the same as at first
   pub same_live : (i : ℕ) → i < n → live n end.table i ≡ live n s.table i
   -- in every round, the open one included, a live board has at most n turns, and an nth turn finished its pass
@@ -76,43 +77,32 @@ pub record DetectionConclusion (enough n : ℕ) (s : State) (calls : List Call) 
   pub exact_rows : enough ≤ length (rounds_of s calls).closed
       → (i j : ℕ) → i < n → j < n → live n s.table i ≡ true → suspects n end.table i j ≡ bit (not_live n s.table j)
   -- each closed round after these has as many tests as the count says
-  pub tests : (k : ℕ) → enough ≤ k → k < length (rounds_of s calls).closed
-      → tests_in (slice_index_or (rounds_of s calls).closed k []) ≡ tests_per_round n s.table
+  pub tests : (k : ℕ) → counted_from w enough ≤ k → k < length (rounds_of s calls).closed
+      → tests_in (slice_index_or (rounds_of s calls).closed k []) ≡ count_of w n s.table
   -- the tally: the closed rounds are added to its rounds, and the tests of all rounds, the open one included, to its tests
   pub rounds_tally : end.rounds ≡ s.rounds + length (rounds_of s calls).closed
   pub tests_tally : end.tests ≡ s.tests + tests_of_all (all_rounds (rounds_of s calls))
 
--- the claim at size n, for all tables, tallies and lists of runs, within so many rounds
-abbrev pub DetectionAt : ℕ → ℕ → Type 0
-DetectionAt n enough = (s : State) (calls : List Call) → DetectionPremises n s calls → DetectionConclusion enough n s calls (after_runs s calls)
+-- the claim on a wiring at size n, for all tables, tallies and lists of runs, within so many rounds
+abbrev pub DetectionAt : ℕ → ℕ → ℕ → Type 0
+DetectionAt w n enough =
+    (s : State) (calls : List Call) → DetectionPremises w n s calls → DetectionConclusion enough w n s calls (after_runs s calls)
 
--- Rule Worst case, and the greater bounds: the claim at all sizes, within so many rounds by the dimension
-abbrev pub Detection : (ℕ → ℕ) → Type 0
-Detection rounds = (n : ℕ) → DetectionAt n (rounds (dimension n))
-
--- the same of one run, `c`, from `before` to `after`: wherever it stands behind other runs, the claim about the whole list with it holds of
--- the state that it leaves
-abbrev pub DetectionAfter : (ℕ → ℕ) → Call → State → State → Type 0
-DetectionAfter rounds c before after =
-    (n : ℕ) (s : State) (calls : List Call) → after_runs s calls ≡ before → DetectionPremises n s (calls ++ (c ∷ []))
-    → DetectionConclusion (rounds (dimension n)) n s (calls ++ (c ∷ [])) after
-
--- Rule Square bound: d·d rounds
-abbrev pub square_bound : ℕ → ℕ
-square_bound d = d * d
-
--- Rule Square bound: detection within these
-abbrev pub DetectionInSquare : Type 0
-DetectionInSquare = Detection square_bound
-
--- Rule Triangular bound: 1 + d(d − 1)/2 rounds, 1, 2, 4, 7, 11, 16 for d = 1 to 6
-abbrev pub triangle_bound : ℕ → ℕ
-triangle_bound d = 1 + d * (d - 1) / 2
-
--- Rule Triangular bound: detection within these
-abbrev pub DetectionInTriangle : Type 0
-DetectionInTriangle = Detection triangle_bound
-
--- Rule Worst case: the worst-case latency, 1, 2, 3, 4, 6, 8 rounds for d = 1 to 6. From 3 boards on fewer do not suffice (crate witness)
+-- Rule Worst case: the worst-case latency, 1, 2, 3, 4, 6, 8 rounds for d = 1 to 6
 unfoldable pub worst_latency : ℕ → ℕ
 worst_latency d = if nat_lt d 4 then d else 4 + (d - 3) * (d - 3) / 2
+
+-- on the cube within the worst-case latency, on the ring within half as many rounds as there are stations
+abbrev pub DetectionOnCube : Type 0
+DetectionOnCube = (n : ℕ) → DetectionAt wiring_cube n (worst_latency (dimension n))
+
+abbrev pub DetectionOnRing : Type 0
+DetectionOnRing = (n : ℕ) → DetectionAt wiring_ring n (n / 2)
+
+-- a fresh table of any size passes refusals 24 and 1 to 4, on each wiring
+abbrev pub FreshIsAccepted : Type 0
+FreshIsAccepted = (w n : ℕ) → wiring_check w ≡ Ok tt → is_size n ≡ true → wired_table_refusal w n (fresh_table n) ≡ 0
+
+-- Rule Conditions are met: a fresh table, with any tally, meets at every size what is supposed of wiring, size and table
+abbrev pub FreshMeetsPremises : Type 0
+FreshMeetsPremises = (w n rounds tests : ℕ) → is_size n ≡ true → DetectionPremises w n (state_of (fresh_table n) rounds tests) []

@@ -1,57 +1,58 @@
 -- That a drive does what its grants and their runs of one entry do, so that detection holds of plants that are driven.
 -- Assumes nothing.
-use Rattle.std.specs.Prelude.{◌≡◌, true, List, [], ◌∷◌, ◌++◌, map, ℕ, zero, suc, ◌+◌, ◌≤◌, ◌<◌, length, ◌==◌}
+use Rattle.std.specs.Prelude.{◌≡◌, true, List, [], ◌∷◌, ◌++◌, map, ℕ, zero, suc, ◌+◌, ◌/◌, ◌≤◌, ◌<◌, length, ◌==◌}
 use Rattle.lists.specs.Sums.{bit}
 use Rattle.table.specs.Sizes.{dimension}
+use Rattle.table.specs.Wiring.{wiring_cube, wiring_ring}
 use Rattle.table.specs.Table.{suspects, live}
 use Rattle.table.specs.Rules.{not_live}
 use Rattle.plant.specs.Turn.{kind_turn}
 use Rattle.plant.specs.Entry.{State, entry_of, entry_refusal}
 use Rattle.detection.specs.Runs.{Call, turn_run, after_run, after_runs, taken_all}
-use Rattle.detection.specs.Claim.{rounds_of, DetectionPremises, DetectionConclusion, square_bound}
+use Rattle.detection.specs.Claim.{rounds_of, DetectionPremises, DetectionConclusion, worst_latency}
 use Rattle.granter.specs.Grant.{grant_refusal}
 use Rattle.granter.specs.Drive.{Stand, stand_at, granted_at, after_grants, drive}
 
 -- the runs (1, g1), (1, g2), .. of the first k grants
-unfoldable pub runs_of : ℕ → Stand → ℕ → List Call
-runs_of n p zero = []
-runs_of n p (suc k) = runs_of n p k ++ (turn_run n (granted_at n (after_grants n p k)) ∷ [])
+unfoldable pub runs_of : ℕ → ℕ → Stand → ℕ → List Call
+runs_of w n p zero = []
+runs_of w n p (suc k) = runs_of w n p k ++ (turn_run w n (granted_at n (after_grants w n p k)) ∷ [])
 
 -- those of a drive, as many as it says that it made
-abbrev pub runs_of_drive : ℕ → State → ℕ → List Call
-runs_of_drive n s last = runs_of n (stand_at s last) (drive n s last).grants
+abbrev pub runs_of_drive : ℕ → ℕ → State → ℕ → List Call
+runs_of_drive w n s last = runs_of w n (stand_at s last) (drive w n s last).grants
 
 -- its answer and table are those of the list of these runs
-pub record TurnByTurn (n : ℕ) (s : State) (last : ℕ) : Type 0 where
+pub record TurnByTurn (w n : ℕ) (s : State) (last : ℕ) : Type 0 where
   -- no grant is refused
-  pub granted : (k : ℕ) → k < (drive n s last).grants
-      → grant_refusal n (after_grants n (stand_at s last) k).state.table (after_grants n (stand_at s last) k).last ≡ 0
+  pub granted : (k : ℕ) → k < (drive w n s last).grants
+      → grant_refusal w n (after_grants w n (stand_at s last) k).state.table (after_grants w n (stand_at s last) k).last ≡ 0
   -- each run takes its entry
-  pub taken : length (taken_all s (runs_of_drive n s last)) ≡ (drive n s last).grants
+  pub taken : length (taken_all s (runs_of_drive w n s last)) ≡ (drive w n s last).grants
   -- the same table and tally, and the same last granted number
-  pub left : after_runs s (runs_of_drive n s last) ≡ (drive n s last).state
-  pub last_is : (drive n s last).last ≡ (after_grants n (stand_at s last) (drive n s last).grants).last
+  pub left : after_runs s (runs_of_drive w n s last) ≡ (drive w n s last).state
+  pub last_is : (drive w n s last).last ≡ (after_grants w n (stand_at s last) (drive w n s last).grants).last
   -- where the drive stops with 7, the next turn would meet it
-  pub seven : grant_refusal n s.table last ≡ 0 → (drive n s last).number ≡ 7
-      → entry_refusal n (drive n s last).state (entry_of kind_turn (granted_at n (stand_at (drive n s last).state (drive n s last).last))) ≡ 7
+  pub seven : grant_refusal w n s.table last ≡ 0 → (drive w n s last).number ≡ 7
+      → entry_refusal n (drive w n s last).state (entry_of kind_turn (granted_at n (stand_at (drive w n s last).state (drive w n s last).last))) ≡ 7
 
 -- Rule Drive is turns: for all inputs
 abbrev pub DriveIsTurns : Type 0
-DriveIsTurns = (n : ℕ) (s : State) (last : ℕ) → TurnByTurn n s last
+DriveIsTurns = (w n : ℕ) (s : State) (last : ℕ) → TurnByTurn w n s last
 
--- a list that mixes runs and drives; a drive has any size and any last number
+-- a list that mixes runs and drives; a drive has any wiring, any size and any last number
 pub data RunOrDrive : Type 0 where
   a_run : Call → RunOrDrive
-  a_drive : ℕ → ℕ → RunOrDrive
+  a_drive : ℕ → ℕ → ℕ → RunOrDrive
 
 -- table and tally after one of them, and the runs that it is
 abbrev pub after_one : State → RunOrDrive → State
 after_one s (a_run c) = after_run s c
-after_one s (a_drive n last) = (drive n s last).state
+after_one s (a_drive w n last) = (drive w n s last).state
 
 abbrev pub runs_of_one : State → RunOrDrive → List Call
 runs_of_one s (a_run c) = c ∷ []
-runs_of_one s (a_drive n last) = runs_of_drive n s last
+runs_of_one s (a_drive w n last) = runs_of_drive w n s last
 
 -- and of the list, each with the table and tally that the one before left
 unfoldable pub after_mixed : State → List RunOrDrive → State
@@ -62,48 +63,42 @@ unfoldable pub runs_of_mixed : State → List RunOrDrive → List Call
 runs_of_mixed s [] = []
 runs_of_mixed s (x ∷ xs) = runs_of_one s x ++ runs_of_mixed (after_one s x) xs
 
--- Rule Detection by drives: detection of such a list, within so many rounds by the dimension, of the runs that it is
-abbrev pub MixedDetection : (ℕ → ℕ) → Type 0
-MixedDetection rounds =
-    (n : ℕ) (s : State) (xs : List RunOrDrive) → DetectionPremises n s (runs_of_mixed s xs)
-    → DetectionConclusion (rounds (dimension n)) n s (runs_of_mixed s xs) (after_mixed s xs)
+-- Rule Detection by drives: detection of such a list, within so many rounds by the size, of the runs that it is
+abbrev pub MixedDetection : ℕ → (ℕ → ℕ) → Type 0
+MixedDetection w rounds =
+    (n : ℕ) (s : State) (xs : List RunOrDrive) → DetectionPremises w n s (runs_of_mixed s xs)
+    → DetectionConclusion (rounds n) w n s (runs_of_mixed s xs) (after_mixed s xs)
 
 -- drives of one size, each with any last number (a drive of another size is refused): table and tally after them, the runs that they are, and
 -- how many of them answer 0
-abbrev pub after_drives : ℕ → State → List ℕ → State
-after_drives n s lasts = after_mixed s (map (a_drive n) lasts)
+abbrev pub after_drives : ℕ → ℕ → State → List ℕ → State
+after_drives w n s lasts = after_mixed s (map (a_drive w n) lasts)
 
-abbrev pub runs_of_drives : ℕ → State → List ℕ → List Call
-runs_of_drives n s lasts = runs_of_mixed s (map (a_drive n) lasts)
+abbrev pub runs_of_drives : ℕ → ℕ → State → List ℕ → List Call
+runs_of_drives w n s lasts = runs_of_mixed s (map (a_drive w n) lasts)
 
-unfoldable pub ending : ℕ → State → List ℕ → ℕ
-ending n s [] = 0
-ending n s (last ∷ lasts) = bit ((drive n s last).number == 0) + ending n (drive n s last).state lasts
+unfoldable pub ending : ℕ → ℕ → State → List ℕ → ℕ
+ending w n s [] = 0
+ending w n s (last ∷ lasts) = bit ((drive w n s last).number == 0) + ending w n (drive w n s last).state lasts
 
 -- what the claim says of driven plants, where so many rounds are enough
-pub record DrivenDetectionConclusion (enough n : ℕ) (s : State) (lasts : List ℕ) (end : State) : Type 0 where
+pub record DrivenDetectionConclusion (enough w n : ℕ) (s : State) (lasts : List ℕ) (end : State) : Type 0 where
   -- detection, of the list of their runs
-  pub detection : DetectionConclusion enough n s (runs_of_drives n s lasts) end
+  pub detection : DetectionConclusion enough w n s (runs_of_drives w n s lasts) end
   -- each drive that answers 0 closes one round, and no other closes one
-  pub rounds : length (rounds_of s (runs_of_drives n s lasts)).closed ≡ ending n s lasts
+  pub rounds : length (rounds_of s (runs_of_drives w n s lasts)).closed ≡ ending w n s lasts
   -- after enough that answer 0 each live board suspects exactly the boards that are not live
-  pub exact_rows : enough ≤ ending n s lasts
+  pub exact_rows : enough ≤ ending w n s lasts
       → (i j : ℕ) → i < n → j < n → live n s.table i ≡ true → suspects n end.table i j ≡ bit (not_live n s.table j)
 
--- Rule Detection by drives: the claim, within so many rounds by the dimension. It supposes the detection conditions on the table: those of no run
--- at all. Drives have no crash and no late reply
-abbrev pub DrivenDetection : (ℕ → ℕ) → Type 0
-DrivenDetection rounds =
-    (n : ℕ) (s : State) (lasts : List ℕ) → DetectionPremises n s []
-    → DrivenDetectionConclusion (rounds (dimension n)) n s lasts (after_drives n s lasts)
+-- Rule Detection by drives: the claim on a wiring, within so many rounds by the size. It supposes the detection conditions on the table
+abbrev pub DrivenDetection : ℕ → (ℕ → ℕ) → Type 0
+DrivenDetection w rounds =
+    (n : ℕ) (s : State) (lasts : List ℕ) → DetectionPremises w n s []
+    → DrivenDetectionConclusion (rounds n) w n s lasts (after_drives w n s lasts)
 
--- detection of driven plants within d·d rounds
-abbrev pub DrivenDetectionInSquare : Type 0
-DrivenDetectionInSquare = DrivenDetection square_bound
+abbrev pub DrivenOnCube : Type 0
+DrivenOnCube = DrivenDetection wiring_cube (λ n. worst_latency (dimension n))
 
--- the same of one drive, from `before` to `after`: wherever it stands behind other drives, the claim about the whole list with it holds of
--- the state that it leaves
-abbrev pub DrivenDetectionAfter : (ℕ → ℕ) → ℕ → ℕ → State → State → Type 0
-DrivenDetectionAfter rounds n last before after =
-    (s : State) (lasts : List ℕ) → after_drives n s lasts ≡ before → DetectionPremises n s []
-    → DrivenDetectionConclusion (rounds (dimension n)) n s (lasts ++ (last ∷ [])) after
+abbrev pub DrivenOnRing : Type 0
+DrivenOnRing = DrivenDetection wiring_ring (λ n. n / 2)

@@ -1,4 +1,3 @@
--- The detection claim about a whole list of runs, and what else is claimed of runs and drives.
 pub mod Runs
 pub mod Rounds
 pub mod Claim

@@ -1,7 +1,6 @@
 -- The list of runs and its taken entries.
 -- Assumes nothing.
-use Rattle.std.specs.Prelude.{◌≡◌, ℕ, Bool, not, ◌&&◌, List, [], ◌∷◌, ◌++◌, length, All, Ok, if◌then◌else◌, ◌==◌}
-use Rattle.table.specs.Wiring.{wiring_check}
+use Rattle.std.specs.Prelude.{◌≡◌, ℕ, Bool, not, ◌&&◌, List, [], ◌∷◌, ◌++◌, length, if◌then◌else◌, ◌==◌}
 use Rattle.table.specs.Table.{live}
 use Rattle.plant.specs.Turn.{kind_turn, kind_late}
 use Rattle.plant.specs.Entry.{Entry, State, is_crash, is_test, entry_refusal, after, tested_of}
@@ -31,7 +30,7 @@ unfoldable pub after_runs : State → List Call → State
 after_runs s [] = s
 after_runs s (c ∷ cs) = after_runs (after_run s c) cs
 
--- a taken entry: wiring and size of its run, and table and tally as it found them
+-- a taken entry: the wiring and the size of its run, and table and tally as it found them
 pub record Taken : Type 0 where
   pub wiring : ℕ
   pub size : ℕ
@@ -46,9 +45,7 @@ taken_from w n s (e ∷ es) =
 
 -- the taken entries of one run
 unfoldable pub taken_in : State → Call → List Taken
-taken_in s c =
-    if start_refusal c.wiring c.size s.table (length c.schedule) (length c.sheet) == 0
-    then taken_from c.wiring c.size s (entries c.schedule) else []
+taken_in s c = if start_refusal c.wiring c.size s.table (length c.schedule) (length c.sheet) == 0 then taken_from c.wiring c.size s (entries c.schedule) else []
 
 -- a run that finds this table and tally answers how many entries it takes
 abbrev pub CountsTaken : Call → State → ℕ → Type 0
@@ -58,14 +55,6 @@ CountsTaken c before taken = taken ≡ length (taken_in before c)
 unfoldable pub taken_all : State → List Call → List Taken
 taken_all s [] = []
 taken_all s (c ∷ cs) = taken_in s c ++ taken_all (after_run s c) cs
-
--- a run is on wiring w, if refusal 24 lets it through
-abbrev pub IsOnWiring : ℕ → Call → Type 0
-IsOnWiring w c = wiring_check c.wiring ≡ Ok tt → c.wiring ≡ w
-
--- the list does not mix wirings
-abbrev pub AllOnWiring : ℕ → List Call → Type 0
-AllOnWiring w calls = All (IsOnWiring w) calls
 
 -- the table after the taken entry
 abbrev pub table_after : Taken → List ℕ
@@ -90,3 +79,7 @@ crashes x = is_crash x.entry
 -- a taken entry of kind 2 that tests a live station
 abbrev pub is_late : Taken → Bool
 is_late x = x.entry.kind == kind_late && taken_test x && live x.size x.before.table (tested_of x.wiring x.size x.before.table x.entry)
+
+-- a taken entry of a run on the wiring w
+abbrev pub is_on : ℕ → Taken → Bool
+is_on w x = x.wiring == w

@@ -5,9 +5,10 @@
 use Rattle.std.specs.Prelude.{◌≡◌, ◌≢◌, ◌⊎◌, true, false, List, [], ◌∷◌, ℕ, ◌≤◌, ◌<◌, length, slice_index_or}
 use Rattle.table.specs.Table.{table_length, tests_made, suspects, row, live}
 use Rattle.station.specs.Tests.{unsuspected}
+use Rattle.table.specs.Wiring.{wiring_cube}
 use Rattle.plant.specs.Entry.{State}
-use Rattle.detection.specs.Runs.{Call, Taken, after_runs, table_after}
-use Rattle.detection.specs.Rounds.{count_taken}
+use Rattle.detection.specs.Runs.{Call, Taken, after_runs, taken_all, table_after, is_on}
+use Rattle.detection.specs.Rounds.{count_taken, all_taken}
 use Rattle.table.specs.Properties.{at_start, exact_row, ExactRows}
 use Rattle.detection.specs.Claim.{rounds_of, round_at, DetectionPremises}
 use Rattle.detection.specs.Boards.{is_test_of, tested_in, first_table}
@@ -17,7 +18,7 @@ use Rattle.slots.specs.Slots.{tested, tests_due, most_tests}
 -- with the boards dead that are not live (`ExactRoundTests`, in the sheet's words)
 abbrev pub TestsAreTheSheets : Type 0
 TestsAreTheSheets =
-    (n : ℕ) (s : State) (calls : List Call) → DetectionPremises n s calls → (k : ℕ) → k < length (rounds_of s calls).closed
+    (n : ℕ) (s : State) (calls : List Call) → DetectionPremises wiring_cube n s calls → (k : ℕ) → k < length (rounds_of s calls).closed
     → ExactRows n (first_table (slice_index_or (rounds_of s calls).closed k [])) → (i : ℕ) → i < n → live n s.table i ≡ true
     → tested_in i (slice_index_or (rounds_of s calls).closed k []) ≡ tested n (exact_row n s.table) i
 
@@ -29,7 +30,8 @@ tests_by i round = count_taken (is_test_of i) round
 -- testing entries in the round that is then open
 abbrev pub TestsByteCounts : Type 0
 TestsByteCounts =
-    (n : ℕ) (s : State) (calls : List Call) (i : ℕ) → length s.table ≡ table_length n → at_start n s.table ≡ true → i < n
+    (w n : ℕ) (s : State) (calls : List Call) (i : ℕ) → length s.table ≡ table_length n → at_start n s.table ≡ true
+    → all_taken (is_on w) (taken_all s calls) ≡ true → i < n
     → tests_made n (after_runs s calls).table i ≡ tests_by i (rounds_of s calls).open_round
 
 -- the table as the last of the entries leaves it; t where there is none
@@ -47,7 +49,7 @@ end_of s calls k = table_left s.table (round_at s calls k)
 abbrev pub TestsWithinDue : Type 0
 TestsWithinDue =
     (n : ℕ) (s : State) (calls : List Call) (k i : ℕ) → length s.table ≡ table_length n → at_start n s.table ≡ true
-    → k ≤ length (rounds_of s calls).closed → i < n → tests_by i (round_at s calls k) ≤ tests_due n (row n (end_of s calls k) i) i
+    → all_taken (is_on wiring_cube) (taken_all s calls) ≡ true → k ≤ length (rounds_of s calls).closed → i < n → tests_by i (round_at s calls k) ≤ tests_due n (row n (end_of s calls k) i) i
 
 -- board i suspects at table t nobody but those that row r suspects, and j
 abbrev pub SuspectsAtMost : ℕ → List ℕ → ℕ → List ℕ → ℕ → Type 0
@@ -58,5 +60,5 @@ SuspectsAtMost n t i r j = (x : ℕ) → x < n → suspects n t i x ≡ 1 → (u
 abbrev pub SlotSuffices : Type 0
 SlotSuffices =
     (n : ℕ) (s : State) (calls : List Call) (k : ℕ) (r : List ℕ) (i j : ℕ) → length s.table ≡ table_length n → at_start n s.table ≡ true
-    → k ≤ length (rounds_of s calls).closed → i < n → j < n → j ≢ i → length r ≡ n → unsuspected r i ≡ true
+    → all_taken (is_on wiring_cube) (taken_all s calls) ≡ true → k ≤ length (rounds_of s calls).closed → i < n → j < n → j ≢ i → length r ≡ n → unsuspected r i ≡ true
     → SuspectsAtMost n (end_of s calls k) i r j → tests_by i (round_at s calls k) ≤ most_tests n r i

@@ -1,24 +1,19 @@
 // The claims about every list of runs (specs/Claim.antt, specs/Boards.antt), each the contract of a function that does nothing.
 
-ghost use Rattle.detection.specs.Claim.{DetectionInSquare, DetectionInTriangle, Detection, worst_latency, FreshIsAccepted, FreshMeetsPremises};
+ghost use Rattle.detection.specs.Claim.{DetectionOnCube, DetectionOnRing, FreshIsAccepted, FreshMeetsPremises};
 ghost use Rattle.detection.specs.Boards.{ExactRoundTests, ExactRoundTestsAfterLatency};
 
-// After d·d closed rounds the live boards suspect just those that are not live, and the tests are those counted.
-pub fn detection_in_square()
-    ensures { DetectionInSquare }
+// On the cube the live boards suspect just those that are not live after the worst-case latency, and the tests are those counted.
+pub fn detection_on_cube()
+    ensures { DetectionOnCube }
 {}
 
-// The same within 1 + d(d − 1)/2 rounds.
-pub fn detection_in_triangle()
-    ensures { DetectionInTriangle }
+// On the ring they do after half as many rounds as there are stations, and every closed round has n tests.
+pub fn detection_on_ring()
+    ensures { DetectionOnRing }
 {}
 
-// The same within the worst-case latency.
-pub fn detection_in_worst_case()
-    ensures { Detection worst_latency }
-{}
-
-// A fresh table of any size passes refusals 1 to 4.
+// A fresh table of any size passes refusals 24 and 1 to 4.
 pub fn fresh_is_accepted()
     ensures { FreshIsAccepted }
 {}

@@ -83,7 +83,7 @@ stays-out n s calls given = go (chain_first chain)
     go (inr ok) =
         let after = (after_runs s calls).table in
         let kept = check-ok n after (chain-accepted chain ok) in
-        let none = plain-accurate n (live n s.table) after (history n s calls given ok).0.last.plain in
+        let none = plain-accurate n (live n s.table) after (history n s calls given ok).0.plain in
         let out = is-out n after kept none in
         out ∙ rw (check-ok n s.table ok) refl
 

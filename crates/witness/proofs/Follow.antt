@@ -28,7 +28,7 @@ use Rattle.plant.specs.Entry.{Entry, State, entry_of, tally_top, tally_full, is_
 use Rattle.plant.proofs.RulesKept.{Takes, entry-facts, accepted-kept}
 use Rattle.plant.proofs.RoundLaws.{reset-cells, reset-other}
 use Rattle.detection.proofs.TurnEffect.{Company}
-use Rattle.detection.proofs.Closing.{reset-rows}
+use Rattle.detection.proofs.RoundKnowledge.{reset-rows}
 use Rattle.witness.proofs.Moves.{Like, live_below, due-same, due-none, Heads-of, extra, both-finish, finish-next, both-test, test-next}
 use Rattle.witness.proofs.Slow.{Goes, stop, go, goes-append}
 

@@ -184,10 +184,10 @@ module _ (n N : ℕ) (L : ℕ → Bool) (low : n ≤ N) (absent : (k : ℕ) → 
       Heads-of = turn-heads N u kind_turn i Size like.big.lines H
 
       plain' : Plain n L t'
-      plain' = (turn-effect n L t kind_turn i size like.small company h li going (λ _ _. refl)).plain
+      plain' = (turn-effect n L t kind_turn i like.small company h li going (λ _ _. refl)).plain
 
       Plain' : Plain N L u'
-      Plain' = (turn-effect N L u kind_turn i Size like.big big-company H li Going (λ _ _. refl)).plain
+      Plain' = (turn-effect N L u kind_turn i like.big big-company H li Going (λ _ _. refl)).plain
 
       -- a turn that tests a board from n on changes no row of a live board, and finishes no pass
       module _ (e : makes_test N u i ≡ true) (out : ¬ (station_at i (next_test N u i) < n)) where
