@@ -476,7 +476,7 @@ fn check_entries(entries: impl Iterator<Item = Taken>) -> [usize; 3] {
 fn bytes_4_and_5_in_runs_on_random_tables() {
     for wiring in WIRINGS {
         let [told, counted, stopped] = check_entries(from_random_tables(wiring, 23));
-        assert!(told > 1000 && counted > 1000 && stopped > 100);
+        assert!(told > 1000 && counted > 500 && stopped > 100);
     }
 }
 
