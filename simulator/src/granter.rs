@@ -5,6 +5,7 @@ use crate::numbers::{Size, Station};
 use crate::plant::Plant;
 use crate::refusal::{number_of, Refusal};
 use crate::run::Watch;
+use crate::wiring::Wiring;
 
 /// The last granted number where no station was granted yet.
 const NONE_GRANTED: usize = 255;
@@ -31,19 +32,19 @@ struct Drive {
     grants: usize,
 }
 
-/// Grant: refusals 1 to 4, 16, 17. Gives the number and the station.
-pub fn grant(n: usize, table: &[u8], last: usize) -> (u8, u8) {
-    match admit(n, table, last) {
+/// Grant: refusals 24, 1 to 4, 16, 17. Gives the number and the station.
+pub fn grant(wiring: usize, n: usize, table: &[u8], last: usize) -> (u8, u8) {
+    match admit(wiring, n, table, last) {
         Ok((plant, last)) => (0, granted(&plant, last).number()),
         Err(refusal) => (refusal.number(), 0),
     }
 }
 
-/// Drive: refusals 1 to 4, 16, 17, then 7 before each grant.
+/// Drive: refusals 24, 1 to 4, 16, 17, then 7 before each grant.
 /// The tally is (rounds, tests).
-pub fn drive(n: usize, table: &mut [u8], tally: (u32, u32), last: usize) -> Driven {
+pub fn drive(wiring: usize, n: usize, table: &mut [u8], tally: (u32, u32), last: usize) -> Driven {
     let (rounds, tests) = tally;
-    match admit(n, table, last) {
+    match admit(wiring, n, table, last) {
         Err(refusal) => Driven {
             number: refusal.number(),
             rounds,
@@ -68,9 +69,14 @@ pub fn drive(n: usize, table: &mut [u8], tally: (u32, u32), last: usize) -> Driv
     }
 }
 
-/// Refusals 1 to 4, 16, 17. Gives the plant and the last granted station.
-fn admit(n: usize, table: &[u8], last: usize) -> Result<(Plant, Option<Station>), Refusal> {
-    let plant = Plant::admit(n, table)?;
+/// Refusals 24, 1 to 4, 16, 17. Gives the plant and the last granted station.
+fn admit(
+    wiring: usize,
+    n: usize,
+    table: &[u8],
+    last: usize,
+) -> Result<(Plant, Option<Station>), Refusal> {
+    let plant = Plant::admit(Wiring::new(wiring)?, n, table)?;
     let last = last_granted(plant.size(), last)?;
     Refusal::NoneLive.when(plant.none_live())?;
     Ok((plant, last))

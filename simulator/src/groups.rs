@@ -56,3 +56,13 @@ pub fn answers_from(
     };
     size.distances_from(next).filter_map(answer)
 }
+
+/// The least due distance of station i not below `next`, and the station that
+/// stands there.
+pub fn least_due(size: Size, i: Station, row: Row, next: Distance) -> Option<(Distance, Station)> {
+    let due = |(m, j, answer)| match answer {
+        DueOrAhead::Due => Some((m, j)),
+        DueOrAhead::Ahead(_) => None,
+    };
+    answers_from(size, i, row, next).find_map(due)
+}

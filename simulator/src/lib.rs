@@ -27,12 +27,19 @@
 //! station's number is any below n but the line's own, be that station live or
 //! not; a 254 handed in stays; every closing counts in byte 5 of all lines not
 //! live.
+//! And those of the wirings: the wiring number comes first in the seven calls
+//! that take it; a pass on the ring is finished by a turn that makes no test,
+//! behind the exchange or behind n - 1 tests; next distance alone says how many
+//! of them were made; group list, assignment and saved plants judge a table by
+//! the rules of the cube, wherever it comes from.
 //!
 //! Rows are 64-bit sets and lines are structs. They are decoded from the lent
 //! byte table and encoded back into it. By whom a station was told to leave is
 //! a part of its status. Figures over results are computed in 128 bits, the
 //! variance by the deviations themselves. A drive decodes the table once and
-//! takes its turns as the run does. A saved plant is split into a list of fields
+//! takes its turns as the run does. What the wirings share says nothing of them:
+//! a wiring is asked for the next test of a pass, for the next distance after it
+//! and for that of a finished line. A saved plant is split into a list of fields
 //! before anything is read from it.
 
 #![forbid(unsafe_code)]
@@ -47,6 +54,7 @@ mod lamp;
 mod line;
 mod mender;
 mod numbers;
+mod outcome;
 mod plant;
 pub mod program;
 mod questions;
@@ -56,6 +64,7 @@ mod run;
 mod saved;
 pub mod sheet;
 mod totals;
+mod wiring;
 
 #[cfg(test)]
 mod tests;

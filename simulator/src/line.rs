@@ -1,6 +1,7 @@
 //! One line of the table: its rules on bytes, and its decoded form.
 
 use crate::numbers::{Distance, Size, Station};
+use crate::wiring::Wiring;
 
 /// The bytes of a line before its row.
 pub const HEAD: usize = 6;
@@ -184,18 +185,21 @@ pub fn row_part_mut(line: &mut [u8]) -> &mut [u8] {
 }
 
 /// Whether the bytes of the line of station `own` keep the line rules.
-pub fn keeps_line_rules(size: Size, own: Station, bytes: &[u8]) -> bool {
+pub fn keeps_line_rules(wiring: Wiring, size: Size, own: Station, bytes: &[u8]) -> bool {
     bytes[0] <= 3
-        && pass_is_valid(size, bytes)
+        && pass_is_valid(wiring.end(size), bytes)
         && told_by_is_valid(size, own, bytes)
         && rounds_are_valid(bytes)
         && row_is_valid(own, row_part(bytes))
 }
 
 /// Whether the bytes of a line of edition 1 keep the line rules, which say
-/// nothing there of who told the station and of rounds closed since.
+/// nothing there of who told the station and of rounds closed since. They are
+/// for the cube.
 pub fn keeps_former_line_rules(size: Size, own: Station, bytes: &[u8]) -> bool {
-    bytes[0] <= 3 && pass_is_valid(size, bytes) && row_is_valid(own, &bytes[FORMER_HEAD..])
+    bytes[0] <= 3
+        && pass_is_valid(Wiring::Cube.end(size), bytes)
+        && row_is_valid(own, &bytes[FORMER_HEAD..])
 }
 
 /// A line of edition 1 with bytes 4 and 5: who told the station was never
@@ -210,11 +214,11 @@ pub fn widened(bytes: &[u8]) -> Vec<u8> {
 }
 
 /// Bytes 1 and 2 are in their ranges; byte 3 is at most byte 1 less 1; a finished
-/// line has next distance 2^d.
-pub fn pass_is_valid(size: Size, bytes: &[u8]) -> bool {
-    let end = size.end().number();
-    let in_range = 1 <= bytes[1] && bytes[1] <= end && bytes[2] <= 1;
-    in_range && bytes[3] < bytes[1] && (bytes[2] == 0 || bytes[1] == end)
+/// line has this end as its next distance.
+pub fn pass_is_valid(end: Distance, bytes: &[u8]) -> bool {
+    let next = Distance::from_byte(bytes[1]);
+    let in_range = Distance::FIRST <= next && next <= end && bytes[2] <= 1;
+    in_range && bytes[3] < bytes[1] && (bytes[2] == 0 || next == end)
 }
 
 /// Byte 4 agrees with the status: status 2 has 254 or another station's number,

@@ -5,21 +5,22 @@ use crate::line::{self, row_part_mut};
 use crate::numbers::{Size, Station};
 use crate::plant::{check_length, Plant};
 use crate::refusal::Refusal;
+use crate::wiring::Wiring;
 
 /// The bytes of a change in the report: the offset, high byte first, the old byte
 /// and the new one.
 const CHANGE: usize = 4;
 
-/// Mends the table: refusals 1, 2 and 23. The changes go to the front of the
+/// Mends the table: refusals 24, 1, 2 and 23. The changes go to the front of the
 /// report, and zeros behind them. Gives the number and how many changes there
 /// are, 0 where the call is refused.
-pub fn mend(n: usize, table: &mut [u8], report: &mut [u8]) -> (u8, usize) {
-    let size = match admit(n, table, report) {
-        Ok(size) => size,
+pub fn mend(wiring: usize, n: usize, table: &mut [u8], report: &mut [u8]) -> (u8, usize) {
+    let (wiring, size) = match admit(wiring, n, table, report) {
+        Ok(admitted) => admitted,
         Err(refusal) => return (refusal.number(), 0),
     };
     let old = table.to_vec();
-    mend_table(size, table);
+    mend_table(wiring, size, table);
     let changes = changes(&old, table);
     report.fill(0);
     for (listed, change) in report.chunks_exact_mut(CHANGE).zip(&changes) {
@@ -28,31 +29,32 @@ pub fn mend(n: usize, table: &mut [u8], report: &mut [u8]) -> (u8, usize) {
     (0, changes.len())
 }
 
-fn admit(n: usize, table: &[u8], report: &[u8]) -> Result<Size, Refusal> {
+fn admit(wiring: usize, n: usize, table: &[u8], report: &[u8]) -> Result<(Wiring, Size), Refusal> {
+    let wiring = Wiring::new(wiring)?;
     let size = Size::new(n)?;
     check_length(size, table)?;
     Refusal::ReportTooShort.when(report.len() < CHANGE * size.table_length())?;
-    Ok(size)
+    Ok((wiring, size))
 }
 
 /// Each line, and then all of them if the round is over.
-fn mend_table(size: Size, table: &mut [u8]) {
+fn mend_table(wiring: Wiring, size: Size, table: &mut [u8]) {
     let lines = table.chunks_exact_mut(size.line_length());
     for (own, line) in size.stations().zip(lines) {
-        mend_line(size, own, line);
+        mend_line(wiring, size, own, line);
     }
-    if Plant::decode(size, table).all_live_finished() {
+    if Plant::decode(wiring, size, table).all_live_finished() {
         let lines = table.chunks_exact_mut(size.line_length());
         lines.for_each(restart);
     }
 }
 
 /// In the order of the request: status, bytes 1 to 3, byte 4, byte 5, row.
-fn mend_line(size: Size, own: Station, line: &mut [u8]) {
+fn mend_line(wiring: Wiring, size: Size, own: Station, line: &mut [u8]) {
     if line[0] > 3 {
         line[0] = 1;
     }
-    if !line::pass_is_valid(size, line) {
+    if !line::pass_is_valid(wiring.end(size), line) {
         restart(line);
     }
     if !line::told_by_is_valid(size, own, line) {

@@ -11,8 +11,9 @@ pub struct Size(u8);
 #[derive(Clone, Copy, Debug, PartialEq, Eq)]
 pub struct Station(u8);
 
-/// A distance: the exclusive or of two station numbers.
-/// As a next distance it can also be 2^d.
+/// A distance from one station to another: on the cube the exclusive or of their
+/// numbers, on the ring the steps from the one to the other.
+/// As a next distance it can also be 2^d, on the ring n.
 #[derive(Clone, Copy, Debug, PartialEq, Eq, PartialOrd, Ord)]
 pub struct Distance(u8);
 
@@ -67,19 +68,32 @@ impl Size {
         (0..self.0).map(Station)
     }
 
-    /// The station at this distance from station i, if one stands there.
+    /// The station at this distance from station i on the cube, if one stands
+    /// there.
     pub fn station_at(self, i: Station, distance: Distance) -> Option<Station> {
         self.station(i.0 ^ distance.0).ok()
     }
 
-    /// The distances not below the given one, up to 2^d - 1.
+    /// The station so many steps after station i on the ring: station 0 comes
+    /// after the last one. There is none at n steps, which lead back to i.
+    pub fn station_after(self, i: Station, steps: Distance) -> Option<Station> {
+        let reached = Station((i.0 + steps.0) % self.0);
+        (steps < self.end_of_ring()).then_some(reached)
+    }
+
+    /// The distances of the cube not below the given one, up to 2^d - 1.
     pub fn distances_from(self, next: Distance) -> impl Iterator<Item = Distance> {
         (next.0..self.distances()).map(Distance)
     }
 
-    /// The next distance of a finished line: 2^d.
-    pub fn end(self) -> Distance {
+    /// The next distance of a finished line of the cube: 2^d.
+    pub fn end_of_cube(self) -> Distance {
         Distance(self.distances())
+    }
+
+    /// The next distance of a finished line of the ring: n.
+    pub fn end_of_ring(self) -> Distance {
+        Distance(self.0)
     }
 }
 

@@ -3,35 +3,45 @@
 use crate::line::{keeps_line_rules, Line};
 use crate::numbers::{Size, Station};
 use crate::refusal::Refusal;
+use crate::wiring::Wiring;
 
-/// The lines of a table, in station order.
+/// The lines of a table, in station order, and how the stations are wired.
 #[derive(Clone, Debug, PartialEq, Eq)]
 pub struct Plant {
+    wiring: Wiring,
     size: Size,
     lines: Vec<Line>,
 }
 
 impl Plant {
-    pub fn fresh(size: Size) -> Plant {
+    pub fn fresh(wiring: Wiring, size: Size) -> Plant {
         let lines = vec![Line::FRESH; size.count()];
-        Plant { size, lines }
+        Plant {
+            wiring,
+            size,
+            lines,
+        }
     }
 
     /// Judges the bytes of a table by refusals 1 to 4 and decodes it.
-    pub fn admit(n: usize, table: &[u8]) -> Result<Plant, Refusal> {
+    pub fn admit(wiring: Wiring, n: usize, table: &[u8]) -> Result<Plant, Refusal> {
         let size = Size::new(n)?;
         check_length(size, table)?;
-        Refusal::LineRule.when(!keeps_all_line_rules(size, table))?;
-        let plant = Plant::decode(size, table);
+        Refusal::LineRule.when(!keeps_all_line_rules(wiring, size, table))?;
+        let plant = Plant::decode(wiring, size, table);
         Refusal::RoundNotClosed.when(plant.all_live_finished())?;
         Ok(plant)
     }
 
     /// Used only on bytes that keep the line rules.
-    pub fn decode(size: Size, table: &[u8]) -> Plant {
+    pub fn decode(wiring: Wiring, size: Size, table: &[u8]) -> Plant {
         let parts = table.chunks_exact(size.line_length());
         let lines = parts.map(|part| Line::decode(size, part)).collect();
-        Plant { size, lines }
+        Plant {
+            wiring,
+            size,
+            lines,
+        }
     }
 
     pub fn encode(&self, table: &mut [u8]) {
@@ -39,6 +49,10 @@ impl Plant {
         for (line, part) in self.lines.iter().zip(parts) {
             line.encode(part);
         }
+    }
+
+    pub fn wiring(&self) -> Wiring {
+        self.wiring
     }
 
     pub fn size(&self) -> Size {
@@ -82,8 +96,8 @@ pub fn check_length(size: Size, table: &[u8]) -> Result<(), Refusal> {
     Refusal::TableLength.when(table.len() != size.table_length())
 }
 
-fn keeps_all_line_rules(size: Size, table: &[u8]) -> bool {
+fn keeps_all_line_rules(wiring: Wiring, size: Size, table: &[u8]) -> bool {
     let parts = table.chunks_exact(size.line_length());
     let mut lines = size.stations().zip(parts);
-    lines.all(|(own, part)| keeps_line_rules(size, own, part))
+    lines.all(|(own, part)| keeps_line_rules(wiring, size, own, part))
 }

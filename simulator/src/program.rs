@@ -11,6 +11,9 @@ const MOST_ENTRIES: usize = 4096;
 /// The length of the table for n = 64.
 const LONGEST_TABLE: usize = 4480;
 
+/// The wiring number that the program gives: the cube.
+const CUBE: usize = 1;
+
 const HEADER: &str = "station tested outcome status\n";
 
 /// The buffers the program lends, filled with zeros beforehand.
@@ -102,8 +105,8 @@ fn run_from_fresh<'a>(read: &Read, buffers: &'a mut Buffers) -> Ran<'a> {
     let table = &mut buffers.table[..length];
     let schedule = &buffers.schedule[..2 * read.entries];
     let sheet = &mut buffers.sheet[..4 * read.entries];
-    fresh_table(read.n, table);
-    let answer = run(read.n, table, (0, 0), schedule, sheet);
+    fresh_table(CUBE, read.n, table);
+    let answer = run(CUBE, read.n, table, (0, 0), schedule, sheet);
     Ran {
         answer,
         table,

@@ -5,20 +5,22 @@ use crate::line::row_part;
 use crate::numbers::{Distance, Level, Size, Station};
 use crate::plant::{check_length, Plant};
 use crate::refusal::{number_of, Refusal};
+use crate::wiring::Wiring;
 
-/// Fresh table: refusals 1, 2.
-pub fn fresh_table(n: usize, table: &mut [u8]) -> u8 {
-    let admitted = admit_fresh_table(n, table);
-    if let Ok(size) = admitted {
-        Plant::fresh(size).encode(table);
+/// Fresh table: refusals 24, 1, 2.
+pub fn fresh_table(wiring: usize, n: usize, table: &mut [u8]) -> u8 {
+    let admitted = admit_fresh_table(wiring, n, table);
+    if let Ok(fresh) = &admitted {
+        fresh.encode(table);
     }
     number_of(&admitted)
 }
 
-fn admit_fresh_table(n: usize, table: &[u8]) -> Result<Size, Refusal> {
+fn admit_fresh_table(wiring: usize, n: usize, table: &[u8]) -> Result<Plant, Refusal> {
+    let wiring = Wiring::new(wiring)?;
     let size = Size::new(n)?;
     check_length(size, table)?;
-    Ok(size)
+    Ok(Plant::fresh(wiring, size))
 }
 
 /// Group list: refusals 1, 9, 12, 13.
@@ -59,7 +61,7 @@ fn admit_assignment(
     station: u8,
     length: usize,
 ) -> Result<(Plant, Station), Refusal> {
-    let plant = Plant::admit(n, table)?;
+    let plant = Plant::admit(Wiring::Cube, n, table)?;
     let i = plant.size().station(station)?;
     plant.check_live(i)?;
     Refusal::ListLength.when(length != 2 * (n - 1))?;
@@ -78,14 +80,14 @@ fn write_assignment(plant: &Plant, i: Station, list: &mut [u8]) -> usize {
     count
 }
 
-/// The number of the question for a row: refusals 1 to 4, 9.
-pub fn row_refusal(n: usize, table: &[u8], station: u8) -> u8 {
-    number_of(&admit_row(n, table, station))
+/// The number of the question for a row: refusals 24, 1 to 4, 9.
+pub fn row_refusal(wiring: usize, n: usize, table: &[u8], station: u8) -> u8 {
+    number_of(&admit_row(wiring, n, table, station))
 }
 
 /// The station's row as a part of the table; the empty part on refusal.
-pub fn row(n: usize, table: &[u8], station: u8) -> &[u8] {
-    match admit_row(n, table, station) {
+pub fn row(wiring: usize, n: usize, table: &[u8], station: u8) -> &[u8] {
+    match admit_row(wiring, n, table, station) {
         Ok((size, i)) => {
             let length = size.line_length();
             row_part(&table[i.index() * length..][..length])
@@ -94,13 +96,19 @@ pub fn row(n: usize, table: &[u8], station: u8) -> &[u8] {
     }
 }
 
-fn admit_row(n: usize, table: &[u8], station: u8) -> Result<(Size, Station), Refusal> {
-    let size = Plant::admit(n, table)?.size();
+fn admit_row(
+    wiring: usize,
+    n: usize,
+    table: &[u8],
+    station: u8,
+) -> Result<(Size, Station), Refusal> {
+    let size = Plant::admit(Wiring::new(wiring)?, n, table)?.size();
     let i = size.station(station)?;
     Ok((size, i))
 }
 
-/// The first of refusals 1 to 4 that the table meets, or 0.
-pub fn check_table(n: usize, table: &[u8]) -> u8 {
-    number_of(&Plant::admit(n, table))
+/// The first of refusals 24 and 1 to 4 that the table meets, or 0.
+pub fn check_table(wiring: usize, n: usize, table: &[u8]) -> u8 {
+    let admitted = Wiring::new(wiring).and_then(|wiring| Plant::admit(wiring, n, table));
+    number_of(&admitted)
 }

@@ -27,6 +27,7 @@ pub enum Refusal {
     NoOpening = 21,
     FieldOrder = 22,
     ReportTooShort = 23,
+    NoSuchWiring = 24,
 }
 
 impl Refusal {

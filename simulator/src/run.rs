@@ -1,10 +1,11 @@
 //! The run: entries, rounds, tally and sheet.
 
-use crate::groups::{answers_from, DueOrAhead};
 use crate::line::Status;
 use crate::numbers::{Distance, Station};
+use crate::outcome::Outcome;
 use crate::plant::Plant;
 use crate::refusal::Refusal;
+use crate::wiring::Wiring;
 
 /// What a run answers.
 #[derive(Clone, Copy, Debug, PartialEq, Eq)]
@@ -34,20 +35,6 @@ struct Entry {
     station: Station,
 }
 
-/// Byte 2 of a line of the sheet.
-#[derive(Clone, Copy, Debug, PartialEq, Eq)]
-#[repr(u8)]
-enum Outcome {
-    PassFinished = 0,
-    Exchanged = 1,
-    /// The tested station suspects the tester, which leaves.
-    Told = 2,
-    NoReply = 3,
-    Crash = 4,
-    /// The tester suspects the tested station, which leaves.
-    TestedTold = 5,
-}
-
 /// What an entry did: the tested station, if any, and the outcome.
 type Effect = (Option<Station>, Outcome);
 
@@ -61,9 +48,10 @@ pub struct Watch {
     pub tests: u32,
 }
 
-/// Run: refusals 1 to 6, then 7 to 11 at each entry.
+/// Run: refusals 24 and 1 to 6, then 7 to 11 at each entry.
 /// The tally is (rounds, tests).
 pub fn run(
+    wiring: usize,
     n: usize,
     table: &mut [u8],
     tally: (u32, u32),
@@ -71,7 +59,7 @@ pub fn run(
     sheet: &mut [u8],
 ) -> Answer {
     let (rounds, tests) = tally;
-    match admit_run(n, table, schedule, sheet) {
+    match admit_run(wiring, n, table, schedule, sheet) {
         Err(refusal) => Answer {
             number: refusal.number(),
             taken: 0,
@@ -91,9 +79,15 @@ pub fn run(
     }
 }
 
-/// Refusals 1 to 6.
-fn admit_run(n: usize, table: &[u8], schedule: &[u8], sheet: &[u8]) -> Result<Plant, Refusal> {
-    let plant = Plant::admit(n, table)?;
+/// Refusals 24 and 1 to 6.
+fn admit_run(
+    wiring: usize,
+    n: usize,
+    table: &[u8],
+    schedule: &[u8],
+    sheet: &[u8],
+) -> Result<Plant, Refusal> {
+    let plant = Plant::admit(Wiring::new(wiring)?, n, table)?;
     Refusal::ScheduleLength.when(!schedule.len().is_multiple_of(2))?;
     Refusal::SheetLength.when(sheet.len() != 2 * schedule.len())?;
     Ok(plant)
@@ -173,28 +167,24 @@ impl Watch {
 
     /// The next test, or the end of the pass.
     fn turn(&mut self, i: Station, late: bool) -> Effect {
-        match self.least_due(i) {
+        match self.next_test(i) {
             Some((m, j)) => {
-                self.count_test(i, m);
-                (Some(j), self.test(i, j, late))
+                let outcome = self.test(i, j, late);
+                self.count_test(i, m, outcome);
+                (Some(j), outcome)
             }
             None => self.finish_pass(i),
         }
     }
 
-    /// The least due distance not below the next distance of i, and the station
-    /// that stands there.
-    fn least_due(&self, i: Station) -> Option<(Distance, Station)> {
-        let line = self.plant.line(i);
-        let due = |(m, j, answer)| match answer {
-            DueOrAhead::Due => Some((m, j)),
-            DueOrAhead::Ahead(_) => None,
-        };
-        answers_from(self.plant.size(), i, line.row, line.next).find_map(due)
+    /// The distance of the next test of i, and the station that stands there.
+    fn next_test(&self, i: Station) -> Option<(Distance, Station)> {
+        let (wiring, size) = (self.plant.wiring(), self.plant.size());
+        wiring.next_test(size, i, self.plant.line(i))
     }
 
     fn finish_pass(&mut self, i: Station) -> Effect {
-        let end = self.plant.size().end();
+        let end = self.plant.wiring().end(self.plant.size());
         let line = self.plant.line_mut(i);
         line.next = end;
         line.finished = true;
@@ -212,10 +202,11 @@ impl Watch {
         outcome
     }
 
-    /// The test is counted: next distance and tests made.
-    fn count_test(&mut self, i: Station, m: Distance) {
+    /// The test at distance m is counted: next distance and tests made.
+    fn count_test(&mut self, i: Station, m: Distance, outcome: Outcome) {
+        let (wiring, size) = (self.plant.wiring(), self.plant.size());
         let line = self.plant.line_mut(i);
-        line.next = m.following();
+        line.next = wiring.next_after(size, m, outcome);
         line.tests += 1;
         self.tests += 1;
     }

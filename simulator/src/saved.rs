@@ -11,6 +11,7 @@ use crate::fields::{
 use crate::numbers::Size;
 use crate::plant::{check_length, Plant};
 use crate::refusal::{number_of, Refusal};
+use crate::wiring::Wiring;
 
 /// The field that a file of edition 2 begins with.
 const OPENING: Field = Field {
@@ -83,7 +84,7 @@ pub fn saved_size(file: &[u8]) -> (u8, usize) {
 
 /// The saved plant, or one of refusals 1 to 4.
 pub fn saved_plant(n: usize, table: &[u8], tally: (u32, u32)) -> Result<Vec<u8>, Refusal> {
-    let size = Plant::admit(n, table)?.size();
+    let size = Plant::admit(Wiring::Cube, n, table)?.size();
     Ok(write(size, table, tally))
 }
 
@@ -152,6 +153,6 @@ fn rank(field: &Field) -> (u8, u8) {
 /// Refusals 3 and 4. Used only on n lines of the right length, which meet
 /// neither 1 nor 2.
 fn check_lines(size: Size, lines: &[u8]) -> Result<(), Refusal> {
-    Plant::admit(size.count(), lines)?;
+    Plant::admit(Wiring::Cube, size.count(), lines)?;
     Ok(())
 }

@@ -2,7 +2,7 @@
 //! reply, and no live station that suspects a live one.
 
 use super::rounds::{pairs, random_dead};
-use super::{cease, fresh, row_bytes, run_with, sizes, suspect, Numbers};
+use super::{cease, fresh, head, row_bytes, run_on, sizes, suspect, Numbers, CUBE};
 
 /// The rounds that are always enough: d for d up to 3, and from 4 on
 /// 4 + (d - 3)^2 / 2, rounded down.
@@ -13,28 +13,30 @@ fn wait(d: u8) -> u32 {
     }
 }
 
-/// A plant with dead stations, of which some live ones suspect some.
-struct Plant {
-    n: usize,
+/// Whether each live station suspects exactly those that are not.
+pub fn dead_are_known(n: usize, table: &[u8]) -> bool {
+    let dead: Vec<u8> = (0..n).map(|k| head(n, table, k)[0].min(1)).collect();
+    (0..n).all(|i| dead[i] == 1 || row_bytes(n, table, i) == dead)
+}
+
+/// A plant with dead stations.
+pub struct Plant {
+    wiring: usize,
+    pub n: usize,
     dead: Vec<usize>,
-    table: Vec<u8>,
+    pub table: Vec<u8>,
     tally: (u32, u32),
 }
 
 impl Plant {
-    fn new(n: usize, numbers: &mut Numbers) -> Plant {
-        let dead = random_dead(n, numbers);
+    /// Nobody suspects anybody yet.
+    pub fn new(wiring: usize, n: usize, dead: Vec<usize>) -> Plant {
         let mut table = fresh(n);
-        let share = numbers.below(4);
         for k in &dead {
             cease(n, &mut table, *k, 1);
-            for i in (0..n).filter(|i| i != k) {
-                if numbers.below(8) < share {
-                    suspect(n, &mut table, i, *k);
-                }
-            }
         }
         Plant {
+            wiring,
             n,
             dead,
             table,
@@ -42,32 +44,48 @@ impl Plant {
         }
     }
 
-    fn live(&self) -> Vec<usize> {
+    /// Some of the others suspect some of the dead.
+    pub fn suspecting_some(mut self, numbers: &mut Numbers) -> Plant {
+        let share = numbers.below(4);
+        for k in &self.dead {
+            for i in (0..self.n).filter(|i| i != k) {
+                if numbers.below(8) < share {
+                    suspect(self.n, &mut self.table, i, *k);
+                }
+            }
+        }
+        self
+    }
+
+    pub fn live(&self) -> Vec<usize> {
         (0..self.n).filter(|i| !self.dead.contains(i)).collect()
     }
 
-    /// Whether each live station suspects exactly the dead ones.
-    fn dead_are_known(&self) -> bool {
-        let expected: Vec<u8> = (0..self.n)
-            .map(|k| u8::from(self.dead.contains(&k)))
-            .collect();
-        let row = |i: &usize| row_bytes(self.n, &self.table, *i);
-        self.live().iter().all(|i| row(i) == expected)
+    pub fn dead_are_known(&self) -> bool {
+        dead_are_known(self.n, &self.table)
+    }
+
+    pub fn rounds(&self) -> u32 {
+        self.tally.0
     }
 
     /// Gives turns to random live stations that have not finished their pass,
-    /// until the round closes. None takes more than n, and an nth finishes its
-    /// pass. Nobody leaves. Gives the tests of the round.
+    /// until the round closes. Gives the tests of the round.
     fn close_round(&mut self, numbers: &mut Numbers) -> u32 {
+        self.close_round_by(|ready| numbers.below(ready.len()))
+    }
+
+    /// Gives turns to live stations that have not finished their pass, picked by
+    /// their place among these, until the round closes. None takes more than n,
+    /// and an nth finishes its pass. Nobody leaves. Gives the tests of the round.
+    pub fn close_round_by(&mut self, mut pick: impl FnMut(&[usize]) -> usize) -> u32 {
         let before = self.tally;
         let mut turns = vec![0; self.n];
         let mut ready = self.live();
         while !ready.is_empty() {
-            let place = numbers.below(ready.len());
+            let place = pick(&ready);
             let i = ready[place];
-            let (given, sheet) = run_with(self.n, &mut self.table, self.tally, &[1, i as u8]);
-            assert_eq!(given.number, 0);
-            self.tally = (given.rounds, given.tests);
+            let sheet = self.turn(i);
             turns[i] += 1;
             assert!(matches!(sheet[2..], [0 | 1 | 3, 0]));
             let finished = sheet[2] == 0;
@@ -79,21 +97,31 @@ impl Plant {
         assert_eq!(self.tally.0, before.0 + 1);
         self.tally.1 - before.1
     }
+
+    /// A turn of station i. Gives its line of the sheet.
+    fn turn(&mut self, i: usize) -> Vec<u8> {
+        let entry = [1, i as u8];
+        let (given, sheet) = run_on(self.wiring, self.n, &mut self.table, self.tally, &entry);
+        assert_eq!(given.number, 0);
+        self.tally = (given.rounds, given.tests);
+        sheet
+    }
 }
 
 /// Closes rounds until the dead are known, which takes at most the wait, and
 /// then two more, whose tests are counted. Gives the rounds until they were
 /// known.
 fn rounds_until_known(n: usize, d: u8, numbers: &mut Numbers) -> u32 {
-    let mut plant = Plant::new(n, numbers);
+    let dead = random_dead(n, numbers);
+    let mut plant = Plant::new(CUBE, n, dead.clone()).suspecting_some(numbers);
     while !plant.dead_are_known() {
         plant.close_round(numbers);
-        assert!(plant.tally.0 <= wait(d), "{n}: {:?} dead", plant.dead);
+        assert!(plant.rounds() <= wait(d), "{n}: {dead:?} dead");
     }
-    let rounds = plant.tally.0;
+    let rounds = plant.rounds();
     for _ in 0..2 {
         let tests = plant.close_round(numbers);
-        assert_eq!(tests, pairs(n, d, &plant.dead));
+        assert_eq!(tests, pairs(n, d, &dead));
         assert!(plant.dead_are_known());
     }
     rounds

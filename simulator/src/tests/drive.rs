@@ -1,11 +1,13 @@
 //! The drive: drives worked out by hand, and random ones against turns that
 //! are granted and run one by one.
 
+use super::cube::drive;
 use super::granter::{granted, random_last, random_live_table};
 use super::rounds::{pairs, random_dead, with_dead};
 use super::told::suspecting;
-use super::{cease, driven, finish, fresh, head, run_with, set, sizes, Numbers, MOST};
-use crate::{check_table, drive, Driven};
+use super::{cease, driven, finish, fresh, head, run_on, set, sizes, wired_sizes};
+use super::{Numbers, CUBE, MOST, WIRINGS};
+use crate::{check_table, Driven};
 
 fn none_live(n: usize, table: &[u8]) -> bool {
     (0..n).all(|i| head(n, table, i)[0] != 0)
@@ -14,13 +16,19 @@ fn none_live(n: usize, table: &[u8]) -> bool {
 /// Grants and runs one turn after the other, until a round closes, no station
 /// is live or a turn is refused. Gives what the drive is to answer and the
 /// granted stations.
-fn one_by_one(n: usize, table: &mut [u8], tally: (u32, u32), last: usize) -> (Driven, Vec<usize>) {
+fn one_by_one(
+    wiring: usize,
+    n: usize,
+    table: &mut [u8],
+    tally: (u32, u32),
+    last: usize,
+) -> (Driven, Vec<usize>) {
     let mut answer = driven(0, tally.0, tally.1, last, 0);
     let mut stations = Vec::new();
     while answer.rounds == tally.0 && !none_live(n, table) {
-        let station = granted(n, table, answer.last);
+        let station = granted(wiring, n, table, answer.last);
         let entry = [1, station as u8];
-        let (given, _) = run_with(n, table, (answer.rounds, answer.tests), &entry);
+        let (given, _) = run_on(wiring, n, table, (answer.rounds, answer.tests), &entry);
         if given.number != 0 {
             answer.number = given.number;
             break;
@@ -31,17 +39,28 @@ fn one_by_one(n: usize, table: &mut [u8], tally: (u32, u32), last: usize) -> (Dr
     (answer, stations)
 }
 
-/// Drives and checks that turns granted and run one by one do the same. Gives
-/// the answer and the granted stations.
+/// Drives on the cube and checks that turns granted and run one by one do the
+/// same. Gives the answer and the granted stations.
 fn drive_both_ways(
     n: usize,
     table: &mut [u8],
     tally: (u32, u32),
     last: usize,
 ) -> (Driven, Vec<usize>) {
+    drive_both_ways_on(CUBE, n, table, tally, last)
+}
+
+/// The same on either wiring.
+pub fn drive_both_ways_on(
+    wiring: usize,
+    n: usize,
+    table: &mut [u8],
+    tally: (u32, u32),
+    last: usize,
+) -> (Driven, Vec<usize>) {
     let mut expected_table = table.to_vec();
-    let (expected, stations) = one_by_one(n, &mut expected_table, tally, last);
-    let given = drive(n, table, tally, last);
+    let (expected, stations) = one_by_one(wiring, n, &mut expected_table, tally, last);
+    let given = crate::drive(wiring, n, table, tally, last);
     assert_eq!(given, expected);
     assert_eq!(table, expected_table);
     (given, stations)
@@ -353,12 +372,12 @@ fn random_tally(n: usize, numbers: &mut Numbers) -> (u32, u32) {
 
 /// A drive of a random table, both ways. Gives its number, whether a round
 /// closed and whether a grant was made.
-fn random_drive(n: usize, numbers: &mut Numbers) -> (u8, bool, bool) {
-    let mut table = random_live_table(n, numbers);
+fn random_drive(wiring: usize, n: usize, numbers: &mut Numbers) -> (u8, bool, bool) {
+    let mut table = random_live_table(wiring, n, numbers);
     let tally = random_tally(n, numbers);
     let last = random_last(n, numbers);
-    let (given, _) = drive_both_ways(n, &mut table, tally, last);
-    assert_eq!(check_table(n, &table), 0);
+    let (given, _) = drive_both_ways_on(wiring, n, &mut table, tally, last);
+    assert_eq!(check_table(wiring, n, &table), 0);
     let closed = given.rounds != tally.0;
     assert!(given.number == 7 || closed || none_live(n, &table));
     (given.number, closed, given.grants > 0)
@@ -366,30 +385,32 @@ fn random_drive(n: usize, numbers: &mut Numbers) -> (u8, bool, bool) {
 
 #[test]
 fn random_drives_are_the_turns_one_by_one() {
-    let mut numbers = Numbers::new(17);
-    let mut seen = Vec::new();
-    for (n, _) in sizes() {
-        seen.extend((0..5 + 400 / n).map(|_| random_drive(n, &mut numbers)));
+    for wiring in WIRINGS {
+        let mut numbers = Numbers::new(17);
+        let mut seen = Vec::new();
+        for (n, _) in sizes() {
+            seen.extend((0..5 + 400 / n).map(|_| random_drive(wiring, n, &mut numbers)));
+        }
+        seen.sort_unstable();
+        seen.dedup();
+        let expected = [
+            (0, false, true),
+            (0, true, true),
+            (7, false, false),
+            (7, false, true),
+        ];
+        assert_eq!(seen, expected);
     }
-    seen.sort_unstable();
-    seen.dedup();
-    let expected = [
-        (0, false, true),
-        (0, true, true),
-        (7, false, false),
-        (7, false, true),
-    ];
-    assert_eq!(seen, expected);
 }
 
 #[test]
 fn drives_of_random_tables_end_within_n_times_n_grants() {
     let mut numbers = Numbers::new(18);
-    for (n, _) in sizes() {
+    for (wiring, n) in wired_sizes() {
         for _ in 0..20 + 1000 / n {
-            let mut table = random_live_table(n, &mut numbers);
+            let mut table = random_live_table(wiring, n, &mut numbers);
             let last = random_last(n, &mut numbers);
-            let given = drive(n, &mut table, (0, 0), last);
+            let given = crate::drive(wiring, n, &mut table, (0, 0), last);
             assert_eq!(given.number, 0);
             assert!((1..=n * n).contains(&given.grants));
             assert!(given.rounds == 1 || none_live(n, &table));

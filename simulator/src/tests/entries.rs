@@ -1,10 +1,10 @@
 //! What an entry does, and the refusals of a run.
 
+use super::cube::{check_table, run};
 use super::{
     answer, cease, finish, fresh, head, place, row_bytes, run_with, set, sizes, suspect, wrong,
     MOST, UNWRITTEN,
 };
-use crate::{check_table, run};
 
 /// Runs and checks that the run is refused at its start and changes nothing.
 fn refused_at_start(n: usize, table: &[u8], schedule: &[u8], sheet: usize, number: u8) {

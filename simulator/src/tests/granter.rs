@@ -1,14 +1,15 @@
 //! The grant: which station comes next, how long a station waits, and the
 //! refusals that grant and drive share.
 
+use super::cube::{drive, grant};
 use super::{
-    cease, driven, finish, fresh, head, random_table, set, sizes, suspect, wrong, Numbers, MOST,
+    cease, driven, finish, fresh, head, random_table_on, set, sizes, suspect, wired_sizes, wrong,
+    Numbers, CUBE, MOST,
 };
-use crate::{drive, grant};
 
 /// The station granted after this last number.
-pub fn granted(n: usize, table: &[u8], last: usize) -> usize {
-    let (number, station) = grant(n, table, last);
+pub fn granted(wiring: usize, n: usize, table: &[u8], last: usize) -> usize {
+    let (number, station) = crate::grant(wiring, n, table, last);
     assert_eq!(number, 0);
     usize::from(station)
 }
@@ -20,9 +21,9 @@ fn ready(n: usize, table: &[u8]) -> Vec<usize> {
 }
 
 /// A random table that is accepted and has a live station.
-pub fn random_live_table(n: usize, numbers: &mut Numbers) -> Vec<u8> {
+pub fn random_live_table(wiring: usize, n: usize, numbers: &mut Numbers) -> Vec<u8> {
     loop {
-        let table = random_table(n, numbers);
+        let table = random_table_on(wiring, n, numbers);
         if !ready(n, &table).is_empty() {
             return table;
         }
@@ -78,10 +79,10 @@ fn refused(n: usize, table: &[u8], last: usize, number: u8) {
 fn next_station_of_a_fresh_table() {
     for (n, _) in sizes() {
         let table = fresh(n);
-        assert_eq!(granted(n, &table, 255), 0);
-        assert_eq!(granted(n, &table, n - 1), 0);
+        assert_eq!(granted(CUBE, n, &table, 255), 0);
+        assert_eq!(granted(CUBE, n, &table, n - 1), 0);
         for last in 0..n - 1 {
-            assert_eq!(granted(n, &table, last), last + 1);
+            assert_eq!(granted(CUBE, n, &table, last), last + 1);
         }
     }
 }
@@ -96,9 +97,9 @@ fn finished_and_dead_stations_are_passed_over() {
     for (station, status) in [(2, 1), (5, 2), (7, 3)] {
         cease(8, &mut table, station, status);
     }
-    let after = [0, 1, 2, 3, 4, 5, 6, 7].map(|last| granted(8, &table, last));
+    let after = [0, 1, 2, 3, 4, 5, 6, 7].map(|last| granted(CUBE, 8, &table, last));
     assert_eq!(after, [1, 3, 3, 6, 6, 6, 1, 1]);
-    assert_eq!(granted(8, &table, 255), 1);
+    assert_eq!(granted(CUBE, 8, &table, 255), 1);
 }
 
 #[test]
@@ -106,11 +107,11 @@ fn last_granted_station_comes_last() {
     let mut table = fresh(4);
     finish(4, &mut table, 0);
     cease(4, &mut table, 2, 1);
-    assert_eq!(granted(4, &table, 1), 3);
-    assert_eq!(granted(4, &table, 3), 1);
+    assert_eq!(granted(CUBE, 4, &table, 1), 3);
+    assert_eq!(granted(CUBE, 4, &table, 3), 1);
     finish(4, &mut table, 1);
     for last in last_numbers(4) {
-        assert_eq!(granted(4, &table, last), 3);
+        assert_eq!(granted(CUBE, 4, &table, last), 3);
     }
 }
 
@@ -121,7 +122,7 @@ fn only_station_is_granted_whatever_the_last_number() {
             let mut table = all_finished(n);
             set(n, &mut table, station, 2, 0);
             for last in last_numbers(n) {
-                assert_eq!(granted(n, &table, last), station);
+                assert_eq!(granted(CUBE, n, &table, last), station);
             }
         }
     }
@@ -138,7 +139,7 @@ fn next_distance_tests_and_rows_do_not_count() {
             suspect(4, &mut table, i, k);
         }
     }
-    let after = [255, 0, 1, 2, 3].map(|last| granted(4, &table, last));
+    let after = [255, 0, 1, 2, 3].map(|last| granted(CUBE, 4, &table, last));
     assert_eq!(after, [0, 1, 2, 3, 0]);
 }
 
@@ -153,11 +154,12 @@ fn by_steps(n: usize, table: &[u8], last: usize) -> usize {
 #[test]
 fn grants_on_random_tables() {
     let mut numbers = Numbers::new(14);
-    for (n, _) in sizes() {
+    for (wiring, n) in wired_sizes() {
         for _ in 0..10 + 200 / n {
-            let table = random_live_table(n, &mut numbers);
+            let table = random_live_table(wiring, n, &mut numbers);
             for last in last_numbers(n) {
-                assert_eq!(granted(n, &table, last), by_steps(n, &table, last));
+                let expected = by_steps(n, &table, last);
+                assert_eq!(granted(wiring, n, &table, last), expected);
             }
         }
     }
@@ -165,14 +167,14 @@ fn grants_on_random_tables() {
 
 /// Grants on random tables, one behind the other, in each of which this station
 /// is live and unfinished. Gives how many others are granted before it.
-fn others_before(n: usize, station: usize, numbers: &mut Numbers) -> usize {
+fn others_before(wiring: usize, n: usize, station: usize, numbers: &mut Numbers) -> usize {
     let mut last = random_last(n, numbers);
     let mut others = 0;
     loop {
-        let mut table = random_table(n, numbers);
+        let mut table = random_table_on(wiring, n, numbers);
         live_again(n, &mut table, station);
         set(n, &mut table, station, 2, 0);
-        last = granted(n, &table, last);
+        last = granted(wiring, n, &table, last);
         if last == station {
             return others;
         }
@@ -184,8 +186,9 @@ fn others_before(n: usize, station: usize, numbers: &mut Numbers) -> usize {
 #[test]
 fn at_most_n_less_1_others_are_granted_before_a_station() {
     let mut numbers = Numbers::new(15);
-    for (n, _) in sizes() {
-        let others = (0..10 + 200 / n).map(|case| others_before(n, case % n, &mut numbers));
+    for (wiring, n) in wired_sizes() {
+        let cases = 0..10 + 200 / n;
+        let others = cases.map(|case| others_before(wiring, n, case % n, &mut numbers));
         assert!(others.max() > Some(0));
     }
 }
@@ -197,10 +200,10 @@ fn n_less_1_others_are_granted_before_a_station_of_a_fresh_table() {
         for station in 0..n {
             let mut last = station;
             for _ in 1..n {
-                last = granted(n, &table, last);
+                last = granted(CUBE, n, &table, last);
                 assert_ne!(last, station);
             }
-            assert_eq!(granted(n, &table, last), station);
+            assert_eq!(granted(CUBE, n, &table, last), station);
         }
     }
 }

@@ -1,9 +1,10 @@
 //! The doubt lamp: its pair, none, and the refusals.
 
+use super::cube::doubt_lamp;
 use super::{
-    cease, finish, fresh, random_table, row_bytes, run_with, set, sizes, suspect, Numbers, HEAD,
+    cease, finish, fresh, random_table_on, row_bytes, run_with, set, sizes, suspect, wired_sizes,
+    Numbers, HEAD,
 };
-use crate::doubt_lamp;
 
 /// The pairs, found byte by byte in the lent table.
 fn pairs(n: usize, table: &[u8]) -> Vec<(u8, u8)> {
@@ -65,11 +66,11 @@ fn the_first_line_and_in_it_the_first_byte() {
 #[test]
 fn random_tables() {
     let mut numbers = Numbers::new(20);
-    for (n, _) in sizes() {
+    for (wiring, n) in wired_sizes() {
         for _ in 0..40 {
-            let table = random_table(n, &mut numbers);
+            let table = random_table_on(wiring, n, &mut numbers);
             let first = pairs(n, &table).first().copied();
-            assert_eq!(doubt_lamp(n, &table), (0, first));
+            assert_eq!(crate::doubt_lamp(wiring, n, &table), (0, first));
         }
     }
 }

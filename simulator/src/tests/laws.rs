@@ -1,7 +1,8 @@
 //! Statements that hold for all runs, checked on many schedules.
 
 use super::{
-    end, fresh, head, random_table, row_bytes, run_with, set, sizes, Numbers, HEAD, UNWRITTEN,
+    end_on, fresh, head, random_table_on, row_bytes, run_on, set, sizes, wired_sizes, Numbers,
+    HEAD, UNWRITTEN, WIRINGS,
 };
 use crate::check_table;
 
@@ -81,13 +82,13 @@ fn suspects_all_others(n: usize, table: &[u8], station: usize) -> bool {
 
 /// Runs one entry after the other and skips the refused ones, which change
 /// nothing. Each table is accepted. Gives the taken ones.
-fn run_each(n: usize, table: &mut [u8], entries: &[u8]) -> Vec<Taken> {
+fn run_each(wiring: usize, n: usize, table: &mut [u8], entries: &[u8]) -> Vec<Taken> {
     let mut tally = (0, 0);
     let mut all = Vec::new();
     for entry in entries.chunks(2) {
         let before = table.to_vec();
-        let (given, sheet) = run_with(n, table, tally, entry);
-        assert_eq!(check_table(n, table), 0);
+        let (given, sheet) = run_on(wiring, n, table, tally, entry);
+        assert_eq!(check_table(wiring, n, table), 0);
         if given.number != 0 {
             assert_eq!(table, before);
             assert_eq!(sheet, [UNWRITTEN; 4]);
@@ -107,23 +108,23 @@ fn run_each(n: usize, table: &mut [u8], entries: &[u8]) -> Vec<Taken> {
 }
 
 /// The taken entries of a random schedule on a fresh table of each size.
-pub fn from_fresh_tables(seed: u64) -> impl Iterator<Item = Taken> {
+pub fn from_fresh_tables(wiring: usize, seed: u64) -> impl Iterator<Item = Taken> {
     let mut numbers = Numbers::new(seed);
     sizes().flat_map(move |(n, d)| {
         let entries = schedule(&mut numbers, n, 5 * n * usize::from(d));
-        run_each(n, &mut fresh(n), &entries)
+        run_each(wiring, n, &mut fresh(n), &entries)
     })
 }
 
 /// The taken entries of short random schedules on random tables of each size.
-pub fn from_random_tables(seed: u64) -> impl Iterator<Item = Taken> {
+pub fn from_random_tables(wiring: usize, seed: u64) -> impl Iterator<Item = Taken> {
     let mut numbers = Numbers::new(seed);
     sizes().flat_map(move |(n, _)| {
         let mut all = Vec::new();
         for _ in 0..10 + 200 / n {
-            let mut table = random_table(n, &mut numbers);
+            let mut table = random_table_on(wiring, n, &mut numbers);
             let entries = schedule(&mut numbers, n, 10 + n);
-            all.extend(run_each(n, &mut table, &entries));
+            all.extend(run_each(wiring, n, &mut table, &entries));
         }
         all
     })
@@ -131,10 +132,14 @@ pub fn from_random_tables(seed: u64) -> impl Iterator<Item = Taken> {
 
 #[test]
 fn runs_keep_the_line_rules() {
-    let closed: u32 = from_fresh_tables(2).map(|entry| entry.closed).sum();
-    assert!(closed > 0);
-    let closed: u32 = from_random_tables(2).map(|entry| entry.closed).sum();
-    assert!(closed > 0);
+    for wiring in WIRINGS {
+        let closed: u32 = from_fresh_tables(wiring, 2).map(|entry| entry.closed).sum();
+        assert!(closed > 0);
+        let closed: u32 = from_random_tables(wiring, 2)
+            .map(|entry| entry.closed)
+            .sum();
+        assert!(closed > 0);
+    }
 }
 
 /// Checks the statement and gives how often both are still live.
@@ -156,8 +161,10 @@ fn neither_suspects_the_other(entries: impl Iterator<Item = Taken>) -> usize {
 
 #[test]
 fn live_tester_and_tested_do_not_suspect_each_other_after_a_reply() {
-    assert!(neither_suspects_the_other(from_fresh_tables(11)) > 0);
-    assert!(neither_suspects_the_other(from_random_tables(11)) > 0);
+    for wiring in WIRINGS {
+        assert!(neither_suspects_the_other(from_fresh_tables(wiring, 11)) > 0);
+        assert!(neither_suspects_the_other(from_random_tables(wiring, 11)) > 0);
+    }
 }
 
 /// Checks the outcome by the rows and statuses before the entry, who left, and
@@ -196,35 +203,38 @@ fn pairs_of_outcome_and_status(entries: impl Iterator<Item = Taken>) -> Vec<(u8,
 
 #[test]
 fn outcomes_on_random_tables() {
-    assert_eq!(
-        pairs_of_outcome_and_status(from_random_tables(12)),
-        [
-            (0, 0),
-            (1, 0),
-            (2, 2),
-            (3, 0),
-            (3, 3),
-            (4, 1),
-            (5, 0),
-            (5, 3)
-        ]
-    );
+    let expected = [
+        (0, 0),
+        (1, 0),
+        (2, 2),
+        (3, 0),
+        (3, 3),
+        (4, 1),
+        (5, 0),
+        (5, 3),
+    ];
+    for wiring in WIRINGS {
+        let pairs = pairs_of_outcome_and_status(from_random_tables(wiring, 12));
+        assert_eq!(pairs, expected);
+    }
 }
 
 /// From a fresh table on, a tester does not leave as alone at outcome 5.
 #[test]
 fn outcomes_from_fresh_tables() {
-    assert_eq!(
-        pairs_of_outcome_and_status(from_fresh_tables(12)),
-        [(0, 0), (1, 0), (2, 2), (3, 0), (3, 3), (4, 1), (5, 0)]
-    );
+    let expected = [(0, 0), (1, 0), (2, 2), (3, 0), (3, 3), (4, 1), (5, 0)];
+    for wiring in WIRINGS {
+        let pairs = pairs_of_outcome_and_status(from_fresh_tables(wiring, 12));
+        assert_eq!(pairs, expected);
+    }
 }
 
 /// A tester that suspects all others leaves. In an exchange the tested comes
 /// to suspect neither the tester nor itself.
 #[test]
 fn no_live_station_suspects_all_others_from_a_fresh_table_on() {
-    for entry in from_fresh_tables(13) {
+    let on_both = WIRINGS.map(|wiring| from_fresh_tables(wiring, 13));
+    for entry in on_both.into_iter().flatten() {
         let Taken { n, after, .. } = &entry;
         let mut live = (0..*n).filter(|i| is_live(*n, after, *i));
         assert!(!live.any(|i| suspects_all_others(*n, after, i)));
@@ -244,10 +254,10 @@ fn with_rows(n: usize, bits: usize) -> Vec<u8> {
 
 /// Station i takes a turn from this next distance, with these rows. Gives
 /// whether it exchanged, and then it is not alone.
-fn exchanged(n: usize, bits: usize, i: usize, next: u8) -> bool {
+fn exchanged(wiring: usize, n: usize, bits: usize, i: usize, next: u8) -> bool {
     let mut table = with_rows(n, bits);
     set(n, &mut table, i, 1, next);
-    let taken = run_each(n, &mut table, &[1, i as u8]);
+    let taken = run_each(wiring, n, &mut table, &[1, i as u8]);
     check_outcome(&taken[0]);
     let exchanged = taken[0].outcome() == 1;
     if exchanged {
@@ -259,12 +269,12 @@ fn exchanged(n: usize, bits: usize, i: usize, next: u8) -> bool {
 
 #[test]
 fn nobody_is_alone_after_an_exchange_whatever_the_rows() {
-    for n in 2..=4 {
+    for (wiring, n) in WIRINGS.into_iter().flat_map(|w| [2, 3, 4].map(|n| (w, n))) {
         let mut exchanges = 0;
         for bits in 0..1 << (n * (n - 1)) {
             for i in 0..n {
-                let from = |next: &u8| exchanged(n, bits, i, *next);
-                exchanges += (1..end(n)).filter(from).count();
+                let from = |next: &u8| exchanged(wiring, n, bits, i, *next);
+                exchanges += (1..end_on(wiring, n)).filter(from).count();
             }
         }
         assert!(exchanges > 0);
@@ -274,16 +284,16 @@ fn nobody_is_alone_after_an_exchange_whatever_the_rows() {
 #[test]
 fn two_runs_do_what_one_run_does() {
     let mut numbers = Numbers::new(3);
-    for (n, _) in sizes() {
+    for (wiring, n) in wired_sizes() {
         for _ in 0..5 {
             let entries = schedule(&mut numbers, n, 40);
             let mut whole = fresh(n);
-            let (given, sheet) = run_with(n, &mut whole, (0, 0), &entries);
+            let (given, sheet) = run_on(wiring, n, &mut whole, (0, 0), &entries);
             let cut = numbers.below(given.taken + 1);
             let mut parts = fresh(n);
-            let (first, sheet_1) = run_with(n, &mut parts, (0, 0), &entries[..2 * cut]);
+            let (first, sheet_1) = run_on(wiring, n, &mut parts, (0, 0), &entries[..2 * cut]);
             let tally = (first.rounds, first.tests);
-            let (second, sheet_2) = run_with(n, &mut parts, tally, &entries[2 * cut..]);
+            let (second, sheet_2) = run_on(wiring, n, &mut parts, tally, &entries[2 * cut..]);
             assert_eq!(parts, whole);
             assert_eq!([sheet_1, sheet_2].concat(), sheet);
             assert_eq!(first.number, 0);
@@ -297,9 +307,9 @@ fn two_runs_do_what_one_run_does() {
 #[test]
 fn tests_of_the_sheet_are_the_tests_of_the_tally() {
     let mut numbers = Numbers::new(4);
-    for (n, _) in sizes() {
+    for (wiring, n) in wired_sizes() {
         let entries = schedule(&mut numbers, n, 60);
-        let (given, sheet) = run_with(n, &mut fresh(n), (0, 0), &entries);
+        let (given, sheet) = run_on(wiring, n, &mut fresh(n), (0, 0), &entries);
         let lines = sheet.chunks(4).take(given.taken);
         let tests = lines.filter(|line| line[1] != 255).count();
         assert_eq!(given.tests as usize, tests);

@@ -1,15 +1,22 @@
 //! The mender: what each byte becomes, the report, and the refusals.
 
+use super::cube::mend;
 use super::{
-    cease, end, finish, fresh, place, random_table, set, sizes, suspect, Numbers, HEAD, UNWRITTEN,
+    cease, end, finish, fresh, place, random_table_on, set, suspect, wired_sizes, Numbers, CUBE,
+    HEAD, UNWRITTEN,
 };
-use crate::{check_table, mend};
+use crate::check_table;
 
-/// Mends a table with a report of just the length that is asked for; gives the
+/// Mends a table on the cube with a report of just the length that is asked for; gives the
 /// changes as offset, old and new byte.
 fn mended(n: usize, table: &mut [u8]) -> Vec<(usize, u8, u8)> {
+    mended_on(CUBE, n, table)
+}
+
+/// The same on either wiring.
+pub fn mended_on(wiring: usize, n: usize, table: &mut [u8]) -> Vec<(usize, u8, u8)> {
     let mut report = vec![UNWRITTEN; 4 * table.len()];
-    let (number, count) = mend(n, table, &mut report);
+    let (number, count) = crate::mend(wiring, n, table, &mut report);
     assert_eq!(number, 0);
     let (listed, rest) = report.split_at(4 * count);
     assert!(rest.iter().all(|byte| *byte == 0));
@@ -133,18 +140,18 @@ fn a_station_of_a_damaged_status_keeps_no_round_open() {
 #[test]
 fn good_tables_stay_and_random_bytes_pass() {
     let mut numbers = Numbers::new(21);
-    for (n, _) in sizes() {
-        let mut good = random_table(n, &mut numbers);
+    for (wiring, n) in wired_sizes() {
+        let mut good = random_table_on(wiring, n, &mut numbers);
         let before = good.clone();
-        assert_eq!(mended(n, &mut good), []);
+        assert_eq!(mended_on(wiring, n, &mut good), []);
         assert_eq!(good, before);
         let mut damaged: Vec<u8> = (0..n * (n + HEAD))
             .map(|_| numbers.below(256) as u8)
             .collect();
         let old = damaged.clone();
-        let changes = mended(n, &mut damaged);
-        assert_eq!(check_table(n, &damaged), 0);
-        assert_eq!(mended(n, &mut damaged), []);
+        let changes = mended_on(wiring, n, &mut damaged);
+        assert_eq!(check_table(wiring, n, &damaged), 0);
+        assert_eq!(mended_on(wiring, n, &mut damaged), []);
         let differing = (0..old.len()).filter(|at| old[*at] != damaged[*at]);
         let expected: Vec<_> = differing.map(|at| (at, old[at], damaged[at])).collect();
         assert_eq!(changes, expected);

@@ -4,6 +4,7 @@
 mod claim;
 mod converter;
 mod converter_refused;
+mod cube;
 mod drive;
 mod due;
 mod entries;
@@ -17,18 +18,24 @@ mod leaving;
 mod mender;
 mod program;
 mod questions;
+mod ring;
+mod ring_claim;
 mod rounds;
 mod saved;
 mod saved_refused;
 mod sheet;
+mod slowest_ring;
 mod steps;
 mod tables;
 mod told;
 mod totals;
+mod wirings;
 
 use std::ops::RangeInclusive;
 
-use crate::{check_table, fresh_table, run, Answer, Driven};
+use crate::{check_table, run, Answer, Driven};
+
+use cube::fresh_table;
 
 /// The sizes with d = 1 to 6.
 const BY_D: [RangeInclusive<usize>; 6] = [2..=2, 3..=4, 5..=8, 9..=16, 17..=32, 33..=64];
@@ -42,10 +49,29 @@ pub fn sizes() -> impl Iterator<Item = (usize, u8)> {
     BY_D.into_iter().zip(1..).flat_map(with_d)
 }
 
-/// 2^d: the next distance of a finished line.
+/// 2^d: the next distance of a finished line on the cube.
 pub fn end(n: usize) -> u8 {
     let (_, d) = sizes().find(|(size, _)| *size == n).unwrap();
     1 << d
+}
+
+/// The wiring numbers.
+pub const CUBE: usize = 1;
+pub const RING: usize = 2;
+pub const WIRINGS: [usize; 2] = [CUBE, RING];
+
+/// Both wirings with all sizes.
+pub fn wired_sizes() -> impl Iterator<Item = (usize, usize)> {
+    let with_sizes = |wiring| sizes().map(move |(n, _)| (wiring, n));
+    WIRINGS.into_iter().flat_map(with_sizes)
+}
+
+/// The next distance of a finished line on either wiring: n on the ring.
+pub fn end_on(wiring: usize, n: usize) -> u8 {
+    match wiring {
+        RING => n as u8,
+        _ => end(n),
+    }
 }
 
 /// The most a tally can hold.
@@ -79,9 +105,14 @@ pub fn suspect(n: usize, table: &mut [u8], station: usize, other: usize) {
     set(n, table, station, HEAD + other, 1);
 }
 
-/// Makes a line that has finished its pass.
+/// Makes a line that has finished its pass on the cube.
 pub fn finish(n: usize, table: &mut [u8], station: usize) {
-    set(n, table, station, 1, end(n));
+    finish_on(CUBE, n, table, station);
+}
+
+/// Makes a line that has finished its pass.
+pub fn finish_on(wiring: usize, n: usize, table: &mut [u8], station: usize) {
+    set(n, table, station, 1, end_on(wiring, n));
     set(n, table, station, 2, 1);
 }
 
@@ -111,15 +142,27 @@ pub fn row_bytes(n: usize, table: &[u8], station: usize) -> &[u8] {
     &table[place(n, station, HEAD)..place(n, station + 1, 0)]
 }
 
-/// Runs a schedule on a sheet of the right length; gives the answer and the sheet.
+/// Runs a schedule on the cube, on a sheet of the right length; gives the answer
+/// and the sheet.
 pub fn run_with(
     n: usize,
     table: &mut [u8],
     tally: (u32, u32),
     schedule: &[u8],
 ) -> (Answer, Vec<u8>) {
+    run_on(CUBE, n, table, tally, schedule)
+}
+
+/// The same on either wiring.
+pub fn run_on(
+    wiring: usize,
+    n: usize,
+    table: &mut [u8],
+    tally: (u32, u32),
+    schedule: &[u8],
+) -> (Answer, Vec<u8>) {
     let mut sheet = vec![UNWRITTEN; 2 * schedule.len()];
-    let answer = run(n, table, tally, schedule, &mut sheet);
+    let answer = run(wiring, n, table, tally, schedule, &mut sheet);
     (answer, sheet)
 }
 
@@ -162,26 +205,32 @@ impl Numbers {
     }
 }
 
-/// A random table that is accepted, with any statuses, heads and rows.
+/// A random table that the cube accepts, with any statuses, heads and rows.
 pub fn random_table(n: usize, numbers: &mut Numbers) -> Vec<u8> {
+    random_table_on(CUBE, n, numbers)
+}
+
+/// The same for either wiring.
+pub fn random_table_on(wiring: usize, n: usize, numbers: &mut Numbers) -> Vec<u8> {
     loop {
         let [live, finished] = [1, 0].map(|least| least + numbers.below(4));
-        let lines = (0..n).map(|own| random_line(n, own, live, finished, numbers));
+        let end = end_on(wiring, n);
+        let lines = (0..n).map(|own| random_line(n, own, end, [live, finished], numbers));
         let table = lines.collect::<Vec<_>>().concat();
-        match check_table(n, &table) {
+        match check_table(wiring, n, &table) {
             0 => return table,
             number => assert_eq!(number, 4),
         }
     }
 }
 
-/// A random line of station `own`: live in so many of 4 cases, and finished in
-/// so many of 4.
+/// A random line of station `own`, with next distances up to the end: live in so
+/// many of 4 cases, and finished in so many of 4.
 fn random_line(
     n: usize,
     own: usize,
-    live: usize,
-    finished: usize,
+    end: u8,
+    [live, finished]: [usize; 2],
     numbers: &mut Numbers,
 ) -> Vec<u8> {
     let mut line = vec![0; n + HEAD];
@@ -190,8 +239,8 @@ fn random_line(
     }
     line[2] = u8::from(numbers.below(4) < finished);
     line[1] = match line[2] {
-        1 => end(n),
-        _ => 1 + numbers.below(usize::from(end(n))) as u8,
+        1 => end,
+        _ => 1 + numbers.below(usize::from(end)) as u8,
     };
     line[3] = numbers.below(usize::from(line[1])) as u8;
     line[4] = match line[0] {

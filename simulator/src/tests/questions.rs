@@ -1,7 +1,8 @@
 //! Refusals of the questions, at their boundaries and in their order.
 
+use super::cube::{check_table, fresh_table, row, row_refusal};
 use super::{cease, finish, fresh, place, set, sizes, suspect, UNWRITTEN};
-use crate::{assignment, check_table, fresh_table, group_list, row, row_refusal};
+use crate::{assignment, group_list};
 
 /// Asks for a group into a list of this length. A refusal writes nothing.
 fn group_refusal(n: usize, station: u8, level: u8, length: usize) -> u8 {

@@ -1,7 +1,7 @@
 //! Rounds: how they close, and the counts of tests in a round.
 
+use super::cube::check_table;
 use super::{answer, cease, finish, fresh, head, run_with, set, sizes, suspect, Numbers, POWERS};
-use crate::check_table;
 
 /// A table at the start of a round in which each of these stations is crashed
 /// and suspected by all others, with so many rounds closed since it crashed.

@@ -3,7 +3,7 @@
 
 use super::laws::{from_fresh_tables, Taken};
 use super::rounds::{random_dead, with_dead};
-use super::{head, row_bytes, run_with, sizes, Numbers, HEAD, POWERS};
+use super::{head, row_bytes, run_with, sizes, Numbers, CUBE, HEAD, POWERS};
 use crate::sheet::respond;
 
 /// All of standard output for arguments that are right.
@@ -681,7 +681,7 @@ fn made(entry: &Taken, i: usize) -> usize {
 #[test]
 fn tests_made_are_at_most_the_tests_due_by_the_row_now() {
     let (mut fewer, mut equal, mut closing) = (0, 0, 0);
-    for entry in from_fresh_tables(37) {
+    for entry in from_fresh_tables(CUBE, 37) {
         let (n, length) = (entry.n, entry.n + HEAD);
         let parts = entry.before.chunks(length).zip(entry.after.chunks(length));
         let changed = parts

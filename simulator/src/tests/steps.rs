@@ -1,10 +1,11 @@
 //! Turns that make a test, against what a test and a closing do, carried out on
 //! the bytes of the table.
 
-use super::{answer, place, random_table, run_with, set, sizes, Numbers, HEAD};
+use super::{answer, place, random_table_on, run_on, set, sizes, Numbers, HEAD, RING, WIRINGS};
 
 /// A table on which the steps are carried out.
 struct Bytes {
+    wiring: usize,
     n: usize,
     table: Vec<u8>,
 }
@@ -28,19 +29,38 @@ impl Bytes {
 
     /// Station i tests station j. Gives the outcome.
     fn test(&mut self, i: usize, j: usize, late: bool) -> u8 {
-        self.set(i, 1, (i ^ j) as u8 + 1);
-        self.set(i, 3, self.byte(i, 3) + 1);
         let outcome = if late || self.byte(j, 0) != 0 {
             self.set(i, HEAD + j, 1);
             3
         } else {
             self.reply(i, j)
         };
+        self.set(i, 1, self.next_distance(i, j, outcome));
+        self.set(i, 3, self.byte(i, 3) + 1);
         let alone = (0..self.n).all(|k| k == i || self.suspects(i, k));
         if alone && self.byte(i, 0) == 0 {
             self.set(i, 0, 3);
         }
         outcome
+    }
+
+    /// Whom a station tests next on the ring, whatever its row says; 255 if nobody.
+    fn tested_on_ring(&self, i: u8) -> u8 {
+        let (next, n) = (self.byte(i.into(), 1), self.n as u8);
+        match next == n {
+            true => 255,
+            false => (i + next) % n,
+        }
+    }
+
+    /// Where the pass of i goes on after a test of j.
+    fn next_distance(&self, i: usize, j: usize, outcome: u8) -> u8 {
+        let distance = match self.wiring {
+            RING if outcome == 1 => self.n - 1,
+            RING => (j + self.n - i) % self.n,
+            _ => i ^ j,
+        };
+        distance as u8 + 1
     }
 
     /// A reply in time: who is told, or an exchange.
@@ -100,20 +120,24 @@ impl Bytes {
 
 /// One turn on a random table. If it makes a test, gives the outcome, the
 /// tester's status and how many rounds closed.
-fn random_test(n: usize, numbers: &mut Numbers) -> Option<(u8, u8, u32)> {
-    let mut table = random_table(n, numbers);
+fn random_test(wiring: usize, n: usize, numbers: &mut Numbers) -> Option<(u8, u8, u32)> {
+    let mut table = random_table_on(wiring, n, numbers);
     let table_before = table.clone();
     let kind = 1 + u8::from(numbers.below(8) == 0);
     let entry = [kind, numbers.below(n) as u8];
-    let (given, sheet) = run_with(n, &mut table, (3, 9), &entry);
+    let (given, sheet) = run_on(wiring, n, &mut table, (3, 9), &entry);
+    let mut bytes = Bytes {
+        wiring,
+        n,
+        table: table_before,
+    };
+    if given.number == 0 && wiring == RING {
+        assert_eq!(sheet[1], bytes.tested_on_ring(sheet[0]));
+    }
     if given.number != 0 || sheet[1] == 255 {
         return None;
     }
     let [i, j] = [sheet[0], sheet[1]].map(usize::from);
-    let mut bytes = Bytes {
-        n,
-        table: table_before,
-    };
     let outcome = bytes.test(i, j, kind == 2);
     let closed = bytes.close_round();
     assert_eq!(table, bytes.table);
@@ -124,14 +148,6 @@ fn random_test(n: usize, numbers: &mut Numbers) -> Option<(u8, u8, u32)> {
 
 #[test]
 fn tests_on_random_tables() {
-    let mut numbers = Numbers::new(10);
-    let mut seen = Vec::new();
-    for (n, _) in sizes() {
-        let tests = (0..100 + 20_000 / n).filter_map(|_| random_test(n, &mut numbers));
-        seen.extend(tests);
-    }
-    seen.sort_unstable();
-    seen.dedup();
     // A round closes only when the tester leaves.
     let expected = [
         (1, 0, 0),
@@ -144,5 +160,15 @@ fn tests_on_random_tables() {
         (5, 3, 0),
         (5, 3, 1),
     ];
-    assert_eq!(seen, expected);
+    for wiring in WIRINGS {
+        let mut numbers = Numbers::new(10);
+        let mut seen = Vec::new();
+        for (n, _) in sizes() {
+            let cases = 0..100 + 20_000 / n;
+            seen.extend(cases.filter_map(|_| random_test(wiring, n, &mut numbers)));
+        }
+        seen.sort_unstable();
+        seen.dedup();
+        assert_eq!(seen, expected);
+    }
 }

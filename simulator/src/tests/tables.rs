@@ -1,7 +1,7 @@
 //! The line rules and refusal 4, byte by byte.
 
+use super::cube::check_table;
 use super::{cease, end, finish, fresh, place, set, sizes, HEAD};
-use crate::check_table;
 
 /// The values of one byte with which the table is accepted.
 fn accepted(n: usize, table: &[u8], station: usize, byte: usize) -> Vec<u8> {

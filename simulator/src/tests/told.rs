@@ -1,11 +1,11 @@
 //! A reply in time where one suspects the other: who leaves, and that no row
 //! then changes.
 
+use super::cube::check_table;
 use super::{
     answer, cease, finish, fresh, head, row_bytes, run_with, set, sizes, suspect, HEAD, MOST,
     UNWRITTEN,
 };
-use crate::check_table;
 
 /// A fresh table but for these pairs: the first suspects the second.
 pub fn suspecting(n: usize, pairs: &[(usize, usize)]) -> Vec<u8> {
