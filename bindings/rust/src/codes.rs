@@ -90,6 +90,16 @@ numbered! {
         FieldOrder = 22 => "a field is out of order, or of an unknown tag",
         /// The report of a mending.
         ReportTooShort = 23 => "the report has fewer than 4n(n + 6) bytes",
+        /// It is neither 1 nor 2, those of [`Wiring`].
+        NoSuchWiring = 24 => "there is no such wiring",
+    }
+}
+
+numbered! {
+    /// Who tests whom.
+    Wiring {
+        Cube = 1 => "cube",
+        Ring = 2 => "ring",
     }
 }
 

@@ -1,7 +1,7 @@
 //! The bus master that grants the turns.
 
 use crate::entries::NO_STATION;
-use crate::{accepted, raw, Refusal, Station, Tally};
+use crate::{accepted, raw, Refusal, Station, Tally, Wiring};
 
 /// What a drive answers beside the tally and the last granted station.
 #[derive(Clone, Copy, Debug, PartialEq, Eq, Hash)]
@@ -18,8 +18,13 @@ pub struct Driven {
 /// `last` is none it begins at station 0, else it ends with `last` itself. The
 /// library's number for none is 255, so `Some(Station(255))` is none, too.
 /// Refusals: 1 to 4, 16, 17.
-pub fn grant(n: usize, table: &[u8], last: Option<Station>) -> Result<Station, Refusal> {
-    let (number, station) = raw::grant(n, table, number_of(last));
+pub fn grant(
+    wiring: Wiring,
+    n: usize,
+    table: &[u8],
+    last: Option<Station>,
+) -> Result<Station, Refusal> {
+    let (number, station) = raw::grant(wiring, n, table, number_of(last));
     accepted(number).map(|()| Station(station))
 }
 
@@ -30,11 +35,17 @@ pub fn grant(n: usize, table: &[u8], last: Option<Station>) -> Result<Station, R
 /// refused at its start leaves both as they were; one that stops with 7 keeps
 /// the turns made.
 /// Refusals: 1 to 4, 16, 17, then 7 before each grant.
-pub fn drive(n: usize, table: &mut [u8], tally: &mut Tally, last: &mut Option<Station>) -> Driven {
+pub fn drive(
+    wiring: Wiring,
+    n: usize,
+    table: &mut [u8],
+    tally: &mut Tally,
+    last: &mut Option<Station>,
+) -> Driven {
     let Tally { rounds, tests } = tally;
     let handed_in = number_of(*last);
     let mut given_back = handed_in;
-    let (number, grants) = raw::drive(n, table, rounds, tests, &mut given_back);
+    let (number, grants) = raw::drive(wiring, n, table, rounds, tests, &mut given_back);
     // Else it stays, for none and `Some(Station(255))` are the same number.
     if given_back != handed_in {
         *last = Some(Station(given_back));

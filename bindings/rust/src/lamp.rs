@@ -1,7 +1,7 @@
 //! The doubt lamp.
 
 use crate::entries::NO_STATION;
-use crate::{accepted, raw, Refusal, Station};
+use crate::{accepted, raw, Refusal, Station, Wiring};
 
 /// A live station that suspects another live one.
 #[derive(Clone, Copy, Debug, PartialEq, Eq, Hash)]
@@ -15,8 +15,8 @@ pub struct Doubt {
 /// Doubt lamp: the first live station that suspects another live one, and the
 /// first one that it suspects; none where no live station suspects a live one.
 /// Refusals: 1 to 4.
-pub fn doubt_lamp(n: usize, table: &[u8]) -> Result<Option<Doubt>, Refusal> {
-    let (number, by, of) = raw::doubt_lamp(n, table);
+pub fn doubt_lamp(wiring: Wiring, n: usize, table: &[u8]) -> Result<Option<Doubt>, Refusal> {
+    let (number, by, of) = raw::doubt_lamp(wiring, n, table);
     accepted(number)?;
     let is_lit = by != usize::from(NO_STATION);
     Ok(is_lit.then_some(Doubt {

@@ -46,11 +46,11 @@
 //! Four entries in a plant of 4:
 //!
 //! ```
-//! use vcube::{Answer, Distance, DueOrAhead, Entry, Kind, Outcome, Station, Status, Tally, ToldBy};
+//! use vcube::{Answer, Distance, DueOrAhead, Entry, Kind, Outcome, Station, Status, Tally, ToldBy, Wiring};
 //!
 //! let n = 4;
 //! let mut table = [0; vcube::table_length(4)];
-//! vcube::fresh_table(n, &mut table)?;
+//! vcube::fresh_table(Wiring::Cube, n, &mut table)?;
 //!
 //! let entry = |kind, station| Entry { kind, station: Station(station) };
 //! let schedule = vcube::schedule(&[
@@ -61,7 +61,7 @@
 //! ]);
 //! let mut tally = Tally::default();
 //! let mut sheet = [0; 16];
-//! let answer = vcube::run(n, &mut table, &mut tally, &schedule, &mut sheet);
+//! let answer = vcube::run(Wiring::Cube, n, &mut table, &mut tally, &schedule, &mut sheet);
 //!
 //! // 0 suspects 1, exchanges with 2, then with 3; 1 tests 0, is told and leaves.
 //! assert_eq!(answer, Answer { refusal: None, taken: 4 });
@@ -70,13 +70,13 @@
 //! assert_eq!(lines[0].outcome, Outcome::NoReply);
 //! assert_eq!(lines[2].tested, Some(Station(3)));
 //! assert_eq!(lines[3].status, Status::Told);
-//! assert_eq!(vcube::row(n, &table, Station(0))?, [0, 1, 0, 0]);
-//! assert_eq!(vcube::row(n, &table, Station(1))?, [0, 0, 0, 0]);
+//! assert_eq!(vcube::row(Wiring::Cube, n, &table, Station(0))?, [0, 1, 0, 0]);
+//! assert_eq!(vcube::row(Wiring::Cube, n, &table, Station(1))?, [0, 0, 0, 0]);
 //!
 //! // What the table says of 1: it was told by 0, and no round was closed since.
-//! assert_eq!(vcube::status(n, &table, Station(1))?, Status::Told);
-//! assert_eq!(vcube::told_by(n, &table, Station(1))?, ToldBy::Station(Station(0)));
-//! assert_eq!(vcube::rounds_ago(n, &table, Station(1))?, 0);
+//! assert_eq!(vcube::status(Wiring::Cube, n, &table, Station(1))?, Status::Told);
+//! assert_eq!(vcube::told_by(Wiring::Cube, n, &table, Station(1))?, ToldBy::Station(Station(0)));
+//! assert_eq!(vcube::rounds_ago(Wiring::Cube, n, &table, Station(1))?, 0);
 //!
 //! let mut list = [0; vcube::assignment_length(4)];
 //! let due = vcube::due_distances(n, &table, Station(0), &mut list)?;
@@ -94,11 +94,11 @@
 //! by its outcome, as the status there is the tester's:
 //!
 //! ```
-//! use vcube::{Entry, Kind, Outcome, Station, Status, Tally, ToldBy};
+//! use vcube::{Entry, Kind, Outcome, Station, Status, Tally, ToldBy, Wiring};
 //!
 //! let n = 3;
 //! let mut table = [0; vcube::table_length(3)];
-//! vcube::fresh_table(n, &mut table)?;
+//! vcube::fresh_table(Wiring::Cube, n, &mut table)?;
 //!
 //! let entry = |kind, station| Entry { kind, station: Station(station) };
 //! let schedule = vcube::schedule(&[
@@ -108,7 +108,7 @@
 //!     entry(Kind::Turn, 2),
 //! ]);
 //! let mut sheet = [0; 16];
-//! let answer = vcube::run(n, &mut table, &mut Tally::default(), &schedule, &mut sheet);
+//! let answer = vcube::run(Wiring::Cube, n, &mut table, &mut Tally::default(), &schedule, &mut sheet);
 //!
 //! // 0 suspects 1 and exchanges with 2; 2 exchanges with 0, then tests 1, which leaves.
 //! assert_eq!((answer.refusal, answer.taken), (None, 4));
@@ -116,7 +116,7 @@
 //! assert_eq!((last.station, last.tested), (Station(2), Some(Station(1))));
 //! assert_eq!((last.outcome, last.status), (Outcome::TestedTold, Status::Live));
 //! assert!(last.ceased().eq([(Station(1), Status::Told)]));
-//! assert_eq!(vcube::told_by(n, &table, Station(1))?, ToldBy::Station(Station(2)));
+//! assert_eq!(vcube::told_by(Wiring::Cube, n, &table, Station(1))?, ToldBy::Station(Station(2)));
 //! # Ok::<(), vcube::Refusal>(())
 //! ```
 //!
@@ -124,31 +124,31 @@
 //! drive makes grants and turns until the round closes:
 //!
 //! ```
-//! use vcube::{Driven, Entry, Kind, Station, Tally};
+//! use vcube::{Driven, Entry, Kind, Station, Tally, Wiring};
 //!
 //! let n = 8;
 //! let mut table = [0; vcube::table_length(8)];
-//! vcube::fresh_table(n, &mut table)?;
+//! vcube::fresh_table(Wiring::Cube, n, &mut table)?;
 //! let (mut tally, mut last) = (Tally::default(), None);
-//! assert_eq!(vcube::grant(n, &table, last)?, Station(0));
+//! assert_eq!(vcube::grant(Wiring::Cube, n, &table, last)?, Station(0));
 //!
 //! // Each board makes 3 tests and then finishes its pass.
-//! let driven = vcube::drive(n, &mut table, &mut tally, &mut last);
+//! let driven = vcube::drive(Wiring::Cube, n, &mut table, &mut tally, &mut last);
 //! assert_eq!(driven, Driven { refusal: None, grants: 32 });
 //! assert_eq!(tally, Tally { rounds: 1, tests: 24 });
 //! assert_eq!(last, Some(Station(7)));
 //!
 //! let crash = Entry { kind: Kind::Crash, station: Station(5) };
-//! let answer = vcube::run(n, &mut table, &mut tally, &crash.bytes(), &mut [0; 4]);
+//! let answer = vcube::run(Wiring::Cube, n, &mut table, &mut tally, &crash.bytes(), &mut [0; 4]);
 //! assert_eq!(answer.refusal, None);
 //!
 //! // 4 finds 5 dead and makes 5 tests, the other boards 3 as before.
-//! let driven = vcube::drive(n, &mut table, &mut tally, &mut last);
+//! let driven = vcube::drive(Wiring::Cube, n, &mut table, &mut tally, &mut last);
 //! assert_eq!(driven, Driven { refusal: None, grants: 30 });
 //! assert_eq!(tally, Tally { rounds: 2, tests: 47 });
 //! assert_eq!(last, Some(Station(4)));
-//! assert_eq!(vcube::row(n, &table, Station(0))?, [0, 0, 0, 0, 0, 1, 0, 0]);
-//! assert_eq!(vcube::rounds_ago(n, &table, Station(5))?, 1);
+//! assert_eq!(vcube::row(Wiring::Cube, n, &table, Station(0))?, [0, 0, 0, 0, 0, 1, 0, 0]);
+//! assert_eq!(vcube::rounds_ago(Wiring::Cube, n, &table, Station(5))?, 1);
 //! # Ok::<(), vcube::Refusal>(())
 //! ```
 //!
@@ -156,26 +156,26 @@
 //! board leaves when it hears of it:
 //!
 //! ```
-//! use vcube::{Doubt, Entry, Kind, Station, Tally};
+//! use vcube::{Doubt, Entry, Kind, Station, Tally, Wiring};
 //!
 //! let n = 4;
 //! let mut table = [0; vcube::table_length(4)];
-//! vcube::fresh_table(n, &mut table)?;
-//! assert_eq!(vcube::doubt_lamp(n, &table)?, None);
+//! vcube::fresh_table(Wiring::Cube, n, &mut table)?;
+//! assert_eq!(vcube::doubt_lamp(Wiring::Cube, n, &table)?, None);
 //!
 //! // The reply of 1 to 0 is late.
 //! let late = Entry { kind: Kind::LateTurn, station: Station(0) };
 //! let mut tally = Tally::default();
-//! let answer = vcube::run(n, &mut table, &mut tally, &late.bytes(), &mut [0; 4]);
+//! let answer = vcube::run(Wiring::Cube, n, &mut table, &mut tally, &late.bytes(), &mut [0; 4]);
 //! assert_eq!(answer.refusal, None);
 //! let doubt = Doubt { by: Station(0), of: Station(1) };
-//! assert_eq!(vcube::doubt_lamp(n, &table)?, Some(doubt));
+//! assert_eq!(vcube::doubt_lamp(Wiring::Cube, n, &table)?, Some(doubt));
 //!
 //! // 1 tests 0, is told and leaves.
 //! let turn = Entry { kind: Kind::Turn, station: Station(1) };
-//! let answer = vcube::run(n, &mut table, &mut tally, &turn.bytes(), &mut [0; 4]);
+//! let answer = vcube::run(Wiring::Cube, n, &mut table, &mut tally, &turn.bytes(), &mut [0; 4]);
 //! assert_eq!(answer.refusal, None);
-//! assert_eq!(vcube::doubt_lamp(n, &table)?, None);
+//! assert_eq!(vcube::doubt_lamp(Wiring::Cube, n, &table)?, None);
 //! # Ok::<(), vcube::Refusal>(())
 //! ```
 //!
@@ -184,11 +184,11 @@
 //! as versions before 0.9 saved plants, is converted first:
 //!
 //! ```
-//! use vcube::{Loaded, Tally};
+//! use vcube::{Loaded, Tally, Wiring};
 //!
 //! let n = 2;
 //! let mut table = [0; vcube::table_length(2)];
-//! vcube::fresh_table(n, &mut table)?;
+//! vcube::fresh_table(Wiring::Cube, n, &mut table)?;
 //! let tally = Tally { rounds: 128, tests: 256 };
 //!
 //! let mut saved = [0; vcube::saved_length(2)];
@@ -255,7 +255,7 @@ pub use assignment::{
     assignment, assignment_entries, assignment_length, due_distances, AssignmentEntry, DueOrAhead,
     DUE,
 };
-pub use codes::{Kind, Outcome, Refusal, Status};
+pub use codes::{Kind, Outcome, Refusal, Status, Wiring};
 pub use entries::{schedule, sheet_lines, Entry, SheetLine};
 pub use figures::{figures, figures_of_two, Figures, Fraction, Totals, MOST_RESULTS};
 pub use granter::{drive, grant, Driven};
@@ -303,8 +303,8 @@ pub const fn table_length(n: usize) -> usize {
 
 /// Fresh table: every line live, next distance 1, told by nobody, all else 0.
 /// Refusals: 1, 2.
-pub fn fresh_table(n: usize, table: &mut [u8]) -> Result<(), Refusal> {
-    accepted(raw::fresh_table(n, table))
+pub fn fresh_table(wiring: Wiring, n: usize, table: &mut [u8]) -> Result<(), Refusal> {
+    accepted(raw::fresh_table(wiring, n, table))
 }
 
 /// The highest level of the largest plant.
@@ -361,8 +361,8 @@ pub fn group_stations(
 
 /// Row: the station's row as that very part of the lent table.
 /// Refusals: 1 to 4, 9.
-pub fn row(n: usize, table: &[u8], station: Station) -> Result<&[u8], Refusal> {
-    let (number, start, length) = raw::row(n, table, station.0);
+pub fn row(wiring: Wiring, n: usize, table: &[u8], station: Station) -> Result<&[u8], Refusal> {
+    let (number, start, length) = raw::row(wiring, n, table, station.0);
     accepted(number).map(|()| &table[start..][..length])
 }
 
@@ -374,6 +374,7 @@ pub fn row(n: usize, table: &[u8], station: Station) -> Result<&[u8], Refusal> {
 /// at its start leaves the tally as it was.
 /// Refusals: 1 to 6, then 7 to 11 at each entry.
 pub fn run(
+    wiring: Wiring,
     n: usize,
     table: &mut [u8],
     tally: &mut Tally,
@@ -381,7 +382,7 @@ pub fn run(
     sheet: &mut [u8],
 ) -> Answer {
     let Tally { rounds, tests } = tally;
-    let (number, taken) = raw::run(n, table, rounds, tests, schedule, sheet);
+    let (number, taken) = raw::run(wiring, n, table, rounds, tests, schedule, sheet);
     Answer {
         refusal: accepted(number).err(),
         taken,

@@ -1,7 +1,7 @@
 //! What the line of a station says of it: whether it is live, who told it to
 //! leave and how long ago.
 
-use crate::{accepted, raw, Refusal, Station, Status};
+use crate::{accepted, raw, Refusal, Station, Status, Wiring};
 
 /// How many bytes of a line of the table stand before its row.
 pub const HEAD: usize = 6;
@@ -36,16 +36,21 @@ impl ToldBy {
 
 /// Status: whether the station is live, and if not, why. Byte 0 of its line.
 /// Refusals: 1 to 4, 9.
-pub fn status(n: usize, table: &[u8], station: Station) -> Result<Status, Refusal> {
-    let [status, ..] = head(n, table, station)?;
+pub fn status(wiring: Wiring, n: usize, table: &[u8], station: Station) -> Result<Status, Refusal> {
+    let [status, ..] = head(wiring, n, table, station)?;
     Ok(Status::from_number(status).expect("the line rules take 0 to 3"))
 }
 
 /// Who told the station to leave. Where its status is [`Status::Told`]: a
 /// station, or that this was not recorded; else nobody. Byte 4 of its line.
 /// Refusals: 1 to 4, 9.
-pub fn told_by(n: usize, table: &[u8], station: Station) -> Result<ToldBy, Refusal> {
-    let [.., told_by, _] = head(n, table, station)?;
+pub fn told_by(
+    wiring: Wiring,
+    n: usize,
+    table: &[u8],
+    station: Station,
+) -> Result<ToldBy, Refusal> {
+    let [.., told_by, _] = head(wiring, n, table, station)?;
     Ok(ToldBy::from_byte(told_by))
 }
 
@@ -54,14 +59,14 @@ pub fn told_by(n: usize, table: &[u8], station: Station) -> Result<ToldBy, Refus
 /// which means 255 or more, and is 0 where the station is live. Byte 5 of its
 /// line.
 /// Refusals: 1 to 4, 9.
-pub fn rounds_ago(n: usize, table: &[u8], station: Station) -> Result<u8, Refusal> {
-    let [.., rounds_ago] = head(n, table, station)?;
+pub fn rounds_ago(wiring: Wiring, n: usize, table: &[u8], station: Station) -> Result<u8, Refusal> {
+    let [.., rounds_ago] = head(wiring, n, table, station)?;
     Ok(rounds_ago)
 }
 
 /// The head of the station's line: the bytes before its row.
-fn head(n: usize, table: &[u8], station: Station) -> Result<[u8; HEAD], Refusal> {
-    let (number, start, _) = raw::row(n, table, station.0);
+fn head(wiring: Wiring, n: usize, table: &[u8], station: Station) -> Result<[u8; HEAD], Refusal> {
+    let (number, start, _) = raw::row(wiring, n, table, station.0);
     accepted(number)?;
     let head = table[..start].last_chunk();
     Ok(*head.expect("a head stands before each row"))

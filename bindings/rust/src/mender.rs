@@ -1,6 +1,6 @@
 //! Mending a table after a brownout, and the report of what was mended.
 
-use crate::{accepted, raw, table_length, Refusal, Station, HEAD};
+use crate::{accepted, raw, table_length, Refusal, Station, Wiring, HEAD};
 
 /// How many bytes a change has in the report.
 const CHANGE: usize = 4;
@@ -80,17 +80,17 @@ pub const fn report_length(n: usize) -> usize {
 /// Refusals: 1, 2, 23.
 ///
 /// ```
-/// use vcube::{Change, LineByte, Station};
+/// use vcube::{Change, LineByte, Station, Wiring};
 ///
 /// let n = 4;
 /// let mut table = [0; vcube::table_length(4)];
-/// vcube::fresh_table(n, &mut table)?;
+/// vcube::fresh_table(Wiring::Cube, n, &mut table)?;
 /// // A brownout: station 1 has status 7, and suspects 3 by a 9.
 /// table[10] = 7;
 /// table[19] = 9;
 ///
 /// let mut report = [0; vcube::report_length(4)];
-/// let count = vcube::mend(n, &mut table, &mut report)?;
+/// let count = vcube::mend(Wiring::Cube, n, &mut table, &mut report)?;
 /// let changes: Vec<_> = vcube::changes(n, &report, count).collect();
 /// let line = Station(1);
 /// assert_eq!(changes, [
@@ -99,8 +99,13 @@ pub const fn report_length(n: usize) -> usize {
 /// ]);
 /// # Ok::<(), vcube::Refusal>(())
 /// ```
-pub fn mend(n: usize, table: &mut [u8], report: &mut [u8]) -> Result<usize, Refusal> {
-    let (number, changes) = raw::mend(n, table, report);
+pub fn mend(
+    wiring: Wiring,
+    n: usize,
+    table: &mut [u8],
+    report: &mut [u8],
+) -> Result<usize, Refusal> {
+    let (number, changes) = raw::mend(wiring, n, table, report);
     accepted(number)?;
     Ok(changes)
 }

@@ -14,13 +14,18 @@
 //!   lent for reading goes in as a `const` pointer.
 //! - The library keeps no pointer after a call and has no state of its own.
 
-use crate::{Figures, Fraction, Totals};
+use crate::{Figures, Fraction, Totals, Wiring};
 
 mod c {
     use crate::{Figures, Totals};
 
     extern "C" {
-        pub fn vcube_fresh_table(n: usize, table: *mut u8, table_length: usize) -> u8;
+        pub fn vcube_fresh_table(
+            wiring: usize,
+            n: usize,
+            table: *mut u8,
+            table_length: usize,
+        ) -> u8;
 
         pub fn vcube_group_list(
             n: usize,
@@ -41,6 +46,7 @@ mod c {
         ) -> u8;
 
         pub fn vcube_row(
+            wiring: usize,
             n: usize,
             table: *const u8,
             table_length: usize,
@@ -50,6 +56,7 @@ mod c {
         ) -> u8;
 
         pub fn vcube_run(
+            wiring: usize,
             n: usize,
             table: *mut u8,
             table_length: usize,
@@ -63,6 +70,7 @@ mod c {
         ) -> u8;
 
         pub fn vcube_grant(
+            wiring: usize,
             n: usize,
             table: *const u8,
             table_length: usize,
@@ -71,6 +79,7 @@ mod c {
         ) -> u8;
 
         pub fn vcube_drive(
+            wiring: usize,
             n: usize,
             table: *mut u8,
             table_length: usize,
@@ -81,6 +90,7 @@ mod c {
         ) -> u8;
 
         pub fn vcube_doubt_lamp(
+            wiring: usize,
             n: usize,
             table: *const u8,
             table_length: usize,
@@ -89,6 +99,7 @@ mod c {
         ) -> u8;
 
         pub fn vcube_mend(
+            wiring: usize,
             n: usize,
             table: *mut u8,
             table_length: usize,
@@ -150,9 +161,14 @@ mod c {
     }
 }
 
+/// The wiring number as the header has it, a `size_t`.
+fn number_of(wiring: Wiring) -> usize {
+    wiring.number().into()
+}
+
 /// Gives the number.
-pub fn fresh_table(n: usize, table: &mut [u8]) -> u8 {
-    unsafe { c::vcube_fresh_table(n, table.as_mut_ptr(), table.len()) }
+pub fn fresh_table(wiring: Wiring, n: usize, table: &mut [u8]) -> u8 {
+    unsafe { c::vcube_fresh_table(number_of(wiring), n, table.as_mut_ptr(), table.len()) }
 }
 
 /// Gives the number.
@@ -178,10 +194,11 @@ pub fn assignment(n: usize, table: &[u8], station: usize, list: &mut [u8]) -> (u
 }
 
 /// Gives the number, the row's start and its length.
-pub fn row(n: usize, table: &[u8], station: usize) -> (u8, usize, usize) {
+pub fn row(wiring: Wiring, n: usize, table: &[u8], station: usize) -> (u8, usize, usize) {
     let (mut start, mut length) = (0, 0);
     let number = unsafe {
         c::vcube_row(
+            number_of(wiring),
             n,
             table.as_ptr(),
             table.len(),
@@ -195,6 +212,7 @@ pub fn row(n: usize, table: &[u8], station: usize) -> (u8, usize, usize) {
 
 /// Gives the number and the entries taken.
 pub fn run(
+    wiring: Wiring,
     n: usize,
     table: &mut [u8],
     rounds: &mut u32,
@@ -205,6 +223,7 @@ pub fn run(
     let mut taken = 0;
     let number = unsafe {
         c::vcube_run(
+            number_of(wiring),
             n,
             table.as_mut_ptr(),
             table.len(),
@@ -221,14 +240,24 @@ pub fn run(
 }
 
 /// Gives the number and the station granted.
-pub fn grant(n: usize, table: &[u8], last: usize) -> (u8, usize) {
+pub fn grant(wiring: Wiring, n: usize, table: &[u8], last: usize) -> (u8, usize) {
     let mut station = 0;
-    let number = unsafe { c::vcube_grant(n, table.as_ptr(), table.len(), last, &mut station) };
+    let number = unsafe {
+        c::vcube_grant(
+            number_of(wiring),
+            n,
+            table.as_ptr(),
+            table.len(),
+            last,
+            &mut station,
+        )
+    };
     (number, station)
 }
 
 /// Gives the number and the grants made.
 pub fn drive(
+    wiring: Wiring,
     n: usize,
     table: &mut [u8],
     rounds: &mut u32,
@@ -238,6 +267,7 @@ pub fn drive(
     let mut grants = 0;
     let number = unsafe {
         c::vcube_drive(
+            number_of(wiring),
             n,
             table.as_mut_ptr(),
             table.len(),
@@ -251,17 +281,27 @@ pub fn drive(
 }
 
 /// Gives the number, and of the pair which station suspects and which one.
-pub fn doubt_lamp(n: usize, table: &[u8]) -> (u8, usize, usize) {
+pub fn doubt_lamp(wiring: Wiring, n: usize, table: &[u8]) -> (u8, usize, usize) {
     let (mut by, mut of) = (0, 0);
-    let number = unsafe { c::vcube_doubt_lamp(n, table.as_ptr(), table.len(), &mut by, &mut of) };
+    let number = unsafe {
+        c::vcube_doubt_lamp(
+            number_of(wiring),
+            n,
+            table.as_ptr(),
+            table.len(),
+            &mut by,
+            &mut of,
+        )
+    };
     (number, by, of)
 }
 
 /// Gives the number and how many changes there are.
-pub fn mend(n: usize, table: &mut [u8], report: &mut [u8]) -> (u8, usize) {
+pub fn mend(wiring: Wiring, n: usize, table: &mut [u8], report: &mut [u8]) -> (u8, usize) {
     let mut changes = 0;
     let number = unsafe {
         c::vcube_mend(
+            number_of(wiring),
             n,
             table.as_mut_ptr(),
             table.len(),

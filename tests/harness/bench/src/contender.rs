@@ -4,6 +4,7 @@
 use crate::{plain, plain_drive, plain_figures, plain_lamp, plain_mend, plain_saved};
 use shared::grants::NONE_YET;
 use shared::schedule::Entry;
+use shared::wiring::Wiring;
 use simulator::{Answer, Driven, Loaded};
 use vcube::{Figures, Fraction, Refusal, Tally};
 
@@ -29,20 +30,29 @@ impl Contender {
     }
 
     /// Runs a schedule with tallies of 0.
-    pub fn run(self, n: usize, table: &mut [u8], schedule: &[u8], sheet: &mut [u8]) -> Answer {
+    pub fn run(
+        self,
+        wiring: Wiring,
+        n: usize,
+        table: &mut [u8],
+        schedule: &[u8],
+        sheet: &mut [u8],
+    ) -> Answer {
+        let number = wiring.number();
         match self {
-            Contender::Library => run_library(n, table, schedule, sheet),
-            Contender::Plain => plain::run(n, table, (0, 0), schedule, sheet),
-            Contender::Simulator => simulator::run(n, table, (0, 0), schedule, sheet),
+            Contender::Library => run_library(wiring, n, table, schedule, sheet),
+            Contender::Plain => plain::run(number, n, table, (0, 0), schedule, sheet),
+            Contender::Simulator => simulator::run(number, n, table, (0, 0), schedule, sheet),
         }
     }
 
     /// Drives with tallies of 0 where no station was granted yet.
-    pub fn drive(self, n: usize, table: &mut [u8]) -> Driven {
+    pub fn drive(self, wiring: Wiring, n: usize, table: &mut [u8]) -> Driven {
+        let number = wiring.number();
         match self {
-            Contender::Library => drive_library(n, table),
-            Contender::Plain => plain_drive::drive(n, table, (0, 0), NONE_YET),
-            Contender::Simulator => simulator::drive(n, table, (0, 0), NONE_YET),
+            Contender::Library => drive_library(wiring, n, table),
+            Contender::Plain => plain_drive::drive(number, n, table, (0, 0), NONE_YET),
+            Contender::Simulator => simulator::drive(number, n, table, (0, 0), NONE_YET),
         }
     }
 
@@ -56,20 +66,26 @@ impl Contender {
     }
 
     /// The doubt lamp; gives the number and the pair.
-    pub fn doubt_lamp(self, n: usize, table: &[u8]) -> (u8, Option<(u8, u8)>) {
+    pub fn doubt_lamp(self, wiring: Wiring, n: usize, table: &[u8]) -> (u8, Option<(u8, u8)>) {
         match self {
-            Contender::Library => doubt_lamp_library(n, table),
-            Contender::Plain => plain_lamp::doubt_lamp(n, table),
-            Contender::Simulator => simulator::doubt_lamp(n, table),
+            Contender::Library => doubt_lamp_library(wiring, n, table),
+            Contender::Plain => plain_lamp::doubt_lamp(wiring.number(), n, table),
+            Contender::Simulator => simulator::doubt_lamp(wiring.number(), n, table),
         }
     }
 
     /// Mends a table; gives the number and how many changes are listed.
-    pub fn mend(self, n: usize, table: &mut [u8], report: &mut [u8]) -> (u8, usize) {
+    pub fn mend(
+        self,
+        wiring: Wiring,
+        n: usize,
+        table: &mut [u8],
+        report: &mut [u8],
+    ) -> (u8, usize) {
         match self {
-            Contender::Library => mend_library(n, table, report),
-            Contender::Plain => plain_mend::mend(n, table, report),
-            Contender::Simulator => simulator::mend(n, table, report),
+            Contender::Library => mend_library(wiring, n, table, report),
+            Contender::Plain => plain_mend::mend(wiring.number(), n, table, report),
+            Contender::Simulator => simulator::mend(wiring.number(), n, table, report),
         }
     }
 
@@ -124,15 +140,29 @@ fn simulated_figures(results: &[u16]) -> Result<Figures, Refusal> {
 
 /// Runs one entry by the library, which must take it; gives the rounds it
 /// closed.
-pub fn run_entry(n: usize, table: &mut [u8], entry: Entry) -> u32 {
-    let answer = run_library(n, table, &entry, &mut [0; 4]);
+pub fn run_entry(wiring: Wiring, n: usize, table: &mut [u8], entry: Entry) -> u32 {
+    let answer = run_library(wiring, n, table, &entry, &mut [0; 4]);
     assert_eq!((answer.number, answer.taken), (0, 1));
     answer.rounds
 }
 
-pub fn run_library(n: usize, table: &mut [u8], schedule: &[u8], sheet: &mut [u8]) -> Answer {
+/// The library's own type for the wiring.
+pub fn of_library(wiring: Wiring) -> vcube::Wiring {
+    match wiring {
+        Wiring::Cube => vcube::Wiring::Cube,
+        Wiring::Ring => vcube::Wiring::Ring,
+    }
+}
+
+pub fn run_library(
+    wiring: Wiring,
+    n: usize,
+    table: &mut [u8],
+    schedule: &[u8],
+    sheet: &mut [u8],
+) -> Answer {
     let mut tally = Tally::default();
-    let answer = vcube::run(n, table, &mut tally, schedule, sheet);
+    let answer = vcube::run(of_library(wiring), n, table, &mut tally, schedule, sheet);
     Answer {
         number: number(answer.refusal),
         taken: answer.taken,
@@ -141,9 +171,9 @@ pub fn run_library(n: usize, table: &mut [u8], schedule: &[u8], sheet: &mut [u8]
     }
 }
 
-fn drive_library(n: usize, table: &mut [u8]) -> Driven {
+fn drive_library(wiring: Wiring, n: usize, table: &mut [u8]) -> Driven {
     let (mut tally, mut last) = (Tally::default(), None);
-    let driven = vcube::drive(n, table, &mut tally, &mut last);
+    let driven = vcube::drive(of_library(wiring), n, table, &mut tally, &mut last);
     Driven {
         number: number(driven.refusal),
         rounds: tally.rounds,
@@ -153,15 +183,15 @@ fn drive_library(n: usize, table: &mut [u8]) -> Driven {
     }
 }
 
-fn doubt_lamp_library(n: usize, table: &[u8]) -> (u8, Option<(u8, u8)>) {
-    match vcube::doubt_lamp(n, table) {
+fn doubt_lamp_library(wiring: Wiring, n: usize, table: &[u8]) -> (u8, Option<(u8, u8)>) {
+    match vcube::doubt_lamp(of_library(wiring), n, table) {
         Ok(pair) => (0, pair.map(|doubt| (doubt.by.0 as u8, doubt.of.0 as u8))),
         Err(refusal) => (refusal.number(), None),
     }
 }
 
-fn mend_library(n: usize, table: &mut [u8], report: &mut [u8]) -> (u8, usize) {
-    match vcube::mend(n, table, report) {
+fn mend_library(wiring: Wiring, n: usize, table: &mut [u8], report: &mut [u8]) -> (u8, usize) {
+    match vcube::mend(of_library(wiring), n, table, report) {
         Ok(changes) => (0, changes),
         Err(refusal) => (refusal.number(), 0),
     }

@@ -1,6 +1,6 @@
 //! How many rounds close until every live board suspects exactly the dead
 //! ones. Everything is done by the library: one entry a run, or one round a
-//! drive.
+//! drive. All of it is on the cube.
 
 use crate::bounds::worst_latency;
 use crate::contender::run_entry;
@@ -8,6 +8,7 @@ use shared::groups::dimension;
 use shared::random::Random;
 use shared::schedule::{Entry, CRASH, TURN};
 use shared::table;
+use shared::wiring::Wiring;
 use vcube::{Station, Tally};
 
 /// Which live board that has not finished its pass takes the next turn.
@@ -71,7 +72,7 @@ impl Plant {
             rounds: 0,
             last: None,
         };
-        vcube::fresh_table(n, &mut plant.table).expect("a size of the list");
+        vcube::fresh_table(vcube::Wiring::Cube, n, &mut plant.table).expect("a size of the list");
         plant
     }
 
@@ -86,7 +87,7 @@ impl Plant {
 
     /// Carries out one entry. Gives whether it closed a round.
     pub fn take(&mut self, entry: Entry) -> bool {
-        let closed = run_entry(self.n, &mut self.table, entry);
+        let closed = run_entry(Wiring::Cube, self.n, &mut self.table, entry);
         self.rounds += closed;
         closed != 0
     }
@@ -112,7 +113,8 @@ impl Plant {
     /// One drive, which must close a round.
     fn drive_round(&mut self) {
         let mut tally = Tally::default();
-        let driven = vcube::drive(self.n, &mut self.table, &mut tally, &mut self.last);
+        let cube = vcube::Wiring::Cube;
+        let driven = vcube::drive(cube, self.n, &mut self.table, &mut tally, &mut self.last);
         assert_eq!((driven.refusal, tally.rounds), (None, 1));
         self.rounds += tally.rounds;
     }
@@ -135,7 +137,7 @@ impl Plant {
         let mut least = (usize::MAX, ready[0]);
         for i in ready {
             let mut table = self.table.clone();
-            run_entry(self.n, &mut table, [TURN, i as u8]);
+            run_entry(Wiring::Cube, self.n, &mut table, [TURN, i as u8]);
             let after = suspicions(self.n, &table);
             if after < least.0 {
                 least = (after, i);

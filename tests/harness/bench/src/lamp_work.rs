@@ -2,10 +2,12 @@
 
 use crate::work::table_with_crashed;
 use shared::table::{line_length, live_stations, HEAD};
+use shared::wiring::Wiring;
 
 /// A table in which each live station suspects just the dead, but for one pair.
 #[derive(Clone)]
 pub struct LampWork {
+    pub wiring: Wiring,
     pub n: usize,
     /// How many stations are crashed.
     pub dead: usize,
@@ -16,7 +18,7 @@ pub struct LampWork {
 
 impl LampWork {
     /// The dead are stations from 2 on, and not the last two: at most n - 4.
-    pub fn new(n: usize, dead: usize, pair: Option<(u8, u8)>) -> LampWork {
+    pub fn new(wiring: Wiring, n: usize, dead: usize, pair: Option<(u8, u8)>) -> LampWork {
         let crashed: Vec<usize> = (2..2 + dead).collect();
         let mut table = table_with_crashed(n, &crashed);
         for by in live_stations(n, &table) {
@@ -28,6 +30,7 @@ impl LampWork {
             suspect(n, &mut table, by.into(), of.into());
         }
         LampWork {
+            wiring,
             n,
             dead,
             pair,

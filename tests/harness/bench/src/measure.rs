@@ -59,7 +59,9 @@ impl Batch<'_> {
 pub fn best_times(works: &[Work], repetitions: usize) -> [f64; 3] {
     let mut batch = Batch::new(works);
     best(repetitions, |contender| {
-        batch.time(|work, table, sheet| contender.run(work.n, table, &work.schedule, sheet))
+        batch.time(|work, table, sheet| {
+            contender.run(work.wiring, work.n, table, &work.schedule, sheet)
+        })
     })
 }
 
@@ -68,7 +70,7 @@ pub fn best_times(works: &[Work], repetitions: usize) -> [f64; 3] {
 pub fn best_times_of_drives(works: &[Work], repetitions: usize) -> [f64; 3] {
     let mut batch = Batch::new(works);
     best(repetitions, |contender| {
-        batch.time(|work, table, _| contender.drive(work.n, table))
+        batch.time(|work, table, _| contender.drive(work.wiring, work.n, table))
     })
 }
 
@@ -85,7 +87,7 @@ pub fn best_times_of_lamps(works: &[LampWork], repetitions: usize) -> [f64; 3] {
         let works = black_box(works);
         let start = Instant::now();
         for work in works {
-            black_box(contender.doubt_lamp(work.n, &work.table));
+            black_box(contender.doubt_lamp(work.wiring, work.n, &work.table));
         }
         start.elapsed().as_secs_f64()
     })
@@ -102,7 +104,7 @@ pub fn best_times_of_mendings(works: &[MendWork], repetitions: usize) -> [f64; 3
         let lent = black_box(&mut lent);
         let start = Instant::now();
         for ((table, report), work) in lent.iter_mut().zip(works) {
-            black_box(contender.mend(work.n, table, report));
+            black_box(contender.mend(work.wiring, work.n, table, report));
         }
         let seconds = start.elapsed().as_secs_f64();
         black_box(lent);
@@ -189,7 +191,7 @@ fn time_figures(contender: Contender, lists: &[Vec<u16>]) -> f64 {
 pub fn run_once(contender: Contender, work: &Work) -> (Answer, Vec<u8>, Vec<u8>) {
     let mut table = work.table.clone();
     let mut sheet = vec![0; 2 * work.schedule.len()];
-    let answer = contender.run(work.n, &mut table, &work.schedule, &mut sheet);
+    let answer = contender.run(work.wiring, work.n, &mut table, &work.schedule, &mut sheet);
     (answer, table, sheet)
 }
 
@@ -205,7 +207,7 @@ pub fn check_equal(work: &Work) {
 /// One drive: what it answers, and the table.
 pub fn drive_once(contender: Contender, work: &Work) -> (Driven, Vec<u8>) {
     let mut table = work.table.clone();
-    let driven = contender.drive(work.n, &mut table);
+    let driven = contender.drive(work.wiring, work.n, &mut table);
     (driven, table)
 }
 
@@ -229,7 +231,7 @@ pub fn check_equal_figures(results: &[u16]) {
 /// Stops unless all three find the pair of the table, which is taken.
 pub fn check_equal_lamps(work: &LampWork) {
     for contender in Contender::ALL {
-        let given = contender.doubt_lamp(work.n, &work.table);
+        let given = contender.doubt_lamp(work.wiring, work.n, &work.table);
         assert_eq!(given, (0, work.pair), "{contender:?}: another pair");
     }
 }
@@ -238,7 +240,7 @@ pub fn check_equal_lamps(work: &LampWork) {
 pub fn check_equal_mendings(work: &MendWork) {
     let mended = Contender::ALL.map(|contender| {
         let (mut table, mut report) = work.lent();
-        let given = contender.mend(work.n, &mut table, &mut report);
+        let given = contender.mend(work.wiring, work.n, &mut table, &mut report);
         assert_eq!(given.0, 0, "{contender:?}: the mending is refused");
         (given.1, table, report)
     });

@@ -1,8 +1,12 @@
 //! Tables to be mended.
 
-use crate::saved_work::SavedWork;
+use crate::work::Work;
 use shared::random::Random;
 use shared::table::{line_length, table_length, HEAD};
+use shared::wiring::Wiring;
+
+/// How many turns there were before.
+const TURNS_PER_STATION: usize = 6;
 
 /// What is wrong with a table.
 #[derive(Clone, Copy, Debug, PartialEq, Eq)]
@@ -27,13 +31,14 @@ impl Damage {
 /// A table that is mended.
 #[derive(Clone)]
 pub struct MendWork {
+    pub wiring: Wiring,
     pub n: usize,
     pub table: Vec<u8>,
 }
 
 impl MendWork {
-    pub fn new(n: usize, damage: Damage, random: &mut Random) -> MendWork {
-        let mut table = SavedWork::new(n, random).table;
+    pub fn new(wiring: Wiring, n: usize, damage: Damage, random: &mut Random) -> MendWork {
+        let mut table = good_table(wiring, n, random);
         match damage {
             Damage::Nothing => {}
             Damage::OneByte => {
@@ -43,11 +48,30 @@ impl MendWork {
             }
             Damage::RandomBytes => table = random.bytes(table_length(n)),
         }
-        MendWork { n, table }
+        MendWork { wiring, n, table }
     }
 
     /// The table, and a report that has room for a change of each byte.
     pub fn lent(&self) -> (Vec<u8>, Vec<u8>) {
         (self.table.clone(), vec![0; 4 * self.table.len()])
     }
+}
+
+/// A table with a quarter of the stations dead, on which some turns were made.
+fn good_table(wiring: Wiring, n: usize, random: &mut Random) -> Vec<u8> {
+    let Work {
+        mut table,
+        schedule,
+        ..
+    } = Work::new(wiring, n, n / 4, TURNS_PER_STATION * n, random);
+    let mut sheet = vec![0; 2 * schedule.len()];
+    simulator::run(
+        wiring.number(),
+        n,
+        &mut table,
+        (0, 0),
+        &schedule,
+        &mut sheet,
+    );
+    table
 }

@@ -1,11 +1,13 @@
 //! The run in plain Rust over the lent bytes.
 //!
 //! Table, schedule and sheet are used as they are lent: nothing is decoded,
-//! and the group order is computed with exclusive or. As the rules read, it
+//! and the group order is computed with exclusive or. The wiring is looked at
+//! where a turn looks for its test and after a test. As the rules read, it
 //! looks through all lines for the round's end after each entry, and always
 //! exchanges both rows. (The library looks at the entry's own station first and
 //! leaves equal rows alone.)
 
+use shared::wiring::Wiring;
 use simulator::Answer;
 
 /// The bytes of a line before its row, and what they hold.
@@ -41,9 +43,13 @@ const NO_REPLY: u8 = 3;
 const CRASH_OUTCOME: u8 = 4;
 const TESTED_TOLD: u8 = 5;
 
-/// Run: refusals 1 to 6, then 7 to 11 at each entry.
+/// The refusal of a wiring number.
+pub const NO_SUCH_WIRING: u8 = 24;
+
+/// Run: refusals 24 and 1 to 6, then 7 to 11 at each entry.
 /// The tally is (rounds, tests).
 pub fn run(
+    wiring: usize,
     n: usize,
     table: &mut [u8],
     tally: (u32, u32),
@@ -51,11 +57,15 @@ pub fn run(
     sheet: &mut [u8],
 ) -> Answer {
     let mut answer = Answer {
-        number: start_refusal(n, table, schedule.len(), sheet.len()),
+        number: NO_SUCH_WIRING,
         taken: 0,
         rounds: tally.0,
         tests: tally.1,
     };
+    let Some(wiring) = Wiring::from_number(wiring) else {
+        return answer;
+    };
+    answer.number = start_refusal(wiring, n, table, schedule.len(), sheet.len());
     if answer.number != 0 {
         return answer;
     }
@@ -64,15 +74,15 @@ pub fn run(
         if answer.number != 0 {
             return answer;
         }
-        take_entry(n, table, &mut answer, entry, place);
+        take_entry(wiring, n, table, &mut answer, entry, place);
         answer.taken += 1;
     }
     answer
 }
 
 /// Refusals 1 to 6, or 0.
-fn start_refusal(n: usize, table: &[u8], schedule: usize, sheet: usize) -> u8 {
-    let number = table_refusal(n, table);
+fn start_refusal(wiring: Wiring, n: usize, table: &[u8], schedule: usize, sheet: usize) -> u8 {
+    let number = table_refusal(wiring, n, table);
     if number != 0 {
         return number;
     }
@@ -86,14 +96,14 @@ fn start_refusal(n: usize, table: &[u8], schedule: usize, sheet: usize) -> u8 {
 }
 
 /// Refusals 1 to 4, or 0.
-pub fn table_refusal(n: usize, table: &[u8]) -> u8 {
+pub fn table_refusal(wiring: Wiring, n: usize, table: &[u8]) -> u8 {
     if !(2..=64).contains(&n) {
         return 1;
     }
     if table.len() != n * (n + HEAD) {
         return 2;
     }
-    let end = distances(n);
+    let end = wiring.end(n);
     let mut lines = table.chunks_exact(n + HEAD).enumerate();
     if !lines.all(|(i, line)| keeps_line_rules(end, i, line)) {
         return 3;
@@ -102,11 +112,6 @@ pub fn table_refusal(n: usize, table: &[u8]) -> u8 {
         return 4;
     }
     0
-}
-
-/// 2^d: distances are below it, and a finished line has it for its next one.
-pub fn distances(n: usize) -> usize {
-    n.next_power_of_two()
 }
 
 pub fn keeps_line_rules(end: usize, i: usize, line: &[u8]) -> bool {
@@ -186,14 +191,21 @@ pub fn is_full(answer: &Answer) -> bool {
 /// What an entry does, its line of the sheet and the tally. The run and the
 /// drive share it: not inlined, it made the run slower by 5 to 10 %.
 #[inline(always)]
-pub fn take_entry(n: usize, table: &mut [u8], answer: &mut Answer, entry: &[u8], place: &mut [u8]) {
+pub fn take_entry(
+    wiring: Wiring,
+    n: usize,
+    table: &mut [u8],
+    answer: &mut Answer,
+    entry: &[u8],
+    place: &mut [u8],
+) {
     let (kind, i) = (entry[0], usize::from(entry[1]));
     let at = i * (n + HEAD);
     let (tested, outcome) = if kind == CRASH {
         table[at + STATUS] = CRASHED;
         (NO_STATION, CRASH_OUTCOME)
     } else {
-        take_turn(n, table, kind, i)
+        take_turn(wiring, n, table, kind, i)
     };
     if tested != NO_STATION {
         answer.tests += 1;
@@ -206,24 +218,43 @@ pub fn take_entry(n: usize, table: &mut [u8], answer: &mut Answer, entry: &[u8],
 }
 
 /// A turn: gives the tested station and the outcome.
-fn take_turn(n: usize, table: &mut [u8], kind: u8, i: usize) -> (u8, u8) {
+fn take_turn(wiring: Wiring, n: usize, table: &mut [u8], kind: u8, i: usize) -> (u8, u8) {
     let line = line_of(n, table, i);
-    let next = usize::from(line[NEXT]);
-    let row = &line[HEAD..];
-    let end = distances(n);
-    match (next..end).find(|m| is_due(row, i, *m)) {
+    match next_test(wiring, i, line) {
         None => {
-            line[NEXT] = end as u8;
+            line[NEXT] = wiring.end(n) as u8;
             line[FINISHED] = 1;
             (NO_STATION, PASS_FINISHED)
         }
-        Some(m) => {
-            line[NEXT] = m as u8 + 1;
-            line[TESTS] += 1;
-            let j = i ^ m;
+        Some((m, j)) => {
             let outcome = test(n, table, kind, i, j);
-            leave_if_alone(line_of(n, table, i), i);
+            let line = line_of(n, table, i);
+            line[NEXT] = match (wiring, outcome) {
+                (Wiring::Ring, EXCHANGED) => n as u8,
+                _ => m as u8 + 1,
+            };
+            line[TESTS] += 1;
+            leave_if_alone(line, i);
             (j as u8, outcome)
+        }
+    }
+}
+
+/// The distance of the next test of station i with this line, and the station
+/// that stands there.
+fn next_test(wiring: Wiring, i: usize, line: &[u8]) -> Option<(usize, usize)> {
+    let next = usize::from(line[NEXT]);
+    let row = &line[HEAD..];
+    let n = row.len();
+    match wiring {
+        Wiring::Cube => {
+            let m = (next..wiring.end(n)).find(|m| is_due(row, i, *m))?;
+            Some((m, i ^ m))
+        }
+        Wiring::Ring if next == n => None,
+        Wiring::Ring => {
+            let j = i + next;
+            Some((next, if j < n { j } else { j - n }))
         }
     }
 }

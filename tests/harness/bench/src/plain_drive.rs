@@ -3,31 +3,36 @@
 //! the last granted station on, and after each turn all lines are looked through
 //! for a live one.
 
+use crate::plain::NO_SUCH_WIRING;
 use crate::plain::{is_full, table_refusal, take_entry, FINISHED, HEAD, LIVE, STATUS, TURN};
 use shared::grants::NONE_YET;
+use shared::wiring::Wiring;
 use simulator::{Answer, Driven};
 
-/// Drive: refusals 1 to 4, 16 and 17, then 7 before each grant.
+/// Drive: refusals 24, 1 to 4, 16 and 17, then 7 before each grant.
 /// The tally is (rounds, tests).
-pub fn drive(n: usize, table: &mut [u8], tally: (u32, u32), last: usize) -> Driven {
+pub fn drive(wiring: usize, n: usize, table: &mut [u8], tally: (u32, u32), last: usize) -> Driven {
     let mut last = last;
     let mut answer = Answer {
-        number: start_refusal(n, table, last),
+        number: NO_SUCH_WIRING,
         taken: 0,
         rounds: tally.0,
         tests: tally.1,
     };
-    while answer.number == 0 {
-        if is_full(&answer) {
-            answer.number = 7;
-            break;
-        }
-        last = grant(n, table, last);
-        let entry = [TURN, last as u8];
-        take_entry(n, table, &mut answer, &entry, &mut [0; 4]);
-        answer.taken += 1;
-        if answer.rounds != tally.0 || !is_some_live(n, table) {
-            break;
+    if let Some(wiring) = Wiring::from_number(wiring) {
+        answer.number = start_refusal(wiring, n, table, last);
+        while answer.number == 0 {
+            if is_full(&answer) {
+                answer.number = 7;
+                break;
+            }
+            last = grant(n, table, last);
+            let entry = [TURN, last as u8];
+            take_entry(wiring, n, table, &mut answer, &entry, &mut [0; 4]);
+            answer.taken += 1;
+            if answer.rounds != tally.0 || !is_some_live(n, table) {
+                break;
+            }
         }
     }
     Driven {
@@ -40,8 +45,8 @@ pub fn drive(n: usize, table: &mut [u8], tally: (u32, u32), last: usize) -> Driv
 }
 
 /// Refusals 1 to 4, 16 and 17, or 0.
-fn start_refusal(n: usize, table: &[u8], last: usize) -> u8 {
-    let number = table_refusal(n, table);
+fn start_refusal(wiring: Wiring, n: usize, table: &[u8], last: usize) -> u8 {
+    let number = table_refusal(wiring, n, table);
     if number != 0 {
         return number;
     }

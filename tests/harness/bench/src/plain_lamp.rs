@@ -1,11 +1,15 @@
 //! The doubt lamp in plain Rust over the lent bytes.
 
-use crate::plain::{table_refusal, HEAD, LIVE, STATUS};
+use crate::plain::{table_refusal, HEAD, LIVE, NO_SUCH_WIRING, STATUS};
+use shared::wiring::Wiring;
 
-/// The first live station that suspects a live one, and which one: refusals 1 to
-/// 4. Gives the number and the pair.
-pub fn doubt_lamp(n: usize, table: &[u8]) -> (u8, Option<(u8, u8)>) {
-    let number = table_refusal(n, table);
+/// The first live station that suspects a live one, and which one: refusals 24
+/// and 1 to 4. Gives the number and the pair.
+pub fn doubt_lamp(wiring: usize, n: usize, table: &[u8]) -> (u8, Option<(u8, u8)>) {
+    let Some(wiring) = Wiring::from_number(wiring) else {
+        return (NO_SUCH_WIRING, None);
+    };
+    let number = table_refusal(wiring, n, table);
     if number != 0 {
         return (number, None);
     }

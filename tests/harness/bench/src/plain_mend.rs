@@ -1,6 +1,7 @@
 //! Mending in plain Rust over the lent bytes.
 
-use crate::plain::{distances, FINISHED, HEAD, LIVE, STATUS};
+use crate::plain::{FINISHED, HEAD, LIVE, NO_SUCH_WIRING, STATUS};
+use shared::wiring::Wiring;
 
 const NEXT_DISTANCE: usize = 1;
 const TESTS: usize = 3;
@@ -16,8 +17,11 @@ const NOT_RECORDED: u8 = 254;
 const CHANGE: usize = 4;
 
 /// Makes the table keep all rules, and lists each byte that was changed: refusals
-/// 1, 2 and 23. Gives the number and how many changes there are.
-pub fn mend(n: usize, table: &mut [u8], report: &mut [u8]) -> (u8, usize) {
+/// 24, 1, 2 and 23. Gives the number and how many changes there are.
+pub fn mend(wiring: usize, n: usize, table: &mut [u8], report: &mut [u8]) -> (u8, usize) {
+    let Some(wiring) = Wiring::from_number(wiring) else {
+        return (NO_SUCH_WIRING, 0);
+    };
     if !(2..=64).contains(&n) {
         return (1, 0);
     }
@@ -27,7 +31,7 @@ pub fn mend(n: usize, table: &mut [u8], report: &mut [u8]) -> (u8, usize) {
     if report.len() < CHANGE * table.len() {
         return (23, 0);
     }
-    let end = distances(n);
+    let end = wiring.end(n);
     let over = is_over(end, n, table);
     let mut changes = 0;
     let mut offset = 0;

@@ -4,8 +4,9 @@
 //! A load or a conversion goes over the file once and keeps where each line
 //! stands. It judges the lines there, and copies them when all is found right.
 
-use crate::plain::{distances, keeps_line_rules, keeps_pass_rules, table_refusal};
+use crate::plain::{keeps_line_rules, keeps_pass_rules, table_refusal};
 use crate::plain::{ALONE, FINISHED, HEAD, LIVE, NOT_RECORDED, STATUS, TOLD, TOLD_BY_NONE};
+use shared::wiring::Wiring;
 use simulator::Loaded;
 use std::mem::replace;
 
@@ -42,7 +43,7 @@ fn line_contents(n: usize) -> usize {
 
 /// Save: refusals 1 to 4, 13. The tally is (rounds, tests).
 pub fn save(n: usize, table: &[u8], tally: (u32, u32), saved: &mut [u8]) -> u8 {
-    let number = table_refusal(n, table);
+    let number = table_refusal(Wiring::Cube, n, table);
     if number != 0 {
         return number;
     }
@@ -147,7 +148,7 @@ fn judge<'a>(saved: &'a [u8], table: usize, fields: &mut Fields<'a>) -> Result<F
     if table != n * (n + HEAD) {
         return Err(2);
     }
-    let end = distances(n);
+    let end = Wiring::Cube.end(n);
     judge_lines(lines, |i, line| keeps_line_rules(end, i, line))?;
     Ok(front)
 }
@@ -157,7 +158,7 @@ fn judge_stored<'a>(old: &'a [u8], fields: &mut Fields<'a>) -> Result<Front, u8>
     fields.gather_stored(old)?;
     let front = fields.front()?;
     let n = front.0;
-    let (lines, end) = (fields.lines_of(n, n + FORMER_HEAD)?, distances(n));
+    let (lines, end) = (fields.lines_of(n, n + FORMER_HEAD)?, Wiring::Cube.end(n));
     judge_lines(lines, |i, line| {
         let (head, row) = line.split_at(FORMER_HEAD);
         head[STATUS] <= ALONE && keeps_pass_rules(end, i, head, row)

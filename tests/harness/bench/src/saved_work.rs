@@ -4,6 +4,7 @@
 use crate::work::Work;
 use shared::random::Random;
 use shared::table::HEAD;
+use shared::wiring::Wiring;
 
 /// Rounds that are run before a plant is saved: the dead are partly known then.
 const ENTRIES_PER_STATION: usize = 6;
@@ -42,9 +43,15 @@ pub struct SavedWork {
 impl SavedWork {
     /// A quarter of the stations is dead, and some turns were made.
     pub fn new(n: usize, random: &mut Random) -> SavedWork {
-        let mut work = Work::new(n, n / 4, ENTRIES_PER_STATION * n, random);
+        let mut work = Work::new(Wiring::Cube, n, n / 4, ENTRIES_PER_STATION * n, random);
         let mut sheet = vec![0; 2 * work.schedule.len()];
-        let answer = simulator::run(n, &mut work.table, (0, 0), &work.schedule, &mut sheet);
+        let Work {
+            wiring,
+            ref mut table,
+            ref schedule,
+            ..
+        } = work;
+        let answer = simulator::run(wiring.number(), n, table, (0, 0), schedule, &mut sheet);
         SavedWork::of(n, work.table, (answer.rounds, answer.tests), random)
     }
 

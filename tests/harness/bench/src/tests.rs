@@ -12,16 +12,29 @@ use crate::measure::{check_equal, check_equal_figures};
 use crate::statistics::{decimal, Summary};
 use crate::work::{table_with_crashed, Work};
 use crate::{bounds, plain, plain_figures, slowest};
-use shared::groups::{distances, POWERS, SIZES};
+use shared::groups::{POWERS, SIZES};
 use shared::random::Random;
 use shared::table::{line_length, lines, table_length, unfinished_stations, Line, HEAD};
 use shared::table::{CLOSED_SINCE, CRASHED, FINISHED, NEXT_DISTANCE, STATUS, TOLD_BY};
 use shared::table::{LIVE, NOT_RECORDED, TOLD_BY_NONE};
+use shared::wiring::Wiring;
 use simulator::Answer;
 use vcube::{Figures, Fraction, Refusal};
 
-/// Both give the same answer, table and sheet, which are given back.
+/// Both give the same answer, table and sheet on the cube, which are given back.
 fn compare(
+    n: usize,
+    table: &[u8],
+    tally: (u32, u32),
+    schedule: &[u8],
+    sheet: usize,
+) -> (Answer, Vec<u8>, Vec<u8>) {
+    compare_on(CUBE, n, table, tally, schedule, sheet)
+}
+
+/// The same with any wiring number.
+fn compare_on(
+    wiring: usize,
     n: usize,
     table: &[u8],
     tally: (u32, u32),
@@ -30,20 +43,39 @@ fn compare(
 ) -> (Answer, Vec<u8>, Vec<u8>) {
     let (mut table_a, mut table_b) = (table.to_vec(), table.to_vec());
     let (mut sheet_a, mut sheet_b) = (vec![7; sheet], vec![7; sheet]);
-    let answer = plain::run(n, &mut table_a, tally, schedule, &mut sheet_a);
-    let other = simulator::run(n, &mut table_b, tally, schedule, &mut sheet_b);
+    let answer = plain::run(wiring, n, &mut table_a, tally, schedule, &mut sheet_a);
+    let other = simulator::run(wiring, n, &mut table_b, tally, schedule, &mut sheet_b);
     assert_eq!(answer, other);
     assert_eq!(table_a, table_b);
     assert_eq!(sheet_a, sheet_b);
     (answer, table_a, sheet_a)
 }
 
-/// A fresh table in which these stations are finished, and each of these pairs
-/// is a station and one that it suspects.
+/// The wiring number of the cube.
+const CUBE: usize = Wiring::Cube as usize;
+
+/// Each wiring with each size.
+fn wired_sizes() -> impl Iterator<Item = (Wiring, usize)> {
+    let with_sizes = |wiring| SIZES.map(move |n| (wiring, n));
+    Wiring::ALL.into_iter().flat_map(with_sizes)
+}
+
+/// A fresh table of the cube in which these stations are finished, and each of
+/// these pairs is a station and one that it suspects.
 fn table_with(n: usize, finished: &[usize], suspicions: &[(usize, usize)]) -> Vec<u8> {
+    table_on(Wiring::Cube, n, finished, suspicions)
+}
+
+/// The same of either wiring.
+fn table_on(
+    wiring: Wiring,
+    n: usize,
+    finished: &[usize],
+    suspicions: &[(usize, usize)],
+) -> Vec<u8> {
     let mut table = table_with_crashed(n, &[]);
     for i in finished {
-        table[i * line_length(n) + NEXT_DISTANCE] = distances(n) as u8;
+        table[i * line_length(n) + NEXT_DISTANCE] = wiring.end(n) as u8;
         table[i * line_length(n) + FINISHED] = 1;
     }
     for (i, j) in suspicions {
@@ -82,7 +114,7 @@ fn crash(line: &mut [u8]) {
 /// Changes one byte, often to one that is not far from those that are taken.
 fn damage(n: usize, table: &mut [u8], random: &mut Random) {
     let place = random.below(table.len());
-    let small = random.below(distances(n) + 3) as u8;
+    let small = random.below(Wiring::Cube.end(n) + 3) as u8;
     table[place] = random.pick(&[small, small, 254, 255]);
 }
 
@@ -150,7 +182,7 @@ fn byte_5_counts_the_round_that_closes_on_the_very_entry() {
 #[test]
 fn byte_5_stops_at_255() {
     let mut table = table_with(5, &[4], &[]);
-    table[NEXT_DISTANCE] = distances(5) as u8;
+    table[NEXT_DISTANCE] = Wiring::Cube.end(5) as u8;
     let left = [[1, TOLD_BY_NONE, 254], [2, NOT_RECORDED, 255], [2, 0, 9]];
     let lines = table.chunks_exact_mut(line_length(5)).skip(1);
     for (line, [status, told_by, closed_since]) in lines.zip(left) {
@@ -193,12 +225,12 @@ fn random_entry(n: usize, table: &[u8], random: &mut Random) -> [u8; 2] {
 }
 
 /// Entries chosen one after the other by the table that each leaves.
-fn random_schedule(n: usize, table: &[u8], random: &mut Random) -> Vec<u8> {
+fn random_schedule(wiring: Wiring, n: usize, table: &[u8], random: &mut Random) -> Vec<u8> {
     let mut table = table.to_vec();
     let mut schedule = Vec::new();
     for _ in 0..random.below(200) {
         let entry = random_entry(n, &table, random);
-        simulator::run(n, &mut table, (0, 0), &entry, &mut [0; 4]);
+        simulator::run(wiring.number(), n, &mut table, (0, 0), &entry, &mut [0; 4]);
         schedule.extend(entry);
     }
     schedule
@@ -215,37 +247,39 @@ fn count_anew(n: usize, table: &mut [u8], random: &mut Random) {
 
 #[test]
 fn random_schedules() {
-    let mut random = Random::new(11);
-    let mut outcomes = [0; 6];
-    let mut statuses = [0; 4];
-    for n in SIZES {
-        for _ in 0..8 {
-            let mut table = table_with_crashed(n, &[]);
-            for _ in 0..5 {
-                count_anew(n, &mut table, &mut random);
-                let schedule = random_schedule(n, &table, &mut random);
-                let sheet = 2 * schedule.len();
-                let (answer, after, sheet) = compare(n, &table, (3, 5), &schedule, sheet);
-                for line in sheet.chunks_exact(4).take(answer.taken) {
-                    outcomes[usize::from(line[2])] += 1;
-                    statuses[usize::from(line[3])] += 1;
+    for wiring in Wiring::ALL {
+        let mut random = Random::new(11);
+        let mut outcomes = [0; 6];
+        let mut statuses = [0; 4];
+        for n in SIZES {
+            for _ in 0..8 {
+                let mut table = table_with_crashed(n, &[]);
+                for _ in 0..5 {
+                    count_anew(n, &mut table, &mut random);
+                    let schedule = random_schedule(wiring, n, &table, &mut random);
+                    let (number, sheet) = (wiring.number(), 2 * schedule.len());
+                    let given = compare_on(number, n, &table, (3, 5), &schedule, sheet);
+                    let (answer, after, sheet) = given;
+                    for line in sheet.chunks_exact(4).take(answer.taken) {
+                        outcomes[usize::from(line[2])] += 1;
+                        statuses[usize::from(line[3])] += 1;
+                    }
+                    table = after;
                 }
-                table = after;
             }
         }
+        assert!(outcomes.iter().all(|many| *many > 50), "{outcomes:?}");
+        assert!(statuses.iter().all(|many| *many > 50), "{statuses:?}");
     }
-    assert!(outcomes.iter().all(|many| *many > 50), "{outcomes:?}");
-    assert!(statuses.iter().all(|many| *many > 50), "{statuses:?}");
 }
 
 #[test]
 fn schedules_of_the_benchmark() {
     let mut random = Random::new(12);
-    for n in SIZES {
+    for (wiring, n) in wired_sizes() {
         for dead in [0, n / 4, n / 2] {
-            let work = Work::new(n, dead.min(n - 2), 1000, &mut random);
-            let sheet = 2 * work.schedule.len();
-            let (answer, after, _) = compare(n, &work.table, (0, 0), &work.schedule, sheet);
+            let work = Work::new(wiring, n, dead.min(n - 2), 1000, &mut random);
+            let (answer, after, _) = compare_work(&work, 1000);
             assert_eq!((answer.number, answer.taken), (0, 1000));
             // Nobody leaves: the dead are those of the start.
             assert_eq!(statuses(n, &after), statuses(n, &work.table));
@@ -253,16 +287,23 @@ fn schedules_of_the_benchmark() {
     }
 }
 
+/// So many entries of a work, with a tally of 0.
+fn compare_work(work: &Work, entries: usize) -> (Answer, Vec<u8>, Vec<u8>) {
+    let schedule = &work.schedule[..2 * entries];
+    let (wiring, n) = (work.wiring.number(), work.n);
+    compare_on(wiring, n, &work.table, (0, 0), schedule, 4 * entries)
+}
+
 #[test]
 fn a_first_round_closes_with_its_last_entry() {
     let mut random = Random::new(15);
-    for n in SIZES {
+    for (wiring, n) in wired_sizes() {
         for dead in [0, n / 4, n / 2] {
-            let work = Work::first_round(n, dead.min(n - 2), &mut random);
-            let last = work.schedule.len() - 2;
-            let (answer, _, _) = compare(n, &work.table, (0, 0), &work.schedule, 2 * last + 4);
-            assert_eq!((answer.taken, answer.rounds), (work.entries(), 1));
-            let (answer, _, _) = compare(n, &work.table, (0, 0), &work.schedule[..last], 2 * last);
+            let work = Work::first_round(wiring, n, dead.min(n - 2), &mut random);
+            let entries = work.entries();
+            let (answer, _, _) = compare_work(&work, entries);
+            assert_eq!((answer.taken, answer.rounds), (entries, 1));
+            let (answer, _, _) = compare_work(&work, entries - 1);
             assert_eq!((answer.number, answer.rounds), (0, 0));
         }
     }
@@ -270,41 +311,73 @@ fn a_first_round_closes_with_its_last_entry() {
 
 #[test]
 fn rows_are_the_same_with_none_dead() {
-    let work = Work::first_round(8, 0, &mut Random::new(16));
-    assert_eq!(work.exchanges(), (0, 24));
-    let (differ, all) = Work::first_round(8, 4, &mut Random::new(16)).exchanges();
+    let work = |wiring, dead| Work::first_round(wiring, 8, dead, &mut Random::new(16));
+    assert_eq!(work(Wiring::Cube, 0).exchanges(), (0, 24));
+    assert_eq!(work(Wiring::Ring, 0).exchanges(), (0, 8));
+    let (differ, all) = work(Wiring::Cube, 4).exchanges();
     assert!(0 < differ && differ < all);
+    // One of each live station.
+    let (differ, all) = work(Wiring::Ring, 4).exchanges();
+    assert!(0 < differ && all == 4);
 }
 
 #[test]
 fn all_three_give_the_same() {
-    for n in SIZES {
-        check_equal(&Work::empty(n));
-        check_equal(&Work::one_turn(n));
-        check_equal(&Work::first_round(n, n / 2 - 1, &mut Random::new(17)));
+    for (wiring, n) in wired_sizes() {
+        check_equal(&Work::empty(wiring, n));
+        check_equal(&Work::one_turn(wiring, n));
+        let dead = n / 2 - 1;
+        check_equal(&Work::first_round(wiring, n, dead, &mut Random::new(17)));
+    }
+}
+
+/// Four stations on the ring, 1 of them dead: the pass of 0, then the others.
+#[test]
+fn a_round_on_the_ring() {
+    let table = table_with_crashed(4, &[1]);
+    let ring = Wiring::Ring.number();
+    let schedule = [0, 0, 0, 2, 2, 3, 3].map(|i| [1, i]);
+    let (answer, after, sheet) = compare_on(ring, 4, &table, (0, 0), schedule.as_flattened(), 28);
+    assert_eq!((answer.number, answer.rounds, answer.tests), (0, 1, 4));
+    assert_eq!(sheet[..12], [0, 1, 3, 0, 0, 2, 1, 0, 0, 255, 0, 0]);
+    let rows = [0, 2, 3].map(|i| lines(4, &after).nth(i).map(Line::row));
+    assert_eq!(rows, [Some(&[0, 1, 0, 0][..]); 3]);
+}
+
+#[test]
+fn wiring_numbers() {
+    let table = table_with_crashed(4, &[]);
+    for wiring in [0, 3, 255, 256 + 1, (1 << 32) + 2, usize::MAX] {
+        for n in [1, 4] {
+            let (answer, _, _) = compare_on(wiring, n, &table, (3, 5), &[9, 9, 9], 7);
+            assert_eq!(answer.number, 24);
+        }
     }
 }
 
 #[test]
 fn damaged_tables() {
-    let mut random = Random::new(13);
-    let mut numbers = [0; 12];
-    for n in SIZES {
-        let work = Work::new(n, 0, 100, &mut random);
-        let left = random_schedule(n, &work.table, &mut random);
-        let mut table = work.table.clone();
-        let mut sheet = vec![0; 2 * left.len()];
-        simulator::run(n, &mut table, (0, 0), &left, &mut sheet);
-        for start in [&work.table, &table] {
-            for _ in 0..100 {
-                let mut table = start.clone();
-                damage(n, &mut table, &mut random);
-                let (answer, _, _) = compare(n, &table, (0, 0), &work.schedule, 400);
-                numbers[usize::from(answer.number)] += 1;
+    for wiring in Wiring::ALL {
+        let mut random = Random::new(13);
+        let mut numbers = [0; 12];
+        for n in SIZES {
+            let work = Work::new(wiring, n, 0, 100, &mut random);
+            let left = random_schedule(wiring, n, &work.table, &mut random);
+            let mut table = work.table.clone();
+            let mut sheet = vec![0; 2 * left.len()];
+            let number = wiring.number();
+            simulator::run(number, n, &mut table, (0, 0), &left, &mut sheet);
+            for start in [&work.table, &table] {
+                for _ in 0..100 {
+                    let mut table = start.clone();
+                    damage(n, &mut table, &mut random);
+                    let given = compare_on(number, n, &table, (0, 0), &work.schedule, 400);
+                    numbers[usize::from(given.0.number)] += 1;
+                }
             }
         }
+        assert!(numbers[0] > 50 && numbers[3] > 50, "{numbers:?}");
     }
-    assert!(numbers[0] > 50 && numbers[3] > 50, "{numbers:?}");
 }
 
 /// Each byte 4 and each byte 5 with each status, on the line of station 1.
@@ -326,27 +399,27 @@ fn bytes_4_and_5_of_each_status() {
 
 #[test]
 fn every_live_one_finished() {
-    for n in SIZES {
+    for (wiring, n) in wired_sizes() {
         let mut table = table_with_crashed(n, &[0]);
         for line in table.chunks_exact_mut(line_length(n)) {
-            line[NEXT_DISTANCE] = distances(n) as u8;
+            line[NEXT_DISTANCE] = wiring.end(n) as u8;
             line[FINISHED] = 1;
         }
-        let (answer, _, _) = compare(n, &table, (0, 0), &[1, 1], 4);
+        let (answer, _, _) = compare_on(wiring.number(), n, &table, (0, 0), &[1, 1], 4);
         assert_eq!(answer.number, 4);
     }
 }
 
 #[test]
 fn next_distances_at_the_borders() {
-    for n in SIZES {
-        let end = distances(n);
-        for next in [n - 1, n, n + 1, end - 1, end, end + 1] {
+    for (wiring, n) in wired_sizes() {
+        let (end, cube) = (wiring.end(n), Wiring::Cube.end(n));
+        for next in [n - 1, n, n + 1, cube - 1, cube, cube + 1] {
             for finished in [0, 1] {
                 let mut table = table_with_crashed(n, &[]);
                 table[line_length(n) + NEXT_DISTANCE] = next as u8;
                 table[line_length(n) + FINISHED] = finished;
-                let (answer, _, _) = compare(n, &table, (0, 0), &[1, 0], 4);
+                let (answer, _, _) = compare_on(wiring.number(), n, &table, (0, 0), &[1, 0], 4);
                 let right = next == end || finished == 0 && next < end;
                 assert_eq!(answer.number, if right { 0 } else { 3 });
             }
@@ -361,13 +434,15 @@ fn sizes_and_lengths() {
         for _ in 0..50 {
             let table = vec![1; table_length(n) + random.below(3)];
             let schedule = vec![1; random.below(5)];
-            compare(n, &table, (0, 0), &schedule, random.below(12));
+            let wiring = random.below(4);
+            compare_on(wiring, n, &table, (0, 0), &schedule, random.below(12));
         }
     }
-    for n in SIZES {
+    for (wiring, n) in wired_sizes() {
         let table = table_with_crashed(n, &[]);
         for (schedule, sheet) in [(3, 6), (2, 3), (2, 5), (2, 4), (0, 0), (0, 1)] {
-            compare(n, &table, (0, 0), &vec![1; schedule], sheet);
+            let schedule = vec![1; schedule];
+            compare_on(wiring.number(), n, &table, (0, 0), &schedule, sheet);
         }
     }
 }
@@ -376,10 +451,12 @@ fn sizes_and_lengths() {
 fn tallies_at_their_end() {
     let table = table_with_crashed(2, &[]);
     let schedule = [1, 0, 1, 0, 1, 1, 1, 1, 1, 0];
-    for less in 0..4 {
-        let end = u32::MAX - less;
-        compare(2, &table, (end, 0), &schedule, 20);
-        compare(2, &table, (0, end), &schedule, 20);
+    for wiring in Wiring::ALL.map(Wiring::number) {
+        for less in 0..4 {
+            let end = u32::MAX - less;
+            compare_on(wiring, 2, &table, (end, 0), &schedule, 20);
+            compare_on(wiring, 2, &table, (0, end), &schedule, 20);
+        }
     }
 }
 

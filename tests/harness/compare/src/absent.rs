@@ -1,10 +1,12 @@
 //! Counts of what the numbers from n on, at which nobody stands, bring with
-//! them where n is no power of two; and of sizes that are refused.
+//! them where n is no power of two; and of sizes that are refused. On the ring
+//! there are the borders and the sizes only.
 
 use std::fmt;
 
 use shared::counts::{list, Required};
 use shared::groups::{ahead, group_length};
+use shared::wiring::Wiring;
 
 use crate::borders::{self, BORDERS};
 use crate::call::{Call, Kind, Name};
@@ -65,7 +67,7 @@ impl Absent {
             (Kind::Load | Kind::SavedSize, _) => {}
             (Kind::Convert | Kind::ConvertedLength, _) => {}
             (_, 1) => self.add_size(call.numbers.n),
-            (_, 2) | (Kind::FreshTable, _) => {}
+            (_, 2 | 24) | (Kind::FreshTable, _) => {}
             (Kind::GroupList, 0) => self.groups[call.buffers.get(Name::List).len()] += 1,
             (Kind::GroupList, 13) => self.add_length(call),
             (Kind::GroupList, _) => {}
@@ -95,7 +97,8 @@ impl Absent {
 
     fn add_borders(&mut self, call: &Call, number: u8) {
         let table = call.buffers.get(Name::Table);
-        for (place, finished) in borders::met(call.numbers.n, table, number == 3) {
+        let met = |wiring| borders::met(wiring, call.numbers.n, table, number == 3);
+        for (place, finished) in call.wiring().map_or(Vec::new(), met) {
             self.borders[usize::from(finished)][place] += 1;
         }
     }
@@ -112,7 +115,7 @@ impl Absent {
     }
 
     /// Adds all counts that must not be low, and what they count.
-    pub fn require(&self, required: &mut Vec<Required>) {
+    pub fn require(&self, wiring: Wiring, required: &mut Vec<Required>) {
         let mut need = |count: &u64, text: String| required.push((*count, text));
         for (count, size) in self.sizes.iter().zip(REFUSED_SIZES) {
             need(count, format!("size {size} refused"));
@@ -121,16 +124,19 @@ impl Absent {
             &self.sizes[REFUSED_SIZES.len()],
             String::from("another size refused"),
         );
+        for (counts, line) in self.borders.iter().zip(["unfinished", "finished"]) {
+            for (count, border) in counts.iter().zip(borders::NAMES) {
+                need(count, format!("{line} line with next distance {border}"));
+            }
+        }
+        if wiring == Wiring::Ring {
+            return;
+        }
         for (count, length) in self.groups.iter().zip(0..) {
             need(count, format!("accepted group list of length {length}"));
         }
         for (count, text) in self.lengths.iter().zip(LENGTHS) {
             need(count, format!("group list {text}"));
-        }
-        for (counts, line) in self.borders.iter().zip(["unfinished", "finished"]) {
-            for (count, border) in counts.iter().zip(borders::NAMES) {
-                need(count, format!("{line} line with next distance {border}"));
-            }
         }
         for (count, text) in self.turns.iter().zip(TURNS) {
             need(count, String::from(text));

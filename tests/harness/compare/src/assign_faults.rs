@@ -245,10 +245,12 @@ fn move_last_turn(call: &Call, outcome: &mut Outcome, from: fn(&Entry) -> usize)
     let (earlier, last) = schedule.split_at(schedule.len() - 2);
     let mut table = call.buffers.get(Name::Table).clone();
     let mut sheet = vec![0; 2 * earlier.len()];
-    let before = simulator::run(n, &mut table, call.tally(), earlier, &mut sheet);
+    let wiring = call.numbers.wiring;
+    let before = simulator::run(wiring, n, &mut table, call.tally(), earlier, &mut sheet);
     table[turn.station * line_length(n) + NEXT_DISTANCE] = from(turn) as u8;
     let mut line = [0; 4];
     let after = simulator::run(
+        wiring,
         n,
         &mut table,
         (before.rounds, before.tests),

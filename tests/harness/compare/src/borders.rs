@@ -1,17 +1,15 @@
-//! Next distances at the borders: n, n + 1, 2^d and 2^d + 1. An unfinished line
-//! may have the first three, a finished one 2^d only.
+//! Next distances at the borders: n, n + 1, 2^d and 2^d + 1. On the cube an
+//! unfinished line may have the first three, a finished one 2^d only; on the ring
+//! both may have n only.
 
 use shared::groups::distances;
 use shared::table::{line_length, lines, Line, FINISHED, NEXT_DISTANCE, TESTS};
+use shared::wiring::Wiring;
 
 pub const BORDERS: usize = 4;
 
 /// What each border is called.
 pub const NAMES: [&str; BORDERS] = ["n", "n + 1", "2^d", "2^d + 1"];
-
-/// The places of 2^d and of 2^d + 1.
-const END: usize = 2;
-const PAST_END: usize = 3;
 
 /// A border's place, and whether the line is finished.
 pub type Border = (usize, bool);
@@ -23,11 +21,12 @@ pub fn of(n: usize) -> [usize; BORDERS] {
 
 /// The borders at which lines of a table stand, each once: all of them if the
 /// table keeps the line rules, else those by which one line alone breaks them.
-pub fn met(n: usize, table: &[u8], breaks_a_rule: bool) -> Vec<Border> {
+pub fn met(wiring: Wiring, n: usize, table: &[u8], breaks_a_rule: bool) -> Vec<Border> {
     let mut found = Vec::new();
     for (own, line) in lines(n, table).enumerate() {
-        let decides =
-            |border: &Border| !breaks_a_rule || !is_allowed(*border) && is_alone(n, table, own);
+        let breaks_alone =
+            |border: &Border| !is_allowed(wiring, n, *border) && is_alone(wiring, n, table, own);
+        let decides = |border: &Border| !breaks_a_rule || breaks_alone(border);
         let border = border(n, line).filter(|border| !found.contains(border) && decides(border));
         found.extend(border);
     }
@@ -42,16 +41,17 @@ fn border(n: usize, line: Line) -> Option<Border> {
     Some((place, line.is_finished()))
 }
 
-fn is_allowed((place, finished): Border) -> bool {
-    place == END || place != PAST_END && !finished
+fn is_allowed(wiring: Wiring, n: usize, (place, finished): Border) -> bool {
+    let (next, end) = (of(n)[place], wiring.end(n));
+    next == end || next < end && !finished
 }
 
 /// Whether no line but this one breaks a line rule.
-fn is_alone(n: usize, table: &[u8], own: usize) -> bool {
+fn is_alone(wiring: Wiring, n: usize, table: &[u8], own: usize) -> bool {
     let mut healed = table.to_vec();
     let line = &mut healed[own * line_length(n)..];
     line[NEXT_DISTANCE] = 1;
     line[FINISHED] = 0;
     line[TESTS] = 0;
-    !matches!(simulator::check_table(n, &healed), 1..=3)
+    !matches!(simulator::check_table(wiring.number(), n, &healed), 1..=3)
 }

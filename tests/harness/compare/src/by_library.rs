@@ -1,5 +1,6 @@
 //! Makes a call to the library, by the calls of include/vcube.h. The archive is
-//! linked by bindings/rust.
+//! linked by bindings/rust. In the calls that take one the wiring number comes
+//! first, a `size_t`, as in `uint8_t vcube_run(size_t wiring, size_t n, ..)`.
 //!
 //! A buffer of length 0 is handed over as NULL, which the header allows. (The
 //! typed layer hands over a pointer that is not NULL.)
@@ -15,7 +16,7 @@ use crate::outcome::Side;
 use crate::words;
 
 extern "C" {
-    fn vcube_fresh_table(n: usize, table: *mut u8, table_length: usize) -> u8;
+    fn vcube_fresh_table(wiring: usize, n: usize, table: *mut u8, table_length: usize) -> u8;
     fn vcube_group_list(
         n: usize,
         station: usize,
@@ -33,6 +34,7 @@ extern "C" {
         count: *mut usize,
     ) -> u8;
     fn vcube_row(
+        wiring: usize,
         n: usize,
         table: *const u8,
         table_length: usize,
@@ -41,6 +43,7 @@ extern "C" {
         length: *mut usize,
     ) -> u8;
     fn vcube_run(
+        wiring: usize,
         n: usize,
         table: *mut u8,
         table_length: usize,
@@ -53,6 +56,7 @@ extern "C" {
         taken: *mut usize,
     ) -> u8;
     fn vcube_grant(
+        wiring: usize,
         n: usize,
         table: *const u8,
         table_length: usize,
@@ -60,6 +64,7 @@ extern "C" {
         station: *mut usize,
     ) -> u8;
     fn vcube_drive(
+        wiring: usize,
         n: usize,
         table: *mut u8,
         table_length: usize,
@@ -69,6 +74,7 @@ extern "C" {
         grants: *mut usize,
     ) -> u8;
     fn vcube_doubt_lamp(
+        wiring: usize,
         n: usize,
         table: *const u8,
         table_length: usize,
@@ -76,6 +82,7 @@ extern "C" {
         of: *mut usize,
     ) -> u8;
     fn vcube_mend(
+        wiring: usize,
         n: usize,
         table: *mut u8,
         table_length: usize,
@@ -152,7 +159,7 @@ impl Calls for Library {
 
     fn fresh_table(numbers: &Numbers, table: &mut Guarded) -> u8 {
         let (table, length) = bytes(table);
-        unsafe { vcube_fresh_table(numbers.n, table, length) }
+        unsafe { vcube_fresh_table(numbers.wiring, numbers.n, table, length) }
     }
 
     fn group_list(numbers: &Numbers, list: &mut Guarded) -> u8 {
@@ -173,6 +180,7 @@ impl Calls for Library {
         let (start, length) = (figure(lent.start), figure(lent.length));
         unsafe {
             vcube_row(
+                numbers.wiring,
                 numbers.n,
                 table,
                 table_length,
@@ -189,6 +197,7 @@ impl Calls for Library {
         let (sheet, sheet_length) = bytes(lent.sheet);
         unsafe {
             vcube_run(
+                numbers.wiring,
                 numbers.n,
                 table,
                 table_length,
@@ -205,26 +214,42 @@ impl Calls for Library {
 
     fn grant(numbers: &Numbers, [table, station]: [&mut Guarded; 2]) -> u8 {
         let (table, length) = bytes(table);
-        unsafe { vcube_grant(numbers.n, table, length, numbers.last, figure(station)) }
+        let Numbers {
+            wiring, n, last, ..
+        } = *numbers;
+        unsafe { vcube_grant(wiring, n, table, length, last, figure(station)) }
     }
 
     fn drive(numbers: &Numbers, [table, rounds, tests, last, grants]: [&mut Guarded; 5]) -> u8 {
         let (table, length) = bytes(table);
         let (rounds, tests) = (figure(rounds), figure(tests));
         let (last, grants) = (figure(last), figure(grants));
-        unsafe { vcube_drive(numbers.n, table, length, rounds, tests, last, grants) }
+        let Numbers { wiring, n, .. } = *numbers;
+        unsafe { vcube_drive(wiring, n, table, length, rounds, tests, last, grants) }
     }
 
     fn doubt_lamp(numbers: &Numbers, [table, by, of]: [&mut Guarded; 3]) -> u8 {
         let (table, length) = bytes(table);
-        unsafe { vcube_doubt_lamp(numbers.n, table, length, figure(by), figure(of)) }
+        let Numbers { wiring, n, .. } = *numbers;
+        unsafe { vcube_doubt_lamp(wiring, n, table, length, figure(by), figure(of)) }
     }
 
     fn mend(numbers: &Numbers, [table, report, changes]: [&mut Guarded; 3]) -> u8 {
         let (table, table_length) = bytes(table);
         let (report, report_length) = bytes(report);
-        let (n, changes) = (numbers.n, figure(changes));
-        unsafe { vcube_mend(n, table, table_length, report, report_length, changes) }
+        let changes = figure(changes);
+        let Numbers { wiring, n, .. } = *numbers;
+        unsafe {
+            vcube_mend(
+                wiring,
+                n,
+                table,
+                table_length,
+                report,
+                report_length,
+                changes,
+            )
+        }
     }
 
     fn save(numbers: &Numbers, [table, saved]: [&mut Guarded; 2]) -> u8 {

@@ -26,7 +26,7 @@ impl Calls for Simulator {
     const SIDE: Side = Side::Simulator;
 
     fn fresh_table(numbers: &Numbers, table: &mut Guarded) -> u8 {
-        simulator::fresh_table(numbers.n, table.contents_mut())
+        simulator::fresh_table(numbers.wiring, numbers.n, table.contents_mut())
     }
 
     fn group_list(numbers: &Numbers, list: &mut Guarded) -> u8 {
@@ -44,8 +44,8 @@ impl Calls for Simulator {
 
     fn row(numbers: &Numbers, lent: Row) -> u8 {
         let (table, station) = (lent.table.contents(), narrow(numbers.station));
-        let number = simulator::row_refusal(numbers.n, table, station);
-        let part = simulator::row(numbers.n, table, station);
+        let number = simulator::row_refusal(numbers.wiring, numbers.n, table, station);
+        let part = simulator::row(numbers.wiring, numbers.n, table, station);
         let start = match number {
             0 => part.as_ptr() as usize - table.as_ptr() as usize,
             _ => 0,
@@ -57,6 +57,7 @@ impl Calls for Simulator {
 
     fn run(numbers: &Numbers, lent: Run) -> u8 {
         let answer = simulator::run(
+            numbers.wiring,
             numbers.n,
             lent.table.contents_mut(),
             tally(lent.rounds, lent.tests),
@@ -70,14 +71,17 @@ impl Calls for Simulator {
     }
 
     fn grant(numbers: &Numbers, [table, place]: [&mut Guarded; 2]) -> u8 {
-        let (number, station) = simulator::grant(numbers.n, table.contents(), numbers.last);
+        let Numbers {
+            wiring, n, last, ..
+        } = *numbers;
+        let (number, station) = simulator::grant(wiring, n, table.contents(), last);
         place.put_figure(station.into());
         number
     }
 
     fn drive(numbers: &Numbers, [table, rounds, tests, last, grants]: [&mut Guarded; 5]) -> u8 {
-        let tally = tally(rounds, tests);
-        let answer = simulator::drive(numbers.n, table.contents_mut(), tally, last.figure());
+        let (tally, table) = (tally(rounds, tests), table.contents_mut());
+        let answer = simulator::drive(numbers.wiring, numbers.n, table, tally, last.figure());
         rounds.put_figure(answer.rounds as usize);
         tests.put_figure(answer.tests as usize);
         last.put_figure(answer.last);
@@ -86,7 +90,7 @@ impl Calls for Simulator {
     }
 
     fn doubt_lamp(numbers: &Numbers, [table, by, of]: [&mut Guarded; 3]) -> u8 {
-        let (number, pair) = simulator::doubt_lamp(numbers.n, table.contents());
+        let (number, pair) = simulator::doubt_lamp(numbers.wiring, numbers.n, table.contents());
         let none = if number == 0 { NO_STATION } else { 0 };
         let (one, other) = pair.unwrap_or((none, none));
         by.put_figure(one.into());
@@ -96,7 +100,7 @@ impl Calls for Simulator {
 
     fn mend(numbers: &Numbers, [table, report, changes]: [&mut Guarded; 3]) -> u8 {
         let (table, report) = (table.contents_mut(), report.contents_mut());
-        let (number, count) = simulator::mend(numbers.n, table, report);
+        let (number, count) = simulator::mend(numbers.wiring, numbers.n, table, report);
         changes.put_figure(count);
         number
     }

@@ -3,12 +3,13 @@
 //! Stations, distances, entries, lines of the sheet and what a line of the table
 //! says of its station go through its types: what it reads from a buffer is
 //! written there again, and its figures are put where the library would put
-//! them. So a fault of it shows in a buffer.
+//! them. So a fault of it shows in a buffer. It has no wiring of another number:
+//! such a call gives here what the header says of one that is refused.
 
 use shared::grants::NONE_YET;
 use shared::table::{CLOSED_SINCE, HEAD, NOT_RECORDED, STATUS, TOLD_BY, TOLD_BY_NONE};
 use vcube::{AssignmentEntry, DueOrAhead, Entry, Figures, Level, Refusal};
-use vcube::{SheetLine, Station, Tally, ToldBy, Totals};
+use vcube::{SheetLine, Station, Tally, ToldBy, Totals, Wiring};
 
 use crate::assigning::DUE;
 use crate::call::Numbers;
@@ -20,6 +21,9 @@ use crate::words;
 
 pub struct Typed;
 
+/// The number where the wiring number is none.
+const NO_SUCH_WIRING: u8 = 24;
+
 /// 0 or the number of the refusal.
 fn number<T>(given: &Result<T, Refusal>) -> u8 {
     given.as_ref().err().map_or(0, |refusal| refusal.number())
@@ -29,7 +33,10 @@ impl Calls for Typed {
     const SIDE: Side = Side::Typed;
 
     fn fresh_table(numbers: &Numbers, table: &mut Guarded) -> u8 {
-        number(&vcube::fresh_table(numbers.n, table.contents_mut()))
+        match wiring(numbers) {
+            Some(wiring) => number(&vcube::fresh_table(wiring, numbers.n, table.contents_mut())),
+            None => NO_SUCH_WIRING,
+        }
     }
 
     fn group_list(numbers: &Numbers, list: &mut Guarded) -> u8 {
@@ -64,24 +71,30 @@ impl Calls for Typed {
     }
 
     fn row(numbers: &Numbers, lent: Row) -> u8 {
+        let Some(wiring) = wiring(numbers) else {
+            return refused([lent.start, lent.length]);
+        };
         let (n, station) = (numbers.n, Station(numbers.station));
         let table = lent.table.contents();
-        let given = vcube::row(n, table, station);
+        let given = vcube::row(wiring, n, table, station);
         let start = given.map_or(0, |row| row.as_ptr() as usize - table.as_ptr() as usize);
         lent.start.put_figure(start);
         lent.length.put_figure(given.map_or(0, <[u8]>::len));
         let number = number(&given);
-        match reread_head(n, lent.table, station, start) == [number; 3] {
+        match reread_head(wiring, n, lent.table, station, start) == [number; 3] {
             true => number,
             false => u8::MAX,
         }
     }
 
     fn run(numbers: &Numbers, lent: Run) -> u8 {
+        let Some(wiring) = wiring(numbers) else {
+            return refused([lent.taken]);
+        };
         let mut tally = tally(lent.rounds, lent.tests);
         let schedule = typed_schedule(lent.schedule.contents());
         let (table, sheet) = (lent.table.contents_mut(), lent.sheet.contents_mut());
-        let answer = vcube::run(numbers.n, table, &mut tally, &schedule, sheet);
+        let answer = vcube::run(wiring, numbers.n, table, &mut tally, &schedule, sheet);
         let lines: Vec<SheetLine> = vcube::sheet_lines(sheet, answer.taken).collect();
         for (place, line) in sheet.chunks_exact_mut(4).zip(&lines) {
             place.copy_from_slice(&line_bytes(line));
@@ -92,15 +105,23 @@ impl Calls for Typed {
     }
 
     fn grant(numbers: &Numbers, [table, place]: [&mut Guarded; 2]) -> u8 {
-        let given = vcube::grant(numbers.n, table.contents(), last_granted(numbers.last));
+        let Some(wiring) = wiring(numbers) else {
+            return refused([place]);
+        };
+        let last = last_granted(numbers.last);
+        let given = vcube::grant(wiring, numbers.n, table.contents(), last);
         place.put_figure(given.map_or(0, |station| station.0));
         number(&given)
     }
 
     fn drive(numbers: &Numbers, [table, rounds, tests, last, grants]: [&mut Guarded; 5]) -> u8 {
+        let Some(wiring) = wiring(numbers) else {
+            return refused([grants]);
+        };
+        let (n, table) = (numbers.n, table.contents_mut());
         let mut tally = tally(rounds, tests);
         let mut station = last_granted(last.figure());
-        let driven = vcube::drive(numbers.n, table.contents_mut(), &mut tally, &mut station);
+        let driven = vcube::drive(wiring, n, table, &mut tally, &mut station);
         put_tally(tally, rounds, tests);
         last.put_figure(station.map_or(NONE_YET, |station| station.0));
         grants.put_figure(driven.grants);
@@ -108,7 +129,10 @@ impl Calls for Typed {
     }
 
     fn doubt_lamp(numbers: &Numbers, [table, by, of]: [&mut Guarded; 3]) -> u8 {
-        let given = vcube::doubt_lamp(numbers.n, table.contents());
+        let Some(wiring) = wiring(numbers) else {
+            return refused([by, of]);
+        };
+        let given = vcube::doubt_lamp(wiring, numbers.n, table.contents());
         let (one, other) = match given {
             Ok(Some(doubt)) => (doubt.by.0, doubt.of.0),
             Ok(None) => (NO_STATION.into(), NO_STATION.into()),
@@ -120,7 +144,11 @@ impl Calls for Typed {
     }
 
     fn mend(numbers: &Numbers, [table, report, changes]: [&mut Guarded; 3]) -> u8 {
-        let given = vcube::mend(numbers.n, table.contents_mut(), report.contents_mut());
+        let Some(wiring) = wiring(numbers) else {
+            return refused([changes]);
+        };
+        let (table, report) = (table.contents_mut(), report.contents_mut());
+        let given = vcube::mend(wiring, numbers.n, table, report);
         changes.put_figure(*given.as_ref().unwrap_or(&0));
         number(&given)
     }
@@ -185,6 +213,18 @@ impl Calls for Typed {
     }
 }
 
+/// The wiring of a call's number, if it is one.
+fn wiring(numbers: &Numbers) -> Option<Wiring> {
+    let number = numbers.wiring.try_into().ok()?;
+    Wiring::from_number(number)
+}
+
+/// A call refused since its wiring number is none: these figures become 0.
+fn refused<const N: usize>(figures: [&mut Guarded; N]) -> u8 {
+    figures.into_iter().for_each(|place| place.put_figure(0));
+    NO_SUCH_WIRING
+}
+
 /// The tally handed in.
 fn tally(rounds: &Guarded, tests: &Guarded) -> Tally {
     Tally {
@@ -246,11 +286,17 @@ fn put_figures(place: &mut Guarded, given: Result<Figures, Refusal>) -> u8 {
 
 /// Reads what the station's line says of it and writes it there again, before the
 /// row, which begins at that place. Gives the numbers.
-fn reread_head(n: usize, table: &mut Guarded, station: Station, start: usize) -> [u8; 3] {
+fn reread_head(
+    wiring: Wiring,
+    n: usize,
+    table: &mut Guarded,
+    station: Station,
+    start: usize,
+) -> [u8; 3] {
     let bytes = table.contents();
-    let status = vcube::status(n, bytes, station);
-    let told_by = vcube::told_by(n, bytes, station);
-    let rounds_ago = vcube::rounds_ago(n, bytes, station);
+    let status = vcube::status(wiring, n, bytes, station);
+    let told_by = vcube::told_by(wiring, n, bytes, station);
+    let rounds_ago = vcube::rounds_ago(wiring, n, bytes, station);
     if let (Ok(status), Ok(told_by), Ok(rounds_ago)) = (status, told_by, rounds_ago) {
         let head = &mut table.contents_mut()[start - HEAD..start];
         head[STATUS] = status.number();

@@ -6,6 +6,8 @@
 //! list of results, the bytes of `u16`, and figures over results and totals, the
 //! bytes of `u64` (module `words`).
 
+use shared::wiring::Wiring;
+
 use crate::words;
 
 #[derive(Clone, Copy, Debug, PartialEq, Eq)]
@@ -34,6 +36,8 @@ pub enum Kind {
 /// The numbers of a call. Those that its kind does not take are 0.
 #[derive(Clone, Debug, Default)]
 pub struct Numbers {
+    /// The wiring number.
+    pub wiring: usize,
     pub n: usize,
     pub station: usize,
     pub level: usize,
@@ -113,6 +117,15 @@ impl Call {
         }
     }
 
+    /// The wiring by which the call judges its table: that of the number, if it is
+    /// one, and the cube where a call takes no number.
+    pub fn wiring(&self) -> Option<Wiring> {
+        match self.kind.takes_wiring() {
+            true => Wiring::from_number(self.numbers.wiring),
+            false => Some(Wiring::Cube),
+        }
+    }
+
     /// The last granted number that a grant or a drive is handed.
     pub fn last_granted(&self) -> usize {
         match self.kind {
@@ -162,6 +175,21 @@ impl Kind {
         Kind::Convert,
         Kind::ConvertedLength,
     ];
+
+    /// Those that take a wiring number.
+    pub const WIRED: [Kind; 7] = [
+        Kind::FreshTable,
+        Kind::Row,
+        Kind::Run,
+        Kind::Grant,
+        Kind::Drive,
+        Kind::DoubtLamp,
+        Kind::Mend,
+    ];
+
+    pub fn takes_wiring(self) -> bool {
+        Kind::WIRED.contains(&self)
+    }
 
     pub fn text(self) -> &'static str {
         match self {
@@ -231,7 +259,8 @@ impl Kind {
         }
     }
 
-    /// The numbers such a call can give: 0 and its refusals.
+    /// The numbers such a call can give with a wiring, or without one: 0 and its
+    /// refusals. A call that takes a wiring number gives 24 where it is none.
     pub fn possible_numbers(self) -> &'static [u8] {
         match self {
             Kind::FreshTable => &[0, 1, 2],

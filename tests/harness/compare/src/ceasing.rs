@@ -3,6 +3,7 @@
 
 use shared::table::{self, line_length, CLOSED_SINCE, TOLD_BY};
 use shared::table::{CRASHED, LEFT_ALONE, LEFT_TOLD, LIVE, NOT_RECORDED, TOLD_BY_NONE};
+use shared::wiring::Wiring;
 
 use crate::entries::{Entry, NO_REPLY, TESTED_TOLD, TOLD};
 
@@ -60,13 +61,18 @@ fn is_another(n: usize, own: usize, byte: u8) -> bool {
 
 /// Whether a table of the right length breaks a line rule, where lines of the
 /// size keep those of bytes 4 and 5 by station and bytes.
-pub fn breaks_a_rule(keeps: impl Fn(usize, usize, Head) -> bool, n: usize, table: &[u8]) -> bool {
+pub fn breaks_a_rule(
+    keeps: impl Fn(usize, usize, Head) -> bool,
+    wiring: Wiring,
+    n: usize,
+    table: &[u8],
+) -> bool {
     let mut numbered = heads(n, table).into_iter().enumerate();
-    numbered.any(|(own, head)| !keeps(n, own, head)) || breaks_another_rule(n, table)
+    numbered.any(|(own, head)| !keeps(n, own, head)) || breaks_another_rule(wiring, n, table)
 }
 
 /// Whether a line breaks a rule that is not about bytes 4 and 5.
-fn breaks_another_rule(n: usize, table: &[u8]) -> bool {
+fn breaks_another_rule(wiring: Wiring, n: usize, table: &[u8]) -> bool {
     let mut healed = table.to_vec();
     let mut heads = heads(n, table);
     for head in &mut heads {
@@ -77,17 +83,17 @@ fn breaks_another_rule(n: usize, table: &[u8]) -> bool {
         head.closed_since = 0;
     }
     put(n, &mut healed, &heads);
-    simulator::check_table(n, &healed) == 3
+    simulator::check_table(wiring.number(), n, &healed) == 3
 }
 
 /// The station whose line alone breaks a line rule, by byte 4 alone or by byte 5
 /// alone, and its bytes.
-pub fn broken(n: usize, table: &[u8]) -> Option<(usize, Head)> {
+pub fn broken(wiring: Wiring, n: usize, table: &[u8]) -> Option<(usize, Head)> {
     let numbered = heads(n, table).into_iter().enumerate();
     let mut wrong = numbered.filter(|(own, head)| !keeps(n, *own, *head));
     let (own, head) = wrong.next()?;
     let by_both = head.is_live() && head.told_by != TOLD_BY_NONE && head.closed_since != 0;
-    let alone = wrong.next().is_none() && !by_both && !breaks_another_rule(n, table);
+    let alone = wrong.next().is_none() && !by_both && !breaks_another_rule(wiring, n, table);
     alone.then_some((own, head))
 }
 

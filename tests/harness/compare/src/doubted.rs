@@ -134,7 +134,7 @@ impl Seen {
     pub fn new(call: &Call, outcome: &Outcome) -> Seen {
         let number = outcome.number;
         let (n, table) = match number {
-            1 | 2 => (0, &[][..]),
+            1 | 2 | 24 => (0, &[][..]),
             _ => (call.numbers.n, &call.buffers.get(Name::Table)[..]),
         };
         let [by, of] = [Name::By, Name::Of].map(|name| outcome.buffers.get(name).figure());

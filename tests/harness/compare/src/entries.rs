@@ -2,9 +2,9 @@
 
 use std::ops::Range;
 
-use shared::groups::distances;
 use shared::schedule::{CRASH, LATE_TURN, TURN};
 use shared::table::{self, LIVE};
+use shared::wiring::Wiring;
 
 use crate::call::{Call, Kind, Name};
 use crate::outcome::Outcome;
@@ -30,6 +30,7 @@ pub struct Answer {
 /// An entry that was taken.
 #[derive(Clone, Copy, Debug)]
 pub struct Entry {
+    pub wiring: Wiring,
     pub station: usize,
     pub test: Option<Test>,
     /// The next distance before a turn; none for a crash.
@@ -63,18 +64,26 @@ pub struct Test {
 impl Entry {
     /// The distance of the test.
     pub fn distance(&self) -> Option<usize> {
-        self.test.map(|test| self.station ^ test.tested)
+        let distance = |test: Test| {
+            let Entry {
+                stations, station, ..
+            } = *self;
+            self.wiring.distance(stations, station, test.tested)
+        };
+        self.test.map(distance)
     }
 
     /// The distances that a turn passes over; none for a crash.
     pub fn passed_over(&self) -> Range<usize> {
-        let end = self.distance().unwrap_or(distances(self.stations));
+        let end = self.wiring.end(self.stations);
+        let end = self.distance().unwrap_or(end);
         self.next_distance.unwrap_or(end)..end
     }
 
     /// Whether a turn passes over a station, since another one stands ahead.
     pub fn passes_over_a_station(&self) -> bool {
-        let mut numbers = self.passed_over().map(|m| self.station ^ m);
+        let number = |m| self.wiring.at(self.stations, self.station, m);
+        let mut numbers = self.passed_over().map(number);
         numbers.any(|number| number < self.stations)
     }
 
@@ -145,24 +154,33 @@ pub fn of_call(call: &Call, outcome: &Outcome) -> Vec<Entry> {
 /// one by one, which takes long: only in plants of at most so many stations.
 pub fn of_drive(call: &Call, outcome: &Outcome, most: usize) -> Vec<Entry> {
     let n = call.numbers.n;
-    if call.kind != Kind::Drive || n > most {
+    let wiring = call
+        .wiring()
+        .filter(|_| call.kind == Kind::Drive && n <= most);
+    let Some(wiring) = wiring else {
         return Vec::new();
-    }
+    };
     let mut table = call.buffers.get(Name::Table).clone();
     let grants = outcome.buffers.get(Name::Grants).figure();
-    let (schedule, sheet) = granted(n, &mut table, call.last_granted(), grants);
+    let (schedule, sheet) = granted(wiring, n, &mut table, call.last_granted(), grants);
     let before = call.buffers.get(Name::Table);
-    judged(n, [before, &table], &schedule, &sheet)
+    judged(wiring, n, [before, &table], &schedule, &sheet)
 }
 
 /// Grants so many turns and carries them out, both by the simulator. Gives the
 /// schedule of the turns and their sheet.
-fn granted(n: usize, table: &mut [u8], last: usize, grants: usize) -> (Vec<u8>, Vec<u8>) {
+fn granted(
+    wiring: Wiring,
+    n: usize,
+    table: &mut [u8],
+    last: usize,
+    grants: usize,
+) -> (Vec<u8>, Vec<u8>) {
     let (mut last, mut schedule, mut sheet) = (last, Vec::new(), Vec::new());
     for _ in 0..grants {
-        let (_, station) = simulator::grant(n, table, last);
+        let (_, station) = simulator::grant(wiring.number(), n, table, last);
         let (entry, mut line) = ([TURN, station], [0; 4]);
-        simulator::run(n, table, (0, 0), &entry, &mut line);
+        simulator::run(wiring.number(), n, table, (0, 0), &entry, &mut line);
         schedule.extend(entry);
         sheet.extend(line);
         last = station.into();
@@ -172,12 +190,16 @@ fn granted(n: usize, table: &mut [u8], last: usize, grants: usize) -> (Vec<u8>, 
 
 /// The entries that a run took.
 pub fn taken(call: &Call, outcome: &Outcome, answer: &Answer) -> Vec<Entry> {
+    let Some(wiring) = call.wiring() else {
+        return Vec::new();
+    };
     let schedule = call.buffers.get(Name::Schedule);
     let sheet = outcome.buffers.get(Name::Sheet).contents();
     let after = outcome.buffers.get(Name::Table).contents();
     let tables = [&call.buffers.get(Name::Table)[..], after];
     let (entries, lines) = (2 * answer.taken, 4 * answer.taken);
     judged(
+        wiring,
         call.numbers.n,
         tables,
         &schedule[..entries],
@@ -187,14 +209,20 @@ pub fn taken(call: &Call, outcome: &Outcome, answer: &Answer) -> Vec<Entry> {
 
 /// Entries taken between two tables. They are judged by the first one, the
 /// schedule and the sheet alone; what these tell must be what the second holds.
-fn judged(n: usize, [before, after]: [&[u8]; 2], schedule: &[u8], sheet: &[u8]) -> Vec<Entry> {
+fn judged(
+    wiring: Wiring,
+    n: usize,
+    [before, after]: [&[u8]; 2],
+    schedule: &[u8],
+    sheet: &[u8],
+) -> Vec<Entry> {
     if schedule.is_empty() {
         return Vec::new();
     }
     let mut lines = lines(n, before);
     let pairs = schedule.chunks_exact(2).zip(sheet.chunks_exact(4));
     let entries = pairs
-        .map(|(entry, written)| take(&mut lines, entry, written))
+        .map(|(entry, written)| take(wiring, &mut lines, entry, written))
         .collect();
     let after = self::lines(n, after);
     assert_eq!(lines, after, "sheet and table: lines after the entries");
@@ -206,16 +234,16 @@ fn lines(n: usize, table: &[u8]) -> Vec<Line> {
 }
 
 /// Judges one entry and brings the lines up to date.
-fn take(lines: &mut [Line], entry: &[u8], written: &[u8]) -> Entry {
+fn take(wiring: Wiring, lines: &mut [Line], entry: &[u8], written: &[u8]) -> Entry {
     let [station, tested] = [written[0], written[1]].map(usize::from);
     let (outcome, status) = (written[2], written[3]);
     let test = (tested != NO_STATION).then(|| test_of(lines, station, tested));
     let late = entry[0] == LATE_TURN && test.is_some_and(|test| test.live);
     let next_distance = (entry[0] != CRASH).then_some(lines[station].next_distance);
     if test.is_some() {
-        make_test(lines, station, tested, outcome);
+        make_test(wiring, lines, station, tested, outcome);
     } else if outcome == FINISHED {
-        finish(lines, station);
+        finish(wiring, lines, station);
     }
     lines[station].live = status == LIVE;
     let closes = is_over(lines);
@@ -223,6 +251,7 @@ fn take(lines: &mut [Line], entry: &[u8], written: &[u8]) -> Entry {
         lines.iter_mut().for_each(Line::begin_round);
     }
     Entry {
+        wiring,
         station,
         test,
         next_distance,
@@ -254,8 +283,9 @@ fn unions(lines: &[Line], i: usize, j: usize) -> [u64; 2] {
 }
 
 /// What a test does to the lines by its outcome, but for i's status.
-fn make_test(lines: &mut [Line], i: usize, j: usize, outcome: u8) {
-    lines[i].next_distance = (i ^ j) + 1;
+fn make_test(wiring: Wiring, lines: &mut [Line], i: usize, j: usize, outcome: u8) {
+    let (n, exchanged) = (lines.len(), outcome == EXCHANGED);
+    lines[i].next_distance = wiring.after_test(n, wiring.distance(n, i, j), exchanged);
     match outcome {
         EXCHANGED => [lines[i].row, lines[j].row] = unions(lines, i, j),
         NO_REPLY => lines[i].row |= 1 << j,
@@ -264,8 +294,8 @@ fn make_test(lines: &mut [Line], i: usize, j: usize, outcome: u8) {
     }
 }
 
-fn finish(lines: &mut [Line], i: usize) {
-    lines[i].next_distance = distances(lines.len());
+fn finish(wiring: Wiring, lines: &mut [Line], i: usize) {
+    lines[i].next_distance = wiring.end(lines.len());
     lines[i].finished = true;
 }
 

@@ -29,7 +29,7 @@ pub const ALL: [Fault; 12] = [
         }
     }),
     ("a run that stops counts that entry", |_, outcome| {
-        if outcome.number > 6 {
+        if (7..24).contains(&outcome.number) {
             grow(outcome, Name::Taken);
         }
     }),
@@ -73,9 +73,9 @@ pub const ALL: [Fault; 12] = [
     }),
 ];
 
-/// Whether the call was refused by 1 to 6.
+/// Whether the call was refused by 1 to 6 or 24.
 fn refused_at_start(outcome: &Outcome) -> bool {
-    (1..=6).contains(&outcome.number)
+    matches!(outcome.number, 1..=6 | 24)
 }
 
 /// The figure of that name, if the call has it.

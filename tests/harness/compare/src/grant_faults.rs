@@ -4,7 +4,7 @@ use shared::grants::NONE_YET;
 use shared::table::live_stations;
 use simulator::Driven;
 
-use crate::call::{Call, Kind, Name};
+use crate::call::{Call, Kind, Name, Numbers};
 use crate::faults::{clear_tally, grow, leave, put, Fault};
 use crate::granting::{is_wrong, Rule, LAST_GRANTED, NONE_LIVE, RIGHT, TALLY_FULL};
 use crate::outcome::Outcome;
@@ -266,8 +266,11 @@ fn drive_by(rule: &Rule, call: &Call, outcome: &mut Outcome) {
     if call.kind != Kind::Drive || is_refused_drive(call, outcome) || n > SMALL {
         return;
     }
+    let Some(wiring) = call.wiring() else {
+        return;
+    };
     let mut table = call.buffers.get(Name::Table).clone();
-    let driven = rule.drive(n, &mut table, call.tally(), call.last_granted());
+    let driven = rule.drive(wiring, n, &mut table, call.tally(), call.last_granted());
     let place = outcome.buffers.get_mut(Name::Table).contents_mut();
     place.copy_from_slice(&table);
     answer(outcome, driven);
@@ -279,7 +282,8 @@ fn go_on(call: &Call, outcome: &mut Outcome) {
     let (rounds, tests) = tally_after(outcome);
     let [last, grants] = [Name::Last, Name::Grants].map(|name| outcome.buffers.get(name).figure());
     let table = outcome.buffers.get_mut(Name::Table).contents_mut();
-    let mut driven = simulator::drive(call.numbers.n, table, (rounds, 0), last);
+    let Numbers { wiring, n, .. } = call.numbers;
+    let mut driven = simulator::drive(wiring, n, table, (rounds, 0), last);
     driven.tests = tests.wrapping_add(driven.tests);
     driven.grants += grants;
     answer(outcome, driven);
@@ -305,7 +309,7 @@ fn has_wrong_last(call: &Call) -> bool {
 /// The number of a grant on the call's table from another last number.
 fn number_from(call: &Call, last: usize) -> u8 {
     let table = call.buffers.get(Name::Table);
-    simulator::grant(call.numbers.n, table, last).0
+    simulator::grant(call.numbers.wiring, call.numbers.n, table, last).0
 }
 
 /// Whether the call is a drive that is refused by another number than 7.

@@ -276,7 +276,7 @@ impl Seen {
             n,
             last: call.last_granted(),
             table: match number {
-                1 | 2 => Table::default(),
+                1 | 2 | 24 => Table::default(),
                 _ => Table::new(n, call.buffers.get(Name::Table)),
             },
             station,

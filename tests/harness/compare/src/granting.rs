@@ -4,6 +4,7 @@
 use shared::grants::NONE_YET;
 use shared::schedule::TURN;
 use shared::table::{lines, live_stations, Line};
+use shared::wiring::Wiring;
 use simulator::Driven;
 
 // Refusals.
@@ -55,7 +56,14 @@ impl Rule {
 
     /// A drive that is not refused at its start. It stops with 17 where no
     /// station is found, and with the number of a turn that is refused.
-    pub fn drive(&self, n: usize, table: &mut [u8], tally: (u32, u32), last: usize) -> Driven {
+    pub fn drive(
+        &self,
+        wiring: Wiring,
+        n: usize,
+        table: &mut [u8],
+        tally: (u32, u32),
+        last: usize,
+    ) -> Driven {
         let (rounds, tests) = tally;
         let mut driven = Driven {
             number: 0,
@@ -69,18 +77,19 @@ impl Rule {
             && driven.grants < (self.most_grants)(n)
             && !live_stations(n, table).is_empty()
         {
-            self.grant_a_turn(n, table, &mut driven);
+            self.grant_a_turn(wiring, n, table, &mut driven);
         }
         driven
     }
 
-    fn grant_a_turn(&self, n: usize, table: &mut [u8], driven: &mut Driven) {
+    fn grant_a_turn(&self, wiring: Wiring, n: usize, table: &mut [u8], driven: &mut Driven) {
         let Some(station) = self.grant(n, table, driven.last) else {
             driven.number = NONE_LIVE;
             return;
         };
         let tally = (driven.rounds, driven.tests);
-        let answer = simulator::run(n, table, tally, &[TURN, station as u8], &mut [0; 4]);
+        let entry = [TURN, station as u8];
+        let answer = simulator::run(wiring.number(), n, table, tally, &entry, &mut [0; 4]);
         driven.number = answer.number;
         if answer.taken == 1 {
             driven.rounds = answer.rounds;

@@ -1,6 +1,7 @@
 //! Libraries with a fault in mending.
 
 use shared::table::{LEFT_TOLD, LIVE};
+use shared::wiring::Wiring;
 
 use crate::call::{Call, Kind, Name};
 use crate::faults::{leave, put, Fault};
@@ -212,8 +213,9 @@ const OF_ANSWERS: [Fault; 12] = [
         }
     }),
     ("mend: a refused one mends the table", |call, outcome| {
-        if call.kind == Kind::Mend && outcome.number == 23 {
-            let mended = RIGHT.mend(call.numbers.n, call.buffers.get(Name::Table));
+        let wiring = call.wiring().filter(|_| outcome.number == 23);
+        if let Some(wiring) = wiring {
+            let mended = RIGHT.mend(wiring, call.numbers.n, call.buffers.get(Name::Table));
             let table = outcome.buffers.get_mut(Name::Table).contents_mut();
             table.copy_from_slice(&mended);
         }
@@ -240,9 +242,16 @@ fn is_taken(call: &Call, outcome: &Outcome) -> bool {
 
 /// An accepted mending by another rule.
 fn mend_by(rule: &Rule, call: &Call, outcome: &mut Outcome) {
+    if let Some(wiring) = call.wiring() {
+        mend_on(wiring, rule, call, outcome);
+    }
+}
+
+/// The same by the rules of a wiring.
+pub fn mend_on(wiring: Wiring, rule: &Rule, call: &Call, outcome: &mut Outcome) {
     if is_taken(call, outcome) {
         let table = call.buffers.get(Name::Table);
-        let mended = rule.mend(call.numbers.n, table);
+        let mended = rule.mend(wiring, call.numbers.n, table);
         let changes = changes(table, &mended);
         let place = outcome.buffers.get_mut(Name::Table).contents_mut();
         place.copy_from_slice(&mended);

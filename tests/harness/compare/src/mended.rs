@@ -13,6 +13,8 @@ type Case = occurred::Case<Seen>;
 pub struct Seen {
     number: u8,
     n: usize,
+    /// The next distance of a finished line; 0 where the call is refused.
+    end: usize,
     /// The table before and after; empty where the call is refused.
     before: Vec<u8>,
     after: Vec<u8>,
@@ -137,7 +139,7 @@ fn is_begun_anew(seen: &Seen) -> bool {
         let finished = column(seen, change) == 2 && change.1 == 1;
         finished && status_after(seen, change) == LIVE && {
             let [next, tests] = [seen.before[change.0 - 1], seen.before[change.0 + 1]];
-            usize::from(next) == shared::groups::distances(seen.n) && tests < next
+            usize::from(next) == seen.end && tests < next
         }
     };
     seen.changes.iter().any(valid)
@@ -154,12 +156,16 @@ impl Seen {
             _ => (Vec::new(), Vec::new()),
         };
         let asked = match outcome.number {
-            1 | 2 => 0,
+            1 | 2 | 24 => 0,
             _ => CHANGE * table_length(n),
         };
         Seen {
             number: outcome.number,
             n,
+            end: match call.wiring() {
+                Some(wiring) if outcome.number == 0 => wiring.end(n),
+                _ => 0,
+            },
             changes: changes(&before, &after),
             before,
             after,

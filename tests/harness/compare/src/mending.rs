@@ -1,8 +1,8 @@
 //! How a damaged table is mended and what is listed of it, right or with a fault.
 
-use shared::groups::distances;
 use shared::table::{line_length, CLOSED_SINCE, CRASHED, FINISHED, HEAD, LEFT_TOLD, LIVE};
 use shared::table::{NEXT_DISTANCE, NOT_RECORDED, STATUS, TESTS, TOLD_BY, TOLD_BY_NONE};
+use shared::wiring::Wiring;
 
 /// The bytes of a listed change.
 pub const CHANGE: usize = 4;
@@ -50,10 +50,10 @@ const START: [u8; 3] = [1, 0, 0];
 
 impl Rule {
     /// The mended table.
-    pub fn mend(&self, n: usize, table: &[u8]) -> Vec<u8> {
+    pub fn mend(&self, wiring: Wiring, n: usize, table: &[u8]) -> Vec<u8> {
         let mut mended = table.to_vec();
         let lines = mended.chunks_exact_mut(line_length(n)).enumerate();
-        lines.for_each(|(own, line)| self.mend_line(n, own, line));
+        lines.for_each(|(own, line)| self.mend_line(wiring, n, own, line));
         let seen = if self.over_at_first { table } else { &mended };
         if is_over(n, seen) {
             let lines = mended.chunks_exact_mut(line_length(n));
@@ -63,14 +63,14 @@ impl Rule {
         mended
     }
 
-    fn mend_line(&self, n: usize, own: usize, line: &mut [u8]) {
+    fn mend_line(&self, wiring: Wiring, n: usize, own: usize, line: &mut [u8]) {
         let old = line[STATUS];
         if old > 3 {
             line[STATUS] = self.status;
         }
         let status = line[STATUS];
         let pass = [line[NEXT_DISTANCE], line[FINISHED], line[TESTS]];
-        if (self.pass_of)(status) && !keeps_pass(n, pass) {
+        if (self.pass_of)(status) && !keeps_pass(wiring.end(n), pass) {
             line[NEXT_DISTANCE..=TESTS].copy_from_slice(&(self.pass)(pass));
         }
         let judged = (self.judged)(old, status);
@@ -91,8 +91,7 @@ impl Rule {
 }
 
 /// Bytes 1 to 3 keep their rules.
-fn keeps_pass(n: usize, [next, finished, tests]: [u8; 3]) -> bool {
-    let end = distances(n);
+fn keeps_pass(end: usize, [next, finished, tests]: [u8; 3]) -> bool {
     let at_end = usize::from(next) == end;
     let finished_right = finished == 0 || finished == 1 && at_end;
     usize::from(next) <= end && tests < next && finished_right

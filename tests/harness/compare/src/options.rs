@@ -4,7 +4,7 @@ use shared::options::{Words, DEFAULT_SEED};
 
 const USAGE: &str = "usage: compare [--seed S] [--calls N | --only K | --self-test] [--trace]";
 
-pub const DEFAULT_CALLS: u64 = 350_000;
+pub const DEFAULT_CALLS: u64 = 800_000;
 
 pub enum Task {
     /// Calls 1 up to this number.

@@ -45,6 +45,7 @@ pub fn trial_text(number: u64, trial: &Trial, cut: usize) -> String {
 
 fn numbers(kind: Kind, numbers: &Numbers) -> String {
     let Numbers {
+        wiring,
         n,
         station,
         level,
@@ -53,12 +54,13 @@ fn numbers(kind: Kind, numbers: &Numbers) -> String {
         tests,
     } = numbers;
     match kind {
-        Kind::FreshTable | Kind::Run | Kind::Drive => format!("  n {n}\n"),
-        Kind::DoubtLamp | Kind::Mend => format!("  n {n}\n"),
-        Kind::Grant => format!("  n {n}, last number {last}\n"),
+        Kind::FreshTable | Kind::Run | Kind::Drive => format!("  wiring {wiring}, n {n}\n"),
+        Kind::DoubtLamp | Kind::Mend => format!("  wiring {wiring}, n {n}\n"),
+        Kind::Grant => format!("  wiring {wiring}, n {n}, last number {last}\n"),
         Kind::Save => format!("  n {n}, rounds {rounds}, tests {tests}\n"),
         Kind::GroupList => format!("  n {n}, station {station}, level {level}\n"),
-        Kind::Assignment | Kind::Row => format!("  n {n}, station {station}\n"),
+        Kind::Row => format!("  wiring {wiring}, n {n}, station {station}\n"),
+        Kind::Assignment => format!("  n {n}, station {station}\n"),
         _ => String::new(),
     }
 }

@@ -3,6 +3,7 @@
 
 use shared::groups::SIZES;
 use shared::table::{fresh, line_length, live_stations, table_length, unfinished_stations, HEAD};
+use shared::wiring::Wiring;
 use simulator::Loaded;
 
 /// The tags.
@@ -371,7 +372,7 @@ impl Reader {
             LINE_FIELD => !(self.are_lines)(n, &read.lines),
             2 => read.lent != table_length(n),
             LIST_LENGTH => read.lent != saved_length(n),
-            3 => simulator::check_table(n, &self.table(read)) == 3,
+            3 => simulator::check_table(Wiring::Cube.number(), n, &self.table(read)) == 3,
             _ => {
                 let table = self.table(read);
                 !live_stations(n, &table).is_empty() && unfinished_stations(n, &table).is_empty()

@@ -1,11 +1,12 @@
 //! Shows that the comparison fails when something is altered.
 
 use shared::random::Random;
+use shared::wiring::Wiring;
 
 use crate::assign_faults;
 use crate::call::{Kind, Name};
 use crate::ceased_faults;
-use crate::counts::{Counts, LEAST, LENGTHS, OUTCOMES, SIZES};
+use crate::counts::{Counts, LEAST, LENGTHS};
 use crate::faults::{self, Fault};
 use crate::grant_faults;
 use crate::lamp_faults;
@@ -13,11 +14,13 @@ use crate::mend_faults;
 use crate::outcome::{Outcome, Place, Side};
 use crate::report;
 use crate::result_faults;
+use crate::ring_faults;
 use crate::save_faults;
 use crate::size_faults;
 use crate::told_faults;
 use crate::trial::Trial;
 use crate::ways_back;
+use crate::wired::{Wired, OUTCOMES, SIZES};
 
 /// How many calls are altered.
 const CALLS: u64 = 2_400;
@@ -68,6 +71,7 @@ fn all_faults() -> Vec<(&'static [Kind], Fault)> {
     let others = of_plants.chain(of_grants).chain(result_faults::ALL);
     let others = others.chain(lamp_faults::all());
     let others = others.chain(mend_faults::all());
+    let others = others.chain(ring_faults::all());
     let others = others.map(|fault| (&Kind::ALL[..], fault));
     let of_saves = save_faults::all().map(|fault| (&SAVING[..], fault));
     others.chain(of_saves).collect()
@@ -269,15 +273,20 @@ struct Lowered(Vec<Counts>);
 /// For each count that must not be low, one with this count lowered.
 fn lowered_counts() -> Vec<Counts> {
     let mut all = Lowered(Vec::new());
-    all.lower_by_size();
-    all.lower_singly();
-    all.lower_absent();
-    all.lower_told();
-    all.lower_ceased();
+    for wiring in Wiring::ALL {
+        all.lower_by_size(wiring);
+        all.lower_singly(wiring);
+        all.lower_absent(wiring);
+        all.lower_told(wiring);
+        all.lower_ceased(wiring);
+        all.lower_granted(wiring);
+        all.lower_doubted(wiring);
+        all.lower_mended(wiring);
+    }
+    all.lower_lengths();
+    all.lower_handed();
+    all.lower_ring();
     all.lower_assigned();
-    all.lower_granted();
-    all.lower_doubted();
-    all.lower_mended();
     all.lower_saved();
     all.lower_cases();
     all.0
@@ -290,83 +299,134 @@ impl Lowered {
         self.0.push(counts);
     }
 
-    fn lower_by_size(&mut self) {
-        for kind in Kind::ALL {
+    /// Lowers one of a wiring.
+    fn lower_on(&mut self, wiring: Wiring, one: impl Fn(&mut Wired) -> &mut u64) {
+        self.lower(|counts| one(&mut counts.on[wiring as usize - 1]));
+    }
+
+    fn lower_by_size(&mut self, wiring: Wiring) {
+        let wired = Wired::all(wiring, 0);
+        for kind in wired.kinds() {
             for number in kind.possible_numbers() {
-                self.lower(|counts| &mut counts.numbers[kind as usize][usize::from(*number)]);
+                let (kind, number) = (kind as usize, usize::from(*number));
+                self.lower_on(wiring, |on| &mut on.numbers[kind][number]);
             }
         }
-        for kind in Kind::OF_PLANTS {
+        for kind in wired.kinds_of_plants() {
             for size in 0..SIZES {
-                self.lower(|counts| &mut counts.sizes[kind as usize][size]);
+                self.lower_on(wiring, |on| &mut on.sizes[kind as usize][size]);
             }
         }
         for size in 0..SIZES {
             for outcome in 0..OUTCOMES {
-                self.lower(|counts| &mut counts.runs[size].outcomes[outcome]);
+                self.lower_on(wiring, |on| &mut on.runs[size].outcomes[outcome]);
             }
             for status in 0..4 {
-                self.lower(|counts| &mut counts.runs[size].statuses[status]);
+                self.lower_on(wiring, |on| &mut on.runs[size].statuses[status]);
             }
-            self.lower(|counts| &mut counts.runs[size].rounds);
+            self.lower_on(wiring, |on| &mut on.runs[size].rounds);
         }
     }
 
-    fn lower_singly(&mut self) {
+    fn lower_singly(&mut self, wiring: Wiring) {
         for tally in 0..2 {
-            self.lower(|counts| &mut counts.full_tallies[tally]);
+            self.lower_on(wiring, |on| &mut on.full_tallies[tally]);
         }
         for status in 1..=3 {
-            self.lower(|counts| &mut counts.closed_leaving[status - 1]);
+            self.lower_on(wiring, |on| &mut on.closed_leaving[status - 1]);
         }
-        for past in 0..2 {
-            self.lower(|counts| &mut counts.passing_over[past]);
+        if wiring == Wiring::Cube {
+            for past in 0..2 {
+                self.lower_on(wiring, |on| &mut on.passing_over[past]);
+            }
         }
-        self.lower(|counts| &mut counts.late_replies);
-        self.lower(|counts| &mut counts.long_runs);
-        self.lower(|counts| &mut counts.kept_tallies);
+        self.lower_on(wiring, |on| &mut on.late_replies);
+        self.lower_on(wiring, |on| &mut on.long_runs);
+        self.lower_on(wiring, |on| &mut on.kept_tallies);
+    }
+
+    fn lower_lengths(&mut self) {
         for length in 0..LENGTHS {
             self.lower(|counts| &mut counts.empty[length]);
         }
     }
 
     /// What absent numbers bring with them, and sizes that are refused.
-    fn lower_absent(&mut self) {
+    fn lower_absent(&mut self, wiring: Wiring) {
         for size in 0..5 {
-            self.lower(|counts| &mut counts.absent.sizes[size]);
-        }
-        for length in 0..=32 {
-            self.lower(|counts| &mut counts.absent.groups[length]);
-        }
-        for wrong in 0..4 {
-            self.lower(|counts| &mut counts.absent.lengths[wrong]);
+            self.lower_on(wiring, |on| &mut on.absent.sizes[size]);
         }
         for border in 0..4 {
-            self.lower(|counts| &mut counts.absent.borders[0][border]);
-            self.lower(|counts| &mut counts.absent.borders[1][border]);
+            self.lower_on(wiring, |on| &mut on.absent.borders[0][border]);
+            self.lower_on(wiring, |on| &mut on.absent.borders[1][border]);
+        }
+        if wiring == Wiring::Ring {
+            return;
+        }
+        for length in 0..=32 {
+            self.lower_on(wiring, |on| &mut on.absent.groups[length]);
+        }
+        for wrong in 0..4 {
+            self.lower_on(wiring, |on| &mut on.absent.lengths[wrong]);
         }
         for turn in 0..3 {
-            self.lower(|counts| &mut counts.absent.turns[turn]);
+            self.lower_on(wiring, |on| &mut on.absent.turns[turn]);
         }
     }
 
     /// Tests in which one station suspects the other.
-    fn lower_told(&mut self) {
-        for case in 0..Counts::all(0).told.0.len() {
-            self.lower(|counts| &mut counts.told.0[case]);
+    fn lower_told(&mut self, wiring: Wiring) {
+        for case in 0..Wired::all(wiring, 0).told.0.len() {
+            self.lower_on(wiring, |on| &mut on.told.0[case]);
         }
     }
 
     /// The cases of bytes 4 and 5 of a line.
-    fn lower_ceased(&mut self) {
-        for case in 0..Counts::all(0).ceased.tables.counts.len() {
-            self.lower(|counts| &mut counts.ceased.tables.counts[case]);
+    fn lower_ceased(&mut self, wiring: Wiring) {
+        let ceased = Wired::all(wiring, 0).ceased;
+        for case in 0..ceased.tables.counts.len() {
+            self.lower_on(wiring, |on| &mut on.ceased.tables.counts[case]);
         }
-        for case in 0..Counts::all(0).ceased.entries.counts.len() {
-            self.lower(|counts| &mut counts.ceased.entries.counts[case]);
+        for case in 0..ceased.entries.counts.len() {
+            self.lower_on(wiring, |on| &mut on.ceased.entries.counts[case]);
         }
-        for station in 0..Counts::all(0).ceased.tellers.len() {
-            self.lower(|counts| &mut counts.ceased.tellers[station]);
+        for station in 0..ceased.tellers.len() {
+            self.lower_on(wiring, |on| &mut on.ceased.tellers[station]);
+        }
+    }
+
+    /// The cases of grants and drives.
+    fn lower_granted(&mut self, wiring: Wiring) {
+        for case in 0..Wired::all(wiring, 0).granted.counts.len() {
+            self.lower_on(wiring, |on| &mut on.granted.counts[case]);
+        }
+    }
+
+    /// The cases of doubt lamps.
+    fn lower_doubted(&mut self, wiring: Wiring) {
+        for case in 0..Wired::all(wiring, 0).doubted.counts.len() {
+            self.lower_on(wiring, |on| &mut on.doubted.counts[case]);
+        }
+    }
+
+    /// The cases of mendings.
+    fn lower_mended(&mut self, wiring: Wiring) {
+        for case in 0..Wired::all(wiring, 0).mended.counts.len() {
+            self.lower_on(wiring, |on| &mut on.mended.counts[case]);
+        }
+    }
+
+    /// The cases of the wiring number.
+    fn lower_handed(&mut self) {
+        for case in 0..Counts::all(0).handed.counts.len() {
+            self.lower(|counts| &mut counts.handed.counts[case]);
+        }
+    }
+
+    /// The cases of passes on the ring.
+    fn lower_ring(&mut self) {
+        for case in 0..Counts::all(0).ring.0.len() {
+            self.lower(|counts| &mut counts.ring.0[case]);
         }
     }
 
@@ -374,27 +434,6 @@ impl Lowered {
     fn lower_assigned(&mut self) {
         for case in 0..Counts::all(0).assigned.counts.len() {
             self.lower(|counts| &mut counts.assigned.counts[case]);
-        }
-    }
-
-    /// The cases of grants and drives.
-    fn lower_granted(&mut self) {
-        for case in 0..Counts::all(0).granted.counts.len() {
-            self.lower(|counts| &mut counts.granted.counts[case]);
-        }
-    }
-
-    /// The cases of doubt lamps.
-    fn lower_doubted(&mut self) {
-        for case in 0..Counts::all(0).doubted.counts.len() {
-            self.lower(|counts| &mut counts.doubted.counts[case]);
-        }
-    }
-
-    /// The cases of mendings.
-    fn lower_mended(&mut self) {
-        for case in 0..Counts::all(0).mended.counts.len() {
-            self.lower(|counts| &mut counts.mended.counts[case]);
         }
     }
 

@@ -3,6 +3,7 @@
 
 use shared::groups::{ahead, assignment_length, distances, SIZES};
 use shared::table::{line_length, lines, FINISHED, NEXT_DISTANCE};
+use shared::wiring::Wiring;
 
 use crate::assign_faults::{assign_by, want_length};
 use crate::assigning::{Rule, RIGHT};
@@ -42,14 +43,17 @@ pub const ALL: [Fault; 14] = [
     ("next distance goes to n", |call, outcome| {
         let past =
             |table| lines(call.numbers.n, table).any(|line| line.next_distance() > call.numbers.n);
-        if has_absent(call) && judges_lines(call, outcome) && past(call.buffers.get(Name::Table)) {
+        let is_cube = call.wiring() == Some(Wiring::Cube);
+        let judged = is_cube && has_absent(call) && judges_lines(call, outcome);
+        if judged && past(call.buffers.get(Name::Table)) {
             outcome.number = 3;
         }
     }),
     ("a finished line has next distance n", |call, outcome| {
         let is_n = |border: &borders::Border| *border == (0, true);
         if has_absent(call) && outcome.number == 3 {
-            let met = borders::met(call.numbers.n, call.buffers.get(Name::Table), true);
+            let table = call.buffers.get(Name::Table);
+            let met = borders::met(Wiring::Cube, call.numbers.n, table, true);
             outcome.number = if met.iter().any(is_n) { 0 } else { 3 };
         }
     }),
@@ -130,7 +134,7 @@ fn judges_lines(call: &Call, outcome: &Outcome) -> bool {
         call.kind,
         Kind::Assignment | Kind::Row | Kind::Run | Kind::Grant | Kind::Drive | Kind::Save
     );
-    takes_lines && !matches!(outcome.number, 1 | 2)
+    takes_lines && !matches!(outcome.number, 1 | 2 | 24)
 }
 
 /// The figure of that name; 0 if the call has none.

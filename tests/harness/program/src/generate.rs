@@ -4,6 +4,7 @@ use shared::groups::{random_size, SIZES};
 use shared::random::Random;
 use shared::schedule::{letter, Entry, Style};
 use shared::table;
+use shared::wiring::Wiring;
 
 /// The most entries the run program reads.
 pub const MOST: usize = 4_096;
@@ -68,7 +69,7 @@ fn entries(size: usize, random: &mut Random) -> Vec<Entry> {
     let style = Style::new(most > LONG, random);
     let mut entries = Vec::new();
     if SIZES.contains(&size) && !random.once_in(10) {
-        entries = style.taken(size, &mut table::fresh(size), most, random);
+        entries = style.taken(Wiring::Cube, size, &mut table::fresh(size), most, random);
     }
     if random.once_in(2) {
         let stations: Vec<usize> = (0..size.clamp(1, 100)).collect();

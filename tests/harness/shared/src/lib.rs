@@ -1,5 +1,5 @@
-//! What the programs of the harness share: random numbers, sizes and groups, a
-//! view of a table's lines, schedules, grants, the slowest plants, counts, the
+//! What the programs of the harness share: random numbers, sizes and groups,
+//! wirings, a view of a table's lines, schedules, grants, the slowest plants, counts, the
 //! words of a command, a program as a child process, reports of a difference, and
 //! altered outputs.
 
@@ -16,3 +16,4 @@ pub mod report;
 pub mod schedule;
 pub mod slowest;
 pub mod table;
+pub mod wiring;

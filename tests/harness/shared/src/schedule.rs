@@ -2,6 +2,7 @@
 
 use crate::random::Random;
 use crate::table;
+use crate::wiring::Wiring;
 
 pub const TURN: u8 = 1;
 pub const LATE_TURN: u8 = 2;
@@ -65,6 +66,7 @@ impl Style {
     /// is live and unfinished.
     pub fn taken(
         &self,
+        wiring: Wiring,
         n: usize,
         table: &mut [u8],
         most: usize,
@@ -79,7 +81,8 @@ impl Style {
             let next = (1 + n / 4).min(most - entries.len());
             let next = self.propose(&stations, next, random);
             let mut sheet = vec![0; 4 * next.len()];
-            let answer = simulator::run(n, table, (0, 0), next.as_flattened(), &mut sheet);
+            let schedule = next.as_flattened();
+            let answer = simulator::run(wiring.number(), n, table, (0, 0), schedule, &mut sheet);
             entries.extend(&next[..answer.taken]);
             if answer.taken == 0 {
                 // Only a faulty simulator does not take the first entry.

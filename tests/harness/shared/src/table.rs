@@ -1,5 +1,7 @@
 //! A view of the lines of a lent table. Any bytes can stand there.
 
+use crate::wiring::Wiring;
+
 /// The bytes of a line before its row.
 pub const HEAD: usize = 6;
 
@@ -86,9 +88,9 @@ fn stations(n: usize, table: &[u8], holds: impl Fn(Line) -> bool) -> Vec<usize> 
     chosen.map(|(station, _)| station).collect()
 }
 
-/// A fresh table, by the simulator.
+/// A fresh table, by the simulator. It is the same on both wirings.
 pub fn fresh(n: usize) -> Vec<u8> {
     let mut table = vec![0; table_length(n)];
-    simulator::fresh_table(n, &mut table);
+    simulator::fresh_table(Wiring::Cube.number(), n, &mut table);
     table
 }

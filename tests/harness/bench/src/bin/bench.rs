@@ -1,6 +1,7 @@
 //! Entries per second of the run, drives per second, and calls per second of
 //! the figures, of the doubt lamp, of mendings, of saves, loads and conversions:
-//! the library, plain Rust over the same bytes, and the simulator.
+//! the library, plain Rust over the same bytes, and the simulator. First all of
+//! them on the cube, then on the ring those that take a wiring.
 //!
 //! `bench` prints the tables; `--quick` repeats less.
 //! `--only NAME N DEAD` runs one of library, plain and simulator once, for a
@@ -13,11 +14,14 @@ use bench::mend_work::{Damage, MendWork};
 use bench::saved_work::SavedWork;
 use bench::work::Work;
 use shared::random::Random;
+use shared::wiring::Wiring;
 use std::process::ExitCode;
 
 const SEED: u64 = 1;
 const ENTRIES: usize = 4000;
 const SIZES: [usize; 8] = [8, 11, 16, 19, 32, 48, 63, 64];
+/// The sizes on the ring.
+const RING_SIZES: [usize; 4] = [4, 8, 19, 64];
 const REPETITIONS: usize = 301;
 const QUICK_REPETITIONS: usize = 31;
 
@@ -36,13 +40,13 @@ const LISTS: usize = 50;
 /// How many doubt lamps are timed together.
 const LAMPS: usize = 200;
 
-/// The sizes of the plants of which the lamp is asked.
+/// The sizes of the plants of which the lamp is asked, on either wiring.
 const LAMP_SIZES: [usize; 3] = [8, 19, 64];
 
 /// How many mendings are timed together.
 const MENDINGS: usize = 50;
 
-/// The sizes of the plants that are mended.
+/// The sizes of the plants that are mended, on either wiring.
 const MENDED_SIZES: [usize; 3] = [8, 19, 64];
 
 /// The sizes of the plants that are saved, loaded and converted.
@@ -81,24 +85,32 @@ fn run_only(name: &str, n: &str, dead: &str) -> ExitCode {
     if !SIZES.contains(&n) || dead > n - 2 {
         return usage();
     }
-    let (answer, _, _) = measure::run_once(contender, &many_rounds(n, dead));
+    let work = many_rounds(Wiring::Cube, n, dead);
+    let (answer, _, _) = measure::run_once(contender, &work);
     println!("{answer:?}");
     ExitCode::SUCCESS
 }
 
-fn many_rounds(n: usize, dead: usize) -> Work {
-    Work::new(n, dead, ENTRIES, &mut Random::new(SEED))
+fn sizes(wiring: Wiring) -> &'static [usize] {
+    match wiring {
+        Wiring::Cube => &SIZES,
+        Wiring::Ring => &RING_SIZES,
+    }
+}
+
+fn many_rounds(wiring: Wiring, n: usize, dead: usize) -> Work {
+    Work::new(wiring, n, dead, ENTRIES, &mut Random::new(SEED))
 }
 
 /// The same first round many times.
-fn same_rounds(n: usize, dead: usize) -> Vec<Work> {
-    vec![Work::first_round(n, dead, &mut Random::new(SEED)); BATCH]
+fn same_rounds(wiring: Wiring, n: usize, dead: usize) -> Vec<Work> {
+    vec![Work::first_round(wiring, n, dead, &mut Random::new(SEED)); BATCH]
 }
 
 /// First rounds with other dead stations and another order each.
-fn other_rounds(n: usize, dead: usize) -> Vec<Work> {
+fn other_rounds(wiring: Wiring, n: usize, dead: usize) -> Vec<Work> {
     let mut random = Random::new(SEED);
-    let one = |_| Work::first_round(n, dead, &mut random);
+    let one = |_| Work::first_round(wiring, n, dead, &mut random);
     (0..BATCH).map(one).collect()
 }
 
@@ -109,49 +121,64 @@ fn print_tables(repetitions: usize) {
     println!("implementations one after the other. Tables are copied and the sheet is cleared");
     println!("before, untimed. The dead are crashed from the start; all entries are turns, and");
     println!("all are taken.");
-    print_many_rounds(repetitions);
-    print_same_rounds(fewer);
-    print_other_rounds(fewer);
-    print_one_entry(fewer);
-    print_no_entry(fewer);
-    print_drives(fewer);
+    print_wired(Wiring::Cube, repetitions, fewer);
     print_figures(fewer);
-    print_lamps(fewer);
-    print_mendings(fewer);
     print_saves(fewer);
     print_loads(fewer);
     print_conversions(fewer);
+    print_wired(Wiring::Ring, repetitions, fewer);
 }
 
-fn print_many_rounds(repetitions: usize) {
-    println!("\nMany rounds\n");
+/// The calls that take a wiring.
+fn print_wired(wiring: Wiring, repetitions: usize, fewer: usize) {
+    print_many_rounds(wiring, repetitions);
+    print_same_rounds(wiring, fewer);
+    print_other_rounds(wiring, fewer);
+    print_one_entry(wiring, fewer);
+    print_no_entry(wiring, fewer);
+    print_drives(wiring, fewer);
+    print_lamps(wiring, fewer);
+    print_mendings(wiring, fewer);
+}
+
+/// The head of a table on a wiring.
+fn print_head(head: &str, wiring: Wiring) {
+    match wiring {
+        Wiring::Cube => println!("\n{head}\n"),
+        Wiring::Ring => println!("\n{head}, on the ring\n"),
+    }
+}
+
+fn print_many_rounds(wiring: Wiring, repetitions: usize) {
+    print_head("Many rounds", wiring);
     println!("A run of {ENTRIES} entries over many rounds. Once the dead are known, all rows are");
     println!("the same.\n");
-    let works = SIZES.map(|n| [0, n / 4, n / 2].map(|dead| vec![many_rounds(n, dead)]));
-    print_table(works.as_flattened(), repetitions);
+    let dead = |n: &usize| [0, n / 4, n / 2].map(|dead| vec![many_rounds(wiring, *n, dead)]);
+    let works: Vec<Vec<Work>> = sizes(wiring).iter().flat_map(dead).collect();
+    print_table(&works, repetitions);
 }
 
-fn print_same_rounds(repetitions: usize) {
-    let works = SIZES.map(|n| [n / 4, n / 2].map(|dead| same_rounds(n, dead)));
-    let works = works.as_flattened();
-    println!("\nRows that differ\n");
+fn print_same_rounds(wiring: Wiring, repetitions: usize) {
+    let dead = |n: &usize| [n / 4, n / 2].map(|dead| same_rounds(wiring, *n, dead));
+    let works: Vec<Vec<Work>> = sizes(wiring).iter().flat_map(dead).collect();
+    print_head("Rows that differ", wiring);
     println!("The first round only, from the start table, where the dead are not yet known:");
     let singles = works.iter().map(|batch| &batch[..1]);
     println!("rows differ in {} % of the exchanges.", shares(singles));
     println!("{BATCH} runs are timed together, each on its own copy of the table; all have the");
     println!("same schedule.\n");
-    print_table(works, repetitions);
+    print_table(&works, repetitions);
 }
 
-fn print_other_rounds(repetitions: usize) {
-    let works = SIZES.map(|n| [n / 4, n / 2].map(|dead| other_rounds(n, dead)));
-    let works = works.as_flattened();
-    println!("\nRows that differ, each round another\n");
+fn print_other_rounds(wiring: Wiring, repetitions: usize) {
+    let dead = |n: &usize| [n / 4, n / 2].map(|dead| other_rounds(wiring, *n, dead));
+    let works: Vec<Vec<Work>> = sizes(wiring).iter().flat_map(dead).collect();
+    print_head("Rows that differ, each round another", wiring);
     println!("As before, but each of the {BATCH} runs has other dead stations and another order");
     println!("of turns, so that none can be foretold from the one before. Rows differ in");
     let differ = shares(works.iter().map(Vec::as_slice));
     println!("{differ} % of the exchanges.\n");
-    print_table(works, repetitions);
+    print_table(&works, repetitions);
 }
 
 /// The least and the greatest share of exchanges between rows that differ, in
@@ -168,19 +195,21 @@ fn share(works: &[Work]) -> usize {
     100 * differ / all
 }
 
-fn print_one_entry(repetitions: usize) {
-    println!("\nOne entry a run\n");
+fn print_one_entry(wiring: Wiring, repetitions: usize) {
+    print_head("One entry a run", wiring);
     println!("A run of one turn on a fresh table, with its check of the table at the start.");
     println!("{BATCH} runs are timed together, each on its own copy of the table.\n");
-    let works = SIZES.map(|n| vec![Work::one_turn(n); BATCH]);
+    let work = |n: &usize| vec![Work::one_turn(wiring, *n); BATCH];
+    let works: Vec<Vec<Work>> = sizes(wiring).iter().map(work).collect();
     print_table(&works, repetitions);
 }
 
-fn print_no_entry(repetitions: usize) {
-    println!("\nAn empty schedule\n");
+fn print_no_entry(wiring: Wiring, repetitions: usize) {
+    print_head("An empty schedule", wiring);
     println!("A run of no entry on a fresh table: the check of the table at the start by itself.");
     println!("Thousands of runs per second; {BATCH} are timed together, each on its own copy.\n");
-    let works = SIZES.map(|n| vec![Work::empty(n); BATCH]);
+    let work = |n: &usize| vec![Work::empty(wiring, *n); BATCH];
+    let works: Vec<Vec<Work>> = sizes(wiring).iter().map(work).collect();
     print_table(&works, repetitions);
 }
 
@@ -188,8 +217,8 @@ fn print_no_entry(repetitions: usize) {
 const COLUMNS: &str = "library | plain Rust | simulator | library / plain | library / simulator |";
 
 /// A row for each start table.
-fn print_drives(repetitions: usize) {
-    println!("\nDrives\n");
+fn print_drives(wiring: Wiring, repetitions: usize) {
+    print_head("Drives", wiring);
     println!("A drive from a start table on which no station was granted yet: one round, in which");
     println!("every live station is granted its turns until it has finished its pass. The column");
     println!("grants has how many grants this takes. Drives per second, the best of");
@@ -197,14 +226,12 @@ fn print_drives(repetitions: usize) {
     println!("same table.\n");
     println!("| n | dead | grants | {COLUMNS}");
     println!("|--:|--:|--:|--:|--:|--:|--:|--:|");
-    let starts = SIZES.map(|n| [0, n / 4, n / 2].map(|dead| start(n, dead)));
-    for work in starts.as_flattened() {
-        print_row_of_drives(work, repetitions);
+    for n in sizes(wiring) {
+        for dead in [0, n / 4, n / 2] {
+            let work = Work::start(wiring, *n, dead, &mut Random::new(SEED));
+            print_row_of_drives(&work, repetitions);
+        }
     }
-}
-
-fn start(n: usize, dead: usize) -> Work {
-    Work::start(n, dead, &mut Random::new(SEED))
 }
 
 fn print_row_of_drives(work: &Work, repetitions: usize) {
@@ -240,8 +267,8 @@ fn random_lists(length: usize) -> Vec<Vec<u16>> {
 }
 
 /// A row for each table.
-fn print_lamps(repetitions: usize) {
-    println!("\nDoubt lamps\n");
+fn print_lamps(wiring: Wiring, repetitions: usize) {
+    print_head("Doubt lamps", wiring);
     println!("A doubt lamp on a table in which each live board suspects just the dead ones, and");
     println!(
         "on one with a pair besides: the last two boards, which is the last pair, or the first"
@@ -257,16 +284,16 @@ fn print_lamps(repetitions: usize) {
     println!("|--:|--:|:--|--:|--:|--:|--:|--:|--:|");
     for n in LAMP_SIZES {
         for dead in [0, n / 4] {
-            print_rows_of_lamps(n, dead, repetitions);
+            print_rows_of_lamps(wiring, n, dead, repetitions);
         }
     }
 }
 
-fn print_rows_of_lamps(n: usize, dead: usize, repetitions: usize) {
+fn print_rows_of_lamps(wiring: Wiring, n: usize, dead: usize, repetitions: usize) {
     let last = n as u8 - 1;
     let pairs = [Some((0, 1)), Some((last, last - 1)), None];
     let timed = pairs.map(|pair| {
-        let work = LampWork::new(n, dead, pair);
+        let work = LampWork::new(wiring, n, dead, pair);
         measure::check_equal_lamps(&work);
         (
             pair,
@@ -282,8 +309,8 @@ fn print_rows_of_lamps(n: usize, dead: usize, repetitions: usize) {
     }
 }
 
-fn print_mendings(repetitions: usize) {
-    println!("\nMendings\n");
+fn print_mendings(wiring: Wiring, repetitions: usize) {
+    print_head("Mendings", wiring);
     println!("A mending of a good table with a quarter of the stations dead, of one with one byte");
     println!(
         "damaged, and of random bytes, each other ones. Thousands of calls per second, the best"
@@ -295,7 +322,7 @@ fn print_mendings(repetitions: usize) {
         for damage in Damage::ALL {
             let mut random = Random::new(SEED);
             let works: Vec<_> = (0..MENDINGS)
-                .map(|_| MendWork::new(n, damage, &mut random))
+                .map(|_| MendWork::new(wiring, n, damage, &mut random))
                 .collect();
             works.iter().for_each(measure::check_equal_mendings);
             let times = measure::best_times_of_mendings(&works, repetitions);

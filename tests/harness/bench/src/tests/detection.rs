@@ -1,5 +1,6 @@
 //! Driven plants: the rounds until the dead boards are known.
 
+use super::CUBE;
 use crate::detection::{random_dead, rounds_until_known, Order, Plant};
 use shared::grants::NONE_YET;
 use shared::groups::SIZES;
@@ -24,10 +25,17 @@ fn driven_rounds_worked_out_by_hand() {
 /// Grants one turn and carries it out, both by the simulator. Gives the granted
 /// board.
 fn simulate_a_turn(n: usize, plant: &mut Plant, last: usize) -> usize {
-    let (number, board) = simulator::grant(n, &plant.table, last);
+    let (number, board) = simulator::grant(CUBE, n, &plant.table, last);
     assert_eq!(number, 0);
     let tally = (plant.rounds, 0);
-    let answer = simulator::run(n, &mut plant.table, tally, &[TURN, board], &mut [0; 4]);
+    let answer = simulator::run(
+        CUBE,
+        n,
+        &mut plant.table,
+        tally,
+        &[TURN, board],
+        &mut [0; 4],
+    );
     assert_eq!(answer.number, 0);
     plant.rounds = answer.rounds;
     usize::from(board)

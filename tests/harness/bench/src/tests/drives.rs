@@ -1,7 +1,7 @@
 //! The drive in plain Rust against the simulator, and against what is worked
 //! out by hand from the rules.
 
-use super::{crash, damage, random_schedule, table_with, told_and_closed};
+use super::{crash, damage, random_schedule, table_with, told_and_closed, wired_sizes, CUBE};
 use crate::measure::check_equal_drives;
 use crate::plain_drive;
 use crate::work::{table_with_crashed, Work};
@@ -9,15 +9,27 @@ use shared::grants::NONE_YET;
 use shared::groups::{POWERS, SIZES};
 use shared::random::Random;
 use shared::table::{line_length, CLOSED_SINCE, LEFT_TOLD, STATUS, TOLD_BY, TOLD_BY_NONE};
+use shared::wiring::Wiring;
 use simulator::Driven;
 
 const FULL: u32 = u32::MAX;
 
-/// Both give the same answer and table, which are given back.
+/// Both give the same answer and table on the cube, which are given back.
 fn drive(n: usize, table: &[u8], tally: (u32, u32), last: usize) -> (Driven, Vec<u8>) {
+    drive_on(CUBE, n, table, tally, last)
+}
+
+/// The same with any wiring number.
+fn drive_on(
+    wiring: usize,
+    n: usize,
+    table: &[u8],
+    tally: (u32, u32),
+    last: usize,
+) -> (Driven, Vec<u8>) {
     let (mut table_a, mut table_b) = (table.to_vec(), table.to_vec());
-    let driven = plain_drive::drive(n, &mut table_a, tally, last);
-    let other = simulator::drive(n, &mut table_b, tally, last);
+    let driven = plain_drive::drive(wiring, n, &mut table_a, tally, last);
+    let other = simulator::drive(wiring, n, &mut table_b, tally, last);
     assert_eq!(driven, other);
     assert_eq!(table_a, table_b);
     (driven, table_a)
@@ -45,6 +57,31 @@ fn each_station_of_a_fresh_plant_has_d_plus_1_turns() {
         for (last, after) in [(NONE_YET, n - 1), (0, 0), (n - 1, n - 1)] {
             let expected = driven(0, (4, 5 + tests), after, grants);
             assert_eq!(drive(n, &table, (3, 5), last), (expected, table.clone()));
+        }
+    }
+}
+
+/// On the ring each station of a fresh plant makes one test, and finishes by one
+/// more turn.
+#[test]
+fn each_station_of_a_fresh_ring_has_2_turns() {
+    for n in SIZES {
+        let table = table_with_crashed(n, &[]);
+        for (last, after) in [(NONE_YET, n - 1), (0, 0), (n - 1, n - 1)] {
+            let expected = driven(0, (4, 5 + n as u32), after, 2 * n);
+            let given = drive_on(Wiring::Ring.number(), n, &table, (3, 5), last);
+            assert_eq!(given, (expected, table.clone()));
+        }
+    }
+}
+
+#[test]
+fn wiring_numbers() {
+    let table = table_with_crashed(4, &[]);
+    for wiring in [0, 3, 255, 256 + 1, (1 << 32) + 2, usize::MAX] {
+        for (n, last) in [(1, 999), (4, 999), (4, NONE_YET)] {
+            let given = drive_on(wiring, n, &table, (FULL, 5), last);
+            assert_eq!(given, (driven(24, (FULL, 5), last, 0), table.clone()));
         }
     }
 }
@@ -135,11 +172,11 @@ fn a_drive_counts_the_round_it_closes() {
 
 /// A table that a random schedule leaves; sometimes one byte is changed, or all
 /// stations but the first crash.
-fn random_table(n: usize, random: &mut Random) -> Vec<u8> {
+fn random_table(wiring: Wiring, n: usize, random: &mut Random) -> Vec<u8> {
     let mut table = table_with_crashed(n, &[]);
-    let schedule = random_schedule(n, &table, random);
-    let mut sheet = vec![0; 2 * schedule.len()];
-    simulator::run(n, &mut table, (0, 0), &schedule, &mut sheet);
+    let schedule = random_schedule(wiring, n, &table, random);
+    let (number, mut sheet) = (wiring.number(), vec![0; 2 * schedule.len()]);
+    simulator::run(number, n, &mut table, (0, 0), &schedule, &mut sheet);
     match random.below(8) {
         0 => damage(n, &mut table, random),
         1 => {
@@ -153,32 +190,34 @@ fn random_table(n: usize, random: &mut Random) -> Vec<u8> {
 
 #[test]
 fn random_drives() {
-    let mut random = Random::new(19);
-    let (mut numbers, mut closed) = ([0; 18], 0);
-    for n in SIZES {
-        for _ in 0..25 {
-            let table = random_table(n, &mut random);
-            let full = FULL - random.below(4 * n) as u32;
-            let tests = random.pick(&[0, 0, full]);
-            let station = random.below(n);
-            let last = random.pick(&[NONE_YET, n, station, station]);
-            let (driven, _) = drive(n, &table, (0, tests), last);
-            numbers[usize::from(driven.number)] += 1;
-            closed += driven.rounds;
+    for wiring in Wiring::ALL {
+        let mut random = Random::new(19);
+        let (mut numbers, mut closed) = ([0; 18], 0);
+        for n in SIZES {
+            for _ in 0..25 {
+                let table = random_table(wiring, n, &mut random);
+                let full = FULL - random.below(4 * n) as u32;
+                let tests = random.pick(&[0, 0, full]);
+                let station = random.below(n);
+                let last = random.pick(&[NONE_YET, n, station, station]);
+                let (driven, _) = drive_on(wiring.number(), n, &table, (0, tests), last);
+                numbers[usize::from(driven.number)] += 1;
+                closed += driven.rounds;
+            }
         }
+        let met = [0, 3, 7, 16, 17].map(|number: usize| numbers[number]);
+        assert!(met.iter().all(|many| *many > 20), "{met:?}");
+        let ended = [closed, numbers[0] - closed];
+        assert!(ended.iter().all(|many| *many > 20), "{ended:?}");
     }
-    let met = [0, 3, 7, 16, 17].map(|number: usize| numbers[number]);
-    assert!(met.iter().all(|many| *many > 20), "{met:?}");
-    let ended = [closed, numbers[0] - closed];
-    assert!(ended.iter().all(|many| *many > 20), "{ended:?}");
 }
 
 #[test]
 fn all_three_drive_the_same() {
     let mut random = Random::new(20);
-    for n in SIZES {
+    for (wiring, n) in wired_sizes() {
         for dead in [0, n / 4, n / 2] {
-            check_equal_drives(&Work::start(n, dead.min(n - 2), &mut random));
+            check_equal_drives(&Work::start(wiring, n, dead.min(n - 2), &mut random));
         }
     }
 }

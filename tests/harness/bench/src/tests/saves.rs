@@ -1,7 +1,7 @@
 //! Saving, loading and converting in plain Rust against the simulator, and against
 //! what is worked out by hand from the rules.
 
-use super::{damage, random_schedule, table_with};
+use super::{damage, random_schedule, table_with, CUBE};
 use crate::measure::check_equal_saved;
 use crate::plain_saved;
 use crate::saved_work::{fields, other_field, stored, SavedWork};
@@ -9,6 +9,7 @@ use crate::work::table_with_crashed;
 use shared::groups::{distances, SIZES};
 use shared::random::Random;
 use shared::table::{line_length, table_length, FINISHED, NEXT_DISTANCE};
+use shared::wiring::Wiring;
 use simulator::Loaded;
 
 const FULL: u32 = u32::MAX;
@@ -379,9 +380,9 @@ fn each_refusal_of_a_save_is_met() {
 /// A table that a random schedule leaves; sometimes one byte is changed.
 fn random_table(n: usize, random: &mut Random) -> Vec<u8> {
     let mut table = table_with_crashed(n, &[]);
-    let schedule = random_schedule(n, &table, random);
+    let schedule = random_schedule(Wiring::Cube, n, &table, random);
     let mut sheet = vec![0; 2 * schedule.len()];
-    simulator::run(n, &mut table, (0, 0), &schedule, &mut sheet);
+    simulator::run(CUBE, n, &mut table, (0, 0), &schedule, &mut sheet);
     if random.once_in(8) {
         damage(n, &mut table, random);
     }

@@ -34,11 +34,11 @@ pub struct Ceased {
 }
 
 impl Ceased {
-    /// Every count the same.
-    pub fn all(count: u64) -> Ceased {
+    /// Every count the same, of these kinds of calls.
+    pub fn all(kinds: &'static [Kind], count: u64) -> Ceased {
         Ceased {
-            tables: Occurred::all(&tables::CASES, count),
-            entries: Occurred::all(&entries::CASES, count),
+            tables: Occurred::of_kinds(&tables::CASES, kinds, count),
+            entries: Occurred::of_kinds(&entries::CASES, kinds, count),
             tellers: [count; STATIONS],
         }
     }

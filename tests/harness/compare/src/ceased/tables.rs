@@ -230,7 +230,7 @@ impl Table {
             length: lent.len(),
             heads: heads(n, &plant),
             broken: match number {
-                3 => broken(n, &plant),
+                3 => call.wiring().and_then(|wiring| broken(wiring, n, &plant)),
                 _ => None,
             },
         }

@@ -46,10 +46,13 @@ fn write_by(rule: &Rule, call: &Call, outcome: &mut Outcome) {
 /// Refusal 3 by another rule of bytes 4 and 5. A table that is then taken gives
 /// 0, with the buffers as they are.
 fn judge_by(keeps: impl Fn(usize, usize, Head) -> bool, call: &Call, outcome: &mut Outcome) {
-    let Some(table) = judged(call, outcome) else {
+    let (Some(table), Some(wiring)) = (judged(call, outcome), call.wiring()) else {
         return;
     };
-    match (breaks_a_rule(keeps, size(call), &table), outcome.number) {
+    match (
+        breaks_a_rule(keeps, wiring, size(call), &table),
+        outcome.number,
+    ) {
         (true, _) => outcome.number = 3,
         (false, 3) => outcome.number = 0,
         (false, _) => {}

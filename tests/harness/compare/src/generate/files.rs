@@ -5,8 +5,9 @@
 use shared::groups::distances;
 use shared::random::Random;
 use shared::table::{line_length, HEAD};
+use shared::wiring::Wiring;
 
-use super::{ceased, tables, Size};
+use super::{ceased, mostly_cube, tables, Size};
 use crate::converting::{former_line_contents, FORMER_HEAD, FORMER_WRITER};
 use crate::saving::{line_contents, Field, Writer};
 use crate::saving::{EDITION, FIELD_HEAD, LINE, OPENING, SIZE, TALLY, WRITER};
@@ -111,7 +112,7 @@ fn opening() -> Field {
 
 /// What the writer writes for two boards, cut to any length.
 fn cut_anywhere(edition: &Edition, random: &mut Random) -> Vec<u8> {
-    let table = tables::any(2, random);
+    let table = tables::any(Wiring::Cube, 2, random);
     let mut file = edition.writer.save(2, &table, tally(random));
     file.truncate(random.below(file.len()));
     file
@@ -120,7 +121,7 @@ fn cut_anywhere(edition: &Edition, random: &mut Random) -> Vec<u8> {
 impl Edition {
     /// What the writer writes, with each field changed so.
     fn bytes(&self, size: Size, change: fn(&mut Field), random: &mut Random) -> Vec<u8> {
-        let table = tables::any(size, random);
+        let table = tables::any(mostly_cube(random), size, random);
         let mut fields = self.writer.fields(size, &table, tally(random));
         fields.iter_mut().for_each(change);
         bytes(&fields)
@@ -129,7 +130,7 @@ impl Edition {
 
 /// A file as it was written before there was an opening, with heads of six bytes.
 fn without_opening(size: Size, random: &mut Random) -> Vec<u8> {
-    let table = tables::any(size, random);
+    let table = tables::any(mostly_cube(random), size, random);
     let fields = WRITER.fields(size, &table, tally(random));
     bytes(&fields[1..])
 }
@@ -171,7 +172,7 @@ fn stored_plant(size: Size, random: &mut Random) -> Vec<u8> {
 
 /// A table. Now and then the first or the last station suspects itself.
 fn plant(size: Size, random: &mut Random) -> Vec<u8> {
-    let mut table = tables::any(size, random);
+    let mut table = tables::any(mostly_cube(random), size, random);
     if random.once_in(24) {
         let own = random.pick(&[0, size - 1]);
         table[own * line_length(size) + HEAD + own] = 1;

@@ -2,14 +2,15 @@
 
 use shared::random::Random;
 use shared::table::{line_length, live_stations, HEAD};
+use shared::wiring::Wiring;
 
 use super::{numbers, tables, Size};
 use crate::call::{Buffers, Call, Kind, Name, Numbers};
 use crate::doubting::RIGHT;
 
-pub fn doubt_lamp(size: Size, random: &mut Random) -> Call {
+pub fn doubt_lamp(wiring: Wiring, size: Size, random: &mut Random) -> Call {
     let n = numbers::given_size(size, random);
-    let mut table = tables::any(size, random);
+    let mut table = tables::any(wiring, size, random);
     match random.below(8) {
         0 | 1 => clear_pairs(&mut table, size, |_| true),
         2 => leave_one_pair(&mut table, size, random),
@@ -26,6 +27,7 @@ pub fn doubt_lamp(size: Size, random: &mut Random) -> Call {
     Call {
         kind: Kind::DoubtLamp,
         numbers: Numbers {
+            wiring: numbers::given_wiring(wiring, random),
             n,
             ..Numbers::default()
         },

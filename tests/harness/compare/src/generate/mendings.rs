@@ -2,17 +2,18 @@
 
 use shared::random::Random;
 use shared::table::{line_length, table_length};
+use shared::wiring::Wiring;
 
 use super::{numbers, tables, Size};
 use crate::call::{Buffers, Call, Kind, Name, Numbers};
 use crate::mending::CHANGE;
 
-pub fn mend(size: Size, random: &mut Random) -> Call {
+pub fn mend(wiring: Wiring, size: Size, random: &mut Random) -> Call {
     let n = numbers::given_size(size, random);
     let mut table = match random.below(8) {
         0 => random.bytes(table_length(size)),
-        1 => tables::any(size, random),
-        _ => tables::round_over(size, random),
+        1 => tables::any(wiring, size, random),
+        _ => tables::round_over(wiring, size, random),
     };
     for _ in 0..random.pick(&[0, 0, 1, 1, 2, 3, size]) {
         tables::damage_one(&mut table, size, random);
@@ -39,6 +40,7 @@ pub fn mend(size: Size, random: &mut Random) -> Call {
     Call {
         kind: Kind::Mend,
         numbers: Numbers {
+            wiring: numbers::given_wiring(wiring, random),
             n,
             ..Numbers::default()
         },

@@ -17,6 +17,7 @@ mod totals;
 use shared::groups;
 use shared::random::Random;
 use shared::table::live_stations;
+use shared::wiring::Wiring;
 
 use crate::call::{Buffers, Call, Kind, Name, Numbers};
 
@@ -46,25 +47,35 @@ fn of_file(random: &mut Random) -> Call {
 
 fn of_plant(random: &mut Random) -> Call {
     let size = groups::random_size(random);
+    let wiring = random.pick(&Wiring::ALL);
     match random.below(47) {
-        0 | 1 => fresh_table(size, random),
-        2..=8 => group_list(size, random),
-        9..=11 => assignment(size, random),
-        12..=14 => row(size, random),
-        15..=17 => drives::grant(size, random),
-        18..=21 => drives::drive(size, random),
-        22..=24 => lamps::doubt_lamp(size, random),
-        25..=28 => mendings::mend(size, random),
-        _ => run(size, random),
+        0 | 1 => fresh_table(wiring, size, random),
+        2..=5 => group_list(size, random),
+        6 | 7 => assignment(size, random),
+        8..=11 => row(wiring, size, random),
+        12..=15 => drives::grant(wiring, size, random),
+        16..=20 => drives::drive(wiring, size, random),
+        21..=24 => lamps::doubt_lamp(wiring, size, random),
+        25..=28 => mendings::mend(wiring, size, random),
+        _ => run(wiring, size, random),
     }
 }
 
-fn fresh_table(size: Size, random: &mut Random) -> Call {
+/// Mostly the cube, for calls that judge a table by its rules alone.
+fn mostly_cube(random: &mut Random) -> Wiring {
+    match random.once_in(10) {
+        true => Wiring::Ring,
+        false => Wiring::Cube,
+    }
+}
+
+fn fresh_table(wiring: Wiring, size: Size, random: &mut Random) -> Call {
     let n = numbers::given_size(size, random);
     let length = numbers::table_length(n, size, random);
     Call {
         kind: Kind::FreshTable,
         numbers: Numbers {
+            wiring: numbers::given_wiring(wiring, random),
             n,
             ..Numbers::default()
         },
@@ -99,7 +110,7 @@ fn group_list(size: Size, random: &mut Random) -> Call {
 }
 
 fn assignment(size: Size, random: &mut Random) -> Call {
-    let (n, table) = tables::given(size, random);
+    let (n, table) = tables::given(mostly_cube(random), size, random);
     let station = station_in(&table, size, random);
     let length = assignment_length(size, random);
     Call {
@@ -144,11 +155,12 @@ fn station_in(table: &[u8], size: Size, random: &mut Random) -> usize {
     }
 }
 
-fn row(size: Size, random: &mut Random) -> Call {
-    let (n, table) = tables::given(size, random);
+fn row(wiring: Wiring, size: Size, random: &mut Random) -> Call {
+    let (n, table) = tables::given(wiring, size, random);
     Call {
         kind: Kind::Row,
         numbers: Numbers {
+            wiring: numbers::given_wiring(wiring, random),
             n,
             station: numbers::station(size, random),
             ..Numbers::default()
@@ -161,14 +173,15 @@ fn row(size: Size, random: &mut Random) -> Call {
     }
 }
 
-fn run(size: Size, random: &mut Random) -> Call {
-    let (n, table) = tables::given(size, random);
-    let schedule = schedules::given(size, &table, random);
+fn run(wiring: Wiring, size: Size, random: &mut Random) -> Call {
+    let (n, table) = tables::given(wiring, size, random);
+    let schedule = schedules::given(wiring, size, &table, random);
     let (rounds, tests) = numbers::tally(schedule.len() / 2, random);
     let sheet_length = numbers::length(2 * schedule.len(), random);
     Call {
         kind: Kind::Run,
         numbers: Numbers {
+            wiring: numbers::given_wiring(wiring, random),
             n,
             ..Numbers::default()
         },

@@ -1,10 +1,11 @@
-//! Sizes, stations, last granted numbers, levels, tallies and lengths, right and
-//! wrong.
+//! Wiring numbers, sizes, stations, last granted numbers, levels, tallies and
+//! lengths, right and wrong.
 
 use shared::grants::NONE_YET;
 use shared::groups::{dimension, distances};
 use shared::random::Random;
 use shared::table;
+use shared::wiring::Wiring;
 
 use super::Size;
 use crate::converting::former_table_length;
@@ -29,6 +30,20 @@ const ALIASES: [usize; 5] = [1 << 8, 1 << 16, 1 << 31, 1 << 32, 1 << 63];
 
 /// A table longer than this is not made.
 const LONGEST_TABLE: usize = 20_000;
+
+const WRONG_WIRINGS: [usize; 8] = [0, 3, 4, 127, 128, 255, usize::MAX - 1, usize::MAX];
+
+/// The wiring number handed over: mostly that of the wiring that the table is
+/// made for, now and then the other one.
+pub fn given_wiring(wiring: Wiring, random: &mut Random) -> usize {
+    match random.below(40) {
+        0..=2 => wiring.other().number(),
+        3 | 4 => random.pick(&WRONG_WIRINGS),
+        5 => wiring.number() + random.pick(&ALIASES),
+        6 if random.once_in(2) => random.any() as usize,
+        _ => wiring.number(),
+    }
+}
 
 /// The size handed over: mostly the right one.
 pub fn given_size(size: Size, random: &mut Random) -> usize {

@@ -4,14 +4,14 @@ use shared::groups::{distances, SIZES};
 use shared::random::Random;
 use shared::table::table_length;
 
-use super::{files, numbers, tables, Size};
+use super::{files, mostly_cube, numbers, tables, Size};
 use crate::call::{Buffers, Call, Kind, Name, Numbers};
 use crate::converting::{former_saved_length, former_table_length, FORMER_READER};
 use crate::outcome::Outcome;
 use crate::saving::{saved_length, FIELD_HEAD};
 
 pub fn save(size: Size, random: &mut Random) -> Call {
-    let (n, table) = tables::given(size, random);
+    let (n, table) = tables::given(mostly_cube(random), size, random);
     let length = match SIZES.contains(&n) {
         true => buffer_length(n, random),
         false => buffer_length(size, random),

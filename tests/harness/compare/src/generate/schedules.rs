@@ -4,6 +4,7 @@
 use shared::groups::distances;
 use shared::random::Random;
 use shared::schedule::Style;
+use shared::wiring::Wiring;
 
 use super::Size;
 
@@ -11,12 +12,12 @@ use super::Size;
 const LONG: usize = 256;
 
 /// A schedule for the table; now and then a wrong one or one of odd length.
-pub fn given(size: Size, table: &[u8], random: &mut Random) -> Vec<u8> {
+pub fn given(wiring: Wiring, size: Size, table: &[u8], random: &mut Random) -> Vec<u8> {
     let entries = how_many(size, random);
     let mut schedule = match random.below(10) {
         0 => random.bytes(2 * entries),
         1 => blind(size, entries, random),
-        _ => taken_by(table, size, entries, random),
+        _ => taken_by(wiring, table, size, entries, random),
     };
     if random.once_in(4) {
         insert_nonsense(&mut schedule, size, random);
@@ -37,12 +38,18 @@ fn how_many(size: Size, random: &mut Random) -> usize {
 }
 
 /// Entries that the table takes, as far as there are some.
-fn taken_by(table: &[u8], size: Size, entries: usize, random: &mut Random) -> Vec<u8> {
-    if simulator::check_table(size, table) != 0 {
+fn taken_by(
+    wiring: Wiring,
+    table: &[u8],
+    size: Size,
+    entries: usize,
+    random: &mut Random,
+) -> Vec<u8> {
+    if simulator::check_table(wiring.number(), size, table) != 0 {
         return blind(size, entries, random);
     }
     let style = Style::new(entries >= LONG, random);
-    let taken = style.taken(size, &mut table.to_vec(), entries, random);
+    let taken = style.taken(wiring, size, &mut table.to_vec(), entries, random);
     taken.into_flattened()
 }
 

@@ -1,28 +1,29 @@
 //! Tables: valid ones, ones where refusal 4 applies, and damaged ones.
 
-use shared::groups::distances;
 use shared::random::Random;
 use shared::schedule::Style;
 use shared::table::{fresh, line_length, live_stations, unfinished_stations, HEAD};
 use shared::table::{FINISHED, LIVE, NEXT_DISTANCE, STATUS, TESTS};
+use shared::wiring::Wiring;
 
 use super::{ceased, numbers, Size};
 use crate::borders;
 
 /// The size handed over and a table; now and then one of them is wrong.
-pub fn given(size: Size, random: &mut Random) -> (usize, Vec<u8>) {
+pub fn given(wiring: Wiring, size: Size, random: &mut Random) -> (usize, Vec<u8>) {
     let n = numbers::given_size(size, random);
-    let mut table = any(size, random);
+    let mut table = any(wiring, size, random);
     let length = numbers::table_length(n, size, random);
     resize(&mut table, length, random);
     (n, table)
 }
 
-/// A table of the right length. Mostly refusals 3 and 4 do not meet it.
-pub fn any(size: Size, random: &mut Random) -> Vec<u8> {
-    let mut table = valid(size, random);
+/// A table of the right length. Mostly refusals 3 and 4 of the wiring do not meet
+/// it.
+pub fn any(wiring: Wiring, size: Size, random: &mut Random) -> Vec<u8> {
+    let mut table = valid(wiring, size, random);
     if random.once_in(14) {
-        finish_all_live(&mut table, size);
+        finish_all_live(wiring, &mut table, size);
     }
     if random.once_in(8) {
         damage(&mut table, size, random);
@@ -34,10 +35,10 @@ pub fn any(size: Size, random: &mut Random) -> Vec<u8> {
 }
 
 /// A valid table, or one whose every live line is finished.
-pub fn round_over(size: Size, random: &mut Random) -> Vec<u8> {
-    let mut table = valid(size, random);
+pub fn round_over(wiring: Wiring, size: Size, random: &mut Random) -> Vec<u8> {
+    let mut table = valid(wiring, size, random);
     if random.once_in(2) {
-        finish_all_live(&mut table, size);
+        finish_all_live(wiring, &mut table, size);
     }
     table
 }
@@ -46,23 +47,24 @@ pub fn round_over(size: Size, random: &mut Random) -> Vec<u8> {
 pub fn damage_one(table: &mut [u8], size: Size, random: &mut Random) {
     let own = random.below(size);
     let length = line_length(size);
-    damage_line(&mut table[own * length..][..length], own, size, random);
+    let line = &mut table[own * length..][..length];
+    damage_line(line, own, size, random);
 }
 
 /// A table that refusals 1 to 4 do not meet.
-fn valid(size: Size, random: &mut Random) -> Vec<u8> {
+fn valid(wiring: Wiring, size: Size, random: &mut Random) -> Vec<u8> {
     match random.below(8) {
         0 => fresh(size),
-        1..=3 => after_a_run(size, random),
-        _ => by_the_rules(size, random),
+        1..=3 => after_a_run(wiring, size, random),
+        _ => by_the_rules(wiring, size, random),
     }
 }
 
 /// The table that a random schedule leaves behind, or the same long after.
-fn after_a_run(size: Size, random: &mut Random) -> Vec<u8> {
+fn after_a_run(wiring: Wiring, size: Size, random: &mut Random) -> Vec<u8> {
     let mut table = fresh(size);
     let entries = random.between(1, 3 * size);
-    Style::new(false, random).taken(size, &mut table, entries, random);
+    Style::new(false, random).taken(wiring, size, &mut table, entries, random);
     if random.once_in(3) {
         ceased::count_anew(&mut table, size, random);
     }
@@ -80,7 +82,7 @@ struct Weights {
 const PARTS: [usize; 7] = [0, 1, 4, 8, 12, 15, 16];
 
 /// A random table that keeps the line rules.
-fn by_the_rules(size: Size, random: &mut Random) -> Vec<u8> {
+fn by_the_rules(wiring: Wiring, size: Size, random: &mut Random) -> Vec<u8> {
     let weights = Weights {
         live: random.pick(&[16, 16, 15, 12, 8, 2, 0]),
         at_end: random.pick(&PARTS),
@@ -89,7 +91,7 @@ fn by_the_rules(size: Size, random: &mut Random) -> Vec<u8> {
     };
     let mut table = Vec::new();
     for own in 0..size {
-        table.extend(line(size, own, &weights, random));
+        table.extend(line(wiring, size, own, &weights, random));
     }
     if random.once_in(24) {
         ceased::tell_each_other(&mut table, size, random);
@@ -97,14 +99,14 @@ fn by_the_rules(size: Size, random: &mut Random) -> Vec<u8> {
     reopen_one(&mut table, size, random);
     // More often in a small plant, whose runs end after few tests.
     if size < 4 && random.once_in(2) || random.once_in(2 + size / 8) {
-        isolate_one(&mut table, size, random);
+        isolate_one(wiring, &mut table, size, random);
     }
     table
 }
 
-fn line(size: Size, own: usize, weights: &Weights, random: &mut Random) -> Vec<u8> {
+fn line(wiring: Wiring, size: Size, own: usize, weights: &Weights, random: &mut Random) -> Vec<u8> {
     let live = random.below(16) < weights.live;
-    let end = distances(size);
+    let end = wiring.end(size);
     let next = match random.below(16) < weights.at_end {
         true => end,
         false => random.between(1, end),
@@ -139,14 +141,14 @@ fn reopen_one(table: &mut [u8], size: Size, random: &mut Random) {
 /// leaves at its next test, whatever the reply. Mostly nobody suspects it.
 /// Often the others are finished and the one that it tests may be dead, or only
 /// the one that it tests is live.
-fn isolate_one(table: &mut [u8], size: Size, random: &mut Random) {
+fn isolate_one(wiring: Wiring, table: &mut [u8], size: Size, random: &mut Random) {
     let unfinished = unfinished_stations(size, table);
     if unfinished.is_empty() {
         return;
     }
     let station = random.pick(&unfinished);
-    let next = random.between(1, distances(size) - 1);
-    let tested = first_from(next, size, station);
+    let next = random.between(1, wiring.end(size) - 1);
+    let tested = first_from(wiring, next, size, station);
     let (unsuspected, others) = (!random.once_in(4), random.below(3));
     let dead = random.once_in(3);
     let lines = table.chunks_exact_mut(line_length(size)).enumerate();
@@ -154,7 +156,7 @@ fn isolate_one(table: &mut [u8], size: Size, random: &mut Random) {
         match others {
             _ if own == station => suspect_all(line, next),
             0 if dead && Some(own) == tested => ceased::leave(line, own, size, random),
-            0 => finish(line, size),
+            0 => finish(wiring, line, size),
             1 if Some(own) == tested => ceased::set_status(line, own, size, LIVE, random),
             1 => ceased::leave(line, own, size, random),
             _ => {}
@@ -166,8 +168,8 @@ fn isolate_one(table: &mut [u8], size: Size, random: &mut Random) {
 }
 
 /// The first station from a distance on. One that suspects all others tests it.
-fn first_from(distance: usize, size: Size, station: usize) -> Option<usize> {
-    let mut others = (distance..distances(size)).map(|m| station ^ m);
+fn first_from(wiring: Wiring, distance: usize, size: Size, station: usize) -> Option<usize> {
+    let mut others = (distance..wiring.end(size)).map(|m| wiring.at(size, station, m));
     others.find(|other| *other < size)
 }
 
@@ -178,27 +180,45 @@ fn suspect_all(line: &mut [u8], next: usize) {
     line[HEAD..].fill(1);
 }
 
-fn finish(line: &mut [u8], size: Size) {
-    line[NEXT_DISTANCE] = distances(size) as u8;
+fn finish(wiring: Wiring, line: &mut [u8], size: Size) {
+    line[NEXT_DISTANCE] = wiring.end(size) as u8;
     line[FINISHED] = 1;
 }
 
 /// Of the stations that can take a turn all but one become finished.
-pub fn finish_all_but_one(table: &mut [u8], size: Size, random: &mut Random) {
+pub fn finish_all_but_one(wiring: Wiring, table: &mut [u8], size: Size, random: &mut Random) {
     let mut others = unfinished_stations(size, table);
     if !others.is_empty() {
         others.swap_remove(random.below(others.len()));
     }
     for station in others {
-        finish(&mut table[station * line_length(size)..], size);
+        finish(wiring, &mut table[station * line_length(size)..], size);
+    }
+}
+
+/// A table of the ring: the first half of the stations is live and goes on with
+/// its pass at the other half, of which only the last one is live.
+pub fn lead_past_the_dead(table: &mut [u8], size: Size, random: &mut Random) {
+    let half = size / 2;
+    let lines = table.chunks_exact_mut(line_length(size)).take(size);
+    for (own, line) in lines.enumerate() {
+        if own < half || own + 1 == size {
+            ceased::set_status(line, own, size, LIVE, random);
+        } else {
+            ceased::leave(line, own, size, random);
+        }
+        line[NEXT_DISTANCE] = half.saturating_sub(own).max(1) as u8;
+        line[FINISHED] = 0;
+        line[TESTS] = 0;
+        line[HEAD..].fill(0);
     }
 }
 
 /// Every live line becomes finished, so that refusal 4 applies if one is live.
-fn finish_all_live(table: &mut [u8], size: Size) {
+fn finish_all_live(wiring: Wiring, table: &mut [u8], size: Size) {
     for line in table.chunks_exact_mut(line_length(size)) {
         if line[STATUS] == LIVE {
-            finish(line, size);
+            finish(wiring, line, size);
         }
     }
 }

@@ -3,6 +3,7 @@
 
 use shared::groups::SIZES;
 use shared::table::{fresh, line_length, table_length};
+use shared::wiring::Wiring;
 
 use super::{is_met_too, with_tag, Case, Seen};
 use crate::converting::have_former_length;
@@ -164,5 +165,5 @@ fn is_broken_at(seen: &Seen, station: fn(usize) -> usize) -> bool {
     let own = station(seen.n);
     let length = line_length(seen.n);
     healed[own * length..][..length].copy_from_slice(&fresh(seen.n)[..length]);
-    simulator::check_table(seen.n, &healed) == 0
+    simulator::check_table(Wiring::Cube.number(), seen.n, &healed) == 0
 }
