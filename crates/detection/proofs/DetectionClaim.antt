@@ -1,12 +1,15 @@
 -- Detection, proved: the chain of taken entries is cut into rounds, and what closed rounds give bounds the rounds after which all is known. The
--- wiring is a parameter (`RoundKnowledge`); with the cube's the claim holds within the worst-case latency and the greater bounds.
+-- wiring is a parameter (`RoundKnowledge`); with the cube's and the ring's the claim holds within the worst case and the greater bounds.
 -- Assumes nothing.
-use mathlib.Core.Path.{◌≡◌, refl, sym, ap, ◌∙◌}
+use mathlib.Core.Path.{◌≡◌, refl, sym, ap, subst, ◌∙◌}
 use mathlib.Core.Logic.{◌⊎◌, inl, inr, ◌≢◌}
 use mathlib.Core.Bool.{Bool, true, false, not, ◌&&◌}
-use mathlib.Core.List.{List, []}
+use mathlib.Core.List.{List, [], ◌∷◌, ◌++◌}
 use Prim.Native.Nat.{ℕ, ◌/◌, ◌≤◌, ◌<◌}
+use native.Mathlib.Nat.{le_trans}
 use native.Mathlib.Omega.{arith}
+use Rattle.std.specs.Prelude.{Ok}
+use Rattle.std.proofs.lemmas.Bool.Decides.{nat_tests}
 use borrow.Author.Tests.{ltb-true, ltb-false, eqb-true, eqb-false, ne_eqb, not-true}
 use lib.ListN.{length}
 use lib.Dec.{ltb, eqb}
@@ -20,13 +23,14 @@ use Rattle.table.proofs.SizeLaws.{size-bounds}
 use Rattle.plant.specs.Entry.{State}
 use Rattle.plant.proofs.RoundLaws.{Reset}
 use Rattle.lists.specs.Sums.{bit}
-use Rattle.detection.specs.Runs.{Call, taken_all, after_runs}
+use Rattle.detection.specs.Runs.{Call, taken_all, after_run, after_runs}
 use Rattle.detection.specs.Rounds.{count_taken, cut, tests_of_all}
 use Rattle.table.specs.Properties.{line_at_start, at_start, live_count, no_live_suspicion, none_suspected}
-use Rattle.detection.specs.Claim.{rounds_of, count_of, counted_from, DetectionPremises, DetectionConclusion, DetectionOnCube, DetectionOnRing, worst_latency}
+use Rattle.detection.specs.Claim.{rounds_of, count_of, counted_from, DetectionPremises, DetectionConclusion, DetectionAt, Detection, DetectionAfter, square_rounds, DetectionInSquare, triangle_rounds, DetectionInTriangle, worst_latency, ring_latency, worst_rounds}
 use Rattle.lists.proofs.BoolLaws.{by_bool}
 use Rattle.lists.proofs.SumLaws.{sum-single, sum-zero}
-use Rattle.table.specs.Wiring.{wiring_cube, wiring_ring}
+use Rattle.table.specs.Wiring.{wiring_cube, wiring_ring, is_ring, wiring_check}
+use Rattle.detection.proofs.Latency.{latency-le-triangle, latency-le-square}
 use Rattle.detection.proofs.Chain.{on-wiring, chain-all, chain_first}
 use Rattle.detection.proofs.TurnEffect.{Company}
 use Rattle.detection.proofs.RoundKnowledge.{InRound, round-start, RoundKnowledge}
@@ -157,15 +161,68 @@ someone n t one =
     p : ℕ
     p = least (live n t) n 0
 
--- the claim on the cube, an end in itself
-pub detection-on-cube : DetectionOnCube
-detection-on-cube n s calls given =
+-- the claim on the cube
+on-cube : (n : ℕ) → DetectionAt wiring_cube n (worst_latency (dimension n))
+on-cube n s calls given =
     detection-by wiring_cube n s calls given (cube n s.table given.size) (worst_latency (dimension n)) (omega arith) (omega arith) refl
 
 -- and on the ring
-pub detection-on-ring : DetectionOnRing
-detection-on-ring n s calls given =
+on-ring : (n : ℕ) → DetectionAt wiring_ring n (ring_latency n)
+on-ring n s calls given =
     let z = someone n s.table (omega (arith, given.two_live)) in
     let two : 2 ≤ n = omega (arith, size-bounds n given.size) in
     detection-by wiring_ring n s calls given
     (ring wiring_ring n (live n s.table) refl two (company-of n s.table given.two_live) z.0 z.1 z.2) (n / 2) (omega arith) (omega arith) refl
+
+-- a wiring that is not the cube is the ring
+no-third : (w : ℕ) → wiring_check w ≡ Ok tt → w ≢ wiring_cube → w ≡ wiring_ring
+no-third w h ne = grind (arith, nat_tests)
+
+-- what holds of both wirings holds of each that refusal 24 lets through
+on-each : (P : ℕ → Type 0) (w : ℕ) → wiring_check w ≡ Ok tt → P wiring_cube → P wiring_ring → P w
+on-each P w h cube ring =
+    by_bool (eqb w wiring_cube) (λ e. subst P (sym (eqb-true w wiring_cube e)) cube)
+    (λ e. subst P (sym (no-third w h (eqb-false w wiring_cube e))) ring)
+
+-- the claim within the worst case, an end in itself
+pub detection-in-worst-case : Detection worst_rounds
+detection-in-worst-case w n s calls given =
+    on-each (λ (w : ℕ). DetectionAt w n (worst_rounds w n)) w given.wiring (on-cube n) (on-ring n) s calls given
+
+-- the rounds from which on the tests are counted grow with those that are enough
+counted-later : (w a b : ℕ) → a ≤ b → counted_from w a ≤ counted_from w b
+counted-later w a b h = by_bool (is_ring w) (λ e. rw e (omega arith)) (λ e. rw e h)
+
+-- and so within any number of rounds that is not less
+pub within : (rounds : ℕ → ℕ → ℕ) → ((w n : ℕ) → 2 ≤ n → worst_rounds w n ≤ rounds w n) → Detection rounds
+within rounds enough w n s calls given =
+    let c = detection-in-worst-case w n s calls given in
+    let fewer : worst_rounds w n ≤ rounds w n = enough w n (omega (arith, size-bounds n given.size)) in
+    record {
+      same_live = c.same_live;
+      turns = c.turns;
+      exact_rows = λ far. c.exact_rows (le_trans fewer far);
+      tests = λ k far. c.tests k (le_trans (counted-later w (worst_rounds w n) (rounds w n) fewer) far);
+      rounds_tally = c.rounds_tally;
+      tests_tally = c.tests_tally;
+    }
+
+-- within 1 + d(d − 1)/2 rounds on the cube and n − 1 on the ring, an end in itself
+pub detection-in-triangle : DetectionInTriangle
+detection-in-triangle =
+    within triangle_rounds (λ w n h. by_bool (is_ring w) (λ e. rw e (omega arith)) (λ e. rw e (omega (arith, latency-le-triangle (dimension n)))))
+
+-- within d·d rounds on the cube and n − 1 on the ring, an end in itself
+pub detection-in-square : DetectionInSquare
+detection-in-square =
+    within square_rounds (λ w n h. by_bool (is_ring w) (λ e. rw e (omega arith)) (λ e. rw e (omega (arith, latency-le-square (dimension n)))))
+
+-- the runs of a list and one more
+after-one-more : (s : State) (calls : List Call) (c : Call) → after_runs s (calls ++ (c ∷ [])) ≡ after_run (after_runs s calls) c
+unfolding after_runs
+after-one-more s [] c = refl
+after-one-more s (b ∷ calls) c = after-one-more (after_run s b) calls c
+
+-- a claim about lists, of the last run of a list
+pub last-run : (rounds : ℕ → ℕ → ℕ) → Detection rounds → (c : Call) (before : State) → DetectionAfter rounds c before (after_run before c)
+last-run rounds claim c before w n s calls e given = rw (after-one-more s calls c, e) at (claim w n s (calls ++ (c ∷ [])) given)

@@ -4,15 +4,13 @@
 use mathlib.Core.Path.{◌≡◌, refl, sym, ap, subst, ◌∙◌}
 use mathlib.Core.Bool.{Bool, true, false, cond, not, true≢false}
 use mathlib.Core.List.{List, [], ◌∷◌, ◌++◌, map}
-use Prim.Native.Nat.{ℕ, zero, suc, ◌+◌, ◌/◌, ◌<◌}
+use Prim.Native.Nat.{ℕ, zero, suc, ◌+◌, ◌<◌}
 use native.Mathlib.Omega.{arith}
 use borrow.Author.Tests.{eqb-true, eqb-false, eq-eqb, not-true}
 use lib.Dec.{eqb}
 use lib.ListN.{length}
 use Rattle.lists.specs.Search.{every}
 use Rattle.lists.specs.Sums.{bit}
-use Rattle.table.specs.Sizes.{dimension}
-use Rattle.table.specs.Wiring.{wiring_cube, wiring_ring}
 use Rattle.table.specs.Table.{live}
 use Rattle.table.specs.Rules.{not_live, some_live, round_over}
 use Rattle.lists.proofs.BoolLaws.{by_bool}
@@ -23,15 +21,15 @@ use Rattle.plant.specs.Entry.{Entry, State, entry_of, acted, after}
 use Rattle.detection.specs.Runs.{Taken, turn_run, after_runs, taken_all, crashes, is_late, is_on}
 use Rattle.detection.specs.Rounds.{all_taken}
 use Rattle.table.specs.Properties.{live_count}
-use Rattle.detection.specs.Claim.{rounds_of, DetectionPremises, DetectionConclusion, DetectionAt, worst_latency}
+use Rattle.detection.specs.Claim.{rounds_of, DetectionPremises, DetectionConclusion, Detection, square_rounds, triangle_rounds, worst_rounds}
 use Rattle.detection.proofs.OneTurn.{after-append, runs_append, one_passes}
 use Rattle.detection.proofs.TakenLaws.{taken_at}
-use Rattle.detection.proofs.DetectionClaim.{detection-on-cube, detection-on-ring}
+use Rattle.detection.proofs.DetectionClaim.{detection-in-worst-case, detection-in-triangle, detection-in-square}
 use Rattle.granter.specs.Grant.{grant_refusal}
 use Rattle.granter.specs.Drive.{Stand, stand_at, granted_at, grant_turn, after_grants, ended, ended_after, stops, grants_made, outcome_after, drive}
 use Rattle.granter.proofs.GrantLaws.{Grantable, grantable}
 use Rattle.granter.proofs.DriveLaws.{Driving, not-ended, unended}
-use Rattle.detection.specs.Driven.{runs_of, runs_of_drive, RunOrDrive, a_run, a_drive, after_one, runs_of_one, after_mixed, runs_of_mixed, MixedDetection, after_drives, runs_of_drives, ending, DrivenDetectionConclusion, DrivenDetection, DrivenOnCube, DrivenOnRing}
+use Rattle.detection.specs.Driven.{runs_of, runs_of_drive, RunOrDrive, a_run, a_drive, after_one, runs_of_one, after_mixed, runs_of_mixed, MixedDetection, after_drives, runs_of_drives, ending, DrivenDetectionConclusion, DrivenDetection, DrivenDetectionInSquare, DrivenDetectionAfter}
 use Rattle.granter.proofs.Stops.{drive-stops}
 use Rattle.detection.proofs.DriveRuns.{driving-at, drive-is-turns}
 
@@ -49,9 +47,19 @@ mixed-left s (x ∷ xs) =
     rw (after-append s (runs_of_one s x) (runs_of_mixed (after_one s x) xs), one-mixed-left s x) (mixed-left (after_one s x) xs)
 
 -- a claim about lists of runs, of lists that mix runs and drives
-mixed-detection : (w : ℕ) (rounds : ℕ → ℕ) → ((n : ℕ) → DetectionAt w n (rounds n)) → MixedDetection w rounds
-mixed-detection w rounds claim n s xs given =
-    subst (DetectionConclusion (rounds n) w n s (runs_of_mixed s xs)) (mixed-left s xs) (claim n s (runs_of_mixed s xs) given)
+mixed-detection : (rounds : ℕ → ℕ → ℕ) → Detection rounds → MixedDetection rounds
+mixed-detection rounds claim w n s xs given =
+    subst (DetectionConclusion (rounds w n) w n s (runs_of_mixed s xs)) (mixed-left s xs) (claim w n s (runs_of_mixed s xs) given)
+
+-- detection of such lists within each of the three bounds, ends in themselves
+pub mixed-in-square : MixedDetection square_rounds
+mixed-in-square = mixed-detection square_rounds detection-in-square
+
+pub mixed-in-triangle : MixedDetection triangle_rounds
+mixed-in-triangle = mixed-detection triangle_rounds detection-in-triangle
+
+pub mixed-in-worst-case : MixedDetection worst_rounds
+mixed-in-worst-case = mixed-detection worst_rounds detection-in-worst-case
 
 -- what turns pass, all entries pass that drives take
 module _ (w : ℕ) (q : Taken → Bool) (turns : (n : ℕ) (s : State) (i : ℕ) → q (taken_at w n s (entry_of kind_turn i)) ≡ true) where
@@ -148,9 +156,10 @@ drive-adds w n s last lives =
     (λ e. rw e (omega (arith, drive-stays w n s last (eqb-false _ 0 e))))
 
 -- within so many rounds
-module _ (w : ℕ) (rounds : ℕ → ℕ) (claim : (n : ℕ) → DetectionAt w n (rounds n)) (n : ℕ) (s : State) (given : DetectionPremises w n s []) where
+module _ (rounds : ℕ → ℕ → ℕ) (claim : Detection rounds) (w n : ℕ) (s : State) (given : DetectionPremises w n s []) where
   premises : (lasts : List ℕ) → DetectionPremises w n s (runs_of_drives w n s lasts)
   premises lasts = record {
+    wiring = given.wiring;
     size = given.size;
     long = given.long;
     start = given.start;
@@ -161,8 +170,8 @@ module _ (w : ℕ) (rounds : ℕ → ℕ) (claim : (n : ℕ) → DetectionAt w n
     no_late = drives-pass w (λ x. not (is_late x)) (λ n s i. refl) n s lasts;
   }
 
-  concluded : (lasts : List ℕ) → DetectionConclusion (rounds n) w n s (runs_of_drives w n s lasts) (after_drives w n s lasts)
-  concluded lasts = mixed-detection w rounds claim n s (map (a_drive w n) lasts) (premises lasts)
+  concluded : (lasts : List ℕ) → DetectionConclusion (rounds w n) w n s (runs_of_drives w n s lasts) (after_drives w n s lasts)
+  concluded lasts = mixed-detection rounds claim w n s (map (a_drive w n) lasts) (premises lasts)
 
   -- somebody is live after every drive
   lives-after : (lasts : List ℕ) → some_live n (after_drives w n s lasts).table ≡ true
@@ -185,7 +194,7 @@ module _ (w : ℕ) (rounds : ℕ → ℕ) (claim : (n : ℕ) → DetectionAt w n
       let added = drive-adds w n (after_drives w n s done) last (rw one at (lives-after (done ++ (last ∷ [])))) in
       omega (arith, added, rw one at (grows (done ++ (last ∷ [])) rest))
 
-  driven : (lasts : List ℕ) → DrivenDetectionConclusion (rounds n) w n s lasts (after_drives w n s lasts)
+  driven : (lasts : List ℕ) → DrivenDetectionConclusion (rounds w n) w n s lasts (after_drives w n s lasts)
   unfolding after_mixed
   driven lasts =
       let c = concluded lasts in
@@ -193,12 +202,22 @@ module _ (w : ℕ) (rounds : ℕ → ℕ) (claim : (n : ℕ) → DetectionAt w n
       record { detection = c; rounds = count; exact_rows = λ far. c.exact_rows (rw count far) }
 
 -- a claim about lists of runs, of driven plants
-driven-detection : (w : ℕ) (rounds : ℕ → ℕ) → ((n : ℕ) → DetectionAt w n (rounds n)) → DrivenDetection w rounds
-driven-detection w rounds claim n s lasts given = driven w rounds claim n s given lasts
+driven-detection : (rounds : ℕ → ℕ → ℕ) → Detection rounds → DrivenDetection rounds
+driven-detection rounds claim w n s lasts given = driven rounds claim w n s given lasts
 
--- driven plants on the cube and on the ring, ends in themselves
-pub driven-on-cube : DrivenOnCube
-driven-on-cube = driven-detection wiring_cube (λ n. worst_latency (dimension n)) detection-on-cube
+-- detection of driven plants within d·d rounds on the cube and n − 1 on the ring, an end in itself
+pub driven-in-square : DrivenDetectionInSquare
+driven-in-square = driven-detection square_rounds detection-in-square
 
-pub driven-on-ring : DrivenOnRing
-driven-on-ring = driven-detection wiring_ring (λ n. n / 2) detection-on-ring
+-- within 1 + d(d − 1)/2 rounds on the cube and n − 1 on the ring, an end in itself
+pub driven-in-triangle : DrivenDetection triangle_rounds
+driven-in-triangle = driven-detection triangle_rounds detection-in-triangle
+
+-- and within fewer rounds, an end in itself. That still fewer do not suffice is shown of runs only (crate witness)
+pub driven-in-worst-case : DrivenDetection worst_rounds
+driven-in-worst-case = driven-detection worst_rounds detection-in-worst-case
+
+-- of the last drive of a list
+pub last-drive : (rounds : ℕ → ℕ → ℕ) → DrivenDetection rounds → (w n last : ℕ) (before : State)
+    → DrivenDetectionAfter rounds w n last before (drive w n before last).state
+last-drive rounds claim w n last before s lasts e given = rw (after-one-more w n s lasts last, e) at (claim w n s (lasts ++ (last ∷ [])) given)

@@ -96,7 +96,8 @@ module _ (n : ℕ) where
 
 pub fresh-premises : FreshMeetsPremises
 unfolding all_taken taken_all
-fresh-premises w n rounds tests size = record {
+fresh-premises w n rounds tests wired size = record {
+  wiring = wired;
   size = size;
   long = fresh-long n;
   start = fresh_start n;

@@ -3,7 +3,7 @@
 use Rattle.std.specs.Prelude.{Ok, ℕ, suc, ◌+◌, ◌-◌, ◌*◌, ◌/◌, ◌≤◌, ◌<◌, ◌≡◌, Bool, true, not, ◌&&◌, List, [], ◌∷◌, ◌++◌, length, if◌then◌else◌, nat_lt, slice_index_or}
 use Rattle.lists.specs.Search.{every}
 use Rattle.table.specs.Sizes.{is_size, dimension}
-use Rattle.table.specs.Wiring.{wiring_cube, wiring_ring, is_ring, wiring_check}
+use Rattle.table.specs.Wiring.{is_ring, wiring_check}
 use Rattle.table.specs.Fresh.{fresh_table}
 use Rattle.station.specs.Groups.{is_present, width, member}
 use Rattle.table.specs.Table.{table_length, suspects, live}
@@ -57,6 +57,7 @@ counted_from w enough = if is_ring w then 0 else enough
 -- Rule Detection conditions: a wiring, a size and a table of its length, at the start of a round, two live boards at least, no live one suspecting a
 -- live one; any tally, any list of runs, without crashes and late replies of live boards
 pub record DetectionPremises (w n : ℕ) (s : State) (calls : List Call) : Type 0 where
+  pub wiring : wiring_check w ≡ Ok tt
   pub size : is_size n ≡ true
   pub long : length s.table ≡ table_length n
   pub start : at_start n s.table ≡ true
@@ -88,21 +89,60 @@ abbrev pub DetectionAt : ℕ → ℕ → ℕ → Type 0
 DetectionAt w n enough =
     (s : State) (calls : List Call) → DetectionPremises w n s calls → DetectionConclusion enough w n s calls (after_runs s calls)
 
--- Rule Worst case: the worst-case latency, 1, 2, 3, 4, 6, 8 rounds for d = 1 to 6
+-- Rule Worst case, and the greater bounds: the claim on each wiring at all sizes, within so many rounds by wiring and size
+abbrev pub Detection : (ℕ → ℕ → ℕ) → Type 0
+Detection rounds = (w n : ℕ) → DetectionAt w n (rounds w n)
+
+-- the same of one run, `c`, from `before` to `after`: wherever it stands behind other runs, the claim about the whole list with it holds of
+-- the state that it leaves
+abbrev pub DetectionAfter : (ℕ → ℕ → ℕ) → Call → State → State → Type 0
+DetectionAfter rounds c before after =
+    (w n : ℕ) (s : State) (calls : List Call) → after_runs s calls ≡ before → DetectionPremises w n s (calls ++ (c ∷ []))
+    → DetectionConclusion (rounds w n) w n s (calls ++ (c ∷ [])) after
+
+-- Rule Square bound: d·d rounds on the cube
+abbrev pub square_bound : ℕ → ℕ
+square_bound d = d * d
+
+-- and on the ring n − 1
+abbrev pub square_rounds : ℕ → ℕ → ℕ
+square_rounds w n = if is_ring w then n - 1 else square_bound (dimension n)
+
+-- Rule Square bound: detection within these
+abbrev pub DetectionInSquare : Type 0
+DetectionInSquare = Detection square_rounds
+
+-- Rule Triangular bound: 1 + d(d − 1)/2 rounds on the cube, 1, 2, 4, 7, 11, 16 for d = 1 to 6
+abbrev pub triangle_bound : ℕ → ℕ
+triangle_bound d = 1 + d * (d - 1) / 2
+
+-- and on the ring n − 1
+abbrev pub triangle_rounds : ℕ → ℕ → ℕ
+triangle_rounds w n = if is_ring w then n - 1 else triangle_bound (dimension n)
+
+-- Rule Triangular bound: detection within these
+abbrev pub DetectionInTriangle : Type 0
+DetectionInTriangle = Detection triangle_rounds
+
+-- Rule Worst case of the cube: the worst-case latency, 1, 2, 3, 4, 6, 8 rounds for d = 1 to 6. From 3 boards on fewer do not suffice (crate
+-- witness)
 unfoldable pub worst_latency : ℕ → ℕ
 worst_latency d = if nat_lt d 4 then d else 4 + (d - 3) * (d - 3) / 2
 
--- on the cube within the worst-case latency, on the ring within half as many rounds as there are stations
-abbrev pub DetectionOnCube : Type 0
-DetectionOnCube = (n : ℕ) → DetectionAt wiring_cube n (worst_latency (dimension n))
+-- Rule Worst case of the ring: half as many rounds as there are stations
+abbrev pub ring_latency : ℕ → ℕ
+ring_latency n = n / 2
 
-abbrev pub DetectionOnRing : Type 0
-DetectionOnRing = (n : ℕ) → DetectionAt wiring_ring n (n / 2)
+-- the worst case by wiring and size
+abbrev pub worst_rounds : ℕ → ℕ → ℕ
+worst_rounds w n = if is_ring w then ring_latency n else worst_latency (dimension n)
 
 -- a fresh table of any size passes refusals 24 and 1 to 4, on each wiring
 abbrev pub FreshIsAccepted : Type 0
 FreshIsAccepted = (w n : ℕ) → wiring_check w ≡ Ok tt → is_size n ≡ true → wired_table_refusal w n (fresh_table n) ≡ 0
 
--- Rule Conditions are met: a fresh table, with any tally, meets at every size what is supposed of wiring, size and table
+-- Rule Conditions are met: a fresh table, with any tally, meets on each wiring and at every size what is supposed of wiring, size and table.
+-- Drives need no more (`DrivenDetection`)
 abbrev pub FreshMeetsPremises : Type 0
-FreshMeetsPremises = (w n rounds tests : ℕ) → is_size n ≡ true → DetectionPremises w n (state_of (fresh_table n) rounds tests) []
+FreshMeetsPremises =
+    (w n rounds tests : ℕ) → wiring_check w ≡ Ok tt → is_size n ≡ true → DetectionPremises w n (state_of (fresh_table n) rounds tests) []

@@ -1,15 +1,13 @@
 -- That a drive does what its grants and their runs of one entry do, so that detection holds of plants that are driven.
 -- Assumes nothing.
-use Rattle.std.specs.Prelude.{◌≡◌, true, List, [], ◌∷◌, ◌++◌, map, ℕ, zero, suc, ◌+◌, ◌/◌, ◌≤◌, ◌<◌, length, ◌==◌}
+use Rattle.std.specs.Prelude.{◌≡◌, true, List, [], ◌∷◌, ◌++◌, map, ℕ, zero, suc, ◌+◌, ◌≤◌, ◌<◌, length, ◌==◌}
 use Rattle.lists.specs.Sums.{bit}
-use Rattle.table.specs.Sizes.{dimension}
-use Rattle.table.specs.Wiring.{wiring_cube, wiring_ring}
 use Rattle.table.specs.Table.{suspects, live}
 use Rattle.table.specs.Rules.{not_live}
 use Rattle.plant.specs.Turn.{kind_turn}
 use Rattle.plant.specs.Entry.{State, entry_of, entry_refusal}
 use Rattle.detection.specs.Runs.{Call, turn_run, after_run, after_runs, taken_all}
-use Rattle.detection.specs.Claim.{rounds_of, DetectionPremises, DetectionConclusion, worst_latency}
+use Rattle.detection.specs.Claim.{rounds_of, DetectionPremises, DetectionConclusion, square_rounds}
 use Rattle.granter.specs.Grant.{grant_refusal}
 use Rattle.granter.specs.Drive.{Stand, stand_at, granted_at, after_grants, drive}
 
@@ -63,11 +61,11 @@ unfoldable pub runs_of_mixed : State → List RunOrDrive → List Call
 runs_of_mixed s [] = []
 runs_of_mixed s (x ∷ xs) = runs_of_one s x ++ runs_of_mixed (after_one s x) xs
 
--- Rule Detection by drives: detection of such a list, within so many rounds by the size, of the runs that it is
-abbrev pub MixedDetection : ℕ → (ℕ → ℕ) → Type 0
-MixedDetection w rounds =
-    (n : ℕ) (s : State) (xs : List RunOrDrive) → DetectionPremises w n s (runs_of_mixed s xs)
-    → DetectionConclusion (rounds n) w n s (runs_of_mixed s xs) (after_mixed s xs)
+-- Rule Detection by drives: detection of such a list, within so many rounds by wiring and size, of the runs that it is
+abbrev pub MixedDetection : (ℕ → ℕ → ℕ) → Type 0
+MixedDetection rounds =
+    (w n : ℕ) (s : State) (xs : List RunOrDrive) → DetectionPremises w n s (runs_of_mixed s xs)
+    → DetectionConclusion (rounds w n) w n s (runs_of_mixed s xs) (after_mixed s xs)
 
 -- drives of one size, each with any last number (a drive of another size is refused): table and tally after them, the runs that they are, and
 -- how many of them answer 0
@@ -91,14 +89,20 @@ pub record DrivenDetectionConclusion (enough w n : ℕ) (s : State) (lasts : Lis
   pub exact_rows : enough ≤ ending w n s lasts
       → (i j : ℕ) → i < n → j < n → live n s.table i ≡ true → suspects n end.table i j ≡ bit (not_live n s.table j)
 
--- Rule Detection by drives: the claim on a wiring, within so many rounds by the size. It supposes the detection conditions on the table
-abbrev pub DrivenDetection : ℕ → (ℕ → ℕ) → Type 0
-DrivenDetection w rounds =
-    (n : ℕ) (s : State) (lasts : List ℕ) → DetectionPremises w n s []
-    → DrivenDetectionConclusion (rounds n) w n s lasts (after_drives w n s lasts)
+-- Rule Detection by drives: the claim, within so many rounds by wiring and size. It supposes the detection conditions on the table: those of no
+-- run at all. Drives have no crash and no late reply
+abbrev pub DrivenDetection : (ℕ → ℕ → ℕ) → Type 0
+DrivenDetection rounds =
+    (w n : ℕ) (s : State) (lasts : List ℕ) → DetectionPremises w n s []
+    → DrivenDetectionConclusion (rounds w n) w n s lasts (after_drives w n s lasts)
 
-abbrev pub DrivenOnCube : Type 0
-DrivenOnCube = DrivenDetection wiring_cube (λ n. worst_latency (dimension n))
+-- detection of driven plants within d·d rounds on the cube, n − 1 on the ring
+abbrev pub DrivenDetectionInSquare : Type 0
+DrivenDetectionInSquare = DrivenDetection square_rounds
 
-abbrev pub DrivenOnRing : Type 0
-DrivenOnRing = DrivenDetection wiring_ring (λ n. n / 2)
+-- the same of one drive, from `before` to `after`: wherever it stands behind other drives, the claim about the whole list with it holds of
+-- the state that it leaves
+abbrev pub DrivenDetectionAfter : (ℕ → ℕ → ℕ) → ℕ → ℕ → ℕ → State → State → Type 0
+DrivenDetectionAfter rounds w n last before after =
+    (s : State) (lasts : List ℕ) → after_drives w n s lasts ≡ before → DetectionPremises w n s []
+    → DrivenDetectionConclusion (rounds w n) w n s (lasts ++ (last ∷ [])) after

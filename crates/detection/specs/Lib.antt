@@ -1,3 +1,4 @@
+-- The detection claim about a whole list of runs, and what else is claimed of runs and drives.
 pub mod Runs
 pub mod Rounds
 pub mod Claim

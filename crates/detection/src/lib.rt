@@ -1,4 +1,7 @@
-// Draft: the calls of a run and a drive in a list are left out.
+// What is claimed of runs and drives wherever they stand in a list (specs/), and its proof (proofs/). The two functions here are the run and the
+// drive themselves with the detection claim as their promise, so that they rest on what plant::run::run and granter::drive::drive promise.
+// Those of the modules do nothing: their contracts are the claims, of lists of runs (`claims`), of drives (`driven`), of who leaves (`exits`), of
+// who told it and when (`ceased`), and of the tests that slots are timed by (`timing`).
 #![tactic(auto)]
 
 pub mod ceased;
@@ -6,3 +9,62 @@ pub mod claims;
 pub mod driven;
 pub mod exits;
 pub mod timing;
+
+ghost use Rattle.std.specs.Prelude.{◌≡◌};
+ghost use Rattle.plant.specs.Entry.{state_with};
+ghost use Rattle.plant.specs.Run.{outcome_with, run};
+ghost use Rattle.detection.specs.Runs.{call_of, CountsTaken};
+ghost use Rattle.granter.specs.Drive.{drive_outcome_with, drive, StoppedIfTaken};
+ghost use Rattle.detection.specs.Claim.{DetectionAfter, square_rounds, triangle_rounds, worst_rounds};
+ghost use Rattle.detection.specs.Driven.{DrivenDetectionAfter};
+
+use granter::{Driven, drive};
+use plant::{Ran, Tally, run};
+
+// The run, wherever it stands in a list of runs: what the detection claim says of the list that ends with it holds of the table and tally that it
+// leaves: on the cube within d·d rounds, within 1 + d(d − 1)/2, and within the worst-case latency; on the ring within n − 1 and within n/2. It
+// answers how many of its entries the list takes.
+pub fn run_in_list(
+    wiring: usize,
+    n: usize,
+    table: &mut [u8],
+    tally: Tally,
+    schedule: &[u8],
+    sheet: &mut [u8],
+) -> Ran
+    ensures outcome { outcome_with result table.new sheet.new
+        ≡ run wiring n (state_with table.old tally) schedule.now sheet.old }
+    ensures counts_taken { CountsTaken (call_of wiring n schedule.now sheet.old)
+        (state_with table.old tally) result.taken }
+    ensures detection_in_square { DetectionAfter square_rounds (call_of wiring n schedule.now sheet.old)
+        (state_with table.old tally) (state_with table.new result.tally) }
+    ensures detection_in_triangle { DetectionAfter triangle_rounds (call_of wiring n schedule.now sheet.old)
+        (state_with table.old tally) (state_with table.new result.tally) }
+    ensures detection_in_worst_case { DetectionAfter worst_rounds (call_of wiring n schedule.now sheet.old)
+        (state_with table.old tally) (state_with table.new result.tally) }
+{
+    run::run(wiring, n, table, tally, schedule, sheet)
+}
+
+// The drive, wherever it stands behind other drives: what the detection claim says of the plant that they drove holds of the table and tally that
+// it leaves: on the cube within d·d rounds, within 1 + d(d − 1)/2, and within the worst-case latency; on the ring within n − 1 and within n/2.
+pub fn drive_in_list(
+    wiring: usize,
+    n: usize,
+    table: &mut [u8],
+    tally: Tally,
+    last: usize,
+) -> Driven
+    ensures outcome { drive_outcome_with result table.new
+        ≡ drive wiring n (state_with table.old tally) last }
+    ensures stopped_if_taken { let start = state_with table.old tally in
+        StoppedIfTaken wiring n start last result.grants }
+    ensures driven_in_square { DrivenDetectionAfter square_rounds wiring n last
+        (state_with table.old tally) (state_with table.new result.tally) }
+    ensures driven_in_triangle { DrivenDetectionAfter triangle_rounds wiring n last
+        (state_with table.old tally) (state_with table.new result.tally) }
+    ensures driven_in_worst_case { DrivenDetectionAfter worst_rounds wiring n last
+        (state_with table.old tally) (state_with table.new result.tally) }
+{
+    drive::drive(wiring, n, table, tally, last)
+}

@@ -17,7 +17,8 @@ use lib.ListN.{length}
 use Rattle.table.specs.Sizes.{is_size, dimension}
 use Rattle.station.specs.Groups.{group}
 use Rattle.lists.specs.Refusal.{Check, ensure, ◌and◌, unless_refused}
-use Rattle.table.specs.Rules.{table_check, station_check}
+use Rattle.table.specs.Wiring.{wiring_cube}
+use Rattle.table.specs.Rules.{wired_table_check, station_check}
 use Rattle.station.specs.Calls.{group_check, group_after, row_check, row_part, row_offset, assignment_check, assignment_answer, assignment_after, range_check}
 use Rattle.lists.proofs.RefusalLaws.{ensure_ok, and_ok, and_first, and_same, and_err, refused_leaves}
 use Rattle.table.proofs.Accepting.{table_ok}
@@ -47,63 +48,65 @@ narrow-unless f v a g far h =
 station_far : (n x : ℕ) → is_size n ≡ true → 255 ≤ x → station_check n x ≡ Err NoSuchStation
 station_far n x e h = rw (le-ltb x n (omega (arith, size-bounds n e)))
 
--- the row and the assignment of a station
-module _ (n : ℕ) (t : List ℕ) where
+-- the row of a station
+module _ (w n : ℕ) (t : List ℕ) where
   abbrev row_refused : Check
-  row_refused = table_check n t and Err NoSuchStation
+  row_refused = wired_table_check w n t and Err NoSuchStation
 
   refused : row_refused ≡ Ok tt → ⊥
-  refused e = and_err (table_check n t) NoSuchStation tt e
+  refused e = and_err (wired_table_check w n t) NoSuchStation tt e
 
-  row_far : (x : ℕ) → 255 ≤ x → row_check n t x ≡ row_refused
+  row_far : (x : ℕ) → 255 ≤ x → row_check w n t x ≡ row_refused
   unfolding row_check
-  row_far x h = and_same (table_check n t) _ _ (λ z. station_far n x (table_ok n t tt z).size h)
+  row_far x h = and_same (wired_table_check w n t) _ _ (λ z. station_far n x (table_ok w n t tt z).size h)
 
-  pub row_check_narrow : (x b : ℕ) → b ≡ min x 255 → row_check n t b ≡ row_check n t x
-  row_check_narrow = narrow (row_check n t) row_refused row_far
+  pub row_check_narrow : (x b : ℕ) → b ≡ min x 255 → row_check w n t b ≡ row_check w n t x
+  row_check_narrow = narrow (row_check w n t) row_refused row_far
 
-  pub row_offset_narrow : (x b : ℕ) → b ≡ min x 255 → row_offset n t b ≡ row_offset n t x
+  pub row_offset_narrow : (x b : ℕ) → b ≡ min x 255 → row_offset w n t b ≡ row_offset w n t x
   unfolding row_offset
-  row_offset_narrow = narrow-unless (row_check n t) row_refused _ _ row_far refused
+  row_offset_narrow = narrow-unless (row_check w n t) row_refused _ _ row_far refused
 
-  pub row_part_narrow : (x b : ℕ) → b ≡ min x 255 → row_part n t b ≡ row_part n t x
+  pub row_part_narrow : (x b : ℕ) → b ≡ min x 255 → row_part w n t b ≡ row_part w n t x
   unfolding row_part
-  row_part_narrow = narrow-unless (row_check n t) row_refused _ _ row_far refused
+  row_part_narrow = narrow-unless (row_check w n t) row_refused _ _ row_far refused
 
   -- what a row answers, by its byte
-  pub row_offset_ok : (x b : ℕ) (y : Unit {0}) → b ≡ min x 255 → row_check n t b ≡ Ok y → row_offset n t x ≡ row_start n b
+  pub row_offset_ok : (x b : ℕ) (y : Unit {0}) → b ≡ min x 255 → row_check w n t b ≡ Ok y → row_offset w n t x ≡ row_start n b
   unfolding row_offset
   row_offset_ok x b y e z = sym (row_offset_narrow x b e) ∙ rw z
 
-  pub row_offset_err : (x b : ℕ) (r : Refusal) → b ≡ min x 255 → row_check n t b ≡ Err r → row_offset n t x ≡ 0
+  pub row_offset_err : (x b : ℕ) (r : Refusal) → b ≡ min x 255 → row_check w n t b ≡ Err r → row_offset w n t x ≡ 0
   unfolding row_offset
   row_offset_err x b r e z = sym (row_offset_narrow x b e) ∙ rw z
 
-  pub row_part_ok : (x b : ℕ) (y : Unit {0}) → b ≡ min x 255 → row_check n t b ≡ Ok y → length (row_part n t x) ≡ n
+  pub row_part_ok : (x b : ℕ) (y : Unit {0}) → b ≡ min x 255 → row_check w n t b ≡ Ok y → length (row_part w n t x) ≡ n
   unfolding row_part
   row_part_ok x b y e z =
-      let a = row_ok n t b y z in
+      let a = row_ok w n t b y z in
       ap length (sym (row_part_narrow x b e)) ∙ rw z (row-length n t b a.0.long a.1)
 
-  pub row_part_err : (x b : ℕ) (r : Refusal) → b ≡ min x 255 → row_check n t b ≡ Err r → length (row_part n t x) ≡ 0
+  pub row_part_err : (x b : ℕ) (r : Refusal) → b ≡ min x 255 → row_check w n t b ≡ Err r → length (row_part w n t x) ≡ 0
   unfolding row_part
   row_part_err x b r e z = ap length (sym (row_part_narrow x b e)) ∙ rw z
 
-  assignment_far : (len x : ℕ) → 255 ≤ x → assignment_check n t x len ≡ row_refused
+-- the assignment of a station
+module _ (n : ℕ) (t : List ℕ) where
+  assignment_far : (len x : ℕ) → 255 ≤ x → assignment_check n t x len ≡ row_refused wiring_cube n t
   unfolding assignment_check
-  assignment_far len x h = rw (row_far x h) (sym (and_first row_refused _ refused))
+  assignment_far len x h = rw (row_far wiring_cube n t x h) (sym (and_first (row_refused wiring_cube n t) _ (refused wiring_cube n t)))
 
   pub assignment_answer_narrow : (x b len : ℕ) → b ≡ min x 255 → assignment_answer n t b len ≡ assignment_answer n t x len
   unfolding assignment_answer
-  assignment_answer_narrow x b len e = narrow (λ x. assignment_answer n t x len) (row_refused and Err NoSuchStation) far x b e
+  assignment_answer_narrow x b len e = narrow (λ x. assignment_answer n t x len) (row_refused wiring_cube n t and Err NoSuchStation) far x b e
     where
-      far : (x : ℕ) → 255 ≤ x → assignment_answer n t x len ≡ (row_refused and Err NoSuchStation)
-      far x h = rw (assignment_far len x h) (and_same row_refused _ _ (λ z. absurd (refused z)))
+      far : (x : ℕ) → 255 ≤ x → assignment_answer n t x len ≡ (row_refused wiring_cube n t and Err NoSuchStation)
+      far x h = rw (assignment_far len x h) (and_same (row_refused wiring_cube n t) _ _ (λ z. absurd (refused wiring_cube n t z)))
 
   pub assignment_after_narrow : (list : List ℕ) (x b : ℕ) → b ≡ min x 255 → assignment_after n t b list ≡ assignment_after n t x list
   unfolding assignment_after
   assignment_after_narrow list =
-      narrow-unless (λ x. assignment_check n t x (length list)) row_refused _ _ (assignment_far (length list)) refused
+      narrow-unless (λ x. assignment_check n t x (length list)) (row_refused wiring_cube n t) _ _ (assignment_far (length list)) (refused wiring_cube n t)
 
 -- the group of a station at a level
 module _ (n : ℕ) where

@@ -18,8 +18,8 @@ use Rattle.figures.specs.declared.Figures.{Figures}
 use Rattle.figures.specs.declared.Totals.{Totals}
 
 -- Row: the part of the table with this start and so many bytes is the row, and has none where it is refused
-abbrev pub IsRowAt : ℕ → List ℕ → ℕ → ℕ → ℕ → Type 0
-IsRowAt n t i start bytes = slice_range t start (start + bytes) ≡ row_part n t i
+abbrev pub IsRowAt : ℕ → ℕ → List ℕ → ℕ → ℕ → ℕ → Type 0
+IsRowAt w n t i start bytes = slice_range t start (start + bytes) ≡ row_part w n t i
 
 -- Rule Exact calls, for C. Run: the outcome by its parts: the number, the entries taken, table, rounds and tests, and the sheet
 abbrev pub outcome_out : ℕ → ℕ → List ℕ → ℕ → ℕ → List ℕ → RunResult

@@ -5,14 +5,14 @@
 ghost use Rattle.std.specs.Prelude.{◌≡◌, min, ◌++◌, length};
 ghost use Rattle.std.specs.Result.{result_unwrap_or};
 ghost use Rattle.lists.specs.Refusal.{number_of_result};
-ghost use Rattle.table.specs.Rules.{shape_refusal};
+ghost use Rattle.table.specs.Rules.{wired_shape_check};
 ghost use Rattle.table.specs.Fresh.{fresh_after};
 ghost use Rattle.station.specs.Calls.{group_refusal, group_after, row_refusal, row_part, row_offset, assignment_refusal, assignment_after};
 ghost use Rattle.station.specs.Calls.{assignment_count};
 ghost use Rattle.plant.specs.Entry.{state_of};
 ghost use Rattle.plant.specs.Run.{run};
 ghost use Rattle.detection.specs.Runs.{call_of, CountsTaken};
-ghost use Rattle.detection.specs.Claim.{DetectionAfter, square_bound, triangle_bound, worst_latency};
+ghost use Rattle.detection.specs.Claim.{DetectionAfter, square_rounds, triangle_rounds, worst_rounds};
 ghost use Rattle.detection.specs.Driven.{DrivenDetectionAfter};
 ghost use Rattle.granter.specs.Grant.{grant_refusal, grant_station};
 ghost use Rattle.granter.specs.Drive.{drive, StoppedIfTaken};
@@ -39,11 +39,11 @@ const NO_STATION: u8 = 255;
 
 // Fresh table: every line live, next distance 1, byte 4 255, all else 0.
 #[unsafe(no_mangle)]
-pub extern "C" fn vcube_fresh_table(n: usize, table: &mut [u8]) -> u8
-    ensures number { result ≡ shape_refusal n (length table.old) }
-    ensures table_after { table.new ≡ fresh_after n table.old }
+pub extern "C" fn vcube_fresh_table(wiring: usize, n: usize, table: &mut [u8]) -> u8
+    ensures number { result ≡ number_of_result (wired_shape_check wiring n (length table.old)) }
+    ensures table_after { table.new ≡ fresh_after wiring n table.old }
 {
-    number_of(fresh::fresh_table(n, table))
+    number_of(fresh::fresh_table(wiring, n, table))
 }
 
 // Group list: the members of the station's group at that level, in order.
@@ -84,20 +84,21 @@ pub extern "C" fn vcube_assignment(
 #[tactic(auto, using(crate::proofs::RowPart::row_laws))]
 #[unsafe(no_mangle)]
 pub extern "C" fn vcube_row(
+    wiring: usize,
     n: usize,
     table: &[u8],
     station: usize,
     start: &mut usize,
     bytes: &mut usize,
 ) -> u8
-    ensures number { result ≡ row_refusal n table.now station }
-    ensures start_after { start.new ≡ row_offset n table.now station }
-    ensures bytes_after { bytes.new ≡ length (row_part n table.now station) }
-    ensures row_at { IsRowAt n table.now station start.new bytes.new }
+    ensures number { result ≡ row_refusal wiring n table.now station }
+    ensures start_after { start.new ≡ row_offset wiring n table.now station }
+    ensures bytes_after { bytes.new ≡ length (row_part wiring n table.now station) }
+    ensures row_at { IsRowAt wiring n table.now station start.new bytes.new }
 {
     let i = Station(byte_of(station));
     // Not by `parts`: where the row begins is asked only of a station that is not refused.
-    match rows::check_row(n, table, i) {
+    match rows::check_row(wiring, n, table, i) {
         Ok(()) => {
             *start = cells::row_start(n as u8, i);
             *bytes = n;
@@ -115,6 +116,7 @@ pub extern "C" fn vcube_row(
 // rounds and tests, and how many entries were taken in taken.
 #[unsafe(no_mangle)]
 pub extern "C" fn vcube_run(
+    wiring: usize,
     n: usize,
     table: &mut [u8],
     rounds: &mut u32,
@@ -124,21 +126,21 @@ pub extern "C" fn vcube_run(
     taken: &mut usize,
 ) -> u8
     ensures outcome { outcome_out result taken.new table.new rounds.new tests.new sheet.new
-        ≡ run n (state_of table.old rounds.old tests.old) schedule.now sheet.old }
-    ensures counts_taken { CountsTaken (call_of n schedule.now sheet.old)
+        ≡ run wiring n (state_of table.old rounds.old tests.old) schedule.now sheet.old }
+    ensures counts_taken { CountsTaken (call_of wiring n schedule.now sheet.old)
         (state_of table.old rounds.old tests.old) taken.new }
-    ensures detection_in_square { DetectionAfter square_bound (call_of n schedule.now sheet.old)
+    ensures detection_in_square { DetectionAfter square_rounds (call_of wiring n schedule.now sheet.old)
         (state_of table.old rounds.old tests.old) (state_of table.new rounds.new tests.new) }
-    ensures detection_in_triangle { DetectionAfter triangle_bound (call_of n schedule.now sheet.old)
+    ensures detection_in_triangle { DetectionAfter triangle_rounds (call_of wiring n schedule.now sheet.old)
         (state_of table.old rounds.old tests.old) (state_of table.new rounds.new tests.new) }
-    ensures detection_in_worst_case { DetectionAfter worst_latency (call_of n schedule.now sheet.old)
+    ensures detection_in_worst_case { DetectionAfter worst_rounds (call_of wiring n schedule.now sheet.old)
         (state_of table.old rounds.old tests.old) (state_of table.new rounds.new tests.new) }
 {
     let tally = Tally {
         rounds: *rounds,
         tests: *tests,
     };
-    let ran = detection::run_in_list(n, table, tally, schedule, sheet);
+    let ran = detection::run_in_list(wiring, n, table, tally, schedule, sheet);
     *rounds = ran.tally.rounds;
     *tests = ran.tally.tests;
     *taken = ran.taken;
@@ -148,11 +150,17 @@ pub extern "C" fn vcube_run(
 // Grant: the station that is granted after the last one, 0 where it is refused.
 #[tactic(auto, using(granter::proofs::GrantLaws::grant_answer_refusal))]
 #[unsafe(no_mangle)]
-pub extern "C" fn vcube_grant(n: usize, table: &[u8], last: usize, station: &mut usize) -> u8
-    ensures number { result ≡ grant_refusal n table.now last }
-    ensures station_after { station.new ≡ grant_station n table.now last }
+pub extern "C" fn vcube_grant(
+    wiring: usize,
+    n: usize,
+    table: &[u8],
+    last: usize,
+    station: &mut usize,
+) -> u8
+    ensures number { result ≡ grant_refusal wiring n table.now last }
+    ensures station_after { station.new ≡ grant_station wiring n table.now last }
 {
-    let (number, to) = parts(grant::grant(n, table, last), Station(0));
+    let (number, to) = parts(grant::grant(wiring, n, table, last), Station(0));
     *station = to.0 as usize;
     number
 }
@@ -161,6 +169,7 @@ pub extern "C" fn vcube_grant(n: usize, table: &[u8], last: usize, station: &mut
 // full. The tally and the last granted number that it gives back are left in rounds, tests and last, and the grants made in grants.
 #[unsafe(no_mangle)]
 pub extern "C" fn vcube_drive(
+    wiring: usize,
     n: usize,
     table: &mut [u8],
     rounds: &mut u32,
@@ -169,20 +178,21 @@ pub extern "C" fn vcube_drive(
     grants: &mut usize,
 ) -> u8
     ensures outcome { drive_out result table.new rounds.new tests.new last.new grants.new
-        ≡ drive n (state_of table.old rounds.old tests.old) last.old }
-    ensures stopped_if_taken { StoppedIfTaken n (state_of table.old rounds.old tests.old) last.old grants.new }
-    ensures driven_in_square { DrivenDetectionAfter square_bound n last.old
+        ≡ drive wiring n (state_of table.old rounds.old tests.old) last.old }
+    ensures stopped_if_taken { let start = state_of table.old rounds.old tests.old in
+        StoppedIfTaken wiring n start last.old grants.new }
+    ensures driven_in_square { DrivenDetectionAfter square_rounds wiring n last.old
         (state_of table.old rounds.old tests.old) (state_of table.new rounds.new tests.new) }
-    ensures driven_in_triangle { DrivenDetectionAfter triangle_bound n last.old
+    ensures driven_in_triangle { DrivenDetectionAfter triangle_rounds wiring n last.old
         (state_of table.old rounds.old tests.old) (state_of table.new rounds.new tests.new) }
-    ensures driven_in_worst_case { DrivenDetectionAfter worst_latency n last.old
+    ensures driven_in_worst_case { DrivenDetectionAfter worst_rounds wiring n last.old
         (state_of table.old rounds.old tests.old) (state_of table.new rounds.new tests.new) }
 {
     let tally = Tally {
         rounds: *rounds,
         tests: *tests,
     };
-    let driven = detection::drive_in_list(n, table, tally, *last);
+    let driven = detection::drive_in_list(wiring, n, table, tally, *last);
     *rounds = driven.tally.rounds;
     *tests = driven.tally.tests;
     *last = driven.last;
@@ -192,10 +202,16 @@ pub extern "C" fn vcube_drive(
 
 // Doubt lamp: the first live station that suspects a live one into by, and whom into of; 255 into both where there is none, 0 where it is refused.
 #[unsafe(no_mangle)]
-pub extern "C" fn vcube_doubt_lamp(n: usize, table: &[u8], by: &mut usize, of: &mut usize) -> u8
-    ensures { pair_out result by.new of.new ≡ pair_of (doubt_lamp n table.now) }
+pub extern "C" fn vcube_doubt_lamp(
+    wiring: usize,
+    n: usize,
+    table: &[u8],
+    by: &mut usize,
+    of: &mut usize,
+) -> u8
+    ensures { pair_out result by.new of.new ≡ pair_of (doubt_lamp wiring n table.now) }
 {
-    let (number, i, k) = match lamp::doubt_lamp(n, table) {
+    let (number, i, k) = match lamp::doubt_lamp(wiring, n, table) {
         Ok(Some(doubt)) => (0, doubt.by.0, doubt.of.0),
         Ok(None) => (0, NO_STATION, NO_STATION),
         Err(refusal) => (refusal.number(), 0, 0),
@@ -209,18 +225,19 @@ pub extern "C" fn vcube_doubt_lamp(n: usize, table: &[u8], by: &mut usize, of: &
 // refused.
 #[unsafe(no_mangle)]
 pub extern "C" fn vcube_mend(
+    wiring: usize,
     n: usize,
     table: &mut [u8],
     report: &mut [u8],
     changes: &mut usize,
 ) -> u8
-    ensures number { result ≡ number_of_result (mend n table.old (length report.old)) }
+    ensures number { result ≡ number_of_result (mend wiring n table.old (length report.old)) }
     ensures changes_after { changes.new
-        ≡ result_unwrap_or (mend n table.old (length report.old)) 0 }
-    ensures mended_table { table.new ≡ table_after n table.old (length report.old) }
-    ensures listed_changes { report.new ≡ report_after n table.old report.old }
+        ≡ result_unwrap_or (mend wiring n table.old (length report.old)) 0 }
+    ensures mended_table { table.new ≡ table_after wiring n table.old (length report.old) }
+    ensures listed_changes { report.new ≡ report_after wiring n table.old report.old }
 {
-    let (number, listed) = parts(mender::mend(n, table, report), 0);
+    let (number, listed) = parts(mender::mend(wiring, n, table, report), 0);
     *changes = listed;
     number
 }
