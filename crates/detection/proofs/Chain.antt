@@ -4,7 +4,7 @@ use mathlib.Core.Path.{◌≡◌, refl, sym, ◌∙◌}
 use mathlib.Core.Logic.{◌⊎◌, inl, inr}
 use mathlib.Core.List.{List, [], ◌∷◌, ◌++◌}
 use mathlib.Core.Bool.{true}
-use Prim.Native.Nat.{ℕ, suc, ◌≤◌, ◌<◌}
+use Prim.Native.Nat.{ℕ, suc, ◌+◌, ◌≤◌, ◌<◌}
 use native.Mathlib.Nat.{mul-le-mul, suc-mul}
 use native.Mathlib.Omega.{arith}
 use lib.ListN.{length}
@@ -97,3 +97,17 @@ chain-all n s [] long = done
 chain-all n s (c ∷ calls) long =
     let first = chain_run n s c long in
     chain-append first (chain-all n (after_run s c) calls (chain-long first long))
+
+taken-from : (w n k : ℕ) (s : State) (sheet : List ℕ) (es : List Entry) → (go_on w n k s sheet es).taken ≡ k + length (taken_from w n s es)
+unfolding taken_from go_on
+taken-from w n k s sheet [] = omega arith
+taken-from w n k s sheet (e ∷ es) =
+    by_bool (eqb (entry_refusal n s e) 0)
+    (λ t. rw t (omega (arith, taken-from w n (suc k) (after w n s e) (write_line sheet k (sheet_line w n s e)) es))) (λ t. rw t (omega arith))
+
+-- a run answers how many entries it takes
+pub taken_is : (s : State) (c : Call) → (run c.wiring c.size s c.schedule c.sheet).taken ≡ length (taken_in s c)
+unfolding taken_in run
+taken_is s c =
+    by_bool (eqb (start_refusal c.wiring c.size s.table (length c.schedule) (length c.sheet)) 0)
+    (λ t. rw t (omega (arith, taken-from c.wiring c.size 0 s c.sheet (entries c.schedule)))) (λ t. rw t)

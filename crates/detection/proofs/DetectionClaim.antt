@@ -150,7 +150,7 @@ pub history : (n : ℕ) (s : State) (calls : List Call) → DetectionPremises wi
 history n s calls given ok = rounds-from wiring_cube n s calls given ok (cube n s.table given.size)
 
 -- some station is live
-someone : (n : ℕ) (t : List ℕ) → 1 ≤ live_count n t → (z : ℕ) × (z < n) × (live n t z ≡ true)
+pub someone : (n : ℕ) (t : List ℕ) → 1 ≤ live_count n t → (z : ℕ) × (z < n) × (live n t z ≡ true)
 unfolding live_count
 someone n t one =
     by_bool (ltb p n) (λ e. let below = ltb-true p n e in (p, below, least-passes (live n t) n 0 (omega arith)))
@@ -166,20 +166,22 @@ on-cube : (n : ℕ) → DetectionAt wiring_cube n (worst_latency (dimension n))
 on-cube n s calls given =
     detection-by wiring_cube n s calls given (cube n s.table given.size) (worst_latency (dimension n)) (omega arith) (omega arith) refl
 
--- and on the ring
-on-ring : (n : ℕ) → DetectionAt wiring_ring n (ring_latency n)
-on-ring n s calls given =
+-- what the claim takes of the ring
+abbrev pub ring-of : (n : ℕ) (s : State) (calls : List Call) → DetectionPremises wiring_ring n s calls → RoundKnowledge wiring_ring n (live n s.table)
+ring-of n s calls given =
     let z = someone n s.table (omega (arith, given.two_live)) in
-    let two : 2 ≤ n = omega (arith, size-bounds n given.size) in
-    detection-by wiring_ring n s calls given
-    (ring wiring_ring n (live n s.table) refl two (company-of n s.table given.two_live) z.0 z.1 z.2) (n / 2) (omega arith) (omega arith) refl
+    ring wiring_ring n (live n s.table) refl (omega (arith, size-bounds n given.size)) (company-of n s.table given.two_live) z.0 z.1 z.2
+
+-- the claim on the ring
+on-ring : (n : ℕ) → DetectionAt wiring_ring n (ring_latency n)
+on-ring n s calls given = detection-by wiring_ring n s calls given (ring-of n s calls given) (n / 2) (omega arith) (omega arith) refl
 
 -- a wiring that is not the cube is the ring
 no-third : (w : ℕ) → wiring_check w ≡ Ok tt → w ≢ wiring_cube → w ≡ wiring_ring
 no-third w h ne = grind (arith, nat_tests)
 
 -- what holds of both wirings holds of each that refusal 24 lets through
-on-each : (P : ℕ → Type 0) (w : ℕ) → wiring_check w ≡ Ok tt → P wiring_cube → P wiring_ring → P w
+pub on-each : (P : ℕ → Type 0) (w : ℕ) → wiring_check w ≡ Ok tt → P wiring_cube → P wiring_ring → P w
 on-each P w h cube ring =
     by_bool (eqb w wiring_cube) (λ e. subst P (sym (eqb-true w wiring_cube e)) cube)
     (λ e. subst P (sym (no-third w h (eqb-false w wiring_cube e))) ring)

@@ -2,7 +2,7 @@
 -- Assumes nothing.
 use mathlib.Core.Path.{◌≡◌}
 use mathlib.Core.Bool.{false, cond}
-use Prim.Native.Nat.{ℕ, zero, suc, ◌+◌, ◌*◌, ◌-◌, ◌≤◌}
+use Prim.Native.Nat.{ℕ, zero, suc, ◌+◌, ◌*◌, ◌-◌, ◌/◌, ◌≤◌}
 use native.Mathlib.Nat.{add-suc}
 use native.Mathlib.Decide.{le_ind}
 use native.Mathlib.Omega.{arith}
@@ -76,3 +76,18 @@ latency-grows c d l = le_ind (λ (k : ℕ). worst_latency c ≤ worst_latency k)
 -- from dimension 1 on it is at least one round
 pub latency-pos : (d : ℕ) → 1 ≤ worst_latency (suc d)
 latency-pos d = omega (arith, bounds (suc d))
+
+-- it is at most 1 + d (d − 1) / 2
+pub latency-le-triangle : (d : ℕ) → worst_latency d ≤ 1 + d * (d - 1) / 2
+latency-le-triangle zero = omega (arith, bounds 0)
+latency-le-triangle (suc d) = let e : suc d - 1 ≡ d = omega arith in rw e (omega (arith, bounds (suc d)))
+
+-- that is at most d·d
+pub triangle-le-square : (d : ℕ) → 1 + suc d * (suc d - 1) / 2 ≤ suc d * suc d
+triangle-le-square d = let e : suc d - 1 ≡ d = omega arith in rw e (omega arith)
+
+-- and so is the latency
+pub latency-le-square : (d : ℕ) → worst_latency d ≤ d * d
+unfolding worst_latency
+latency-le-square zero = omega arith
+latency-le-square (suc d) = omega (arith, latency-le-triangle (suc d), triangle-le-square d)

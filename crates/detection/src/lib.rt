@@ -36,11 +36,14 @@ pub fn run_in_list(
         ≡ run wiring n (state_with table.old tally) schedule.now sheet.old }
     ensures counts_taken { CountsTaken (call_of wiring n schedule.now sheet.old)
         (state_with table.old tally) result.taken }
-    ensures detection_in_square { DetectionAfter square_rounds (call_of wiring n schedule.now sheet.old)
+    ensures detection_in_square { DetectionAfter square_rounds
+        (call_of wiring n schedule.now sheet.old)
         (state_with table.old tally) (state_with table.new result.tally) }
-    ensures detection_in_triangle { DetectionAfter triangle_rounds (call_of wiring n schedule.now sheet.old)
+    ensures detection_in_triangle { DetectionAfter triangle_rounds
+        (call_of wiring n schedule.now sheet.old)
         (state_with table.old tally) (state_with table.new result.tally) }
-    ensures detection_in_worst_case { DetectionAfter worst_rounds (call_of wiring n schedule.now sheet.old)
+    ensures detection_in_worst_case { DetectionAfter worst_rounds
+        (call_of wiring n schedule.now sheet.old)
         (state_with table.old tally) (state_with table.new result.tally) }
 {
     run::run(wiring, n, table, tally, schedule, sheet)

@@ -2,7 +2,7 @@
 // stays out. Each function does nothing: its contract is a claim.
 #![tactic(auto)]
 
-ghost use Rattle.detection.specs.Claim.{worst_latency};
+ghost use Rattle.detection.specs.Claim.{worst_rounds};
 ghost use Rattle.lamp_claims.specs.Wait.{OutMeetsPremises, OutBeginsWait, StaysOut, MixedStaysOut};
 
 // A lamp that is out at the start of a round, with two live stations, no crash and no late reply: the detection conditions.
@@ -10,9 +10,9 @@ pub fn out_meets_premises()
     ensures { OutMeetsPremises }
 {}
 
-// So after the worst-case latency each live station suspects just those that are not live.
+// So after the worst case of its wiring each live station suspects just those that are not live.
 pub fn out_begins_wait()
-    ensures { OutBeginsWait worst_latency }
+    ensures { OutBeginsWait worst_rounds }
 {}
 
 // Under the detection conditions the lamp is out after every list of runs.

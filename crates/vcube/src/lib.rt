@@ -129,11 +129,14 @@ pub extern "C" fn vcube_run(
         ≡ run wiring n (state_of table.old rounds.old tests.old) schedule.now sheet.old }
     ensures counts_taken { CountsTaken (call_of wiring n schedule.now sheet.old)
         (state_of table.old rounds.old tests.old) taken.new }
-    ensures detection_in_square { DetectionAfter square_rounds (call_of wiring n schedule.now sheet.old)
+    ensures detection_in_square { DetectionAfter square_rounds
+        (call_of wiring n schedule.now sheet.old)
         (state_of table.old rounds.old tests.old) (state_of table.new rounds.new tests.new) }
-    ensures detection_in_triangle { DetectionAfter triangle_rounds (call_of wiring n schedule.now sheet.old)
+    ensures detection_in_triangle { DetectionAfter triangle_rounds
+        (call_of wiring n schedule.now sheet.old)
         (state_of table.old rounds.old tests.old) (state_of table.new rounds.new tests.new) }
-    ensures detection_in_worst_case { DetectionAfter worst_rounds (call_of wiring n schedule.now sheet.old)
+    ensures detection_in_worst_case { DetectionAfter worst_rounds
+        (call_of wiring n schedule.now sheet.old)
         (state_of table.old rounds.old tests.old) (state_of table.new rounds.new tests.new) }
 {
     let tally = Tally {
