@@ -10,7 +10,8 @@ use lib.Dec.{eqb}
 use Rattle.lists.specs.Refusal.{number_of_result}
 use Rattle.lists.proofs.BoolLaws.{by_bool, least-same}
 use Rattle.lists.proofs.RefusalLaws.{and_same}
-use Rattle.table.specs.Rules.{table_check}
+use Rattle.std.proofs.lemmas.List.Elements.{All-head, All-tail}
+use Rattle.table.specs.Rules.{wired_table_check}
 use Rattle.table.proofs.Accepting.{Accepted, accepted, table_ok}
 use Rattle.plant.specs.Turn.{kind_turn}
 use Rattle.plant.specs.Entry.{Entry, State, entry_of, tally_full, entry_refusal}
@@ -23,15 +24,15 @@ use Rattle.granter.proofs.DriveLaws.{not_stopped, next-taken, drive-made}
 use Rattle.granter.proofs.Stops.{drive-stops}
 use Rattle.detection.specs.Driven.{RunOrDrive, a_run, a_drive, after_one, after_mixed}
 use Rattle.detection.proofs.DriveRuns.{driving-at}
-use Rattle.dead_lines.specs.Alike.{Alike, StayAlike, SameDrive, GrantOfAlike, DriveOfAlike, answer_of, answers_of, MixedOfAlike}
+use Rattle.dead_lines.specs.Alike.{Alike, StayAlike, SameDrive, IsOn, wiring_given, GrantOfAlike, DriveOfAlike, answer_of, answers_of, MixedOfAlike}
 use Rattle.dead_lines.proofs.Writes.{Twins, Step, still, then}
 use Rattle.dead_lines.proofs.TurnAlike.{some-live-same, finished-same}
 use Rattle.dead_lines.proofs.RunAlike.{Both, refusal-same, after-step, after-both, alike-both, size-is, tables-checked, stays, stay-still, stay-then, run-of-alike}
 
 -- who is granted goes by who waits
-module _ (n : ℕ) (t u : List ℕ) (w : Twins n t u) where
+module _ (n : ℕ) (t u : List ℕ) (tw : Twins n t u) where
   waits-same : (i : ℕ) → i < n → waits n t i ≡ waits n u i
-  waits-same i h = sym (waits-is n t i) ∙ (ap not (finished-same n t u w i h) ∙ waits-is n u i)
+  waits-same i h = sym (waits-is n t i) ∙ (ap not (finished-same n t u tw i h) ∙ waits-is n u i)
 
   first-same : (b : ℕ) → first_from n t b ≡ first_from n u b
   unfolding first_from
@@ -42,62 +43,62 @@ module _ (n : ℕ) (t u : List ℕ) (w : Twins n t u) where
   granted-same last = rw (first-same (following last), first-same 0)
 
 -- a grant of any size
-module _ (n : ℕ) (s r : State) (a : Alike n s r) (m last : ℕ) where
+module _ (w n : ℕ) (s r : State) (a : Alike w n s r) (v m last : ℕ) (on : IsOn w v) where
   tables : Twins n s.table r.table
-  tables = (alike-both n s r a).tables
+  tables = (alike-both w n s r a).tables
 
-  grant-checked : grant_check m s.table last ≡ grant_check m r.table last
+  grant-checked : grant_check v m s.table last ≡ grant_check v m r.table last
   unfolding grant_check
   grant-checked =
-      rw (tables-checked n s r a m)
-      (and_same (table_check m r.table) _ _
-      (λ ok. rw (size-is n s r a m (sym (table_ok m r.table tt ok).long), some-live-same n s.table r.table tables)))
+      rw (tables-checked w n s r a v m on)
+      (and_same (wired_table_check v m r.table) _ _
+      (λ ok. rw (size-is w n s r a m (sym (table_ok v m r.table tt ok).long), some-live-same n s.table r.table tables)))
 
-  grant-same : grant_answer m s.table last ≡ grant_answer m r.table last
+  grant-same : grant_answer v m s.table last ≡ grant_answer v m r.table last
   unfolding grant_answer
   grant-same =
       rw grant-checked
-      (and_same (grant_check m r.table last) _ _
-      (λ ok. rw (size-is n s r a m (sym (grant_ok m r.table last tt ok).ok.long), granted-same n s.table r.table tables last)))
+      (and_same (grant_check v m r.table last) _ _
+      (λ ok. rw (size-is w n s r a m (sym (grant_ok v m r.table last tt ok).ok.long), granted-same n s.table r.table tables last)))
 
 pub grant-of-alike : GrantOfAlike
 grant-of-alike = grant-same
 
 -- where two drives stand after k grants
-record Grants (n : ℕ) (p q : Stand) (k : ℕ) : Type 0 where
-  both : Both n (after_grants n p k).state (after_grants n q k).state
-  last : (after_grants n p k).last ≡ (after_grants n q k).last
-  ok : Accepted n (after_grants n p k).state.table
-  other_ok : Accepted n (after_grants n q k).state.table
-  step : Step n p.state.table q.state.table (after_grants n p k).state.table (after_grants n q k).state.table
+record Grants (w n : ℕ) (p q : Stand) (k : ℕ) : Type 0 where
+  both : Both n (after_grants w n p k).state (after_grants w n q k).state
+  last : (after_grants w n p k).last ≡ (after_grants w n q k).last
+  ok : Accepted w n (after_grants w n p k).state.table
+  other_ok : Accepted w n (after_grants w n q k).state.table
+  step : Step n p.state.table q.state.table (after_grants w n p k).state.table (after_grants w n q k).state.table
 
 -- a grant and its turn more
-next-grants : (n : ℕ) (p q : Stand) (k : ℕ) → Grants n p q k
-    → entry_refusal n (after_grants n p k).state (entry_of kind_turn (granted_at n (after_grants n p k))) ≡ 0 → Grants n p q (suc k)
+next-grants : (w n : ℕ) (p q : Stand) (k : ℕ) → Grants w n p q k
+    → entry_refusal n (after_grants w n p k).state (entry_of kind_turn (granted_at n (after_grants w n p k))) ≡ 0 → Grants w n p q (suc k)
 unfolding after_grants grant_turn
-next-grants n p q k x taken =
+next-grants w n p q k x taken =
     record {
-      both = rw (← same) (after-both n before other x.both e taken);
+      both = rw (← same) (after-both n before other x.both e w taken);
       last = same;
-      ok = accepted-kept n before e x.ok taken;
-      other_ok = rw (← same) (accepted-kept n other e x.other_ok (sym (refusal-same n before other x.both e) ∙ taken));
-      step = rw (← same) (then x.step (after-step n before other x.both e taken));
+      ok = accepted-kept w n before e x.ok taken;
+      other_ok = rw (← same) (accepted-kept w n other e x.other_ok (sym (refusal-same n before other x.both e) ∙ taken));
+      step = rw (← same) (then x.step (after-step n before other x.both e w taken));
     }
   where
     before : State
-    before = (after_grants n p k).state
+    before = (after_grants w n p k).state
 
     other : State
-    other = (after_grants n q k).state
+    other = (after_grants w n q k).state
 
     e : Entry
-    e = entry_of kind_turn (granted_at n (after_grants n p k))
+    e = entry_of kind_turn (granted_at n (after_grants w n p k))
 
-    same : granted_at n (after_grants n p k) ≡ granted_at n (after_grants n q k)
-    same = granted-same n before.table other.table x.both.tables (after_grants n p k).last ∙ ap (granted n other.table) x.last
+    same : granted_at n (after_grants w n p k) ≡ granted_at n (after_grants w n q k)
+    same = granted-same n before.table other.table x.both.tables (after_grants w n p k).last ∙ ap (granted n other.table) x.last
 
 -- a drive that is not refused
-module _ (n : ℕ) (s r : State) (a : Alike n s r) (last : ℕ) (z : grant_refusal n s.table last ≡ 0) where
+module _ (w n : ℕ) (s r : State) (a : Alike w n s r) (last : ℕ) (z : grant_refusal w n s.table last ≡ 0) where
   abbrev p : Stand
   p = stand_at s last
 
@@ -105,86 +106,86 @@ module _ (n : ℕ) (s r : State) (a : Alike n s r) (last : ℕ) (z : grant_refus
   q = stand_at r last
 
   abbrev made : ℕ
-  made = grants_made n p
+  made = grants_made w n p
 
-  stop : Stopped n p made
-  stop = drive-stops n s last z
+  stop : Stopped w n p made
+  stop = drive-stops w n s last z
 
-  grants : (k : ℕ) → k ≤ made → Grants n p q k
+  grants : (k : ℕ) → k ≤ made → Grants w n p q k
   unfolding after_grants
   grants zero l = record {
-    both = alike-both n s r a;
+    both = alike-both w n s r a;
     last = refl;
-    ok = accepted n s.table a.valid;
-    other_ok = accepted n r.table a.other_valid;
+    ok = accepted w n s.table a.valid;
+    other_ok = accepted w n r.table a.other_valid;
     step = still n s.table r.table;
   }
   grants (suc k) l =
-      let d = driving-at n s last (grantable n s.table last z) k (λ j h. stop.first j (omega arith)) in
-      next-grants n p q k (grants k (omega arith)) (next-taken n p k d (not_stopped n p k (stop.first k (omega arith))).1)
+      let d = driving-at w n s last (grantable w n s.table last z) k (λ j h. stop.first j (omega arith)) in
+      next-grants w n p q k (grants k (omega arith)) (next-taken w n p k d (not_stopped w n p k (stop.first k (omega arith))).1)
 
-  ended-same : (k : ℕ) → k ≤ made → ended_after n p k ≡ ended_after n q k
+  ended-same : (k : ℕ) → k ≤ made → ended_after w n p k ≡ ended_after w n q k
   unfolding ended
   ended-same k l =
       let x = grants k l in
       ap₂ ◌||◌ (ap not (ap₂ eqb x.both.rounds a.rounds))
-      (ap not (some-live-same n (after_grants n p k).state.table (after_grants n q k).state.table x.both.tables))
+      (ap not (some-live-same n (after_grants w n p k).state.table (after_grants w n q k).state.table x.both.tables))
 
-  stops-same : (k : ℕ) → k ≤ made → stops n p k ≡ stops n q k
+  stops-same : (k : ℕ) → k ≤ made → stops w n p k ≡ stops w n q k
   unfolding stops
   stops-same k l = let x = grants k l in ap₂ ◌||◌ (ended-same k l) (ap₂ tally_full x.both.rounds x.both.tests)
 
-  other-stop : Stopped n q made
+  other-stop : Stopped w n q made
   other-stop = record {
     within = stop.within;
     stopped = sym (stops-same made (omega arith)) ∙ stop.stopped;
     first = λ k l. sym (stops-same k (omega arith)) ∙ stop.first k l;
   }
 
-  made-same : SameDrive n s r (outcome_after n p made) (outcome_after n q made)
+  made-same : SameDrive w n s r (outcome_after w n p made) (outcome_after w n q made)
   unfolding outcome_after
   made-same =
       let x = grants made (omega arith) in
       record {
         answer = rw (ended-same made (omega arith), x.both.rounds, x.both.tests, x.last);
         left =
-            stays n s r _ _ (alike-both n s r a) x.step (accepted-number n _ x.ok) (accepted-number n _ x.other_ok) x.both.rounds x.both.tests;
+            stays w n s r _ _ (alike-both w n s r a) x.step (accepted-number w n _ x.ok) (accepted-number w n _ x.other_ok) x.both.rounds x.both.tests;
       }
 
-  drive-same : SameDrive n s r (drive n s last) (drive n r last)
+  drive-same : SameDrive w n s r (drive w n s last) (drive w n r last)
   drive-same =
-      let z' : grant_refusal n r.table last ≡ 0 = sym (ap number_of_result (grant-checked n s r a n last)) ∙ z in
-      rw (← drive-made n s last made z stop, ← drive-made n r last made z' other-stop) made-same
+      let z' : grant_refusal w n r.table last ≡ 0 = sym (ap number_of_result (grant-checked w n s r a w n last (λ _. refl))) ∙ z in
+      rw (← drive-made w n s last made z stop, ← drive-made w n r last made z' other-stop) made-same
 
-refused : (n : ℕ) (s r : State) → Alike n s r → (number last : ℕ) → SameDrive n s r (drive_outcome number s last 0) (drive_outcome number r last 0)
-refused n s r a number last = record { answer = rw (a.rounds, a.tests); left = stay-still n s r a }
+refused : (w n : ℕ) (s r : State) → Alike w n s r → (number last : ℕ) → SameDrive w n s r (drive_outcome number s last 0) (drive_outcome number r last 0)
+refused w n s r a number last = record { answer = rw (a.rounds, a.tests); left = stay-still w n s r a }
 
 -- a drive, an end in itself
 pub drive-of-alike : DriveOfAlike
 unfolding drive
-drive-of-alike n s r a m last =
-    by_bool (eqb (grant_refusal m s.table last) 0)
+drive-of-alike w n s r a v m last on =
+    by_bool (eqb (grant_refusal v m s.table last) 0)
     (λ t.
-    let z : grant_refusal m s.table last ≡ 0 = eqb-true _ 0 t in
-    let z' : grant_refusal m r.table last ≡ 0 = sym (ap number_of_result (grant-checked n s r a m last)) ∙ z in
-    let same : m ≡ n = size-is n s r a m (sym (grantable m r.table last z').ok.long) in
-    rw same (drive-same n s r a last (rw same at z)))
+    let z : grant_refusal v m s.table last ≡ 0 = eqb-true _ 0 t in
+    let z' : grant_refusal v m r.table last ≡ 0 = sym (ap number_of_result (grant-checked w n s r a v m last on)) ∙ z in
+    let same : m ≡ n = size-is w n s r a m (sym (grantable v m r.table last z').ok.long) in
+    rw (on (grantable v m r.table last z').ok.wired, same) (drive-same w n s r a last (rw (on (grantable v m r.table last z').ok.wired, same) at z)))
     (λ t. turned-away t)
   where
-    turned-away : eqb (grant_refusal m s.table last) 0 ≡ false → SameDrive n s r (drive m s last) (drive m r last)
-    turned-away t = rw (← grant-checked n s r a m last, t) (refused n s r a (grant_refusal m s.table last) last)
+    turned-away : eqb (grant_refusal v m s.table last) 0 ≡ false → SameDrive w n s r (drive v m s last) (drive v m r last)
+    turned-away t = rw (← grant-checked w n s r a v m last on, t) (refused w n s r a (grant_refusal v m s.table last) last)
 
 -- one of a mixed list
-one-same : (n : ℕ) (s r : State) → Alike n s r → (x : RunOrDrive)
-    → (answer_of s x ≡ answer_of r x) × StayAlike n s r (after_one s x) (after_one r x)
-one-same n s r a (a_run c) = let f = run-of-alike n s r a c.size c.schedule c.sheet in (f.answer, f.left)
-one-same n s r a (a_drive m last) = let f = drive-of-alike n s r a m last in (f.answer, f.left)
+one-same : (w n : ℕ) (s r : State) → Alike w n s r → (x : RunOrDrive) → IsOn w (wiring_given x)
+    → (answer_of s x ≡ answer_of r x) × StayAlike w n s r (after_one s x) (after_one r x)
+one-same w n s r a (a_run c) on = let f = run-of-alike w n s r a c.wiring c.size c.schedule c.sheet on in (f.answer, f.left)
+one-same w n s r a (a_drive v m last) on = let f = drive-of-alike w n s r a v m last on in (f.answer, f.left)
 
 -- a mixed list, an end in itself
 pub mixed-of-alike : MixedOfAlike
 unfolding answers_of after_mixed
-mixed-of-alike n s r a [] = (refl, stay-still n s r a)
-mixed-of-alike n s r a (x ∷ xs) =
-    let one = one-same n s r a x in
-    let rest = mixed-of-alike n (after_one s x) (after_one r x) one.1.alike xs in
+mixed-of-alike w n s r a [] on = (refl, stay-still w n s r a)
+mixed-of-alike w n s r a (x ∷ xs) on =
+    let one = one-same w n s r a x (All-head (λ (x : RunOrDrive). IsOn w (wiring_given x)) x xs on) in
+    let rest = mixed-of-alike w n (after_one s x) (after_one r x) one.1.alike xs (All-tail (λ (x : RunOrDrive). IsOn w (wiring_given x)) x xs on) in
     (ap₂ ◌∷◌ one.0 rest.0, stay-then one.1 rest.1)

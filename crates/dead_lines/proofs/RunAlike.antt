@@ -12,17 +12,19 @@ use lib.ListN.{length}
 use Rattle.lists.specs.Refusal.{number_of_result}
 use Rattle.lists.proofs.BoolLaws.{by_bool}
 use Rattle.lists.proofs.RefusalLaws.{and_same}
+use Rattle.std.proofs.lemmas.List.Elements.{All-head, All-tail}
+use Rattle.table.specs.Wiring.{wiring_check}
 use Rattle.table.specs.Table.{table_length, finished_column, live}
-use Rattle.table.specs.Rules.{round_over, shape_check, table_check, table_refusal}
+use Rattle.table.specs.Rules.{round_over, shape_check, table_check_on, wired_table_check, wired_table_refusal}
 use Rattle.table.proofs.Accepting.{accepted, shape_ok}
 use Rattle.plant.specs.Round.{after_round}
 use Rattle.plant.specs.Entry.{Entry, State, entry_check, entry_refusal, acted, after, sheet_line}
 use Rattle.plant.specs.Run.{RunResult, entries, write_line, go_on, start_check, start_refusal, run}
 use Rattle.plant.proofs.RulesKept.{Takes, entry-facts, run-keeps-rules}
 use Rattle.plant.proofs.RunLaws.{start-facts}
-use Rattle.detection.specs.Runs.{after_run, after_runs}
+use Rattle.detection.specs.Runs.{Call, after_run, after_runs}
 use Rattle.detection.proofs.Chain.{size-unique}
-use Rattle.dead_lines.specs.Alike.{Alike, StayAlike, RunOfAlike, answers_of_runs, RunsOfAlike}
+use Rattle.dead_lines.specs.Alike.{Alike, StayAlike, IsOn, RunOfAlike, answers_of_runs, RunsOfAlike}
 use Rattle.dead_lines.proofs.Writes.{Twins, Step, still, then, twins-after, line-after, closing}
 use Rattle.dead_lines.proofs.TurnAlike.{live-same, over-same, acted-step, test-same, tested-same, outcome-of-same}
 
@@ -48,36 +50,36 @@ module _ (n : ℕ) (s r : State) (b : Both n s r) (e : Entry) where
   refusal-same = ap number_of_result check-same
 
   -- one that is taken
-  module _ (z : entry_refusal n s e ≡ 0) where
+  module _ (w : ℕ) (z : entry_refusal n s e ≡ 0) where
     takes : Takes n s e
     takes = entry-facts n s e z
 
-    acted-both : Step n s.table r.table (acted n s.table e) (acted n r.table e)
-    acted-both = acted-step n s.table r.table b.tables e takes.below takes.is_live
+    acted-both : Step n s.table r.table (acted w n s.table e) (acted w n r.table e)
+    acted-both = acted-step w n s.table r.table b.tables e takes.below takes.is_live
 
-    over : round_over n (acted n s.table e) ≡ round_over n (acted n r.table e)
-    over = over-same n (acted n s.table e) (acted n r.table e) (twins-after b.tables acted-both)
+    over : round_over n (acted w n s.table e) ≡ round_over n (acted w n r.table e)
+    over = over-same n (acted w n s.table e) (acted w n r.table e) (twins-after b.tables acted-both)
 
-    pub after-step : Step n s.table r.table (after n s e).table (after n r e).table
+    pub after-step : Step n s.table r.table (after w n s e).table (after w n r e).table
     unfolding after after_round
     after-step =
-        by_bool (round_over n (acted n s.table e))
-        (λ o. rw (← over, o) (then acted-both (closing n (acted n s.table e) (acted n r.table e) (twins-after b.tables acted-both))))
+        by_bool (round_over n (acted w n s.table e))
+        (λ o. rw (← over, o) (then acted-both (closing n (acted w n s.table e) (acted w n r.table e) (twins-after b.tables acted-both))))
         (λ o. rw (← over, o) acted-both)
 
-    pub after-both : Both n (after n s e) (after n r e)
+    pub after-both : Both n (after w n s e) (after w n r e)
     unfolding after
     after-both = record {
       tables = twins-after b.tables after-step;
       rounds = rw (over, b.rounds);
-      tests = rw (test-same n s.table r.table b.tables e takes.below takes.is_live, b.tests);
+      tests = rw (test-same w n s.table r.table b.tables e takes.below takes.is_live, b.tests);
     }
 
-    pub sheet-same : sheet_line n s e ≡ sheet_line n r e
+    pub sheet-same : sheet_line w n s e ≡ sheet_line w n r e
     unfolding sheet_line
     sheet-same =
-        let tested = tested-same n s.table r.table b.tables e takes.below takes.is_live in
-        let outcome = outcome-of-same n s.table r.table b.tables e takes.below takes.is_live in
+        let tested = tested-same w n s.table r.table b.tables e takes.below takes.is_live in
+        let outcome = outcome-of-same w n s.table r.table b.tables e takes.below takes.is_live in
         rw (tested, outcome, after-both.tables.statuses e.station takes.below)
 
 -- two runs from twin tables
@@ -101,27 +103,27 @@ further : {n : ℕ} {s r s' r' : State} {a b : RunResult} → Step n s.table r.t
 further one rest =
     record { number = rest.number; taken = rest.taken; sheet = rest.sheet; rounds = rest.rounds; tests = rest.tests; step = then one rest.step }
 
-run-on : (n k : ℕ) (s r : State) (sheet : List ℕ) (es : List Entry) → Both n s r → SameFrom n s r (go_on n k s sheet es) (go_on n k r sheet es)
+run-on : (w n k : ℕ) (s r : State) (sheet : List ℕ) (es : List Entry) → Both n s r → SameFrom n s r (go_on w n k s sheet es) (go_on w n k r sheet es)
 unfolding go_on
-run-on n k s r sheet [] b = stopped n s r b 0 k sheet
-run-on n k s r sheet (e ∷ es) b =
+run-on w n k s r sheet [] b = stopped n s r b 0 k sheet
+run-on w n k s r sheet (e ∷ es) b =
     by_bool (eqb (entry_refusal n s e) 0)
     (λ t.
     let z = eqb-true (entry_refusal n s e) 0 t in
-    let rest = run-on n (suc k) (after n s e) (after n r e) (write_line sheet k (sheet_line n s e)) es (after-both n s r b e z) in
-    rw (← refusal-same n s r b e, t, ← sheet-same n s r b e z) (further (after-step n s r b e z) rest))
+    let rest = run-on w n (suc k) (after w n s e) (after w n r e) (write_line sheet k (sheet_line w n s e)) es (after-both n s r b e w z) in
+    rw (← refusal-same n s r b e, t, ← sheet-same n s r b e w z) (further (after-step n s r b e w z) rest))
     (λ t. rw (← refusal-same n s r b e, t) (stopped n s r b (entry_refusal n s e) k sheet))
 
 -- alike tables and tallies
-module _ (n : ℕ) (s r : State) (a : Alike n s r) where
+module _ (w n : ℕ) (s r : State) (a : Alike w n s r) where
   pub long-alike : length s.table ≡ table_length n
-  long-alike = (accepted n s.table a.valid).long
+  long-alike = (accepted w n s.table a.valid).long
 
   pub alike-both : Both n s r
   alike-both = record {
     tables = record {
       long = long-alike;
-      other_long = (accepted n r.table a.other_valid).long;
+      other_long = (accepted w n r.table a.other_valid).long;
       statuses = λ i h. a.statuses i (omega (arith, h));
       live_lines = λ i h l. a.live_lines i (omega (arith, h)) l;
     };
@@ -136,77 +138,79 @@ module _ (n : ℕ) (s r : State) (a : Alike n s r) where
   pub size-is : (m : ℕ) → table_length m ≡ length r.table → m ≡ n
   size-is m fits = size-unique m n (fits ∙ alike-both.tables.other_long)
 
-  -- a call of any size finds the same of refusals 1 to 4: one of another size by the length alone
-  pub tables-checked : (m : ℕ) → table_check m s.table ≡ table_check m r.table
-  unfolding table_check
-  tables-checked m =
-      rw same-length
+  -- a call on this wiring, of any size, finds the same of refusals 24 and 1 to 4: one of another size by the length alone
+  pub tables-checked : (v m : ℕ) → IsOn w v → wired_table_check v m s.table ≡ wired_table_check v m r.table
+  unfolding table_check_on
+  tables-checked v m on =
+      and_same (wiring_check v) _ _
+      (λ known.
+      rw (on known, same-length)
       (and_same (shape_check m (length r.table)) _ _
       (λ ok.
-      let p = accepted n s.table a.valid in
-      let q = accepted n r.table a.other_valid in
-      rw (size-is m (sym (shape_ok m (length r.table) tt ok).1), p.lines, p.unclosed, q.lines, q.unclosed)))
+      let p = accepted w n s.table a.valid in
+      let q = accepted w n r.table a.other_valid in
+      rw (size-is m (sym (shape_ok m (length r.table) tt ok).1), p.lines, p.unclosed, q.lines, q.unclosed))))
 
-  started : (m x y : ℕ) → start_check m s.table x y ≡ start_check m r.table x y
+  started : (v m x y : ℕ) → IsOn w v → start_check v m s.table x y ≡ start_check v m r.table x y
   unfolding start_check
-  started m x y = rw (tables-checked m)
+  started v m x y on = rw (tables-checked v m on)
 
-  run-same : (m : ℕ) (schedule sheet : List ℕ) → SameFrom n s r (run m s schedule sheet) (run m r schedule sheet)
+  run-same : (v m : ℕ) (schedule sheet : List ℕ) → IsOn w v → SameFrom n s r (run v m s schedule sheet) (run v m r schedule sheet)
   unfolding run
-  run-same m schedule sheet =
-      by_bool (eqb (start_refusal m s.table (length schedule) (length sheet)) 0)
+  run-same v m schedule sheet on =
+      by_bool (eqb (start_refusal v m s.table (length schedule) (length sheet)) 0)
       (λ t.
-      let fits = (start-facts m s.table (length schedule) (length sheet) (eqb-true _ 0 t)).0 in
-      rw (← started m (length schedule) (length sheet), t, size-is m (sym fits.long ∙ same-length))
-      (run-on n 0 s r sheet (entries schedule) alike-both))
+      let fits = (start-facts v m s.table (length schedule) (length sheet) (eqb-true _ 0 t)).0 in
+      rw (← started v m (length schedule) (length sheet) on, t, on fits.wired, size-is m (sym fits.long ∙ same-length))
+      (run-on w n 0 s r sheet (entries schedule) alike-both))
       (λ t.
-      rw (← started m (length schedule) (length sheet), t)
-      (stopped n s r alike-both (start_refusal m s.table (length schedule) (length sheet)) 0 sheet))
+      rw (← started v m (length schedule) (length sheet) on, t)
+      (stopped n s r alike-both (start_refusal v m s.table (length schedule) (length sheet)) 0 sheet))
 
 -- a run of any size keeps the rules of size n
-still-valid : (n : ℕ) (s : State) → table_refusal n s.table ≡ 0 → (m : ℕ) (schedule sheet : List ℕ)
-    → table_refusal n (run m s schedule sheet).state.table ≡ 0
+still-valid : (w n : ℕ) (s : State) → wired_table_refusal w n s.table ≡ 0 → (v m : ℕ) (schedule sheet : List ℕ) → IsOn w v
+    → wired_table_refusal w n (run v m s schedule sheet).state.table ≡ 0
 unfolding run
-still-valid n s z m schedule sheet =
-    by_bool (eqb (start_refusal m s.table (length schedule) (length sheet)) 0)
+still-valid w n s z v m schedule sheet on =
+    by_bool (eqb (start_refusal v m s.table (length schedule) (length sheet)) 0)
     (λ t.
-    let fits = (start-facts m s.table (length schedule) (length sheet) (eqb-true _ 0 t)).0 in
-    let same : m ≡ n = size-unique m n (sym fits.long ∙ (accepted n s.table z).long) in
-    rw same (run-keeps-rules n s schedule sheet z))
+    let fits = (start-facts v m s.table (length schedule) (length sheet) (eqb-true _ 0 t)).0 in
+    let same : m ≡ n = size-unique m n (sym fits.long ∙ (accepted w n s.table z).long) in
+    rw (on fits.wired, same) (run-keeps-rules w n s schedule sheet z))
     (λ t. rw t z)
 
 -- what stays alike
-pub stays : (n : ℕ) (s r s' r' : State) → Both n s r → Step n s.table r.table s'.table r'.table → table_refusal n s'.table ≡ 0
-    → table_refusal n r'.table ≡ 0 → s'.rounds ≡ r'.rounds → s'.tests ≡ r'.tests → StayAlike n s r s' r'
-stays n s r s' r' b step z z' rounds tests =
-    let w = twins-after b.tables step in
+pub stays : (w n : ℕ) (s r s' r' : State) → Both n s r → Step n s.table r.table s'.table r'.table → wired_table_refusal w n s'.table ≡ 0
+    → wired_table_refusal w n r'.table ≡ 0 → s'.rounds ≡ r'.rounds → s'.tests ≡ r'.tests → StayAlike w n s r s' r'
+stays w n s r s' r' b step z z' rounds tests =
+    let tw = twins-after b.tables step in
     record {
-      alike = record { valid = z; other_valid = z'; statuses = w.statuses; live_lines = w.live_lines; rounds = rounds; tests = tests };
+      alike = record { valid = z; other_valid = z'; statuses = tw.statuses; live_lines = tw.live_lines; rounds = rounds; tests = tests };
       lines = line-after step;
     }
 
-pub stay-still : (n : ℕ) (s r : State) → Alike n s r → StayAlike n s r s r
-stay-still n s r a = record { alike = a; lines = λ i h line. line }
+pub stay-still : (w n : ℕ) (s r : State) → Alike w n s r → StayAlike w n s r s r
+stay-still w n s r a = record { alike = a; lines = λ i h line. line }
 
-pub stay-then : {n : ℕ} {s r s' r' s'' r'' : State} → StayAlike n s r s' r' → StayAlike n s' r' s'' r'' → StayAlike n s r s'' r''
+pub stay-then : {w n : ℕ} {s r s' r' s'' r'' : State} → StayAlike w n s r s' r' → StayAlike w n s' r' s'' r'' → StayAlike w n s r s'' r''
 stay-then one two = record { alike = two.alike; lines = λ i h line. two.lines i h (one.lines i h line) }
 
 -- a run, an end in itself
 pub run-of-alike : RunOfAlike
-run-of-alike n s r a m schedule sheet =
-    let f = run-same n s r a m schedule sheet in
+run-of-alike w n s r a v m schedule sheet on =
+    let f = run-same w n s r a v m schedule sheet on in
     record {
       answer = rw (f.number, f.taken, f.rounds, f.tests, f.sheet);
       left =
-          stays n s r _ _ (alike-both n s r a) f.step (still-valid n s a.valid m schedule sheet) (still-valid n r a.other_valid m schedule sheet)
-          f.rounds f.tests;
+          stays w n s r _ _ (alike-both w n s r a) f.step (still-valid w n s a.valid v m schedule sheet on)
+          (still-valid w n r a.other_valid v m schedule sheet on) f.rounds f.tests;
     }
 
 -- a list of runs, an end in itself
 pub runs-of-alike : RunsOfAlike
 unfolding answers_of_runs after_runs
-runs-of-alike n s r a [] = (refl, stay-still n s r a)
-runs-of-alike n s r a (c ∷ cs) =
-    let one = run-of-alike n s r a c.size c.schedule c.sheet in
-    let rest = runs-of-alike n (after_run s c) (after_run r c) one.left.alike cs in
+runs-of-alike w n s r a [] on = (refl, stay-still w n s r a)
+runs-of-alike w n s r a (c ∷ cs) on =
+    let one = run-of-alike w n s r a c.wiring c.size c.schedule c.sheet (All-head (λ (c : Call). IsOn w c.wiring) c cs on) in
+    let rest = runs-of-alike w n (after_run s c) (after_run r c) one.left.alike cs (All-tail (λ (c : Call). IsOn w c.wiring) c cs on) in
     (ap₂ ◌∷◌ one.answer rest.0, stay-then one.left rest.1)

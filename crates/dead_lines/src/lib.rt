@@ -16,6 +16,7 @@ use plant::{Ran, Tally, run};
 
 // The run: on any table that is alike it answers the same and writes the same sheet.
 pub fn run_whatever_dead_lines_hold(
+    wiring: usize,
     n: usize,
     table: &mut [u8],
     tally: Tally,
@@ -23,25 +24,27 @@ pub fn run_whatever_dead_lines_hold(
     sheet: &mut [u8],
 ) -> Ran
     ensures outcome { outcome_with result table.new sheet.new
-        ≡ run n (state_with table.old tally) schedule.now sheet.old }
-    ensures dead_lines { RunIgnoresDeadLines (state_with table.old tally) n schedule.now sheet.old
-        (outcome_with result table.new sheet.new) }
+        ≡ run wiring n (state_with table.old tally) schedule.now sheet.old }
+    ensures dead_lines { RunIgnoresDeadLines (state_with table.old tally) wiring n
+        schedule.now sheet.old (outcome_with result table.new sheet.new) }
 {
-    run::run(n, table, tally, schedule, sheet)
+    run::run(wiring, n, table, tally, schedule, sheet)
 }
 
 // The drive: the same.
 pub fn drive_whatever_dead_lines_hold(
+    wiring: usize,
     n: usize,
     table: &mut [u8],
     tally: Tally,
     last: usize,
 ) -> Driven
-    ensures outcome { drive_outcome_with result table.new ≡ drive n (state_with table.old tally) last }
-    ensures dead_lines { DriveIgnoresDeadLines (state_with table.old tally) n last
+    ensures outcome { drive_outcome_with result table.new
+        ≡ drive wiring n (state_with table.old tally) last }
+    ensures dead_lines { DriveIgnoresDeadLines (state_with table.old tally) wiring n last
         (drive_outcome_with result table.new) }
 {
-    drive::drive(n, table, tally, last)
+    drive::drive(wiring, n, table, tally, last)
 }
 
 // A run answers and writes the same on alike tables, which it leaves alike.

@@ -8,5 +8,5 @@ use Rattle.dead_lines.proofs.run_whatever_dead_lines_hold.Goals as goal
 pub returns-clause-dead_lines : goal.returns-clause-dead_lines
 returns-clause-dead_lines c =
     let before = state_with c.args.table.now c.args.tally in
-    subst (RunIgnoresDeadLines before c.args.n c.args.schedule.now c.args.sheet.now) (sym c.run.ensures)
-    (λ n r a. run-of-alike n before r a c.args.n c.args.schedule.now c.args.sheet.now)
+    subst (RunIgnoresDeadLines before c.args.wiring c.args.n c.args.schedule.now c.args.sheet.now) (sym c.run.ensures)
+    (λ w n r a on. run-of-alike w n before r a c.args.wiring c.args.n c.args.schedule.now c.args.sheet.now on)
