@@ -5,8 +5,9 @@ use Rattle.lists.specs.Search.{least, every, list_of}
 use Rattle.lists.specs.Refusal.{number_of}
 use Rattle.lists.specs.declared.refusal.Refusal.{Refusal}
 use Rattle.table.specs.Sizes.{is_size, level, dimension, distances}
+use Rattle.table.specs.Wiring.{wiring_cube, end_distance}
 use Rattle.table.specs.Table.{head, table_length, line_start, cell, set_cell, status_column, next_column}
-use Rattle.table.specs.Rules.{exit_rule, row_rule, line_rules, some_live, live_finished, shape_check, table_check}
+use Rattle.table.specs.Rules.{exit_rule, row_rule, wired_line_rules, some_live, live_finished, shape_check, table_check_on}
 use Rattle.table.specs.Fresh.{fresh_byte, fresh_table}
 use Rattle.plant.specs.Turn.{finish_pass}
 use Rattle.lamp.specs.declared.Doubt.{Doubt}
@@ -33,24 +34,24 @@ four_doubts = suspecting 3 0 (suspecting 2 0 (suspecting 1 3 (suspecting 1 2 (fr
 unfoldable pub lamps : List Example
 lamps =
     -- nobody suspects anybody
-    expect (lamp_figures (doubt_lamp 4 (fresh_table 4))) []
+    expect (lamp_figures (doubt_lamp wiring_cube 4 (fresh_table 4))) []
     -- the first and the last pair
-    ∷ expect (lamp_figures (doubt_lamp 4 (suspecting 0 1 (fresh_table 4)))) (0 ∷ 1 ∷ [])
-    ∷ expect (lamp_figures (doubt_lamp 4 (suspecting 3 2 (fresh_table 4)))) (3 ∷ 2 ∷ [])
+    ∷ expect (lamp_figures (doubt_lamp wiring_cube 4 (suspecting 0 1 (fresh_table 4)))) (0 ∷ 1 ∷ [])
+    ∷ expect (lamp_figures (doubt_lamp wiring_cube 4 (suspecting 3 2 (fresh_table 4)))) (3 ∷ 2 ∷ [])
     -- line before row: 1 suspects 2 comes before 2 suspects 0
-    ∷ expect (lamp_figures (doubt_lamp 4 four_doubts)) (1 ∷ 2 ∷ [])
+    ∷ expect (lamp_figures (doubt_lamp wiring_cube 4 four_doubts)) (1 ∷ 2 ∷ [])
     -- a board that is not live is suspected, or suspects, for nothing
-    ∷ expect (lamp_figures (doubt_lamp 4 (crashed 2 four_doubts))) (1 ∷ 3 ∷ [])
-    ∷ expect (lamp_figures (doubt_lamp 4 (crashed 1 four_doubts))) (2 ∷ 0 ∷ [])
-    ∷ expect (lamp_figures (doubt_lamp 4 (crashed 0 (crashed 1 four_doubts)))) []
+    ∷ expect (lamp_figures (doubt_lamp wiring_cube 4 (crashed 2 four_doubts))) (1 ∷ 3 ∷ [])
+    ∷ expect (lamp_figures (doubt_lamp wiring_cube 4 (crashed 1 four_doubts))) (2 ∷ 0 ∷ [])
+    ∷ expect (lamp_figures (doubt_lamp wiring_cube 4 (crashed 0 (crashed 1 four_doubts)))) []
     -- refusals 1 to 4, also where there is a pair in line 0: the last line has next distance 0; every board has finished its pass
-    ∷ expect (lamp_figures (doubt_lamp 65 (fresh_table 4))) (1 ∷ [])
-    ∷ expect (lamp_figures (doubt_lamp 3 (fresh_table 4))) (2 ∷ [])
-    ∷ expect (lamp_figures (doubt_lamp 4 (set_cell 4 (suspecting 0 1 (fresh_table 4)) 3 next_column 0))) (3 ∷ [])
-    ∷ expect (lamp_figures (doubt_lamp 2 (finish_pass 2 (finish_pass 2 (set_cell 2 (fresh_table 2) 0 (head + 1) 1) 0) 1))) (4 ∷ [])
+    ∷ expect (lamp_figures (doubt_lamp wiring_cube 65 (fresh_table 4))) (1 ∷ [])
+    ∷ expect (lamp_figures (doubt_lamp wiring_cube 3 (fresh_table 4))) (2 ∷ [])
+    ∷ expect (lamp_figures (doubt_lamp wiring_cube 4 (set_cell 4 (suspecting 0 1 (fresh_table 4)) 3 next_column 0))) (3 ∷ [])
+    ∷ expect (lamp_figures (doubt_lamp wiring_cube 2 (finish_pass wiring_cube 2 (finish_pass wiring_cube 2 (set_cell 2 (fresh_table 2) 0 (head + 1) 1) 0) 1))) (4 ∷ [])
     ∷ []
 
 pub lamps-hold : AllHold lamps
-unfolding lamps four_doubts doubt_lamp first_doubt doubts table_check shape_check is_size table_length every line_rules exit_rule row_rule
+unfolding lamps four_doubts doubt_lamp first_doubt doubts table_check_on shape_check is_size table_length every wired_line_rules end_distance exit_rule row_rule
     some_live live_finished cell line_start set_cell fresh_table fresh_byte list_of finish_pass least level dimension distances
 lamps-hold = refl

@@ -4,14 +4,16 @@ use Rattle.std.specs.Prelude.{◌≡◌, refl, List, [], ◌∷◌, map, ℕ, �
 use Rattle.lists.specs.Search.{least, every, list_of}
 use Rattle.table.specs.Sizes.{is_size, level, dimension, distances}
 use Rattle.station.specs.Groups.{width, member}
+use Rattle.table.specs.Wiring.{wiring_cube, end_distance}
 use Rattle.table.specs.Table.{head, table_length, line_start, cell, set_cell, status_column, row, set_row}
-use Rattle.table.specs.Rules.{exit_rule, row_rule, line_rules, some_live, live_finished, shape_check, table_check}
+use Rattle.table.specs.Rules.{exit_rule, row_rule, wired_line_rules, some_live, live_finished, shape_check, table_check_on}
+use Rattle.station.specs.Wired.{wired_station, wired_due}
 use Rattle.station.specs.Tests.{unsuspected, first_place, first, answer, due}
 use Rattle.station.specs.Rows.{union_byte, union, mark}
 use Rattle.table.specs.Fresh.{fresh_byte, fresh_table}
 use Rattle.lists.specs.Steps.{after_steps}
-use Rattle.plant.specs.Turn.{leave_told, next_test, makes_test, finish_pass, count_test, replies, is_told, exchange_rows, suspect, reply_outcome}
-use Rattle.plant.specs.Turn.{test_outcome, after_outcome, self_or_suspected, is_alone, after_alone, testing, turn}
+use Rattle.plant.specs.Turn.{leave_told, next_test, makes_test, finish_pass, next_after, count_test, replies, is_told, exchange_rows, suspect, reply_outcome}
+use Rattle.plant.specs.Turn.{test_outcome, after_outcome, self_or_suspected, is_alone, after_alone, after_test, testing, turn}
 use Rattle.plant.specs.Round.{rounds_after, reset_line, reset_lines, after_round}
 use Rattle.plant.specs.Entry.{state_of, acted, after}
 use Rattle.granter.specs.Grant.{waits, first_from, following, granted, grant_check, grant_refusal, grant_answer, grant_station}
@@ -32,11 +34,11 @@ grants_of t = map (granted 4 t) (255 ∷ 0 ∷ 1 ∷ 2 ∷ 3 ∷ [])
 
 -- four boards: 2 is dead and 3 has finished its pass
 unfoldable pub two_wait : List ℕ
-two_wait = finish_pass 4 (set_cell 4 (fresh_table 4) 2 status_column 1) 3
+two_wait = finish_pass wiring_cube 4 (set_cell 4 (fresh_table 4) 2 status_column 1) 3
 
 -- and so has 0
 unfoldable pub one_waits : List ℕ
-one_waits = finish_pass 4 two_wait 0
+one_waits = finish_pass wiring_cube 4 two_wait 0
 
 -- four boards, none of them live
 unfoldable pub all_dead : List ℕ
@@ -48,10 +50,10 @@ drive_figures d = d.number ∷ d.state.rounds ∷ d.state.tests ∷ d.last ∷ d
 
 -- two boards, fresh, and two that suspect one another
 unfoldable pub two_fresh : DriveResult
-two_fresh = drive 2 (state_of (fresh_table 2) 0 0) 255
+two_fresh = drive wiring_cube 2 (state_of (fresh_table 2) 0 0) 255
 
 unfoldable pub two_suspecting : DriveResult
-two_suspecting = drive 2 (state_of (set_cell 2 (set_cell 2 (fresh_table 2) 0 (head + 1) 1) 1 (head + 0) 1) 0 0) 255
+two_suspecting = drive wiring_cube 2 (state_of (set_cell 2 (set_cell 2 (fresh_table 2) 0 (head + 1) 1) 1 (head + 0) 1) 0 0) 255
 
 unfoldable pub examples : List Example
 examples =
@@ -62,9 +64,9 @@ examples =
     -- the last granted station comes last: alone live and unfinished, it is granted again
     ∷ expect (grants_of one_waits) (1 ∷ 1 ∷ 1 ∷ 1 ∷ 1 ∷ [])
     -- refusal 16 for a last number of n or more that is not 255, then 17 when no station is live
-    ∷ expect (map (grant_refusal 4 (fresh_table 4)) (3 ∷ 4 ∷ 254 ∷ 255 ∷ 256 ∷ [])) (0 ∷ 16 ∷ 16 ∷ 0 ∷ 16 ∷ [])
-    ∷ expect (map (grant_refusal 4 all_dead) (3 ∷ 4 ∷ 255 ∷ [])) (17 ∷ 16 ∷ 17 ∷ [])
-    ∷ expect (grant_station 4 all_dead 3 ∷ grant_station 4 (fresh_table 4) 4 ∷ []) (0 ∷ 0 ∷ [])
+    ∷ expect (map (grant_refusal wiring_cube 4 (fresh_table 4)) (3 ∷ 4 ∷ 254 ∷ 255 ∷ 256 ∷ [])) (0 ∷ 16 ∷ 16 ∷ 0 ∷ 16 ∷ [])
+    ∷ expect (map (grant_refusal wiring_cube 4 all_dead) (3 ∷ 4 ∷ 255 ∷ [])) (17 ∷ 16 ∷ 17 ∷ [])
+    ∷ expect (grant_station wiring_cube 4 all_dead 3 ∷ grant_station wiring_cube 4 (fresh_table 4) 4 ∷ []) (0 ∷ 0 ∷ [])
     ∷ []
 
 -- of drives
@@ -74,15 +76,15 @@ drives =
     expect (drive_figures two_fresh) (0 ∷ 1 ∷ 2 ∷ 1 ∷ 4 ∷ [])
     ∷ expect two_fresh.state.table (fresh_table 2)
     -- one after the other: the second drive begins behind the last granted station
-    ∷ expect (drive_figures (drive 2 two_fresh.state two_fresh.last)) (0 ∷ 2 ∷ 4 ∷ 1 ∷ 4 ∷ [])
+    ∷ expect (drive_figures (drive wiring_cube 2 two_fresh.state two_fresh.last)) (0 ∷ 2 ∷ 4 ∷ 1 ∷ 4 ∷ [])
     -- a drive stops with 7 before a grant while a counter is full, and keeps the turns made
-    ∷ expect (drive_figures (drive 2 (state_of (fresh_table 2) 0 4294967295) 1)) (7 ∷ 0 ∷ 4294967295 ∷ 1 ∷ 0 ∷ [])
-    ∷ expect (drive_figures (drive 2 (state_of (fresh_table 2) 0 4294967294) 0)) (7 ∷ 0 ∷ 4294967295 ∷ 1 ∷ 1 ∷ [])
+    ∷ expect (drive_figures (drive wiring_cube 2 (state_of (fresh_table 2) 0 4294967295) 1)) (7 ∷ 0 ∷ 4294967295 ∷ 1 ∷ 0 ∷ [])
+    ∷ expect (drive_figures (drive wiring_cube 2 (state_of (fresh_table 2) 0 4294967294) 0)) (7 ∷ 0 ∷ 4294967295 ∷ 1 ∷ 1 ∷ [])
     -- the turn that brings the rounds to the top closes the round: 0
-    ∷ expect (drive_figures (drive 2 (state_of (fresh_table 2) 4294967294 0) 255)) (0 ∷ 4294967295 ∷ 2 ∷ 1 ∷ 4 ∷ [])
+    ∷ expect (drive_figures (drive wiring_cube 2 (state_of (fresh_table 2) 4294967294 0) 255)) (0 ∷ 4294967295 ∷ 2 ∷ 1 ∷ 4 ∷ [])
     -- 0 tests 1, is told and leaves; 1 tests 0, which is not live, and leaves as alone: nobody is left live, and no round closed
     ∷ expect (drive_figures two_suspecting) (0 ∷ 0 ∷ 2 ∷ 1 ∷ 2 ∷ [])
-    ∷ expect (drive_figures (drive 2 two_suspecting.state two_suspecting.last)) (17 ∷ 0 ∷ 2 ∷ 1 ∷ 0 ∷ [])
+    ∷ expect (drive_figures (drive wiring_cube 2 two_suspecting.state two_suspecting.last)) (17 ∷ 0 ∷ 2 ∷ 1 ∷ 0 ∷ [])
     ∷ []
 
 -- each example holds
@@ -91,18 +93,18 @@ AllHold es = map (λ (e : Example). e.computed) es ≡ map (λ (e : Example). e.
 
 pub grants-hold : AllHold examples
 unfolding rounds_after leave_told examples two_wait one_waits all_dead two_fresh two_suspecting drive outcome_after grants_made stops ended
-    after_grants grant_turn grant_check grant_answer granted following first_from waits table_check shape_check is_size table_length every
-    line_rules exit_rule row_rule some_live live_finished cell line_start row set_row set_cell fresh_table fresh_byte list_of after acted turn
-    reset_line reset_lines after_round after_steps next_test makes_test finish_pass count_test replies is_told exchange_rows suspect
-    reply_outcome test_outcome after_outcome self_or_suspected is_alone after_alone testing answer due first first_place least unsuspected member
+    after_grants grant_turn grant_check grant_answer granted following first_from waits table_check_on shape_check is_size table_length every
+    wired_line_rules end_distance exit_rule row_rule some_live live_finished cell line_start row set_row set_cell fresh_table fresh_byte list_of after acted turn
+    reset_line reset_lines after_round after_steps next_test makes_test finish_pass next_after count_test replies is_told exchange_rows suspect
+    reply_outcome test_outcome after_outcome self_or_suspected is_alone after_alone after_test testing answer wired_station wired_due due first first_place least unsuspected member
     width level dimension distances union union_byte joined_byte mark
 grants-hold = refl
 
 pub drives-hold : AllHold drives
 unfolding rounds_after leave_told drives two_wait one_waits all_dead two_fresh two_suspecting drive outcome_after grants_made stops ended
-    after_grants grant_turn grant_check grant_answer granted following first_from waits table_check shape_check is_size table_length every
-    line_rules exit_rule row_rule some_live live_finished cell line_start row set_row set_cell fresh_table fresh_byte list_of after acted turn
-    reset_line reset_lines after_round after_steps next_test makes_test finish_pass count_test replies is_told exchange_rows suspect
-    reply_outcome test_outcome after_outcome self_or_suspected is_alone after_alone testing answer due first first_place least unsuspected member
+    after_grants grant_turn grant_check grant_answer granted following first_from waits table_check_on shape_check is_size table_length every
+    wired_line_rules end_distance exit_rule row_rule some_live live_finished cell line_start row set_row set_cell fresh_table fresh_byte list_of after acted turn
+    reset_line reset_lines after_round after_steps next_test makes_test finish_pass next_after count_test replies is_told exchange_rows suspect
+    reply_outcome test_outcome after_outcome self_or_suspected is_alone after_alone after_test testing answer wired_station wired_due due first first_place least unsuspected member
     width level dimension distances union union_byte joined_byte mark
 drives-hold = refl

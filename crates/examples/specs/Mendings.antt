@@ -6,6 +6,7 @@ use Rattle.lists.specs.Search.{least, every, list_of}
 use Rattle.lists.specs.Refusal.{number_of}
 use Rattle.lists.specs.declared.refusal.Refusal.{Refusal}
 use Rattle.table.specs.Sizes.{is_size, level, dimension, distances}
+use Rattle.table.specs.Wiring.{wiring_cube, end_distance}
 use Rattle.table.specs.Table.{table_length, line_start, cell}
 use Rattle.table.specs.Rules.{exit_rule, some_live, live_finished, shape_check}
 use Rattle.table.specs.Fresh.{fresh_byte, fresh_table}
@@ -49,22 +50,22 @@ mendings =
     -- a row byte of 3; a board's 1 about itself
     ∷ expect (listed (fresh_line ++ (0 ∷ 1 ∷ 0 ∷ 0 ∷ 255 ∷ 0 ∷ 3 ∷ 1 ∷ []))) (0 ∷ 14 ∷ 3 ∷ 0 ∷ 0 ∷ 15 ∷ 1 ∷ 0 ∷ [])
     -- once line 1 is mended the round is over: line 0 is begun anew too
-    ∷ expect (mended 2 damaged) (line 0 1 0 0 255 0 ++ (1 ∷ 1 ∷ 0 ∷ 0 ∷ 255 ∷ 9 ∷ 1 ∷ 0 ∷ []))
+    ∷ expect (mended wiring_cube 2 damaged) (line 0 1 0 0 255 0 ++ (1 ∷ 1 ∷ 0 ∷ 0 ∷ 255 ∷ 9 ∷ 1 ∷ 0 ∷ []))
     ∷ expect (listed damaged)
     ((0 ∷ 1 ∷ 2 ∷ 1 ∷ []) ++ (0 ∷ 2 ∷ 1 ∷ 0 ∷ []) ++ (0 ∷ 3 ∷ 1 ∷ 0 ∷ []) ++ (0 ∷ 8 ∷ 7 ∷ 1 ∷ []) ++ (0 ∷ 9 ∷ 2 ∷ 1 ∷ [])
     ++ (0 ∷ 10 ∷ 2 ∷ 0 ∷ []) ++ (0 ∷ 12 ∷ 3 ∷ 255 ∷ []) ++ (0 ∷ 15 ∷ 1 ∷ 0 ∷ []))
     -- a line that is not live is begun anew too
     ∷ expect (listed (line 0 2 1 0 255 0 ++ line 1 2 0 0 255 4)) ((0 ∷ 1 ∷ 2 ∷ 1 ∷ []) ++ (0 ∷ 2 ∷ 1 ∷ 0 ∷ []) ++ (0 ∷ 9 ∷ 2 ∷ 1 ∷ []))
     -- zeros behind the changes, in a longer report too
-    ∷ expect (report_after 2 (line 4 1 0 0 255 0 ++ fresh_line) (replicate 65 170)) ((0 ∷ 0 ∷ 4 ∷ 1 ∷ []) ++ replicate 61 0)
+    ∷ expect (report_after wiring_cube 2 (line 4 1 0 0 255 0 ++ fresh_line) (replicate 65 170)) ((0 ∷ 0 ∷ 4 ∷ 1 ∷ []) ++ replicate 61 0)
     -- refusals 1, 2 and 23; the number of changes
-    ∷ expect (mend_figures (mend 65 damaged 64)) (1 ∷ [])
-    ∷ expect (mend_figures (mend 3 damaged 64)) (2 ∷ [])
-    ∷ expect (mend_figures (mend 2 damaged 63)) (23 ∷ [])
-    ∷ expect (mend_figures (mend 2 damaged 64)) (0 ∷ 8 ∷ [])
+    ∷ expect (mend_figures (mend wiring_cube 65 damaged 64)) (1 ∷ [])
+    ∷ expect (mend_figures (mend wiring_cube 3 damaged 64)) (2 ∷ [])
+    ∷ expect (mend_figures (mend wiring_cube 2 damaged 63)) (23 ∷ [])
+    ∷ expect (mend_figures (mend wiring_cube 2 damaged 64)) (0 ∷ 8 ∷ [])
     ∷ []
 
 pub mendings-hold : AllHold mendings
 unfolding mendings mend mend_check report_after report_of changes mended mended_byte table_of line_byte shape_check is_size table_length every
-    exit_rule some_live live_finished cell line_start fresh_table fresh_byte list_of least level dimension distances
+    exit_rule some_live live_finished cell line_start fresh_table fresh_byte list_of least level dimension distances end_distance
 mendings-hold = refl

@@ -4,16 +4,18 @@ use Rattle.std.specs.Prelude.{◌≡◌, ℕ, ◌+◌, List, [], ◌∷◌, map,
 use Rattle.lists.specs.Search.{least, every, list_of}
 use Rattle.table.specs.Sizes.{is_size, level, dimension, distances}
 use Rattle.station.specs.Groups.{width, member, full_group, group, station_at}
+use Rattle.table.specs.Wiring.{wiring_cube, end_distance}
 use Rattle.table.specs.Table.{head, table_length, line_start, cell, set_cell, status_column, next_column, told_by_column, rounds_ago_column}
 use Rattle.table.specs.Table.{told_by, row, set_row}
-use Rattle.table.specs.Rules.{exit_rule, row_rule, line_rules, some_live, live_finished, shape_check, table_check, table_refusal}
+use Rattle.table.specs.Rules.{exit_rule, row_rule, wired_line_rules, some_live, live_finished, shape_check, table_check_on, table_refusal}
+use Rattle.station.specs.Wired.{wired_station, wired_due}
 use Rattle.station.specs.Tests.{unsuspected, first_place, first, answer, due, due_distances}
 use Rattle.station.specs.Rows.{union_byte, union, mark}
 use Rattle.table.specs.Fresh.{fresh_byte, fresh_table}
 use Rattle.station.specs.Calls.{other_distances, assignment_entries}
 use Rattle.lists.specs.Steps.{after_steps}
-use Rattle.plant.specs.Turn.{leave_told, next_test, makes_test, finish_pass, count_test, replies, is_told, exchange_rows, suspect, reply_outcome}
-use Rattle.plant.specs.Turn.{test_outcome, after_outcome, self_or_suspected, is_alone, after_alone, testing, turn, turn_tested, turn_outcome}
+use Rattle.plant.specs.Turn.{leave_told, next_test, makes_test, finish_pass, next_after, count_test, replies, is_told, exchange_rows, suspect, reply_outcome}
+use Rattle.plant.specs.Turn.{test_outcome, after_outcome, self_or_suspected, is_alone, after_alone, after_test, testing, turn, turn_tested, turn_outcome}
 use Rattle.plant.specs.Turn.{crash}
 use Rattle.plant.specs.Round.{rounds_after, reset_line, reset_lines, after_round}
 use Rattle.plant.specs.Entry.{state_of, entry_check, entry_refusal, acted, after, tested_of, outcome_of, sheet_line}
@@ -54,11 +56,11 @@ four_dead_of_eleven = set_cell 11 (fresh_table 11) 4 status_column 1
 
 -- N = 4, fresh, entries (2, 0), (1, 0), (1, 0), (1, 1)
 unfoldable pub four_boards : RunResult
-four_boards = run 4 (state_of (fresh_table 4) 0 0) (2 ∷ 0 ∷ 1 ∷ 0 ∷ 1 ∷ 0 ∷ 1 ∷ 1 ∷ []) (replicate 16 0)
+four_boards = run wiring_cube 4 (state_of (fresh_table 4) 0 0) (2 ∷ 0 ∷ 1 ∷ 0 ∷ 1 ∷ 0 ∷ 1 ∷ 1 ∷ []) (replicate 16 0)
 
 -- one entry on a table, from a tally of zeros
 abbrev pub one_entry : ℕ → List ℕ → ℕ → ℕ → RunResult
-one_entry n t kind i = run n (state_of t 0 0) (kind ∷ i ∷ []) (replicate 4 0)
+one_entry n t kind i = run wiring_cube n (state_of t 0 0) (kind ∷ i ∷ []) (replicate 4 0)
 
 -- the table in which station i also suspects k
 abbrev pub also_suspects : ℕ → List ℕ → ℕ → ℕ → List ℕ
@@ -70,7 +72,7 @@ zero_suspects_one = also_suspects 4 (also_suspects 4 (fresh_table 4) 0 1) 1 2
 
 -- n = 3: station 0 suspects 1 and 2, and 2 has finished its pass
 unfoldable pub station_two_finished : List ℕ
-station_two_finished = finish_pass 3 (also_suspects 3 (also_suspects 3 (fresh_table 3) 0 1) 0 2) 2
+station_two_finished = finish_pass wiring_cube 3 (also_suspects 3 (also_suspects 3 (fresh_table 3) 0 1) 0 2) 2
 
 unfoldable pub tested_told : RunResult
 tested_told = one_entry 4 zero_suspects_one 1 0
@@ -86,7 +88,7 @@ alone_of_three = one_entry 3 station_two_finished 1 0
 unfoldable pub after_closing : ℕ → List ℕ
 after_closing ago =
     let gone = set_cell 3 (set_cell 3 (set_cell 3 (fresh_table 3) 2 status_column 2) 2 told_by_column 254) 2 rounds_ago_column ago in
-    drop (line_start 3 2) (one_entry 3 (set_cell 3 (finish_pass 3 gone 1) 0 next_column 4) 1 0).state.table
+    drop (line_start 3 2) (one_entry 3 (set_cell 3 (finish_pass wiring_cube 3 gone 1) 0 next_column 4) 1 0).state.table
 
 -- n = 3: the refusal of a table whose line 1 has this status, byte 5 and byte 4
 unfoldable pub refusal_of : ℕ → ℕ → ℕ → ℕ
@@ -168,7 +170,7 @@ later_rules =
     -- station 1 of the four boards above was told by 0
     ∷ expect (map (told_by 4 four_boards.state.table) (0 ∷ 1 ∷ 2 ∷ 3 ∷ [])) (255 ∷ 0 ∷ 255 ∷ 255 ∷ [])
     -- 1 has finished: the round closes when 0 crashes, and counts for 0, which ceased at this very entry
-    ∷ expect (one_entry 2 (finish_pass 2 (fresh_table 2) 1) 3 0).state.table
+    ∷ expect (one_entry 2 (finish_pass wiring_cube 2 (fresh_table 2) 1) 3 0).state.table
     (1 ∷ 1 ∷ 0 ∷ 0 ∷ 255 ∷ 1 ∷ 0 ∷ 0
     ∷ 0 ∷ 1 ∷ 0 ∷ 0 ∷ 255 ∷ 0 ∷ 0 ∷ 0 ∷ [])
     -- 2 was told, by whom was never recorded: 254 stays; byte 5 grows with each round that closes, to 255
@@ -189,21 +191,21 @@ AllHold es = map (λ (e : Example). e.computed) es ≡ map (λ (e : Example). e.
 
 pub base-hold : AllHold base_rules
 unfolding rounds_after leave_told base_rules four_boards four_dead four_and_five_dead four_dead_of_eleven zero_suspects_one station_two_finished
-    tested_told alone_of_two alone_of_three pairs_without_live group_without_live sum_below run start_check table_check shape_check is_size table_length
-    every line_rules exit_rule row_rule some_live live_finished cell line_start row set_row set_cell fresh_table fresh_byte list_of go_on entries
+    tested_told alone_of_two alone_of_three pairs_without_live group_without_live sum_below run start_check table_check_on shape_check is_size table_length
+    every wired_line_rules end_distance exit_rule row_rule some_live live_finished cell line_start row set_row set_cell fresh_table fresh_byte list_of go_on entries
     entry_check after acted sheet_line tested_of outcome_of turn turn_tested turn_outcome crash reset_line reset_lines after_round after_steps
-    next_test makes_test finish_pass count_test replies is_told exchange_rows suspect reply_outcome test_outcome after_outcome self_or_suspected
-    is_alone after_alone testing answer due due_distances other_distances assignment_entries first first_place least unsuspected member width
+    next_test makes_test finish_pass next_after count_test replies is_told exchange_rows suspect reply_outcome test_outcome after_outcome self_or_suspected
+    is_alone after_alone after_test testing answer wired_station wired_due due due_distances other_distances assignment_entries first first_place least unsuspected member width
     level dimension distances group full_group union union_byte joined_byte mark
 base-hold = refl
 
 pub later-hold : AllHold later_rules
 unfolding rounds_after leave_told later_rules after_closing refusal_of four_boards four_dead four_and_five_dead four_dead_of_eleven
     zero_suspects_one station_two_finished tested_told alone_of_two alone_of_three pairs_without_live group_without_live sum_below run start_check
-    table_check shape_check is_size table_length every line_rules exit_rule row_rule some_live live_finished cell line_start row set_row set_cell
+    table_check_on shape_check is_size table_length every wired_line_rules end_distance exit_rule row_rule some_live live_finished cell line_start row set_row set_cell
     fresh_table fresh_byte list_of go_on entries entry_check after acted sheet_line tested_of outcome_of turn turn_tested turn_outcome crash
-    reset_line reset_lines after_round after_steps next_test makes_test finish_pass count_test replies is_told exchange_rows suspect
-    reply_outcome test_outcome after_outcome self_or_suspected is_alone after_alone testing answer due due_distances other_distances
+    reset_line reset_lines after_round after_steps next_test makes_test finish_pass next_after count_test replies is_told exchange_rows suspect
+    reply_outcome test_outcome after_outcome self_or_suspected is_alone after_alone after_test testing answer wired_station wired_due due due_distances other_distances
     assignment_entries first first_place least unsuspected member width level dimension distances group full_group union union_byte joined_byte
     mark
 later-hold = refl

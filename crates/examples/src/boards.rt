@@ -10,6 +10,7 @@ use plant::{Ran, Tally, run};
 use station::{due, groups};
 use std::ops::ControlFlow;
 use table::lent::{Table, TableMut};
+use table::wiring::Wiring;
 use table::{Level, Station, cells, fresh};
 
 // What one print cannot write is left out, and the next is tried all the same.
@@ -92,7 +93,7 @@ fn size_line(rt: &impl Print, n: usize, len: usize) {
     let Some(table) = space.get_mut(..len) else {
         return;
     };
-    let number = refusal::number_of(fresh::fresh_table(n, table));
+    let number = refusal::number_of(fresh::fresh_table(Wiring::Cube as usize, n, table));
     let _ = println!(rt; "size {n} bytes {len} number {number}");
 }
 
@@ -165,7 +166,7 @@ fn eleven_boards(rt: &impl Print) {
 #[tactic(auto, unfolding(table::specs::Table::table_length, table::specs::Sizes::is_size))]
 fn eight_assigned(rt: &impl Print) {
     let mut table = [0u8; EIGHT];
-    let _ = fresh::fresh_table(8, &mut table);
+    let _ = fresh::fresh_table(Wiring::Cube as usize, 8, &mut table);
     let mut list = [0u8; 14];
     assignment_line(rt, 8, &table, 5, &mut list);
     let mut lent = TableMut {
@@ -254,7 +255,7 @@ struct Plant<'a> {
 impl<'a> Plant<'a> {
     // A plant that begins: the table is made fresh.
     fn fresh(n: u8, table: &'a mut [u8]) -> Plant<'a> {
-        let _ = fresh::fresh_table(n as usize, table);
+        let _ = fresh::fresh_table(Wiring::Cube as usize, n as usize, table);
         Plant {
             n,
             table,
@@ -319,7 +320,7 @@ impl<'a> Plant<'a> {
 
     // A run of a schedule.
     fn run(&mut self, schedule: &[u8], sheet: &mut [u8]) -> Ran {
-        let ran = run::run(self.n as usize, self.table, self.tally, schedule, sheet);
+        let ran = run::run(Wiring::Cube as usize, self.n as usize, self.table, self.tally, schedule, sheet);
         self.tally = ran.tally;
         ran
     }

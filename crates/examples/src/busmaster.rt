@@ -9,6 +9,7 @@ use plant::entry::Entry;
 use plant::kind::Kind;
 use plant::{Tally, run};
 use table::lent::TableMut;
+use table::wiring::Wiring;
 use table::{Station, fresh};
 
 // What one print cannot write is left out, and the next is tried all the same.
@@ -25,8 +26,8 @@ pub fn show(rt: &impl Print) {
 fn eight_boards(rt: &impl Print) {
     let mut by_turns = [0u8; EIGHT];
     let mut driven = [0u8; EIGHT];
-    let _ = fresh::fresh_table(8, &mut by_turns);
-    let _ = fresh::fresh_table(8, &mut driven);
+    let _ = fresh::fresh_table(Wiring::Cube as usize, 8, &mut by_turns);
+    let _ = fresh::fresh_table(Wiring::Cube as usize, 8, &mut driven);
     both_ways(rt, &mut by_turns, &mut driven);
 }
 
@@ -34,8 +35,8 @@ fn eight_boards(rt: &impl Print) {
 fn four_crashed(rt: &impl Print) {
     let mut by_turns = [0u8; EIGHT];
     let mut driven = [0u8; EIGHT];
-    let _ = fresh::fresh_table(8, &mut by_turns);
-    let _ = fresh::fresh_table(8, &mut driven);
+    let _ = fresh::fresh_table(Wiring::Cube as usize, 8, &mut by_turns);
+    let _ = fresh::fresh_table(Wiring::Cube as usize, 8, &mut driven);
     entry_of(rt, &mut by_turns, Tally::default(), Kind::Crash, 4);
     entry_of(rt, &mut driven, Tally::default(), Kind::Crash, 4);
     both_ways(rt, &mut by_turns, &mut driven);
@@ -45,7 +46,7 @@ fn four_crashed(rt: &impl Print) {
 // other; then whether both tables are still the same.
 fn both_ways(rt: &impl Print, by_turns: &mut [u8], driven: &mut [u8]) {
     tally_line(rt, granted_round(rt, by_turns));
-    drive_line(rt, drive::drive(8, driven, Tally::default(), NO_GRANT));
+    drive_line(rt, drive::drive(Wiring::Cube as usize, 8, driven, Tally::default(), NO_GRANT));
     tables_line(rt, by_turns, driven);
 }
 
@@ -68,7 +69,7 @@ fn granted_round(rt: &impl Print, table: &mut [u8]) -> Tally {
         if tally.rounds != 0 {
             return tally;
         }
-        let Ok(to) = grant::grant(8, table, last) else {
+        let Ok(to) = grant::grant(Wiring::Cube as usize, 8, table, last) else {
             return tally;
         };
         last = to.0 as usize;
@@ -80,16 +81,16 @@ fn granted_round(rt: &impl Print, table: &mut [u8]) -> Tally {
 // Eight boards: board 5 takes a turn, and the rest of the round is driven.
 fn rest_of_a_round(rt: &impl Print) {
     let mut table = [0u8; EIGHT];
-    let _ = fresh::fresh_table(8, &mut table);
+    let _ = fresh::fresh_table(Wiring::Cube as usize, 8, &mut table);
     let tally = entry_of(rt, &mut table, Tally::default(), Kind::Turn, 5);
-    drive_line(rt, drive::drive(8, &mut table, tally, NO_GRANT));
+    drive_line(rt, drive::drive(Wiring::Cube as usize, 8, &mut table, tally, NO_GRANT));
 }
 
 // One entry on a table of eight; of a turn, its line of the sheet is printed. Table and tally stay two values, as the calls have them.
 fn entry_of(rt: &impl Print, table: &mut [u8], tally: Tally, kind: Kind, i: u8) -> Tally {
     let station = Station(i);
     let mut line = [0u8; 4];
-    let ran = run::run(8, table, tally, &Entry { kind, station }.bytes(), &mut line);
+    let ran = run::run(Wiring::Cube as usize, 8, table, tally, &Entry { kind, station }.bytes(), &mut line);
     if kind == Kind::Turn {
         let [station, tested, outcome, status] = line;
         let _ = println!(rt; "{station} {tested} {outcome} {status}");
@@ -107,25 +108,25 @@ fn top_tally(rt: &impl Print) {
 // A drive of two fresh boards, behind so many rounds and tests.
 fn two_boards(rt: &impl Print, rounds: u32, tests: u32) {
     let mut table = [0u8; TWO];
-    let _ = fresh::fresh_table(2, &mut table);
+    let _ = fresh::fresh_table(Wiring::Cube as usize, 2, &mut table);
     let tally = Tally { rounds, tests };
-    drive_line(rt, drive::drive(2, &mut table, tally, NO_GRANT));
+    drive_line(rt, drive::drive(Wiring::Cube as usize, 2, &mut table, tally, NO_GRANT));
 }
 
 // Two boards that suspect one another: 0 tests 1, is told and leaves; 1 tests 0, which is not live, and leaves as alone.
 #[tactic(auto, unfolding(table::specs::Table::table_length, table::specs::Sizes::is_size))]
 fn nobody_left(rt: &impl Print) {
     let mut table = [0u8; TWO];
-    let _ = fresh::fresh_table(2, &mut table);
+    let _ = fresh::fresh_table(Wiring::Cube as usize, 2, &mut table);
     let mut lent = TableMut {
         n: 2,
         bytes: &mut table,
     };
     lent.suspect(Station(0), Station(1));
     lent.suspect(Station(1), Station(0));
-    let first = drive::drive(2, &mut table, Tally::default(), NO_GRANT);
+    let first = drive::drive(Wiring::Cube as usize, 2, &mut table, Tally::default(), NO_GRANT);
     drive_line(rt, first);
-    drive_line(rt, drive::drive(2, &mut table, first.tally, 1));
+    drive_line(rt, drive::drive(Wiring::Cube as usize, 2, &mut table, first.tally, 1));
 }
 
 // Last numbers of a plant of two: 0, 1 and 255 are taken; 2, 254 and 256 are not.
@@ -140,8 +141,8 @@ fn last_numbers(rt: &impl Print) {
 
 fn number_line(rt: &impl Print, last: usize) {
     let mut table = [0u8; TWO];
-    let _ = fresh::fresh_table(2, &mut table);
-    let (number, Station(station)) = refusal::parts(grant::grant(2, &table, last), Station(0));
+    let _ = fresh::fresh_table(Wiring::Cube as usize, 2, &mut table);
+    let (number, Station(station)) = refusal::parts(grant::grant(Wiring::Cube as usize, 2, &table, last), Station(0));
     let _ = println!(rt; "last {last} number {number} station {station}");
 }
 

@@ -2,6 +2,7 @@
 // `stdout`, which has what the rules give by hand.
 
 use crate::lengths::TWO;
+use table::wiring::Wiring;
 
 const DAMAGED: [u8; TWO] = [0, 2, 1, 1, 255, 0, 0, 0, 7, 2, 2, 0, 3, 9, 1, 1];
 
@@ -19,7 +20,7 @@ pub fn show(rt: &impl Print) {
 }
 
 fn mend_lines(rt: &impl Print, n: usize, table: &mut [u8], report: &mut [u8]) {
-    let count = match mender::mend(n, table, report) {
+    let count = match mender::mend(Wiring::Cube as usize, n, table, report) {
         Ok(count) => count,
         Err(refusal) => {
             let _ = println!(rt; "mending refused {}", refusal.number());

@@ -13,15 +13,17 @@ use Rattle.lists.proofs.BoolLaws.{by_bool}
 use Rattle.lists.proofs.SearchLaws.{both, every-at, every-all, every-not, least-is, least-none}
 use Rattle.lists.specs.Search.{every}
 use Rattle.table.specs.Sizes.{is_size, distances}
+use Rattle.table.specs.Wiring.{wiring_cube, end_distance}
 use Rattle.table.specs.Table.{head, next_column, next_distance, finished, live, row}
 use Rattle.table.specs.Rules.{not_live, some_live, finished_if_live, live_finished, round_over}
 use Rattle.table.proofs.Accepting.{Accepted}
 use Rattle.table.proofs.CellLaws.{accepted-line}
 use Rattle.table.proofs.SizeLaws.{size-distances}
 use Rattle.station.specs.Groups.{station_at}
+use Rattle.station.specs.Wired.{wired_due}
 use Rattle.station.specs.Tests.{due}
-use Rattle.plant.specs.Turn.{kind_turn, next_test, makes_test, turn}
-use Rattle.plant.proofs.NextTest.{next_test-low, not-due-before, test_below, test-due, none-due}
+use Rattle.plant.specs.Turn.{kind_turn, next_test, makes_test, next_after, outcome_at, turn}
+use Rattle.plant.proofs.NextTest.{cube-next, next_test-low, not-due-before, test_below, test-due, none-due}
 use Rattle.plant.proofs.TurnHeads.{Heads, turn-heads}
 use Rattle.plant.specs.Round.{reset_lines, after_round}
 use Rattle.plant.specs.Entry.{Entry, State, entry_of, tally_top, tally_full, is_test, entry_check, entry_refusal, acted, after}
@@ -73,8 +75,8 @@ module _ (n N : ℕ) (L : ℕ → Bool) (low : n ≤ N) (absent : (k : ℕ) → 
   -- and so are the tables that the closing leaves
   reset-same : (t u : List ℕ) → Same t u → Same (reset_lines n t) (reset_lines N u)
   reset-same t u like = record {
-    small = (reset-rows n L t like.small).0;
-    big = (reset-rows N L u like.big).0;
+    small = (reset-rows wiring_cube n L t like.small).0;
+    big = (reset-rows wiring_cube N L u like.big).0;
     finish = λ k l. (reset-cells N u like.big.lines.0 k (omega (arith, below k l))).unfinished
         ∙ sym (reset-cells n t like.small.lines.0 k (below k l)).unfinished;
     rows = λ k y l b. reset-other N u k (head + y) (omega arith) (λ p. omega arith)
@@ -90,11 +92,11 @@ module _ (n N : ℕ) (L : ℕ → Bool) (low : n ≤ N) (absent : (k : ℕ) → 
     pub like : Same s.table w.table
     pub next : NextSame s.table w.table
     pub rounds : w.rounds ≡ s.rounds
-    pub ok : Accepted n s.table
-    pub Ok : Accepted N w.table
+    pub ok : Accepted wiring_cube n s.table
+    pub Ok : Accepted wiring_cube N w.table
 
   -- a turn of i in the first plant, which is taken
-  module _ (s : State) (i : ℕ) (ok : Accepted n s.table) (z : entry_refusal n s (entry_of kind_turn i) ≡ 0) (li : L i ≡ true) where
+  module _ (s : State) (i : ℕ) (ok : Accepted wiring_cube n s.table) (z : entry_refusal n s (entry_of kind_turn i) ≡ 0) (li : L i ≡ true) where
     abbrev t : List ℕ
     t = s.table
 
@@ -102,18 +104,18 @@ module _ (n N : ℕ) (L : ℕ → Bool) (low : n ≤ N) (absent : (k : ℕ) → 
     e = entry_of kind_turn i
 
     abbrev t' : List ℕ
-    t' = turn n t kind_turn i
+    t' = turn wiring_cube n t kind_turn i
 
     facts : Takes n s e
     facts = entry-facts n s e z
 
     going : finished n t i ≡ 0
-    going = omega (arith, facts.unfinished (λ q. omega arith), (accepted-line n t ok i (below i li)).pass.finished_range)
+    going = omega (arith, facts.unfinished (λ q. omega arith), (accepted-line wiring_cube n t ok i (below i li)).pass.finished_range)
 
     -- the second plant, behind turns of i that test boards from n on
     pub record Ahead (w : State) : Type 0 where
       pub like : Same t w.table
-      pub Ok : Accepted N w.table
+      pub Ok : Accepted wiring_cube N w.table
       pub rounds : w.rounds ≡ s.rounds
       pub others : (k : ℕ) → L k ≡ true → k ≢ i → next_distance N w.table k ≡ next_distance n t k
       pub from : next_distance n t i ≤ next_distance N w.table i
@@ -124,7 +126,7 @@ module _ (n N : ℕ) (L : ℕ → Bool) (low : n ≤ N) (absent : (k : ℕ) → 
       u = w.table
 
       abbrev u' : List ℕ
-      u' = turn N u kind_turn i
+      u' = turn wiring_cube N u kind_turn i
 
       h : i < N
       h = omega (arith, below i li)
@@ -142,50 +144,52 @@ module _ (n N : ℕ) (L : ℕ → Bool) (low : n ≤ N) (absent : (k : ℕ) → 
           (λ g. due-none n N L low absent t u b.like i li y g)
 
       -- none is due below the next test
-      undue-to : (y : ℕ) → next_distance n t i ≤ y → y < next_test N u i → due (row n t i) i y ≡ false
+      undue-to : (y : ℕ) → next_distance n t i ≤ y → y < next_test wiring_cube N u i → due (row n t i) i y ≡ false
+      unfolding wired_due
       undue-to y lo hi =
-          by_cases (dec_lt y (next_distance N u i)) (λ g. b.undue y lo g) (λ g. small-due y (not-due-before N u i y (omega arith) hi))
+          by_cases (dec_lt y (next_distance N u i)) (λ g. b.undue y lo g) (λ g. small-due y (not-due-before wiring_cube N u i y (omega arith) hi))
 
-      tests-after : (after N w e).tests ≤ suc w.tests
+      tests-after : (after wiring_cube N w e).tests ≤ suc w.tests
       unfolding after
-      tests-after = by_bool (is_test N u e) (λ q. rw q (omega arith)) (λ q. rw q (omega arith))
+      tests-after = by_bool (is_test wiring_cube N u e) (λ q. rw q (omega arith)) (λ q. rw q (omega arith))
 
       -- a turn that tests a board from n on
-      module _ (E : makes_test N u i ≡ true) (out : ¬ (station_at i (next_test N u i) < n)) where
+      module _ (E : makes_test wiring_cube N u i ≡ true) (out : ¬ (station_at i (next_test wiring_cube N u i) < n)) where
         like' : Same t u'
         like' = extra n N L low absent size Size levels company t u b.like i li going E out
 
         open-still : round_over N u' ≡ false
         open-still = over-same t u' like' i li ∙ ok.unclosed
 
-        left-table : (after N w e).table ≡ u'
+        left-table : (after wiring_cube N w e).table ≡ u'
         unfolding after after_round acted
         left-table = rw open-still
 
-        left-rounds : (after N w e).rounds ≡ w.rounds
+        left-rounds : (after wiring_cube N w e).rounds ≡ w.rounds
         unfolding after acted
         left-rounds = rw open-still
 
-        heads : Heads N u u' i (makes_test N u i)
+        heads : Heads wiring_cube N u u' i (outcome_at wiring_cube N u kind_turn i (next_test wiring_cube N u i)) (makes_test wiring_cube N u i)
         heads = Heads-of n N L low absent size Size levels company t u b.like i li going
 
-        next-is : next_distance N u' i ≡ next_test N u i + 1
+        next-is : next_distance N u' i ≡ next_test wiring_cube N u i + 1
+        unfolding next_after
         next-is = rw E at heads.next
 
-        pub further : Ahead (after N w e)
+        pub further : Ahead (after wiring_cube N w e)
         further = record {
           like = rw left-table like';
-          Ok = accepted-kept N w e b.Ok taken;
+          Ok = accepted-kept wiring_cube N w e b.Ok taken;
           rounds = left-rounds ∙ b.rounds;
           others = λ k l ne. rw left-table (heads.others k next_column ne (omega arith) ∙ b.others k l ne);
-          from = rw left-table (omega (arith, next-is, b.from, next_test-low N u i));
-          undue = λ y lo hi. by_cases (dec_lt y (next_test N u i)) (λ g. undue-to y lo g)
+          from = rw left-table (omega (arith, next-is, b.from, next_test-low wiring_cube N u i));
+          undue = λ y lo hi. by_cases (dec_lt y (next_test wiring_cube N u i)) (λ g. undue-to y lo g)
               (λ g.
-              let here : y ≡ next_test N u i = omega (arith, next-is, rw left-table at hi) in
-              rw here (due-none n N L low absent t u b.like i li (next_test N u i) out));
+              let here : y ≡ next_test wiring_cube N u i = omega (arith, next-is, rw left-table at hi) in
+              rw here (due-none n N L low absent t u b.like i li (next_test wiring_cube N u i) out));
         }
 
-        pub further-next : next_distance N (after N w e).table i ≡ next_test N u i + 1
+        pub further-next : next_distance N (after wiring_cube N w e).table i ≡ next_test wiring_cube N u i + 1
         further-next = rw left-table next-is
 
       -- the turn that is that of the first plant
@@ -197,13 +201,13 @@ module _ (n N : ℕ) (L : ℕ → Bool) (low : n ≤ N) (absent : (k : ℕ) → 
         next-all k l =
             by_cases (ℕ_discrete k i) (λ q. rw q next')
             (λ q. (Heads-of n N L low absent size Size levels company t u b.like i li going).others k next_column q (omega arith)
-            ∙ (b.others k l q ∙ sym ((turn-heads n t kind_turn i size b.like.small.lines (below i li)).others k next_column q (omega arith))))
+            ∙ (b.others k l q ∙ sym ((turn-heads wiring_cube n t kind_turn i b.like.small.lines (below i li)).others k next_column q (omega arith))))
 
-        like-after : Same (after n s e).table (after N w e).table
+        like-after : Same (after wiring_cube n s e).table (after wiring_cube N w e).table
         unfolding after after_round acted
         like-after = by_bool (round_over n t') (λ o. rw (over ∙ o, o) (reset-same t' u' like')) (λ o. rw (over ∙ o, o) like')
 
-        next-after : NextSame (after n s e).table (after N w e).table
+        next-after : NextSame (after wiring_cube n s e).table (after wiring_cube N w e).table
         unfolding after after_round acted
         next-after k l =
             by_bool (round_over n t')
@@ -211,53 +215,55 @@ module _ (n N : ℕ) (L : ℕ → Bool) (low : n ≤ N) (absent : (k : ℕ) → 
             ∙ sym (reset-cells n t' like'.small.lines.0 k (below k l)).next))
             (λ o. rw (over ∙ o, o) (next-all k l))
 
-        rounds-after : (after N w e).rounds ≡ (after n s e).rounds
+        rounds-after : (after wiring_cube N w e).rounds ≡ (after wiring_cube n s e).rounds
         unfolding after acted
         rounds-after = rw (over, b.rounds)
 
-        pub arrived : Alike (after n s e) (after N w e)
+        pub arrived : Alike (after wiring_cube n s e) (after wiring_cube N w e)
         arrived = record {
           like = like-after;
           next = next-after;
           rounds = rounds-after;
-          ok = accepted-kept n s e ok z;
-          Ok = accepted-kept N w e b.Ok taken;
+          ok = accepted-kept wiring_cube n s e ok z;
+          Ok = accepted-kept wiring_cube N w e b.Ok taken;
         }
 
       -- where the next board below n is tested, or none is
-      module _ (E : makes_test N u i ≡ true) (inside : station_at i (next_test N u i) < n) where
-        m-below : next_test N u i < distances n
-        m-below = omega (arith, levels, test_below N u i E)
+      module _ (E : makes_test wiring_cube N u i ≡ true) (inside : station_at i (next_test wiring_cube N u i) < n) where
+        m-below : next_test wiring_cube N u i < distances n
+        unfolding end_distance
+        m-below = omega (arith, levels, test_below wiring_cube N u i E)
 
-        same_test : next_test n t i ≡ next_test N u i
-        unfolding next_test
+        same_test : next_test wiring_cube n t i ≡ next_test wiring_cube N u i
+        unfolding end_distance wired_due
         same_test =
-            least-is (due (row n t i) i) (distances n - next_distance n t i) (next_distance n t i) (next_test N u i)
-            (omega (arith, b.from, next_test-low N u i)) (omega (arith, m-below, b.from, next_test-low N u i))
-            (sym (due-same n N L low absent t u b.like i li (next_test N u i) inside) ∙ test-due N u i E) undue-to
+            cube-next wiring_cube n t i refl
+            ∙ least-is (due (row n t i) i) (distances n - next_distance n t i) (next_distance n t i) (next_test wiring_cube N u i)
+            (omega (arith, b.from, next_test-low wiring_cube N u i)) (omega (arith, m-below, b.from, next_test-low wiring_cube N u i))
+            (sym (due-same n N L low absent t u b.like i li (next_test wiring_cube N u i) inside) ∙ test-due wiring_cube N u i E) undue-to
 
-        makes : makes_test n t i ≡ true
-        unfolding makes_test
-        makes = rw same_test (lt-ltb (next_test N u i) (distances n) m-below)
+        makes : makes_test wiring_cube n t i ≡ true
+        unfolding makes_test end_distance
+        makes = rw same_test (lt-ltb (next_test wiring_cube N u i) (distances n) m-below)
 
-        pub tested-alike : Alike (after n s e) (after N w e)
+        pub tested-alike : Alike (after wiring_cube n s e) (after wiring_cube N w e)
         tested-alike =
             arrived (both-test n N L low absent size Size levels company t u b.like i li going makes E (sym same_test))
             (test-next n N L low absent size Size levels company t u b.like i li going makes E (sym same_test))
 
-      module _ (E : makes_test N u i ≡ false) where
-        none : makes_test n t i ≡ false
-        unfolding makes_test next_test
+      module _ (E : makes_test wiring_cube N u i ≡ false) where
+        none : makes_test wiring_cube n t i ≡ false
+        unfolding makes_test end_distance wired_due
         none =
             let q : ℕ = next_distance n t i in
-            let high : q ≤ distances n = (accepted-line n t ok i (below i li)).pass.next_high in
-            let High : next_distance N u i ≤ distances N = (accepted-line N u b.Ok i h).pass.next_high in
+            let high : q ≤ distances n = (accepted-line wiring_cube n t ok i (below i li)).pass.next_high in
+            let High : next_distance N u i ≤ distances N = (accepted-line wiring_cube N u b.Ok i h).pass.next_high in
             let none_left = least-none (due (row n t i) i) (distances n - q) q (λ y lo hi.
             by_cases (dec_lt y (next_distance N u i)) (λ g. b.undue y lo g)
-            (λ g. small-due y (none-due N u i E High y (omega arith) (omega (arith, levels))))) in
-            rw none_left (le-ltb (q + (distances n - q)) (distances n) (omega arith))
+            (λ g. small-due y (none-due wiring_cube N u i E High y (omega arith) (omega (arith, levels))))) in
+            rw (cube-next wiring_cube n t i refl, none_left) (le-ltb (q + (distances n - q)) (distances n) (omega arith))
 
-        pub finished-alike : Alike (after n s e) (after N w e)
+        pub finished-alike : Alike (after wiring_cube n s e) (after wiring_cube N w e)
         finished-alike =
             arrived (both-finish n N L low absent size Size levels company t u b.like i li going none E)
             (finish-next n N L low absent size Size levels company t u b.like i li going none E)
@@ -267,32 +273,33 @@ module _ (n N : ℕ) (L : ℕ → Bool) (low : n ≤ N) (absent : (k : ℕ) → 
       pub turns : List ℕ
       pub end : State
       pub goes : Goes N w turns end
-      pub alike : Alike (after n s e) end
+      pub alike : Alike (after wiring_cube n s e) end
       pub tests : end.tests ≤ w.tests + room
 
-    last_turn : (w : State) (b : Ahead w) (fits : w.tests < tally_top) (room : ℕ) → 1 ≤ room → Alike (after n s e) (after N w e) → Played w room
+    last_turn : (w : State) (b : Ahead w) (fits : w.tests < tally_top) (room : ℕ) → 1 ≤ room → Alike (after wiring_cube n s e) (after wiring_cube N w e) → Played w room
     last_turn w b fits room some alike = record {
       turns = i ∷ [];
-      end = after N w e;
+      end = after wiring_cube N w e;
       goes = go i (taken w b fits) stop;
       alike = alike;
       tests = omega (arith, tests-after w b fits);
     }
 
     pub play : (fuel : ℕ) (w : State) → Ahead w → distances N ≤ next_distance N w.table i + fuel → w.tests + fuel < tally_top → Played w (suc fuel)
+    unfolding end_distance
     play zero w b far fits =
-        by_bool (makes_test N w.table i)
-        (λ E. absurd (omega (arith, test_below N w.table i E, next_test-low N w.table i)))
+        by_bool (makes_test wiring_cube N w.table i)
+        (λ E. absurd (omega (arith, test_below wiring_cube N w.table i E, next_test-low wiring_cube N w.table i)))
         (λ E. last_turn w b (omega arith) 1 (omega arith) (finished-alike w b (omega arith) E))
     play (suc fuel) w b far fits =
-        by_bool (makes_test N w.table i)
+        by_bool (makes_test wiring_cube N w.table i)
         (λ E.
-        by_cases (dec_lt (station_at i (next_test N w.table i)) n)
+        by_cases (dec_lt (station_at i (next_test wiring_cube N w.table i)) n)
         (λ inside. last_turn w b (omega arith) (suc (suc fuel)) (omega arith) (tested-alike w b (omega arith) E inside))
         (λ out.
         let grown = tests-after w b (omega arith) in
         let next = further-next w b (omega arith) E out in
-        let rest = play fuel (after N w e) (further w b (omega arith) E out) (omega (arith, next, next_test-low N w.table i)) (omega (arith, grown)) in
+        let rest = play fuel (after wiring_cube N w e) (further w b (omega arith) E out) (omega (arith, next, next_test-low wiring_cube N w.table i)) (omega (arith, grown)) in
         record {
           turns = i ∷ rest.turns;
           end = rest.end;

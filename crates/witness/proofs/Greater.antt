@@ -16,8 +16,9 @@ use Rattle.lists.proofs.BoolLaws.{by_bool}
 use Rattle.lists.proofs.SearchLaws.{both, every-at, every-all, list_of-length, list_of-at}
 use Rattle.lists.proofs.SumLaws.{sum_by, sum-stays}
 use Rattle.table.specs.Sizes.{is_size, dimension, distances}
+use Rattle.table.specs.Wiring.{wiring_cube, end_distance}
 use Rattle.table.specs.Table.{head, stride, table_length, line_start, cell, status_column, next_column, finished_column, tests_column, told_by_column, rounds_ago_column, status, status_told, next_distance, finished, tests_made, told_by, told_by_none, not_recorded, rounds_ago, suspects, live}
-use Rattle.table.specs.Rules.{exit_rule, line_rules}
+use Rattle.table.specs.Rules.{exit_rule, wired_line_rules}
 use Rattle.table.specs.Properties.{line_at_start, at_start, live_count, no_live_suspicion, none_suspected}
 use Rattle.table.proofs.Accepting.{Accepted, accepted}
 use Rattle.table.proofs.CellLaws.{line-inside, Line, line-holds, accepted-line}
@@ -64,8 +65,8 @@ module _ (n N : ℕ) (p : Slow n) (Size : is_size N ≡ true) (low : n ≤ N) (l
   abbrev t : List ℕ
   t = p.first.table
 
-  ok : Accepted n t
-  ok = accepted n t p.ok
+  ok : Accepted wiring_cube n t
+  ok = accepted wiring_cube n t p.ok
 
   abbrev L : ℕ → Bool
   L k = ltb k n && live n t k
@@ -112,38 +113,40 @@ module _ (n N : ℕ) (p : Slow n) (Size : is_size N ≡ true) (low : n ≤ N) (l
   exits_of i h =
       rw (status-of i h, at i told_by_column h (omega arith), at i rounds_ago_column h (omega arith))
       (by_bool (ltb i n)
-      (λ q. rw q (wider-exit n N i (status n t i) (told_by n t i) (rounds_ago n t i) low (accepted-line n t ok i (ltb-true i n q)).exits))
+      (λ q. rw q (wider-exit n N i (status n t i) (told_by n t i) (rounds_ago n t i) low (accepted-line wiring_cube n t ok i (ltb-true i n q)).exits))
       (λ q. rw q))
 
   live_of : (i : ℕ) → i < N → live N u i ≡ L i
   live_of i h =
       by_bool (ltb i n) (λ q. rw (q, status-of i h, q)) (λ q. rw (q, status-of i h, q))
 
-  line_of : (i : ℕ) → i < N → Line N u i
+  line_of : (i : ℕ) → i < N → Line wiring_cube N u i
+  unfolding end_distance
   line_of i h = record {
-    status_range = rw (status-of i h) (by_bool (ltb i n) (λ q. rw q (accepted-line n t ok i (ltb-true i n q)).status_range) (λ q. rw q (omega arith)));
+    status_range = rw (status-of i h) (by_bool (ltb i n) (λ q. rw q (accepted-line wiring_cube n t ok i (ltb-true i n q)).status_range) (λ q. rw q (omega arith)));
     pass = rw (next_of i h, finished-of i h, tests-of i h)
         (record { next_low = omega arith; next_high = distances-pos N; finished_range = omega arith; tests_bound = omega arith; finished_next = λ e. absurd (omega arith) });
     exits = exits_of i h;
-    own = row_of i i h h ∙ by_bool (ltb i n) (λ q. rw q (accepted-line n t ok i (ltb-true i n q)).own) (λ q. rw q);
+    own = row_of i i h h ∙ by_bool (ltb i n) (λ q. rw q (accepted-line wiring_cube n t ok i (ltb-true i n q)).own) (λ q. rw q);
     range = λ y g. rw (row_of i y h g) (byte_small i y);
   }
     where
       byte_small : (i y : ℕ) → row_byte i y ≤ 1
       byte_small i y =
           by_bool (ltb i n)
-          (λ q. by_bool (ltb y n) (λ r. rw (q, r) ((accepted-line n t ok i (ltb-true i n q)).range y (ltb-true y n r)))
+          (λ q. by_bool (ltb y n) (λ r. rw (q, r) ((accepted-line wiring_cube n t ok i (ltb-true i n q)).range y (ltb-true y n r)))
           (λ r. rw (q, r) (by_bool (live n t i) (λ l. rw l (omega arith)) (λ l. rw l (omega arith)))))
           (λ q. rw q (omega arith))
 
   long_of : length u ≡ table_length N
   long_of = list_of-length _ (table_length N)
 
-  Ok : Accepted N u
+  Ok : Accepted wiring_cube N u
   Ok = record {
+    wired = refl;
     size = Size;
     long = long_of;
-    lines = every-all (line_rules N u) N (λ i h. line-holds N u i (line_of i h));
+    lines = every-all (wired_line_rules wiring_cube N u) N (λ i h. line-holds wiring_cube N u i (line_of i h));
     unclosed = unfinished-open N u finished-of;
   }
 
@@ -172,15 +175,15 @@ module _ (n N : ℕ) (p : Slow n) (Size : is_size N ≡ true) (low : n ≤ N) (l
   like : Like n N L low absent t u
   like = record {
     small = record {
-      lines = (ok.long, accepted-line n t ok);
+      lines = (ok.long, accepted-line wiring_cube n t ok);
       lives = λ k h. rw (lt-ltb k n h);
-      accurate = λ i j h g a b. trusts n t ok p.premises.accurate i j h g (parts i a).1 (parts j b).1;
+      accurate = λ i j h g a b. trusts wiring_cube n t ok p.premises.accurate i j h g (parts i a).1 (parts j b).1;
     };
     big = record {
       lines = (long_of, line_of);
       lives = live_of;
       accurate = λ i j h g a b. row_below i j a (parts j b).0
-          ∙ trusts n t ok p.premises.accurate i j (parts i a).0 (parts j b).0 (parts i a).1 (parts j b).1;
+          ∙ trusts wiring_cube n t ok p.premises.accurate i j (parts i a).0 (parts j b).0 (parts i a).1 (parts j b).1;
     };
     finish = λ k l. finished-of k (omega (arith, (parts k l).0)) ∙ sym (at-start k (parts k l).0).1;
     rows = row_below;
@@ -204,14 +207,16 @@ module _ (n N : ℕ) (p : Slow n) (Size : is_size N ≡ true) (low : n ≤ N) (l
   }
 
   -- what the claim describes
-  given : DetectionPremises N w []
+  given : DetectionPremises wiring_cube N w []
   unfolding at_start live_count none_suspected all_taken taken_all
   given = record {
+    wiring = refl;
     size = Size;
     long = long_of;
     start = every-all (line_at_start N u) N (λ i h. rw (next_of i h, finished-of i h, tests-of i h));
     two_live = omega (arith, two, p.premises.two_live);
     accurate = every-all _ N (λ i h. every-all (no_live_suspicion N u i) N (λ j g. unsuspecting i j h g));
+    one_wiring = refl;
     no_crash = refl;
     no_late = refl;
   }
@@ -234,7 +239,7 @@ module _ (n N : ℕ) (p : Slow n) (Size : is_size N ≡ true) (low : n ≤ N) (l
       let alive : L p.board ≡ true = rw (lt-ltb p.board n p.board_below) p.board_live in
       record {
         first = w;
-        ok = accepted-number N u Ok;
+        ok = accepted-number wiring_cube N u Ok;
         premises = given;
         turns = f.turns;
         last = f.left;

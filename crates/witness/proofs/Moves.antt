@@ -14,18 +14,21 @@ use lib.Dec.{eqb}
 use Rattle.lists.proofs.BoolLaws.{by_bool}
 use Rattle.lists.proofs.SearchLaws.{both}
 use Rattle.table.specs.Sizes.{is_size, distances}
+use Rattle.table.specs.Wiring.{wiring_cube, end_distance}
 use Rattle.table.specs.Table.{head, table_length, finished_column, next_distance, finished, suspects, row}
 use Rattle.table.proofs.CellLaws.{row-length, row_at}
 use Rattle.station.specs.Groups.{station_at}
+use Rattle.station.specs.Wired.{wired_station}
 use Rattle.station.specs.Tests.{unsuspected, due}
 use Rattle.station.proofs.DueLaws.{unsuspected-at, unsuspected-absent, due-first, due-absent}
-use Rattle.plant.specs.Turn.{kind_turn, next_test, makes_test, count_test, exchange_rows, suspect, replies, test_outcome, after_outcome, after_test, testing, turn}
+use Rattle.plant.specs.Turn.{kind_turn, next_test, makes_test, next_after, count_test, exchange_rows, suspect, outcome_exchanged, outcome_no_reply, after_outcome, after_test, outcome_at, testing, turn}
 use Rattle.plant.proofs.StepCells.{finish_pass-other, count_test-other, count_test-length, suspect-same, suspect-other, exchange-other, exchange-tester, exchange-tested, exchange-tester-own, exchange-tested-own}
-use Rattle.plant.proofs.StepLines.{count_test-lines, station-apart}
+use Rattle.station.proofs.WiredLaws.{station-apart}
+use Rattle.plant.proofs.StepLines.{count_test-lines}
 use Rattle.plant.proofs.NextTest.{next_test-low, test_below, test-station}
 use Rattle.plant.proofs.TurnHeads.{Heads, turn-heads}
 use Rattle.detection.proofs.Count.{leads-same}
-use Rattle.detection.proofs.TurnEffect.{Plain, Company, same_rows, none_told, tested, not-alone, turn-effect}
+use Rattle.detection.proofs.TurnEffect.{Plain, Company, same_rows, outcome-is, outcome-effect, not-alone, turn-effect}
 
 -- byte y of the row of k after i tested x, by the bytes before: live boards exchange their rows, one that is not live is marked
 abbrev pub byte_after : Bool → (ℕ → ℕ → ℕ) → ℕ → ℕ → ℕ → ℕ → ℕ
@@ -33,51 +36,60 @@ byte_after alive f i x k y =
     cond alive (cond ((eqb k i || eqb k x) && not (eqb y k)) (max (f i y) (f x y)) (f k y)) (cond (eqb k i && eqb y x) 1 (f k y))
 
 -- a turn in a table in which no live board suspects a live one
-module _ (n : ℕ) (L : ℕ → Bool) (t : List ℕ) (i : ℕ) (size : is_size n ≡ true) (p : Plain n L t) (company : Company n L) (hi : i < n)
+module _ (n : ℕ) (L : ℕ → Bool) (t : List ℕ) (i : ℕ) (size : is_size n ≡ true) (p : Plain wiring_cube n L t) (company : Company n L) (hi : i < n)
     (li : L i ≡ true) (going : finished n t i ≡ 0) where
   -- a turn that makes no test leaves the rows
-  pub finish-bytes : makes_test n t i ≡ false → (k y : ℕ) → y < n → suspects n (turn n t kind_turn i) k y ≡ suspects n t k y
+  pub finish-bytes : makes_test wiring_cube n t i ≡ false → (k y : ℕ) → y < n → suspects n (turn wiring_cube n t kind_turn i) k y ≡ suspects n t k y
   unfolding turn
-  finish-bytes e k y hy = rw e (finish_pass-other n t i k (head + y) (omega arith) (λ q. (λ r. omega arith, λ r. omega arith)))
+  finish-bytes e k y hy = rw e (finish_pass-other n t i wiring_cube k (head + y) (omega arith) (λ q. (λ r. omega arith, λ r. omega arith)))
 
-  module _ (e : makes_test n t i ≡ true) where
+  module _ (e : makes_test wiring_cube n t i ≡ true) where
     abbrev m : ℕ
-    m = next_test n t i
+    m = next_test wiring_cube n t i
 
     abbrev x : ℕ
     x = station_at i m
 
+    -- what comes of the test
+    abbrev o : ℕ
+    o = cond (L x) outcome_exchanged outcome_no_reply
+
     abbrev t₁ : List ℕ
-    t₁ = count_test n t i m
+    t₁ = count_test wiring_cube n t i m o
 
     long₁ : length t₁ ≡ table_length n
-    long₁ = count_test-length n t i m ∙ p.lines.0
+    long₁ = count_test-length n t i wiring_cube m o ∙ p.lines.0
 
     x<n : x < n
-    x<n = test-station n t i e p.lines.0 hi
+    unfolding wired_station
+    x<n = test-station wiring_cube n t i e p.lines.0 hi
 
     apart : i ≢ x
-    apart = station-apart i m (omega (arith, (p.lines.1 i hi).pass.next_low, next_test-low n t i))
+    unfolding wired_station
+    apart =
+        station-apart wiring_cube n i m hi (omega (arith, (p.lines.1 i hi).pass.next_low, next_test-low wiring_cube n t i))
+        (test_below wiring_cube n t i e)
 
     row₁ : (k y : ℕ) → y < n → suspects n t₁ k y ≡ suspects n t k y
-    row₁ k y hy = count_test-other n t i m k (head + y) (omega arith) (λ q. (λ r. omega arith, λ r. omega arith))
+    row₁ k y hy = count_test-other n t i wiring_cube m o k (head + y) (omega arith) (λ q. (λ r. omega arith, λ r. omega arith))
 
-    plain₁ : Plain n L t₁
+    plain₁ : Plain wiring_cube n L t₁
     plain₁ =
-        let lines₁ = count_test-lines n t i p.lines hi m (omega (arith, going)) (next_test-low n t i) (test_below n t i e) in
-        (same_rows n L t t₁ lines₁ (λ k c h counts _. count_test-other n t i m k c h (λ _. (λ e. counts (omega arith), λ e. counts (omega arith)))) p).0
+        let lines₁ =
+        count_test-lines wiring_cube n t i p.lines hi m o (omega (arith, going)) (next_test-low wiring_cube n t i) (test_below wiring_cube n t i e) in
+        (same_rows wiring_cube n L t t₁ lines₁ (λ k c h counts _. count_test-other n t i wiring_cube m o k c h (λ _. (λ e. counts (omega arith), λ e. counts (omega arith)))) p).0
 
     -- what the turn does to the rows
-    outcome-is : after_test n t₁ kind_turn i x ≡ cond (L x) (exchange_rows n t₁ i x) (suspect n t₁ i x)
-    unfolding after_outcome test_outcome replies
-    outcome-is =
-        by_bool (L x) (λ l. rw (plain₁.lives x x<n, l, none_told n L t₁ i x plain₁ hi x<n apart li l)) (λ l. rw (plain₁.lives x x<n, l))
+    after-is : after_outcome n t₁ i x o ≡ cond (L x) (exchange_rows n t₁ i x) (suspect n t₁ i x)
+    unfolding after_outcome
+    after-is = by_bool (L x) (λ l. rw l) (λ l. rw l)
 
-    turned-is : turn n t kind_turn i ≡ cond (L x) (exchange_rows n t₁ i x) (suspect n t₁ i x)
-    unfolding turn testing
+    turned-is : turn wiring_cube n t kind_turn i ≡ cond (L x) (exchange_rows n t₁ i x) (suspect n t₁ i x)
+    unfolding turn testing after_test wired_station
     turned-is =
-        let done = tested n L t₁ i x plain₁ hi x<n apart li kind_turn (λ _. refl) in
-        rw (e, not-alone n L _ i done.0 company hi li) outcome-is
+        let is = outcome-is wiring_cube n L t i x p hi x<n apart li kind_turn (λ _. refl) in
+        let done = outcome-effect wiring_cube n L t₁ i x plain₁ hi x<n apart li in
+        rw (e, is, not-alone wiring_cube n L (after_outcome n t₁ i x o) i done.0 company hi li) after-is
 
     exchanged : (k y : ℕ) → k < n → y < n → suspects n (exchange_rows n t₁ i x) k y ≡ byte_after true (suspects n t) i x k y
     exchanged k y hk hy = pick (ℕ_discrete k i) (ℕ_discrete k x) (ℕ_discrete y k)
@@ -105,7 +117,7 @@ module _ (n : ℕ) (L : ℕ → Bool) (t : List ℕ) (i : ℕ) (size : is_size n
             rw (a, eq-eqb i i refl, ne_eqb y x b) (suspect-other n t₁ i long₁ hi x i (head + y) (omega arith) (λ q r. b (omega arith)) ∙ row₁ i y hy)
         pick (no a) b = rw (ne_eqb k i a) (suspect-other n t₁ i long₁ hi x k (head + y) (omega arith) (λ q. absurd (a (sym q))) ∙ row₁ k y hy)
 
-    pub test-bytes : (k y : ℕ) → k < n → y < n → suspects n (turn n t kind_turn i) k y ≡ byte_after (L x) (suspects n t) i x k y
+    pub test-bytes : (k y : ℕ) → k < n → y < n → suspects n (turn wiring_cube n t kind_turn i) k y ≡ byte_after (L x) (suspects n t) i x k y
     test-bytes k y hk hy =
         by_bool (L x) (λ l. rw (turned-is, l) (exchanged k y hk hy)) (λ l. rw (turned-is, l) (marked k y hk hy))
 
@@ -116,8 +128,8 @@ module _ (n N : ℕ) (L : ℕ → Bool) (low : n ≤ N) (absent : (k : ℕ) → 
 
   -- the live boards of u know what those of t know, and that the boards from n on are dead
   pub record Like (t u : List ℕ) : Type 0 where
-    pub small : Plain n L t
-    pub big : Plain N L u
+    pub small : Plain wiring_cube n L t
+    pub big : Plain wiring_cube N L u
     pub finish : (k : ℕ) → L k ≡ true → finished N u k ≡ finished n t k
     pub rows : (k y : ℕ) → L k ≡ true → y < n → suspects N u k y ≡ suspects n t k y
     pub known : (k y : ℕ) → L k ≡ true → n ≤ y → y < N → suspects N u k y ≡ 1
@@ -163,10 +175,10 @@ module _ (n N : ℕ) (L : ℕ → Bool) (low : n ≤ N) (absent : (k : ℕ) → 
 
     module _ (t u : List ℕ) (like : Like t u) (i : ℕ) (li : L i ≡ true) (going : finished n t i ≡ 0) where
       abbrev t' : List ℕ
-      t' = turn n t kind_turn i
+      t' = turn wiring_cube n t kind_turn i
 
       abbrev u' : List ℕ
-      u' = turn N u kind_turn i
+      u' = turn wiring_cube N u kind_turn i
 
       h : i < n
       h = live_below i li
@@ -177,25 +189,26 @@ module _ (n N : ℕ) (L : ℕ → Bool) (low : n ≤ N) (absent : (k : ℕ) → 
       Going : finished N u i ≡ 0
       Going = like.finish i li ∙ going
 
-      heads : Heads n t t' i (makes_test n t i)
-      heads = turn-heads n t kind_turn i size like.small.lines h
+      heads : Heads wiring_cube n t t' i (outcome_at wiring_cube n t kind_turn i (next_test wiring_cube n t i)) (makes_test wiring_cube n t i)
+      heads = turn-heads wiring_cube n t kind_turn i like.small.lines h
 
-      pub Heads-of : Heads N u u' i (makes_test N u i)
-      Heads-of = turn-heads N u kind_turn i Size like.big.lines H
+      pub Heads-of : Heads wiring_cube N u u' i (outcome_at wiring_cube N u kind_turn i (next_test wiring_cube N u i)) (makes_test wiring_cube N u i)
+      Heads-of = turn-heads wiring_cube N u kind_turn i like.big.lines H
 
-      plain' : Plain n L t'
-      plain' = (turn-effect n L t kind_turn i like.small company h li going (λ _ _. refl)).plain
+      plain' : Plain wiring_cube n L t'
+      plain' = (turn-effect wiring_cube n L t kind_turn i like.small company h li going (λ _ _. refl)).plain
 
-      Plain' : Plain N L u'
-      Plain' = (turn-effect N L u kind_turn i like.big big-company H li Going (λ _ _. refl)).plain
+      Plain' : Plain wiring_cube N L u'
+      Plain' = (turn-effect wiring_cube N L u kind_turn i like.big big-company H li Going (λ _ _. refl)).plain
 
       -- a turn that tests a board from n on changes no row of a live board, and finishes no pass
-      module _ (e : makes_test N u i ≡ true) (out : ¬ (station_at i (next_test N u i) < n)) where
+      module _ (e : makes_test wiring_cube N u i ≡ true) (out : ¬ (station_at i (next_test wiring_cube N u i) < n)) where
         abbrev z : ℕ
-        z = station_at i (next_test N u i)
+        z = station_at i (next_test wiring_cube N u i)
 
         z<N : z < N
-        z<N = test-station N u i e like.big.lines.0 H
+        unfolding wired_station
+        z<N = test-station wiring_cube N u i e like.big.lines.0 H
 
         kept : (k y : ℕ) → L k ≡ true → y < N → suspects N u' k y ≡ suspects N u k y
         kept k y l b =
@@ -223,7 +236,7 @@ module _ (n N : ℕ) (L : ℕ → Bool) (low : n ≤ N) (absent : (k : ℕ) → 
         }
 
       -- both finish their pass
-      module _ (e : makes_test n t i ≡ false) (E : makes_test N u i ≡ false) where
+      module _ (e : makes_test wiring_cube n t i ≡ false) (E : makes_test wiring_cube N u i ≡ false) where
         pub both-finish : Like t' u'
         both-finish = record {
           small = plain';
@@ -237,12 +250,13 @@ module _ (n N : ℕ) (L : ℕ → Bool) (low : n ≤ N) (absent : (k : ℕ) → 
         }
 
         pub finish-next : next_distance N u' i ≡ next_distance n t' i
+        unfolding end_distance
         finish-next = rw E at Heads-of.next ∙ (sym levels ∙ sym (rw e at heads.next))
 
       -- both test the same board
-      module _ (e : makes_test n t i ≡ true) (E : makes_test N u i ≡ true) (same : next_test N u i ≡ next_test n t i) where
+      module _ (e : makes_test wiring_cube n t i ≡ true) (E : makes_test wiring_cube N u i ≡ true) (same : next_test wiring_cube N u i ≡ next_test wiring_cube n t i) where
         abbrev w : ℕ
-        w = station_at i (next_test n t i)
+        w = station_at i (next_test wiring_cube n t i)
 
         Bytes : (k y : ℕ) → L k ≡ true → y < N → suspects N u' k y ≡ byte_after (L w) (suspects N u) i w k y
         Bytes k y l b = rw same at (test-bytes N L u i Size like.big big-company H li Going E k y (omega (arith, live_below k l)) b)
@@ -270,4 +284,5 @@ module _ (n N : ℕ) (L : ℕ → Bool) (low : n ≤ N) (absent : (k : ℕ) → 
         }
 
         pub test-next : next_distance N u' i ≡ next_distance n t' i
+        unfolding next_after
         test-next = rw E at Heads-of.next ∙ (ap (λ (v : ℕ). v + 1) same ∙ sym (rw e at heads.next))

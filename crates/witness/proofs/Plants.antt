@@ -11,8 +11,9 @@ use lib.ListN.{length}
 use Rattle.lists.proofs.BoolLaws.{by_bool}
 use Rattle.lists.proofs.SearchLaws.{both}
 use Rattle.table.specs.Sizes.{is_size, dimension}
+use Rattle.table.specs.Wiring.{wiring_cube}
 use Rattle.table.specs.Table.{head, table_length, set_cell, suspects, live, rounds_ago_column}
-use Rattle.table.specs.Rules.{not_live, table_refusal}
+use Rattle.table.specs.Rules.{not_live, wired_table_refusal}
 use Rattle.table.specs.Properties.{at_start, live_count, none_suspected}
 use Rattle.table.specs.Fresh.{fresh_table}
 use Rattle.plant.specs.Turn.{crash, kind_turn}
@@ -34,7 +35,7 @@ first_state n dead = state_of (crashed n (fresh_table n) dead 0) 0 0
 -- all turns are taken, and the state that they leave passes q
 unfoldable pub arrives : ℕ → State → List ℕ → (State → Bool) → Bool
 arrives n s [] q = q s
-arrives n s (i ∷ is) q = cond (eqb (entry_refusal n s (entry_of kind_turn i)) 0) (arrives n (after n s (entry_of kind_turn i)) is q) false
+arrives n s (i ∷ is) q = cond (eqb (entry_refusal n s (entry_of kind_turn i)) 0) (arrives n (after wiring_cube n s (entry_of kind_turn i)) is q) false
 
 -- what they leave
 pub record Arrival (n : ℕ) (s : State) (is : List ℕ) (q : State → Bool) : Type 0 where
@@ -48,7 +49,7 @@ arrival n s [] q e = record { left = s; goes = stop; passes = e }
 arrival n s (i ∷ is) q e =
     by_bool (eqb (entry_refusal n s (entry_of kind_turn i)) 0)
     (λ z.
-    let rest = arrival n (after n s (entry_of kind_turn i)) is q (rw z at e) in
+    let rest = arrival n (after wiring_cube n s (entry_of kind_turn i)) is q (rw z at e) in
     record { left = rest.left; goes = go i (eqb-true _ 0 z) rest.goes; passes = rest.passes })
     (λ z. absurd (true≢false (sym (rw z at e))))
 
@@ -56,7 +57,7 @@ arrival n s (i ∷ is) q e =
 abbrev described : ℕ → State → Bool
 described n s =
     is_size n && eqb (length s.table) (table_length n) && at_start n s.table && ltb 1 (live_count n s.table) && none_suspected n s.table
-    && eqb (table_refusal n s.table) 0
+    && eqb (wired_table_refusal wiring_cube n s.table) 0
 
 -- board i is live and board j is not
 abbrev apart : ℕ → State → ℕ → ℕ → Bool
@@ -93,11 +94,13 @@ slow-plant n dead i j begun turns few a =
         first = s;
         ok = eqb-true _ 0 checks.1;
         premises = record {
+          wiring = refl;
           size = sized.0;
           long = eqb-true _ _ sized.1;
           start = starts.1;
           two_live = ltb-true _ _ two.1;
           accurate = trusts.1;
+          one_wiring = refl;
           no_crash = refl;
           no_late = refl;
         };

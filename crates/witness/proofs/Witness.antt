@@ -9,7 +9,7 @@ use Rattle.witness.proofs.Computing.{whole_run}
 pub witness : FourBoards
 unfolding whole_run boards turns_of calls
 witness = record {
-  premises = record { size = refl; long = refl; start = refl; two_live = omega arith; accurate = refl; no_crash = refl; no_late = refl };
+  premises = record { wiring = refl; size = refl; long = refl; start = refl; two_live = omega arith; accurate = refl; one_wiring = refl; no_crash = refl; no_late = refl };
   closed_tests = refl;
   open_tests = refl;
   counted = refl;
@@ -19,7 +19,7 @@ witness = record {
 pub witness-3 : ThreeBoards
 unfolding whole_run turns_of
 witness-3 = record {
-  premises = record { size = refl; long = refl; start = refl; two_live = omega arith; accurate = refl; no_crash = refl; no_late = refl };
+  premises = record { wiring = refl; size = refl; long = refl; start = refl; two_live = omega arith; accurate = refl; one_wiring = refl; no_crash = refl; no_late = refl };
   closed_tests = refl;
   open_tests = refl;
   counted = refl;

@@ -3,6 +3,7 @@
 -- that is no power of two.
 -- Assumes nothing.
 use Rattle.std.specs.Prelude.{◌≡◌, ℕ, ◌*◌, List, [], ◌∷◌, length, map, replicate}
+use Rattle.table.specs.Wiring.{wiring_cube}
 use Rattle.table.specs.Table.{set_cell, status_column}
 use Rattle.table.specs.Fresh.{fresh_table}
 use Rattle.plant.specs.Entry.{State, state_of}
@@ -15,9 +16,9 @@ unfoldable pub turns_of : List ℕ → List ℕ
 turns_of [] = []
 turns_of (i ∷ is) = 1 ∷ i ∷ turns_of is
 
--- a run with a sheet of zeros
+-- a run on the cube with a sheet of zeros
 abbrev pub call_with : ℕ → List ℕ → Call
-call_with n schedule = record { size = n; schedule = schedule; sheet = replicate (2 * length schedule) 0 }
+call_with n schedule = record { wiring = wiring_cube; size = n; schedule = schedule; sheet = replicate (2 * length schedule) 0 }
 
 -- four boards, board 3 dead, nothing suspected
 unfoldable pub boards : State
@@ -38,7 +39,7 @@ calls =
 
 -- the premises, the tests of the closed rounds, those of the open one, and the count of the claim
 pub record Computed (n : ℕ) (s : State) (runs : List Call) (closed : List ℕ) (open-tests count : ℕ) : Type 0 where
-  pub premises : DetectionPremises n s runs
+  pub premises : DetectionPremises wiring_cube n s runs
   pub closed_tests : map tests_in (rounds_of s runs).closed ≡ closed
   pub open_tests : tests_in (rounds_of s runs).open_round ≡ open-tests
   pub counted : tests_per_round n s.table ≡ count

@@ -1,5 +1,5 @@
 -- What the loops and the clearing leave is what the definitions say.
-use Rattle.std.proofs.Common.{rules, ◌≡◌, length, sym, ap, ◌∙◌, arith}
+use Rattle.std.proofs.Common.{rules, length, sym, ap, ◌∙◌, arith}
 use Rattle.table.specs.Wiring.{wiring_number}
 use Rattle.table.proofs.WiringLaws.{wiring_ok}
 use Rattle.mender.proofs.Call.{done}
