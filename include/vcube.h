@@ -22,6 +22,8 @@
  *
  * Turn, pass, round.
  *
+ *   Two wirings say who tests whom: the cube and the ring. What follows is the cube's.
+ *
  *   A turn of station i: of the distances that are due for i, not below its next distance, the least is taken. If there is none, i finishes
  *   its pass, and its next distance becomes 2^d. Else i tests the station j there: its next distance becomes one more than that distance, and
  *   its tests and the tally's go up by one.
@@ -35,6 +37,11 @@
  *   distance 1, pass not finished and no tests; byte 5 of each line that is not live goes up by one, to 255 at most; and the tally has one
  *   closed round more. If nobody is live no round closes any more.
  *   No entry makes a station live again, and none takes a suspicion back. In a fresh table all are live, and nobody is suspected.
+ *
+ *   On the ring there are distances 1 to n - 1, and at distance m from i stands the station m places after i, where behind n - 1 comes 0.
+ *   Every distance is due: i tests at its next distance if that is below n, and else finishes its pass. After an exchange its next distance
+ *   is n, so that its next turn finishes the pass; after any other test it is one more. Where the cube has 2^d, for the next distance of a
+ *   line and in the line rules, the ring has n. All else is the same on both. Group list, assignment and saved plants are for the cube.
  *
  * Words. A plant has n stations, numbered from 0; d is the least number with n <= 2^d. The distance of two stations is the exclusive or of
  * their numbers, which is below 2^d. The group of station i at level s (1 to d) holds, in this order, those of the numbers
@@ -141,7 +148,13 @@ extern "C" {
 /* The most results that figures are taken over. */
 #define VCUBE_MOST_RESULTS 4096
 
-/* What a call returns, in the order in which refusals are checked; but a drive looks for 7 after 16 and 17, a load looks for 18, 21, 22, 19,
+/* Who tests whom. A call that takes a wiring takes one of these numbers, and refuses all others with 24. */
+enum vcube_wiring {
+    VCUBE_WIRING_CUBE = 1,
+    VCUBE_WIRING_RING = 2
+};
+
+/* What a call returns, in the order in which refusals are checked; but 24 comes before all others, a drive looks for 7 after 16 and 17, a load looks for 18, 21, 22, 19,
  * 1, 20, 2, 3 and 4, in this order, the size of a saved plant for 18, 21, 22, 19 and 1, a conversion for 18, 22, 19, 1, 20, 3, 4 and 13, and
  * the length that it needs for 18, 22, 19 and 1.
  *
@@ -176,7 +189,8 @@ enum vcube_refusal {
                                              * than once; not n + 7, or n + 5 in edition 1; a number of n or more) */
     VCUBE_REFUSED_NO_OPENING = 21,          /* the file does not begin as edition 2 does (with just the opening) */
     VCUBE_REFUSED_FIELD_ORDER = 22,         /* a field is out of order, or of an unknown tag (a conversion looks for the tag only) */
-    VCUBE_REFUSED_REPORT_TOO_SHORT = 23     /* the report has fewer than 4n(n + 6) bytes */
+    VCUBE_REFUSED_REPORT_TOO_SHORT = 23,    /* the report has fewer than 4n(n + 6) bytes */
+    VCUBE_REFUSED_NO_SUCH_WIRING = 24       /* the wiring is neither 1 (cube) nor 2 (ring) */
 };
 
 /* Byte 0 of an entry of a schedule. */
@@ -213,9 +227,10 @@ enum vcube_tag {
     VCUBE_TAG_OPENING = 4
 };
 
-/* Fresh table: every line live, next distance 1, VCUBE_TOLD_BY_NONE in byte 4, all else 0.
- * Refusals: 1, 2. */
-uint8_t vcube_fresh_table(size_t n, uint8_t *table, size_t table_length);
+/* Fresh table: every line live, next distance 1, VCUBE_TOLD_BY_NONE in byte 4, all else 0. It is the same
+ * on both wirings.
+ * Refusals: 24, 1, 2. */
+uint8_t vcube_fresh_table(size_t wiring, size_t n, uint8_t *table, size_t table_length);
 
 /* Group list: the members of the station's group at that level, in order, into a list of just their number, vcube_group_length. A list of
  * length 0 is accepted where the group is empty.
@@ -249,8 +264,8 @@ uint8_t vcube_assignment(size_t n, const uint8_t *table, size_t table_length, si
 
 /* Row: the station's row is the part of the table that begins at byte *start and has *length bytes (n). Both are 0 where the call is
  * refused.
- * Refusals: 1 to 4, 9. */
-uint8_t vcube_row(size_t n, const uint8_t *table, size_t table_length, size_t station, size_t *start, size_t *length);
+ * Refusals: 24, 1 to 4, 9. */
+uint8_t vcube_row(size_t wiring, size_t n, const uint8_t *table, size_t table_length, size_t station, size_t *start, size_t *length);
 
 /* Run: takes the entries of a schedule in order. An entry is two bytes: kind (enum vcube_kind) and station. A turn, of kind 1 or 2, is told
  * at the top of this file. A crash changes the station's status to 1, and nothing else on its line. After each entry the round is closed if
@@ -267,10 +282,10 @@ uint8_t vcube_row(size_t n, const uint8_t *table, size_t table_length, size_t st
  * is not live then, up to 255. Nothing else in a run changes these two bytes: a VCUBE_TOLD_NOT_RECORDED that was handed in stays.
  *
  * *rounds and *tests are the tally of closed rounds and of tests: handed in there, given back there. *taken is how many entries were taken.
- * A run refused by 1 to 6 leaves the tally as it was, and *taken is 0.
- * Refusals: 1 to 6, then 7 to 11 at each entry. */
-uint8_t vcube_run(size_t n, uint8_t *table, size_t table_length, uint32_t *rounds, uint32_t *tests, const uint8_t *schedule,
-                  size_t schedule_length, uint8_t *sheet, size_t sheet_length, size_t *taken);
+ * A run refused by 24 or 1 to 6 leaves the tally as it was, and *taken is 0.
+ * Refusals: 24, 1 to 6, then 7 to 11 at each entry. */
+uint8_t vcube_run(size_t wiring, size_t n, uint8_t *table, size_t table_length, uint32_t *rounds, uint32_t *tests,
+                  const uint8_t *schedule, size_t schedule_length, uint8_t *sheet, size_t sheet_length, size_t *taken);
 
 /* Grant: the station that is to have the next turn, into *station, which is 0 where the call is refused. last is the last granted number:
  * a station, or VCUBE_NO_STATION, which may be handed in at any time. The granting rule: of the stations last + 1 to n - 1 and then 0 to
@@ -280,8 +295,8 @@ uint8_t vcube_run(size_t n, uint8_t *table, size_t table_length, uint32_t *round
  * If each grant is handed the number granted before it, a station that stays live and unfinished is granted after at most n - 1 grants to
  * others. The call changes no byte: the turn itself is an entry of a run, of kind VCUBE_KIND_TURN, or of kind VCUBE_KIND_LATE_TURN where its
  * reply comes late. Who does by grants and runs what a drive does keeps the granted number only once its turn was taken.
- * Refusals: 1 to 4, 16, 17. */
-uint8_t vcube_grant(size_t n, const uint8_t *table, size_t table_length, size_t last, size_t *station);
+ * Refusals: 24, 1 to 4, 16, 17. */
+uint8_t vcube_grant(size_t wiring, size_t n, const uint8_t *table, size_t table_length, size_t last, size_t *station);
 
 /* Drive: repeats a grant, by the granting rule of vcube_grant, and the granted station's turn, which does what an entry of kind
  * VCUBE_KIND_TURN does in a run but writes no sheet. It ends, and returns 0, after the turn that closes the round or leaves no station
@@ -292,18 +307,19 @@ uint8_t vcube_grant(size_t n, const uint8_t *table, size_t table_length, size_t 
  * *rounds and *tests are the tally, *last is the last granted number: handed in there, given back there. *grants is how many grants were
  * made, which is how many turns were; those that only finish a pass count too.
  *
- * 1 to 4, 16 and 17 are looked for once, at the start: a drive refused by them leaves tally and *last as they were, and *grants is 0.
+ * 24, 1 to 4, 16 and 17 are looked for once, at the start: a drive refused by them leaves tally and *last as they were, and *grants is 0.
  * Before each grant, the first included, 7 is looked for: a drive stopped by it keeps the turns made, and tally, *last and *grants are
  * those of these turns.
- * Refusals: 1 to 4, 16, 17, then 7 before each grant. */
-uint8_t vcube_drive(size_t n, uint8_t *table, size_t table_length, uint32_t *rounds, uint32_t *tests, size_t *last, size_t *grants);
+ * Refusals: 24, 1 to 4, 16, 17, then 7 before each grant. */
+uint8_t vcube_drive(size_t wiring, size_t n, uint8_t *table, size_t table_length, uint32_t *rounds, uint32_t *tests, size_t *last,
+                    size_t *grants);
 
 /* Doubt lamp: whether some live station suspects another live one. The lines of live stations are looked through by rising number, each row by
  * rising number, up to the first live station that is suspected: *by is the station that suspects, *of the one that it suspects. Both are
  * VCUBE_NO_STATION where there is no such pair, and 0 where the call is refused. The call changes no byte. A lamp without a pair at the start of
  * a round begins the wait of the detection claim (Rules Detection conditions and Lamp begins the wait).
- * Refusals: 1 to 4. */
-uint8_t vcube_doubt_lamp(size_t n, const uint8_t *table, size_t table_length, size_t *by, size_t *of);
+ * Refusals: 24, 1 to 4. */
+uint8_t vcube_doubt_lamp(size_t wiring, size_t n, const uint8_t *table, size_t table_length, size_t *by, size_t *of);
 
 /* Mend: makes a table that a brownout damaged obey all rules, so that refusals 1 to 4 let it through, and lists each byte that it changed. A status
  * above 3 becomes 1 (crashed). Bytes 1 to 3 of a line become 1, 0, 0 if one of them breaks a rule. Byte 4, by the mended status, becomes 254
@@ -315,8 +331,8 @@ uint8_t vcube_doubt_lamp(size_t n, const uint8_t *table, size_t table_length, si
  * the high one first, are the offset of the byte in the table; the third is what it was, the fourth what it is. Offset / (n + 6) is the station
  * of its line, offset % (n + 6) the byte of that line as the table above has it, so 6 + k is its suspicion of station k. Bytes that are not listed
  * are unchanged. *changes is 0 where the call is refused, which leaves table and report as they were.
- * Refusals: 1, 2, 23. */
-uint8_t vcube_mend(size_t n, uint8_t *table, size_t table_length, uint8_t *report, size_t report_length, size_t *changes);
+ * Refusals: 24, 1, 2, 23. */
+uint8_t vcube_mend(size_t wiring, size_t n, uint8_t *table, size_t table_length, uint8_t *report, size_t report_length, size_t *changes);
 
 /* Save: writes size, tally and table as a saved plant into a buffer of VCUBE_SAVED_LENGTH(n) bytes, every one of which is written. Tallies at
  * 4294967295 are saved like others. The last granted number of a bus master is not saved.

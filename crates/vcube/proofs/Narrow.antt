@@ -18,7 +18,7 @@ use Rattle.table.specs.Sizes.{is_size, dimension}
 use Rattle.station.specs.Groups.{group}
 use Rattle.lists.specs.Refusal.{Check, ensure, ◌and◌, unless_refused}
 use Rattle.table.specs.Wiring.{wiring_cube}
-use Rattle.table.specs.Rules.{wired_table_check, station_check}
+use Rattle.table.specs.Rules.{table_check, wired_table_check, station_check}
 use Rattle.station.specs.Calls.{group_check, group_after, row_check, row_part, row_offset, assignment_check, assignment_answer, assignment_after, range_check}
 use Rattle.lists.proofs.RefusalLaws.{ensure_ok, and_ok, and_first, and_same, and_err, refused_leaves}
 use Rattle.table.proofs.Accepting.{table_ok}
@@ -94,7 +94,7 @@ module _ (w n : ℕ) (t : List ℕ) where
 module _ (n : ℕ) (t : List ℕ) where
   assignment_far : (len x : ℕ) → 255 ≤ x → assignment_check n t x len ≡ row_refused wiring_cube n t
   unfolding assignment_check
-  assignment_far len x h = rw (row_far wiring_cube n t x h) (sym (and_first (row_refused wiring_cube n t) _ (refused wiring_cube n t)))
+  assignment_far len x h = and_same (table_check n t) _ _ (λ z. rw (station_far n x (table_ok wiring_cube n t tt z).size h))
 
   pub assignment_answer_narrow : (x b len : ℕ) → b ≡ min x 255 → assignment_answer n t b len ≡ assignment_answer n t x len
   unfolding assignment_answer
