@@ -154,9 +154,9 @@ enum vcube_wiring {
     VCUBE_WIRING_RING = 2
 };
 
-/* What a call returns, in the order in which refusals are checked; but 24 comes before all others, a drive looks for 7 after 16 and 17, a load looks for 18, 21, 22, 19,
- * 1, 20, 2, 3 and 4, in this order, the size of a saved plant for 18, 21, 22, 19 and 1, a conversion for 18, 22, 19, 1, 20, 3, 4 and 13, and
- * the length that it needs for 18, 22, 19 and 1.
+/* What a call returns, in the order in which refusals are checked; but 24 comes before all others, a drive looks for 7 after 16 and 17, a
+ * load looks for 18, 21, 22, 19, 1, 20, 2, 3 and 4, in this order, the size of a saved plant for 18, 21, 22, 19 and 1, a conversion for 18,
+ * 22, 19, 1, 20, 3, 4 and 13, and the length that it needs for 18, 22, 19 and 1.
  *
  * Here and in the three enums below: the words behind each number are those of the library itself, which calls a station a board. What
  * stands in parentheses behind them says more. */
