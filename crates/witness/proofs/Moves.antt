@@ -119,7 +119,7 @@ module _ (n : ℕ) (L : ℕ → Bool) (t : List ℕ) (i : ℕ) (size : is_size n
 
     pub test-bytes : (k y : ℕ) → k < n → y < n → suspects n (turn wiring_cube n t kind_turn i) k y ≡ byte_after (L x) (suspects n t) i x k y
     test-bytes k y hk hy =
-        by_bool (L x) (λ l. rw (turned-is, l) (exchanged k y hk hy)) (λ l. rw (turned-is, l) (marked k y hk hy))
+        by_bool (L x) (λ l. rw (turned-is, l) (rw l at (exchanged k y hk hy))) (λ l. rw (turned-is, l) (rw l at (marked k y hk hy)))
 
 -- the two plants: the same levels, the same live boards, all below n
 module _ (n N : ℕ) (L : ℕ → Bool) (low : n ≤ N) (absent : (k : ℕ) → n ≤ k → L k ≡ false) where
