@@ -34,12 +34,7 @@ pub fn check_row(wiring: usize, n: usize, table: &[u8], i: Station) -> Result<()
 
 // The lent bytes as a table that has a line i: the same refusals.
 #[tactic(auto, unfolding(crate::specs::Calls::row_check))]
-fn checked_line(
-    wiring: usize,
-    n: usize,
-    table: &[u8],
-    i: Station,
-) -> Result<Table<'_>, Refusal>
+fn checked_line(wiring: usize, n: usize, table: &[u8], i: Station) -> Result<Table<'_>, Refusal>
     ensures check { result_map_both (λ t. tt) (λ r. r) result ≡ row_check wiring n table.now i.0 }
     ensures same_size { IfOk result (λ t. t.n ≡ n) }
     ensures same_bytes { IfOk result (λ t. t.bytes.now ≡ table.now) }

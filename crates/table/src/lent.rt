@@ -59,11 +59,7 @@ impl<'a> Table<'a> {
 
     // The same where the wiring is given by its number: refusals 24 and 1 to 4. The answer has the wiring beside the table.
     #[tactic(auto, using(crate::proofs::WiringLaws::wiring_ok, crate::proofs::WiringLaws::wiring_err))]
-    pub fn wired(
-        wiring: usize,
-        n: usize,
-        bytes: &'a [u8],
-    ) -> Result<(Wiring, Table<'a>), Refusal>
+    pub fn wired(wiring: usize, n: usize, bytes: &'a [u8]) -> Result<(Wiring, Table<'a>), Refusal>
         ensures check { result_map_both (λ s. tt) (λ r. r) result
             ≡ wired_table_check wiring n bytes.now }
         ensures same_wiring { IfOk result (λ s. wiring_number s.0 ≡ wiring) }
@@ -78,11 +74,7 @@ impl<'a> Table<'a> {
 
     // The same on a wiring: refusals 1 to 4.
     #[tactic(auto, unfolding(crate::specs::Rules::table_check_on))]
-    pub fn checked_on(
-        wiring: Wiring,
-        n: usize,
-        bytes: &'a [u8],
-    ) -> Result<Table<'a>, Refusal>
+    pub fn checked_on(wiring: Wiring, n: usize, bytes: &'a [u8]) -> Result<Table<'a>, Refusal>
         ensures check { result_map_both (λ t. tt) (λ r. r) result
             ≡ table_check_on (wiring_number wiring) n bytes.now }
         ensures same_size { IfOk result (λ t. t.n ≡ n) }
