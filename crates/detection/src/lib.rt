@@ -51,13 +51,7 @@ pub fn run_in_list(
 
 // The drive, wherever it stands behind other drives: what the detection claim says of the plant that they drove holds of the table and tally that
 // it leaves: on the cube within d·d rounds, within 1 + d(d − 1)/2, and within the worst-case latency; on the ring within n − 1 and within n/2.
-pub fn drive_in_list(
-    wiring: usize,
-    n: usize,
-    table: &mut [u8],
-    tally: Tally,
-    last: usize,
-) -> Driven
+pub fn drive_in_list(wiring: usize, n: usize, table: &mut [u8], tally: Tally, last: usize) -> Driven
     ensures outcome { drive_outcome_with result table.new
         ≡ drive wiring n (state_with table.old tally) last }
     ensures stopped_if_taken { let start = state_with table.old tally in

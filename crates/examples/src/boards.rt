@@ -320,7 +320,14 @@ impl<'a> Plant<'a> {
 
     // A run of a schedule.
     fn run(&mut self, schedule: &[u8], sheet: &mut [u8]) -> Ran {
-        let ran = run::run(Wiring::Cube as usize, self.n as usize, self.table, self.tally, schedule, sheet);
+        let ran = run::run(
+            Wiring::Cube as usize,
+            self.n as usize,
+            self.table,
+            self.tally,
+            schedule,
+            sheet,
+        );
         self.tally = ran.tally;
         ran
     }

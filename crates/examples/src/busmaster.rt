@@ -46,7 +46,10 @@ fn four_crashed(rt: &impl Print) {
 // other; then whether both tables are still the same.
 fn both_ways(rt: &impl Print, by_turns: &mut [u8], driven: &mut [u8]) {
     tally_line(rt, granted_round(rt, by_turns));
-    drive_line(rt, drive::drive(Wiring::Cube as usize, 8, driven, Tally::default(), NO_GRANT));
+    drive_line(
+        rt,
+        drive::drive(Wiring::Cube as usize, 8, driven, Tally::default(), NO_GRANT),
+    );
     tables_line(rt, by_turns, driven);
 }
 
@@ -83,14 +86,24 @@ fn rest_of_a_round(rt: &impl Print) {
     let mut table = [0u8; EIGHT];
     let _ = fresh::fresh_table(Wiring::Cube as usize, 8, &mut table);
     let tally = entry_of(rt, &mut table, Tally::default(), Kind::Turn, 5);
-    drive_line(rt, drive::drive(Wiring::Cube as usize, 8, &mut table, tally, NO_GRANT));
+    drive_line(
+        rt,
+        drive::drive(Wiring::Cube as usize, 8, &mut table, tally, NO_GRANT),
+    );
 }
 
 // One entry on a table of eight; of a turn, its line of the sheet is printed. Table and tally stay two values, as the calls have them.
 fn entry_of(rt: &impl Print, table: &mut [u8], tally: Tally, kind: Kind, i: u8) -> Tally {
     let station = Station(i);
     let mut line = [0u8; 4];
-    let ran = run::run(Wiring::Cube as usize, 8, table, tally, &Entry { kind, station }.bytes(), &mut line);
+    let ran = run::run(
+        Wiring::Cube as usize,
+        8,
+        table,
+        tally,
+        &Entry { kind, station }.bytes(),
+        &mut line,
+    );
     if kind == Kind::Turn {
         let [station, tested, outcome, status] = line;
         let _ = println!(rt; "{station} {tested} {outcome} {status}");
@@ -110,7 +123,10 @@ fn two_boards(rt: &impl Print, rounds: u32, tests: u32) {
     let mut table = [0u8; TWO];
     let _ = fresh::fresh_table(Wiring::Cube as usize, 2, &mut table);
     let tally = Tally { rounds, tests };
-    drive_line(rt, drive::drive(Wiring::Cube as usize, 2, &mut table, tally, NO_GRANT));
+    drive_line(
+        rt,
+        drive::drive(Wiring::Cube as usize, 2, &mut table, tally, NO_GRANT),
+    );
 }
 
 // Two boards that suspect one another: 0 tests 1, is told and leaves; 1 tests 0, which is not live, and leaves as alone.
@@ -124,9 +140,18 @@ fn nobody_left(rt: &impl Print) {
     };
     lent.suspect(Station(0), Station(1));
     lent.suspect(Station(1), Station(0));
-    let first = drive::drive(Wiring::Cube as usize, 2, &mut table, Tally::default(), NO_GRANT);
+    let first = drive::drive(
+        Wiring::Cube as usize,
+        2,
+        &mut table,
+        Tally::default(),
+        NO_GRANT,
+    );
     drive_line(rt, first);
-    drive_line(rt, drive::drive(Wiring::Cube as usize, 2, &mut table, first.tally, 1));
+    drive_line(
+        rt,
+        drive::drive(Wiring::Cube as usize, 2, &mut table, first.tally, 1),
+    );
 }
 
 // Last numbers of a plant of two: 0, 1 and 255 are taken; 2, 254 and 256 are not.
@@ -142,7 +167,10 @@ fn last_numbers(rt: &impl Print) {
 fn number_line(rt: &impl Print, last: usize) {
     let mut table = [0u8; TWO];
     let _ = fresh::fresh_table(Wiring::Cube as usize, 2, &mut table);
-    let (number, Station(station)) = refusal::parts(grant::grant(Wiring::Cube as usize, 2, &table, last), Station(0));
+    let (number, Station(station)) = refusal::parts(
+        grant::grant(Wiring::Cube as usize, 2, &table, last),
+        Station(0),
+    );
     let _ = println!(rt; "last {last} number {number} station {station}");
 }
 

@@ -58,7 +58,7 @@ refusal_words LineField = codes "a board's line in the file is missing, there tw
 refusal_words NoOpening = codes "the file does not begin as edition 2 does"
 refusal_words FieldOrder = codes "a field is out of order, or of an unknown tag"
 refusal_words ReportTooShort = codes "the report has fewer than 4n(n + 6) bytes"
-refusal_words NoSuchWiring = codes "the wiring is neither 1 (cube) nor 2 (ring)"
+refusal_words NoSuchWiring = codes "there is no such wiring"
 
 -- the number of an answer: 0 where the call is not refused
 abbrev pub number_of_result : {A : Type 0} → Result A Refusal → ℕ

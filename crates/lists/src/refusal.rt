@@ -81,7 +81,7 @@ impl fmt::Display for Refusal {
             Refusal::NoOpening => "the file does not begin as edition 2 does",
             Refusal::FieldOrder => "a field is out of order, or of an unknown tag",
             Refusal::ReportTooShort => "the report has fewer than 4n(n + 6) bytes",
-            Refusal::NoSuchWiring => "the wiring is neither 1 (cube) nor 2 (ring)",
+            Refusal::NoSuchWiring => "there is no such wiring",
         })
     }
 }
