@@ -10,7 +10,7 @@ use lib.ListN.{length}
 use Rattle.lists.specs.Sums.{sum_below, bit}
 use Rattle.table.specs.Sizes.{is_size, dimension, distances}
 use Rattle.table.specs.Wiring.{wiring_cube, is_ring, end_distance}
-use Rattle.table.proofs.WiringLaws.{end-cube, end_ring}
+use Rattle.table.proofs.WiringLaws.{end-cube}
 use Rattle.station.specs.Wired.{wired_station}
 use Rattle.station.proofs.WiredLaws.{place_before, place_below, cube-station, ring-station}
 use Rattle.lists.proofs.BoolLaws.{by_bool}
