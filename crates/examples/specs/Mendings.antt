@@ -16,7 +16,7 @@ use Rattle.examples.specs.Master.{Example, expect, AllHold}
 
 -- the bytes of the listed changes
 abbrev pub listed : List ℕ → List ℕ
-listed t = flat_map change_bytes (mends 2 t)
+listed t = flat_map change_bytes (mends wiring_cube 2 t)
 
 -- the number of changes behind a 0, or the number of the refusal
 abbrev pub mend_figures : Result ℕ Refusal → List ℕ
