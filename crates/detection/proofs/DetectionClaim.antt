@@ -174,7 +174,7 @@ ring-of n s calls given =
 
 -- the claim on the ring
 on-ring : (n : ℕ) → DetectionAt wiring_ring n (ring_latency n)
-on-ring n s calls given = detection-by wiring_ring n s calls given (ring-of n s calls given) (n / 2) (omega arith) (omega arith) refl
+on-ring n s calls given = detection-by wiring_ring n s calls given (ring-of n s calls given) (ring_latency n) (omega arith) (omega arith) refl
 
 -- a wiring that is not the cube is the ring
 no-third : (w : ℕ) → wiring_check w ≡ Ok tt → w ≢ wiring_cube → w ≡ wiring_ring
