@@ -1,3 +1,4 @@
--- What the contracts of `convert` cite: where a refused file is at fault, and what a file is.
+-- What the contracts of `convert` cite: where a refused file is at fault, what a file is, and what is said of it.
 pub mod Place
 pub mod What
+pub mod Words

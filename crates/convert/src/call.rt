@@ -50,10 +50,15 @@ pub enum WrongCall {
 }
 
 impl fmt::Display for WrongCall {
+    ghost use Rattle.std.specs.Prelude.{Some};
+    ghost use Rattle.convert.specs.Words.{wrong_call_words};
+
+    ghost output = { λ wrong. Some (wrong_call_words wrong) };
+
     fn fmt<W: fmt::Write>(&self, f: &mut fmt::Formatter<W>) -> fmt::Result {
         match self {
             WrongCall::NotText => f.write_str("convert: an argument is not text in UTF-8"),
-            WrongCall::WrongNumber => f.write_str(USAGE),
+            WrongCall::WrongNumber => f.write_str("convert: not so many files"),
             WrongCall::UnknownOption(word) => {
                 write!(
                     f,

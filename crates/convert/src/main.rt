@@ -10,7 +10,7 @@ ghost use Rattle.std.specs.Prelude.{◌≡◌, ◌+◌, ◌≤◌, length, take,
 ghost use Rattle.convert.specs.What.{greatest_saved};
 
 use anyhow::Context;
-use call::Call;
+use call::{Call, WrongCall};
 use std::alloc::Global;
 use std::fmt::Display;
 use std::fs::File;
@@ -38,6 +38,11 @@ fn main(rt: HostRuntime) -> anyhow::Result<ExitCode> {
                 return Ok(ExitCode::from(1));
             };
             rt.write_all(&buffer[..len]).context(UNWRITTEN)?;
+        }
+        Err(WrongCall::WrongNumber) => {
+            explain(&rt, WrongCall::WrongNumber);
+            explain(&rt, call::USAGE);
+            return Ok(ExitCode::from(2));
         }
         Err(wrong) => {
             explain(&rt, wrong);

@@ -34,6 +34,11 @@ pub enum What {
 }
 
 impl fmt::Display for Fault {
+    ghost use Rattle.std.specs.Prelude.{Some};
+    ghost use Rattle.convert.specs.Words.{fault_words};
+
+    ghost output = { λ fault. Some (fault_words fault) };
+
     fn fmt<W: fmt::Write>(&self, f: &mut fmt::Formatter<W>) -> fmt::Result {
         match self {
             Fault::TooLong => f.write_str(
@@ -47,6 +52,11 @@ impl fmt::Display for Fault {
 }
 
 impl fmt::Display for What {
+    ghost use Rattle.std.specs.Prelude.{Some};
+    ghost use Rattle.convert.specs.Words.{what_words};
+
+    ghost output = { λ what. Some (what_words what) };
+
     fn fmt<W: fmt::Write>(&self, f: &mut fmt::Formatter<W>) -> fmt::Result {
         match self {
             What::SecondEdition => f.write_str("edition 2"),
