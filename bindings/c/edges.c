@@ -41,7 +41,7 @@ static void null_buffers(const uint8_t *table)
     uint8_t list[VCUBE_ASSIGNMENT_LENGTH(N)];
     size_t count = ANY, start = ANY, length = ANY;
 
-    expect(vcube_fresh_table(N, NULL, 0) == VCUBE_REFUSED_TABLE_LENGTH, "fresh table: a table of length 0 gets 2");
+    expect(vcube_fresh_table(VCUBE_WIRING_CUBE, N, NULL, 0) == VCUBE_REFUSED_TABLE_LENGTH, "fresh table: a table of length 0 gets 2");
     expect(vcube_group_list(N, 0, 1, NULL, 0) == VCUBE_REFUSED_LIST_LENGTH, "group list: a list of length 0 gets 13");
     expect(vcube_group_list(3, 2, 1, NULL, 0) == VCUBE_ACCEPTED, "group list: a list of length 0 is accepted for an empty group");
     expect(vcube_assignment(N, NULL, 0, 0, list, sizeof list, &count) == VCUBE_REFUSED_TABLE_LENGTH,
@@ -51,7 +51,7 @@ static void null_buffers(const uint8_t *table)
     expect(vcube_assignment(N, table, VCUBE_TABLE_LENGTH(N), 0, NULL, 0, &count) == VCUBE_REFUSED_LIST_LENGTH,
            "assignment: a list of length 0 gets 13");
     expect(count == 0, "assignment: the count of a refused call is 0");
-    expect(vcube_row(N, NULL, 0, 0, &start, &length) == VCUBE_REFUSED_TABLE_LENGTH, "row: a table of length 0 gets 2");
+    expect(vcube_row(VCUBE_WIRING_CUBE, N, NULL, 0, 0, &start, &length) == VCUBE_REFUSED_TABLE_LENGTH, "row: a table of length 0 gets 2");
     expect(start == 0 && length == 0, "row: start and length of a refused call are 0");
 }
 
@@ -123,7 +123,7 @@ static void assign(const struct assignment *one)
     const size_t table_length = VCUBE_TABLE_LENGTH(one->n), length = VCUBE_ASSIGNMENT_LENGTH(one->n);
     size_t count = ANY;
 
-    expect(vcube_fresh_table(one->n, table, table_length) == VCUBE_ACCEPTED, one->what);
+    expect(vcube_fresh_table(VCUBE_WIRING_CUBE, one->n, table, table_length) == VCUBE_ACCEPTED, one->what);
     for (size_t k = 0; k < one->n; k++)
         table[one->station * (one->n + VCUBE_HEAD) + VCUBE_HEAD + k] = (uint8_t)((one->suspected >> k) & 1);
     memset(list, ANY, sizeof list);
@@ -171,7 +171,7 @@ static void assignment_lengths(void)
     int wrong = 0;
 
     for (size_t n = 2; n <= 64; n++) {
-        expect(vcube_fresh_table(n, table, VCUBE_TABLE_LENGTH(n)) == VCUBE_ACCEPTED, "a fresh table");
+        expect(vcube_fresh_table(VCUBE_WIRING_CUBE, n, table, VCUBE_TABLE_LENGTH(n)) == VCUBE_ACCEPTED, "a fresh table");
         for (size_t length = 0; length <= VCUBE_ASSIGNMENT_LENGTH(64) + 2; length++) {
             int right = length == VCUBE_ASSIGNMENT_LENGTH(n);
             wrong += !gives_for_length(n, table, length, right ? VCUBE_ACCEPTED : VCUBE_REFUSED_LIST_LENGTH);
@@ -196,7 +196,8 @@ static void run_takes_nothing(uint8_t *table, const uint8_t *schedule, size_t sc
     size_t taken = ANY;
     size_t table_length = table == NULL ? 0 : VCUBE_TABLE_LENGTH(N);
 
-    expect(vcube_run(N, table, table_length, &rounds, &tests, schedule, schedule_length, sheet, sheet_length, &taken) == number,
+    expect(vcube_run(VCUBE_WIRING_CUBE, N, table, table_length, &rounds, &tests, schedule, schedule_length, sheet, sheet_length,
+                     &taken) == number,
            "run: the number");
     expect(rounds == ANY && tests == ANY + 1, "run: the tally stays as it was");
     expect(taken == 0, "run: no entry is taken");
@@ -263,7 +264,8 @@ static void take_turn(const struct turn *turn)
     size_t taken = ANY;
 
     memcpy(table, turn->before, sizeof table);
-    expect(vcube_run(N, table, sizeof table, &rounds, &tests, schedule, sizeof schedule, sheet, sizeof sheet, &taken) == VCUBE_ACCEPTED,
+    expect(vcube_run(VCUBE_WIRING_CUBE, N, table, sizeof table, &rounds, &tests, schedule, sizeof schedule, sheet, sizeof sheet,
+                     &taken) == VCUBE_ACCEPTED,
            turn->what);
     expect(taken == 1 && tests == 1 && rounds == turn->rounds, turn->what);
     expect(memcmp(sheet, turn->sheet, sizeof sheet) == 0, turn->what);
@@ -301,7 +303,7 @@ static void grant(size_t n, const uint8_t *table, size_t table_length, size_t la
 {
     size_t given = ANY;
 
-    expect(vcube_grant(n, table, table_length, last, &given) == number, what);
+    expect(vcube_grant(VCUBE_WIRING_CUBE, n, table, table_length, last, &given) == number, what);
     expect(given == station, what);
 }
 
@@ -309,7 +311,9 @@ static void grant(size_t n, const uint8_t *table, size_t table_length, size_t la
 static void drive(size_t n, uint8_t *table, size_t table_length, struct driven figures, int number, struct driven expected,
                   const char *what)
 {
-    expect(vcube_drive(n, table, table_length, &figures.rounds, &figures.tests, &figures.last, &figures.grants) == number, what);
+    expect(vcube_drive(VCUBE_WIRING_CUBE, n, table, table_length, &figures.rounds, &figures.tests, &figures.last,
+                       &figures.grants) == number,
+           what);
     expect(figures.rounds == expected.rounds && figures.tests == expected.tests, what);
     expect(figures.last == expected.last && figures.grants == expected.grants, what);
 }
@@ -474,7 +478,7 @@ static void fresh_plant(size_t d, size_t begin)
     uint8_t *table = buffer + begin;
 
     memset(buffer, ANY, sizeof buffer);
-    expect(vcube_fresh_table(n, fresh, length) == VCUBE_ACCEPTED, "a fresh table");
+    expect(vcube_fresh_table(VCUBE_WIRING_CUBE, n, fresh, length) == VCUBE_ACCEPTED, "a fresh table");
     memcpy(table, fresh, length);
     grant(n, table, length, 0, VCUBE_ACCEPTED, 1, "grant: after 0 comes 1");
     grant(n, table, length, n - 2, VCUBE_ACCEPTED, n - 1, "grant: after n - 2 comes n - 1");
@@ -558,7 +562,7 @@ static void saved_lengths(void)
     expect(VCUBE_SAVED_LENGTH(2) == 43 && VCUBE_SAVED_LENGTH(8) == 163 && VCUBE_SAVED_LENGTH(64) == 4755, "the length of a saved plant");
     for (size_t n = 2; n <= 64; n++) {
         const size_t right = VCUBE_SAVED_LENGTH(n), wrong[] = {0, 1, right - 1, right + 1, right + 256};
-        expect(vcube_fresh_table(n, table, VCUBE_TABLE_LENGTH(n)) == VCUBE_ACCEPTED, "a fresh table");
+        expect(vcube_fresh_table(VCUBE_WIRING_CUBE, n, table, VCUBE_TABLE_LENGTH(n)) == VCUBE_ACCEPTED, "a fresh table");
         save(n, table, VCUBE_TABLE_LENGTH(n), right, VCUBE_ACCEPTED, "save: a buffer of VCUBE_SAVED_LENGTH is accepted");
         for (size_t k = 0; k < sizeof wrong / sizeof wrong[0]; k++)
             save(n, table, VCUBE_TABLE_LENGTH(n), wrong[k], VCUBE_REFUSED_LIST_LENGTH, "save: a buffer of another length gets 13");
@@ -785,7 +789,7 @@ static void save_and_load(size_t n, size_t begin)
     size_t size = ANY;
     uint32_t rounds = ANY, tests = ANY;
 
-    expect(vcube_fresh_table(n, table, table_length) == VCUBE_ACCEPTED, "a fresh table");
+    expect(vcube_fresh_table(VCUBE_WIRING_CUBE, n, table, table_length) == VCUBE_ACCEPTED, "a fresh table");
     for (size_t station = 0; station < n; station++)
         vary_line(n, station, table + station * (n + VCUBE_HEAD));
     expected_saved(n, table, expected);
@@ -887,7 +891,7 @@ static void convert_every_status(size_t n, size_t begin)
     uint8_t *saved = buffer + begin, *stored = old + begin;
     size_t length = ANY;
 
-    expect(vcube_fresh_table(n, tables, VCUBE_TABLE_LENGTH(n)) == VCUBE_ACCEPTED, "a fresh table");
+    expect(vcube_fresh_table(VCUBE_WIRING_CUBE, n, tables, VCUBE_TABLE_LENGTH(n)) == VCUBE_ACCEPTED, "a fresh table");
     memcpy(stored, front, sizeof front);
     for (size_t station = 0; station < n; station++) {
         uint8_t *line = tables + station * (n + VCUBE_HEAD);
@@ -988,9 +992,9 @@ static void write_table(const uint8_t *table, int number, const char *what)
     uint32_t rounds = 0, tests = 0;
 
     memcpy(copy, table, sizeof copy);
-    expect(vcube_run(3, copy, sizeof copy, &rounds, &tests, NULL, 0, NULL, 0, &taken) == number, what);
+    expect(vcube_run(VCUBE_WIRING_CUBE, 3, copy, sizeof copy, &rounds, &tests, NULL, 0, NULL, 0, &taken) == number, what);
     expect(memcmp(copy, table, sizeof copy) == 0, what);
-    expect(vcube_drive(3, copy, sizeof copy, &rounds, &tests, &last, &grants) == number, what);
+    expect(vcube_drive(VCUBE_WIRING_CUBE, 3, copy, sizeof copy, &rounds, &tests, &last, &grants) == number, what);
     expect(number == VCUBE_ACCEPTED || memcmp(copy, table, sizeof copy) == 0, what);
     expected_saved(3, table, saved);
     memset(copy, ANY, sizeof copy);
@@ -1005,13 +1009,13 @@ static void try_head(const struct head *head)
     uint8_t *line = table + 3 + VCUBE_HEAD;
     size_t start, length, count, station;
 
-    expect(vcube_fresh_table(3, table, sizeof table) == VCUBE_ACCEPTED, "a fresh table");
+    expect(vcube_fresh_table(VCUBE_WIRING_CUBE, 3, table, sizeof table) == VCUBE_ACCEPTED, "a fresh table");
     line[0] = head->status;
     line[4] = head->told_by;
     line[5] = head->rounds_ago;
-    expect(vcube_row(3, table, sizeof table, 2, &start, &length) == head->number, head->what);
+    expect(vcube_row(VCUBE_WIRING_CUBE, 3, table, sizeof table, 2, &start, &length) == head->number, head->what);
     expect(vcube_assignment(3, table, sizeof table, 0, list, sizeof list, &count) == head->number, head->what);
-    expect(vcube_grant(3, table, sizeof table, VCUBE_NO_STATION, &station) == head->number, head->what);
+    expect(vcube_grant(VCUBE_WIRING_CUBE, 3, table, sizeof table, VCUBE_NO_STATION, &station) == head->number, head->what);
     expect(vcube_save(3, table, sizeof table, 0, 0, saved, sizeof saved) == head->number, head->what);
     write_table(table, head->number, head->what);
 }
@@ -1036,7 +1040,7 @@ static void all_heads(size_t n, size_t station, unsigned step)
     uint8_t *line = table + station * (n + VCUBE_HEAD);
     size_t start, length, wrong = 0;
 
-    expect(vcube_fresh_table(n, table, VCUBE_TABLE_LENGTH(n)) == VCUBE_ACCEPTED, "a fresh table");
+    expect(vcube_fresh_table(VCUBE_WIRING_CUBE, n, table, VCUBE_TABLE_LENGTH(n)) == VCUBE_ACCEPTED, "a fresh table");
     for (unsigned status = 0; status < 4; status++)
         for (unsigned told_by = 0; told_by < 256; told_by++)
             for (unsigned rounds_ago = 0; rounds_ago < 256; rounds_ago += step) {
@@ -1044,7 +1048,7 @@ static void all_heads(size_t n, size_t station, unsigned step)
                 line[0] = (uint8_t)status;
                 line[4] = (uint8_t)told_by;
                 line[5] = (uint8_t)rounds_ago;
-                wrong += vcube_row(n, table, VCUBE_TABLE_LENGTH(n), 0, &start, &length) != right;
+                wrong += vcube_row(VCUBE_WIRING_CUBE, n, table, VCUBE_TABLE_LENGTH(n), 0, &start, &length) != right;
             }
     expect(wrong == 0, "line rules: bytes 4 and 5, by the status");
 }
@@ -1070,7 +1074,7 @@ static void fresh_lines(void)
     size_t wrong = 0;
 
     for (size_t n = 2; n <= 64; n++) {
-        expect(vcube_fresh_table(n, table, VCUBE_TABLE_LENGTH(n)) == VCUBE_ACCEPTED, "a fresh table");
+        expect(vcube_fresh_table(VCUBE_WIRING_CUBE, n, table, VCUBE_TABLE_LENGTH(n)) == VCUBE_ACCEPTED, "a fresh table");
         for (size_t station = 0; station < n; station++) {
             const uint8_t *line = table + station * (n + VCUBE_HEAD);
             wrong += memcmp(line, head, sizeof head) != 0 || !all_are(0, line + VCUBE_HEAD, n);
@@ -1212,7 +1216,8 @@ static void take_entry(const struct entry *entry)
     size_t taken = ANY;
 
     memcpy(table, entry->before, sizeof table);
-    expect(vcube_run(4, table, sizeof table, &rounds, &tests, schedule, sizeof schedule, sheet, sizeof sheet, &taken) == VCUBE_ACCEPTED,
+    expect(vcube_run(VCUBE_WIRING_CUBE, 4, table, sizeof table, &rounds, &tests, schedule, sizeof schedule, sheet, sizeof sheet,
+                     &taken) == VCUBE_ACCEPTED,
            entry->what);
     expect(taken == 1 && rounds == entry->rounds && tests == (sheet[1] == VCUBE_NO_STATION ? 0 : 1), entry->what);
     expect(memcmp(sheet, entry->sheet, sizeof sheet) == 0, entry->what);
@@ -1241,7 +1246,8 @@ static void close_at(uint8_t status, uint8_t told_by, unsigned rounds_ago)
     size_t taken;
 
     memcpy(table, before, sizeof table);
-    expect(vcube_run(4, table, sizeof table, &rounds, &tests, schedule, 2, sheet, 4, &taken) == VCUBE_ACCEPTED, "run: a closing");
+    expect(vcube_run(VCUBE_WIRING_CUBE, 4, table, sizeof table, &rounds, &tests, schedule, 2, sheet, 4, &taken) == VCUBE_ACCEPTED,
+           "run: a closing");
     expect(memcmp(table, after, sizeof table) == 0, "run: a closing adds 1 to the count of who is not live, up to 255");
     memcpy(table, before, sizeof table);
     drive(4, table, sizeof table, driven(5, 7, VCUBE_NO_STATION, ANY), VCUBE_ACCEPTED, driven(6, 7, 0, 1), "drive: a closing");
@@ -1257,7 +1263,7 @@ static void many_rounds(int told)
     uint32_t rounds = 0, tests = 0;
     size_t last = VCUBE_NO_STATION, grants, wrong = 0;
 
-    expect(vcube_fresh_table(4, table, sizeof table) == VCUBE_ACCEPTED, "a fresh table");
+    expect(vcube_fresh_table(VCUBE_WIRING_CUBE, 4, table, sizeof table) == VCUBE_ACCEPTED, "a fresh table");
     if (told)
         table[VCUBE_HEAD + 1] = 1;
     else
@@ -1267,7 +1273,7 @@ static void many_rounds(int told)
             (uint8_t)(told ? VCUBE_STATUS_TOLD : VCUBE_STATUS_CRASHED), 1, 0, 0, (uint8_t)(told ? 0 : NONE),
             (uint8_t)(round < 255 ? round : 255),
         };
-        wrong += vcube_drive(4, table, sizeof table, &rounds, &tests, &last, &grants) != VCUBE_ACCEPTED || rounds != round;
+        wrong += vcube_drive(VCUBE_WIRING_CUBE, 4, table, sizeof table, &rounds, &tests, &last, &grants) != VCUBE_ACCEPTED || rounds != round;
         wrong += memcmp(line, head, sizeof head) != 0;
         wrong += table[4] != NONE || table[5] != 0;
     }
@@ -1493,7 +1499,7 @@ static void lamp(size_t n, const uint8_t *table, size_t table_length, int number
 {
     size_t given_by = ANY, given_of = ANY;
 
-    expect(vcube_doubt_lamp(n, table, table_length, &given_by, &given_of) == number, what);
+    expect(vcube_doubt_lamp(VCUBE_WIRING_CUBE, n, table, table_length, &given_by, &given_of) == number, what);
     expect(given_by == by && given_of == of, what);
 }
 
@@ -1503,7 +1509,7 @@ static void doubt_lamps(void)
     uint8_t table[VCUBE_TABLE_LENGTH(4)];
     const size_t line = 4 + VCUBE_HEAD;
 
-    expect(vcube_fresh_table(4, table, sizeof table) == VCUBE_ACCEPTED, "a fresh table");
+    expect(vcube_fresh_table(VCUBE_WIRING_CUBE, 4, table, sizeof table) == VCUBE_ACCEPTED, "a fresh table");
     lamp(4, table, sizeof table, VCUBE_ACCEPTED, VCUBE_NO_STATION, VCUBE_NO_STATION, "doubt lamp: out on a fresh table");
     table[VCUBE_HEAD + 2] = table[line + VCUBE_HEAD + 3] = 1;
     table[3 * line + VCUBE_HEAD] = table[3 * line + VCUBE_HEAD + 1] = 1;
@@ -1531,7 +1537,7 @@ static void mend(size_t n, uint8_t *table, size_t table_length, uint8_t *report,
 {
     size_t given = ANY;
 
-    expect(vcube_mend(n, table, table_length, report, report_length, &given) == number, what);
+    expect(vcube_mend(VCUBE_WIRING_CUBE, n, table, table_length, report, report_length, &given) == number, what);
     expect(given == changes, what);
 }
 
@@ -1541,7 +1547,7 @@ static void mendings(void)
     uint8_t table[VCUBE_TABLE_LENGTH(4)], before[sizeof table], report[VCUBE_REPORT_LENGTH(4) + 3], left[sizeof report];
     static const uint8_t listed[] = {0, 10, 9, 1, 0, 14, 254, 255, 0, 39, 1, 0};
 
-    expect(vcube_fresh_table(4, table, sizeof table) == VCUBE_ACCEPTED, "a fresh table");
+    expect(vcube_fresh_table(VCUBE_WIRING_CUBE, 4, table, sizeof table) == VCUBE_ACCEPTED, "a fresh table");
     memset(report, ANY, sizeof report);
     memset(left, ANY, sizeof left);
     table[10] = 9;
@@ -1570,7 +1576,7 @@ int main(void)
 
     snprintf(version, sizeof version, "%d.%d.%d", VCUBE_VERSION_MAJOR, VCUBE_VERSION_MINOR, VCUBE_VERSION_PATCH);
     expect(strcmp(version, VCUBE_VERSION) == 0, "the version's numbers are those of its text");
-    expect(vcube_fresh_table(N, table, sizeof table) == VCUBE_ACCEPTED, "a fresh table");
+    expect(vcube_fresh_table(VCUBE_WIRING_CUBE, N, table, sizeof table) == VCUBE_ACCEPTED, "a fresh table");
     null_buffers(table);
     null_in_runs(table);
     group_lengths();

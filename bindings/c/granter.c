@@ -41,8 +41,8 @@ static int run(struct plant *plant, const uint8_t *schedule, size_t length)
     uint8_t sheet[2 * sizeof beforehand]; /* long enough for every schedule here */
     size_t taken;
 
-    return refused("run", vcube_run(N, plant->table, sizeof plant->table, &plant->rounds, &plant->tests, schedule, length, sheet,
-                                    2 * length, &taken));
+    return refused("run", vcube_run(VCUBE_WIRING_CUBE, N, plant->table, sizeof plant->table, &plant->rounds, &plant->tests, schedule,
+                                    length, sheet, 2 * length, &taken));
 }
 
 /* One grant and its turn; prints who was granted. */
@@ -51,7 +51,7 @@ static int grant_turn(struct plant *plant)
     uint8_t entry[2] = {VCUBE_KIND_TURN, 0};
     size_t station;
 
-    if (refused("grant", vcube_grant(N, plant->table, sizeof plant->table, plant->last, &station)))
+    if (refused("grant", vcube_grant(VCUBE_WIRING_CUBE, N, plant->table, sizeof plant->table, plant->last, &station)))
         return 1;
     printf(" %zu", station);
     entry[1] = (uint8_t)station;
@@ -88,7 +88,8 @@ static int drive(struct plant *plant)
     size_t grants, turns;
 
     if (grant_round(&copy, &turns) ||
-        refused("drive", vcube_drive(N, plant->table, sizeof plant->table, &plant->rounds, &plant->tests, &plant->last, &grants)))
+        refused("drive", vcube_drive(VCUBE_WIRING_CUBE, N, plant->table, sizeof plant->table, &plant->rounds, &plant->tests,
+                                     &plant->last, &grants)))
         return 1;
     printf("drive: rounds %" PRIu32 " tests %" PRIu32 " last %zu grants %zu\n", plant->rounds, plant->tests, plant->last, grants);
     if (!same(plant, &copy) || grants != turns) {
@@ -104,7 +105,7 @@ static size_t known_by(const struct plant *plant)
     size_t many = 0, start, length;
 
     for (size_t station = 0; station < N; station++) {
-        if (refused("row", vcube_row(N, plant->table, sizeof plant->table, station, &start, &length)))
+        if (refused("row", vcube_row(VCUBE_WIRING_CUBE, N, plant->table, sizeof plant->table, station, &start, &length)))
             return N;
         many += plant->table[start + DEAD];
     }
@@ -116,7 +117,8 @@ int main(void)
     struct plant plant = {{0}, 0, 0, VCUBE_NO_STATION};
     size_t known = 0;
 
-    if (refused("fresh table", vcube_fresh_table(N, plant.table, sizeof plant.table)) || run(&plant, beforehand, sizeof beforehand))
+    if (refused("fresh table", vcube_fresh_table(VCUBE_WIRING_CUBE, N, plant.table, sizeof plant.table)) ||
+        run(&plant, beforehand, sizeof beforehand))
         return 1;
     for (int drives = 0; drives < MOST_DRIVES && known < N - 1; drives++) {
         if (drive(&plant))

@@ -67,9 +67,9 @@ static int run_example(struct plant *plant)
 
     plant->n = N;
     plant->rounds = plant->tests = 0;
-    return refused("fresh table", vcube_fresh_table(N, plant->table, VCUBE_TABLE_LENGTH(N))) ||
-           refused("run", vcube_run(N, plant->table, VCUBE_TABLE_LENGTH(N), &plant->rounds, &plant->tests, example, sizeof example, sheet,
-                                    sizeof sheet, &taken));
+    return refused("fresh table", vcube_fresh_table(VCUBE_WIRING_CUBE, N, plant->table, VCUBE_TABLE_LENGTH(N))) ||
+           refused("run", vcube_run(VCUBE_WIRING_CUBE, N, plant->table, VCUBE_TABLE_LENGTH(N), &plant->rounds, &plant->tests, example,
+                                    sizeof example, sheet, sizeof sheet, &taken));
 }
 
 static int save(const struct plant *plant, uint8_t *buffer)
@@ -103,7 +103,8 @@ static int drive(struct plant *plant)
     const size_t n = plant->n;
     size_t last = VCUBE_NO_STATION, grants;
 
-    return refused("drive", vcube_drive(n, plant->table, VCUBE_TABLE_LENGTH(n), &plant->rounds, &plant->tests, &last, &grants));
+    return refused("drive", vcube_drive(VCUBE_WIRING_CUBE, n, plant->table, VCUBE_TABLE_LENGTH(n), &plant->rounds, &plant->tests, &last,
+                                        &grants));
 }
 
 /* Why a board is not live, from its line: bytes 0 and 4. */

@@ -74,9 +74,9 @@ static int run(const uint8_t *schedule, size_t length)
     size_t taken;
     uint8_t number;
 
-    if (refused("fresh table", vcube_fresh_table(N, table, sizeof table)))
+    if (refused("fresh table", vcube_fresh_table(VCUBE_WIRING_CUBE, N, table, sizeof table)))
         return 1;
-    number = vcube_run(N, table, sizeof table, &rounds, &tests, schedule, length, sheet, 2 * length, &taken);
+    number = vcube_run(VCUBE_WIRING_CUBE, N, table, sizeof table, &rounds, &tests, schedule, length, sheet, 2 * length, &taken);
     printf("station tested outcome status\n");
     for (size_t entry = 0; entry < taken; entry++)
         print_bytes(sheet + 4 * entry, 4);
@@ -122,7 +122,7 @@ static int print_line(size_t station)
 {
     size_t start, length;
 
-    if (refused("row", vcube_row(N, table, sizeof table, station, &start, &length)))
+    if (refused("row", vcube_row(VCUBE_WIRING_CUBE, N, table, sizeof table, station, &start, &length)))
         return 1;
     printf("status of %zu: %d, row: ", station, table[station * (N + VCUBE_HEAD)]);
     print_bytes(table + start, length);
@@ -134,7 +134,7 @@ static int print_lamp(void)
 {
     size_t by, of;
 
-    if (refused("doubt lamp", vcube_doubt_lamp(N, table, sizeof table, &by, &of)))
+    if (refused("doubt lamp", vcube_doubt_lamp(VCUBE_WIRING_CUBE, N, table, sizeof table, &by, &of)))
         return 1;
     if (by == VCUBE_NO_STATION)
         printf("doubt lamp: out\n");
@@ -159,14 +159,14 @@ static int print_mending(void)
     uint8_t mended[VCUBE_TABLE_LENGTH(8)], report[VCUBE_REPORT_LENGTH(8)];
     size_t changes;
 
-    if (refused("fresh table", vcube_fresh_table(8, mended, sizeof mended)))
+    if (refused("fresh table", vcube_fresh_table(VCUBE_WIRING_CUBE, 8, mended, sizeof mended)))
         return 1;
     mended[2 * line] = 12;
     mended[2 * line + 4] = 0;
     mended[5 * line + 1] = 0;
     mended[5 * line + VCUBE_HEAD + 6] = 64;
     mended[7 * line + VCUBE_HEAD + 7] = 1;
-    if (refused("mend", vcube_mend(8, mended, sizeof mended, report, sizeof report, &changes)))
+    if (refused("mend", vcube_mend(VCUBE_WIRING_CUBE, 8, mended, sizeof mended, report, sizeof report, &changes)))
         return 1;
     printf("bytes mended: %zu\n", changes);
     for (const uint8_t *change = report; change < report + VCUBE_CHANGE_LENGTH * changes; change += VCUBE_CHANGE_LENGTH) {

@@ -9,6 +9,7 @@ mod granter;
 mod lamp;
 mod lines;
 mod mender;
+mod ring;
 mod saved;
 
 /// Byte 4 of a line whose station nobody told to leave.
@@ -16,7 +17,7 @@ const NONE: u8 = TOLD_BY_NONE;
 
 fn fresh(n: usize) -> Vec<u8> {
     let mut table = vec![9; table_length(n)];
-    assert_eq!(fresh_table(n, &mut table), Ok(()));
+    assert_eq!(fresh_table(Wiring::Cube, n, &mut table), Ok(()));
     table
 }
 
@@ -136,6 +137,7 @@ fn the_run_example_of_4_changes_the_table_as_stated() {
     let mut table = fresh(4);
     let schedule = [2, 0, 1, 0, 1, 0, 1, 1];
     let answer = run(
+        Wiring::Cube,
         4,
         &mut table,
         &mut Tally::default(),
@@ -156,7 +158,14 @@ fn the_run_example_of_4_changes_the_table_as_stated() {
 fn a_pass_of_station_4_of_5_ends_at_next_distance_8() {
     let mut table = fresh(5);
     let (mut tally, mut sheet) = (Tally::default(), [9; 20]);
-    let answer = run(5, &mut table, &mut tally, &[1, 4].repeat(5), &mut sheet);
+    let answer = run(
+        Wiring::Cube,
+        5,
+        &mut table,
+        &mut tally,
+        &[1, 4].repeat(5),
+        &mut sheet,
+    );
     assert_eq!((answer.refusal, answer.taken, tally.tests), (None, 5, 4));
     let tested: Vec<u8> = sheet.chunks(4).map(|line| line[1]).collect();
     assert_eq!(tested, [0, 1, 2, 3, 255]);
@@ -170,7 +179,7 @@ fn after_entry<const N: usize, const WIDTH: usize>(
     entry: [u8; 2],
 ) -> ([u8; 4], Vec<u8>, Tally) {
     let (mut table, mut tally, mut sheet) = (lines.concat(), Tally::default(), [9; 4]);
-    let answer = run(N, &mut table, &mut tally, &entry, &mut sheet);
+    let answer = run(Wiring::Cube, N, &mut table, &mut tally, &entry, &mut sheet);
     assert_eq!((answer.refusal, answer.taken), (None, 1));
     (sheet, table, tally)
 }
@@ -204,7 +213,14 @@ fn a_station_that_left_when_it_was_tested_is_not_live() {
     let mut table = SUSPECTED_1.concat();
     let schedule = [1, 0, 1, 3, 1, 3, 1, 1];
     let (mut tally, mut sheet) = (Tally::default(), [9; 16]);
-    let answer = run(4, &mut table, &mut tally, &schedule, &mut sheet);
+    let answer = run(
+        Wiring::Cube,
+        4,
+        &mut table,
+        &mut tally,
+        &schedule,
+        &mut sheet,
+    );
     assert_eq!((answer.refusal, answer.taken), (Some(Refusal::NotLive), 3));
     let lines = [[0, 1, 5, 0], [3, 2, 1, 0], [3, 1, 3, 0], [9, 9, 9, 9]];
     assert_eq!(sheet, *lines.concat());
@@ -290,7 +306,14 @@ fn late_after_passes() -> Vec<u8> {
 fn a_station_whose_reply_was_late_leaves_in_the_next_round() {
     let (mut table, schedule) = (fresh(4), late_after_passes());
     let (mut tally, mut sheet) = (Tally::default(), [9; 56]);
-    let answer = run(4, &mut table, &mut tally, &schedule, &mut sheet);
+    let answer = run(
+        Wiring::Cube,
+        4,
+        &mut table,
+        &mut tally,
+        &schedule,
+        &mut sheet,
+    );
     assert_eq!((answer.refusal, answer.taken), (None, 14));
     assert_eq!((tally.rounds, tally.tests), (1, 10));
     let of_0 = [
@@ -313,18 +336,30 @@ fn a_station_whose_reply_was_late_leaves_in_the_next_round() {
 #[test]
 fn the_row_is_that_very_part_of_the_table() {
     let table = fresh(4);
-    let row = row(4, &table, Station(2)).expect("accepted");
+    let row = row(Wiring::Cube, 4, &table, Station(2)).expect("accepted");
     assert!(std::ptr::eq(row, &table[2 * 10 + 6..3 * 10]));
 }
 
 #[test]
 fn a_refused_row_has_its_refusal() {
     let mut table = fresh(4);
-    assert_eq!(row(65, &table, Station(0)), Err(Refusal::SizeOutOfRange));
-    assert_eq!(row(4, &table[1..], Station(0)), Err(Refusal::TableLength));
-    assert_eq!(row(4, &table, Station(4)), Err(Refusal::NoSuchStation));
+    assert_eq!(
+        row(Wiring::Cube, 65, &table, Station(0)),
+        Err(Refusal::SizeOutOfRange)
+    );
+    assert_eq!(
+        row(Wiring::Cube, 4, &table[1..], Station(0)),
+        Err(Refusal::TableLength)
+    );
+    assert_eq!(
+        row(Wiring::Cube, 4, &table, Station(4)),
+        Err(Refusal::NoSuchStation)
+    );
     table[0] = 4;
-    assert_eq!(row(4, &table, Station(0)), Err(Refusal::LineRule));
+    assert_eq!(
+        row(Wiring::Cube, 4, &table, Station(0)),
+        Err(Refusal::LineRule)
+    );
 }
 
 /// The run example of 2: the answer, the tally and the sheet, which had 9 in
@@ -345,7 +380,14 @@ fn run_example_of_2() -> (Answer, Tally, [u8; 28]) {
     });
     let (mut tally, mut sheet) = (Tally::default(), [9; 28]);
     let schedule = schedule(&entries);
-    let answer = run(2, &mut fresh(2), &mut tally, &schedule, &mut sheet);
+    let answer = run(
+        Wiring::Cube,
+        2,
+        &mut fresh(2),
+        &mut tally,
+        &schedule,
+        &mut sheet,
+    );
     (answer, tally, sheet)
 }
 
@@ -424,7 +466,14 @@ fn a_caller_who_follows_the_sheet_has_every_status() {
     let more = [[3, 3], [1, 2], [2, 2], [1, 0], [1, 0]];
     let schedule = [late_after_passes(), more.concat()].concat();
     let (mut table, mut sheet) = (fresh(4), [9; 76]);
-    let answer = run(4, &mut table, &mut Tally::default(), &schedule, &mut sheet);
+    let answer = run(
+        Wiring::Cube,
+        4,
+        &mut table,
+        &mut Tally::default(),
+        &schedule,
+        &mut sheet,
+    );
     assert_eq!((answer.refusal, answer.taken), (None, 19));
     let mut statuses = [Status::Live; 4];
     for (station, status) in sheet_lines(&sheet, 19).flat_map(SheetLine::ceased) {
@@ -454,7 +503,14 @@ fn a_testing_turn_is_taken_just_below_the_greatest_tally() {
         rounds: 0,
         tests: 4_294_967_294,
     };
-    let answer = run(2, &mut fresh(2), &mut tally, &[1, 0, 1, 1], &mut [0; 8]);
+    let answer = run(
+        Wiring::Cube,
+        2,
+        &mut fresh(2),
+        &mut tally,
+        &[1, 0, 1, 1],
+        &mut [0; 8],
+    );
     assert_eq!(
         (answer.refusal, answer.taken),
         (Some(Refusal::TallyFull), 1)
@@ -470,7 +526,14 @@ fn a_run_refused_at_its_start_leaves_the_tally() {
     };
     let refused = |n, schedule: &[u8], sheet: usize| {
         let mut tally = before;
-        let answer = run(n, &mut fresh(2), &mut tally, schedule, &mut vec![0; sheet]);
+        let answer = run(
+            Wiring::Cube,
+            n,
+            &mut fresh(2),
+            &mut tally,
+            schedule,
+            &mut vec![0; sheet],
+        );
         assert_eq!((answer.taken, tally), (0, before));
         answer.refusal
     };
@@ -486,14 +549,23 @@ fn a_run_refused_at_its_start_leaves_the_tally() {
 fn wrong_sizes_and_lengths_are_refused() {
     for n in [0, 1, 65, 66, 128] {
         let mut table = vec![0; table_length(n)];
-        assert_eq!(fresh_table(n, &mut table), Err(Refusal::SizeOutOfRange));
+        assert_eq!(
+            fresh_table(Wiring::Cube, n, &mut table),
+            Err(Refusal::SizeOutOfRange)
+        );
     }
     // 12 is the length of before version 0.9; 40 is that of 4 stations.
     for length in [0, 12, 15, 17] {
         let mut table = vec![0; length];
-        assert_eq!(fresh_table(2, &mut table), Err(Refusal::TableLength));
+        assert_eq!(
+            fresh_table(Wiring::Cube, 2, &mut table),
+            Err(Refusal::TableLength)
+        );
     }
-    assert_eq!(fresh_table(3, &mut [0; 40]), Err(Refusal::TableLength));
+    assert_eq!(
+        fresh_table(Wiring::Cube, 3, &mut [0; 40]),
+        Err(Refusal::TableLength)
+    );
     let lengths = [2, 3, 11, 63, 64].map(|n| fresh(n).len());
     assert_eq!(lengths, [16, 27, 187, 4_347, 4_480]);
 }
@@ -506,7 +578,7 @@ fn numbers_out_of_range_are_refused() {
         let refused = Err(Refusal::NoSuchStation);
         assert_eq!(assignment(4, &table, Station(station), &mut list), refused);
         assert_eq!(
-            row(4, &table, Station(station)),
+            row(Wiring::Cube, 4, &table, Station(station)),
             Err(Refusal::NoSuchStation)
         );
     }
@@ -541,7 +613,15 @@ fn numbers_are_those_of_the_documents() {
 fn refusals_of_tables_and_entries_have_their_names() {
     let refusal = |table: &mut [u8], schedule: &[u8]| {
         let mut sheet = vec![0; 2 * schedule.len()];
-        run(2, table, &mut Tally::default(), schedule, &mut sheet).refusal
+        run(
+            Wiring::Cube,
+            2,
+            table,
+            &mut Tally::default(),
+            schedule,
+            &mut sheet,
+        )
+        .refusal
     };
     let mut all_finished = [0, 2, 1, 0, NONE, 0, 0, 0].repeat(2);
     assert_eq!(

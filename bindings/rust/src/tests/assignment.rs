@@ -195,7 +195,7 @@ fn each_other_station_has_an_entry_by_ascending_distance() {
 fn the_answer_is_the_first_of_the_group_that_is_not_suspected() {
     for n in 2..=64 {
         for (station, table) in some_tables(n) {
-            let row = row(n, &table, station).expect("accepted");
+            let row = row(Wiring::Cube, n, &table, station).expect("accepted");
             for entry in entries(n, &table, station) {
                 let other = station.0 ^ usize::from(entry.distance.0);
                 let level = entry.distance.0.ilog2() as usize + 1;

@@ -24,7 +24,7 @@ const LASTS_OF_4: [Option<Station>; 5] = [
 #[test]
 fn the_next_live_and_unfinished_station_is_granted() {
     let table = UNFINISHED_0_AND_3.concat();
-    let granted = LASTS_OF_4.map(|last| grant(4, &table, last));
+    let granted = LASTS_OF_4.map(|last| grant(Wiring::Cube, 4, &table, last));
     assert_eq!(granted, [0, 3, 3, 3, 0].map(|station| Ok(Station(station))));
 }
 
@@ -32,13 +32,16 @@ fn the_next_live_and_unfinished_station_is_granted() {
 fn the_last_granted_station_is_granted_again_where_no_other_is_left() {
     let mut lines = UNFINISHED_0_AND_3;
     lines[0] = lines[2];
-    let granted = LASTS_OF_4.map(|last| grant(4, &lines.concat(), last));
+    let granted = LASTS_OF_4.map(|last| grant(Wiring::Cube, 4, &lines.concat(), last));
     assert_eq!(granted, [Ok(Station(3)); 5]);
 }
 
 #[test]
 fn station_255_is_the_number_of_none() {
-    assert_eq!(grant(64, &fresh(64), Some(Station(255))), Ok(Station(0)));
+    assert_eq!(
+        grant(Wiring::Cube, 64, &fresh(64), Some(Station(255))),
+        Ok(Station(0))
+    );
     let given = after_drive(&mut fresh(2), tally(5, 7), Some(Station(255)));
     assert_eq!(given, (ended(4), tally(6, 9), Some(Station(1))));
 }
@@ -47,10 +50,10 @@ fn station_255_is_the_number_of_none() {
 /// it: it makes no grant and leaves all as it was.
 fn refusal(n: usize, table: &[u8], last: Option<usize>) -> Refusal {
     let last = last.map(Station);
-    let refusal = grant(n, table, last).expect_err("refused");
+    let refusal = grant(Wiring::Cube, n, table, last).expect_err("refused");
     for before in [tally(5, 7), tally(u32::MAX, u32::MAX)] {
         let (mut lent, mut tally, mut given) = (table.to_vec(), before, last);
-        let driven = drive(n, &mut lent, &mut tally, &mut given);
+        let driven = drive(Wiring::Cube, n, &mut lent, &mut tally, &mut given);
         assert_eq!(driven, stopped(refusal, 0));
         assert_eq!((lent.as_slice(), tally, given), (table, before, last));
     }
@@ -114,7 +117,7 @@ fn after_drive(
     mut tally: Tally,
     mut last: Option<Station>,
 ) -> (Driven, Tally, Option<Station>) {
-    let driven = drive(2, table, &mut tally, &mut last);
+    let driven = drive(Wiring::Cube, 2, table, &mut tally, &mut last);
     (driven, tally, last)
 }
 
@@ -133,7 +136,7 @@ fn two_fresh_stations_take_turns() {
 /// round and leaves a fresh table, as nothing is suspected.
 fn fresh_round(n: usize) -> (u32, usize, usize) {
     let (mut table, mut tally, mut last) = (fresh(n), Tally::default(), None);
-    let driven = drive(n, &mut table, &mut tally, &mut last);
+    let driven = drive(Wiring::Cube, n, &mut table, &mut tally, &mut last);
     assert_eq!((driven.refusal, tally.rounds), (None, 1));
     assert_eq!(table, fresh(n));
     (tally.tests, driven.grants, last.expect("granted").0)
@@ -233,7 +236,14 @@ impl Plant {
     /// Runs a schedule, all of whose entries are taken.
     fn run(&mut self, schedule: &[u8]) {
         let mut sheet = vec![9; 2 * schedule.len()];
-        let answer = run(8, &mut self.table, &mut self.tally, schedule, &mut sheet);
+        let answer = run(
+            Wiring::Cube,
+            8,
+            &mut self.table,
+            &mut self.tally,
+            schedule,
+            &mut sheet,
+        );
         assert_eq!(answer.refusal, None);
     }
 
@@ -241,7 +251,7 @@ impl Plant {
     fn grant_round(&mut self) -> Vec<u8> {
         let (mut granted, rounds) = (Vec::new(), self.tally.rounds);
         while self.tally.rounds == rounds {
-            let station = grant(8, &self.table, self.last).expect("accepted");
+            let station = grant(Wiring::Cube, 8, &self.table, self.last).expect("accepted");
             let entry = Entry {
                 kind: Kind::Turn,
                 station,
@@ -257,7 +267,13 @@ impl Plant {
     fn drive(&mut self) -> Vec<u8> {
         let mut turn_by_turn = self.clone();
         let granted = turn_by_turn.grant_round();
-        let driven = drive(8, &mut self.table, &mut self.tally, &mut self.last);
+        let driven = drive(
+            Wiring::Cube,
+            8,
+            &mut self.table,
+            &mut self.tally,
+            &mut self.last,
+        );
         assert_eq!(driven, ended(granted.len()));
         assert_eq!(*self, turn_by_turn);
         granted

@@ -19,9 +19,9 @@ const CLOSING: [[u8; 10]; 4] = [
 fn said(n: usize, table: &[u8], station: usize) -> (Status, ToldBy, u8) {
     let station = Station(station);
     (
-        status(n, table, station).expect("accepted"),
-        told_by(n, table, station).expect("accepted"),
-        rounds_ago(n, table, station).expect("accepted"),
+        status(Wiring::Cube, n, table, station).expect("accepted"),
+        told_by(Wiring::Cube, n, table, station).expect("accepted"),
+        rounds_ago(Wiring::Cube, n, table, station).expect("accepted"),
     )
 }
 
@@ -75,10 +75,10 @@ fn the_line_of_each_station_is_read() {
 fn refusal(n: usize, table: &[u8], station: usize) -> Option<Refusal> {
     let station = Station(station);
     let refusals = [
-        row(n, table, station).err(),
-        status(n, table, station).err(),
-        told_by(n, table, station).err(),
-        rounds_ago(n, table, station).err(),
+        row(Wiring::Cube, n, table, station).err(),
+        status(Wiring::Cube, n, table, station).err(),
+        told_by(Wiring::Cube, n, table, station).err(),
+        rounds_ago(Wiring::Cube, n, table, station).err(),
     ];
     assert_eq!(refusals, [refusals[0]; 4]);
     refusals[0]
@@ -124,7 +124,7 @@ fn try_heads(n: usize, station: usize, rounds_ago: &[u8]) -> usize {
             line[..HEAD].copy_from_slice(&[status, 1, 0, 0, told_by, *rounds_ago]);
             let takes = rules_take(n, station, status, told_by, *rounds_ago);
             let expected = (!takes).then_some(Refusal::LineRule);
-            assert_eq!(row(n, &table, Station(0)).err(), expected);
+            assert_eq!(row(Wiring::Cube, n, &table, Station(0)).err(), expected);
             taken += usize::from(takes);
         }
     }
@@ -184,15 +184,15 @@ fn numbers_of_calls(table: &[u8]) -> [u8; 7] {
     let number = |refusal: Option<Refusal>| refusal.map_or(0, Refusal::number);
     let (mut ran, mut driven) = (table.to_vec(), table.to_vec());
     let tally = Tally::default();
-    let of_run = run(3, &mut ran, &mut tally.clone(), &[], &mut []).refusal;
-    let of_drive = drive(3, &mut driven, &mut tally.clone(), &mut None).refusal;
+    let of_run = run(Wiring::Cube, 3, &mut ran, &mut tally.clone(), &[], &mut []).refusal;
+    let of_drive = drive(Wiring::Cube, 3, &mut driven, &mut tally.clone(), &mut None).refusal;
     assert_eq!(ran, table);
     assert!(of_drive.is_none() || driven == table);
     [
-        number(row(3, table, Station(2)).err()),
+        number(row(Wiring::Cube, 3, table, Station(2)).err()),
         number(assignment(3, table, Station(0), &mut [0; 4]).err()),
         number(of_run),
-        number(grant(3, table, None).err()),
+        number(grant(Wiring::Cube, 3, table, None).err()),
         number(of_drive),
         number(save(3, table, tally, &mut [0; 58]).err()),
         number(load(&saved_by_hand(table), &mut [0; 27]).err()),
@@ -280,7 +280,13 @@ fn after_closing(status: u8, told_by: u8, rounds_ago: u8) -> [u8; HEAD] {
     let (_, table, tally) = after_entry(lines, [1, 0]);
     assert_eq!(tally.rounds, 1);
     let mut driven = lines.concat();
-    let answer = drive(4, &mut driven, &mut Tally::default(), &mut None);
+    let answer = drive(
+        Wiring::Cube,
+        4,
+        &mut driven,
+        &mut Tally::default(),
+        &mut None,
+    );
     assert_eq!((answer.refusal, answer.grants), (None, 1));
     assert_eq!(driven, table);
     *table[10..].first_chunk().expect("a head")
@@ -344,7 +350,7 @@ fn drives_count_round_after_round() {
     for (mut table, status, told_by) in plants {
         let (mut tally, mut last) = (Tally::default(), None);
         for rounds in 1..=600 {
-            let driven = drive(4, &mut table, &mut tally, &mut last);
+            let driven = drive(Wiring::Cube, 4, &mut table, &mut tally, &mut last);
             assert_eq!((driven.refusal, tally.rounds), (None, rounds));
             let count = u8::try_from(rounds).unwrap_or(255);
             assert_eq!(said(4, &table, 1), (status, told_by, count));
@@ -370,7 +376,10 @@ fn a_table_of_before_0_9_is_taken_with_bytes_4_and_5_filled_by_hand() {
     let table = filled.concat();
     assert_eq!(said(4, &table, 1), (Status::Crashed, ToldBy::Nobody, 0));
     assert_eq!(said(4, &table, 2), (Status::Told, ToldBy::NotRecorded, 0));
-    assert_eq!(row(4, &table, Station(3)), Ok(&[1, 1, 1, 0][..]));
+    assert_eq!(
+        row(Wiring::Cube, 4, &table, Station(3)),
+        Ok(&[1, 1, 1, 0][..])
+    );
 }
 
 #[test]

@@ -6,7 +6,7 @@ use crate::*;
 /// The changes of a table of n stations, and the table afterwards.
 fn mended(n: usize, mut table: Vec<u8>) -> (Vec<Change>, Vec<u8>) {
     let mut report = vec![170; report_length(n)];
-    let count = mend(n, &mut table, &mut report).unwrap();
+    let count = mend(Wiring::Cube, n, &mut table, &mut report).unwrap();
     assert!(report[4 * count..].iter().all(|byte| *byte == 0));
     (changes(n, &report, count).collect(), table)
 }
@@ -62,11 +62,17 @@ fn a_refused_mending_changes_nothing() {
     let before = table.clone();
     let mut report = vec![170; report_length(4)];
     assert_eq!(
-        mend(65, &mut table, &mut report),
+        mend(Wiring::Cube, 65, &mut table, &mut report),
         Err(Refusal::SizeOutOfRange)
     );
-    assert_eq!(mend(5, &mut table, &mut report), Err(Refusal::TableLength));
+    assert_eq!(
+        mend(Wiring::Cube, 5, &mut table, &mut report),
+        Err(Refusal::TableLength)
+    );
     let short = &mut report[1..];
-    assert_eq!(mend(4, &mut table, short), Err(Refusal::ReportTooShort));
+    assert_eq!(
+        mend(Wiring::Cube, 4, &mut table, short),
+        Err(Refusal::ReportTooShort)
+    );
     assert_eq!((table, report), (before, vec![170; report_length(4)]));
 }
