@@ -53,7 +53,7 @@ fn a_pass_ends_with_the_first_exchange() {
 fn a_drive_on_the_ring_makes_a_test_a_board() {
     let mut table = DEAD_1.concat();
     let (mut tally, mut last) = (Tally::default(), None);
-    // 0 suspects 1, 2 and 3 exchange, and so do 0 and 2; then 0, 2 and 3 finish.
+    // 0 suspects 1; 2 exchanges with 3, 3 with 0, 0 with 2; then 2, 3 and 0 finish.
     let driven = drive(Wiring::Ring, 4, &mut table, &mut tally, &mut last);
     assert_eq!(driven.refusal, None);
     assert_eq!((driven.grants, tally.rounds, tally.tests), (7, 1, 4));
@@ -78,7 +78,7 @@ fn a_finished_line_has_next_distance_n() {
     assert_eq!(doubt_lamp(Wiring::Ring, 5, &table), Err(Refusal::LineRule));
     // Mending for the ring makes it one of the ring: bytes 1, 2 and 3 change.
     let mut report = [9; report_length(5)];
-    assert_eq!(mend(Wiring::Ring, 5, &mut table, &mut report), Ok(2 + 1));
+    assert_eq!(mend(Wiring::Ring, 5, &mut table, &mut report), Ok(3));
     assert_eq!(table[4 * 11..][..6], [0, 1, 0, 0, NONE, 0]);
     assert_eq!(table, fresh(5));
 }
