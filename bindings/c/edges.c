@@ -1675,8 +1675,9 @@ static int looks_give(size_t wiring, size_t n, const uint8_t *table, int number)
  * it then no more. With 4 stations the line rules are the same. */
 static void from_wiring_to_wiring(void)
 {
-    static const uint8_t pass_of_4[] = {1, 4, 1, 4}, pass_of_3[] = {1, 3, 1, 3};
+    static const uint8_t pass_of_4[] = {1, 4, 1, 4}, pass_of_3[] = {1, 3, 1, 3}, turn_of_2[] = {1, 2};
     static const uint8_t finished[VCUBE_HEAD] = {0, 5, 1, 1, NONE, 0};
+    static const uint8_t on_cube[] = {2, 3, VCUBE_OUTCOME_EXCHANGED, 0}, on_ring[] = {2, 0, VCUBE_OUTCOME_EXCHANGED, 0};
     uint8_t table[VCUBE_TABLE_LENGTH(5)], sheet[8], list[VCUBE_ASSIGNMENT_LENGTH(5)], saved[VCUBE_SAVED_LENGTH(5)];
     uint8_t *line = table + 4 * (5 + VCUBE_HEAD);
     uint32_t rounds = 0, tests = 0;
@@ -1699,9 +1700,14 @@ static void from_wiring_to_wiring(void)
     expect(vcube_run(VCUBE_WIRING_RING, 4, table, VCUBE_TABLE_LENGTH(4), &rounds, &tests, pass_of_3, 4, sheet, 8, &any) == VCUBE_ACCEPTED,
            "ring: a pass in a plant of 4");
     expect(looks_give(VCUBE_WIRING_CUBE, 4, table, VCUBE_ACCEPTED), "ring: a table of 4 is one of the cube");
-    expect(vcube_run(VCUBE_WIRING_CUBE, 4, table, VCUBE_TABLE_LENGTH(4), &rounds, &tests, pass_of_4, 0, NULL, 0, &any) == VCUBE_ACCEPTED,
-           "ring: handed to a run on the cube");
+    expect(vcube_run(VCUBE_WIRING_CUBE, 4, table, VCUBE_TABLE_LENGTH(4), &rounds, &tests, turn_of_2, 2, sheet, 4, &any) == VCUBE_ACCEPTED,
+           "ring: handed to the cube");
+    expect(memcmp(sheet, on_cube, sizeof on_cube) == 0, "ring: a turn on the cube, at distance 1");
     expect(looks_give(VCUBE_WIRING_RING, 4, table, VCUBE_ACCEPTED), "ring: and back");
+    expect(vcube_run(VCUBE_WIRING_RING, 4, table, VCUBE_TABLE_LENGTH(4), &rounds, &tests, turn_of_2, 2, sheet, 4, &any) == VCUBE_ACCEPTED,
+           "ring: handed back");
+    expect(memcmp(sheet, on_ring, sizeof on_ring) == 0, "ring: a turn on the ring, 2 places on");
+    expect(table[21] == 4, "ring: the exchange sets next distance to n");
 }
 
 static void on_the_ring(void)
