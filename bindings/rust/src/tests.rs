@@ -592,7 +592,9 @@ fn numbers_out_of_range_are_refused() {
 fn numbers_are_those_of_the_documents() {
     let names = |name: fn(u8) -> Option<String>| (0..=255).filter_map(name).collect::<Vec<_>>();
     let refusals = names(|k| Refusal::from_number(k).map(|one| format!("{k} {}", one.number())));
-    assert_eq!((refusals.len(), refusals[22].as_str()), (23, "23 23"));
+    assert_eq!((refusals.len(), refusals[23].as_str()), (24, "24 24"));
+    let wirings = names(|k| Wiring::from_number(k).map(|one| format!("{} {one:?}", one.number())));
+    assert_eq!(wirings, ["1 Cube", "2 Ring"]);
     let kinds = names(|k| Kind::from_number(k).map(|one| format!("{} {one:?}", one.number())));
     assert_eq!(kinds, ["1 Turn", "2 LateTurn", "3 Crash"]);
     let statuses = names(|k| Status::from_number(k).map(|one| format!("{k} {one:?}")));
