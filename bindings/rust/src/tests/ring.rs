@@ -22,6 +22,15 @@ fn turns<const N: usize>(n: usize, table: &mut [u8], stations: [u8; N]) -> (Vec<
 }
 
 #[test]
+fn the_header_has_the_same_wirings() {
+    let header = include_str!("../../../../include/vcube.h");
+    for (name, wiring) in [("CUBE", Wiring::Cube), ("RING", Wiring::Ring)] {
+        let number = wiring.number();
+        assert!(header.contains(&format!("#define VCUBE_WIRING_{name} {number}\n")));
+    }
+}
+
+#[test]
 fn a_fresh_table_is_the_same_on_both_wirings() {
     for n in 2..=64 {
         let mut table = vec![9; table_length(n)];
