@@ -20,13 +20,20 @@
  * not NULL. What a call writes may overlap with nothing else of that call; what it only reads (pointers to const) may overlap with what else
  * it only reads.
  *
+ * Wiring. A plant is wired as the cube (VCUBE_WIRING_CUBE) or as the ring (VCUBE_WIRING_RING), and the first argument of each call that
+ * depends on it says which: fresh table, row, run, grant, drive, doubt lamp and mend. The wiring decides whom a turn tests, and what becomes
+ * of the next distance; all else is the same. The library does not keep the wiring, and a table does not hold it: give the same number in
+ * all calls of a plant. Group list, assignment and saved plants are for the cube, and take no wiring.
+ *
  * Turn, pass, round.
  *
- *   Two wirings say who tests whom: the cube and the ring. What follows is the cube's.
- *
- *   A turn of station i: of the distances that are due for i, not below its next distance, the least is taken. If there is none, i finishes
- *   its pass, and its next distance becomes 2^d. Else i tests the station j there: its next distance becomes one more than that distance, and
- *   its tests and the tally's go up by one.
+ *   A turn of station i on the cube: of the distances that are due for i, not below its next distance, the least is taken. If there is none,
+ *   i finishes its pass, and its next distance becomes 2^d. Else i tests the station j there: its next distance becomes one more than that
+ *   distance, and its tests and the tally's go up by one.
+ *   A turn of station i on the ring: if its next distance is n, i finishes its pass. Else it tests the station j that many places after it,
+ *   (i + next distance) % n, suspected or not. Its next distance becomes n if they exchange, and goes up by one if not; its tests and the
+ *   tally's go up by one. So a pass tests the stations after i, one after the other, until one exchanges or n - 1 were tested.
+ *   Then, on both:
  *     - j is not live, or the reply is late:     i suspects j from now on (Rule No reply).
  *     - j suspects i:                            i is told and leaves. No row changes (Rule Tester told).
  *     - i suspects j, and j does not suspect i:  j is told and leaves. No row changes (Rule Tested told).
@@ -37,11 +44,6 @@
  *   distance 1, pass not finished and no tests; byte 5 of each line that is not live goes up by one, to 255 at most; and the tally has one
  *   closed round more. If nobody is live no round closes any more.
  *   No entry makes a station live again, and none takes a suspicion back. In a fresh table all are live, and nobody is suspected.
- *
- *   On the ring there are distances 1 to n - 1, and at distance m from i stands the station m places after i, where behind n - 1 comes 0.
- *   Every distance is due: i tests at its next distance if that is below n, and else finishes its pass. After an exchange its next distance
- *   is n, so that its next turn finishes the pass; after any other test it is one more. Where the cube has 2^d, for the next distance of a
- *   line and in the line rules, the ring has n. All else is the same on both. Group list, assignment and saved plants are for the cube.
  *
  * Words. A plant has n stations, numbered from 0; d is the least number with n <= 2^d. The distance of two stations is the exclusive or of
  * their numbers, which is below 2^d. The group of station i at level s (1 to d) holds, in this order, those of the numbers
@@ -54,7 +56,7 @@
  * The table has n lines of n + 6 bytes, in station order. The head of a line is its first VCUBE_HEAD bytes:
  *
  *   byte 0    its status (enum vcube_status)
- *   byte 1    its next distance, 1 to 2^d: from which its next turn looks for a test
+ *   byte 1    its next distance, from which its next turn looks for a test: 1 to 2^d on the cube, 1 to n on the ring
  *   byte 2    1 if it has finished its pass in this round, else 0
  *   byte 3    the tests made in this round
  *   byte 4    the station that told it to leave; VCUBE_TOLD_BY_NONE if none did, VCUBE_TOLD_NOT_RECORDED if it was never recorded
@@ -64,9 +66,10 @@
  * on the very entry at which the station ceased to be live counts too, so that byte 5 is 1 after such an entry.
  *
  * The line rules, for lines that are not live too: each byte in its range; the tests at most the next distance less 1; a finished line has
- * next distance 2^d; a station's byte about itself is 0. And of bytes 4 and 5: a live line has VCUBE_TOLD_BY_NONE and 0; one of status 1 or
- * 3 has VCUBE_TOLD_BY_NONE in byte 4; one of status 2 has there VCUBE_TOLD_NOT_RECORDED, or a number below n other than its own, be that
- * station live or not. Byte 5 of a line that is not live may be anything.
+ * next distance 2^d on the cube, n on the ring; a station's byte about itself is 0. And of bytes 4 and 5: a live line has VCUBE_TOLD_BY_NONE
+ * and 0; one of status 1 or 3 has VCUBE_TOLD_BY_NONE in byte 4; one of status 2 has there VCUBE_TOLD_NOT_RECORDED, or a number below n other
+ * than its own, be that station live or not. Byte 5 of a line that is not live may be anything. Where n is a power of two the line rules of
+ * both wirings are the same.
  *
  * A table of before version 0.9, whose heads have four bytes, is refused with 2. Begin with a fresh table instead; or make the heads longer
  * by hand, with these as bytes 4 and 5 of each line: VCUBE_TOLD_BY_NONE and 0 where the status is 0, 1 or 3, VCUBE_TOLD_NOT_RECORDED and 0
@@ -99,14 +102,18 @@
 #include <stddef.h>
 #include <stdint.h>
 
-#define VCUBE_VERSION_MAJOR 0
-#define VCUBE_VERSION_MINOR 12
+#define VCUBE_VERSION_MAJOR 1
+#define VCUBE_VERSION_MINOR 0
 #define VCUBE_VERSION_PATCH 0
-#define VCUBE_VERSION "0.12.0"
+#define VCUBE_VERSION "1.0.0"
 
 #ifdef __cplusplus
 extern "C" {
 #endif
+
+/* The wiring of a plant, the first argument of the calls that depend on it. */
+#define VCUBE_WIRING_CUBE 1
+#define VCUBE_WIRING_RING 2
 
 /* How many bytes of a line of the table stand before its row. */
 #define VCUBE_HEAD 6
@@ -148,15 +155,9 @@ extern "C" {
 /* The most results that figures are taken over. */
 #define VCUBE_MOST_RESULTS 4096
 
-/* Who tests whom. A call that takes a wiring takes one of these numbers, and refuses all others with 24. */
-enum vcube_wiring {
-    VCUBE_WIRING_CUBE = 1,
-    VCUBE_WIRING_RING = 2
-};
-
-/* What a call returns, in the order in which refusals are checked; but 24 comes before all others, a drive looks for 7 after 16 and 17, a
- * load looks for 18, 21, 22, 19, 1, 20, 2, 3 and 4, in this order, the size of a saved plant for 18, 21, 22, 19 and 1, a conversion for 18,
- * 22, 19, 1, 20, 3, 4 and 13, and the length that it needs for 18, 22, 19 and 1.
+/* What a call returns, in the order in which refusals are checked; but 24 comes before all others, a drive looks for 7 after 16 and 17, a load
+ * looks for 18, 21, 22, 19, 1, 20, 2, 3 and 4, in this order, the size of a saved plant for 18, 21, 22, 19 and 1, a conversion for 18, 22, 19,
+ * 1, 20, 3, 4 and 13, and the length that it needs for 18, 22, 19 and 1.
  *
  * Here and in the three enums below: the words behind each number are those of the library itself, which calls a station a board. What
  * stands in parentheses behind them says more. */
@@ -190,7 +191,7 @@ enum vcube_refusal {
     VCUBE_REFUSED_NO_OPENING = 21,          /* the file does not begin as edition 2 does (with just the opening) */
     VCUBE_REFUSED_FIELD_ORDER = 22,         /* a field is out of order, or of an unknown tag (a conversion looks for the tag only) */
     VCUBE_REFUSED_REPORT_TOO_SHORT = 23,    /* the report has fewer than 4n(n + 6) bytes */
-    VCUBE_REFUSED_NO_SUCH_WIRING = 24       /* there is no such wiring (it is neither 1, the cube, nor 2, the ring) */
+    VCUBE_REFUSED_NO_SUCH_WIRING = 24       /* the wiring is neither 1 (cube) nor 2 (ring) */
 };
 
 /* Byte 0 of an entry of a schedule. */
@@ -227,13 +228,12 @@ enum vcube_tag {
     VCUBE_TAG_OPENING = 4
 };
 
-/* Fresh table: every line live, next distance 1, VCUBE_TOLD_BY_NONE in byte 4, all else 0. It is the same
- * on both wirings.
+/* Fresh table: every line live, next distance 1, VCUBE_TOLD_BY_NONE in byte 4, all else 0. It is the same on both wirings.
  * Refusals: 24, 1, 2. */
 uint8_t vcube_fresh_table(size_t wiring, size_t n, uint8_t *table, size_t table_length);
 
-/* Group list: the members of the station's group at that level, in order, into a list of just their number, vcube_group_length. A list of
- * length 0 is accepted where the group is empty.
+/* Group list, on the cube: the members of the station's group at that level, in order, into a list of just their number, vcube_group_length. A
+ * list of length 0 is accepted where the group is empty.
  * Refusals: 1, 9, 12, 13. */
 uint8_t vcube_group_list(size_t n, size_t station, size_t level, uint8_t *list, size_t list_length);
 
@@ -253,23 +253,23 @@ static inline size_t vcube_group_length(size_t n, size_t station, size_t level)
     return n - first < half ? n - first : half;
 }
 
-/* Assignment: which distances are due for a live station, and who is ahead at the others. The list has VCUBE_ASSIGNMENT_LENGTH(n) bytes, and
- * all are written: an entry of two bytes for each of the n - 1 other stations, suspected ones and ones that are not live included, by
- * ascending distance, whatever the station's next distance is. An entry is the distance, and VCUBE_DUE if it is due, or else the station
+/* Assignment, on the cube: which distances are due for a live station, and who is ahead at the others. The list has VCUBE_ASSIGNMENT_LENGTH(n)
+ * bytes, and all are written: an entry of two bytes for each of the n - 1 other stations, suspected ones and ones that are not live included,
+ * by ascending distance, whatever the station's next distance is. An entry is the distance, and VCUBE_DUE if it is due, or else the station
  * that is ahead. *count is how many are due, 0 where the call is refused. A distance may be n or more, up to 2^d - 1; the station at it,
- * station ^ distance, is below n.
+ * station ^ distance, is below n. The line rules are those of the cube: where n is no power of two a ring table with a finished line gets 3.
  * Refusals: 1 to 4, 9, 10, 13. */
 uint8_t vcube_assignment(size_t n, const uint8_t *table, size_t table_length, size_t station, uint8_t *list, size_t list_length,
                          size_t *count);
 
 /* Row: the station's row is the part of the table that begins at byte *start and has *length bytes (n). Both are 0 where the call is
- * refused.
+ * refused. The wiring decides only which tables get 3: a finished line has next distance 2^d on the cube, n on the ring.
  * Refusals: 24, 1 to 4, 9. */
 uint8_t vcube_row(size_t wiring, size_t n, const uint8_t *table, size_t table_length, size_t station, size_t *start, size_t *length);
 
 /* Run: takes the entries of a schedule in order. An entry is two bytes: kind (enum vcube_kind) and station. A turn, of kind 1 or 2, is told
- * at the top of this file. A crash changes the station's status to 1, and nothing else on its line. After each entry the round is closed if
- * it is over.
+ * at the top of this file, with whom it tests on each wiring: on the ring the next distance runs to n, and a finished line has n. A crash
+ * changes the station's status to 1, and nothing else on its line. After each entry the round is closed if it is over.
  *
  * For each entry taken four bytes of the sheet are written: the station, the station it tested or VCUBE_NO_STATION, the outcome (enum
  * vcube_outcome), and the status after the entry of the station in byte 0 (enum vcube_status). Where the outcome is
@@ -284,8 +284,8 @@ uint8_t vcube_row(size_t wiring, size_t n, const uint8_t *table, size_t table_le
  * *rounds and *tests are the tally of closed rounds and of tests: handed in there, given back there. *taken is how many entries were taken.
  * A run refused by 24 or 1 to 6 leaves the tally as it was, and *taken is 0.
  * Refusals: 24, 1 to 6, then 7 to 11 at each entry. */
-uint8_t vcube_run(size_t wiring, size_t n, uint8_t *table, size_t table_length, uint32_t *rounds, uint32_t *tests,
-                  const uint8_t *schedule, size_t schedule_length, uint8_t *sheet, size_t sheet_length, size_t *taken);
+uint8_t vcube_run(size_t wiring, size_t n, uint8_t *table, size_t table_length, uint32_t *rounds, uint32_t *tests, const uint8_t *schedule,
+                  size_t schedule_length, uint8_t *sheet, size_t sheet_length, size_t *taken);
 
 /* Grant: the station that is to have the next turn, into *station, which is 0 where the call is refused. last is the last granted number:
  * a station, or VCUBE_NO_STATION, which may be handed in at any time. The granting rule: of the stations last + 1 to n - 1 and then 0 to
@@ -295,6 +295,8 @@ uint8_t vcube_run(size_t wiring, size_t n, uint8_t *table, size_t table_length, 
  * If each grant is handed the number granted before it, a station that stays live and unfinished is granted after at most n - 1 grants to
  * others. The call changes no byte: the turn itself is an entry of a run, of kind VCUBE_KIND_TURN, or of kind VCUBE_KIND_LATE_TURN where its
  * reply comes late. Who does by grants and runs what a drive does keeps the granted number only once its turn was taken.
+ *
+ * The granting rule is the same on both wirings. The wiring decides only which tables get 3, as for vcube_row.
  * Refusals: 24, 1 to 4, 16, 17. */
 uint8_t vcube_grant(size_t wiring, size_t n, const uint8_t *table, size_t table_length, size_t last, size_t *station);
 
@@ -302,7 +304,8 @@ uint8_t vcube_grant(size_t wiring, size_t n, const uint8_t *table, size_t table_
  * VCUBE_KIND_TURN does in a run but writes no sheet. It ends, and returns 0, after the turn that closes the round or leaves no station
  * live, even if that turn brings a tally to 4294967295: where *rounds is one more than before, the round closed, and where it is the same,
  * no station is live. The table may stand in the middle of a round. A drive makes at most n * n grants, which are 4096 with 64 stations. A
- * crash is no turn: it is an entry of a run, between two drives or two grants.
+ * crash is no turn: it is an entry of a run, between two drives or two grants. The turns are those of the wiring, as in a run; the granting
+ * rule and the bound of n * n grants hold on both.
  *
  * *rounds and *tests are the tally, *last is the last granted number: handed in there, given back there. *grants is how many grants were
  * made, which is how many turns were; those that only finish a pass count too.
@@ -317,14 +320,16 @@ uint8_t vcube_drive(size_t wiring, size_t n, uint8_t *table, size_t table_length
 /* Doubt lamp: whether some live station suspects another live one. The lines of live stations are looked through by rising number, each row by
  * rising number, up to the first live station that is suspected: *by is the station that suspects, *of the one that it suspects. Both are
  * VCUBE_NO_STATION where there is no such pair, and 0 where the call is refused. The call changes no byte. A lamp without a pair at the start of
- * a round begins the wait of the detection claim (Rules Detection conditions and Lamp begins the wait).
+ * a round begins the wait of the detection claim (Rules Detection conditions and Lamp begins the wait). The wiring decides only which tables
+ * get 3, as for vcube_row.
  * Refusals: 24, 1 to 4. */
 uint8_t vcube_doubt_lamp(size_t wiring, size_t n, const uint8_t *table, size_t table_length, size_t *by, size_t *of);
 
 /* Mend: makes a table that a brownout damaged obey all rules, so that refusals 1 to 4 let it through, and lists each byte that it changed. A status
  * above 3 becomes 1 (crashed). Bytes 1 to 3 of a line become 1, 0, 0 if one of them breaks a rule. Byte 4, by the mended status, becomes 254
  * for status 2, else 255, if it is wrong; byte 5 of a live line becomes 0. A byte of a row above 1, and that of a station about itself, becomes 0.
- * If 4 then still applies, bytes 1 to 3 of all lines become 1, 0, 0. A table that 1 to 4 let through is not changed.
+ * If 4 then still applies, bytes 1 to 3 of all lines become 1, 0, 0. A table that 1 to 4 let through is not changed. The rules are those of
+ * the wiring: on the ring next distance is 1 to n, and a finished line has n. So a good table of the other wiring may be changed.
  *
  * The report has room for a change of every byte, VCUBE_REPORT_LENGTH(n) bytes; it may be longer. Its front holds *changes changes of
  * VCUBE_CHANGE_LENGTH bytes each, by rising offset; all bytes behind them become 0. To read change k, from report + 4 * k: the first two bytes,
@@ -334,8 +339,9 @@ uint8_t vcube_doubt_lamp(size_t wiring, size_t n, const uint8_t *table, size_t t
  * Refusals: 24, 1, 2, 23. */
 uint8_t vcube_mend(size_t wiring, size_t n, uint8_t *table, size_t table_length, uint8_t *report, size_t report_length, size_t *changes);
 
-/* Save: writes size, tally and table as a saved plant into a buffer of VCUBE_SAVED_LENGTH(n) bytes, every one of which is written. Tallies at
- * 4294967295 are saved like others. The last granted number of a bus master is not saved.
+/* Save, on the cube: writes size, tally and table as a saved plant into a buffer of VCUBE_SAVED_LENGTH(n) bytes, every one of which is
+ * written. Tallies at 4294967295 are saved like others. The last granted number of a bus master is not saved. The line rules are those of the
+ * cube: where n is no power of two a ring table with a finished line gets 3.
  * Refusals: 1 to 4, 13. */
 uint8_t vcube_save(size_t n, const uint8_t *table, size_t table_length, uint32_t rounds, uint32_t tests, uint8_t *saved,
                    size_t saved_length);

@@ -1,6 +1,6 @@
 /* What vcube.h says of NULL with length 0, of figures after a refusal, of a group's length, of who is ahead, of who leaves at a test, of
- * grants and drives, of the doubt lamp, of mending, of saved plants, of who told a station to leave and how long ago, of the most results and the
- * totals that they can have, of its structs, and of its version. */
+ * grants and drives, of the doubt lamp, of mending, of the ring, of saved plants, of who told a station to leave and how long ago, of the most
+ * results and the totals that they can have, of its structs, and of its version. */
 
 #include "vcube.h"
 
@@ -196,7 +196,8 @@ static void run_takes_nothing(uint8_t *table, const uint8_t *schedule, size_t sc
     size_t taken = ANY;
     size_t table_length = table == NULL ? 0 : VCUBE_TABLE_LENGTH(N);
 
-    expect(vcube_run(VCUBE_WIRING_CUBE, N, table, table_length, &rounds, &tests, schedule, schedule_length, sheet, sheet_length, &taken) == number,
+    expect(vcube_run(VCUBE_WIRING_CUBE, N, table, table_length, &rounds, &tests, schedule, schedule_length, sheet, sheet_length,
+                     &taken) == number,
            "run: the number");
     expect(rounds == ANY && tests == ANY + 1, "run: the tally stays as it was");
     expect(taken == 0, "run: no entry is taken");
@@ -263,8 +264,8 @@ static void take_turn(const struct turn *turn)
     size_t taken = ANY;
 
     memcpy(table, turn->before, sizeof table);
-    expect(vcube_run(VCUBE_WIRING_CUBE, N, table, sizeof table, &rounds, &tests, schedule, sizeof schedule, sheet, sizeof sheet, &taken)
-               == VCUBE_ACCEPTED,
+    expect(vcube_run(VCUBE_WIRING_CUBE, N, table, sizeof table, &rounds, &tests, schedule, sizeof schedule, sheet, sizeof sheet,
+                     &taken) == VCUBE_ACCEPTED,
            turn->what);
     expect(taken == 1 && tests == 1 && rounds == turn->rounds, turn->what);
     expect(memcmp(sheet, turn->sheet, sizeof sheet) == 0, turn->what);
@@ -310,7 +311,9 @@ static void grant(size_t n, const uint8_t *table, size_t table_length, size_t la
 static void drive(size_t n, uint8_t *table, size_t table_length, struct driven figures, int number, struct driven expected,
                   const char *what)
 {
-    expect(vcube_drive(VCUBE_WIRING_CUBE, n, table, table_length, &figures.rounds, &figures.tests, &figures.last, &figures.grants) == number, what);
+    expect(vcube_drive(VCUBE_WIRING_CUBE, n, table, table_length, &figures.rounds, &figures.tests, &figures.last,
+                       &figures.grants) == number,
+           what);
     expect(figures.rounds == expected.rounds && figures.tests == expected.tests, what);
     expect(figures.last == expected.last && figures.grants == expected.grants, what);
 }
@@ -1213,8 +1216,8 @@ static void take_entry(const struct entry *entry)
     size_t taken = ANY;
 
     memcpy(table, entry->before, sizeof table);
-    expect(vcube_run(VCUBE_WIRING_CUBE, 4, table, sizeof table, &rounds, &tests, schedule, sizeof schedule, sheet, sizeof sheet, &taken)
-               == VCUBE_ACCEPTED,
+    expect(vcube_run(VCUBE_WIRING_CUBE, 4, table, sizeof table, &rounds, &tests, schedule, sizeof schedule, sheet, sizeof sheet,
+                     &taken) == VCUBE_ACCEPTED,
            entry->what);
     expect(taken == 1 && rounds == entry->rounds && tests == (sheet[1] == VCUBE_NO_STATION ? 0 : 1), entry->what);
     expect(memcmp(sheet, entry->sheet, sizeof sheet) == 0, entry->what);
@@ -1243,7 +1246,8 @@ static void close_at(uint8_t status, uint8_t told_by, unsigned rounds_ago)
     size_t taken;
 
     memcpy(table, before, sizeof table);
-    expect(vcube_run(VCUBE_WIRING_CUBE, 4, table, sizeof table, &rounds, &tests, schedule, 2, sheet, 4, &taken) == VCUBE_ACCEPTED, "run: a closing");
+    expect(vcube_run(VCUBE_WIRING_CUBE, 4, table, sizeof table, &rounds, &tests, schedule, 2, sheet, 4, &taken) == VCUBE_ACCEPTED,
+           "run: a closing");
     expect(memcmp(table, after, sizeof table) == 0, "run: a closing adds 1 to the count of who is not live, up to 255");
     memcpy(table, before, sizeof table);
     drive(4, table, sizeof table, driven(5, 7, VCUBE_NO_STATION, ANY), VCUBE_ACCEPTED, driven(6, 7, 0, 1), "drive: a closing");
@@ -1565,6 +1569,159 @@ static void mendings(void)
     expect(memcmp(report, left, sizeof report) == 0, "mend: zeros where there is no change");
 }
 
+/* What has size 1 and a table of length 0 gets 24 before 1 and 2, in all seven calls. A run leaves the tally as it was, a drive tally and last
+ * number. */
+static void refuses_wiring(size_t wiring)
+{
+    uint32_t rounds = ANY, tests = ANY + 1;
+    size_t one = ANY, other = ANY, last = ANY;
+
+    expect(vcube_fresh_table(wiring, 1, NULL, 0) == VCUBE_REFUSED_NO_SUCH_WIRING, "wiring: a fresh table gets 24 first");
+    expect(vcube_row(wiring, 1, NULL, 0, 9, &one, &other) == VCUBE_REFUSED_NO_SUCH_WIRING, "wiring: a row gets 24 first");
+    expect(one == 0 && other == 0, "wiring: start and length of a refused row are 0");
+    one = ANY;
+    expect(vcube_run(wiring, 1, NULL, 0, &rounds, &tests, NULL, 0, NULL, 0, &one) == VCUBE_REFUSED_NO_SUCH_WIRING,
+           "wiring: a run gets 24 first");
+    expect(one == 0 && rounds == ANY && tests == ANY + 1, "wiring: a refused run takes nothing and leaves the tally");
+    one = ANY;
+    expect(vcube_grant(wiring, 1, NULL, 0, ANY, &one) == VCUBE_REFUSED_NO_SUCH_WIRING, "wiring: a grant gets 24 first");
+    expect(one == 0, "wiring: the station of a refused grant is 0");
+    one = ANY;
+    expect(vcube_drive(wiring, 1, NULL, 0, &rounds, &tests, &last, &one) == VCUBE_REFUSED_NO_SUCH_WIRING, "wiring: a drive gets 24 first");
+    expect(one == 0 && rounds == ANY && tests == ANY + 1 && last == ANY, "wiring: a refused drive leaves tally and last number");
+    one = other = ANY;
+    expect(vcube_doubt_lamp(wiring, 1, NULL, 0, &one, &other) == VCUBE_REFUSED_NO_SUCH_WIRING, "wiring: a doubt lamp gets 24 first");
+    expect(one == 0 && other == 0, "wiring: the pair of a refused lamp is 0 and 0");
+    one = ANY;
+    expect(vcube_mend(wiring, 1, NULL, 0, NULL, 0, &one) == VCUBE_REFUSED_NO_SUCH_WIRING, "wiring: a mending gets 24 first");
+    expect(one == 0, "wiring: a refused mending has 0 changes");
+}
+
+/* Nor is a byte of what is lent changed, where nothing else is wrong with the call. */
+static void changes_nothing(size_t wiring)
+{
+    static const uint8_t schedule[] = {VCUBE_KIND_TURN, 0};
+    uint8_t table[VCUBE_TABLE_LENGTH(4)], before[sizeof table], sheet[4], report[VCUBE_REPORT_LENGTH(4)];
+    uint32_t rounds = 0, tests = 0;
+    size_t last = VCUBE_NO_STATION, any;
+
+    expect(vcube_fresh_table(VCUBE_WIRING_RING, 4, table, sizeof table) == VCUBE_ACCEPTED, "a fresh table");
+    table[14] = VCUBE_TOLD_NOT_RECORDED; /* what a mending would change */
+    memcpy(before, table, sizeof table);
+    memset(sheet, ANY, sizeof sheet);
+    memset(report, ANY, sizeof report);
+    expect(vcube_mend(wiring, 4, table, sizeof table, report, sizeof report, &any) == VCUBE_REFUSED_NO_SUCH_WIRING, "wiring: mend");
+    expect(vcube_fresh_table(wiring, 4, table, sizeof table) == VCUBE_REFUSED_NO_SUCH_WIRING, "wiring: fresh table");
+    expect(memcmp(table, before, sizeof table) == 0 && all_are(ANY, report, sizeof report), "wiring: refused, nothing is written");
+    table[14] = before[14] = NONE;
+    expect(vcube_run(wiring, 4, table, sizeof table, &rounds, &tests, schedule, sizeof schedule, sheet, sizeof sheet,
+                     &any) == VCUBE_REFUSED_NO_SUCH_WIRING,
+           "wiring: run");
+    expect(vcube_drive(wiring, 4, table, sizeof table, &rounds, &tests, &last, &any) == VCUBE_REFUSED_NO_SUCH_WIRING, "wiring: drive");
+    expect(memcmp(table, before, sizeof table) == 0 && all_are(ANY, sheet, sizeof sheet), "wiring: refused, no turn is taken");
+}
+
+/* Four boards, board 1 dead: the pass of board 0, then those of 2 and 3. Worked out by hand. */
+static void round_on_the_ring(void)
+{
+    static const uint8_t first[] = {1, 0, 1, 0, 1, 0}, others[] = {1, 2, 1, 2, 1, 3, 1, 3};
+    static const uint8_t pass[] = {
+        0, 1, VCUBE_OUTCOME_NO_REPLY, VCUBE_STATUS_LIVE,
+        0, 2, VCUBE_OUTCOME_EXCHANGED, VCUBE_STATUS_LIVE,
+        0, VCUBE_NO_STATION, VCUBE_OUTCOME_PASS_FINISHED, VCUBE_STATUS_LIVE,
+    };
+    static const uint8_t middle[VCUBE_TABLE_LENGTH(4)] = {
+        0, 4, 1, 2, NONE, 0, 0, 1, 0, 0,
+        1, 1, 0, 0, NONE, 0, 0, 0, 0, 0,
+        0, 1, 0, 0, NONE, 0, 0, 1, 0, 0,
+        0, 1, 0, 0, NONE, 0, 0, 0, 0, 0,
+    };
+    static const uint8_t closed[VCUBE_TABLE_LENGTH(4)] = {
+        0, 1, 0, 0, NONE, 0, 0, 1, 0, 0,
+        1, 1, 0, 0, NONE, 1, 0, 0, 0, 0,
+        0, 1, 0, 0, NONE, 0, 0, 1, 0, 0,
+        0, 1, 0, 0, NONE, 0, 0, 1, 0, 0,
+    };
+    uint8_t table[sizeof closed], sheet[2 * sizeof others];
+    uint32_t rounds = 0, tests = 0;
+    size_t taken = ANY;
+
+    expect(vcube_fresh_table(VCUBE_WIRING_RING, 4, table, sizeof table) == VCUBE_ACCEPTED, "a fresh table");
+    table[10] = VCUBE_STATUS_CRASHED;
+    expect(vcube_run(VCUBE_WIRING_RING, 4, table, sizeof table, &rounds, &tests, first, sizeof first, sheet, sizeof pass,
+                     &taken) == VCUBE_ACCEPTED,
+           "ring: the pass of board 0");
+    expect(taken == 3 && rounds == 0 && tests == 2 && memcmp(sheet, pass, sizeof pass) == 0, "ring: no reply, exchanged, finished");
+    expect(memcmp(table, middle, sizeof table) == 0, "ring: the table after the pass of board 0");
+    expect(vcube_run(VCUBE_WIRING_RING, 4, table, sizeof table, &rounds, &tests, others, sizeof others, sheet, sizeof sheet,
+                     &taken) == VCUBE_ACCEPTED,
+           "ring: the passes of boards 2 and 3");
+    expect(taken == 4 && rounds == 1 && tests == 4, "ring: a closed round of 4 boards has 4 tests");
+    expect(memcmp(table, closed, sizeof table) == 0, "ring: board 1 is known");
+}
+
+/* Whether row, grant and lamp, which only look at a table, let that of n stations through on this wiring, or all give 3. */
+static int looks_give(size_t wiring, size_t n, const uint8_t *table, int number)
+{
+    const size_t length = VCUBE_TABLE_LENGTH(n);
+    size_t one, other;
+
+    return vcube_row(wiring, n, table, length, 0, &one, &other) == number &&
+           vcube_grant(wiring, n, table, length, VCUBE_NO_STATION, &one) == number &&
+           vcube_doubt_lamp(wiring, n, table, length, &one, &other) == number;
+}
+
+/* Of 5 stations 4 tests 0 and finishes: next distance 5 on the ring. The cube's calls do not take such a line, until it is 8; the ring's take
+ * it then no more. With 4 stations the line rules are the same. */
+static void from_wiring_to_wiring(void)
+{
+    static const uint8_t pass_of_4[] = {1, 4, 1, 4}, pass_of_3[] = {1, 3, 1, 3}, turn_of_2[] = {1, 2};
+    static const uint8_t finished[VCUBE_HEAD] = {0, 5, 1, 1, NONE, 0};
+    static const uint8_t on_cube[] = {2, 3, VCUBE_OUTCOME_EXCHANGED, 0}, on_ring[] = {2, 0, VCUBE_OUTCOME_EXCHANGED, 0};
+    uint8_t table[VCUBE_TABLE_LENGTH(5)], sheet[8], list[VCUBE_ASSIGNMENT_LENGTH(5)], saved[VCUBE_SAVED_LENGTH(5)];
+    uint8_t *line = table + 4 * (5 + VCUBE_HEAD);
+    uint32_t rounds = 0, tests = 0;
+    size_t any;
+
+    expect(vcube_fresh_table(VCUBE_WIRING_RING, 5, table, sizeof table) == VCUBE_ACCEPTED, "a fresh table");
+    expect(looks_give(VCUBE_WIRING_CUBE, 5, table, VCUBE_ACCEPTED), "ring: a fresh table is one of the cube");
+    expect(vcube_run(VCUBE_WIRING_RING, 5, table, sizeof table, &rounds, &tests, pass_of_4, 4, sheet, 8, &any) == VCUBE_ACCEPTED,
+           "ring: a pass in a plant of 5");
+    expect(tests == 1 && memcmp(line, finished, sizeof finished) == 0, "ring: a finished line has next distance n");
+    expect(looks_give(VCUBE_WIRING_RING, 5, table, VCUBE_ACCEPTED), "ring: its own table is let through");
+    expect(looks_give(VCUBE_WIRING_CUBE, 5, table, VCUBE_REFUSED_LINE_RULE), "ring: the cube gives 3 for its finished line");
+    expect(vcube_assignment(5, table, sizeof table, 0, list, sizeof list, &any) == VCUBE_REFUSED_LINE_RULE, "ring: an assignment gets 3");
+    expect(vcube_save(5, table, sizeof table, rounds, tests, saved, sizeof saved) == VCUBE_REFUSED_LINE_RULE, "ring: a save gets 3");
+    line[1] = 8;
+    expect(looks_give(VCUBE_WIRING_CUBE, 5, table, VCUBE_ACCEPTED), "ring: the cube's finished line has 2^d");
+    expect(looks_give(VCUBE_WIRING_RING, 5, table, VCUBE_REFUSED_LINE_RULE), "ring: the ring gives 3 for the cube's finished line");
+
+    expect(vcube_fresh_table(VCUBE_WIRING_RING, 4, table, VCUBE_TABLE_LENGTH(4)) == VCUBE_ACCEPTED, "a fresh table");
+    expect(vcube_run(VCUBE_WIRING_RING, 4, table, VCUBE_TABLE_LENGTH(4), &rounds, &tests, pass_of_3, 4, sheet, 8, &any) == VCUBE_ACCEPTED,
+           "ring: a pass in a plant of 4");
+    expect(looks_give(VCUBE_WIRING_CUBE, 4, table, VCUBE_ACCEPTED), "ring: a table of 4 is one of the cube");
+    expect(vcube_run(VCUBE_WIRING_CUBE, 4, table, VCUBE_TABLE_LENGTH(4), &rounds, &tests, turn_of_2, 2, sheet, 4, &any) == VCUBE_ACCEPTED,
+           "ring: handed to the cube");
+    expect(memcmp(sheet, on_cube, sizeof on_cube) == 0, "ring: a turn on the cube, at distance 1");
+    expect(looks_give(VCUBE_WIRING_RING, 4, table, VCUBE_ACCEPTED), "ring: and back");
+    expect(vcube_run(VCUBE_WIRING_RING, 4, table, VCUBE_TABLE_LENGTH(4), &rounds, &tests, turn_of_2, 2, sheet, 4, &any) == VCUBE_ACCEPTED,
+           "ring: handed back");
+    expect(memcmp(sheet, on_ring, sizeof on_ring) == 0, "ring: a turn on the ring, 2 places on");
+    expect(table[21] == 4, "ring: the exchange sets next distance to n");
+}
+
+static void on_the_ring(void)
+{
+    static const size_t none[] = {0, 3, 257, 258, SIZE_MAX};
+
+    for (size_t k = 0; k < sizeof none / sizeof none[0]; k++) {
+        refuses_wiring(none[k]);
+        changes_nothing(none[k]);
+    }
+    round_on_the_ring();
+    from_wiring_to_wiring();
+}
+
 int main(void)
 {
     uint8_t table[VCUBE_TABLE_LENGTH(N)];
@@ -1581,6 +1738,7 @@ int main(void)
     grants_and_drives();
     doubt_lamps();
     mendings();
+    on_the_ring();
     saved_plants();
     who_told_and_how_long_ago();
     figures_over_results();

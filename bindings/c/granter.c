@@ -41,8 +41,8 @@ static int run(struct plant *plant, const uint8_t *schedule, size_t length)
     uint8_t sheet[2 * sizeof beforehand]; /* long enough for every schedule here */
     size_t taken;
 
-    return refused("run", vcube_run(VCUBE_WIRING_CUBE, N, plant->table, sizeof plant->table, &plant->rounds, &plant->tests, schedule, length, sheet,
-                                    2 * length, &taken));
+    return refused("run", vcube_run(VCUBE_WIRING_CUBE, N, plant->table, sizeof plant->table, &plant->rounds, &plant->tests, schedule,
+                                    length, sheet, 2 * length, &taken));
 }
 
 /* One grant and its turn; prints who was granted. */
@@ -88,7 +88,8 @@ static int drive(struct plant *plant)
     size_t grants, turns;
 
     if (grant_round(&copy, &turns) ||
-        refused("drive", vcube_drive(VCUBE_WIRING_CUBE, N, plant->table, sizeof plant->table, &plant->rounds, &plant->tests, &plant->last, &grants)))
+        refused("drive", vcube_drive(VCUBE_WIRING_CUBE, N, plant->table, sizeof plant->table, &plant->rounds, &plant->tests,
+                                     &plant->last, &grants)))
         return 1;
     printf("drive: rounds %" PRIu32 " tests %" PRIu32 " last %zu grants %zu\n", plant->rounds, plant->tests, plant->last, grants);
     if (!same(plant, &copy) || grants != turns) {

@@ -103,7 +103,8 @@ static int drive(struct plant *plant)
     const size_t n = plant->n;
     size_t last = VCUBE_NO_STATION, grants;
 
-    return refused("drive", vcube_drive(VCUBE_WIRING_CUBE, n, plant->table, VCUBE_TABLE_LENGTH(n), &plant->rounds, &plant->tests, &last, &grants));
+    return refused("drive", vcube_drive(VCUBE_WIRING_CUBE, n, plant->table, VCUBE_TABLE_LENGTH(n), &plant->rounds, &plant->tests, &last,
+                                        &grants));
 }
 
 /* Why a board is not live, from its line: bytes 0 and 4. */

@@ -53,8 +53,8 @@ numbered! {
     /// `SizeOutOfRange`, `LineField`, `TableLength`, `LineRule` and
     /// `RoundNotClosed` in this order, and a conversion for `FieldPastEnd`,
     /// `FieldOrder`, `SizeOrTallyField`, `SizeOutOfRange`, `LineField`, `LineRule`,
-    /// `RoundNotClosed` and `ListLength`. A station is a board in the words of the
-    /// library.
+    /// `RoundNotClosed` and `ListLength`; `NoSuchWiring` comes before all others. A
+    /// station is a board in the words of the library.
     #[non_exhaustive]
     Refusal {
         SizeOutOfRange = 1 => "a plant has 2 to 64 boards",
@@ -90,13 +90,14 @@ numbered! {
         FieldOrder = 22 => "a field is out of order, or of an unknown tag",
         /// The report of a mending.
         ReportTooShort = 23 => "the report has fewer than 4n(n + 6) bytes",
-        /// It is neither 1 nor 2, those of [`Wiring`].
-        NoSuchWiring = 24 => "there is no such wiring",
+        /// Those of [`Wiring`] only: no call of this crate gives it.
+        NoSuchWiring = 24 => "the wiring is neither 1 (cube) nor 2 (ring)",
     }
 }
 
 numbered! {
-    /// Who tests whom.
+    /// Who tests whom. The library does not keep it, and a table does not hold it:
+    /// give the same one in all calls of a plant.
     Wiring {
         Cube = 1 => "cube",
         Ring = 2 => "ring",

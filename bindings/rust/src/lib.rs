@@ -11,10 +11,18 @@
 //! keeps the work of the entries before it, and a drive that stops before a grant
 //! that of the turns before it.
 //!
+//! # Wiring
+//!
+//! A plant is wired as the cube or as the ring ([`Wiring`]): that says whom a turn
+//! tests. Seven calls take it as their first argument; give the same one in all
+//! calls of a plant. Group lists, assignments and saved plants are for the cube.
+//!
 //! # Turn, pass, round
 //!
-//! - A *turn* of a station is one test of another one, at the least due distance
-//!   from its next distance on, or, if there is none, the end of its *pass*.
+//! - A *turn* of a station on the cube is one test of another one, at the least due
+//!   distance from its next distance on, or, if there is none, the end of its
+//!   *pass*. On the ring it tests the stations 1, 2, 3 and so on after it, one a
+//!   turn, until one exchanges rows with it or all others were tested.
 //! - If the tested station is not live, or its reply is late, the tester suspects
 //!   it from now on. Else, if the tested one suspects the tester, the tester
 //!   leaves; else, if the tester suspects the tested one, that one leaves; else
@@ -149,6 +157,27 @@
 //! assert_eq!(last, Some(Station(4)));
 //! assert_eq!(vcube::row(Wiring::Cube, n, &table, Station(0))?, [0, 0, 0, 0, 0, 1, 0, 0]);
 //! assert_eq!(vcube::rounds_ago(Wiring::Cube, n, &table, Station(5))?, 1);
+//! # Ok::<(), vcube::Refusal>(())
+//! ```
+//!
+//! On the ring each board tests the one after it. Board 0 finds board 1 dead and
+//! tests board 2; a round of 4 boards has 4 tests:
+//!
+//! ```
+//! use vcube::{Entry, Kind, Station, Tally, Wiring};
+//!
+//! let n = 4;
+//! let mut table = [0; vcube::table_length(4)];
+//! vcube::fresh_table(Wiring::Ring, n, &mut table)?;
+//! let (mut tally, mut last) = (Tally::default(), None);
+//! let crash = Entry { kind: Kind::Crash, station: Station(1) };
+//! let answer = vcube::run(Wiring::Ring, n, &mut table, &mut tally, &crash.bytes(), &mut [0; 4]);
+//! assert_eq!(answer.refusal, None);
+//!
+//! let driven = vcube::drive(Wiring::Ring, n, &mut table, &mut tally, &mut last);
+//! assert_eq!(driven.refusal, None);
+//! assert_eq!(tally, Tally { rounds: 1, tests: 4 });
+//! assert_eq!(vcube::row(Wiring::Ring, n, &table, Station(2))?, [0, 1, 0, 0]);
 //! # Ok::<(), vcube::Refusal>(())
 //! ```
 //!

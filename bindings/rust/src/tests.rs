@@ -9,6 +9,7 @@ mod granter;
 mod lamp;
 mod lines;
 mod mender;
+mod ring;
 mod saved;
 
 /// Byte 4 of a line whose station nobody told to leave.
@@ -592,6 +593,8 @@ fn numbers_are_those_of_the_documents() {
     let names = |name: fn(u8) -> Option<String>| (0..=255).filter_map(name).collect::<Vec<_>>();
     let refusals = names(|k| Refusal::from_number(k).map(|one| format!("{k} {}", one.number())));
     assert_eq!((refusals.len(), refusals[23].as_str()), (24, "24 24"));
+    let wirings = names(|k| Wiring::from_number(k).map(|one| format!("{} {one:?}", one.number())));
+    assert_eq!(wirings, ["1 Cube", "2 Ring"]);
     let kinds = names(|k| Kind::from_number(k).map(|one| format!("{} {one:?}", one.number())));
     assert_eq!(kinds, ["1 Turn", "2 LateTurn", "3 Crash"]);
     let statuses = names(|k| Status::from_number(k).map(|one| format!("{k} {one:?}")));
@@ -606,35 +609,6 @@ fn numbers_are_those_of_the_documents() {
         "5 TestedTold",
     ];
     assert_eq!(outcomes, expected);
-}
-
-// Board 1 is dead. Board 0 finds it, and exchanges with board 2; each board that is live makes the tests to the next one that is.
-#[test]
-fn a_round_on_the_ring() {
-    let mut table = fresh(4);
-    table[10] = Status::Crashed.number();
-    let (mut tally, mut sheet) = (Tally::default(), [0; 28]);
-    let schedule = [1, 0, 1, 0, 1, 0, 1, 2, 1, 2, 1, 3, 1, 3];
-    let answer = run(
-        Wiring::Ring,
-        4,
-        &mut table,
-        &mut tally,
-        &schedule,
-        &mut sheet,
-    );
-    assert_eq!((answer.refusal, answer.taken), (None, 7));
-    assert_eq!((tally.rounds, tally.tests), (1, 4));
-    let lines = [
-        [0, 1, 3, 0],
-        [0, 2, 1, 0],
-        [0, 255, 0, 0],
-        [2, 3, 1, 0],
-        [2, 255, 0, 0],
-        [3, 0, 1, 0],
-        [3, 255, 0, 0],
-    ];
-    assert_eq!(sheet[..], lines.concat()[..]);
 }
 
 #[test]

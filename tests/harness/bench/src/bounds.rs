@@ -2,6 +2,7 @@
 //! size of the plant. d is its logarithm to base 2, rounded up.
 
 use shared::groups::dimension;
+use shared::wiring::Wiring;
 
 /// d·d, the square bound.
 pub fn square_bound(n: usize) -> u32 {
@@ -19,5 +20,18 @@ pub fn worst_latency(n: usize) -> u32 {
     match dimension(n) {
         d @ ..=3 => d,
         d => 4 + (d - 3).pow(2) / 2,
+    }
+}
+
+/// The worst-case latency of the ring: half of n, rounded down.
+pub fn ring_latency(n: usize) -> u32 {
+    n as u32 / 2
+}
+
+/// The worst-case latency of the wiring.
+pub fn latency_on(wiring: Wiring, n: usize) -> u32 {
+    match wiring {
+        Wiring::Cube => worst_latency(n),
+        Wiring::Ring => ring_latency(n),
     }
 }

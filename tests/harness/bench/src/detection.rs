@@ -1,9 +1,9 @@
 //! How many rounds close until every live board suspects exactly the dead
 //! ones. Everything is done by the library: one entry a run, or one round a
-//! drive. All of it is on the cube.
+//! drive.
 
-use crate::bounds::worst_latency;
-use crate::contender::run_entry;
+use crate::bounds::latency_on;
+use crate::contender::{of_library, run_entry};
 use shared::groups::dimension;
 use shared::random::Random;
 use shared::schedule::{Entry, CRASH, TURN};
@@ -30,6 +30,7 @@ pub enum Order {
 
 /// A plant and its closed rounds.
 pub struct Plant {
+    wiring: Wiring,
     n: usize,
     pub table: Vec<u8>,
     pub rounds: u32,
@@ -39,13 +40,19 @@ pub struct Plant {
 
 /// The closed rounds until every live board suspects exactly the dead ones,
 /// from a fresh table on which the dead boards crash first. Stops the program
-/// if they are more than the worst-case latency.
-pub fn rounds_until_known(n: usize, dead: &[usize], order: Order, random: &mut Random) -> u32 {
-    let mut plant = Plant::with_dead(n, dead);
+/// if they are more than the wiring's worst-case latency.
+pub fn rounds_until_known(
+    wiring: Wiring,
+    n: usize,
+    dead: &[usize],
+    order: Order,
+    random: &mut Random,
+) -> u32 {
+    let mut plant = Plant::with_dead(wiring, n, dead);
     while !plant.dead_are_known() {
         plant.play_round(order, random);
         assert!(
-            plant.rounds <= worst_latency(n),
+            plant.rounds <= latency_on(wiring, n),
             "more than the worst-case latency"
         );
     }
@@ -65,20 +72,21 @@ pub fn random_dead(n: usize, random: &mut Random) -> Vec<usize> {
 }
 
 impl Plant {
-    pub fn fresh(n: usize) -> Plant {
+    pub fn fresh(wiring: Wiring, n: usize) -> Plant {
         let mut plant = Plant {
+            wiring,
             n,
             table: vec![0; vcube::table_length(n)],
             rounds: 0,
             last: None,
         };
-        vcube::fresh_table(vcube::Wiring::Cube, n, &mut plant.table).expect("a size of the list");
+        vcube::fresh_table(of_library(wiring), n, &mut plant.table).expect("a size of the list");
         plant
     }
 
     /// A fresh one on which these boards crash.
-    pub fn with_dead(n: usize, dead: &[usize]) -> Plant {
-        let mut plant = Plant::fresh(n);
+    pub fn with_dead(wiring: Wiring, n: usize, dead: &[usize]) -> Plant {
+        let mut plant = Plant::fresh(wiring, n);
         for i in dead {
             plant.take([CRASH, *i as u8]);
         }
@@ -87,7 +95,7 @@ impl Plant {
 
     /// Carries out one entry. Gives whether it closed a round.
     pub fn take(&mut self, entry: Entry) -> bool {
-        let closed = run_entry(Wiring::Cube, self.n, &mut self.table, entry);
+        let closed = run_entry(self.wiring, self.n, &mut self.table, entry);
         self.rounds += closed;
         closed != 0
     }
@@ -113,8 +121,8 @@ impl Plant {
     /// One drive, which must close a round.
     fn drive_round(&mut self) {
         let mut tally = Tally::default();
-        let cube = vcube::Wiring::Cube;
-        let driven = vcube::drive(cube, self.n, &mut self.table, &mut tally, &mut self.last);
+        let wiring = of_library(self.wiring);
+        let driven = vcube::drive(wiring, self.n, &mut self.table, &mut tally, &mut self.last);
         assert_eq!((driven.refusal, tally.rounds), (None, 1));
         self.rounds += tally.rounds;
     }
@@ -137,7 +145,7 @@ impl Plant {
         let mut least = (usize::MAX, ready[0]);
         for i in ready {
             let mut table = self.table.clone();
-            run_entry(Wiring::Cube, self.n, &mut table, [TURN, i as u8]);
+            run_entry(self.wiring, self.n, &mut table, [TURN, i as u8]);
             let after = suspicions(self.n, &table);
             if after < least.0 {
                 least = (after, i);

@@ -2,6 +2,7 @@
 
 use crate::detection::Plant;
 use shared::slowest;
+use shared::wiring::Wiring;
 
 /// What a slowest plant shows.
 #[derive(Clone, Copy, Debug, PartialEq, Eq)]
@@ -27,7 +28,7 @@ fn run(plant: &slowest::Plant) -> Option<Slowest> {
         dead,
         ref entries,
     } = *plant;
-    let mut plant = Plant::fresh(n);
+    let mut plant = Plant::fresh(Wiring::Cube, n);
     let (crashes, turns) = entries.split_at(dead);
     for crash in crashes {
         plant.take(*crash);

@@ -465,6 +465,8 @@ fn bounds_by_size() {
     assert_eq!(POWERS.map(bounds::worst_latency), [1, 2, 3, 4, 6, 8]);
     assert_eq!(POWERS.map(bounds::triangle_bound), [1, 2, 4, 7, 11, 16]);
     assert_eq!(POWERS.map(bounds::square_bound), [1, 4, 9, 16, 25, 36]);
+    assert_eq!(POWERS.map(bounds::ring_latency), [1, 2, 4, 8, 16, 32]);
+    assert_eq!([3, 5, 63].map(bounds::ring_latency), [1, 2, 31]);
     let others = [3, 5, 11, 19, 33, 48, 63];
     assert_eq!(others.map(bounds::worst_latency), [2, 3, 4, 6, 8, 8, 8]);
     assert_eq!(

@@ -6,13 +6,14 @@
 //! `latency` writes docs/latency.md and docs/latency.svg under the current
 //! folder, and prints the tables; `--quick` tries less, and only prints.
 
-use bench::bounds::{square_bound, triangle_bound, worst_latency};
+use bench::bounds::{ring_latency, square_bound, triangle_bound, worst_latency};
 use bench::chart::{self, Point};
 use bench::detection::{random_dead, rounds_until_known, Order};
 use bench::slowest::{self, Slowest};
 use bench::statistics::{decimal, Summary};
 use shared::groups::dimension;
 use shared::random::Random;
+use shared::wiring::Wiring;
 use std::fmt::Write;
 use std::process::ExitCode;
 use std::{fs, io};
@@ -46,6 +47,8 @@ fn trials(n: usize) -> usize {
 struct Results {
     n: usize,
     by_order: [Summary; ORDERS.len()],
+    /// On the ring, in the first order.
+    on_ring: Summary,
 }
 
 impl Results {
@@ -87,12 +90,13 @@ fn try_size(n: usize, quick: bool) -> Results {
     let trials = if quick { trials(n) / 20 } else { trials(n) };
     Results {
         n,
-        by_order: ORDERS.map(|order| try_order(n, order, trials)),
+        by_order: ORDERS.map(|order| try_order(Wiring::Cube, n, order, trials)),
+        on_ring: try_order(Wiring::Ring, n, ORDERS[0], trials),
     }
 }
 
-/// The same dead boards for each order, as far as its trials go.
-fn try_order(n: usize, order: Order, trials: usize) -> Summary {
+/// The same dead boards for each order and wiring, as far as its trials go.
+fn try_order(wiring: Wiring, n: usize, order: Order, trials: usize) -> Summary {
     let trials = match order {
         Order::Delaying => trials / 8,
         _ => trials,
@@ -100,7 +104,8 @@ fn try_order(n: usize, order: Order, trials: usize) -> Summary {
     let mut boards = Random::new(SEED);
     let mut turns = Random::new(SEED + 1);
     let mut one = || {
-        let rounds = rounds_until_known(n, &random_dead(n, &mut boards), order, &mut turns);
+        let dead = random_dead(n, &mut boards);
+        let rounds = rounds_until_known(wiring, n, &dead, order, &mut turns);
         u16::try_from(rounds).expect("at most the worst-case latency")
     };
     Summary::of((0..trials).map(|_| one()).collect())
@@ -147,6 +152,7 @@ fn tables(results: &[Results], slowest: &[Slowest]) -> String {
         main_table(results),
         slowest_table(slowest),
         order_table(results),
+        ring_table(results),
     ];
     tables.join("\n")
 }
@@ -259,6 +265,28 @@ last number 255, and each further one with the last number that the one before g
             format!("{}, {greatest}", decimal(mean))
         });
         let _ = writeln!(text, "| {} | {} |", row.n, cells.join(" | "));
+    }
+    text
+}
+
+const RING_TEXT: &str = "## Cube and ring
+
+The same dead boards on both wirings, with turns at random: mean, in brackets as the exact fraction, and greatest. The worst case of the ring is
+⌊n/2⌋ rounds.
+
+| n | cube | f(d) | ring | ⌊n/2⌋ |
+|--:|--:|--:|--:|--:|
+";
+
+fn ring_table(results: &[Results]) -> String {
+    let mut text = String::from(RING_TEXT);
+    for row in results {
+        let [cube, ring] = [row.random(), &row.on_ring].map(|summary| {
+            let Figures { mean, greatest, .. } = summary.figures;
+            format!("{}, {greatest}", decimal(mean))
+        });
+        let (n, on_cube, on_ring) = (row.n, worst_latency(row.n), ring_latency(row.n));
+        let _ = writeln!(text, "| {n} | {cube} | {on_cube} | {ring} | {on_ring} |");
     }
     text
 }
