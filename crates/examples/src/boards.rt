@@ -24,7 +24,7 @@ pub fn show(rt: &impl Print) {
     eight_assigned(rt);
     eleven_boards(rt);
     odd_sizes(rt);
-    late_reply(rt);
+    late_turn(rt);
 }
 
 // The published table of groups of eight stations. A line for each level, a column for each station.
@@ -210,13 +210,13 @@ fn round_line(rt: &impl Print, n: u8) {
 // Four boards: 1, 2 and 3 take their passes. The reply of 1 to 0's first test comes late; 0 tests 2 and 3 and finishes its pass, which
 // closes the round. In the next round 0 tests 1 again: 1 is told and leaves, and its own turn is refused. Its line names 0.
 #[tactic(auto, unfolding(table::specs::Table::table_length, table::specs::Sizes::is_size))]
-fn late_reply(rt: &impl Print) {
+fn late_turn(rt: &impl Print) {
     let mut table = [0u8; FOUR];
     let mut plant = Plant::fresh(4, &mut table);
     plant.pass(rt, 1, false);
     plant.pass(rt, 2, false);
     plant.pass(rt, 3, false);
-    plant.entry(Kind::LateReply, 0);
+    plant.entry(Kind::LateTurn, 0);
     plant.pass(rt, 0, true);
     tests_line(rt, Tally::default(), plant.tally);
     let (ran, sheet) = plant.turns_of_0_and_1();

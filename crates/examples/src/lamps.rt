@@ -15,7 +15,7 @@ pub fn show(rt: &impl Print) {
     let _ = fresh::fresh_table(Wiring::Cube as usize, 4, &mut table);
     lamp_line(rt, 4, &table);
     // The reply of 1 comes late: 0 suspects it. Then 0 exchanges rows with 2, and with 3.
-    entry_of(&mut table, Kind::LateReply, 0);
+    entry_of(&mut table, Kind::LateTurn, 0);
     lamp_line(rt, 4, &table);
     entry_of(&mut table, Kind::Turn, 0);
     entry_of(&mut table, Kind::Turn, 0);

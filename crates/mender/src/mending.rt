@@ -7,7 +7,7 @@ use crate::lines;
 use crate::report::Change;
 use table::lent::Table;
 use table::wiring::Wiring;
-use table::{Station, cells, rules};
+use table::{Station, cells};
 
 // A lent table and a lent report that has room for a change of each byte, and how many changes the report has so far.
 #[derive(Drop)]
@@ -92,7 +92,7 @@ impl<'a> Mending<'a> {
                 self.put(line + c, *byte);
             }
             // Most rows keep their rules. To ask that first takes many bytes at a time.
-            if rules::row_rule(&self.read(), Station(i)) {
+            if self.read().keeps_row_rule(Station(i)) {
                 continue;
             }
             for k in 0..self.n {

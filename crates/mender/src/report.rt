@@ -1,5 +1,5 @@
 // The report: the changes as bytes, one behind the other.
-ghost use Rattle.std.specs.Prelude.{◌≡◌, ◌+◌, ◌*◌, ◌<◌, ◌≤◌, length};
+ghost use Rattle.std.specs.Prelude.{◌≡◌};
 
 // A byte of the table that was mended: where it stands, what it was, and what it is.
 #[derive(Clone, Copy, Debug, PartialEq, Eq)]

@@ -11,7 +11,7 @@ pub enum Kind {
     // A turn whose replies come in time.
     Turn = 1,
     // A turn whose reply comes late.
-    LateReply = 2,
+    LateTurn = 2,
     // The station crashes.
     Crash = 3,
 }
@@ -25,7 +25,7 @@ impl TryFrom<u8> for Kind {
     fn try_from(byte: u8) -> Result<Self, Refusal> {
         match byte {
             1 => Ok(Kind::Turn),
-            2 => Ok(Kind::LateReply),
+            2 => Ok(Kind::LateTurn),
             3 => Ok(Kind::Crash),
             _ => Err(Refusal::UnknownKind),
         }
@@ -51,7 +51,7 @@ impl fmt::Display for Kind {
     fn fmt<W: fmt::Write>(&self, f: &mut fmt::Formatter<W>) -> fmt::Result {
         f.write_str(match self {
             Kind::Turn => "turn",
-            Kind::LateReply => "turn whose reply comes late",
+            Kind::LateTurn => "turn whose reply comes late",
             Kind::Crash => "crash",
         })
     }

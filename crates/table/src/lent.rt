@@ -6,11 +6,12 @@ ghost use Rattle.table.specs.Table.{head, stride, table_length, cell, set_cell, 
 ghost use Rattle.table.specs.Status.{status_byte};
 ghost use Rattle.std.specs.Result.{result_map_both};
 ghost use Rattle.table.specs.Wiring.{wiring_number};
-ghost use Rattle.table.specs.Rules.{shape_check, table_check, table_check_on, wired_table_check, finished_if_live, round_over};
+ghost use Rattle.table.specs.Rules.{shape_check, table_check, table_check_on, wired_table_check, row_rule, finished_if_live, round_over};
 
 use crate::status::Status;
 use crate::wiring::Wiring;
 use crate::{Distance, Station, cells, rules};
+use lists::bytes;
 use lists::refusal::Refusal;
 
 // A table of n stations, to be read.
@@ -172,6 +173,23 @@ impl<'a> Table<'a> {
         let a = cells::row_start(self.n, i);
         let e = a + self.n as usize;
         &self.bytes[a..e]
+    }
+
+    // Whether the row of station i keeps its rules: the station's byte about itself, and every byte, by the greatest one. The loop has no exit, so
+    // that the compiler takes many bytes at a time. By std's `max` a save of 8 boards was 0.96 times as fast.
+    #[tactic(auto, using(lists::proofs::Loops::loops, crate::proofs::CellLaws::row_at), unfolding(crate::specs::Rules::row_rule))]
+    pub fn keeps_row_rule(&self, i: Station) -> bool
+        requires { i.0 < self.now.n }
+        ensures { result ≡ row_rule self.now.n self.now.bytes.now i.0 }
+    {
+        let row = self.row(i);
+        let of = i.0 as usize;
+        let own = row[of];
+        let mut greatest: u8 = 0;
+        for byte in row {
+            greatest = bytes::greater(greatest, *byte);
+        }
+        (own == 0) & (greatest <= 1)
     }
 }
 

@@ -5,13 +5,12 @@ ghost use Rattle.lists.specs.Search.{every};
 ghost use Rattle.table.specs.Status.{status_byte};
 ghost use Rattle.table.specs.Table.{live};
 ghost use Rattle.table.specs.Wiring.{wiring_number};
-ghost use Rattle.table.specs.Rules.{pass_rule, exit_rule, row_rule, wired_line_rules, finished_if_live, round_over, shape_check, table_check};
+ghost use Rattle.table.specs.Rules.{pass_rule, exit_rule, wired_line_rules, finished_if_live, round_over, shape_check, table_check};
 
 use crate::lent::Table;
 use crate::status::Status;
 use crate::wiring::Wiring;
 use crate::{Station, cells, sizes};
-use lists::bytes;
 use lists::refusal::Refusal;
 
 // Refusals 1 and 2.
@@ -103,7 +102,7 @@ fn line_rules(wiring: Wiring, table: &Table, i: Station) -> bool
     if !exit_rule(table.n, i, status, by, ago) {
         return false;
     }
-    row_rule(table, i)
+    table.keeps_row_rule(i)
 }
 
 // The rules of bytes 1 to 3, by the end distance. Byte 1 is 1 or more where byte 3 is below it.
@@ -129,21 +128,4 @@ pub fn exit_rule(n: u8, i: Station, status: Status, by: u8, ago: u8) -> bool
         return (status != Status::LeftTold) & ((status != Status::Live) | (ago == 0));
     }
     (status == Status::LeftTold) & ((by == cells::NOT_RECORDED) | ((by < n) & (by != i.0)))
-}
-
-// The rules of the row: the station's byte about itself, and every byte, by the greatest one. The loop has no exit, so that the compiler
-// takes many bytes at a time. By std's `max` a save of 8 boards was 0.96 times as fast.
-#[tactic(auto, using(lists::proofs::Loops::loops, crate::proofs::CellLaws::row_at), unfolding(crate::specs::Rules::row_rule))]
-pub fn row_rule(table: &Table, i: Station) -> bool
-    requires { i.0 < table.now.n }
-    ensures { result ≡ row_rule table.now.n table.now.bytes.now i.0 }
-{
-    let row = table.row(i);
-    let of = i.0 as usize;
-    let own = row[of];
-    let mut greatest: u8 = 0;
-    for byte in row {
-        greatest = bytes::greater(greatest, *byte);
-    }
-    (own == 0) & (greatest <= 1)
 }

@@ -161,7 +161,7 @@ pub fn kind_of(letter: u8) -> Option<Kind>
 {
     match letter {
         b'T' => Some(Kind::Turn),
-        b'L' => Some(Kind::LateReply),
+        b'L' => Some(Kind::LateTurn),
         b'C' => Some(Kind::Crash),
         _ => None,
     }

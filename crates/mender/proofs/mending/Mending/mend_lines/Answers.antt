@@ -81,8 +81,8 @@ loop-k-preserved c =
       progress-next t (mended_by w n t c.args.over) r (line_start n i + (head + k)) (c.line_start-line.result + 6 + k) (line_start n i + (head + (k + 1))) _ _ _ _ _ _ _ c.loop-k.invariant.1 at (omega arith) byte put.ensures.byte_written put.ensures.change_listed put.ensures.change_counted,
     )
 
-pub loop-i-preserved-then-row_rule : goal.loop-i-preserved-then-row_rule
-loop-i-preserved-then-row_rule c =
+pub loop-i-preserved-then-keeps_row_rule : goal.loop-i-preserved-then-keeps_row_rule
+loop-i-preserved-then-keeps_row_rule c =
     let w = wiring_number c.args.wiring in
     let n = c.args.self.now.n in
     let t = c.args.self.now.table.now in
@@ -90,7 +90,7 @@ loop-i-preserved-then-row_rule c =
     let i = c.loop-i.i in
     let end : line_start n i + c.loop-c.c ≡ line_start n i + head = omega (arith, c.loop-c-test.false) in
     let g = progress-at t (mended_by w n t c.args.over) r (line_start n i + c.loop-c.c) (line_start n i + head) c.loop-c.self.table.now c.loop-c.self.report.now c.loop-c.self.changes c.loop-c.invariant.1 end in
-    let kept = sym c.row_rule.ensures ∙ c.if-row_rule.true in
+    let kept = sym c.keeps_row_rule.ensures ∙ c.if-keeps_row_rule.true in
     let skip = row-skip w n t r c.args.over c.loop-c.self.table.now c.loop-c.self.report.now c.loop-c.self.changes i c.read-in-loop-i.result.n c.read-in-loop-i.result.bytes.now g c.loop-i-test.true (c.read-in-loop-i.ensures.same_size ∙ c.loop-c.invariant.0.size) c.read-in-loop-i.ensures.same_bytes kept in
     (c.loop-c.invariant.0, progress-at t (mended_by w n t c.args.over) r (line_start n i + (head + n)) (line_start n (i + 1)) c.loop-c.self.table.now c.loop-c.self.report.now c.loop-c.self.changes skip (sym (line-next n i)))
 

@@ -3,7 +3,7 @@ use Rattle.std.proofs.Common.{◌≡◌}
 use Rattle.std.specs.Prelude.{leb}
 use Rattle.lists.specs.Search.{every}
 use Rattle.table.specs.Rules.{suspicion_rule}
-use Rattle.table.proofs.rules.row_rule.Given as goal
+use Rattle.table.proofs.lent.Table.keeps_row_rule.Given as goal
 
 abbrev pub invariant-loop-byte : goal.invariant-loop-byte
-invariant-loop-byte l = leb l.greatest 1 ≡ every (suspicion_rule l.table.n l.table.bytes.now l.fn.i.0) l.byte-index
+invariant-loop-byte l = leb l.greatest 1 ≡ every (suspicion_rule l.self.n l.self.bytes.now l.fn.i.0) l.byte-index
