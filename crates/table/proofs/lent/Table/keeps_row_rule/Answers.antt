@@ -5,4 +5,4 @@ use Rattle.table.proofs.lent.Table.keeps_row_rule.Goals as goal
 
 pub loop-byte-preserved : goal.loop-byte-preserved
 loop-byte-preserved c =
-    range-next _ _ _ _ _ _ _ c.row.ensures.row_of_line (omega arith) c.loop-byte.invariant c.greater-greatest.ensures
+    range-next _ _ _ _ _ _ _ c.row-row.ensures.row_of_line (omega arith) c.loop-byte.invariant c.greater-greatest.ensures
