@@ -45,7 +45,9 @@ taken_from w n s (e ∷ es) =
 
 -- the taken entries of one run
 unfoldable pub taken_in : State → Call → List Taken
-taken_in s c = if start_refusal c.wiring c.size s.table (length c.schedule) (length c.sheet) == 0 then taken_from c.wiring c.size s (entries c.schedule) else []
+taken_in s c =
+    if start_refusal c.wiring c.size s.table (length c.schedule) (length c.sheet) == 0
+    then taken_from c.wiring c.size s (entries c.schedule) else []
 
 -- a run that finds this table and tally answers how many entries it takes
 abbrev pub CountsTaken : Call → State → ℕ → Type 0

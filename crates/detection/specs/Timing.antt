@@ -49,7 +49,8 @@ end_of s calls k = table_left s.table (round_at s calls k)
 abbrev pub TestsWithinDue : Type 0
 TestsWithinDue =
     (n : ℕ) (s : State) (calls : List Call) (k i : ℕ) → length s.table ≡ table_length n → at_start n s.table ≡ true
-    → all_taken (is_on wiring_cube) (taken_all s calls) ≡ true → k ≤ length (rounds_of s calls).closed → i < n → tests_by i (round_at s calls k) ≤ tests_due n (row n (end_of s calls k) i) i
+    → all_taken (is_on wiring_cube) (taken_all s calls) ≡ true → k ≤ length (rounds_of s calls).closed → i < n
+    → tests_by i (round_at s calls k) ≤ tests_due n (row n (end_of s calls k) i) i
 
 -- board i suspects at table t nobody but those that row r suspects, and j
 abbrev pub SuspectsAtMost : ℕ → List ℕ → ℕ → List ℕ → ℕ → Type 0
@@ -59,6 +60,8 @@ SuspectsAtMost n t i r j = (x : ℕ) → x < n → suspects n t i x ≡ 1 → (u
 -- r and one more: also in the rounds in which it comes to suspect that one
 abbrev pub SlotSuffices : Type 0
 SlotSuffices =
-    (n : ℕ) (s : State) (calls : List Call) (k : ℕ) (r : List ℕ) (i j : ℕ) → length s.table ≡ table_length n → at_start n s.table ≡ true
-    → all_taken (is_on wiring_cube) (taken_all s calls) ≡ true → k ≤ length (rounds_of s calls).closed → i < n → j < n → j ≢ i → length r ≡ n → unsuspected r i ≡ true
+    (n : ℕ) (s : State) (calls : List Call) (k : ℕ) (r : List ℕ) (i j : ℕ)
+    → length s.table ≡ table_length n → at_start n s.table ≡ true
+    → all_taken (is_on wiring_cube) (taken_all s calls) ≡ true → k ≤ length (rounds_of s calls).closed → i < n → j < n → j ≢ i
+    → length r ≡ n → unsuspected r i ≡ true
     → SuspectsAtMost n (end_of s calls k) i r j → tests_by i (round_at s calls k) ≤ most_tests n r i

@@ -31,7 +31,8 @@ NoneRefused w n kinds p =
 -- that 16 lets through
 abbrev pub RoundEndsInSquare : Type 0
 RoundEndsInSquare =
-    (w n : ℕ) (kinds : ℕ → ℕ) (s : State) (last : ℕ) → TurnKinds kinds → grant_refusal w n s.table last ≡ 0 → NoneRefused w n kinds (stand_at s last)
+    (w n : ℕ) (kinds : ℕ → ℕ) (s : State) (last : ℕ)
+    → TurnKinds kinds → grant_refusal w n s.table last ≡ 0 → NoneRefused w n kinds (stand_at s last)
     → (k : ℕ) × (k ≤ n * n) × (over_after w n kinds (stand_at s last) k ≡ true)
 
 -- with turns of kind 1 only, grants and turns are those of the drive

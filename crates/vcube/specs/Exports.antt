@@ -75,7 +75,8 @@ totals_members t = t.count ∷ t.sum ∷ t.squares ∷ t.least ∷ t.greatest �
 
 -- the totals with these five members
 abbrev pub totals_with : List ℕ → Totals
-totals_with m = record { count = slice_index m 0; sum = slice_index m 1; squares = slice_index m 2; least = slice_index m 3; greatest = slice_index m 4 }
+totals_with m =
+    record { count = slice_index m 0; sum = slice_index m 1; squares = slice_index m 2; least = slice_index m 3; greatest = slice_index m 4 }
 
 -- rule Refused means untouched: the figures and the totals of a refused call are all 0
 abbrev pub no_figures : Figures
