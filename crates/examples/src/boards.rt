@@ -25,6 +25,7 @@ pub fn show(rt: &impl Print) {
     eleven_boards(rt);
     odd_sizes(rt);
     late_turn(rt);
+    ring_of_four(rt);
 }
 
 // The published table of groups of eight stations. A line for each level, a column for each station.
@@ -100,7 +101,7 @@ fn size_line(rt: &impl Print, n: usize, len: usize) {
 // 64 stations, none dead: 384 tests a round.
 fn sixty_four(rt: &impl Print) {
     let mut table = [0u8; cells::GREATEST_TABLE];
-    let mut plant = Plant::fresh(64, &mut table);
+    let mut plant = Plant::fresh(Wiring::Cube, 64, &mut table);
     plant.round(rt, None);
     tests_line(rt, Tally::default(), plant.tally);
 }
@@ -109,7 +110,7 @@ fn sixty_four(rt: &impl Print) {
 // board 5 tests 0 and 6 besides.
 fn eight_boards(rt: &impl Print) {
     let mut table = [0u8; EIGHT];
-    let mut plant = Plant::fresh(8, &mut table);
+    let mut plant = Plant::fresh(Wiring::Cube, 8, &mut table);
     plant.round(rt, Some(0));
     tests_line(rt, Tally::default(), plant.tally);
     plant.entry(Kind::Crash, 4);
@@ -122,24 +123,29 @@ fn eight_boards(rt: &impl Print) {
 // Tests at 4,294,967,294: a turn that makes a test is taken, and the next entry gets 7.
 fn top_tally(rt: &impl Print) {
     let mut table = [0u8; TWO];
-    let mut plant = Plant::fresh(2, &mut table);
+    let mut plant = Plant::fresh(Wiring::Cube, 2, &mut table);
     plant.tally.tests = 4294967294;
     run_line(rt, plant.turns_of_0_and_1().0);
 }
 
-// The published counts of messages: those of d·d rounds with nobody dead, two a test.
+// The published counts of messages, on the cube and on the ring: those of d·d rounds with nobody dead, two a test.
 fn published_messages(rt: &impl Print) {
-    messages_line(rt, 4, 4);
-    messages_line(rt, 8, 9);
-    messages_line(rt, 16, 16);
-    messages_line(rt, 32, 25);
-    messages_line(rt, 64, 36);
+    messages_lines(rt, "", Wiring::Cube);
+    messages_lines(rt, "ring of ", Wiring::Ring);
 }
 
-fn messages_line(rt: &impl Print, n: u8, rounds: u8) {
-    let tally = fresh_rounds(rt, n, rounds);
+fn messages_lines(rt: &impl Print, what: &str, wiring: Wiring) {
+    messages_line(rt, what, wiring, 4, 4);
+    messages_line(rt, what, wiring, 8, 9);
+    messages_line(rt, what, wiring, 16, 16);
+    messages_line(rt, what, wiring, 32, 25);
+    messages_line(rt, what, wiring, 64, 36);
+}
+
+fn messages_line(rt: &impl Print, what: &str, wiring: Wiring, n: u8, rounds: u8) {
+    let tally = fresh_rounds(rt, wiring, n, rounds);
     let _ = println!(rt;
-        "{n} boards rounds {} messages {}",
+        "{what}{n} boards rounds {} messages {}",
         tally.rounds,
         2 * tally.tests as u64
     );
@@ -152,7 +158,7 @@ fn eleven_boards(rt: &impl Print) {
     eleven_line(rt, 10, Level(2), 2);
     eleven_line(rt, 2, Level(4), 3);
     let mut table = [0u8; ELEVEN];
-    let mut plant = Plant::fresh(11, &mut table);
+    let mut plant = Plant::fresh(Wiring::Cube, 11, &mut table);
     let mut list = [0u8; 20];
     assignment_line(rt, 11, plant.table, 10, &mut list);
     plant.entry(Kind::Crash, 4);
@@ -203,7 +209,7 @@ fn odd_sizes(rt: &impl Print) {
 }
 
 fn round_line(rt: &impl Print, n: u8) {
-    let tally = fresh_rounds(rt, n, 1);
+    let tally = fresh_rounds(rt, Wiring::Cube, n, 1);
     let _ = println!(rt; "{n} boards rounds {} tests {}", tally.rounds, tally.tests);
 }
 
@@ -212,7 +218,7 @@ fn round_line(rt: &impl Print, n: u8) {
 #[tactic(auto, unfolding(table::specs::Table::table_length, table::specs::Sizes::is_size))]
 fn late_turn(rt: &impl Print) {
     let mut table = [0u8; FOUR];
-    let mut plant = Plant::fresh(4, &mut table);
+    let mut plant = Plant::fresh(Wiring::Cube, 4, &mut table);
     plant.pass(rt, 1, false);
     plant.pass(rt, 2, false);
     plant.pass(rt, 3, false);
@@ -220,9 +226,7 @@ fn late_turn(rt: &impl Print) {
     plant.pass(rt, 0, true);
     tests_line(rt, Tally::default(), plant.tally);
     let (ran, sheet) = plant.turns_of_0_and_1();
-    let _ = print!(rt; "sheet");
-    commas(rt, &sheet[0..4]);
-    line_end(rt);
+    sheet_line(rt, &sheet[0..4]);
     run_line(rt, ran);
     let lent = Table {
         n: 4,
@@ -233,20 +237,44 @@ fn late_turn(rt: &impl Print) {
     let _ = println!(rt; "1 told by {told_by} rounds ago {rounds_ago}");
 }
 
+// Four boards on the ring, board 1 dead. Board 0 tests 1, which does not reply, exchanges with 2, and finishes its pass; 2 exchanges with 3, and
+// 3 with 0. So the round has four tests, and after it each live board suspects 1.
+#[tactic(auto, unfolding(table::specs::Table::table_length, table::specs::Sizes::is_size))]
+fn ring_of_four(rt: &impl Print) {
+    let mut table = [0u8; FOUR];
+    let mut plant = Plant::fresh(Wiring::Ring, 4, &mut table);
+    plant.entry(Kind::Crash, 1);
+    plant.sheet_line_of_0(rt);
+    plant.sheet_line_of_0(rt);
+    plant.sheet_line_of_0(rt);
+    plant.pass(rt, 2, true);
+    plant.pass(rt, 3, true);
+    tests_line(rt, Tally::default(), plant.tally);
+    let lent = Table {
+        n: 4,
+        bytes: &table,
+    };
+    let by_0 = lent.get(Station(0), cells::HEAD + 1);
+    let by_2 = lent.get(Station(2), cells::HEAD + 1);
+    let by_3 = lent.get(Station(3), cells::HEAD + 1);
+    let _ = println!(rt; "1 suspected by 0: {by_0}, by 2: {by_2}, by 3: {by_3}");
+}
+
 // The tally of so many rounds of n boards, from none.
-fn fresh_rounds(rt: &impl Print, n: u8, rounds: u8) -> Tally {
+fn fresh_rounds(rt: &impl Print, wiring: Wiring, n: u8, rounds: u8) -> Tally {
     let mut space = [0u8; cells::GREATEST_TABLE];
     let Some(table) = space.get_mut(..cells::table_length(n)) else {
         return Tally::default();
     };
-    let mut plant = Plant::fresh(n, table);
+    let mut plant = Plant::fresh(wiring, n, table);
     plant.rounds(rt, rounds);
     plant.tally
 }
 
-// A plant that runs work on: its size, its table and its tally.
+// A plant that runs work on: its wiring, its size, its table and its tally.
 #[derive(Drop)]
 struct Plant<'a> {
+    wiring: Wiring,
     n: u8,
     table: &'a mut [u8],
     tally: Tally,
@@ -254,9 +282,10 @@ struct Plant<'a> {
 
 impl<'a> Plant<'a> {
     // A plant that begins: the table is made fresh.
-    fn fresh(n: u8, table: &'a mut [u8]) -> Plant<'a> {
-        let _ = fresh::fresh_table(Wiring::Cube as usize, n as usize, table);
+    fn fresh(wiring: Wiring, n: u8, table: &'a mut [u8]) -> Plant<'a> {
+        let _ = fresh::fresh_table(wiring as usize, n as usize, table);
         Plant {
+            wiring,
             n,
             table,
             tally: Tally::default(),
@@ -318,10 +347,16 @@ impl<'a> Plant<'a> {
         (ran, sheet)
     }
 
+    // A turn of board 0: its line of the sheet is printed.
+    fn sheet_line_of_0(&mut self, rt: &impl Print) {
+        let (_, line) = self.entry(Kind::Turn, 0);
+        sheet_line(rt, &line);
+    }
+
     // A run of a schedule.
     fn run(&mut self, schedule: &[u8], sheet: &mut [u8]) -> Ran {
         let ran = run::run(
-            Wiring::Cube as usize,
+            self.wiring as usize,
             self.n as usize,
             self.table,
             self.tally,
@@ -331,6 +366,12 @@ impl<'a> Plant<'a> {
         self.tally = ran.tally;
         ran
     }
+}
+
+fn sheet_line(rt: &impl Print, line: &[u8]) {
+    let _ = print!(rt; "sheet");
+    commas(rt, line);
+    line_end(rt);
 }
 
 // The tests and the rounds from one tally to a later one.
