@@ -35,7 +35,7 @@ abbrev pub byte_after : Bool → (ℕ → ℕ → ℕ) → ℕ → ℕ → ℕ �
 byte_after alive f i x k y =
     cond alive (cond ((eqb k i || eqb k x) && not (eqb y k)) (max (f i y) (f x y)) (f k y)) (cond (eqb k i && eqb y x) 1 (f k y))
 
--- a turn in a table in which no live board suspects a live one
+-- a turn, on any wiring, in a table in which no live board suspects a live one
 module _ (w n : ℕ) (L : ℕ → Bool) (t : List ℕ) (i : ℕ) (size : is_size n ≡ true) (p : Plain w n L t) (company : Company n L) (hi : i < n)
     (li : L i ≡ true) (going : finished n t i ≡ 0) where
   -- a turn that makes no test leaves the rows

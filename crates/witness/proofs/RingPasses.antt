@@ -4,18 +4,17 @@ use mathlib.Core.Path.{◌≡◌, refl, sym, ap, ◌∙◌}
 use mathlib.Core.Logic.{◌≢◌, by_cases}
 use mathlib.Core.Bool.{Bool, true, false, cond, not, ◌&&◌, ◌||◌}
 use mathlib.Core.List.{List, [], ◌∷◌, ◌++◌}
-use Prim.Native.Nat.{ℕ, suc, ◌+◌, ◌-◌, ◌%◌, max, ◌≤◌, ◌<◌}
-use native.Mathlib.Nat.{mod-eq_of_lt, add-mod_right}
+use Prim.Native.Nat.{ℕ, suc, ◌+◌, ◌%◌, max, ◌≤◌, ◌<◌}
 use native.Mathlib.Decide.{ℕ_discrete}
 use native.Mathlib.Omega.{arith}
-use borrow.Author.Tests.{eqb-false, eq-eqb, ne_eqb, lt-ltb, le-ltb, not-true}
+use borrow.Author.Tests.{eqb-false, ne_eqb, lt-ltb, le-ltb, not-true}
 use lib.Dec.{eqb}
 use Rattle.lists.proofs.BoolLaws.{by_bool, choice}
 use Rattle.lists.proofs.SearchLaws.{every-not, every-all}
 use Rattle.lists.specs.Search.{every}
 use Rattle.table.specs.Sizes.{is_size}
 use Rattle.table.specs.Wiring.{wiring_ring}
-use Rattle.table.specs.Table.{head, next_column, finished_column, next_distance, finished, suspects, live}
+use Rattle.table.specs.Table.{head, next_column, finished_column, next_distance, finished, tests_made, suspects, live}
 use Rattle.table.specs.Rules.{not_live, some_live, finished_if_live, live_finished, round_over}
 use Rattle.table.proofs.WiringLaws.{end_ring}
 use Rattle.station.specs.Wired.{wired_station}
@@ -30,7 +29,6 @@ use Rattle.detection.proofs.TurnEffect.{Plain, Company, Row, TurnKept, turn-effe
 use Rattle.detection.proofs.RoundKnowledge.{reset-rows, all-finished}
 use Rattle.detection.proofs.RingPass.{RingTurn}
 use Rattle.detection.proofs.RingTurns.{ring-turns}
-use Rattle.table.specs.Table.{tests_made}
 use Rattle.witness.proofs.Moves.{byte_after, finish-bytes, test-bytes}
 use Rattle.witness.proofs.Slow.{Goes, stop, go, goes-append}
 

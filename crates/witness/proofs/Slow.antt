@@ -5,7 +5,7 @@ use mathlib.Core.Path.{◌≡◌, refl, ap, ◌∙◌}
 use mathlib.Core.Logic.{by_cases}
 use mathlib.Core.Bool.{Bool, true, not}
 use mathlib.Core.List.{List, [], ◌∷◌, ◌++◌, map}
-use Prim.Native.Nat.{ℕ, suc, ◌+◌, ◌≤◌, ◌<◌}
+use Prim.Native.Nat.{ℕ, suc, ◌+◌, ◌<◌}
 use native.Mathlib.Decide.{dec_lt}
 use native.Mathlib.Omega.{arith}
 use borrow.Author.Tests.{eq-eqb}
@@ -70,7 +70,7 @@ pub record Slow (w n : ℕ) : Type 0 where
 
 -- by a claim within fewer rounds the live board would suspect the dead one
 pub slow-worst-case : (w n : ℕ) → Slow w n → WorstCaseAt w n
-slow-worst-case w n p enough claim = by_cases (dec_lt enough (worst_rounds w n)) early (λ l. omega arith)
+slow-worst-case w n p enough claim = by_cases (dec_lt enough (worst_rounds w n)) (λ l. absurd (early l)) (λ l. omega arith)
   where
     calls : List Call
     calls = map (turn_run w n) p.turns
@@ -88,8 +88,8 @@ slow-worst-case w n p enough claim = by_cases (dec_lt enough (worst_rounds w n))
       no_late = turns-pass w (λ x. not (is_late x)) (λ n s i. refl) n p.first p.turns;
     }
 
-    early : enough < worst_rounds w n → worst_rounds w n ≤ enough
+    early : enough < worst_rounds w n → ⊥
     early l =
         let after = rw (goes-runs p.goes (accepted w n p.first.table p.ok)) at (claim p.first calls given) in
         let known = after.exact_rows (omega (arith, after.rounds_tally, p.rounds)) p.board p.missed p.board_below p.missed_below p.board_live in
-        absurd (omega (arith, known, p.unseen, ap bit p.missed_dead))
+        omega (arith, known, p.unseen, ap bit p.missed_dead)

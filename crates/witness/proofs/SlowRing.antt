@@ -3,7 +3,7 @@
 -- Assumes nothing.
 use mathlib.Core.Path.{◌≡◌, refl, sym, ap, ◌∙◌}
 use mathlib.Core.Logic.{◌≢◌}
-use mathlib.Core.Bool.{true, cond, not, ◌||◌}
+use mathlib.Core.Bool.{true, cond, ◌||◌}
 use mathlib.Core.List.{List, []}
 use Prim.Native.Nat.{ℕ, zero, suc, ◌+◌, ◌-◌, ◌*◌, ◌/◌, ◌%◌, min, ◌≤◌, ◌<◌}
 use native.Mathlib.Nat.{mod-eq_of_lt}
@@ -34,7 +34,7 @@ use Rattle.detection.specs.Claim.{DetectionPremises}
 use Rattle.witness.specs.WorstCase.{WorstCaseAt}
 use Rattle.witness.proofs.Greater.{table_by, by-cell}
 use Rattle.witness.proofs.Slow.{Slow, slow-worst-case}
-use Rattle.witness.proofs.RingPasses.{others, Reached, here, onward, During, reworded, taken, exchanges, finds, ends, closes}
+use Rattle.witness.proofs.RingPasses.{others, Reached, here, onward, During, reworded, exchanges, finds, ends, closes}
 
 -- next distance 1 but for board i
 abbrev once : ℕ → ℕ → ℕ → ℕ
