@@ -68,8 +68,8 @@ pub record During (n : ℕ) (finish next : ℕ → ℕ) (unaware : ℕ → Type 
   pub count : s.tests ≤ tests
 
 -- the same in other words, and of fewer boards
-pub reworded : (n : ℕ) (f f' q : ℕ → ℕ) (U U' : ℕ → Type 0) (r c c' : ℕ) → ((k : ℕ) → 0 < k → k < n → f k ≡ f' k) → ((k : ℕ) → k < n → U' k → U k) → c ≤ c'
-    → (s : State) → During n f q U r c s → During n f' q U' r c' s
+pub reworded : (n : ℕ) (f f' q : ℕ → ℕ) (U U' : ℕ → Type 0) (r c c' : ℕ) → ((k : ℕ) → 0 < k → k < n → f k ≡ f' k)
+    → ((k : ℕ) → k < n → U' k → U k) → c ≤ c' → (s : State) → During n f q U r c s → During n f' q U' r c' s
 reworded n f f' q U U' r c c' same fewer more s d = record {
   plain = d.plain;
   finishes = λ k a b. d.finishes k a b ∙ same k a b;
@@ -80,7 +80,8 @@ reworded n f f' q U U' r c c' same fewer more s d = record {
 }
 
 -- where all live boards have finished the round is over
-all-over : (n : ℕ) (t : List ℕ) (a : ℕ) → a < n → live n t a ≡ true → ((k : ℕ) → k < n → live n t k ≡ true → finished n t k ≡ 1) → round_over n t ≡ true
+all-over : (n : ℕ) (t : List ℕ) (a : ℕ) → a < n → live n t a ≡ true
+    → ((k : ℕ) → k < n → live n t k ≡ true → finished n t k ≡ 1) → round_over n t ≡ true
 unfolding some_live live_finished
 all-over n t a h l done =
     let some : every (not_live n t) n ≡ false = every-not (not_live n t) n a h (ap not l) in

@@ -43,12 +43,13 @@ goes-runs {w} {n} (go {s} {is = is} i z g) ok =
     ap (λ (u : State). after_runs u (map (turn_run w n) is)) (one_left w n s i (accepted-number w n s.table ok) z)
     ∙ goes-runs g (accepted-kept w n s (entry_of kind_turn i) ok z)
 
-turns-pass : (w : ℕ) (q : Taken → Bool) → ((n : ℕ) (s : State) (i : ℕ) → q (taken_at w n s (entry_of kind_turn i)) ≡ true) → (n : ℕ) (s : State) (is : List ℕ)
-    → all_taken q (taken_all s (map (turn_run w n) is)) ≡ true
+turns-pass : (w : ℕ) (q : Taken → Bool) → ((n : ℕ) (s : State) (i : ℕ) → q (taken_at w n s (entry_of kind_turn i)) ≡ true)
+    → (n : ℕ) (s : State) (is : List ℕ) → all_taken q (taken_all s (map (turn_run w n) is)) ≡ true
 unfolding taken_all all_taken
 turns-pass w q turns n s [] = refl
 turns-pass w q turns n s (i ∷ is) =
-    runs_append q s (turn_run w n i ∷ []) (map (turn_run w n) is) (one_passes w q turns n s i) (turns-pass w q turns n (after_runs s (turn_run w n i ∷ [])) is)
+    runs_append q s (turn_run w n i ∷ []) (map (turn_run w n) is) (one_passes w q turns n s i)
+    (turns-pass w q turns n (after_runs s (turn_run w n i ∷ [])) is)
 
 -- a table that the claim describes, turns with which one round less than the worst-case latency closes, and a live board that does not suspect a
 -- dead one then

@@ -93,8 +93,8 @@ module _ (n : ℕ) (size : is_size n ≡ true) (three : 3 ≤ n) where
         here n _ s (reworded n (span 0 (suc m)) (span 0 (suc m)) one (Left r 0) (Left r 0) r c (c + 0) (λ k x y. refl) (λ k h u. u) (omega arith) s d)
     lefts (suc a) c h room s d =
         onward n (During n (span a (suc m)) one (Left r a) r (suc (suc c))) (During n (span 0 (suc m)) one (Left r 0) r (c + 2 * suc a)) s
-        (pass (span (suc a) (suc m)) (span a (suc m)) (Left r (suc a)) (Left r a) r c (suc a) (n - 1) (omega arith) (omega arith) (omega arith) (omega arith)
-        (omega arith) (λ e. omega arith) (omega arith) (λ k ne. omega (arith, ne)) (omega arith) (λ k g u. (omega (arith, u), omega (arith, u)))
+        (pass (span (suc a) (suc m)) (span a (suc m)) (Left r (suc a)) (Left r a) r c (suc a) (n - 1) (omega arith) (omega arith)
+        (omega arith) (omega arith) (omega arith) (λ e. omega arith) (omega arith) (λ k ne. omega (arith, ne)) (omega arith) (λ k g u. (omega (arith, u), omega (arith, u)))
         (λ u. (omega (arith, u), omega (arith, u))) (λ u. (omega (arith, u), omega (arith, u))) (omega (arith, small)) (omega arith) s d)
         (λ u d'.
         let e : suc (suc c) + 2 * a ≡ c + 2 * suc a = omega arith in
@@ -106,9 +106,11 @@ module _ (n : ℕ) (size : is_size n ≡ true) (three : 3 ≤ n) where
     rights zero b c total h room s d =
         let e : b ≡ n - 1 = omega arith in
         let d' : During n (span 0 (n - 1)) one (Right r (n - 1)) r c s = rw e at d in
-        here n _ s (reworded n (span 0 (n - 1)) (span 0 (n - 1)) one (Right r (n - 1)) (Right r (n - 1)) r c (c + 0) (λ k x y. refl) (λ k h u. u) (omega arith) s d')
+        here n _ s (reworded n (span 0 (n - 1)) (span 0 (n - 1)) one (Right r (n - 1)) (Right r (n - 1)) r c (c + 0) (λ k x y. refl) (λ k h u. u)
+        (omega arith) s d')
     rights (suc j) b c total h room s d =
-        onward n (During n (span 0 (suc b)) one (Right r (suc b)) r (suc (suc c))) (During n (span 0 (n - 1)) one (Right r (n - 1)) r (c + 2 * suc j)) s
+        onward n (During n (span 0 (suc b)) one (Right r (suc b)) r (suc (suc c)))
+        (During n (span 0 (n - 1)) one (Right r (n - 1)) r (c + 2 * suc j)) s
         (pass (span 0 b) (span 0 (suc b)) (Right r b) (Right r (suc b)) r c b (n - 1) (omega arith) (omega arith) (omega arith) (omega arith)
         (omega arith) (λ e. omega arith) (omega arith) (λ k ne. omega (arith, ne)) (omega arith) (λ k g u. (omega (arith, u), omega (arith, u)))
         (λ u. (omega (arith, u), omega (arith, u))) (λ u. (omega (arith, u), omega (arith, u))) (omega (arith, small)) (omega arith) s d)
@@ -142,8 +144,8 @@ module _ (n : ℕ) (size : is_size n ≡ true) (three : 3 ≤ n) where
         → Reached n (During n (λ k. 0) one Next (suc r) (suc (suc (suc c)))) s
     last_pass c room s d =
         onward n (During n ran (once final 2) Next r (suc c)) (During n (λ k. 0) one Next (suc r) (suc (suc (suc c)))) s
-        (finds n size three s ran one (Right r final) r c d final (omega arith) (omega arith) free (omega (arith, small)) (omega arith) 0 (omega arith) to-0
-        (omega arith) ran (once final 2) Next refl (λ k ne. (refl, once-other final 2 k ne)) free (once-at final 2)
+        (finds n size three s ran one (Right r final) r c d final (omega arith) (omega arith) free (omega (arith, small)) (omega arith) 0
+        (omega arith) to-0 (omega arith) ran (once final 2) Next refl (λ k ne. (refl, once-other final 2 k ne)) free (once-at final 2)
         (λ k g u. (omega (arith, u), omega (arith, u))) aware)
         (λ u d'.
         onward n (During n ran (once final n) Next r (suc (suc c))) (During n (λ k. 0) one Next (suc r) (suc (suc (suc c)))) u
@@ -187,7 +189,8 @@ module _ (n : ℕ) (size : is_size n ≡ true) (three : 3 ≤ n) where
           onward n Closed Opened v (last_pass All (omega (arith, small)) v b)
           (λ x y.
           here n Opened x
-          (reworded n (λ k. 0) (λ k. 0) one Next Next (suc r) (suc (suc (suc All))) (c + 200) (λ k p q. refl) (λ k g p. p) (omega (arith, small)) x y))))
+          (reworded n (λ k. 0) (λ k. 0) one Next Next (suc r) (suc (suc (suc All))) (c + 200) (λ k p q. refl) (λ k g p. p)
+          (omega (arith, small)) x y))))
 
   -- the first table: board 0 dead, nothing suspected
   abbrev byte : ℕ → ℕ → ℕ
@@ -214,7 +217,11 @@ module _ (n : ℕ) (size : is_size n ≡ true) (three : 3 ≤ n) where
   row_of : (i y : ℕ) → i < n → y < n → suspects n t i y ≡ 0
   row_of i y h g =
       at i (head + y) h (omega arith)
-      ∙ rw (ne_eqb (head + y) status_column (λ e. omega arith), ne_eqb (head + y) next_column (λ e. omega arith), ne_eqb (head + y) told_by_column (λ e. omega arith))
+      ∙ rw (
+        ne_eqb (head + y) status_column (λ e. omega arith),
+        ne_eqb (head + y) next_column (λ e. omega arith),
+        ne_eqb (head + y) told_by_column (λ e. omega arith),
+      )
 
   live_of : (i : ℕ) → i < n → live n t i ≡ others i
   live_of i h = rw (status-of i h) (by_bool (eqb i 0) (λ e. rw e) (λ e. rw e))
@@ -284,7 +291,8 @@ module _ (n : ℕ) (size : is_size n ≡ true) (three : 3 ≤ n) where
         count = omega arith;
       })
   rounds (suc r) h =
-      onward n (During n (λ k. 0) one (Early r) r (200 * r)) (During n (λ k. 0) one (Early (suc r)) (suc r) (200 * suc r)) first (rounds r (omega arith))
+      onward n (During n (λ k. 0) one (Early r) r (200 * r)) (During n (λ k. 0) one (Early (suc r)) (suc r) (200 * suc r)) first
+      (rounds r (omega arith))
       (λ u d.
       let e : 200 * r + 200 ≡ 200 * suc r = omega arith in
       rw e at (round r h (200 * r) (omega (arith, small)) u d))
