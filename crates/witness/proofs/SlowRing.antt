@@ -94,7 +94,8 @@ module _ (n : ℕ) (size : is_size n ≡ true) (three : 3 ≤ n) where
     lefts (suc a) c h room s d =
         onward n (During n (span a (suc m)) one (Left r a) r (suc (suc c))) (During n (span 0 (suc m)) one (Left r 0) r (c + 2 * suc a)) s
         (pass (span (suc a) (suc m)) (span a (suc m)) (Left r (suc a)) (Left r a) r c (suc a) (n - 1) (omega arith) (omega arith)
-        (omega arith) (omega arith) (omega arith) (λ e. omega arith) (omega arith) (λ k ne. omega (arith, ne)) (omega arith) (λ k g u. (omega (arith, u), omega (arith, u)))
+        (omega arith) (omega arith) (omega arith) (λ e. omega arith) (omega arith) (λ k ne. omega (arith, ne)) (omega arith)
+        (λ k g u. (omega (arith, u), omega (arith, u)))
         (λ u. (omega (arith, u), omega (arith, u))) (λ u. (omega (arith, u), omega (arith, u))) (omega (arith, small)) (omega arith) s d)
         (λ u d'.
         let e : suc (suc c) + 2 * a ≡ c + 2 * suc a = omega arith in
