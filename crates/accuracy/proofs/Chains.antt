@@ -1,22 +1,20 @@
 -- The list of taken entries: a suspicion after it has its cause in it; its entries one by one; the entry at which a station left because told.
 -- Assumes nothing.
-use mathlib.Core.Path.{◌≡◌, refl, sym, ap, subst, ◌∙◌}
-use mathlib.Core.Logic.{◌≢◌, ◌⊎◌, inl, inr}
-use mathlib.Core.Bool.{Bool, true, false, ◌||◌, or-true, true≢false}
+use mathlib.Core.Path.{◌≡◌, refl, sym, ap, subst}
+use mathlib.Core.Logic.{inl, inr}
+use mathlib.Core.Bool.{Bool, true, false, or-true, true≢false}
 use mathlib.Core.List.{List, [], ◌∷◌, ◌++◌}
 use Prim.Native.Nat.{ℕ, ◌<◌}
-use native.Mathlib.Omega.{arith}
-use borrow.Author.Tests.{eqb-true, eqb-false}
-use Rattle.table.specs.Table.{status, status_told, status_alone, suspects, live}
+use Rattle.table.specs.Table.{live}
 use Rattle.lists.proofs.BoolLaws.{by_bool}
 use Rattle.table.proofs.Accepting.{Accepted}
-use Rattle.plant.specs.Entry.{Entry, State, entry_refusal, after}
+use Rattle.plant.specs.Entry.{State, entry_refusal, after}
 use Rattle.detection.specs.Runs.{Taken, table_after}
 use Rattle.detection.specs.Rounds.{any_taken}
 use Rattle.detection.specs.Ceased.{LeftTold, since_ceased, FirstTold}
 use Rattle.detection.proofs.TakenLaws.{taken_at}
 use Rattle.detection.proofs.Chain.{Chain, done, more}
-use Rattle.accuracy.specs.Cause.{Suspicion, IsSuspected, late_of, was_late, HasCause}
+use Rattle.accuracy.specs.Cause.{IsSuspected, late_of, HasCause}
 use Rattle.accuracy.proofs.Step.{CauseAt, new-suspicion, was-live}
 
 -- what one of the first entries is, one of all is

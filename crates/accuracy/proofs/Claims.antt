@@ -1,6 +1,6 @@
 -- The claims of specs/Accurate.antt hold.
 -- Assumes nothing.
-use mathlib.Core.Path.{◌≡◌, refl, sym, ap, subst, ◌∙◌}
+use mathlib.Core.Path.{◌≡◌, refl, sym, subst, ◌∙◌}
 use mathlib.Core.Logic.{◌≢◌, ◌⊎◌, inl, inr}
 use mathlib.Core.Bool.{Bool, true, false, not, ◌&&◌, true≢false}
 use mathlib.Core.List.{List, [], ◌∷◌, ◌++◌, append_assoc, map}
@@ -14,10 +14,10 @@ use Rattle.lists.specs.Sums.{sum_below, bit}
 use Rattle.lists.proofs.BoolLaws.{by_bool}
 use Rattle.lists.proofs.SearchLaws.{both, every-at}
 use Rattle.lists.proofs.SumLaws.{sum-add}
-use Rattle.table.specs.Table.{table_length, status, status_told, status_alone, suspects, told_by, live}
+use Rattle.table.specs.Table.{table_length, status, status_told, status_alone, told_by, live}
 use Rattle.table.specs.Properties.{live_count, no_live_suspicion, none_suspected}
 use Rattle.table.proofs.Accepting.{Accepted}
-use Rattle.plant.specs.Turn.{outcome_told, outcome_tested_told, makes_test, turn_tested, turn_outcome}
+use Rattle.plant.specs.Turn.{outcome_tested_told, makes_test, turn_tested, turn_outcome}
 use Rattle.plant.specs.Entry.{Entry, State, is_crash, entry_refusal, after, tested_of, outcome_of}
 use Rattle.plant.proofs.RulesKept.{entry-facts}
 use Rattle.plant.proofs.RunLaws.{accepted-number}
@@ -36,10 +36,10 @@ use Rattle.detection.proofs.Fates.{teller-is-named}
 use Rattle.detection.proofs.ExitRecord.{exits-recorded}
 use Rattle.detection.proofs.DrivenDetection.{mixed-left}
 use Rattle.accuracy.specs.Cause.{IsSuspected, late_of, was_late, crash_of, has_crashed, HasCause}
-use Rattle.accuracy.specs.Accurate.{OnlyLateSuspected, ExitCause, ExitsHaveCauses, ToldWhy, ToldHaveCauses, told_since, OneToldForEachLate, NobodyTold, NoneLate, LateCost, OneForEachLate, Accurate, RunsAccurate, MixedAccurate, DrivesTellNobody, AccurateAfter}
+use Rattle.accuracy.specs.Accurate.{OnlyLateSuspected, ExitCause, ExitsHaveCauses, ToldHaveCauses, told_since, NobodyTold, LateCost, Accurate, RunsAccurate, MixedAccurate, DrivesTellNobody, AccurateAfter}
 use Rattle.accuracy.proofs.Step.{CauseAt, Fared, lives, crashed, told, alone, new-suspicion, fared}
-use Rattle.accuracy.proofs.Chains.{any-before, any-last, cause-before, cause-chain, Parted, parted, ToldAt, told-at}
-use Rattle.accuracy.proofs.Sums.{one, sum-most, two-hits, count-sum, any-counted, none-counted, none-passes}
+use Rattle.accuracy.proofs.Chains.{any-before, any-last, cause-before, cause-chain, parted, told-at}
+use Rattle.accuracy.proofs.Sums.{one, sum-most, two-hits, count-sum, any-counted, none-passes}
 use Rattle.accuracy.proofs.Quiet.{Calm, calm-chain}
 
 -- where no live station suspects a live one, nobody is suspected
@@ -213,16 +213,23 @@ module _ (n : ℕ) (s : State) (calls : List Call) (long : length s.table ≡ ta
 
         two : 2 ≤ sum_below (λ i. bit (quiet i)) n
         two =
-            omega (arith, enough, charge, sum-add (λ i. bit (quiet i)) charged n,
-            sum-most (λ i. bit (live n s.table i)) (λ i. bit (quiet i) + charged i) n each)
+            omega (
+              arith,
+              enough,
+              charge,
+              sum-add (λ i. bit (quiet i)) charged n,
+              sum-most (λ i. bit (live n s.table i)) (λ i. bit (quiet i) + charged i) n each,
+            )
 
         calm : Calm n quiet (two-hits quiet n two) s.table
-        calm = record { picked = λ j hj p. (both _ _ p).0; clean = λ j hj p. none-suspects n s.table none j hj }
+        calm = record { picked = λ j hj p. (both (live n s.table j) (not (was_late j xs) && not (has_crashed j xs)) p).0; clean = λ j hj p. none-suspects n s.table none j hj }
 
         left : (i : ℕ) → i < n → live n s.table i ≡ true
             → (live n end.table i ≡ true) ⊎ ((status n end.table i ≡ status_told) ⊎ (has_crashed i xs ≡ true))
         left = calm-chain n quiet (two-hits quiet n two) chain calm
-            (λ j p. let r = both _ _ (both _ _ p).1 in (not-true _ r.0, not-true _ r.1))
+            (λ j p.
+            let r = both (not (was_late j xs)) (not (has_crashed j xs)) (both (live n s.table j) (not (was_late j xs) && not (has_crashed j xs)) p).1 in
+            (not-true (was_late j xs) r.0, not-true (has_crashed j xs) r.1))
 
         who : (i : ℕ) → i < n → live n s.table i ≡ true → live n end.table i ≡ false
             → ((status n end.table i ≡ status_told) × (was_late i xs ≡ true)) ⊎ (has_crashed i xs ≡ true)
@@ -231,7 +238,7 @@ module _ (n : ℕ) (s : State) (calls : List Call) (long : length s.table ≡ ta
             by : (live n end.table i ≡ true) ⊎ ((status n end.table i ≡ status_told) ⊎ (has_crashed i xs ≡ true))
                 → ((status n end.table i ≡ status_told) × (was_late i xs ≡ true)) ⊎ (has_crashed i xs ≡ true)
             by (inl m) = absurd (true≢false (sym m ∙ d))
-            by (inr (inl two)) = inl (two, told-late i hi l two)
+            by (inr (inl q)) = inl (q, told-late i hi l q)
             by (inr (inr c)) = inr c
 
         paid : (i : ℕ) → i < n → bit (live n s.table i) ≤ bit (live n end.table i) + charged i
@@ -246,8 +253,12 @@ module _ (n : ℕ) (s : State) (calls : List Call) (long : length s.table ≡ ta
         cost : sum_below (λ i. bit (live n s.table i)) n
             ≤ sum_below (λ i. bit (live n end.table i)) n + count_taken is_late xs + count_taken crashes xs
         cost =
-            omega (arith, charge, sum-add (λ i. bit (live n end.table i)) charged n,
-            sum-most (λ i. bit (live n s.table i)) (λ i. bit (live n end.table i) + charged i) n paid)
+            omega (
+              arith,
+              charge,
+              sum-add (λ i. bit (live n end.table i)) charged n,
+              sum-most (λ i. bit (live n s.table i)) (λ i. bit (live n end.table i) + charged i) n paid,
+            )
 
 -- every list of runs
 pub runs-accurate : RunsAccurate

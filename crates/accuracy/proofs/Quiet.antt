@@ -3,12 +3,10 @@
 use mathlib.Core.Path.{◌≡◌, refl, sym, ◌∙◌}
 use mathlib.Core.Logic.{◌≢◌, ◌⊎◌, inl, inr}
 use mathlib.Core.Bool.{Bool, true, false, or-true, true≢false}
-use mathlib.Core.List.{List, [], ◌∷◌}
+use mathlib.Core.List.{List, ◌∷◌}
 use Prim.Native.Nat.{ℕ, ◌<◌}
-use native.Mathlib.Omega.{arith}
-use borrow.Author.Tests.{eqb-true, eqb-false}
 use Rattle.table.specs.Table.{status, status_told, suspects, live}
-use Rattle.lists.proofs.BoolLaws.{by_bool, neither}
+use Rattle.lists.proofs.BoolLaws.{neither}
 use Rattle.table.proofs.Accepting.{Accepted}
 use Rattle.plant.specs.Entry.{Entry, State, entry_refusal, after}
 use Rattle.detection.specs.Runs.{Taken}

@@ -2,9 +2,9 @@
 -- Assumes nothing.
 use mathlib.Core.Path.{◌≡◌, refl, sym, ◌∙◌}
 use mathlib.Core.Logic.{◌≢◌, ◌⊎◌, inl, inr, by_cases}
-use mathlib.Core.Bool.{Bool, true, false}
+use mathlib.Core.Bool.{true, false}
 use mathlib.Core.List.{List}
-use Prim.Native.Nat.{ℕ, ◌+◌, max, ◌≤◌, ◌<◌}
+use Prim.Native.Nat.{ℕ, ◌+◌, ◌≤◌, ◌<◌}
 use native.Mathlib.Decide.{ℕ_discrete}
 use native.Mathlib.Omega.{arith}
 use borrow.Author.Tests.{eqb-true, eqb-false, eq-eqb, ne_eqb}
@@ -12,12 +12,11 @@ use lib.Dec.{eqb}
 use lib.ListN.{length}
 use Rattle.table.specs.Table.{head, stride, table_length, cell, status_column, status, status_told, status_alone, status_crashed, suspects, live}
 use Rattle.table.specs.Rules.{round_over}
-use Rattle.lists.specs.Search.{every}
 use Rattle.lists.proofs.BoolLaws.{by_bool, choice}
 use Rattle.lists.proofs.SearchLaws.{both, every-at}
 use Rattle.table.proofs.Accepting.{Accepted}
 use Rattle.table.proofs.CellLaws.{ClosingChanges, cell_same, cell_other}
-use Rattle.plant.specs.Turn.{kind_turn, kind_late, outcome_exchanged, outcome_told, outcome_tested_told, set_status, leave_told, makes_test, replies, is_told, exchange_rows, suspect, reply_outcome, test_outcome, after_outcome, self_or_suspected, is_alone, after_alone, after_test, testing, turn, turn_tested, crash, finish_pass}
+use Rattle.plant.specs.Turn.{kind_turn, kind_late, outcome_exchanged, outcome_told, outcome_tested_told, leave_told, makes_test, replies, is_told, exchange_rows, suspect, reply_outcome, test_outcome, after_outcome, self_or_suspected, is_alone, after_alone, after_test, testing, turn, turn_tested, crash}
 use Rattle.plant.specs.Round.{after_round}
 use Rattle.plant.specs.Entry.{Entry, State, is_crash, entry_refusal, acted, after, tested_of}
 use Rattle.plant.proofs.StepCells.{leave_told-other, leave_told-status, finish_pass-other, suspect-other, exchange-other}
@@ -28,7 +27,7 @@ use Rattle.detection.proofs.TakenLaws.{taken_at}
 use Rattle.detection.proofs.TestingPair.{Pair, parts_of, testing-pair}
 use Rattle.detection.proofs.TurnEffect.{exchange-between}
 use Rattle.detection.proofs.Fates.{Fate, stays, leaves, hears, after-fate}
-use Rattle.accuracy.specs.Cause.{Suspicion, IsSuspected, late_of, crash_of}
+use Rattle.accuracy.specs.Cause.{IsSuspected, late_of, crash_of}
 
 -- a cause in the table, or in the entry itself
 abbrev pub CauseAt : ℕ → ℕ → State → Entry → ℕ → Type 0

@@ -1,7 +1,7 @@
 -- That detection is accurate: whom a live station suspects, and who leaves, in any list of runs and drives, with any crashes and late replies, on
 -- either wiring. n is the size, s table and tally before the list, calls the runs, and end table and tally after them.
 -- Assumes nothing.
-use Rattle.std.specs.Prelude.{◌≡◌, ◌≢◌, ◌⊎◌, ℕ, ◌+◌, ◌≤◌, ◌<◌, Bool, true, false, not, ◌&&◌, List, [], ◌∷◌, ◌++◌, length, ◌==◌}
+use Rattle.std.specs.Prelude.{◌≡◌, ◌≢◌, ◌⊎◌, ℕ, ◌+◌, ◌≤◌, ◌<◌, true, false, not, ◌&&◌, List, [], ◌∷◌, ◌++◌, length, ◌==◌}
 use Rattle.lists.specs.Sums.{sum_below, bit}
 use Rattle.table.specs.Table.{table_length, status, status_told, status_alone, told_by, live}
 use Rattle.table.specs.Properties.{live_count, none_suspected}
