@@ -125,11 +125,12 @@ fn understand(mut words: Vec<String>) -> Result<Asked, WrongCall>
 {
     let wiring = wiring_in(&words);
     words.retain(|word| word.as_str() != RING);
-    let mut others = words.into_iter();
-    match (others.next(), others.next()) {
-        (None, _) => Ok(Asked::Run(wiring, None)),
-        (Some(word), None) => understand_word(wiring, word),
-        (Some(_), Some(_)) => Err(WrongCall::TooMany),
+    if 1 < words.len() {
+        return Err(WrongCall::TooMany);
+    }
+    match words.pop() {
+        None => Ok(Asked::Run(wiring, None)),
+        Some(word) => understand_word(wiring, word),
     }
 }
 
