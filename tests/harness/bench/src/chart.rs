@@ -173,7 +173,7 @@ fn slowest(points: &[Point], rounds: fn(&Point) -> Option<u32>) -> String {
 
 /// The legend, in the free corner at the top left.
 fn legend() -> String {
-    let row = |k: f64| TOP + 24.0 + 24.0 * k;
+    let row = |k: f64| TOP + 20.0 + 22.0 * k;
     let left = LEFT + 20.0;
     let text = |k, words| label(left + 42.0, row(k) + 4.5, "start", words);
     let sample = |k, colour, dashes| {
@@ -181,7 +181,7 @@ fn legend() -> String {
             + &square(left + 15.0, row(k), colour)
     };
     [
-        white(left - 10.0, TOP + 6.0, 400.0, 156.0),
+        white(left - 10.0, TOP + 6.0, 430.0, 134.0),
         sample(0.0, SQUARE, ""),
         text(0.0, "d·d: square bound"),
         sample(1.0, TRIANGLE, "7 4"),
