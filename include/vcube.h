@@ -191,7 +191,7 @@ enum vcube_refusal {
     VCUBE_REFUSED_NO_OPENING = 21,          /* the file does not begin as edition 2 does (with just the opening) */
     VCUBE_REFUSED_FIELD_ORDER = 22,         /* a field is out of order, or of an unknown tag (a conversion looks for the tag only) */
     VCUBE_REFUSED_REPORT_TOO_SHORT = 23,    /* the report has fewer than 4n(n + 6) bytes */
-    VCUBE_REFUSED_NO_SUCH_WIRING = 24       /* the wiring is neither 1 (cube) nor 2 (ring) */
+    VCUBE_REFUSED_NO_SUCH_WIRING = 24       /* there is no such wiring (it is neither 1, the cube, nor 2, the ring) */
 };
 
 /* Byte 0 of an entry of a schedule. */

@@ -91,7 +91,7 @@ numbered! {
         /// The report of a mending.
         ReportTooShort = 23 => "the report has fewer than 4n(n + 6) bytes",
         /// Those of [`Wiring`] only: no call of this crate gives it.
-        NoSuchWiring = 24 => "the wiring is neither 1 (cube) nor 2 (ring)",
+        NoSuchWiring = 24 => "there is no such wiring",
     }
 }
 

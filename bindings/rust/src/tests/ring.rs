@@ -3,6 +3,7 @@
 
 use super::{fresh, NONE};
 use crate::*;
+use std::collections::HashSet;
 
 /// Four boards at the start of a round; board 1 crashed, and nobody knows.
 const DEAD_1: [[u8; 10]; 4] = [
@@ -67,6 +68,58 @@ fn a_drive_on_the_ring_makes_a_test_a_board() {
     assert_eq!(driven.refusal, None);
     assert_eq!((driven.grants, tally.rounds, tally.tests), (7, 1, 4));
     assert_eq!(last, Some(Station(0)));
+}
+
+/// All tables with which a round can close that begins with one of these, by
+/// whatever order of turns. Each such round of four boards has four tests.
+fn after_a_round_of_4(mut open: Vec<Vec<u8>>) -> HashSet<Vec<u8>> {
+    let (mut seen, mut closed) = (HashSet::new(), HashSet::new());
+    while let Some(table) = open.pop() {
+        let lines: Vec<&[u8]> = table.chunks_exact(10).collect();
+        for i in (0..4).filter(|i| matches!(lines[*i], [0, _, 0, ..])) {
+            let mut after = table.clone();
+            let (_, tally) = turns(4, &mut after, [i as u8]);
+            if tally.rounds == 1 {
+                // The turn that closes the round makes no test.
+                let tests = lines.iter().map(|line| u32::from(line[3]));
+                assert_eq!(tests.sum::<u32>() + tally.tests, 4);
+                closed.insert(after);
+            } else if seen.insert(after.clone()) {
+                open.push(after);
+            }
+        }
+    }
+    closed
+}
+
+#[test]
+fn board_1_of_4_is_known_after_two_rounds_whatever_the_order() {
+    let is_known = |table: &Vec<u8>| [0, 2, 3].iter().all(|i| table[i * 10 + 7] == 1);
+    let after_one = after_a_round_of_4(vec![DEAD_1.concat()]);
+    let (known, unknown): (Vec<_>, Vec<_>) = after_one.into_iter().partition(is_known);
+    assert!(!known.is_empty() && !unknown.is_empty());
+    assert!(after_a_round_of_4(known).iter().all(is_known));
+    assert!(after_a_round_of_4(unknown).iter().all(is_known));
+}
+
+/// The messages of d·d rounds with nobody dead, by drives: a request and a reply
+/// for each test.
+fn messages(wiring: Wiring, n: usize) -> u32 {
+    let (mut table, d) = (fresh(n), n.ilog2());
+    let (mut tally, mut last) = (Tally::default(), None);
+    for round in 1..=d * d {
+        let driven = drive(wiring, n, &mut table, &mut tally, &mut last);
+        assert_eq!((driven.refusal, tally.rounds), (None, round));
+    }
+    2 * tally.tests
+}
+
+/// The published columns vCube and vRing (docs/SOURCES.md).
+#[test]
+fn messages_without_failures() {
+    let column = |wiring| [4, 8, 16, 32, 64].map(|n| messages(wiring, n));
+    assert_eq!(column(Wiring::Cube), [64, 432, 2_048, 8_000, 27_648]);
+    assert_eq!(column(Wiring::Ring), [32, 144, 512, 1_600, 4_608]);
 }
 
 #[test]

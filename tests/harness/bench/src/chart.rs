@@ -8,9 +8,11 @@ pub struct Point {
     pub n: usize,
     /// Of the random plants.
     pub observed: Figures,
-    /// The rounds of the slowest plant, if there is one.
+    /// The rounds of the slowest plant, if there is one, on either wiring.
     pub slowest: Option<u32>,
+    pub slowest_on_ring: Option<u32>,
     pub worst_latency: u32,
+    pub ring_latency: u32,
     pub triangle_bound: u32,
     pub square_bound: u32,
 }
@@ -28,6 +30,7 @@ const MOST_ROUNDS: u32 = 36;
 const SQUARE: &str = "#7a7a7a";
 const TRIANGLE: &str = "#b8641f";
 const WORST: &str = "#2f7d32";
+const RING: &str = "#7a3f9d";
 const OBSERVED: &str = "#1f5fa8";
 const SLOWEST: &str = "#a8201f";
 
@@ -40,9 +43,11 @@ pub fn draw(points: &[Point]) -> String {
         numbers(points, |point| point.square_bound),
         bound(points, |point| point.triangle_bound, TRIANGLE, "7 4"),
         numbers(points, |point| point.triangle_bound),
+        bound(points, |point| point.ring_latency, RING, "2 3"),
         bound(points, |point| point.worst_latency, WORST, ""),
         observed(points),
-        slowest(points),
+        slowest(points, |point| point.slowest_on_ring),
+        slowest(points, |point| point.slowest),
         legend(),
     ];
     format!("{}</svg>\n", parts.concat())
@@ -154,10 +159,10 @@ fn observed(points: &[Point]) -> String {
 }
 
 /// For each size with a slowest plant a mark and a number.
-fn slowest(points: &[Point]) -> String {
+fn slowest(points: &[Point], rounds: fn(&Point) -> Option<u32>) -> String {
     let mut text = String::new();
     for (place, point) in placed(points) {
-        if let Some(rounds) = point.slowest {
+        if let Some(rounds) = rounds(point) {
             let height = y(f64::from(rounds));
             text += &diamond(place, height);
             text += &label(place + 9.0, height - 6.0, "start", &rounds.to_string());
@@ -168,7 +173,7 @@ fn slowest(points: &[Point]) -> String {
 
 /// The legend, in the free corner at the top left.
 fn legend() -> String {
-    let row = |k: f64| TOP + 24.0 + 24.0 * k;
+    let row = |k: f64| TOP + 20.0 + 22.0 * k;
     let left = LEFT + 20.0;
     let text = |k, words| label(left + 42.0, row(k) + 4.5, "start", words);
     let sample = |k, colour, dashes| {
@@ -176,18 +181,26 @@ fn legend() -> String {
             + &square(left + 15.0, row(k), colour)
     };
     [
-        white(left - 10.0, TOP + 6.0, 380.0, 132.0),
+        white(left - 10.0, TOP + 6.0, 430.0, 134.0),
         sample(0.0, SQUARE, ""),
         text(0.0, "d·d: square bound"),
         sample(1.0, TRIANGLE, "7 4"),
         text(1.0, "1 + d(d − 1)/2: triangular bound"),
-        sample(2.0, WORST, ""),
-        text(2.0, "f(d): worst-case latency, proved and reached"),
-        diamond(left + 15.0, row(3.0)),
-        text(3.0, "slowest plant"),
-        bar(left + 15.0, row(4.0) + 8.0, row(4.0) - 8.0),
-        dot(left + 15.0, row(4.0)),
-        text(4.0, "random plants: least, mean and greatest"),
+        sample(2.0, RING, "2 3"),
+        text(
+            2.0,
+            "⌊n/2⌋: worst-case latency of the ring, proved and reached",
+        ),
+        sample(3.0, WORST, ""),
+        text(
+            3.0,
+            "f(d): worst-case latency of the cube, proved and reached",
+        ),
+        diamond(left + 15.0, row(4.0)),
+        text(4.0, "slowest plant, on either"),
+        bar(left + 15.0, row(5.0) + 8.0, row(5.0) - 8.0),
+        dot(left + 15.0, row(5.0)),
+        text(5.0, "random plants on the cube: least, mean and greatest"),
     ]
     .concat()
 }

@@ -1,5 +1,6 @@
 //! The slowest plants, run by the library.
 
+use crate::bounds::latency_on;
 use crate::detection::Plant;
 use shared::slowest;
 use shared::wiring::Wiring;
@@ -13,23 +14,38 @@ pub struct Slowest {
     pub rounds: u32,
 }
 
-/// Runs all slowest plants, or says in which the dead do not become known.
-pub fn run_all() -> Result<Vec<Slowest>, String> {
-    let unknown = |n| format!("the slowest plant of {n} boards ends before the dead are known");
-    let run = |plant: &slowest::Plant| run(plant).ok_or_else(|| unknown(plant.n));
-    slowest::plants()?.iter().map(run).collect()
+/// Runs all slowest plants of a wiring, or says which does not take just the
+/// worst-case latency.
+pub fn run_all(wiring: Wiring) -> Result<Vec<Slowest>, String> {
+    let plants = match wiring {
+        Wiring::Cube => slowest::plants()?,
+        Wiring::Ring => slowest::ring_plants().collect(),
+    };
+    plants.iter().map(|plant| run(wiring, plant)).collect()
 }
 
-/// Runs a plant up to the first round at whose end the dead are known. None if
-/// that does not come.
-fn run(plant: &slowest::Plant) -> Option<Slowest> {
-    let slowest::Plant {
-        n,
-        dead,
-        ref entries,
-    } = *plant;
-    let mut plant = Plant::fresh(Wiring::Cube, n);
-    let (crashes, turns) = entries.split_at(dead);
+/// Runs a plant up to the first round at whose end the dead are known. An error
+/// if that does not come, or is another than that of the worst-case latency.
+pub fn run(wiring: Wiring, plant: &slowest::Plant) -> Result<Slowest, String> {
+    let (n, latency) = (plant.n, latency_on(wiring, plant.n));
+    let said = |what: String| format!("the slowest plant of {n} boards, {}: {what}", wiring.text());
+    match rounds(wiring, plant) {
+        None => Err(said(String::from("it ends before the dead are known"))),
+        Some(rounds) if rounds != latency => Err(said(format!(
+            "the dead are known after {rounds} rounds, not after {latency}"
+        ))),
+        Some(rounds) => Ok(Slowest {
+            n,
+            dead: plant.dead,
+            rounds,
+        }),
+    }
+}
+
+/// The rounds until the dead are known. None if the turns end before.
+fn rounds(wiring: Wiring, plant: &slowest::Plant) -> Option<u32> {
+    let (crashes, turns) = plant.entries.split_at(plant.dead);
+    let mut plant = Plant::fresh(wiring, plant.n);
     for crash in crashes {
         plant.take(*crash);
     }
@@ -37,6 +53,5 @@ fn run(plant: &slowest::Plant) -> Option<Slowest> {
     while !plant.dead_are_known() {
         while !plant.take(*turns.next()?) {}
     }
-    let rounds = plant.rounds;
-    Some(Slowest { n, dead, rounds })
+    Some(plant.rounds)
 }

@@ -9,11 +9,13 @@ mod saves;
 
 use crate::contender::Contender;
 use crate::measure::{check_equal, check_equal_figures};
+use crate::slowest::{self, Slowest};
 use crate::statistics::{decimal, Summary};
 use crate::work::{table_with_crashed, Work};
-use crate::{bounds, plain, plain_figures, slowest};
+use crate::{bounds, plain, plain_figures};
 use shared::groups::{POWERS, SIZES};
 use shared::random::Random;
+use shared::slowest::Plant;
 use shared::table::{line_length, lines, table_length, unfinished_stations, Line, HEAD};
 use shared::table::{CLOSED_SINCE, CRASHED, FINISHED, NEXT_DISTANCE, STATUS, TOLD_BY};
 use shared::table::{LIVE, NOT_RECORDED, TOLD_BY_NONE};
@@ -480,11 +482,45 @@ fn bounds_by_size() {
 /// dead boards were counted by hand.
 #[test]
 fn slowest_plants() {
-    let plants = slowest::run_all().expect("all are known");
+    let plants = slowest::run_all(Wiring::Cube).expect("all take the latency");
     let rounds = plants.iter().map(|plant| (plant.n, plant.rounds));
     assert!(rounds.eq((3..=64).map(|n| (n, bounds::worst_latency(n)))));
     let dead = [3, 9, 16, 25].map(|n| plants[n - 3].dead);
     assert_eq!(dead, [1, 5, 12, 20]);
+}
+
+/// On the ring too, with one dead board.
+#[test]
+fn slowest_plants_on_the_ring() {
+    let plants = slowest::run_all(Wiring::Ring).expect("all take the latency");
+    let rounds = |plant: &Slowest| (plant.n, plant.dead, plant.rounds);
+    let expected = (3..=64).map(|n| (n, 1, n as u32 / 2));
+    assert!(plants.iter().map(rounds).eq(expected));
+}
+
+/// A plant whose dead are known earlier is noticed, and one that ends before they
+/// are. From n - 1 down to 1 each board hears of 0 in the first round.
+#[test]
+fn plants_that_are_not_the_slowest_are_noticed() {
+    for n in 4..=64 {
+        let falling: Vec<usize> = (1..n).rev().collect();
+        let early = Plant::on_ring(n, &falling);
+        let problem = slowest::run(Wiring::Ring, &early).expect_err("known early");
+        let rounds = format!("known after 1 rounds, not after {}", n / 2);
+        assert!(problem.ends_with(&rounds), "{problem}");
+    }
+    let cube = shared::slowest::plants().expect("read");
+    let all = [
+        (Wiring::Cube, cube),
+        (Wiring::Ring, shared::slowest::ring_plants().collect()),
+    ];
+    for (wiring, plants) in all {
+        for mut plant in plants {
+            plant.entries.pop();
+            let problem = slowest::run(wiring, &plant).expect_err("cut short");
+            assert!(problem.ends_with("it ends before the dead are known"));
+        }
+    }
 }
 
 fn fraction(upper: u64, lower: u64) -> Fraction {

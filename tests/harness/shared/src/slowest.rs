@@ -1,8 +1,10 @@
-//! The slowest plants, one of each size from 3 to 64. A line of
-//! samples/slowest.txt has the size, `dead`, the boards that crash first,
-//! `turns`, and the boards that then take a turn of kind 1, in order.
+//! The slowest plants, one of each size from 3 to 64. Those of the cube are read: a
+//! line of samples/slowest.txt has the size, `dead`, the boards that crash first,
+//! `turns`, and the boards that then take a turn of kind 1, in order. Those of the
+//! ring follow a rule.
 
 use crate::schedule::{letter, Entry, CRASH, TURN};
+use std::cmp::Reverse;
 
 pub const LINES: &str = include_str!("../../../../samples/slowest.txt");
 
@@ -15,7 +17,7 @@ pub struct Plant {
     pub entries: Vec<Entry>,
 }
 
-/// All plants, in ascending order of their sizes.
+/// All plants of the cube, in ascending order of their sizes.
 pub fn plants() -> Result<Vec<Plant>, String> {
     let problem = "samples/slowest.txt does not have a line for each size from 3 to 64, in order";
     read(LINES).ok_or_else(|| String::from(problem))
@@ -28,7 +30,40 @@ pub fn read(lines: &str) -> Option<Vec<Plant>> {
     plants.filter(|plants| plants.iter().map(|plant| plant.n).eq(3..=64))
 }
 
+/// All plants of the ring, in ascending order of their sizes.
+pub fn ring_plants() -> impl Iterator<Item = Plant> {
+    (3..=64).map(|n| Plant::on_ring(n, &unlucky_order(n)))
+}
+
+/// The boards of a ring in the order in which they take their whole passes, where
+/// board 0 is dead. A suspicion of it begins with 1 and n - 1 and spreads from
+/// there. Whoever is farther from both takes its pass earlier, so that in one
+/// round it spreads by one board on either side.
+fn unlucky_order(n: usize) -> Vec<usize> {
+    let mut order: Vec<usize> = (1..n).collect();
+    let steps = |tester: &usize| match *tester + 1 {
+        tested if tested == n => 0,
+        tested => (*tester).min(n - tested),
+    };
+    order.sort_by_key(|tester| Reverse(steps(tester)));
+    order
+}
+
 impl Plant {
+    /// Board 0 crashes; then half of n rounds, rounded down, in each of which the
+    /// others take their whole passes in this order. A pass has one test, of n - 1
+    /// two, as 0 does not reply, and then the turn that finishes it.
+    pub fn on_ring(n: usize, order: &[usize]) -> Plant {
+        let pass = |i: &usize| vec![[TURN, *i as u8]; if *i == n - 1 { 3 } else { 2 }];
+        let round: Vec<Entry> = order.iter().flat_map(pass).collect();
+        let entries = [vec![[CRASH, 0]], round.repeat(n / 2)].concat();
+        Plant {
+            n,
+            dead: 1,
+            entries,
+        }
+    }
+
     /// None if the line has another form, or if fewer than two boards stay live.
     fn read(line: &str) -> Option<Plant> {
         let (n, rest) = line.split_once(" dead ")?;

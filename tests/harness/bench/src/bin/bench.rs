@@ -40,13 +40,13 @@ const LISTS: usize = 50;
 /// How many doubt lamps are timed together.
 const LAMPS: usize = 200;
 
-/// The sizes of the plants of which the lamp is asked, on either wiring.
+/// The sizes of the plants of which the lamp is asked on the cube.
 const LAMP_SIZES: [usize; 3] = [8, 19, 64];
 
 /// How many mendings are timed together.
 const MENDINGS: usize = 50;
 
-/// The sizes of the plants that are mended, on either wiring.
+/// The sizes of the plants that are mended on the cube.
 const MENDED_SIZES: [usize; 3] = [8, 19, 64];
 
 /// The sizes of the plants that are saved, loaded and converted.
@@ -92,8 +92,13 @@ fn run_only(name: &str, n: &str, dead: &str) -> ExitCode {
 }
 
 fn sizes(wiring: Wiring) -> &'static [usize] {
+    or_ring(wiring, &SIZES)
+}
+
+/// These sizes on the cube.
+fn or_ring(wiring: Wiring, sizes: &'static [usize]) -> &'static [usize] {
     match wiring {
-        Wiring::Cube => &SIZES,
+        Wiring::Cube => sizes,
         Wiring::Ring => &RING_SIZES,
     }
 }
@@ -282,9 +287,9 @@ fn print_lamps(wiring: Wiring, repetitions: usize) {
     println!("{repetitions} repetitions; {LAMPS} are timed together, each on its own copy of the table.\n");
     println!("| n | dead | pair | check | {COLUMNS}");
     println!("|--:|--:|:--|--:|--:|--:|--:|--:|--:|");
-    for n in LAMP_SIZES {
-        for dead in [0, n / 4] {
-            print_rows_of_lamps(wiring, n, dead, repetitions);
+    for n in or_ring(wiring, &LAMP_SIZES) {
+        for dead in [0, n / 4].into_iter().filter(|dead| dead + 4 <= *n) {
+            print_rows_of_lamps(wiring, *n, dead, repetitions);
         }
     }
 }
@@ -318,11 +323,11 @@ fn print_mendings(wiring: Wiring, repetitions: usize) {
     println!("of {repetitions} repetitions; {MENDINGS} are timed together, each on its own copy of its table.\n");
     println!("| n | table | {COLUMNS}");
     println!("|--:|:--|--:|--:|--:|--:|--:|");
-    for n in MENDED_SIZES {
+    for n in or_ring(wiring, &MENDED_SIZES) {
         for damage in Damage::ALL {
             let mut random = Random::new(SEED);
             let works: Vec<_> = (0..MENDINGS)
-                .map(|_| MendWork::new(wiring, n, damage, &mut random))
+                .map(|_| MendWork::new(wiring, *n, damage, &mut random))
                 .collect();
             works.iter().for_each(measure::check_equal_mendings);
             let times = measure::best_times_of_mendings(&works, repetitions);

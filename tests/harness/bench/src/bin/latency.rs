@@ -57,6 +57,18 @@ impl Results {
     }
 }
 
+/// The slowest plants of each wiring.
+struct AllSlowest {
+    on_cube: Vec<Slowest>,
+    on_ring: Vec<Slowest>,
+}
+
+/// The rounds of the slowest plant of a size, if there is one.
+fn rounds_of(slowest: &[Slowest], n: usize) -> Option<u32> {
+    let plant = slowest.iter().find(|plant| plant.n == n);
+    plant.map(|plant| plant.rounds)
+}
+
 fn main() -> ExitCode {
     let words: Vec<String> = std::env::args().skip(1).collect();
     let quick = match words.iter().map(String::as_str).collect::<Vec<_>>()[..] {
@@ -77,7 +89,11 @@ fn main() -> ExitCode {
 }
 
 fn work(quick: bool) -> io::Result<()> {
-    let slowest = slowest::run_all().map_err(io::Error::other)?;
+    let run_all = |wiring| slowest::run_all(wiring).map_err(io::Error::other);
+    let slowest = AllSlowest {
+        on_cube: run_all(Wiring::Cube)?,
+        on_ring: run_all(Wiring::Ring)?,
+    };
     let results = SIZES.map(|n| try_size(n, quick));
     print!("{}", tables(&results, &slowest));
     match quick {
@@ -111,27 +127,28 @@ fn try_order(wiring: Wiring, n: usize, order: Order, trials: usize) -> Summary {
     Summary::of((0..trials).map(|_| one()).collect())
 }
 
-fn write_files(results: &[Results], slowest: &[Slowest]) -> io::Result<()> {
+fn write_files(results: &[Results], slowest: &AllSlowest) -> io::Result<()> {
     let points: Vec<Point> = results.iter().map(|row| point(row, slowest)).collect();
     fs::create_dir_all("docs")?;
     fs::write("docs/latency.md", document(results, slowest))?;
     fs::write("docs/latency.svg", chart::draw(&points))
 }
 
-fn point(results: &Results, slowest: &[Slowest]) -> Point {
+fn point(results: &Results, slowest: &AllSlowest) -> Point {
     let Results { n, .. } = *results;
-    let slowest = slowest.iter().find(|plant| plant.n == n);
     Point {
         n,
         observed: results.random().figures,
-        slowest: slowest.map(|plant| plant.rounds),
+        slowest: rounds_of(&slowest.on_cube, n),
+        slowest_on_ring: rounds_of(&slowest.on_ring, n),
         worst_latency: worst_latency(n),
+        ring_latency: ring_latency(n),
         triangle_bound: triangle_bound(n),
         square_bound: square_bound(n),
     }
 }
 
-fn document(results: &[Results], slowest: &[Slowest]) -> String {
+fn document(results: &[Results], slowest: &AllSlowest) -> String {
     format!(
         "# How many rounds pass until the dead boards are known
 
@@ -147,12 +164,12 @@ and with the first one at whose end every live board suspects exactly the dead o
     )
 }
 
-fn tables(results: &[Results], slowest: &[Slowest]) -> String {
+fn tables(results: &[Results], slowest: &AllSlowest) -> String {
     let tables = [
         main_table(results),
-        slowest_table(slowest),
+        slowest_table(&slowest.on_cube),
         order_table(results),
-        ring_table(results),
+        ring_table(results, slowest),
     ];
     tables.join("\n")
 }
@@ -271,22 +288,30 @@ last number 255, and each further one with the last number that the one before g
 
 const RING_TEXT: &str = "## Cube and ring
 
-The same dead boards on both wirings, with turns at random: mean, in brackets as the exact fraction, and greatest. The worst case of the ring is
-⌊n/2⌋ rounds.
+The same dead boards on both wirings, with turns at random: mean, in brackets as the exact fraction, and greatest. The worst-case latency of the
+ring is ⌊n/2⌋ rounds, and at each size from 3 to 64 a plant takes it, with board 0 dead: in each round every live board takes its pass in one go,
+those first that are farther from board 0, so that the suspicion of it spreads by one board on either side.
 
-| n | cube | f(d) | ring | ⌊n/2⌋ |
-|--:|--:|--:|--:|--:|
+| n | cube | slowest on the cube | f(d) | ring | slowest on the ring | ⌊n/2⌋ |
+|--:|--:|--:|--:|--:|--:|--:|
 ";
 
-fn ring_table(results: &[Results]) -> String {
+fn ring_table(results: &[Results], slowest: &AllSlowest) -> String {
     let mut text = String::from(RING_TEXT);
     for row in results {
-        let [cube, ring] = [row.random(), &row.on_ring].map(|summary| {
-            let Figures { mean, greatest, .. } = summary.figures;
-            format!("{}, {greatest}", decimal(mean))
-        });
-        let (n, on_cube, on_ring) = (row.n, worst_latency(row.n), ring_latency(row.n));
+        let n = row.n;
+        let cube = wiring_cells(row.random(), rounds_of(&slowest.on_cube, n));
+        let ring = wiring_cells(&row.on_ring, rounds_of(&slowest.on_ring, n));
+        let (on_cube, on_ring) = (worst_latency(n), ring_latency(n));
         let _ = writeln!(text, "| {n} | {cube} | {on_cube} | {ring} | {on_ring} |");
     }
     text
+}
+
+/// Of a size on one wiring: mean and greatest, and the rounds of the slowest
+/// plant, as cells.
+fn wiring_cells(summary: &Summary, slowest: Option<u32>) -> String {
+    let Figures { mean, greatest, .. } = summary.figures;
+    let slowest = slowest.map_or(String::from("–"), |rounds| rounds.to_string());
+    format!("{}, {greatest} | {slowest}", decimal(mean))
 }

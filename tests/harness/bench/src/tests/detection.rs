@@ -2,12 +2,14 @@
 
 use super::CUBE;
 use crate::bounds;
+use crate::contender::Contender;
 use crate::detection::{random_dead, rounds_until_known, Order, Plant};
 use shared::grants::NONE_YET;
 use shared::groups::SIZES;
 use shared::random::Random;
 use shared::schedule::TURN;
 use shared::wiring::Wiring;
+use std::cmp::Ordering;
 
 fn driven_rounds(n: usize, dead: &[usize]) -> u32 {
     // No number is drawn.
@@ -38,6 +40,71 @@ fn rounds_on_the_ring() {
     assert_eq!(rounds(4, &[], 0), 0);
     let of_8 = (0..100).map(|seed| rounds(8, &[1, 2, 3, 5, 6, 7], seed));
     assert!(of_8.max() <= Some(bounds::ring_latency(8)));
+}
+
+/// The numbers of a row of the table under "Cube or ring" of
+/// docs/COMMISSIONING.md, by the words at its front.
+fn commissioning_row(words: &str) -> Vec<u32> {
+    let page = include_str!("../../../../../docs/COMMISSIONING.md");
+    let section = page
+        .split("\n## ")
+        .find(|text| text.starts_with("Cube or ring"));
+    let mut lines = section.expect("the section").lines();
+    let row = lines.find_map(|line| line.strip_prefix(&format!("| {words} |")));
+    let cells = row.expect("the row").trim_end_matches('|').split('|');
+    let number = |cell: &str| cell.trim().replace(',', "").parse().expect("a number");
+    cells.map(number).collect()
+}
+
+#[test]
+fn commissioning_says_tests_and_waits_of_both_wirings() {
+    let sizes = commissioning_row("boards");
+    assert_eq!(sizes.len(), 13);
+    for wiring in Wiring::ALL {
+        let row = |words| commissioning_row(&format!("{words}, {}", wiring.text()));
+        let tests = |n: &u32| {
+            let mut table = shared::table::fresh(*n as usize);
+            let driven = Contender::Library.drive(wiring, *n as usize, &mut table);
+            assert_eq!((driven.number, driven.rounds), (0, 1));
+            driven.tests
+        };
+        let wait = |n: &u32| bounds::latency_on(wiring, *n as usize);
+        let all = |n: &u32| (wait(n) + 1) * tests(n);
+        let rows = [
+            sizes.iter().map(tests).collect::<Vec<_>>(),
+            sizes.iter().map(wait).collect(),
+            sizes.iter().map(all).collect(),
+        ];
+        assert_eq!(
+            rows,
+            ["tests a round", "wait", "tests of L + 1 rounds"].map(row)
+        );
+    }
+}
+
+/// The ring has fewer tests a round from 3 boards on, and L + 1 rounds have too.
+/// Its wait is shorter at 3 and 5 boards, the same at 2, 4, 6, 7 and 9.
+#[test]
+fn where_cube_and_ring_cross() {
+    let tests = |wiring, n| {
+        let mut table = shared::table::fresh(n);
+        Contender::Library.drive(wiring, n, &mut table).tests
+    };
+    let (mut shorter, mut same) = (Vec::new(), Vec::new());
+    for n in SIZES {
+        let [cube, ring] =
+            Wiring::ALL.map(|wiring| (tests(wiring, n), bounds::latency_on(wiring, n)));
+        assert_eq!(ring.0 as usize, n);
+        if n > 2 {
+            assert!(ring.0 < cube.0 && (ring.1 + 1) * ring.0 < (cube.1 + 1) * cube.0);
+        }
+        match ring.1.cmp(&cube.1) {
+            Ordering::Less => shorter.push(n),
+            Ordering::Equal => same.push(n),
+            Ordering::Greater => (),
+        }
+    }
+    assert_eq!((shorter, same), (vec![3, 5], vec![2, 4, 6, 7, 9]));
 }
 
 /// Grants one turn and carries it out, both by the simulator. Gives the granted
