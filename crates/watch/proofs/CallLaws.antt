@@ -3,15 +3,14 @@
 use mathlib.Core.Path.{◌≡◌, refl, ◌∙◌}
 use mathlib.Core.Bool.{Bool, true, false, cond}
 use mathlib.Core.List.{List, [], ◌∷◌, ◌++◌, map}
-use Prim.Native.Nat.{ℕ, suc, ◌+◌, ◌≤◌, ◌<◌}
+use Prim.Native.Nat.{ℕ, ◌+◌, ◌≤◌, ◌<◌}
 use native.Mathlib.Omega.{arith}
 use lib.ListN.{length}
-use Rattle.std.specs.Prelude.{filter, not, Ok, Err, None, Result}
+use Rattle.std.specs.Prelude.{filter, not, Ok, Err, None}
 use Rattle.std.proofs.Common.{length-append}
 use Rattle.std.specs.List.{list_any}
-use Rattle.table.specs.declared.wiring.Wiring.{Wiring}
 use Rattle.watch.specs.Words.{too_many_words}
-use Rattle.watch.specs.Call.{Asked, run, is_ring_option, wiring_in, asked_by, asked_by_others, asked_in}
+use Rattle.watch.specs.Call.{run, is_ring_option, wiring_in, asked_by, asked_by_others, asked_in}
 
 pub list_any-map : {A B : Type 0} (f : A → B) (p : B → Bool) (xs : List A) → list_any p (map f xs) ≡ list_any (λ x. p (f x)) xs
 list_any-map f p [] = refl
