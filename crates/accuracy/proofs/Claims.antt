@@ -217,11 +217,11 @@ module _ (n : ℕ) (s : State) (calls : List Call) (long : length s.table ≡ ta
   costs none enough = record {
     who = who;
     cost = omega (
-          arith,
-          charge,
-          sum-add (λ i. bit (live n end.table i)) charged n,
-          sum-most (λ i. bit (live n s.table i)) (λ i. bit (live n end.table i) + charged i) n paid,
-        );
+      arith,
+      charge,
+      sum-add (λ i. bit (live n end.table i)) charged n,
+      sum-most (λ i. bit (live n s.table i)) (λ i. bit (live n end.table i) + charged i) n paid,
+    );
   }
     where
       two : 2 ≤ sum_below (λ i. bit (quiet i)) n
