@@ -36,7 +36,7 @@ use Rattle.detection.proofs.Fates.{teller-is-named}
 use Rattle.detection.proofs.ExitRecord.{exits-recorded}
 use Rattle.detection.proofs.DrivenDetection.{mixed-left}
 use Rattle.accuracy.specs.Cause.{IsSuspected, late_of, was_late, crash_of, has_crashed, HasCause}
-use Rattle.accuracy.specs.Accurate.{OnlyLateSuspected, ExitCause, ExitsHaveCauses, ToldHaveCauses, told_since, NobodyTold, LateCost, Accurate, RunsAccurate, MixedAccurate, DrivesTellNobody, AccurateAfter}
+use Rattle.accuracy.specs.Accurate.{OnlyLateSuspected, ExitCause, ExitsHaveCauses, ToldHaveCauses, told_since, OneToldForEachLate, NoneLate, OneForEachLate, Accurate, RunsAccurate, MixedAccurate, DrivesTellNobody, AccurateAfter}
 use Rattle.accuracy.proofs.Step.{CauseAt, Fared, lives, crashed, told, alone, new-suspicion, fared}
 use Rattle.accuracy.proofs.Chains.{any-before, any-last, cause-before, cause-chain, parted, told-at}
 use Rattle.accuracy.proofs.Sums.{one, sum-most, two-hits, count-sum, any-counted, none-passes}
@@ -149,116 +149,116 @@ module _ (n : ℕ) (s : State) (calls : List Call) (long : length s.table ≡ ta
   in-list : (q : Taken → Bool) (before rest : List Taken) → xs ≡ before ++ rest → any_taken q before ≡ true → any_taken q xs ≡ true
   in-list q before rest p a = subst (λ (ys : List Taken). any_taken q ys ≡ true) (sym p) (any-before q before rest a)
 
+  -- late replies and crashes, station by station
+  late-sum : sum_below (λ i. count_taken (late_of i) xs) n ≤ count_taken is_late xs
+  unfolding late_of
+  late-sum = count-sum is_late station_tested late_of (λ i x. refl) n xs
+
+  crash-sum : sum_below (λ i. count_taken (crash_of i) xs) n ≤ count_taken crashes xs
+  unfolding crash_of
+  crash-sum = count-sum crashes (λ x. x.entry.station) crash_of (λ i x. refl) n xs
+
   -- where first no live station suspects a live one
-  module _ (none : none_suspected n s.table ≡ true) where
-    told-late : (i : ℕ) → i < n → live n s.table i ≡ true → status n end.table i ≡ status_told → was_late i xs ≡ true
-    told-late i hi l two = let r = told-why i hi l two in in-list (late_of i) r.before (r.x ∷ r.rest) r.parts (r.late none)
+  told-late : none_suspected n s.table ≡ true → (i : ℕ) → i < n → live n s.table i ≡ true → status n end.table i ≡ status_told → was_late i xs ≡ true
+  told-late none i hi l two = let r = told-why i hi l two in in-list (late_of i) r.before (r.x ∷ r.rest) r.parts (r.late none)
 
-    late-sum : sum_below (λ i. count_taken (late_of i) xs) n ≤ count_taken is_late xs
-    unfolding late_of
-    late-sum = count-sum is_late station_tested late_of (λ i x. refl) n xs
+  one-told : OneToldForEachLate n s calls end
+  unfolding told_since
+  one-told none = omega (arith, late-sum, sum-most (λ i. bit (gone i)) (λ i. count_taken (late_of i) xs) n each)
+    where
+      gone : ℕ → Bool
+      gone i = live n s.table i && eqb (status n end.table i) status_told
 
-    crash-sum : sum_below (λ i. count_taken (crash_of i) xs) n ≤ count_taken crashes xs
-    unfolding crash_of
-    crash-sum = count-sum crashes (λ x. x.entry.station) crash_of (λ i x. refl) n xs
+      each : (i : ℕ) → i < n → bit (gone i) ≤ count_taken (late_of i) xs
+      each i hi =
+          by_bool (gone i)
+          (λ e. let p = both _ _ e in rw e (any-counted (late_of i) xs (told-late none i hi p.0 (eqb-true _ status_told p.1)))) (λ e. rw e (omega arith))
 
-    one-told : told_since n s.table end.table ≤ count_taken is_late xs
-    unfolding told_since
-    one-told = omega (arith, late-sum, sum-most (λ i. bit (gone i)) (λ i. count_taken (late_of i) xs) n each)
-      where
-        gone : ℕ → Bool
-        gone i = live n s.table i && eqb (status n end.table i) status_told
+  -- where no reply is late
+  none-late : NoneLate n s calls end
+  unfolding late_of
+  none-late none prompt = record {
+    told = λ i hi l two. never i (told-late none i hi l two);
+    alone = λ before x rest p three k hk d.
+        let parts : xs ≡ (before ++ (x ∷ [])) ++ rest = p ∙ sym (append_assoc before (x ∷ []) rest) in
+        by_bool (live n x.before.table k)
+        (λ l. absurd (never k (in-list (late_of k) (before ++ (x ∷ [])) rest parts
+        (late-cause n s.table none (before ++ (x ∷ [])) k hk ((exits before x rest p).alone three k hk d l))))) (λ e. e);
+  }
+    where
+      never : (i : ℕ) → was_late i xs ≡ true → ⊥
+      never i l = true≢false (sym l ∙ none-passes is_late (late_of i) (λ x e. (both (is_late x) _ e).0) xs prompt)
 
-        each : (i : ℕ) → i < n → bit (gone i) ≤ count_taken (late_of i) xs
-        each i hi =
-            by_bool (gone i)
-            (λ e. let p = both _ _ e in rw e (any-counted (late_of i) xs (told-late i hi p.0 (eqb-true _ status_told p.1)))) (λ e. rw e (omega arith))
+  -- a station that is neither late nor crashed, and what is set against the others
+  abbrev quiet : ℕ → Bool
+  quiet i = live n s.table i && (not (was_late i xs) && not (has_crashed i xs))
 
-    -- where no reply is late
-    none-late : all_taken (λ x. not (is_late x)) xs ≡ true → NobodyTold n s calls end
-    unfolding late_of
-    none-late prompt = record {
-      told = λ i hi l two. never i (told-late i hi l two);
-      alone = λ before x rest p three k hk d.
-          let parts : xs ≡ (before ++ (x ∷ [])) ++ rest = p ∙ sym (append_assoc before (x ∷ []) rest) in
-          by_bool (live n x.before.table k)
-          (λ l. absurd (never k (in-list (late_of k) (before ++ (x ∷ [])) rest parts
-          (late-cause n s.table none (before ++ (x ∷ [])) k hk ((exits before x rest p).alone three k hk d l))))) (λ e. e);
-    }
-      where
-        never : (i : ℕ) → was_late i xs ≡ true → ⊥
-        never i l = true≢false (sym l ∙ none-passes is_late (late_of i) (λ x e. (both (is_late x) _ e).0) xs prompt)
+  abbrev charged : ℕ → ℕ
+  charged i = count_taken (late_of i) xs + count_taken (crash_of i) xs
 
-    -- where at least two more are live than there are late replies and crashes
-    costs : count_taken is_late xs + count_taken crashes xs + 2 ≤ live_count n s.table → LateCost n s calls end
-    unfolding live_count
-    costs enough = record { who = who; cost = cost }
-      where
-        -- neither late nor crashed
-        quiet : ℕ → Bool
-        quiet i = live n s.table i && (not (was_late i xs) && not (has_crashed i xs))
+  charge : sum_below charged n ≤ count_taken is_late xs + count_taken crashes xs
+  charge = omega (arith, sum-add (λ i. count_taken (late_of i) xs) (λ i. count_taken (crash_of i) xs) n, late-sum, crash-sum)
 
-        charged : ℕ → ℕ
-        charged i = count_taken (late_of i) xs + count_taken (crash_of i) xs
+  quiet-is : (i : ℕ) → quiet i ≡ true → (live n s.table i ≡ true) × (was_late i xs ≡ false) × (has_crashed i xs ≡ false)
+  quiet-is i e =
+      let p = both (live n s.table i) (not (was_late i xs) && not (has_crashed i xs)) e in
+      let q = both (not (was_late i xs)) (not (has_crashed i xs)) p.1 in
+      (p.0, not-true (was_late i xs) q.0, not-true (has_crashed i xs) q.1)
 
-        charge : sum_below charged n ≤ count_taken is_late xs + count_taken crashes xs
-        charge = omega (arith, sum-add (λ i. count_taken (late_of i) xs) (λ i. count_taken (crash_of i) xs) n, late-sum, crash-sum)
+  quiet-or-charged : (i : ℕ) → i < n → bit (live n s.table i) ≤ bit (quiet i) + charged i
+  quiet-or-charged i hi =
+      by_bool (was_late i xs) (λ e. rw e (omega (arith, any-counted (late_of i) xs e, one (live n s.table i))))
+      (λ e. by_bool (has_crashed i xs) (λ f. rw (e, f) (omega (arith, any-counted (crash_of i) xs f, one (live n s.table i))))
+      (λ f. by_bool (live n s.table i) (λ l. rw (l, e, f) (omega arith)) (λ l. rw l (omega arith))))
 
-        -- each other live station is charged
-        each : (i : ℕ) → i < n → bit (live n s.table i) ≤ bit (quiet i) + charged i
-        each i hi =
-            by_bool (was_late i xs) (λ e. rw e (omega (arith, any-counted (late_of i) xs e, one (live n s.table i))))
-            (λ e. by_bool (has_crashed i xs) (λ f. rw (e, f) (omega (arith, any-counted (crash_of i) xs f, one (live n s.table i))))
-            (λ f. by_bool (live n s.table i) (λ l. rw (l, e, f) (omega arith)) (λ l. rw l (omega arith))))
+  -- where at least two more are live than there are late replies and crashes
+  costs : OneForEachLate n s calls end
+  unfolding live_count
+  costs none enough = record {
+    who = who;
+    cost = omega (
+      arith,
+      charge,
+      sum-add (λ i. bit (live n end.table i)) charged n,
+      sum-most (λ i. bit (live n s.table i)) (λ i. bit (live n end.table i) + charged i) n paid,
+    );
+  }
+    where
+      two : 2 ≤ sum_below (λ i. bit (quiet i)) n
+      two =
+          omega (
+            arith,
+            enough,
+            charge,
+            sum-add (λ i. bit (quiet i)) charged n,
+            sum-most (λ i. bit (live n s.table i)) (λ i. bit (quiet i) + charged i) n quiet-or-charged,
+          )
 
-        two : 2 ≤ sum_below (λ i. bit (quiet i)) n
-        two =
-            omega (
-              arith,
-              enough,
-              charge,
-              sum-add (λ i. bit (quiet i)) charged n,
-              sum-most (λ i. bit (live n s.table i)) (λ i. bit (quiet i) + charged i) n each,
-            )
+      calm : Calm n quiet (two-hits quiet n two) s.table
+      calm = record { picked = λ j hj p. (quiet-is j p).0; clean = λ j hj p. none-suspects n s.table none j hj }
 
-        calm : Calm n quiet (two-hits quiet n two) s.table
-        calm = record { picked = λ j hj p. (both (live n s.table j) (not (was_late j xs) && not (has_crashed j xs)) p).0; clean = λ j hj p. none-suspects n s.table none j hj }
+      left : (i : ℕ) → i < n → live n s.table i ≡ true
+          → (live n end.table i ≡ true) ⊎ ((status n end.table i ≡ status_told) ⊎ (has_crashed i xs ≡ true))
+      left = calm-chain n quiet (two-hits quiet n two) chain calm (λ j p. ((quiet-is j p).1, (quiet-is j p).2))
 
-        left : (i : ℕ) → i < n → live n s.table i ≡ true
-            → (live n end.table i ≡ true) ⊎ ((status n end.table i ≡ status_told) ⊎ (has_crashed i xs ≡ true))
-        left = calm-chain n quiet (two-hits quiet n two) chain calm
-            (λ j p.
-            let r = both (not (was_late j xs)) (not (has_crashed j xs)) (both (live n s.table j) (not (was_late j xs) && not (has_crashed j xs)) p).1 in
-            (not-true (was_late j xs) r.0, not-true (has_crashed j xs) r.1))
+      who : (i : ℕ) → i < n → live n s.table i ≡ true → live n end.table i ≡ false
+          → ((status n end.table i ≡ status_told) × (was_late i xs ≡ true)) ⊎ (has_crashed i xs ≡ true)
+      who i hi l d = by (left i hi l)
+        where
+          by : (live n end.table i ≡ true) ⊎ ((status n end.table i ≡ status_told) ⊎ (has_crashed i xs ≡ true))
+              → ((status n end.table i ≡ status_told) × (was_late i xs ≡ true)) ⊎ (has_crashed i xs ≡ true)
+          by (inl m) = absurd (true≢false (sym m ∙ d))
+          by (inr (inl q)) = inl (q, told-late none i hi l q)
+          by (inr (inr c)) = inr c
 
-        who : (i : ℕ) → i < n → live n s.table i ≡ true → live n end.table i ≡ false
-            → ((status n end.table i ≡ status_told) × (was_late i xs ≡ true)) ⊎ (has_crashed i xs ≡ true)
-        who i hi l d = by (left i hi l)
-          where
-            by : (live n end.table i ≡ true) ⊎ ((status n end.table i ≡ status_told) ⊎ (has_crashed i xs ≡ true))
-                → ((status n end.table i ≡ status_told) × (was_late i xs ≡ true)) ⊎ (has_crashed i xs ≡ true)
-            by (inl m) = absurd (true≢false (sym m ∙ d))
-            by (inr (inl q)) = inl (q, told-late i hi l q)
-            by (inr (inr c)) = inr c
-
-        paid : (i : ℕ) → i < n → bit (live n s.table i) ≤ bit (live n end.table i) + charged i
-        paid i hi =
-            by_bool (live n s.table i)
-            (λ l. by_bool (live n end.table i) (λ m. rw (l, m) (omega arith)) (λ m. rw (l, m) (by (who i hi l m)))) (λ l. rw l (omega arith))
-          where
-            by : ((status n end.table i ≡ status_told) × (was_late i xs ≡ true)) ⊎ (has_crashed i xs ≡ true) → 1 ≤ 0 + charged i
-            by (inl p) = omega (arith, any-counted (late_of i) xs p.1)
-            by (inr c) = omega (arith, any-counted (crash_of i) xs c)
-
-        cost : sum_below (λ i. bit (live n s.table i)) n
-            ≤ sum_below (λ i. bit (live n end.table i)) n + count_taken is_late xs + count_taken crashes xs
-        cost =
-            omega (
-              arith,
-              charge,
-              sum-add (λ i. bit (live n end.table i)) charged n,
-              sum-most (λ i. bit (live n s.table i)) (λ i. bit (live n end.table i) + charged i) n paid,
-            )
+      paid : (i : ℕ) → i < n → bit (live n s.table i) ≤ bit (live n end.table i) + charged i
+      paid i hi =
+          by_bool (live n s.table i)
+          (λ l. by_bool (live n end.table i) (λ m. rw (l, m) (omega arith)) (λ m. rw (l, m) (by (who i hi l m)))) (λ l. rw l (omega arith))
+        where
+          by : ((status n end.table i ≡ status_told) × (was_late i xs ≡ true)) ⊎ (has_crashed i xs ≡ true) → 1 ≤ 0 + charged i
+          by (inl p) = omega (arith, any-counted (late_of i) xs p.1)
+          by (inr c) = omega (arith, any-counted (crash_of i) xs c)
 
 -- every list of runs
 pub runs-accurate : RunsAccurate

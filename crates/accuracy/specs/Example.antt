@@ -1,13 +1,45 @@
--- One late reply that costs two stations, worked out by hand: of two live ones both leave.
+-- One late reply, followed by hand: of eight stations the late one leaves, told by another than the one that tested it; of two both leave.
 -- Assumes nothing.
-use Rattle.std.specs.Prelude.{◌≡◌, ℕ, true, List, [], ◌∷◌}
+use Rattle.std.specs.Prelude.{◌≡◌, ℕ, true, false, List, [], ◌∷◌}
 use Rattle.table.specs.Wiring.{wiring_cube, wiring_ring}
+use Rattle.table.specs.Table.{status, status_told, told_by}
 use Rattle.table.specs.Fresh.{fresh_table}
 use Rattle.plant.specs.Entry.{State, state_of}
 use Rattle.plant.specs.Run.{RunResult, run}
 use Rattle.detection.specs.Runs.{call_of, taken_in, is_late}
 use Rattle.detection.specs.Rounds.{count_taken}
 use Rattle.accuracy.specs.Cause.{was_late}
+
+-- 4 tests 5, whose reply is late; then 4 tests 6, 7 tests 6, and 7 tests 5
+abbrev pub followed_schedule : List ℕ
+followed_schedule = 2 ∷ 4 ∷ 1 ∷ 4 ∷ 1 ∷ 7 ∷ 1 ∷ 7 ∷ []
+
+-- 4 suspects 5, 6 hears of it from 4, and 7 from 6; 7 tells 5, and 5 leaves
+abbrev pub followed_sheet : List ℕ
+followed_sheet =
+    4 ∷ 5 ∷ 3 ∷ 0
+    ∷ 4 ∷ 6 ∷ 1 ∷ 0
+    ∷ 7 ∷ 6 ∷ 1 ∷ 0
+    ∷ 7 ∷ 5 ∷ 5 ∷ 0
+    ∷ []
+
+abbrev pub blank_of_four : List ℕ
+blank_of_four = 0 ∷ 0 ∷ 0 ∷ 0 ∷ 0 ∷ 0 ∷ 0 ∷ 0 ∷ 0 ∷ 0 ∷ 0 ∷ 0 ∷ 0 ∷ 0 ∷ 0 ∷ 0 ∷ []
+
+-- it is run on a fresh table
+abbrev pub eight_stations : State
+eight_stations = state_of (fresh_table 8) 0 0
+
+abbrev pub followed : RunResult
+followed = run wiring_cube 8 eight_stations followed_schedule blank_of_four
+
+-- Rule One of eight: 5 has left because told, by 7, and its own reply was late; that of 7 was not
+pub record OneOfEight : Type 0 where
+  pub sheet : followed.sheet ≡ followed_sheet
+  pub left : status 8 followed.state.table 5 ≡ status_told
+  pub teller : told_by 8 followed.state.table 5 ≡ 7
+  pub late : was_late 5 (taken_in eight_stations (call_of wiring_cube 8 followed_schedule blank_of_four)) ≡ true
+  pub others : was_late 7 (taken_in eight_stations (call_of wiring_cube 8 followed_schedule blank_of_four)) ≡ false
 
 -- 0 tests 1, whose reply is late; then 1 tests 0
 abbrev pub late_schedule : List ℕ

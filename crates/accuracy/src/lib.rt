@@ -12,7 +12,7 @@ ghost use Rattle.detection.specs.Claim.{DetectionAfter, square_rounds, triangle_
 ghost use Rattle.detection.specs.Driven.{a_run, a_drive, DrivenDetectionAfter};
 ghost use Rattle.detection.specs.Runs.{call_of, CountsTaken};
 ghost use Rattle.accuracy.specs.Accurate.{RunsAccurate, MixedAccurate, DrivesTellNobody, AccurateAfter};
-ghost use Rattle.accuracy.specs.Example.{TwoOfTwo};
+ghost use Rattle.accuracy.specs.Example.{OneOfEight, TwoOfTwo};
 
 use granter::Driven;
 use plant::{Ran, Tally};
@@ -30,6 +30,11 @@ pub fn mixed_accurate()
 // Drives have no late reply: where first no live board suspects a live one, nobody leaves because told.
 pub fn drives_tell_nobody()
     ensures { DrivesTellNobody }
+{}
+
+// One late reply, followed until the board that was late has left.
+pub fn one_of_eight()
+    ensures { OneOfEight }
 {}
 
 // Of two live boards one late reply costs both.
