@@ -80,3 +80,4 @@ pub use questions::{assignment, check_table, fresh_table, group_list, row, row_r
 pub use run::{run, Answer};
 pub use saved::{load, save, saved_size, Loaded};
 pub use totals::{figures_of_totals, join_totals, totals, Totals};
+pub use wiring::Wiring;

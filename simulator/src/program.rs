@@ -3,6 +3,7 @@
 use crate::numbers::Size;
 use crate::reading::{read_size, read_station};
 use crate::saved::saved_plant;
+use crate::wiring::Wiring;
 use crate::{fresh_table, run, Answer};
 
 /// The most entries the program reads.
@@ -10,9 +11,6 @@ const MOST_ENTRIES: usize = 4096;
 
 /// The length of the table for n = 64.
 const LONGEST_TABLE: usize = 4480;
-
-/// The wiring number that the program gives: the cube.
-const CUBE: usize = 1;
 
 const HEADER: &str = "station tested outcome status\n";
 
@@ -36,21 +34,21 @@ struct Ran<'a> {
     sheet: &'a [u8],
 }
 
-/// What the program prints for this input.
-pub fn respond(input: &[u8]) -> String {
+/// What the program prints for this input on a wiring.
+pub fn respond(wiring: Wiring, input: &[u8]) -> String {
     let mut buffers = Buffers::zeros();
     match read_input(input, &mut buffers.schedule) {
-        Ok(read) => print(&run_from_fresh(&read, &mut buffers)),
+        Ok(read) => print(&run_from_fresh(wiring, &read, &mut buffers)),
         Err(line) => print_unread(line),
     }
 }
 
-/// The saved plant after the run of this input. Where a line cannot be read or
+/// The saved plant after the run of this input on the cube. Where a line cannot be read or
 /// the run is refused: the last line that the program prints.
 pub fn saved_after_run(input: &[u8]) -> Result<Vec<u8>, String> {
     let mut buffers = Buffers::zeros();
     let read = read_input(input, &mut buffers.schedule).map_err(print_unread)?;
-    let Ran { answer, table, .. } = run_from_fresh(&read, &mut buffers);
+    let Ran { answer, table, .. } = run_from_fresh(Wiring::Cube, &read, &mut buffers);
     match saved_plant(read.n, table, (answer.rounds, answer.tests)) {
         Ok(file) if answer.number == 0 => Ok(file),
         _ => Err(print_last_line(&answer)),
@@ -100,13 +98,14 @@ fn read_kind(letter: u8) -> Option<u8> {
 }
 
 /// Runs the schedule on a fresh table with zero tallies.
-fn run_from_fresh<'a>(read: &Read, buffers: &'a mut Buffers) -> Ran<'a> {
+fn run_from_fresh<'a>(wiring: Wiring, read: &Read, buffers: &'a mut Buffers) -> Ran<'a> {
     let length = Size::new(read.n).map_or(0, Size::table_length);
     let table = &mut buffers.table[..length];
     let schedule = &buffers.schedule[..2 * read.entries];
     let sheet = &mut buffers.sheet[..4 * read.entries];
-    fresh_table(CUBE, read.n, table);
-    let answer = run(CUBE, read.n, table, (0, 0), schedule, sheet);
+    let number = wiring.number();
+    fresh_table(number, read.n, table);
+    let answer = run(number, read.n, table, (0, 0), schedule, sheet);
     Ran {
         answer,
         table,

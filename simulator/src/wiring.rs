@@ -25,6 +25,14 @@ impl Wiring {
         }
     }
 
+    /// Its number.
+    pub fn number(self) -> usize {
+        match self {
+            Wiring::Cube => 1,
+            Wiring::Ring => 2,
+        }
+    }
+
     /// The next distance of a finished line.
     pub fn end(self, size: Size) -> Distance {
         match self {

@@ -7,7 +7,13 @@ use std::process::{Command, Stdio};
 
 /// What the binary prints for this input. It ends with success.
 fn simulate(input: &[u8]) -> String {
+    simulate_with(&[], input)
+}
+
+/// The same with arguments.
+fn simulate_with(arguments: &[&str], input: &[u8]) -> String {
     let mut child = Command::new(env!("CARGO_BIN_EXE_simulate"))
+        .args(arguments)
         .stdin(Stdio::piped())
         .stdout(Stdio::piped())
         .spawn()
@@ -40,6 +46,16 @@ fn late_reply_of_8_stations() {
     let input = include_bytes!("../../samples/late-reply.txt");
     let expected = include_str!("../../samples/late-reply.expected");
     assert_eq!(simulate(input), expected);
+}
+
+/// samples/four-boards-ring.expected was worked out by hand.
+#[test]
+fn ring_of_4_boards() {
+    let input = include_bytes!("../../samples/four-boards.txt");
+    let expected = include_str!("../../samples/four-boards-ring.expected");
+    assert_eq!(simulate_with(&["--ring"], input), expected);
+    assert_eq!(simulate_with(&["--ring", "--ring"], input), expected);
+    assert_ne!(simulate(input), expected);
 }
 
 #[test]

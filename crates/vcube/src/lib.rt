@@ -13,7 +13,8 @@ ghost use Rattle.plant.specs.Entry.{state_of};
 ghost use Rattle.plant.specs.Run.{run};
 ghost use Rattle.detection.specs.Runs.{call_of, CountsTaken};
 ghost use Rattle.detection.specs.Claim.{DetectionAfter, square_rounds, triangle_rounds, worst_rounds};
-ghost use Rattle.detection.specs.Driven.{DrivenDetectionAfter};
+ghost use Rattle.detection.specs.Driven.{a_run, a_drive, DrivenDetectionAfter};
+ghost use Rattle.accuracy.specs.Accurate.{AccurateAfter};
 ghost use Rattle.granter.specs.Grant.{grant_refusal, grant_station};
 ghost use Rattle.granter.specs.Drive.{drive, StoppedIfTaken};
 ghost use Rattle.lamp.specs.Doubt.{doubt_lamp};
@@ -138,12 +139,14 @@ pub extern "C" fn vcube_run(
     ensures detection_in_worst_case { DetectionAfter worst_rounds
         (call_of wiring n schedule.now sheet.old)
         (state_of table.old rounds.old tests.old) (state_of table.new rounds.new tests.new) }
+    ensures accurate { AccurateAfter (a_run (call_of wiring n schedule.now sheet.old))
+        (state_of table.old rounds.old tests.old) (state_of table.new rounds.new tests.new) }
 {
     let tally = Tally {
         rounds: *rounds,
         tests: *tests,
     };
-    let ran = detection::run_in_list(wiring, n, table, tally, schedule, sheet);
+    let ran = accuracy::run_in_list(wiring, n, table, tally, schedule, sheet);
     *rounds = ran.tally.rounds;
     *tests = ran.tally.tests;
     *taken = ran.taken;
@@ -190,12 +193,14 @@ pub extern "C" fn vcube_drive(
         (state_of table.old rounds.old tests.old) (state_of table.new rounds.new tests.new) }
     ensures driven_in_worst_case { DrivenDetectionAfter worst_rounds wiring n last.old
         (state_of table.old rounds.old tests.old) (state_of table.new rounds.new tests.new) }
+    ensures accurate { AccurateAfter (a_drive wiring n last.old)
+        (state_of table.old rounds.old tests.old) (state_of table.new rounds.new tests.new) }
 {
     let tally = Tally {
         rounds: *rounds,
         tests: *tests,
     };
-    let driven = detection::drive_in_list(wiring, n, table, tally, *last);
+    let driven = accuracy::drive_in_list(wiring, n, table, tally, *last);
     *rounds = driven.tally.rounds;
     *tests = driven.tally.tests;
     *last = driven.last;

@@ -10,6 +10,7 @@ use native.Mathlib.Decide.{dec_lt}
 use lib.Dec.{ltb}
 use lib.ListN.{length, take, drop, length-take}
 use lib.Seq.{take-take, take-nil, take_at}
+use Rattle.table.specs.declared.wiring.Wiring.{Wiring}
 use Rattle.watch.specs.Input.{given, is_line_feed, lines, line_length, size_of, entry_in_line, Reading, reading_of, read_entries, read_lines}
 use Rattle.watch.specs.Input.{read_up_to}
 use Rattle.watch.specs.Watched.{watched, deciding}
@@ -122,10 +123,10 @@ cut-input room m l b =
     (λ _ n r i _ h. cut-entries room room n 0 i [] r (omega arith) (omega arith)) l
 
 -- what the program answers
-program-watches : (lent input : List ℕ) → watched lent (take deciding input) ≡ watched lent input
+program-watches : (wiring : Wiring) (lent input : List ℕ) → watched wiring lent (take deciding input) ≡ watched wiring lent input
 unfolding watched
-program-watches lent input = rw (cut-input 4096 deciding input (omega arith))
+program-watches wiring lent input = rw (cut-input 4096 deciding input (omega arith))
 
 -- the same of an input that goes on behind these bytes
-pub decided : (lent input rest : List ℕ) → length input ≡ deciding → watched lent input ≡ watched lent (input ++ rest)
-decided lent input rest n = rw (take_at input rest deciding n) at (program-watches lent (input ++ rest))
+pub decided : (wiring : Wiring) (lent input rest : List ℕ) → length input ≡ deciding → watched wiring lent input ≡ watched wiring lent (input ++ rest)
+decided wiring lent input rest n = rw (take_at input rest deciding n) at (program-watches wiring lent (input ++ rest))

@@ -6,3 +6,4 @@ pub mod ReadLaws
 pub mod Buffer
 pub mod WatchLaws
 pub mod FaultLaws
+pub mod CallLaws

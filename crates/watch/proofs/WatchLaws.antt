@@ -13,7 +13,9 @@ use lib.Seq.{take_at, sets}
 use Rattle.lists.proofs.Writing.{sets-front}
 use Rattle.table.specs.Sizes.{is_size}
 use Rattle.table.specs.Table.{table_length}
-use Rattle.table.specs.Wiring.{wiring_cube}
+use Rattle.table.specs.declared.wiring.Wiring.{Wiring}
+use Rattle.table.specs.declared.wiring.Wiring.TheVariants.{Cube, Ring}
+use Rattle.table.specs.Wiring.{wiring_number, wiring_check}
 use Rattle.table.specs.Rules.{shape_check, table_check_on}
 use Rattle.table.specs.Fresh.{fresh_table, fresh_after}
 use Rattle.plant.specs.declared.Ran.{Ran as RanPlant}
@@ -26,11 +28,16 @@ use Rattle.watch.specs.Fault.{fault_in, parsed_of}
 use Rattle.watch.specs.Watched.{Answer, said, says_run, said_with, watched_with, run_answer, carried_out, watched}
 use Rattle.watch.proofs.ReadLaws.{read_fits}
 
+-- the number of a wiring is not refused
+number-taken : (wiring : Wiring) → wiring_check (wiring_number wiring) ≡ Ok tt
+number-taken Cube = refl
+number-taken Ring = refl
+
 -- a run of what is no size is refused, whatever the table
-size-refused : (n : ℕ) (s : State) (schedule sheet : List ℕ) → is_size n ≡ false
-    → run wiring_cube n s schedule sheet ≡ record { number = 1; taken = 0; state = s; sheet = sheet }
+size-refused : (wiring : Wiring) (n : ℕ) (s : State) (schedule sheet : List ℕ) → is_size n ≡ false
+    → run (wiring_number wiring) n s schedule sheet ≡ record { number = 1; taken = 0; state = s; sheet = sheet }
 unfolding run start_check table_check_on shape_check
-size-refused n s schedule sheet e = rw e
+size-refused wiring n s schedule sheet e = rw (number-taken wiring, e)
 
 -- a part that comes back as it was lent
 part-back : (k : ℕ) (l : List ℕ) → sets l 0 (take k l) ≡ l
@@ -47,30 +54,33 @@ part-back k l =
 abbrev refused : Answer
 refused = record { number = 1; taken = 0; tally = record { rounds = 0; tests = 0 } }
 
-carried-refused : (n : ℕ) (schedule lent : List ℕ) → is_size n ≡ false → carried_out n schedule lent ≡ said_with (says_run refused) lent
-carried-refused n schedule lent e = rw (size-refused n (state_of (fresh_table n) 0 0) schedule (take (2 * length schedule) lent) e, part-back)
+carried-refused : (wiring : Wiring) (n : ℕ) (schedule lent : List ℕ) → is_size n ≡ false
+    → carried_out wiring n schedule lent ≡ said_with (says_run refused) lent
+carried-refused wiring n schedule lent e =
+    rw (size-refused wiring n (state_of (fresh_table n) 0 0) schedule (take (2 * length schedule) lent) e, part-back)
 
 -- a run on the lent table after it was made fresh, with the first k bytes of a lent sheet, answers what a run of a fresh table answers
-pub carried : (n : ℕ) (t schedule lent : List ℕ) (r : RanPlant) (t' s' : List ℕ) (k : ℕ)
+pub carried : (wiring : Wiring) (n : ℕ) (t schedule lent : List ℕ) (r : RanPlant) (t' s' : List ℕ) (k : ℕ)
     → (is_size n ≡ true → length t ≡ table_length n) → k ≡ 2 * length schedule → length s' ≡ k → k ≤ length lent
-    → outcome_with r t' s' ≡ run wiring_cube n (state_of (fresh_after wiring_cube n t) 0 0) schedule (take k lent)
-    → watched_with (Ok r) (s' ++ drop k lent) ≡ carried_out n schedule lent
+    → outcome_with r t' s' ≡ run (wiring_number wiring) n (state_of (fresh_after (wiring_number wiring) n t) 0 0) schedule (take k lent)
+    → watched_with (Ok r) (s' ++ drop k lent) ≡ carried_out wiring n schedule lent
 unfolding fresh_after shape_check
-carried n t schedule lent r t' s' k shaped twice long fits e = pick (is_size n) refl
+carried wiring n t schedule lent r t' s' k shaped twice long fits e = pick (is_size n) refl
   where
     front : sets lent 0 s' ≡ s' ++ drop k lent
     front = rw (← long) (sets-front lent s' (omega arith))
 
-    pick : (b : Bool) → is_size n ≡ b → watched_with (Ok r) (s' ++ drop k lent) ≡ carried_out n schedule lent
+    pick : (b : Bool) → is_size n ≡ b → watched_with (Ok r) (s' ++ drop k lent) ≡ carried_out wiring n schedule lent
     pick true y =
-        let f : fresh_after wiring_cube n t ≡ fresh_table n = rw (y, eq-eqb (length t) (table_length n) (shaped y)) in
+        let f : fresh_after (wiring_number wiring) n t ≡ fresh_table n =
+        rw (number-taken wiring, y, eq-eqb (length t) (table_length n) (shaped y)) in
         let g = rw f at e in
         rw (← twice, ← g) (rw (sym front))
     pick false y =
-        let g = e ∙ size-refused n (state_of (fresh_after wiring_cube n t) 0 0) schedule (take k lent) y in
+        let g = e ∙ size-refused wiring n (state_of (fresh_after (wiring_number wiring) n t) 0 0) schedule (take k lent) y in
         let p : said (Ok r) ≡ says_run refused = ap (λ (o : RunResult). says_run (run_answer o)) g in
         let q : s' ≡ take k lent = ap (λ (o : RunResult). o.sheet) g in
-        rw (carried-refused n schedule lent y, p, q, take-append-drop)
+        rw (carried-refused wiring n schedule lent y, p, q, take-append-drop)
 
 -- what an answer says of the reading
 answer-ok : (input : List ℕ) (r : Reading) (p : Parsed) → Ok p ≡ parsed_of input r → (r.unread ≡ 0) × (p.size ≡ r.size) × (p.entries ≡ r.entries)
@@ -103,13 +113,13 @@ answer-err input r u = go (eqb r.unread 0) refl
     go false e f = let g : ◌≡◌ {A = Unread} u stop = cc in (e, ap (λ (v : Unread). v.line) g, rw g)
 
 -- an input that is read into a schedule with room for all entries
-module _ (lent input schedule₀ schedule : List ℕ) (room : length schedule₀ ≡ 8192)
+module _ (wiring : Wiring) (lent input schedule₀ schedule : List ℕ) (room : length schedule₀ ≡ 8192)
     (read : schedule ≡ sets schedule₀ 0 (read_into schedule₀ input).schedule) where
   whole : read_into schedule₀ input ≡ read_input input
   whole = let e : room_for (length schedule₀) ≡ 4096 = omega arith in rw e
 
   pub watched_unread : (u : Unread) → Err u ≡ parsed_of input (read_into schedule₀ input)
-      → (watched_with (Err u) lent ≡ watched lent input) × (u.fault ≡ fault_in u.line (lines input))
+      → (watched_with (Err u) lent ≡ watched wiring lent input) × (u.fault ≡ fault_in u.line (lines input))
   unfolding watched
   watched_unread u e = let f = answer-err input (read_input input) u (rw whole at e) in (rw (f.0, f.1), f.2)
 
@@ -120,7 +130,7 @@ module _ (lent input schedule₀ schedule : List ℕ) (room : length schedule₀
     pub entries_within : p.entries ≤ 4096
     entries_within = let f = read_fits 4096 input in omega (arith, parts.2)
 
-    pub watched_ran : carried_out p.size (take (2 * p.entries) schedule) lent ≡ watched lent input
+    pub watched_ran : carried_out wiring p.size (take (2 * p.entries) schedule) lent ≡ watched wiring lent input
     unfolding watched
     watched_ran =
         let s = (read_input input).schedule in

@@ -3,3 +3,4 @@ pub mod Input
 pub mod Fault
 pub mod Watched
 pub mod Words
+pub mod Call

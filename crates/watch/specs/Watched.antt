@@ -2,7 +2,8 @@
 -- Assumes nothing.
 use Rattle.std.specs.Prelude.{ℕ, ◌*◌, List, length, take, Result, Ok, Err, if◌then◌else◌, ◌==◌}
 use Rattle.std.proofs.lemmas.List.Edits.{sets}
-use Rattle.table.specs.Wiring.{wiring_cube}
+use Rattle.table.specs.declared.wiring.Wiring.{Wiring}
+use Rattle.table.specs.Wiring.{wiring_number}
 use Rattle.table.specs.Fresh.{fresh_table}
 use Rattle.plant.specs.declared.Ran.{Ran}
 use Rattle.plant.specs.declared.Tally.{Tally}
@@ -47,17 +48,19 @@ run_answer o = record { number = o.number; taken = o.taken; tally = record { rou
 abbrev ran_on : List ℕ → RunResult → Watched
 ran_on lent o = said_with (says_run (run_answer o)) (sets lent 0 o.sheet)
 
--- the run of the entries on the cube, on a fresh table with a tally of 0 and 0. It takes a part of the lent run sheet, of twice the schedule's length
-abbrev pub carried_out : ℕ → List ℕ → List ℕ → Watched
-carried_out n schedule lent = ran_on lent (run wiring_cube n (state_of (fresh_table n) 0 0) schedule (take (2 * length schedule) lent))
+-- the run of the entries on a wiring, on a fresh table with a tally of 0 and 0. It takes a part of the lent run sheet, of twice the schedule's
+-- length
+abbrev pub carried_out : Wiring → ℕ → List ℕ → List ℕ → Watched
+carried_out wiring n schedule lent =
+    ran_on lent (run (wiring_number wiring) n (state_of (fresh_table n) 0 0) schedule (take (2 * length schedule) lent))
 
 -- what comes of a reading: the number of the first unreadable line and nothing else, or the run
-abbrev watched_of : List ℕ → Reading → Watched
-watched_of lent r = if r.unread == 0 then carried_out r.size r.schedule lent else said_with (says_unread r.unread) lent
+abbrev watched_of : Wiring → List ℕ → Reading → Watched
+watched_of wiring lent r = if r.unread == 0 then carried_out wiring r.size r.schedule lent else said_with (says_unread r.unread) lent
 
--- Rule Output: the whole input, with a lent run sheet: the program lends 16,384 zeros
-unfoldable pub watched : List ℕ → List ℕ → Watched
-watched lent input = watched_of lent (read_input input)
+-- Rule Output: the whole input on a wiring, with a lent run sheet: the program lends 16,384 zeros
+unfoldable pub watched : Wiring → List ℕ → List ℕ → Watched
+watched wiring lent input = watched_of wiring lent (read_input input)
 
 -- how many bytes at the front of an input decide what comes of it
 abbrev pub deciding : ℕ

@@ -51,12 +51,19 @@ fault_words fault = found_words fault.found ++ (codes " where " ++ (expected_wor
 abbrev pub unread_words : Unread → List ℕ
 unread_words unread = codes "unread " ++ (decimal unread.line ++ (codes ": " ++ fault_words unread.fault))
 
+-- of an argument more than one
+abbrev pub too_many_words : List ℕ
+too_many_words = codes "watch: more than one argument"
+
+-- of a word that begins with a hyphen and is no option
+abbrev pub unknown_option_words : List ℕ → List ℕ
+unknown_option_words word = codes "watch: unknown option: " ++ (word ++ codes " (./watch --help says what there is)")
+
 -- what is wrong with the arguments
 abbrev pub wrong_call_words : WrongCall → List ℕ
 wrong_call_words NotText = codes "watch: an argument is not text in UTF-8"
-wrong_call_words TooMany = codes "watch: more than one argument"
-wrong_call_words (UnknownOption word) =
-    codes "watch: unknown option: " ++ (string_bytes word ++ codes " (./watch --help says what there is)")
+wrong_call_words TooMany = too_many_words
+wrong_call_words (UnknownOption word) = unknown_option_words (string_bytes word)
 wrong_call_words (NoSuchFile path) = codes "watch: no such file: " ++ string_bytes path
 wrong_call_words (Folder path) = codes "watch: a folder, not a file: " ++ string_bytes path
 wrong_call_words (CannotBeRead path) = codes "watch: cannot be read: " ++ string_bytes path

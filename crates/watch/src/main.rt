@@ -1,5 +1,5 @@
-// The run program: it reads a size and a schedule from a file or from standard input, carries the schedule out on a fresh table with zero
-// tallies and prints the run sheet and the answer. On standard error it says in words what was refused or cannot be read.
+// The run program: it reads a size and a schedule from a file or from standard input, carries the schedule out, on the cube or by an option on the
+// ring, on a fresh table with zero tallies and prints the run sheet and the answer. On standard error it says in words what was refused or cannot be read.
 #![tactic(auto)]
 
 mod call;
@@ -19,16 +19,17 @@ use std::fmt::Display;
 use std::io::{self, ErrorKind, IsTerminal, Read};
 use std::process::ExitCode;
 use table::cells;
+use table::wiring::Wiring;
 
 fn main(rt: HostRuntime) -> anyhow::Result<ExitCode> {
     match call::read_arguments(&rt) {
         Ok(Call::Help) => written(rt.println(call::USAGE))?,
-        Ok(Call::File(file)) => watch(&rt, file)?,
-        Ok(Call::StandardInput) => {
+        Ok(Call::File(wiring, file)) => watch(&rt, wiring, file)?,
+        Ok(Call::StandardInput(wiring)) => {
             if rt.stdin().is_terminal() {
                 explain(&rt, HINT);
             }
-            watch(&rt, rt.stdin())?;
+            watch(&rt, wiring, rt.stdin())?;
         }
         Err(wrong) => {
             let too_many = matches!(wrong, WrongCall::TooMany);
@@ -44,13 +45,17 @@ fn main(rt: HostRuntime) -> anyhow::Result<ExitCode> {
 
 const HINT: &str = "reading standard input: a size, then a line per entry; Ctrl-D ends it";
 
-// Reads the input, carries it out and prints what comes of it; then says in words what was refused or cannot be read.
-fn watch<R: Read + Drop>(rt: &(impl Print + Eprint + AllocGlobal), input: R) -> anyhow::Result<()> {
+// Reads the input, carries it out on a wiring and prints what comes of it; then says in words what was refused or cannot be read.
+fn watch<R: Read + Drop>(
+    rt: &(impl Print + Eprint + AllocGlobal),
+    wiring: Wiring,
+    input: R,
+) -> anyhow::Result<()> {
     let input = read_front(rt.alloc(), input).context("the input cannot be read")?;
     let mut schedule = [0u8; 8192];
     let mut table = [0u8; cells::GREATEST_TABLE];
     let mut sheet = [0u8; 16384];
-    match watched::watch_plant(&input, &mut schedule, &mut table, &mut sheet) {
+    match watched::watch_plant(wiring, &input, &mut schedule, &mut table, &mut sheet) {
         Ok(ran) => {
             written(rt.println(RunSheet { sheet: &sheet, ran }))?;
             if let Some(refusal) = ran.stopped {

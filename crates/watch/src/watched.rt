@@ -2,7 +2,7 @@
 ghost use Rattle.std.specs.Prelude.{◌≡◌, ℕ, List, ◌++◌, Ok, true, false, ◌*◌, ◌≤◌, length, take, IfErr};
 ghost use Rattle.table.specs.Sizes.{is_size};
 ghost use Rattle.table.specs.Table.{greatest_table, table_length};
-ghost use Rattle.table.specs.Wiring.{wiring_cube};
+ghost use Rattle.table.specs.Wiring.{wiring_number};
 ghost use Rattle.table.specs.Fresh.{fresh_after};
 ghost use Rattle.plant.specs.Entry.{state_of};
 ghost use Rattle.plant.specs.Run.{outcome_with, run};
@@ -15,54 +15,71 @@ use plant::{Ran, Tally, run};
 use table::wiring::Wiring;
 use table::{cells, fresh, sizes};
 
-// Reads an input and carries its schedule out; answers how the run went, or the first unreadable line.
+// Reads an input and carries its schedule out on a wiring; answers how the run went, or the first unreadable line.
 pub fn watch_plant(
+    wiring: Wiring,
     input: &[u8],
     schedule: &mut [u8; 8192],
     table: &mut [u8; cells::GREATEST_TABLE],
     sheet: &mut [u8; 16384],
 ) -> Result<Ran, Unread>
-    ensures answer_and_sheet { watched_with result sheet.new ≡ watched sheet.old input.now }
+    ensures answer_and_sheet { watched_with result sheet.new
+        ≡ watched wiring sheet.old input.now }
     ensures fault { IfErr result (λ u. u.fault ≡ fault_in u.line (lines input.now)) }
 
     // What follows so many bytes does not matter.
     ensures decided { (rest : List ℕ) → length input.now ≡ deciding
-        → watched_with result sheet.new ≡ watched sheet.old (input.now ++ rest) }
+        → watched_with result sheet.new ≡ watched wiring sheet.old (input.now ++ rest) }
 {
     let parsed = input::parse(input, schedule)?;
     let taken = &schedule[..2 * parsed.entries];
-    Ok(carry_out(parsed.size, taken, table, sheet))
+    Ok(carry_out(wiring, parsed.size, taken, table, sheet))
 }
 
 // Carries a schedule out on the parts of table and sheet that it takes.
 fn carry_out(
+    wiring: Wiring,
     size: usize,
     schedule: &[u8],
     table: &mut [u8; cells::GREATEST_TABLE],
     sheet: &mut [u8; 16384],
 ) -> Ran
     requires { 2 * length schedule.now ≤ length sheet.old }
-    ensures { watched_with (Ok result) sheet.new ≡ carried_out size schedule.now sheet.old }
+    ensures { watched_with (Ok result) sheet.new ≡ carried_out wiring size schedule.now sheet.old }
 {
     let long = table_part(size);
     let filled = 2 * schedule.len();
-    run_fresh(size, schedule, &mut table[..long], &mut sheet[..filled])
+    run_fresh(
+        wiring,
+        size,
+        schedule,
+        &mut table[..long],
+        &mut sheet[..filled],
+    )
 }
 
 // Makes the table fresh and runs the schedule with zero tallies.
-fn run_fresh(size: usize, schedule: &[u8], table: &mut [u8], sheet: &mut [u8]) -> Ran
-    ensures { let start = state_of (fresh_after wiring_cube size table.old) 0 0 in
-        outcome_with result table.new sheet.new ≡ run wiring_cube size start schedule.now sheet.old }
+fn run_fresh(
+    wiring: Wiring,
+    size: usize,
+    schedule: &[u8],
+    table: &mut [u8],
+    sheet: &mut [u8],
+) -> Ran
+    ensures { let w = wiring_number wiring in
+        let start = state_of (fresh_after w size table.old) 0 0 in
+        outcome_with result table.new sheet.new ≡ run w size start schedule.now sheet.old }
 {
-    let _ = fresh::fresh_table(Wiring::Cube as usize, size, table);
-    run::run(
-        Wiring::Cube as usize,
-        size,
-        table,
-        Tally::default(),
-        schedule,
-        sheet,
-    )
+    let number = number_of(wiring);
+    let _ = fresh::fresh_table(number, size, table);
+    run::run(number, size, table, Tally::default(), schedule, sheet)
+}
+
+// The number of a wiring.
+fn number_of(wiring: Wiring) -> usize
+    ensures { result ≡ wiring_number wiring }
+{
+    wiring as usize
 }
 
 // The length of the part of the table that a plant of this size has; 0 for what is no size, which the run refuses: of an Option the caller would

@@ -272,7 +272,7 @@ module _ (n N : ℕ) (L : ℕ → Bool) (low : n ≤ N) (absent : (k : ℕ) → 
     pub record Played (w : State) (room : ℕ) : Type 0 where
       pub turns : List ℕ
       pub end : State
-      pub goes : Goes N w turns end
+      pub goes : Goes wiring_cube N w turns end
       pub alike : Alike (after wiring_cube n s e) end
       pub tests : end.tests ≤ w.tests + room
 
@@ -313,10 +313,10 @@ module _ (n N : ℕ) (L : ℕ → Bool) (low : n ≤ N) (absent : (k : ℕ) → 
   pub record Follows (w : State) (end : State) : Type 0 where
     pub turns : List ℕ
     pub left : State
-    pub goes : Goes N w turns left
+    pub goes : Goes wiring_cube N w turns left
     pub alike : Alike end left
 
-  pub follow : {s end : State} {is : List ℕ} → Goes n s is end → (w : State) → Alike s w → w.tests + 66 * length is < tally_top → Follows w end
+  pub follow : {s end : State} {is : List ℕ} → Goes wiring_cube n s is end → (w : State) → Alike s w → w.tests + 66 * length is < tally_top → Follows w end
   follow {s} stop w a fits = record { turns = []; left = w; goes = stop; alike = a }
   follow {s} {end} (go {is = is} i z g) w a fits =
       let facts = entry-facts n s (entry_of kind_turn i) z in

@@ -36,10 +36,10 @@ use Rattle.witness.proofs.Moves.{Like}
 use Rattle.witness.proofs.Follow.{Alike, follow}
 
 -- a table by its bytes: line and column
-abbrev table_by : ℕ → (ℕ → ℕ → ℕ) → List ℕ
+abbrev pub table_by : ℕ → (ℕ → ℕ → ℕ) → List ℕ
 table_by n f = list_of (λ p. f (p / stride n) (p % stride n)) (table_length n)
 
-by-cell : (n : ℕ) (f : ℕ → ℕ → ℕ) (i c : ℕ) → i < n → c < stride n → cell n (table_by n f) i c ≡ f i c
+pub by-cell : (n : ℕ) (f : ℕ → ℕ → ℕ) (i c : ℕ) → i < n → c < stride n → cell n (table_by n f) i c ≡ f i c
 unfolding cell line_start
 by-cell n f i c h g =
     list_of-at (λ p. f (p / stride n) (p % stride n)) (table_length n) (i * stride n + c) (omega (arith, line-inside n i h)) ∙ rw (line, column)
@@ -61,7 +61,7 @@ wider-exit n N i s told ago low h =
     (λ q. let b = both (ltb told n) (not (eqb told i)) (rw (e, f, q) at h) in rw (q, lt-ltb told N (omega (arith, ltb-true told n b.0)), b.1))))
     (λ f. rw (e, f) (rw (e, f) at h)))
 
-module _ (n N : ℕ) (p : Slow n) (Size : is_size N ≡ true) (low : n ≤ N) (levels : dimension n ≡ dimension N) where
+module _ (n N : ℕ) (p : Slow wiring_cube n) (Size : is_size N ≡ true) (low : n ≤ N) (levels : dimension n ≡ dimension N) where
   abbrev t : List ℕ
   t = p.first.table
 
@@ -233,7 +233,7 @@ module _ (n N : ℕ) (p : Slow n) (Size : is_size N ≡ true) (low : n ≤ N) (l
           (λ a. rw (live_of i h, a))
 
   -- so the second plant is slow as well
-  pub greater : length p.turns ≤ 4096 → Slow N
+  pub greater : length p.turns ≤ 4096 → Slow wiring_cube N
   greater few =
       let f = follow n N L low absent p.premises.size Size distances-same company p.goes w alike (omega arith) in
       let alive : L p.board ≡ true = rw (lt-ltb p.board n p.board_below) p.board_live in

@@ -1,4 +1,4 @@
--- What is shown by computed plants: that the detection conditions can be met, and that the worst-case latency is reached at any size from 3 on.
+-- That the detection conditions can be met, by computed plants, and that the worst-case latency is reached on each wiring at any size from 3 on.
 pub mod Computing
 pub mod Witness
 pub mod Moves
@@ -7,3 +7,6 @@ pub mod Follow
 pub mod Greater
 pub mod Plants
 pub mod Slowest
+pub mod RingPasses
+pub mod SlowRing
+pub mod Reached

@@ -35,61 +35,59 @@ abbrev pub byte_after : Bool → (ℕ → ℕ → ℕ) → ℕ → ℕ → ℕ �
 byte_after alive f i x k y =
     cond alive (cond ((eqb k i || eqb k x) && not (eqb y k)) (max (f i y) (f x y)) (f k y)) (cond (eqb k i && eqb y x) 1 (f k y))
 
--- a turn in a table in which no live board suspects a live one
-module _ (n : ℕ) (L : ℕ → Bool) (t : List ℕ) (i : ℕ) (size : is_size n ≡ true) (p : Plain wiring_cube n L t) (company : Company n L) (hi : i < n)
+-- a turn, on any wiring, in a table in which no live board suspects a live one
+module _ (w n : ℕ) (L : ℕ → Bool) (t : List ℕ) (i : ℕ) (size : is_size n ≡ true) (p : Plain w n L t) (company : Company n L) (hi : i < n)
     (li : L i ≡ true) (going : finished n t i ≡ 0) where
   -- a turn that makes no test leaves the rows
-  pub finish-bytes : makes_test wiring_cube n t i ≡ false → (k y : ℕ) → y < n → suspects n (turn wiring_cube n t kind_turn i) k y ≡ suspects n t k y
+  pub finish-bytes : makes_test w n t i ≡ false → (k y : ℕ) → y < n → suspects n (turn w n t kind_turn i) k y ≡ suspects n t k y
   unfolding turn
-  finish-bytes e k y hy = rw e (finish_pass-other n t i wiring_cube k (head + y) (omega arith) (λ q. (λ r. omega arith, λ r. omega arith)))
+  finish-bytes e k y hy = rw e (finish_pass-other n t i w k (head + y) (omega arith) (λ q. (λ r. omega arith, λ r. omega arith)))
 
-  module _ (e : makes_test wiring_cube n t i ≡ true) where
+  module _ (e : makes_test w n t i ≡ true) where
     abbrev m : ℕ
-    m = next_test wiring_cube n t i
+    m = next_test w n t i
 
     abbrev x : ℕ
-    x = station_at i m
+    x = wired_station w n i m
 
     -- what comes of the test
     abbrev o : ℕ
     o = cond (L x) outcome_exchanged outcome_no_reply
 
     abbrev t₁ : List ℕ
-    t₁ = count_test wiring_cube n t i m o
+    t₁ = count_test w n t i m o
 
     long₁ : length t₁ ≡ table_length n
-    long₁ = count_test-length n t i wiring_cube m o ∙ p.lines.0
+    long₁ = count_test-length n t i w m o ∙ p.lines.0
 
     x<n : x < n
-    unfolding wired_station
-    x<n = test-station wiring_cube n t i e p.lines.0 hi
+    x<n = test-station w n t i e p.lines.0 hi
 
     apart : i ≢ x
-    unfolding wired_station
     apart =
-        station-apart wiring_cube n i m hi (omega (arith, (p.lines.1 i hi).pass.next_low, next_test-low wiring_cube n t i))
-        (test_below wiring_cube n t i e)
+        station-apart w n i m hi (omega (arith, (p.lines.1 i hi).pass.next_low, next_test-low w n t i))
+        (test_below w n t i e)
 
     row₁ : (k y : ℕ) → y < n → suspects n t₁ k y ≡ suspects n t k y
-    row₁ k y hy = count_test-other n t i wiring_cube m o k (head + y) (omega arith) (λ q. (λ r. omega arith, λ r. omega arith))
+    row₁ k y hy = count_test-other n t i w m o k (head + y) (omega arith) (λ q. (λ r. omega arith, λ r. omega arith))
 
-    plain₁ : Plain wiring_cube n L t₁
+    plain₁ : Plain w n L t₁
     plain₁ =
         let lines₁ =
-        count_test-lines wiring_cube n t i p.lines hi m o (omega (arith, going)) (next_test-low wiring_cube n t i) (test_below wiring_cube n t i e) in
-        (same_rows wiring_cube n L t t₁ lines₁ (λ k c h counts _. count_test-other n t i wiring_cube m o k c h (λ _. (λ e. counts (omega arith), λ e. counts (omega arith)))) p).0
+        count_test-lines w n t i p.lines hi m o (omega (arith, going)) (next_test-low w n t i) (test_below w n t i e) in
+        (same_rows w n L t t₁ lines₁ (λ k c h counts _. count_test-other n t i w m o k c h (λ _. (λ e. counts (omega arith), λ e. counts (omega arith)))) p).0
 
     -- what the turn does to the rows
     after-is : after_outcome n t₁ i x o ≡ cond (L x) (exchange_rows n t₁ i x) (suspect n t₁ i x)
     unfolding after_outcome
     after-is = by_bool (L x) (λ l. rw l) (λ l. rw l)
 
-    turned-is : turn wiring_cube n t kind_turn i ≡ cond (L x) (exchange_rows n t₁ i x) (suspect n t₁ i x)
-    unfolding turn testing after_test wired_station
+    turned-is : turn w n t kind_turn i ≡ cond (L x) (exchange_rows n t₁ i x) (suspect n t₁ i x)
+    unfolding turn testing after_test
     turned-is =
-        let is = outcome-is wiring_cube n L t i x p hi x<n apart li kind_turn (λ _. refl) in
-        let done = outcome-effect wiring_cube n L t₁ i x plain₁ hi x<n apart li in
-        rw (e, is, not-alone wiring_cube n L (after_outcome n t₁ i x o) i done.0 company hi li) after-is
+        let is = outcome-is w n L t i x p hi x<n apart li kind_turn (λ _. refl) in
+        let done = outcome-effect w n L t₁ i x plain₁ hi x<n apart li in
+        rw (e, is, not-alone w n L (after_outcome n t₁ i x o) i done.0 company hi li) after-is
 
     exchanged : (k y : ℕ) → k < n → y < n → suspects n (exchange_rows n t₁ i x) k y ≡ byte_after true (suspects n t) i x k y
     exchanged k y hk hy = pick (ℕ_discrete k i) (ℕ_discrete k x) (ℕ_discrete y k)
@@ -117,7 +115,7 @@ module _ (n : ℕ) (L : ℕ → Bool) (t : List ℕ) (i : ℕ) (size : is_size n
             rw (a, eq-eqb i i refl, ne_eqb y x b) (suspect-other n t₁ i long₁ hi x i (head + y) (omega arith) (λ q r. b (omega arith)) ∙ row₁ i y hy)
         pick (no a) b = rw (ne_eqb k i a) (suspect-other n t₁ i long₁ hi x k (head + y) (omega arith) (λ q. absurd (a (sym q))) ∙ row₁ k y hy)
 
-    pub test-bytes : (k y : ℕ) → k < n → y < n → suspects n (turn wiring_cube n t kind_turn i) k y ≡ byte_after (L x) (suspects n t) i x k y
+    pub test-bytes : (k y : ℕ) → k < n → y < n → suspects n (turn w n t kind_turn i) k y ≡ byte_after (L x) (suspects n t) i x k y
     test-bytes k y hk hy =
         by_bool (L x) (λ l. rw (turned-is, l) (rw l at (exchanged k y hk hy))) (λ l. rw (turned-is, l) (rw l at (marked k y hk hy)))
 
@@ -211,8 +209,9 @@ module _ (n N : ℕ) (L : ℕ → Bool) (low : n ≤ N) (absent : (k : ℕ) → 
         z<N = test-station wiring_cube N u i e like.big.lines.0 H
 
         kept : (k y : ℕ) → L k ≡ true → y < N → suspects N u' k y ≡ suspects N u k y
+        unfolding wired_station
         kept k y l b =
-            test-bytes N L u i Size like.big big-company H li Going e k y (omega (arith, live_below k l)) b
+            test-bytes wiring_cube N L u i Size like.big big-company H li Going e k y (omega (arith, live_below k l)) b
             ∙ rw (absent z (omega arith)) (by_bool (eqb k i && eqb y z) here (λ q. rw q))
           where
             here : (eqb k i && eqb y z) ≡ true → cond (eqb k i && eqb y z) 1 (suspects N u k y) ≡ suspects N u k y
@@ -244,9 +243,9 @@ module _ (n N : ℕ) (L : ℕ → Bool) (low : n ≤ N) (absent : (k : ℕ) → 
           finish = λ k l. by_cases (ℕ_discrete k i) (λ q. rw q (rw E at Heads-of.finish ∙ sym (rw e at heads.finish)))
               (λ q. Heads-of.others k finished_column q (omega arith) ∙ (like.finish k l ∙ sym (heads.others k finished_column q (omega arith))));
           rows = λ k y l b.
-              finish-bytes N L u i Size like.big big-company H li Going E k y (omega arith)
-              ∙ (like.rows k y l b ∙ sym (finish-bytes n L t i size like.small company h li going e k y b));
-          known = λ k y l a b. finish-bytes N L u i Size like.big big-company H li Going E k y b ∙ like.known k y l a b;
+              finish-bytes wiring_cube N L u i Size like.big big-company H li Going E k y (omega arith)
+              ∙ (like.rows k y l b ∙ sym (finish-bytes wiring_cube n L t i size like.small company h li going e k y b));
+          known = λ k y l a b. finish-bytes wiring_cube N L u i Size like.big big-company H li Going E k y b ∙ like.known k y l a b;
         }
 
         pub finish-next : next_distance N u' i ≡ next_distance n t' i
@@ -259,7 +258,8 @@ module _ (n N : ℕ) (L : ℕ → Bool) (low : n ≤ N) (absent : (k : ℕ) → 
         w = station_at i (next_test wiring_cube n t i)
 
         Bytes : (k y : ℕ) → L k ≡ true → y < N → suspects N u' k y ≡ byte_after (L w) (suspects N u) i w k y
-        Bytes k y l b = rw same at (test-bytes N L u i Size like.big big-company H li Going E k y (omega (arith, live_below k l)) b)
+        unfolding wired_station
+        Bytes k y l b = rw same at (test-bytes wiring_cube N L u i Size like.big big-company H li Going E k y (omega (arith, live_below k l)) b)
 
         alike : (k y : ℕ) → L k ≡ true → y < n → byte_after (L w) (suspects N u) i w k y ≡ byte_after (L w) (suspects n t) i w k y
         alike k y l b =
@@ -273,13 +273,14 @@ module _ (n N : ℕ) (L : ℕ → Bool) (low : n ≤ N) (absent : (k : ℕ) → 
             (λ lx. rw (lx, like.known k y l a b) (by_bool (eqb k i && eqb y w) (λ q. rw q) (λ q. rw q)))
 
         pub both-test : Like t' u'
+        unfolding wired_station
         both-test = record {
           small = plain';
           big = Plain';
           finish = λ k l. by_cases (ℕ_discrete k i) (λ q. rw q (rw E at Heads-of.finish ∙ (like.finish i li ∙ sym (rw e at heads.finish))))
               (λ q. Heads-of.others k finished_column q (omega arith) ∙ (like.finish k l ∙ sym (heads.others k finished_column q (omega arith))));
           rows = λ k y l b.
-              Bytes k y l (omega arith) ∙ (alike k y l b ∙ sym (test-bytes n L t i size like.small company h li going e k y (live_below k l) b));
+              Bytes k y l (omega arith) ∙ (alike k y l b ∙ sym (test-bytes wiring_cube n L t i size like.small company h li going e k y (live_below k l) b));
           known = λ k y l a b. Bytes k y l b ∙ stays k y l a b;
         }
 

@@ -40,7 +40,7 @@ arrives n s (i ∷ is) q = cond (eqb (entry_refusal n s (entry_of kind_turn i)) 
 -- what they leave
 pub record Arrival (n : ℕ) (s : State) (is : List ℕ) (q : State → Bool) : Type 0 where
   pub left : State
-  pub goes : Goes n s is left
+  pub goes : Goes wiring_cube n s is left
   pub passes : q left ≡ true
 
 pub arrival : (n : ℕ) (s : State) (is : List ℕ) (q : State → Bool) → arrives n s is q ≡ true → Arrival n s is q
@@ -72,7 +72,7 @@ unseen n i j end = eqb (suc end.rounds) (worst_latency (dimension n)) && eqb (su
 
 -- a slow plant with a list of turns that fits a schedule
 abbrev pub Computed : ℕ → Type 0
-Computed n = (p : Slow n) × (length p.turns ≤ 4096)
+Computed n = (p : Slow wiring_cube n) × (length p.turns ≤ 4096)
 
 -- such a plant is slow
 pub slow-plant : (n : ℕ) (dead : List ℕ) (i j : ℕ) → begins n dead i j ≡ true → (turns : List ℕ) → leb (length turns) 4096 ≡ true
@@ -155,11 +155,11 @@ states-same a b e =
     λ k. state_of (table k) (rounds k) (tests k)
 
 -- turns from one state to another
-pub part : (n : ℕ) (s : State) (is : List ℕ) (s' : State) → arrives n s is (same_state s') ≡ true → Goes n s is s'
+pub part : (n : ℕ) (s : State) (is : List ℕ) (s' : State) → arrives n s is (same_state s') ≡ true → Goes wiring_cube n s is s'
 part n s is s' e =
     let a = arrival n s is (same_state s') e in
-    subst (Goes n s is) (sym (states-same s' a.left a.passes)) a.goes
+    subst (Goes wiring_cube n s is) (sym (states-same s' a.left a.passes)) a.goes
 
 -- an arrival behind some turns
-pub behind : (n : ℕ) (s s' : State) (is js : List ℕ) (q : State → Bool) → Goes n s is s' → Arrival n s' js q → Arrival n s (is ++ js) q
+pub behind : (n : ℕ) (s s' : State) (is js : List ℕ) (q : State → Bool) → Goes wiring_cube n s is s' → Arrival n s' js q → Arrival n s (is ++ js) q
 behind n s s' is js q g a = record { left = a.left; goes = goes-append g a.goes; passes = a.passes }

@@ -5,12 +5,11 @@ use mathlib.Core.Path.{◌≡◌, refl, ap, ◌∙◌}
 use mathlib.Core.Logic.{by_cases}
 use mathlib.Core.Bool.{Bool, true, not}
 use mathlib.Core.List.{List, [], ◌∷◌, ◌++◌, map}
-use Prim.Native.Nat.{ℕ, suc, ◌+◌, ◌≤◌, ◌<◌}
+use Prim.Native.Nat.{ℕ, suc, ◌+◌, ◌<◌}
 use native.Mathlib.Decide.{dec_lt}
 use native.Mathlib.Omega.{arith}
+use borrow.Author.Tests.{eq-eqb}
 use Rattle.lists.specs.Sums.{bit}
-use Rattle.table.specs.Sizes.{dimension}
-use Rattle.table.specs.Wiring.{wiring_cube}
 use Rattle.table.specs.Table.{suspects, live}
 use Rattle.table.specs.Rules.{not_live, wired_table_refusal}
 use Rattle.table.proofs.Accepting.{Accepted, accepted}
@@ -20,47 +19,48 @@ use Rattle.plant.proofs.RulesKept.{accepted-kept}
 use Rattle.plant.proofs.RunLaws.{accepted-number}
 use Rattle.detection.specs.Runs.{Call, Taken, turn_run, after_runs, taken_all, crashes, is_late, is_on}
 use Rattle.detection.specs.Rounds.{all_taken}
-use Rattle.detection.specs.Claim.{DetectionPremises, worst_latency}
+use Rattle.detection.specs.Claim.{DetectionPremises, worst_rounds}
 use Rattle.detection.proofs.TakenLaws.{taken_at}
 use Rattle.detection.proofs.OneTurn.{one_left, runs_append, one_passes}
 use Rattle.witness.specs.WorstCase.{WorstCaseAt}
 
 -- turns of the boards listed, each taken, from a state to a state
-pub data Goes (n : ℕ) : State → List ℕ → State → Type 0 where
-  stop : {s : State} → Goes n s [] s
-  go : {s s' : State} {is : List ℕ} (i : ℕ) → entry_refusal n s (entry_of kind_turn i) ≡ 0 → Goes n (after wiring_cube n s (entry_of kind_turn i)) is s'
-      → Goes n s (i ∷ is) s'
+pub data Goes (w n : ℕ) : State → List ℕ → State → Type 0 where
+  stop : {s : State} → Goes w n s [] s
+  go : {s s' : State} {is : List ℕ} (i : ℕ) → entry_refusal n s (entry_of kind_turn i) ≡ 0 → Goes w n (after w n s (entry_of kind_turn i)) is s'
+      → Goes w n s (i ∷ is) s'
 
 -- two such lists, one behind the other
-pub goes-append : {n : ℕ} {s s' s'' : State} {a b : List ℕ} → Goes n s a s' → Goes n s' b s'' → Goes n s (a ++ b) s''
+pub goes-append : {w n : ℕ} {s s' s'' : State} {a b : List ℕ} → Goes w n s a s' → Goes w n s' b s'' → Goes w n s (a ++ b) s''
 goes-append stop d = d
 goes-append (go i z g) d = go i z (goes-append g d)
 
 -- they are a list of runs of one turn each
-goes-runs : {n : ℕ} {s s' : State} {is : List ℕ} → Goes n s is s' → Accepted wiring_cube n s.table → after_runs s (map (turn_run wiring_cube n) is) ≡ s'
+goes-runs : {w n : ℕ} {s s' : State} {is : List ℕ} → Goes w n s is s' → Accepted w n s.table → after_runs s (map (turn_run w n) is) ≡ s'
 unfolding after_runs
 goes-runs stop ok = refl
-goes-runs {n} (go {s} {is = is} i z g) ok =
-    ap (λ (w : State). after_runs w (map (turn_run wiring_cube n) is)) (one_left wiring_cube n s i (accepted-number wiring_cube n s.table ok) z)
-    ∙ goes-runs g (accepted-kept wiring_cube n s (entry_of kind_turn i) ok z)
+goes-runs {w} {n} (go {s} {is = is} i z g) ok =
+    ap (λ (u : State). after_runs u (map (turn_run w n) is)) (one_left w n s i (accepted-number w n s.table ok) z)
+    ∙ goes-runs g (accepted-kept w n s (entry_of kind_turn i) ok z)
 
-turns-pass : (q : Taken → Bool) → ((n : ℕ) (s : State) (i : ℕ) → q (taken_at wiring_cube n s (entry_of kind_turn i)) ≡ true) → (n : ℕ) (s : State) (is : List ℕ)
-    → all_taken q (taken_all s (map (turn_run wiring_cube n) is)) ≡ true
+turns-pass : (w : ℕ) (q : Taken → Bool) → ((n : ℕ) (s : State) (i : ℕ) → q (taken_at w n s (entry_of kind_turn i)) ≡ true)
+    → (n : ℕ) (s : State) (is : List ℕ) → all_taken q (taken_all s (map (turn_run w n) is)) ≡ true
 unfolding taken_all all_taken
-turns-pass q turns n s [] = refl
-turns-pass q turns n s (i ∷ is) =
-    runs_append q s (turn_run wiring_cube n i ∷ []) (map (turn_run wiring_cube n) is) (one_passes wiring_cube q turns n s i) (turns-pass q turns n (after_runs s (turn_run wiring_cube n i ∷ [])) is)
+turns-pass w q turns n s [] = refl
+turns-pass w q turns n s (i ∷ is) =
+    runs_append q s (turn_run w n i ∷ []) (map (turn_run w n) is) (one_passes w q turns n s i)
+    (turns-pass w q turns n (after_runs s (turn_run w n i ∷ [])) is)
 
 -- a table that the claim describes, turns with which one round less than the worst-case latency closes, and a live board that does not suspect a
 -- dead one then
-pub record Slow (n : ℕ) : Type 0 where
+pub record Slow (w n : ℕ) : Type 0 where
   pub first : State
-  pub ok : wired_table_refusal wiring_cube n first.table ≡ 0
-  pub premises : DetectionPremises wiring_cube n first []
+  pub ok : wired_table_refusal w n first.table ≡ 0
+  pub premises : DetectionPremises w n first []
   pub turns : List ℕ
   pub last : State
-  pub goes : Goes n first turns last
-  pub rounds : suc last.rounds ≡ first.rounds + worst_latency (dimension n)
+  pub goes : Goes w n first turns last
+  pub rounds : suc last.rounds ≡ first.rounds + worst_rounds w n
   pub board : ℕ
   pub board_below : board < n
   pub board_live : live n first.table board ≡ true
@@ -70,13 +70,13 @@ pub record Slow (n : ℕ) : Type 0 where
   pub unseen : suspects n last.table board missed ≡ 0
 
 -- by a claim within fewer rounds the live board would suspect the dead one
-pub slow-worst-case : (n : ℕ) → Slow n → WorstCaseAt n
-slow-worst-case n p enough claim = by_cases (dec_lt enough (worst_latency (dimension n))) early (λ l. omega arith)
+pub slow-worst-case : (w n : ℕ) → Slow w n → WorstCaseAt w n
+slow-worst-case w n p enough claim = by_cases (dec_lt enough (worst_rounds w n)) (λ l. absurd (early l)) (λ l. omega arith)
   where
     calls : List Call
-    calls = map (turn_run wiring_cube n) p.turns
+    calls = map (turn_run w n) p.turns
 
-    given : DetectionPremises wiring_cube n p.first calls
+    given : DetectionPremises w n p.first calls
     given = record {
       wiring = p.premises.wiring;
       size = p.premises.size;
@@ -84,13 +84,13 @@ slow-worst-case n p enough claim = by_cases (dec_lt enough (worst_latency (dimen
       start = p.premises.start;
       two_live = p.premises.two_live;
       accurate = p.premises.accurate;
-      one_wiring = turns-pass (is_on wiring_cube) (λ n s i. refl) n p.first p.turns;
-      no_crash = turns-pass (λ x. not (crashes x)) (λ n s i. refl) n p.first p.turns;
-      no_late = turns-pass (λ x. not (is_late x)) (λ n s i. refl) n p.first p.turns;
+      one_wiring = turns-pass w (is_on w) (λ n s i. eq-eqb w w refl) n p.first p.turns;
+      no_crash = turns-pass w (λ x. not (crashes x)) (λ n s i. refl) n p.first p.turns;
+      no_late = turns-pass w (λ x. not (is_late x)) (λ n s i. refl) n p.first p.turns;
     }
 
-    early : enough < worst_latency (dimension n) → worst_latency (dimension n) ≤ enough
+    early : enough < worst_rounds w n → ⊥
     early l =
-        let after = rw (goes-runs p.goes (accepted wiring_cube n p.first.table p.ok)) at (claim p.first calls given) in
+        let after = rw (goes-runs p.goes (accepted w n p.first.table p.ok)) at (claim p.first calls given) in
         let known = after.exact_rows (omega (arith, after.rounds_tally, p.rounds)) p.board p.missed p.board_below p.missed_below p.board_live in
-        absurd (omega (arith, known, p.unseen, ap bit p.missed_dead))
+        omega (arith, known, p.unseen, ap bit p.missed_dead)

@@ -1,3 +1,3 @@
--- What is shown by computed plants.
+-- What is shown by plants: that the detection conditions can be met, and that the worst-case latency is reached.
 pub mod Witness
 pub mod WorstCase

@@ -1,10 +1,18 @@
-//! Reads standard input and prints what the run program prints.
+//! Reads standard input and prints what the run program prints: on the ring
+//! with the argument `--ring`, else on the cube.
 
+use std::env;
 use std::io::{self, Read, Write};
+
+use simulator::Wiring;
 
 fn main() -> io::Result<()> {
     let mut input = Vec::new();
     io::stdin().lock().read_to_end(&mut input)?;
-    let text = simulator::program::respond(&input);
+    let wiring = match env::args_os().skip(1).any(|word| word == "--ring") {
+        true => Wiring::Ring,
+        false => Wiring::Cube,
+    };
+    let text = simulator::program::respond(wiring, &input);
     io::stdout().lock().write_all(text.as_bytes())
 }

@@ -8,7 +8,7 @@ use crate::check_table;
 
 /// A schedule with mostly turns, some late replies, few crashes and a few
 /// entries that are refused.
-fn schedule(numbers: &mut Numbers, n: usize, entries: usize) -> Vec<u8> {
+pub fn schedule(numbers: &mut Numbers, n: usize, entries: usize) -> Vec<u8> {
     let mut bytes = Vec::new();
     for _ in 0..entries {
         let kind = match numbers.below(200) {
@@ -48,6 +48,16 @@ impl Taken {
         self.sheet[2]
     }
 
+    /// The live station whose reply is late, if one is.
+    pub fn late(&self) -> Option<usize> {
+        let live = |j: &usize| is_live(self.n, &self.before, *j);
+        self.tested().filter(live).filter(|_| self.kind == 2)
+    }
+
+    pub fn crashes(&self) -> bool {
+        self.kind == 3
+    }
+
     /// Tester and tested, if the tested replied: it was live, and the kind is 1.
     fn replied(&self) -> Option<(usize, usize)> {
         let j = self.tested()?;
@@ -56,7 +66,7 @@ impl Taken {
     }
 
     /// The stations with another status after the entry than before.
-    fn left(&self) -> Vec<usize> {
+    pub fn left(&self) -> Vec<usize> {
         let status = |table: &[u8], i| head(self.n, table, i)[0];
         (0..self.n)
             .filter(|i| status(&self.before, *i) != status(&self.after, *i))
@@ -68,11 +78,11 @@ impl Taken {
     }
 }
 
-fn is_live(n: usize, table: &[u8], station: usize) -> bool {
+pub fn is_live(n: usize, table: &[u8], station: usize) -> bool {
     head(n, table, station)[0] == 0
 }
 
-fn suspects(n: usize, table: &[u8], station: usize, other: usize) -> bool {
+pub fn suspects(n: usize, table: &[u8], station: usize, other: usize) -> bool {
     row_bytes(n, table, station)[other] == 1
 }
 
@@ -82,7 +92,7 @@ fn suspects_all_others(n: usize, table: &[u8], station: usize) -> bool {
 
 /// Runs one entry after the other and skips the refused ones, which change
 /// nothing. Each table is accepted. Gives the taken ones.
-fn run_each(wiring: usize, n: usize, table: &mut [u8], entries: &[u8]) -> Vec<Taken> {
+pub fn run_each(wiring: usize, n: usize, table: &mut [u8], entries: &[u8]) -> Vec<Taken> {
     let mut tally = (0, 0);
     let mut all = Vec::new();
     for entry in entries.chunks(2) {

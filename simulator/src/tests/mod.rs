@@ -1,6 +1,7 @@
 //! Tests of the simulator against the owner's documents and the papers
 //! (docs/SOURCES.md).
 
+mod accuracy;
 mod claim;
 mod converter;
 mod converter_refused;

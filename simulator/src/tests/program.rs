@@ -1,6 +1,7 @@
 //! The run program.
 
-use crate::program::respond;
+use crate::program;
+use crate::wiring::Wiring;
 
 const SAMPLE: &str = "2\nT 0\nT 0\nT 1\nT 1\nC 1\nT 0\nT 0\n";
 
@@ -17,6 +18,11 @@ rounds 1 tests 3 refused 10 at 6
 
 const HEADER: &str = "station tested outcome status\n";
 
+/// What the program prints on the cube.
+fn respond(input: &[u8]) -> String {
+    program::respond(Wiring::Cube, input)
+}
+
 /// What the program prints without the header.
 fn printed(input: &str) -> String {
     let text = respond(input.as_bytes());
@@ -31,6 +37,53 @@ fn unread(input: &str, line: usize) {
 /// Size 64 and this many entries, each taken or refused.
 fn long_input(entries: usize) -> String {
     String::from("64\n") + &"T 0\n".repeat(entries)
+}
+
+/// What the program prints on the ring, without the header.
+fn printed_on_ring(input: &str) -> String {
+    let text = program::respond(Wiring::Ring, input.as_bytes());
+    text.strip_prefix(HEADER).unwrap().to_string()
+}
+
+/// Board 1 is dead. On the ring board 0 tests 1 and 2, board 2 tests 3, and
+/// board 3 tests 0. On the cube no pass is finished by these turns.
+#[test]
+fn round_of_4_boards_on_the_ring() {
+    let input = "4\nC 1\nT 0\nT 0\nT 0\nT 2\nT 2\nT 3\nT 3\n";
+    let expected = "\
+1 - 4 1
+0 1 3 0
+0 2 1 0
+0 - 0 0
+2 3 1 0
+2 - 0 0
+3 0 1 0
+3 - 0 0
+rounds 1 tests 4 refused 0 at 8
+";
+    assert_eq!(printed_on_ring(input), expected);
+    assert_eq!(
+        printed(input),
+        "1 - 4 1\n0 1 3 0\n0 2 1 0\n0 3 1 0\n2 3 1 0\n2 0 1 0\n3 2 1 0\n3 1 3 0\n\
+         rounds 0 tests 7 refused 0 at 8\n"
+    );
+}
+
+/// What is refused or cannot be read is so on both wirings.
+#[test]
+fn refused_and_unread_on_the_ring() {
+    assert_eq!(
+        printed_on_ring("65\nT 0\n"),
+        "rounds 0 tests 0 refused 1 at 0\n"
+    );
+    assert_eq!(
+        printed_on_ring("3\nT 0\nT 0\nT 0\n"),
+        "0 1 1 0\n0 - 0 0\nrounds 0 tests 1 refused 11 at 2\n"
+    );
+    assert_eq!(
+        program::respond(Wiring::Ring, b"3\nT 0\nt 0\n"),
+        "unread 3\n"
+    );
 }
 
 #[test]

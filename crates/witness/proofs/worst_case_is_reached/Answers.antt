@@ -1,5 +1,5 @@
--- The claim is proved in proofs/Slowest.antt.
-use Rattle.witness.proofs.Slowest.{worst-case-is-reached}
+-- The claim is proved in proofs/Reached.antt.
+use Rattle.witness.proofs.Reached.{worst-case-is-reached}
 use Rattle.witness.proofs.worst_case_is_reached.Goals as goal
 
 pub returns : goal.returns

@@ -5,6 +5,7 @@ use shared::groups::dimension;
 use shared::random::Random;
 use shared::report;
 use shared::slowest::{self, Plant};
+use shared::wiring::Wiring;
 
 use crate::generate;
 use crate::odd::{self, Odd};
@@ -13,6 +14,9 @@ use crate::wait;
 /// The worst-case latency by d from 1 on, which is the logarithm of the size to
 /// base 2, rounded up.
 const WORST_LATENCY: [u32; 6] = [1, 2, 3, 4, 6, 8];
+
+/// The option that gives the ring.
+pub const RING: &str = "--ring";
 
 /// Where an input comes from.
 pub enum Source {
@@ -26,6 +30,8 @@ pub enum Source {
 
 pub struct Case {
     pub source: Source,
+    /// On which the input is run.
+    pub wiring: Wiring,
     pub input: Vec<u8>,
     /// Where the input is cut when it is handed over in pieces, ascending.
     pub cuts: Vec<usize>,
@@ -57,6 +63,7 @@ impl Case {
                 number,
                 name: odd.name,
             },
+            wiring: odd.wiring,
             cuts: cuts(odd.input.len()),
             input: odd.input,
             expected: odd.output,
@@ -70,8 +77,9 @@ impl Case {
         let wait = WORST_LATENCY[dimension(plant.n) as usize - 1];
         Case {
             source: Source::Slowest { plant, wait },
+            wiring: Wiring::Cube,
             cuts: cuts(input.len()),
-            expected: simulate(&input),
+            expected: simulate(Wiring::Cube, &input),
             input,
         }
     }
@@ -81,7 +89,8 @@ impl Case {
         let input = generate::input(&mut Random::numbered(seed, number));
         Case {
             source: Source::Random { seed, number },
-            expected: simulate(&input.bytes),
+            wiring: input.wiring,
+            expected: simulate(input.wiring, &input.bytes),
             input: input.bytes,
             cuts: input.cuts,
         }
@@ -97,13 +106,13 @@ impl Case {
     /// Only for an odd input can the simulator differ.
     pub fn check_simulator(&self) -> Option<Difference> {
         match self.source {
-            Source::Odd { .. } => self.compare(By::Simulator, Ok(simulate(&self.input))),
+            Source::Odd { .. } => self.compare(By::Simulator, Ok(self.simulate())),
             Source::Slowest { .. } | Source::Random { .. } => None,
         }
     }
 
     fn check_whole(&self, program: &Program) -> Option<Difference> {
-        let printed = print(program, &[&self.input]);
+        let printed = print(program, self.wiring, &[&self.input]);
         self.check_wait(&printed)
             .or_else(|| self.compare(By::Whole, printed))
     }
@@ -124,7 +133,7 @@ impl Case {
         if self.cuts.is_empty() {
             return None;
         }
-        self.compare(By::Pieces, print(program, &self.pieces()))
+        self.compare(By::Pieces, print(program, self.wiring, &self.pieces()))
     }
 
     pub fn compare(&self, by: By, printed: Result<Vec<u8>, String>) -> Option<Difference> {
@@ -132,6 +141,11 @@ impl Case {
             return None;
         }
         Some(Difference { by, printed })
+    }
+
+    /// What the simulator gives.
+    pub fn simulate(&self) -> Vec<u8> {
+        simulate(self.wiring, &self.input)
     }
 
     fn pieces(&self) -> Vec<&[u8]> {
@@ -164,11 +178,15 @@ fn cuts(length: usize) -> Vec<usize> {
     cuts
 }
 
-/// What the run program prints when it is handed these pieces of its input one
-/// after the other, or why that is not known. On standard error it must say
+/// What the run program prints on a wiring when it is handed these pieces of its
+/// input one after the other, or why that is not known. On standard error it must say
 /// what was refused or cannot be read, in one line, and nothing else.
-fn print(program: &Program, pieces: &[&[u8]]) -> Result<Vec<u8>, String> {
-    let written = program.run(&[], pieces)?;
+fn print(program: &Program, wiring: Wiring, pieces: &[&[u8]]) -> Result<Vec<u8>, String> {
+    let arguments: &[&[u8]] = match wiring {
+        Wiring::Cube => &[],
+        Wiring::Ring => &[RING.as_bytes()],
+    };
+    let written = program.run(arguments, pieces)?;
     match says(&written.err, words(&written.out)) {
         true => Ok(written.out),
         false => {
@@ -202,6 +220,11 @@ fn says(err: &[u8], words: Option<&str>) -> bool {
         && line.starts_with(format!("{words}: ").as_bytes())
 }
 
-fn simulate(input: &[u8]) -> Vec<u8> {
-    simulator::program::respond(input).into_bytes()
+/// What the simulator gives for this input on a wiring.
+pub fn simulate(wiring: Wiring, input: &[u8]) -> Vec<u8> {
+    let wiring = match wiring {
+        Wiring::Cube => simulator::Wiring::Cube,
+        Wiring::Ring => simulator::Wiring::Ring,
+    };
+    simulator::program::respond(wiring, input).into_bytes()
 }

@@ -5,6 +5,7 @@ use std::fmt;
 
 use shared::counts::{increase, list, list_sizes, Required};
 use shared::groups::{ahead, SIZES};
+use shared::wiring::Wiring;
 
 use crate::case::Case;
 use crate::generate::{MOST, REFUSED_SIZES};
@@ -40,10 +41,13 @@ pub struct Counts {
     pub sizes: [u64; 63],
     /// Read with another size: those of `REFUSED_SIZES`, up to 255, above.
     pub refused_sizes: [u64; BEYOND_BYTE + 1],
-    /// Tests at a distance of n or more; tests where an absent number is ahead.
+    /// On the cube: tests at a distance of n or more; tests where an absent number
+    /// is ahead.
     pub absent: [u64; 2],
     /// The outcomes of entries taken, 0 to 5.
     pub outcomes: [u64; 6],
+    /// Those of entries taken on the ring.
+    pub ring_outcomes: [u64; 6],
     /// The statuses of their stations afterwards, 0 to 3.
     pub statuses: [u64; 4],
     /// Rounds closed.
@@ -70,6 +74,7 @@ impl Counts {
             refused_sizes: [count; BEYOND_BYTE + 1],
             absent: [count; 2],
             outcomes: [count; 6],
+            ring_outcomes: [count; 6],
             statuses: [count; 4],
             rounds: count,
             full: count,
@@ -89,7 +94,7 @@ impl Counts {
         };
         match printed.strip_prefix("unread ") {
             Some(line) => self.add_unread(line.trim_end()),
-            None => self.add_read(&case.input, printed),
+            None => self.add_read(case.wiring, &case.input, printed),
         }
     }
 
@@ -102,7 +107,7 @@ impl Counts {
         }
     }
 
-    fn add_read(&mut self, input: &[u8], printed: &str) {
+    fn add_read(&mut self, wiring: Wiring, input: &[u8], printed: &str) {
         if !input.ends_with(b"\n") {
             self.unended += 1;
         }
@@ -115,11 +120,11 @@ impl Counts {
         let size: Option<usize> = text.lines().next().and_then(|line| line.parse().ok());
         if let (Some(n), Some(printed)) = (size, Printed::read(printed)) {
             self.add_size(n);
-            self.add_printed(n, &printed);
+            self.add_printed(wiring, n, &printed);
         }
     }
 
-    fn add_printed(&mut self, n: usize, printed: &Printed) {
+    fn add_printed(&mut self, wiring: Wiring, n: usize, printed: &Printed) {
         self.rounds += u64::from(printed.rounds);
         increase(&mut self.numbers, printed.refused);
         if printed.taken == MOST {
@@ -128,7 +133,10 @@ impl Counts {
         for line in &printed.lines {
             increase(&mut self.outcomes, line.outcome);
             increase(&mut self.statuses, line.status);
-            self.add_absent(n, line);
+            match wiring {
+                Wiring::Cube => self.add_absent(n, line),
+                Wiring::Ring => increase(&mut self.ring_outcomes, line.outcome),
+            }
         }
     }
 
@@ -188,6 +196,9 @@ impl Counts {
         for (count, outcome) in self.outcomes.iter().zip(0..) {
             need(*count, format!("outcome {outcome}"));
         }
+        for (count, outcome) in self.ring_outcomes.iter().zip(0..) {
+            need(*count, format!("outcome {outcome} on the ring"));
+        }
         for (count, status) in self.statuses.iter().zip(0..) {
             need(*count, format!("status {status}"));
         }
@@ -226,6 +237,7 @@ impl fmt::Display for Counts {
         write!(f, "entries taken {entries}, ")?;
         write!(f, "all 4096 by {} inputs, ", self.full_taken)?;
         write!(f, "by outcome ({}), ", list(&self.outcomes))?;
+        write!(f, "of these on the ring ({}), ", list(&self.ring_outcomes))?;
         write!(f, "by status ({}), ", list(&self.statuses))?;
         let [far, behind] = self.absent;
         write!(

@@ -19,6 +19,7 @@ pub const REFUSED_SIZES: [usize; 4] = [0, 1, 65, 66];
 const BYTES: &[u8] = b"\n\n\n\r\t  \0TLCtlc0123456789+-/:\x0b\x80\xff";
 
 pub struct Input {
+    pub wiring: Wiring,
     pub bytes: Vec<u8>,
     /// Where the bytes are cut when they are handed over in pieces; if empty,
     /// they are handed over whole only.
@@ -26,8 +27,9 @@ pub struct Input {
 }
 
 pub fn input(random: &mut Random) -> Input {
+    let wiring = random.pick(&Wiring::ALL);
     let size = size(random);
-    let entries = entries(size, random);
+    let entries = entries(wiring, size, random);
     let mut bytes = text(size, &entries, random);
     if random.once_in(3) {
         for _ in 0..random.between(1, 2) {
@@ -39,7 +41,11 @@ pub fn input(random: &mut Random) -> Input {
     } else {
         Vec::new()
     };
-    Input { bytes, cuts }
+    Input {
+        wiring,
+        bytes,
+        cuts,
+    }
 }
 
 /// Mostly a plant's size.
@@ -64,12 +70,12 @@ fn how_many(random: &mut Random) -> usize {
 
 /// Mostly entries that the plant takes, now and then with one that it may
 /// refuse, or some that it does not take at the end.
-fn entries(size: usize, random: &mut Random) -> Vec<Entry> {
+fn entries(wiring: Wiring, size: usize, random: &mut Random) -> Vec<Entry> {
     let most = how_many(random);
     let style = Style::new(most > LONG, random);
     let mut entries = Vec::new();
     if SIZES.contains(&size) && !random.once_in(10) {
-        entries = style.taken(Wiring::Cube, size, &mut table::fresh(size), most, random);
+        entries = style.taken(wiring, size, &mut table::fresh(size), most, random);
     }
     if random.once_in(2) {
         let stations: Vec<usize> = (0..size.clamp(1, 100)).collect();

@@ -40,8 +40,9 @@ fn main() -> ExitCode {
     match Options::read() {
         Ok(Options {
             stand_in: Some(fault),
+            wiring,
             ..
-        }) => stand_in::run(fault),
+        }) => stand_in::run(fault, wiring),
         options => end(options.and_then(|options| work(&options))),
     }
 }

@@ -2,6 +2,8 @@
 //! hand from the owner's documents (docs/SOURCES.md) and docs/DECISIONS.md, not
 //! taken from a program.
 
+use shared::wiring::Wiring;
+
 use crate::printed::HEADER;
 
 /// How long a line is that is longer than any buffer.
@@ -14,6 +16,7 @@ const LONG_FOUR: &[u8] = b"T 00\nT 00\nT 01\nT 01\n";
 #[derive(Clone)]
 pub struct Odd {
     pub name: &'static str,
+    pub wiring: Wiring,
     pub input: Vec<u8>,
     pub output: Vec<u8>,
 }
@@ -357,6 +360,59 @@ const READ: &[(&str, &[u8], &str, &str)] = &[
     ),
 ];
 
+/// The same on the ring.
+const READ_ON_RING: &[(&str, &[u8], &str, &str)] = &[
+    (
+        "samples/four-boards.txt, of which board 1 is dead",
+        b"4\nC 1\nT 0\nT 0\nT 0\nT 2\nT 2\nT 3\nT 3\n",
+        "1 - 4 1\n0 1 3 0\n0 2 1 0\n0 - 0 0\n2 3 1 0\n2 - 0 0\n3 0 1 0\n3 - 0 0\n",
+        "rounds 1 tests 4 refused 0 at 8\n",
+    ),
+    (
+        "a round of four live boards",
+        b"4\nT 0\nT 0\nT 1\nT 1\nT 2\nT 2\nT 3\nT 3\n",
+        "0 1 1 0\n0 - 0 0\n1 2 1 0\n1 - 0 0\n2 3 1 0\n2 - 0 0\n3 0 1 0\n3 - 0 0\n",
+        "rounds 1 tests 4 refused 0 at 8\n",
+    ),
+    (
+        "the pass of station 10 of 11",
+        b"11\nT 10\nT 10\nT 10\n",
+        "10 0 1 0\n10 - 0 0\n",
+        "rounds 0 tests 1 refused 11 at 2\n",
+    ),
+    (
+        "late replies of 3",
+        b"3\nL 0\nL 0\nL 0\n",
+        "0 1 3 0\n0 2 3 3\n",
+        "rounds 0 tests 2 refused 10 at 2\n",
+    ),
+    (
+        "a board of 3 is told by the next board",
+        b"3\nL 0\nT 0\nT 0\nT 1\nT 2\nT 2\n",
+        "0 1 3 0\n0 2 1 0\n0 - 0 0\n1 2 2 2\n2 0 1 0\n2 - 0 0\n",
+        "rounds 1 tests 4 refused 0 at 6\n",
+    ),
+    (
+        "a suspected board is told by the next test of it",
+        b"4\nT 1\nT 1\nT 2\nT 2\nT 3\nT 3\nL 0\nT 0\nT 0\nT 0\nT 0\nT 0\nT 1\n",
+        "1 2 1 0\n1 - 0 0\n2 3 1 0\n2 - 0 0\n3 0 1 0\n3 - 0 0\n\
+         0 1 3 0\n0 2 1 0\n0 - 0 0\n0 1 5 0\n0 2 1 0\n0 - 0 0\n",
+        "rounds 1 tests 7 refused 10 at 12\n",
+    ),
+    (
+        "size 65 and entries",
+        b"65\nT 64\nT 0\n",
+        "",
+        "rounds 0 tests 0 refused 1 at 0\n",
+    ),
+    (
+        "T 3 of 3",
+        b"3\nT 3\nT 0\n",
+        "",
+        "rounds 0 tests 0 refused 9 at 0\n",
+    ),
+];
+
 /// Refused sizes behind 66. A byte would cut those from 256 on: 258 and 514 to
 /// 2, 267 to 11, 320 to 64.
 const LARGE_SIZES: [usize; 14] = [
@@ -369,8 +425,14 @@ pub fn all() -> Vec<Odd> {
     let unread_rows = unread_rows.map(|(name, input, line)| unread(name, &[input], *line));
     let read_rows = READ.iter();
     let read_rows = read_rows.map(|(name, input, sheet, last)| read(name, &[input], sheet, last));
+    let ring_rows = READ_ON_RING.iter();
+    let ring_rows = ring_rows.map(|(name, input, sheet, last)| read(name, &[input], sheet, last));
+    let unread_on_ring = unread_rows.clone();
     let made = [sizes(), long_lines(), many_entries(), too_many_entries()];
-    unread_rows.chain(read_rows).chain(made.concat()).collect()
+    let on_cube = unread_rows.chain(read_rows).chain(made.concat());
+    on_cube
+        .chain(ring_rows.chain(unread_on_ring).map(on_ring))
+        .collect()
 }
 
 /// Each size from 0 to 66 and some larger ones, with no entry.
@@ -464,9 +526,17 @@ fn too_many_entries() -> Vec<Odd> {
         .collect()
 }
 
+fn on_ring(odd: Odd) -> Odd {
+    Odd {
+        wiring: Wiring::Ring,
+        ..odd
+    }
+}
+
 fn unread(name: &'static str, input: &[&[u8]], line: usize) -> Odd {
     Odd {
         name,
+        wiring: Wiring::Cube,
         input: input.concat(),
         output: format!("unread {line}\n").into_bytes(),
     }
@@ -475,6 +545,7 @@ fn unread(name: &'static str, input: &[&[u8]], line: usize) -> Odd {
 fn read(name: &'static str, input: &[&[u8]], sheet: &str, last: &str) -> Odd {
     Odd {
         name,
+        wiring: Wiring::Cube,
         input: input.concat(),
         output: [HEADER, sheet, last].concat().into_bytes(),
     }

@@ -3,7 +3,9 @@
 use std::ffi::OsString;
 
 use shared::options::{Words, DEFAULT_SEED};
+use shared::wiring::Wiring;
 
+use crate::case::RING;
 use crate::stand_in::Fault;
 
 const USAGE: &str =
@@ -32,6 +34,8 @@ pub struct Options {
     pub binary: Option<OsString>,
     /// This program stands in for the run program, with a fault.
     pub stand_in: Option<Fault>,
+    /// The wiring that it is then asked for.
+    pub wiring: Wiring,
 }
 
 impl Options {
@@ -41,6 +45,7 @@ impl Options {
             task: Task::Inputs(DEFAULT_INPUTS),
             binary: None,
             stand_in: None,
+            wiring: Wiring::Cube,
         };
         let mut words = Words::given(USAGE);
         while let Some(word) = words.word() {
@@ -52,6 +57,7 @@ impl Options {
                 Some("--slowest") => options.task = Task::Slowest(words.value()?),
                 Some("--self-test") => options.task = Task::SelfTest,
                 Some("--stand-in") => options.stand_in = Some(words.value()?),
+                Some(RING) => options.wiring = Wiring::Ring,
                 Some(text) if text.starts_with("--") => return Err(words.usage()),
                 _ if options.binary.is_some() => return Err(words.usage()),
                 _ => options.binary = Some(word),

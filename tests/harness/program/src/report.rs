@@ -50,7 +50,11 @@ fn input(case: &Case, cut: usize) -> String {
         Source::Random { number, .. } => format!("random input {number}"),
     };
     let bytes = report::part(&case.input, 0, cut);
-    format!("{name}: {bytes}\n  cut for pieces at {:?}\n", case.cuts)
+    let wiring = case.wiring.text();
+    format!(
+        "{name}, on the {wiring}: {bytes}\n  cut for pieces at {:?}\n",
+        case.cuts
+    )
 }
 
 fn printed_by(by: By) -> &'static str {

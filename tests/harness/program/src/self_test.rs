@@ -113,7 +113,7 @@ fn run_with(fault: Fault) -> Result<usize, String> {
     let slowest = slowest_cases()?.step_by(step(fault));
     for mut case in odd.chain(slowest) {
         // The table is not tested here.
-        case.expected = simulator::program::respond(&case.input).into_bytes();
+        case.expected = case.simulate();
         match case.check(&program) {
             Some(_) => noticed += 1,
             None => unnoticed += 1,
@@ -186,6 +186,7 @@ fn lowered_counts() -> Vec<Counts> {
     }
     for outcome in 0..6 {
         lower(&|counts| &mut counts.outcomes[outcome]);
+        lower(&|counts| &mut counts.ring_outcomes[outcome]);
     }
     for status in 0..4 {
         lower(&|counts| &mut counts.statuses[status]);

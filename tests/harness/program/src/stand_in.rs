@@ -1,7 +1,8 @@
 //! Programs with a known fault, which stand in for the run program in the
 //! self-test.
 
-use crate::case;
+use crate::case::{self, simulate};
+use shared::wiring::Wiring;
 use std::io::{self, Read, Write};
 use std::process::ExitCode;
 use std::str::FromStr;
@@ -33,10 +34,14 @@ pub enum Fault {
     CutSize,
     /// Outcome 5 is printed as 1.
     Untold,
+    /// The ring is run as the cube.
+    NoRing,
+    /// The cube is run as the ring.
+    NoCube,
 }
 
 impl Fault {
-    pub const ALL: [Fault; 14] = [
+    pub const ALL: [Fault; 16] = [
         Fault::None,
         Fault::ByteChanged,
         Fault::ByteMissing,
@@ -51,6 +56,8 @@ impl Fault {
         Fault::Dummies,
         Fault::CutSize,
         Fault::Untold,
+        Fault::NoRing,
+        Fault::NoCube,
     ];
 
     /// Whether it shows on some inputs only.
@@ -58,6 +65,7 @@ impl Fault {
         match self {
             Fault::FirstRead | Fault::PowersOnly | Fault::Dummies => true,
             Fault::CutSize | Fault::Untold | Fault::Wordless => true,
+            Fault::NoRing | Fault::NoCube => true,
             Fault::None | Fault::ByteChanged | Fault::ByteMissing | Fault::ByteMore => false,
             Fault::Silent | Fault::Fails | Fault::Complains | Fault::Endless => false,
         }
@@ -70,6 +78,15 @@ impl Fault {
             Fault::Dummies if n <= 64 => n.next_power_of_two(),
             Fault::CutSize => n % 256,
             _ => n,
+        }
+    }
+
+    /// The wiring that is run in the place of the one asked for.
+    fn wiring(self, wiring: Wiring) -> Wiring {
+        match self {
+            Fault::NoRing => Wiring::Cube,
+            Fault::NoCube => Wiring::Ring,
+            _ => wiring,
         }
     }
 
@@ -89,6 +106,8 @@ impl Fault {
             Fault::Dummies => "dummies",
             Fault::CutSize => "cut-size",
             Fault::Untold => "untold",
+            Fault::NoRing => "no-ring",
+            Fault::NoCube => "no-cube",
         }
     }
 }
@@ -102,21 +121,22 @@ impl FromStr for Fault {
     }
 }
 
-/// Reads standard input and prints what the simulator gives, with the fault.
-pub fn run(fault: Fault) -> ExitCode {
-    match respond(fault) {
+/// Reads standard input and prints what the simulator gives on a wiring, with the
+/// fault.
+pub fn run(fault: Fault, wiring: Wiring) -> ExitCode {
+    match respond(fault, wiring) {
         Ok(()) if fault != Fault::Fails => ExitCode::SUCCESS,
         _ => ExitCode::FAILURE,
     }
 }
 
-fn respond(fault: Fault) -> io::Result<()> {
+fn respond(fault: Fault, wiring: Wiring) -> io::Result<()> {
     let input = change_size(read(fault)?, fault);
-    let mut output = simulator::program::respond(&input);
+    let mut output = simulate(fault.wiring(wiring), &input);
     if fault == Fault::Untold {
-        output = output.replace(" 5 0\n", " 1 0\n");
+        let text = String::from_utf8_lossy(&output);
+        output = text.replace(" 5 0\n", " 1 0\n").into_bytes();
     }
-    let mut output = output.into_bytes();
     match fault {
         Fault::ByteChanged => {
             let place = input.len() % output.len();

@@ -1,0 +1,6 @@
+pub mod Step
+pub mod Chains
+pub mod Sums
+pub mod Quiet
+pub mod Claims
+pub mod Computed

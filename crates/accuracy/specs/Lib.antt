@@ -1,0 +1,4 @@
+-- What the contracts of `accuracy` cite.
+pub mod Cause
+pub mod Accurate
+pub mod Example

@@ -1,0 +1,85 @@
+// What is claimed of suspicions and exits over any list of runs and drives (specs/Accurate.antt), with any crashes and late replies, on either
+// wiring. Where first no live board suspects a live one, a live board comes to be suspected by a live one, and is told to leave, only if its own
+// reply was late. The functions of this file but the last two do nothing: their contracts are claims. The last two are the run and the drive
+// with these claims as their promise.
+#![tactic(auto)]
+
+ghost use Rattle.std.specs.Prelude.{◌≡◌};
+ghost use Rattle.plant.specs.Entry.{state_with};
+ghost use Rattle.plant.specs.Run.{outcome_with, run};
+ghost use Rattle.granter.specs.Drive.{drive_outcome_with, drive, StoppedIfTaken};
+ghost use Rattle.detection.specs.Claim.{DetectionAfter, square_rounds, triangle_rounds, worst_rounds};
+ghost use Rattle.detection.specs.Driven.{a_run, a_drive, DrivenDetectionAfter};
+ghost use Rattle.detection.specs.Runs.{call_of, CountsTaken};
+ghost use Rattle.accuracy.specs.Accurate.{RunsAccurate, MixedAccurate, DrivesTellNobody, AccurateAfter};
+ghost use Rattle.accuracy.specs.Example.{TwoOfTwo};
+
+use granter::Driven;
+use plant::{Ran, Tally};
+
+// Every list of runs: only the late are suspected, every exit has its cause, and what late replies cost.
+pub fn runs_accurate()
+    ensures { RunsAccurate }
+{}
+
+// The same of every list that mixes runs and drives.
+pub fn mixed_accurate()
+    ensures { MixedAccurate }
+{}
+
+// Drives have no late reply: where first no live board suspects a live one, nobody leaves because told.
+pub fn drives_tell_nobody()
+    ensures { DrivesTellNobody }
+{}
+
+// Of two live boards one late reply costs both.
+pub fn two_of_two()
+    ensures { TwoOfTwo }
+{}
+
+// The run, wherever it stands behind other runs and drives: what is claimed of the whole list with it holds of the table that it leaves. What
+// detection promises of it stands too.
+pub fn run_in_list(
+    wiring: usize,
+    n: usize,
+    table: &mut [u8],
+    tally: Tally,
+    schedule: &[u8],
+    sheet: &mut [u8],
+) -> Ran
+    ensures outcome { outcome_with result table.new sheet.new
+        ≡ run wiring n (state_with table.old tally) schedule.now sheet.old }
+    ensures counts_taken { CountsTaken (call_of wiring n schedule.now sheet.old)
+        (state_with table.old tally) result.taken }
+    ensures detection_in_square { DetectionAfter square_rounds
+        (call_of wiring n schedule.now sheet.old)
+        (state_with table.old tally) (state_with table.new result.tally) }
+    ensures detection_in_triangle { DetectionAfter triangle_rounds
+        (call_of wiring n schedule.now sheet.old)
+        (state_with table.old tally) (state_with table.new result.tally) }
+    ensures detection_in_worst_case { DetectionAfter worst_rounds
+        (call_of wiring n schedule.now sheet.old)
+        (state_with table.old tally) (state_with table.new result.tally) }
+    ensures accurate { AccurateAfter (a_run (call_of wiring n schedule.now sheet.old))
+        (state_with table.old tally) (state_with table.new result.tally) }
+{
+    detection::run_in_list(wiring, n, table, tally, schedule, sheet)
+}
+
+// The drive, wherever it stands behind other runs and drives: the same.
+pub fn drive_in_list(wiring: usize, n: usize, table: &mut [u8], tally: Tally, last: usize) -> Driven
+    ensures outcome { drive_outcome_with result table.new
+        ≡ drive wiring n (state_with table.old tally) last }
+    ensures stopped_if_taken { let start = state_with table.old tally in
+        StoppedIfTaken wiring n start last result.grants }
+    ensures driven_in_square { DrivenDetectionAfter square_rounds wiring n last
+        (state_with table.old tally) (state_with table.new result.tally) }
+    ensures driven_in_triangle { DrivenDetectionAfter triangle_rounds wiring n last
+        (state_with table.old tally) (state_with table.new result.tally) }
+    ensures driven_in_worst_case { DrivenDetectionAfter worst_rounds wiring n last
+        (state_with table.old tally) (state_with table.new result.tally) }
+    ensures accurate { AccurateAfter (a_drive wiring n last)
+        (state_with table.old tally) (state_with table.new result.tally) }
+{
+    detection::drive_in_list(wiring, n, table, tally, last)
+}
