@@ -36,13 +36,13 @@ TestsAreTheDue n s calls k =
     (i : ℕ) → i < n → live n s.table i ≡ true
     → tested_in i (slice_index_or (rounds_of s calls).closed k []) ≡ map (station_at i) (due_distances (exact_row n s.table) i n)
 
--- in a closed round that begins with exact rows each live board makes just these tests. By rule Detection the live boards stay live
+-- on the cube, in a closed round that begins with exact rows, each live board makes just these tests. By rule Detection the live boards stay live
 abbrev pub ExactRoundTests : Type 0
 ExactRoundTests =
     (n : ℕ) (s : State) (calls : List Call) → DetectionPremises wiring_cube n s calls → (k : ℕ) → k < length (rounds_of s calls).closed
     → ExactRows n (first_table (slice_index_or (rounds_of s calls).closed k [])) → TestsAreTheDue n s calls k
 
--- Rule Tests of the sheet: after the worst-case latency that is so in every closed round
+-- Rule Tests of the sheet: on the cube, after the worst-case latency, that is so in every closed round
 abbrev pub ExactRoundTestsAfterLatency : Type 0
 ExactRoundTestsAfterLatency =
     (n : ℕ) (s : State) (calls : List Call) → DetectionPremises wiring_cube n s calls

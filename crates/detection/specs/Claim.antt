@@ -100,11 +100,11 @@ DetectionAfter rounds c before after =
     (w n : ℕ) (s : State) (calls : List Call) → after_runs s calls ≡ before → DetectionPremises w n s (calls ++ (c ∷ []))
     → DetectionConclusion (rounds w n) w n s (calls ++ (c ∷ [])) after
 
--- Rule Square bound: d·d rounds on the cube
+-- Rule Square bound: d·d rounds, on the cube
 abbrev pub square_bound : ℕ → ℕ
 square_bound d = d * d
 
--- and on the ring n − 1
+-- Rules Square bound and Greater bound of the ring: on the ring n − 1
 abbrev pub square_rounds : ℕ → ℕ → ℕ
 square_rounds w n = if is_ring w then n - 1 else square_bound (dimension n)
 
@@ -112,11 +112,11 @@ square_rounds w n = if is_ring w then n - 1 else square_bound (dimension n)
 abbrev pub DetectionInSquare : Type 0
 DetectionInSquare = Detection square_rounds
 
--- Rule Triangular bound: 1 + d(d − 1)/2 rounds on the cube, 1, 2, 4, 7, 11, 16 for d = 1 to 6
+-- Rule Triangular bound: 1 + d(d − 1)/2 rounds, on the cube: 1, 2, 4, 7, 11, 16 for d = 1 to 6
 abbrev pub triangle_bound : ℕ → ℕ
 triangle_bound d = 1 + d * (d - 1) / 2
 
--- and on the ring n − 1
+-- Rules Triangular bound and Greater bound of the ring: on the ring n − 1
 abbrev pub triangle_rounds : ℕ → ℕ → ℕ
 triangle_rounds w n = if is_ring w then n - 1 else triangle_bound (dimension n)
 
@@ -124,8 +124,8 @@ triangle_rounds w n = if is_ring w then n - 1 else triangle_bound (dimension n)
 abbrev pub DetectionInTriangle : Type 0
 DetectionInTriangle = Detection triangle_rounds
 
--- Rule Worst case of the cube: the worst-case latency, 1, 2, 3, 4, 6, 8 rounds for d = 1 to 6. From 3 boards on fewer do not suffice (crate
--- witness)
+-- Rule Worst case: the worst-case latency of the cube, 1, 2, 3, 4, 6, 8 rounds for d = 1 to 6. From 3 boards on fewer do not suffice, on the
+-- ring neither (crate witness)
 unfoldable pub worst_latency : ℕ → ℕ
 worst_latency d = if nat_lt d 4 then d else 4 + (d - 3) * (d - 3) / 2
 

@@ -26,8 +26,8 @@ TestsAreTheSheets =
 abbrev pub tests_by : ℕ → List Taken → ℕ
 tests_by i round = count_taken (is_test_of i) round
 
--- Rule Tests counted: after any list of runs from the start of a round on, whatever crashes or comes late, byte 3 is the number of the board's
--- testing entries in the round that is then open
+-- Rule Tests counted: after any list of runs on one wiring from the start of a round on, whatever crashes or comes late, byte 3 is the number of
+-- the board's testing entries in the round that is then open
 abbrev pub TestsByteCounts : Type 0
 TestsByteCounts =
     (w n : ℕ) (s : State) (calls : List Call) (i : ℕ) → length s.table ≡ table_length n → at_start n s.table ≡ true
@@ -44,8 +44,8 @@ table_left t (x ∷ xs) = table_left (table_after x) xs
 abbrev pub end_of : State → List Call → ℕ → List ℕ
 end_of s calls k = table_left s.table (round_at s calls k)
 
--- Rule Slot suffices: in every round of any list of runs from the start of a round on, a board makes no more tests than are due by its row as the
--- round leaves it; the list may end anywhere, so that this holds at every moment of a round
+-- Rule Slot suffices: on the cube, in every round of any list of runs from the start of a round on, a board makes no more tests than are due by
+-- its row as the round leaves it; the list may end anywhere, so that this holds at every moment of a round
 abbrev pub TestsWithinDue : Type 0
 TestsWithinDue =
     (n : ℕ) (s : State) (calls : List Call) (k i : ℕ) → length s.table ≡ table_length n → at_start n s.table ≡ true
@@ -56,8 +56,8 @@ TestsWithinDue =
 abbrev pub SuspectsAtMost : ℕ → List ℕ → ℕ → List ℕ → ℕ → Type 0
 SuspectsAtMost n t i r j = (x : ℕ) → x < n → suspects n t i x ≡ 1 → (unsuspected r x ≡ false) ⊎ (x ≡ j)
 
--- Rule Slot suffices: a slot timed for the most tests with one more dead is long enough, as long as the board suspects nobody but the dead of row
--- r and one more: also in the rounds in which it comes to suspect that one
+-- Rule Slot suffices: on the cube a slot timed for the most tests with one more dead is long enough, as long as the board suspects nobody but the
+-- dead of row r and one more: also in the rounds in which it comes to suspect that one
 abbrev pub SlotSuffices : Type 0
 SlotSuffices =
     (n : ℕ) (s : State) (calls : List Call) (k : ℕ) (r : List ℕ) (i j : ℕ)

@@ -8,7 +8,7 @@ pub fn detection_in_square()
     ensures { DetectionInSquare }
 {}
 
-// The same within 1 + d(d − 1)/2 rounds on the cube.
+// The same within 1 + d(d − 1)/2 rounds on the cube, n − 1 on the ring.
 pub fn detection_in_triangle()
     ensures { DetectionInTriangle }
 {}

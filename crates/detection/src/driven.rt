@@ -13,7 +13,7 @@ pub fn mixed_in_square()
     ensures { MixedDetection square_rounds }
 {}
 
-// The same within 1 + d(d − 1)/2 rounds on the cube.
+// The same within 1 + d(d − 1)/2 rounds on the cube, n − 1 on the ring.
 pub fn mixed_in_triangle()
     ensures { MixedDetection triangle_rounds }
 {}
@@ -28,7 +28,7 @@ pub fn driven_in_square()
     ensures { DrivenDetectionInSquare }
 {}
 
-// The same within 1 + d(d − 1)/2 rounds on the cube.
+// The same within 1 + d(d − 1)/2 rounds on the cube, n − 1 on the ring.
 pub fn driven_in_triangle()
     ensures { DrivenDetection triangle_rounds }
 {}

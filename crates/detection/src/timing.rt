@@ -4,7 +4,7 @@
 
 ghost use Rattle.detection.specs.Timing.{TestsAreTheSheets, TestsByteCounts, TestsWithinDue, SlotSuffices};
 
-// In a closed round that begins with exact rows a live board tests whom the sheet says, in its order.
+// On the cube, in a closed round that begins with exact rows, a live board tests whom the sheet says, in its order.
 pub fn tests_are_the_sheets()
     ensures { TestsAreTheSheets }
 {}
@@ -14,12 +14,12 @@ pub fn tests_byte_counts()
     ensures { TestsByteCounts }
 {}
 
-// In every round a board makes no more tests than are due by its row as the round leaves it.
+// On the cube a board makes in every round no more tests than are due by its row as the round leaves it.
 pub fn tests_within_due()
     ensures { TestsWithinDue }
 {}
 
-// A slot timed for the most tests with one more board dead is long enough while its board suspects only the known dead and one more.
+// On the cube a slot timed for the most tests with one more board dead is long enough while its board suspects only the known dead and one more.
 pub fn slot_suffices()
     ensures { SlotSuffices }
 {}

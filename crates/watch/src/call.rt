@@ -3,7 +3,7 @@ ghost use Rattle.std.specs.Prelude.{◌≡◌, map, string_bytes};
 ghost use Rattle.std.specs.Result.{result_map_both};
 ghost use Rattle.std.specs.List.{list_any};
 ghost use Rattle.watch.specs.Words.{wrong_call_words};
-ghost use Rattle.watch.specs.Call.{is_ring_option, wiring_in, asked, asked_by, asked_in};
+ghost use Rattle.watch.specs.Call.{is_ring_option, wiring_in, wanted, asked_by, asked_in};
 
 use std::fs::{self, File};
 use std::rt::{Env, Files};
@@ -120,7 +120,7 @@ pub fn read_arguments(
 
 // What the words behind the program's name ask for. The option may stand anywhere among them; twice is taken as once.
 fn understand(mut words: Vec<String>) -> Result<Asked, WrongCall>
-    ensures { result_map_both asked wrong_call_words result
+    ensures { result_map_both wanted wrong_call_words result
         ≡ asked_in (map (λ w. string_bytes w) words.items) }
 {
     let wiring = wiring_in(&words);
@@ -154,7 +154,7 @@ fn has_ring_option(words: &[String]) -> bool
 
 // What the one word besides the option asks for.
 fn understand_word(wiring: Wiring, word: String) -> Result<Asked, WrongCall>
-    ensures { result_map_both asked wrong_call_words result ≡ asked_by wiring (string_bytes word) }
+    ensures { result_map_both wanted wrong_call_words result ≡ asked_by wiring (string_bytes word) }
 {
     let text = word.as_str();
     if text == "-h" || text == "--help" {
