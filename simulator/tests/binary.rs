@@ -58,6 +58,21 @@ fn ring_of_4_boards() {
     assert_ne!(simulate(input), expected);
 }
 
+/// One late reply of board 5, which board 7 tells.
+#[test]
+fn late_press() {
+    let expected = "\
+station tested outcome status
+4 5 3 0
+4 6 1 0
+7 6 1 0
+7 5 5 0
+rounds 0 tests 4 refused 0 at 4
+";
+    let input = include_bytes!("../../samples/late-press.txt");
+    assert_eq!(simulate(input), expected);
+}
+
 #[test]
 fn unread_lines() {
     assert_eq!(simulate(b""), "unread 1\n");

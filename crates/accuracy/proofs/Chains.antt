@@ -79,7 +79,8 @@ parted done [] x rest e = absurd (true≢false (ap is_nil e))
 parted done (y ∷ before) x rest e = absurd (true≢false (ap is_nil e))
 parted {n} {s' = s'} (more {s} {xs = xs} w e a z c) [] x rest p =
     let here : Parted n s [] (taken_at w n s e) xs s' = record { first = done; size = refl; ok = a; taken = z; last = c } in
-    subst (λ (y : Taken). Parted n s [] y rest s') (ap (head_or x) p) (subst (λ (ys : List Taken). Parted n s [] (taken_at w n s e) ys s') (ap tail p) here)
+    subst (λ (y : Taken). Parted n s [] y rest s') (ap (head_or x) p)
+    (subst (λ (ys : List Taken). Parted n s [] (taken_at w n s e) ys s') (ap tail p) here)
 parted {n} {s' = s'} (more {s} {xs = xs} w e a z c) (y ∷ before) x rest p =
     let r = parted c before x rest (ap tail p) in
     subst (λ (y : Taken). Parted n s (y ∷ before) x rest s') (ap (head_or x) p)

@@ -14,7 +14,7 @@ use Rattle.lists.specs.Sums.{sum_below, bit}
 use Rattle.lists.proofs.BoolLaws.{by_bool}
 use Rattle.lists.proofs.SearchLaws.{both, every-at}
 use Rattle.lists.proofs.SumLaws.{sum-add}
-use Rattle.table.specs.Table.{table_length, status, status_told, status_alone, told_by, live}
+use Rattle.table.specs.Table.{table_length, status, status_told, status_crashed, status_alone, told_by, live}
 use Rattle.table.specs.Properties.{live_count, no_live_suspicion, none_suspected}
 use Rattle.table.proofs.Accepting.{Accepted}
 use Rattle.plant.specs.Turn.{outcome_tested_told, makes_test, turn_tested, turn_outcome}
@@ -40,7 +40,7 @@ use Rattle.accuracy.specs.Accurate.{OnlyLateSuspected, ExitCause, ExitsHaveCause
 use Rattle.accuracy.proofs.Step.{CauseAt, Fared, lives, crashed, told, alone, new-suspicion, fared}
 use Rattle.accuracy.proofs.Chains.{any-before, any-last, cause-before, cause-chain, parted, told-at}
 use Rattle.accuracy.proofs.Sums.{one, sum-most, two-hits, count-sum, any-counted, none-passes}
-use Rattle.accuracy.proofs.Quiet.{Calm, calm-chain}
+use Rattle.accuracy.proofs.Quiet.{Calm, Left, stayed, left_told, left_crashed, calm-chain}
 
 -- where no live station suspects a live one, nobody is suspected
 none-suspects : (n : ℕ) (t : List ℕ) → none_suspected n t ≡ true → (j : ℕ) → j < n → IsSuspected n t j → ⊥
@@ -94,8 +94,8 @@ module _ (w n : ℕ) (s : State) (e : Entry) (ok : Accepted w n s.table) (z : en
       at k hk (inl p) = cause-before n s₀.table before (x ∷ []) k (cause-chain c k hk p)
       at k hk (inr l) = inr (any-last (late_of k) before x l)
 
-      by : Fared w n s e e.station → status n (after w n s e).table e.station ≡ status_alone → (k : ℕ) → k < n → k ≢ e.station → live n s.table k ≡ true
-          → HasCause n s₀.table (before ++ (x ∷ [])) k
+      by : Fared w n s e e.station → status n (after w n s e).table e.station ≡ status_alone
+          → (k : ℕ) → k < n → k ≢ e.station → live n s.table k ≡ true → HasCause n s₀.table (before ++ (x ∷ [])) k
       by (lives m) three k hk d l = absurd (omega (arith, three, eqb-true _ 0 m))
       by (crashed _ one) three k hk d l = absurd (omega (arith, three, one))
       by (told two p) three k hk d l = absurd (omega (arith, three, two))
@@ -172,7 +172,8 @@ module _ (n : ℕ) (s : State) (calls : List Call) (long : length s.table ≡ ta
       each : (i : ℕ) → i < n → bit (gone i) ≤ count_taken (late_of i) xs
       each i hi =
           by_bool (gone i)
-          (λ e. let p = both _ _ e in rw e (any-counted (late_of i) xs (told-late none i hi p.0 (eqb-true _ status_told p.1)))) (λ e. rw e (omega arith))
+          (λ e. let p = both _ _ e in rw e (any-counted (late_of i) xs (told-late none i hi p.0 (eqb-true _ status_told p.1))))
+          (λ e. rw e (omega arith))
 
   -- where no reply is late
   none-late : NoneLate n s calls end
@@ -237,28 +238,26 @@ module _ (n : ℕ) (s : State) (calls : List Call) (long : length s.table ≡ ta
       calm : Calm n quiet (two-hits quiet n two) s.table
       calm = record { picked = λ j hj p. (quiet-is j p).0; clean = λ j hj p. none-suspects n s.table none j hj }
 
-      left : (i : ℕ) → i < n → live n s.table i ≡ true
-          → (live n end.table i ≡ true) ⊎ ((status n end.table i ≡ status_told) ⊎ (has_crashed i xs ≡ true))
-      left = calm-chain n quiet (two-hits quiet n two) chain calm (λ j p. ((quiet-is j p).1, (quiet-is j p).2))
+      -- who is gone, and what that was
+      Gone : ℕ → Type 0
+      Gone i = ((status n end.table i ≡ status_told) × (was_late i xs ≡ true)) ⊎ ((status n end.table i ≡ status_crashed) × (has_crashed i xs ≡ true))
 
-      who : (i : ℕ) → i < n → live n s.table i ≡ true → live n end.table i ≡ false
-          → ((status n end.table i ≡ status_told) × (was_late i xs ≡ true)) ⊎ (has_crashed i xs ≡ true)
-      who i hi l d = by (left i hi l)
+      who : (i : ℕ) → i < n → live n s.table i ≡ true → live n end.table i ≡ false → Gone i
+      who i hi l d = by (calm-chain n quiet (two-hits quiet n two) chain calm (λ j p. ((quiet-is j p).1, (quiet-is j p).2)) i hi l)
         where
-          by : (live n end.table i ≡ true) ⊎ ((status n end.table i ≡ status_told) ⊎ (has_crashed i xs ≡ true))
-              → ((status n end.table i ≡ status_told) × (was_late i xs ≡ true)) ⊎ (has_crashed i xs ≡ true)
-          by (inl m) = absurd (true≢false (sym m ∙ d))
-          by (inr (inl q)) = inl (q, told-late none i hi l q)
-          by (inr (inr c)) = inr c
+          by : Left n quiet (two-hits quiet n two) xs end i → Gone i
+          by (stayed m) = absurd (true≢false (sym m ∙ d))
+          by (left_told q) = inl (q, told-late none i hi l q)
+          by (left_crashed q c) = inr (q, c)
 
       paid : (i : ℕ) → i < n → bit (live n s.table i) ≤ bit (live n end.table i) + charged i
       paid i hi =
           by_bool (live n s.table i)
           (λ l. by_bool (live n end.table i) (λ m. rw (l, m) (omega arith)) (λ m. rw (l, m) (by (who i hi l m)))) (λ l. rw l (omega arith))
         where
-          by : ((status n end.table i ≡ status_told) × (was_late i xs ≡ true)) ⊎ (has_crashed i xs ≡ true) → 1 ≤ 0 + charged i
+          by : Gone i → 1 ≤ 0 + charged i
           by (inl p) = omega (arith, any-counted (late_of i) xs p.1)
-          by (inr c) = omega (arith, any-counted (crash_of i) xs c)
+          by (inr p) = omega (arith, any-counted (crash_of i) xs p.1)
 
 -- every list of runs
 pub runs-accurate : RunsAccurate

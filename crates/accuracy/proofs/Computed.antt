@@ -24,19 +24,19 @@ use Rattle.accuracy.specs.Cause.{late_of}
 use Rattle.accuracy.specs.Example.{OneOfEight, TwoOfTwo}
 
 pub one-of-eight : OneOfEight
-unfolding every list_of least after_steps joined_byte is_size level dimension distances end_distance table_length line_start cell set_cell row set_row exit_rule row_rule
-    wired_line_rules some_live live_finished shape_check table_check_on fresh_byte fresh_table width member full_group group wired_station wired_due
-    unsuspected first_place first answer due union_byte union mark leave_told next_test makes_test finish_pass next_after count_test replies is_told
-    exchange_rows suspect reply_outcome test_outcome after_outcome self_or_suspected is_alone after_alone after_test testing turn turn_tested
-    turn_outcome crash rounds_after reset_line reset_lines after_round entry_check acted after tested_of outcome_of sheet_line entries go_on start_check
-    run taken_from taken_in any_taken count_taken late_of
+unfolding every list_of least after_steps joined_byte is_size level dimension distances end_distance table_length line_start cell set_cell
+    row set_row exit_rule row_rule wired_line_rules some_live live_finished shape_check table_check_on fresh_byte fresh_table width member
+    full_group group wired_station wired_due unsuspected first_place first answer due union_byte union mark leave_told next_test makes_test
+    finish_pass next_after count_test replies is_told exchange_rows suspect reply_outcome test_outcome after_outcome self_or_suspected
+    is_alone after_alone after_test testing turn turn_tested turn_outcome crash rounds_after reset_line reset_lines after_round entry_check
+    acted after tested_of outcome_of sheet_line entries go_on start_check run taken_from taken_in any_taken count_taken late_of
 one-of-eight = record { sheet = refl; left = refl; teller = refl; late = refl; others = refl }
 
 pub two-of-two : TwoOfTwo
-unfolding every list_of least after_steps joined_byte is_size level dimension distances end_distance table_length line_start cell set_cell row set_row exit_rule row_rule
-    wired_line_rules some_live live_finished shape_check table_check_on fresh_byte fresh_table width member full_group group wired_station wired_due
-    unsuspected first_place first answer due union_byte union mark leave_told next_test makes_test finish_pass next_after count_test replies is_told
-    exchange_rows suspect reply_outcome test_outcome after_outcome self_or_suspected is_alone after_alone after_test testing turn turn_tested
-    turn_outcome crash rounds_after reset_line reset_lines after_round entry_check acted after tested_of outcome_of sheet_line entries go_on start_check
-    run taken_from taken_in any_taken count_taken late_of
+unfolding every list_of least after_steps joined_byte is_size level dimension distances end_distance table_length line_start cell set_cell
+    row set_row exit_rule row_rule wired_line_rules some_live live_finished shape_check table_check_on fresh_byte fresh_table width member
+    full_group group wired_station wired_due unsuspected first_place first answer due union_byte union mark leave_told next_test makes_test
+    finish_pass next_after count_test replies is_told exchange_rows suspect reply_outcome test_outcome after_outcome self_or_suspected
+    is_alone after_alone after_test testing turn turn_tested turn_outcome crash rounds_after reset_line reset_lines after_round entry_check
+    acted after tested_of outcome_of sheet_line entries go_on start_check run taken_from taken_in any_taken count_taken late_of
 two-of-two = record { on_cube = refl; on_ring = refl; late = refl; whose = refl }

@@ -5,7 +5,7 @@ use mathlib.Core.Logic.{◌≢◌, ◌⊎◌, inl, inr}
 use mathlib.Core.Bool.{Bool, true, false, or-true, true≢false}
 use mathlib.Core.List.{List, ◌∷◌}
 use Prim.Native.Nat.{ℕ, ◌<◌}
-use Rattle.table.specs.Table.{status, status_told, suspects, live}
+use Rattle.table.specs.Table.{status, status_crashed, status_told, suspects, live}
 use Rattle.lists.proofs.BoolLaws.{neither}
 use Rattle.table.proofs.Accepting.{Accepted}
 use Rattle.plant.specs.Entry.{Entry, State, entry_refusal, after}
@@ -35,9 +35,11 @@ module _ (n : ℕ) (q : ℕ → Bool) (others : (i : ℕ) → (j : ℕ) × (j < 
     pub picked : (j : ℕ) → j < n → q j ≡ true → live n t j ≡ true
     pub clean : (j : ℕ) → j < n → q j ≡ true → IsSuspected n t j → ⊥
 
-  -- what was left of station i, which was live
-  abbrev Left : State → List Taken → State → ℕ → Type 0
-  Left s xs s' i = (live n s'.table i ≡ true) ⊎ ((status n s'.table i ≡ status_told) ⊎ (has_crashed i xs ≡ true))
+  -- what became of station i, which was live, with the entries: it is live, was told, or crashed
+  pub data Left (xs : List Taken) (s' : State) (i : ℕ) : Type 0 where
+    stayed : live n s'.table i ≡ true → Left xs s' i
+    left_told : status n s'.table i ≡ status_told → Left xs s' i
+    left_crashed : status n s'.table i ≡ status_crashed → has_crashed i xs ≡ true → Left xs s' i
 
   module _ (w : ℕ) (s : State) (e : Entry) (ok : Accepted w n s.table) (z : entry_refusal n s e ≡ 0) (calm : Calm s.table)
       (quiet : (j : ℕ) → q j ≡ true → (late_of j (taken_at w n s e) ≡ false) × (crash_of j (taken_at w n s e) ≡ false)) where
@@ -72,9 +74,9 @@ module _ (n : ℕ) (q : ℕ → Bool) (others : (i : ℕ) → (j : ℕ) × (j < 
 
   pub calm-chain : {s s' : State} {xs : List Taken} → Chain n s xs s' → Calm s.table
       → ((j : ℕ) → q j ≡ true → (was_late j xs ≡ false) × (has_crashed j xs ≡ false))
-      → (i : ℕ) → i < n → live n s.table i ≡ true → Left s xs s' i
+      → (i : ℕ) → i < n → live n s.table i ≡ true → Left xs s' i
   unfolding any_taken
-  calm-chain done calm quiet i hi l = inl l
+  calm-chain done calm quiet i hi l = stayed l
   calm-chain {s' = s'} (more {s} {xs = xs} w e a z c) calm quiet i hi l =
       by (fared w n s e a z i hi l) (λ m. calm-chain c (calm-step w s e a z calm first) rest i hi m)
     where
@@ -93,13 +95,13 @@ module _ (n : ℕ) (q : ℕ → Bool) (others : (i : ℕ) → (j : ℕ) × (j < 
         (neither (crash_of j x) (has_crashed j xs) (quiet j p).1).1,
       )
 
-      on : Left (after w n s e) xs s' i → Left s (x ∷ xs) s' i
-      on (inl m) = inl m
-      on (inr (inl two)) = inr (inl two)
-      on (inr (inr d)) = inr (inr (rw (d, or-true)))
+      on : Left xs s' i → Left (x ∷ xs) s' i
+      on (stayed m) = stayed m
+      on (left_told two) = left_told two
+      on (left_crashed one d) = left_crashed one (rw (d, or-true))
 
-      by : Fared w n s e i → (live n (after w n s e).table i ≡ true → Left (after w n s e) xs s' i) → Left s (x ∷ xs) s' i
+      by : Fared w n s e i → (live n (after w n s e).table i ≡ true → Left xs s' i) → Left (x ∷ xs) s' i
       by (lives m) later = on (later m)
-      by (crashed d one) later = inr (inr (rw d))
-      by (told two r) later = inr (inl (gone-stays i hi c (rw two) ∙ two))
+      by (crashed d one) later = left_crashed (gone-stays i hi c (rw one) ∙ one) (rw d)
+      by (told two r) later = left_told (gone-stays i hi c (rw two) ∙ two)
       by (alone r three all) later = absurd (accompanied w s e a z calm first i hi l all)

@@ -102,6 +102,8 @@ module _ (w n : ℕ) (s : State) (e : Entry) (ok : Accepted w n s.table) (z : en
     pair : Pair w n t u i j
     pair = testing-pair w n s e ok z c b
 
+    open pair use {lines as lines₀, below as hi, tested_below as hj, apart, is_live, counted_lines as lines, others}
+
     -- rule Alone writes no row, and only the status of the tester
     test-row : (k x : ℕ) → x < n → suspects n t' k x ≡ suspects n v k x
     unfolding acted turn testing after_test after_alone
@@ -121,9 +123,9 @@ module _ (w n : ℕ) (s : State) (e : Entry) (ok : Accepted w n s.table) (z : en
     alone-status : is_alone n v i ≡ true → status n t' i ≡ status_alone
     unfolding acted turn testing after_test after_alone
     alone-status a =
-        let long : length v ≡ table_length n = (after_outcome-lines w n u i pair.counted_lines pair.below j pair.tested_below pair.apart o).0 in
+        let long : length v ≡ table_length n = (after_outcome-lines w n u i lines hi j hj apart o).0 in
         closed i status_column (omega arith) (λ p. omega arith)
-        ∙ rw (c, b, a) (cell_same n v i status_column status_alone long pair.below (omega arith))
+        ∙ rw (c, b, a) (cell_same n v i status_column status_alone long hi (omega arith))
 
     alone-row : is_alone n v i ≡ true → (x : ℕ) → x < n → x ≢ i → suspects n t' i x ≡ 1
     unfolding is_alone self_or_suspected
@@ -154,7 +156,7 @@ module _ (w n : ℕ) (s : State) (e : Entry) (ok : Accepted w n s.table) (z : en
         rw (eq-eqb e.kind kind_late two, c, b, l, eq-eqb j j refl)
 
     counted-row : (k x : ℕ) → x < n → suspects n u k x ≡ suspects n t k x
-    counted-row k x hx = pair.others k (head + x) (omega arith) (omega arith)
+    counted-row k x hx = others k (head + x) (omega arith) (omega arith)
 
     -- whom station k suspects with the outcome
     outcome-cause : (k x : ℕ) → k < n → x < n → live n t k ≡ true → live n t x ≡ true → suspects n v k x ≡ 1 → CauseAt w n s e x
@@ -172,47 +174,47 @@ module _ (w n : ℕ) (s : State) (e : Entry) (ok : Accepted w n s.table) (z : en
       where
         joined : o ≡ outcome_exchanged → suspects n (exchange_rows n u i j) k x ≡ 1 → CauseAt w n s e x
         joined q one =
-            let most = (exchange-between n u i j pair.counted_lines.0 pair.below pair.tested_below pair.apart k x hx).1 in
+            let most = (exchange-between n u i j lines.0 hi hj apart k x hx).1 in
             by_cases (ℕ_discrete (suspects n t k x) 1) (had k x hk lk lx)
-            (λ p. by_cases (ℕ_discrete (suspects n t i x) 1) (had i x pair.below pair.is_live lx)
-            (λ f. by_cases (ℕ_discrete (suspects n t j x) 1) (had j x pair.tested_below (exchanged-live q) lx)
+            (λ p. by_cases (ℕ_discrete (suspects n t i x) 1) (had i x hi is_live lx)
+            (λ f. by_cases (ℕ_discrete (suspects n t j x) 1) (had j x hj (exchanged-live q) lx)
             (λ g. absurd (omega (
               arith,
               most,
               counted-row k x hx,
               counted-row i x hx,
               counted-row j x hx,
-              (pair.lines.1 k hk).range x hx,
-              (pair.lines.1 i pair.below).range x hx,
-              (pair.lines.1 j pair.tested_below).range x hx,
+              (lines₀.1 k hk).range x hx,
+              (lines₀.1 i hi).range x hx,
+              (lines₀.1 j hj).range x hx,
             )))))
 
         marked : replies n t e.kind j ≡ false → suspects n (suspect n u i j) k x ≡ 1 → CauseAt w n s e x
         marked r one =
             by_cases (ℕ_discrete x j) (λ q. inr (rw q (late (rw q at lx) r)))
             (λ d. had k x hk lk lx
-            (sym (suspect-other n u i pair.counted_lines.0 pair.below j k (head + x) (omega arith) (λ _. omega arith) ∙ counted-row k x hx) ∙ one))
+            (sym (suspect-other n u i lines.0 hi j k (head + x) (omega arith) (λ _. omega arith) ∙ counted-row k x hx) ∙ one))
 
     -- a station that is not told keeps its status in the outcome
     outcome-status : (k : ℕ) → k < n → status n v k ≢ status_told → status n v k ≡ status n t k
     unfolding after_outcome
     outcome-status k hk =
-        by_bool (eqb o outcome_told) (λ p. rw p (left i j pair.below))
-        (λ p. by_bool (eqb o outcome_tested_told) (λ q. rw (p, q) (left j i pair.tested_below))
+        by_bool (eqb o outcome_told) (λ p. rw p (left i j hi))
+        (λ p. by_bool (eqb o outcome_tested_told) (λ q. rw (p, q) (left j i hj))
         (λ q. by_bool (eqb o outcome_exchanged)
         (λ r. rw (p, q, r) (λ _.
-        exchange-other n u i pair.counted_lines.0 pair.below j pair.tested_below pair.apart k status_column (omega arith) (λ _. omega arith) (λ _. omega arith)
+        exchange-other n u i lines.0 hi j hj apart k status_column (omega arith) (λ _. omega arith) (λ _. omega arith)
         ∙ counted))
         (λ r. rw (p, q, r) (λ _.
-        suspect-other n u i pair.counted_lines.0 pair.below j k status_column (omega arith) (λ _. omega arith) ∙ counted))))
+        suspect-other n u i lines.0 hi j k status_column (omega arith) (λ _. omega arith) ∙ counted))))
       where
         counted : status n u k ≡ status n t k
-        counted = pair.others k status_column (omega arith) (omega arith)
+        counted = others k status_column (omega arith) (omega arith)
 
         left : (a b : ℕ) → a < n → status n (leave_told n u a b) k ≢ status_told → status n (leave_told n u a b) k ≡ status n t k
         left a b ha not_told =
             by_cases (ℕ_discrete a k)
-            (λ q. absurd (not_told (rw (← q) (leave_told-status n u a pair.counted_lines.0 ha b))))
+            (λ q. absurd (not_told (rw (← q) (leave_told-status n u a lines.0 ha b))))
             (λ d. leave_told-other n u a b k status_column (omega arith) (λ q. absurd (d q)) ∙ counted)
 
   -- each suspicion of a live station by a live one after the entry has its cause before it, or in it

@@ -47,7 +47,8 @@ hit-sum true p n = one-hit p n
 hit-sum false p n = omega (arith, sum-zero {f = λ i. 0} n (λ i h. refl))
 
 -- entries that pass q, told apart by a number
-pub count-sum : (q : Taken → Bool) (f : Taken → ℕ) (r : ℕ → Taken → Bool) → ((i : ℕ) (x : Taken) → r i x ≡ (q x && eqb (f x) i)) → (n : ℕ) (xs : List Taken)
+pub count-sum : (q : Taken → Bool) (f : Taken → ℕ) (r : ℕ → Taken → Bool) → ((i : ℕ) (x : Taken) → r i x ≡ (q x && eqb (f x) i))
+    → (n : ℕ) (xs : List Taken)
     → sum_below (λ i. count_taken (r i) xs) n ≤ count_taken q xs
 unfolding count_taken
 count-sum q f r is n [] = omega (arith, sum-zero {f = λ i. 0} n (λ i h. refl))
@@ -67,7 +68,8 @@ none-counted q [] a = refl
 none-counted q (x ∷ xs) a = by_bool (q x) (λ e. absurd (true≢false (rw e at a))) (λ e. rw e (omega (arith, none-counted q xs (rw e at a))))
 
 -- where no entry passes q, none passes a test that implies q
-pub none-passes : (q r : Taken → Bool) → ((x : Taken) → r x ≡ true → q x ≡ true) → (xs : List Taken) → all_taken (λ x. not (q x)) xs ≡ true → any_taken r xs ≡ false
+pub none-passes : (q r : Taken → Bool) → ((x : Taken) → r x ≡ true → q x ≡ true) → (xs : List Taken) → all_taken (λ x. not (q x)) xs ≡ true
+    → any_taken r xs ≡ false
 unfolding any_taken all_taken
 none-passes q r imp [] a = refl
 none-passes q r imp (x ∷ xs) a =

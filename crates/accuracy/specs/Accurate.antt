@@ -3,7 +3,7 @@
 -- Assumes nothing.
 use Rattle.std.specs.Prelude.{◌≡◌, ◌≢◌, ◌⊎◌, ℕ, ◌+◌, ◌≤◌, ◌<◌, true, false, not, ◌&&◌, List, [], ◌∷◌, ◌++◌, length, ◌==◌}
 use Rattle.lists.specs.Sums.{sum_below, bit}
-use Rattle.table.specs.Table.{table_length, status, status_told, status_alone, told_by, live}
+use Rattle.table.specs.Table.{table_length, status, status_crashed, status_told, status_alone, told_by, live}
 use Rattle.table.specs.Properties.{live_count, none_suspected}
 use Rattle.plant.specs.Turn.{outcome_told, outcome_tested_told}
 use Rattle.plant.specs.Entry.{State, outcome_of}
@@ -76,9 +76,10 @@ NoneLate n s calls end =
 
 -- who is no longer live, and how many
 pub record LateCost (n : ℕ) (s : State) (calls : List Call) (end : State) : Type 0 where
-  -- a station that is no longer live was told, and its reply was late; or it crashed
+  -- a station that is no longer live was told, and its reply was late; or it crashed. So none left because alone
   pub who : (i : ℕ) → i < n → live n s.table i ≡ true → live n end.table i ≡ false
-      → ((status n end.table i ≡ status_told) × (was_late i (taken_all s calls) ≡ true)) ⊎ (has_crashed i (taken_all s calls) ≡ true)
+      → ((status n end.table i ≡ status_told) × (was_late i (taken_all s calls) ≡ true))
+      ⊎ ((status n end.table i ≡ status_crashed) × (has_crashed i (taken_all s calls) ≡ true))
   -- each late reply and each crash costs one station at most
   pub cost : live_count n s.table ≤ live_count n end.table + count_taken is_late (taken_all s calls) + count_taken crashes (taken_all s calls)
 

@@ -3,8 +3,8 @@
 //! its reply was late; and so had one that is told.
 
 use super::laws::{is_live, run_each, schedule, suspects, Taken};
-use super::{fresh, head, random_table_on, run_on, set, wired_sizes, Numbers, HEAD, WIRINGS};
-use crate::drive;
+use super::{fresh, head, random_table_on, run_on, set, wired_sizes, Numbers, CUBE, HEAD, WIRINGS};
+use crate::{doubt_lamp, drive};
 
 /// The sizes that the tests with many lists go through.
 const SOME: [usize; 12] = [2, 3, 4, 5, 6, 7, 8, 11, 16, 17, 33, 64];
@@ -217,6 +217,26 @@ fn of_two_stations_both_leave_as_alone() {
         assert_eq!(sheet, [0, 1, 3, 3, 1, 0, 3, 3]);
         assert_eq!([0, 1].map(|i| head(2, &table, i)[0]), [3, 3]);
     }
+}
+
+/// One late reply of eight stations, followed until the late one has left: who
+/// it is that the lamp shows, and what its line then says.
+#[test]
+fn late_station_is_told_by_another() {
+    let mut table = fresh(8);
+    let entries = [
+        ([2, 4], [4, 5, 3, 0], Some((4, 5))),
+        ([1, 4], [4, 6, 1, 0], Some((4, 5))),
+        ([1, 7], [7, 6, 1, 0], Some((4, 5))),
+        ([1, 7], [7, 5, 5, 0], None),
+    ];
+    for (entry, line, lamp) in entries {
+        let (_, sheet) = run_on(CUBE, 8, &mut table, (0, 0), &entry);
+        assert_eq!(sheet, line);
+        assert_eq!(doubt_lamp(CUBE, 8, &table), (0, lamp));
+    }
+    let head = head(8, &table, 5);
+    assert_eq!([head[0], head[4], head[5]], [2, 7, 0]);
 }
 
 /// A tester that is alone while others are live: the late reply is of its own
