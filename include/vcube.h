@@ -45,13 +45,12 @@
  *   closed round more. If nobody is live no round closes any more.
  *   No entry makes a station live again, and none takes a suspicion back. In a fresh table all are live, and nobody is suspected.
  *
- * Words. A plant has n stations, numbered from 0; d is the least number with n <= 2^d. The distance of two stations is the exclusive or of
- * their numbers, which is below 2^d. The group of station i at level s (1 to d) holds, in this order, those of the numbers
- * i ^ (2^(s - 1) + k), for k from 0 to 2^(s - 1) - 1, that are below n; it may be empty. The level of a distance m is the s with
- * 2^(s - 1) <= m < 2^s. A station suspects another by its own row, and never itself. If a station j is at distance m from i, then i is in
- * the group of j at the level of m: m is due for i if i is the first station of that group that i does not suspect, and otherwise that first
- * station, live or not, is ahead of i at m. If no station is at distance m from i, then m is not due for i. Whether i suspects j makes no
- * difference to the distance of j.
+ * Words. A plant has n stations, numbered from 0; d is the least number with n <= 2^d. On the cube the distance of two stations is the exclusive or
+ * of their numbers, which is below 2^d. The group of station i at level s (1 to d) holds, in this order, those of the numbers i ^ (2^(s - 1) + k),
+ * for k from 0 to 2^(s - 1) - 1, that are below n; it may be empty. The level of a distance m is the s with 2^(s - 1) <= m < 2^s. A station
+ * suspects another by its own row, and never itself. If a station j is at distance m from i, then i is in the group of j at the level of m: m is
+ * due for i if i is the first station of that group that i does not suspect, and otherwise that first station, live or not, is ahead of i at m. If
+ * no station is at distance m from i, then m is not due for i. Whether i suspects j makes no difference to the distance of j.
  *
  * The table has n lines of n + 6 bytes, in station order. The head of a line is its first VCUBE_HEAD bytes:
  *
@@ -212,7 +211,7 @@ enum vcube_status {
 
 /* Byte 2 of a line of the run sheet. The tester is the station in byte 0, the tested station that in byte 1. */
 enum vcube_outcome {
-    VCUBE_OUTCOME_PASS_FINISHED = 0,    /* pass finished (no test was due any more) */
+    VCUBE_OUTCOME_PASS_FINISHED = 0,    /* pass finished (there was no next test) */
     VCUBE_OUTCOME_EXCHANGED = 1,        /* exchanged (neither suspected the other: both rows became the union of the two) */
     VCUBE_OUTCOME_TOLD = 2,             /* told, and left (the tester, which the tested station suspected) */
     VCUBE_OUTCOME_NO_REPLY = 3,         /* no reply (the tested station is not live, or its reply was late: the tester suspects it) */

@@ -130,7 +130,7 @@ numbered! {
     /// What an entry brought.
     #[non_exhaustive]
     Outcome {
-        /// No test was due any more.
+        /// There was no next test.
         PassFinished = 0 => "pass finished",
         /// Neither suspected the other: both rows became the union of the two.
         Exchanged = 1 => "exchanged",
