@@ -60,6 +60,81 @@
 #define wasm_rt_allocate_memory vcube_rt_allocate_memory
 #define wasm_rt_free_memory vcube_rt_free_memory
 
+/* VCUBE_MODULE_STACK and VCUBE_MODULE_START: the module's stack goes down from the first, and buffers begin at the second. */
+#include "vcube_layout.h"
+
+#define MOST_STATIONS ((size_t)VCUBE_PORTABLE_STATIONS)
+#define MOST_RESULTS ((size_t)VCUBE_PORTABLE_RESULTS)
+#define TABLE_ROOM VCUBE_TABLE_LENGTH(MOST_STATIONS)
+#define REPORT_ROOM VCUBE_REPORT_LENGTH(MOST_STATIONS)
+#define SAVED_ROOM VCUBE_SAVED_LENGTH(MOST_STATIONS)
+#define RESULTS_ROOM (MOST_RESULTS * sizeof(uint16_t))
+
+/* What the numbers of a call take, eight bytes each, or three structs; and what lengths are rounded up by. */
+#define NUMBERS_ROOM 192
+
+/* What the buffers of any one call take: those of a mending, a conversion, a load, or figures. */
+#define GREATER(a, b) ((a) > (b) ? (a) : (b))
+#define CALL_ROOM \
+    GREATER(GREATER(TABLE_ROOM + REPORT_ROOM, SAVED_ROOM + SAVED_ROOM), GREATER(SAVED_ROOM + TABLE_ROOM, RESULTS_ROOM))
+#define MEMORY_SIZE ((VCUBE_MODULE_START + NUMBERS_ROOM + CALL_ROOM + 7) / 8 * 8)
+
+/* How many entries of a run are handed over at a time: those that there is room for beside the table, 6 bytes each. */
+#define ENTRIES_AT_ONCE ((CALL_ROOM - TABLE_ROOM) / 6)
+
+static VCUBE_PORTABLE_LOCAL union {
+    uint8_t bytes[MEMORY_SIZE];
+    uint64_t aligned;
+} memory;
+
+/* The module fills and moves bytes by memset and memmove. These stand for them: memcpy is all that is taken of C's library, and wasm2c's own
+ * do not go by the backward memory of a big-endian processor. */
+
+#if WABT_BIG_ENDIAN
+/* Where the bytes begin of which the module names the first by this pointer. */
+static uint8_t *turned(const void *at, size_t length)
+{
+    return memory.bytes + (sizeof memory.bytes - (size_t)((const uint8_t *)at - memory.bytes) - length);
+}
+#else
+static uint8_t *turned(const void *at, size_t length)
+{
+    (void)length;
+    return memory.bytes + ((const uint8_t *)at - memory.bytes);
+}
+#endif
+
+static void fill_bytes(void *at, int value, size_t length)
+{
+    uint8_t *bytes = turned(at, length);
+    size_t done = 1;
+
+    if (length == 0)
+        return;
+    bytes[0] = (uint8_t)value;
+    for (; done < length - done; done += done)
+        memcpy(bytes + done, bytes, done);
+    memcpy(bytes + done, bytes, length - done);
+}
+
+/* The two parts may overlap: a piece is read whole before it is written, and the pieces go from the end that is not overwritten. */
+static void move_bytes(void *to, const void *from, size_t length)
+{
+    uint8_t piece[32], *target = turned(to, length);
+    const uint8_t *source = turned(from, length);
+    size_t done = 0;
+
+    while (done < length) {
+        size_t part = length - done < sizeof piece ? length - done : sizeof piece;
+        size_t at = target <= source ? done : length - done - part;
+        memcpy(piece, source + at, part);
+        memcpy(target + at, piece, part);
+        done += part;
+    }
+}
+
+#define memset fill_bytes
+#define memmove move_bytes
 #if defined(__GNUC__)
 #pragma GCC diagnostic push
 #pragma GCC diagnostic ignored "-Wpedantic"
@@ -75,33 +150,9 @@
 #if defined(__GNUC__)
 #pragma GCC diagnostic pop
 #endif
+#undef memset
+#undef memmove
 
-/* VCUBE_MODULE_STACK and VCUBE_MODULE_START: the module's stack goes down from the first, and buffers begin at the second. */
-#include "vcube_layout.h"
-
-#define MOST_STATIONS ((size_t)VCUBE_PORTABLE_STATIONS)
-#define MOST_RESULTS ((size_t)VCUBE_PORTABLE_RESULTS)
-#define TABLE_ROOM VCUBE_TABLE_LENGTH(MOST_STATIONS)
-#define REPORT_ROOM VCUBE_REPORT_LENGTH(MOST_STATIONS)
-#define SAVED_ROOM VCUBE_SAVED_LENGTH(MOST_STATIONS)
-#define RESULTS_ROOM (MOST_RESULTS * sizeof(uint16_t))
-
-/* The numbers of a call, each in eight bytes: three structs, or what a buffer's length is rounded up by, at most. */
-#define NUMBERS_ROOM 192
-
-#define GREATER(a, b) ((a) > (b) ? (a) : (b))
-/* What the buffers of any one call take: mend; conversion; load; figures. */
-#define CALL_ROOM \
-    GREATER(GREATER(TABLE_ROOM + REPORT_ROOM, SAVED_ROOM + SAVED_ROOM), GREATER(SAVED_ROOM + TABLE_ROOM, RESULTS_ROOM))
-#define MEMORY_SIZE ((VCUBE_MODULE_START + NUMBERS_ROOM + CALL_ROOM + 7) / 8 * 8)
-
-/* How many entries of a run are handed over at a time: those that there is room for beside the table, 6 bytes each. */
-#define ENTRIES_AT_ONCE ((CALL_ROOM - TABLE_ROOM) / 6)
-
-static VCUBE_PORTABLE_LOCAL union {
-    uint8_t bytes[MEMORY_SIZE];
-    uint64_t aligned;
-} memory;
 static VCUBE_PORTABLE_LOCAL Z_vcube_module_instance_t module;
 static VCUBE_PORTABLE_LOCAL int is_laid_out;
 
@@ -213,7 +264,6 @@ static void begin_call(void)
 {
     if (!is_laid_out) {
         Z_vcube_module_instantiate(&module);
-        VCUBE_MODULE_SET_STACK(&module);
         is_laid_out = 1;
     }
     next = VCUBE_MODULE_START;
