@@ -14,7 +14,7 @@
  *   VCUBE_PORTABLE_RESULTS   the most results that figures and totals are taken of, 1 to 4096 (4096). More get refusal 15.
  *   VCUBE_PORTABLE_LOCAL     what stands before the memory, _Thread_local for one in each thread (nothing).
  *   VCUBE_PORTABLE_TRAP      what is done in place of a return if the module leaves its memory, which the proofs rule out: a statement that
- *                            does not end (an endless loop, so that a watchdog of the hardware sees it).
+ *                            does not end (the compiler's trap, or an endless loop, which a watchdog of the hardware sees).
  */
 #include "vcube.h"
 
@@ -35,7 +35,11 @@
 #define VCUBE_PORTABLE_LOCAL
 #endif
 #ifndef VCUBE_PORTABLE_TRAP
+#if defined(__GNUC__)
+#define VCUBE_PORTABLE_TRAP __builtin_trap();
+#else
 #define VCUBE_PORTABLE_TRAP for (;;) {}
+#endif
 #endif
 #if VCUBE_PORTABLE_STATIONS < 2 || VCUBE_PORTABLE_STATIONS > 64
 #error "vcube: VCUBE_PORTABLE_STATIONS is 2 to 64"
@@ -104,17 +108,22 @@ static uint8_t *turned(const void *at, size_t length)
 }
 #endif
 
-static void fill_bytes(void *at, int value, size_t length)
+/* By memcpy, of what is filled already. */
+static void fill(uint8_t *bytes, uint8_t value, size_t length)
 {
-    uint8_t *bytes = turned(at, length);
     size_t done = 1;
 
     if (length == 0)
         return;
-    bytes[0] = (uint8_t)value;
+    bytes[0] = value;
     for (; done < length - done; done += done)
         memcpy(bytes + done, bytes, done);
     memcpy(bytes + done, bytes, length - done);
+}
+
+static void fill_bytes(void *at, int value, size_t length)
+{
+    fill(turned(at, length), (uint8_t)value, length);
 }
 
 /* The two parts may overlap: a piece is read whole before it is written, and the pieces go from the end that is not overwritten. */
@@ -143,8 +152,10 @@ static void move_bytes(void *to, const void *from, size_t length)
 #pragma GCC diagnostic ignored "-Wunused-variable"
 #pragma GCC diagnostic ignored "-Wunused-but-set-variable"
 #pragma GCC diagnostic ignored "-Wunused-label"
+#pragma GCC diagnostic ignored "-Wunused-value"
 #pragma GCC diagnostic ignored "-Wsign-compare"
 #pragma GCC diagnostic ignored "-Wconversion"
+#pragma GCC diagnostic ignored "-Wsign-conversion"
 #endif
 #include "vcube_module.c"
 #if defined(__GNUC__)
@@ -481,8 +492,7 @@ uint8_t vcube_mend(size_t wiring, size_t n, uint8_t *table, size_t table_length,
     if (number == VCUBE_ACCEPTED) {
         get_bytes(table_at, table, length);
         get_bytes(report_at, report, front);
-        for (size_t k = front; k < report_length; k++)
-            report[k] = 0;
+        fill(report + front, 0, report_length - front);
     }
     return number;
 }
