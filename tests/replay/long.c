@@ -27,11 +27,11 @@ static void add_bytes(const uint8_t *bytes, size_t length)
         sum = (sum ^ bytes[k]) * 16777619u;
 }
 
-/* A run of up to 20,000 entries of live boards, mostly turns; a wrong kind, board or length now and then. */
+/* A run of up to 9,000 entries of few boards, which are live, mostly turns; a wrong kind, board or length now and then. */
 static void run(void)
 {
-    static uint8_t table[VCUBE_TABLE_LENGTH(64)], schedule[40000], sheet[80000];
-    const size_t n = 2 + below(63), wiring = 1 + below(2), entries = 2000 + below(18000), length = VCUBE_TABLE_LENGTH(n);
+    static uint8_t table[VCUBE_TABLE_LENGTH(64)], schedule[18000], sheet[36002];
+    const size_t n = 2 + below(9), wiring = 1 + below(2), entries = 3000 + below(6000), length = VCUBE_TABLE_LENGTH(n);
     size_t last = VCUBE_NO_STATION, taken = 1, made = 0, schedule_length, sheet_length;
     uint32_t rounds = below(5) == 0 ? UINT32_MAX - 20 : below(9), tests = below(9);
     uint8_t number = vcube_fresh_table(wiring, n, table, length);
@@ -82,14 +82,19 @@ static void file(void)
     uint32_t rounds = 7, tests = 7, station = 0;
     uint8_t numbers[4];
 
-    if (below(4) != 0)
-        length += field(bytes, VCUBE_TAG_OPENING, 1 + (below(20) == 0), (uint8_t)(VCUBE_EDITION + (below(20) == 0)));
-    for (uint32_t k = 0; k < (below(10) == 0 ? below(3) : 1); k++)
+    /* each random number by itself, as the order in which a call's arguments are reckoned is open */
+    if (below(4) != 0) {
+        const uint32_t is_longer = below(20) == 0, is_later = below(20) == 0;
+        length += field(bytes, VCUBE_TAG_OPENING, 1 + is_longer, (uint8_t)(VCUBE_EDITION + is_later));
+    }
+    for (uint32_t left = below(10) == 0 ? below(3) : 1; left > 0; left--)
         length += field(bytes + length, VCUBE_TAG_SIZE, 1 + (below(20) == 0), (uint8_t)n);
-    for (uint32_t k = 0; k < (below(10) == 0 ? below(3) : 1); k++)
+    for (uint32_t left = below(10) == 0 ? below(3) : 1; left > 0; left--)
         length += field(bytes + length, VCUBE_TAG_TALLY, 8 + (below(20) == 0), 0);
     while (length < most) {
-        length += field(bytes + length, (uint8_t)(below(4000) == 0 ? below(6) : VCUBE_TAG_LINE), below(30) == 0 ? below(20000) : line, (uint8_t)station);
+        const uint8_t tag = (uint8_t)(below(4000) == 0 ? below(6) : VCUBE_TAG_LINE);
+        const size_t contents = below(30) == 0 ? below(20000) : line;
+        length += field(bytes + length, tag, contents, (uint8_t)station);
         if (station < 255 && below(2) == 0)
             station++;
         if (below(2000) == 0)
@@ -124,10 +129,10 @@ static void print(const char *what)
 
 int main(void)
 {
-    for (int k = 0; k < 30; k++)
+    for (int k = 0; k < 12; k++)
         run();
     print("long runs");
-    for (int k = 0; k < 2000; k++)
+    for (int k = 0; k < 300; k++)
         file();
     print("long files");
     return 0;
