@@ -7,6 +7,7 @@
  * To build: the archive is made by tests/archive as target/staticlib/libvcube.a, and bindings/c/install installs it with this header. It is
  * for x86-64 Linux, and processors of the level x86-64-v2 or above. It needs memcpy, memmove and memset, and nothing else. A load or a
  * conversion takes less than 4800 bytes of stack, every other call less than 400.
+ * For other processors, and for browsers, there are other forms, of which the portable C takes one call at a time: docs/BOARDS.md.
  *
  * Who keeps what. There is one table for a plant, and whoever makes the calls keeps it: a bus master, a panel or a test bench. Tally and last
  * granted number are the caller's too. The library keeps no state and no pointer; calls may run at once in several threads, if none writes

@@ -355,7 +355,9 @@ static const struct refused_plant refused_plants[] = {
     {"grant and drive: a last number of 254", N, 16, 254, VCUBE_REFUSED_LAST_GRANTED, FRESH},
     {"grant and drive: 256 is not cut to 0", N, 16, 256, VCUBE_REFUSED_LAST_GRANTED, FRESH},
     {"grant and drive: 511 is not cut to 255", N, 16, 511, VCUBE_REFUSED_LAST_GRANTED, FRESH},
+#if SIZE_MAX > UINT32_MAX
     {"grant and drive: 2^32 + 255 is not cut to 255", N, 16, (size_t)UINT32_MAX + 256, VCUBE_REFUSED_LAST_GRANTED, FRESH},
+#endif
     {"grant and drive: the greatest last number", N, 16, SIZE_MAX, VCUBE_REFUSED_LAST_GRANTED, FRESH},
 };
 

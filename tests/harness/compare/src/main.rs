@@ -37,6 +37,7 @@ mod mending;
 mod occurred;
 mod options;
 mod outcome;
+mod recorded;
 mod report;
 mod result_faults;
 mod ring;
@@ -68,11 +69,12 @@ fn main() -> ExitCode {
 
 fn work(options: &Options) -> Result<String, String> {
     let seed = options.seed;
-    match options.task {
+    match &options.task {
         Task::SelfTest => self_test::self_test(seed)
             .map(|noticed| format!("compare: self-test: all {noticed} alterations noticed")),
-        Task::Only(number) => only(seed, number),
-        Task::Calls(calls) => compare(seed, calls, options.trace),
+        Task::Only(number) => only(seed, *number),
+        Task::Calls(calls) => compare(seed, *calls, options.trace),
+        Task::Record(calls, path) => recorded::record(seed, *calls, path),
     }
 }
 

@@ -1,0 +1,787 @@
+/* The calls of vcube.h in portable C, over the module that wasm2c made of the library (vcube_module.c). This is the one file to compile: it
+ * holds the module and all that the module needs of a runtime. docs/BOARDS.md of the repository says what it takes of a processor.
+ *
+ * The module works on a memory of its own, a static array. A call copies what it is handed into that memory, calls the function there, and
+ * copies back what the function wrote: of a refused call the numbers that it gives, and nothing else, as the library changes nothing else.
+ * There is no call to begin with, and nothing that can fail: the first call of all lays the memory out. The copying is not proved, and
+ * neither is wasm2c; both are tested.
+ *
+ * One call at a time: two calls at once, in two threads or in an interrupt, need two memories (VCUBE_PORTABLE_LOCAL).
+ *
+ * What may be defined when this is compiled:
+ *
+ *   VCUBE_PORTABLE_STATIONS  the most stations of a plant, 2 to 64 (64). A plant of more gets refusal 1, as one of more than 64.
+ *   VCUBE_PORTABLE_RESULTS   the most results that figures and totals are taken of, 1 to 4096 (4096). More get refusal 15.
+ *   VCUBE_PORTABLE_LOCAL     what stands before the memory, _Thread_local for one in each thread (nothing).
+ *   VCUBE_PORTABLE_TRAP      what is done in place of a return if the module leaves its memory, which the proofs rule out: a statement that
+ *                            does not end (the compiler's trap, or an endless loop, which a watchdog of the hardware sees).
+ */
+#include "vcube.h"
+
+#include <limits.h>
+#include <string.h>
+
+#if CHAR_BIT != 8
+#error "vcube: bytes have 8 bits here"
+#endif
+
+#ifndef VCUBE_PORTABLE_STATIONS
+#define VCUBE_PORTABLE_STATIONS 64
+#endif
+#ifndef VCUBE_PORTABLE_RESULTS
+#define VCUBE_PORTABLE_RESULTS VCUBE_MOST_RESULTS
+#endif
+#ifndef VCUBE_PORTABLE_LOCAL
+#define VCUBE_PORTABLE_LOCAL
+#endif
+#ifndef VCUBE_PORTABLE_TRAP
+#if defined(__GNUC__)
+#define VCUBE_PORTABLE_TRAP __builtin_trap();
+#else
+#define VCUBE_PORTABLE_TRAP for (;;) {}
+#endif
+#endif
+#if VCUBE_PORTABLE_STATIONS < 2 || VCUBE_PORTABLE_STATIONS > 64
+#error "vcube: VCUBE_PORTABLE_STATIONS is 2 to 64"
+#endif
+#if VCUBE_PORTABLE_RESULTS < 1 || VCUBE_PORTABLE_RESULTS > 4096
+#error "vcube: VCUBE_PORTABLE_RESULTS is 1 to 4096"
+#endif
+
+/* What wasm2c's C goes by. On a big-endian processor it keeps the memory backwards: byte a of the module at size - 1 - a. */
+#if !defined(WABT_BIG_ENDIAN) && defined(__BYTE_ORDER__) && defined(__ORDER_BIG_ENDIAN__)
+#define WABT_BIG_ENDIAN (__BYTE_ORDER__ == __ORDER_BIG_ENDIAN__)
+#endif
+#define WASM_RT_MEMCHECK_SIGNAL_HANDLER 0
+#define WASM_RT_USE_STACK_DEPTH_COUNT 0
+#ifndef NDEBUG
+#define NDEBUG
+#endif
+
+/* The parts of the runtime stand below, under names of their own, so that another module's runtime may be linked beside them. */
+#define wasm_rt_trap vcube_rt_trap
+#define wasm_rt_register_func_type vcube_rt_register_func_type
+#define wasm_rt_allocate_memory vcube_rt_allocate_memory
+#define wasm_rt_free_memory vcube_rt_free_memory
+
+/* VCUBE_MODULE_STACK and VCUBE_MODULE_START: the module's stack goes down from the first, and buffers begin at the second. */
+#include "vcube_layout.h"
+
+#define MOST_STATIONS ((size_t)VCUBE_PORTABLE_STATIONS)
+#define MOST_RESULTS ((size_t)VCUBE_PORTABLE_RESULTS)
+#define TABLE_ROOM VCUBE_TABLE_LENGTH(MOST_STATIONS)
+#define REPORT_ROOM VCUBE_REPORT_LENGTH(MOST_STATIONS)
+#define SAVED_ROOM VCUBE_SAVED_LENGTH(MOST_STATIONS)
+#define RESULTS_ROOM (MOST_RESULTS * sizeof(uint16_t))
+
+/* What the numbers of a call take, eight bytes each, or three structs; and what lengths are rounded up by. */
+#define NUMBERS_ROOM 192
+
+/* What the buffers of any one call take: those of a mending, a conversion, a load, or figures. */
+#define GREATER(a, b) ((a) > (b) ? (a) : (b))
+#define CALL_ROOM \
+    GREATER(GREATER(TABLE_ROOM + REPORT_ROOM, SAVED_ROOM + SAVED_ROOM), GREATER(SAVED_ROOM + TABLE_ROOM, RESULTS_ROOM))
+#define MEMORY_SIZE ((VCUBE_MODULE_START + NUMBERS_ROOM + CALL_ROOM + 7) / 8 * 8)
+
+/* How many entries of a run are handed over at a time: those that there is room for beside the table, 6 bytes each. */
+#define ENTRIES_AT_ONCE ((CALL_ROOM - TABLE_ROOM) / 6)
+
+static VCUBE_PORTABLE_LOCAL union {
+    uint8_t bytes[MEMORY_SIZE];
+    uint64_t aligned;
+} memory;
+
+/* The module fills and moves bytes by memset and memmove. These stand for them: memcpy is all that is taken of C's library, and wasm2c's own
+ * do not go by the backward memory of a big-endian processor. */
+
+#if WABT_BIG_ENDIAN
+/* Where the bytes begin of which the module names the first by this pointer. */
+static uint8_t *turned(const void *at, size_t length)
+{
+    return memory.bytes + (sizeof memory.bytes - (size_t)((const uint8_t *)at - memory.bytes) - length);
+}
+#else
+static uint8_t *turned(const void *at, size_t length)
+{
+    (void)length;
+    return memory.bytes + ((const uint8_t *)at - memory.bytes);
+}
+#endif
+
+/* By memcpy, of what is filled already. */
+static void fill(uint8_t *bytes, uint8_t value, size_t length)
+{
+    size_t done = 1;
+
+    if (length == 0)
+        return;
+    bytes[0] = value;
+    for (; done < length - done; done += done)
+        memcpy(bytes + done, bytes, done);
+    memcpy(bytes + done, bytes, length - done);
+}
+
+static void fill_bytes(void *at, int value, size_t length)
+{
+    fill(turned(at, length), (uint8_t)value, length);
+}
+
+/* The two parts may overlap: a piece is read whole before it is written, and the pieces go from the end that is not overwritten. */
+static void move_bytes(void *to, const void *from, size_t length)
+{
+    uint8_t piece[32], *target = turned(to, length);
+    const uint8_t *source = turned(from, length);
+    size_t done = 0;
+
+    while (done < length) {
+        size_t part = length - done < sizeof piece ? length - done : sizeof piece;
+        size_t at = target <= source ? done : length - done - part;
+        memcpy(piece, source + at, part);
+        memcpy(target + at, piece, part);
+        done += part;
+    }
+}
+
+#define memset fill_bytes
+#define memmove move_bytes
+#if defined(__GNUC__)
+#pragma GCC diagnostic push
+#pragma GCC diagnostic ignored "-Wpedantic"
+#pragma GCC diagnostic ignored "-Wunused-function"
+#pragma GCC diagnostic ignored "-Wunused-parameter"
+#pragma GCC diagnostic ignored "-Wunused-variable"
+#pragma GCC diagnostic ignored "-Wunused-but-set-variable"
+#pragma GCC diagnostic ignored "-Wunused-label"
+#pragma GCC diagnostic ignored "-Wunused-value"
+#pragma GCC diagnostic ignored "-Wsign-compare"
+#pragma GCC diagnostic ignored "-Wconversion"
+#pragma GCC diagnostic ignored "-Wsign-conversion"
+#endif
+#include "vcube_module.c"
+#if defined(__GNUC__)
+#pragma GCC diagnostic pop
+#endif
+#undef memset
+#undef memmove
+
+static VCUBE_PORTABLE_LOCAL Z_vcube_module_instance_t module;
+static VCUBE_PORTABLE_LOCAL int is_laid_out;
+
+/* Where the next buffer of a call goes. */
+static VCUBE_PORTABLE_LOCAL uint32_t next;
+
+/* What the module takes of wasm2c's runtime. */
+
+void vcube_rt_trap(wasm_rt_trap_t why)
+{
+    (void)why;
+    VCUBE_PORTABLE_TRAP
+}
+
+/* For calls of functions by their number; the module has none. */
+uint32_t vcube_rt_register_func_type(uint32_t parameters, uint32_t results, ...)
+{
+    (void)parameters;
+    (void)results;
+    return 0;
+}
+
+/* The module's memory is as long as it has to be, and no longer: less than the pages of 64 KiB that it asks for. */
+void vcube_rt_allocate_memory(wasm_rt_memory_t *made, uint32_t pages, uint32_t most_pages)
+{
+    made->data = memory.bytes;
+    made->size = (uint32_t)sizeof memory.bytes;
+    made->pages = pages;
+    made->max_pages = most_pages;
+}
+
+void vcube_rt_free_memory(wasm_rt_memory_t *made)
+{
+    (void)made;
+}
+
+/* The memory, byte for byte. */
+
+#if WABT_BIG_ENDIAN
+static uint8_t *place_of(uint32_t at)
+{
+    return &memory.bytes[sizeof memory.bytes - 1 - at];
+}
+
+static void put_bytes(uint32_t at, const void *from, size_t length)
+{
+    const uint8_t *bytes = (const uint8_t *)from;
+
+    for (size_t k = 0; k < length; k++)
+        *place_of(at + (uint32_t)k) = bytes[k];
+}
+
+static void get_bytes(uint32_t at, void *to, size_t length)
+{
+    uint8_t *bytes = (uint8_t *)to;
+
+    for (size_t k = 0; k < length; k++)
+        bytes[k] = *place_of(at + (uint32_t)k);
+}
+#else
+static uint8_t *place_of(uint32_t at)
+{
+    return &memory.bytes[at];
+}
+
+/* A pointer to no byte may be NULL. */
+static void put_bytes(uint32_t at, const void *from, size_t length)
+{
+    if (length > 0)
+        memcpy(place_of(at), from, length);
+}
+
+static void get_bytes(uint32_t at, void *to, size_t length)
+{
+    if (length > 0)
+        memcpy(to, place_of(at), length);
+}
+#endif
+
+/* Numbers stand in the module with the low byte first. */
+static void put_number(uint32_t at, uint64_t number, uint32_t width)
+{
+    for (uint32_t k = 0; k < width; k++)
+        *place_of(at + k) = (uint8_t)(number >> (8 * k));
+}
+
+static uint64_t get_number(uint32_t at, uint32_t width)
+{
+    uint64_t number = 0;
+
+    for (uint32_t k = 0; k < width; k++)
+        number |= (uint64_t)*place_of(at + k) << (8 * k);
+    return number;
+}
+
+static uint32_t get_u32(uint32_t at)
+{
+    return (uint32_t)get_number(at, 4);
+}
+
+static size_t get_size(uint32_t at)
+{
+    return (size_t)get_number(at, 8);
+}
+
+/* A call: its buffers, one behind the other. */
+
+static void begin_call(void)
+{
+    if (!is_laid_out) {
+        Z_vcube_module_instantiate(&module);
+        is_laid_out = 1;
+    }
+    next = VCUBE_MODULE_START;
+}
+
+/* Room for a buffer of this length, which the call fills. */
+static uint32_t room(size_t length)
+{
+    uint32_t at = next;
+
+    next += ((uint32_t)length + 7) / 8 * 8;
+    return at;
+}
+
+/* Room for a number that the call gives. */
+static uint32_t room_for_number(void)
+{
+    return room(8);
+}
+
+static uint32_t bytes_in(const void *from, size_t length)
+{
+    uint32_t at = room(length);
+
+    put_bytes(at, from, length);
+    return at;
+}
+
+static uint32_t number_in(uint64_t number, uint32_t width)
+{
+    uint32_t at = room_for_number();
+
+    put_number(at, number, width);
+    return at;
+}
+
+/* A buffer longer than the longest that is taken is handed over as one byte longer than that, and so refused by its length. */
+static size_t cut(size_t length, size_t longest)
+{
+    return length > longest ? longest + 1 : length;
+}
+
+/* A size that there is no room for is handed over as 0, and so refused as a size. */
+static size_t size_in(size_t n)
+{
+    return n > MOST_STATIONS ? 0 : n;
+}
+
+uint8_t vcube_fresh_table(size_t wiring, size_t n, uint8_t *table, size_t table_length)
+{
+    size_t length = cut(table_length, TABLE_ROOM);
+    uint32_t at;
+    uint8_t number;
+
+    begin_call();
+    at = room(length);
+    number = (uint8_t)Z_vcube_moduleZ_vcube_fresh_table(&module, wiring, size_in(n), at, length);
+    if (number == VCUBE_ACCEPTED)
+        get_bytes(at, table, length);
+    return number;
+}
+
+uint8_t vcube_group_list(size_t n, size_t station, size_t level, uint8_t *list, size_t list_length)
+{
+    size_t length = cut(list_length, VCUBE_LONGEST_GROUP);
+    uint32_t at;
+    uint8_t number;
+
+    begin_call();
+    at = room(length);
+    number = (uint8_t)Z_vcube_moduleZ_vcube_group_list(&module, size_in(n), station, level, at, length);
+    if (number == VCUBE_ACCEPTED)
+        get_bytes(at, list, length);
+    return number;
+}
+
+uint8_t vcube_assignment(size_t n, const uint8_t *table, size_t table_length, size_t station, uint8_t *list, size_t list_length,
+                         size_t *count)
+{
+    size_t length = cut(table_length, TABLE_ROOM), to_fill = cut(list_length, VCUBE_ASSIGNMENT_LENGTH(MOST_STATIONS));
+    uint32_t table_at, list_at, count_at;
+    uint8_t number;
+
+    begin_call();
+    table_at = bytes_in(table, length);
+    list_at = room(to_fill);
+    count_at = room_for_number();
+    number = (uint8_t)Z_vcube_moduleZ_vcube_assignment(&module, size_in(n), table_at, length, station, list_at, to_fill, count_at);
+    *count = get_size(count_at);
+    if (number == VCUBE_ACCEPTED)
+        get_bytes(list_at, list, to_fill);
+    return number;
+}
+
+uint8_t vcube_row(size_t wiring, size_t n, const uint8_t *table, size_t table_length, size_t station, size_t *start, size_t *length)
+{
+    size_t lent = cut(table_length, TABLE_ROOM);
+    uint32_t table_at, start_at, length_at;
+    uint8_t number;
+
+    begin_call();
+    table_at = bytes_in(table, lent);
+    start_at = room_for_number();
+    length_at = room_for_number();
+    number = (uint8_t)Z_vcube_moduleZ_vcube_row(&module, wiring, size_in(n), table_at, lent, station, start_at, length_at);
+    *start = get_size(start_at);
+    *length = get_size(length_at);
+    return number;
+}
+
+/* The whole schedule need not stand in the memory: a run of it does what runs of its parts do, one after the other, and what its length is
+ * refused for is asked first. So the module sees it in parts, and the table stays in the memory meanwhile. */
+uint8_t vcube_run(size_t wiring, size_t n, uint8_t *table, size_t table_length, uint32_t *rounds, uint32_t *tests, const uint8_t *schedule,
+                  size_t schedule_length, uint8_t *sheet, size_t sheet_length, size_t *taken)
+{
+    const int is_odd = schedule_length % 2 != 0, is_double = sheet_length % 2 == 0 && sheet_length / 2 == schedule_length;
+    const size_t length = cut(table_length, TABLE_ROOM), entries = is_odd || !is_double ? 0 : schedule_length / 2;
+    uint32_t table_at, rounds_at, tests_at, taken_at, schedule_at, sheet_at;
+    size_t done = 0, part, part_taken;
+    uint8_t number;
+
+    begin_call();
+    table_at = bytes_in(table, length);
+    rounds_at = number_in(*rounds, 4);
+    tests_at = number_in(*tests, 4);
+    taken_at = room_for_number();
+    do {
+        const uint32_t here = next;
+        part = entries - done < ENTRIES_AT_ONCE ? entries - done : ENTRIES_AT_ONCE;
+        /* A schedule of one byte is odd as the one handed in is; a sheet of one byte is not twice a schedule of none. */
+        schedule_at = part == 0 ? room(1) : bytes_in(schedule + 2 * done, 2 * part);
+        sheet_at = room(4 * part + 1);
+        number = (uint8_t)Z_vcube_moduleZ_vcube_run(&module, wiring, size_in(n), table_at, length, rounds_at, tests_at, schedule_at,
+                                                    is_odd ? 1 : 2 * part, sheet_at, is_odd || is_double ? 4 * part : 1, taken_at);
+        part_taken = get_size(taken_at);
+        if (part_taken > 0)
+            get_bytes(sheet_at, sheet + 4 * done, 4 * part_taken);
+        done += part_taken;
+        next = here;
+    } while (number == VCUBE_ACCEPTED && done < entries);
+    *rounds = get_u32(rounds_at);
+    *tests = get_u32(tests_at);
+    *taken = done;
+    if (done > 0)
+        get_bytes(table_at, table, length);
+    return number;
+}
+
+uint8_t vcube_grant(size_t wiring, size_t n, const uint8_t *table, size_t table_length, size_t last, size_t *station)
+{
+    size_t length = cut(table_length, TABLE_ROOM);
+    uint32_t table_at, station_at;
+    uint8_t number;
+
+    begin_call();
+    table_at = bytes_in(table, length);
+    station_at = room_for_number();
+    number = (uint8_t)Z_vcube_moduleZ_vcube_grant(&module, wiring, size_in(n), table_at, length, last, station_at);
+    *station = get_size(station_at);
+    return number;
+}
+
+uint8_t vcube_drive(size_t wiring, size_t n, uint8_t *table, size_t table_length, uint32_t *rounds, uint32_t *tests, size_t *last,
+                    size_t *grants)
+{
+    size_t length = cut(table_length, TABLE_ROOM);
+    uint32_t table_at, rounds_at, tests_at, last_at, grants_at;
+    uint8_t number;
+
+    begin_call();
+    table_at = bytes_in(table, length);
+    rounds_at = number_in(*rounds, 4);
+    tests_at = number_in(*tests, 4);
+    last_at = number_in(*last, 8);
+    grants_at = room_for_number();
+    number = (uint8_t)Z_vcube_moduleZ_vcube_drive(&module, wiring, size_in(n), table_at, length, rounds_at, tests_at, last_at, grants_at);
+    *rounds = get_u32(rounds_at);
+    *tests = get_u32(tests_at);
+    *last = get_size(last_at);
+    *grants = get_size(grants_at);
+    if (*grants > 0)
+        get_bytes(table_at, table, length);
+    return number;
+}
+
+uint8_t vcube_doubt_lamp(size_t wiring, size_t n, const uint8_t *table, size_t table_length, size_t *by, size_t *of)
+{
+    size_t length = cut(table_length, TABLE_ROOM);
+    uint32_t table_at, by_at, of_at;
+    uint8_t number;
+
+    begin_call();
+    table_at = bytes_in(table, length);
+    by_at = room_for_number();
+    of_at = room_for_number();
+    number = (uint8_t)Z_vcube_moduleZ_vcube_doubt_lamp(&module, wiring, size_in(n), table_at, length, by_at, of_at);
+    *by = get_size(by_at);
+    *of = get_size(of_at);
+    return number;
+}
+
+/* Of a report longer than any plant needs, only the front is handed over; the rest is cleared here. */
+uint8_t vcube_mend(size_t wiring, size_t n, uint8_t *table, size_t table_length, uint8_t *report, size_t report_length, size_t *changes)
+{
+    size_t length = cut(table_length, TABLE_ROOM), front = report_length < REPORT_ROOM ? report_length : REPORT_ROOM;
+    uint32_t table_at, report_at, changes_at;
+    uint8_t number;
+
+    begin_call();
+    table_at = bytes_in(table, length);
+    report_at = room(front);
+    changes_at = room_for_number();
+    number = (uint8_t)Z_vcube_moduleZ_vcube_mend(&module, wiring, size_in(n), table_at, length, report_at, front, changes_at);
+    *changes = get_size(changes_at);
+    if (number == VCUBE_ACCEPTED) {
+        get_bytes(table_at, table, length);
+        get_bytes(report_at, report, front);
+        fill(report + front, 0, report_length - front);
+    }
+    return number;
+}
+
+uint8_t vcube_save(size_t n, const uint8_t *table, size_t table_length, uint32_t rounds, uint32_t tests, uint8_t *saved,
+                   size_t saved_length)
+{
+    size_t length = cut(table_length, TABLE_ROOM), to_fill = cut(saved_length, SAVED_ROOM);
+    uint32_t table_at, saved_at;
+    uint8_t number;
+
+    begin_call();
+    table_at = bytes_in(table, length);
+    saved_at = room(to_fill);
+    number = (uint8_t)Z_vcube_moduleZ_vcube_save(&module, size_in(n), table_at, length, rounds, tests, saved_at, to_fill);
+    if (number == VCUBE_ACCEPTED)
+        get_bytes(saved_at, saved, to_fill);
+    return number;
+}
+
+/* What a walk through the fields of a file finds, for the refusals that go by the fields alone. */
+struct fields {
+    int is_cut_off;
+    int is_opened;
+    int is_out_of_order;                /* behind the first field, by tag and station */
+    int is_of_unknown_tag;              /* some field, the first included */
+    size_t sizes;
+    size_t tallies;
+    int is_of_wrong_length;             /* a size or a tally */
+    size_t n;
+};
+
+static struct fields walk(const uint8_t *file, size_t length)
+{
+    struct fields found = {0, 0, 0, 0, 0, 0, 0, 0};
+    uint8_t tag_before = 0, station_before = 0;
+    size_t at = 0;
+
+    while (at < length) {
+        const uint8_t *field = file + at;
+        size_t contents = 0;
+        uint8_t station;
+        if (length - at >= 3)
+            contents = (size_t)field[1] << 8 | field[2];
+        if (length - at < 3 || length - at - 3 < contents) {
+            found.is_cut_off = 1;
+            return found;
+        }
+        station = contents > 0 ? field[3] : 0;
+        if (at == 0 && field[0] == VCUBE_TAG_OPENING && contents == 1 && field[3] == VCUBE_EDITION) {
+            found.is_opened = 1;
+            found.is_of_unknown_tag = 1;
+        } else {
+            int is_known = field[0] >= VCUBE_TAG_SIZE && field[0] <= VCUBE_TAG_LINE;
+            int is_below = field[0] < tag_before || (field[0] == VCUBE_TAG_LINE && tag_before == VCUBE_TAG_LINE && station < station_before);
+            found.is_of_unknown_tag |= !is_known;
+            found.is_out_of_order |= at > 0 && (!is_known || is_below);
+            if (field[0] == VCUBE_TAG_SIZE) {
+                found.sizes++;
+                found.is_of_wrong_length |= contents != 1;
+                found.n = station;
+            } else if (field[0] == VCUBE_TAG_TALLY) {
+                found.tallies++;
+                found.is_of_wrong_length |= contents != 8;
+            }
+            tag_before = field[0];
+            station_before = station;
+        }
+        at += 3 + contents;
+    }
+    return found;
+}
+
+/* The refusal of a file by its fields, those by lines, table and list left out. A file that is longer than the memory has room for is judged
+ * by it. As such a file has more bytes than the lines of a plant that there is room for, it gets 20 if it gets none of these. */
+static uint8_t refusal_of_long(const uint8_t *file, size_t length, int is_of_edition_1, size_t *n)
+{
+    struct fields found = walk(file, length);
+
+    *n = 0;
+    if (found.is_cut_off)
+        return VCUBE_REFUSED_FIELD_PAST_END;
+    if (!is_of_edition_1 && !found.is_opened)
+        return VCUBE_REFUSED_NO_OPENING;
+    if (is_of_edition_1 ? found.is_of_unknown_tag : found.is_out_of_order)
+        return VCUBE_REFUSED_FIELD_ORDER;
+    if (found.sizes != 1 || found.tallies != 1 || found.is_of_wrong_length)
+        return VCUBE_REFUSED_SIZE_OR_TALLY_FIELD;
+    if (found.n < 2 || found.n > MOST_STATIONS)
+        return VCUBE_REFUSED_SIZE_OUT_OF_RANGE;
+    *n = found.n;
+    return VCUBE_ACCEPTED;
+}
+
+uint8_t vcube_load(const uint8_t *saved, size_t saved_length, uint8_t *table, size_t table_length, size_t *n, uint32_t *rounds,
+                   uint32_t *tests)
+{
+    size_t length = cut(table_length, TABLE_ROOM);
+    uint32_t saved_at, table_at, n_at, rounds_at, tests_at;
+    uint8_t number;
+
+    if (saved_length > SAVED_ROOM) {
+        number = refusal_of_long(saved, saved_length, 0, n);
+        *n = 0;
+        *rounds = 0;
+        *tests = 0;
+        return number == VCUBE_ACCEPTED ? VCUBE_REFUSED_LINE_FIELD : number;
+    }
+    begin_call();
+    saved_at = bytes_in(saved, saved_length);
+    table_at = room(length);
+    n_at = room_for_number();
+    rounds_at = room_for_number();
+    tests_at = room_for_number();
+    number = (uint8_t)Z_vcube_moduleZ_vcube_load(&module, saved_at, saved_length, table_at, length, n_at, rounds_at, tests_at);
+    *n = get_size(n_at);
+    *rounds = get_u32(rounds_at);
+    *tests = get_u32(tests_at);
+    if (number == VCUBE_ACCEPTED)
+        get_bytes(table_at, table, length);
+    return number;
+}
+
+uint8_t vcube_saved_size(const uint8_t *saved, size_t saved_length, size_t *n)
+{
+    uint32_t saved_at, n_at;
+    uint8_t number;
+
+    if (saved_length > SAVED_ROOM)
+        return refusal_of_long(saved, saved_length, 0, n);
+    begin_call();
+    saved_at = bytes_in(saved, saved_length);
+    n_at = room_for_number();
+    number = (uint8_t)Z_vcube_moduleZ_vcube_saved_size(&module, saved_at, saved_length, n_at);
+    *n = get_size(n_at);
+    return number;
+}
+
+uint8_t vcube_convert(const uint8_t *old, size_t old_length, uint8_t *saved, size_t saved_length)
+{
+    size_t to_fill = cut(saved_length, SAVED_ROOM), n;
+    uint32_t old_at, saved_at;
+    uint8_t number;
+
+    if (old_length > SAVED_ROOM) {
+        number = refusal_of_long(old, old_length, 1, &n);
+        return number == VCUBE_ACCEPTED ? VCUBE_REFUSED_LINE_FIELD : number;
+    }
+    begin_call();
+    old_at = bytes_in(old, old_length);
+    saved_at = room(to_fill);
+    number = (uint8_t)Z_vcube_moduleZ_vcube_convert(&module, old_at, old_length, saved_at, to_fill);
+    if (number == VCUBE_ACCEPTED)
+        get_bytes(saved_at, saved, to_fill);
+    return number;
+}
+
+uint8_t vcube_converted_length(const uint8_t *old, size_t old_length, size_t *length)
+{
+    uint32_t old_at, length_at;
+    uint8_t number;
+
+    if (old_length > SAVED_ROOM) {
+        number = refusal_of_long(old, old_length, 1, length);
+        if (number == VCUBE_ACCEPTED)
+            *length = VCUBE_SAVED_LENGTH(*length);
+        return number;
+    }
+    begin_call();
+    old_at = bytes_in(old, old_length);
+    length_at = room_for_number();
+    number = (uint8_t)Z_vcube_moduleZ_vcube_converted_length(&module, old_at, old_length, length_at);
+    *length = get_size(length_at);
+    return number;
+}
+
+/* Results of 16 bits, low byte first. */
+static uint32_t results_in(const uint16_t *results, size_t length)
+{
+    uint32_t at = room(2 * length);
+
+    for (size_t k = 0; k < length; k++)
+        put_number(at + 2 * (uint32_t)k, results[k], 2);
+    return at;
+}
+
+/* The members of the structs, in their order. */
+
+static uint32_t totals_in(const struct vcube_totals *totals)
+{
+    uint32_t at = room(40);
+
+    put_number(at, totals->count, 8);
+    put_number(at + 8, totals->sum, 8);
+    put_number(at + 16, totals->squares, 8);
+    put_number(at + 24, totals->least, 8);
+    put_number(at + 32, totals->greatest, 8);
+    return at;
+}
+
+static void get_totals(uint32_t at, struct vcube_totals *totals)
+{
+    totals->count = get_number(at, 8);
+    totals->sum = get_number(at + 8, 8);
+    totals->squares = get_number(at + 16, 8);
+    totals->least = get_number(at + 24, 8);
+    totals->greatest = get_number(at + 32, 8);
+}
+
+static void get_figures(uint32_t at, struct vcube_figures *figures)
+{
+    figures->count = get_number(at, 8);
+    figures->least = get_number(at + 8, 8);
+    figures->greatest = get_number(at + 16, 8);
+    figures->mean.upper = get_number(at + 24, 8);
+    figures->mean.lower = get_number(at + 32, 8);
+    figures->variance.upper = get_number(at + 40, 8);
+    figures->variance.lower = get_number(at + 48, 8);
+}
+
+/* More results than are taken: so many, all refused by their number, stand for them. */
+#define TOO_MANY (VCUBE_MOST_RESULTS + 1)
+
+uint8_t vcube_figures_of_list(const uint16_t *results, size_t length, struct vcube_figures *figures)
+{
+    uint32_t at, figures_at;
+    uint8_t number;
+
+    begin_call();
+    figures_at = room(56);
+    at = length > MOST_RESULTS ? next : results_in(results, length);
+    number = (uint8_t)Z_vcube_moduleZ_vcube_figures_of_list(&module, at, length > MOST_RESULTS ? TOO_MANY : length, figures_at);
+    get_figures(figures_at, figures);
+    return number;
+}
+
+uint8_t vcube_figures_of_two_lists(const uint16_t *first, size_t first_length, const uint16_t *second, size_t second_length,
+                                   struct vcube_figures *figures)
+{
+    int are_too_many = first_length > MOST_RESULTS || second_length > MOST_RESULTS - first_length;
+    uint32_t first_at, second_at, figures_at;
+    uint8_t number;
+
+    begin_call();
+    figures_at = room(56);
+    first_at = are_too_many ? next : results_in(first, first_length);
+    second_at = are_too_many ? next : results_in(second, second_length);
+    number = (uint8_t)Z_vcube_moduleZ_vcube_figures_of_two_lists(&module, first_at, are_too_many ? TOO_MANY : first_length, second_at,
+                                                                 are_too_many ? TOO_MANY : second_length, figures_at);
+    get_figures(figures_at, figures);
+    return number;
+}
+
+uint8_t vcube_totals_of_list(const uint16_t *results, size_t length, struct vcube_totals *totals)
+{
+    uint32_t at, totals_at;
+    uint8_t number;
+
+    begin_call();
+    totals_at = room(40);
+    at = length > MOST_RESULTS ? next : results_in(results, length);
+    number = (uint8_t)Z_vcube_moduleZ_vcube_totals_of_list(&module, at, length > MOST_RESULTS ? TOO_MANY : length, totals_at);
+    get_totals(totals_at, totals);
+    return number;
+}
+
+uint8_t vcube_join_totals(const struct vcube_totals *first, const struct vcube_totals *second, struct vcube_totals *joined)
+{
+    uint32_t first_at, second_at, joined_at;
+    uint8_t number;
+
+    begin_call();
+    first_at = totals_in(first);
+    second_at = totals_in(second);
+    joined_at = room(40);
+    number = (uint8_t)Z_vcube_moduleZ_vcube_join_totals(&module, first_at, second_at, joined_at);
+    get_totals(joined_at, joined);
+    return number;
+}
+
+uint8_t vcube_figures_of_totals(const struct vcube_totals *totals, struct vcube_figures *figures)
+{
+    uint32_t totals_at, figures_at;
+    uint8_t number;
+
+    begin_call();
+    totals_at = totals_in(totals);
+    figures_at = room(56);
+    number = (uint8_t)Z_vcube_moduleZ_vcube_figures_of_totals(&module, totals_at, figures_at);
+    get_figures(figures_at, figures);
+    return number;
+}
