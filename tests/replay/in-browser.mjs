@@ -1,12 +1,12 @@
 // node in-browser.mjs NAME MODULE CALLS COMMAND..: makes the recorded calls in a browser. A server on this machine alone hands out the page and
 // what it needs; the command is run with the page's address behind it, and the page sends back what it found.
-// Exit status: 0 all calls are right; 1 one is not, or the page sent nothing in a minute.
+// Exit status: 0 all calls are right; 1 one is not, or the page sent nothing in four minutes.
 import { spawn } from 'node:child_process';
 import { readFileSync } from 'node:fs';
 import { createServer } from 'node:http';
 
 const [name, module, calls, ...command] = process.argv.slice(2);
-const LONGEST_WAIT = 60000;
+const LONGEST_WAIT = 240000;
 const page = `<!doctype html><meta charset="utf-8"><title>vcube</title><script type="module">
     const bytes = async (path) => new Uint8Array(await (await fetch(path)).arrayBuffer());
     let found;
@@ -58,7 +58,7 @@ const server = createServer((request, response) => {
     response.end(contents());
 });
 const waiting = setTimeout(() => {
-    console.error(`${name}: nothing came back in a minute`);
+    console.error(`${name}: nothing came back in four minutes`);
     end(1);
 }, LONGEST_WAIT);
 server.listen(0, '127.0.0.1', () => {
