@@ -1,0 +1,3 @@
+-- What the contracts of `latency` cite.
+pub mod Bound
+pub mod Crash
