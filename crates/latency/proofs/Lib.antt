@@ -1,3 +1,4 @@
 pub mod Rounds
 pub mod CubeTests
 pub mod RingTests
+pub mod Known
