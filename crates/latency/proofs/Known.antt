@@ -91,6 +91,8 @@ pub record Facts (w n : ℕ) (T : List ℕ) : Type 0 where
       → (k : ℕ) → k ≤ length (cut [] xs).closed → RoundWithin w n T (get_or (all_rounds (cut [] xs)) k [])
   pub room : {s s' : State} {xs : List Taken} → WiredChain w n s xs s' → Accepted w n s.table → InRound w n (live n T) s.table [] s.table → Quiet xs
       → length xs < suc (length (cut [] xs).closed) * turns_per_round w n T
+  pub tally : {s s' : State} {xs : List Taken} → WiredChain w n s xs s' → InRound w n (live n T) s.table [] s.table → Quiet xs
+      → s'.rounds ≡ s.rounds + length (cut [] xs).closed
   pub some : 1 ≤ turns_until_known w n T
   pub from_start : {s' : State} {xs : List Taken} → Started w n (live n T) xs s' (turns_until_known w n T) → AllKnow n T s'.table
   -- from any moment
@@ -197,6 +199,7 @@ module _ (w n : ℕ) (T : List ℕ) (size : is_size n ≡ true) (two : 2 ≤ liv
   facts-by = record {
     each = λ chain ok inv q k h. round-within _ ((rounds-within chain ok inv q).each k h);
     room = λ chain ok inv q. (rounds-within chain ok inv q).room;
+    tally = λ {s} chain inv q. (course w n L K size company chain q.no_crash q.no_late s.table [] inv (K.starts s.table inv)).1.rounds;
     some = some-turns;
     from_start = λ st. known-from-start st;
     from_now = λ chain ok p q far. known-from-now chain ok p q far;
