@@ -33,7 +33,8 @@ use Rattle.detection.specs.Runs.{Taken}
 use Rattle.detection.specs.Claim.{group_without_live, pairs_without_live, tests_per_round}
 use Rattle.detection.proofs.Count.{leads, nobody, tests-and-rest}
 use Rattle.detection.proofs.Knowledge.{LiveOf, live_of, leads_at}
-use Rattle.detection.proofs.RoundKnowledge.{InRound, TurnTaken}
+use Rattle.detection.proofs.TurnEffect.{Plain}
+use Rattle.detection.proofs.RoundKnowledge.{TurnTaken}
 use Rattle.latency.proofs.Rounds.{TestsBound}
 
 -- the first that passes q is the first that passes q', if it passes q' and all that pass q' pass q
@@ -78,8 +79,28 @@ leads-grow n L i a b h =
 abbrev pub Led : ℕ → (ℕ → Bool) → List ℕ → Type 0
 Led n L t = (i : ℕ) → i < n → L i ≡ true → tests_made n t i ≤ leads_below n L i (next_distance n t i)
 
+-- where fewer are live no fewer are led
+leads-narrow : (n : ℕ) (L L' : ℕ → Bool) (i m : ℕ) → ((x : ℕ) → x < n → L' x ≡ true → L x ≡ true) → i < n → L' i ≡ true
+    → bit (leads_at n L i m) ≤ bit (leads_at n L' i m)
+leads-narrow n L L' i m fewer hi li =
+    let own : LiveOf n L' i ≡ true = rw (lt-ltb i n hi, li) in
+    let more : (x : ℕ) → LiveOf n L' x ≡ true → LiveOf n L x ≡ true =
+    λ x e. let v = live_of n L' x e in rw (lt-ltb x n v.0, fewer x v.0 v.1) in
+    by_bool (leads_at n L i m)
+    (λ e.
+    let parts = both (is_present n (station_at i m)) (leads (LiveOf n L) i m) e in
+    let still : leads_at n L' i m ≡ true = rw (parts.0, first-narrow (LiveOf n L) (LiveOf n L') (station_at i m) (level m) i more own parts.1) in
+    omega (arith, ap bit e, ap bit still))
+    (λ e. omega (arith, ap bit e))
+
+pub led-narrow : (n : ℕ) (L L' : ℕ → Bool) (t t' : List ℕ) → ((i : ℕ) → i < n → L' i ≡ true → L i ≡ true)
+    → ((i : ℕ) → i < n → (next_distance n t' i ≡ next_distance n t i) × (tests_made n t' i ≡ tests_made n t i)) → Led n L t → Led n L' t'
+led-narrow n L L' t t' fewer same led i h l =
+    let s = same i h in
+    rw (s.0, s.1) (omega (arith, led i h (fewer i h l), sum-le (next_distance n t i) (λ m b. leads-narrow n L L' i m fewer h l)))
+
 -- a turn keeps it
-module _ (n : ℕ) (L : ℕ → Bool) (t₀ t' : List ℕ) (cur : List Taken) (s : State) (e : Entry) (inv : InRound wiring_cube n L t₀ cur s.table)
+module _ (n : ℕ) (L : ℕ → Bool) (t' : List ℕ) (s : State) (e : Entry) (plain : Plain wiring_cube n L s.table)
     (turn : TurnTaken wiring_cube n L s e t') (led : Led n L s.table) where
   abbrev t : List ℕ
   t = s.table
@@ -92,12 +113,12 @@ module _ (n : ℕ) (L : ℕ → Bool) (t₀ t' : List ℕ) (cur : List Taken) (s
 
   clear : (x : ℕ) → x < n → L x ≡ true → unsuspected (row n t i) x ≡ true
   clear x hx lx =
-      unsuspected-at (row n t i) x (omega (arith, row-length n t i inv.plain.lines.0 turn.below))
-      ∙ eq-eqb _ 0 (row_at n t i x hx ∙ inv.plain.accurate i x turn.below hx turn.is_live lx)
+      unsuspected-at (row n t i) x (omega (arith, row-length n t i plain.lines.0 turn.below))
+      ∙ eq-eqb _ 0 (row_at n t i x hx ∙ plain.accurate i x turn.below hx turn.is_live lx)
 
   leads-here : makes_test wiring_cube n t i ≡ true → leads_at n L i m ≡ true
   leads-here makes =
-      due-leads n L (row n t i) i m (row-length n t i inv.plain.lines.0 turn.below) turn.below turn.is_live clear
+      due-leads n L (row n t i) i m (row-length n t i plain.lines.0 turn.below) turn.below turn.is_live clear
       (sym (cube_due wiring_cube (row n t i) i m refl) ∙ test-due wiring_cube n t i makes)
 
   next-is : makes_test wiring_cube n t i ≡ true → next_distance n t' i ≡ suc m
@@ -123,7 +144,7 @@ module _ (n : ℕ) (L : ℕ → Bool) (t₀ t' : List ℕ) (cur : List Taken) (s
         arith,
         rw none at turn.heads.tests,
         led i turn.below turn.is_live,
-        leads-grow n L i (next_distance n t i) (end_distance wiring_cube n) (inv.plain.lines.1 i turn.below).pass.next_high,
+        leads-grow n L i (next_distance n t i) (end_distance wiring_cube n) (plain.lines.1 i turn.below).pass.next_high,
       )))
 
   pub turn-led : Led n L t'
@@ -173,23 +194,23 @@ module _ (n : ℕ) (T : List ℕ) (low : n ≤ distances n) where
   led-count : sum_below (λ i. leads_below n L i (distances n)) n ≡ tests_per_round n T
   led-count = omega (arith, split, all_led, pairs, stations)
 
-  pub led-within : (t₀ t : List ℕ) (cur : List Taken) → InRound wiring_cube n L t₀ cur t → Led n L t
-      → ((i : ℕ) → i < n → L i ≡ false → tests_made n t i ≡ 0) → sum_below (tests_made n t) n ≤ tests_per_round n T
-  led-within t₀ t cur inv led none =
-      let each : (i : ℕ) → i < n → tests_made n t i ≤ leads_below n L i (distances n) =
+  pub led-within : (t : List ℕ) → Plain wiring_cube n L t → Led n L t → sum_below (λ i. cond (L i) (tests_made n t i) 0) n ≤ tests_per_round n T
+  led-within t plain led =
+      let each : (i : ℕ) → i < n → cond (L i) (tests_made n t i) 0 ≤ leads_below n L i (distances n) =
       λ i h.
       by_bool (L i)
       (λ l.
-      let last : next_distance n t i ≤ distances n = rw (end-cube n) at (inv.plain.lines.1 i h).pass.next_high in
-      omega (arith, led i h l, leads-grow n L i (next_distance n t i) (distances n) last))
-      (λ l. omega (arith, none i h l)) in
+      let last : next_distance n t i ≤ distances n = rw (end-cube n) at (plain.lines.1 i h).pass.next_high in
+      rw l (omega (arith, led i h l, leads-grow n L i (next_distance n t i) (distances n) last)))
+      (λ l. rw l (omega arith)) in
       omega (arith, sum-le n each, led-count)
 
 -- what bounds the tests on the cube
-abbrev pub cube-tests : (n : ℕ) (T : List ℕ) → is_size n ≡ true → TestsBound wiring_cube n (live n T) (tests_per_round n T)
-cube-tests n T size = record {
-  Fits = λ t₀ t. Led n (live n T) t;
-  starts = λ t inv i h l. omega (arith, (inv.fresh i h).untested);
-  turns = λ t₀ t' cur s e inv turn led. turn-led n (live n T) t₀ t' cur s e inv turn led;
-  within = λ t₀ t cur inv led none. led-within n T (size-distances n size).0 t₀ t cur inv led none;
+abbrev pub cube-tests : (n : ℕ) → is_size n ≡ true → TestsBound wiring_cube n
+cube-tests n size = record {
+  Fits = λ L t. Led n L t;
+  starts = λ L t fresh i h l. omega (arith, (fresh i h).untested);
+  turns = λ L t' s e plain turn led. turn-led n L t' s e plain turn led;
+  narrows = λ L L' t t' fewer same led. led-narrow n L L' t t' fewer same led;
+  within = λ T t two plain led. led-within n T (size-distances n size).0 t plain led;
 }

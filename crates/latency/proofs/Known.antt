@@ -35,7 +35,7 @@ use Rattle.detection.specs.Claim.{all_rounds, rounds_of, round_at, count_of, Det
 use Rattle.detection.proofs.TakenLaws.{taken_at}
 use Rattle.detection.proofs.Chain.{WiredChain, ends, next, on-wiring, chain_first, chain-all}
 use Rattle.detection.proofs.TurnEffect.{Plain, Company, Exact}
-use Rattle.detection.proofs.RoundKnowledge.{InRound, round-start, restart, RoundKnowledge}
+use Rattle.detection.proofs.RoundKnowledge.{InRound, round-start, restart, TurnTaken, RoundKnowledge}
 use Rattle.detection.proofs.Course.{Course, course}
 use Rattle.detection.proofs.DetectionClaim.{company-of, someone, on-each}
 use Rattle.latency.specs.Bound.{turns_per_round, turns_until_known, RoundWithin, AllKnow}
@@ -43,7 +43,7 @@ use Rattle.detection.proofs.Cube.{cube}
 use Rattle.detection.proofs.RingKnowledge.{ring}
 use Rattle.latency.proofs.CubeTests.{cube-tests}
 use Rattle.latency.proofs.RingTests.{ring-tests}
-use Rattle.latency.proofs.Rounds.{TestsBound, taken-turn, going-start, Within, AllWithin, all-within}
+use Rattle.latency.proofs.Rounds.{TestsBound, taken-turn, going-start, AllWithin, all-within}
 
 -- no crash and no late reply among the entries
 pub record Quiet (xs : List Taken) : Type 0 where
@@ -84,9 +84,54 @@ first-inv w n t ok start clean = round-start w n (live n t) t (plain-at w n t ok
         let head = both _ _ all.0 in
         record { next = eqb-true _ 1 head.0; unfinished = eqb-true _ 0 head.1; untested = eqb-true _ 0 all.1 }
 
+-- a chain without crashes and late replies from the middle of a round on; T has the live set
+module _ (w n : ℕ) (T : List ℕ) (two : 2 ≤ live_count n T) where
+  abbrev L : ℕ → Bool
+  L = live n T
+
+  -- what holds of the table within a round, which turns keep, and a number that bounds the turns that are left of it, which they lessen
+  module _ (Inv : List ℕ → Type 0) (left : List ℕ → ℕ)
+      (step : (s : State) (e : Entry) → Accepted w n s.table → Plain w n L s.table → TurnTaken w n L s e (acted w n s.table e) → Inv s.table
+      → Inv (acted w n s.table e) × (left (acted w n s.table e) < left s.table)) where
+    -- one taken entry, behind which more are to be made than turns are left and `total`
+    module _ (s : State) (e : Entry) (ok : Accepted w n s.table) (takes : entry_refusal n s e ≡ 0) (p : Plain w n L s.table) (holds : Inv s.table)
+        (no_crash : is_crash e ≡ false) (in_time : is_late (taken_at w n s e) ≡ false) where
+      abbrev t' : List ℕ
+      t' = acted w n s.table e
+
+      turned : TurnTaken w n L s e t'
+      turned = taken-turn w n L (company-of n T two) s e ok takes p no_crash in_time
+
+      done : Inv t' × (left t' < left s.table)
+      done = step s e ok p turned holds
+
+      -- with it the round closes, or goes on
+      rest-more : (total : ℕ) (xs : List Taken) (s' : State) → WiredChain w n (after w n s e) xs s' → Quiet xs → left s.table + total ≤ suc (length xs)
+          → (Plain w n L (after w n s e).table → Inv (after w n s e).table → left (after w n s e).table + total ≤ length xs
+          → (ys : List Taken) × Started w n L ys s' total)
+          → (ys : List Taken) × Started w n L ys s' total
+      unfolding after after_round
+      rest-more total xs s' chain quiet far on =
+          let kept = accepted-kept w n s e ok takes in
+          by_bool (round_over n t')
+          (λ over.
+          let anew = restart w n L t' turned.kept.plain in (
+            xs,
+            record { from = after w n s e; chain = chain; ok = kept; inv = rw over anew; quiet = quiet; enough = omega (arith, done.1) },
+          ))
+          (λ over. on (rw over turned.kept.plain) (rw over done.0) (rw over (omega (arith, done.1))))
+
+    -- the rest of the round
+    pub rest-of-round : {s s' : State} {xs : List Taken} → WiredChain w n s xs s' → Plain w n L s.table → Inv s.table → Quiet xs → (total : ℕ) → 1 ≤ total
+        → left s.table + total ≤ length xs → (ys : List Taken) × Started w n L ys s' total
+    rest-of-round ends p holds quiet total pos far = absurd (omega arith)
+    rest-of-round {s} {s'} (next {xs = xs} e ok takes chain) p holds quiet total pos far =
+        let q = quiet-first (taken_at w n s e) xs quiet in
+        rest-more s e ok takes p holds q.0 q.1 total xs s' chain q.2 far (λ plain now room. rest-of-round chain plain now q.2 total pos room)
+
 -- what is shown of chains without crashes and late replies, where T has the live set
 pub record Facts (w n : ℕ) (T : List ℕ) : Type 0 where
-  -- from the start of a round: of every round, and of all turns by the rounds that have closed
+  -- from the start of a round: of every round, of all turns by the rounds that have closed, and of these
   pub each : {s s' : State} {xs : List Taken} → WiredChain w n s xs s' → Accepted w n s.table → InRound w n (live n T) s.table [] s.table → Quiet xs
       → (k : ℕ) → k ≤ length (cut [] xs).closed → RoundWithin w n T (get_or (all_rounds (cut [] xs)) k [])
   pub room : {s s' : State} {xs : List Taken} → WiredChain w n s xs s' → Accepted w n s.table → InRound w n (live n T) s.table [] s.table → Quiet xs
@@ -94,37 +139,22 @@ pub record Facts (w n : ℕ) (T : List ℕ) : Type 0 where
   pub tally : {s s' : State} {xs : List Taken} → WiredChain w n s xs s' → InRound w n (live n T) s.table [] s.table → Quiet xs
       → s'.rounds ≡ s.rounds + length (cut [] xs).closed
   pub some : 1 ≤ turns_until_known w n T
-  pub from_start : {s' : State} {xs : List Taken} → Started w n (live n T) xs s' (turns_until_known w n T) → AllKnow n T s'.table
-  -- from any moment
-  pub from_now : {s s' : State} {xs : List Taken} → WiredChain w n s xs s' → Accepted w n s.table → Plain w n (live n T) s.table → Quiet xs
-      → n * n + turns_until_known w n T ≤ length xs → AllKnow n T s'.table
+  pub known : {s' : State} {xs : List Taken} → Started w n (live n T) xs s' (turns_until_known w n T) → AllKnow n T s'.table
 
--- T has the live set; K says after how many rounds all is known, and B bounds the tests of a round
+-- K says after how many rounds all is known, and B bounds the tests of a round
 module _ (w n : ℕ) (T : List ℕ) (size : is_size n ≡ true) (two : 2 ≤ live_count n T) (K : RoundKnowledge w n (live n T))
-    (B : TestsBound w n (live n T) (count_of w n T)) (enough : K.enough ≤ worst_rounds w n) where
-  abbrev L : ℕ → Bool
-  L = live n T
-
-  company : Company n L
+    (B : TestsBound w n) (enough : K.enough ≤ worst_rounds w n) where
+  company : Company n (live n T)
   company = company-of n T two
 
-  z : (z : ℕ) × (z < n) × (L z ≡ true)
-  z = someone n T (omega (arith, two))
-
-  rounds-within : {s s' : State} {xs : List Taken} → WiredChain w n s xs s' → Accepted w n s.table → InRound w n L s.table [] s.table → Quiet xs
-      → AllWithin w n L (count_of w n T) B z.0 z.1 z.2 (cut [] xs) (length xs)
+  rounds-within : {s s' : State} {xs : List Taken} → WiredChain w n s xs s' → Accepted w n s.table → InRound w n (live n T) s.table [] s.table → Quiet xs
+      → AllWithin w n T two B (cut [] xs) (length xs)
   rounds-within {s} chain ok inv q =
-      let start = going-start w n L (count_of w n T) B z.0 z.1 z.2 s.table inv in
-      let all = all-within w n L (count_of w n T) B z.0 z.1 z.2 company chain ok q.no_crash q.no_late s.table [] start in
+      let all = all-within w n T two B chain ok q.no_crash q.no_late s.table [] (going-start w n T two B s.table inv) in
       record { each = all.each; room = omega (arith, all.room) }
 
-  -- so every round is
-  round-within : (round : List Taken) → Within w n L (count_of w n T) B z.0 z.1 z.2 round → RoundWithin w n T round
-  unfolding live_count
-  round-within round r = record { tests = r.tests; turns = r.turns }
-
   -- there is something to wait for
-  pub some-turns : 1 ≤ turns_until_known w n T
+  some-turns : 1 ≤ turns_until_known w n T
   some-turns =
       let rounds : 1 ≤ worst_rounds w n = omega (arith, K.some_round, enough) in
       let turns : 1 ≤ turns_per_round w n T = omega (arith, two) in
@@ -140,80 +170,54 @@ module _ (w n : ℕ) (T : List ℕ) (size : is_size n ≡ true) (two : 2 ≤ liv
       absurd (omega (arith, mul-le-mul more same)))
       (λ l. omega arith)
 
-  pub known-from-start : {s' : State} {xs : List Taken} → Started w n L xs s' (turns_until_known w n T) → AllKnow n T s'.table
-  unfolding live_count
+  known-from-start : {s' : State} {xs : List Taken} → Started w n (live n T) xs s' (turns_until_known w n T) → AllKnow n T s'.table
   known-from-start {s'} {xs} st i j h g l =
       let all = rounds-within st.chain st.ok st.inv st.quiet in
-      let c = (course w n L K size company st.chain st.quiet.no_crash st.quiet.no_late st.from.table [] st.inv (K.starts st.from.table st.inv)).0 in
+      let c = (course w n (live n T) K size company st.chain st.quiet.no_crash st.quiet.no_late st.from.table [] st.inv (K.starts st.from.table st.inv)).0 in
       let far : worst_rounds w n ≤ length (cut [] xs).closed = closed-enough (length (cut [] xs).closed) (length xs) all.room st.enough in
       let exact = K.exact c.start _ _ c.gave (length (cut [] xs).closed) (omega (arith, enough)) (omega arith) i j h g l in
-      by_bool (L j) (λ e. rw e (c.plain.accurate i j h g l e)) (λ e. rw e (c.grown i j h g (exact e)))
+      by_bool (live n T j) (λ e. rw e (c.plain.accurate i j h g l e)) (λ e. rw e (c.grown i j h g (exact e)))
 
-  -- one taken entry, behind which more are to be made than turns are left and `total`
-  module _ (s : State) (e : Entry) (ok : Accepted w n s.table) (takes : entry_refusal n s e ≡ 0) (p : Plain w n L s.table)
-      (no_crash : is_crash e ≡ false) (in_time : is_late (taken_at w n s e) ≡ false) where
-    abbrev t' : List ℕ
-    t' = acted w n s.table e
-
-    fewer : all_left w n t' < all_left w n s.table
-    unfolding acted
-    fewer =
-        let facts = entry-facts n s e takes in
-        rw no_crash (turn-left w n s.table size p.lines e.kind e.station facts.below (facts.unfinished (eqb-false e.kind kind_crash no_crash)))
-
-    plain' : Plain w n L t'
-    plain' = (taken-turn w n L company s e ok takes p no_crash in_time).kept.plain
-
-    -- with it the round closes, or goes on
-    rest-more : (total : ℕ) (xs : List Taken) (s' : State) → WiredChain w n (after w n s e) xs s' → Quiet xs → all_left w n s.table + total ≤ suc (length xs)
-        → (Plain w n L (after w n s e).table → all_left w n (after w n s e).table + total ≤ length xs → (ys : List Taken) × Started w n L ys s' total)
-        → (ys : List Taken) × Started w n L ys s' total
-    unfolding after after_round
-    rest-more total xs s' chain quiet far on =
-        let kept = accepted-kept w n s e ok takes in
-        by_bool (round_over n t')
-        (λ over.
-        let anew = restart w n L t' plain' in (
-          xs,
-          record { from = after w n s e; chain = chain; ok = kept; inv = rw over anew; quiet = quiet; enough = omega (arith, fewer) },
-        ))
-        (λ over. on (rw over plain') (rw over (omega (arith, fewer))))
-
-  -- the rest of a round that is under way
-  pub rest-of-round : {s s' : State} {xs : List Taken} → WiredChain w n s xs s' → Plain w n L s.table → Quiet xs → (total : ℕ) → 1 ≤ total
-      → all_left w n s.table + total ≤ length xs → (ys : List Taken) × Started w n L ys s' total
-  rest-of-round ends p quiet total pos far = absurd (omega arith)
-  rest-of-round {s} {s'} (next {xs = xs} e ok takes chain) p quiet total pos far =
-      let q = quiet-first (taken_at w n s e) xs quiet in
-      rest-more s e ok takes p q.0 q.1 total xs s' chain q.2 far (λ plain room. rest-of-round chain plain q.2 total pos room)
-
-  -- from any moment on
-  pub known-from-now : {s s' : State} {xs : List Taken} → WiredChain w n s xs s' → Accepted w n s.table → Plain w n L s.table → Quiet xs
-      → n * n + turns_until_known w n T ≤ length xs → AllKnow n T s'.table
-  known-from-now {s} chain ok p quiet far =
-      known-from-start (rest-of-round chain p quiet (turns_until_known w n T) some-turns (omega (arith, all-left-most w n s.table size p.lines))).1
-
-  -- all of it
   pub facts-by : Facts w n T
-  unfolding live_count
   facts-by = record {
-    each = λ chain ok inv q k h. round-within _ ((rounds-within chain ok inv q).each k h);
+    each = λ chain ok inv q k h. (rounds-within chain ok inv q).each k h;
     room = λ chain ok inv q. (rounds-within chain ok inv q).room;
-    tally = λ {s} chain inv q. (course w n L K size company chain q.no_crash q.no_late s.table [] inv (K.starts s.table inv)).1.rounds;
+    tally = λ {s} chain inv q. (course w n (live n T) K size company chain q.no_crash q.no_late s.table [] inv (K.starts s.table inv)).1.rounds;
     some = some-turns;
-    from_start = λ st. known-from-start st;
-    from_now = λ chain ok p q far. known-from-now chain ok p q far;
+    known = known-from-start;
   }
+
+-- what bounds the tests on the ring, of which the count is n
+abbrev pub on-the-ring : (n : ℕ) → is_size n ≡ true → TestsBound wiring_ring n
+on-the-ring n size = ring-tests wiring_ring n refl (omega (arith, size-bounds n size)) (λ T. refl)
 
 -- on each wiring
 pub facts : (w n : ℕ) (T : List ℕ) → wiring_check w ≡ Ok tt → is_size n ≡ true → 2 ≤ live_count n T → Facts w n T
 facts w n T wired size two = on-each (λ (w : ℕ). Facts w n T) w wired on-cube on-ring
   where
     on-cube : Facts wiring_cube n T
-    on-cube = facts-by wiring_cube n T size two (cube n T size) (cube-tests n T size) (omega arith)
+    on-cube = facts-by wiring_cube n T size two (cube n T size) (cube-tests n size) (omega arith)
 
     on-ring : Facts wiring_ring n T
     on-ring =
         let z = someone n T (omega (arith, two)) in
         let K = ring wiring_ring n (live n T) refl (omega (arith, size-bounds n size)) (company-of n T two) z.0 z.1 z.2 in
-        facts-by wiring_ring n T size two K (ring-tests wiring_ring n (live n T) refl z.0 z.1 z.2) (omega arith)
+        facts-by wiring_ring n T size two K (on-the-ring n size) (omega arith)
+
+-- from any moment on, of which n·n bounds the turns that are left
+module _ (w n : ℕ) (T : List ℕ) (wired : wiring_check w ≡ Ok tt) (size : is_size n ≡ true) (two : 2 ≤ live_count n T) where
+  -- a turn leaves fewer
+  left-less : (s : State) (e : Entry) → Accepted w n s.table → Plain w n (live n T) s.table → TurnTaken w n (live n T) s e (acted w n s.table e) → Unit {0}
+      → Unit {0} × (all_left w n (acted w n s.table e) < all_left w n s.table)
+  unfolding acted
+  left-less s e ok p turn holds = (
+    holds,
+    rw turn.no_crash (turn-left w n s.table size p.lines e.kind e.station turn.below (λ q. absurd (omega (arith, q, turn.going)))),
+  )
+
+  pub known-from-now : {s s' : State} {xs : List Taken} → WiredChain w n s xs s' → Plain w n (live n T) s.table → Quiet xs
+      → n * n + turns_until_known w n T ≤ length xs → AllKnow n T s'.table
+  known-from-now {s} chain p quiet far =
+      let f = facts w n T wired size two in
+      let most = all-left-most w n s.table size p.lines in
+      f.known (rest-of-round w n T two (λ _. Unit {0}) (all_left w n) left-less chain p tt quiet (turns_until_known w n T) f.some (omega (arith, most))).1
