@@ -5,31 +5,29 @@ use mathlib.Core.Logic.{by_cases}
 use mathlib.Core.Bool.{Bool, true, false, cond, ◌&&◌, and-false, true≢false}
 use mathlib.Core.List.{List}
 use Prim.Native.Nat.{ℕ, suc, ◌+◌, ◌-◌, ◌*◌, ◌≤◌, ◌<◌}
-use native.Mathlib.Decide.{ℕ_discrete, dec_lt}
+use native.Mathlib.Decide.{ℕ_discrete}
 use native.Mathlib.Omega.{arith}
 use borrow.Author.Tests.{lt-ltb, le-ltb, ltb-true, eqb-true, eq-eqb}
-use lib.Dec.{ltb, eqb}
+use lib.Dec.{ltb}
 use lib.ListN.{length}
-use Rattle.lists.specs.Search.{least}
 use Rattle.lists.specs.Sums.{sum_below, bit}
 use Rattle.lists.proofs.BoolLaws.{by_bool}
 use Rattle.lists.proofs.SearchLaws.{both, least-is, least-before}
 use Rattle.lists.proofs.SumLaws.{sum_below-suc, sum_by, sum-split, sum-zero, sum-stays, sum-const}
 use Rattle.table.specs.Sizes.{is_size, level, dimension, distances}
 use Rattle.table.specs.Wiring.{wiring_cube, end_distance}
-use Rattle.table.specs.Table.{next_column, tests_column, next_distance, tests_made, row, suspects, live}
+use Rattle.table.specs.Table.{next_column, tests_column, next_distance, tests_made, row, live}
 use Rattle.table.proofs.WiringLaws.{end-cube}
 use Rattle.table.proofs.SizeLaws.{size-distances}
 use Rattle.table.proofs.CellLaws.{row-length, row_at}
 use Rattle.station.specs.Groups.{station_at, is_present, width, member}
 use Rattle.station.specs.Tests.{unsuspected, first_place, first, due}
 use Rattle.station.proofs.WiredLaws.{cube_due}
-use Rattle.station.proofs.DueLaws.{unsuspected-at, unsuspected-absent, is_station, first-not, found, due-first}
+use Rattle.station.proofs.DueLaws.{unsuspected-at, is_station, first-not, due-first}
 use Rattle.plant.specs.Turn.{next_test, makes_test, next_after}
 use Rattle.plant.specs.Entry.{Entry, State}
 use Rattle.plant.proofs.NextTest.{next_test-low, test-due}
 use Rattle.slots.proofs.Counts.{sum-le}
-use Rattle.detection.specs.Runs.{Taken}
 use Rattle.detection.specs.Claim.{group_without_live, pairs_without_live, tests_per_round}
 use Rattle.detection.proofs.Count.{leads, nobody, tests-and-rest}
 use Rattle.detection.proofs.Knowledge.{LiveOf, live_of, leads_at}

@@ -1,42 +1,39 @@
 -- After how many turns all is known: from the start of a round, and from any moment of one, whose rest comes first.
 -- Assumes nothing.
 use Rattle.std.specs.Prelude.{Ok}
-use mathlib.Core.Path.{◌≡◌, refl, sym, ap, ◌∙◌}
-use mathlib.Core.Logic.{◌⊎◌, inl, inr, by_cases}
+use mathlib.Core.Path.{◌≡◌, refl}
+use mathlib.Core.Logic.{by_cases}
 use mathlib.Core.Bool.{Bool, true, false, not}
 use mathlib.Core.List.{List, [], ◌∷◌}
 use Prim.Native.Nat.{ℕ, suc, ◌+◌, ◌*◌, ◌≤◌, ◌<◌}
 use native.Mathlib.Nat.{mul-le-mul}
 use native.Mathlib.Decide.{dec_lt}
 use native.Mathlib.Omega.{arith}
-use borrow.Author.Tests.{eqb-true, eqb-false, not-true}
-use lib.Dec.{eqb}
+use borrow.Author.Tests.{eqb-true, not-true}
 use lib.ListN.{length, get_or}
-use Rattle.lists.specs.Sums.{bit}
 use Rattle.lists.proofs.BoolLaws.{by_bool}
 use Rattle.lists.proofs.SearchLaws.{both, every-at}
-use Rattle.table.specs.Sizes.{is_size, dimension}
+use Rattle.table.specs.Sizes.{is_size}
 use Rattle.table.specs.Wiring.{wiring_cube, wiring_ring, wiring_check}
 use Rattle.table.specs.Table.{suspects, live}
-use Rattle.table.specs.Rules.{not_live, round_over}
+use Rattle.table.specs.Rules.{round_over}
 use Rattle.table.specs.Properties.{line_at_start, at_start, live_count}
 use Rattle.table.proofs.SizeLaws.{size-bounds}
-use Rattle.table.proofs.Accepting.{Accepted, accepted}
+use Rattle.table.proofs.Accepting.{Accepted}
 use Rattle.table.proofs.CellLaws.{accepted-line}
-use Rattle.plant.specs.Turn.{kind_crash}
-use Rattle.plant.specs.Round.{reset_lines, after_round}
+use Rattle.plant.specs.Round.{after_round}
 use Rattle.plant.specs.Entry.{Entry, State, is_crash, entry_refusal, acted, after}
-use Rattle.plant.proofs.RulesKept.{Takes, entry-facts, accepted-kept}
+use Rattle.plant.proofs.RulesKept.{accepted-kept}
 use Rattle.plant.proofs.RoundLaws.{Reset}
 use Rattle.granter.proofs.TurnsLeft.{all_left, all-left-most, turn-left}
-use Rattle.detection.specs.Runs.{Call, Taken, after_runs, taken_all, crashes, is_late}
-use Rattle.detection.specs.Rounds.{all_taken, count_taken, Rounds, cut}
-use Rattle.detection.specs.Claim.{all_rounds, rounds_of, round_at, count_of, DetectionPremises, worst_rounds}
+use Rattle.detection.specs.Runs.{Taken, crashes, is_late}
+use Rattle.detection.specs.Rounds.{all_taken, cut}
+use Rattle.detection.specs.Claim.{all_rounds, worst_rounds}
 use Rattle.detection.proofs.TakenLaws.{taken_at}
-use Rattle.detection.proofs.Chain.{WiredChain, ends, next, on-wiring, chain_first, chain-all}
-use Rattle.detection.proofs.TurnEffect.{Plain, Company, Exact}
+use Rattle.detection.proofs.Chain.{WiredChain, ends, next}
+use Rattle.detection.proofs.TurnEffect.{Plain, Company}
 use Rattle.detection.proofs.RoundKnowledge.{InRound, round-start, restart, TurnTaken, RoundKnowledge}
-use Rattle.detection.proofs.Course.{Course, course}
+use Rattle.detection.proofs.Course.{course}
 use Rattle.detection.proofs.DetectionClaim.{company-of, someone, on-each}
 use Rattle.latency.specs.Bound.{turns_per_round, turns_until_known, RoundWithin, AllKnow}
 use Rattle.detection.proofs.Cube.{cube}

@@ -1,14 +1,14 @@
 -- How many turns a round has at most, and after how many all live boards know all that are dead: how long a dead board may go unseen, in grants.
 -- Assumes nothing.
-use Rattle.std.specs.Prelude.{◌≡◌, Ok, true, not, List, [], ◌∷◌, ℕ, ◌+◌, ◌*◌, ◌≤◌, ◌<◌, length}
+use Rattle.std.specs.Prelude.{◌≡◌, true, List, [], ◌∷◌, ℕ, ◌+◌, ◌*◌, ◌≤◌, ◌<◌, length}
 use Rattle.lists.specs.Sums.{bit}
 use Rattle.table.specs.Table.{suspects, live}
-use Rattle.table.specs.Rules.{not_live, wired_table_refusal}
-use Rattle.table.specs.Properties.{live_count, none_suspected}
+use Rattle.table.specs.Rules.{not_live}
+use Rattle.table.specs.Properties.{live_count}
 use Rattle.plant.specs.Entry.{State}
 use Rattle.granter.specs.Drive.{drive}
-use Rattle.detection.specs.Runs.{Call, Taken, after_runs, taken_all, crashes, is_late, is_on}
-use Rattle.detection.specs.Rounds.{all_taken, tests_in}
+use Rattle.detection.specs.Runs.{Call, Taken, after_runs, taken_all}
+use Rattle.detection.specs.Rounds.{tests_in}
 use Rattle.detection.specs.Claim.{rounds_of, round_at, count_of, DetectionPremises, worst_rounds}
 use Rattle.detection.specs.Driven.{RunOrDrive, after_mixed, runs_of_mixed, after_drives}
 
