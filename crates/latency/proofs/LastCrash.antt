@@ -264,7 +264,7 @@ module _ (w n : ℕ) (B : TestsBound w n) (s : State) (calls : List Call) (befor
       let first = first-inv w n s.table ok given.start clean in
       let st = steady-chain w n B part.first upto given.two_live (record { clean = clean; fits = B.starts (live n s.table) s.table first.fresh }) in
       known-since w n B (table_after x) given.two_live given.wiring given.size part.last (plain-at w n (table_after x) part.ok st.clean) st.fits
-      (record { no_crash = given.no_more; no_late = here.1 }) far
+      (record { no_crash = given.no_more; no_late = here.1 }) (omega (arith, far))
 
   from-crash : AllKnow n (table_after x) (after_runs s calls).table
   from-crash = go (chain_first chain)

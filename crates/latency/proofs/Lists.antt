@@ -50,7 +50,7 @@ module _ (w n : ℕ) (s : State) (calls : List Call) (given : DetectionPremises 
     where
       go : ((taken_all s calls ≡ []) × (after_runs s calls ≡ s)) ⊎ Accepted w n s.table → AllKnow n s.table (after_runs s calls).table
       go (inl none) = absurd (omega (arith, shown.some, rw none.0 at far))
-      go (inr ok) = shown.known (record { from = s; chain = chain; ok = ok; inv = inv ok; quiet = quiet; enough = far })
+      go (inr ok) = shown.known (record { from = s; chain = chain; ok = ok; inv = inv ok; quiet = quiet; enough = omega (arith, far) })
 
 -- ends in themselves
 pub rounds-within-list : RoundsWithin
@@ -70,4 +70,4 @@ known-from-any-moment w n s calls given far =
     let chain = on-wiring (chain-all n s calls ok.long) given.one_wiring in
     let plain = plain-at w n s.table ok (trusts w n s.table ok given.accurate) in
     let quiet : Quiet (taken_all s calls) = record { no_crash = given.no_crash; no_late = given.no_late } in
-    known-from-now w n s.table ok.wired ok.size given.two_live chain plain quiet far
+    known-from-now w n s.table ok.wired ok.size given.two_live chain plain quiet (omega (arith, far))

@@ -51,7 +51,7 @@ pub record LastCrash (w n : ℕ) (s : State) (calls : List Call) (before : List 
   pub start : at_start n s.table ≡ true
   pub accurate : none_suspected n s.table ≡ true
   pub one_wiring : all_taken (is_on w) (taken_all s calls) ≡ true
-  pub no_late : all_taken (λ x. not (is_late x)) (taken_all s calls) ≡ true
+  pub no_late : all_taken (λ y. not (is_late y)) (taken_all s calls) ≡ true
   pub parts : taken_all s calls ≡ before ++ (x ∷ rest)
   pub crash : crashes x ≡ true
   pub no_more : all_taken (λ x. not (crashes x)) rest ≡ true
