@@ -132,7 +132,7 @@ module _ (w n : ℕ) (T : List ℕ) (two : 2 ≤ live_count n T) (B : TestsBound
 
     within : RoundWithin w n T cur
     unfolding live_count
-    within = record { tests = tests-within; turns = omega (arith, tests-within, length-is, sum-le n ends_low) }
+    within = record { tests = omega (arith, tests-within); turns = omega (arith, tests-within, length-is, sum-le n ends_low) }
 
     -- where the round is not over somebody has not finished
     open-less : round_over n t ≡ false → length cur < turns_per_round w n T
