@@ -163,7 +163,7 @@ module _ (n : ℕ) (T : List ℕ) (low : n ≤ distances n) where
   L = live n T
 
   -- who is not a live station leads nobody's group
-  leads-none : (i m : ℕ) → LiveOf n L i ≡ false → bit (leads_at n L i m) ≡ 0
+  pub leads-none : (i m : ℕ) → LiveOf n L i ≡ false → bit (leads_at n L i m) ≡ 0
   leads-none i m e =
       let none : leads_at n L i m ≡ false = rw (first-not (LiveOf n L) (station_at i m) (level m) i e, and-false) in
       ap bit none
@@ -189,7 +189,7 @@ module _ (n : ℕ) (T : List ℕ) (low : n ≤ distances n) where
   unfolding distances
   split = tests-and-rest (is_present n) (LiveOf n L) (dimension n)
 
-  led-count : sum_below (λ i. leads_below n L i (distances n)) n ≡ tests_per_round n T
+  pub led-count : sum_below (λ i. leads_below n L i (distances n)) n ≡ tests_per_round n T
   led-count = omega (arith, split, all_led, pairs, stations)
 
   pub led-within : (t : List ℕ) → Plain wiring_cube n L t → Led n L t → sum_below (λ i. cond (L i) (tests_made n t i) 0) n ≤ tests_per_round n T

@@ -1,6 +1,6 @@
 -- The claims of drives: their grants, each with its turn, are a chain of taken entries.
 -- Assumes nothing.
-use mathlib.Core.Path.{◌≡◌, refl, ap}
+use mathlib.Core.Path.{◌≡◌, refl, ap, ◌∙◌}
 use mathlib.Core.Logic.{◌⊎◌, inl, inr}
 use mathlib.Core.Bool.{false, not}
 use mathlib.Core.List.{List, [], ◌∷◌, ◌++◌}
@@ -60,6 +60,9 @@ more-turns a b = record {
   long = omega (arith, length-append a.taken b.taken, a.long, b.long);
 }
 
+so-many : {w n : ℕ} {s s' : State} {j k : ℕ} → Turns w n s s' j → j ≡ k → Turns w n s s' k
+so-many a e = record { taken = a.taken; chain = a.chain; quiet = a.quiet; long = a.long ∙ e }
+
 one-turn : (w n : ℕ) (s : State) (i : ℕ) → Accepted w n s.table → entry_refusal n s (entry_of kind_turn i) ≡ 0
     → Turns w n s (after w n s (entry_of kind_turn i)) 1
 unfolding all_taken
@@ -80,8 +83,7 @@ grants-turns w n s last g (suc k) going =
     let d : Driving w n p k = driving-at w n s last g k going in
     let z = next-taken w n p k d (not_stopped w n p k (going k (omega arith))).1 in
     let before = grants-turns w n s last g k (λ j l. going j (omega arith)) in
-    let one : k + 1 ≡ suc k = omega arith in
-    rw one at (more-turns before (one-turn w n (after_grants w n p k).state (granted_at n (after_grants w n p k)) d.ok z))
+    so-many (more-turns before (one-turn w n (after_grants w n p k).state (granted_at n (after_grants w n p k)) d.ok z)) (omega arith)
 
 -- a whole drive
 drive-turns : (w n : ℕ) (s : State) (last : ℕ) → Turns w n s (drive w n s last).state (drive w n s last).grants
@@ -97,7 +99,8 @@ drive-turns w n s last =
 drives-turns : (w n : ℕ) (s : State) (lasts : List ℕ) → Turns w n s (after_drives w n s lasts) (grants_of w n s lasts)
 unfolding after_mixed grants_of
 drives-turns w n s [] = no-turns w n s
-drives-turns w n s (last ∷ lasts) = more-turns (drive-turns w n s last) (drives-turns w n (drive w n s last).state lasts)
+drives-turns w n s (last ∷ lasts) =
+    so-many (more-turns (drive-turns w n s last) (drives-turns w n (drive w n s last).state lasts)) (omega arith)
 
 -- a drive from the start of a round: with all its grants but the last the round is still open
 module _ (w n : ℕ) (s : State) (given : DetectionPremises w n s []) where

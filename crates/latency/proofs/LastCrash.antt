@@ -256,7 +256,7 @@ module _ (w n : ℕ) (B : TestsBound w n) (s : State) (calls : List Call) (befor
   since : Accepted w n s.table → AllKnow n (table_after x) (after_runs s calls).table
   unfolding all_taken late
   since ok =
-      let all = all_parts late before (x ∷ rest) (rw given.parts at given.no_late) in
+      let all = all_parts late before (x ∷ rest) (subst (λ (ys : List Taken). all_taken late ys ≡ true) given.parts given.no_late) in
       let here = both (late x) (all_taken late rest) all.1 in
       let one : all_taken late (x ∷ []) ≡ true = rw here.0 in
       let upto : all_taken late (before ++ (x ∷ [])) ≡ true = all_append late before (x ∷ []) all.0 one in

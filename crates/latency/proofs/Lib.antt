@@ -5,3 +5,4 @@ pub mod Known
 pub mod Lists
 pub mod Drives
 pub mod LastCrash
+pub mod RowFigures

@@ -57,11 +57,11 @@ pub rounds-within-list : RoundsWithin
 rounds-within-list w n s calls given k h = rounds-in w n s calls given k h
 
 pub known-within : KnownWithin
-known-within w n s calls given far = known-in w n s calls given far
+known-within w n s calls given far = known-in w n s calls given (omega (arith, far))
 
 pub mixed-known-within : MixedKnownWithin
 mixed-known-within w n s xs given far =
-    subst (λ (e : State). AllKnow n s.table e.table) (mixed-left s xs) (known-in w n s (runs_of_mixed s xs) given far)
+    subst (λ (e : State). AllKnow n s.table e.table) (mixed-left s xs) (known-in w n s (runs_of_mixed s xs) given (omega (arith, far)))
 
 -- from any moment on
 pub known-from-any-moment : KnownFromAnyMoment

@@ -2,6 +2,8 @@
 // contract is a claim.
 #![tactic(auto)]
 
+pub mod figures;
+
 ghost use Rattle.latency.specs.Bound.{RoundsWithin, KnownWithin, MixedKnownWithin, DriveWithin, DrivesKnownWithin};
 ghost use Rattle.latency.specs.Crash.{KnownFromAnyMoment, DrivesKnownFromAnyMoment, KnownFromCrash, MixedKnownFromCrash};
 
