@@ -8,7 +8,7 @@ ghost use Rattle.clap.specs.Simple.{app_of, matches_of};
 ghost use Rattle.clap.specs.Walk.{rows_of};
 ghost use Rattle.sheet.specs.Call.{Answers, asked, sheet_command, understood};
 
-use crate::plant::Plant;
+use crate::boards::Plant;
 use clap::error::ErrorKind;
 use clap::{Arg, ArgAction, ArgMatches, Command};
 use std::alloc::{AllocError, Global};

@@ -4,7 +4,7 @@
 #![tactic(auto)]
 
 mod call;
-mod plant;
+mod boards;
 mod sheet;
 mod sizes;
 

@@ -6,7 +6,7 @@ ghost use Rattle.sheet.specs.Text.{digits, width, list_columns, widest};
 ghost use Rattle.sheet.specs.Layout.{spaces, board_cell, count_cells, tests_head};
 ghost use Rattle.sheet.specs.Layout.{tests_line, untested_line, live_line, live_lines};
 
-use crate::plant::Plant;
+use crate::boards::Plant;
 use arrayvec::ArrayVec;
 use latency::figures;
 use slots::untested::Untested;
