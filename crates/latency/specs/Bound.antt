@@ -25,7 +25,7 @@ pub record RoundWithin (w n : ℕ) (t : List ℕ) (round : List Taken) : Type 0 
   pub tests : tests_in round ≤ count_of w n t
   pub turns : length round ≤ turns_per_round w n t
 
--- Rule Tests in every round: under the detection conditions so it is of every round of a list of runs, the open one included, from the first on
+-- Rule Turns of a round: under the detection conditions so it is of every round of a list of runs, the open one included, from the first on
 abbrev pub RoundsWithin : Type 0
 RoundsWithin =
     (w n : ℕ) (s : State) (calls : List Call) → DetectionPremises w n s calls → (k : ℕ) → k ≤ length (rounds_of s calls).closed
@@ -47,7 +47,7 @@ MixedKnownWithin =
     (w n : ℕ) (s : State) (xs : List RunOrDrive) → DetectionPremises w n s (runs_of_mixed s xs)
     → turns_until_known w n s.table ≤ length (taken_all s (runs_of_mixed s xs)) → AllKnow n s.table (after_mixed s xs).table
 
--- Rule Grants of a round: a drive that finds such a table makes at most that many grants
+-- Rule Turns of a round: a drive that finds such a table makes at most that many grants
 abbrev pub DriveWithin : Type 0
 DriveWithin =
     (w n : ℕ) (s : State) (last : ℕ) → DetectionPremises w n s [] → (drive w n s last).grants ≤ turns_per_round w n s.table
@@ -57,7 +57,7 @@ unfoldable pub grants_of : ℕ → ℕ → State → List ℕ → ℕ
 grants_of w n s [] = 0
 grants_of w n s (last ∷ lasts) = (drive w n s last).grants + grants_of w n (drive w n s last).state lasts
 
--- Rule Grants until known: after so many grants of drives all is known
+-- Rule Turns until known: after so many grants of drives all is known
 abbrev pub DrivesKnownWithin : Type 0
 DrivesKnownWithin =
     (w n : ℕ) (s : State) (lasts : List ℕ) → DetectionPremises w n s [] → turns_until_known w n s.table ≤ grants_of w n s lasts

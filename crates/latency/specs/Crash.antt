@@ -12,7 +12,7 @@ use Rattle.detection.specs.Rounds.{all_taken}
 use Rattle.detection.specs.Driven.{RunOrDrive, after_mixed, runs_of_mixed, after_drives}
 use Rattle.latency.specs.Bound.{turns_per_round, turns_until_known, AllKnow, grants_of}
 
--- Rule Rest of the round: a round that is under way has at most n·n turns left
+-- Rule Turns from any moment: a round that is under way has at most n·n turns left
 abbrev pub turns_from_now : ℕ → ℕ → List ℕ → ℕ
 turns_from_now w n t = n * n + turns_until_known w n t
 

@@ -21,7 +21,7 @@ turns_of n r i = if unsuspected r i then length (tested n r i) + 1 else 0
 unfoldable pub turns_by_row : ℕ → List ℕ → ℕ
 turns_by_row n r = sum_below (turns_of n r) n
 
--- Rule Turns until known everywhere: if j dies too, the round in which it dies and as many as the worst case has; 0 if j is dead already
+-- Rule Turns of the sheet: if j dies too, the round in which it dies and as many as the worst case has; 0 if j is dead already
 unfoldable pub known_with : ℕ → List ℕ → ℕ → ℕ
 known_with n r j = if unsuspected r j then suc (worst_latency (dimension n)) * turns_by_row n (mark r j) else 0
 
@@ -29,7 +29,7 @@ known_with n r j = if unsuspected r j then suc (worst_latency (dimension n)) * t
 unfoldable pub most_until_known : ℕ → List ℕ → ℕ
 most_until_known n r = greatest (known_with n r) n
 
--- Rule Turns until known everywhere: of a table whose dead boards are those of row r and j, the turns from the crash of j are no more
+-- Rule Turns of the sheet: of a table whose dead boards are those of row r and j, the turns from the crash of j are no more
 abbrev pub FiguresCover : Type 0
 FiguresCover =
     (n : ℕ) (t r : List ℕ) (j : ℕ) → is_size n ≡ true → j < n → unsuspected r j ≡ true → exact_row n t ≡ mark r j
