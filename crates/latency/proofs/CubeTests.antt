@@ -49,7 +49,9 @@ first-narrow q q' j s i more own here =
         let l = ltb-true p (width s) e in
         let named : x p ≡ i = eqb-true (x p) i (rw e at here) in
         let before : (y : ℕ) → y < p → q' (x y) ≡ false =
-        λ y b. by_bool (q' (x y)) (λ f. absurd (true≢false (sym (more (x y) f) ∙ least-before (λ k. q (x k)) (width s) 0 y (omega arith) b))) (λ f. f) in
+        λ y b.
+        let fails = least-before (λ k. q (x k)) (width s) 0 y (omega arith) b in
+        by_bool (q' (x y)) (λ f. absurd (true≢false (sym (more (x y) f) ∙ fails))) (λ f. f) in
         let same : first_place q' j s ≡ p =
         least-is (λ k. q' (x k)) (width s) 0 p (omega arith) (omega arith) (ap q' named ∙ own) (λ y a b. before y b) in
         rw (same, e, named) (eq-eqb i i refl)

@@ -103,7 +103,8 @@ module _ (w n : ℕ) (T : List ℕ) (two : 2 ≤ live_count n T) where
       done = step s e ok p turned holds
 
       -- with it the round closes, or goes on
-      rest-more : (total : ℕ) (xs : List Taken) (s' : State) → WiredChain w n (after w n s e) xs s' → Quiet xs → left s.table + total ≤ suc (length xs)
+      rest-more : (total : ℕ) (xs : List Taken) (s' : State) → WiredChain w n (after w n s e) xs s' → Quiet xs
+          → left s.table + total ≤ suc (length xs)
           → (Plain w n L (after w n s e).table → Inv (after w n s e).table → left (after w n s e).table + total ≤ length xs
           → (ys : List Taken) × Started w n L ys s' total)
           → (ys : List Taken) × Started w n L ys s' total
@@ -119,7 +120,8 @@ module _ (w n : ℕ) (T : List ℕ) (two : 2 ≤ live_count n T) where
           (λ over. on (rw over turned.kept.plain) (rw over done.0) (rw over (omega (arith, done.1))))
 
     -- the rest of the round
-    pub rest-of-round : {s s' : State} {xs : List Taken} → WiredChain w n s xs s' → Plain w n L s.table → Inv s.table → Quiet xs → (total : ℕ) → 1 ≤ total
+    pub rest-of-round : {s s' : State} {xs : List Taken} → WiredChain w n s xs s' → Plain w n L s.table → Inv s.table → Quiet xs → (total : ℕ)
+        → 1 ≤ total
         → left s.table + total ≤ length xs → (ys : List Taken) × Started w n L ys s' total
     rest-of-round ends p holds quiet total pos far = absurd (omega arith)
     rest-of-round {s} {s'} (next {xs = xs} e ok takes chain) p holds quiet total pos far =
@@ -144,7 +146,8 @@ module _ (w n : ℕ) (T : List ℕ) (size : is_size n ≡ true) (two : 2 ≤ liv
   company : Company n (live n T)
   company = company-of n T two
 
-  rounds-within : {s s' : State} {xs : List Taken} → WiredChain w n s xs s' → Accepted w n s.table → InRound w n (live n T) s.table [] s.table → Quiet xs
+  rounds-within : {s s' : State} {xs : List Taken} → WiredChain w n s xs s' → Accepted w n s.table → InRound w n (live n T) s.table [] s.table
+      → Quiet xs
       → AllWithin w n T two B (cut [] xs) (length xs)
   rounds-within {s} chain ok inv q =
       let all = all-within w n T two B chain ok q.no_crash q.no_late s.table [] (going-start w n T two B s.table inv) in
@@ -170,7 +173,8 @@ module _ (w n : ℕ) (T : List ℕ) (size : is_size n ≡ true) (two : 2 ≤ liv
   known-from-start : {s' : State} {xs : List Taken} → Started w n (live n T) xs s' (turns_until_known w n T) → AllKnow n T s'.table
   known-from-start {s'} {xs} st i j h g l =
       let all = rounds-within st.chain st.ok st.inv st.quiet in
-      let c = (course w n (live n T) K size company st.chain st.quiet.no_crash st.quiet.no_late st.from.table [] st.inv (K.starts st.from.table st.inv)).0 in
+      let first = K.starts st.from.table st.inv in
+      let c = (course w n (live n T) K size company st.chain st.quiet.no_crash st.quiet.no_late st.from.table [] st.inv first).0 in
       let far : worst_rounds w n ≤ length (cut [] xs).closed = closed-enough (length (cut [] xs).closed) (length xs) all.room st.enough in
       let exact = K.exact c.start _ _ c.gave (length (cut [] xs).closed) (omega (arith, enough)) (omega arith) i j h g l in
       by_bool (live n T j) (λ e. rw e (c.plain.accurate i j h g l e)) (λ e. rw e (c.grown i j h g (exact e)))
@@ -204,7 +208,8 @@ facts w n T wired size two = on-each (λ (w : ℕ). Facts w n T) w wired on-cube
 -- from any moment on, of which n·n bounds the turns that are left
 module _ (w n : ℕ) (T : List ℕ) (wired : wiring_check w ≡ Ok tt) (size : is_size n ≡ true) (two : 2 ≤ live_count n T) where
   -- a turn leaves fewer
-  left-less : (s : State) (e : Entry) → Accepted w n s.table → Plain w n (live n T) s.table → TurnTaken w n (live n T) s e (acted w n s.table e) → Unit {0}
+  left-less : (s : State) (e : Entry) → Accepted w n s.table → Plain w n (live n T) s.table → TurnTaken w n (live n T) s e (acted w n s.table e)
+      → Unit {0}
       → Unit {0} × (all_left w n (acted w n s.table e) < all_left w n s.table)
   unfolding acted
   left-less s e ok p turn holds = (
@@ -217,4 +222,6 @@ module _ (w n : ℕ) (T : List ℕ) (wired : wiring_check w ≡ Ok tt) (size : i
   known-from-now {s} chain p quiet far =
       let f = facts w n T wired size two in
       let most = all-left-most w n s.table size p.lines in
-      f.known (rest-of-round w n T two (λ _. Unit {0}) (all_left w n) left-less chain p tt quiet (turns_until_known w n T) f.some (omega (arith, most))).1
+      let total : ℕ = turns_until_known w n T in
+      let started = rest-of-round w n T two (λ _. Unit {0}) (all_left w n) left-less chain p tt quiet total f.some (omega (arith, most)) in
+      f.known started.1

@@ -226,7 +226,8 @@ parted ends (y ∷ before) x rest p = absurd (true≢false (ap is_nil p))
 parted {w} {n} {s} {s'} (next {xs = xs} e ok z chain) [] x rest p =
     let here : Parted w n s [] (taken_at w n s e) xs s' =
     record { first = next e ok z ends; ok = accepted-kept w n s e ok z; last = chain } in
-    subst (λ (y : Taken). Parted w n s [] y rest s') (ap (head_or x) p) (subst (λ (ys : List Taken). Parted w n s [] (taken_at w n s e) ys s') (ap tail p) here)
+    subst (λ (y : Taken). Parted w n s [] y rest s') (ap (head_or x) p)
+    (subst (λ (ys : List Taken). Parted w n s [] (taken_at w n s e) ys s') (ap tail p) here)
 parted {w} {n} {s} {s'} (next {xs = xs} e ok z chain) (y ∷ before) x rest p =
     let r = parted chain before x rest (ap tail p) in
     subst (λ (y : Taken). Parted w n s (y ∷ before) x rest s') (ap (head_or x) p)
@@ -284,7 +285,8 @@ module _ (w n : ℕ) (B : TestsBound w n) (s : State) (calls : List Call) (befor
 pub known-from-crash : KnownFromCrash
 known-from-crash w n s calls before x rest given far =
     on-each
-    (λ (w : ℕ). LastCrash w n s calls before x rest → turns_from_crash w n (table_after x) ≤ length rest → AllKnow n (table_after x) (after_runs s calls).table)
+    (λ (w : ℕ). LastCrash w n s calls before x rest → turns_from_crash w n (table_after x) ≤ length rest
+    → AllKnow n (table_after x) (after_runs s calls).table)
     w given.wiring (from-crash wiring_cube n (cube-tests n given.size) s calls before x rest)
     (from-crash wiring_ring n (on-the-ring n given.size) s calls before x rest) given far
 

@@ -160,7 +160,8 @@ module _ (w n : ℕ) (T : List ℕ) (two : 2 ≤ live_count n T) (B : TestsBound
 
   -- one taken entry that is no crash and no late reply
   module _ (t₀ : List ℕ) (cur : List Taken) (s : State) (e : Entry) (ok : Accepted w n s.table)
-      (takes : entry_refusal n s e ≡ 0) (g : Going t₀ cur s.table) (no_crash : is_crash e ≡ false) (in_time : is_late (taken_at w n s e) ≡ false) where
+      (takes : entry_refusal n s e ≡ 0) (g : Going t₀ cur s.table) (no_crash : is_crash e ≡ false)
+      (in_time : is_late (taken_at w n s e) ≡ false) where
     abbrev t : List ℕ
     t = s.table
 

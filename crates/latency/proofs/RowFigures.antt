@@ -1,7 +1,7 @@
 -- The figures of the sheet cover what is claimed of turns.
 -- Assumes nothing.
-use mathlib.Core.Path.{◌≡◌, refl, sym, ap, ◌∙◌}
-use mathlib.Core.Bool.{Bool, true, false, not, and-false}
+use mathlib.Core.Path.{◌≡◌, ap, ◌∙◌}
+use mathlib.Core.Bool.{Bool, not, and-false}
 use mathlib.Core.List.{List}
 use Prim.Native.Nat.{ℕ, suc, ◌+◌, ◌-◌, ◌*◌, ◌^◌, ◌≤◌, ◌<◌}
 use native.Mathlib.Nat.{suc-mul}
@@ -9,27 +9,25 @@ use native.Mathlib.Omega.{arith}
 use lib.Dec.{eqb}
 use lib.ListN.{length, get_or, set}
 use lib.Seq.{set-set, set-get_or}
-use Rattle.lists.specs.Search.{greatest}
-use Rattle.lists.specs.Sums.{sum_below, bit}
+use Rattle.lists.specs.Sums.{bit}
 use Rattle.lists.proofs.BoolLaws.{by_bool}
 use Rattle.lists.proofs.SearchLaws.{list_of-length, list_of-at, greatest-le}
 use Rattle.lists.proofs.SumLaws.{sum_by, sum-add, sum-zero}
-use Rattle.table.specs.Sizes.{is_size, dimension, distances}
+use Rattle.table.specs.Sizes.{dimension, distances}
 use Rattle.table.specs.Wiring.{wiring_cube}
 use Rattle.table.specs.Table.{live}
 use Rattle.table.specs.Properties.{live_count, exact_row}
 use Rattle.table.proofs.Levels.{level-le}
 use Rattle.table.proofs.SizeLaws.{size-distances}
-use Rattle.station.specs.Tests.{unsuspected, due}
+use Rattle.station.specs.Tests.{unsuspected}
 use Rattle.station.specs.Rows.{mark}
 use Rattle.station.proofs.DueLaws.{unsuspected-at}
-use Rattle.slots.specs.Slots.{tested, tests_due}
+use Rattle.slots.specs.Slots.{tested}
 use Rattle.slots.proofs.MoreTests.{tests-sum}
 use Rattle.slots.proofs.UntestedLaws.{lists-counted}
-use Rattle.detection.specs.Claim.{tests_per_round, worst_latency}
-use Rattle.detection.proofs.Knowledge.{LiveOf, row-due, leads_at}
+use Rattle.detection.specs.Claim.{worst_latency}
+use Rattle.detection.proofs.Knowledge.{row-due}
 use Rattle.latency.specs.Bound.{turns_per_round}
-use Rattle.latency.specs.Crash.{turns_from_crash}
 use Rattle.latency.specs.Figures.{turns_of, turns_by_row, known_with, most_until_known, FiguresCover}
 use Rattle.latency.proofs.CubeTests.{leads_below, leads-none, led-count}
 

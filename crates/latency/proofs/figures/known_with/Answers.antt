@@ -1,5 +1,5 @@
 -- A live board has a byte in the row, which is put back.
-use Rattle.std.proofs.Common.{◌≡◌, ◌<◌, sym, ap, ◌∙◌, arith, length}
+use Rattle.std.proofs.Common.{sym, ◌∙◌, arith}
 use Rattle.station.proofs.EntryLaws.{unsuspected-below}
 use Rattle.station.proofs.UnionLaws.{mark-length}
 use Rattle.latency.proofs.RowFigures.{mark-back}

@@ -1,5 +1,5 @@
 -- The turns of the boards that were gone through.
-use Rattle.std.proofs.Common.{◌≡◌, ◌+◌, ℕ, refl, sym, ◌∙◌, arith}
+use Rattle.std.proofs.Common.{◌≡◌, ◌+◌, refl, arith}
 use Prim.Native.Nat.{suc}
 use Rattle.lists.specs.Sums.{sum_below}
 use Rattle.lists.proofs.SumLaws.{sum_below-suc}
