@@ -167,6 +167,33 @@ fn tested(size: Size, board: Station, row: Row) -> impl Iterator<Item = Station>
     answers_from(size, board, row, Distance::FIRST).filter_map(due)
 }
 
+/// The rounds until one more dead board is known everywhere, at most: the one
+/// in which it dies, and those of the worst case.
+fn rounds_until_known(size: Size) -> usize {
+    let worst = match size.count() {
+        0..3 => 1,
+        3..5 => 2,
+        5..9 => 3,
+        9..17 => 4,
+        17..33 => 6,
+        _ => 8,
+    };
+    worst + 1
+}
+
+/// The grants until then, whichever board it is: so many rounds, each with the
+/// tests that the live boards make by the row with it, and a turn for each.
+fn most_grants(size: Size, row: Row) -> usize {
+    let live = |row: Row| size.stations().filter(move |board| !row.suspects(*board));
+    let round = |other: Station| -> usize {
+        let row = row.with(other);
+        live(row)
+            .map(|board| tested(size, board, row).count() + 1)
+            .sum()
+    };
+    rounds_until_known(size) * greatest(live(row).map(round))
+}
+
 /// The greatest number of tests by the row with one more board, any but the
 /// board itself.
 fn most_with_one_more(size: Size, board: Station, row: Row) -> usize {
@@ -205,7 +232,12 @@ fn print_sheet(plant: &Plant) -> String {
         plant.size.count(),
         plant.print_dead()
     );
-    let mut text = first + &format!("\nboard  {TESTED:width$}  {FIGURES}\n");
+    let known = format!(
+        "One more dead board is known everywhere after at most {} rounds, {} grants\n",
+        rounds_until_known(plant.size),
+        most_grants(plant.size, plant.dead)
+    );
+    let mut text = first + &known + &format!("\nboard  {TESTED:width$}  {FIGURES}\n");
     for entry in &entries {
         text.push_str(&entry.print_tested(width));
     }
@@ -236,8 +268,8 @@ impl Entry {
 
 /// The table over all sizes: 21 rows of three sizes each.
 fn print_sizes() -> String {
-    let mut text = "| boards | nobody dead | one dead ".repeat(3) + "|\n";
-    text.push_str(&("|--:|--:|--:".repeat(3) + "|\n"));
+    let mut text = "| boards | nobody dead | one dead | rounds | grants ".repeat(3) + "|\n";
+    text.push_str(&("|--:|--:|--:|--:|--:".repeat(3) + "|\n"));
     for n in 2..23 {
         let sizes = [n, n + 21, n + 42].map(print_size);
         text.push_str(&(sizes.concat() + "|\n"));
@@ -246,14 +278,17 @@ fn print_sizes() -> String {
 }
 
 /// The columns of one size: the greatest numbers of tests of any board with
-/// nobody dead and with one dead.
+/// nobody dead and with one dead, and the rounds and grants until that one is
+/// known everywhere.
 fn print_size(n: usize) -> String {
     let size = Size::new(n).expect("the table has the sizes 2 to 64");
     let tests = |board| tested(size, board, Row::EMPTY).count();
     let most = |board| most_with_one_more(size, board, Row::EMPTY);
     let nobody_dead = greatest(size.stations().map(tests));
     let one_dead = greatest(size.stations().map(most));
-    format!("| {n} | {nobody_dead} | {one_dead} ")
+    let rounds = rounds_until_known(size);
+    let grants = most_grants(size, Row::EMPTY);
+    format!("| {n} | {nobody_dead} | {one_dead} | {rounds} | {grants} ")
 }
 
 /// The greatest of the numbers, of which there is at least one.

@@ -97,6 +97,7 @@ fn simulate_sheet(arguments: &[&[u8]]) -> (String, String) {
 fn sheet_of_3_boards_with_0_dead() {
     let expected = "\
 3 boards, dead: 0
+One more dead board is known everywhere after at most 3 rounds, 9 grants
 
 board  whom it tests, in order  tests a round  most with one more dead
     1  0 2                                  2                        2

@@ -10,7 +10,7 @@ use Rattle.slots.specs.declared.untested.Untested.{Untested}
 use Rattle.slots.specs.Slots.{tested, untested, ahead}
 use Rattle.sheet.specs.Printed.{dead_text}
 use Rattle.sheet.specs.Layout.{right, tests_of, untested_of, tests_head, tests_line, untested_line}
-use Rattle.sheet.specs.Layout.{live_lines, list_width, sheet_text}
+use Rattle.sheet.specs.Layout.{live_lines, list_width, known_text, sheet_text}
 
 pub right_written : (columns x : ℕ) → styled_decimal (format_spec 32 3 0 columns (2 ^ 64 - 1)) x ≡ right columns x
 right_written columns x =
@@ -34,14 +34,15 @@ pub untested_listed : (n : ℕ) (row : List ℕ) (i : ℕ) (l : List Untested)
     → map (λ u. u.board.0) l ≡ untested n row i → map (λ u. u.ahead.0) l ≡ ahead n row i → untested_of n row i ≡ l
 untested_listed n row i l e h = rw (← e, ← h) (untested_back l)
 
-parts : (a b c d h t s u : List ℕ) → (a ++ (b ++ (c ++ d))) ++ (h ++ (t ++ (s ++ u))) ≡ a ++ b ++ c ++ d ++ h ++ t ++ s ++ u
-parts a b c d h t s u = simp append_assoc
+parts : (a b c d e g h t s u : List ℕ)
+    → (a ++ (b ++ (c ++ (d ++ (e ++ g))))) ++ (h ++ (t ++ (s ++ u))) ≡ a ++ b ++ c ++ d ++ e ++ g ++ h ++ t ++ s ++ u
+parts a b c d e g h t s u = simp append_assoc
 
 pub sheet_parts : (n : ℕ) (row : List ℕ) (columns : ℕ) → columns ≡ list_width n row
-    → (decimal n ++ (codes " boards, dead:" ++ (dead_text row ++ codes "\n\n"))) ++ (tests_head columns
+    → (decimal n ++ (codes " boards, dead:" ++ (dead_text row ++ (codes "\n" ++ (known_text n row ++ codes "\n\n"))))) ++ (tests_head columns
     ++ (live_lines (tests_line n row columns) row n ++ (codes "\nboard  whom it does not test (who stands ahead)\n"
     ++ live_lines (untested_line n row) row n))) ≡ sheet_text n row
 sheet_parts n row columns e =
     let w = list_width n row in
-    rw e (parts (decimal n) (codes " boards, dead:") (dead_text row) (codes "\n\n") (tests_head w) (live_lines (tests_line n row w) row n)
+    rw e (parts (decimal n) (codes " boards, dead:") (dead_text row) (codes "\n") (known_text n row) (codes "\n\n") (tests_head w) (live_lines (tests_line n row w) row n)
     (codes "\nboard  whom it does not test (who stands ahead)\n") (live_lines (untested_line n row) row n))

@@ -1,11 +1,14 @@
 -- The sheet of one plant, as it is printed.
 -- Assumes nothing.
-use Rattle.std.specs.Prelude.{ℕ, ◌-◌, List, [], ◌++◌, codes, decimal, map, length, max, replicate, if◌then◌else◌}
+use Rattle.std.specs.Prelude.{ℕ, suc, ◌-◌, List, [], ◌++◌, codes, decimal, map, length, max, replicate, if◌then◌else◌}
 use Rattle.std.specs.List.{zip}
 use Rattle.table.specs.declared.Station.{Station}
+use Rattle.table.specs.Sizes.{dimension}
 use Rattle.station.specs.Tests.{unsuspected}
 use Rattle.slots.specs.Slots.{tested, untested, ahead, most_tests}
 use Rattle.slots.specs.declared.untested.Untested.{Untested}
+use Rattle.detection.specs.Claim.{worst_latency}
+use Rattle.latency.specs.Figures.{most_until_known}
 use Rattle.sheet.specs.Text.{width, widest}
 use Rattle.sheet.specs.Printed.{boards_text, ahead_text, dead_text}
 use Rattle.sheet.specs.SizeLines.{each_below}
@@ -62,9 +65,15 @@ tests_head columns =
 abbrev pub list_width : ℕ → List ℕ → ℕ
 list_width n row = max (widest n row) (length (codes "whom it tests, in order"))
 
+-- after how many rounds, that of its death among them, and after how many grants all live boards know one more dead board, at most
+unfoldable pub known_text : ℕ → List ℕ → List ℕ
+known_text n row =
+    codes "One more dead board is known everywhere after at most " ++ decimal (suc (worst_latency (dimension n))) ++ codes " rounds, "
+    ++ decimal (most_until_known n row) ++ codes " grants"
+
 -- the sheet of a plant of n boards, by their row
 abbrev pub sheet_text : ℕ → List ℕ → List ℕ
 sheet_text n row =
-    decimal n ++ codes " boards, dead:" ++ dead_text row ++ codes "\n\n" ++ tests_head (list_width n row)
+    decimal n ++ codes " boards, dead:" ++ dead_text row ++ codes "\n" ++ known_text n row ++ codes "\n\n" ++ tests_head (list_width n row)
     ++ live_lines (tests_line n row (list_width n row)) row n
     ++ codes "\nboard  whom it does not test (who stands ahead)\n" ++ live_lines (untested_line n row) row n

@@ -8,7 +8,7 @@ ghost use Rattle.clap.specs.Simple.{app_of, matches_of};
 ghost use Rattle.clap.specs.Walk.{rows_of};
 ghost use Rattle.sheet.specs.Call.{Answers, asked, sheet_command, understood};
 
-use crate::plant::Plant;
+use crate::boards::Plant;
 use clap::error::ErrorKind;
 use clap::{Arg, ArgAction, ArgMatches, Command};
 use std::alloc::{AllocError, Global};
@@ -23,10 +23,12 @@ Usage: ./sheet SIZE [DEAD BOARDS ..]
 Prints the commissioning sheet of a plant of SIZE boards, 2 to 64, of which those
 named are dead and every live board knows it: ./sheet 8 4
 SIZE has one to three digits, a board one or two.
+First: after how many rounds and grants one more dead board is known everywhere.
 For each live board: whom it tests, in order; how many tests these are, and the most
 with one more dead board; whom it does not test, and who stands ahead.
 
---sizes prints for each size the most tests of a board, with nobody and with one dead.
+--sizes prints for each size the most tests of a board, with nobody and with one dead,
+and those rounds and grants with nobody dead before.
 
 What changed since the last call is proved and built first; on a fresh clone that
 is everything, and takes some minutes. Standard error says what is proved.

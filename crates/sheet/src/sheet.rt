@@ -6,8 +6,9 @@ ghost use Rattle.sheet.specs.Text.{digits, width, list_columns, widest};
 ghost use Rattle.sheet.specs.Layout.{spaces, board_cell, count_cells, tests_head};
 ghost use Rattle.sheet.specs.Layout.{tests_line, untested_line, live_line, live_lines};
 
-use crate::plant::Plant;
+use crate::boards::Plant;
 use arrayvec::ArrayVec;
+use latency::figures;
 use slots::untested::Untested;
 use std::fmt;
 use table::Station;
@@ -28,7 +29,13 @@ impl fmt::Display for Sheet {
     fn fmt<W: fmt::Write>(&self, f: &mut fmt::Formatter<W>) -> fmt::Result {
         let plant = &self.plant;
         let columns = widest(plant).max(LIST_HEAD.len());
-        writeln!(f, "{} boards, dead:{}\n", plant.size, Dead(plant))?;
+        writeln!(
+            f,
+            "{} boards, dead:{}\n{}\n",
+            plant.size,
+            Dead(plant),
+            Known(plant)
+        )?;
         write_tests_head(f, columns)?;
         write_all_tests(f, plant, columns)?;
         f.write_str("\nboard  whom it does not test (who stands ahead)\n")?;
@@ -52,6 +59,26 @@ impl<'a> fmt::Display for Dead<'a> {
             return f.write_str(" none");
         }
         write_dead(f, row)
+    }
+}
+
+// After how many rounds and grants one more dead board of a plant is known everywhere.
+#[derive(Clone, Copy)]
+struct Known<'a>(&'a Plant);
+
+impl<'a> fmt::Display for Known<'a> {
+    ghost use Rattle.sheet.specs.Layout.{known_text};
+
+    ghost output = { λ known. Some (known_text known.0.now.size (take known.0.now.size known.0.now.row)) };
+
+    #[tactic(auto, unfolding(crate::specs::Layout::known_text))]
+    fn fmt<W: fmt::Write>(&self, f: &mut fmt::Formatter<W>) -> fmt::Result {
+        let rounds = 1 + figures::worst_rounds(self.0.size);
+        let grants = self.0.most_until_known();
+        write!(
+            f,
+            "One more dead board is known everywhere after at most {rounds} rounds, {grants} grants"
+        )
     }
 }
 

@@ -1,15 +1,19 @@
-// The most tests of a board at every size from 2 to 64, with nobody dead and with any one dead: a table of three sizes to a row.
+// The most tests of a board at every size from 2 to 64, with nobody dead and with any one dead, and after how many rounds and grants that one is
+// known everywhere: a table of three sizes to a row.
 ghost use Rattle.std.specs.Prelude.{◌≡◌, ◌≤◌, replicate, Some};
 ghost use Rattle.std.specs.Fmt.{DisplaysOnOk};
 ghost use Rattle.slots.specs.Slots.{most_of_boards};
-ghost use Rattle.sheet.specs.SizeLines.{size_cells};
+ghost use Rattle.latency.specs.Figures.{most_until_known};
+ghost use Rattle.sheet.specs.SizeLines.{size_cells, known_cells};
 
+use latency::figures;
 use std::fmt;
 
 // The head of the table.
 const HEAD: &str = "\
-| boards | nobody dead | one dead | boards | nobody dead | one dead | boards | nobody dead | one dead |
-|--:|--:|--:|--:|--:|--:|--:|--:|--:|
+| boards | nobody dead | one dead | rounds | grants | boards | nobody dead | one dead | rounds | grants \
+| boards | nobody dead | one dead | rounds | grants |
+|--:|--:|--:|--:|--:|--:|--:|--:|--:|--:|--:|--:|--:|--:|--:|
 ";
 
 #[derive(Clone, Copy)]
@@ -33,14 +37,35 @@ impl fmt::Display for SizeTable {
     }
 }
 
-// The three cells of a size: the most tests of a board with nobody dead, and with any one dead.
+// The five cells of a size: the most tests of a board with nobody dead, and with any one dead; and the rounds and grants until that one is known.
 fn write_size<W: fmt::Write>(f: &mut fmt::Formatter<W>, n: u8) -> fmt::Result
     requires { n ≤ 64 }
     ensures { DisplaysOnOk W.write_str_gives f.old result (Some (size_cells n)) f.new }
 {
     let none_dead = most_tests(n, false);
     let one_dead = most_tests(n, true);
-    write!(f, "| {n} | {none_dead} | {one_dead} ")
+    write!(f, "| {n} | {none_dead} | {one_dead} ")?;
+    write_known(f, n)
+}
+
+// Two of them: after how many rounds and after how many grants one dead board is known everywhere, with nobody dead before.
+#[tactic(auto, unfolding(crate::specs::SizeLines::known_cells))]
+fn write_known<W: fmt::Write>(f: &mut fmt::Formatter<W>, n: u8) -> fmt::Result
+    requires { n ≤ 64 }
+    ensures { DisplaysOnOk W.write_str_gives f.old result (Some (known_cells n)) f.new }
+{
+    let rounds = 1 + figures::worst_rounds(n);
+    let grants = most_until_known(n);
+    write!(f, "| {rounds} | {grants} ")
+}
+
+// After how many grants one dead board is known everywhere, with nobody dead before.
+fn most_until_known(n: u8) -> u32
+    requires { n ≤ 64 }
+    ensures { result ≡ most_until_known n (replicate n 0) }
+{
+    let mut row = [0; 64];
+    figures::most_until_known(n, &mut row[..n as usize])
 }
 
 // The most tests of any of n boards where nobody is dead, or any one.

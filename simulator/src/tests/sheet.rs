@@ -39,8 +39,13 @@ fn wrong(arguments: &[&str], line: &str) {
 /// 6 stand i xor 2 and i xor 3, at 7 all three. So i xor 1 dead brings two more
 /// tests to every board but 5, which has them; with 4 dead, 5 dead brings one
 /// to 6 and to 7. The greatest is 3 + 2, and for board 5 it is the 5 it makes.
+///
+/// A round has 24 tests, less one for each board and level whose group is dead:
+/// with 4 and any but 5 dead two boards have such a group at level 1, and six
+/// boards make 22 tests and six turns more. With 4 and 5 dead it is fewer.
 const EIGHT_BOARDS_4_DEAD: &str = "\
 8 boards, dead: 4
+One more dead board is known everywhere after at most 4 rounds, 112 grants
 
 board  whom it tests, in order  tests a round  most with one more dead
     0  1 2 4                                3                        5
@@ -61,9 +66,11 @@ board  whom it does not test (who stands ahead)
     7  4 (6), 2 (6), 1 (5), 0 (5)
 ";
 
-/// The only group of each board is the other board.
+/// The only group of each board is the other board. With one dead the other
+/// makes its test and one turn more.
 const TWO_BOARDS: &str = "\
 2 boards, dead: none
+One more dead board is known everywhere after at most 2 rounds, 4 grants
 
 board  whom it tests, in order  tests a round  most with one more dead
     0  1                                    1                        1
@@ -77,8 +84,10 @@ board  whom it does not test (who stands ahead)
 /// Level 1: the groups of 0 and 1 are 1 and 0, that of 2 is empty. Level 2:
 /// those of 0 and 1 are 2 alone, that of 2 is 0, 1. So 0 stands ahead of 1 for
 /// board 2, and with 0 dead board 1 tests it; 0 and 2 test all others anyway.
+/// With 0 or 1 dead a round has 4 tests and 2 turns more, with 2 dead fewer.
 const THREE_BOARDS: &str = "\
 3 boards, dead: none
+One more dead board is known everywhere after at most 3 rounds, 18 grants
 
 board  whom it tests, in order  tests a round  most with one more dead
     0  1 2                                  2                        2
@@ -108,9 +117,12 @@ fn long_lists() {
     arguments.extend(numbers[1..63].iter().map(String::as_str));
     let text = printed(&arguments);
     let lines: Vec<&str> = text.lines().collect();
-    assert_eq!(lines.len(), 9);
+    assert_eq!(lines.len(), 10);
     let dead = numbers[1..63].join(" ");
-    assert_eq!(lines[..2], [&format!("64 boards, dead: {dead}"), ""]);
+    assert_eq!(lines[0], format!("64 boards, dead: {dead}"));
+    // One of the two is left, and tests all others.
+    assert!(lines[1].ends_with("after at most 9 rounds, 576 grants"));
+    assert_eq!(lines[2], "");
     let [upward, mut downward] = [numbers[1..].to_vec(), numbers[..63].to_vec()];
     downward.reverse();
     let [upward, downward] = [upward, downward].map(|list| list.join(" "));
@@ -118,12 +130,12 @@ fn long_lists() {
     let blanks = " ".repeat(9 + 2 * 54 + 62 - 23);
     let heads = "tests a round  most with one more dead";
     let head = format!("board  whom it tests, in order{blanks}  {heads}");
-    assert_eq!(lines[2], head);
+    assert_eq!(lines[3], head);
     let figures = "           63                       63";
-    assert_eq!(lines[3], format!("    0  {upward}  {figures}"));
-    assert_eq!(lines[4], format!("   63  {downward}   {figures}"));
+    assert_eq!(lines[4], format!("    0  {upward}  {figures}"));
+    assert_eq!(lines[5], format!("   63  {downward}   {figures}"));
     let head = "board  whom it does not test (who stands ahead)";
-    assert_eq!(lines[5..], ["", head, "    0  -", "   63  -"]);
+    assert_eq!(lines[6..], ["", head, "    0  -", "   63  -"]);
 }
 
 /// Of 24 boards the list of each has at most 5 numbers, and the column keeps
@@ -131,7 +143,7 @@ fn long_lists() {
 #[test]
 fn width_of_the_head() {
     let text = printed(&["24"]);
-    let lines = text.lines().skip(2).take_while(|line| !line.is_empty());
+    let lines = text.lines().skip(3).take_while(|line| !line.is_empty());
     assert!(lines.clone().count() == 25 && lines.clone().all(|line| line.len() == 70));
 }
 
@@ -319,8 +331,8 @@ fn sheet(n: usize, dead: &[usize]) -> Vec<Line> {
     let text = printed(&arguments);
     let lines: Vec<&str> = text.lines().collect();
     let live = n - dead.len();
-    assert_eq!(lines.len(), 5 + 2 * live);
-    let (upper, lower) = (&lines[3..3 + live], &lines[5 + live..]);
+    assert_eq!(lines.len(), 6 + 2 * live);
+    let (upper, lower) = (&lines[4..4 + live], &lines[6 + live..]);
     let pairs = upper.iter().zip(lower);
     pairs
         .map(|(upper, lower)| read_line(upper, lower))
@@ -553,12 +565,13 @@ fn known_figure_of_8_boards_with_4_dead() {
 
 /// The two heads of the table over all sizes.
 const HEADS: [&str; 2] = [
-    "| boards | nobody dead | one dead | boards | nobody dead | one dead \
-     | boards | nobody dead | one dead |",
-    "|--:|--:|--:|--:|--:|--:|--:|--:|--:|",
+    "| boards | nobody dead | one dead | rounds | grants \
+     | boards | nobody dead | one dead | rounds | grants \
+     | boards | nobody dead | one dead | rounds | grants |",
+    "|--:|--:|--:|--:|--:|--:|--:|--:|--:|--:|--:|--:|--:|--:|--:|",
 ];
 
-/// The table over all sizes: its cells in rows of nine, below its two heads.
+/// The table over all sizes: its cells in rows of fifteen, below its two heads.
 fn table_of_sizes() -> Vec<Vec<usize>> {
     let text = printed(&["--sizes"]);
     let lines: Vec<&str> = text.lines().collect();
@@ -576,15 +589,15 @@ fn table_of_sizes() -> Vec<Vec<usize>> {
 #[test]
 fn rows_of_the_table_of_sizes() {
     for (r, row) in table_of_sizes().iter().enumerate() {
-        assert_eq!(row.len(), 9);
-        assert_eq!([row[0], row[3], row[6]], [2 + r, 23 + r, 44 + r]);
+        assert_eq!(row.len(), 15);
+        assert_eq!([row[0], row[5], row[10]], [2 + r, 23 + r, 44 + r]);
     }
 }
 
 #[test]
 fn first_row_of_the_table_of_sizes() {
     let row = &table_of_sizes()[0];
-    assert_eq!(row[..3], [2, 1, 1]);
+    assert_eq!(row[..5], [2, 1, 1, 2, 4]);
 }
 
 /// The greatest number of tests by the definition with any one board dead.
@@ -600,7 +613,10 @@ fn greatest_with_one_dead(n: usize) -> usize {
 #[test]
 fn table_of_sizes_has_the_figures_of_the_sheets() {
     for row in table_of_sizes() {
-        for cells in row.chunks(3) {
+        for cells in row.chunks(5) {
+            let text = printed(&[&cells[0].to_string()]);
+            let known = numbers_in(text.lines().nth(1).unwrap());
+            assert_eq!(cells[3..], known);
             let lines = sheet(cells[0], &[]);
             let greatest = |figure: fn(&Line) -> usize| lines.iter().map(figure).max().unwrap();
             assert_eq!(cells[1], greatest(|line| line.tests));
@@ -613,7 +629,7 @@ fn table_of_sizes_has_the_figures_of_the_sheets() {
 #[test]
 fn table_of_sizes_has_the_known_figures() {
     let rows = table_of_sizes();
-    let cells = |n: usize| rows[(n - 2) % 21][3 * ((n - 2) / 21)..][..3].to_vec();
+    let cells = |n: usize| rows[(n - 2) % 21][5 * ((n - 2) / 21)..][..3].to_vec();
     for (n, most) in [
         (11, 6),
         (19, 10),

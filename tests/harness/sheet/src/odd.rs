@@ -15,9 +15,10 @@ const NOT_TEXT: &str = "sheet: an argument is not text in UTF-8\n";
 
 /// How the table over all sizes begins.
 const TABLE: &str = "\
-| boards | nobody dead | one dead | boards | nobody dead | one dead | boards | nobody dead | one dead |
-|--:|--:|--:|--:|--:|--:|--:|--:|--:|
-| 2 | 1 | 1 | 23 |";
+| boards | nobody dead | one dead | rounds | grants | boards | nobody dead | one dead | rounds | grants \
+| boards | nobody dead | one dead | rounds | grants |
+|--:|--:|--:|--:|--:|--:|--:|--:|--:|--:|--:|--:|--:|--:|--:|
+| 2 | 1 | 1 | 2 | 4 | 23 |";
 
 pub struct Odd {
     pub arguments: Arguments,

@@ -2,7 +2,7 @@
 use Rattle.std.proofs.Common.{refl, sym, ◌∙◌, arith}
 use Rattle.sheet.specs.Named.{plant_of}
 use Rattle.sheet.proofs.NamedLaws.{rows-next, rows-wrong, rows-end, plant-is, two-live, few-live}
-use Rattle.sheet.proofs.plant.Plant.read.Goals as goal
+use Rattle.sheet.proofs.boards.Plant.read.Goals as goal
 
 pub returns-in_default : goal.returns-in_default
 unfolding plant_of

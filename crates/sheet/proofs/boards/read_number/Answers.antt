@@ -1,7 +1,7 @@
 -- The digits are read one after the other.
 use Rattle.std.proofs.Common.{sym, ◌∙◌, arith}
 use Rattle.sheet.proofs.NumberLaws.{number-empty, number-long, number-inside, digits-next, digits-stop, digits-end}
-use Rattle.sheet.proofs.plant.read_number.Goals as goal
+use Rattle.sheet.proofs.boards.read_number.Goals as goal
 
 pub returns-then-length-eq0 : goal.returns-then-length-eq0
 returns-then-length-eq0 c = sym (number-empty c.args.most c.args.word.now (omega arith))

@@ -3,9 +3,11 @@ ghost use Rattle.std.specs.Prelude.{◌≡◌, ◌≤◌, ◌==◌, map, take, c
 ghost use Rattle.std.specs.Result.{result_map_both};
 ghost use Rattle.station.specs.Tests.{unsuspected};
 ghost use Rattle.slots.specs.Slots.{most_tests};
+ghost use Rattle.latency.specs.Figures.{most_until_known};
 ghost use Rattle.sheet.specs.Text.{number};
 
 use crate::call::WrongCall;
+use latency::figures;
 use table::{Station, sizes};
 
 // The size, and the row of each live board: 1 at each dead one.
@@ -96,6 +98,14 @@ impl Plant {
     {
         let mut row = self.row;
         slots::most_tests(self.size, &mut row[..self.size as usize], i)
+    }
+
+    // After how many grants at most one more dead board is known everywhere.
+    pub fn most_until_known(&self) -> u32
+        ensures { result ≡ most_until_known self.now.size (take self.now.size self.now.row) }
+    {
+        let mut row = self.row;
+        figures::most_until_known(self.size, &mut row[..self.size as usize])
     }
 
     // Whether board x is there and not dead.

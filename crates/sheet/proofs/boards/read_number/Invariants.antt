@@ -1,7 +1,7 @@
 -- The digits that were gone through have this value.
 use Rattle.std.proofs.Common.{◌≡◌, ◌≤◌, drop}
 use Rattle.sheet.specs.Text.{digits_from}
-use Rattle.sheet.proofs.plant.read_number.Given as goal
+use Rattle.sheet.proofs.boards.read_number.Given as goal
 
 abbrev pub invariant-loop-byte : goal.invariant-loop-byte
 invariant-loop-byte l = record {

@@ -1,7 +1,7 @@
 -- The boards that were gone through are dead.
 use Rattle.std.proofs.Common.{◌≡◌, ◌+◌, map, drop}
 use Rattle.sheet.specs.Named.{rows_with}
-use Rattle.sheet.proofs.plant.Plant.read.Given as goal
+use Rattle.sheet.proofs.boards.Plant.read.Given as goal
 
 abbrev pub invariant-loop-board : goal.invariant-loop-board
 invariant-loop-board l = record {

@@ -1,6 +1,6 @@
 -- What is wrong with the word, or the row in which its board is dead too.
 use Rattle.sheet.proofs.NamedLaws.{row_with-none, row_with-past, row_with-again, row_with-dead}
-use Rattle.sheet.proofs.plant.Plant.name_dead.Goals as goal
+use Rattle.sheet.proofs.boards.Plant.name_dead.Goals as goal
 
 pub returns-in_default-clause-row : goal.returns-in_default-clause-row
 returns-in_default-clause-row c = row_with-none _ _ _ _ _ c.in_default.ensures c.saturating_sub-last.ensures

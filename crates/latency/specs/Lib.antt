@@ -1,0 +1,4 @@
+-- What the contracts of `latency` cite.
+pub mod Bound
+pub mod Crash
+pub mod Figures
