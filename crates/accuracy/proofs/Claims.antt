@@ -39,7 +39,7 @@ use Rattle.accuracy.specs.Cause.{IsSuspected, late_of, was_late, crash_of, has_c
 use Rattle.accuracy.specs.Accurate.{OnlyLateSuspected, ExitCause, ExitsHaveCauses, ToldHaveCauses, told_since, OneToldForEachLate, NoneLate, OneForEachLate, Accurate, RunsAccurate, MixedAccurate, DrivesTellNobody, AccurateAfter}
 use Rattle.accuracy.proofs.Step.{CauseAt, Fared, lives, crashed, told, alone, new-suspicion, fared}
 use Rattle.accuracy.proofs.Chains.{any-before, any-last, cause-before, cause-chain, parted, told-at}
-use Rattle.accuracy.proofs.Sums.{one, sum-most, two-hits, count-sum, any-counted, none-passes}
+use Rattle.accuracy.proofs.Sums.{bit-most, sum-most, two-hits, count-sum, any-counted, none-passes}
 use Rattle.accuracy.proofs.Quiet.{Calm, Left, stayed, left_told, left_crashed, calm-chain}
 
 -- where no live station suspects a live one, nobody is suspected
@@ -208,8 +208,8 @@ module _ (n : ℕ) (s : State) (calls : List Call) (long : length s.table ≡ ta
 
   quiet-or-charged : (i : ℕ) → i < n → bit (live n s.table i) ≤ bit (quiet i) + charged i
   quiet-or-charged i hi =
-      by_bool (was_late i xs) (λ e. rw e (omega (arith, any-counted (late_of i) xs e, one (live n s.table i))))
-      (λ e. by_bool (has_crashed i xs) (λ f. rw (e, f) (omega (arith, any-counted (crash_of i) xs f, one (live n s.table i))))
+      by_bool (was_late i xs) (λ e. rw e (omega (arith, any-counted (late_of i) xs e, bit-most (live n s.table i))))
+      (λ e. by_bool (has_crashed i xs) (λ f. rw (e, f) (omega (arith, any-counted (crash_of i) xs f, bit-most (live n s.table i))))
       (λ f. by_bool (live n s.table i) (λ l. rw (l, e, f) (omega arith)) (λ l. rw l (omega arith))))
 
   -- where at least two more are live than there are late replies and crashes

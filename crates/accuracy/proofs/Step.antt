@@ -1,8 +1,8 @@
 -- What one taken entry does: whom a live station suspects after it, and what becomes of each live station.
 -- Assumes nothing.
-use mathlib.Core.Path.{◌≡◌, refl, sym, ◌∙◌}
+use mathlib.Core.Path.{◌≡◌, refl, sym, ap₂, ◌∙◌}
 use mathlib.Core.Logic.{◌≢◌, ◌⊎◌, inl, inr, by_cases}
-use mathlib.Core.Bool.{true, false}
+use mathlib.Core.Bool.{true, false, ◌&&◌}
 use mathlib.Core.List.{List}
 use Prim.Native.Nat.{ℕ, ◌+◌, ◌≤◌, ◌<◌}
 use native.Mathlib.Decide.{ℕ_discrete}
@@ -23,6 +23,7 @@ use Rattle.plant.proofs.StepCells.{leave_told-other, leave_told-status, finish_p
 use Rattle.plant.proofs.StepLines.{after_outcome-lines}
 use Rattle.plant.proofs.RoundLaws.{reset-other}
 use Rattle.plant.proofs.RulesKept.{Takes, entry-facts}
+use Rattle.detection.specs.Runs.{is_late}
 use Rattle.detection.proofs.TakenLaws.{taken_at}
 use Rattle.detection.proofs.TestingPair.{Pair, parts_of, testing-pair}
 use Rattle.detection.proofs.TurnEffect.{exchange-between}
@@ -153,7 +154,9 @@ module _ (w n : ℕ) (s : State) (e : Entry) (ok : Accepted w n s.table) (z : en
         let not_one = eqb-false e.kind kind_turn (rw l at r) in
         let not_three = eqb-false e.kind 3 c in
         let two : e.kind ≡ kind_late = omega (arith, facts.kind_low, facts.kind_high) in
-        rw (eq-eqb e.kind kind_late two, c, b, l, eq-eqb j j refl)
+        let same : tested_of w n t e ≡ j = rw (c, b) in
+        let is : is_late (taken_at w n s e) ≡ true = rw (eq-eqb e.kind kind_late two, c, b, l) in
+        ap₂ ◌&&◌ is (eq-eqb (tested_of w n t e) j same)
 
     counted-row : (k x : ℕ) → x < n → suspects n u k x ≡ suspects n t k x
     counted-row k x hx = others k (head + x) (omega arith) (omega arith)

@@ -17,9 +17,9 @@ use Rattle.lists.proofs.SumLaws.{sum_below-suc, sum_by, sum-add, sum-zero}
 use Rattle.detection.specs.Runs.{Taken}
 use Rattle.detection.specs.Rounds.{any_taken, all_taken, count_taken}
 
-pub one : (b : Bool) → bit b ≤ 1
-one true = omega arith
-one false = omega arith
+pub bit-most : (b : Bool) → bit b ≤ 1
+bit-most true = omega arith
+bit-most false = omega arith
 
 -- a sum of greater terms
 pub sum-most : (f g : ℕ → ℕ) (n : ℕ) → ((i : ℕ) → i < n → f i ≤ g i) → sum_below f n ≤ sum_below g n
@@ -95,4 +95,4 @@ two-hits q n two i =
     p = least other n 0
 
     most : (k : ℕ) → other k ≡ false → bit (q k) ≤ bit (eqb i k)
-    most k = by_bool (eqb i k) (λ e. rw e (λ _. one (q k))) (λ e. rw e (λ f. rw f (omega arith)))
+    most k = by_bool (eqb i k) (λ e. rw e (λ _. bit-most (q k))) (λ e. rw e (λ f. rw f (omega arith)))
