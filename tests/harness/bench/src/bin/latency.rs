@@ -20,7 +20,7 @@ use shared::random::Random;
 use shared::wiring::Wiring;
 use std::fmt::Write;
 use std::process::ExitCode;
-use std::{fs, io};
+use std::{fs, io, thread};
 use vcube::{Figures, MOST_RESULTS};
 
 const SEED: u64 = 1;
@@ -55,7 +55,7 @@ fn trials(n: usize) -> usize {
 /// The results of a size, by order.
 struct Results {
     n: usize,
-    by_order: [Summary; ORDERS.len()],
+    by_order: Vec<Summary>,
     /// On the ring, in the first order.
     on_ring: Summary,
 }
@@ -112,7 +112,7 @@ fn work(quick: bool) -> io::Result<()> {
         on_cube: run_all(Wiring::Cube)?,
         on_ring: run_all(Wiring::Ring)?,
     };
-    let results = SIZES.map(|n| try_size(n, quick));
+    let results = at_once(SIZES.to_vec(), |n| try_size(n, quick));
     let grants = try_grants(quick).map_err(io::Error::other)?;
     print!("{}", tables(&results, &slowest, &grants));
     match quick {
@@ -121,32 +121,47 @@ fn work(quick: bool) -> io::Result<()> {
     }
 }
 
+/// What is made of each item, all in threads of their own.
+fn at_once<T: Send, R: Send>(items: Vec<T>, make: impl Fn(T) -> R + Sync) -> Vec<R> {
+    let make = &make;
+    thread::scope(|scope| {
+        let start = |item| scope.spawn(move || make(item));
+        let threads: Vec<_> = items.into_iter().map(start).collect();
+        let made = threads.into_iter().map(|thread| thread.join());
+        made.map(|made| made.expect("no plant stops the program"))
+            .collect()
+    })
+}
+
 /// Counts grants on both wirings, or says which plant took more than is proved.
 fn try_grants(quick: bool) -> Result<Vec<Grants>, String> {
-    let mut all = Vec::new();
-    for wiring in Wiring::ALL {
-        for n in GRANT_SIZES {
-            let mut numbers = Random::new(SEED);
-            let trials = trials(n) / if quick { 20 } else { 2 };
-            let one = |_| grants::random(wiring, n, &mut numbers);
-            all.push(Grants {
-                wiring,
-                n,
-                random: (0..trials).map(one).collect::<Result<_, _>>()?,
-                searched: (n <= MOST_SEARCHED)
-                    .then(|| grants::search(wiring, n))
-                    .transpose()?,
-            });
-        }
-    }
-    Ok(all)
+    let on = |wiring| GRANT_SIZES.map(|n| (wiring, n));
+    let sizes = Wiring::ALL.map(on).concat();
+    let all = at_once(sizes, |(wiring, n)| try_crashes(wiring, n, quick));
+    all.into_iter().collect()
+}
+
+fn try_crashes(wiring: Wiring, n: usize, quick: bool) -> Result<Grants, String> {
+    let mut numbers = Random::new(SEED);
+    let trials = trials(n) / if quick { 20 } else { 2 };
+    let random = (0..trials).map(|_| grants::random(wiring, n, &mut numbers));
+    let search = || grants::search(wiring, n);
+    Ok(Grants {
+        wiring,
+        n,
+        random: random.collect::<Result<_, _>>()?,
+        searched: (n <= MOST_SEARCHED).then(search).transpose()?,
+    })
 }
 
 fn try_size(n: usize, quick: bool) -> Results {
     let trials = if quick { trials(n) / 20 } else { trials(n) };
+    let orders = at_once(ORDERS.to_vec(), |order| {
+        try_order(Wiring::Cube, n, order, trials)
+    });
     Results {
         n,
-        by_order: ORDERS.map(|order| try_order(Wiring::Cube, n, order, trials)),
+        by_order: orders,
         on_ring: try_order(Wiring::Ring, n, ORDERS[0], trials),
     }
 }
@@ -318,10 +333,11 @@ last number 255, and each further one with the last number that the one before g
 ",
     );
     for row in results {
-        let cells = row.by_order.map(|order| {
+        let cell = |order: &Summary| {
             let Figures { mean, greatest, .. } = order.figures;
             format!("{}, {greatest}", decimal(mean))
-        });
+        };
+        let cells: Vec<String> = row.by_order.iter().map(cell).collect();
         let _ = writeln!(text, "| {} | {} |", row.n, cells.join(" | "));
     }
     text
