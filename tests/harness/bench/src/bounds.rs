@@ -35,3 +35,33 @@ pub fn latency_on(wiring: Wiring, n: usize) -> u32 {
         Wiring::Ring => ring_latency(n),
     }
 }
+
+/// The most tests of a round, by who is live: on the ring n, on the cube one
+/// for each board and level at which its group has a live board.
+fn tests_of_a_round(wiring: Wiring, n: usize, live: &[usize]) -> usize {
+    let levels = |i: usize| {
+        let others = live.iter().filter(move |j| **j != i);
+        let at = move |level| others.clone().any(|j| (i ^ j).ilog2() == level);
+        (0..dimension(n)).filter(|level| at(*level)).count()
+    };
+    match wiring {
+        Wiring::Cube => (0..n).map(levels).sum(),
+        Wiring::Ring => n,
+    }
+}
+
+/// The most grants from a crash until the dead boards are known, by who is live
+/// after it: rule Turns from a crash.
+pub fn grants_from_crash(wiring: Wiring, n: usize, live: &[usize]) -> usize {
+    let round = tests_of_a_round(wiring, n, live) + live.len();
+    (latency_on(wiring, n) as usize + 1) * round
+}
+
+/// The same whichever board crashes where nobody is dead before.
+pub fn grants_from_first_crash(wiring: Wiring, n: usize) -> usize {
+    let without = |board| {
+        let live: Vec<usize> = (0..n).filter(|i| *i != board).collect();
+        grants_from_crash(wiring, n, &live)
+    };
+    (0..n).map(without).max().unwrap_or(0)
+}

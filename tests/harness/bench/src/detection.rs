@@ -29,9 +29,10 @@ pub enum Order {
 }
 
 /// A plant and its closed rounds.
+#[derive(Clone)]
 pub struct Plant {
-    wiring: Wiring,
-    n: usize,
+    pub wiring: Wiring,
+    pub n: usize,
     pub table: Vec<u8>,
     pub rounds: u32,
     /// The last granted board, which one drive hands on to the next.
@@ -91,6 +92,21 @@ impl Plant {
             plant.take([CRASH, *i as u8]);
         }
         plant
+    }
+
+    /// With this board as the last granted one.
+    pub fn after(mut self, last: Station) -> Plant {
+        self.last = Some(last);
+        self
+    }
+
+    /// Grants one turn, which is then carried out.
+    pub fn grant_turn(&mut self) {
+        let wiring = of_library(self.wiring);
+        let granted = vcube::grant(wiring, self.n, &self.table, self.last);
+        let granted = granted.expect("a board is live");
+        self.last = Some(granted);
+        self.take([TURN, granted.0 as u8]);
     }
 
     /// Carries out one entry. Gives whether it closed a round.

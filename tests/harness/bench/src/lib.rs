@@ -8,6 +8,7 @@ pub mod bounds;
 pub mod chart;
 pub mod contender;
 pub mod detection;
+pub mod grants;
 pub mod lamp_work;
 pub mod measure;
 pub mod mend_work;

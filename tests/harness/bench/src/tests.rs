@@ -3,6 +3,7 @@
 
 mod detection;
 mod drives;
+mod grants;
 mod lamps;
 mod mendings;
 mod saves;

@@ -1,14 +1,18 @@
 //! How many rounds close until the dead boards are known, beside the bounds:
 //! the worst-case latency, which is proved, and two greater ones. Random plants,
 //! with the library's figures over their rounds, and the slowest plants of
-//! samples/slowest.txt.
+//! samples/slowest.txt. How many grants pass from a crash until then, beside the
+//! bound that is proved.
 //!
 //! `latency` writes docs/latency.md and docs/latency.svg under the current
 //! folder, and prints the tables; `--quick` tries less, and only prints.
 
-use bench::bounds::{ring_latency, square_bound, triangle_bound, worst_latency};
+use bench::bounds::{
+    grants_from_first_crash, ring_latency, square_bound, triangle_bound, worst_latency,
+};
 use bench::chart::{self, Point};
 use bench::detection::{random_dead, rounds_until_known, Order};
+use bench::grants::{self, Taken};
 use bench::slowest::{self, Slowest};
 use bench::statistics::{decimal, Summary};
 use shared::groups::dimension;
@@ -16,7 +20,7 @@ use shared::random::Random;
 use shared::wiring::Wiring;
 use std::fmt::Write;
 use std::process::ExitCode;
-use std::{fs, io};
+use std::{fs, io, thread};
 use vcube::{Figures, MOST_RESULTS};
 
 const SEED: u64 = 1;
@@ -34,6 +38,11 @@ const ORDERS: [Order; 6] = [
     Order::Driven,
 ];
 
+/// The sizes at which grants are counted, and the greatest at which all crashes of
+/// a round are tried.
+const GRANT_SIZES: [usize; 6] = [4, 8, 11, 16, 32, 64];
+const MOST_SEARCHED: usize = 16;
+
 /// The trials of a size, at most as many as the library takes figures over; of
 /// the delaying order an eighth.
 fn trials(n: usize) -> usize {
@@ -46,7 +55,7 @@ fn trials(n: usize) -> usize {
 /// The results of a size, by order.
 struct Results {
     n: usize,
-    by_order: [Summary; ORDERS.len()],
+    by_order: Vec<Summary>,
     /// On the ring, in the first order.
     on_ring: Summary,
 }
@@ -55,6 +64,15 @@ impl Results {
     fn random(&self) -> &Summary {
         &self.by_order[0]
     }
+}
+
+/// What plants of a size took in grants from a crash.
+struct Grants {
+    wiring: Wiring,
+    n: usize,
+    random: Vec<Taken>,
+    /// Each crash of a round of a fresh plant, at the smaller sizes.
+    searched: Option<Vec<Taken>>,
 }
 
 /// The slowest plants of each wiring.
@@ -94,19 +112,56 @@ fn work(quick: bool) -> io::Result<()> {
         on_cube: run_all(Wiring::Cube)?,
         on_ring: run_all(Wiring::Ring)?,
     };
-    let results = SIZES.map(|n| try_size(n, quick));
-    print!("{}", tables(&results, &slowest));
+    let results = at_once(SIZES.to_vec(), |n| try_size(n, quick));
+    let grants = try_grants(quick).map_err(io::Error::other)?;
+    print!("{}", tables(&results, &slowest, &grants));
     match quick {
         true => Ok(()),
-        false => write_files(&results, &slowest),
+        false => write_files(&results, &slowest, &grants),
     }
+}
+
+/// What is made of each item, all in threads of their own.
+fn at_once<T: Send, R: Send>(items: Vec<T>, make: impl Fn(T) -> R + Sync) -> Vec<R> {
+    let make = &make;
+    thread::scope(|scope| {
+        let start = |item| scope.spawn(move || make(item));
+        let threads: Vec<_> = items.into_iter().map(start).collect();
+        let made = threads.into_iter().map(|thread| thread.join());
+        made.map(|made| made.expect("no plant stops the program"))
+            .collect()
+    })
+}
+
+/// Counts grants on both wirings, or says which plant took more than is proved.
+fn try_grants(quick: bool) -> Result<Vec<Grants>, String> {
+    let on = |wiring| GRANT_SIZES.map(|n| (wiring, n));
+    let sizes = Wiring::ALL.map(on).concat();
+    let all = at_once(sizes, |(wiring, n)| try_crashes(wiring, n, quick));
+    all.into_iter().collect()
+}
+
+fn try_crashes(wiring: Wiring, n: usize, quick: bool) -> Result<Grants, String> {
+    let mut numbers = Random::new(SEED);
+    let trials = trials(n) / if quick { 20 } else { 2 };
+    let random = (0..trials).map(|_| grants::random(wiring, n, &mut numbers));
+    let search = || grants::search(wiring, n);
+    Ok(Grants {
+        wiring,
+        n,
+        random: random.collect::<Result<_, _>>()?,
+        searched: (n <= MOST_SEARCHED).then(search).transpose()?,
+    })
 }
 
 fn try_size(n: usize, quick: bool) -> Results {
     let trials = if quick { trials(n) / 20 } else { trials(n) };
+    let orders = at_once(ORDERS.to_vec(), |order| {
+        try_order(Wiring::Cube, n, order, trials)
+    });
     Results {
         n,
-        by_order: ORDERS.map(|order| try_order(Wiring::Cube, n, order, trials)),
+        by_order: orders,
         on_ring: try_order(Wiring::Ring, n, ORDERS[0], trials),
     }
 }
@@ -127,10 +182,10 @@ fn try_order(wiring: Wiring, n: usize, order: Order, trials: usize) -> Summary {
     Summary::of((0..trials).map(|_| one()).collect())
 }
 
-fn write_files(results: &[Results], slowest: &AllSlowest) -> io::Result<()> {
+fn write_files(results: &[Results], slowest: &AllSlowest, grants: &[Grants]) -> io::Result<()> {
     let points: Vec<Point> = results.iter().map(|row| point(row, slowest)).collect();
     fs::create_dir_all("docs")?;
-    fs::write("docs/latency.md", document(results, slowest))?;
+    fs::write("docs/latency.md", document(results, slowest, grants))?;
     fs::write("docs/latency.svg", chart::draw(&points))
 }
 
@@ -148,7 +203,7 @@ fn point(results: &Results, slowest: &AllSlowest) -> Point {
     }
 }
 
-fn document(results: &[Results], slowest: &AllSlowest) -> String {
+fn document(results: &[Results], slowest: &AllSlowest, grants: &[Grants]) -> String {
     format!(
         "# How many rounds pass until the dead boards are known
 
@@ -160,16 +215,17 @@ and with the first one at whose end every live board suspects exactly the dead o
 ![Closed rounds until the dead boards are known](latency.svg)
 
 {}",
-        tables(results, slowest)
+        tables(results, slowest, grants)
     )
 }
 
-fn tables(results: &[Results], slowest: &AllSlowest) -> String {
+fn tables(results: &[Results], slowest: &AllSlowest, grants: &[Grants]) -> String {
     let tables = [
         main_table(results),
         slowest_table(&slowest.on_cube),
         order_table(results),
         ring_table(results, slowest),
+        grants_table(grants),
     ];
     tables.join("\n")
 }
@@ -277,10 +333,11 @@ last number 255, and each further one with the last number that the one before g
 ",
     );
     for row in results {
-        let cells = row.by_order.map(|order| {
+        let cell = |order: &Summary| {
             let Figures { mean, greatest, .. } = order.figures;
             format!("{}, {greatest}", decimal(mean))
-        });
+        };
+        let cells: Vec<String> = row.by_order.iter().map(cell).collect();
         let _ = writeln!(text, "| {} | {} |", row.n, cells.join(" | "));
     }
     text
@@ -314,4 +371,37 @@ fn wiring_cells(summary: &Summary, slowest: Option<u32>) -> String {
     let Figures { mean, greatest, .. } = summary.figures;
     let slowest = slowest.map_or(String::from("–"), |rounds| rounds.to_string());
     format!("{}, {greatest} | {slowest}", decimal(mean))
+}
+
+const GRANTS_TEXT: &str = "## In grants
+
+The grants from the death of a board until every live board suspects exactly the dead ones, beside the most that is proved (rule Turns from a
+crash, [RULES](RULES.md#what-is-claimed)): one round more than the worst-case latency, each with the tests of the live boards and one turn
+more for each of them. Every turn is granted by the library (`vcube_grant`). A plant that took more than is proved stops the program.
+
+All crashes: in the first round of a fresh plant each board dies at each moment, with each number as the last granted one. Random plants:
+any last granted number, in half of them boards dead from the start, whole rounds up to the worst-case latency, then fewer grants than a round
+can have, then one more board dies. The nearest is the plant that came nearest to its own bound, which is smaller the more boards are dead.
+
+| wiring | n | all crashes | their greatest | proved, nobody dead before | random plants | their greatest | the nearest, and its bound |
+|---|--:|--:|--:|--:|--:|--:|--:|
+";
+
+fn grants_table(grants: &[Grants]) -> String {
+    let mut text = String::from(GRANTS_TEXT);
+    for row in grants {
+        let (wiring, n) = (row.wiring.text(), row.n);
+        let searched = row.searched.as_ref().map_or(String::from("– | –"), |all| {
+            format!("{} | {}", all.len(), grants::greatest(all).grants)
+        });
+        let proved = grants_from_first_crash(row.wiring, n);
+        let (trials, greatest) = (row.random.len(), grants::greatest(&row.random).grants);
+        let Taken { grants, bound } = grants::nearest(&row.random);
+        let random = format!("{trials} | {greatest} | {grants} of {bound}");
+        let _ = writeln!(
+            text,
+            "| {wiring} | {n} | {searched} | {proved} | {random} |"
+        );
+    }
+    text
 }
