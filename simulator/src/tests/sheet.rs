@@ -261,7 +261,7 @@ fn fewer_than_two_live() {
         wrong(&arguments, line);
         wrong(&arguments[..n], line);
         let text = printed(&arguments[..n - 1]);
-        assert_eq!(text.lines().count(), 3 + 2 + 2 + 2);
+        assert_eq!(text.lines().count(), 4 + 2 + 2 + 2);
     }
 }
 

@@ -1,10 +1,14 @@
 //! A printed sheet, taken apart and written again.
 
 const WHOM: &str = "whom it tests, in order";
+const KNOWN: &str = "One more dead board is known everywhere after at most ";
 
 pub struct Sheet {
     pub n: usize,
     pub dead: Vec<usize>,
+    /// The rounds and the grants until one more is known everywhere.
+    pub rounds: usize,
+    pub grants: usize,
     /// One for each live board.
     pub lines: Vec<Line>,
 }
@@ -29,6 +33,9 @@ impl Sheet {
         let [top, first, second] = parts[..] else {
             return None;
         };
+        let (top, known) = top.split_once('\n')?;
+        let known = known.strip_prefix(KNOWN)?.strip_suffix(" grants")?;
+        let (rounds, grants) = known.split_once(" rounds, ")?;
         let (n, dead) = top.split_once(" boards, dead: ")?;
         let dead = match dead {
             "none" => Vec::new(),
@@ -38,6 +45,8 @@ impl Sheet {
         Some(Sheet {
             n: n.parse().ok()?,
             dead,
+            rounds: rounds.parse().ok()?,
+            grants: grants.parse().ok()?,
             lines: lines
                 .map(|(first, second)| Line::read(first, second))
                 .collect::<Option<_>>()?,
@@ -56,7 +65,9 @@ impl Sheet {
             [] => String::from("none"),
             _ => list(&self.dead),
         };
-        let mut text = format!("{} boards, dead: {dead}\n\nboard  ", self.n);
+        let (rounds, grants) = (self.rounds, self.grants);
+        let mut text = format!("{} boards, dead: {dead}\n", self.n);
+        text += &format!("{KNOWN}{rounds} rounds, {grants} grants\n\nboard  ");
         text += &format!("{WHOM:<width$}  tests a round  most with one more dead\n");
         for line in &self.lines {
             text += &line.write_tests(width);

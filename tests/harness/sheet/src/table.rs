@@ -2,8 +2,9 @@
 
 use crate::fault::Fault;
 
-/// The size, the most tests with nobody dead, the most with one dead.
-type Cell = [usize; 3];
+/// The size, the most tests with nobody dead, the most with one dead, and the
+/// rounds and grants until that one is known everywhere.
+type Cell = [usize; 5];
 
 /// The table as a program with the fault prints it; if the text is no such table,
 /// it is left as it is.
@@ -13,7 +14,7 @@ pub fn alter(fault: Fault, text: String) -> String {
     };
     match fault {
         Fault::OneDeadAsNobody => {
-            for [_, nobody, one] in &mut cells {
+            for [_, nobody, one, ..] in &mut cells {
                 *one = *nobody;
             }
         }
@@ -35,7 +36,7 @@ fn read(text: &str) -> Option<(String, Vec<Cell>)> {
     for line in lines {
         let words = line.strip_prefix("| ")?.strip_suffix(" |")?.split(" | ");
         let numbers: Option<Vec<usize>> = words.map(|word| word.parse().ok()).collect();
-        for cell in numbers?.chunks(3) {
+        for cell in numbers?.chunks(5) {
             cells.push(Cell::try_from(cell).ok()?);
         }
     }
