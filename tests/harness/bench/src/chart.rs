@@ -212,7 +212,13 @@ fn white(x: f64, y: f64, width: f64, height: f64) -> String {
     )
 }
 
-fn line(from: (f64, f64), to: (f64, f64), colour: &str, width: f64, dashes: &str) -> String {
+pub(crate) fn line(
+    from: (f64, f64),
+    to: (f64, f64),
+    colour: &str,
+    width: f64,
+    dashes: &str,
+) -> String {
     let ((x1, y1), (x2, y2)) = (from, to);
     let dashes = match dashes {
         "" => String::new(),
@@ -223,7 +229,7 @@ fn line(from: (f64, f64), to: (f64, f64), colour: &str, width: f64, dashes: &str
     )
 }
 
-fn label(x: f64, y: f64, anchor: &str, text: &str) -> String {
+pub(crate) fn label(x: f64, y: f64, anchor: &str, text: &str) -> String {
     format!("<text x=\"{x:.1}\" y=\"{y:.1}\" text-anchor=\"{anchor}\">{text}</text>\n")
 }
 

@@ -9,6 +9,7 @@ pub mod chart;
 pub mod contender;
 pub mod detection;
 pub mod grants;
+pub mod grants_chart;
 pub mod lamp_work;
 pub mod measure;
 pub mod mend_work;

@@ -13,6 +13,7 @@ use bench::bounds::{
 use bench::chart::{self, Point};
 use bench::detection::{random_dead, rounds_until_known, Order};
 use bench::grants::{self, Taken};
+use bench::grants_chart::{self, Row};
 use bench::slowest::{self, Slowest};
 use bench::statistics::{decimal, Summary};
 use shared::groups::dimension;
@@ -73,6 +74,17 @@ struct Grants {
     random: Vec<Taken>,
     /// Each crash of a round of a fresh plant, at the smaller sizes.
     searched: Option<Vec<Taken>>,
+}
+
+impl Grants {
+    fn row(&self) -> Row {
+        let searched = self.searched.as_ref();
+        Row {
+            name: format!("{} {}", self.wiring.text(), self.n),
+            searched: searched.map(|all| grants::nearest(all)),
+            random: grants::nearest(&self.random),
+        }
+    }
 }
 
 /// The slowest plants of each wiring.
@@ -186,7 +198,9 @@ fn write_files(results: &[Results], slowest: &AllSlowest, grants: &[Grants]) -> 
     let points: Vec<Point> = results.iter().map(|row| point(row, slowest)).collect();
     fs::create_dir_all("docs")?;
     fs::write("docs/latency.md", document(results, slowest, grants))?;
-    fs::write("docs/latency.svg", chart::draw(&points))
+    fs::write("docs/latency.svg", chart::draw(&points))?;
+    let rows: Vec<Row> = grants.iter().map(Grants::row).collect();
+    fs::write("docs/latency-grants.svg", grants_chart::draw(&rows))
 }
 
 fn point(results: &Results, slowest: &AllSlowest) -> Point {
@@ -382,6 +396,8 @@ more for each of them. Every turn is granted by the library (`vcube_grant`). A p
 All crashes: in the first round of a fresh plant each board dies at each moment, with each number as the last granted one. Random plants:
 any last granted number, in half of them boards dead from the start, whole rounds up to the worst-case latency, then fewer grants than a round
 can have, then one more board dies. The nearest is the plant that came nearest to its own bound, which is smaller the more boards are dead.
+
+![Grants until one more dead board is known](latency-grants.svg)
 
 | wiring | n | all crashes | their greatest | proved, nobody dead before | random plants | their greatest | the nearest, and its bound |
 |---|--:|--:|--:|--:|--:|--:|--:|

@@ -3,6 +3,7 @@
 use crate::bounds::{grants_from_crash, grants_from_first_crash};
 use crate::detection::Plant;
 use crate::grants::{crash, greatest, nearest, random, search, until_known, Taken};
+use crate::grants_chart::{self, Row};
 use shared::random::Random;
 use shared::schedule::CRASH;
 use shared::wiring::Wiring;
@@ -81,4 +82,20 @@ fn greatest_and_nearest() {
 fn a_crash_says_its_bound() {
     let taken = crash(Plant::fresh(Wiring::Cube, 4), 3).expect("within the bound");
     assert_eq!(taken.bound, 30);
+}
+
+/// A row has its name, and each plant its bar with its numbers.
+#[test]
+fn chart_of_a_row() {
+    let taken = |grants| Taken { grants, bound: 40 };
+    let name = String::from("ring 8");
+    let (searched, random) = (Some(taken(10)), taken(24));
+    let drawn = grants_chart::draw(&[Row {
+        name,
+        searched,
+        random,
+    }]);
+    for words in ["ring 8", "10 of 40", "24 of 40", "100 %"] {
+        assert!(drawn.contains(words), "{words}");
+    }
 }
