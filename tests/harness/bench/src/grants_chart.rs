@@ -57,8 +57,8 @@ fn frame(height: f64) -> String {
     );
     let words = [
         (SEARCHED, LEFT, "all crashes in a round of a fresh plant"),
-        (RANDOM, x(0.42), "the nearest random plant"),
-        (PROVED, x(0.74), "proved"),
+        (RANDOM, x(0.46), "the nearest random plant"),
+        (PROVED, x(0.78), "proved"),
     ];
     for (colour, left, words) in words {
         text += &block(left, 46.0, 22.0, colour);
