@@ -21,12 +21,12 @@ use Rattle.table.specs.Fresh.{fresh_table, fresh_after}
 use Rattle.plant.specs.declared.Ran.{Ran as RanPlant}
 use Rattle.plant.specs.Entry.{State, state_of}
 use Rattle.plant.specs.Run.{RunResult, outcome_with, start_check, run}
-use Rattle.watch.specs.declared.input.Parsed.{Parsed}
-use Rattle.watch.specs.declared.input.Unread.{Unread}
-use Rattle.watch.specs.Input.{Reading, lines, room_for, read_input, read_into}
-use Rattle.watch.specs.Fault.{fault_in, parsed_of}
+use Rattle.input.specs.declared.reading.Parsed.{Parsed}
+use Rattle.input.specs.declared.reading.Unread.{Unread}
+use Rattle.input.specs.Input.{Reading, lines, room_for, read_input, read_into}
+use Rattle.input.specs.Fault.{fault_in, parsed_of}
 use Rattle.watch.specs.Watched.{Answer, said, says_run, said_with, watched_with, run_answer, carried_out, watched}
-use Rattle.watch.proofs.ReadLaws.{read_fits}
+use Rattle.input.proofs.ReadLaws.{read_fits}
 
 -- the number of a wiring is not refused
 number-taken : (wiring : Wiring) → wiring_check (wiring_number wiring) ≡ Ok tt

@@ -1,0 +1,6 @@
+-- The laws that the proofs of `input` share.
+pub mod LineLaws
+pub mod NumberLaws
+pub mod PartLaws
+pub mod ReadLaws
+pub mod FaultLaws
