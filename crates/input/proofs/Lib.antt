@@ -4,3 +4,4 @@ pub mod NumberLaws
 pub mod PartLaws
 pub mod ReadLaws
 pub mod FaultLaws
+pub mod DigitLaws

@@ -11,21 +11,31 @@ use Rattle.input.specs.declared.reading.Unread.{Unread}
 abbrev pub two_digits : ℕ → List ℕ
 two_digits byte = padded_integral (format_spec 32 0 4 2 (2 ^ 64 - 1)) false [] (digits 16 false byte)
 
--- what is found at the first wrong place
+-- what is found at the first wrong place, up to the byte that is named
+abbrev pub found_front : Found → List ℕ
+found_front Found.NoInput = codes "an empty input"
+found_front Found.NoLine = codes "an empty line"
+found_front Found.LineEnd = codes "the end of the line"
+found_front Found.Tab = codes "a tab"
+found_front Found.CarriageReturn = codes "a carriage return"
+found_front Found.ByteOrderMark = codes "a byte order mark"
+found_front Found.Space = codes "a space"
+found_front Found.Digit = codes "a digit"
+found_front Found.DigitTooMany = codes "a digit too many"
+found_front Found.LowerCaseLetter = codes "a lower case letter"
+found_front (Found.Character byte) = codes "the character "
+found_front (Found.Byte byte) = codes "the byte "
+found_front Found.EntryTooMany = codes "a 4,097th entry"
+
+-- the byte that is named: of a character, and of a byte that is not printed
+abbrev pub found_named : Found → List ℕ
+found_named (Found.Character byte) = encode_utf8 byte
+found_named (Found.Byte byte) = two_digits byte ++ codes " (hexadecimal)"
+found_named _ = []
+
+-- both
 abbrev pub found_words : Found → List ℕ
-found_words Found.NoInput = codes "an empty input"
-found_words Found.NoLine = codes "an empty line"
-found_words Found.LineEnd = codes "the end of the line"
-found_words Found.Tab = codes "a tab"
-found_words Found.CarriageReturn = codes "a carriage return"
-found_words Found.ByteOrderMark = codes "a byte order mark"
-found_words Found.Space = codes "a space"
-found_words Found.Digit = codes "a digit"
-found_words Found.DigitTooMany = codes "a digit too many"
-found_words Found.LowerCaseLetter = codes "a lower case letter"
-found_words (Found.Character byte) = codes "the character " ++ encode_utf8 byte
-found_words (Found.Byte byte) = codes "the byte " ++ (two_digits byte ++ codes " (hexadecimal)")
-found_words Found.EntryTooMany = codes "a 4,097th entry"
+found_words found = found_front found ++ found_named found
 
 -- what is expected there
 abbrev pub expected_words : Expected → List ℕ

@@ -1,8 +1,11 @@
 // What is wrong in a line that cannot be read: what is found at its first wrong place, and what is expected there.
-ghost use Rattle.std.specs.Prelude.{◌≡◌};
+ghost use Rattle.std.specs.Prelude.{◌≡◌, ◌<◌, false};
+ghost use Rattle.std.specs.Fmt.{digit_glyph};
+ghost use Rattle.input.specs.Words.{two_digits};
 ghost use Rattle.input.specs.Fault.{found_byte, found_at, digits_fault, size_fault, behind_letter, entry_fault};
 
 use crate::reading;
+use lists::bytes;
 use std::fmt;
 
 // What is found at the first wrong place.
@@ -49,21 +52,97 @@ impl fmt::Display for Found {
     ghost output = { λ found. Some (found_words found) };
 
     fn fmt<W: fmt::Write>(&self, f: &mut fmt::Formatter<W>) -> fmt::Result {
+        f.write_str(self.front())?;
         match *self {
-            Found::NoInput => f.write_str("an empty input"),
-            Found::NoLine => f.write_str("an empty line"),
-            Found::LineEnd => f.write_str("the end of the line"),
-            Found::Tab => f.write_str("a tab"),
-            Found::CarriageReturn => f.write_str("a carriage return"),
-            Found::ByteOrderMark => f.write_str("a byte order mark"),
-            Found::Space => f.write_str("a space"),
-            Found::Digit => f.write_str("a digit"),
-            Found::DigitTooMany => f.write_str("a digit too many"),
-            Found::LowerCaseLetter => f.write_str("a lower case letter"),
-            Found::Character(byte) => write!(f, "the character {}", char::from(byte)),
-            Found::Byte(byte) => write!(f, "the byte {byte:02x} (hexadecimal)"),
-            Found::EntryTooMany => f.write_str("a 4,097th entry"),
+            Found::Character(byte) => write!(f, "{}", char::from(byte)),
+            Found::Byte(byte) => write!(f, "{byte:02x} (hexadecimal)"),
+            _ => Ok(()),
         }
+    }
+}
+
+impl Found {
+    ghost use Rattle.std.specs.Prelude.{◌≡◌, ◌≤◌, length};
+    ghost use Rattle.std.proofs.lemmas.List.Edits.{sets};
+    ghost use Rattle.input.specs.Words.{found_front, found_named, found_words};
+
+    // What it says to people, up to the byte that it names.
+    fn front(self) -> &'static str
+        ensures text { result.now ≡ found_front self }
+        ensures few { length result.now ≤ 32 }
+    {
+        match self {
+            Found::NoInput => "an empty input",
+            Found::NoLine => "an empty line",
+            Found::LineEnd => "the end of the line",
+            Found::Tab => "a tab",
+            Found::CarriageReturn => "a carriage return",
+            Found::ByteOrderMark => "a byte order mark",
+            Found::Space => "a space",
+            Found::Digit => "a digit",
+            Found::DigitTooMany => "a digit too many",
+            Found::LowerCaseLetter => "a lower case letter",
+            Found::Character(_) => "the character ",
+            Found::Byte(_) => "the byte ",
+            Found::EntryTooMany => "a 4,097th entry",
+        }
+    }
+
+    // Writes its words from the front of a buffer; answers how many bytes they are.
+    fn write_words(self, buffer: &mut [u8]) -> usize
+        ensures written { buffer.new ≡ sets buffer.old 0 (found_words self) }
+        ensures count { result ≡ length (found_words self) }
+        ensures few { result ≤ 64 }
+    {
+        let front = self.front().as_bytes();
+        bytes::write_at(buffer, 0, front);
+        front.len() + self.write_named(buffer, front.len())
+    }
+
+    // Writes the byte that it names, from a place on; answers how many bytes that takes.
+    fn write_named(self, buffer: &mut [u8], at: usize) -> usize
+        requires { at ≤ 32 }
+        ensures written { buffer.new ≡ sets buffer.old at (found_named self) }
+        ensures count { result ≡ length (found_named self) }
+        ensures few { result ≤ 32 }
+    {
+        match self {
+            Found::Character(byte) => {
+                let mut utf8 = [0; 4];
+                let text = char::from(byte).encode_utf8(&mut utf8).as_bytes();
+                bytes::write_at(buffer, at, text);
+                text.len()
+            }
+            Found::Byte(byte) => {
+                bytes::write_at(buffer, at, &two_digits(byte));
+                bytes::write_at(buffer, at + 2, HEXADECIMAL.as_bytes());
+                2 + HEXADECIMAL.len()
+            }
+            _ => 0,
+        }
+    }
+}
+
+// What is said behind a byte in two digits.
+const HEXADECIMAL: &str = " (hexadecimal)";
+
+// A byte in two hexadecimal digits.
+#[tactic(auto, using(crate::proofs::DigitLaws::two-glyphs))]
+fn two_digits(byte: u8) -> [u8; 2]
+    ensures { result ≡ two_digits byte }
+{
+    [digit(byte / 16), digit(byte % 16)]
+}
+
+// A hexadecimal digit.
+fn digit(value: u8) -> u8
+    requires { value < 16 }
+    ensures { result ≡ digit_glyph false value }
+{
+    if value < 10 {
+        b'0' + value
+    } else {
+        b'a' + (value - 10)
     }
 }
 
@@ -74,7 +153,20 @@ impl fmt::Display for Expected {
     ghost output = { λ expected. Some (expected_words expected) };
 
     fn fmt<W: fmt::Write>(&self, f: &mut fmt::Formatter<W>) -> fmt::Result {
-        f.write_str(match self {
+        f.write_str(self.words())
+    }
+}
+
+impl Expected {
+    ghost use Rattle.std.specs.Prelude.{◌≡◌, ◌≤◌, length};
+    ghost use Rattle.input.specs.Words.{expected_words};
+
+    // What it says to people.
+    fn words(self) -> &'static str
+        ensures text { result.now ≡ expected_words self }
+        ensures few { length result.now ≤ 64 }
+    {
+        match self {
             Expected::Size => "the size (one to three digits)",
             Expected::Entry => "an entry (T, L or C, a space, one or two digits)",
             Expected::Letter => "T, L or C",
@@ -82,7 +174,7 @@ impl fmt::Display for Expected {
             Expected::Digit => "a digit",
             Expected::LineEnd => "the end of the line",
             Expected::InputEnd => "the end of the input (4,096 entries at most)",
-        })
+        }
     }
 }
 
@@ -93,7 +185,29 @@ impl fmt::Display for Fault {
     ghost output = { λ fault. Some (fault_words fault) };
 
     fn fmt<W: fmt::Write>(&self, f: &mut fmt::Formatter<W>) -> fmt::Result {
-        write!(f, "{} where {} is expected", self.found, self.expected)
+        write!(f, "{}{WHERE}{}{IS_EXPECTED}", self.found, self.expected)
+    }
+}
+
+// What is said between and behind both.
+const WHERE: &str = " where ";
+const IS_EXPECTED: &str = " is expected";
+
+impl Fault {
+    ghost use Rattle.std.specs.Prelude.{◌≡◌};
+    ghost use Rattle.std.proofs.lemmas.List.Edits.{sets};
+    ghost use Rattle.input.specs.Words.{fault_words};
+
+    // Writes its words from the front of a buffer; past its end nothing is written.
+    pub fn write_words(self, buffer: &mut [u8])
+        ensures { buffer.new ≡ sets buffer.old 0 (fault_words self) }
+    {
+        let found = self.found.write_words(buffer);
+        let expected = self.expected.words().as_bytes();
+        let behind = found + WHERE.len();
+        bytes::write_at(buffer, found, WHERE.as_bytes());
+        bytes::write_at(buffer, behind, expected);
+        bytes::write_at(buffer, behind + expected.len(), IS_EXPECTED.as_bytes());
     }
 }
 

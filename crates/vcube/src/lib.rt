@@ -25,14 +25,20 @@ ghost use Rattle.saved.specs.Convert.{convert_refusal, convert_after, converted_
 ghost use Rattle.figures.specs.Batch.{figures};
 ghost use Rattle.figures.specs.Totals.{totals, join, figures_of_totals};
 ghost use Rattle.vcube.specs.Exports.{IsRowAt, outcome_out, drive_out, pair_out, pair_of, tally_of, loaded_out, filled, figures_members};
+ghost use Rattle.slots.specs.Board.{slot_answer};
+ghost use Rattle.vcube.specs.Exports.{slot_out, slot_figures, words_check, words_after, words_of_refusal, words_of_status, words_of_outcome};
 ghost use Rattle.vcube.specs.Exports.{totals_members, totals_with, figures_out, totals_out};
 
 use figures::{Figures, Totals, adding, batch};
 use granter::grant;
-use lists::refusal::{number_of, parts};
+use lists::bytes;
+use lists::refusal::{Refusal, number_of, parts};
 use plant::Tally;
+use plant::outcome::Outcome;
 use saved::{Loaded, convert, load, save};
+use slots::board::{self, Slot};
 use station::{due, groups, rows};
+use table::status::Status;
 use table::{Level, Station, cells, fresh};
 
 // Stands for the two stations of a pair where the doubt lamp has none.
@@ -378,6 +384,80 @@ pub extern "C" fn vcube_figures_of_totals(kept: &[u64; 5], answer: &mut [u64; 7]
     let (number, figures) = parts(of_kept, Figures::default());
     *answer = figures_members(figures);
     number
+}
+
+// Slot: how many tests a live station makes a round by its row, into tests, and the most that one more dead station can make of them, by which its
+// slot is timed, into most; both 0 where it is refused.
+#[tactic(auto, using(crate::proofs::Narrow::slot_narrow))]
+#[unsafe(no_mangle)]
+pub extern "C" fn vcube_slot(
+    n: usize,
+    table: &[u8],
+    station: usize,
+    tests: &mut usize,
+    most: &mut usize,
+) -> u8
+    ensures number { result ≡ number_of_result (slot_answer n table.now station) }
+    ensures slot_after { slot_out tests.new most.new ≡ slot_figures n table.now station }
+{
+    let answer = board::slot_of(n, table, Station(byte_of(station)));
+    let (number, slot) = parts(answer, Slot::default());
+    *tests = usize::from(slot.tests);
+    *most = usize::from(slot.most);
+    number
+}
+
+// Words of the refusal with a number: what it says to people, and zeros behind it.
+#[unsafe(no_mangle)]
+pub extern "C" fn vcube_refusal_words(refusal: usize, words: &mut [u8]) -> u8
+    ensures number { result ≡ number_of_result (words_check (length words.old)) }
+    ensures words_after { words.new ≡ words_after (words_of_refusal refusal) words.old }
+{
+    match Refusal::with_number(refusal) {
+        Some(refusal) => write_words(refusal.words(), words),
+        None => write_words("", words),
+    }
+}
+
+// Words of the status with a number.
+#[tactic(auto, using(crate::proofs::Narrow::status_narrow))]
+#[unsafe(no_mangle)]
+pub extern "C" fn vcube_status_words(status: usize, words: &mut [u8]) -> u8
+    ensures number { result ≡ number_of_result (words_check (length words.old)) }
+    ensures words_after { words.new ≡ words_after (words_of_status status) words.old }
+{
+    match Status::try_from(byte_of(status)) {
+        Ok(status) => write_words(status.words(), words),
+        Err(_) => write_words("", words),
+    }
+}
+
+// Words of the outcome with a number.
+#[unsafe(no_mangle)]
+pub extern "C" fn vcube_outcome_words(outcome: usize, words: &mut [u8]) -> u8
+    ensures number { result ≡ number_of_result (words_check (length words.old)) }
+    ensures words_after { words.new ≡ words_after (words_of_outcome outcome) words.old }
+{
+    match Outcome::with_number(outcome, Station(0)) {
+        Some(outcome) => write_words(outcome.words(), words),
+        None => write_words("", words),
+    }
+}
+
+// How many bytes a buffer for words has.
+const WORDS_LENGTH: usize = 128;
+
+// Writes words into a lent buffer, and zeros behind them.
+fn write_words(text: &str, words: &mut [u8]) -> u8
+    ensures number { result ≡ number_of_result (words_check (length words.old)) }
+    ensures words_after { words.new ≡ words_after text.now words.old }
+{
+    if words.len() != WORDS_LENGTH {
+        return Refusal::ListLength.number();
+    }
+    words.fill(0);
+    bytes::write_at(words, 0, text.as_bytes());
+    0
 }
 
 // The members of a struct of figures, in their order. No `From`, here and in the next two: the order of the members is the C header's, and neither
