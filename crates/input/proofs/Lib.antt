@@ -5,3 +5,4 @@ pub mod PartLaws
 pub mod ReadLaws
 pub mod FaultLaws
 pub mod DigitLaws
+pub mod AnswerLaws

@@ -127,7 +127,7 @@ impl Found {
 const HEXADECIMAL: &str = " (hexadecimal)";
 
 // A byte in two hexadecimal digits.
-#[tactic(auto, using(crate::proofs::DigitLaws::two-glyphs))]
+#[tactic(auto, using(crate::proofs::DigitLaws::two_glyphs))]
 fn two_digits(byte: u8) -> [u8; 2]
     ensures { result ≡ two_digits byte }
 {

@@ -1,6 +1,6 @@
 -- Laws of a list written into another from a place on, which is the kit's `sets`: past the end nothing is written.
 -- Assumes nothing.
-use mathlib.Core.Path.{◌≡◌, refl, ◌∙◌}
+use mathlib.Core.Path.{◌≡◌, refl, sym, ◌∙◌}
 use mathlib.Core.List.{List, [], ◌∷◌, ◌++◌, append-nil, append_assoc}
 use native.Mathlib.Decide.{dec_lt}
 use Prim.Native.Nat.{ℕ, zero, suc, ◌+◌, ◌-◌, ◌≤◌, ◌<◌, min}
@@ -64,3 +64,10 @@ sets-within l xs a k h e =
     cut : Dec (length xs < length l - a) → sets l a xs ≡ sets l a (take k xs)
     cut (yes g) = rw (take_all k xs (omega arith)) refl
     cut (no g) = sets-fitting l xs a k (omega arith)
+
+-- four texts, one behind the other
+pub sets-four : (l a b d e : List ℕ)
+    → sets (sets (sets (sets l 0 a) (length a) b) (length a + length b) d) (length a + length b + length d) e ≡ sets l 0 (a ++ (b ++ (d ++ e)))
+sets-four l a b d e =
+    let first : sets l 0 (a ++ (b ++ (d ++ e))) ≡ sets (sets l 0 a) (length a) (b ++ (d ++ e)) = rw zero-add at (sets-behind l a (b ++ (d ++ e)) 0) in
+    sym (first ∙ sets-behind (sets l 0 a) b (d ++ e) (length a) ∙ sets-behind (sets (sets l 0 a) (length a) b) d e (length a + length b))
