@@ -26,7 +26,10 @@ fn an_input_is_read_up_to_the_first_unreadable_line() {
 
     let unread = read_input(b"8\nT 5\nC\t1\n", &mut schedule).expect_err("a tab");
     assert_eq!(unread.before, Input { n: 8, entries: 1 });
-    assert_eq!(unread.to_string(), "unread 3: a tab where a space is expected");
+    assert_eq!(
+        unread.to_string(),
+        "unread 3: a tab where a space is expected"
+    );
 }
 
 #[test]
