@@ -9,7 +9,6 @@ use Prim.Native.Nat.{ℕ}
 use native.Mathlib.Omega.{arith}
 use borrow.Author.Tests.{eqb-true}
 use lib.ListN.{length}
-use Rattle.input.specs.declared.fault.Fault.{Fault}
 use Rattle.input.specs.declared.reading.Parsed.{Parsed}
 use Rattle.input.specs.declared.reading.Unread.{Unread}
 use Rattle.input.specs.Input.{Reading, lines, room_for, read_input, read_into}

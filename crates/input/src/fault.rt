@@ -191,6 +191,7 @@ impl fmt::Display for Fault {
 
 // What is said between and behind both.
 const WHERE: &str = " where ";
+
 const IS_EXPECTED: &str = " is expected";
 
 impl Fault {

@@ -8,8 +8,8 @@ use lib.ListN.{length}
 use lib.Seq.{sets}
 use Rattle.input.specs.declared.reading.Parsed.{Parsed}
 use Rattle.input.specs.declared.reading.Unread.{Unread}
-use Rattle.input.specs.Input.{Reading, lines, read_input, read_into}
-use Rattle.input.specs.Fault.{fault_in, parsed_of}
+use Rattle.input.specs.Input.{read_input, read_into}
+use Rattle.input.specs.Fault.{parsed_of}
 use Rattle.input.specs.Words.{fault_words}
 use Rattle.input.proofs.AnswerLaws.{answer-ok, answer-err, read-whole}
 use Rattle.vcube.specs.Exports.{input_out, unread_words}

@@ -118,7 +118,7 @@ slot_narrow n t x b e = narrow (λ x. slot_answer n t x) (row_refused wiring_cub
     far : (x : ℕ) → 255 ≤ x → slot_answer n t x ≡ (row_refused wiring_cube n t and Err NoSuchStation)
     far x h =
         let same : slot_check n t x ≡ row_refused wiring_cube n t =
-            and_same (table_check n t) _ _ (λ z. rw (station_far n x (table_ok wiring_cube n t tt z).size h)) in
+        and_same (table_check n t) _ _ (λ z. rw (station_far n x (table_ok wiring_cube n t tt z).size h)) in
         rw same (and_same (row_refused wiring_cube n t) _ _ (λ z. absurd (refused wiring_cube n t z)))
 
 -- the status of a number

@@ -9,7 +9,6 @@ use Rattle.std.specs.Result.{result_unwrap_or, result_ok}
 use Rattle.std.proofs.lemmas.List.Edits.{sets}
 use Rattle.lists.specs.declared.refusal.Refusal.{Refusal}
 use Rattle.lists.specs.Refusal.{Check, ◌and◌, number_of, number_of_result, unless_refused, refusal_words, refusal_with}
-use Rattle.table.specs.declared.Station.{Station}
 use Rattle.table.specs.Rules.{length_check}
 use Rattle.table.specs.Status.{status_of, status_words}
 use Rattle.plant.specs.Outcome.{outcome_with, outcome_words}

@@ -522,6 +522,7 @@ fn read_input(input: &[u8], schedule: &mut [u8], words: &mut [u8]) -> (Parsed, u
 
 // How many bytes a schedule with room for all entries of an input has, and a buffer for words.
 const SCHEDULE_LENGTH: usize = 8192;
+
 const WORDS_LENGTH: usize = 128;
 
 // Writes words into a lent buffer, and zeros behind them.

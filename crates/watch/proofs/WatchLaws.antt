@@ -1,13 +1,12 @@
 -- Laws of what comes of an input: the table that is made fresh, a refused size, and the reading.
 -- Assumes nothing.
 use mathlib.Core.Path.{◌≡◌, refl, ap, ◌∙◌, sym}
-use mathlib.Core.Bool.{Bool, true, false, cond}
+use mathlib.Core.Bool.{Bool, true, false}
 use mathlib.Core.List.{List, [], ◌∷◌, ◌++◌}
 use Rattle.std.specs.Prelude.{Ok, Err}
-use lib.Dec.{eqb}
 use Prim.Native.Nat.{ℕ, zero, suc, ◌*◌, ◌≤◌}
 use native.Mathlib.Omega.{arith}
-use borrow.Author.Tests.{eq-eqb, eqb-true}
+use borrow.Author.Tests.{eq-eqb}
 use lib.ListN.{length, take, drop, length-take, take-append-drop}
 use lib.Seq.{take_at, sets}
 use Rattle.lists.proofs.Writing.{sets-front}
@@ -23,7 +22,7 @@ use Rattle.plant.specs.Entry.{State, state_of}
 use Rattle.plant.specs.Run.{RunResult, outcome_with, start_check, run}
 use Rattle.input.specs.declared.reading.Parsed.{Parsed}
 use Rattle.input.specs.declared.reading.Unread.{Unread}
-use Rattle.input.specs.Input.{Reading, lines, room_for, read_input, read_into}
+use Rattle.input.specs.Input.{lines, read_input, read_into}
 use Rattle.input.specs.Fault.{fault_in, parsed_of}
 use Rattle.watch.specs.Watched.{Answer, said, says_run, said_with, watched_with, run_answer, carried_out, watched}
 use Rattle.input.proofs.ReadLaws.{read_fits}
