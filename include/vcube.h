@@ -155,6 +155,12 @@ extern "C" {
 /* The most results that figures are taken over. */
 #define VCUBE_MOST_RESULTS 4096
 
+/* The length of a buffer for words. */
+#define VCUBE_WORDS_LENGTH 128
+
+/* The length of a schedule into which an input is read: it has room for 4096 entries. */
+#define VCUBE_SCHEDULE_LENGTH 8192
+
 /* What a call returns, in the order in which refusals are checked; but 24 comes before all others, a drive looks for 7 after 16 and 17, a load
  * looks for 18, 21, 22, 19, 1, 20, 2, 3 and 4, in this order, the size of a saved plant for 18, 21, 22, 19 and 1, a conversion for 18, 22, 19,
  * 1, 20, 3, 4 and 13, and the length that it needs for 18, 22, 19 and 1.
@@ -177,7 +183,8 @@ enum vcube_refusal {
     VCUBE_REFUSED_PASS_FINISHED = 11,       /* this board has finished its pass in this round (and the kind is 1 or 2) */
     VCUBE_REFUSED_NO_SUCH_LEVEL = 12,       /* there is no such level: they go from 1 to d */
     VCUBE_REFUSED_LIST_LENGTH = 13,         /* the list or buffer for the answer has another length than the answer (group list:
-                                             * vcube_group_length; assignment: 2 * (n - 1); saved plant: 19 + n * (n + 10)) */
+                                             * vcube_group_length; assignment: 2 * (n - 1); saved plant: 19 + n * (n + 10);
+                                             * words: 128; schedule of an input: 8192) */
     VCUBE_REFUSED_NO_RESULT = 14,           /* there is no result to take figures of (in both lists together, where two are given) */
     VCUBE_REFUSED_TOO_MANY_RESULTS = 15,    /* more than 4,096 results, or totals that so many cannot have (in both lists together) */
     VCUBE_REFUSED_LAST_GRANTED = 16,        /* the last granted number is neither a board nor 255 (it is n or more, and not 255) */
@@ -261,6 +268,12 @@ static inline size_t vcube_group_length(size_t n, size_t station, size_t level)
  * Refusals: 1 to 4, 9, 10, 13. */
 uint8_t vcube_assignment(size_t n, const uint8_t *table, size_t table_length, size_t station, uint8_t *list, size_t list_length,
                          size_t *count);
+
+/* Slot, on the cube: how many tests a live station makes a round, by its row, into *tests; and the most that one more dead station can make of
+ * them, by which its slot on the cable is timed, into *most. Both are those of the commissioning sheet, and 0 where the call is refused. The
+ * line rules are those of the cube, as for vcube_assignment. The call changes no byte.
+ * Refusals: 1 to 4, 9, 10. */
+uint8_t vcube_slot(size_t n, const uint8_t *table, size_t table_length, size_t station, size_t *tests, size_t *most);
 
 /* Row: the station's row is the part of the table that begins at byte *start and has *length bytes (n). Both are 0 where the call is
  * refused. The wiring decides only which tables get 3: a finished line has next distance 2^d on the cube, n on the ring.
@@ -432,6 +445,28 @@ uint8_t vcube_join_totals(const struct vcube_totals *first, const struct vcube_t
  * would be below 0.
  * Refusals: 14 for a count of 0, whatever else they hold; then 15 for totals that 4096 results cannot have, as in the join. */
 uint8_t vcube_figures_of_totals(const struct vcube_totals *totals, struct vcube_figures *figures);
+
+/* Words of a refusal (enum vcube_refusal), a status (enum vcube_status) or an outcome (enum vcube_outcome), by its number: what the library
+ * says of it to people, in English and ASCII, into a buffer of VCUBE_WORDS_LENGTH bytes. All are written: behind the words they are 0, and
+ * there is at least one such byte, so that the buffer holds a string of C. A number that is none of the enum, or VCUBE_ACCEPTED, has no
+ * words: all bytes are 0.
+ * Refusals: 13. */
+uint8_t vcube_refusal_words(size_t refusal, uint8_t *words, size_t words_length);
+uint8_t vcube_status_words(size_t status, uint8_t *words, size_t words_length);
+uint8_t vcube_outcome_words(size_t outcome, uint8_t *words, size_t words_length);
+
+/* Input: reads an input as the run program has it, of lines that end with a line feed: the size, of one to three digits, then an entry on each
+ * line, a letter (T turn, L late turn, C crash), a space and a station of one or two digits. The size goes into *n, the number of entries into
+ * *entries, and the entries to the front of the schedule, two bytes each, for vcube_run, which is handed 2 * *entries bytes of it. The
+ * schedule has VCUBE_SCHEDULE_LENGTH bytes; those behind the entries are unchanged.
+ *
+ * *line is the number, from 1, of the first line that cannot be read, a 4097th entry included, and 0 where all can be. *n, *entries and the
+ * schedule are then those of the lines before it, and the buffer of VCUBE_WORDS_LENGTH bytes says what is wrong in it, as "a tab where a space
+ * is expected"; else the buffer is all 0. That a line cannot be read is no refusal. Neither is a size that no plant has, or a station that
+ * is not there: those a run refuses. *n, *entries and *line are 0 where the call is refused.
+ * Refusals: 13, for a schedule or a buffer of another length. */
+uint8_t vcube_read_input(const uint8_t *input, size_t input_length, uint8_t *schedule, size_t schedule_length, uint8_t *words,
+                         size_t words_length, size_t *n, size_t *entries, size_t *line);
 
 #ifdef __cplusplus
 }

@@ -1,6 +1,6 @@
 /* What vcube.h says of NULL with length 0, of figures after a refusal, of a group's length, of who is ahead, of who leaves at a test, of
- * grants and drives, of the doubt lamp, of mending, of the ring, of saved plants, of who told a station to leave and how long ago, of the most
- * results and the totals that they can have, of its structs, and of its version. */
+ * grants and drives, of the doubt lamp, of mending, of the ring, of saved plants, of who told a station to leave and how long ago, of slots, words
+ * and inputs, of the most results and the totals that they can have, of its structs, and of its version. */
 
 #include "vcube.h"
 
@@ -1724,6 +1724,110 @@ static void on_the_ring(void)
     from_wiring_to_wiring();
 }
 
+/* The call for words of one kind. */
+typedef uint8_t words_call(size_t number, uint8_t *words, size_t words_length);
+
+/* Whether the call gives these words and zeros behind them. */
+static int says(words_call *call, size_t number, const char *text)
+{
+    uint8_t words[VCUBE_WORDS_LENGTH];
+    const size_t length = strlen(text);
+
+    memset(words, ANY, sizeof words);
+    return call(number, words, sizeof words) == VCUBE_ACCEPTED && memcmp(words, text, length) == 0
+        && all_are(0, words + length, sizeof words - length);
+}
+
+static void words(void)
+{
+    static words_call *const calls[] = {vcube_refusal_words, vcube_status_words, vcube_outcome_words};
+    uint8_t buffer[VCUBE_WORDS_LENGTH + 1];
+
+    expect(says(vcube_refusal_words, VCUBE_REFUSED_NOT_LIVE, "this board is not live"), "words: of refusal 10");
+    expect(says(vcube_refusal_words, VCUBE_REFUSED_NO_SUCH_WIRING, "there is no such wiring"), "words: of the last refusal");
+    expect(says(vcube_refusal_words, VCUBE_REFUSED_LINE_FIELD,
+                "a board's line in the file is missing, there twice, of a wrong length or of no board"), "words: of the longest refusal");
+    expect(says(vcube_status_words, VCUBE_STATUS_ALONE, "left because alone"), "words: of status 3");
+    expect(says(vcube_outcome_words, VCUBE_OUTCOME_TESTED_TOLD, "the tested board was told, and left"), "words: of outcome 5");
+    expect(says(vcube_refusal_words, VCUBE_ACCEPTED, ""), "words: none of an accepted call");
+    expect(says(vcube_refusal_words, 25, "") && says(vcube_status_words, 4, "") && says(vcube_outcome_words, 6, ""),
+           "words: none of a number past the last");
+    for (size_t k = 0; k < sizeof calls / sizeof calls[0]; k++) {
+        expect(says(calls[k], 257, "") && says(calls[k], 258, "") && says(calls[k], SIZE_MAX, ""), "words: none of a wide number");
+        expect(calls[k](1, NULL, 0) == VCUBE_REFUSED_LIST_LENGTH, "words: a buffer of length 0 gets 13");
+        memset(buffer, ANY, sizeof buffer);
+        expect(calls[k](1, buffer, VCUBE_WORDS_LENGTH - 1) == VCUBE_REFUSED_LIST_LENGTH, "words: a shorter buffer gets 13");
+        expect(calls[k](1, buffer, VCUBE_WORDS_LENGTH + 1) == VCUBE_REFUSED_LIST_LENGTH, "words: a longer buffer gets 13");
+        expect(all_are(ANY, buffer, sizeof buffer), "words: a refused call writes nothing");
+    }
+}
+
+/* What a reading of this input leaves. */
+struct read {
+    uint8_t schedule[VCUBE_SCHEDULE_LENGTH];
+    uint8_t words[VCUBE_WORDS_LENGTH];
+    size_t n, entries, line;
+};
+
+static uint8_t reads(struct read *read, const char *input)
+{
+    memset(read, ANY, sizeof *read);
+    return vcube_read_input((const uint8_t *)input, strlen(input), read->schedule, sizeof read->schedule, read->words, sizeof read->words,
+                            &read->n, &read->entries, &read->line);
+}
+
+/* Whether a line is the first that cannot be read, with these words, and so many entries stand before it. */
+static int stops(const char *input, size_t line, size_t n, size_t entries, const char *text)
+{
+    static struct read read;
+
+    return reads(&read, input) == VCUBE_ACCEPTED && read.line == line && read.n == n && read.entries == entries
+        && strcmp((const char *)read.words, text) == 0;
+}
+
+static void inputs(void)
+{
+    static const uint8_t two[] = {VCUBE_KIND_LATE_TURN, 1, VCUBE_KIND_CRASH, 63};
+    static struct read read;
+
+    expect(reads(&read, "8\nL 1\nC 63\n") == VCUBE_ACCEPTED, "input: two entries");
+    expect(read.n == 8 && read.entries == 2 && read.line == 0, "input: its size and entries, and no line");
+    expect(memcmp(read.schedule, two, sizeof two) == 0, "input: its entries");
+    expect(all_are(ANY, read.schedule + sizeof two, sizeof read.schedule - sizeof two), "input: the rest of the schedule is unchanged");
+    expect(all_are(0, read.words, sizeof read.words), "input: no words where every line can be read");
+    expect(stops("", 1, 0, 0, "an empty input where the size (one to three digits) is expected"), "input: nothing");
+    expect(stops("8\nT 1\nT\t2\nT 3", 3, 8, 1, "a tab where a space is expected"), "input: a tab");
+    expect(stops("8\nT 1\n\xC3\xBC", 3, 8, 1, "the byte c3 (hexadecimal) where T, L or C is expected"), "input: an Umlaut");
+    expect(stops("8\n\x07", 2, 8, 0, "the byte 07 (hexadecimal) where T, L or C is expected"), "input: a byte below 16");
+    expect(stops("8\n<", 2, 8, 0, "the character < where T, L or C is expected"), "input: a character");
+    expect(stops("999", 0, 999, 0, ""), "input: a size that no plant has can be read");
+
+    read.n = read.entries = read.line = ANY;
+    memset(read.words, ANY, sizeof read.words);
+    expect(vcube_read_input(NULL, 0, read.schedule, sizeof read.schedule - 1, read.words, sizeof read.words, &read.n, &read.entries, &read.line)
+               == VCUBE_REFUSED_LIST_LENGTH, "input: a shorter schedule gets 13");
+    expect(read.n == 0 && read.entries == 0 && read.line == 0, "input: the figures of a refused call are 0");
+    expect(vcube_read_input(NULL, 0, read.schedule, sizeof read.schedule, read.words, sizeof read.words - 1, &read.n, &read.entries, &read.line)
+               == VCUBE_REFUSED_LIST_LENGTH, "input: a shorter buffer gets 13");
+    expect(all_are(ANY, read.words, sizeof read.words), "input: a refused call writes no words");
+}
+
+/* The commissioning sheet's numbers: 5 of 8 makes 3 tests, and with 4 dead 5. */
+static void slots(void)
+{
+    uint8_t table[VCUBE_TABLE_LENGTH(8)];
+    size_t tests = ANY, most = ANY;
+
+    expect(vcube_fresh_table(VCUBE_WIRING_CUBE, 8, table, sizeof table) == VCUBE_ACCEPTED, "a fresh table");
+    expect(vcube_slot(8, table, sizeof table, 5, &tests, &most) == VCUBE_ACCEPTED, "slot: of station 5 of 8");
+    expect(tests == 3 && most == 5, "slot: 3 tests a round, 5 with one more dead");
+    expect(vcube_slot(8, table, sizeof table, 261, &tests, &most) == VCUBE_REFUSED_NO_SUCH_STATION, "slot: station 261 gets 9");
+    expect(tests == 0 && most == 0, "slot: the numbers of a refused call are 0");
+    table[5 * (8 + VCUBE_HEAD)] = VCUBE_STATUS_CRASHED;
+    expect(vcube_slot(8, table, sizeof table, 5, &tests, &most) == VCUBE_REFUSED_NOT_LIVE, "slot: a crashed station gets 10");
+    expect(vcube_slot(8, NULL, 0, 5, &tests, &most) == VCUBE_REFUSED_TABLE_LENGTH, "slot: a table of length 0 gets 2");
+}
+
 int main(void)
 {
     uint8_t table[VCUBE_TABLE_LENGTH(N)];
@@ -1744,5 +1848,8 @@ int main(void)
     saved_plants();
     who_told_and_how_long_ago();
     figures_over_results();
+    slots();
+    words();
+    inputs();
     return failures != 0;
 }

@@ -276,6 +276,7 @@ mod mender;
 #[allow(unsafe_code)]
 mod raw;
 mod saved;
+mod texts;
 
 #[cfg(test)]
 mod tests;
@@ -292,6 +293,10 @@ pub use lamp::{doubt_lamp, Doubt};
 pub use lines::{rounds_ago, status, told_by, ToldBy, HEAD, TOLD_BY_NONE, TOLD_NOT_RECORDED};
 pub use mender::{changes, mend, report_length, Change, LineByte};
 pub use saved::{convert, converted_length, load, save, saved_length, saved_size, Loaded};
+pub use texts::{
+    outcome_words, read_input, refusal_words, slot, status_words, Input, Slot, Unread, Words,
+    SCHEDULE_LENGTH, WORDS_LENGTH,
+};
 
 /// A station number. Any number can stand here; the library refuses n or more.
 #[derive(Clone, Copy, Debug, PartialEq, Eq, Hash, PartialOrd, Ord)]

@@ -158,6 +158,33 @@ mod c {
         pub fn vcube_join_totals(first: &Totals, second: &Totals, joined: &mut Totals) -> u8;
 
         pub fn vcube_figures_of_totals(totals: &Totals, figures: &mut Figures) -> u8;
+
+        pub fn vcube_slot(
+            n: usize,
+            table: *const u8,
+            table_length: usize,
+            station: usize,
+            tests: &mut usize,
+            most: &mut usize,
+        ) -> u8;
+
+        pub fn vcube_refusal_words(refusal: usize, words: *mut u8, words_length: usize) -> u8;
+
+        pub fn vcube_status_words(status: usize, words: *mut u8, words_length: usize) -> u8;
+
+        pub fn vcube_outcome_words(outcome: usize, words: *mut u8, words_length: usize) -> u8;
+
+        pub fn vcube_read_input(
+            input: *const u8,
+            input_length: usize,
+            schedule: *mut u8,
+            schedule_length: usize,
+            words: *mut u8,
+            words_length: usize,
+            n: &mut usize,
+            entries: &mut usize,
+            line: &mut usize,
+        ) -> u8;
     }
 }
 
@@ -413,4 +440,58 @@ pub fn figures_of_totals(totals: &Totals) -> (u8, Figures) {
     let mut figures = UNFILLED;
     let number = unsafe { c::vcube_figures_of_totals(totals, &mut figures) };
     (number, figures)
+}
+
+/// Gives the number, the tests a round and the most with one more dead.
+pub fn slot(n: usize, table: &[u8], station: usize) -> (u8, usize, usize) {
+    let (mut tests, mut most) = (0, 0);
+    let number = unsafe {
+        c::vcube_slot(
+            n,
+            table.as_ptr(),
+            table.len(),
+            station,
+            &mut tests,
+            &mut most,
+        )
+    };
+    (number, tests, most)
+}
+
+/// Gives the number.
+pub fn refusal_words(refusal: usize, words: &mut [u8]) -> u8 {
+    unsafe { c::vcube_refusal_words(refusal, words.as_mut_ptr(), words.len()) }
+}
+
+/// Gives the number.
+pub fn status_words(status: usize, words: &mut [u8]) -> u8 {
+    unsafe { c::vcube_status_words(status, words.as_mut_ptr(), words.len()) }
+}
+
+/// Gives the number.
+pub fn outcome_words(outcome: usize, words: &mut [u8]) -> u8 {
+    unsafe { c::vcube_outcome_words(outcome, words.as_mut_ptr(), words.len()) }
+}
+
+/// Gives the number, the size, the entries and the unreadable line.
+pub fn read_input(
+    input: &[u8],
+    schedule: &mut [u8],
+    words: &mut [u8],
+) -> (u8, usize, usize, usize) {
+    let (mut n, mut entries, mut line) = (0, 0, 0);
+    let number = unsafe {
+        c::vcube_read_input(
+            input.as_ptr(),
+            input.len(),
+            schedule.as_mut_ptr(),
+            schedule.len(),
+            words.as_mut_ptr(),
+            words.len(),
+            &mut n,
+            &mut entries,
+            &mut line,
+        )
+    };
+    (number, n, entries, line)
 }

@@ -11,6 +11,7 @@ mod lines;
 mod mender;
 mod ring;
 mod saved;
+mod texts;
 
 /// Byte 4 of a line whose station nobody told to leave.
 const NONE: u8 = TOLD_BY_NONE;

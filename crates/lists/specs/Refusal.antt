@@ -1,6 +1,6 @@
 -- Refusals in checking order, as values and as numbers, 0 for none: the first that applies, and what a refused call leaves or answers instead.
 -- Assumes nothing.
-use Rattle.std.specs.Prelude.{ℕ, Bool, List, codes, Result, Ok, Err, ◌==◌, if◌then◌else◌}
+use Rattle.std.specs.Prelude.{ℕ, Bool, List, codes, Option, None, Some, Result, Ok, Err, ◌==◌, if◌then◌else◌}
 use Rattle.std.specs.Result.{result_and}
 use Rattle.lists.specs.declared.refusal.Refusal.{Refusal}
 use Rattle.lists.specs.declared.refusal.Refusal.TheVariants.{SizeOutOfRange, TableLength, LineRule, RoundNotClosed, ScheduleLength, SheetLength, TallyFull, UnknownKind, NoSuchStation, NotLive, PassFinished, NoSuchLevel, ListLength, NoResult, TooManyResults, LastGranted, NoneLive, FieldPastEnd, SizeOrTallyField, LineField}
@@ -59,6 +59,18 @@ refusal_words NoOpening = codes "the file does not begin as edition 2 does"
 refusal_words FieldOrder = codes "a field is out of order, or of an unknown tag"
 refusal_words ReportTooShort = codes "the report has fewer than 4n(n + 6) bytes"
 refusal_words NoSuchWiring = codes "there is no such wiring"
+
+-- the refusal with a number of the refusal list
+unfoldable pub refusal_with : ℕ → Option Refusal
+refusal_with number =
+    if number == 1 then Some SizeOutOfRange else (if number == 2 then Some TableLength else (if number == 3 then Some LineRule else (
+    if number == 4 then Some RoundNotClosed else (if number == 5 then Some ScheduleLength else (if number == 6 then Some SheetLength else (
+    if number == 7 then Some TallyFull else (if number == 8 then Some UnknownKind else (if number == 9 then Some NoSuchStation else (
+    if number == 10 then Some NotLive else (if number == 11 then Some PassFinished else (if number == 12 then Some NoSuchLevel else (
+    if number == 13 then Some ListLength else (if number == 14 then Some NoResult else (if number == 15 then Some TooManyResults else (
+    if number == 16 then Some LastGranted else (if number == 17 then Some NoneLive else (if number == 18 then Some FieldPastEnd else (
+    if number == 19 then Some SizeOrTallyField else (if number == 20 then Some LineField else (if number == 21 then Some NoOpening else (
+    if number == 22 then Some FieldOrder else (if number == 23 then Some ReportTooShort else (if number == 24 then Some NoSuchWiring else None)))))))))))))))))))))))
 
 -- the number of an answer: 0 where the call is not refused
 abbrev pub number_of_result : {A : Type 0} → Result A Refusal → ℕ

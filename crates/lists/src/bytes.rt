@@ -1,5 +1,6 @@
-// Bytes: the greater of two, a byte put into a list, and two lists place by place.
+// Bytes: the greater of two, a byte or a text put into a list, and two lists place by place.
 ghost use Rattle.std.specs.Prelude.{◌≡◌, ◌↔◌, IsTrue, max, set};
+ghost use Rattle.std.proofs.lemmas.List.Edits.{sets};
 ghost use Rattle.lists.specs.Bytes.{joined_bytes, with_joined};
 
 // The greater of two bytes.
@@ -19,6 +20,17 @@ pub fn put(list: &mut [u8], k: u8, byte: u8)
     if at < list.len() {
         list[at] = byte;
     }
+}
+
+// Writes bytes into a list from a place on; past its end nothing is written.
+pub fn write_at(list: &mut [u8], at: usize, text: &[u8])
+    ensures { list.new ≡ sets list.old at text.now }
+{
+    if list.len() < at {
+        return;
+    }
+    let fits = text.len().min(list.len() - at);
+    list[at..at + fits].copy_from_slice(&text[..fits]);
 }
 
 // The greater byte at each place of the first list.

@@ -1,7 +1,7 @@
 // Refusals: why a call was refused, by name and by number.
 ghost use Rattle.std.specs.Prelude.{◌≡◌};
 ghost use Rattle.std.specs.Result.{result_unwrap_or};
-ghost use Rattle.lists.specs.Refusal.{number_of, number_of_result};
+ghost use Rattle.lists.specs.Refusal.{number_of, refusal_words, refusal_with, number_of_result};
 
 use std::error::Error;
 use std::fmt;
@@ -42,17 +42,12 @@ impl Refusal {
     {
         self as u8
     }
-}
 
-// What a refusal says to people.
-impl fmt::Display for Refusal {
-    ghost use Rattle.std.specs.Prelude.{Some};
-    ghost use Rattle.lists.specs.Refusal.{refusal_words};
-
-    ghost output = { λ refusal. Some (refusal_words refusal) };
-
-    fn fmt<W: fmt::Write>(&self, f: &mut fmt::Formatter<W>) -> fmt::Result {
-        f.write_str(match self {
+    // What it says to people.
+    pub fn words(self) -> &'static str
+        ensures { result.now ≡ refusal_words self }
+    {
+        match self {
             Refusal::SizeOutOfRange => "a plant has 2 to 64 boards",
             Refusal::TableLength => "the table has not n(n + 6) bytes",
             Refusal::LineRule => "a line of the table breaks a line rule",
@@ -82,7 +77,53 @@ impl fmt::Display for Refusal {
             Refusal::FieldOrder => "a field is out of order, or of an unknown tag",
             Refusal::ReportTooShort => "the report has fewer than 4n(n + 6) bytes",
             Refusal::NoSuchWiring => "there is no such wiring",
-        })
+        }
+    }
+
+    // The refusal with a number of the refusal list.
+    #[tactic(auto, unfolding(crate::specs::Refusal::refusal_with))]
+    pub fn with_number(number: usize) -> Option<Refusal>
+        ensures { result ≡ refusal_with number }
+    {
+        match number {
+            1 => Some(Refusal::SizeOutOfRange),
+            2 => Some(Refusal::TableLength),
+            3 => Some(Refusal::LineRule),
+            4 => Some(Refusal::RoundNotClosed),
+            5 => Some(Refusal::ScheduleLength),
+            6 => Some(Refusal::SheetLength),
+            7 => Some(Refusal::TallyFull),
+            8 => Some(Refusal::UnknownKind),
+            9 => Some(Refusal::NoSuchStation),
+            10 => Some(Refusal::NotLive),
+            11 => Some(Refusal::PassFinished),
+            12 => Some(Refusal::NoSuchLevel),
+            13 => Some(Refusal::ListLength),
+            14 => Some(Refusal::NoResult),
+            15 => Some(Refusal::TooManyResults),
+            16 => Some(Refusal::LastGranted),
+            17 => Some(Refusal::NoneLive),
+            18 => Some(Refusal::FieldPastEnd),
+            19 => Some(Refusal::SizeOrTallyField),
+            20 => Some(Refusal::LineField),
+            21 => Some(Refusal::NoOpening),
+            22 => Some(Refusal::FieldOrder),
+            23 => Some(Refusal::ReportTooShort),
+            24 => Some(Refusal::NoSuchWiring),
+            _ => None,
+        }
+    }
+}
+
+// What a refusal says to people.
+impl fmt::Display for Refusal {
+    ghost use Rattle.std.specs.Prelude.{Some};
+    ghost use Rattle.lists.specs.Refusal.{refusal_words};
+
+    ghost output = { λ refusal. Some (refusal_words refusal) };
+
+    fn fmt<W: fmt::Write>(&self, f: &mut fmt::Formatter<W>) -> fmt::Result {
+        f.write_str(self.words())
     }
 }
 

@@ -1,6 +1,7 @@
 -- What an entry did as a value, and the two bytes of a line of the sheet that show it.
 -- Assumes nothing.
-use Rattle.std.specs.Prelude.{ℕ, List, codes}
+use Rattle.std.specs.Prelude.{ℕ, List, codes, Option, None, Some, if◌then◌else◌, ◌==◌}
+use Rattle.table.specs.declared.Station.{Station}
 use Rattle.plant.specs.declared.outcome.Outcome.{Outcome}
 use Rattle.plant.specs.declared.outcome.Outcome.TheVariants.{PassFinished, Exchanged, Told, NoReply, Crashed, TestedTold}
 use Rattle.plant.specs.Turn.{outcome_finished, outcome_exchanged, outcome_told, outcome_no_reply, outcome_crash, outcome_tested_told, no_station}
@@ -31,3 +32,14 @@ outcome_words (Told j) = codes "told, and left"
 outcome_words (NoReply j) = codes "no reply"
 outcome_words Crashed = codes "crash"
 outcome_words (TestedTold j) = codes "the tested board was told, and left"
+
+-- the outcome with a number, with this tested station where it made a test
+unfoldable pub outcome_with : ℕ → Station → Option Outcome
+outcome_with number tested =
+    if number == outcome_finished then Some PassFinished
+    else (if number == outcome_exchanged then Some (Exchanged tested)
+    else (if number == outcome_told then Some (Told tested)
+    else (if number == outcome_no_reply then Some (NoReply tested)
+    else (if number == outcome_crash then Some Crashed
+    else (if number == outcome_tested_told then Some (TestedTold tested)
+    else None)))))

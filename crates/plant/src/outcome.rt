@@ -1,6 +1,6 @@
 // What an entry did, as a value and as the two bytes of a line of the run sheet.
 ghost use Rattle.std.specs.Prelude.{◌≡◌};
-ghost use Rattle.plant.specs.Outcome.{tested_byte, outcome_byte};
+ghost use Rattle.plant.specs.Outcome.{tested_byte, outcome_byte, outcome_words, outcome_with};
 
 use std::fmt;
 use table::Station;
@@ -50,6 +50,36 @@ impl Outcome {
             Outcome::TestedTold(_) => 5,
         }
     }
+
+    // What it says to people.
+    pub fn words(self) -> &'static str
+        ensures { result.now ≡ outcome_words self }
+    {
+        match self {
+            Outcome::PassFinished => "pass finished",
+            Outcome::Exchanged(_) => "exchanged",
+            Outcome::Told(_) => "told, and left",
+            Outcome::NoReply(_) => "no reply",
+            Outcome::Crashed => "crash",
+            Outcome::TestedTold(_) => "the tested board was told, and left",
+        }
+    }
+
+    // The outcome with a number, with this tested station where it made a test.
+    #[tactic(auto, unfolding(crate::specs::Outcome::outcome_with))]
+    pub fn with_number(number: usize, tested: Station) -> Option<Outcome>
+        ensures { result ≡ outcome_with number tested }
+    {
+        match number {
+            0 => Some(Outcome::PassFinished),
+            1 => Some(Outcome::Exchanged(tested)),
+            2 => Some(Outcome::Told(tested)),
+            3 => Some(Outcome::NoReply(tested)),
+            4 => Some(Outcome::Crashed),
+            5 => Some(Outcome::TestedTold(tested)),
+            _ => None,
+        }
+    }
 }
 
 // What an outcome says to people.
@@ -60,13 +90,6 @@ impl fmt::Display for Outcome {
     ghost output = { λ outcome. Some (outcome_words outcome) };
 
     fn fmt<W: fmt::Write>(&self, f: &mut fmt::Formatter<W>) -> fmt::Result {
-        f.write_str(match self {
-            Outcome::PassFinished => "pass finished",
-            Outcome::Exchanged(_) => "exchanged",
-            Outcome::Told(_) => "told, and left",
-            Outcome::NoReply(_) => "no reply",
-            Outcome::Crashed => "crash",
-            Outcome::TestedTold(_) => "the tested board was told, and left",
-        })
+        f.write_str(self.words())
     }
 }

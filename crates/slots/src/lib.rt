@@ -9,6 +9,7 @@ ghost use Rattle.std.specs.Prelude.{◌≡◌, map, true, false};
 ghost use Rattle.station.specs.Tests.{due};
 ghost use Rattle.slots.specs.Slots.{tested, tests_due, tests_with, most_tests, most_of_boards};
 
+pub mod board;
 pub mod claims;
 pub mod untested;
 

@@ -47,7 +47,7 @@ fn checked_line(wiring: usize, n: usize, table: &[u8], i: Station) -> Result<Tab
 }
 
 // Refusal 9.
-pub(crate) fn check_station(table: &Table, i: Station) -> Result<(), Refusal>
+pub fn check_station(table: &Table, i: Station) -> Result<(), Refusal>
     ensures { result ≡ station_check table.now.n i.0 }
 {
     if table.n <= i.0 {

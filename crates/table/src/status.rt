@@ -16,6 +16,22 @@ pub enum Status {
     LeftAlone = 3,
 }
 
+impl Status {
+    ghost use Rattle.table.specs.Status.{status_words};
+
+    // What it says to people.
+    pub fn words(self) -> &'static str
+        ensures { result.now ≡ status_words self }
+    {
+        match self {
+            Status::Live => "live",
+            Status::Crashed => "crashed",
+            Status::LeftTold => "left because told",
+            Status::LeftAlone => "left because alone",
+        }
+    }
+}
+
 // The status that byte 0 stands for; refusal 3 where there is none.
 impl TryFrom<u8> for Status {
     type Error = Refusal;
@@ -50,11 +66,6 @@ impl fmt::Display for Status {
     ghost output = { λ status. Some (status_words status) };
 
     fn fmt<W: fmt::Write>(&self, f: &mut fmt::Formatter<W>) -> fmt::Result {
-        f.write_str(match self {
-            Status::Live => "live",
-            Status::Crashed => "crashed",
-            Status::LeftTold => "left because told",
-            Status::LeftAlone => "left because alone",
-        })
+        f.write_str(self.words())
     }
 }

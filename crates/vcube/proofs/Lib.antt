@@ -1,3 +1,4 @@
 -- The laws that the proofs of `vcube` share, and the part of the table that a row's start and length give.
 pub mod Narrow
+pub mod InputLaws
 pub mod RowPart

@@ -11,7 +11,7 @@ use native.Mathlib.Omega.{arith}
 use borrow.Author.Tests.{ne_eqb, lt-ltb, le-ltb}
 use Rattle.std.specs.Prelude.{Ok, Err}
 use Rattle.lists.specs.declared.refusal.Refusal.{Refusal}
-use Rattle.lists.specs.declared.refusal.Refusal.TheVariants.{SizeOutOfRange, NoSuchStation, NoSuchLevel}
+use Rattle.lists.specs.declared.refusal.Refusal.TheVariants.{SizeOutOfRange, LineRule, NoSuchStation, NoSuchLevel}
 use lib.Dec.{ltb, eqb}
 use lib.ListN.{length}
 use Rattle.table.specs.Sizes.{is_size, dimension}
@@ -20,6 +20,8 @@ use Rattle.lists.specs.Refusal.{Check, ensure, ◌and◌, unless_refused}
 use Rattle.table.specs.Wiring.{wiring_cube}
 use Rattle.table.specs.Rules.{table_check, wired_table_check, station_check}
 use Rattle.station.specs.Calls.{group_check, group_after, row_check, row_part, row_offset, assignment_check, assignment_answer, assignment_after, range_check}
+use Rattle.slots.specs.Board.{slot_check, slot_answer}
+use Rattle.table.specs.Status.{status_of}
 use Rattle.lists.proofs.RefusalLaws.{ensure_ok, and_ok, and_first, and_same, and_err, refused_leaves}
 use Rattle.table.proofs.Accepting.{table_ok}
 use Rattle.table.specs.Table.{row_start}
@@ -107,6 +109,24 @@ module _ (n : ℕ) (t : List ℕ) where
   unfolding assignment_after
   assignment_after_narrow list =
       narrow-unless (λ x. assignment_check n t x (length list)) (row_refused wiring_cube n t) _ _ (assignment_far (length list)) (refused wiring_cube n t)
+
+-- the slot of a station
+pub slot_narrow : (n : ℕ) (t : List ℕ) (x b : ℕ) → b ≡ min x 255 → slot_answer n t b ≡ slot_answer n t x
+unfolding slot_answer slot_check
+slot_narrow n t x b e = narrow (λ x. slot_answer n t x) (row_refused wiring_cube n t and Err NoSuchStation) far x b e
+  where
+    far : (x : ℕ) → 255 ≤ x → slot_answer n t x ≡ (row_refused wiring_cube n t and Err NoSuchStation)
+    far x h =
+        let same : slot_check n t x ≡ row_refused wiring_cube n t =
+        and_same (table_check n t) _ _ (λ z. rw (station_far n x (table_ok wiring_cube n t tt z).size h)) in
+        rw same (and_same (row_refused wiring_cube n t) _ _ (λ z. absurd (refused wiring_cube n t z)))
+
+-- the status of a number
+pub status_narrow : (x b : ℕ) → b ≡ min x 255 → status_of b ≡ status_of x
+status_narrow = narrow status_of (Err LineRule) far
+  where
+    far : (x : ℕ) → 255 ≤ x → status_of x ≡ Err LineRule
+    far x h = rw (ne_eqb x 0 (omega arith), ne_eqb x 1 (omega arith), ne_eqb x 2 (omega arith), ne_eqb x 3 (omega arith))
 
 -- the group of a station at a level
 module _ (n : ℕ) where

@@ -3,10 +3,20 @@
 -- it leaves in the variables, a tally is handed in by its parts, and figures and totals are the members of a struct in their order.
 -- A station, level or last number may be any; the definitions of `station` and `granter` refuse it as they refuse any that is too high.
 -- Assumes nothing.
-use Rattle.std.specs.Prelude.{◌≡◌, ℕ, ◌+◌, List, [], ◌∷◌, Option, Some, None, Result, Ok, Err, slice_index, slice_range}
-use Rattle.std.specs.Result.{result_unwrap_or}
+use Rattle.std.specs.Prelude.{◌≡◌, ℕ, ◌+◌, ◌==◌, if◌then◌else◌, List, [], ◌∷◌, length, replicate, Option, Some, None, option_map, unwrap_or}
+use Rattle.std.specs.Prelude.{Result, Ok, Err, slice_index, slice_range}
+use Rattle.std.specs.Result.{result_unwrap_or, result_ok}
+use Rattle.std.proofs.lemmas.List.Edits.{sets}
 use Rattle.lists.specs.declared.refusal.Refusal.{Refusal}
-use Rattle.lists.specs.Refusal.{number_of, number_of_result}
+use Rattle.lists.specs.Refusal.{Check, ◌and◌, number_of, number_of_result, unless_refused, refusal_words, refusal_with}
+use Rattle.table.specs.Rules.{length_check}
+use Rattle.table.specs.Status.{status_of, status_words}
+use Rattle.plant.specs.Outcome.{outcome_with, outcome_words}
+use Rattle.slots.specs.Board.{slot_answer}
+use Rattle.slots.specs.declared.board.Slot.{Slot}
+use Rattle.input.specs.Input.{Reading, lines, read_input}
+use Rattle.input.specs.Fault.{fault_in}
+use Rattle.input.specs.Words.{fault_words}
 use Rattle.station.specs.Calls.{row_part}
 use Rattle.plant.specs.declared.Tally.{Tally}
 use Rattle.plant.specs.Entry.{state_of}
@@ -97,3 +107,68 @@ figures_out answer = filled (number_of_result answer) (figures_members (result_u
 
 abbrev pub totals_out : Result Totals Refusal → Filled
 totals_out answer = filled (number_of_result answer) (totals_members (result_unwrap_or answer no_totals))
+
+-- Slot: the tests a round and the most with one more dead, by the row of a live station; 0 and 0 where the call is refused
+abbrev pub slot_out : ℕ → ℕ → Slot
+slot_out tests most = record { tests = tests; most = most }
+
+abbrev pub slot_figures : ℕ → List ℕ → ℕ → Slot
+slot_figures n t i = result_unwrap_or (slot_answer n t i) (slot_out 0 0)
+
+-- a buffer for words has just so many bytes, of which the last is 0 in every answer
+abbrev pub words_length : ℕ
+words_length = 128
+
+-- Words: refusal 13, for a buffer of another length
+abbrev pub words_check : ℕ → Check
+words_check len = length_check words_length len
+
+-- the words from the front of a buffer, and zeros behind them
+abbrev pub worded : List ℕ → List ℕ
+worded words = sets (replicate words_length 0) 0 words
+
+-- Rule Words: the words in a lent buffer, which a refused call leaves as it was
+abbrev pub words_after : List ℕ → List ℕ → List ℕ
+words_after words buffer = unless_refused (words_check (length buffer)) buffer (worded words)
+
+-- the words of a refusal, a status and an outcome by its number; none for a number that none of them has
+abbrev pub words_of_refusal : ℕ → List ℕ
+words_of_refusal number = unwrap_or (option_map refusal_words (refusal_with number)) []
+
+abbrev pub words_of_status : ℕ → List ℕ
+words_of_status number = unwrap_or (option_map status_words (result_ok (status_of number))) []
+
+abbrev pub words_of_outcome : ℕ → List ℕ
+words_of_outcome number = unwrap_or (option_map outcome_words (outcome_with number (record { 0 = 0 }))) []
+
+-- a schedule that is lent for reading has room for all 4,096 entries
+abbrev pub schedule_length : ℕ
+schedule_length = 8192
+
+-- Input: refusal 13, for a schedule or a buffer for words of another length
+abbrev pub input_check : ℕ → ℕ → Check
+input_check schedule words = length_check schedule_length schedule and words_check words
+
+-- Rule Input call: the size and the number of entries that are read, and the number of the first unreadable line, 0 where all can be read
+pub record InputRead : Type 0 where
+  pub size : ℕ
+  pub entries : ℕ
+  pub line : ℕ
+
+abbrev pub input_out : ℕ → ℕ → ℕ → InputRead
+input_out n entries line = record { size = n; entries = entries; line = line }
+
+abbrev pub input_figures : ℕ → ℕ → Reading → InputRead
+input_figures schedule words r = unless_refused (input_check schedule words) (input_out 0 0 0) (input_out r.size r.entries r.unread)
+
+-- the entries stand at the front of the schedule, whose rest is as it was
+abbrev pub schedule_after : ℕ → List ℕ → Reading → List ℕ
+schedule_after words schedule r = unless_refused (input_check (length schedule) words) schedule (sets schedule 0 r.schedule)
+
+-- what is wrong in the first unreadable line; nothing where all can be read
+abbrev pub unread_words : List ℕ → Reading → List ℕ
+unread_words input r = if r.unread == 0 then [] else fault_words (fault_in r.unread (lines input))
+
+abbrev pub input_words_after : ℕ → List ℕ → List ℕ → List ℕ
+input_words_after schedule words input =
+    unless_refused (input_check schedule (length words)) words (worded (unread_words input (read_input input)))

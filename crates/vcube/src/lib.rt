@@ -25,14 +25,25 @@ ghost use Rattle.saved.specs.Convert.{convert_refusal, convert_after, converted_
 ghost use Rattle.figures.specs.Batch.{figures};
 ghost use Rattle.figures.specs.Totals.{totals, join, figures_of_totals};
 ghost use Rattle.vcube.specs.Exports.{IsRowAt, outcome_out, drive_out, pair_out, pair_of, tally_of, loaded_out, filled, figures_members};
+ghost use Rattle.slots.specs.Board.{slot_answer};
+ghost use Rattle.std.proofs.lemmas.List.Edits.{sets};
+ghost use Rattle.input.specs.Input.{read_input};
+ghost use Rattle.vcube.specs.Exports.{schedule_length, words_length, worded, unread_words, input_check, input_out, input_figures, schedule_after};
+ghost use Rattle.vcube.specs.Exports.{input_words_after};
+ghost use Rattle.vcube.specs.Exports.{slot_out, slot_figures, words_check, words_after, words_of_refusal, words_of_status, words_of_outcome};
 ghost use Rattle.vcube.specs.Exports.{totals_members, totals_with, figures_out, totals_out};
 
 use figures::{Figures, Totals, adding, batch};
 use granter::grant;
-use lists::refusal::{number_of, parts};
+use input::reading::{self, Parsed};
+use lists::bytes;
+use lists::refusal::{Refusal, number_of, parts};
 use plant::Tally;
+use plant::outcome::Outcome;
 use saved::{Loaded, convert, load, save};
+use slots::board::{self, Slot};
 use station::{due, groups, rows};
+use table::status::Status;
 use table::{Level, Station, cells, fresh};
 
 // Stands for the two stations of a pair where the doubt lamp has none.
@@ -378,6 +389,153 @@ pub extern "C" fn vcube_figures_of_totals(kept: &[u64; 5], answer: &mut [u64; 7]
     let (number, figures) = parts(of_kept, Figures::default());
     *answer = figures_members(figures);
     number
+}
+
+// Slot: how many tests a live station makes a round by its row, into tests, and the most that one more dead station can make of them, by which its
+// slot is timed, into most; both 0 where it is refused.
+#[tactic(auto, using(crate::proofs::Narrow::slot_narrow))]
+#[unsafe(no_mangle)]
+pub extern "C" fn vcube_slot(
+    n: usize,
+    table: &[u8],
+    station: usize,
+    tests: &mut usize,
+    most: &mut usize,
+) -> u8
+    ensures number { result ≡ number_of_result (slot_answer n table.now station) }
+    ensures slot_after { slot_out tests.new most.new ≡ slot_figures n table.now station }
+{
+    let answer = board::slot_of(n, table, Station(byte_of(station)));
+    let (number, slot) = parts(answer, Slot::default());
+    *tests = usize::from(slot.tests);
+    *most = usize::from(slot.most);
+    number
+}
+
+// Words of the refusal with a number: what it says to people, and zeros behind it.
+#[unsafe(no_mangle)]
+pub extern "C" fn vcube_refusal_words(refusal: usize, words: &mut [u8]) -> u8
+    ensures number { result ≡ number_of_result (words_check (length words.old)) }
+    ensures words_written { words.new ≡ words_after (words_of_refusal refusal) words.old }
+{
+    match Refusal::with_number(refusal) {
+        Some(refusal) => write_words(refusal.words(), words),
+        None => write_words("", words),
+    }
+}
+
+// Words of the status with a number.
+#[tactic(auto, using(crate::proofs::Narrow::status_narrow))]
+#[unsafe(no_mangle)]
+pub extern "C" fn vcube_status_words(status: usize, words: &mut [u8]) -> u8
+    ensures number { result ≡ number_of_result (words_check (length words.old)) }
+    ensures words_written { words.new ≡ words_after (words_of_status status) words.old }
+{
+    match Status::try_from(byte_of(status)) {
+        Ok(status) => write_words(status.words(), words),
+        Err(_) => write_words("", words),
+    }
+}
+
+// Words of the outcome with a number.
+#[unsafe(no_mangle)]
+pub extern "C" fn vcube_outcome_words(outcome: usize, words: &mut [u8]) -> u8
+    ensures number { result ≡ number_of_result (words_check (length words.old)) }
+    ensures words_written { words.new ≡ words_after (words_of_outcome outcome) words.old }
+{
+    match Outcome::with_number(outcome, Station(0)) {
+        Some(outcome) => write_words(outcome.words(), words),
+        None => write_words("", words),
+    }
+}
+
+// Input: reads an input of the run program. The entries before the first unreadable line go to the front of the schedule; their number, the size and
+// the number of that line, 0 where all can be read, into entries, n and line; and what is wrong in it into words. All three are 0 where it is refused.
+#[unsafe(no_mangle)]
+pub extern "C" fn vcube_read_input(
+    input: &[u8],
+    schedule: &mut [u8],
+    words: &mut [u8],
+    n: &mut usize,
+    entries: &mut usize,
+    line: &mut usize,
+) -> u8
+    ensures number { result
+        ≡ number_of_result (input_check (length schedule.old) (length words.old)) }
+    ensures figures_after { input_out n.new entries.new line.new
+        ≡ input_figures (length schedule.old) (length words.old) (read_input input.now) }
+    ensures schedule_written { schedule.new
+        ≡ schedule_after (length words.old) schedule.old (read_input input.now) }
+    ensures words_written { words.new
+        ≡ input_words_after (length schedule.old) words.old input.now }
+{
+    match check_input(schedule.len(), words.len()) {
+        Ok(()) => {
+            let (before, unread) = read_input(input, schedule, words);
+            *n = before.size;
+            *entries = before.entries;
+            *line = unread;
+            0
+        }
+        Err(refusal) => {
+            *n = 0;
+            *entries = 0;
+            *line = 0;
+            refusal.number()
+        }
+    }
+}
+
+// Refusal 13 of an input's schedule and of its buffer for words, by their lengths.
+fn check_input(schedule: usize, words: usize) -> Result<(), Refusal>
+    ensures { result ≡ input_check schedule words }
+{
+    if schedule != SCHEDULE_LENGTH {
+        return Err(Refusal::ListLength);
+    }
+    if words != WORDS_LENGTH {
+        return Err(Refusal::ListLength);
+    }
+    Ok(())
+}
+
+// Reads an input into a schedule and a buffer of the right lengths: what was read, and the number of the first unreadable line, 0 where all can be.
+#[tactic(auto, using(crate::proofs::InputLaws::entries_written, crate::proofs::InputLaws::read_ok, crate::proofs::InputLaws::words_ok, crate::proofs::InputLaws::read_err, crate::proofs::InputLaws::words_err))]
+fn read_input(input: &[u8], schedule: &mut [u8], words: &mut [u8]) -> (Parsed, usize)
+    requires schedule { length schedule.old ≡ schedule_length }
+    requires words { length words.old ≡ words_length }
+    ensures figures { let r = read_input input.now in
+        input_out result.0.size result.0.entries result.1 ≡ input_out r.size r.entries r.unread }
+    ensures schedule_written { schedule.new
+        ≡ sets schedule.old 0 (read_input input.now).schedule }
+    ensures words_written { words.new ≡ worded (unread_words input.now (read_input input.now)) }
+{
+    words.fill(0);
+    match reading::parse(input, schedule) {
+        Ok(parsed) => (parsed, 0),
+        Err(unread) => {
+            unread.fault.write_words(words);
+            (unread.before, unread.line)
+        }
+    }
+}
+
+// How many bytes a schedule with room for all entries of an input has, and a buffer for words.
+const SCHEDULE_LENGTH: usize = 8192;
+
+const WORDS_LENGTH: usize = 128;
+
+// Writes words into a lent buffer, and zeros behind them.
+fn write_words(text: &str, words: &mut [u8]) -> u8
+    ensures number { result ≡ number_of_result (words_check (length words.old)) }
+    ensures words_written { words.new ≡ words_after text.now words.old }
+{
+    if words.len() != WORDS_LENGTH {
+        return Refusal::ListLength.number();
+    }
+    words.fill(0);
+    bytes::write_at(words, 0, text.as_bytes());
+    0
 }
 
 // The members of a struct of figures, in their order. No `From`, here and in the next two: the order of the members is the C header's, and neither

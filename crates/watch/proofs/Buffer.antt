@@ -11,12 +11,12 @@ use lib.Dec.{ltb}
 use lib.ListN.{length, take, drop, length-take}
 use lib.Seq.{take-take, take-nil, take_at}
 use Rattle.table.specs.declared.wiring.Wiring.{Wiring}
-use Rattle.watch.specs.Input.{given, is_line_feed, lines, line_length, size_of, entry_in_line, Reading, reading_of, read_entries, read_lines}
-use Rattle.watch.specs.Input.{read_up_to}
+use Rattle.input.specs.Input.{given, is_line_feed, lines, line_length, size_of, entry_in_line, Reading, reading_of, read_entries, read_lines}
+use Rattle.input.specs.Input.{read_up_to}
 use Rattle.watch.specs.Watched.{watched, deciding}
-use Rattle.watch.proofs.LineLaws.{line-within, lines-first}
-use Rattle.watch.proofs.NumberLaws.{number-has}
-use Rattle.watch.proofs.ReadLaws.{taken-has}
+use Rattle.input.proofs.LineLaws.{line-within, lines-first}
+use Rattle.input.proofs.NumberLaws.{number-has}
+use Rattle.input.proofs.ReadLaws.{taken-has}
 
 -- lines of an input that is cut after m bytes
 cut_line : (m : ℕ) (l : List ℕ) → line_length (take m l) ≡ min (line_length l) m

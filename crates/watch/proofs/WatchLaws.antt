@@ -1,13 +1,12 @@
 -- Laws of what comes of an input: the table that is made fresh, a refused size, and the reading.
 -- Assumes nothing.
 use mathlib.Core.Path.{◌≡◌, refl, ap, ◌∙◌, sym}
-use mathlib.Core.Bool.{Bool, true, false, cond}
+use mathlib.Core.Bool.{Bool, true, false}
 use mathlib.Core.List.{List, [], ◌∷◌, ◌++◌}
 use Rattle.std.specs.Prelude.{Ok, Err}
-use lib.Dec.{eqb}
 use Prim.Native.Nat.{ℕ, zero, suc, ◌*◌, ◌≤◌}
 use native.Mathlib.Omega.{arith}
-use borrow.Author.Tests.{eq-eqb, eqb-true}
+use borrow.Author.Tests.{eq-eqb}
 use lib.ListN.{length, take, drop, length-take, take-append-drop}
 use lib.Seq.{take_at, sets}
 use Rattle.lists.proofs.Writing.{sets-front}
@@ -21,12 +20,13 @@ use Rattle.table.specs.Fresh.{fresh_table, fresh_after}
 use Rattle.plant.specs.declared.Ran.{Ran as RanPlant}
 use Rattle.plant.specs.Entry.{State, state_of}
 use Rattle.plant.specs.Run.{RunResult, outcome_with, start_check, run}
-use Rattle.watch.specs.declared.input.Parsed.{Parsed}
-use Rattle.watch.specs.declared.input.Unread.{Unread}
-use Rattle.watch.specs.Input.{Reading, lines, room_for, read_input, read_into}
-use Rattle.watch.specs.Fault.{fault_in, parsed_of}
+use Rattle.input.specs.declared.reading.Parsed.{Parsed}
+use Rattle.input.specs.declared.reading.Unread.{Unread}
+use Rattle.input.specs.Input.{lines, read_input, read_into}
+use Rattle.input.specs.Fault.{fault_in, parsed_of}
 use Rattle.watch.specs.Watched.{Answer, said, says_run, said_with, watched_with, run_answer, carried_out, watched}
-use Rattle.watch.proofs.ReadLaws.{read_fits}
+use Rattle.input.proofs.ReadLaws.{read_fits}
+use Rattle.input.proofs.AnswerLaws.{answer-ok, answer-err, read-whole}
 
 -- the number of a wiring is not refused
 number-taken : (wiring : Wiring) → wiring_check (wiring_number wiring) ≡ Ok tt
@@ -82,46 +82,16 @@ carried wiring n t schedule lent r t' s' k shaped twice long fits e = pick (is_s
         let q : s' ≡ take k lent = ap (λ (o : RunResult). o.sheet) g in
         rw (carried-refused wiring n schedule lent y, p, q, take-append-drop)
 
--- what an answer says of the reading
-answer-ok : (input : List ℕ) (r : Reading) (p : Parsed) → Ok p ≡ parsed_of input r → (r.unread ≡ 0) × (p.size ≡ r.size) × (p.entries ≡ r.entries)
-answer-ok input r p = go (eqb r.unread 0) refl
-  where
-    whole : Parsed
-    whole = record { size = r.size; entries = r.entries }
-
-    stop : Unread
-    stop = record { line = r.unread; fault = fault_in r.unread (lines input); before = whole }
-
-    go : (b : Bool) → eqb r.unread 0 ≡ b → Ok p ≡ cond b (Ok whole) (Err stop)
-        → (r.unread ≡ 0) × (p.size ≡ r.size) × (p.entries ≡ r.entries)
-    go true e f = let g : ◌≡◌ {A = Parsed} p whole = cc in (eqb-true r.unread 0 e, ap (λ (q : Parsed). q.size) g, ap (λ (q : Parsed). q.entries) g)
-    go false e f = cc
-
-answer-err : (input : List ℕ) (r : Reading) (u : Unread) → Err u ≡ parsed_of input r
-    → (eqb r.unread 0 ≡ false) × (u.line ≡ r.unread) × (u.fault ≡ fault_in u.line (lines input))
-answer-err input r u = go (eqb r.unread 0) refl
-  where
-    whole : Parsed
-    whole = record { size = r.size; entries = r.entries }
-
-    stop : Unread
-    stop = record { line = r.unread; fault = fault_in r.unread (lines input); before = whole }
-
-    go : (b : Bool) → eqb r.unread 0 ≡ b → Err u ≡ cond b (Ok whole) (Err stop)
-        → (eqb r.unread 0 ≡ false) × (u.line ≡ r.unread) × (u.fault ≡ fault_in u.line (lines input))
-    go true e f = cc
-    go false e f = let g : ◌≡◌ {A = Unread} u stop = cc in (e, ap (λ (v : Unread). v.line) g, rw g)
-
 -- an input that is read into a schedule with room for all entries
 module _ (wiring : Wiring) (lent input schedule₀ schedule : List ℕ) (room : length schedule₀ ≡ 8192)
     (read : schedule ≡ sets schedule₀ 0 (read_into schedule₀ input).schedule) where
   whole : read_into schedule₀ input ≡ read_input input
-  whole = let e : room_for (length schedule₀) ≡ 4096 = omega arith in rw e
+  whole = read-whole schedule₀ input room
 
   pub watched_unread : (u : Unread) → Err u ≡ parsed_of input (read_into schedule₀ input)
       → (watched_with (Err u) lent ≡ watched wiring lent input) × (u.fault ≡ fault_in u.line (lines input))
   unfolding watched
-  watched_unread u e = let f = answer-err input (read_input input) u (rw whole at e) in (rw (f.0, f.1), f.2)
+  watched_unread u e = let f = answer-err input (read_input input) u (rw whole at e) in (rw (f.unread, f.line), f.fault)
 
   module _ (p : Parsed) (e : Ok p ≡ parsed_of input (read_into schedule₀ input)) where
     parts : ((read_input input).unread ≡ 0) × (p.size ≡ (read_input input).size) × (p.entries ≡ (read_input input).entries)

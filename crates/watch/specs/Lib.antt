@@ -1,6 +1,4 @@
 -- What the contracts of `watch` cite.
-pub mod Input
-pub mod Fault
 pub mod Watched
 pub mod Words
 pub mod Call

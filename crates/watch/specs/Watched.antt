@@ -9,8 +9,8 @@ use Rattle.plant.specs.declared.Ran.{Ran}
 use Rattle.plant.specs.declared.Tally.{Tally}
 use Rattle.plant.specs.Entry.{state_of}
 use Rattle.plant.specs.Run.{RunResult, stop_refusal, run}
-use Rattle.watch.specs.declared.input.Unread.{Unread}
-use Rattle.watch.specs.Input.{Reading, read_input}
+use Rattle.input.specs.declared.reading.Unread.{Unread}
+use Rattle.input.specs.Input.{Reading, read_input}
 
 -- what a run answers: the number (0 or a refusal), how many entries were taken, and the tally
 pub record Answer : Type 0 where

@@ -3,8 +3,6 @@
 #![tactic(auto)]
 
 mod call;
-mod fault;
-mod input;
 mod print;
 mod watched;
 

@@ -6,11 +6,11 @@ ghost use Rattle.table.specs.Wiring.{wiring_number};
 ghost use Rattle.table.specs.Fresh.{fresh_after};
 ghost use Rattle.plant.specs.Entry.{state_of};
 ghost use Rattle.plant.specs.Run.{outcome_with, run};
-ghost use Rattle.watch.specs.Input.{lines};
-ghost use Rattle.watch.specs.Fault.{fault_in};
+ghost use Rattle.input.specs.Input.{lines};
+ghost use Rattle.input.specs.Fault.{fault_in};
 ghost use Rattle.watch.specs.Watched.{watched_with, carried_out, watched, deciding};
 
-use crate::input::{self, Unread};
+use input::reading::{self, Unread};
 use plant::{Ran, Tally, run};
 use table::wiring::Wiring;
 use table::{cells, fresh, sizes};
@@ -31,7 +31,7 @@ pub fn watch_plant(
     ensures decided { (rest : List ℕ) → length input.now ≡ deciding
         → watched_with result sheet.new ≡ watched wiring sheet.old (input.now ++ rest) }
 {
-    let parsed = input::parse(input, schedule)?;
+    let parsed = reading::parse(input, schedule)?;
     let taken = &schedule[..2 * parsed.entries];
     Ok(carry_out(wiring, parsed.size, taken, table, sheet))
 }

@@ -1,0 +1,130 @@
+//! Words of the library, the reading of an input, and the slot of a station.
+
+use crate::{accepted, raw, Refusal, Station};
+use std::error::Error;
+use std::fmt;
+
+/// The length of a buffer for words.
+pub const WORDS_LENGTH: usize = 128;
+
+/// The length of a schedule into which an input is read.
+pub const SCHEDULE_LENGTH: usize = 8192;
+
+/// Words of the library.
+#[derive(Clone, Copy, PartialEq, Eq, Hash)]
+pub struct Words([u8; WORDS_LENGTH]);
+
+impl Words {
+    fn written(write: impl FnOnce(&mut [u8]) -> u8) -> Words {
+        let mut words = [0; WORDS_LENGTH];
+        let number = write(&mut words);
+        accepted(number).expect("a buffer for words has their length");
+        Words(words)
+    }
+
+    /// The words: the bytes before the zeros.
+    #[must_use]
+    pub fn as_str(&self) -> &str {
+        let end = self.0.iter().position(|byte| *byte == 0);
+        std::str::from_utf8(&self.0[..end.unwrap_or(WORDS_LENGTH)]).expect("words are ASCII")
+    }
+}
+
+impl fmt::Display for Words {
+    fn fmt(&self, f: &mut fmt::Formatter<'_>) -> fmt::Result {
+        f.write_str(self.as_str())
+    }
+}
+
+impl fmt::Debug for Words {
+    fn fmt(&self, f: &mut fmt::Formatter<'_>) -> fmt::Result {
+        fmt::Debug::fmt(self.as_str(), f)
+    }
+}
+
+/// Words of the refusal with this number; none where there is none.
+#[must_use]
+pub fn refusal_words(refusal: usize) -> Words {
+    Words::written(|words| raw::refusal_words(refusal, words))
+}
+
+/// Words of the status with this number; none where there is none.
+#[must_use]
+pub fn status_words(status: usize) -> Words {
+    Words::written(|words| raw::status_words(status, words))
+}
+
+/// Words of the outcome with this number; none where there is none.
+#[must_use]
+pub fn outcome_words(outcome: usize) -> Words {
+    Words::written(|words| raw::outcome_words(outcome, words))
+}
+
+/// What was read of an input: the size, and how many entries stand at the front
+/// of the schedule, two bytes each.
+#[derive(Clone, Copy, Debug, PartialEq, Eq, Hash)]
+pub struct Input {
+    /// The size, which a run may still refuse.
+    pub n: usize,
+    /// How many entries.
+    pub entries: usize,
+}
+
+/// The first line of an input that cannot be read.
+#[derive(Clone, Copy, Debug, PartialEq, Eq, Hash)]
+pub struct Unread {
+    /// Its number, from 1.
+    pub line: usize,
+    /// What is wrong in it.
+    pub words: Words,
+    /// What was read before it.
+    pub before: Input,
+}
+
+impl fmt::Display for Unread {
+    fn fmt(&self, f: &mut fmt::Formatter<'_>) -> fmt::Result {
+        write!(f, "unread {}: {}", self.line, self.words)
+    }
+}
+
+impl Error for Unread {}
+
+/// Input: reads an input of the run program. The entries before the first
+/// unreadable line go to the front of the schedule, whose rest is unchanged.
+pub fn read_input(input: &[u8], schedule: &mut [u8; SCHEDULE_LENGTH]) -> Result<Input, Unread> {
+    let mut figures = (0, 0, 0);
+    let words = Words::written(|words| {
+        let (number, n, entries, line) = raw::read_input(input, schedule, words);
+        figures = (n, entries, line);
+        number
+    });
+    let (n, entries, line) = figures;
+    let before = Input { n, entries };
+    if line == 0 {
+        Ok(before)
+    } else {
+        Err(Unread {
+            line,
+            words,
+            before,
+        })
+    }
+}
+
+/// How many tests a station makes a round, and the most with one more dead, by
+/// which its slot on the cable is timed.
+#[derive(Clone, Copy, Debug, PartialEq, Eq, Hash)]
+pub struct Slot {
+    /// Its tests a round, by its row.
+    pub tests: usize,
+    /// The most that one more dead station can make of them.
+    pub most: usize,
+}
+
+/// Slot, on the cube: both numbers of a live station, as the commissioning
+/// sheet has them.
+/// Refusals: 1 to 4, 9, 10.
+pub fn slot(n: usize, table: &[u8], station: Station) -> Result<Slot, Refusal> {
+    let (number, tests, most) = raw::slot(n, table, station.0);
+    accepted(number).map(|()| Slot { tests, most })
+}
