@@ -1,7 +1,7 @@
 // The boards around a circle, and the entry of the moment as an arrow.
 import { EXCHANGED, NO_REPLY, NO_STATION, is_live, status_of } from './library.mjs';
 import { draw, set_class, set_text } from './elements.mjs';
-import { called, shortened } from './names.mjs';
+import { called, mentioned, shortened } from './names.mjs';
 import { words } from './stand-in.mjs';
 
 /// Each status has a sign and a form of its own, so that colour is not needed.
@@ -23,6 +23,14 @@ export function legend(list) {
         item.append(sign, words.status(status));
         list.append(item);
     }
+    for (const [name, text] of [['exchanged', words.outcome(EXCHANGED)], ['no-reply', words.outcome(NO_REPLY)], ['told', 'told, and left'], ['doubt', 'doubt lamp']]) {
+        const item = document.createElement('li');
+        const line = draw('svg', { viewBox: '0 0 40 14', width: 40, height: 14, 'aria-hidden': 'true' });
+        line.append(draw('path', { d: 'M10 7H30', class: `arrow ${name}` }), draw('path', { d: 'M30 2L38 7L30 12Z', class: `head ${name}` }));
+        if (name === 'exchanged') line.append(draw('path', { d: 'M10 2L2 7L10 12Z', class: `head ${name}` }));
+        item.append(line, text);
+        list.append(item);
+    }
 }
 
 export class Circle {
@@ -39,7 +47,7 @@ export class Circle {
         const below = is_narrow && n <= 10;
         const has_labels = has_names && (!is_narrow || below);
         let [width, height, around] = [660, 660, 285];
-        if (has_labels && below) [width, height, around] = [480, 470, 185];
+        if (has_labels && below) [width, height, around] = [450, 440, 170];
         else if (has_labels && beside) [width, height, around] = [900, 620, 235];
         else if (has_labels) [width, height, around] = [760, 760, 225];
         this.radius = Math.min(below || is_narrow ? 30 : 27, ((Math.PI * around) / n) * 0.78);
@@ -68,14 +76,14 @@ export class Circle {
 
     label(place, name, { below, beside }) {
         const r = this.radius;
-        if (below) return draw('text', { class: 'name', y: r + 21, 'text-anchor': 'middle', 'font-size': 17 }, shortened(name, 13));
+        if (below) return draw('text', { class: 'name', y: r * 1.45 + 13, 'text-anchor': 'middle', 'font-size': 15 }, shortened(name, 14));
         const [cos, sin] = [Math.cos(place.angle), Math.sin(place.angle)];
         if (beside) {
             const is_middle = Math.abs(cos) < 0.3;
             const attributes = {
                 class: 'name',
-                x: is_middle ? 0 : Math.sign(cos) * (r + 14),
-                y: is_middle ? Math.sign(sin) * (r + 20) + 6 : 7 + sin * 8,
+                x: is_middle ? 0 : Math.sign(cos) * (r * 1.45 + 8),
+                y: is_middle ? Math.sign(sin) * (r * 1.45 + 14) + 7 : 7 + sin * 8,
                 'text-anchor': is_middle ? 'middle' : cos > 0 ? 'start' : 'end',
                 'font-size': 21,
             };
@@ -85,7 +93,7 @@ export class Circle {
         const is_left = cos < -1e-9;
         const attributes = {
             class: 'name',
-            x: is_left ? -(r + 8) : r + 8,
+            x: (is_left ? -1 : 1) * (r * 1.45 + 6),
             y: 5,
             'text-anchor': is_left ? 'end' : 'start',
             transform: `rotate(${is_left ? turned + 180 : turned})`,
@@ -116,7 +124,7 @@ export class Circle {
             set_class(shown.group, `board ${STATUS_CLASSES[status]}${is_selected ? ' selected' : ''}`);
             shown.group.setAttribute('tabindex', is_selected ? 0 : -1);
             shown.group.setAttribute('aria-pressed', is_selected);
-            shown.group.setAttribute('aria-label', `Board ${called(names, board)}, ${words.status(status)}`);
+            shown.group.setAttribute('aria-label', `Board ${mentioned(names, board)}, ${words.status(status)}`);
         });
         const arrows = [];
         if (lamp && is_live(state, lamp.of)) arrows.push(this.arrow(lamp.by, lamp.of, 'doubt', false, 26));

@@ -6,7 +6,7 @@ import { Module } from './module.mjs';
 import { Plant } from './plant.mjs';
 import { bound_of, read_input, sheet_of, words } from './stand-in.mjs';
 import { by_id, make, set_class, set_text } from './elements.mjs';
-import { called, names_text, read_names } from './names.mjs';
+import { called, mentioned, names_text, read_names } from './names.mjs';
 import { from_base64, input_of, link_of, read_link } from './link.mjs';
 import { tell, would } from './telling.mjs';
 
@@ -77,11 +77,11 @@ function show_facts(lamp) {
     set_text(by_id('tests'), state.tests.toLocaleString('en'));
     const granted = library.grant(state, plant.last_granted());
     set_text(by_id('granted'), granted.refused === undefined ? called(names, granted.board) : words.refusal(granted.refused));
-    set_text(by_id('lamp'), lamp ? `${called(names, lamp.by)} suspects ${called(names, lamp.of)}` : 'out');
+    set_text(by_id('lamp'), lamp ? `${mentioned(names, lamp.by)} suspects ${mentioned(names, lamp.of)}` : 'out');
     set_class(by_id('lamp'), lamp ? 'lamp lit' : 'lamp');
     set_text(by_id('known'), known_text(state));
     const bound = bound_of(plant.wiring, plant.n);
-    set_text(by_id('bound'), `${bound} closed ${bound === 1 ? 'round' : 'rounds'}, from a start of a round with the lamp out`);
+    set_text(by_id('bound'), `at most ${bound} closed ${bound === 1 ? 'round' : 'rounds'} from the start of a round with the lamp out`);
     set_text(by_id('grant'), granted.refused === undefined ? `Grant the next: ${granted.board}` : 'Grant the next');
 }
 
@@ -92,8 +92,8 @@ function show_board(timed) {
     const facts = [['Status', words.status(status_of(state, selected))]];
     if (told_by(state, selected) !== NO_STATION) facts.push(['Told by', told_text(state, selected, names)]);
     if (!is_live(state, selected)) facts.push(['How long ago', ago_text(state, selected)]);
-    facts.push(['Suspects', others.length === 0 ? 'nobody' : others.map((other) => called(names, other)).join(', ')]);
-    if (timed[selected] !== undefined) facts.push(['Slot is timed for', `${timed[selected]} ${timed[selected] === 1 ? 'test' : 'tests'}`]);
+    facts.push(['Suspects', others.length === 0 ? 'nobody' : others.map((other) => mentioned(names, other)).join(', ')]);
+    if (timed[selected] !== undefined && is_live(state, selected)) facts.push(['Slot is timed for', `${timed[selected]} ${timed[selected] === 1 ? 'test' : 'tests'}`]);
     by_id('board-facts').replaceChildren(...facts.flatMap(([term, text]) => [make('dt', { textContent: term }), make('dd', { textContent: text })]));
     const turn = library.run(copy_of(state), TURN, selected);
     set_text(by_id('preview'), `A turn now: ${would(turn, names)}.`);
@@ -126,6 +126,7 @@ function show() {
 function lay_out() {
     selected = Math.min(selected, plant.n - 1);
     const wiring = plant.wiring === RING ? 'ring' : 'cube';
+    by_id('main').dataset.size = plant.n <= 16 ? 'small' : 'large';
     set_text(by_id('plant-line'), `${plant.n} boards, wired as the ${wiring}`);
     circle.lay_out(plant, names, narrow.matches);
     boards.lay_out(plant, names);
@@ -152,7 +153,7 @@ function take(kind, board) {
     const refused = plant.take(kind, board);
     if (refused !== undefined) {
         stop();
-        say(`Refused for board ${called(names, board)}: ${words.refusal(refused)}. Nothing was changed.`, 'wrong');
+        say(`Refused for board ${mentioned(names, board)}: ${words.refusal(refused)}. Nothing was changed.`, 'wrong');
         return false;
     }
     say(dropped > 0 ? `The ${dropped} ${dropped === 1 ? 'entry' : 'entries'} that followed this moment ${dropped === 1 ? 'is' : 'are'} dropped.` : '');
@@ -185,6 +186,7 @@ function stop() {
     clearInterval(playing);
     playing = undefined;
     set_text(by_id('play'), 'Play');
+    by_id('entry').setAttribute('aria-live', 'polite');
     by_id('play').setAttribute('aria-pressed', 'false');
 }
 
@@ -192,6 +194,7 @@ function play() {
     if (playing !== undefined) return stop();
     by_id('play').setAttribute('aria-pressed', 'true');
     set_text(by_id('play'), 'Pause');
+    by_id('entry').setAttribute('aria-live', 'off');
     playing = setInterval(() => {
         if (plant.at < plant.length) plant.go(plant.at + 1);
         else grant_next();

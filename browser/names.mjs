@@ -14,8 +14,9 @@ export function read_names(text, n) {
 
 export const names_text = (names) => names.map((name, board) => (name ? `${board} ${name}\n` : '')).join('');
 
-/// "5 press", or "5".
+/// "5 press", or "5"; and in a sentence "5 (press)".
 export const called = (names, board) => (names[board] ? `${board} ${names[board]}` : String(board));
+export const mentioned = (names, board) => (names[board] ? `${board} (${names[board]})` : String(board));
 
 export function shortened(text, most) {
     const letters = [...text];

@@ -45,7 +45,7 @@ export class Boards {
         const { state } = plant;
         this.rows.forEach(({ row, sign, status, button, cells }, board) => {
             const now = status_of(state, board);
-            const most = timed[board];
+            const most = is_live(state, board) ? timed[board] : undefined;
             const made = tests_of(state, board);
             const is_above = most !== undefined && made > most;
             set_class(row, `${status_class(now)}${board === selected ? ' selected' : ''}`);
@@ -68,7 +68,7 @@ export class Matrix {
     lay_out(plant, names) {
         const { n } = plant;
         const boards = Array.from({ length: n }, (_, board) => board);
-        set_class(this.table, n <= 16 ? 'large' : n <= 32 ? 'middle' : 'small');
+        set_class(this.table, n <= 8 ? 'largest' : n <= 16 ? 'large' : n <= 32 ? 'middle' : 'small');
         const caption = make('caption', { className: 'unseen', textContent: 'Line: the board that suspects. Column: the one that is suspected.' });
         const head = make('tr', {}, make('td'), ...boards.map((board) => make('th', { scope: 'col', textContent: String(board) })));
         this.rows = boards.map((board) => {

@@ -1,6 +1,6 @@
 // What an entry did, told: the run sheet's line in the library's words, and what is another in the table behind it.
 import { CRASHED_NOW, LATE_TURN, LIVE, NO_STATION, is_live, status_of, suspects, told_by } from './library.mjs';
-import { called } from './names.mjs';
+import { mentioned } from './names.mjs';
 import { words } from './stand-in.mjs';
 
 function list(texts) {
@@ -47,12 +47,12 @@ export function tell(plant, names) {
 }
 
 export function line_text(board, kind, line, names) {
-    const who = `Board ${called(names, board)}`;
+    const who = `Board ${mentioned(names, board)}`;
     const what = words.outcome(line[2]);
     if (line[2] === CRASHED_NOW) return `${who}: ${what}.`;
     if (line[1] === NO_STATION) return `${who}: ${what}.`;
     const late = kind === LATE_TURN ? ', whose reply comes late' : '';
-    return `${who} tests ${called(names, line[1])}${late}: ${what}.`;
+    return `${who} tests ${mentioned(names, line[1])}${late}: ${what}.`;
 }
 
 /// What an entry would do, tried on a copy by the library.
@@ -60,5 +60,5 @@ export function would(tried, names) {
     if (tried.refused !== undefined) return `refused, ${words.refusal(tried.refused)}`;
     const { line } = tried;
     const after = line[3] === LIVE ? '' : `, then ${words.status(line[3])}`;
-    return line[1] === NO_STATION ? `${words.outcome(line[2])}${after}` : `tests ${called(names, line[1])}: ${words.outcome(line[2])}${after}`;
+    return line[1] === NO_STATION ? `${words.outcome(line[2])}${after}` : `tests ${mentioned(names, line[1])}: ${words.outcome(line[2])}${after}`;
 }
