@@ -1,9 +1,10 @@
 // Chromium and Firefox, without a window, driven over what they offer for it: Chromium's protocol over two pipes, Firefox's WebDriver BiDi over
-// a socket (node --experimental-websocket). Both give the same few calls.
+// a socket. Both give the same few calls.
 import { spawn } from 'node:child_process';
 import { mkdtempSync, rmSync } from 'node:fs';
 import { tmpdir } from 'node:os';
 import { join } from 'node:path';
+import { connect } from './socket.mjs';
 
 const LONGEST_START = 120000;
 
@@ -158,14 +159,9 @@ export class Firefox extends Browser {
                 }
             });
         });
-        const socket = new WebSocket(`${address}/session`);
-        await new Promise((resolve, reject) => {
-            socket.onopen = resolve;
-            socket.onerror = () => reject(new Error(`Firefox is not reached at ${address}`));
-        });
         const browser = new Firefox(child, folder);
-        const answers = new Answers((text) => socket.send(text));
-        socket.onmessage = ({ data }) => answers.came(data);
+        const answers = new Answers((text) => send(text));
+        const send = await connect(`${address}/session`, (text) => answers.came(text));
         browser.ask = (method, params = {}) => answers.ask(method, params);
         answers.told = ({ method, params }) => method === 'log.entryAdded' && browser.console.push(`${params.level}: ${params.text}`);
         await browser.ask('session.new', { capabilities: {} });
