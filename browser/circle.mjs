@@ -1,5 +1,5 @@
 // The boards around a circle, and the entry of the moment as an arrow.
-import { EXCHANGED, NO_REPLY, NO_STATION, is_live, status_of } from './library.mjs';
+import { EXCHANGED, NO_REPLY, NO_STATION, TOLD_NOW, is_live, status_of } from './library.mjs';
 import { draw, set_class, set_text } from './elements.mjs';
 import { called, mentioned, shortened } from './names.mjs';
 import { words } from './stand-in.mjs';
@@ -23,7 +23,8 @@ export function legend(list) {
         item.append(sign, words.status(status));
         list.append(item);
     }
-    for (const [name, text] of [['exchanged', words.outcome(EXCHANGED)], ['no-reply', words.outcome(NO_REPLY)], ['told', 'told, and left'], ['doubt', 'doubt lamp']]) {
+    const arrows = [['exchanged', words.outcome(EXCHANGED)], ['no-reply', words.outcome(NO_REPLY)], ['told', words.outcome(TOLD_NOW)]];
+    for (const [name, text] of [...arrows, ['doubt', 'doubt lamp']]) {
         const item = document.createElement('li');
         const line = draw('svg', { viewBox: '0 0 40 14', width: 40, height: 14, 'aria-hidden': 'true' });
         line.append(draw('path', { d: 'M10 7H30', class: `arrow ${name}` }), draw('path', { d: 'M30 2L38 7L30 12Z', class: `head ${name}` }));
@@ -49,7 +50,7 @@ export class Circle {
         let [width, height, around] = [660, 660, 285];
         if (has_labels && below) [width, height, around] = [450, 440, 170];
         else if (has_labels && beside) [width, height, around] = [900, 620, 235];
-        else if (has_labels) [width, height, around] = [760, 760, 225];
+        else if (has_labels) [width, height, around] = [830, 830, 235];
         this.radius = Math.min(below || is_narrow ? 30 : 27, ((Math.PI * around) / n) * 0.78);
         this.svg.setAttribute('viewBox', `${-width / 2} ${-height / 2} ${width} ${height}`);
         this.places = Array.from({ length: n }, (_, board) => {
@@ -58,12 +59,14 @@ export class Circle {
         });
         this.arrows = draw('g', { class: 'arrows', 'aria-hidden': 'true' });
         this.boards = this.places.map((place, board) => this.board(place, board, plant, names, { has_labels, below, beside }));
-        this.svg.replaceChildren(this.markers(), draw('circle', { r: around, cy: has_labels && below ? -12 : 0, class: 'cable' }), this.arrows, ...this.boards.map(({ group }) => group));
+        const cable = draw('circle', { r: around, cy: has_labels && below ? -12 : 0, class: 'cable' });
+        this.svg.replaceChildren(this.markers(), cable, this.arrows, ...this.boards.map(({ group }) => group));
     }
 
     board(place, board, plant, names, { has_labels, below, beside }) {
         const r = this.radius;
-        const group = draw('g', { transform: `translate(${place.x.toFixed(1)} ${place.y.toFixed(1)})`, role: 'button', tabindex: -1, 'data-board': board });
+        const transform = `translate(${tidy(place.x)} ${tidy(place.y)})`;
+        const group = draw('g', { transform, role: 'button', tabindex: -1, 'data-board': board });
         const title = draw('title', {}, called(names, board));
         const form = draw('g');
         const number = draw('text', { class: 'number', y: r * 0.36, 'font-size': (r * (board > 9 ? 0.95 : 1.05)).toFixed(1) }, String(board));
@@ -105,7 +108,8 @@ export class Circle {
     markers() {
         const defs = draw('defs');
         for (const name of ['exchanged', 'told', 'no-reply', 'doubt']) {
-            const marker = { id: `head-${name}`, viewBox: '0 0 10 10', refX: 8, refY: 5, markerWidth: 5.5, markerHeight: 5.5, orient: 'auto-start-reverse' };
+            const size = { viewBox: '0 0 10 10', refX: 8, refY: 5, markerWidth: 5.5, markerHeight: 5.5 };
+            const marker = { id: `head-${name}`, orient: 'auto-start-reverse', ...size };
             defs.append(draw('marker', marker, draw('path', { d: 'M0 0L10 5L0 10Z', class: `head ${name}` })));
         }
         return defs;

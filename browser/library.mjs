@@ -10,9 +10,8 @@ export const NO_STATION = 255;
 export const NOT_RECORDED = 254;
 export const MOST_ROUNDS_AGO = 255;
 export const LIVE = 0;
-export const TOLD = 2;
-export const PASS_FINISHED = 0;
 export const EXCHANGED = 1;
+export const TOLD_NOW = 2;
 export const NO_REPLY = 3;
 export const CRASHED_NOW = 4;
 export const TESTED_TOLD = 5;
@@ -126,9 +125,9 @@ export class Library {
         };
     }
 
-    /// How many tests are due for a board with this row, and the others as nobody's.
-    due(wiring, n, board, row) {
-        const { state } = this.fresh(wiring, n);
+    /// How many tests are due on the cube for a board with this row, in a plant that is fresh otherwise.
+    due(n, board, row) {
+        const { state } = this.fresh(CUBE, n);
         state.table.set(row, line_of(state, board) + HEAD);
         const count = new Cell(8);
         this.module.call('vcube_assignment', BigInt(n), state.table, BigInt(board), new Uint8Array(2 * (n - 1)), count);

@@ -1,5 +1,6 @@
 // The page: what is opened, what the buttons do, and what is shown of a moment.
-import { CRASH, CUBE, LATE_TURN, Library, MOST_ENTRIES, RING, TURN, copy_of, is_live, lines_of_saved, row_of, status_of, suspects, told_by, NO_STATION } from './library.mjs';
+import { CRASH, CUBE, LATE_TURN, Library, MOST_ENTRIES, NO_STATION, RING, TURN } from './library.mjs';
+import { copy_of, is_live, lines_of_saved, status_of, suspects, told_by } from './library.mjs';
 import { Boards, Matrix, ago_text, suspected_by, told_text } from './tables.mjs';
 import { Circle, legend } from './circle.mjs';
 import { Module } from './module.mjs';
@@ -28,7 +29,6 @@ const matrix = new Matrix(by_id('matrix'));
 
 function say(text, kind = 'note') {
     const message = by_id('message');
-    message.hidden = text === '';
     set_class(message, `message ${kind}`);
     message.textContent = text;
 }
@@ -40,7 +40,7 @@ function timed_slots() {
     const began = plant.round_began();
     if (plant.timed?.began !== began || plant.timed.of !== plant.entries[began - 1]) {
         const state = plant.state_at(began);
-        const slots = Array.from({ length: plant.n }, (_, board) => sheet_of(library, plant.wiring, plant.n, board, row_of(state, board)));
+        const slots = Array.from({ length: plant.n }, (_, board) => sheet_of(library, state, board));
         plant.timed = { began, of: plant.entries[began - 1], slots };
     }
     return plant.timed.slots;
@@ -93,7 +93,8 @@ function show_board(timed) {
     if (told_by(state, selected) !== NO_STATION) facts.push(['Told by', told_text(state, selected, names)]);
     if (!is_live(state, selected)) facts.push(['How long ago', ago_text(state, selected)]);
     facts.push(['Suspects', others.length === 0 ? 'nobody' : others.map((other) => mentioned(names, other)).join(', ')]);
-    if (timed[selected] !== undefined && is_live(state, selected)) facts.push(['Slot is timed for', `${timed[selected]} ${timed[selected] === 1 ? 'test' : 'tests'}`]);
+    const most = timed[selected];
+    if (most !== undefined && is_live(state, selected)) facts.push(['Slot is timed for', most === 1 ? '1 test' : `${most} tests`]);
     by_id('board-facts').replaceChildren(...facts.flatMap(([term, text]) => [make('dt', { textContent: term }), make('dd', { textContent: text })]));
     const turn = library.run(copy_of(state), TURN, selected);
     set_text(by_id('preview'), `A turn now: ${would(turn, names)}.`);
@@ -136,6 +137,7 @@ function lay_out() {
 
 function select(board, focuses) {
     selected = board;
+    say('');
     show();
     if (focuses) by_id('circle').querySelector(`[data-board="${board}"]`).focus();
 }
@@ -156,7 +158,8 @@ function take(kind, board) {
         say(`Refused for board ${mentioned(names, board)}: ${words.refusal(refused)}. Nothing was changed.`, 'wrong');
         return false;
     }
-    say(dropped > 0 ? `The ${dropped} ${dropped === 1 ? 'entry' : 'entries'} that followed this moment ${dropped === 1 ? 'is' : 'are'} dropped.` : '');
+    const what = dropped === 1 ? 'The entry that followed this moment is' : `The ${dropped} entries that followed this moment are`;
+    say(dropped > 0 ? `${what} dropped.` : '');
     return true;
 }
 
@@ -206,6 +209,7 @@ function play() {
 function go(to) {
     if (to === undefined) return;
     stop();
+    say('');
     plant.go(to);
     show();
 }
@@ -286,10 +290,10 @@ function offer_mending(file, refused) {
 }
 
 /// A file may be a saved plant, names, or an input.
-function open_bytes(bytes, wiring) {
+function open_file(bytes, wiring) {
     if (bytes.length > 0 && bytes[0] < 9) return open_saved(bytes);
     const text = new TextDecoder().decode(bytes);
-    if (plant && /^\ufeff?\s*\d{1,2}[ \t]+\S/.test(text)) {
+    if (/^\ufeff?\s*\d{1,2}[ \t]+\S/.test(text)) {
         const read = read_names(text, plant.n);
         if (read.fault) return `Names, ${read.fault}.`;
         ({ names } = read);
@@ -318,9 +322,10 @@ function open_link() {
     return !fault;
 }
 
+/// A sample of eight boards, with their names.
 function open_sample(name) {
     const list = read_names(sample_text('eight-boards-names.txt'), 8).names;
-    open_input(encoder.encode(sample_text(name)), CUBE, { names: list, at: 0 });
+    return open_input(encoder.encode(sample_text(name)), CUBE, { names: list, at: 0 });
 }
 
 // Keeping.
@@ -339,7 +344,10 @@ function save_plant(wrong) {
 }
 
 function save_input(wrong) {
-    if (!plant.is_fresh) return set_text(wrong, 'This plant began as a saved one, and an input begins with a fresh one. Save this moment instead, or copy a link.');
+    if (!plant.is_fresh) {
+        const why = 'This plant began as a saved one, and an input begins with a fresh one';
+        return set_text(wrong, `${why}. Save this moment instead, or copy a link.`);
+    }
     return keep('plant.txt', encoder.encode(input_of(plant.n, plant.entries.slice(0, plant.at))), 'text/plain');
 }
 
@@ -422,9 +430,12 @@ function wire() {
     on_submit('open', async () => {
         const [file] = by_id('open-file').files;
         const sample = by_id('open-sample').value;
-        const fault = sample
-            ? open_sample(sample)
-            : open_bytes(file ? new Uint8Array(await file.arrayBuffer()) : encoder.encode(by_id('open-text').value), chosen_wiring('open-wiring'));
+        const wiring = chosen_wiring('open-wiring');
+        const open = async () => {
+            if (sample) return open_sample(sample);
+            return file ? open_file(new Uint8Array(await file.arrayBuffer()), wiring) : open_input(encoder.encode(by_id('open-text').value), wiring);
+        };
+        const fault = await open();
         if (!fault) by_id('open-form').reset();
         return fault;
     });
@@ -440,7 +451,7 @@ function wire() {
         event.preventDefault();
         const [file] = event.dataTransfer.files;
         if (!file) return;
-        const fault = open_bytes(new Uint8Array(await file.arrayBuffer()), plant.wiring);
+        const fault = open_file(new Uint8Array(await file.arrayBuffer()), plant.wiring);
         if (fault) say(`${file.name} cannot be opened. ${fault}`, 'wrong');
     });
     addEventListener('hashchange', open_link);
@@ -449,7 +460,8 @@ function wire() {
 }
 
 function on_key(event) {
-    if (event.altKey || event.ctrlKey || event.metaKey || event.target.closest('input, select, textarea, dialog, .scroll')) return;
+    const is_for_other = event.target.closest('input, select, textarea, dialog') || event.target.matches('.scroll');
+    if (event.altKey || event.ctrlKey || event.metaKey || is_for_other) return;
     const steps = { ArrowLeft: -1, ArrowRight: 1 };
     const on_circle = event.target.closest('#circle');
     if (event.key in steps) {

@@ -18,7 +18,8 @@ export const names_text = (names) => names.map((name, board) => (name ? `${board
 export const called = (names, board) => (names[board] ? `${board} ${names[board]}` : String(board));
 export const mentioned = (names, board) => (names[board] ? `${board} (${names[board]})` : String(board));
 
+/// A name that is too long without its middle: names often differ in the number at their end.
 export function shortened(text, most) {
     const letters = [...text];
-    return letters.length <= most ? text : `${letters.slice(0, most - 1).join('')}…`;
+    return letters.length <= most ? text : `${letters.slice(0, most - 5).join('')}…${letters.slice(-4).join('')}`;
 }

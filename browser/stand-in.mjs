@@ -1,6 +1,6 @@
 // STAND-IN, to be replaced: until the library exports these, the page has them here: words, the reading of an input, the commissioning sheet's
 // last column for a board by its row, and the bound on rounds. Nothing else of the page decides any of this.
-import { CUBE } from './library.mjs';
+import { CUBE, is_live, row_of } from './library.mjs';
 
 const REFUSALS = [
     'accepted',
@@ -94,17 +94,19 @@ export function read_input(bytes) {
 
 const known = new Map();
 
-/// The commissioning sheet's last column: the most tests of a board with one more dead. Only the cube has it.
-export function sheet_of(library, wiring, n, board, row) {
-    if (wiring !== CUBE) return undefined;
+/// The commissioning sheet's last column, for a live board by its row: the most tests with one more dead. Only the cube has it.
+export function sheet_of(library, state, board) {
+    if (state.wiring !== CUBE || !is_live(state, board)) return undefined;
+    const { n } = state;
+    const row = row_of(state, board);
     const key = `${n} ${board} ${row.join('')}`;
     if (!known.has(key)) {
-        let most = library.due(wiring, n, board, row);
+        let most = library.due(n, board, row);
         for (let other = 0; other < n; other++) {
             if (other === board || row[other] === 1) continue;
             const more = row.slice();
             more[other] = 1;
-            most = Math.max(most, library.due(wiring, n, board, more));
+            most = Math.max(most, library.due(n, board, more));
         }
         known.set(key, most);
     }

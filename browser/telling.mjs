@@ -25,7 +25,7 @@ function new_exits(before, after) {
     for (let board = 0; board < after.n; board++) {
         if (!is_live(before, board) || is_live(after, board)) continue;
         const by = told_by(after, board);
-        told.push(`${board} ${words.status(status_of(after, board))}${by === NO_STATION ? '' : ` by ${by}`}`.replace(/^(\d+) crashed/, '$1 has crashed'));
+        told.push(`${board} ${words.status(status_of(after, board))}${by === NO_STATION ? '' : ` by ${by}`}`);
     }
     return told;
 }

@@ -78,10 +78,14 @@ class Browser {
     }
 }
 
+const wrong_of = (details) => details.exception?.description ?? details.text;
+
 export class Chromium extends Browser {
     static async start() {
         const folder = mkdtempSync(join(tmpdir(), 'chromium-'));
-        const words = ['--headless', '--no-sandbox', '--disable-gpu', '--hide-scrollbars', '--remote-debugging-pipe', `--user-data-dir=${folder}`, '--force-color-profile=srgb', 'about:blank'];
+        // A browser may refuse its sandbox to root; what it opens is a page of this machine alone.
+        const looks = ['--headless', '--no-sandbox', '--disable-gpu', '--hide-scrollbars', '--force-color-profile=srgb'];
+        const words = [...looks, '--remote-debugging-pipe', `--user-data-dir=${folder}`, 'about:blank'];
         const child = start('chromium', words, { stdio: ['ignore', 'ignore', 'ignore', 'pipe', 'pipe'] });
         const browser = new Chromium(child, folder);
         const answers = new Answers((text) => child.stdio[3].write(`${text}\0`));
@@ -98,8 +102,8 @@ export class Chromium extends Browser {
         const { sessionId } = await answers.ask('Target.attachToTarget', { targetId, flatten: true });
         browser.ask = (method, params = {}) => answers.ask(method, params, { sessionId });
         answers.told = ({ method, params }) => {
-            if (method === 'Runtime.consoleAPICalled') browser.console.push(params.args.map(({ value, description }) => value ?? description).join(' '));
-            if (method === 'Runtime.exceptionThrown') browser.console.push(params.exceptionDetails.exception?.description ?? params.exceptionDetails.text);
+            if (method === 'Runtime.consoleAPICalled') browser.console.push(params.args.map((said) => said.value ?? said.description).join(' '));
+            if (method === 'Runtime.exceptionThrown') browser.console.push(wrong_of(params.exceptionDetails));
             if (method === 'Log.entryAdded') browser.console.push(`${params.entry.source}: ${params.entry.text}`);
         };
         for (const domain of ['Page', 'Runtime', 'Log']) await browser.ask(`${domain}.enable`);
@@ -113,13 +117,13 @@ export class Chromium extends Browser {
 
     async value(expression) {
         const { result, exceptionDetails } = await this.ask('Runtime.evaluate', { expression, returnByValue: true, awaitPromise: true });
-        if (exceptionDetails) throw new Error(exceptionDetails.exception?.description ?? exceptionDetails.text);
+        if (exceptionDetails) throw new Error(wrong_of(exceptionDetails));
         return result.value;
     }
 
-    async look(width, height, scheme) {
+    async look(width, height, scheme, media = '') {
         await this.ask('Emulation.setDeviceMetricsOverride', { width, height, deviceScaleFactor: 1, mobile: false });
-        await this.ask('Emulation.setEmulatedMedia', { features: [{ name: 'prefers-color-scheme', value: scheme }] });
+        await this.ask('Emulation.setEmulatedMedia', { media, features: [{ name: 'prefers-color-scheme', value: scheme }] });
     }
 
     async key(name) {
@@ -127,18 +131,14 @@ export class Chromium extends Browser {
     }
 
     async picture(is_whole = false) {
-        const { data } = await this.ask('Page.captureScreenshot', { format: 'png', captureBeyondViewport: is_whole, ...(is_whole ? await this.whole() : {}) });
+        const part = is_whole ? await this.whole() : {};
+        const { data } = await this.ask('Page.captureScreenshot', { format: 'png', captureBeyondViewport: is_whole, ...part });
         return Buffer.from(data, 'base64');
     }
 
     async whole() {
         const { cssContentSize } = await this.ask('Page.getLayoutMetrics');
         return { clip: { ...cssContentSize, scale: 1 } };
-    }
-
-    async print() {
-        const { data } = await this.ask('Page.printToPDF', { printBackground: true });
-        return Buffer.from(data, 'base64');
     }
 }
 
