@@ -142,7 +142,7 @@ export class Circle {
         this.boards.forEach(({ group }, board) => group.classList.toggle('acts', entry?.board === board));
     }
 
-    /// From board to board, a little bent aside where another arrow may lie there.
+    /// From board to board; bent to the inside where another arrow may lie there.
     arrow(from, to, name, both, aside) {
         const [a, b] = [this.places[from], this.places[to]];
         const [dx, dy] = [b.x - a.x, b.y - a.y];
@@ -151,7 +151,9 @@ export class Circle {
         const [ux, uy] = [dx / length, dy / length];
         const start = [a.x + ux * gap, a.y + uy * gap];
         const end = [b.x - ux * gap, b.y - uy * gap];
-        const middle = [(a.x + b.x) / 2 - uy * aside * 2, (a.y + b.y) / 2 + ux * aside * 2];
+        const [x, y] = [(a.x + b.x) / 2, (a.y + b.y) / 2];
+        const bend = (ux * y - uy * x > 0 ? -2 : 2) * aside;
+        const middle = [x - uy * bend, y + ux * bend];
         const path = { d: `M${start.map(tidy)}Q${middle.map(tidy)} ${end.map(tidy)}`, class: `arrow ${name}`, 'marker-end': `url(#head-${name})` };
         if (both) path['marker-start'] = `url(#head-${name})`;
         return draw('path', path);

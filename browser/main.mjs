@@ -16,6 +16,7 @@ const samples = [...document.querySelectorAll('script[data-sample]')];
 const sample_text = (name) => samples.find((sample) => sample.dataset.sample === name).textContent;
 const narrow = matchMedia('(max-width: 40rem)');
 const encoder = new TextEncoder();
+const LONGEST_FILE = 4194304;
 
 let plant;
 let names = [];
@@ -229,8 +230,8 @@ function begin(state, is_fresh, schedule, further) {
             break;
         }
     }
+    names = further.names ?? (plant?.n === opened.n ? names : []);
     plant = opened;
-    names = further.names ?? [];
     saved_start = further.saved;
     if (further.at !== undefined && Number.isInteger(further.at)) plant.go(further.at);
     selected = plant.at > 0 ? plant.entries[plant.at - 1].board : 0;
@@ -283,14 +284,16 @@ function offer_mending(file, refused) {
     by_id('mend-changes').replaceChildren(...items);
     by_id('mend-form').onsubmit = () => {
         const saved = library.save(state);
-        if (saved.file) begin(state, false, [], { names, saved: saved.file });
+        if (saved.file) begin(state, false, [], { saved: saved.file });
         else say(`Refused: ${words.refusal(saved.refused)}.`, 'wrong');
     };
     by_id('mend-dialog').showModal();
 }
 
 /// A file may be a saved plant, names, or an input.
-function open_file(bytes, wiring) {
+async function open_file(file, wiring) {
+    if (file.size > LONGEST_FILE) return 'It is longer than any input or plant.';
+    const bytes = new Uint8Array(await file.arrayBuffer());
     if (bytes.length > 0 && bytes[0] < 9) return open_saved(bytes);
     const text = new TextDecoder().decode(bytes);
     if (/^\ufeff?\s*\d{1,2}[ \t]+\S/.test(text)) {
@@ -424,7 +427,7 @@ function wire() {
         const n = Number(by_id('new-size').value);
         const { state, refused } = library.fresh(chosen_wiring('wiring'), n);
         if (refused !== undefined) return `${words.refusal(refused)}.`;
-        begin(state, true, [], { names: n === plant.n ? names : [] });
+        begin(state, true, [], {});
         return undefined;
     });
     on_submit('open', async () => {
@@ -433,7 +436,7 @@ function wire() {
         const wiring = chosen_wiring('open-wiring');
         const open = async () => {
             if (sample) return open_sample(sample);
-            return file ? open_file(new Uint8Array(await file.arrayBuffer()), wiring) : open_input(encoder.encode(by_id('open-text').value), wiring);
+            return file ? open_file(file, wiring) : open_input(encoder.encode(by_id('open-text').value), wiring);
         };
         const fault = await open();
         if (!fault) by_id('open-form').reset();
@@ -451,7 +454,7 @@ function wire() {
         event.preventDefault();
         const [file] = event.dataTransfer.files;
         if (!file) return;
-        const fault = open_file(new Uint8Array(await file.arrayBuffer()), plant.wiring);
+        const fault = await open_file(file, plant.wiring);
         if (fault) say(`${file.name} cannot be opened. ${fault}`, 'wrong');
     });
     addEventListener('hashchange', open_link);

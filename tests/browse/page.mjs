@@ -246,6 +246,11 @@ async function files(browser) {
     await open(browser, link(2, [], 0));
     same(await drop(browser, saved), '', 'a dropped saved plant');
     compare(await browser.value('said()'), { ...expected, at: '0 of 0', entry: 'The saved plant as it was opened.' }, 'a dropped saved plant');
+    // names from a file, beside what is shown
+    same(await drop(browser, readFileSync(`${samples}/eight-boards-names.txt`)), '', 'dropped names');
+    const press = await browser.value(`document.querySelector('#boards tr[data-board="5"] button').textContent`);
+    same(press, '5 press', 'dropped names');
+    same(await browser.value(`typed('names', 'names-text', '')`), { is_open: false, wrong: '' }, 'no names');
     // its link, with an entry behind it
     await browser.value(`press('turn')`);
     const before = await browser.value('said()');
@@ -269,6 +274,18 @@ async function files(browser) {
     same(report, changes, "the mender's report");
     await browser.value(`document.querySelector('#mend-form [type=submit]').click() ?? true`);
     same((await browser.value('said()')).boards[2].status, 'crashed', 'the mended plant');
+}
+
+/// On the circle: the arrows choose a board and go to it; what is chosen can be given a turn.
+async function by_keys(browser) {
+    await open(browser, link(8, ['T 0'], 1));
+    await browser.value(`document.querySelector('#circle [tabindex="0"]').focus() ?? true`);
+    for (const [key, board] of [['ArrowDown', 1], ['ArrowDown', 2], ['ArrowUp', 1], ['ArrowUp', 0], ['ArrowUp', 7]]) {
+        await browser.key(key);
+        const chosen = await browser.value(`[document.activeElement.dataset.board, document.getElementById('board-heading').textContent]`);
+        same(chosen, [String(board), `Board ${board}`], `${key} on the circle`);
+    }
+    same(await browser.value(`document.querySelectorAll('#circle [tabindex="0"]').length`), 1, 'boards of the circle that a tab comes to');
 }
 
 async function is_usable(browser) {
@@ -335,8 +352,8 @@ async function take_pictures(browser) {
     const list = readFileSync(`${samples}/eight-boards-names.txt`, 'utf8').trimEnd().split('\n');
     const named = list.map((line) => line.replace(/^(\d+) (.*)$/, (_, board, text) => `&name${board}=${encodeURIComponent(text)}`)).join('');
     const out = sample('eight-boards-4-out.txt').slice(1);
-    const shots = [['page-board-4-out', link(8, out, 27, 'cube', named), 'light']];
-    for (const at of [1, 2, 4]) shots.push([`page-press-${at}`, link(8, sample('late-press.txt').slice(1), at, 'cube', named), 'light']);
+    const shots = [['page-board-4-out', link(8, out, 18, 'cube', named)]];
+    for (const at of [1, 2, 4]) shots.push([`page-press-${at}`, link(8, sample('late-press.txt').slice(1), at, 'cube', named)]);
     await browser.look(1280, 850, 'light');
     for (const [file, to] of shots) {
         await browser.open(to);
@@ -383,7 +400,7 @@ try {
     await play(browser, 4, sample('four-boards.txt').slice(1), 'ring');
     await play(browser, 11, simulator.entries(11, 100, 3, true), 'ring');
     await play_by_buttons(browser, 8, sample('eight-boards-4-out.txt').slice(1));
-    for (const test of [slots, drives, refusals, names_as_they_are, files, is_usable, times]) await test(browser);
+    for (const test of [slots, drives, refusals, names_as_they_are, files, by_keys, is_usable, times]) await test(browser);
     if (pictures) await take_pictures(browser);
     same(browser.console, [], 'the console');
 } catch (error) {
