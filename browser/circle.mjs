@@ -1,6 +1,6 @@
 // The boards around a circle, and the entry of the moment as an arrow.
-import { EXCHANGED, NO_REPLY, NO_STATION, TOLD_NOW, is_live, status_of } from './library.mjs';
-import { draw, set_class, set_text } from './elements.mjs';
+import { EXCHANGED, NO_REPLY, NO_STATION, TOLD_NOW, status_of } from './library.mjs';
+import { draw, set_attribute, set_class, set_text } from './elements.mjs';
 import { called, mentioned, shortened } from './names.mjs';
 import { words } from './stand-in.mjs';
 
@@ -117,6 +117,7 @@ export class Circle {
 
     show(plant, names, selected, lamp) {
         const { state } = plant;
+        const entry = plant.at > 0 ? plant.entries[plant.at - 1] : undefined;
         this.boards.forEach((shown, board) => {
             const status = status_of(state, board);
             if (shown.status !== status) {
@@ -125,21 +126,20 @@ export class Circle {
                 set_text(shown.sign, SIGNS[status]);
             }
             const is_selected = board === selected;
-            set_class(shown.group, `board ${STATUS_CLASSES[status]}${is_selected ? ' selected' : ''}`);
-            shown.group.setAttribute('tabindex', is_selected ? 0 : -1);
-            shown.group.setAttribute('aria-pressed', is_selected);
-            shown.group.setAttribute('aria-label', `Board ${mentioned(names, board)}, ${words.status(status)}`);
+            const further = `${is_selected ? ' selected' : ''}${entry?.board === board ? ' acts' : ''}`;
+            set_class(shown.group, `board ${STATUS_CLASSES[status]}${further}`);
+            set_attribute(shown.group, 'tabindex', is_selected ? 0 : -1);
+            set_attribute(shown.group, 'aria-pressed', is_selected);
+            set_attribute(shown.group, 'aria-label', `Board ${mentioned(names, board)}, ${words.status(status)}`);
         });
         const arrows = [];
-        if (lamp && is_live(state, lamp.of)) arrows.push(this.arrow(lamp.by, lamp.of, 'doubt', false, 26));
-        const entry = plant.at > 0 ? plant.entries[plant.at - 1] : undefined;
+        if (lamp) arrows.push(this.arrow(lamp.by, lamp.of, 'doubt', false, 26));
         if (entry && entry.line[1] !== NO_STATION) {
             const outcome = entry.line[2];
             const name = outcome === EXCHANGED ? 'exchanged' : outcome === NO_REPLY ? 'no-reply' : 'told';
             arrows.push(this.arrow(entry.board, entry.line[1], name, outcome === EXCHANGED, 0));
         }
         this.arrows.replaceChildren(...arrows);
-        this.boards.forEach(({ group }, board) => group.classList.toggle('acts', entry?.board === board));
     }
 
     /// From board to board; bent to the inside where another arrow may lie there.

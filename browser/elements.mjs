@@ -21,6 +21,8 @@ export function set_text(element, text) {
     if (element.textContent !== text) element.textContent = text;
 }
 
-export function set_class(element, name) {
-    if (element.getAttribute('class') !== name) element.setAttribute('class', name);
+export function set_attribute(element, name, value) {
+    if (element.getAttribute(name) !== String(value)) element.setAttribute(name, value);
 }
+
+export const set_class = (element, name) => set_attribute(element, 'class', name);

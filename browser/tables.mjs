@@ -1,7 +1,7 @@
 // The table of boards and the matrix of suspicions. Rows and cells are made once for a plant; a step changes what is another.
 import { MOST_ROUNDS_AGO, NOT_RECORDED, NO_STATION, is_live, rounds_ago, row_of, status_of, suspects, tests_of, told_by } from './library.mjs';
 import { SIGNS, status_class } from './circle.mjs';
-import { make, set_class, set_text } from './elements.mjs';
+import { make, set_attribute, set_class, set_text } from './elements.mjs';
 import { called } from './names.mjs';
 import { words } from './stand-in.mjs';
 
@@ -49,7 +49,7 @@ export class Boards {
             const made = tests_of(state, board);
             const is_above = most !== undefined && made > most;
             set_class(row, `${status_class(now)}${board === selected ? ' selected' : ''}`);
-            button.setAttribute('aria-pressed', board === selected);
+            set_attribute(button, 'aria-pressed', board === selected);
             set_text(sign, SIGNS[now] || '●');
             set_text(status, words.status(now));
             const texts = [told_text(state, board, names), ago_text(state, board), is_above ? `${made}, above` : String(made)];
