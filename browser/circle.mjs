@@ -50,16 +50,22 @@ export class Circle {
         let [width, height, around] = [660, 660, 285];
         if (has_labels && below) [width, height, around] = [450, 440, 170];
         else if (has_labels && beside) [width, height, around] = [900, 620, 235];
-        else if (has_labels) [width, height, around] = [830, 830, 235];
+        else if (has_labels) {
+            // as much room as the longest of the names takes
+            const longest = Math.max(...Array.from(names, (name) => [...shortened(name ?? '', 14)].length));
+            [width, height, around] = [800, 800, 355 - longest * turned_size(n) * 0.6];
+        }
+        this.around = around;
+        this.middle = has_labels && below ? -12 : 0;
         this.radius = Math.min(below || is_narrow ? 30 : 27, ((Math.PI * around) / n) * 0.78);
         this.svg.setAttribute('viewBox', `${-width / 2} ${-height / 2} ${width} ${height}`);
         this.places = Array.from({ length: n }, (_, board) => {
             const angle = (2 * Math.PI * board) / n - Math.PI / 2;
-            return { x: around * Math.cos(angle), y: around * Math.sin(angle) - (has_labels && below ? 12 : 0), angle };
+            return { x: around * Math.cos(angle), y: around * Math.sin(angle) + this.middle, angle };
         });
         this.arrows = draw('g', { class: 'arrows', 'aria-hidden': 'true' });
         this.boards = this.places.map((place, board) => this.board(place, board, plant, names, { has_labels, below, beside }));
-        const cable = draw('circle', { r: around, cy: has_labels && below ? -12 : 0, class: 'cable' });
+        const cable = draw('circle', { r: around, cy: this.middle, class: 'cable' });
         this.svg.replaceChildren(this.markers(), cable, this.arrows, ...this.boards.map(({ group }) => group));
     }
 
@@ -100,7 +106,7 @@ export class Circle {
             y: 5,
             'text-anchor': is_left ? 'end' : 'start',
             transform: `rotate(${is_left ? turned + 180 : turned})`,
-            'font-size': this.places.length > 40 ? 13 : 17,
+            'font-size': turned_size(this.places.length),
         };
         return draw('text', attributes, shortened(name, 14));
     }
@@ -142,9 +148,30 @@ export class Circle {
         this.arrows.replaceChildren(...arrows);
     }
 
-    /// From board to board; bent to the inside where another arrow may lie there.
+    /// From board to board: straight, or bent to the inside by so much; between boards that are near to each other along the inside of the circle.
     arrow(from, to, name, both, aside) {
         const [a, b] = [this.places[from], this.places[to]];
+        const path = this.is_near(a, b) ? this.along(a, b, aside) : this.across(a, b, aside);
+        const attributes = { d: path, class: `arrow ${name}`, 'marker-end': `url(#head-${name})` };
+        if (both) attributes['marker-start'] = `url(#head-${name})`;
+        return draw('path', attributes);
+    }
+
+    is_near(a, b) {
+        return Math.hypot(b.x - a.x, b.y - a.y) < this.around * 0.7;
+    }
+
+    along(a, b, aside) {
+        const inside = ({ x, y }, depth) => {
+            const part = 1 - depth / this.around;
+            return [x * part, (y - this.middle) * part + this.middle];
+        };
+        const gap = this.radius * 1.5;
+        const depth = gap + Math.hypot(b.x - a.x, b.y - a.y) * 0.35 + 14 + aside;
+        return curve(inside(a, gap), inside({ x: (a.x + b.x) / 2, y: (a.y + b.y) / 2 }, depth), inside(b, gap));
+    }
+
+    across(a, b, aside) {
         const [dx, dy] = [b.x - a.x, b.y - a.y];
         const length = Math.hypot(dx, dy);
         const gap = Math.min(this.radius * 1.5, length * 0.3);
@@ -153,11 +180,10 @@ export class Circle {
         const end = [b.x - ux * gap, b.y - uy * gap];
         const [x, y] = [(a.x + b.x) / 2, (a.y + b.y) / 2];
         const bend = (ux * y - uy * x > 0 ? -2 : 2) * aside;
-        const middle = [x - uy * bend, y + ux * bend];
-        const path = { d: `M${start.map(tidy)}Q${middle.map(tidy)} ${end.map(tidy)}`, class: `arrow ${name}`, 'marker-end': `url(#head-${name})` };
-        if (both) path['marker-start'] = `url(#head-${name})`;
-        return draw('path', path);
+        return curve(start, [x - uy * bend, y + ux * bend], end);
     }
 }
 
 const tidy = (number) => number.toFixed(1);
+const curve = (start, middle, end) => `M${start.map(tidy)}Q${middle.map(tidy)} ${end.map(tidy)}`;
+const turned_size = (n) => (n > 40 ? 13 : 17);

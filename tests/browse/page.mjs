@@ -296,6 +296,11 @@ async function is_usable(browser) {
         same(widths, [360, false], `the width of ${n} boards at 360 pixels`);
     }
     await browser.look(1280, 900, 'light');
+    // few names of many boards, and an arrow between boards that are near to each other
+    for (const [n, further] of [[2, ''], [12, '&name5=press'], [16, '&name5=press'], [64, '&name63=press'], [64, '']]) {
+        await open(browser, link(n, ['L 1', 'T 0'], 1, 'cube', further));
+        check(!(await browser.value(`/NaN|undefined/.test(document.getElementById('circle').outerHTML)`)), `no place on the circle: ${n}${further}`);
+    }
     const labels = `element.getAttribute('aria-label') || element.getAttribute('aria-labelledby') || element.labels?.length`;
     const named = `${labels} || element.textContent.trim()`;
     const fields = `[...document.querySelectorAll('button, input, select, textarea, [role=button], [role=region]')]`;
