@@ -1,0 +1,189 @@
+// The boards around a circle, and the entry of the moment as an arrow.
+import { EXCHANGED, NO_REPLY, NO_STATION, TOLD_NOW, status_of } from './library.mjs';
+import { draw, set_attribute, set_class, set_text } from './elements.mjs';
+import { called, mentioned, shortened } from './names.mjs';
+import { words } from './stand-in.mjs';
+
+/// Each status has a sign and a form of its own, so that colour is not needed.
+export const SIGNS = ['', '✕', '!', '–'];
+const STATUS_CLASSES = ['live', 'crashed', 'told', 'alone'];
+export const status_class = (status) => STATUS_CLASSES[status];
+
+function mark(status, r) {
+    if (status === 1) return draw('rect', { x: -r * 0.9, y: -r * 0.9, width: r * 1.8, height: r * 1.8, rx: r * 0.2, class: 'form' });
+    if (status === 2) return draw('path', { d: `M0 ${-r * 1.2}L${r * 1.2} 0L0 ${r * 1.2}L${-r * 1.2} 0Z`, class: 'form' });
+    return draw('circle', { r, class: 'form' });
+}
+
+export function legend(list) {
+    for (const status of [0, 1, 2, 3]) {
+        const item = document.createElement('li');
+        const sign = draw('svg', { viewBox: '-14 -14 28 28', width: 22, height: 22, 'aria-hidden': 'true' });
+        sign.append(draw('g', { class: `board ${STATUS_CLASSES[status]}` }, mark(status, 10), draw('text', { y: 5, class: 'sign' }, SIGNS[status])));
+        item.append(sign, words.status(status));
+        list.append(item);
+    }
+    const arrows = [['exchanged', words.outcome(EXCHANGED)], ['no-reply', words.outcome(NO_REPLY)], ['told', words.outcome(TOLD_NOW)]];
+    for (const [name, text] of [...arrows, ['doubt', 'doubt lamp']]) {
+        const item = document.createElement('li');
+        const line = draw('svg', { viewBox: '0 0 40 14', width: 40, height: 14, 'aria-hidden': 'true' });
+        line.append(draw('path', { d: 'M10 7H30', class: `arrow ${name}` }), draw('path', { d: 'M30 2L38 7L30 12Z', class: `head ${name}` }));
+        if (name === 'exchanged') line.append(draw('path', { d: 'M10 2L2 7L10 12Z', class: `head ${name}` }));
+        item.append(line, text);
+        list.append(item);
+    }
+}
+
+export class Circle {
+    constructor(svg, select) {
+        this.svg = svg;
+        this.select = select;
+    }
+
+    /// Lays the boards out anew: for another plant, other names or another width.
+    lay_out(plant, names, is_narrow) {
+        const { n } = plant;
+        const has_names = names.some(Boolean);
+        const beside = n <= 12;
+        const below = is_narrow && n <= 10;
+        const has_labels = has_names && (!is_narrow || below);
+        let [width, height, around] = [660, 660, 285];
+        if (has_labels && below) [width, height, around] = [450, 440, 170];
+        else if (has_labels && beside) [width, height, around] = [900, 620, 235];
+        else if (has_labels) {
+            // as much room as the longest of the names takes
+            const longest = Math.max(...Array.from(names, (name) => [...shortened(name ?? '', 14)].length));
+            [width, height, around] = [800, 800, 355 - longest * turned_size(n) * 0.6];
+        }
+        this.around = around;
+        this.middle = has_labels && below ? -12 : 0;
+        this.radius = Math.min(below || is_narrow ? 30 : 27, ((Math.PI * around) / n) * 0.78);
+        this.svg.setAttribute('viewBox', `${-width / 2} ${-height / 2} ${width} ${height}`);
+        this.places = Array.from({ length: n }, (_, board) => {
+            const angle = (2 * Math.PI * board) / n - Math.PI / 2;
+            return { x: around * Math.cos(angle), y: around * Math.sin(angle) + this.middle, angle };
+        });
+        this.arrows = draw('g', { class: 'arrows', 'aria-hidden': 'true' });
+        this.boards = this.places.map((place, board) => this.board(place, board, plant, names, { has_labels, below, beside }));
+        const cable = draw('circle', { r: around, cy: this.middle, class: 'cable' });
+        this.svg.replaceChildren(this.markers(), cable, this.arrows, ...this.boards.map(({ group }) => group));
+    }
+
+    board(place, board, plant, names, { has_labels, below, beside }) {
+        const r = this.radius;
+        const transform = `translate(${tidy(place.x)} ${tidy(place.y)})`;
+        const group = draw('g', { transform, role: 'button', tabindex: -1, 'data-board': board });
+        const title = draw('title', {}, called(names, board));
+        const form = draw('g');
+        const number = draw('text', { class: 'number', y: r * 0.36, 'font-size': (r * (board > 9 ? 0.95 : 1.05)).toFixed(1) }, String(board));
+        const sign = draw('text', { class: 'badge', x: r * 0.95, y: -r * 0.62, 'font-size': (r * 0.95).toFixed(1) });
+        group.append(title, draw('circle', { r: r * 1.45, class: 'halo' }), form, number, sign);
+        if (has_labels && names[board]) group.append(this.label(place, names[board], { below, beside }));
+        group.addEventListener('click', () => this.select(board, true));
+        return { group, form, sign, status: undefined };
+    }
+
+    label(place, name, { below, beside }) {
+        const r = this.radius;
+        if (below) return draw('text', { class: 'name', y: r * 1.45 + 13, 'text-anchor': 'middle', 'font-size': 15 }, shortened(name, 14));
+        const [cos, sin] = [Math.cos(place.angle), Math.sin(place.angle)];
+        if (beside) {
+            const is_middle = Math.abs(cos) < 0.3;
+            const attributes = {
+                class: 'name',
+                x: is_middle ? 0 : Math.sign(cos) * (r * 1.45 + 8),
+                y: is_middle ? Math.sign(sin) * (r * 1.45 + 14) + 7 : 7 + sin * 8,
+                'text-anchor': is_middle ? 'middle' : cos > 0 ? 'start' : 'end',
+                'font-size': 21,
+            };
+            return draw('text', attributes, shortened(name, 16));
+        }
+        const turned = (place.angle * 180) / Math.PI;
+        const is_left = cos < -1e-9;
+        const attributes = {
+            class: 'name',
+            x: (is_left ? -1 : 1) * (r * 1.45 + 6),
+            y: 5,
+            'text-anchor': is_left ? 'end' : 'start',
+            transform: `rotate(${is_left ? turned + 180 : turned})`,
+            'font-size': turned_size(this.places.length),
+        };
+        return draw('text', attributes, shortened(name, 14));
+    }
+
+    markers() {
+        const defs = draw('defs');
+        for (const name of ['exchanged', 'told', 'no-reply', 'doubt']) {
+            const size = { viewBox: '0 0 10 10', refX: 8, refY: 5, markerWidth: 5.5, markerHeight: 5.5 };
+            const marker = { id: `head-${name}`, orient: 'auto-start-reverse', ...size };
+            defs.append(draw('marker', marker, draw('path', { d: 'M0 0L10 5L0 10Z', class: `head ${name}` })));
+        }
+        return defs;
+    }
+
+    show(plant, names, selected, lamp) {
+        const { state } = plant;
+        const entry = plant.at > 0 ? plant.entries[plant.at - 1] : undefined;
+        this.boards.forEach((shown, board) => {
+            const status = status_of(state, board);
+            if (shown.status !== status) {
+                shown.status = status;
+                shown.form.replaceChildren(mark(status, this.radius));
+                set_text(shown.sign, SIGNS[status]);
+            }
+            const is_selected = board === selected;
+            const further = `${is_selected ? ' selected' : ''}${entry?.board === board ? ' acts' : ''}`;
+            set_class(shown.group, `board ${STATUS_CLASSES[status]}${further}`);
+            set_attribute(shown.group, 'tabindex', is_selected ? 0 : -1);
+            set_attribute(shown.group, 'aria-pressed', is_selected);
+            set_attribute(shown.group, 'aria-label', `Board ${mentioned(names, board)}, ${words.status(status)}`);
+        });
+        const arrows = [];
+        if (lamp) arrows.push(this.arrow(lamp.by, lamp.of, 'doubt', false, 26));
+        if (entry && entry.line[1] !== NO_STATION) {
+            const outcome = entry.line[2];
+            const name = outcome === EXCHANGED ? 'exchanged' : outcome === NO_REPLY ? 'no-reply' : 'told';
+            arrows.push(this.arrow(entry.board, entry.line[1], name, outcome === EXCHANGED, 0));
+        }
+        this.arrows.replaceChildren(...arrows);
+    }
+
+    /// From board to board: straight, or bent to the inside by so much; between boards that are near to each other along the inside of the circle.
+    arrow(from, to, name, both, aside) {
+        const [a, b] = [this.places[from], this.places[to]];
+        const path = this.is_near(a, b) ? this.along(a, b, aside) : this.across(a, b, aside);
+        const attributes = { d: path, class: `arrow ${name}`, 'marker-end': `url(#head-${name})` };
+        if (both) attributes['marker-start'] = `url(#head-${name})`;
+        return draw('path', attributes);
+    }
+
+    is_near(a, b) {
+        return Math.hypot(b.x - a.x, b.y - a.y) < this.around * 0.7;
+    }
+
+    along(a, b, aside) {
+        const inside = ({ x, y }, depth) => {
+            const part = 1 - depth / this.around;
+            return [x * part, (y - this.middle) * part + this.middle];
+        };
+        const gap = this.radius * 1.5;
+        const depth = gap + Math.hypot(b.x - a.x, b.y - a.y) * 0.35 + 14 + aside;
+        return curve(inside(a, gap), inside({ x: (a.x + b.x) / 2, y: (a.y + b.y) / 2 }, depth), inside(b, gap));
+    }
+
+    across(a, b, aside) {
+        const [dx, dy] = [b.x - a.x, b.y - a.y];
+        const length = Math.hypot(dx, dy);
+        const gap = Math.min(this.radius * 1.5, length * 0.3);
+        const [ux, uy] = [dx / length, dy / length];
+        const start = [a.x + ux * gap, a.y + uy * gap];
+        const end = [b.x - ux * gap, b.y - uy * gap];
+        const [x, y] = [(a.x + b.x) / 2, (a.y + b.y) / 2];
+        const bend = (ux * y - uy * x > 0 ? -2 : 2) * aside;
+        return curve(start, [x - uy * bend, y + ux * bend], end);
+    }
+}
+
+const tidy = (number) => number.toFixed(1);
+const curve = (start, middle, end) => `M${start.map(tidy)}Q${middle.map(tidy)} ${end.map(tidy)}`;
+const turned_size = (n) => (n > 40 ? 13 : 17);

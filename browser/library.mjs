@@ -1,0 +1,149 @@
+// The calls of include/vcube.h that the page makes, and the places of bytes in a table as that header tells them. No rule of the watch stands here.
+import { Cell } from './module.mjs';
+
+export const CUBE = 1;
+export const RING = 2;
+export const TURN = 1;
+export const LATE_TURN = 2;
+export const CRASH = 3;
+export const NO_STATION = 255;
+export const NOT_RECORDED = 254;
+export const MOST_ROUNDS_AGO = 255;
+export const LIVE = 0;
+export const EXCHANGED = 1;
+export const TOLD_NOW = 2;
+export const NO_REPLY = 3;
+export const CRASHED_NOW = 4;
+export const TESTED_TOLD = 5;
+export const MOST_ENTRIES = 4096;
+const HEAD = 6;
+
+/// Of a state { wiring, n, table, rounds, tests } line by line.
+export const line_of = (state, board) => board * (state.n + HEAD);
+export const status_of = (state, board) => state.table[line_of(state, board)];
+export const tests_of = (state, board) => state.table[line_of(state, board) + 3];
+export const told_by = (state, board) => state.table[line_of(state, board) + 4];
+export const rounds_ago = (state, board) => state.table[line_of(state, board) + 5];
+export const suspects = (state, board, other) => state.table[line_of(state, board) + HEAD + other] === 1;
+export const is_live = (state, board) => status_of(state, board) === LIVE;
+export const row_of = (state, board) => state.table.subarray(line_of(state, board) + HEAD, line_of(state, board) + HEAD + state.n);
+export const copy_of = (state) => ({ ...state, table: state.table.slice() });
+
+export const saved_length = (n) => 19 + n * (n + 10);
+
+export class Library {
+    constructor(module) {
+        this.module = module;
+    }
+
+    /// A plant that begins, or the number of the refusal.
+    fresh(wiring, n) {
+        const table = new Uint8Array(n >= 0 && n <= 1024 ? n * (n + HEAD) : 0);
+        const number = this.module.call('vcube_fresh_table', BigInt(wiring), BigInt(Math.max(0, n)), table);
+        return number === 0 ? { state: { wiring, n, table, rounds: 0, tests: 0 } } : { refused: number };
+    }
+
+    /// Carries out one entry in the state. Gives the refusal, or the line of the run sheet.
+    run(state, kind, board) {
+        const sheet = new Uint8Array(4);
+        const [rounds, tests, taken] = [new Cell(4, state.rounds), new Cell(4, state.tests), new Cell(8)];
+        const schedule = Uint8Array.of(kind, board);
+        const call = ['vcube_run', BigInt(state.wiring), BigInt(state.n), state.table, rounds, tests, schedule, sheet, taken];
+        const refused = this.module.call(...call);
+        [state.rounds, state.tests] = [rounds.value, tests.value];
+        return refused === 0 ? { line: sheet } : { refused };
+    }
+
+    /// Carries out many entries that were taken before.
+    run_all(state, schedule) {
+        const sheet = new Uint8Array(2 * schedule.length);
+        const [rounds, tests, taken] = [new Cell(4, state.rounds), new Cell(4, state.tests), new Cell(8)];
+        this.module.call('vcube_run', BigInt(state.wiring), BigInt(state.n), state.table, rounds, tests, schedule, sheet, taken);
+        [state.rounds, state.tests] = [rounds.value, tests.value];
+    }
+
+    grant(state, last) {
+        const board = new Cell(8);
+        const refused = this.module.call('vcube_grant', BigInt(state.wiring), BigInt(state.n), state.table, BigInt(last), board);
+        return refused === 0 ? { board: board.value } : { refused };
+    }
+
+    drive(state, last) {
+        const [rounds, tests] = [new Cell(4, state.rounds), new Cell(4, state.tests)];
+        const [granted, grants] = [new Cell(8, last), new Cell(8)];
+        const refused = this.module.call('vcube_drive', BigInt(state.wiring), BigInt(state.n), state.table, rounds, tests, granted, grants);
+        [state.rounds, state.tests] = [rounds.value, tests.value];
+        return { refused, last: granted.value };
+    }
+
+    /// The pair of the doubt lamp, or nothing if it is out.
+    lamp(state) {
+        const [by, of] = [new Cell(8), new Cell(8)];
+        const refused = this.module.call('vcube_doubt_lamp', BigInt(state.wiring), BigInt(state.n), state.table, by, of);
+        return refused !== 0 || by.value === NO_STATION ? undefined : { by: by.value, of: of.value };
+    }
+
+    save(state) {
+        const file = new Uint8Array(saved_length(state.n));
+        const refused = this.module.call('vcube_save', BigInt(state.n), state.table, state.rounds, state.tests, file);
+        return refused === 0 ? { file } : { refused };
+    }
+
+    load(file) {
+        const size = new Cell(8);
+        const refused = this.module.call('vcube_saved_size', file, size);
+        if (refused !== 0) return { refused };
+        const [n, rounds, tests] = [new Cell(8), new Cell(4), new Cell(4)];
+        const table = new Uint8Array(size.value * (size.value + HEAD));
+        const number = this.module.call('vcube_load', file, table, n, rounds, tests);
+        if (number !== 0) return { refused: number };
+        return { state: { wiring: CUBE, n: n.value, table, rounds: rounds.value, tests: tests.value } };
+    }
+
+    /// A file of edition 1, as a saved plant.
+    convert(file) {
+        const length = new Cell(8);
+        const refused = this.module.call('vcube_converted_length', file, length);
+        if (refused !== 0) return { refused };
+        const saved = new Uint8Array(length.value);
+        const number = this.module.call('vcube_convert', file, saved);
+        return number === 0 ? { file: saved } : { refused: number };
+    }
+
+    /// Mends the table in the state. Gives the changes: board, byte of its line, before, after.
+    mend(state) {
+        const report = new Uint8Array(4 * state.table.length);
+        const changes = new Cell(8);
+        const refused = this.module.call('vcube_mend', BigInt(state.wiring), BigInt(state.n), state.table, report, changes);
+        if (refused !== 0) return { refused };
+        const width = state.n + HEAD;
+        return {
+            changes: Array.from({ length: changes.value }, (_, k) => {
+                const offset = 256 * report[4 * k] + report[4 * k + 1];
+                return { board: Math.floor(offset / width), byte: offset % width, before: report[4 * k + 2], after: report[4 * k + 3] };
+            }),
+        };
+    }
+
+    /// How many tests are due on the cube for a board with this row, in a plant that is fresh otherwise.
+    due(n, board, row) {
+        const { state } = this.fresh(CUBE, n);
+        state.table.set(row, line_of(state, board) + HEAD);
+        const count = new Cell(8);
+        this.module.call('vcube_assignment', BigInt(n), state.table, BigInt(board), new Uint8Array(2 * (n - 1)), count);
+        return count.value;
+    }
+}
+
+/// The state in a saved plant whose form is right and whose lines are not: the load said 3 or 4, which come behind all of the form. The places
+/// are those of the header: opening 4 bytes, size 4, tally 11, and line fields of n + 10.
+export function lines_of_saved(file) {
+    const n = file[7];
+    const view = new DataView(file.buffer, file.byteOffset, file.byteLength);
+    const table = new Uint8Array(n * (n + HEAD));
+    for (let board = 0; board < n; board++) {
+        const at = 19 + board * (n + 10) + 4;
+        table.set(file.subarray(at, at + n + HEAD), board * (n + HEAD));
+    }
+    return { wiring: CUBE, n, table, rounds: view.getUint32(11), tests: view.getUint32(15) };
+}

@@ -1,0 +1,492 @@
+// The page: what is opened, what the buttons do, and what is shown of a moment.
+import { CRASH, CUBE, LATE_TURN, Library, MOST_ENTRIES, NO_STATION, RING, TURN } from './library.mjs';
+import { copy_of, is_live, lines_of_saved, status_of, suspects, told_by } from './library.mjs';
+import { Boards, Matrix, ago_text, suspected_by, told_text } from './tables.mjs';
+import { Circle, legend } from './circle.mjs';
+import { Module } from './module.mjs';
+import { Plant } from './plant.mjs';
+import { bound_of, read_input, sheet_of, words } from './stand-in.mjs';
+import { by_id, make, set_class, set_text } from './elements.mjs';
+import { called, mentioned, names_text, read_names } from './names.mjs';
+import { from_base64, input_of, link_of, read_link } from './link.mjs';
+import { tell, would } from './telling.mjs';
+
+const library = new Library(await Module.of(from_base64(by_id('module').textContent.trim())));
+const samples = [...document.querySelectorAll('script[data-sample]')];
+const sample_text = (name) => samples.find((sample) => sample.dataset.sample === name).textContent;
+const narrow = matchMedia('(max-width: 40rem)');
+const encoder = new TextEncoder();
+const LONGEST_FILE = 4194304;
+
+let plant;
+let names = [];
+let selected = 0;
+let saved_start;
+let playing;
+
+const circle = new Circle(by_id('circle'), select);
+const boards = new Boards(by_id('boards'), select);
+const matrix = new Matrix(by_id('matrix'));
+
+function say(text, kind = 'note') {
+    const message = by_id('message');
+    set_class(message, `message ${kind}`);
+    message.textContent = text;
+}
+
+// What is shown of the moment.
+
+/// What each board's slot is timed for: by its row as it was when this round began.
+function timed_slots() {
+    const began = plant.round_began();
+    if (plant.timed?.began !== began || plant.timed.of !== plant.entries[began - 1]) {
+        const state = plant.state_at(began);
+        const slots = Array.from({ length: plant.n }, (_, board) => sheet_of(library, state, board));
+        plant.timed = { began, of: plant.entries[began - 1], slots };
+    }
+    return plant.timed.slots;
+}
+
+function all_known(state) {
+    for (let board = 0; board < state.n; board++) {
+        if (!is_live(state, board)) continue;
+        for (let other = 0; other < state.n; other++) if (!is_live(state, other) && !suspects(state, board, other)) return false;
+    }
+    return true;
+}
+
+/// How many rounds until all live boards know all dead ones, if they are driven from here.
+function known_text(state) {
+    const dead = Array.from({ length: state.n }, (_, board) => board).filter((board) => !is_live(state, board));
+    if (dead.length === 0) return 'none is dead';
+    if (dead.length === state.n) return 'no board is live';
+    if (all_known(state)) return 'now';
+    const driven = copy_of(state);
+    let last = plant.last_granted();
+    for (let rounds = 1; rounds <= 64; rounds++) {
+        const answer = library.drive(driven, last);
+        if (answer.refused !== 0) return words.refusal(answer.refused);
+        last = answer.last;
+        if (all_known(driven)) return rounds === 1 ? 'when this round closes, if driven on' : `in ${rounds} rounds, if driven on`;
+    }
+    return 'not in 64 rounds, if driven on';
+}
+
+function show_facts(lamp) {
+    const { state } = plant;
+    set_text(by_id('rounds'), state.rounds.toLocaleString('en'));
+    set_text(by_id('tests'), state.tests.toLocaleString('en'));
+    const granted = library.grant(state, plant.last_granted());
+    set_text(by_id('granted'), granted.refused === undefined ? called(names, granted.board) : words.refusal(granted.refused));
+    set_text(by_id('lamp'), lamp ? `${mentioned(names, lamp.by)} suspects ${mentioned(names, lamp.of)}` : 'out');
+    set_class(by_id('lamp'), lamp ? 'lamp lit' : 'lamp');
+    set_text(by_id('known'), known_text(state));
+    const bound = bound_of(plant.wiring, plant.n);
+    set_text(by_id('bound'), `at most ${bound} closed ${bound === 1 ? 'round' : 'rounds'} from the start of a round with the lamp out`);
+    set_text(by_id('grant'), granted.refused === undefined ? `Grant the next: ${granted.board}` : 'Grant the next');
+}
+
+function show_board(timed) {
+    const { state } = plant;
+    set_text(by_id('board-heading'), `Board ${called(names, selected)}`);
+    const others = suspected_by(state, selected);
+    const facts = [['Status', words.status(status_of(state, selected))]];
+    if (told_by(state, selected) !== NO_STATION) facts.push(['Told by', told_text(state, selected, names)]);
+    if (!is_live(state, selected)) facts.push(['How long ago', ago_text(state, selected)]);
+    facts.push(['Suspects', others.length === 0 ? 'nobody' : others.map((other) => mentioned(names, other)).join(', ')]);
+    const most = timed[selected];
+    if (most !== undefined && is_live(state, selected)) facts.push(['Slot is timed for', most === 1 ? '1 test' : `${most} tests`]);
+    by_id('board-facts').replaceChildren(...facts.flatMap(([term, text]) => [make('dt', { textContent: term }), make('dd', { textContent: text })]));
+    const turn = library.run(copy_of(state), TURN, selected);
+    set_text(by_id('preview'), `A turn now: ${would(turn, names)}.`);
+}
+
+function show_history() {
+    const moment = by_id('moment');
+    moment.max = plant.length;
+    moment.value = plant.at;
+    moment.setAttribute('aria-valuetext', `entry ${plant.at} of ${plant.length}`);
+    set_text(by_id('moment-text'), `${plant.at} of ${plant.length}`);
+    by_id('first').disabled = by_id('back').disabled = plant.at === 0;
+    by_id('last').disabled = by_id('forward').disabled = plant.at === plant.length;
+    by_id('next-round').disabled = plant.next(plant.closed) === undefined;
+    by_id('next-exit').disabled = plant.next(plant.had_exit) === undefined;
+}
+
+function show() {
+    const lamp = library.lamp(plant.state);
+    const timed = timed_slots();
+    set_text(by_id('entry'), tell(plant, names));
+    circle.show(plant, names, selected, lamp);
+    boards.show(plant, names, selected, timed);
+    matrix.show(plant);
+    show_facts(lamp);
+    show_board(timed);
+    show_history();
+}
+
+function lay_out() {
+    selected = Math.min(selected, plant.n - 1);
+    const wiring = plant.wiring === RING ? 'ring' : 'cube';
+    by_id('main').dataset.size = plant.n <= 16 ? 'small' : 'large';
+    set_text(by_id('plant-line'), `${plant.n} boards, wired as the ${wiring}`);
+    circle.lay_out(plant, names, narrow.matches);
+    boards.lay_out(plant, names);
+    matrix.lay_out(plant, names);
+    show();
+}
+
+function select(board, focuses) {
+    selected = board;
+    say('');
+    show();
+    if (focuses) by_id('circle').querySelector(`[data-board="${board}"]`).focus();
+}
+
+// Trying.
+
+/// Takes an entry at the moment shown. Says what the library refuses.
+function take(kind, board) {
+    if (plant.is_full) {
+        stop();
+        say(`An input has ${MOST_ENTRIES.toLocaleString('en')} entries at most. Save this moment, and go on from it.`, 'wrong');
+        return false;
+    }
+    const dropped = plant.length - plant.at;
+    const refused = plant.take(kind, board);
+    if (refused !== undefined) {
+        stop();
+        say(`Refused for board ${mentioned(names, board)}: ${words.refusal(refused)}. Nothing was changed.`, 'wrong');
+        return false;
+    }
+    const what = dropped === 1 ? 'The entry that followed this moment is' : `The ${dropped} entries that followed this moment are`;
+    say(dropped > 0 ? `${what} dropped.` : '');
+    return true;
+}
+
+function grant_next() {
+    const granted = library.grant(plant.state, plant.last_granted());
+    if (granted.refused !== undefined) {
+        stop();
+        say(`Refused: ${words.refusal(granted.refused)}. Nothing was changed.`, 'wrong');
+        return false;
+    }
+    return take(TURN, granted.board);
+}
+
+/// Grants until the entry that was taken is such a one.
+function grant_until(is_there, most_rounds) {
+    const first = plant.state.rounds;
+    while (grant_next() && !is_there.call(plant, plant.at)) {
+        if (plant.state.rounds - first > most_rounds) {
+            say(`No board left in ${most_rounds} rounds.`);
+            break;
+        }
+    }
+    show();
+}
+
+function stop() {
+    clearInterval(playing);
+    playing = undefined;
+    set_text(by_id('play'), 'Play');
+    by_id('entry').setAttribute('aria-live', 'polite');
+    by_id('play').setAttribute('aria-pressed', 'false');
+}
+
+function play() {
+    if (playing !== undefined) return stop();
+    by_id('play').setAttribute('aria-pressed', 'true');
+    set_text(by_id('play'), 'Pause');
+    by_id('entry').setAttribute('aria-live', 'off');
+    playing = setInterval(() => {
+        if (plant.at < plant.length) plant.go(plant.at + 1);
+        else grant_next();
+        show();
+    }, 1000 / Number(by_id('speed').value));
+    return undefined;
+}
+
+function go(to) {
+    if (to === undefined) return;
+    stop();
+    say('');
+    plant.go(to);
+    show();
+}
+
+// Opening.
+
+/// Begins with a state. The schedule's entries are carried out; where one is refused, the entries before it stay.
+function begin(state, is_fresh, schedule, further) {
+    stop();
+    const opened = new Plant(library, state, is_fresh);
+    let text = '';
+    for (let k = 0; k < schedule.length; k += 2) {
+        const refused = opened.take(schedule[k], schedule[k + 1]);
+        if (refused !== undefined) {
+            const which = `entry ${k / 2 + 1}, line ${k / 2 + 2} (board ${schedule[k + 1]})`;
+            text = `Refused at ${which}: ${words.refusal(refused)}. The entries before it were carried out.`;
+            break;
+        }
+    }
+    names = further.names ?? (plant?.n === opened.n ? names : []);
+    plant = opened;
+    saved_start = further.saved;
+    if (further.at !== undefined && Number.isInteger(further.at)) plant.go(further.at);
+    selected = plant.at > 0 ? plant.entries[plant.at - 1].board : 0;
+    say(text, 'wrong');
+    lay_out();
+    if (location.hash.length > 1 && !further.is_link) history.replaceState(undefined, '', ' ');
+}
+
+/// Gives why the input cannot be opened, or nothing.
+function open_input(bytes, wiring, further = {}) {
+    const read = read_input(bytes);
+    if (read.fault) return `Line ${read.line}: ${read.fault}.`;
+    const { state, refused } = library.fresh(wiring, read.size);
+    if (refused !== undefined) return `Line 1: ${words.refusal(refused)}.`;
+    begin(state, true, read.schedule, further);
+    return undefined;
+}
+
+function open_saved(file, further = {}) {
+    const loaded = library.load(file);
+    if (loaded.state) {
+        begin(loaded.state, false, further.schedule ?? [], { ...further, saved: file });
+        return undefined;
+    }
+    if (loaded.refused === 21) {
+        const converted = library.convert(file);
+        if (converted.file && library.load(converted.file).state) {
+            open_saved(converted.file, further);
+            say('This was a file of edition 1: it was converted.');
+            return undefined;
+        }
+    }
+    if (loaded.refused === 3 || loaded.refused === 4) {
+        offer_mending(file, loaded.refused);
+        return undefined;
+    }
+    return `Refused: ${words.refusal(loaded.refused)}.`;
+}
+
+const BYTES = ['status', 'next distance', 'pass finished', 'tests made', 'told by', 'rounds ago'];
+
+function offer_mending(file, refused) {
+    const state = lines_of_saved(file);
+    const { changes } = library.mend(state);
+    set_text(by_id('mend-why'), `${words.refusal(refused)}. Mended it has ${changes.length} changed ${changes.length === 1 ? 'byte' : 'bytes'}:`);
+    const items = changes.map(({ board, byte, before, after }) => {
+        const what = BYTES[byte] ?? `about board ${byte - BYTES.length}`;
+        return make('li', { textContent: `board ${board}, ${what}: ${before} became ${after}` });
+    });
+    by_id('mend-changes').replaceChildren(...items);
+    by_id('mend-form').onsubmit = () => {
+        const saved = library.save(state);
+        if (saved.file) begin(state, false, [], { saved: saved.file });
+        else say(`Refused: ${words.refusal(saved.refused)}.`, 'wrong');
+    };
+    by_id('mend-dialog').showModal();
+}
+
+/// A file may be a saved plant, names, or an input.
+async function open_file(file, wiring) {
+    if (file.size > LONGEST_FILE) return 'It is longer than any input or plant.';
+    const bytes = new Uint8Array(await file.arrayBuffer());
+    if (bytes.length > 0 && bytes[0] < 9) return open_saved(bytes);
+    const text = new TextDecoder().decode(bytes);
+    if (/^\ufeff?\s*\d{1,2}[ \t]+\S/.test(text)) {
+        const read = read_names(text, plant.n);
+        if (read.fault) return `Names, ${read.fault}.`;
+        ({ names } = read);
+        lay_out();
+        return undefined;
+    }
+    return open_input(bytes, wiring);
+}
+
+function open_link() {
+    const link = read_link(location.hash.slice(1));
+    if (!link) return false;
+    const further = { names: link.names, at: link.at, is_link: true };
+    let fault;
+    try {
+        if (link.saved === undefined) {
+            fault = open_input(encoder.encode(link.input), link.wiring, further);
+        } else {
+            const read = read_input(encoder.encode(`2${link.entries}`));
+            fault = read.fault ? `Line ${read.line}: ${read.fault}.` : open_saved(from_base64(link.saved), { ...further, schedule: read.schedule });
+        }
+    } catch {
+        fault = 'the saved plant in it is no base64';
+    }
+    if (fault) say(`The link cannot be opened. ${fault}`, 'wrong');
+    return !fault;
+}
+
+/// A sample of eight boards, with their names.
+function open_sample(name) {
+    const list = read_names(sample_text('eight-boards-names.txt'), 8).names;
+    return open_input(encoder.encode(sample_text(name)), CUBE, { names: list, at: 0 });
+}
+
+// Keeping.
+
+function keep(name, bytes, type) {
+    const address = URL.createObjectURL(new Blob([bytes], { type }));
+    make('a', { href: address, download: name }).click();
+    setTimeout(() => URL.revokeObjectURL(address), 10000);
+}
+
+function save_plant(wrong) {
+    if (plant.wiring === RING) return set_text(wrong, 'A saved plant holds nothing of the wiring: it is for the cube.');
+    const saved = library.save(plant.state);
+    if (saved.refused !== undefined) return set_text(wrong, `Refused: ${words.refusal(saved.refused)}.`);
+    return keep('plant.saved', saved.file, 'application/octet-stream');
+}
+
+function save_input(wrong) {
+    if (!plant.is_fresh) {
+        const why = 'This plant began as a saved one, and an input begins with a fresh one';
+        return set_text(wrong, `${why}. Save this moment instead, or copy a link.`);
+    }
+    return keep('plant.txt', encoder.encode(input_of(plant.n, plant.entries.slice(0, plant.at))), 'text/plain');
+}
+
+function address_of_moment() {
+    return `${location.href.replace(/#.*/, '')}#${link_of(plant, names, saved_start)}`;
+}
+
+async function copy_link() {
+    const address = address_of_moment();
+    history.replaceState(undefined, '', `#${link_of(plant, names, saved_start)}`);
+    try {
+        await navigator.clipboard.writeText(address);
+        say('The link to this moment is copied.');
+    } catch {
+        by_id('link-text').value = address;
+        by_id('link-dialog').showModal();
+        by_id('link-text').select();
+    }
+}
+
+// Buttons, keys, files.
+
+const on_click = {
+    first: () => go(0),
+    back: () => go(plant.at - 1),
+    forward: () => go(plant.at + 1),
+    last: () => go(plant.length),
+    'next-round': () => go(plant.next(plant.closed)),
+    'next-exit': () => go(plant.next(plant.had_exit)),
+    grant: () => (stop(), grant_next(), show()),
+    'to-round': () => (stop(), grant_until(plant.closed, MOST_ENTRIES)),
+    'to-exit': () => (stop(), grant_until(plant.had_exit, 16)),
+    play,
+    turn: () => (stop(), take(TURN, selected), show()),
+    late: () => (stop(), take(LATE_TURN, selected), show()),
+    crash: () => (stop(), take(CRASH, selected), show()),
+    link: copy_link,
+    print: () => print(),
+    'save-plant': () => save_plant(wrong_of('save-dialog')),
+    'save-input': () => save_input(wrong_of('save-dialog')),
+};
+
+function wrong_of(dialog) {
+    return by_id(dialog).querySelector('.wrong');
+}
+
+/// A dialog's form: it stays open, with why, if what was entered cannot be taken.
+function on_submit(name, take_it) {
+    by_id(`${name}-form`).addEventListener('submit', (event) => {
+        event.preventDefault();
+        Promise.resolve(take_it()).then((fault) => {
+            set_text(wrong_of(`${name}-dialog`), fault ?? '');
+            if (!fault) by_id(`${name}-dialog`).close();
+        });
+    });
+}
+
+const chosen_wiring = (name) => Number(document.querySelector(`input[name="${name}"]:checked`).value);
+
+function wire() {
+    for (const [id, does] of Object.entries(on_click)) by_id(id).addEventListener('click', does);
+    for (const button of document.querySelectorAll('[data-opens]')) {
+        button.addEventListener('click', () => {
+            stop();
+            set_text(wrong_of(button.dataset.opens), '');
+            if (button.dataset.opens === 'names-dialog') by_id('names-text').value = names_text(names);
+            by_id(button.dataset.opens).showModal();
+        });
+    }
+    for (const button of document.querySelectorAll('[data-closes]')) button.addEventListener('click', () => button.closest('dialog').close());
+    by_id('moment').addEventListener('input', (event) => go(Number(event.target.value)));
+    by_id('speed').addEventListener('change', () => playing !== undefined && (stop(), play()));
+    on_submit('new', () => {
+        const n = Number(by_id('new-size').value);
+        const { state, refused } = library.fresh(chosen_wiring('wiring'), n);
+        if (refused !== undefined) return `${words.refusal(refused)}.`;
+        begin(state, true, [], {});
+        return undefined;
+    });
+    on_submit('open', async () => {
+        const [file] = by_id('open-file').files;
+        const sample = by_id('open-sample').value;
+        const wiring = chosen_wiring('open-wiring');
+        const open = async () => {
+            if (sample) return open_sample(sample);
+            return file ? open_file(file, wiring) : open_input(encoder.encode(by_id('open-text').value), wiring);
+        };
+        const fault = await open();
+        if (!fault) by_id('open-form').reset();
+        return fault;
+    });
+    on_submit('names', () => {
+        const read = read_names(by_id('names-text').value, plant.n);
+        if (read.fault) return `${read.fault}.`;
+        ({ names } = read);
+        lay_out();
+        return undefined;
+    });
+    addEventListener('dragover', (event) => event.preventDefault());
+    addEventListener('drop', async (event) => {
+        event.preventDefault();
+        const [file] = event.dataTransfer.files;
+        if (!file) return;
+        const fault = await open_file(file, plant.wiring);
+        if (fault) say(`${file.name} cannot be opened. ${fault}`, 'wrong');
+    });
+    addEventListener('hashchange', open_link);
+    narrow.addEventListener('change', lay_out);
+    addEventListener('keydown', on_key);
+}
+
+function on_key(event) {
+    const is_for_other = event.target.closest('input, select, textarea, dialog') || event.target.matches('.scroll');
+    if (event.altKey || event.ctrlKey || event.metaKey || is_for_other) return;
+    const steps = { ArrowLeft: -1, ArrowRight: 1 };
+    const on_circle = event.target.closest('#circle');
+    if (event.key in steps) {
+        event.preventDefault();
+        go(plant.at + steps[event.key]);
+    } else if (on_circle && (event.key === 'ArrowUp' || event.key === 'ArrowDown')) {
+        event.preventDefault();
+        select((selected + (event.key === 'ArrowUp' ? plant.n - 1 : 1)) % plant.n, true);
+    } else if (on_circle && (event.key === 'Enter' || event.key === ' ')) {
+        event.preventDefault();
+        select(Number(event.target.closest('[data-board]').dataset.board), true);
+    }
+}
+
+for (const sample of samples.filter(({ dataset }) => dataset.title)) {
+    by_id('open-sample').append(make('option', { value: sample.dataset.sample, textContent: sample.dataset.title }));
+}
+legend(by_id('legend'));
+if (!open_link()) {
+    const wrong = by_id('message').textContent;
+    begin(library.fresh(CUBE, 8).state, true, [], { names: read_names(sample_text('eight-boards-names.txt'), 8).names, is_link: true });
+    if (wrong) say(wrong, 'wrong');
+}
+wire();
+document.documentElement.dataset.ready = '1';

@@ -1,0 +1,88 @@
+// A plant and its entries so far: any moment of it, by the library, from the nearest moment kept.
+import { CRASH, LIVE, MOST_ENTRIES, NO_STATION, TESTED_TOLD, copy_of } from './library.mjs';
+
+const KEPT_EVERY = 64;
+
+export class Plant {
+    /// From a first moment: a fresh plant, or one that was loaded.
+    constructor(library, state, is_fresh) {
+        this.library = library;
+        this.is_fresh = is_fresh;
+        this.wiring = state.wiring;
+        this.n = state.n;
+        this.entries = [];
+        this.kept = [copy_of(state)];
+        this.rounds = [state.rounds];
+        this.at = 0;
+        this.state = copy_of(state);
+        this.before = undefined;
+    }
+
+    get length() {
+        return this.entries.length;
+    }
+
+    /// Who had the last turn up to the moment, for the grant.
+    last_granted() {
+        for (let k = this.at - 1; k >= 0; k--) if (this.entries[k].kind !== CRASH) return this.entries[k].board;
+        return NO_STATION;
+    }
+
+    /// Takes an entry at the moment; the entries behind the moment are dropped. Gives the refusal, if it is refused: nothing is changed then.
+    take(kind, board) {
+        const state = copy_of(this.state);
+        const { refused, line } = this.library.run(state, kind, board);
+        if (refused !== undefined) return refused;
+        this.entries.length = this.at;
+        this.rounds.length = this.at + 1;
+        this.kept.length = Math.floor(this.at / KEPT_EVERY) + 1;
+        this.entries.push({ kind, board, line });
+        this.rounds.push(state.rounds);
+        [this.before, this.state] = [this.state, state];
+        this.at += 1;
+        if (this.at % KEPT_EVERY === 0) this.kept.push(copy_of(state));
+        return undefined;
+    }
+
+    get is_full() {
+        return this.at >= MOST_ENTRIES;
+    }
+
+    state_at(k) {
+        const from = Math.floor(k / KEPT_EVERY);
+        const state = copy_of(this.kept[from]);
+        const schedule = this.entries.slice(from * KEPT_EVERY, k).flatMap(({ kind, board }) => [kind, board]);
+        if (schedule.length > 0) this.library.run_all(state, Uint8Array.from(schedule));
+        return state;
+    }
+
+    go(k) {
+        const to = Math.max(0, Math.min(this.length, k));
+        if (to === this.at) return;
+        this.before = to === this.at + 1 ? this.state : to > 0 ? this.state_at(to - 1) : undefined;
+        this.state = this.state_at(to);
+        this.at = to;
+    }
+
+    /// Whether the entry before this moment closed a round, and whether a board left or crashed by it.
+    closed(k) {
+        return k > 0 && this.rounds[k] > this.rounds[k - 1];
+    }
+
+    had_exit(k) {
+        if (k === 0) return false;
+        const { line } = this.entries[k - 1];
+        return line[3] !== LIVE || line[2] === TESTED_TOLD;
+    }
+
+    next(is_there) {
+        for (let k = this.at + 1; k <= this.length; k++) if (is_there.call(this, k)) return k;
+        return undefined;
+    }
+
+    /// The moment at which the round of this moment began.
+    round_began() {
+        for (let k = this.at; k > 0; k--) if (this.closed(k)) return k;
+        return 0;
+    }
+}

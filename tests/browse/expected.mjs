@@ -1,0 +1,94 @@
+// What the page must say, by the simulator: its programs are run on the entries so far, for each entry.
+import { spawnSync } from 'node:child_process';
+
+const HEAD = 6;
+const STATUSES = ['live', 'crashed', 'left because told', 'left because alone'];
+const OUTCOMES = ['pass finished', 'exchanged', 'told, and left', 'no reply', 'crash', 'the tested board was told, and left'];
+
+export class Simulator {
+    constructor(folder) {
+        this.folder = folder;
+    }
+
+    program(name, words, input) {
+        return spawnSync(`${this.folder}/${name}`, words, { input, maxBuffer: 1 << 24 });
+    }
+
+    /// The lines of the run, the tally, the refusal and how many entries were taken; or the line that cannot be read.
+    run(input, is_ring = false) {
+        const lines = this.program('simulate', is_ring ? ['--ring'] : [], input).stdout.toString().trimEnd().split('\n');
+        const last = lines.at(-1).split(' ');
+        if (last[0] === 'unread') return { unread: Number(last[1]) };
+        const [rounds, tests, refused, taken] = [1, 3, 5, 7].map((k) => Number(last[k]));
+        return { lines: lines.slice(1, -1), rounds, tests, refused, taken };
+    }
+
+    saved(input) {
+        return this.program('simulate_saved', [], input).stdout;
+    }
+
+    /// The last column of the commissioning sheet, for each board in it.
+    sheet(n, dead) {
+        const text = this.program('simulate_sheet', [n, ...dead].map(String)).stdout.toString();
+        const rows = text.split('\n\n')[1].split('\n').slice(1);
+        return new Map(rows.map((row) => [Number(row.trim().split(/\s+/)[0]), Number(row.trim().split(/\s+/).at(-1))]));
+    }
+
+    /// Of random entries those that are taken, about as many as asked for.
+    entries(n, count, seed, is_ring) {
+        let state = seed;
+        const random = (below) => {
+            state = (Math.imul(state, 1664525) + 1013904223) >>> 0;
+            return Math.floor((state / 2 ** 32) * below);
+        };
+        const letter = () => ['T', 'T', 'T', 'T', 'T', 'T', 'T', 'T', 'T', 'L', 'T', 'T', 'T', 'C'][random(n > 2 ? 14 : 9)];
+        const entries = Array.from({ length: count }, () => `${letter()} ${random(n)}`);
+        for (;;) {
+            const { refused, taken } = this.run(input_of(n, entries), is_ring);
+            if (refused === 0) return entries;
+            entries.splice(taken, 1);
+        }
+    }
+}
+
+export const input_of = (n, entries) => `${n}\n${entries.map((entry) => `${entry}\n`).join('')}`;
+
+/// What a saved plant holds, as the page tells it.
+function told(saved) {
+    const n = saved[7];
+    const line = (board) => saved.subarray(19 + board * (n + 10) + 4, 19 + (board + 1) * (n + 10));
+    const boards = Array.from({ length: n }, (_, board) => line(board));
+    const is_live = boards.map((bytes) => bytes[0] === 0);
+    const suspects = boards.map((bytes) => Array.from({ length: n }, (_, other) => bytes[HEAD + other] === 1));
+    let lamp = 'out';
+    for (let by = n - 1; by >= 0; by--) {
+        for (let of = n - 1; of >= 0; of--) if (is_live[by] && is_live[of] && suspects[by][of]) lamp = `${by} suspects ${of}`;
+    }
+    const ago = (bytes) => (bytes[5] === 0 ? 'in this round' : bytes[5] === 1 ? '1 round ago' : `${bytes[5]} rounds ago`);
+    return {
+        lamp,
+        boards: boards.map((bytes, board) => ({
+            status: STATUSES[bytes[0]],
+            told: bytes[4] > 253 ? '' : String(bytes[4]),
+            ago: bytes[0] === 0 ? '' : ago(bytes),
+            made: String(bytes[3]),
+            suspects: suspects[board].flatMap((is_so, other) => (is_so ? [other] : [])).join(' '),
+        })),
+        matrix: suspects.map((row, board) => row.map((is_so, other) => (!is_so ? ' ' : is_live[board] && is_live[other] ? '▲' : '●')).join('')),
+    };
+}
+
+/// What the page must say at each moment of a list of entries: after none, after one, ..
+export function moments(simulator, n, entries, is_ring) {
+    const all = simulator.run(input_of(n, entries), is_ring);
+    return Array.from({ length: entries.length + 1 }, (_, k) => {
+        const input = input_of(n, entries.slice(0, k));
+        const { rounds, tests } = simulator.run(input, is_ring);
+        const moment = { rounds: String(rounds), tests: String(tests), at: `${k} of ${entries.length}`, entry: '' };
+        if (k > 0) {
+            const [board, tested, outcome] = all.lines[k - 1].split(' ');
+            moment.entry = tested === '-' ? `Board ${board}: ${OUTCOMES[outcome]}.` : `Board ${board} tests ${tested}: ${OUTCOMES[outcome]}.`;
+        }
+        return is_ring ? moment : { ...moment, ...told(simulator.saved(input)) };
+    });
+}

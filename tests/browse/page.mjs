@@ -1,0 +1,418 @@
+// node page.mjs BROWSER PAGE SIMULATOR-FOLDER SAMPLES-FOLDER [PICTURES-FOLDER]: opens the page in a browser, plays plants in it and compares what
+// its elements say with the simulator, for each entry; then what is refused, names, files, links, keys, width, console and times.
+// Exit status: 0 all is as it must be; 1 something is not.
+import { readFileSync, writeFileSync } from 'node:fs';
+import { cpus, loadavg } from 'node:os';
+import { pathToFileURL } from 'node:url';
+import { Chromium, Firefox } from './browser.mjs';
+import { Simulator, input_of, moments } from './expected.mjs';
+
+const [name, page, folder, samples, pictures] = process.argv.slice(2);
+const address = pathToFileURL(page).href;
+const simulator = new Simulator(folder);
+const wrong = [];
+let compared = 0;
+
+function check(is_so, what) {
+    compared += 1;
+    if (!is_so) wrong.push(what);
+}
+
+function same(found, expected, what) {
+    const [a, b] = [JSON.stringify(found), JSON.stringify(expected)];
+    check(a === b, `${what}: ${a}, not ${b}`);
+}
+
+const sample = (file) => readFileSync(`${samples}/${file}`, 'utf8').trimEnd().split('\n');
+const short = (entries) => entries.map((entry) => entry.replace(' ', '')).join('');
+const link = (n, entries, at, wiring = 'cube', further = '') =>
+    `${address}#wiring=${wiring}&boards=${n}&entries=${short(entries)}&at=${at}${further}`;
+const pause = (milliseconds) => new Promise((resolve) => setTimeout(resolve, milliseconds));
+
+// Read in the page: what its elements say.
+const reader = `
+    window.said = () => {
+        const text = (element) => element.textContent.trim();
+        const at = (id) => text(document.getElementById(id));
+        const cell = (row, name) => text(row.querySelector('.' + name)).replace(', above', '');
+        const marks = (row) => [...row.querySelectorAll('td')].map((cell) => cell.textContent || ' ').join('');
+        return {
+            rounds: at('rounds').replace(/,/g, ''), tests: at('tests').replace(/,/g, ''), at: at('moment-text'),
+            entry: at('entry').replace(', whose reply comes late', ''), lamp: at('lamp'),
+            boards: [...document.querySelectorAll('#boards tbody tr')].map((row) => ({
+                status: text(row.querySelector('.status span:last-child')),
+                ...Object.fromEntries(['told', 'ago', 'made', 'suspects'].map((name) => [name, cell(row, name)])),
+            })),
+            matrix: [...document.querySelectorAll('#matrix tbody tr')].map(marks),
+            timed: [...document.querySelectorAll('#boards .timed')].map(text),
+            signs: [...document.querySelectorAll('#circle .board')].map((board) => board.getAttribute('aria-label')),
+        };
+    };
+    window.move_to = (k) => {
+        const slider = document.getElementById('moment');
+        slider.value = k;
+        slider.dispatchEvent(new Event('input'));
+        return window.said();
+    };
+    window.press = (id) => { document.getElementById(id).click(); return window.said(); };
+    window.typed = async (dialog, field, value) => {
+        document.querySelector('[data-opens="' + dialog + '-dialog"]').click();
+        document.getElementById(field).value = value;
+        document.querySelector('#' + dialog + '-form [type=submit]').click();
+        await new Promise((resolve) => setTimeout(resolve, 50));
+        const shown = document.getElementById(dialog + '-dialog');
+        const answer = { is_open: shown.open, wrong: shown.querySelector('.wrong').textContent };
+        if (shown.open) shown.close();
+        return answer;
+    };
+    window.kept = [];
+    URL.createObjectURL = (blob) => { window.kept.push(blob); return '#'; };
+    HTMLAnchorElement.prototype.click = () => {};
+    true`;
+
+function compare(found, expected, what) {
+    const { timed, signs, ...rest } = found;
+    // of the entry's words the page says more: what is another in the table
+    check(rest.entry.startsWith(expected.entry), `${what}: the entry "${rest.entry}" does not begin with "${expected.entry}"`);
+    const { entry, ...told } = rest;
+    const { entry: _, ...wanted } = expected;
+    if (wanted.boards === undefined) {
+        same({ rounds: told.rounds, tests: told.tests, at: told.at }, wanted, what);
+        return;
+    }
+    for (const key of ['rounds', 'tests', 'at', 'lamp', 'boards', 'matrix']) same(told[key], wanted[key], `${what}, ${key}`);
+    same(signs, wanted.boards.map(({ status }, board) => `Board ${board}, ${status}`), `${what}, the circle`);
+}
+
+async function open(browser, to) {
+    await browser.open(to);
+    await browser.value(`(() => { ${reader} })() ?? true`);
+}
+
+/// Every moment of a plant, by the slider; then back by keys.
+async function play(browser, n, listed, wiring = 'cube') {
+    const what = `${n} boards, ${wiring}`;
+    // the last entry of a sample may be refused
+    const entries = listed.slice(0, simulator.run(input_of(n, listed), wiring === 'ring').taken);
+    const expected = moments(simulator, n, entries, wiring === 'ring');
+    await open(browser, link(n, entries, 0, wiring));
+    for (const [k, moment] of expected.entries()) compare(await browser.value(`move_to(${k})`), moment, `${what}, entry ${k}`);
+    // back by the key, from the last
+    await browser.value('document.activeElement.blur() ?? true');
+    for (let k = entries.length - 1; k >= Math.max(0, entries.length - 5); k--) {
+        await browser.key('ArrowLeft');
+        compare(await browser.value('said()'), expected[k], `${what}, back to entry ${k}`);
+    }
+    await browser.key('ArrowRight');
+    compare(await browser.value('said()'), expected[Math.max(0, entries.length - 5) + 1], `${what}, on by a key`);
+    if (wiring === 'cube') {
+        const { timed } = await browser.value('move_to(0)');
+        same(timed, [...simulator.sheet(n, []).values()].map(String), `${what}, slots with nobody dead`);
+    }
+    return expected;
+}
+
+/// The same by the buttons: each entry as a person would give it.
+async function play_by_buttons(browser, n, entries) {
+    const expected = moments(simulator, n, entries, false);
+    await open(browser, link(n, [], 0));
+    for (const [k, entry] of entries.entries()) {
+        const [letter, board] = entry.split(' ');
+        await browser.value(`document.querySelector('#boards tr[data-board="${board}"] button').click() ?? true`);
+        const found = await browser.value(`press('${{ T: 'turn', L: 'late', C: 'crash' }[letter]}')`);
+        compare(found, { ...expected[k + 1], at: `${k + 1} of ${k + 1}` }, `by buttons, entry ${k + 1}`);
+    }
+}
+
+async function slots(browser) {
+    const entries = sample('eight-boards-4-out.txt').slice(1);
+    await open(browser, link(8, entries, entries.length));
+    const { timed } = await browser.value('said()');
+    const sheet = simulator.sheet(8, [4]);
+    same(timed, Array.from({ length: 8 }, (_, board) => (sheet.has(board) ? String(sheet.get(board)) : '–')), 'slots with 4 dead');
+    // three more dead at once: board 5 makes more tests than its slot is timed for
+    const more = ['C 4', 'C 6', 'C 7', ...Array.from({ length: 7 }, () => 'T 5')];
+    await open(browser, link(8, more, more.length));
+    const red = await browser.value(
+        `[...document.querySelectorAll('#boards .above')].map((cell) => [cell.closest('tr').dataset.board, cell.textContent])`,
+    );
+    same(red, [['5', '7, above']], 'tests above the slot');
+}
+
+async function drives(browser) {
+    await open(browser, link(8, ['C 4'], 1));
+    const found = await browser.value(`press('to-round')`);
+    const turns = await browser.value(`document.getElementById('moment').max`);
+    check(found.rounds === '1' && Number(turns) > 8, `to the end of the round: ${found.rounds} rounds, ${turns} entries`);
+    check((await browser.value(`document.getElementById('known').textContent`)).includes('now'), 'board 4 is not known to all after a driven round');
+    await open(browser, link(8, ['L 4'], 1));
+    const left = await browser.value(`press('to-exit')`);
+    same(left.boards.filter(({ status }) => status !== 'live').length, 1, 'to the next exit');
+    await browser.value(`press('first')`);
+    same((await browser.value(`press('next-exit')`)).boards, left.boards, 'to the next exit, going back');
+}
+
+const unreadable = [
+    ['', 'an empty input where the size (one to three digits) is expected'],
+    ['x\n', 'a lower case letter where the size (one to three digits) is expected'],
+    ['8\nT\n', 'the end of the line where a space is expected'],
+    ['8\nT 4\nX 4\n', 'the character X where T, L or C is expected'],
+    ['8\nT 4\n\nT 5\n', 'an empty line where an entry (T, L or C, a space, one or two digits) is expected'],
+    ['8\nT 100\n', 'a digit too many where the end of the line is expected'],
+    ['8\nT 4 \n', 'a space where the end of the line is expected'],
+    ['8\nT <b>\n', 'the character < where a digit is expected'],
+    ['8\nT ä\n', 'the byte c3 (hexadecimal) where a digit is expected'],
+    [`8\n${'T 0\n'.repeat(4097)}`, 'a 4,097th entry where the end of the input (4,096 entries at most) is expected'],
+];
+
+async function refusals(browser) {
+    await open(browser, link(8, ['C 4', 'T 0'], 2));
+    const before = await browser.value('said()');
+    for (const [input, words] of unreadable) {
+        const answer = await browser.value(`typed('open', 'open-text', ${JSON.stringify(input)})`);
+        const { unread } = simulator.run(input);
+        same(answer, { is_open: true, wrong: `Line ${unread}: ${words}.` }, `an input that cannot be read, ${JSON.stringify(input.slice(0, 20))}`);
+    }
+    for (const size of ['0', '1', '65', '999']) {
+        const answer = await browser.value(`typed('open', 'open-text', '${size}\\nT 0')`);
+        same(answer, { is_open: true, wrong: 'Line 1: a plant has 2 to 64 boards.' }, `a plant of ${size}`);
+    }
+    same(await browser.value('said()'), before, 'what is shown after inputs that cannot be read');
+    await browser.value(`document.querySelector('#boards tr[data-board="4"] button').click() ?? true`);
+    for (const [id, words] of [['turn', 'this board is not live'], ['late', 'this board is not live'], ['crash', 'this board is not live']]) {
+        await browser.value(`press('${id}')`);
+        const said = await browser.value(`document.getElementById('message').textContent`);
+        same(said, `Refused for board 4: ${words}. Nothing was changed.`, `a refused ${id}`);
+    }
+    same(await browser.value('said()'), before, 'what is shown after refused entries');
+    // an input that is refused at an entry keeps the entries before it
+    await browser.value(`typed('open', 'open-text', '2\\nC 1\\nT 0\\nT 1\\nT 0\\n')`);
+    const said = await browser.value(`document.getElementById('message').textContent`);
+    check(said.includes('line 4') && said.includes('not live'), `an entry that is refused: ${said}`);
+    compare(await browser.value('said()'), moments(simulator, 2, ['C 1', 'T 0'], false)[2], 'the entries before a refused one');
+    const none = ['#boards=8&entries=Q5', '#boards=999', '#saved=!!!', '#saved=BAAB', '#boards=8&entries=T0&at=-5', '#boards=8&entries=T0&at=x'];
+    for (const hash of none) {
+        await browser.open(address + hash);
+        check((await browser.value(`document.querySelectorAll('#boards tbody tr').length`)) === 8, `a link that is none: ${hash}`);
+    }
+}
+
+async function names_as_they_are(browser) {
+    const markup = ['<img src=x onerror="window.hacked=1">', '&amp; & "quoted" \'so\'', '</script><script>window.hacked=1</script>'];
+    const odd = [...markup, 'Äußerst öde Übung – 雪', 'x'.repeat(200), '${1}', 'javascript:alert(1)', '\\u003cb>'];
+    const in_full = odd.map((name_of_board, board) => `${board} ${name_of_board}`);
+    await open(browser, link(8, ['L 4'], 1));
+    const text = in_full.join('\n');
+    same(await browser.value(`typed('names', 'names-text', ${JSON.stringify(text)})`), { is_open: false, wrong: '' }, 'odd names');
+    const shown = () => browser.value(`[...document.querySelectorAll('#boards .name-button')].map((button) => button.textContent)`);
+    same(await shown(), in_full, 'odd names in the table');
+    const on_circle = await browser.value(`[...document.querySelectorAll('#circle .board title')].map((title) => title.textContent)`);
+    same(on_circle, in_full, 'odd names on the circle');
+    check((await browser.value(`document.querySelectorAll('img, #boards script, #boards b').length`)) === 0, 'a name became an element');
+    check((await browser.value(`document.documentElement.scrollWidth <= innerWidth`)) === true, 'long names widen the page');
+    // in a link, and opened again
+    await browser.value(`press('link')`);
+    await browser.wait(`location.hash.includes('entries=')`);
+    const there = await browser.value('location.href');
+    await open(browser, there);
+    same(await shown(), in_full, 'odd names by a link');
+    check((await browser.value('window.hacked === undefined')) === true, 'a name was run');
+    same((await browser.value(`typed('names', 'names-text', '9 press')`)).is_open, true, 'the name of no board');
+}
+
+/// Drops a file on the page.
+const drop = (browser, bytes) =>
+    browser.value(`(async () => {
+        const held = new DataTransfer();
+        held.items.add(new File([Uint8Array.from(${JSON.stringify([...bytes])})], 'dropped'));
+        window.dispatchEvent(new DragEvent('drop', { dataTransfer: held, bubbles: true, cancelable: true }));
+        await new Promise((resolve) => setTimeout(resolve, 100));
+        return document.getElementById('message').textContent;
+    })()`);
+const kept = (browser) => browser.value(`(async () => [...new Uint8Array(await window.kept.at(-1).arrayBuffer())])()`);
+
+async function files(browser) {
+    const input = readFileSync(`${samples}/eight-boards-4-out.txt`);
+    const entries = sample('eight-boards-4-out.txt').slice(1);
+    const expected = moments(simulator, 8, entries, false).at(-1);
+    await open(browser, link(2, [], 0));
+    same(await drop(browser, input), '', 'a dropped input');
+    compare(await browser.value('said()'), expected, 'a dropped input');
+    await browser.value(`press('save-plant')`);
+    const saved = readFileSync(`${samples}/eight-boards-4-out.saved`);
+    same(await kept(browser), [...saved], 'the plant, saved');
+    await browser.value(`press('save-input')`);
+    same(Buffer.from(await kept(browser)).toString(), input.toString(), 'the input, saved');
+    await open(browser, link(2, [], 0));
+    same(await drop(browser, saved), '', 'a dropped saved plant');
+    compare(await browser.value('said()'), { ...expected, at: '0 of 0', entry: 'The saved plant as it was opened.' }, 'a dropped saved plant');
+    // names from a file, beside what is shown
+    same(await drop(browser, readFileSync(`${samples}/eight-boards-names.txt`)), '', 'dropped names');
+    const press = await browser.value(`document.querySelector('#boards tr[data-board="5"] button').textContent`);
+    same(press, '5 press', 'dropped names');
+    same(await browser.value(`typed('names', 'names-text', '')`), { is_open: false, wrong: '' }, 'no names');
+    // its link, with an entry behind it
+    await browser.value(`press('turn')`);
+    const before = await browser.value('said()');
+    await browser.value(`press('link')`);
+    await browser.wait(`location.hash.includes('saved=')`);
+    const there = await browser.value('location.href');
+    await open(browser, there);
+    same(await browser.value('said()'), before, 'a saved plant and an entry, by a link');
+    const former = readFileSync(`${samples}/eight-boards-4-out-edition-1.saved`);
+    same(await drop(browser, former), 'This was a file of edition 1: it was converted.', 'edition 1');
+    check((await drop(browser, saved.subarray(0, 100))).includes('the file is cut off'), 'a file that is cut off');
+    // damaged: the mender's report, then the mended plant
+    const damaged = Buffer.from(saved);
+    const at = (board, byte) => 19 + board * 18 + 4 + byte;
+    damaged[at(2, 0)] = 12;
+    damaged[at(5, 1)] = 0;
+    damaged[at(7, 6 + 6)] = 64;
+    await drop(browser, damaged);
+    const report = await browser.value(`[...document.querySelectorAll('#mend-changes li')].map((item) => item.textContent)`);
+    const changes = ['board 2, status: 12 became 1', 'board 5, next distance: 0 became 1', 'board 7, about board 6: 64 became 0'];
+    same(report, changes, "the mender's report");
+    await browser.value(`document.querySelector('#mend-form [type=submit]').click() ?? true`);
+    same((await browser.value('said()')).boards[2].status, 'crashed', 'the mended plant');
+}
+
+/// On the circle: the arrows choose a board and go to it; what is chosen can be given a turn.
+async function by_keys(browser) {
+    await open(browser, link(8, ['T 0'], 1));
+    await browser.value(`document.querySelector('#circle [tabindex="0"]').focus() ?? true`);
+    for (const [key, board] of [['ArrowDown', 1], ['ArrowDown', 2], ['ArrowUp', 1], ['ArrowUp', 0], ['ArrowUp', 7]]) {
+        await browser.key(key);
+        const chosen = await browser.value(`[document.activeElement.dataset.board, document.getElementById('board-heading').textContent]`);
+        same(chosen, [String(board), `Board ${board}`], `${key} on the circle`);
+    }
+    same(await browser.value(`document.querySelectorAll('#circle [tabindex="0"]').length`), 1, 'boards of the circle that a tab comes to');
+}
+
+async function is_usable(browser) {
+    for (const [n, entries] of [[8, ['L 4', 'T 4']], [64, ['C 3', 'T 0']], [2, []]]) {
+        await browser.look(360, 780, 'light');
+        await open(browser, link(n, entries, entries.length));
+        const widths = await browser.value('[innerWidth, document.documentElement.scrollWidth > innerWidth]');
+        same(widths, [360, false], `the width of ${n} boards at 360 pixels`);
+    }
+    await browser.look(1280, 900, 'light');
+    // few names of many boards, and an arrow between boards that are near to each other
+    for (const [n, further] of [[2, ''], [12, '&name5=press'], [16, '&name5=press'], [64, '&name63=press'], [64, '']]) {
+        await open(browser, link(n, ['L 1', 'T 0'], 1, 'cube', further));
+        check(!(await browser.value(`/NaN|undefined/.test(document.getElementById('circle').outerHTML)`)), `no place on the circle: ${n}${further}`);
+    }
+    const labels = `element.getAttribute('aria-label') || element.getAttribute('aria-labelledby') || element.labels?.length`;
+    const named = `${labels} || element.textContent.trim()`;
+    const fields = `[...document.querySelectorAll('button, input, select, textarea, [role=button], [role=region]')]`;
+    const nameless = await browser.value(`${fields}.filter((element) => !(${named})).length`);
+    same(nameless, 0, 'buttons and fields without a name');
+    const ids = await browser.value(`[...document.querySelectorAll('[aria-labelledby], [for]')].filter((element) =>
+        !document.getElementById(element.getAttribute('aria-labelledby') ?? element.htmlFor)).length`);
+    same(ids, 0, 'labels that are not there');
+}
+
+async function times(browser) {
+    const entries = [];
+    await open(browser, link(64, ['C 3'], 1));
+    for (let round = 0; round < 20; round++) await browser.value(`press('to-round').at`);
+    const text = await browser.value(`(() => { document.getElementById('link').click(); return location.hash; })()`);
+    const parts = new URLSearchParams(text.slice(1));
+    for (const [, letter, board] of parts.get('entries').matchAll(/([TLC])(\d+)/g)) entries.push(`${letter} ${board}`);
+    same(entries.length, 4096, 'entries of a full plant');
+    same(simulator.run(input_of(64, entries)).refused, 0, 'the entries of a full plant');
+    const measured = await browser.value(`(async () => {
+        const times = [];
+        for (let k = 0; k < 100; k++) {
+            const began = performance.now();
+            document.getElementById('back').click();
+            document.body.offsetHeight;
+            times.push(performance.now() - began);
+        }
+        times.sort((a, b) => a - b);
+        const opened = [];
+        for (let k = 0; k < 3; k++) {
+            const began = performance.now();
+            document.querySelector('[data-opens=open-dialog]').click();
+            document.getElementById('open-text').value = ${JSON.stringify(input_of(64, entries))};
+            document.querySelector('#open-form [type=submit]').click();
+            while (document.getElementById('open-dialog').open) await new Promise((resolve) => setTimeout(resolve, 1));
+            document.body.offsetHeight;
+            opened.push(performance.now() - began);
+        }
+        return { quick: times[10], median: times[50], longest: times[99], opened: Math.min(...opened) };
+    })()`);
+    const { quick, median, longest, opened } = measured;
+    const steps = `a step ${median.toFixed(1)} ms (a tenth of 100 below ${quick.toFixed(1)}, the longest ${longest.toFixed(1)})`;
+    console.log(`${name}: 64 boards, 4,096 entries: ${steps}, opened in ${Math.round(opened)} ms`);
+    // A machine that does much else says little of the page.
+    if (loadavg()[0] > cpus().length) {
+        console.log(`${name}: the machine does much else: these times are not judged`);
+        return;
+    }
+    check(median < 16, `a step of 64 boards takes ${median} ms`);
+    check(opened < 1000, `4,096 entries of 64 boards open in ${opened} ms`);
+}
+
+async function take_pictures(browser) {
+    const list = readFileSync(`${samples}/eight-boards-names.txt`, 'utf8').trimEnd().split('\n');
+    const named = list.map((line) => line.replace(/^(\d+) (.*)$/, (_, board, text) => `&name${board}=${encodeURIComponent(text)}`)).join('');
+    const out = sample('eight-boards-4-out.txt').slice(1);
+    const shots = [['page-board-4-out', link(8, out, 18, 'cube', named)]];
+    for (const at of [1, 2, 4]) shots.push([`page-press-${at}`, link(8, sample('late-press.txt').slice(1), at, 'cube', named)]);
+    await browser.look(1280, 850, 'light');
+    for (const [file, to] of shots) {
+        await browser.open(to);
+        writeFileSync(`${pictures}/${file}.png`, await browser.picture());
+    }
+}
+
+/// What these tests look at can be found wrong: an expectation that was altered is, and so is a line on the console.
+async function finds(browser) {
+    await open(browser, link(2, ['T 0'], 1));
+    const [found, right] = [await browser.value('said()'), moments(simulator, 2, ['T 0'], false)[1]];
+    const [before, before_compared] = [wrong.length, compared];
+    compare(found, { ...right, matrix: ['●●', '  '] }, 'altered');
+    compare(found, { ...right, entry: 'Board 1' }, 'altered');
+    compare(found, { ...right, boards: [{ ...right.boards[0], made: '9' }, right.boards[1]] }, 'altered');
+    const is_found = wrong.length === before + 3;
+    [wrong.length, compared] = [before, before_compared];
+    check(is_found, 'an altered expectation is not found');
+    await browser.value(`console.error('seen') ?? true`);
+    for (let k = 0; k < 100 && browser.console.length === 0; k++) await pause(20);
+    check(browser.console.some((line) => line.includes('seen')), 'a line on the console is not seen');
+    browser.console.length = 0;
+    // nothing but the page's own script may run
+    await browser.value(`(() => {
+        const added = document.createElement('script');
+        added.textContent = 'window.hacked = 1';
+        document.body.append(added);
+        return true;
+    })()`);
+    check((await browser.value('window.hacked === undefined')) === true, 'a script that was put in is run');
+    await pause(300);
+    browser.console.length = 0;
+}
+
+const browser = await { Chromium, Firefox }[name].start();
+try {
+    await browser.look(1280, 900, 'light');
+    await finds(browser);
+    await play(browser, 2, sample('two-boards.txt').slice(1));
+    await play(browser, 8, sample('late-reply.txt').slice(1));
+    await play(browser, 8, sample('late-press.txt').slice(1));
+    await play(browser, 11, simulator.entries(11, 220, 5));
+    await play(browser, 64, simulator.entries(64, 90, 7));
+    await play(browser, 4, sample('four-boards.txt').slice(1), 'ring');
+    await play(browser, 11, simulator.entries(11, 100, 3, true), 'ring');
+    await play_by_buttons(browser, 8, sample('eight-boards-4-out.txt').slice(1));
+    for (const test of [slots, drives, refusals, names_as_they_are, files, by_keys, is_usable, times]) await test(browser);
+    if (pictures) await take_pictures(browser);
+    same(browser.console, [], 'the console');
+} catch (error) {
+    wrong.push(error.stack);
+} finally {
+    await browser.end();
+}
+for (const text of wrong.slice(0, 20)) console.error(`${name}: ${text.slice(0, 1500)}`);
+console.log(`${name}: ${compared} comparisons, ${wrong.length} wrong`);
+process.exitCode = wrong.length === 0 ? 0 : 1;
