@@ -2,7 +2,6 @@
 import { EXCHANGED, NO_REPLY, NO_STATION, TOLD_NOW, status_of } from './library.mjs';
 import { draw, set_attribute, set_class, set_text } from './elements.mjs';
 import { called, mentioned, shortened } from './names.mjs';
-import { words } from './stand-in.mjs';
 
 /// Each status has a sign and a form of its own, so that colour is not needed.
 export const SIGNS = ['', '✕', '!', '–'];
@@ -15,7 +14,7 @@ function mark(status, r) {
     return draw('circle', { r, class: 'form' });
 }
 
-export function legend(list) {
+export function legend(list, words) {
     for (const status of [0, 1, 2, 3]) {
         const item = document.createElement('li');
         const sign = draw('svg', { viewBox: '-14 -14 28 28', width: 22, height: 22, 'aria-hidden': 'true' });
@@ -122,7 +121,7 @@ export class Circle {
     }
 
     show(plant, names, selected, lamp) {
-        const { state } = plant;
+        const { state, library } = plant;
         const entry = plant.at > 0 ? plant.entries[plant.at - 1] : undefined;
         this.boards.forEach((shown, board) => {
             const status = status_of(state, board);
@@ -136,7 +135,7 @@ export class Circle {
             set_class(shown.group, `board ${STATUS_CLASSES[status]}${further}`);
             set_attribute(shown.group, 'tabindex', is_selected ? 0 : -1);
             set_attribute(shown.group, 'aria-pressed', is_selected);
-            set_attribute(shown.group, 'aria-label', `Board ${mentioned(names, board)}, ${words.status(status)}`);
+            set_attribute(shown.group, 'aria-label', `Board ${mentioned(names, board)}, ${library.words.status(status)}`);
         });
         const arrows = [];
         if (lamp) arrows.push(this.arrow(lamp.by, lamp.of, 'doubt', false, 26));

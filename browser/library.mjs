@@ -17,6 +17,7 @@ export const CRASHED_NOW = 4;
 export const TESTED_TOLD = 5;
 export const MOST_ENTRIES = 4096;
 const HEAD = 6;
+const WORDS_LENGTH = 128;
 
 /// Of a state { wiring, n, table, rounds, tests } line by line.
 export const line_of = (state, board) => board * (state.n + HEAD);
@@ -31,9 +32,53 @@ export const copy_of = (state) => ({ ...state, table: state.table.slice() });
 
 export const saved_length = (n) => 19 + n * (n + 10);
 
+/// Bytes that hold a string of C.
+const text_of = (bytes) => String.fromCharCode(...bytes.subarray(0, bytes.indexOf(0)));
+
+/// What the library says to people of a refusal, a status or an outcome, by its number. Each is asked for once.
+class Words {
+    constructor(module) {
+        this.module = module;
+        this.known = new Map();
+    }
+
+    of(call, number) {
+        const key = `${call} ${number}`;
+        if (!this.known.has(key)) {
+            const words = new Uint8Array(WORDS_LENGTH);
+            this.module.call(call, BigInt(number), words);
+            this.known.set(key, text_of(words));
+        }
+        return this.known.get(key);
+    }
+
+    refusal(number) {
+        return this.of('vcube_refusal_words', number);
+    }
+
+    status(number) {
+        return this.of('vcube_status_words', number);
+    }
+
+    outcome(number) {
+        return this.of('vcube_outcome_words', number);
+    }
+}
+
 export class Library {
     constructor(module) {
         this.module = module;
+        this.words = new Words(module);
+    }
+
+    /// Reads an input: its size and its entries as a schedule, or the first line that cannot be read and why.
+    read_input(input) {
+        const schedule = new Uint8Array(2 * MOST_ENTRIES);
+        const words = new Uint8Array(WORDS_LENGTH);
+        const [n, entries, line] = [new Cell(8), new Cell(8), new Cell(8)];
+        this.module.call('vcube_read_input', input, schedule, words, n, entries, line);
+        if (line.value !== 0) return { line: line.value, fault: text_of(words) };
+        return { n: n.value, schedule: schedule.subarray(0, 2 * entries.value) };
     }
 
     /// A plant that begins, or the number of the refusal.
@@ -125,13 +170,12 @@ export class Library {
         };
     }
 
-    /// How many tests are due on the cube for a board with this row, in a plant that is fresh otherwise.
-    due(n, board, row) {
-        const { state } = this.fresh(CUBE, n);
-        state.table.set(row, line_of(state, board) + HEAD);
-        const count = new Cell(8);
-        this.module.call('vcube_assignment', BigInt(n), state.table, BigInt(board), new Uint8Array(2 * (n - 1)), count);
-        return count.value;
+    /// The most tests that one more dead board can make of this board's, by which its slot is timed. Nothing on the ring, or if it is not live.
+    slot(state, board) {
+        if (state.wiring !== CUBE) return undefined;
+        const [tests, most] = [new Cell(8), new Cell(8)];
+        const refused = this.module.call('vcube_slot', BigInt(state.n), state.table, BigInt(board), tests, most);
+        return refused === 0 ? most.value : undefined;
     }
 }
 

@@ -5,13 +5,14 @@ import { Boards, Matrix, ago_text, suspected_by, told_text } from './tables.mjs'
 import { Circle, legend } from './circle.mjs';
 import { Module } from './module.mjs';
 import { Plant } from './plant.mjs';
-import { bound_of, read_input, sheet_of, words } from './stand-in.mjs';
 import { by_id, make, set_class, set_text } from './elements.mjs';
 import { called, mentioned, names_text, read_names } from './names.mjs';
 import { from_base64, input_of, link_of, read_link } from './link.mjs';
 import { tell, would } from './telling.mjs';
+import { worst_case } from './worst-case.mjs';
 
 const library = new Library(await Module.of(from_base64(by_id('module').textContent.trim())));
+const { words } = library;
 const samples = [...document.querySelectorAll('script[data-sample]')];
 const sample_text = (name) => samples.find((sample) => sample.dataset.sample === name).textContent;
 const narrow = matchMedia('(max-width: 40rem)');
@@ -41,7 +42,7 @@ function timed_slots() {
     const began = plant.round_began();
     if (plant.timed?.began !== began || plant.timed.of !== plant.entries[began - 1]) {
         const state = plant.state_at(began);
-        const slots = Array.from({ length: plant.n }, (_, board) => sheet_of(library, state, board));
+        const slots = Array.from({ length: plant.n }, (_, board) => library.slot(state, board));
         plant.timed = { began, of: plant.entries[began - 1], slots };
     }
     return plant.timed.slots;
@@ -81,7 +82,7 @@ function show_facts(lamp) {
     set_text(by_id('lamp'), lamp ? `${mentioned(names, lamp.by)} suspects ${mentioned(names, lamp.of)}` : 'out');
     set_class(by_id('lamp'), lamp ? 'lamp lit' : 'lamp');
     set_text(by_id('known'), known_text(state));
-    const bound = bound_of(plant.wiring, plant.n);
+    const bound = worst_case(plant.wiring, plant.n);
     set_text(by_id('bound'), `at most ${bound} closed ${bound === 1 ? 'round' : 'rounds'} from the start of a round with the lamp out`);
     set_text(by_id('grant'), granted.refused === undefined ? `Grant the next: ${granted.board}` : 'Grant the next');
 }
@@ -98,7 +99,7 @@ function show_board(timed) {
     if (most !== undefined && is_live(state, selected)) facts.push(['Slot is timed for', most === 1 ? '1 test' : `${most} tests`]);
     by_id('board-facts').replaceChildren(...facts.flatMap(([term, text]) => [make('dt', { textContent: term }), make('dd', { textContent: text })]));
     const turn = library.run(copy_of(state), TURN, selected);
-    set_text(by_id('preview'), `A turn now: ${would(turn, names)}.`);
+    set_text(by_id('preview'), `A turn now: ${would(turn, names, words)}.`);
 }
 
 function show_history() {
@@ -242,9 +243,9 @@ function begin(state, is_fresh, schedule, further) {
 
 /// Gives why the input cannot be opened, or nothing.
 function open_input(bytes, wiring, further = {}) {
-    const read = read_input(bytes);
+    const read = library.read_input(bytes);
     if (read.fault) return `Line ${read.line}: ${read.fault}.`;
-    const { state, refused } = library.fresh(wiring, read.size);
+    const { state, refused } = library.fresh(wiring, read.n);
     if (refused !== undefined) return `Line 1: ${words.refusal(refused)}.`;
     begin(state, true, read.schedule, further);
     return undefined;
@@ -315,7 +316,7 @@ function open_link() {
         if (link.saved === undefined) {
             fault = open_input(encoder.encode(link.input), link.wiring, further);
         } else {
-            const read = read_input(encoder.encode(`2${link.entries}`));
+            const read = library.read_input(encoder.encode(`2${link.entries}`));
             fault = read.fault ? `Line ${read.line}: ${read.fault}.` : open_saved(from_base64(link.saved), { ...further, schedule: read.schedule });
         }
     } catch {
@@ -482,7 +483,7 @@ function on_key(event) {
 for (const sample of samples.filter(({ dataset }) => dataset.title)) {
     by_id('open-sample').append(make('option', { value: sample.dataset.sample, textContent: sample.dataset.title }));
 }
-legend(by_id('legend'));
+legend(by_id('legend'), words);
 if (!open_link()) {
     const wrong = by_id('message').textContent;
     begin(library.fresh(CUBE, 8).state, true, [], { names: read_names(sample_text('eight-boards-names.txt'), 8).names, is_link: true });

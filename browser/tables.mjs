@@ -3,7 +3,6 @@ import { MOST_ROUNDS_AGO, NOT_RECORDED, NO_STATION, is_live, rounds_ago, row_of,
 import { SIGNS, status_class } from './circle.mjs';
 import { make, set_attribute, set_class, set_text } from './elements.mjs';
 import { called } from './names.mjs';
-import { words } from './stand-in.mjs';
 
 export function told_text(state, board, names) {
     const by = told_by(state, board);
@@ -42,7 +41,7 @@ export class Boards {
     }
 
     show(plant, names, selected, timed) {
-        const { state } = plant;
+        const { state, library } = plant;
         this.rows.forEach(({ row, sign, status, button, cells }, board) => {
             const now = status_of(state, board);
             const most = is_live(state, board) ? timed[board] : undefined;
@@ -51,7 +50,7 @@ export class Boards {
             set_class(row, `${status_class(now)}${board === selected ? ' selected' : ''}`);
             set_attribute(button, 'aria-pressed', board === selected);
             set_text(sign, SIGNS[now] || '●');
-            set_text(status, words.status(now));
+            set_text(status, library.words.status(now));
             const texts = [told_text(state, board, names), ago_text(state, board), is_above ? `${made}, above` : String(made)];
             texts.push(most === undefined ? '–' : String(most), suspected_by(state, board).join(' '));
             texts.forEach((text, k) => set_text(cells[k], text));

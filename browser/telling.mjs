@@ -1,7 +1,6 @@
 // What an entry did, told: the run sheet's line in the library's words, and what is another in the table behind it.
 import { CRASHED_NOW, LATE_TURN, LIVE, NO_STATION, is_live, status_of, suspects, told_by } from './library.mjs';
 import { mentioned } from './names.mjs';
-import { words } from './stand-in.mjs';
 
 function list(texts) {
     return texts.length < 2 ? texts.join('') : `${texts.slice(0, -1).join(', ')} and ${texts.at(-1)}`;
@@ -20,7 +19,7 @@ function new_suspicions(before, after) {
     return told;
 }
 
-function new_exits(before, after) {
+function new_exits(before, after, words) {
     const told = [];
     for (let board = 0; board < after.n; board++) {
         if (!is_live(before, board) || is_live(after, board)) continue;
@@ -36,17 +35,18 @@ export function tell(plant, names) {
         const rest = plant.length > 0 ? ` ${plant.length} entries follow.` : '';
         return plant.is_fresh ? `A fresh plant: all boards are live, and nobody is suspected.${rest}` : `The saved plant as it was opened.${rest}`;
     }
+    const { words } = plant.library;
     const { kind, board, line } = plant.entries[plant.at - 1];
-    const parts = [line_text(board, kind, line, names)];
+    const parts = [line_text(board, kind, line, names, words)];
     if (plant.before) {
-        const further = [...new_suspicions(plant.before, plant.state), ...(kind === 3 ? [] : new_exits(plant.before, plant.state))];
+        const further = [...new_suspicions(plant.before, plant.state), ...(kind === 3 ? [] : new_exits(plant.before, plant.state, words))];
         if (further.length > 0) parts.push(`${further.join('; ')}.`);
     }
     if (plant.closed(plant.at)) parts.push(`Round ${plant.state.rounds} is closed.`);
     return parts.join(' ');
 }
 
-export function line_text(board, kind, line, names) {
+function line_text(board, kind, line, names, words) {
     const who = `Board ${mentioned(names, board)}`;
     const what = words.outcome(line[2]);
     if (line[2] === CRASHED_NOW) return `${who}: ${what}.`;
@@ -56,7 +56,7 @@ export function line_text(board, kind, line, names) {
 }
 
 /// What an entry would do, tried on a copy by the library.
-export function would(tried, names) {
+export function would(tried, names, words) {
     if (tried.refused !== undefined) return `refused, ${words.refusal(tried.refused)}`;
     const { line } = tried;
     const after = line[3] === LIVE ? '' : `, then ${words.status(line[3])}`;
