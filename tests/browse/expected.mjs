@@ -34,6 +34,12 @@ export class Simulator {
         return new Map(rows.map((row) => [Number(row.trim().split(/\s+/)[0]), Number(row.trim().split(/\s+/).at(-1))]));
     }
 
+    /// The worst case on the cube: the sheet's second line says one round more, that of the crash.
+    worst_case(n) {
+        const text = this.program('simulate_sheet', [String(n)]).stdout.toString();
+        return Number(/after at most (\d+) rounds/.exec(text)[1]) - 1;
+    }
+
     /// Of random entries those that are taken, about as many as asked for.
     entries(n, count, seed, is_ring) {
         let state = seed;

@@ -139,6 +139,17 @@ async function slots(browser) {
     same(red, [['5', '7, above']], 'tests above the slot');
 }
 
+/// The bound on rounds: on the cube by the simulator, on the ring half of the boards.
+async function bounds(browser) {
+    const plants = [2, 3, 4, 5, 8, 9, 16, 17, 32, 33, 64].map((n) => ['cube', n, simulator.worst_case(n)]);
+    for (const [wiring, n, rounds] of [...plants, ['ring', 2, 1], ['ring', 3, 1], ['ring', 8, 4], ['ring', 63, 31]]) {
+        await open(browser, link(n, [], 0, wiring));
+        const said = await browser.value(`document.getElementById('bound').textContent`);
+        const words = `at most ${rounds} closed ${rounds === 1 ? 'round' : 'rounds'} from the start of a round with the lamp out`;
+        same(said, words, `the bound of ${n} boards, ${wiring}`);
+    }
+}
+
 async function drives(browser) {
     await open(browser, link(8, ['C 4'], 1));
     const found = await browser.value(`press('to-round')`);
@@ -405,7 +416,7 @@ try {
     await play(browser, 4, sample('four-boards.txt').slice(1), 'ring');
     await play(browser, 11, simulator.entries(11, 100, 3, true), 'ring');
     await play_by_buttons(browser, 8, sample('eight-boards-4-out.txt').slice(1));
-    for (const test of [slots, drives, refusals, names_as_they_are, files, by_keys, is_usable, times]) await test(browser);
+    for (const test of [slots, bounds, drives, refusals, names_as_they_are, files, by_keys, is_usable, times]) await test(browser);
     if (pictures) await take_pictures(browser);
     same(browser.console, [], 'the console');
 } catch (error) {
