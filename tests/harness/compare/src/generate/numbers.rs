@@ -157,6 +157,22 @@ pub fn given_level(right: usize, size: Size, random: &mut Random) -> usize {
     }
 }
 
+/// The number of what has words: from one before the first to one behind the last
+/// of so many, or an odd one.
+pub fn worded(last: usize, random: &mut Random) -> usize {
+    let right = random.below(last + 2);
+    if !random.once_in(3) {
+        return right;
+    }
+    match random.below(6) {
+        0 | 1 => right + random.pick(&ALIASES),
+        2 => usize::MAX - random.below(2),
+        3 => random.pick(&[127, 128, 255]),
+        4 => random.below(300),
+        _ => random.any() as usize,
+    }
+}
+
 /// The tally handed in: rounds and tests.
 pub fn tally(entries: usize, random: &mut Random) -> (u32, u32) {
     match random.below(8) {
