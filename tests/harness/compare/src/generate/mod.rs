@@ -133,11 +133,16 @@ fn assignment(size: Size, random: &mut Random) -> Call {
 
 fn slot(size: Size, random: &mut Random) -> Call {
     let (n, table) = tables::given(mostly_cube(random), size, random);
+    let station = station_in(&table, size, random);
+    let station = match random.once_in(40) {
+        true => numbers::alias(station, random),
+        false => station,
+    };
     Call {
         kind: Kind::Slot,
         numbers: Numbers {
             n,
-            station: station_in(&table, size, random),
+            station,
             ..Numbers::default()
         },
         buffers: Buffers::of([

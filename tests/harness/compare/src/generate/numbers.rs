@@ -157,6 +157,11 @@ pub fn given_level(right: usize, size: Size, random: &mut Random) -> usize {
     }
 }
 
+/// A number that would be this one if it were cut.
+pub fn alias(right: usize, random: &mut Random) -> usize {
+    right.wrapping_add(random.pick(&ALIASES))
+}
+
 /// The number of what has words: from one before the first to one behind the last
 /// of so many, or an odd one.
 pub fn worded(last: usize, random: &mut Random) -> usize {

@@ -92,7 +92,8 @@ fn number(least: usize, most: usize, random: &mut Random) -> Vec<u8> {
     (0..digits).map(digit).collect()
 }
 
-/// Changes the text in one place, more often at its beginning or its end.
+/// Changes the text in one place, more often at its beginning or its end, or all
+/// its letters.
 fn damage(text: &mut Vec<u8>, random: &mut Random) {
     let last = text.len() - 1;
     let place = match random.below(4) {
@@ -100,7 +101,7 @@ fn damage(text: &mut Vec<u8>, random: &mut Random) {
         1 => last - random.below(last.min(5) + 1),
         _ => random.below(last + 1),
     };
-    match random.below(8) {
+    match random.below(9) {
         0 => text.truncate(place),
         1 => {
             text.remove(place);
@@ -115,6 +116,7 @@ fn damage(text: &mut Vec<u8>, random: &mut Random) {
                 text[random.pick(&spaces)] = random.pick(b"\t\t\0T");
             }
         }
+        6 => text.make_ascii_lowercase(),
         _ => text[place] = random.pick(&ODD),
     }
 }
