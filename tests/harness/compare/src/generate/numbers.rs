@@ -166,14 +166,14 @@ pub fn alias(right: usize, random: &mut Random) -> usize {
 /// of so many, or an odd one.
 pub fn worded(last: usize, random: &mut Random) -> usize {
     let right = random.below(last + 2);
-    if !random.once_in(3) {
+    if !random.once_in(2) {
         return right;
     }
-    match random.below(6) {
-        0 | 1 => right + random.pick(&ALIASES),
-        2 => usize::MAX - random.below(2),
-        3 => random.pick(&[127, 128, 255]),
-        4 => random.below(300),
+    match random.below(8) {
+        0..=3 => right + random.pick(&ALIASES),
+        4 => usize::MAX - random.below(2),
+        5 => random.pick(&[127, 128, 255]),
+        6 => random.below(300),
         _ => random.any() as usize,
     }
 }

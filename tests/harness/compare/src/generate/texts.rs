@@ -50,7 +50,7 @@ fn length(right: usize, random: &mut Random) -> usize {
     match random.below(24) {
         0 => right - 1,
         1 => right + 1,
-        2 => 0,
+        2 => random.pick(&[0, 2 * right]),
         _ => numbers::length(right, random),
     }
 }
