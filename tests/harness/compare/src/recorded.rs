@@ -20,17 +20,19 @@ use crate::trial::Trial;
 /// not know.
 pub fn record(seed: u64, calls: u64, path: &Path) -> Result<String, String> {
     let mut file = Vec::new();
+    let mut count = 0;
     for number in 1..=calls {
         let trial = Trial::make_agreeing(seed, number);
         if is_left_out(&trial) {
             continue;
         }
         file.extend(text(&trial.call, &trial.simulator));
+        count += 1;
     }
     let failed = |error| format!("compare: cannot write {}: {error}", path.display());
     fs::write(path, &file).map_err(failed)?;
     Ok(format!(
-        "compare: {calls} calls of seed {seed} are in {}",
+        "compare: {count} of {calls} calls of seed {seed} are in {}",
         path.display()
     ))
 }
