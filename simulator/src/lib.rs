@@ -32,6 +32,9 @@
 //! behind the exchange or behind n - 1 tests; next distance alone says how many
 //! of them were made; group list, assignment and saved plants judge a table by
 //! the rules of the cube, wherever it comes from.
+//! The words, the reading of an input and the slot follow docs/RULES.md and
+//! include/vcube.h. Which words an unreadable line has these leave open, but for
+//! a tab in the place of a space.
 //!
 //! Rows are 64-bit sets and lines are structs. They are decoded from the lent
 //! byte table and encoded back into it. By whom a station was told to leave is
@@ -50,6 +53,7 @@ mod figures;
 mod fraction;
 mod granter;
 mod groups;
+mod input;
 mod lamp;
 mod line;
 mod mender;
@@ -63,8 +67,10 @@ mod refusal;
 mod run;
 mod saved;
 pub mod sheet;
+mod slot;
 mod totals;
 mod wiring;
+mod words;
 
 #[cfg(test)]
 mod tests;
@@ -73,11 +79,14 @@ pub use converter::{convert, converted_length};
 pub use figures::{figures, figures_of_two, Figures};
 pub use fraction::Fraction;
 pub use granter::{drive, grant, Driven};
+pub use input::{read_input, InputRead, LEFT_OPEN, MOST_ENTRIES, SCHEDULE_LENGTH};
 pub use lamp::doubt_lamp;
 pub use line::HEAD;
 pub use mender::mend;
 pub use questions::{assignment, check_table, fresh_table, group_list, row, row_refusal};
 pub use run::{run, Answer};
 pub use saved::{load, save, saved_size, Loaded};
+pub use slot::{slot, Slot};
 pub use totals::{figures_of_totals, join_totals, totals, Totals};
 pub use wiring::Wiring;
+pub use words::{outcome_words, refusal_words, status_words, WORDS_LENGTH};

@@ -1,13 +1,10 @@
 //! The run program: from the bytes of standard input to the printed text.
 
+use crate::input::{self, Read, MOST_ENTRIES, SCHEDULE_LENGTH};
 use crate::numbers::Size;
-use crate::reading::{read_size, read_station};
 use crate::saved::saved_plant;
 use crate::wiring::Wiring;
 use crate::{fresh_table, run, Answer};
-
-/// The most entries the program reads.
-const MOST_ENTRIES: usize = 4096;
 
 /// The length of the table for n = 64.
 const LONGEST_TABLE: usize = 4480;
@@ -17,14 +14,8 @@ const HEADER: &str = "station tested outcome status\n";
 /// The buffers the program lends, filled with zeros beforehand.
 struct Buffers {
     table: [u8; LONGEST_TABLE],
-    schedule: [u8; 2 * MOST_ENTRIES],
+    schedule: [u8; SCHEDULE_LENGTH],
     sheet: [u8; 4 * MOST_ENTRIES],
-}
-
-/// What was read: the size and how many entries stand in the schedule.
-struct Read {
-    n: usize,
-    entries: usize,
 }
 
 /// What the run gave: its answer, and the parts of the buffers that it was lent.
@@ -37,9 +28,10 @@ struct Ran<'a> {
 /// What the program prints for this input on a wiring.
 pub fn respond(wiring: Wiring, input: &[u8]) -> String {
     let mut buffers = Buffers::zeros();
-    match read_input(input, &mut buffers.schedule) {
-        Ok(read) => print(&run_from_fresh(wiring, &read, &mut buffers)),
-        Err(line) => print_unread(line),
+    let read = input::read(input, &mut buffers.schedule);
+    match read.unread {
+        None => print(&run_from_fresh(wiring, &read, &mut buffers)),
+        Some(unread) => print_unread(unread.line),
     }
 }
 
@@ -47,7 +39,10 @@ pub fn respond(wiring: Wiring, input: &[u8]) -> String {
 /// the run is refused: the last line that the program prints.
 pub fn saved_after_run(input: &[u8]) -> Result<Vec<u8>, String> {
     let mut buffers = Buffers::zeros();
-    let read = read_input(input, &mut buffers.schedule).map_err(print_unread)?;
+    let read = input::read(input, &mut buffers.schedule);
+    if let Some(unread) = read.unread {
+        return Err(print_unread(unread.line));
+    }
     let Ran { answer, table, .. } = run_from_fresh(Wiring::Cube, &read, &mut buffers);
     match saved_plant(read.n, table, (answer.rounds, answer.tests)) {
         Ok(file) if answer.number == 0 => Ok(file),
@@ -59,41 +54,9 @@ impl Buffers {
     fn zeros() -> Buffers {
         Buffers {
             table: [0; LONGEST_TABLE],
-            schedule: [0; 2 * MOST_ENTRIES],
+            schedule: [0; SCHEDULE_LENGTH],
             sheet: [0; 4 * MOST_ENTRIES],
         }
-    }
-}
-
-/// Reads the size and the entries, or gives the number of the unread line.
-fn read_input(input: &[u8], schedule: &mut [u8]) -> Result<Read, usize> {
-    let text = input.strip_suffix(b"\n").unwrap_or(input);
-    let mut lines = text.split(|byte| *byte == b'\n');
-    let n = lines.next().and_then(read_size).ok_or(1_usize)?;
-    let mut places = schedule.chunks_exact_mut(2);
-    let mut entries = 0;
-    for line in lines {
-        let place = places.next().ok_or(entries + 2)?;
-        let entry = read_entry(line).ok_or(entries + 2)?;
-        place.copy_from_slice(&entry);
-        entries += 1;
-    }
-    Ok(Read { n, entries })
-}
-
-/// T, L or C, a space and a station.
-fn read_entry(line: &[u8]) -> Option<[u8; 2]> {
-    let (letter, rest) = line.split_first()?;
-    let station = read_station(rest.strip_prefix(b" ")?)?;
-    Some([read_kind(*letter)?, station])
-}
-
-fn read_kind(letter: u8) -> Option<u8> {
-    match letter {
-        b'T' => Some(1),
-        b'L' => Some(2),
-        b'C' => Some(3),
-        _ => None,
     }
 }
 

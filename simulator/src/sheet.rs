@@ -159,7 +159,7 @@ impl Plant {
 }
 
 /// The boards that a board with this row tests, in order.
-fn tested(size: Size, board: Station, row: Row) -> impl Iterator<Item = Station> {
+pub(crate) fn tested(size: Size, board: Station, row: Row) -> impl Iterator<Item = Station> {
     let due = |(_, other, answer)| match answer {
         DueOrAhead::Due => Some(other),
         DueOrAhead::Ahead(_) => None,
@@ -196,7 +196,7 @@ fn most_grants(size: Size, row: Row) -> usize {
 
 /// The greatest number of tests by the row with one more board, any but the
 /// board itself.
-fn most_with_one_more(size: Size, board: Station, row: Row) -> usize {
+pub(crate) fn most_with_one_more(size: Size, board: Station, row: Row) -> usize {
     let others = size.stations().filter(|other| *other != board);
     greatest(others.map(|other| tested(size, board, row.with(other)).count()))
 }

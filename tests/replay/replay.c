@@ -217,6 +217,11 @@ static uint8_t figures_of_list(void) { return vcube_figures_of_list(R(0), FIGURE
 static uint8_t figures_of_two_lists(void) { return vcube_figures_of_two_lists(R(0), R(1), FIGURES(2)); }
 static uint8_t totals_of_list(void) { return vcube_totals_of_list(R(0), TOTALS(1)); }
 static uint8_t join_totals(void) { return vcube_join_totals(TOTALS(0), TOTALS(1), TOTALS(2)); }
+static uint8_t slot(void) { return vcube_slot(n(0), B(1), n(2), S(3), S(4)); }
+static uint8_t refusal_words(void) { return vcube_refusal_words(n(0), B(1)); }
+static uint8_t status_words(void) { return vcube_status_words(n(0), B(1)); }
+static uint8_t outcome_words(void) { return vcube_outcome_words(n(0), B(1)); }
+static uint8_t read_input(void) { return vcube_read_input(B(0), B(1), B(2), S(3), S(4), S(5)); }
 static uint8_t figures_of_totals(void) { return vcube_figures_of_totals(TOTALS(0), FIGURES(1)); }
 
 static const struct {
@@ -228,7 +233,8 @@ static const struct {
     {"vcube_save", save}, {"vcube_load", load}, {"vcube_saved_size", saved_size}, {"vcube_convert", convert_file},
     {"vcube_converted_length", converted_length}, {"vcube_figures_of_list", figures_of_list},
     {"vcube_figures_of_two_lists", figures_of_two_lists}, {"vcube_totals_of_list", totals_of_list}, {"vcube_join_totals", join_totals},
-    {"vcube_figures_of_totals", figures_of_totals},
+    {"vcube_figures_of_totals", figures_of_totals}, {"vcube_slot", slot}, {"vcube_refusal_words", refusal_words},
+    {"vcube_status_words", status_words}, {"vcube_outcome_words", outcome_words}, {"vcube_read_input", read_input},
 };
 
 static uint8_t make(const struct call *call)

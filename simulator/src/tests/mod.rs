@@ -13,6 +13,7 @@ mod figures;
 mod files;
 mod granter;
 mod groups;
+mod input;
 mod lamp;
 mod laws;
 mod leaving;
@@ -25,12 +26,14 @@ mod rounds;
 mod saved;
 mod saved_refused;
 mod sheet;
+mod slot;
 mod slowest_ring;
 mod steps;
 mod tables;
 mod told;
 mod totals;
 mod wirings;
+mod words;
 
 use std::ops::RangeInclusive;
 

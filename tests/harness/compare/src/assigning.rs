@@ -64,6 +64,17 @@ impl Asked {
         }
     }
 
+    /// The same with one more suspected.
+    pub fn suspecting(&self, other: usize) -> Asked {
+        let mut row = self.row.clone();
+        row[other] = 1;
+        Asked {
+            row,
+            live: self.live.clone(),
+            ..*self
+        }
+    }
+
     /// The number at a distance.
     pub fn at(&self, m: usize) -> usize {
         self.station ^ m

@@ -122,6 +122,28 @@ extern "C" {
     fn vcube_totals_of_list(results: *const u16, length: usize, totals: *mut Totals) -> u8;
     fn vcube_join_totals(first: *const Totals, second: *const Totals, joined: *mut Totals) -> u8;
     fn vcube_figures_of_totals(totals: *const Totals, figures: *mut Figures) -> u8;
+    fn vcube_slot(
+        n: usize,
+        table: *const u8,
+        table_length: usize,
+        station: usize,
+        tests: *mut usize,
+        most: *mut usize,
+    ) -> u8;
+    fn vcube_refusal_words(refusal: usize, words: *mut u8, words_length: usize) -> u8;
+    fn vcube_status_words(status: usize, words: *mut u8, words_length: usize) -> u8;
+    fn vcube_outcome_words(outcome: usize, words: *mut u8, words_length: usize) -> u8;
+    fn vcube_read_input(
+        input: *const u8,
+        input_length: usize,
+        schedule: *mut u8,
+        schedule_length: usize,
+        words: *mut u8,
+        words_length: usize,
+        n: *mut usize,
+        entries: *mut usize,
+        line: *mut usize,
+    ) -> u8;
 }
 
 /// The header's structs: all their members are of type uint64_t.
@@ -173,6 +195,12 @@ impl Calls for Library {
         let count = figure(lent.count);
         let Numbers { n, station, .. } = *numbers;
         unsafe { vcube_assignment(n, table, table_length, station, list, list_length, count) }
+    }
+
+    fn slot(numbers: &Numbers, [table, tests, most]: [&mut Guarded; 3]) -> u8 {
+        let (table, length) = bytes(table);
+        let (tests, most) = (figure(tests), figure(most));
+        unsafe { vcube_slot(numbers.n, table, length, numbers.station, tests, most) }
     }
 
     fn row(numbers: &Numbers, lent: Row) -> u8 {
@@ -318,5 +346,39 @@ impl Calls for Library {
 
     fn figures_of_totals([totals, figures]: [&mut Guarded; 2]) -> u8 {
         unsafe { vcube_figures_of_totals(figure(totals), figure(figures)) }
+    }
+
+    fn refusal_words(number: usize, words: &mut Guarded) -> u8 {
+        let (words, length) = bytes(words);
+        unsafe { vcube_refusal_words(number, words, length) }
+    }
+
+    fn status_words(number: usize, words: &mut Guarded) -> u8 {
+        let (words, length) = bytes(words);
+        unsafe { vcube_status_words(number, words, length) }
+    }
+
+    fn outcome_words(number: usize, words: &mut Guarded) -> u8 {
+        let (words, length) = bytes(words);
+        unsafe { vcube_outcome_words(number, words, length) }
+    }
+
+    fn read_input([input, schedule, words, size, entries, line]: [&mut Guarded; 6]) -> u8 {
+        let (input, input_length) = bytes(input);
+        let (schedule, schedule_length) = bytes(schedule);
+        let (words, words_length) = bytes(words);
+        unsafe {
+            vcube_read_input(
+                input,
+                input_length,
+                schedule,
+                schedule_length,
+                words,
+                words_length,
+                figure(size),
+                figure(entries),
+                figure(line),
+            )
+        }
     }
 }

@@ -42,6 +42,13 @@ impl Calls for Simulator {
         number
     }
 
+    fn slot(numbers: &Numbers, [table, tests, most]: [&mut Guarded; 3]) -> u8 {
+        let given = simulator::slot(numbers.n, table.contents(), narrow(numbers.station));
+        tests.put_figure(given.tests);
+        most.put_figure(given.most);
+        given.number
+    }
+
     fn row(numbers: &Numbers, lent: Row) -> u8 {
         let (table, station) = (lent.table.contents(), narrow(numbers.station));
         let number = simulator::row_refusal(numbers.wiring, numbers.n, table, station);
@@ -158,6 +165,27 @@ impl Calls for Simulator {
     fn figures_of_totals([totals, figures]: [&mut Guarded; 2]) -> u8 {
         let totals = words::totals(totals.contents());
         put_figures(figures, &simulator::figures_of_totals(&totals))
+    }
+
+    fn refusal_words(number: usize, words: &mut Guarded) -> u8 {
+        simulator::refusal_words(number, words.contents_mut())
+    }
+
+    fn status_words(number: usize, words: &mut Guarded) -> u8 {
+        simulator::status_words(number, words.contents_mut())
+    }
+
+    fn outcome_words(number: usize, words: &mut Guarded) -> u8 {
+        simulator::outcome_words(number, words.contents_mut())
+    }
+
+    fn read_input([input, schedule, words, size, entries, line]: [&mut Guarded; 6]) -> u8 {
+        let (schedule, words) = (schedule.contents_mut(), words.contents_mut());
+        let given = simulator::read_input(input.contents(), schedule, words);
+        size.put_figure(given.n);
+        entries.put_figure(given.entries);
+        line.put_figure(given.line);
+        given.number
     }
 }
 

@@ -4,7 +4,8 @@
 //! says of its station go through its types: what it reads from a buffer is
 //! written there again, and its figures are put where the library would put
 //! them. So a fault of it shows in a buffer. It has no wiring of another number:
-//! such a call gives here what the header says of one that is refused.
+//! such a call gives here what the header says of one that is refused. So does
+//! one with a buffer of words, or a schedule of an input, of another length.
 
 use shared::grants::NONE_YET;
 use shared::table::{CLOSED_SINCE, HEAD, NOT_RECORDED, STATUS, TOLD_BY, TOLD_BY_NONE};
@@ -23,6 +24,20 @@ pub struct Typed;
 
 /// The number where the wiring number is none.
 const NO_SUCH_WIRING: u8 = 24;
+
+/// The number where a buffer has another length than the typed layer's.
+const OTHER_LENGTH: u8 = 13;
+
+/// Puts words and zeros into a buffer of their length; gives the number.
+fn put_words(place: &mut Guarded, text: &str) -> u8 {
+    let place = place.contents_mut();
+    if place.len() != vcube::WORDS_LENGTH {
+        return OTHER_LENGTH;
+    }
+    place.fill(0);
+    place[..text.len()].copy_from_slice(text.as_bytes());
+    0
+}
 
 /// 0 or the number of the refusal.
 fn number<T>(given: &Result<T, Refusal>) -> u8 {
@@ -68,6 +83,14 @@ impl Calls for Typed {
             [one, other, third] if one == other && one == third => one,
             _ => u8::MAX,
         }
+    }
+
+    fn slot(numbers: &Numbers, [table, tests, most]: [&mut Guarded; 3]) -> u8 {
+        let station = Station(numbers.station);
+        let given = vcube::slot(numbers.n, table.contents(), station);
+        tests.put_figure(given.map_or(0, |slot| slot.tests));
+        most.put_figure(given.map_or(0, |slot| slot.most));
+        number(&given)
     }
 
     fn row(numbers: &Numbers, lent: Row) -> u8 {
@@ -210,6 +233,39 @@ impl Calls for Typed {
 
     fn figures_of_totals([handed_in, figures]: [&mut Guarded; 2]) -> u8 {
         put_figures(figures, totals(handed_in).figures())
+    }
+
+    fn refusal_words(number: usize, place: &mut Guarded) -> u8 {
+        put_words(place, vcube::refusal_words(number).as_str())
+    }
+
+    fn status_words(number: usize, place: &mut Guarded) -> u8 {
+        put_words(place, vcube::status_words(number).as_str())
+    }
+
+    fn outcome_words(number: usize, place: &mut Guarded) -> u8 {
+        put_words(place, vcube::outcome_words(number).as_str())
+    }
+
+    fn read_input([input, schedule, words, size, entries, line]: [&mut Guarded; 6]) -> u8 {
+        let figures = [size, entries, line];
+        let schedule = schedule.contents_mut().try_into();
+        let (Ok(schedule), vcube::WORDS_LENGTH) = (schedule, words.contents().len()) else {
+            figures.into_iter().for_each(|place| place.put_figure(0));
+            return OTHER_LENGTH;
+        };
+        let given = vcube::read_input(input.contents(), schedule);
+        let (read, unread) = match &given {
+            Ok(read) => (*read, 0),
+            Err(unread) => (unread.before, unread.line),
+        };
+        for (place, figure) in figures.into_iter().zip([read.n, read.entries, unread]) {
+            place.put_figure(figure);
+        }
+        put_words(
+            words,
+            given.as_ref().map_or_else(|one| one.words.as_str(), |_| ""),
+        )
     }
 }
 

@@ -15,6 +15,7 @@ pub enum Kind {
     FreshTable,
     GroupList,
     Assignment,
+    Slot,
     Row,
     Run,
     Grant,
@@ -31,6 +32,10 @@ pub enum Kind {
     TotalsOfList,
     JoinTotals,
     FiguresOfTotals,
+    RefusalWords,
+    StatusWords,
+    OutcomeWords,
+    ReadInput,
 }
 
 /// The numbers of a call. Those that its kind does not take are 0.
@@ -46,6 +51,8 @@ pub struct Numbers {
     /// The tally that a save is handed.
     pub rounds: u32,
     pub tests: u32,
+    /// Of a refusal, a status or an outcome.
+    pub worded: usize,
 }
 
 /// The name of a buffer.
@@ -88,6 +95,14 @@ pub enum Name {
     /// Totals that a call gives.
     GivenTotals,
     Figures,
+    /// How many tests a slot has, and how many at most.
+    SlotTests,
+    MostTests,
+    Words,
+    /// An input, how many entries it has, and its unreadable line.
+    Input,
+    Entries,
+    Line,
 }
 
 const NAMES: usize = Name::ALL.len();
@@ -136,10 +151,11 @@ impl Call {
 }
 
 impl Kind {
-    pub const ALL: [Kind; 19] = [
+    pub const ALL: [Kind; 24] = [
         Kind::FreshTable,
         Kind::GroupList,
         Kind::Assignment,
+        Kind::Slot,
         Kind::Row,
         Kind::Run,
         Kind::Grant,
@@ -156,13 +172,19 @@ impl Kind {
         Kind::TotalsOfList,
         Kind::JoinTotals,
         Kind::FiguresOfTotals,
+        Kind::RefusalWords,
+        Kind::StatusWords,
+        Kind::OutcomeWords,
+        Kind::ReadInput,
     ];
 
-    /// Those about a plant, which take a size or a file with one: the first ones. The others are about results.
-    pub const OF_PLANTS: [Kind; 14] = [
+    /// Those about a plant, which take a size or a file with one: the first ones. The others are about results, words and
+    /// inputs.
+    pub const OF_PLANTS: [Kind; 15] = [
         Kind::FreshTable,
         Kind::GroupList,
         Kind::Assignment,
+        Kind::Slot,
         Kind::Row,
         Kind::Run,
         Kind::Grant,
@@ -196,6 +218,7 @@ impl Kind {
             Kind::FreshTable => "fresh table",
             Kind::GroupList => "group list",
             Kind::Assignment => "assignment",
+            Kind::Slot => "slot",
             Kind::Row => "row",
             Kind::Run => "run",
             Kind::Grant => "grant",
@@ -212,6 +235,10 @@ impl Kind {
             Kind::TotalsOfList => "totals of a list",
             Kind::JoinTotals => "join of totals",
             Kind::FiguresOfTotals => "figures of totals",
+            Kind::RefusalWords => "words of a refusal",
+            Kind::StatusWords => "words of a status",
+            Kind::OutcomeWords => "words of an outcome",
+            Kind::ReadInput => "input",
         }
     }
 
@@ -221,6 +248,7 @@ impl Kind {
             Kind::FreshTable => &[Name::Table],
             Kind::GroupList => &[Name::List],
             Kind::Assignment => &[Name::Table, Name::List, Name::Count],
+            Kind::Slot => &[Name::Table, Name::SlotTests, Name::MostTests],
             Kind::Row => &[Name::Table, Name::Start, Name::Length],
             Kind::Run => &[
                 Name::Table,
@@ -256,6 +284,15 @@ impl Kind {
             Kind::TotalsOfList => &[Name::Results, Name::GivenTotals],
             Kind::JoinTotals => &[Name::Totals, Name::SecondTotals, Name::GivenTotals],
             Kind::FiguresOfTotals => &[Name::Totals, Name::Figures],
+            Kind::RefusalWords | Kind::StatusWords | Kind::OutcomeWords => &[Name::Words],
+            Kind::ReadInput => &[
+                Name::Input,
+                Name::Schedule,
+                Name::Words,
+                Name::Size,
+                Name::Entries,
+                Name::Line,
+            ],
         }
     }
 
@@ -266,6 +303,7 @@ impl Kind {
             Kind::FreshTable => &[0, 1, 2],
             Kind::GroupList => &[0, 1, 9, 12, 13],
             Kind::Assignment => &[0, 1, 2, 3, 4, 9, 10, 13],
+            Kind::Slot => &[0, 1, 2, 3, 4, 9, 10],
             Kind::Row => &[0, 1, 2, 3, 4, 9],
             Kind::Run => &[0, 1, 2, 3, 4, 5, 6, 7, 8, 9, 10, 11],
             Kind::Grant => &[0, 1, 2, 3, 4, 16, 17],
@@ -279,12 +317,14 @@ impl Kind {
             Kind::ConvertedLength => &[0, 1, 18, 19, 22],
             Kind::FiguresOfList | Kind::FiguresOfTwoLists | Kind::FiguresOfTotals => &[0, 14, 15],
             Kind::TotalsOfList | Kind::JoinTotals => &[0, 15],
+            Kind::RefusalWords | Kind::StatusWords => &[0, 13],
+            Kind::OutcomeWords | Kind::ReadInput => &[0, 13],
         }
     }
 }
 
 impl Name {
-    pub const ALL: [Name; 26] = [
+    pub const ALL: [Name; 32] = [
         Name::Table,
         Name::List,
         Name::Schedule,
@@ -311,6 +351,12 @@ impl Name {
         Name::SecondTotals,
         Name::GivenTotals,
         Name::Figures,
+        Name::SlotTests,
+        Name::MostTests,
+        Name::Words,
+        Name::Input,
+        Name::Entries,
+        Name::Line,
     ];
 
     pub fn text(self) -> &'static str {
@@ -341,6 +387,12 @@ impl Name {
             Name::SecondTotals => "second totals",
             Name::GivenTotals => "given totals",
             Name::Figures => "figures",
+            Name::SlotTests => "tests of a slot",
+            Name::MostTests => "most tests of a slot",
+            Name::Words => "words",
+            Name::Input => "input",
+            Name::Entries => "number of entries",
+            Name::Line => "unreadable line",
         }
     }
 
@@ -349,10 +401,12 @@ impl Name {
         match self {
             Name::Table | Name::List | Name::Schedule | Name::Sheet => size_of::<u8>(),
             Name::Saved | Name::Old | Name::Report => size_of::<u8>(),
+            Name::Words | Name::Input => size_of::<u8>(),
             Name::Rounds | Name::Tests => size_of::<u32>(),
             Name::Count | Name::Start | Name::Length | Name::Taken => size_of::<usize>(),
             Name::Station | Name::Last | Name::Grants | Name::Size => size_of::<usize>(),
             Name::By | Name::Of | Name::Changes => size_of::<usize>(),
+            Name::SlotTests | Name::MostTests | Name::Entries | Name::Line => size_of::<usize>(),
             Name::Results | Name::SecondResults => size_of::<u16>(),
             Name::Totals | Name::SecondTotals | Name::GivenTotals | Name::Figures => {
                 size_of::<u64>()

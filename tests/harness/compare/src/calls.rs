@@ -16,6 +16,9 @@ pub trait Calls {
 
     fn assignment(numbers: &Numbers, lent: Assignment) -> u8;
 
+    /// Table, tests, most tests.
+    fn slot(numbers: &Numbers, lent: [&mut Guarded; 3]) -> u8;
+
     fn row(numbers: &Numbers, lent: Row) -> u8;
 
     fn run(numbers: &Numbers, lent: Run) -> u8;
@@ -61,6 +64,15 @@ pub trait Calls {
 
     /// Totals, figures.
     fn figures_of_totals(lent: [&mut Guarded; 2]) -> u8;
+
+    fn refusal_words(number: usize, words: &mut Guarded) -> u8;
+
+    fn status_words(number: usize, words: &mut Guarded) -> u8;
+
+    fn outcome_words(number: usize, words: &mut Guarded) -> u8;
+
+    /// Input, schedule, words, size, number of entries, unreadable line.
+    fn read_input(lent: [&mut Guarded; 6]) -> u8;
 }
 
 pub struct Assignment<'a> {
@@ -91,6 +103,7 @@ pub fn make<By: Calls>(call: &Call, mut buffers: Buffers<Guarded>) -> Outcome {
         Kind::FreshTable => By::fresh_table(numbers, buffers.get_mut(Name::Table)),
         Kind::GroupList => By::group_list(numbers, buffers.get_mut(Name::List)),
         Kind::Assignment => By::assignment(numbers, assignment(&mut buffers)),
+        Kind::Slot => By::slot(numbers, lent(call.kind, &mut buffers)),
         Kind::Row => By::row(numbers, row(&mut buffers)),
         Kind::Run => By::run(numbers, run(&mut buffers)),
         Kind::Grant => By::grant(numbers, lent(call.kind, &mut buffers)),
@@ -107,6 +120,10 @@ pub fn make<By: Calls>(call: &Call, mut buffers: Buffers<Guarded>) -> Outcome {
         Kind::TotalsOfList => By::totals_of_list(lent(call.kind, &mut buffers)),
         Kind::JoinTotals => By::join_totals(lent(call.kind, &mut buffers)),
         Kind::FiguresOfTotals => By::figures_of_totals(lent(call.kind, &mut buffers)),
+        Kind::RefusalWords => By::refusal_words(numbers.worded, buffers.get_mut(Name::Words)),
+        Kind::StatusWords => By::status_words(numbers.worded, buffers.get_mut(Name::Words)),
+        Kind::OutcomeWords => By::outcome_words(numbers.worded, buffers.get_mut(Name::Words)),
+        Kind::ReadInput => By::read_input(lent(call.kind, &mut buffers)),
     };
     Outcome {
         side: By::SIDE,

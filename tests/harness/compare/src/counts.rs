@@ -14,6 +14,8 @@ use crate::occurred::Occurred;
 use crate::outcome::Outcome;
 use crate::ring::Ring;
 use crate::saved;
+use crate::slotted;
+use crate::texts;
 use crate::ways_back::WaysBack;
 use crate::wired::Wired;
 
@@ -21,7 +23,7 @@ use crate::wired::Wired;
 pub const LEAST: u64 = 30;
 
 /// The buffers of any length.
-const OF_ANY_LENGTH: [Name; 9] = [
+const OF_ANY_LENGTH: [Name; 11] = [
     Name::Table,
     Name::Report,
     Name::List,
@@ -31,6 +33,8 @@ const OF_ANY_LENGTH: [Name; 9] = [
     Name::Old,
     Name::Results,
     Name::SecondResults,
+    Name::Words,
+    Name::Input,
 ];
 
 /// How many buffers are of any length.
@@ -59,6 +63,10 @@ pub struct Counts {
     pub ways_back: WaysBack,
     /// The cases of calls about results.
     pub cases: Occurred<cases::Seen>,
+    /// The cases of slots.
+    pub slotted: Occurred<slotted::Seen>,
+    /// The cases of words and inputs.
+    pub texts: Occurred<texts::Seen>,
 }
 
 impl Counts {
@@ -74,6 +82,8 @@ impl Counts {
             cuts: Cuts::all(count),
             ways_back: WaysBack::all(count),
             cases: cases::all(count),
+            slotted: slotted::all(count),
+            texts: texts::all(count),
         }
     }
 
@@ -87,9 +97,12 @@ impl Counts {
             let on = on.find(|on| on.wiring == wiring);
             on.expect("all wirings").add(call, outcome);
         }
-        match Kind::OF_PLANTS.contains(&call.kind) {
-            true => self.add_of_plant(call, outcome),
-            false => self.cases.add(call.kind, &cases::Seen::new(call, outcome)),
+        match call.kind {
+            kind if Kind::OF_PLANTS.contains(&kind) => self.add_of_plant(call, outcome),
+            kind if kind.buffers().contains(&Name::Words) => {
+                self.texts.add(kind, &texts::Seen::new(call, outcome));
+            }
+            kind => self.cases.add(kind, &cases::Seen::new(call, outcome)),
         }
     }
 
@@ -101,6 +114,10 @@ impl Counts {
             Kind::Assignment => {
                 let seen = assigned::Seen::new(call, outcome);
                 self.assigned.add(call.kind, &seen);
+            }
+            Kind::Slot => {
+                let seen = slotted::Seen::new(call, outcome);
+                self.slotted.add(call.kind, &seen);
             }
             Kind::Save | Kind::Load | Kind::SavedSize | Kind::Convert | Kind::ConvertedLength => {
                 let seen = saved::Seen::new(call, outcome);
@@ -132,6 +149,8 @@ impl Counts {
         self.cuts.require(&mut required);
         self.ways_back.require(&mut required);
         self.cases.require(&mut required);
+        self.slotted.require(&mut required);
+        self.texts.require(&mut required);
         required
     }
 }
@@ -149,7 +168,8 @@ impl fmt::Display for Counts {
         }
         write!(f, "; {}; {}; {}; ", self.handed, self.ring, self.assigned)?;
         write!(f, "{}; {}; ", self.saved, self.cuts)?;
-        write!(f, "{}; {}", self.ways_back, self.cases)?;
+        write!(f, "{}; {}; ", self.ways_back, self.cases)?;
+        write!(f, "{}; {}", self.slotted, self.texts)?;
         let rarest = self.required().into_iter().min();
         rarest.map_or(Ok(()), |(count, text)| {
             write!(f, "; rarest: {text}: {count}")

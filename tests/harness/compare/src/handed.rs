@@ -28,7 +28,7 @@ pub struct Seen {
     on_other: Option<u8>,
 }
 
-const CASES: [(Kind, &[Case]); 14] = [
+const CASES: [(Kind, &[Case]); 15] = [
     (Kind::FreshTable, &NUMBER),
     (Kind::Row, &NUMBER),
     (Kind::Run, &NUMBER),
@@ -42,6 +42,7 @@ const CASES: [(Kind, &[Case]); 14] = [
     (Kind::Drive, &TABLE),
     (Kind::DoubtLamp, &TABLE),
     (Kind::Assignment, &OF_RING),
+    (Kind::Slot, &OF_RING),
     (Kind::Save, &OF_RING),
 ];
 

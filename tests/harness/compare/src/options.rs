@@ -7,7 +7,7 @@ use shared::options::{Words, DEFAULT_SEED};
 const USAGE: &str =
     "usage: compare [--seed S] [--calls N [--record FILE] | --only K | --self-test] [--trace]";
 
-pub const DEFAULT_CALLS: u64 = 800_000;
+pub const DEFAULT_CALLS: u64 = 900_000;
 
 pub enum Task {
     /// Calls 1 up to this number.

@@ -52,6 +52,7 @@ fn numbers(kind: Kind, numbers: &Numbers) -> String {
         last,
         rounds,
         tests,
+        worded,
     } = numbers;
     match kind {
         Kind::FreshTable | Kind::Run | Kind::Drive => format!("  wiring {wiring}, n {n}\n"),
@@ -60,7 +61,10 @@ fn numbers(kind: Kind, numbers: &Numbers) -> String {
         Kind::Save => format!("  n {n}, rounds {rounds}, tests {tests}\n"),
         Kind::GroupList => format!("  n {n}, station {station}, level {level}\n"),
         Kind::Row => format!("  wiring {wiring}, n {n}, station {station}\n"),
-        Kind::Assignment => format!("  n {n}, station {station}\n"),
+        Kind::Assignment | Kind::Slot => format!("  n {n}, station {station}\n"),
+        Kind::RefusalWords | Kind::StatusWords | Kind::OutcomeWords => {
+            format!("  of number {worded}\n")
+        }
         _ => String::new(),
     }
 }

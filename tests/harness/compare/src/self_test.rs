@@ -17,16 +17,18 @@ use crate::result_faults;
 use crate::ring_faults;
 use crate::save_faults;
 use crate::size_faults;
+use crate::slot_faults;
+use crate::text_faults;
 use crate::told_faults;
 use crate::trial::Trial;
 use crate::ways_back;
 use crate::wired::{Wired, OUTCOMES, SIZES};
 
 /// How many calls are altered.
-const CALLS: u64 = 2_400;
+const CALLS: u64 = 2_700;
 
 /// How many calls are made by each library with a fault.
-const FAULTY_CALLS: u64 = 14_400;
+const FAULTY_CALLS: u64 = 16_200;
 
 /// What was altered, and on which side.
 type Altered = Vec<(Side, Place)>;
@@ -72,6 +74,8 @@ fn all_faults() -> Vec<(&'static [Kind], Fault)> {
     let others = others.chain(lamp_faults::all());
     let others = others.chain(mend_faults::all());
     let others = others.chain(ring_faults::all());
+    let others = others.chain(slot_faults::ALL);
+    let others = others.chain(text_faults::all());
     let others = others.map(|fault| (&Kind::ALL[..], fault));
     let of_saves = save_faults::all().map(|fault| (&SAVING[..], fault));
     others.chain(of_saves).collect()
@@ -87,9 +91,10 @@ const SAVING: [Kind; 5] = [
 ];
 
 /// The right rules, which are no fault: what they are of, and what they give.
-const RIGHT: [Fault; 6] = [
+const RIGHT: [Fault; 7] = [
     ("granting", grant_faults::right),
     ("assigning", assign_faults::right),
+    ("slots", slot_faults::right),
     ("doubting", lamp_faults::right),
     ("mending", mend_faults::right),
     ("saving", save_faults::right),
@@ -289,6 +294,7 @@ fn lowered_counts() -> Vec<Counts> {
     all.lower_assigned();
     all.lower_saved();
     all.lower_cases();
+    all.lower_texts();
     all.0
 }
 
@@ -450,6 +456,16 @@ impl Lowered {
         }
         for way in 0..Counts::all(0).ways_back.0.len() {
             self.lower(|counts| &mut counts.ways_back.0[way]);
+        }
+    }
+
+    /// The cases of slots, words and inputs.
+    fn lower_texts(&mut self) {
+        for case in 0..Counts::all(0).slotted.counts.len() {
+            self.lower(|counts| &mut counts.slotted.counts[case]);
+        }
+        for case in 0..Counts::all(0).texts.counts.len() {
+            self.lower(|counts| &mut counts.texts.counts[case]);
         }
     }
 

@@ -12,6 +12,7 @@ mod results;
 mod saves;
 mod schedules;
 mod tables;
+mod texts;
 mod totals;
 
 use shared::groups;
@@ -27,9 +28,10 @@ pub use saves::way_back;
 type Size = usize;
 
 pub fn call(random: &mut Random) -> Call {
-    match random.below(36) {
+    match random.below(38) {
         0..=3 => results::call(random),
         4..=15 => of_file(random),
+        16 | 17 => texts::call(random),
         _ => of_plant(random),
     }
 }
@@ -48,7 +50,7 @@ fn of_file(random: &mut Random) -> Call {
 fn of_plant(random: &mut Random) -> Call {
     let size = groups::random_size(random);
     let wiring = random.pick(&Wiring::ALL);
-    match random.below(47) {
+    match random.below(49) {
         0 | 1 => fresh_table(wiring, size, random),
         2..=5 => group_list(size, random),
         6 | 7 => assignment(size, random),
@@ -57,6 +59,7 @@ fn of_plant(random: &mut Random) -> Call {
         16..=20 => drives::drive(wiring, size, random),
         21..=24 => lamps::doubt_lamp(wiring, size, random),
         25..=28 => mendings::mend(wiring, size, random),
+        29 | 30 => slot(size, random),
         _ => run(wiring, size, random),
     }
 }
@@ -124,6 +127,28 @@ fn assignment(size: Size, random: &mut Random) -> Call {
             (Name::Table, table),
             (Name::List, random.bytes(length)),
             (Name::Count, random.bytes(size_of::<usize>())),
+        ]),
+    }
+}
+
+fn slot(size: Size, random: &mut Random) -> Call {
+    let (n, table) = tables::given(mostly_cube(random), size, random);
+    let station = station_in(&table, size, random);
+    let station = match random.once_in(40) {
+        true => numbers::alias(station, random),
+        false => station,
+    };
+    Call {
+        kind: Kind::Slot,
+        numbers: Numbers {
+            n,
+            station,
+            ..Numbers::default()
+        },
+        buffers: Buffers::of([
+            (Name::Table, table),
+            (Name::SlotTests, random.bytes(size_of::<usize>())),
+            (Name::MostTests, random.bytes(size_of::<usize>())),
         ]),
     }
 }

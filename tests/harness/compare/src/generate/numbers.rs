@@ -157,6 +157,27 @@ pub fn given_level(right: usize, size: Size, random: &mut Random) -> usize {
     }
 }
 
+/// A number that would be this one if it were cut.
+pub fn alias(right: usize, random: &mut Random) -> usize {
+    right.wrapping_add(random.pick(&ALIASES))
+}
+
+/// The number of what has words: from one before the first to one behind the last
+/// of so many, or an odd one.
+pub fn worded(last: usize, random: &mut Random) -> usize {
+    let right = random.below(last + 2);
+    if !random.once_in(2) {
+        return right;
+    }
+    match random.below(8) {
+        0..=3 => right + random.pick(&ALIASES),
+        4 => usize::MAX - random.below(2),
+        5 => random.pick(&[127, 128, 255]),
+        6 => random.below(300),
+        _ => random.any() as usize,
+    }
+}
+
 /// The tally handed in: rounds and tests.
 pub fn tally(entries: usize, random: &mut Random) -> (u32, u32) {
     match random.below(8) {

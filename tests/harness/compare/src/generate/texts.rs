@@ -1,0 +1,122 @@
+//! Words by any number, and inputs: readable ones and damaged ones.
+
+use shared::random::Random;
+use simulator::{MOST_ENTRIES, SCHEDULE_LENGTH, WORDS_LENGTH};
+
+use super::numbers;
+use crate::call::{Buffers, Call, Kind, Name, Numbers};
+
+pub fn call(random: &mut Random) -> Call {
+    match random.below(8) {
+        0 => words(Kind::RefusalWords, 24, random),
+        1 => words(Kind::StatusWords, 3, random),
+        2 => words(Kind::OutcomeWords, 5, random),
+        _ => read_input(random),
+    }
+}
+
+fn words(kind: Kind, last: usize, random: &mut Random) -> Call {
+    let length = length(WORDS_LENGTH, random);
+    Call {
+        kind,
+        numbers: Numbers {
+            worded: numbers::worded(last, random),
+            ..Numbers::default()
+        },
+        buffers: Buffers::of([(Name::Words, random.bytes(length))]),
+    }
+}
+
+fn read_input(random: &mut Random) -> Call {
+    let of_schedule = length(SCHEDULE_LENGTH, random);
+    let of_words = length(WORDS_LENGTH, random);
+    let figure = |random: &mut Random| random.bytes(size_of::<usize>());
+    Call {
+        kind: Kind::ReadInput,
+        numbers: Numbers::default(),
+        buffers: Buffers::of([
+            (Name::Input, input(random)),
+            (Name::Schedule, random.bytes(of_schedule)),
+            (Name::Words, random.bytes(of_words)),
+            (Name::Size, figure(random)),
+            (Name::Entries, figure(random)),
+            (Name::Line, figure(random)),
+        ]),
+    }
+}
+
+/// Mostly the right length, now and then one less or one more.
+fn length(right: usize, random: &mut Random) -> usize {
+    match random.below(24) {
+        0 => right - 1,
+        1 => right + 1,
+        2 => random.pick(&[0, 2 * right]),
+        _ => numbers::length(right, random),
+    }
+}
+
+/// Bytes that are wrong in most places.
+const ODD: [u8; 16] = *b"\t\t\r \n\0tX/:-09\xEF\x7F\xFF";
+
+/// An input, which in half of all cases can be read.
+fn input(random: &mut Random) -> Vec<u8> {
+    if random.once_in(60) {
+        return Vec::new();
+    }
+    let entries = match random.below(16) {
+        0 => 0,
+        1 => MOST_ENTRIES - 1 + random.below(4),
+        2 => random.below(300),
+        _ => random.below(12),
+    };
+    let mut text = number(1, 3, random);
+    for _ in 0..entries {
+        text.push(b'\n');
+        text.push(random.pick(b"TLC"));
+        text.push(b' ');
+        text.extend(number(1, 2, random));
+    }
+    if !random.once_in(4) {
+        text.push(b'\n');
+    }
+    if random.once_in(2) {
+        damage(&mut text, random);
+    }
+    text
+}
+
+/// So many digits.
+fn number(least: usize, most: usize, random: &mut Random) -> Vec<u8> {
+    let digits = random.between(least, most);
+    let digit = |_| b'0' + random.below(10) as u8;
+    (0..digits).map(digit).collect()
+}
+
+/// Changes the text in one place, more often at its beginning or its end, or all
+/// its letters.
+fn damage(text: &mut Vec<u8>, random: &mut Random) {
+    let last = text.len() - 1;
+    let place = match random.below(4) {
+        0 => random.below(last.min(3) + 1),
+        1 => last - random.below(last.min(5) + 1),
+        _ => random.below(last + 1),
+    };
+    match random.below(9) {
+        0 => text.truncate(place),
+        1 => {
+            text.remove(place);
+        }
+        2 => text.insert(place, random.byte()),
+        3 => text.insert(place, random.pick(&ODD)),
+        4 => text.push(random.pick(&ODD)),
+        5 => {
+            let spaces = text.iter().enumerate().filter(|(_, byte)| **byte == b' ');
+            let spaces: Vec<usize> = spaces.map(|(space, _)| space).collect();
+            if !spaces.is_empty() {
+                text[random.pick(&spaces)] = random.pick(b"\t\t\0T");
+            }
+        }
+        6 => text.make_ascii_lowercase(),
+        _ => text[place] = random.pick(&ODD),
+    }
+}
