@@ -16,7 +16,7 @@ use Rattle.table.specs.Sizes.{is_size}
 use Rattle.table.specs.Table.{line_start, table_length}
 use Rattle.table.specs.Fresh.{fresh_table, fresh_after}
 use Rattle.table.specs.Wiring.{wiring_cube}
-use Rattle.table.specs.Rules.{shape_check, table_check, table_check_on, wired_shape_check}
+use Rattle.table.specs.Rules.{shape_check, table_check, table_check_on, numbered_shape_check}
 use Rattle.saved.specs.Fields.{extent, first_field}
 use Rattle.saved.specs.Plant.{station_in}
 use Rattle.saved.specs.Reading.{field_value, contents_length, line_as}
@@ -49,7 +49,7 @@ module _ (form : Form) (c : List ℕ) (line : is_line form c ≡ true) where
 pub ruleset line_judged = (empty_line, rules_not, rules_size, rules_in)
 
 -- a buffer of the right length is one of a table of that size
-pub right_shape : (n : ℕ) (t : List ℕ) → is_size n ≡ true → length t ≡ table_length n → wired_shape_check wiring_cube n (length t) ≡ Ok tt
+pub right_shape : (n : ℕ) (t : List ℕ) → is_size n ≡ true → length t ≡ table_length n → numbered_shape_check wiring_cube n (length t) ≡ Ok tt
 unfolding shape_check
 right_shape n t z l = rw (z, eq-eqb (length t) (table_length n) l) refl
 

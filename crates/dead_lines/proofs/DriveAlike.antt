@@ -11,7 +11,7 @@ use Rattle.lists.specs.Refusal.{number_of_result}
 use Rattle.lists.proofs.BoolLaws.{by_bool, least-same}
 use Rattle.lists.proofs.RefusalLaws.{and_same}
 use Rattle.std.proofs.lemmas.List.Elements.{All-head, All-tail}
-use Rattle.table.specs.Rules.{wired_table_check}
+use Rattle.table.specs.Rules.{numbered_table_check}
 use Rattle.table.proofs.Accepting.{Accepted, accepted, table_ok}
 use Rattle.plant.specs.Turn.{kind_turn}
 use Rattle.plant.specs.Entry.{Entry, State, entry_of, tally_full, entry_refusal}
@@ -51,7 +51,7 @@ module _ (w n : ℕ) (s r : State) (a : Alike w n s r) (v m last : ℕ) (on : Is
   unfolding grant_check
   grant-checked =
       rw (tables-checked w n s r a v m on)
-      (and_same (wired_table_check v m r.table) _ _
+      (and_same (numbered_table_check v m r.table) _ _
       (λ ok. rw (size-is w n s r a m (sym (table_ok v m r.table tt ok).long), some-live-same n s.table r.table tables)))
 
   grant-same : grant_answer v m s.table last ≡ grant_answer v m r.table last

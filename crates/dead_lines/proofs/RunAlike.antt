@@ -15,7 +15,7 @@ use Rattle.lists.proofs.RefusalLaws.{and_same}
 use Rattle.std.proofs.lemmas.List.Elements.{All-head, All-tail}
 use Rattle.table.specs.Wiring.{wiring_check}
 use Rattle.table.specs.Table.{table_length, finished_column, live}
-use Rattle.table.specs.Rules.{round_over, shape_check, table_check_on, wired_table_check, wired_table_refusal}
+use Rattle.table.specs.Rules.{round_over, shape_check, table_check_on, numbered_table_check, numbered_table_refusal}
 use Rattle.table.proofs.Accepting.{accepted, shape_ok}
 use Rattle.plant.specs.Round.{after_round}
 use Rattle.plant.specs.Entry.{Entry, State, entry_check, entry_refusal, acted, after, sheet_line}
@@ -139,7 +139,7 @@ module _ (w n : ℕ) (s r : State) (a : Alike w n s r) where
   size-is m fits = size-unique m n (fits ∙ alike-both.tables.other_long)
 
   -- a call on this wiring, of any size, finds the same of refusals 24 and 1 to 4: one of another size by the length alone
-  pub tables-checked : (v m : ℕ) → IsOn w v → wired_table_check v m s.table ≡ wired_table_check v m r.table
+  pub tables-checked : (v m : ℕ) → IsOn w v → numbered_table_check v m s.table ≡ numbered_table_check v m r.table
   unfolding table_check_on
   tables-checked v m on =
       and_same (wiring_check v) _ _
@@ -168,8 +168,8 @@ module _ (w n : ℕ) (s r : State) (a : Alike w n s r) where
       (stopped n s r alike-both (start_refusal v m s.table (length schedule) (length sheet)) 0 sheet))
 
 -- a run of any size keeps the rules of size n
-still-valid : (w n : ℕ) (s : State) → wired_table_refusal w n s.table ≡ 0 → (v m : ℕ) (schedule sheet : List ℕ) → IsOn w v
-    → wired_table_refusal w n (run v m s schedule sheet).state.table ≡ 0
+still-valid : (w n : ℕ) (s : State) → numbered_table_refusal w n s.table ≡ 0 → (v m : ℕ) (schedule sheet : List ℕ) → IsOn w v
+    → numbered_table_refusal w n (run v m s schedule sheet).state.table ≡ 0
 unfolding run
 still-valid w n s z v m schedule sheet on =
     by_bool (eqb (start_refusal v m s.table (length schedule) (length sheet)) 0)
@@ -180,8 +180,8 @@ still-valid w n s z v m schedule sheet on =
     (λ t. rw t z)
 
 -- what stays alike
-pub stays : (w n : ℕ) (s r s' r' : State) → Both n s r → Step n s.table r.table s'.table r'.table → wired_table_refusal w n s'.table ≡ 0
-    → wired_table_refusal w n r'.table ≡ 0 → s'.rounds ≡ r'.rounds → s'.tests ≡ r'.tests → StayAlike w n s r s' r'
+pub stays : (w n : ℕ) (s r s' r' : State) → Both n s r → Step n s.table r.table s'.table r'.table → numbered_table_refusal w n s'.table ≡ 0
+    → numbered_table_refusal w n r'.table ≡ 0 → s'.rounds ≡ r'.rounds → s'.tests ≡ r'.tests → StayAlike w n s r s' r'
 stays w n s r s' r' b step z z' rounds tests =
     let tw = twins-after b.tables step in
     record {

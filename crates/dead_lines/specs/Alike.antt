@@ -4,7 +4,7 @@
 use Rattle.std.specs.Prelude.{ℕ, ◌<◌, ◌≡◌, true, List, [], ◌∷◌, All, Ok}
 use Rattle.table.specs.Wiring.{wiring_check}
 use Rattle.table.specs.Table.{stride, cell, status, live}
-use Rattle.table.specs.Rules.{wired_table_refusal}
+use Rattle.table.specs.Rules.{numbered_table_refusal}
 use Rattle.plant.specs.Entry.{State}
 use Rattle.plant.specs.Run.{RunResult, run}
 use Rattle.granter.specs.Grant.{grant_answer}
@@ -18,8 +18,8 @@ SameLine n t u i = (c : ℕ) → c < stride n → cell n t i c ≡ cell n u i c
 
 -- Rule Dead lines, its conditions: refusals 24 and 1 to 4 let both tables through on the wiring w, and statuses, live lines and tally are equal
 pub record Alike (w n : ℕ) (s r : State) : Type 0 where
-  pub valid : wired_table_refusal w n s.table ≡ 0
-  pub other_valid : wired_table_refusal w n r.table ≡ 0
+  pub valid : numbered_table_refusal w n s.table ≡ 0
+  pub other_valid : numbered_table_refusal w n r.table ≡ 0
   pub statuses : (i : ℕ) → i < n → status n s.table i ≡ status n r.table i
   pub live_lines : (i : ℕ) → i < n → live n s.table i ≡ true → SameLine n s.table r.table i
   pub rounds : s.rounds ≡ r.rounds

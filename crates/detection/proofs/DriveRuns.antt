@@ -8,7 +8,7 @@ use native.Mathlib.Omega.{arith}
 use borrow.Author.Tests.{eqb-true, eqb-false}
 use lib.Dec.{eqb}
 use lib.ListN.{length, length-append}
-use Rattle.table.specs.Rules.{wired_table_refusal}
+use Rattle.table.specs.Rules.{numbered_table_refusal}
 use Rattle.lists.proofs.BoolLaws.{by_bool}
 use Rattle.plant.specs.Turn.{kind_turn}
 use Rattle.plant.specs.Entry.{State, entry_of, entry_check, entry_refusal}
@@ -55,7 +55,7 @@ runs-left w n s last g (suc k) going = step (runs-left w n s last g k (λ j l. g
     z : entry_refusal n q (entry_of kind_turn i) ≡ 0
     z = next-taken w n p k d (not_stopped w n p k (going k (omega arith))).1
 
-    ok : wired_table_refusal w n q.table ≡ 0
+    ok : numbered_table_refusal w n q.table ≡ 0
     ok = accepted-number w n q.table d.ok
 
     step : (after_runs s (runs_of w n p k) ≡ q) × (length (taken_all s (runs_of w n p k)) ≡ k)

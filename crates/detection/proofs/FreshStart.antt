@@ -11,7 +11,7 @@ use lib.Dec.{eqb}
 use lib.ListN.{length}
 use Rattle.table.specs.Sizes.{is_size}
 use Rattle.table.specs.Table.{head, stride, table_length, line_start, cell, status_column, next_column, finished_column, tests_column, told_by_column, told_by_none, rounds_ago_column, suspects, live, status}
-use Rattle.table.specs.Rules.{exit_rule, wired_line_rules, wired_table_refusal}
+use Rattle.table.specs.Rules.{exit_rule, wired_line_rules, numbered_table_refusal}
 use Rattle.table.specs.Wiring.{wiring_check}
 use Rattle.table.proofs.WiringLaws.{end-pos}
 use Rattle.std.specs.Prelude.{Ok}
@@ -65,7 +65,7 @@ module _ (n : ℕ) where
   fresh-long = list_of-length (fresh_byte n) (table_length n)
 
   -- it passes refusals 1 to 4
-  pub fresh-accepted : (w : ℕ) → wiring_check w ≡ Ok tt → is_size n ≡ true → wired_table_refusal w n t ≡ 0
+  pub fresh-accepted : (w : ℕ) → wiring_check w ≡ Ok tt → is_size n ≡ true → numbered_table_refusal w n t ≡ 0
   fresh-accepted w wired size =
       accepted-number w n t (record {
         wired = wired;

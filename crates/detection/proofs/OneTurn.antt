@@ -5,7 +5,7 @@ use mathlib.Core.Bool.{Bool, true}
 use mathlib.Core.List.{List, [], ◌∷◌, ◌++◌, append_assoc}
 use Prim.Native.Nat.{ℕ}
 use lib.Dec.{eqb}
-use Rattle.table.specs.Rules.{wired_table_refusal}
+use Rattle.table.specs.Rules.{numbered_table_refusal}
 use Rattle.lists.proofs.BoolLaws.{choice}
 use Rattle.lists.proofs.SearchLaws.{both}
 use Rattle.plant.specs.Turn.{kind_turn}
@@ -30,7 +30,7 @@ taken-append s (c ∷ a) b =
     rw (taken-append (after_run s c) a b) (sym (append_assoc (taken_in s c) (taken_all (after_run s c) a) (taken_all (after_runs (after_run s c) a) b)))
 
 -- a run of one turn that is taken
-module _ (w n : ℕ) (s : State) (i : ℕ) (ok : wired_table_refusal w n s.table ≡ 0) (z : entry_refusal n s (entry_of kind_turn i) ≡ 0) where
+module _ (w n : ℕ) (s : State) (i : ℕ) (ok : numbered_table_refusal w n s.table ≡ 0) (z : entry_refusal n s (entry_of kind_turn i) ≡ 0) where
   pub one_left : after_run s (turn_run w n i) ≡ after w n s (entry_of kind_turn i)
   one_left =
       ap (λ (o : RunResult). o.state) (run-goes w n s (turn_run w n i).schedule (turn_run w n i).sheet (start-one w n s.table ok))

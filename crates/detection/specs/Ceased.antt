@@ -3,7 +3,7 @@
 -- Assumes nothing.
 use Rattle.std.specs.Prelude.{◌≡◌, ◌≢◌, Bool, true, false, List, [], ◌∷◌, ℕ, ◌+◌, min, ◌≤◌, ◌<◌, length, if◌then◌else◌}
 use Rattle.table.specs.Table.{table_length, status, status_told, told_by, not_recorded, rounds_ago, rounds_ago_top, suspects, live}
-use Rattle.table.specs.Rules.{wired_table_refusal, round_over}
+use Rattle.table.specs.Rules.{numbered_table_refusal, round_over}
 use Rattle.plant.specs.Turn.{outcome_told, outcome_tested_told}
 use Rattle.plant.specs.Entry.{Entry, State, entry_refusal, acted, after, tested_of, outcome_of}
 use Rattle.detection.specs.Runs.{Call, Taken, after_runs, taken_all, table_after}
@@ -33,7 +33,7 @@ pub record WhoTold (w n : ℕ) (s : State) (e : Entry) : Type 0 where
 -- Rule Teller named: at every entry that a run reaches, refusals 24 and 1 to 4 let its table through (`accepted-kept` of plant's
 -- proofs/RulesKept.antt)
 abbrev pub TellerIsNamed : Type 0
-TellerIsNamed = (w n : ℕ) (s : State) (e : Entry) → wired_table_refusal w n s.table ≡ 0 → entry_refusal n s e ≡ 0 → WhoTold w n s e
+TellerIsNamed = (w n : ℕ) (s : State) (e : Entry) → numbered_table_refusal w n s.table ≡ 0 → entry_refusal n s e ≡ 0 → WhoTold w n s e
 
 -- a round closes with the taken entry
 abbrev pub closes_round : Taken → Bool

@@ -7,7 +7,7 @@ use Rattle.table.specs.Wiring.{is_ring, wiring_check}
 use Rattle.table.specs.Fresh.{fresh_table}
 use Rattle.station.specs.Groups.{is_present, width, member}
 use Rattle.table.specs.Table.{table_length, suspects, live}
-use Rattle.table.specs.Rules.{not_live, wired_table_refusal}
+use Rattle.table.specs.Rules.{not_live, numbered_table_refusal}
 use Rattle.plant.specs.Entry.{State, state_of}
 use Rattle.lists.specs.Sums.{sum_below, bit}
 use Rattle.detection.specs.Runs.{Call, Taken, after_runs, taken_all, crashes, is_late, is_on}
@@ -139,7 +139,7 @@ worst_rounds w n = if is_ring w then ring_latency n else worst_latency (dimensio
 
 -- a fresh table of any size passes refusals 24 and 1 to 4, on each wiring
 abbrev pub FreshIsAccepted : Type 0
-FreshIsAccepted = (w n : ℕ) → wiring_check w ≡ Ok tt → is_size n ≡ true → wired_table_refusal w n (fresh_table n) ≡ 0
+FreshIsAccepted = (w n : ℕ) → wiring_check w ≡ Ok tt → is_size n ≡ true → numbered_table_refusal w n (fresh_table n) ≡ 0
 
 -- Rule Conditions are met: a fresh table, with any tally, meets on each wiring and at every size what is supposed of wiring, size and table.
 -- Drives need no more (`DrivenDetection`)

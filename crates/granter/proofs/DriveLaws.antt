@@ -11,7 +11,7 @@ use native.Mathlib.Numerals.{add-one}
 use native.Mathlib.Omega.{arith}
 use borrow.Author.Tests.{eqb-true, eqb-false, eq-eqb, ne_eqb, not-false}
 use lib.Dec.{eqb}
-use Rattle.table.specs.Rules.{some_live, round_over, wired_table_refusal}
+use Rattle.table.specs.Rules.{some_live, round_over, numbered_table_refusal}
 use Rattle.lists.proofs.BoolLaws.{by_bool, neither}
 use Rattle.lists.proofs.SearchLaws.{least-is, least-none}
 use Rattle.table.proofs.SizeLaws.{size-bounds}
@@ -189,7 +189,7 @@ module _ (w n : ℕ) (p : Stand) (k : ℕ) (q : Stand) (at-k : q ≡ after_grant
   granted-below = rw at-k (chosen w n p k d).0
 
   module _ (fits : tally_full q.state.rounds q.state.tests ≡ false) where
-    pub turn-ready : (wired_table_refusal w n q.state.table ≡ 0) × (entry_refusal n q.state (entry_of kind_turn (granted_at n q)) ≡ 0)
+    pub turn-ready : (numbered_table_refusal w n q.state.table ≡ 0) × (entry_refusal n q.state (entry_of kind_turn (granted_at n q)) ≡ 0)
     turn-ready = rw at-k (accepted-number w n _ d.ok, next-taken w n p k d (rw at-k at fits))
 
     -- the next grant

@@ -11,7 +11,7 @@ use native.Mathlib.Numerals.{add-one}
 use native.Mathlib.Omega.{arith}
 use borrow.Author.Tests.{ltb-true, ltb-false, lt-ltb, le-ltb, eqb-true, ne_eqb}
 use lib.Dec.{ltb, eqb}
-use Rattle.table.specs.Rules.{not_live, some_live, wired_table_refusal}
+use Rattle.table.specs.Rules.{not_live, some_live, numbered_table_refusal}
 use Rattle.lists.specs.Refusal.{unless}
 use Rattle.lists.proofs.BoolLaws.{by_bool}
 use Rattle.lists.proofs.SearchLaws.{every-not, least-between, least-before}
@@ -103,7 +103,7 @@ unfolding following
 following-granted n g top h = rw (ne_eqb g no_grant (omega arith), add-one g)
 
 -- one grant, from a table that refusals 1 to 4 let through and in which i waits
-module _ (w n : ℕ) (t : List ℕ) (last i : ℕ) (z : wired_table_refusal w n t ≡ 0) (fits : last_refusal n last ≡ 0) (h : i < n) (waiting : waits n t i ≡ true) where
+module _ (w n : ℕ) (t : List ℕ) (last i : ℕ) (z : numbered_table_refusal w n t ≡ 0) (fits : last_refusal n last ≡ 0) (h : i < n) (waiting : waits n t i ≡ true) where
   ok : Accepted w n t
   ok = accepted w n t z
 
@@ -165,7 +165,7 @@ module _ (w n : ℕ) (tables : ℕ → List ℕ) (last : ℕ) (fits : last_refus
 
 -- the station waits in n tables one behind the other, from table a on
 module _ (w n : ℕ) (tables : ℕ → List ℕ) (last a i : ℕ) (fits : last_refusal n last ≡ 0) (h : i < n)
-    (waiting : (k : ℕ) → a ≤ k → k < a + n → (wired_table_refusal w n (tables k) ≡ 0) × (waits n (tables k) i ≡ true)) where
+    (waiting : (k : ℕ) → a ≤ k → k < a + n → (numbered_table_refusal w n (tables k) ≡ 0) × (waits n (tables k) i ≡ true)) where
   abbrev from : ℕ → ℕ
   from k = last_before w n tables last k
 
@@ -183,7 +183,7 @@ module _ (w n : ℕ) (tables : ℕ → List ℕ) (last a i : ℕ) (fits : last_r
       k : ℕ
       k = a + j
 
-      z : wired_table_refusal w n (tables k) ≡ 0
+      z : numbered_table_refusal w n (tables k) ≡ 0
       z = (waiting k (omega arith) (omega arith)).0
 
       f : last_refusal n (from k) ≡ 0

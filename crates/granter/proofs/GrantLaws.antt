@@ -10,7 +10,7 @@ use lib.Dec.{ltb, leb, eqb}
 use Rattle.lists.specs.Search.{least, every}
 use Rattle.lists.specs.Refusal.{Check, ◌and◌, number_of_result}
 use Rattle.table.specs.Table.{finished, live}
-use Rattle.table.specs.Rules.{some_live, finished_if_live, live_finished, round_over, wired_table_refusal}
+use Rattle.table.specs.Rules.{some_live, finished_if_live, live_finished, round_over, numbered_table_refusal}
 use Rattle.lists.proofs.BoolLaws.{by_bool}
 use Rattle.lists.proofs.SearchLaws.{both, every-all, least-between, least-passes, least-before}
 use Rattle.table.proofs.Accepting.{Accepted, table_ok}
@@ -64,7 +64,7 @@ grant_answer_refusal w n t last = pick (grant_check w n t last)
 pub grantable : (w n : ℕ) (t : List ℕ) (last : ℕ) → grant_refusal w n t last ≡ 0 → Grantable w n t last
 grantable w n t last z = grant_ok w n t last _ (check_zero _ z)
 
-pub grant-zero : (w n : ℕ) (t : List ℕ) (last : ℕ) → wired_table_refusal w n t ≡ 0 → last_refusal n last ≡ 0 → some_live n t ≡ true
+pub grant-zero : (w n : ℕ) (t : List ℕ) (last : ℕ) → numbered_table_refusal w n t ≡ 0 → last_refusal n last ≡ 0 → some_live n t ≡ true
     → grant_refusal w n t last ≡ 0
 unfolding grant_check
 grant-zero w n t last z fits someone = rw (check_zero _ z, check_zero _ fits, someone)

@@ -1,7 +1,7 @@
 -- That grants are fair: which station is granted, and how many grants to others a station waits for at most.
 -- Assumes nothing.
 use Rattle.std.specs.Prelude.{◌≡◌, true, List, ℕ, zero, suc, ◌+◌, ◌-◌, ◌≤◌, ◌<◌, if◌then◌else◌, nat_lt}
-use Rattle.table.specs.Rules.{wired_table_refusal}
+use Rattle.table.specs.Rules.{numbered_table_refusal}
 use Rattle.lists.specs.Refusal.{unless}
 use Rattle.granter.specs.Grant.{waits, following, granted, last_refusal, grant_refusal, grant_station}
 
@@ -35,5 +35,5 @@ Grants w n tables last k i =
 abbrev pub BoundedWaiting : Type 0
 BoundedWaiting =
     (w n : ℕ) (tables : ℕ → List ℕ) (last a i : ℕ) → last_refusal n last ≡ 0
-    → i < n → ((k : ℕ) → a ≤ k → k < a + n → (wired_table_refusal w n (tables k) ≡ 0) × (waits n (tables k) i ≡ true))
+    → i < n → ((k : ℕ) → a ≤ k → k < a + n → (numbered_table_refusal w n (tables k) ≡ 0) × (waits n (tables k) i ≡ true))
     → (k : ℕ) × (a ≤ k) × (k < a + n) × Grants w n tables last k i

@@ -4,7 +4,7 @@ use Rattle.std.specs.Prelude.{ℕ, ◌+◌, ◌-◌, Bool, not, ◌&&◌, List, 
 use Rattle.std.specs.Result.{result_unwrap_or}
 use Rattle.lists.specs.Search.{least}
 use Rattle.table.specs.Table.{finished, live}
-use Rattle.table.specs.Rules.{some_live, wired_table_check}
+use Rattle.table.specs.Rules.{some_live, numbered_table_check}
 use Rattle.table.specs.declared.Station.{Station}
 use Rattle.lists.specs.declared.refusal.Refusal.{Refusal}
 use Rattle.lists.specs.declared.refusal.Refusal.TheVariants.{LastGranted, NoneLive}
@@ -50,7 +50,7 @@ live_check n t = ensure (some_live n t) NoneLive
 
 -- refusals of the grant, and of a drive at its start, on the wiring with number w: 24, 1 to 4, 16, 17
 unfoldable pub grant_check : ℕ → ℕ → List ℕ → ℕ → Check
-grant_check w n t last = wired_table_check w n t and last_check n last and live_check n t
+grant_check w n t last = numbered_table_check w n t and last_check n last and live_check n t
 
 abbrev pub grant_refusal : ℕ → ℕ → List ℕ → ℕ → ℕ
 grant_refusal w n t last = number_of_result (grant_check w n t last)

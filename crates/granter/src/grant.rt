@@ -37,7 +37,7 @@ pub(crate) fn check_grant(
     ensures same_last { IfOk result (λ s. last_number s.2 ≡ last) }
     ensures last_below { IfOk result (λ s. IfSome s.2 (λ i. i.0 < n)) }
 {
-    let (wiring, lent) = Table::wired(wiring, n, table)?;
+    let (wiring, lent) = Table::checked_by_number(wiring, n, table)?;
     let last = last_granted(lent.n, last)?;
     if !some_live(&lent) {
         return Err(Refusal::NoneLive);

@@ -6,7 +6,7 @@ use Rattle.lists.specs.Search.{select}
 use Rattle.lists.specs.declared.refusal.Refusal.{Refusal}
 use Rattle.lists.specs.Refusal.{◌and◌}
 use Rattle.table.specs.Table.{suspects, live}
-use Rattle.table.specs.Rules.{wired_table_check}
+use Rattle.table.specs.Rules.{numbered_table_check}
 use Rattle.table.specs.Properties.{none_suspected}
 use Rattle.lamp.specs.declared.Doubt.{Doubt}
 
@@ -32,7 +32,7 @@ first_doubt n t = slice_get (doubts n t) 0
 
 -- Rule Lamp call: the lamp's pair or none, on the wiring with number w; refusals 24 and 1 to 4
 unfoldable pub doubt_lamp : ℕ → ℕ → List ℕ → Result (Option Doubt) Refusal
-doubt_lamp w n t = wired_table_check w n t and Ok (first_doubt n t)
+doubt_lamp w n t = numbered_table_check w n t and Ok (first_doubt n t)
 
 -- the lamp is out: its call answers that there is no pair
 abbrev pub IsOut : ℕ → ℕ → List ℕ → Type 0
@@ -40,4 +40,4 @@ IsOut w n t = doubt_lamp w n t ≡ Ok None
 
 -- Rule Lamp is out: exactly if refusals 24 and 1 to 4 let the table through and no live station suspects a live one
 abbrev pub OutIfAccurate : Type 0
-OutIfAccurate = (w n : ℕ) (t : List ℕ) → IsOut w n t ↔ ((wired_table_check w n t ≡ Ok tt) × (none_suspected n t ≡ true))
+OutIfAccurate = (w n : ℕ) (t : List ℕ) → IsOut w n t ↔ ((numbered_table_check w n t ≡ Ok tt) × (none_suspected n t ≡ true))

@@ -24,7 +24,7 @@ pub struct Doubt {
 pub fn doubt_lamp(wiring: usize, n: usize, table: &[u8]) -> Result<Option<Doubt>, Refusal>
     ensures { result ≡ doubt_lamp wiring n table.now }
 {
-    let (_, table) = Table::wired(wiring, n, table)?;
+    let (_, table) = Table::checked_by_number(wiring, n, table)?;
     Ok(first_doubt(&table))
 }
 

@@ -13,7 +13,7 @@ use Rattle.lists.proofs.BoolLaws.{by_bool}
 use Rattle.lists.proofs.RefusalLaws.{check_zero}
 use Rattle.table.specs.Wiring.{wiring_cube, wiring_ring}
 use Rattle.table.specs.Table.{live}
-use Rattle.table.specs.Rules.{wired_table_check}
+use Rattle.table.specs.Rules.{numbered_table_check}
 use Rattle.table.specs.Properties.{no_live_suspicion, none_suspected}
 use Rattle.table.proofs.Accepting.{Accepted, table_ok}
 use Rattle.plant.specs.Entry.{State}
@@ -58,8 +58,8 @@ chain-accepted : {w n : ℕ} {s s' : State} {xs : List Taken} → WiredChain w n
 chain-accepted ends ok = ok
 chain-accepted {w} {n} (next {s} e a z c) ok = chain-accepted c (accepted-kept w n s e a z)
 
-check-ok : (w n : ℕ) (t : List ℕ) → Accepted w n t → wired_table_check w n t ≡ Ok tt
-check-ok w n t ok = check_zero (wired_table_check w n t) (accepted-number w n t ok)
+check-ok : (w n : ℕ) (t : List ℕ) → Accepted w n t → numbered_table_check w n t ≡ Ok tt
+check-ok w n t ok = check_zero (numbered_table_check w n t) (accepted-number w n t ok)
 
 -- a table of which the proof of detection speaks is accurate
 plain-accurate : (w n : ℕ) (L : ℕ → Bool) (t : List ℕ) → Plain w n L t → none_suspected n t ≡ true
@@ -80,12 +80,12 @@ module _ (w n : ℕ) (s : State) (calls : List Call) (given : DetectionPremises 
   chain : WiredChain w n s (taken_all s calls) (after_runs s calls)
   chain = on-wiring (chain-all n s calls given.long) given.one_wiring
 
-  stays-by : RoundKnowledge w n (live n s.table) → doubt_lamp w n (after_runs s calls).table ≡ (wired_table_check w n s.table and Ok None)
+  stays-by : RoundKnowledge w n (live n s.table) → doubt_lamp w n (after_runs s calls).table ≡ (numbered_table_check w n s.table and Ok None)
   unfolding doubt_lamp
   stays-by K = go (chain_first chain)
     where
       go : ((taken_all s calls ≡ []) × (after_runs s calls ≡ s)) ⊎ Accepted w n s.table
-          → doubt_lamp w n (after_runs s calls).table ≡ (wired_table_check w n s.table and Ok None)
+          → doubt_lamp w n (after_runs s calls).table ≡ (numbered_table_check w n s.table and Ok None)
       go (inl e) = rw (e.1, accurate-none n s.table given.accurate) refl
       go (inr ok) =
           let after = (after_runs s calls).table in
@@ -96,7 +96,7 @@ module _ (w n : ℕ) (s : State) (calls : List Call) (given : DetectionPremises 
 
 pub stays-out : StaysOut
 stays-out w n s calls given =
-    on-each (λ (w : ℕ). DetectionPremises w n s calls → doubt_lamp w n (after_runs s calls).table ≡ (wired_table_check w n s.table and Ok None)) w
+    on-each (λ (w : ℕ). DetectionPremises w n s calls → doubt_lamp w n (after_runs s calls).table ≡ (numbered_table_check w n s.table and Ok None)) w
     given.wiring (λ g. stays-by wiring_cube n s calls g (cube n s.table g.size)) (λ g. stays-by wiring_ring n s calls g (ring-of n s calls g)) given
 
 pub mixed-stays-out : MixedStaysOut

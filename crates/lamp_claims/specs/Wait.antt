@@ -2,7 +2,7 @@
 -- Assumes nothing.
 use Rattle.std.specs.Prelude.{ℕ, ◌≤◌, ◌≡◌, true, not, List, None, Ok}
 use Rattle.lists.specs.Refusal.{◌and◌}
-use Rattle.table.specs.Rules.{wired_table_check}
+use Rattle.table.specs.Rules.{numbered_table_check}
 use Rattle.table.specs.Properties.{at_start, live_count}
 use Rattle.plant.specs.Entry.{State}
 use Rattle.detection.specs.Runs.{Call, after_runs, taken_all, crashes, is_late, is_on}
@@ -36,10 +36,10 @@ OutBeginsWait rounds =
 abbrev pub StaysOut : Type 0
 StaysOut =
     (w n : ℕ) (s : State) (calls : List Call) → DetectionPremises w n s calls
-    → doubt_lamp w n (after_runs s calls).table ≡ (wired_table_check w n s.table and Ok None)
+    → doubt_lamp w n (after_runs s calls).table ≡ (numbered_table_check w n s.table and Ok None)
 
 -- Rule Lamp stays out: and after a list that mixes runs and drives
 abbrev pub MixedStaysOut : Type 0
 MixedStaysOut =
     (w n : ℕ) (s : State) (xs : List RunOrDrive) → DetectionPremises w n s (runs_of_mixed s xs)
-    → doubt_lamp w n (after_mixed s xs).table ≡ (wired_table_check w n s.table and Ok None)
+    → doubt_lamp w n (after_mixed s xs).table ≡ (numbered_table_check w n s.table and Ok None)

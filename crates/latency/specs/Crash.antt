@@ -4,7 +4,7 @@ use Rattle.std.specs.Prelude.{◌≡◌, Ok, true, not, List, [], ◌∷◌, ◌
 use Rattle.table.specs.Sizes.{is_size}
 use Rattle.table.specs.Wiring.{wiring_check}
 use Rattle.table.specs.Table.{table_length}
-use Rattle.table.specs.Rules.{wired_table_refusal}
+use Rattle.table.specs.Rules.{numbered_table_refusal}
 use Rattle.table.specs.Properties.{at_start, live_count, none_suspected}
 use Rattle.plant.specs.Entry.{State}
 use Rattle.detection.specs.Runs.{Call, Taken, after_runs, taken_all, table_after, crashes, is_late, is_on}
@@ -19,7 +19,7 @@ turns_from_now w n t = n * n + turns_until_known w n t
 -- the detection conditions at any moment of a round: a table that refusals 24 and 1 to 4 let through, two live boards at least, no live one
 -- suspecting a live one; any tally, any list of runs on that wiring, without crashes and late replies of live boards
 pub record AnyMoment (w n : ℕ) (s : State) (calls : List Call) : Type 0 where
-  pub accepted : wired_table_refusal w n s.table ≡ 0
+  pub accepted : numbered_table_refusal w n s.table ≡ 0
   pub two_live : 2 ≤ live_count n s.table
   pub accurate : none_suspected n s.table ≡ true
   pub one_wiring : all_taken (is_on w) (taken_all s calls) ≡ true

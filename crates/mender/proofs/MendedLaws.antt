@@ -17,7 +17,7 @@ use Rattle.lists.proofs.BoolLaws.{by_bool, every-same}
 use Rattle.table.specs.Sizes.{is_size}
 use Rattle.table.specs.Wiring.{wiring_check, end_distance}
 use Rattle.table.specs.Table.{head, stride, table_length, cell, status, status_told, next_distance, finished, tests_made, told_by, told_by_none, rounds_ago, suspects}
-use Rattle.table.specs.Rules.{pass_rule, exit_rule, suspicion_rule, row_rule, wired_line_rules, not_live, some_live, finished_if_live, live_finished, round_over, shape_check, table_check_on, wired_table_check}
+use Rattle.table.specs.Rules.{pass_rule, exit_rule, suspicion_rule, row_rule, wired_line_rules, not_live, some_live, finished_if_live, live_finished, round_over, shape_check, table_check_on, numbered_table_check}
 use Rattle.table.proofs.WiringLaws.{end-pos}
 use Rattle.table.proofs.Accepting.{Accepted}
 use Rattle.mender.specs.Mended.{mended_status, keeps_pass, mended_told_by, mended_rounds_ago, mended_suspicion, new_status, new_told_by, line_byte, table_of, lines_mended, mended_byte, mended}
@@ -143,7 +143,7 @@ mended-open w n t =
     (λ e. restarted n (mended w n t) (λ i h. (pass-mended w n t i h).finished_is ∙ rw e refl))
     (λ e. ap (round_over n) (no-restart w n t e) ∙ e)
 
-pub mended-passes : (w n : ℕ) (t : List ℕ) → wiring_check w ≡ Ok tt → is_size n ≡ true → wired_table_check w n (mended w n t) ≡ Ok tt
+pub mended-passes : (w n : ℕ) (t : List ℕ) → wiring_check w ≡ Ok tt → is_size n ≡ true → numbered_table_check w n (mended w n t) ≡ Ok tt
 unfolding table_check_on shape_check
 mended-passes w n t wired size =
     rw (

@@ -4,7 +4,7 @@ use Rattle.std.specs.Prelude.{ℕ, ◌*◌, ◌≡◌, ◌≢◌, ◌<◌, ◌�
 use Rattle.table.specs.Sizes.{is_size}
 use Rattle.table.specs.Table.{table_length, status, suspects}
 use Rattle.table.specs.Wiring.{wiring_check}
-use Rattle.table.specs.Rules.{wired_table_check}
+use Rattle.table.specs.Rules.{numbered_table_check}
 use Rattle.mender.specs.declared.report.Change.{Change}
 use Rattle.mender.specs.Mended.{mended}
 use Rattle.mender.specs.Report.{mends}
@@ -15,7 +15,7 @@ OfEachTable P = (w n : ℕ) (t : List ℕ) → wiring_check w ≡ Ok tt → is_s
 
 -- Rule Mended passes: refusals 24 and 1 to 4 let the mended table through
 abbrev pub MendedPasses : Type 0
-MendedPasses = OfEachTable (λ w n t. wired_table_check w n (mended w n t) ≡ Ok tt)
+MendedPasses = OfEachTable (λ w n t. numbered_table_check w n (mended w n t) ≡ Ok tt)
 
 -- Rule Mended once: a mended table is not changed again, and nothing is listed
 abbrev pub MendedOnce : Type 0
@@ -23,7 +23,7 @@ MendedOnce = OfEachTable (λ w n t. (mended w n (mended w n t) ≡ mended w n t)
 
 -- Rule Good table stays: a table that refusals 24 and 1 to 4 let through is not changed, and nothing is listed
 abbrev pub GoodTableStays : Type 0
-GoodTableStays = (w n : ℕ) (t : List ℕ) → wired_table_check w n t ≡ Ok tt → (mended w n t ≡ t) × (mends w n t ≡ [])
+GoodTableStays = (w n : ℕ) (t : List ℕ) → numbered_table_check w n t ≡ Ok tt → (mended w n t ≡ t) × (mends w n t ≡ [])
 
 -- a listed change: there the byte was the old one, is the new one, and these two differ
 abbrev pub IsTrueChange : ℕ → ℕ → List ℕ → Change → Type 0

@@ -6,7 +6,7 @@ use Rattle.lists.specs.declared.refusal.Refusal.{Refusal}
 use Rattle.lists.specs.declared.refusal.Refusal.TheVariants.{ReportTooShort}
 use Rattle.lists.specs.Refusal.{Check, ensure, ◌and◌, unless_refused}
 use Rattle.table.specs.Table.{table_length}
-use Rattle.table.specs.Rules.{wired_shape_check}
+use Rattle.table.specs.Rules.{numbered_shape_check}
 use Rattle.mender.specs.declared.report.Change.{Change}
 use Rattle.mender.specs.Mended.{mended}
 
@@ -36,7 +36,7 @@ mends w n t = changes t (mended w n t)
 
 -- Rule Mend, its refusals: 24, 1, 2, then 23: the report has fewer than 4n(n + 6) bytes
 unfoldable pub mend_check : ℕ → ℕ → ℕ → ℕ → Check
-mend_check w n len room = wired_shape_check w n len and ensure (nat_le (4 * table_length n) room) ReportTooShort
+mend_check w n len room = numbered_shape_check w n len and ensure (nat_le (4 * table_length n) room) ReportTooShort
 
 -- Rule Mend: the number of changes
 unfoldable pub mend : ℕ → ℕ → List ℕ → ℕ → Result ℕ Refusal

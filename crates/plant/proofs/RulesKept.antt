@@ -10,7 +10,7 @@ use lib.Dec.{eqb}
 use lib.ListN.{length}
 use Rattle.lists.specs.Search.{every}
 use Rattle.table.specs.Table.{table_length, finished, live}
-use Rattle.table.specs.Rules.{wired_line_rules, not_live, some_live, finished_if_live, live_finished, wired_table_refusal, round_over}
+use Rattle.table.specs.Rules.{wired_line_rules, not_live, some_live, finished_if_live, live_finished, numbered_table_refusal, round_over}
 use Rattle.lists.proofs.BoolLaws.{neither}
 use Rattle.lists.proofs.SearchLaws.{both, every-at, every-all}
 use Rattle.table.proofs.Accepting.{Accepted, accepted}
@@ -115,7 +115,7 @@ accepted-kept w n s e a z = pick (round_over n t) refl
     pick false c = make t lines c
 
 -- rule Empty schedule: on a wiring and a table that refusals 24 and 1 to 4 let through it is accepted and changes nothing. An end in itself
-pub empty-run : (w n : ℕ) (s : State) → wired_table_refusal w n s.table ≡ 0 → run w n s [] [] ≡ record { number = 0; taken = 0; state = s; sheet = [] }
+pub empty-run : (w n : ℕ) (s : State) → numbered_table_refusal w n s.table ≡ 0 → run w n s [] [] ≡ record { number = 0; taken = 0; state = s; sheet = [] }
 unfolding run start_check go_on entries
 empty-run w n s z = rw (check_zero _ z)
 
@@ -148,5 +148,5 @@ accepted-run w n s schedule sheet a = pick (eqb (start_refusal w n s.table (leng
 
 -- a table that refusals 24 and 1 to 4 let through is let through after every run, an end in itself
 pub run-keeps-rules : (w n : ℕ) (s : State) (schedule sheet : List ℕ)
-    → wired_table_refusal w n s.table ≡ 0 → wired_table_refusal w n (run w n s schedule sheet).state.table ≡ 0
+    → numbered_table_refusal w n s.table ≡ 0 → numbered_table_refusal w n (run w n s schedule sheet).state.table ≡ 0
 run-keeps-rules w n s schedule sheet z = accepted-number w n _ (accepted-run w n s schedule sheet (accepted w n s.table z))

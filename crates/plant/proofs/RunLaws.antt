@@ -10,7 +10,7 @@ use borrow.Author.Tests.{eqb-true, eqb-false, eq-eqb, ne_eqb, not-true}
 use lib.ListN.{length, get_or, take, drop, drop_of_length-le}
 use lib.Seq.{drop-drop, sets-eq}
 use Rattle.station.specs.Wired.{wired_station}
-use Rattle.table.specs.Rules.{shape_check, table_check_on, wired_table_refusal}
+use Rattle.table.specs.Rules.{shape_check, table_check_on, numbered_table_refusal}
 use Rattle.table.specs.Table.{table_length}
 use Rattle.lists.proofs.BoolLaws.{choice}
 use Rattle.table.proofs.Accepting.{Accepted, table_ok}
@@ -24,7 +24,7 @@ use Rattle.plant.specs.Entry.{Entry, State, entry_of, is_crash, is_test, entry_c
 use Rattle.plant.specs.Run.{RunResult, entries, write_line, go_on, start_check, start_refusal, run}
 
 -- a table that obeys the rules gets no refusal
-pub accepted-number : (w n : ℕ) (t : List ℕ) → Accepted w n t → wired_table_refusal w n t ≡ 0
+pub accepted-number : (w n : ℕ) (t : List ℕ) → Accepted w n t → numbered_table_refusal w n t ≡ 0
 unfolding table_check_on shape_check
 accepted-number w n t a = rw (a.wired, a.size, eq-eqb (length t) (table_length n) a.long, a.lines, a.unclosed)
 
@@ -98,7 +98,7 @@ module _ (w n k : ℕ) (s : State) (sheet schedule : List ℕ) where
   go-done h = rw (drop_of_length-le (entries schedule) {i = k} (omega (arith, entries-length schedule)))
 
 -- a run of one entry, which is taken
-pub start-one : (w n : ℕ) (t : List ℕ) → wired_table_refusal w n t ≡ 0 → start_refusal w n t 2 4 ≡ 0
+pub start-one : (w n : ℕ) (t : List ℕ) → numbered_table_refusal w n t ≡ 0 → start_refusal w n t 2 4 ≡ 0
 unfolding start_check
 start-one w n t z = rw (check_zero _ z)
 

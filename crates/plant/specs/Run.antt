@@ -5,7 +5,7 @@ use Rattle.std.proofs.lemmas.List.Edits.{sets}
 use Rattle.lists.specs.declared.refusal.Refusal.TheVariants.{ScheduleLength, SheetLength}
 use Rattle.lists.specs.declared.refusal.Refusal.{Refusal}
 use Rattle.lists.specs.Refusal.{number_of, Check, ensure, ◌and◌, number_of_result}
-use Rattle.table.specs.Rules.{wired_table_check, wired_table_refusal}
+use Rattle.table.specs.Rules.{numbered_table_check, numbered_table_refusal}
 use Rattle.plant.specs.declared.Ran.{Ran}
 use Rattle.plant.specs.Entry.{Entry, State, state_with, entry_of, entry_refusal, after, sheet_line}
 
@@ -47,7 +47,7 @@ go_on w n k s sheet (e ∷ es) =
 -- refusals 24 and 1 to 6: then the schedule has an odd number of bytes; the run sheet has not twice the bytes of the schedule
 unfoldable pub start_check : ℕ → ℕ → List ℕ → ℕ → ℕ → Check
 start_check w n t schedule_length sheet_length =
-    wired_table_check w n t
+    numbered_table_check w n t
     and ensure (not (schedule_length % 2 == 1)) ScheduleLength
     and ensure (sheet_length == 2 * schedule_length) SheetLength
 
@@ -66,10 +66,10 @@ run w n s schedule sheet =
 abbrev pub EmptyRun : Type 0
 EmptyRun =
     (w n : ℕ) (s : State)
-    → wired_table_refusal w n s.table ≡ 0 → run w n s [] [] ≡ record { number = 0; taken = 0; state = s; sheet = [] }
+    → numbered_table_refusal w n s.table ≡ 0 → run w n s [] [] ≡ record { number = 0; taken = 0; state = s; sheet = [] }
 
 -- Rule Rules kept: a table that refusals 24 and 1 to 4 let through is let through after every run on that wiring too, whatever the run answers
 abbrev pub RunKeepsRules : Type 0
 RunKeepsRules =
     (w n : ℕ) (s : State) (schedule sheet : List ℕ)
-    → wired_table_refusal w n s.table ≡ 0 → wired_table_refusal w n (run w n s schedule sheet).state.table ≡ 0
+    → numbered_table_refusal w n s.table ≡ 0 → numbered_table_refusal w n (run w n s schedule sheet).state.table ≡ 0

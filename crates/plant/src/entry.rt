@@ -3,7 +3,7 @@ ghost use Rattle.std.specs.Prelude.{◌≡◌, ◌<◌, length, IfOk};
 ghost use Rattle.std.specs.Result.{result_map_both};
 ghost use Rattle.table.specs.Lent.{IsSameLoan};
 ghost use Rattle.table.specs.Wiring.{wiring_number};
-ghost use Rattle.table.specs.Rules.{wired_table_refusal};
+ghost use Rattle.table.specs.Rules.{numbered_table_refusal};
 ghost use Rattle.plant.specs.Outcome.{tested_byte, outcome_byte};
 ghost use Rattle.plant.specs.Entry.{state_with, entry_of, entry_known, entry_check, entry_refusal, shows_test, acted, after, tested_of, outcome_of, sheet_line};
 
@@ -74,7 +74,7 @@ pub(crate) fn take_entry(
 ) -> Tally
     requires same_size { wired.n ≡ table.old.n }
     requires table_obeys { let w = wiring_number wired.wiring in
-        wired_table_refusal w table.old.n table.old.bytes.now ≡ 0 }
+        numbered_table_refusal w table.old.n table.old.bytes.now ≡ 0 }
     requires entry_taken { entry_refusal table.old.n
         (state_with table.old.bytes.now tally) (entry_known entry) ≡ 0 }
     requires line_length { length line.old ≡ 4 }
@@ -111,7 +111,7 @@ fn made_test(done: Outcome) -> bool
 fn act(wired: Wired, table: &mut TableMut, entry: Entry) -> Outcome
     requires same_size { wired.n ≡ table.old.n }
     requires table_obeys { let w = wiring_number wired.wiring in
-        wired_table_refusal w table.old.n table.old.bytes.now ≡ 0 }
+        numbered_table_refusal w table.old.n table.old.bytes.now ≡ 0 }
     requires station_below { entry.station.0 < table.old.n }
     ensures tested_station { let w = wiring_number wired.wiring in
         tested_byte result ≡ tested_of w table.old.n table.old.bytes.now (entry_known entry) }

@@ -1,7 +1,7 @@
 // The plant run of the vCube watch: one station's turn (`steps`), entries, rounds, the tally. It stands above `station` and relies only on what
 // the crates below state. The call is run::run.
-// steps::take_turn, steps::leave, single::take_turn and the methods of wired::Wired have a `requires`: they are for the crates above, which have
-// checked the table. Those of `claims` do nothing: their contracts are claims of every run.
+// single::take_turn has a `requires`: it is for the crates above, which have checked the table. Those of `claims` do nothing: their contracts are
+// claims of every run.
 #![tactic(auto)]
 
 pub mod claims;
@@ -11,8 +11,8 @@ pub mod outcome;
 mod rounds;
 pub mod run;
 pub mod single;
-pub mod steps;
-pub mod wired;
+mod steps;
+mod wired;
 
 use lists::refusal::Refusal;
 

@@ -56,7 +56,7 @@ fn check_start(
     ensures same_size { IfOk result (λ s. s.1.n ≡ n) }
     ensures same_bytes { IfOk result (λ s. s.1.bytes.now ≡ table.now) }
 {
-    let wired = Table::wired(wiring, n, table)?;
+    let wired = Table::checked_by_number(wiring, n, table)?;
     if schedule % 2 == 1 {
         return Err(Refusal::ScheduleLength);
     }

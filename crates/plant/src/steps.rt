@@ -6,7 +6,7 @@ ghost use Rattle.table.specs.Table.{tests_made, row, set_row};
 ghost use Rattle.table.specs.Wiring.{wiring_number};
 ghost use Rattle.station.specs.Wired.{wired_station};
 ghost use Rattle.station.specs.Rows.{union};
-ghost use Rattle.table.specs.Rules.{wired_table_refusal};
+ghost use Rattle.table.specs.Rules.{numbered_table_refusal};
 ghost use Rattle.station.specs.Tests.{due};
 ghost use Rattle.plant.specs.Outcome.{tested_byte, outcome_byte};
 ghost use Rattle.plant.specs.Turn.{next_test, finish_pass, count_test, replies, exchange_rows, set_status, leave_told, reply_outcome, test_outcome, after_outcome, self_or_suspected, is_alone, after_alone, outcome_at, testing, turn, turn_tested, turn_outcome};
@@ -25,10 +25,10 @@ use table::{Distance, Station, cells};
 // have the byte too: a `Kind` made of it here would have to be refused where there is none. That the table obeys the rules is asked, here and
 // above, and is no ghost field: from the turn that ends a round to its closing the table has refusal 4, and between two bytes of a line that are
 // put not even the line rules hold.
-pub fn take_turn(wired: Wired, table: &mut TableMut, kind: u8, i: Station) -> Outcome
+pub(crate) fn take_turn(wired: Wired, table: &mut TableMut, kind: u8, i: Station) -> Outcome
     requires same_size { wired.n ≡ table.old.n }
     requires table_obeys { let w = wiring_number wired.wiring in
-        wired_table_refusal w table.old.n table.old.bytes.now ≡ 0 }
+        numbered_table_refusal w table.old.n table.old.bytes.now ≡ 0 }
     requires station_below { i.0 < table.old.n }
     ensures tested_station { tested_byte result
         ≡ turn_tested (wiring_number wired.wiring) table.old.n table.old.bytes.now i.0 }
@@ -101,7 +101,7 @@ fn finish_pass(wired: Wired, table: &mut TableMut, i: Station)
 fn make_test(wired: Wired, table: &mut TableMut, kind: u8, i: Station, m: Distance) -> Outcome
     requires same_size { wired.n ≡ table.old.n }
     requires table_obeys { let w = wiring_number wired.wiring in
-        wired_table_refusal w table.old.n table.old.bytes.now ≡ 0 }
+        numbered_table_refusal w table.old.n table.old.bytes.now ≡ 0 }
     requires tester_below { i.0 < table.old.n }
     requires distance_above_0 { 0 < m.0 }
     requires distance_below { m.0 < wired.end }
@@ -207,7 +207,7 @@ fn leave_told(table: &mut TableMut, a: Station, b: Station)
 }
 
 // The station leaves with a status, for a caller that has it as the table's byte. The turn, and the crash, go by `TableMut::set_status`.
-pub fn leave(table: &mut TableMut, i: Station, status: u8)
+pub(crate) fn leave(table: &mut TableMut, i: Station, status: u8)
     requires { i.0 < table.old.n }
     ensures same_loan { IsSameLoan table.old table.new }
     ensures status_written { table.new.bytes.now

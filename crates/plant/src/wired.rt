@@ -13,7 +13,7 @@ use table::{Distance, Station};
 
 // A wiring of a plant of n stations.
 #[derive(Clone, Copy)]
-pub struct Wired {
+pub(crate) struct Wired {
     pub wiring: Wiring,
     pub n: u8,
     pub end: u8,
@@ -29,7 +29,7 @@ impl Wired {
 
     // The wiring of n stations.
     #[tactic(auto, using(table::proofs::SizeLaws::size_top, table::proofs::WiringLaws::end_top))]
-    pub fn new(wiring: Wiring, n: u8) -> Wired
+    pub(crate) fn new(wiring: Wiring, n: u8) -> Wired
         requires { is_size n ≡ true }
         ensures same_wiring { result.wiring ≡ wiring }
         ensures same_size { result.n ≡ n }
@@ -40,7 +40,7 @@ impl Wired {
 
     // The station at distance m from i.
     #[tactic(auto, using(table::proofs::SizeLaws::size_top, table::proofs::WiringLaws::end_top, table::proofs::WiringLaws::end_ring), unfolding(station::specs::Wired::wired_station))]
-    pub fn station_at(self, i: Station, m: Distance) -> Station
+    pub(crate) fn station_at(self, i: Station, m: Distance) -> Station
         requires station { i.0 < self.n }
         requires distance { m.0 < self.end }
         ensures { result.0 ≡ wired_station (wiring_number self.wiring) self.n i.0 m.0 }
@@ -69,7 +69,7 @@ impl Wired {
 
     // The next distance after a test at distance m, by its outcome.
     #[tactic(auto, unfolding(crate::specs::Turn::next_after))]
-    pub fn next_after(self, m: Distance, outcome: Outcome) -> u8
+    pub(crate) fn next_after(self, m: Distance, outcome: Outcome) -> u8
         requires { m.0 < 255 }
         ensures { let w = wiring_number self.wiring in
             result ≡ next_after w self.n m.0 (outcome_byte outcome) }

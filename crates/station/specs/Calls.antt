@@ -9,7 +9,7 @@ use Rattle.table.specs.Table.{row_start, row, live}
 use Rattle.lists.specs.declared.refusal.Refusal.{Refusal}
 use Rattle.lists.specs.declared.refusal.Refusal.TheVariants.{SizeOutOfRange, NotLive, NoSuchLevel}
 use Rattle.lists.specs.Refusal.{Check, ensure, ◌and◌, number_of_result, unless_refused}
-use Rattle.table.specs.Rules.{table_check, wired_table_check, length_check, station_check}
+use Rattle.table.specs.Rules.{table_check, numbered_table_check, length_check, station_check}
 use Rattle.station.specs.Tests.{DueAnswer, answer_due, answer_ahead, answer, due_distances}
 use Rattle.station.specs.declared.DueOrAhead.{DueOrAhead}
 use Rattle.station.specs.declared.DueOrAhead.TheVariants.{Due, Ahead}
@@ -33,7 +33,7 @@ group_after n i s list = unless_refused (group_check n i s (length list)) list (
 
 -- Row: refusals 24, 1 to 4, 9
 unfoldable pub row_check : ℕ → ℕ → List ℕ → ℕ → Check
-row_check w n t i = wired_table_check w n t and station_check n i
+row_check w n t i = numbered_table_check w n t and station_check n i
 
 -- Rule Row part: the station's row, as that very part of the lent table. A refused call gives the empty part
 unfoldable pub row_part : ℕ → ℕ → List ℕ → ℕ → List ℕ

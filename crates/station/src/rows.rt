@@ -41,7 +41,7 @@ fn checked_line(wiring: usize, n: usize, table: &[u8], i: Station) -> Result<Tab
     ensures same_place { IfOk result (λ t. t.bytes.ref_ptr ≡ table.entry.ref_ptr) }
     ensures has_line { IfOk result (λ t. i.0 < t.n) }
 {
-    let (_, lent) = Table::wired(wiring, n, table)?;
+    let (_, lent) = Table::checked_by_number(wiring, n, table)?;
     check_station(&lent, i)?;
     Ok(lent)
 }

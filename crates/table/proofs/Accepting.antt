@@ -12,7 +12,7 @@ use Rattle.lists.specs.Search.{every}
 use Rattle.table.specs.Sizes.{is_size}
 use Rattle.table.specs.Table.{table_length}
 use Rattle.table.specs.Wiring.{wiring_check}
-use Rattle.table.specs.Rules.{wired_line_rules, not_live, some_live, finished_if_live, live_finished, shape_check, table_check_on, wired_table_check, wired_table_refusal}
+use Rattle.table.specs.Rules.{wired_line_rules, not_live, some_live, finished_if_live, live_finished, shape_check, table_check_on, numbered_table_check, numbered_table_refusal}
 use Rattle.lists.proofs.Loops.{every-stop, every-done}
 use Rattle.lists.proofs.RefusalLaws.{check_zero, ensure_ok, and_ok}
 
@@ -42,7 +42,7 @@ shape_ok n len x e =
     let p = and_ok _ _ x e in
     (ensure_ok _ _ _ p.0, eqb-true len (table_length n) (ensure_ok _ _ _ p.1))
 
-pub table_ok : (w n : ℕ) (t : List ℕ) (x : Unit {0}) → wired_table_check w n t ≡ Ok x → Accepted w n t
+pub table_ok : (w n : ℕ) (t : List ℕ) (x : Unit {0}) → numbered_table_check w n t ≡ Ok x → Accepted w n t
 unfolding table_check_on
 table_ok w n t x e =
     let o = and_ok _ _ x e in
@@ -57,7 +57,7 @@ table_ok w n t x e =
       unclosed = not-true _ (ensure_ok _ _ _ q.1);
     }
 
-pub accepted : (w n : ℕ) (t : List ℕ) → wired_table_refusal w n t ≡ 0 → Accepted w n t
+pub accepted : (w n : ℕ) (t : List ℕ) → numbered_table_refusal w n t ≡ 0 → Accepted w n t
 accepted w n t e = table_ok w n t _ (check_zero _ e)
 
 -- what the loop over a round asks

@@ -80,11 +80,11 @@ abbrev pub table_check : ℕ → List ℕ → Check
 table_check = table_check_on wiring_cube
 
 -- refusal 24, then 1 and 2, or 1 to 4, where the wiring is given by a number
-abbrev pub wired_shape_check : ℕ → ℕ → ℕ → Check
-wired_shape_check w n len = wiring_check w and shape_check n len
+abbrev pub numbered_shape_check : ℕ → ℕ → ℕ → Check
+numbered_shape_check w n len = wiring_check w and shape_check n len
 
-abbrev pub wired_table_check : ℕ → ℕ → List ℕ → Check
-wired_table_check w n t = wiring_check w and table_check_on w n t
+abbrev pub numbered_table_check : ℕ → ℕ → List ℕ → Check
+numbered_table_check w n t = wiring_check w and table_check_on w n t
 
 -- their numbers
 abbrev pub shape_refusal : ℕ → ℕ → ℕ
@@ -93,8 +93,8 @@ shape_refusal n len = number_of_result (shape_check n len)
 abbrev pub table_refusal : ℕ → List ℕ → ℕ
 table_refusal n t = number_of_result (table_check n t)
 
-abbrev pub wired_table_refusal : ℕ → ℕ → List ℕ → ℕ
-wired_table_refusal w n t = number_of_result (wired_table_check w n t)
+abbrev pub numbered_table_refusal : ℕ → ℕ → List ℕ → ℕ
+numbered_table_refusal w n t = number_of_result (numbered_table_check w n t)
 
 -- refusal 9: the station's number is n or more
 abbrev pub station_check : ℕ → ℕ → Check

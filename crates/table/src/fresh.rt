@@ -1,7 +1,7 @@
 // The call for a fresh table.
 ghost use Rattle.std.specs.Prelude.{◌≡◌, length};
 ghost use Rattle.table.specs.Lent.{IsSameLoan};
-ghost use Rattle.table.specs.Rules.{wired_shape_check};
+ghost use Rattle.table.specs.Rules.{numbered_shape_check};
 ghost use Rattle.table.specs.Fresh.{fresh_byte, fresh_table, fresh_after};
 
 use crate::lent::TableMut;
@@ -12,7 +12,7 @@ use lists::refusal::Refusal;
 // Fills the table: every line live, next distance 1, byte 4 255, all else 0.
 #[tactic(auto, using(crate::proofs::Accepting::shape_ok, crate::proofs::SizeLaws::size_top, crate::proofs::WiringLaws::wiring_ok, crate::proofs::WiringLaws::wiring_err), unfolding(crate::specs::Fresh::fresh_after))]
 pub fn fresh_table(wiring: usize, n: usize, table: &mut [u8]) -> Result<(), Refusal>
-    ensures check { result ≡ wired_shape_check wiring n (length table.old) }
+    ensures check { result ≡ numbered_shape_check wiring n (length table.old) }
     ensures table_after { table.new ≡ fresh_after wiring n table.old }
 {
     Wiring::try_from(wiring)?;

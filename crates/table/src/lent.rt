@@ -6,7 +6,7 @@ ghost use Rattle.table.specs.Table.{head, stride, table_length, cell, set_cell, 
 ghost use Rattle.table.specs.Status.{status_byte};
 ghost use Rattle.std.specs.Result.{result_map_both};
 ghost use Rattle.table.specs.Wiring.{wiring_number};
-ghost use Rattle.table.specs.Rules.{shape_check, table_check, table_check_on, wired_table_check, row_rule, finished_if_live, round_over};
+ghost use Rattle.table.specs.Rules.{shape_check, table_check, table_check_on, numbered_table_check, row_rule, finished_if_live, round_over};
 
 use crate::status::Status;
 use crate::wiring::Wiring;
@@ -60,9 +60,9 @@ impl<'a> Table<'a> {
 
     // The same where the wiring is given by its number: refusals 24 and 1 to 4. The answer has the wiring beside the table.
     #[tactic(auto, using(crate::proofs::WiringLaws::wiring_ok, crate::proofs::WiringLaws::wiring_err))]
-    pub fn wired(wiring: usize, n: usize, bytes: &'a [u8]) -> Result<(Wiring, Table<'a>), Refusal>
+    pub fn checked_by_number(wiring: usize, n: usize, bytes: &'a [u8]) -> Result<(Wiring, Table<'a>), Refusal>
         ensures check { result_map_both (λ s. tt) (λ r. r) result
-            ≡ wired_table_check wiring n bytes.now }
+            ≡ numbered_table_check wiring n bytes.now }
         ensures same_wiring { IfOk result (λ s. wiring_number s.0 ≡ wiring) }
         ensures same_size { IfOk result (λ s. s.1.n ≡ n) }
         ensures same_bytes { IfOk result (λ s. s.1.bytes.now ≡ bytes.now) }

@@ -18,7 +18,7 @@ use Rattle.table.specs.Sizes.{is_size, dimension}
 use Rattle.station.specs.Groups.{group}
 use Rattle.lists.specs.Refusal.{Check, ensure, ◌and◌, unless_refused}
 use Rattle.table.specs.Wiring.{wiring_cube}
-use Rattle.table.specs.Rules.{table_check, wired_table_check, station_check}
+use Rattle.table.specs.Rules.{table_check, numbered_table_check, station_check}
 use Rattle.station.specs.Calls.{group_check, group_after, row_check, row_part, row_offset, assignment_check, assignment_answer, assignment_after, range_check}
 use Rattle.slots.specs.Board.{slot_check, slot_answer}
 use Rattle.table.specs.Status.{status_of}
@@ -53,14 +53,14 @@ station_far n x e h = rw (le-ltb x n (omega (arith, size-bounds n e)))
 -- the row of a station
 module _ (w n : ℕ) (t : List ℕ) where
   abbrev row_refused : Check
-  row_refused = wired_table_check w n t and Err NoSuchStation
+  row_refused = numbered_table_check w n t and Err NoSuchStation
 
   refused : row_refused ≡ Ok tt → ⊥
-  refused e = and_err (wired_table_check w n t) NoSuchStation tt e
+  refused e = and_err (numbered_table_check w n t) NoSuchStation tt e
 
   row_far : (x : ℕ) → 255 ≤ x → row_check w n t x ≡ row_refused
   unfolding row_check
-  row_far x h = and_same (wired_table_check w n t) _ _ (λ z. station_far n x (table_ok w n t tt z).size h)
+  row_far x h = and_same (numbered_table_check w n t) _ _ (λ z. station_far n x (table_ok w n t tt z).size h)
 
   pub row_check_narrow : (x b : ℕ) → b ≡ min x 255 → row_check w n t b ≡ row_check w n t x
   row_check_narrow = narrow (row_check w n t) row_refused row_far

@@ -13,7 +13,7 @@ use Rattle.lists.proofs.SearchLaws.{both}
 use Rattle.table.specs.Sizes.{is_size, dimension}
 use Rattle.table.specs.Wiring.{wiring_cube}
 use Rattle.table.specs.Table.{head, table_length, set_cell, suspects, live, rounds_ago_column}
-use Rattle.table.specs.Rules.{not_live, wired_table_refusal}
+use Rattle.table.specs.Rules.{not_live, numbered_table_refusal}
 use Rattle.table.specs.Properties.{at_start, live_count, none_suspected}
 use Rattle.table.specs.Fresh.{fresh_table}
 use Rattle.plant.specs.Turn.{crash, kind_turn}
@@ -57,7 +57,7 @@ arrival n s (i ∷ is) q e =
 abbrev described : ℕ → State → Bool
 described n s =
     is_size n && eqb (length s.table) (table_length n) && at_start n s.table && ltb 1 (live_count n s.table) && none_suspected n s.table
-    && eqb (wired_table_refusal wiring_cube n s.table) 0
+    && eqb (numbered_table_refusal wiring_cube n s.table) 0
 
 -- board i is live and board j is not
 abbrev apart : ℕ → State → ℕ → ℕ → Bool

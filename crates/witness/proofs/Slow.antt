@@ -11,7 +11,7 @@ use native.Mathlib.Omega.{arith}
 use borrow.Author.Tests.{eq-eqb}
 use Rattle.lists.specs.Sums.{bit}
 use Rattle.table.specs.Table.{suspects, live}
-use Rattle.table.specs.Rules.{not_live, wired_table_refusal}
+use Rattle.table.specs.Rules.{not_live, numbered_table_refusal}
 use Rattle.table.proofs.Accepting.{Accepted, accepted}
 use Rattle.plant.specs.Turn.{kind_turn}
 use Rattle.plant.specs.Entry.{State, entry_of, entry_refusal, after}
@@ -55,7 +55,7 @@ turns-pass w q turns n s (i ∷ is) =
 -- dead one then
 pub record Slow (w n : ℕ) : Type 0 where
   pub first : State
-  pub ok : wired_table_refusal w n first.table ≡ 0
+  pub ok : numbered_table_refusal w n first.table ≡ 0
   pub premises : DetectionPremises w n first []
   pub turns : List ℕ
   pub last : State
