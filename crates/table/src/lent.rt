@@ -60,7 +60,11 @@ impl<'a> Table<'a> {
 
     // The same where the wiring is given by its number: refusals 24 and 1 to 4. The answer has the wiring beside the table.
     #[tactic(auto, using(crate::proofs::WiringLaws::wiring_ok, crate::proofs::WiringLaws::wiring_err))]
-    pub fn checked_by_number(wiring: usize, n: usize, bytes: &'a [u8]) -> Result<(Wiring, Table<'a>), Refusal>
+    pub fn checked_by_number(
+        wiring: usize,
+        n: usize,
+        bytes: &'a [u8],
+    ) -> Result<(Wiring, Table<'a>), Refusal>
         ensures check { result_map_both (λ s. tt) (λ r. r) result
             ≡ numbered_table_check wiring n bytes.now }
         ensures same_wiring { IfOk result (λ s. wiring_number s.0 ≡ wiring) }
