@@ -46,6 +46,10 @@ digits_value most l = if nat_le 1 (length l) && nat_le (length l) most then digi
 abbrev pub size_of : List ℕ → Option ℕ
 size_of l = digits_value 3 l
 
+-- a station, of one or two digits
+abbrev pub station_of : List ℕ → Option ℕ
+station_of l = digits_value 2 l
+
 -- the kind of a letter: T, L and C are 1, 2 and 3
 unfoldable pub kind_of : ℕ → Option ℕ
 kind_of b = if b == 84 then Some 1 else (if b == 76 then Some 2 else (if b == 67 then Some 3 else None))
@@ -55,7 +59,7 @@ unfoldable pub entry_in_line : List ℕ → Option (ℕ × ℕ)
 entry_in_line [] = None
 entry_in_line (letter ∷ []) = None
 entry_in_line (letter ∷ space ∷ digits) =
-    if space == 32 then option_and_then (λ kind. option_map (λ station. (kind, station)) (digits_value 2 digits)) (kind_of letter) else None
+    if space == 32 then option_and_then (λ kind. option_map (λ station. (kind, station)) (station_of digits)) (kind_of letter) else None
 
 -- the same of an entry as a value
 abbrev pub pair_of : Entry → ℕ × ℕ

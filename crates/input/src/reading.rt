@@ -3,7 +3,7 @@ ghost use Rattle.std.specs.Prelude.{◌≡◌, [], ◌∷◌, ◌++◌, ◌+◌,
 ghost use Rattle.std.proofs.lemmas.List.Edits.{sets};
 ghost use Rattle.plant.specs.Kind.{kind_byte};
 ghost use Rattle.std.specs.List.{slice_split};
-ghost use Rattle.input.specs.Input.{is_line_feed, lines, digits_value, kind_of, entry_in_line, pair_of, room_for, read_into};
+ghost use Rattle.input.specs.Input.{is_line_feed, lines, digits_value, size_of, station_of, kind_of, entry_in_line, pair_of, room_for, read_into};
 ghost use Rattle.input.specs.Fault.{parsed_of, further_fault};
 
 use crate::fault::{self, Expected, Fault, Found};
@@ -69,7 +69,7 @@ pub fn parse(input: &[u8], schedule: &mut [u8]) -> Result<Parsed, Unread>
     let text = without_last_feed(input);
     let mut lines = text.split(|b| *b == b'\n');
     let first = lines.next().unwrap_or(&[]);
-    let Some(size) = read_number(first, 3) else {
+    let Some(size) = read_size(first) else {
         return Err(Unread {
             line: 1,
             fault: fault::size_fault(first),
@@ -147,7 +147,7 @@ fn read_entry(line: &[u8]) -> Option<Entry>
         return None;
     };
     let kind = kind_of(*letter)?;
-    let station = read_number(digits, 2)?;
+    let station = read_station(digits)?;
     Some(Entry {
         kind,
         station: Station(station as u8),
@@ -167,8 +167,21 @@ pub fn kind_of(letter: u8) -> Option<Kind>
     }
 }
 
-// The value of one to `most` digits, if they are that. The sheet program has these lines too: no library below both reads text, and a crate for
-// them would be longer than both.
+// The size of a line, of one to three digits and nothing else. Whether a plant has so many boards is not asked.
+pub fn read_size(line: &[u8]) -> Option<usize>
+    ensures { result ≡ size_of line.now }
+{
+    read_number(line, 3)
+}
+
+// The station of one or two digits and nothing else. Whether a plant has it is not asked.
+pub fn read_station(digits: &[u8]) -> Option<usize>
+    ensures { result ≡ station_of digits.now }
+{
+    read_number(digits, 2)
+}
+
+// The value of one to `most` digits, if they are that.
 fn read_number(digits: &[u8], most: usize) -> Option<usize>
     requires { most ≤ 3 }
     ensures { result ≡ digits_value most digits.now }

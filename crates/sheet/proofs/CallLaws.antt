@@ -13,7 +13,7 @@ use Rattle.clap.proofs.WalkLemmas.{raw_values-rows}
 use Rattle.clap.specs.Simple.{new_rule}
 use Rattle.clap.specs.declared.builder.arg.Arg.{Arg}
 use Rattle.clap.specs.declared.builder.range.ValueRange.{ValueRange}
-use Rattle.sheet.specs.Named.{size_of, plant_of}
+use Rattle.sheet.specs.Named.{plant_size, plant_of}
 use Rattle.sheet.specs.Call.{numbers_rule, sheet_of, sizes, asked_by, understood}
 use Rattle.sheet.specs.declared.call.WrongCall.{WrongCall}
 use Rattle.sheet.specs.declared.call.WrongCall.TheVariants.{NoSize, MoreThanSizes}
@@ -44,7 +44,7 @@ asks_nothing flags [] f e = rw f refl
 asks_nothing flags (x ∷ xs) f e = absurd (omega arith)
 
 pub asks_sheet : (flags : ℕ) (size : List ℕ) (boards : List (List ℕ)) (r : Result (ℕ × List ℕ) WrongCall) → flags ≡ 0
-    → r ≡ plant_of (size_of size) boards → sheet_of r ≡ asked_by flags (size ∷ boards)
+    → r ≡ plant_of (plant_size size) boards → sheet_of r ≡ asked_by flags (size ∷ boards)
 asks_sheet flags size boards r f e = rw (f, e) refl
 
 pub asks_sizes : (flags : ℕ) (numbers : List (List ℕ)) → flags ≢ 0 → flags ≤ 1 → length numbers ≡ 0 → Ok sizes ≡ asked_by flags numbers

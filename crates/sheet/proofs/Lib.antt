@@ -1,4 +1,3 @@
-mod NumberLaws
 mod NamedLaws
 mod CallLaws
 mod PrintLaws

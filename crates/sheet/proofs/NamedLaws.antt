@@ -3,7 +3,7 @@
 use Rattle.std.proofs.Common.{◌≡◌, ℕ, List, [], ◌∷◌, ◌+◌, ◌-◌, ◌<◌, ◌≤◌, true, false, refl, sym, ap, ◌∙◌, arith, add-one, drop-cons, length-drop, length, map, get_or, drop}
 use Rattle.std.specs.Prelude.{suc, ◌≢◌, ◌==◌, take, count_by, replicate, Option, Some, None, Result, Ok, Err, slice_index_or, slice_set, nat_lt, nat_eq}
 use Rattle.std.proofs.lemmas.Bool.Decides.{nat_tests}
-use Rattle.sheet.specs.Text.{number}
+use Rattle.input.specs.Input.{station_of}
 use Rattle.sheet.specs.Named.{and_then, row_with, rows_with, with_two_live, plant_of}
 use Rattle.sheet.specs.declared.call.WrongCall.{WrongCall}
 use Rattle.sheet.specs.declared.call.WrongCall.TheVariants.{NotABoard, NamedAgain, TooFewLive}
@@ -35,12 +35,12 @@ module _ {X : Type 0} (f : X → List ℕ) (n k : ℕ) (row : List ℕ) (bs : Li
     next : drop i bs ≡ x ∷ drop (i + 1) bs
     next = rw add-one (drop-cons bs i d h ∙ ap (λ (y : X). y ∷ drop (suc i) bs) (sym e))
 
-    pub rows-next : (after : List ℕ) → Ok after ≡ row_with n k row (number 2 (f x))
+    pub rows-next : (after : List ℕ) → Ok after ≡ row_with n k row (station_of (f x))
         → rows_with n k (map f (drop i bs)) row ≡ rows_with n (k + 1) (map f (drop (i + 1) bs)) after
     unfolding rows_with
     rows-next after s = rw (next, ← s)
 
-    pub rows-wrong : (wrong : WrongCall) → Err wrong ≡ row_with n k row (number 2 (f x)) → rows_with n k (map f (drop i bs)) row ≡ Err wrong
+    pub rows-wrong : (wrong : WrongCall) → Err wrong ≡ row_with n k row (station_of (f x)) → rows_with n k (map f (drop i bs)) row ≡ Err wrong
     unfolding rows_with
     rows-wrong wrong s = rw (next, ← s)
 

@@ -16,7 +16,7 @@ use Rattle.sheet.specs.declared.call.Call.{Call}
 use Rattle.sheet.specs.declared.call.Call.TheVariants.{Help, Sheet, Sizes}
 use Rattle.sheet.specs.declared.call.WrongCall.{WrongCall}
 use Rattle.sheet.specs.declared.call.WrongCall.TheVariants.{Words, NoSize, MoreThanSizes}
-use Rattle.sheet.specs.Named.{size_of, plant_of}
+use Rattle.sheet.specs.Named.{plant_size, plant_of}
 
 -- the usage, the sheet of a plant of this size and row, or the table over all sizes
 pub data Asked : Type 0 where
@@ -51,7 +51,7 @@ sheet_of (Err wrong) = Err wrong
 -- what numbers ask for: the first is the size, the others are the dead boards
 abbrev pub plant_in : List (List ℕ) → Result Asked WrongCall
 plant_in [] = Err NoSize
-plant_in (size ∷ boards) = sheet_of (plant_of (size_of size) boards)
+plant_in (size ∷ boards) = sheet_of (plant_of (plant_size size) boards)
 
 -- what so many flags --sizes and these numbers ask for: the table by one flag alone
 abbrev pub asked_by : ℕ → List (List ℕ) → Result Asked WrongCall

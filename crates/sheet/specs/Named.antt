@@ -3,7 +3,7 @@
 use Rattle.std.specs.Prelude.{ℕ, ◌+◌, ◌-◌, List, [], ◌∷◌, take, count_by, replicate, nat_lt, ◌==◌, if◌then◌else◌}
 use Rattle.std.specs.Prelude.{Option, None, Some, option_and_then, Result, Ok, Err, slice_index_or, slice_set}
 use Rattle.table.specs.Sizes.{is_size}
-use Rattle.sheet.specs.Text.{number}
+use Rattle.input.specs.Input.{size_of, station_of}
 use Rattle.sheet.specs.declared.call.WrongCall.{WrongCall}
 use Rattle.sheet.specs.declared.call.WrongCall.TheVariants.{NotASize, NotABoard, NamedAgain, TooFewLive}
 
@@ -13,8 +13,8 @@ and_then f (Ok a) = f a
 and_then f (Err wrong) = Err wrong
 
 -- the size in a word: one to three digits, from 2 to 64
-abbrev pub size_of : List ℕ → Option ℕ
-size_of word = option_and_then (λ n. if is_size n then Some n else None) (number 3 word)
+abbrev pub plant_size : List ℕ → Option ℕ
+plant_size word = option_and_then (λ n. if is_size n then Some n else None) (size_of word)
 
 -- the row in which board b of n is dead too. Argument k named it, and may name no board again
 unfoldable pub row_with : ℕ → ℕ → List ℕ → Option ℕ → Result (List ℕ) WrongCall
@@ -25,7 +25,7 @@ row_with n k row (Some b) =
 -- the row with the dead boards in words, of one or two digits each, the first of which is argument k
 unfoldable pub rows_with : ℕ → ℕ → List (List ℕ) → List ℕ → Result (List ℕ) WrongCall
 rows_with n k [] row = Ok row
-rows_with n k (word ∷ words) row = and_then (rows_with n (k + 1) words) (row_with n k row (number 2 word))
+rows_with n k (word ∷ words) row = and_then (rows_with n (k + 1) words) (row_with n k row (station_of word))
 
 -- a plant with fewer than two live boards has no sheet
 abbrev pub with_two_live : ℕ → List ℕ → Result (ℕ × List ℕ) WrongCall

@@ -1,19 +1,9 @@
--- Numbers in the arguments, and how wide numbers are that are printed.
+-- How wide numbers are that are printed.
 -- Assumes nothing.
 use Rattle.std.specs.Prelude.{ℕ, ◌+◌, ◌*◌, ◌-◌, ◌&&◌, List, [], ◌∷◌, length, sum_by, Option, None, Some, nat_lt, nat_le, if◌then◌else◌}
-use Rattle.std.specs.Char.{is_ascii_digit}
 use Rattle.lists.specs.Search.{greatest}
 use Rattle.station.specs.Tests.{unsuspected}
 use Rattle.slots.specs.Slots.{tested}
-
--- the value of digits that follow a value; leading zeros are read
-unfoldable pub digits_from : ℕ → List ℕ → Option ℕ
-digits_from v [] = Some v
-digits_from v (b ∷ rest) = if is_ascii_digit b then digits_from (10 * v + (b - 48)) rest else None
-
--- the number that a word says: one to `most` digits and nothing else
-unfoldable pub number : ℕ → List ℕ → Option ℕ
-number most word = if nat_le 1 (length word) && nat_le (length word) most then digits_from 0 word else None
 
 -- how many digits a number below 1000 has
 abbrev pub digits : ℕ → ℕ

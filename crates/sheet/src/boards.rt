@@ -4,9 +4,9 @@ ghost use Rattle.std.specs.Result.{result_map_both};
 ghost use Rattle.station.specs.Tests.{unsuspected};
 ghost use Rattle.slots.specs.Slots.{most_tests};
 ghost use Rattle.latency.specs.Figures.{most_until_known};
-ghost use Rattle.sheet.specs.Text.{number};
 
 use crate::call::WrongCall;
+use input::reading;
 use latency::figures;
 use table::{Station, sizes};
 
@@ -19,12 +19,13 @@ pub struct Plant {
 }
 
 impl Plant {
-    ghost use Rattle.sheet.specs.Named.{size_of, row_with, plant_of};
+    ghost use Rattle.input.specs.Input.{station_of};
+    ghost use Rattle.sheet.specs.Named.{plant_size, row_with, plant_of};
 
     // The plant that words name: its size, and each of its dead boards.
     pub fn read(size: &[u8], boards: &[&str]) -> Result<Plant, WrongCall>
         ensures { let words = map (λ w. w.now) boards.now in
-            result_map_both (λ p. (p.size, p.row)) (λ e. e) result ≡ plant_of (size_of size.now) words }
+            result_map_both (λ p. (p.size, p.row)) (λ e. e) result ≡ plant_of (plant_size size.now) words }
     {
         let Some(mut plant) = Plant::of_size(size) else {
             return Err(WrongCall::NotASize);
@@ -45,10 +46,10 @@ impl Plant {
     // A plant of the size that a word says, with nobody dead.
     #[tactic(auto, using(table::proofs::SizeLaws::size_top))]
     fn of_size(word: &[u8]) -> Option<Plant>
-        ensures size { option_map (λ p. p.size) result ≡ size_of word.now }
+        ensures size { option_map (λ p. p.size) result ≡ plant_size word.now }
         ensures nobody_dead { IfSome result (λ p. p.row ≡ replicate 64 0) }
     {
-        let size = read_number(word, 3)?;
+        let size = reading::read_size(word)?;
         if !sizes::is_size(size) {
             return None;
         }
@@ -60,12 +61,12 @@ impl Plant {
 
     // Reads an argument, which names a board that no argument named before.
     fn name_dead(&mut self, argument: usize, word: &[u8]) -> Result<(), WrongCall>
-        ensures row { let named = number 2 word.now in
+        ensures row { let named = station_of word.now in
             result_map_both (λ _. self.new.row) (λ e. e) result ≡ row_with self.old.size argument self.old.row named }
         ensures size_unchanged { self.new.size ≡ self.old.size }
     {
         let last = self.size.saturating_sub(1);
-        let Some(board) = read_number(word, 2) else {
+        let Some(board) = reading::read_station(word) else {
             return Err(WrongCall::NotABoard { argument, last });
         };
         if self.size as usize <= board {
@@ -115,26 +116,4 @@ impl Plant {
     {
         self.row().get(x.0 as usize).copied().unwrap_or(1) == 0
     }
-}
-
-// The value of one to `most` digits, if the word is that.
-fn read_number(word: &[u8], most: usize) -> Option<usize>
-    requires { most ≤ 3 }
-    ensures { result ≡ number most word.now }
-{
-    let length = word.len();
-    if length == 0 {
-        return None;
-    }
-    if most < length {
-        return None;
-    }
-    let mut value = 0;
-    for byte in word {
-        if !byte.is_ascii_digit() {
-            return None;
-        }
-        value = 10 * value + (*byte - b'0') as usize;
-    }
-    Some(value)
 }

@@ -46,13 +46,13 @@ unsized room input first e none = ap (read_lines room) e ∙ parts-unsized room 
 pub returns-in_default-clause-answer : goal.returns-in_default-clause-answer
 returns-in_default-clause-answer c =
     let e = begun (goal.at.returns-in_default-clause-answer c).After-unwrap_or-first in
-    let none = sym c.read_number.ensures ∙ c.in_default.is in
+    let none = sym c.read_size.ensures ∙ c.in_default.is in
     rw (unsized (room_for (length c.args.schedule.now)) c.args.input.now _ e none, fault-first _ _ _ e, c.size_fault.ensures)
 
 pub returns-in_default-clause-schedule_after : goal.returns-in_default-clause-schedule_after
 returns-in_default-clause-schedule_after c =
     let e = begun (goal.at.returns-in_default-clause-schedule_after c).After-unwrap_or-first in
-    let none = sym c.read_number.ensures ∙ c.in_default.is in
+    let none = sym c.read_size.ensures ∙ c.in_default.is in
     rw (unsized (room_for (length c.args.schedule.now)) c.args.input.now _ e none)
 
 sized : (room n : ℕ) (input first : List ℕ) → (let ls = lines input in ls ≡ first ∷ drop 1 ls) → digits_value 3 first ≡ Some n
@@ -68,7 +68,7 @@ loop-line-init c =
       room = c.room_for-room.ensures;
       counted = refl;
       kept = refl;
-      read = sized _ _ c.args.input.now _ (begun here) (sym c.read_number.ensures ∙ c.in-Some.is);
+      read = sized _ _ c.args.input.now _ (begun here) (sym c.read_size.ensures ∙ c.in-Some.is);
     }
 
 -- the lines behind the first are gone through
