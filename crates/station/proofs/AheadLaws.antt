@@ -21,7 +21,7 @@ use Rattle.station.specs.Ahead.{Before, NamedStandsBefore, BeforeByDigits, block
 use Rattle.lists.proofs.BoolLaws.{by_bool}
 use Rattle.lists.proofs.Xor.{Near, div-le, near_le, near-of-xor, xor-of-near, xor_assoc, xor-cancel, xor-undo}
 use Rattle.table.proofs.Levels.{level-zero, level-upper, level-le, level-is, level-bounds, level-split}
-use Rattle.station.proofs.DueLaws.{is_station, first-not, first_found, answer-here, due-is, due-not, due-zero, due-stands}
+use Rattle.station.proofs.DueLaws.{is_station, first-not, first_found, answer_here, due-is, due-not, due-zero, due-stands}
 
 -- a level by the highest digit
 pub level-top : (m g : ℕ) → level m ≡ suc g → m / 2 ^ g ≡ 1
@@ -152,11 +152,11 @@ named-stands-before r i m x own pos here e = by_bool (eqb y i) (λ z. absurd (tr
     y = station_at j f.0
 
     given : eqb y i ≡ true → answer_due ≡ answer_ahead x
-    given z = rw (f.4, z) at (sym (answer-here r i m here) ∙ e)
+    given z = rw (f.4, z) at (sym (answer_here r i m here) ∙ e)
 
     named : eqb y i ≡ false → (unsuspected r x ≡ true) × Before i m x
     named z =
-        let same : y ≡ x = ap answer_byte (rw (f.4, z) at (sym (answer-here r i m here) ∙ e)) in
+        let same : y ≡ x = ap answer_byte (rw (f.4, z) at (sym (answer_here r i m here) ∙ e)) in
         let apart : ¬ (f.0 ≡ m) = λ a. true≢false (sym (eq-eqb y i (ap (station_at j) a ∙ xor-undo i m)) ∙ z) in
         rw (← same, xor-cancel j f.0) (f.3, (f.1, omega (arith, f.2)))
 

@@ -106,13 +106,13 @@ first_found q j m pos passes =
     )
 
 -- the answer where no station stands, and where one does
-pub answer-absent : (r : List ℕ) (i m : ℕ) → stands r i m ≡ false → answer r i m ≡ answer_ahead i
+pub answer_absent : (r : List ℕ) (i m : ℕ) → stands r i m ≡ false → answer r i m ≡ answer_ahead i
 unfolding answer
-answer-absent r i m absent = rw absent
+answer_absent r i m absent = rw absent
 
-pub answer-here : (r : List ℕ) (i m : ℕ) → stands r i m ≡ true → answer r i m ≡ answer_of i (first (unsuspected r) (station_at i m) (level m))
+pub answer_here : (r : List ℕ) (i m : ℕ) → stands r i m ≡ true → answer r i m ≡ answer_of i (first (unsuspected r) (station_at i m) (level m))
 unfolding answer
-answer-here r i m here = rw here
+answer_here r i m here = rw here
 
 -- at distance 0 it names i
 answer-zero : (r : List ℕ) (i : ℕ) → answer r i 0 ≡ answer_ahead i
@@ -126,7 +126,7 @@ due-is r i m = refl
 
 -- where no station stands a distance is not due
 pub due-absent : (r : List ℕ) (i m : ℕ) → stands r i m ≡ false → due r i m ≡ false
-due-absent r i m absent = due-is r i m ∙ ap says_due (answer-absent r i m absent)
+due-absent r i m absent = due-is r i m ∙ ap says_due (answer_absent r i m absent)
 
 -- due by who is first
 pub due-first : (r : List ℕ) (i m : ℕ)
@@ -134,7 +134,7 @@ pub due-first : (r : List ℕ) (i m : ℕ)
 due-first r i m = by_bool (stands r i m) here (λ absent. rw absent (due-absent r i m absent))
   where
     here : stands r i m ≡ true → due r i m ≡ (stands r i m && is_station i (first (unsuspected r) (station_at i m) (level m)))
-    here e = due-is r i m ∙ (ap says_due (answer-here r i m e) ∙ rw e (says-due i (first (unsuspected r) (station_at i m) (level m))))
+    here e = due-is r i m ∙ (ap says_due (answer_here r i m e) ∙ rw e (says-due i (first (unsuspected r) (station_at i m) (level m))))
 
 -- i is not due where it is not first
 pub due-not : (r : List ℕ) (i m : ℕ) → is_station i (first (unsuspected r) (station_at i m) (level m)) ≡ false → due r i m ≡ false

@@ -51,6 +51,7 @@ pub fn stands(row: &[u8], i: Station, m: Distance) -> bool
 
 // Whether distance m is due for i, by i's row, or who is first instead; i itself where nobody stands or nobody is first. It is one function, since
 // with the part behind the first test as a call of its own drives were 0.93 times as fast.
+#[tactic(auto, using(crate::proofs::DueLaws::answer_absent, crate::proofs::DueLaws::answer_here))]
 pub fn due_or_ahead(row: &[u8], i: Station, m: Distance) -> DueOrAhead
     ensures { answer_value result ≡ answer row.now i.0 m.0 }
 {
