@@ -1,33 +1,31 @@
 -- What a closed round on the cube has done to the rows, and its tests.
 -- Assumes nothing.
-use mathlib.Core.Path.{◌≡◌, sym, ap, ◌∙◌}
-use mathlib.Core.Bool.{Bool, true, false, cond, ◌&&◌, and-false}
+use mathlib.Core.Path.{◌≡◌, sym, ◌∙◌}
+use mathlib.Core.Bool.{Bool, true, and-false}
 use mathlib.Core.List.{List, map}
-use Prim.Native.Nat.{ℕ, suc, ◌+◌, ◌*◌, ◌≤◌, ◌<◌}
+use Prim.Native.Nat.{ℕ, ◌≤◌, ◌<◌}
 use native.Mathlib.Omega.{arith}
-use borrow.Author.Tests.{lt-ltb, le-ltb}
 use lib.Bits.{bit_xor, xor_lt}
-use Rattle.station.specs.Groups.{station_at, is_present}
-use Rattle.table.specs.Sizes.{level, dimension, distances}
+use Rattle.station.specs.Groups.{station_at}
+use Rattle.table.specs.Sizes.{dimension, distances}
 use Rattle.table.specs.Wiring.{wiring_cube}
 use Rattle.table.proofs.WiringLaws.{end-cube}
 use Rattle.table.specs.Table.{next_distance, tests_made, live}
 use Rattle.table.specs.Rules.{round_over}
-use Rattle.station.proofs.DueLaws.{first-not}
 use Rattle.plant.specs.Round.{reset_lines}
-use Rattle.lists.specs.Sums.{sum_below, bit}
+use Rattle.lists.specs.Sums.{bit}
 use Rattle.detection.specs.Runs.{Taken}
 use Rattle.detection.specs.Rounds.{tests_in}
-use Rattle.detection.specs.Claim.{group_without_live, pairs_without_live, tests_per_round}
+use Rattle.detection.specs.Claim.{tests_per_round}
 use Rattle.detection.specs.Boards.{tested_in}
 use Rattle.lists.proofs.BoolLaws.{by_bool}
-use Rattle.lists.proofs.SumLaws.{sum_by, sum-zero, sum-stays, sum-const}
-use Rattle.detection.proofs.Count.{nobody, tests-and-rest}
+use Rattle.lists.proofs.SumLaws.{sum_by, sum-zero}
 use Rattle.detection.proofs.TurnEffect.{Grown, Exact}
 use Rattle.detection.proofs.RoundKnowledge.{InRound, reset-rows, all-finished}
 use Rattle.detection.proofs.Pass.{lift, Round}
 use Rattle.detection.proofs.Knowledge.{LiveOf, live_of, RowOf, InPassOf, leads_at, Knows, known-now}
 use Rattle.detection.proofs.Listing.{led_below, Listed}
+use Rattle.detection.proofs.LedCount.{leads_below, leads-none, led-count}
 
 -- two stations are at one of the plant's distances
 distance-below : (n i x : ℕ) → n ≤ distances n → i < n → x < n → bit_xor i x < distances n
@@ -73,54 +71,22 @@ module _ (n : ℕ) (L : ℕ → Bool) (t₀ t : List ℕ) (here : List Taken) (i
           known-now n L t₀ t here inv know.0 i hi l (distances n) (λ m a b. absurd (omega (arith, at-end i hi l))) h j
           (λ x hx b. inside i x hi hx)
 
--- a sum over all numbers whose terms for the absent ones are 0
-present-sum : (n : ℕ) (f : ℕ → ℕ) → n ≤ distances n → ((i : ℕ) → n ≤ i → f i ≡ 0) → sum_below f (distances n) ≡ sum_below f n
-present-sum n f low none = sum-stays f n (distances n) low (λ i a b. none i a)
-
 -- the tests of a round that starts exact
 module _ (n : ℕ) (T t₀ t : List ℕ) (here : List Taken) (low : n ≤ distances n) (inv : InRound wiring_cube n (live n T) t₀ here t)
     (know : CubeKnows n (live n T) t₀ here t) (over : round_over n t ≡ true) (exact : Exact n (live n T) t₀) where
   abbrev L : ℕ → Bool
   L = live n T
 
-  -- who is not a live station leads nobody's group
-  leads-none : (i m : ℕ) → LiveOf n L i ≡ false → bit (leads_at n L i m) ≡ 0
-  leads-none i m e =
-      let none : leads_at n L i m ≡ false = rw (first-not (LiveOf n L) (station_at i m) (level m) i e, and-false) in
-      ap bit none
-
-  made : (i : ℕ) → i < n → tests_made n t i ≡ sum_below (λ m. bit (leads_at n L i m)) (distances n)
+  made : (i : ℕ) → i < n → tests_made n t i ≡ leads_below n L i (distances n)
   made i h =
       know.0.counted exact i h
       ∙ by_bool (L i) (λ l. rw (at-end n L t₀ t here inv know over i h l))
       (λ l.
-      let none : (m : ℕ) → bit (leads_at n L i m) ≡ 0 = λ m. leads-none i m (rw (l, and-false)) in
+      let none : (m : ℕ) → bit (leads_at n L i m) ≡ 0 = λ m. leads-none n L i m (rw (l, and-false)) in
       sum-zero (next_distance n t i) (λ m g. none m) ∙ sym (sum-zero (distances n) (λ m g. none m)))
 
-  all_made : sum_below (λ i. sum_below (λ m. bit (leads_at n L i m)) (distances n)) (distances n) ≡ sum_below (tests_made n t) n
-  all_made =
-      present-sum n _ low (λ i a. sum-zero (distances n) (λ m b. leads-none i m (rw (le-ltb i n a)))) ∙ sym (sum_by n made)
-
-  pairs : sum_below (λ j. sum_below (λ h. bit (is_present n j && nobody (LiveOf n L) j (suc h))) (dimension n)) (distances n)
-      ≡ pairs_without_live n T
-  unfolding pairs_without_live group_without_live
-  pairs =
-      present-sum n _ low (λ j a. sum-zero (dimension n) (λ h b. rw (le-ltb j n a)))
-      ∙ sum_by n (λ j a. sum_by (dimension n) (λ h b. rw (lt-ltb j n a)))
-
-  stations : sum_below (λ j. cond (is_present n j) (dimension n) 0) (distances n) ≡ n * dimension n
-  stations =
-      present-sum n _ low (λ j a. rw (le-ltb j n a))
-      ∙ (sum_by {g = λ j. dimension n} n (λ j a. rw (lt-ltb j n a)) ∙ sum-const (dimension n) n)
-
-  split : sum_below (λ i. sum_below (λ m. bit (leads_at n L i m)) (distances n)) (distances n)
-      + sum_below (λ j. sum_below (λ h. bit (is_present n j && nobody (LiveOf n L) j (suc h))) (dimension n)) (distances n)
-      ≡ sum_below (λ j. cond (is_present n j) (dimension n) 0) (distances n)
-  unfolding distances
-  split = tests-and-rest (is_present n) (LiveOf n L) (dimension n)
-
   round-count : tests_in here ≡ tests_per_round n T
-  round-count = omega (arith, inv.counts.tests, sum-zero n (λ i h. (inv.fresh i h).untested), split, all_made, pairs, stations)
+  round-count = omega (arith, inv.counts.tests, sum-zero n (λ i h. (inv.fresh i h).untested), sum_by n made, led-count n T low)
 
 -- what a closed round gives, from the table t₀ at its start to the table t₁ at the start of the next
 pub record CubeRound (n : ℕ) (T t₀ : List ℕ) (round : List Taken) (t₁ : List ℕ) : Type 0 where

@@ -109,15 +109,42 @@ cut-done w n L K t₀ cur s size inv = (
   omega arith,
 )
 
--- one taken entry that is no crash and no late reply
+-- a taken entry that is no crash and no late reply, in a table in which no live station suspects a live one: a turn of a live station
+module _ (w n : ℕ) (L : ℕ → Bool) (company : Company n L) (s : State) (e : Entry) (ok : Accepted w n s.table) (takes : entry_refusal n s e ≡ 0)
+    (p : Plain w n L s.table) (no_crash : is_crash e ≡ false) (in_time : is_late (taken_at w n s e) ≡ false) where
+  facts : Takes n s e
+  facts = entry-facts n s e takes
+
+  -- the reply of a live station
+  prompt : makes_test w n s.table e.station ≡ true → L (wired_station w n e.station (next_test w n s.table e.station)) ≡ true → e.kind ≡ kind_turn
+  unfolding tested_of turn_tested
+  prompt m l =
+      let x<n = test-station w n s.table e.station m ok.long facts.below in
+      let late : eqb e.kind kind_late ≡ false = simp and-true at (rw (no_crash, m, p.lives _ x<n ∙ l) at in_time) in
+      omega (arith, eqb-false e.kind kind_late late, eqb-false e.kind kind_crash no_crash, facts.kind_low, facts.kind_high)
+
+  pub taken-turn : TurnTaken w n L s e (acted w n s.table e)
+  unfolding acted
+  taken-turn =
+      let is_live : L e.station ≡ true = sym (p.lives e.station facts.below) ∙ facts.is_live in
+      let open-pass = facts.unfinished (eqb-false e.kind kind_crash no_crash) in
+      let going : finished n s.table e.station ≡ 0 = omega (arith, (p.lines.1 e.station facts.below).pass.finished_range) in
+      rw no_crash (record {
+        no_crash = no_crash;
+        below = facts.below;
+        is_live = is_live;
+        going = going;
+        outcome = outcome_at w n s.table e.kind e.station (next_test w n s.table e.station);
+        heads = turn-heads w n s.table e.kind e.station p.lines facts.below;
+        kept = turn-effect w n L s.table e.kind e.station p company facts.below is_live going prompt;
+      })
+
+-- such an entry within a round
 module _ (w n : ℕ) (L : ℕ → Bool) (K : RoundKnowledge w n L) (company : Company n L) (t₀ : List ℕ) (cur : List Taken) (s : State) (e : Entry)
     (ok : Accepted w n s.table) (takes : entry_refusal n s e ≡ 0) (inv : InRound w n L t₀ cur s.table) (know : K.Knows t₀ cur s.table)
     (no_crash : is_crash e ≡ false) (in_time : is_late (taken_at w n s e) ≡ false) where
   abbrev t : List ℕ
   t = s.table
-
-  abbrev i : ℕ
-  i = e.station
 
   abbrev t' : List ℕ
   t' = acted w n t e
@@ -128,39 +155,14 @@ module _ (w n : ℕ) (L : ℕ → Bool) (K : RoundKnowledge w n L) (company : Co
   abbrev here : List Taken
   here = cur ++ (x ∷ [])
 
-  facts : Takes n s e
-  facts = entry-facts n s e takes
-
-  -- the reply of a live station
-  prompt : makes_test w n t i ≡ true → L (wired_station w n i (next_test w n t i)) ≡ true → e.kind ≡ kind_turn
-  unfolding tested_of turn_tested
-  prompt m l =
-      let x<n = test-station w n t i m ok.long facts.below in
-      let late : eqb e.kind kind_late ≡ false = simp and-true at (rw (no_crash, m, inv.plain.lives _ x<n ∙ l) at in_time) in
-      omega (arith, eqb-false e.kind kind_late late, eqb-false e.kind kind_crash no_crash, facts.kind_low, facts.kind_high)
-
-  taken-turn : TurnTaken w n L s e t'
-  unfolding acted
-  taken-turn =
-      let p = inv.plain in
-      let is_live : L i ≡ true = sym (p.lives i facts.below) ∙ facts.is_live in
-      let open-pass = facts.unfinished (eqb-false e.kind kind_crash no_crash) in
-      let going : finished n t i ≡ 0 = omega (arith, (p.lines.1 i facts.below).pass.finished_range) in
-      rw no_crash (record {
-        no_crash = no_crash;
-        below = facts.below;
-        is_live = is_live;
-        going = going;
-        outcome = outcome_at w n t e.kind i (next_test w n t i);
-        heads = turn-heads w n t e.kind i p.lines facts.below;
-        kept = turn-effect w n L t e.kind i p company facts.below is_live going prompt;
-      })
+  taken : TurnTaken w n L s e t'
+  taken = taken-turn w n L company s e ok takes inv.plain no_crash in_time
 
   moved : InRound w n L t₀ here t'
-  moved = turn-in-round w n L t₀ t' cur s e inv taken-turn
+  moved = turn-in-round w n L t₀ t' cur s e inv taken
 
   known : K.Knows t₀ here t'
-  known = K.turns t₀ t' cur s e inv taken-turn know
+  known = K.turns t₀ t' cur s e inv taken know
 
   closing-is : closes here x ≡ round_over n t'
   closing-is = closes-is w n t₀ t' here moved.fresh moved.plain.lines moved.counts s e refl

@@ -5,7 +5,7 @@ use mathlib.Core.Path.{◌≡◌, refl, sym, ap, subst, ◌∙◌}
 use mathlib.Core.Logic.{◌⊎◌, inl, inr, ◌≢◌}
 use mathlib.Core.Bool.{Bool, true, false, not, ◌&&◌}
 use mathlib.Core.List.{List, [], ◌∷◌, ◌++◌}
-use Prim.Native.Nat.{ℕ, ◌/◌, ◌≤◌, ◌<◌}
+use Prim.Native.Nat.{ℕ, ◌≤◌, ◌<◌}
 use native.Mathlib.Nat.{le_trans}
 use native.Mathlib.Omega.{arith}
 use Rattle.std.specs.Prelude.{Ok}
@@ -32,7 +32,7 @@ use Rattle.lists.proofs.SumLaws.{sum-single, sum-zero}
 use Rattle.table.specs.Wiring.{wiring_cube, wiring_ring, is_ring, wiring_check}
 use Rattle.detection.proofs.Latency.{latency-le-triangle, latency-le-square}
 use Rattle.detection.proofs.Chain.{on-wiring, chain-all, chain_first}
-use Rattle.detection.proofs.TurnEffect.{Company}
+use Rattle.detection.proofs.TurnEffect.{Plain, Company}
 use Rattle.detection.proofs.RoundKnowledge.{InRound, round-start, RoundKnowledge}
 use Rattle.detection.proofs.Course.{Course, Tallied, course}
 use Rattle.detection.proofs.Closing.{CubeRound}
@@ -69,20 +69,20 @@ company-of n t two i h l =
     p : ℕ
     p = least other n 0
 
--- the first table, at the start of a round
-first_round : (w n : ℕ) (s : State) (calls : List Call) → DetectionPremises w n s calls → Accepted w n s.table
-    → InRound w n (live n s.table) s.table [] s.table
-unfolding at_start
-first_round w n s calls given ok =
-    round-start w n (live n t) t
-    (record { lines = (ok.long, accepted-line w n t ok); lives = λ i h. refl; accurate = trusts w n t ok given.accurate }) fresh
-  where
-    t : List ℕ
-    t = s.table
+-- an accepted table in which no live station suspects a live one
+pub plain-at : (w n : ℕ) (t : List ℕ) → Accepted w n t → ((i j : ℕ) → i < n → j < n → live n t i ≡ true → live n t j ≡ true → suspects n t i j ≡ 0)
+    → Plain w n (live n t) t
+plain-at w n t ok clean = record { lines = (ok.long, accepted-line w n t ok); lives = λ i h. refl; accurate = clean }
 
+-- such a table at the start of a round
+pub first_round : (w n : ℕ) (t : List ℕ) → Accepted w n t → at_start n t ≡ true
+    → ((i j : ℕ) → i < n → j < n → live n t i ≡ true → live n t j ≡ true → suspects n t i j ≡ 0) → InRound w n (live n t) t [] t
+unfolding at_start
+first_round w n t ok start clean = round-start w n (live n t) t (plain-at w n t ok clean) fresh
+  where
     fresh : (i : ℕ) → i < n → Reset n t i
     fresh i h =
-        let all = both _ _ (every-at (line_at_start n t) n i given.start h) in
+        let all = both _ _ (every-at (line_at_start n t) n i start h) in
         let head = both _ _ all.0 in
         record { next = eqb-true _ 1 head.0; unfinished = eqb-true _ 0 head.1; untested = eqb-true _ 0 all.1 }
 
@@ -91,7 +91,7 @@ pub rounds-from : (w n : ℕ) (s : State) (calls : List Call) → DetectionPremi
     → (K : RoundKnowledge w n (live n s.table))
     → Course w n (live n s.table) K.Gives s.table (rounds_of s calls) (after_runs s calls).table × Tallied [] s (rounds_of s calls) (after_runs s calls)
 rounds-from w n s calls given ok K =
-    let first = first_round w n s calls given ok in
+    let first = first_round w n s.table ok given.start (trusts w n s.table ok given.accurate) in
     course w n (live n s.table) K given.size (company-of n s.table given.two_live) (on-wiring (chain-all n s calls given.long) given.one_wiring) given.no_crash given.no_late
     s.table [] first (K.starts s.table first)
 

@@ -70,7 +70,7 @@ module _ (w : ℕ) (q : Taken → Bool) (turns : (n : ℕ) (s : State) (i : ℕ)
       runs_append q s (runs_of w n p k) (turn_run w n (granted_at n (after_grants w n p k)) ∷ []) (grants-pass n s p k)
       (one_passes w q turns n (after_runs s (runs_of w n p k)) (granted_at n (after_grants w n p k)))
 
-  drives-pass : (n : ℕ) (s : State) (lasts : List ℕ) → all_taken q (taken_all s (runs_of_drives w n s lasts)) ≡ true
+  pub drives-pass : (n : ℕ) (s : State) (lasts : List ℕ) → all_taken q (taken_all s (runs_of_drives w n s lasts)) ≡ true
   unfolding runs_of_mixed taken_all all_taken
   drives-pass n s [] = refl
   drives-pass n s (last ∷ lasts) =

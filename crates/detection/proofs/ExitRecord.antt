@@ -87,7 +87,7 @@ module _ (w n : ℕ) (s : State) (e : Entry) (ok : Accepted w n s.table) (z : en
 
 -- entries one behind the other
 module _ {n : ℕ} (k : ℕ) (h : k < n) where
-  dead-chain : {s s' : State} {xs : List Taken} → Chain n s xs s' → live n s.table k ≡ false → SameExit n s.table s'.table k
+  pub dead-chain : {s s' : State} {xs : List Taken} → Chain n s xs s' → live n s.table k ≡ false → SameExit n s.table s'.table k
   dead-chain done d = (refl, refl)
   dead-chain (more {s} w e a z c) d =
       let one = dead-step w n s e a z k h d in

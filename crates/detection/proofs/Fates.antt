@@ -279,6 +279,15 @@ module _ (w n : ℕ) (s : State) (e : Entry) (ok : Accepted w n s.table) (z : en
   pub after-fate : (k : ℕ) → k < n → Fate n t (after w n s e).table k
   after-fate k h = fate-later n t (acted w n t e) (after w n s e).table k (closing_same k) (acted-fate k h)
 
+  -- a station that is live after the entry was live before it
+  pub was-live : (k : ℕ) → k < n → live n (after w n s e).table k ≡ true → live n t k ≡ true
+  was-live k h l = by-fate (after-fate k h)
+    where
+      by-fate : Fate n t (after w n s e).table k → live n t k ≡ true
+      by-fate (stays p) = rw (← p.0) l
+      by-fate (leaves a low untold p) = a
+      by-fate (hears b hb f) = f.was_live
+
   -- where the test of j makes station a leave because told by x
   module _ (no-crash : is_crash e ≡ false) (makes : makes_test w n t i ≡ true) where
     after-left : (a x : ℕ) → a < n → (i ≡ a → live n (v no-crash makes) a ≡ false) → LeftTold n u (v no-crash makes) a x → LeftTold n t (after w n s e).table a x

@@ -15,8 +15,10 @@ pub mod Counting
 pub mod RoundKnowledge
 pub mod Knowledge
 pub mod Listing
+pub mod LedCount
 pub mod Closing
 pub mod Chain
+pub mod Parts
 pub mod Course
 pub mod Cube
 pub mod RingPass

@@ -18,15 +18,11 @@ use Rattle.table.proofs.WiringLaws.{end_ring}
 use Rattle.detection.proofs.RingTurns.{ring-turns}
 use Rattle.detection.proofs.RingSpread.{all-known}
 use Rattle.detection.proofs.RingCount.{all-tests}
-use Rattle.detection.proofs.RingPass.{RingStep, RingKnows, ring-start, RingTurn, ring-turn, ring-step, ring-made, step-later, Among, ring-round}
+use Rattle.detection.proofs.RingPass.{RingStep, RingKnows, ring-start, ring-turn, ring-step, ring-made, step-later, Among, ring-round}
 
 -- what is known within a round
 abbrev pub KnowsOf : ℕ → (ℕ → Bool) → List ℕ → List ℕ → Type 0
 KnowsOf n L t₀ t = RingKnows n L (Row n t₀) (Row n t) (next_distance n t) (tests_made n t)
-
--- the turn of i from the table t to t'
-abbrev pub TurnOf : ℕ → (ℕ → Bool) → List ℕ → List ℕ → ℕ → Type 0
-TurnOf n L t t' i = RingTurn n L (Row n t) (Row n t') (next_distance n t) (next_distance n t') (tests_made n t) (tests_made n t') i
 
 -- what a closed round gives: what it did to the rows, and n tests
 abbrev pub RoundOf : ℕ → (ℕ → Bool) → List ℕ → List Taken → List ℕ → Type 0

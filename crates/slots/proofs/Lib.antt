@@ -1,4 +1,4 @@
--- The claims of specs/Law.antt and specs/Assignments.antt hold; the last two are for the proofs of the functions.
+-- The claims of specs/Law.antt and specs/Assignments.antt hold; the last two are for the proofs of functions.
 pub mod AssignmentLaws
 pub mod DigitLaws
 pub mod Counts
@@ -8,4 +8,4 @@ pub mod MoreTests
 pub mod AllBoards
 pub mod UntestedLaws
 mod ListLaws
-mod MostLaws
+pub mod MostLaws
