@@ -21,6 +21,7 @@ use Rattle.detection.specs.Runs.{Call, Taken, turn_run, after_runs, taken_all, c
 use Rattle.detection.specs.Rounds.{all_taken}
 use Rattle.detection.specs.Claim.{DetectionPremises, worst_rounds}
 use Rattle.detection.proofs.TakenLaws.{taken_at}
+use Rattle.detection.proofs.DetectionClaim.{detection-in-worst-case}
 use Rattle.detection.proofs.OneTurn.{one_left, runs_append, one_passes}
 use Rattle.witness.specs.WorstCase.{WorstCaseAt}
 
@@ -69,9 +70,9 @@ pub record Slow (w n : ℕ) : Type 0 where
   pub missed_dead : not_live n first.table missed ≡ true
   pub unseen : suspects n last.table board missed ≡ 0
 
--- by a claim within fewer rounds the live board would suspect the dead one
+-- were fewer rounds enough, the live board would suspect the dead one
 pub slow-worst-case : (w n : ℕ) → Slow w n → WorstCaseAt w n
-slow-worst-case w n p enough claim = by_cases (dec_lt enough (worst_rounds w n)) (λ l. absurd (early l)) (λ l. omega arith)
+slow-worst-case w n p enough exact = by_cases (dec_lt enough (worst_rounds w n)) (λ l. absurd (early l)) (λ l. omega arith)
   where
     calls : List Call
     calls = map (turn_run w n) p.turns
@@ -91,6 +92,7 @@ slow-worst-case w n p enough claim = by_cases (dec_lt enough (worst_rounds w n))
 
     early : enough < worst_rounds w n → ⊥
     early l =
-        let after = rw (goes-runs p.goes (accepted w n p.first.table p.ok)) at (claim p.first calls given) in
-        let known = after.exact_rows (omega (arith, after.rounds_tally, p.rounds)) p.board p.missed p.board_below p.missed_below p.board_live in
+        let end = goes-runs p.goes (accepted w n p.first.table p.ok) in
+        let tally = rw end at (detection-in-worst-case w n p.first calls given).rounds_tally in
+        let known = rw end at (exact p.first calls given (omega (arith, tally, p.rounds)) p.board p.missed p.board_below p.missed_below p.board_live) in
         omega (arith, known, p.unseen, ap bit p.missed_dead)
