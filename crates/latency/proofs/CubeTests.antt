@@ -2,19 +2,19 @@
 -- Assumes nothing.
 use mathlib.Core.Path.{◌≡◌, refl, sym, ap, ◌∙◌}
 use mathlib.Core.Logic.{by_cases}
-use mathlib.Core.Bool.{Bool, true, false, cond, ◌&&◌, and-false, true≢false}
+use mathlib.Core.Bool.{Bool, true, false, cond, true≢false}
 use mathlib.Core.List.{List}
-use Prim.Native.Nat.{ℕ, suc, ◌+◌, ◌-◌, ◌*◌, ◌≤◌, ◌<◌}
+use Prim.Native.Nat.{ℕ, suc, ◌+◌, ◌-◌, ◌≤◌, ◌<◌}
 use native.Mathlib.Decide.{ℕ_discrete}
 use native.Mathlib.Omega.{arith}
-use borrow.Author.Tests.{lt-ltb, le-ltb, ltb-true, eqb-true, eq-eqb}
+use borrow.Author.Tests.{lt-ltb, ltb-true, eqb-true, eq-eqb}
 use lib.Dec.{ltb}
 use lib.ListN.{length}
 use Rattle.lists.specs.Sums.{sum_below, bit}
 use Rattle.lists.proofs.BoolLaws.{by_bool}
 use Rattle.lists.proofs.SearchLaws.{both, least-is, least-before}
-use Rattle.lists.proofs.SumLaws.{sum_below-suc, sum_by, sum-split, sum-zero, sum-stays, sum-const}
-use Rattle.table.specs.Sizes.{is_size, level, dimension, distances}
+use Rattle.lists.proofs.SumLaws.{sum_below-suc, sum-split}
+use Rattle.table.specs.Sizes.{is_size, level, distances}
 use Rattle.table.specs.Wiring.{wiring_cube, end_distance}
 use Rattle.table.specs.Table.{next_column, tests_column, next_distance, tests_made, row, live}
 use Rattle.table.proofs.WiringLaws.{end-cube}
@@ -23,14 +23,15 @@ use Rattle.table.proofs.CellLaws.{row-length, row_at}
 use Rattle.station.specs.Groups.{station_at, is_present, width, member}
 use Rattle.station.specs.Tests.{unsuspected, first_place, first, due}
 use Rattle.station.proofs.WiredLaws.{cube_due}
-use Rattle.station.proofs.DueLaws.{unsuspected-at, is_station, first-not, due-first}
+use Rattle.station.proofs.DueLaws.{unsuspected-at, is_station, due-first}
 use Rattle.plant.specs.Turn.{next_test, makes_test, next_after}
 use Rattle.plant.specs.Entry.{Entry, State}
 use Rattle.plant.proofs.NextTest.{next_test-low, test-due}
 use Rattle.slots.proofs.Counts.{sum-le}
-use Rattle.detection.specs.Claim.{group_without_live, pairs_without_live, tests_per_round}
-use Rattle.detection.proofs.Count.{leads, nobody, tests-and-rest}
+use Rattle.detection.specs.Claim.{tests_per_round}
+use Rattle.detection.proofs.Count.{leads}
 use Rattle.detection.proofs.Knowledge.{LiveOf, live_of, leads_at}
+use Rattle.detection.proofs.LedCount.{leads_below, led-count}
 use Rattle.detection.proofs.TurnEffect.{Plain}
 use Rattle.detection.proofs.RoundKnowledge.{TurnTaken}
 use Rattle.latency.proofs.Rounds.{TestsBound}
@@ -65,10 +66,6 @@ due-leads n L r i m long hi li clear is_due =
     let own : LiveOf n L i ≡ true = rw (lt-ltb i n hi, li) in
     let more : (x : ℕ) → LiveOf n L x ≡ true → unsuspected r x ≡ true = λ x e. let v = live_of n L x e in clear x v.0 v.1 in
     rw (rw long at here, first-narrow (unsuspected r) (LiveOf n L) (station_at i m) (level m) i more own parts.1)
-
--- at how many of the distances below b station i leads the group of a station
-abbrev pub leads_below : ℕ → (ℕ → Bool) → ℕ → ℕ → ℕ
-leads_below n L i b = sum_below (λ m. bit (leads_at n L i m)) b
 
 leads-grow : (n : ℕ) (L : ℕ → Bool) (i a b : ℕ) → a ≤ b → leads_below n L i a ≤ leads_below n L i b
 leads-grow n L i a b h =
@@ -155,44 +152,10 @@ module _ (n : ℕ) (L : ℕ → Bool) (t' : List ℕ) (s : State) (e : Entry) (p
       let next = turn.heads.others k next_column q (omega arith) in
       rw (tests, next) (led k h l))
 
--- a sum over all numbers whose terms for the absent ones are 0
-present-sum : (n : ℕ) (f : ℕ → ℕ) → n ≤ distances n → ((i : ℕ) → n ≤ i → f i ≡ 0) → sum_below f (distances n) ≡ sum_below f n
-present-sum n f low none = sum-stays f n (distances n) low (λ i a b. none i a)
-
--- all distances at which live stations lead groups are as many as the count says; T has the live set
+-- all tests of live stations; T has the live set
 module _ (n : ℕ) (T : List ℕ) (low : n ≤ distances n) where
   abbrev L : ℕ → Bool
   L = live n T
-
-  -- who is not a live station leads nobody's group
-  pub leads-none : (i m : ℕ) → LiveOf n L i ≡ false → bit (leads_at n L i m) ≡ 0
-  leads-none i m e =
-      let none : leads_at n L i m ≡ false = rw (first-not (LiveOf n L) (station_at i m) (level m) i e, and-false) in
-      ap bit none
-
-  all_led : sum_below (λ i. leads_below n L i (distances n)) (distances n) ≡ sum_below (λ i. leads_below n L i (distances n)) n
-  all_led = present-sum n _ low (λ i a. sum-zero (distances n) (λ m b. leads-none i m (rw (le-ltb i n a))))
-
-  pairs : sum_below (λ j. sum_below (λ h. bit (is_present n j && nobody (LiveOf n L) j (suc h))) (dimension n)) (distances n)
-      ≡ pairs_without_live n T
-  unfolding pairs_without_live group_without_live
-  pairs =
-      present-sum n _ low (λ j a. sum-zero (dimension n) (λ h b. rw (le-ltb j n a)))
-      ∙ sum_by n (λ j a. sum_by (dimension n) (λ h b. rw (lt-ltb j n a)))
-
-  stations : sum_below (λ j. cond (is_present n j) (dimension n) 0) (distances n) ≡ n * dimension n
-  stations =
-      present-sum n _ low (λ j a. rw (le-ltb j n a))
-      ∙ (sum_by {g = λ j. dimension n} n (λ j a. rw (lt-ltb j n a)) ∙ sum-const (dimension n) n)
-
-  split : sum_below (λ i. leads_below n L i (distances n)) (distances n)
-      + sum_below (λ j. sum_below (λ h. bit (is_present n j && nobody (LiveOf n L) j (suc h))) (dimension n)) (distances n)
-      ≡ sum_below (λ j. cond (is_present n j) (dimension n) 0) (distances n)
-  unfolding distances
-  split = tests-and-rest (is_present n) (LiveOf n L) (dimension n)
-
-  pub led-count : sum_below (λ i. leads_below n L i (distances n)) n ≡ tests_per_round n T
-  led-count = omega (arith, split, all_led, pairs, stations)
 
   pub led-within : (t : List ℕ) → Plain wiring_cube n L t → Led n L t → sum_below (λ i. cond (L i) (tests_made n t i) 0) n ≤ tests_per_round n T
   led-within t plain led =
@@ -203,7 +166,7 @@ module _ (n : ℕ) (T : List ℕ) (low : n ≤ distances n) where
       let last : next_distance n t i ≤ distances n = rw (end-cube n) at (plain.lines.1 i h).pass.next_high in
       rw l (omega (arith, led i h l, leads-grow n L i (next_distance n t i) (distances n) last)))
       (λ l. rw l (omega arith)) in
-      omega (arith, sum-le n each, led-count)
+      omega (arith, sum-le n each, led-count n T low)
 
 -- what bounds the tests on the cube
 abbrev pub cube-tests : (n : ℕ) → is_size n ≡ true → TestsBound wiring_cube n

@@ -28,10 +28,10 @@ use Rattle.detection.proofs.OneTurn.{all_append}
 use Rattle.detection.proofs.Chain.{WiredChain, ends, next, chain_first}
 use Rattle.detection.proofs.DriveRuns.{driving-at}
 use Rattle.detection.proofs.RoundKnowledge.{InRound}
-use Rattle.detection.proofs.DetectionClaim.{trusts}
+use Rattle.detection.proofs.DetectionClaim.{trusts, plain-at, first_round}
 use Rattle.latency.specs.Bound.{turns_per_round, turns_until_known, AllKnow, DriveWithin, grants_of, DrivesKnownWithin}
 use Rattle.latency.specs.Crash.{DrivesKnownFromAnyMoment}
-use Rattle.latency.proofs.Known.{Quiet, plain-at, first-inv, Facts, facts, known-from-now}
+use Rattle.latency.proofs.Known.{Quiet, Facts, facts, known-from-now}
 
 -- two chains, one behind the other
 wired-append : {w n : ℕ} {s s' s'' : State} {xs ys : List Taken} → WiredChain w n s xs s' → WiredChain w n s' ys s'' → WiredChain w n s (xs ++ ys) s''
@@ -108,7 +108,7 @@ module _ (w n : ℕ) (s : State) (given : DetectionPremises w n s []) where
   shown = facts w n s.table given.wiring given.size given.two_live
 
   inv : Accepted w n s.table → InRound w n (live n s.table) s.table [] s.table
-  inv ok = first-inv w n s.table ok given.start (trusts w n s.table ok given.accurate)
+  inv ok = first_round w n s.table ok given.start (trusts w n s.table ok given.accurate)
 
   module _ (last : ℕ) (g : Grantable w n s.table last) where
     few : (k : ℕ) → ((j : ℕ) → j < k → stops w n (stand_at s last) j ≡ false) → k ≤ turns_per_round w n s.table

@@ -9,22 +9,20 @@ use Prim.Native.Nat.{ℕ, suc, ◌+◌, ◌*◌, ◌≤◌, ◌<◌}
 use native.Mathlib.Nat.{mul-le-mul}
 use native.Mathlib.Decide.{dec_lt}
 use native.Mathlib.Omega.{arith}
-use borrow.Author.Tests.{eqb-true, not-true}
+use borrow.Author.Tests.{not-true}
 use lib.ListN.{length, get_or}
 use Rattle.lists.proofs.BoolLaws.{by_bool}
-use Rattle.lists.proofs.SearchLaws.{both, every-at}
+use Rattle.lists.proofs.SearchLaws.{both}
 use Rattle.table.specs.Sizes.{is_size}
 use Rattle.table.specs.Wiring.{wiring_cube, wiring_ring, wiring_check}
-use Rattle.table.specs.Table.{suspects, live}
+use Rattle.table.specs.Table.{live}
 use Rattle.table.specs.Rules.{round_over}
-use Rattle.table.specs.Properties.{line_at_start, at_start, live_count}
+use Rattle.table.specs.Properties.{live_count}
 use Rattle.table.proofs.SizeLaws.{size-bounds}
 use Rattle.table.proofs.Accepting.{Accepted}
-use Rattle.table.proofs.CellLaws.{accepted-line}
 use Rattle.plant.specs.Round.{after_round}
 use Rattle.plant.specs.Entry.{Entry, State, is_crash, entry_refusal, acted, after}
 use Rattle.plant.proofs.RulesKept.{accepted-kept}
-use Rattle.plant.proofs.RoundLaws.{Reset}
 use Rattle.granter.proofs.TurnsLeft.{all_left, all-left-most, turn-left}
 use Rattle.detection.specs.Runs.{Taken, crashes, is_late}
 use Rattle.detection.specs.Rounds.{all_taken, cut}
@@ -32,15 +30,15 @@ use Rattle.detection.specs.Claim.{all_rounds, worst_rounds}
 use Rattle.detection.proofs.TakenLaws.{taken_at}
 use Rattle.detection.proofs.Chain.{WiredChain, ends, next}
 use Rattle.detection.proofs.TurnEffect.{Plain, Company}
-use Rattle.detection.proofs.RoundKnowledge.{InRound, round-start, restart, TurnTaken, RoundKnowledge}
-use Rattle.detection.proofs.Course.{course}
+use Rattle.detection.proofs.RoundKnowledge.{InRound, restart, TurnTaken, RoundKnowledge}
+use Rattle.detection.proofs.Course.{taken-turn, course}
 use Rattle.detection.proofs.DetectionClaim.{company-of, someone, on-each}
 use Rattle.latency.specs.Bound.{turns_per_round, turns_until_known, RoundWithin, AllKnow}
 use Rattle.detection.proofs.Cube.{cube}
 use Rattle.detection.proofs.RingKnowledge.{ring}
 use Rattle.latency.proofs.CubeTests.{cube-tests}
 use Rattle.latency.proofs.RingTests.{ring-tests}
-use Rattle.latency.proofs.Rounds.{TestsBound, taken-turn, going-start, AllWithin, all-within}
+use Rattle.latency.proofs.Rounds.{TestsBound, going-start, AllWithin, all-within}
 
 -- no crash and no late reply among the entries
 pub record Quiet (xs : List Taken) : Type 0 where
@@ -63,23 +61,6 @@ pub record Started (w n : ℕ) (L : ℕ → Bool) (xs : List Taken) (s' : State)
   pub inv : InRound w n L from.table [] from.table
   pub quiet : Quiet xs
   pub enough : total ≤ length xs
-
--- such a table
-pub plain-at : (w n : ℕ) (t : List ℕ) → Accepted w n t → ((i j : ℕ) → i < n → j < n → live n t i ≡ true → live n t j ≡ true → suspects n t i j ≡ 0)
-    → Plain w n (live n t) t
-plain-at w n t ok clean = record { lines = (ok.long, accepted-line w n t ok); lives = λ i h. refl; accurate = clean }
-
--- the first table of a list, at the start of a round
-pub first-inv : (w n : ℕ) (t : List ℕ) → Accepted w n t → at_start n t ≡ true
-    → ((i j : ℕ) → i < n → j < n → live n t i ≡ true → live n t j ≡ true → suspects n t i j ≡ 0) → InRound w n (live n t) t [] t
-unfolding at_start
-first-inv w n t ok start clean = round-start w n (live n t) t (plain-at w n t ok clean) fresh
-  where
-    fresh : (i : ℕ) → i < n → Reset n t i
-    fresh i h =
-        let all = both _ _ (every-at (line_at_start n t) n i start h) in
-        let head = both _ _ all.0 in
-        record { next = eqb-true _ 1 head.0; unfinished = eqb-true _ 0 head.1; untested = eqb-true _ 0 all.1 }
 
 -- a chain without crashes and late replies from the middle of a round on; T has the live set
 module _ (w n : ℕ) (T : List ℕ) (two : 2 ≤ live_count n T) where

@@ -3,12 +3,12 @@
 use Rattle.std.specs.Prelude.{Ok}
 use mathlib.Core.Path.{◌≡◌, refl, sym, ap, ◌∙◌, subst}
 use mathlib.Core.Logic.{◌⊎◌, inl, inr, by_cases}
-use mathlib.Core.Bool.{Bool, true, false, cond, not, true≢false}
+use mathlib.Core.Bool.{Bool, true, false, cond, not}
 use mathlib.Core.List.{List, [], ◌∷◌, ◌++◌}
 use Prim.Native.Nat.{ℕ, suc, ◌+◌, ◌-◌, ◌≤◌, ◌<◌}
 use native.Mathlib.Decide.{ℕ_discrete}
 use native.Mathlib.Omega.{arith}
-use borrow.Author.Tests.{not-true, eq-eqb, ne_eqb}
+use borrow.Author.Tests.{not-true, eqb-true, eq-eqb, ne_eqb}
 use lib.Dec.{eqb}
 use lib.ListN.{length}
 use Rattle.lists.specs.Sums.{sum_below, bit}
@@ -28,22 +28,23 @@ use Rattle.plant.specs.Round.{reset_lines, after_round}
 use Rattle.plant.specs.Entry.{Entry, State, is_crash, entry_refusal, acted, after}
 use Rattle.plant.proofs.RulesKept.{acted-lines, accepted-kept}
 use Rattle.plant.proofs.RoundLaws.{reset-cells, reset-other}
-use Rattle.detection.specs.Runs.{Call, Taken, after_runs, taken_all, is_late, table_after}
+use Rattle.detection.specs.Runs.{Call, Taken, after_runs, taken_all, is_late, is_on, table_after}
 use Rattle.detection.specs.Rounds.{all_taken}
 use Rattle.detection.proofs.TakenLaws.{taken_at}
-use Rattle.detection.proofs.OneTurn.{all_append}
 use Rattle.detection.proofs.Chain.{WiredChain, ends, next, on-wiring, chain_first, chain-all}
-use Rattle.detection.proofs.Fates.{Fate, stays, leaves, hears, after-fate}
-use Rattle.detection.proofs.DetectionClaim.{trusts, company-of, on-each}
+use Rattle.detection.proofs.Parts.{Parted, parted}
+use Rattle.detection.proofs.Fates.{was-live}
+use Rattle.detection.proofs.DetectionClaim.{trusts, company-of, plain-at, first_round, on-each}
+use Rattle.detection.proofs.Course.{taken-turn}
 use Rattle.detection.proofs.DrivenDetection.{mixed-left}
 use Rattle.detection.specs.Driven.{runs_of_mixed}
 use Rattle.detection.proofs.TurnEffect.{Plain}
 use Rattle.detection.proofs.RoundKnowledge.{TurnTaken}
 use Rattle.latency.specs.Crash.{turns_from_crash, LastCrash, KnownFromCrash, MixedKnownFromCrash}
 use Rattle.latency.specs.Bound.{turns_per_round, turns_until_known, AllKnow}
-use Rattle.latency.proofs.Rounds.{TestsBound, taken-turn}
+use Rattle.latency.proofs.Rounds.{TestsBound}
 use Rattle.latency.proofs.CubeTests.{cube-tests}
-use Rattle.latency.proofs.Known.{Quiet, plain-at, first-inv, rest-of-round, on-the-ring, facts}
+use Rattle.latency.proofs.Known.{Quiet, rest-of-round, on-the-ring, facts}
 
 -- no live station suspects a live one
 abbrev Clean : ℕ → List ℕ → Type 0
@@ -54,19 +55,10 @@ module _ (w n : ℕ) (s : State) (e : Entry) (ok : Accepted w n s.table) (z : en
   abbrev t' : List ℕ
   t' = (after w n s e).table
 
-  -- who is live after it was so before
-  was-live : (k : ℕ) → k < n → live n t' k ≡ true → live n s.table k ≡ true
-  was-live k hk l = by-fate (after-fate w n s e ok z k hk)
-    where
-      by-fate : Fate n s.table t' k → live n s.table k ≡ true
-      by-fate (stays p) = rw (← p.0) l
-      by-fate (leaves a low p q) = a
-      by-fate (hears b hb f) = f.was_live
-
   fewer-live : live_count n t' ≤ live_count n s.table
   unfolding live_count
   fewer-live =
-      sum-le n (λ k h. by_bool (live n t' k) (λ l. omega (arith, ap bit l, ap bit (was-live k h l))) (λ l. omega (arith, ap bit l)))
+      sum-le n (λ k h. by_bool (live n t' k) (λ l. omega (arith, ap bit l, ap bit (was-live w n s e ok z k h l))) (λ l. omega (arith, ap bit l)))
 
   -- next distances and tests of a table that has the cells that count in turns
   abbrev SameTurns : List ℕ → List ℕ → Type 0
@@ -91,12 +83,12 @@ module _ (w n : ℕ) (s : State) (e : Entry) (ok : Accepted w n s.table) (z : en
   clean-crash c clean i j hi hj li lj =
       let same : suspects n (acted w n s.table e) i j ≡ suspects n s.table i j =
       rw c (cell_other n s.table e.station status_column status_crashed i (head + j) (omega arith) (omega arith) (λ _. omega arith)) in
-      rows-stay i j hj ∙ same ∙ clean i j hi hj (was-live i hi li) (was-live j hj lj)
+      rows-stay i j hj ∙ same ∙ clean i j hi hj (was-live w n s e ok z i hi li) (was-live w n s e ok z j hj lj)
 
   clean-turn : is_crash e ≡ false → is_late (taken_at w n s e) ≡ false → 2 ≤ live_count n s.table → Clean n s.table → Clean n t'
   clean-turn c in_time two clean i j hi hj li lj =
       let turn = taken-turn w n (live n s.table) (company-of n s.table two) s e ok z (plain-at w n s.table ok clean) c in_time in
-      rows-stay i j hj ∙ turn.kept.plain.accurate i j hi hj (was-live i hi li) (was-live j hj lj)
+      rows-stay i j hj ∙ turn.kept.plain.accurate i j hi hj (was-live w n s e ok z i hi li) (was-live w n s e ok z j hj lj)
 
 fewer-after : {w n : ℕ} {s s' : State} {xs : List Taken} → WiredChain w n s xs s' → live_count n s'.table ≤ live_count n s.table
 fewer-after ends = omega arith
@@ -201,38 +193,6 @@ module _ (w n : ℕ) (B : TestsBound w n) where
         let f = facts w n T wired size two in
         f.known (rest-of-round w n T two (B.Fits L) left_of left-less chain p fits quiet (turns_until_known w n T) f.some (omega arith)).1
 
--- a chain in two parts, of which the first ends with x
-record Parted (w n : ℕ) (s : State) (before : List Taken) (x : Taken) (rest : List Taken) (s' : State) : Type 0 where
-  pub first : WiredChain w n s (before ++ (x ∷ [])) (after x.wiring x.size x.before x.entry)
-  pub ok : Accepted w n (table_after x)
-  pub last : WiredChain w n (after x.wiring x.size x.before x.entry) rest s'
-
-abbrev head_or : Taken → List Taken → Taken
-head_or d [] = d
-head_or d (x ∷ xs) = x
-
-abbrev tail : List Taken → List Taken
-tail [] = []
-tail (x ∷ xs) = xs
-
-abbrev is_nil : List Taken → Bool
-is_nil [] = true
-is_nil (x ∷ xs) = false
-
-parted : {w n : ℕ} {s s' : State} {ys : List Taken} → WiredChain w n s ys s' → (before : List Taken) (x : Taken) (rest : List Taken)
-    → ys ≡ before ++ (x ∷ rest) → Parted w n s before x rest s'
-parted ends [] x rest p = absurd (true≢false (ap is_nil p))
-parted ends (y ∷ before) x rest p = absurd (true≢false (ap is_nil p))
-parted {w} {n} {s} {s'} (next {xs = xs} e ok z chain) [] x rest p =
-    let here : Parted w n s [] (taken_at w n s e) xs s' =
-    record { first = next e ok z ends; ok = accepted-kept w n s e ok z; last = chain } in
-    subst (λ (y : Taken). Parted w n s [] y rest s') (ap (head_or x) p)
-    (subst (λ (ys : List Taken). Parted w n s [] (taken_at w n s e) ys s') (ap tail p) here)
-parted {w} {n} {s} {s'} (next {xs = xs} e ok z chain) (y ∷ before) x rest p =
-    let r = parted chain before x rest (ap tail p) in
-    subst (λ (y : Taken). Parted w n s (y ∷ before) x rest s') (ap (head_or x) p)
-    (record { first = next e ok z r.first; ok = r.ok; last = r.last })
-
 -- what all entries pass, those of each part do
 all_parts : (q : Taken → Bool) (xs ys : List Taken) → all_taken q (xs ++ ys) ≡ true → (all_taken q xs ≡ true) × (all_taken q ys ≡ true)
 unfolding all_taken
@@ -245,41 +205,64 @@ all_parts q (x ∷ xs) ys a =
 -- on a wiring
 module _ (w n : ℕ) (B : TestsBound w n) (s : State) (calls : List Call) (before : List Taken) (x : Taken) (rest : List Taken)
     (given : LastCrash w n s calls before x rest) (far : turns_from_crash w n (table_after x) ≤ length rest) where
-  chain : WiredChain w n s (taken_all s calls) (after_runs s calls)
-  chain = on-wiring (chain-all n s calls given.long) given.one_wiring
+  part : Parted n s before x rest (after_runs s calls)
+  part = parted (chain-all n s calls given.long) before x rest given.parts
 
-  part : Parted w n s before x rest (after_runs s calls)
-  part = parted chain before x rest given.parts
+  -- what all entries pass, those before x do, x itself, and those behind it
+  each-part : (q : Taken → Bool) → all_taken q (taken_all s calls) ≡ true
+      → (all_taken q before ≡ true) × (q x ≡ true) × (all_taken q rest ≡ true)
+  unfolding all_taken
+  each-part q a =
+      let all = all_parts q before (x ∷ rest) (subst (λ (ys : List Taken). all_taken q ys ≡ true) given.parts a) in
+      let here = both (q x) (all_taken q rest) all.1 in
+      (all.0, here.0, here.1)
 
-  late : Taken → Bool
-  late y = not (is_late y)
+  wired : (all_taken (is_on w) before ≡ true) × (is_on w x ≡ true) × (all_taken (is_on w) rest ≡ true)
+  wired = each-part (is_on w) given.one_wiring
+
+  on : x.wiring ≡ w
+  on = eqb-true x.wiring w wired.1
+
+  same : taken_at w n x.before x.entry ≡ x
+  same = rw (← on, ← part.size) refl
+
+  -- the table that the crash leaves
+  abbrev t : List ℕ
+  t = (after w n x.before x.entry).table
+
+  left : table_after x ≡ t
+  left = ap table_after (sym same)
+
+  ok : Accepted w n x.before.table
+  ok = rw on at part.ok
+
+  upto : WiredChain w n s before x.before
+  upto = on-wiring part.first wired.0
+
+  behind : WiredChain w n (after w n x.before x.entry) rest (after_runs s calls)
+  behind = on-wiring (rw on at part.last) wired.2
 
   since : Accepted w n s.table → AllKnow n (table_after x) (after_runs s calls).table
-  unfolding all_taken late
-  since ok =
-      let all = all_parts late before (x ∷ rest) (subst (λ (ys : List Taken). all_taken late ys ≡ true) given.parts given.no_late) in
-      let here = both (late x) (all_taken late rest) all.1 in
-      let one : all_taken late (x ∷ []) ≡ true = rw here.0 in
-      let upto : all_taken late (before ++ (x ∷ [])) ≡ true = all_append late before (x ∷ []) all.0 one in
-      let clean = trusts w n s.table ok given.accurate in
-      let first = first-inv w n s.table ok given.start clean in
-      let st = steady-chain w n B part.first upto given.two_live (record { clean = clean; fits = B.starts (live n s.table) s.table first.fresh }) in
-      known-since w n B (table_after x) given.two_live given.wiring given.size part.last (plain-at w n (table_after x) part.ok st.clean) st.fits
-      (record { no_crash = given.no_more; no_late = here.1 }) (omega (arith, far))
+  since begin =
+      let clean = trusts w n s.table begin given.accurate in
+      let first = first_round w n s.table begin given.start clean in
+      let late = each-part (λ y. not (is_late y)) given.no_late in
+      let in_time : is_late (taken_at w n x.before x.entry) ≡ false = ap is_late same ∙ not-true _ late.1 in
+      let two : 2 ≤ live_count n t = rw (← left) given.two_live in
+      let now : 2 ≤ live_count n x.before.table = omega (arith, two, fewer-live w n x.before x.entry ok part.taken) in
+      let st = steady-chain w n B upto late.0 now (record { clean = clean; fits = B.starts (live n s.table) s.table first.fresh }) in
+      let then = steady-after w n B x.before x.entry ok part.taken in_time now st in
+      let plain = plain-at w n t (accepted-kept w n x.before x.entry ok part.taken) then.clean in
+      let enough : turns_from_crash w n t ≤ length rest = rw (← left) far in
+      rw left (known-since w n B t two given.wiring given.size behind plain then.fits
+      (record { no_crash = given.no_more; no_late = late.2 }) (omega (arith, enough)))
 
   from-crash : AllKnow n (table_after x) (after_runs s calls).table
-  from-crash = go (chain_first chain)
+  from-crash = go (chain_first upto)
     where
-      nothing : (ys : List Taken) → taken_all s calls ≡ ys → is_nil ys ≡ true → ⊥
-      nothing ys e nil = some before (rw (sym e ∙ given.parts) at nil)
-        where
-          some : (b : List Taken) → is_nil (b ++ (x ∷ rest)) ≡ true → ⊥
-          some [] q = true≢false (sym q)
-          some (y ∷ b) q = true≢false (sym q)
-
-      go : ((taken_all s calls ≡ []) × (after_runs s calls ≡ s)) ⊎ Accepted w n s.table → AllKnow n (table_after x) (after_runs s calls).table
-      go (inl none) = absurd (nothing [] none.0 refl)
-      go (inr ok) = since ok
+      go : ((before ≡ []) × (x.before ≡ s)) ⊎ Accepted w n s.table → AllKnow n (table_after x) (after_runs s calls).table
+      go (inl none) = since (rw none.1 at ok)
+      go (inr begin) = since begin
 
 -- ends in themselves
 pub known-from-crash : KnownFromCrash

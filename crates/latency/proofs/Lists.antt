@@ -15,11 +15,11 @@ use Rattle.detection.specs.Claim.{rounds_of, round_at, DetectionPremises}
 use Rattle.detection.specs.Driven.{runs_of_mixed}
 use Rattle.detection.proofs.Chain.{WiredChain, on-wiring, chain_first, chain-all}
 use Rattle.detection.proofs.RoundKnowledge.{InRound}
-use Rattle.detection.proofs.DetectionClaim.{trusts}
+use Rattle.detection.proofs.DetectionClaim.{trusts, plain-at, first_round}
 use Rattle.detection.proofs.DrivenDetection.{mixed-left}
 use Rattle.latency.specs.Bound.{turns_until_known, RoundWithin, RoundsWithin, AllKnow, KnownWithin, MixedKnownWithin}
 use Rattle.latency.specs.Crash.{KnownFromAnyMoment}
-use Rattle.latency.proofs.Known.{Quiet, plain-at, first-inv, Facts, facts, known-from-now}
+use Rattle.latency.proofs.Known.{Quiet, Facts, facts, known-from-now}
 
 -- from the start of a round on
 module _ (w n : ℕ) (s : State) (calls : List Call) (given : DetectionPremises w n s calls) where
@@ -30,7 +30,7 @@ module _ (w n : ℕ) (s : State) (calls : List Call) (given : DetectionPremises 
   quiet = record { no_crash = given.no_crash; no_late = given.no_late }
 
   inv : Accepted w n s.table → InRound w n (live n s.table) s.table [] s.table
-  inv ok = first-inv w n s.table ok given.start (trusts w n s.table ok given.accurate)
+  inv ok = first_round w n s.table ok given.start (trusts w n s.table ok given.accurate)
 
   shown : Facts w n s.table
   shown = facts w n s.table given.wiring given.size given.two_live

@@ -2,7 +2,7 @@
 -- too, and so all turns by the rounds that have closed.
 -- Assumes nothing.
 use mathlib.Core.Path.{◌≡◌, refl, sym, ap, ◌∙◌}
-use mathlib.Core.Bool.{Bool, true, false, cond, not, and-true}
+use mathlib.Core.Bool.{Bool, true, false, cond, not}
 use mathlib.Core.List.{List, [], ◌∷◌, ◌++◌}
 use mathlib.Core.Logic.{◌≢◌}
 use Prim.Native.Nat.{ℕ, zero, suc, ◌+◌, ◌*◌, ◌≤◌, ◌<◌}
@@ -20,14 +20,10 @@ use Rattle.table.specs.Table.{next_distance, finished, tests_made, live}
 use Rattle.table.specs.Properties.{live_count}
 use Rattle.table.specs.Rules.{not_live, some_live, round_over}
 use Rattle.table.proofs.Accepting.{Accepted}
-use Rattle.station.specs.Wired.{wired_station}
-use Rattle.plant.specs.Turn.{kind_turn, kind_late, kind_crash, makes_test, next_test, turn_tested, outcome_at}
 use Rattle.plant.specs.Round.{reset_lines, after_round}
-use Rattle.plant.specs.Entry.{Entry, State, is_crash, entry_refusal, acted, after, tested_of}
-use Rattle.plant.proofs.RulesKept.{Takes, entry-facts, accepted-kept}
-use Rattle.plant.proofs.NextTest.{test-station}
+use Rattle.plant.specs.Entry.{Entry, State, is_crash, entry_refusal, acted, after}
+use Rattle.plant.proofs.RulesKept.{accepted-kept}
 use Rattle.plant.proofs.RoundLaws.{Reset}
-use Rattle.plant.proofs.TurnHeads.{turn-heads}
 use Rattle.granter.specs.Grant.{granted}
 use Rattle.granter.proofs.GrantLaws.{granted-waits, waits-parts}
 use Rattle.detection.specs.Runs.{Taken, crashes, is_late, is_turn_of}
@@ -36,40 +32,11 @@ use Rattle.detection.specs.Claim.{all_rounds, count_of}
 use Rattle.detection.proofs.TakenLaws.{taken_at, count-snoc}
 use Rattle.detection.proofs.Chain.{WiredChain, ends, next}
 use Rattle.detection.proofs.Counting.{closes-is}
-use Rattle.detection.proofs.TurnEffect.{Plain, Company, turn-effect}
+use Rattle.detection.proofs.Course.{taken-turn}
+use Rattle.detection.proofs.TurnEffect.{Plain, Company}
 use Rattle.detection.proofs.DetectionClaim.{company-of, someone}
 use Rattle.detection.proofs.RoundKnowledge.{InRound, restart, TurnTaken, turn-in-round}
 use Rattle.latency.specs.Bound.{turns_per_round, RoundWithin}
-
--- a taken entry that is no crash and no late reply, in a table in which no live station suspects a live one: a turn of a live station
-module _ (w n : ℕ) (L : ℕ → Bool) (company : Company n L) (s : State) (e : Entry) (ok : Accepted w n s.table) (takes : entry_refusal n s e ≡ 0)
-    (p : Plain w n L s.table) (no_crash : is_crash e ≡ false) (in_time : is_late (taken_at w n s e) ≡ false) where
-  facts : Takes n s e
-  facts = entry-facts n s e takes
-
-  -- the reply of a live station
-  prompt : makes_test w n s.table e.station ≡ true → L (wired_station w n e.station (next_test w n s.table e.station)) ≡ true → e.kind ≡ kind_turn
-  unfolding tested_of turn_tested
-  prompt m l =
-      let x<n = test-station w n s.table e.station m ok.long facts.below in
-      let late : eqb e.kind kind_late ≡ false = simp and-true at (rw (no_crash, m, p.lives _ x<n ∙ l) at in_time) in
-      omega (arith, eqb-false e.kind kind_late late, eqb-false e.kind kind_crash no_crash, facts.kind_low, facts.kind_high)
-
-  pub taken-turn : TurnTaken w n L s e (acted w n s.table e)
-  unfolding acted
-  taken-turn =
-      let is_live : L e.station ≡ true = sym (p.lives e.station facts.below) ∙ facts.is_live in
-      let open-pass = facts.unfinished (eqb-false e.kind kind_crash no_crash) in
-      let going : finished n s.table e.station ≡ 0 = omega (arith, (p.lines.1 e.station facts.below).pass.finished_range) in
-      rw no_crash (record {
-        no_crash = no_crash;
-        below = facts.below;
-        is_live = is_live;
-        going = going;
-        outcome = outcome_at w n s.table e.kind e.station (next_test w n s.table e.station);
-        heads = turn-heads w n s.table e.kind e.station p.lines facts.below;
-        kept = turn-effect w n L s.table e.kind e.station p company facts.below is_live going prompt;
-      })
 
 -- what bounds the tests that live stations have made in a round, whoever tests whom: something that holds of live set and table where a round starts,
 -- and that turns keep, and crashes

@@ -7,8 +7,7 @@ use Prim.Native.Nat.{ℕ, suc, ◌+◌, ◌-◌, ◌*◌, ◌^◌, ◌≤◌, �
 use native.Mathlib.Nat.{suc-mul}
 use native.Mathlib.Omega.{arith}
 use lib.Dec.{eqb}
-use lib.ListN.{length, get_or, set}
-use lib.Seq.{set-set, set-get_or}
+use lib.ListN.{length, get_or}
 use Rattle.lists.specs.Sums.{bit}
 use Rattle.lists.proofs.BoolLaws.{by_bool}
 use Rattle.lists.proofs.SearchLaws.{list_of-length, list_of-at, greatest-le}
@@ -27,19 +26,14 @@ use Rattle.slots.proofs.MoreTests.{tests-sum}
 use Rattle.slots.proofs.UntestedLaws.{lists-counted}
 use Rattle.detection.specs.Claim.{worst_latency}
 use Rattle.detection.proofs.Knowledge.{row-due}
+use Rattle.detection.proofs.LedCount.{leads_below, leads-none, led-count}
 use Rattle.latency.specs.Bound.{turns_per_round}
 use Rattle.latency.specs.Figures.{turns_of, turns_by_row, known_with, most_until_known, FiguresCover}
-use Rattle.latency.proofs.CubeTests.{leads_below, leads-none, led-count}
 
 -- a number of one byte
 pub dimension-most : (n : ℕ) → n < 2 ^ 8 → dimension n ≤ 8
 unfolding dimension
 dimension-most n h = level-le (n - 1) 8 (omega arith)
-
--- a mark that is taken back
-pub mark-back : (r : List ℕ) (j : ℕ) → set (mark r j) j (get_or r j 0) ≡ r
-unfolding mark
-mark-back r j = set-set r j 1 (get_or r j 0) ∙ set-get_or r j 0
 
 -- the row that suspects just the dead boards of T
 module _ (n : ℕ) (T : List ℕ) (low : n ≤ distances n) where
@@ -72,7 +66,7 @@ module _ (n : ℕ) (T : List ℕ) (low : n ≤ distances n) where
   turns-of i h =
       by_bool (L i) (λ l. rw (alive i h ∙ l, l) (omega (arith, tests-of i)))
       (λ l.
-      let none : leads_below n L i (distances n) ≡ 0 = sum-zero (distances n) (λ m b. leads-none n T low i m (rw (l, and-false))) in
+      let none : leads_below n L i (distances n) ≡ 0 = sum-zero (distances n) (λ m b. leads-none n L i m (rw (l, and-false))) in
       rw (alive i h ∙ l, l) (omega (arith, none)))
 
   turns-by-row : turns_per_round wiring_cube n T ≡ turns_by_row n r

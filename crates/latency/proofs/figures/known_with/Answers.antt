@@ -2,7 +2,7 @@
 use Rattle.std.proofs.Common.{sym, ◌∙◌, arith}
 use Rattle.station.proofs.EntryLaws.{unsuspected-below}
 use Rattle.station.proofs.UnionLaws.{mark-length}
-use Rattle.latency.proofs.RowFigures.{mark-back}
+use Rattle.slots.proofs.MostLaws.{mark-back}
 use Rattle.latency.proofs.figures.known_with.Goals as goal
 
 pub bounds-row-at : goal.bounds-row-at
