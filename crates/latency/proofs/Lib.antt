@@ -6,3 +6,4 @@ pub mod Lists
 pub mod Drives
 pub mod LastCrash
 pub mod RowFigures
+pub mod WaitLaws

@@ -69,7 +69,7 @@ module _ (n : ℕ) (T : List ℕ) (low : n ≤ distances n) where
       let none : leads_below n L i (distances n) ≡ 0 = sum-zero (distances n) (λ m b. leads-none n L i m (rw (l, and-false))) in
       rw (alive i h ∙ l, l) (omega (arith, none)))
 
-  turns-by-row : turns_per_round wiring_cube n T ≡ turns_by_row n r
+  pub turns-by-row : turns_per_round wiring_cube n T ≡ turns_by_row n r
   unfolding turns_by_row live_count
   turns-by-row =
       omega (arith, sum_by n turns-of, sum-add (λ i. leads_below n L i (distances n)) (λ i. bit (L i)) n, led-count n T low)

@@ -2,3 +2,4 @@
 pub mod Bound
 pub mod Crash
 pub mod Figures
+pub mod Wait

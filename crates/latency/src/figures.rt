@@ -60,7 +60,7 @@ pub fn worst_rounds(n: u8) -> u32
 }
 
 // The turns that the live ones of n boards make in a round, by the row of the dead ones.
-fn turns_by_row(n: u8, row: &[u8]) -> u32
+pub(crate) fn turns_by_row(n: u8, row: &[u8]) -> u32
     ensures turns { result ≡ turns_by_row n row.now }
     ensures upper_bound { result ≤ 256 * n }
 {

@@ -3,6 +3,7 @@
 #![tactic(auto)]
 
 pub mod figures;
+pub mod wait;
 
 ghost use Rattle.latency.specs.Bound.{RoundsWithin, KnownWithin, MixedKnownWithin, DriveWithin, DrivesKnownWithin};
 ghost use Rattle.latency.specs.Crash.{KnownFromAnyMoment, DrivesKnownFromAnyMoment, KnownFromCrash, MixedKnownFromCrash};

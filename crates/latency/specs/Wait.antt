@@ -1,0 +1,24 @@
+-- How long a dead board may go unseen, by the number of the wiring, the size and the table, for all inputs: what the page shows.
+-- Assumes nothing.
+use Rattle.std.specs.Prelude.{ℕ, List, Result, Ok}
+use Rattle.lists.specs.declared.refusal.Refusal.{Refusal}
+use Rattle.lists.specs.Refusal.{◌and◌}
+use Rattle.table.specs.Rules.{numbered_table_check}
+use Rattle.detection.specs.Claim.{worst_rounds}
+use Rattle.latency.specs.Bound.{turns_per_round, turns_until_known}
+use Rattle.latency.specs.Crash.{turns_from_crash}
+use Rattle.latency.specs.declared.wait.Wait.{Wait}
+
+-- the rounds of the worst case, the turns of a round, the turns until all is known from the start of a round, and from a crash
+abbrev pub wait_on : ℕ → ℕ → List ℕ → Wait
+wait_on w n t =
+    record {
+      rounds = worst_rounds w n;
+      turns_per_round = turns_per_round w n t;
+      turns_until_known = turns_until_known w n t;
+      turns_from_crash = turns_from_crash w n t;
+    }
+
+-- Rule Wait: these four on the wiring with number w; refusals 24 and 1 to 4
+unfoldable pub wait_answer : ℕ → ℕ → List ℕ → Result Wait Refusal
+wait_answer w n t = numbered_table_check w n t and Ok (wait_on w n t)
