@@ -1,5 +1,4 @@
-// How long a dead board may go unseen, by wiring, size and table (specs/Wait.antt): what the page shows, and in the ways of the figures.
-
+// How long a dead board may go unseen, by wiring, size and table.
 ghost use Rattle.std.specs.Prelude.{◌≡◌, ◌≤◌, ◌*◌};
 ghost use Rattle.table.specs.Wiring.{wiring_number};
 ghost use Rattle.table.specs.Properties.{live_count, exact_row};
