@@ -1,21 +1,21 @@
--- The list of taken entries: a suspicion after it has its cause in it; its entries one by one; the entry at which a station left because told.
+-- The list of taken entries: a suspicion after it has its cause in it; the entry at which a station left because told.
 -- Assumes nothing.
-use mathlib.Core.Path.{◌≡◌, refl, sym, ap, subst}
+use mathlib.Core.Path.{◌≡◌, refl, sym, ap}
 use mathlib.Core.Logic.{inl, inr}
-use mathlib.Core.Bool.{Bool, true, false, or-true, true≢false}
+use mathlib.Core.Bool.{Bool, true, or-true, true≢false}
 use mathlib.Core.List.{List, [], ◌∷◌, ◌++◌}
 use Prim.Native.Nat.{ℕ, ◌<◌}
 use Rattle.table.specs.Table.{live}
 use Rattle.lists.proofs.BoolLaws.{by_bool}
-use Rattle.table.proofs.Accepting.{Accepted}
-use Rattle.plant.specs.Entry.{State, entry_refusal, after}
+use Rattle.plant.specs.Entry.{State, after}
 use Rattle.detection.specs.Runs.{Taken, table_after}
 use Rattle.detection.specs.Rounds.{any_taken}
 use Rattle.detection.specs.Ceased.{LeftTold, since_ceased, FirstTold}
 use Rattle.detection.proofs.TakenLaws.{taken_at}
 use Rattle.detection.proofs.Chain.{Chain, done, more}
+use Rattle.detection.proofs.Fates.{was-live}
 use Rattle.accuracy.specs.Cause.{IsSuspected, late_of, HasCause}
-use Rattle.accuracy.proofs.Step.{CauseAt, new-suspicion, was-live}
+use Rattle.accuracy.proofs.Step.{CauseAt, new-suspicion}
 
 -- what one of the first entries is, one of all is
 pub any-before : (q : Taken → Bool) (xs ys : List Taken) → any_taken q xs ≡ true → any_taken q (xs ++ ys) ≡ true
@@ -52,39 +52,6 @@ cause-chain {n} (more {s} {xs = xs} w e a z c) j hj p = first (cause-chain c j h
         let lj = was-live w n s e a z j hj q.2.of_live in
         at (new-suspicion w n s e a z q.0 j q.1 hj lk lj q.2.suspected)
     first (inr l) = inr (rw (l, or-true))
-
--- an entry of the list: those before it lead to what it finds, and it was taken
-pub record Parted (n : ℕ) (s : State) (before : List Taken) (x : Taken) (rest : List Taken) (s' : State) : Type 0 where
-  pub first : Chain n s before x.before
-  pub size : x.size ≡ n
-  pub ok : Accepted x.wiring n x.before.table
-  pub taken : entry_refusal n x.before x.entry ≡ 0
-  pub last : Chain n (after x.wiring n x.before x.entry) rest s'
-
-abbrev head_or : Taken → List Taken → Taken
-head_or d [] = d
-head_or d (x ∷ xs) = x
-
-abbrev tail : List Taken → List Taken
-tail [] = []
-tail (x ∷ xs) = xs
-
-abbrev is_nil : List Taken → Bool
-is_nil [] = true
-is_nil (x ∷ xs) = false
-
-pub parted : {n : ℕ} {s s' : State} {ys : List Taken} → Chain n s ys s' → (before : List Taken) (x : Taken) (rest : List Taken)
-    → ys ≡ before ++ (x ∷ rest) → Parted n s before x rest s'
-parted done [] x rest e = absurd (true≢false (ap is_nil e))
-parted done (y ∷ before) x rest e = absurd (true≢false (ap is_nil e))
-parted {n} {s' = s'} (more {s} {xs = xs} w e a z c) [] x rest p =
-    let here : Parted n s [] (taken_at w n s e) xs s' = record { first = done; size = refl; ok = a; taken = z; last = c } in
-    subst (λ (y : Taken). Parted n s [] y rest s') (ap (head_or x) p)
-    (subst (λ (ys : List Taken). Parted n s [] (taken_at w n s e) ys s') (ap tail p) here)
-parted {n} {s' = s'} (more {s} {xs = xs} w e a z c) (y ∷ before) x rest p =
-    let r = parted c before x rest (ap tail p) in
-    subst (λ (y : Taken). Parted n s (y ∷ before) x rest s') (ap (head_or x) p)
-    (record { first = more w e a z r.first; size = r.size; ok = r.ok; taken = r.taken; last = r.last })
 
 -- the entry at which station i left because told by b
 pub record ToldAt (n : ℕ) (xs : List Taken) (i b : ℕ) : Type 0 where

@@ -4,7 +4,7 @@ use mathlib.Core.Path.{◌≡◌, refl, sym, subst, ◌∙◌}
 use mathlib.Core.Logic.{◌≢◌, ◌⊎◌, inl, inr}
 use mathlib.Core.Bool.{Bool, true, false, not, ◌&&◌, true≢false}
 use mathlib.Core.List.{List, [], ◌∷◌, ◌++◌, append_assoc, map}
-use Prim.Native.Nat.{ℕ, zero, suc, ◌+◌, ◌≤◌, ◌<◌}
+use Prim.Native.Nat.{ℕ, ◌+◌, ◌≤◌, ◌<◌}
 use native.Mathlib.Omega.{arith}
 use borrow.Author.Tests.{eqb-true, not-true}
 use lib.Dec.{eqb}
@@ -21,24 +21,22 @@ use Rattle.plant.specs.Turn.{outcome_tested_told, makes_test, turn_tested, turn_
 use Rattle.plant.specs.Entry.{Entry, State, is_crash, entry_refusal, after, tested_of, outcome_of}
 use Rattle.plant.proofs.RulesKept.{entry-facts}
 use Rattle.plant.proofs.RunLaws.{accepted-number}
-use Rattle.detection.specs.Runs.{Call, Taken, turn_run, after_runs, taken_all, table_after, is_late, crashes}
-use Rattle.detection.specs.Rounds.{all_taken, any_taken, count_taken}
+use Rattle.detection.specs.Runs.{Call, Taken, after_runs, taken_all, table_after, is_late, crashes}
+use Rattle.detection.specs.Rounds.{any_taken, count_taken}
 use Rattle.detection.specs.Boards.{station_tested}
-use Rattle.detection.specs.Driven.{runs_of, runs_of_drive, RunOrDrive, a_drive, after_one, runs_of_mixed, after_mixed, runs_of_drives}
-use Rattle.granter.specs.Drive.{Stand, stand_at, granted_at, after_grants, drive}
-use Rattle.detection.proofs.OneTurn.{runs_append, one_passes}
-use Rattle.detection.proofs.DriveRuns.{drive-is-turns}
+use Rattle.detection.specs.Driven.{RunOrDrive, a_drive, after_one, runs_of_mixed, after_mixed}
 use Rattle.detection.specs.Ceased.{LeftTold}
 use Rattle.detection.proofs.TakenLaws.{taken_at}
 use Rattle.detection.proofs.Chain.{Chain, chain-all}
+use Rattle.detection.proofs.Parts.{parted}
 use Rattle.detection.proofs.TestingPair.{testing-pair}
 use Rattle.detection.proofs.Fates.{teller-is-named}
 use Rattle.detection.proofs.ExitRecord.{exits-recorded}
-use Rattle.detection.proofs.DrivenDetection.{mixed-left}
+use Rattle.detection.proofs.DrivenDetection.{mixed-left, drives-pass}
 use Rattle.accuracy.specs.Cause.{IsSuspected, late_of, was_late, crash_of, has_crashed, HasCause}
 use Rattle.accuracy.specs.Accurate.{OnlyLateSuspected, ExitCause, ExitsHaveCauses, ToldHaveCauses, told_since, OneToldForEachLate, NoneLate, OneForEachLate, Accurate, RunsAccurate, MixedAccurate, DrivesTellNobody, AccurateAfter}
 use Rattle.accuracy.proofs.Step.{CauseAt, Fared, lives, crashed, told, alone, new-suspicion, fared}
-use Rattle.accuracy.proofs.Chains.{any-before, any-last, cause-before, cause-chain, parted, told-at}
+use Rattle.accuracy.proofs.Chains.{any-before, any-last, cause-before, cause-chain, told-at}
 use Rattle.accuracy.proofs.Sums.{bit-most, sum-most, two-hits, count-sum, any-counted, none-passes}
 use Rattle.accuracy.proofs.Quiet.{Calm, Left, stayed, left_told, left_crashed, calm-chain}
 
@@ -275,24 +273,9 @@ pub mixed-accurate : MixedAccurate
 mixed-accurate n s ys long = subst (Accurate n s (runs_of_mixed s ys)) (mixed-left s ys) (runs-accurate n s (runs_of_mixed s ys) long)
 
 -- drives have no late reply
-grants-prompt : (w n : ℕ) (s : State) (p : Stand) (k : ℕ) → all_taken (λ x. not (is_late x)) (taken_all s (runs_of w n p k)) ≡ true
-unfolding runs_of taken_all all_taken
-grants-prompt w n s p zero = refl
-grants-prompt w n s p (suc k) =
-    runs_append (λ x. not (is_late x)) s (runs_of w n p k) (turn_run w n (granted_at n (after_grants w n p k)) ∷ []) (grants-prompt w n s p k)
-    (one_passes w (λ x. not (is_late x)) (λ n s i. refl) n (after_runs s (runs_of w n p k)) (granted_at n (after_grants w n p k)))
-
-drives-prompt : (w n : ℕ) (s : State) (lasts : List ℕ) → all_taken (λ x. not (is_late x)) (taken_all s (runs_of_drives w n s lasts)) ≡ true
-unfolding runs_of_mixed taken_all all_taken
-drives-prompt w n s [] = refl
-drives-prompt w n s (last ∷ lasts) =
-    runs_append (λ x. not (is_late x)) s (runs_of_drive w n s last) (runs_of_drives w n (drive w n s last).state lasts)
-    (grants-prompt w n s (stand_at s last) (drive w n s last).grants)
-    (rw (drive-is-turns w n s last).left (drives-prompt w n (drive w n s last).state lasts))
-
 pub drives-tell-nobody : DrivesTellNobody
 drives-tell-nobody w n s lasts long none =
-    (mixed-accurate n s (map (a_drive w n) lasts) long).none_late none (drives-prompt w n s lasts)
+    (mixed-accurate n s (map (a_drive w n) lasts) long).none_late none (drives-pass w (λ x. not (is_late x)) (λ n s i. refl) n s lasts)
 
 -- of the last one of a list
 after-mixed-last : (s : State) (ys : List RunOrDrive) (y : RunOrDrive) → after_mixed s (ys ++ (y ∷ [])) ≡ after_one (after_mixed s ys) y

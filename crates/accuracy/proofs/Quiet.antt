@@ -1,6 +1,6 @@
 -- Stations whose replies are never late and that do not crash stay live as long as there are two of them, and then nobody leaves because alone.
 -- Assumes nothing.
-use mathlib.Core.Path.{◌≡◌, refl, sym, ◌∙◌}
+use mathlib.Core.Path.{◌≡◌, sym, ◌∙◌}
 use mathlib.Core.Logic.{◌≢◌, inl, inr}
 use mathlib.Core.Bool.{Bool, true, false, or-true, true≢false}
 use mathlib.Core.List.{List, ◌∷◌}
@@ -13,20 +13,10 @@ use Rattle.detection.specs.Runs.{Taken}
 use Rattle.detection.specs.Rounds.{any_taken}
 use Rattle.detection.proofs.TakenLaws.{taken_at}
 use Rattle.detection.proofs.Chain.{Chain, done, more}
-use Rattle.detection.proofs.Fates.{Fate, stays, leaves, hears, after-fate}
+use Rattle.detection.proofs.Fates.{was-live}
+use Rattle.detection.proofs.ExitRecord.{dead-chain}
 use Rattle.accuracy.specs.Cause.{IsSuspected, late_of, was_late, crash_of, has_crashed}
-use Rattle.accuracy.proofs.Step.{CauseAt, Fared, lives, crashed, told, alone, new-suspicion, fared, was-live}
-
--- a station that is not live keeps its status
-gone-stays : {n : ℕ} (k : ℕ) → k < n → {s s' : State} {xs : List Taken} → Chain n s xs s' → live n s.table k ≡ false
-    → status n s'.table k ≡ status n s.table k
-gone-stays k hk done d = refl
-gone-stays {n} k hk (more {s} {s'} w e a z c) d = let same = by-fate (after-fate w n s e a z k hk) in gone-stays k hk c (rw same d) ∙ same
-  where
-    by-fate : Fate n s.table (after w n s e).table k → status n (after w n s e).table k ≡ status n s.table k
-    by-fate (stays p) = p.0
-    by-fate (leaves l low p q) = absurd (true≢false (sym l ∙ d))
-    by-fate (hears b hb f) = absurd (true≢false (sym f.was_live ∙ d))
+use Rattle.accuracy.proofs.Step.{CauseAt, Fared, lives, crashed, told, alone, new-suspicion, fared}
 
 -- q picks those stations: for each station there is another of them
 module _ (n : ℕ) (q : ℕ → Bool) (others : (i : ℕ) → (j : ℕ) × (j < n) × (i ≢ j) × (q j ≡ true)) where
@@ -102,6 +92,6 @@ module _ (n : ℕ) (q : ℕ → Bool) (others : (i : ℕ) → (j : ℕ) × (j < 
 
       by : Fared w n s e i → (live n (after w n s e).table i ≡ true → Left xs s' i) → Left (x ∷ xs) s' i
       by (lives m) later = on (later m)
-      by (crashed d one) later = left_crashed (gone-stays i hi c (rw one) ∙ one) (rw d)
-      by (told two r) later = left_told (gone-stays i hi c (rw two) ∙ two)
+      by (crashed d one) later = left_crashed ((dead-chain i hi c (rw one)).0 ∙ one) (rw d)
+      by (told two r) later = left_told ((dead-chain i hi c (rw two)).0 ∙ two)
       by (alone r three all) later = absurd (accompanied w s e a z calm first i hi l all)

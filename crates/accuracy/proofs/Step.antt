@@ -255,12 +255,3 @@ module _ (w n : ℕ) (s : State) (e : Entry) (ok : Accepted w n s.table) (z : en
       by-fate (stays p) = lives (rw p.0 l)
       by-fate (leaves a low p q) = untold low p
       by-fate (hears b hb f) = told f.left (b, hb, record { by_live = f.teller_live; of_live = f.was_live; suspected = f.suspected })
-
-  -- a station that is live after the entry was live before it
-  pub was-live : (k : ℕ) → k < n → live n t' k ≡ true → live n t k ≡ true
-  was-live k hk l = by-fate (after-fate w n s e ok z k hk)
-    where
-      by-fate : Fate n t t' k → live n t k ≡ true
-      by-fate (stays p) = rw (← p.0) l
-      by-fate (leaves a low p q) = a
-      by-fate (hears b hb f) = f.was_live

@@ -62,11 +62,6 @@ unfolding any_taken count_taken
 any-counted q [] a = absurd (true≢false (sym a))
 any-counted q (x ∷ xs) a = by_bool (q x) (λ e. rw e (omega arith)) (λ e. rw e (omega (arith, any-counted q xs (rw e at a))))
 
-pub none-counted : (q : Taken → Bool) (xs : List Taken) → any_taken q xs ≡ false → count_taken q xs ≡ 0
-unfolding any_taken count_taken
-none-counted q [] a = refl
-none-counted q (x ∷ xs) a = by_bool (q x) (λ e. absurd (true≢false (rw e at a))) (λ e. rw e (omega (arith, none-counted q xs (rw e at a))))
-
 -- where no entry passes q, none passes a test that implies q
 pub none-passes : (q r : Taken → Bool) → ((x : Taken) → r x ≡ true → q x ≡ true) → (xs : List Taken) → all_taken (λ x. not (q x)) xs ≡ true
     → any_taken r xs ≡ false

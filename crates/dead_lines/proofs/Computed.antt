@@ -47,11 +47,12 @@ line-same : (i : ℕ) → i < 4 → live 4 worked i ≡ true → every (same_byt
 line-same i h l = rw l at (every-at same_line 4 i lines-same h)
 
 pub worked-pair : WorkedPair
-unfolding rounds_after leave_told run start_check table_check_on shape_check is_size table_length every wired_line_rules end_distance exit_rule row_rule some_live
-    live_finished cell line_start row set_row set_cell list_of go_on entries entry_check after acted sheet_line tested_of outcome_of turn turn_tested
-    turn_outcome crash reset_line reset_lines after_round after_steps next_test makes_test finish_pass next_after count_test replies is_told exchange_rows
-    suspect reply_outcome test_outcome after_outcome self_or_suspected is_alone after_alone after_test testing answer wired_station wired_due due first first_place least unsuspected
-    member width level dimension distances group full_group union union_byte joined_byte mark
+unfolding rounds_after leave_told run start_check table_check_on shape_check is_size table_length every wired_line_rules end_distance exit_rule
+    row_rule some_live live_finished cell line_start row set_row set_cell list_of go_on entries entry_check after acted sheet_line tested_of
+    outcome_of turn turn_tested turn_outcome crash reset_line reset_lines after_round after_steps next_test makes_test finish_pass next_after
+    count_test replies is_told exchange_rows suspect reply_outcome test_outcome after_outcome self_or_suspected is_alone after_alone after_test
+    testing answer wired_station wired_due due first first_place least unsuspected member width level dimension distances group full_group union
+    union_byte joined_byte mark
 worked-pair = record {
   alike = record {
     valid = refl;
@@ -68,9 +69,10 @@ worked-pair = record {
 }
 
 pub each-is-needed : EachIsNeeded
-unfolding rounds_after leave_told run start_check table_check_on shape_check is_size table_length every wired_line_rules end_distance exit_rule row_rule some_live
-    live_finished cell line_start row set_row set_cell list_of go_on entries entry_check after acted sheet_line tested_of outcome_of turn turn_tested
-    turn_outcome crash reset_line reset_lines after_round after_steps next_test makes_test finish_pass next_after count_test replies is_told exchange_rows
-    suspect reply_outcome test_outcome after_outcome self_or_suspected is_alone after_alone after_test testing answer wired_station wired_due due first first_place least unsuspected
-    member width level dimension distances group full_group union union_byte joined_byte mark
+unfolding rounds_after leave_told run start_check table_check_on shape_check is_size table_length every wired_line_rules end_distance exit_rule
+    row_rule some_live live_finished cell line_start row set_row set_cell list_of go_on entries entry_check after acted sheet_line tested_of
+    outcome_of turn turn_tested turn_outcome crash reset_line reset_lines after_round after_steps next_test makes_test finish_pass next_after
+    count_test replies is_told exchange_rows suspect reply_outcome test_outcome after_outcome self_or_suspected is_alone after_alone after_test
+    testing answer wired_station wired_due due first first_place least unsuspected member width level dimension distances group full_group union
+    union_byte joined_byte mark
 each-is-needed = record { fresh = refl; live_line = refl; status = refl; valid = refl }

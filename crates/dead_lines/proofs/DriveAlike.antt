@@ -149,7 +149,8 @@ module _ (w n : ℕ) (s r : State) (a : Alike w n s r) (last : ℕ) (z : grant_r
       record {
         answer = rw (ended-same made (omega arith), x.both.rounds, x.both.tests, x.last);
         left =
-            stays w n s r _ _ (alike-both w n s r a) x.step (accepted-number w n _ x.ok) (accepted-number w n _ x.other_ok) x.both.rounds x.both.tests;
+            stays w n s r _ _ (alike-both w n s r a) x.step (accepted-number w n _ x.ok) (accepted-number w n _ x.other_ok) x.both.rounds
+            x.both.tests;
       }
 
   drive-same : SameDrive w n s r (drive w n s last) (drive w n r last)
@@ -157,7 +158,8 @@ module _ (w n : ℕ) (s r : State) (a : Alike w n s r) (last : ℕ) (z : grant_r
       let z' : grant_refusal w n r.table last ≡ 0 = sym (ap number_of_result (grant-checked w n s r a w n last (λ _. refl))) ∙ z in
       rw (← drive-made w n s last made z stop, ← drive-made w n r last made z' other-stop) made-same
 
-refused : (w n : ℕ) (s r : State) → Alike w n s r → (number last : ℕ) → SameDrive w n s r (drive_outcome number s last 0) (drive_outcome number r last 0)
+refused : (w n : ℕ) (s r : State) → Alike w n s r → (number last : ℕ)
+    → SameDrive w n s r (drive_outcome number s last 0) (drive_outcome number r last 0)
 refused w n s r a number last = record { answer = rw (a.rounds, a.tests); left = stay-still w n s r a }
 
 -- a drive, an end in itself

@@ -4,6 +4,7 @@ pub mod Rounds
 pub mod Claim
 pub mod Boards
 pub mod Driven
+pub mod InList
 pub mod Exits
 pub mod Ceased
 pub mod Timing

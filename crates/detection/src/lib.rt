@@ -15,8 +15,7 @@ ghost use Rattle.plant.specs.Entry.{state_with};
 ghost use Rattle.plant.specs.Run.{outcome_with, run};
 ghost use Rattle.detection.specs.Runs.{call_of, CountsTaken};
 ghost use Rattle.granter.specs.Drive.{drive_outcome_with, drive, StoppedIfTaken};
-ghost use Rattle.detection.specs.Claim.{DetectionAfter, square_rounds, triangle_rounds, worst_rounds};
-ghost use Rattle.detection.specs.Driven.{DrivenDetectionAfter};
+ghost use Rattle.detection.specs.InList.{DetectionInList, DrivenDetectionInList};
 
 use granter::{Driven, drive};
 use plant::{Ran, Tally, run};
@@ -36,14 +35,7 @@ pub fn run_in_list(
         ≡ run wiring n (state_with table.old tally) schedule.now sheet.old }
     ensures counts_taken { CountsTaken (call_of wiring n schedule.now sheet.old)
         (state_with table.old tally) result.taken }
-    ensures detection_in_square { DetectionAfter square_rounds
-        (call_of wiring n schedule.now sheet.old)
-        (state_with table.old tally) (state_with table.new result.tally) }
-    ensures detection_in_triangle { DetectionAfter triangle_rounds
-        (call_of wiring n schedule.now sheet.old)
-        (state_with table.old tally) (state_with table.new result.tally) }
-    ensures detection_in_worst_case { DetectionAfter worst_rounds
-        (call_of wiring n schedule.now sheet.old)
+    ensures detection { DetectionInList (call_of wiring n schedule.now sheet.old)
         (state_with table.old tally) (state_with table.new result.tally) }
 {
     run::run(wiring, n, table, tally, schedule, sheet)
@@ -56,11 +48,7 @@ pub fn drive_in_list(wiring: usize, n: usize, table: &mut [u8], tally: Tally, la
         ≡ drive wiring n (state_with table.old tally) last }
     ensures stopped_if_taken { let start = state_with table.old tally in
         StoppedIfTaken wiring n start last result.grants }
-    ensures driven_in_square { DrivenDetectionAfter square_rounds wiring n last
-        (state_with table.old tally) (state_with table.new result.tally) }
-    ensures driven_in_triangle { DrivenDetectionAfter triangle_rounds wiring n last
-        (state_with table.old tally) (state_with table.new result.tally) }
-    ensures driven_in_worst_case { DrivenDetectionAfter worst_rounds wiring n last
+    ensures detection { DrivenDetectionInList wiring n last
         (state_with table.old tally) (state_with table.new result.tally) }
 {
     drive::drive(wiring, n, table, tally, last)

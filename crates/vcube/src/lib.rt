@@ -12,8 +12,8 @@ ghost use Rattle.station.specs.Calls.{assignment_count};
 ghost use Rattle.plant.specs.Entry.{state_of};
 ghost use Rattle.plant.specs.Run.{run};
 ghost use Rattle.detection.specs.Runs.{call_of, CountsTaken};
-ghost use Rattle.detection.specs.Claim.{DetectionAfter, square_rounds, triangle_rounds, worst_rounds};
-ghost use Rattle.detection.specs.Driven.{a_run, a_drive, DrivenDetectionAfter};
+ghost use Rattle.detection.specs.InList.{DetectionInList, DrivenDetectionInList};
+ghost use Rattle.detection.specs.Driven.{a_run, a_drive};
 ghost use Rattle.accuracy.specs.Accurate.{AccurateAfter};
 ghost use Rattle.granter.specs.Grant.{grant_refusal, grant_station};
 ghost use Rattle.granter.specs.Drive.{drive, StoppedIfTaken};
@@ -141,14 +141,7 @@ pub extern "C" fn vcube_run(
         ≡ run wiring n (state_of table.old rounds.old tests.old) schedule.now sheet.old }
     ensures counts_taken { CountsTaken (call_of wiring n schedule.now sheet.old)
         (state_of table.old rounds.old tests.old) taken.new }
-    ensures detection_in_square { DetectionAfter square_rounds
-        (call_of wiring n schedule.now sheet.old)
-        (state_of table.old rounds.old tests.old) (state_of table.new rounds.new tests.new) }
-    ensures detection_in_triangle { DetectionAfter triangle_rounds
-        (call_of wiring n schedule.now sheet.old)
-        (state_of table.old rounds.old tests.old) (state_of table.new rounds.new tests.new) }
-    ensures detection_in_worst_case { DetectionAfter worst_rounds
-        (call_of wiring n schedule.now sheet.old)
+    ensures detection { DetectionInList (call_of wiring n schedule.now sheet.old)
         (state_of table.old rounds.old tests.old) (state_of table.new rounds.new tests.new) }
     ensures accurate { AccurateAfter (a_run (call_of wiring n schedule.now sheet.old))
         (state_of table.old rounds.old tests.old) (state_of table.new rounds.new tests.new) }
@@ -198,11 +191,7 @@ pub extern "C" fn vcube_drive(
         ≡ drive wiring n (state_of table.old rounds.old tests.old) last.old }
     ensures stopped_if_taken { let start = state_of table.old rounds.old tests.old in
         StoppedIfTaken wiring n start last.old grants.new }
-    ensures driven_in_square { DrivenDetectionAfter square_rounds wiring n last.old
-        (state_of table.old rounds.old tests.old) (state_of table.new rounds.new tests.new) }
-    ensures driven_in_triangle { DrivenDetectionAfter triangle_rounds wiring n last.old
-        (state_of table.old rounds.old tests.old) (state_of table.new rounds.new tests.new) }
-    ensures driven_in_worst_case { DrivenDetectionAfter worst_rounds wiring n last.old
+    ensures detection { DrivenDetectionInList wiring n last.old
         (state_of table.old rounds.old tests.old) (state_of table.new rounds.new tests.new) }
     ensures accurate { AccurateAfter (a_drive wiring n last.old)
         (state_of table.old rounds.old tests.old) (state_of table.new rounds.new tests.new) }
