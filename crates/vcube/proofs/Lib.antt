@@ -2,3 +2,4 @@
 pub mod Narrow
 pub mod InputLaws
 pub mod RowPart
+pub mod Fitting

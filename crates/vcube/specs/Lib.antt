@@ -1,2 +1,3 @@
 -- What the contracts and theorems of `vcube` cite.
 pub mod Exports
+pub mod WordsFit

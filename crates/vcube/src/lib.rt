@@ -33,6 +33,8 @@ ghost use Rattle.vcube.specs.Exports.{input_words_after};
 ghost use Rattle.vcube.specs.Exports.{slot_out, slot_figures, words_check, words_after, words_of_refusal, words_of_status, words_of_outcome};
 ghost use Rattle.vcube.specs.Exports.{totals_members, totals_with, figures_out, totals_out};
 
+pub mod claims;
+
 use figures::{Figures, Totals, adding, batch};
 use granter::grant;
 use input::reading::{self, Parsed};
