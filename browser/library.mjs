@@ -128,6 +128,13 @@ export class Library {
         return refused !== 0 || by.value === NO_STATION ? undefined : { by: by.value, of: of.value };
     }
 
+    /// After how many closed rounds and turns at most all live boards know the dead ones, from the start of a round with the lamp out.
+    wait(state) {
+        const [rounds, per_round, turns, from_crash] = [new Cell(8), new Cell(8), new Cell(8), new Cell(8)];
+        const refused = this.module.call('vcube_wait', BigInt(state.wiring), BigInt(state.n), state.table, rounds, per_round, turns, from_crash);
+        return refused === 0 ? { rounds: rounds.value, turns: turns.value } : { refused };
+    }
+
     save(state) {
         const file = new Uint8Array(saved_length(state.n));
         const refused = this.module.call('vcube_save', BigInt(state.n), state.table, state.rounds, state.tests, file);

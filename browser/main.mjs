@@ -9,7 +9,6 @@ import { by_id, make, set_class, set_text } from './elements.mjs';
 import { called, mentioned, names_text, read_names } from './names.mjs';
 import { from_base64, input_of, link_of, read_link } from './link.mjs';
 import { tell, would } from './telling.mjs';
-import { worst_case } from './worst-case.mjs';
 
 const library = new Library(await Module.of(from_base64(by_id('module').textContent.trim())));
 const { words } = library;
@@ -73,6 +72,13 @@ function known_text(state) {
     return 'not in 64 rounds, if driven on';
 }
 
+function bound_text(state) {
+    const { refused, rounds, turns } = library.wait(state);
+    if (refused !== undefined) return words.refusal(refused);
+    const closed = `at most ${rounds} closed ${rounds === 1 ? 'round' : 'rounds'}, ${turns.toLocaleString('en')} turns`;
+    return `${closed}, from the start of a round with the lamp out`;
+}
+
 function show_facts(lamp) {
     const { state } = plant;
     set_text(by_id('rounds'), state.rounds.toLocaleString('en'));
@@ -82,8 +88,7 @@ function show_facts(lamp) {
     set_text(by_id('lamp'), lamp ? `${mentioned(names, lamp.by)} suspects ${mentioned(names, lamp.of)}` : 'out');
     set_class(by_id('lamp'), lamp ? 'lamp lit' : 'lamp');
     set_text(by_id('known'), known_text(state));
-    const bound = worst_case(plant.wiring, plant.n);
-    set_text(by_id('bound'), `at most ${bound} closed ${bound === 1 ? 'round' : 'rounds'} from the start of a round with the lamp out`);
+    set_text(by_id('bound'), bound_text(state));
     set_text(by_id('grant'), granted.refused === undefined ? `Grant the next: ${granted.board}` : 'Grant the next');
 }
 

@@ -22,9 +22,9 @@
  * it only reads.
  *
  * Wiring. A plant is wired as the cube (VCUBE_WIRING_CUBE) or as the ring (VCUBE_WIRING_RING), and the first argument of each call that
- * depends on it says which: fresh table, row, run, grant, drive, doubt lamp and mend. The wiring decides whom a turn tests, and what becomes
- * of the next distance; all else is the same. The library does not keep the wiring, and a table does not hold it: give the same number in
- * all calls of a plant. Group list, assignment and saved plants are for the cube, and take no wiring.
+ * depends on it says which: fresh table, row, run, grant, drive, doubt lamp, wait and mend. The wiring decides whom a turn tests, what becomes
+ * of the next distance, and the bounds of the wait; all else is the same. The library does not keep the wiring, and a table does not hold it:
+ * give the same number in all calls of a plant. Group list, assignment and saved plants are for the cube, and take no wiring.
  *
  * Turn, pass, round.
  *
@@ -337,6 +337,16 @@ uint8_t vcube_drive(size_t wiring, size_t n, uint8_t *table, size_t table_length
  * get 3, as for vcube_row.
  * Refusals: 24, 1 to 4. */
 uint8_t vcube_doubt_lamp(size_t wiring, size_t n, const uint8_t *table, size_t table_length, size_t *by, size_t *of);
+
+/* Wait: after how many rounds and turns at most all live stations know all dead ones, by wiring, size and who is live in the table (rule Wait).
+ * *rounds are the closed rounds that are always enough from the start of a round with the lamp out, the worst case; *turns_per_round is the most
+ * turns that a round has; *turns_until_known those of that many rounds; *turns_from_crash those of one round more, enough from a crash on
+ * wherever in a round it comes, by the table after it. A turn is an entry of kind 1 or 2, in a drive a grant. No other station may crash
+ * meanwhile, no reply of a live one be late, and two must be live: the call asks none of this. All four are 0 where the call is refused. The
+ * call changes no byte.
+ * Refusals: 24, 1 to 4. */
+uint8_t vcube_wait(size_t wiring, size_t n, const uint8_t *table, size_t table_length, size_t *rounds, size_t *turns_per_round,
+                   size_t *turns_until_known, size_t *turns_from_crash);
 
 /* Mend: makes a table that a brownout damaged obey all rules, so that refusals 1 to 4 let it through, and lists each byte that it changed. A status
  * above 3 becomes 1 (crashed). Bytes 1 to 3 of a line become 1, 0, 0 if one of them breaks a rule. Byte 4, by the mended status, becomes 254

@@ -1,6 +1,6 @@
 /* What vcube.h says of NULL with length 0, of figures after a refusal, of a group's length, of who is ahead, of who leaves at a test, of
- * grants and drives, of the doubt lamp, of mending, of the ring, of saved plants, of who told a station to leave and how long ago, of slots, words
- * and inputs, of the most results and the totals that they can have, of its structs, and of its version. */
+ * grants and drives, of the doubt lamp, of mending, of the ring, of saved plants, of who told a station to leave and how long ago, of slots, the
+ * wait, words and inputs, of the most results and the totals that they can have, of its structs, and of its version. */
 
 #include "vcube.h"
 
@@ -1571,12 +1571,12 @@ static void mendings(void)
     expect(memcmp(report, left, sizeof report) == 0, "mend: zeros where there is no change");
 }
 
-/* What has size 1 and a table of length 0 gets 24 before 1 and 2, in all seven calls. A run leaves the tally as it was, a drive tally and last
+/* What has size 1 and a table of length 0 gets 24 before 1 and 2, in all eight calls. A run leaves the tally as it was, a drive tally and last
  * number. */
 static void refuses_wiring(size_t wiring)
 {
     uint32_t rounds = ANY, tests = ANY + 1;
-    size_t one = ANY, other = ANY, last = ANY;
+    size_t one = ANY, other = ANY, third = ANY, last = ANY;
 
     expect(vcube_fresh_table(wiring, 1, NULL, 0) == VCUBE_REFUSED_NO_SUCH_WIRING, "wiring: a fresh table gets 24 first");
     expect(vcube_row(wiring, 1, NULL, 0, 9, &one, &other) == VCUBE_REFUSED_NO_SUCH_WIRING, "wiring: a row gets 24 first");
@@ -1594,6 +1594,9 @@ static void refuses_wiring(size_t wiring)
     one = other = ANY;
     expect(vcube_doubt_lamp(wiring, 1, NULL, 0, &one, &other) == VCUBE_REFUSED_NO_SUCH_WIRING, "wiring: a doubt lamp gets 24 first");
     expect(one == 0 && other == 0, "wiring: the pair of a refused lamp is 0 and 0");
+    one = other = ANY;
+    expect(vcube_wait(wiring, 1, NULL, 0, &one, &other, &third, &last) == VCUBE_REFUSED_NO_SUCH_WIRING, "wiring: a wait gets 24 first");
+    expect(one == 0 && other == 0 && third == 0 && last == 0, "wiring: the four numbers of a refused wait are 0");
     one = ANY;
     expect(vcube_mend(wiring, 1, NULL, 0, NULL, 0, &one) == VCUBE_REFUSED_NO_SUCH_WIRING, "wiring: a mending gets 24 first");
     expect(one == 0, "wiring: a refused mending has 0 changes");
@@ -1828,6 +1831,34 @@ static void slots(void)
     expect(vcube_slot(8, NULL, 0, 5, &tests, &most) == VCUBE_REFUSED_TABLE_LENGTH, "slot: a table of length 0 gets 2");
 }
 
+/* Whether the wait on this table has these rounds, and each so many turns. */
+static int waits(size_t wiring, const uint8_t *table, size_t length, size_t rounds, size_t turns)
+{
+    size_t all = ANY, each = ANY, known = ANY, crash = ANY;
+
+    return vcube_wait(wiring, 8, table, length, &all, &each, &known, &crash) == VCUBE_ACCEPTED && all == rounds && each == turns
+        && known == rounds * turns && crash == (rounds + 1) * turns;
+}
+
+/* Eight stations: 24 tests a round if all are live, 23 without station 4, on the ring 8; and one turn more for each that is live. */
+static void wait_of_eight(void)
+{
+    uint8_t table[VCUBE_TABLE_LENGTH(8)];
+    size_t rounds = ANY, each = ANY, known = ANY, crash = ANY;
+
+    expect(vcube_fresh_table(VCUBE_WIRING_CUBE, 8, table, sizeof table) == VCUBE_ACCEPTED, "a fresh table");
+    expect(waits(VCUBE_WIRING_CUBE, table, sizeof table, 3, 32), "wait: 3 rounds of 32 turns on the cube");
+    expect(waits(VCUBE_WIRING_RING, table, sizeof table, 4, 16), "wait: 4 rounds of 16 turns on the ring");
+    table[4 * (8 + VCUBE_HEAD)] = VCUBE_STATUS_CRASHED;
+    expect(waits(VCUBE_WIRING_CUBE, table, sizeof table, 3, 30), "wait: 30 turns with station 4 dead");
+    expect(waits(VCUBE_WIRING_RING, table, sizeof table, 4, 15), "wait: 15 turns with station 4 dead");
+    expect(vcube_wait(VCUBE_WIRING_CUBE, 264, table, sizeof table, &rounds, &each, &known, &crash) == VCUBE_REFUSED_SIZE_OUT_OF_RANGE,
+           "wait: 264 stations get 1");
+    expect(rounds == 0 && each == 0 && known == 0 && crash == 0, "wait: the numbers of a refused call are 0");
+    expect(vcube_wait(VCUBE_WIRING_CUBE, 8, NULL, 0, &rounds, &each, &known, &crash) == VCUBE_REFUSED_TABLE_LENGTH,
+           "wait: a table of length 0 gets 2");
+}
+
 int main(void)
 {
     uint8_t table[VCUBE_TABLE_LENGTH(N)];
@@ -1849,6 +1880,7 @@ int main(void)
     who_told_and_how_long_ago();
     figures_over_results();
     slots();
+    wait_of_eight();
     words();
     inputs();
     return failures != 0;

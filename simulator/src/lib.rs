@@ -32,8 +32,8 @@
 //! behind the exchange or behind n - 1 tests; next distance alone says how many
 //! of them were made; group list, assignment and saved plants judge a table by
 //! the rules of the cube, wherever it comes from.
-//! The words, the reading of an input and the slot follow docs/RULES.md and
-//! include/vcube.h. Which words an unreadable line has these leave open, but for
+//! The words, the reading of an input, the slot and the wait follow docs/RULES.md
+//! and include/vcube.h. Which words an unreadable line has these leave open, but for
 //! a tab in the place of a space.
 //!
 //! Rows are 64-bit sets and lines are structs. They are decoded from the lent
@@ -69,6 +69,7 @@ mod saved;
 pub mod sheet;
 mod slot;
 mod totals;
+mod wait;
 mod wiring;
 mod words;
 
@@ -88,5 +89,6 @@ pub use run::{run, Answer};
 pub use saved::{load, save, saved_size, Loaded};
 pub use slot::{slot, Slot};
 pub use totals::{figures_of_totals, join_totals, totals, Totals};
+pub use wait::{wait, Wait};
 pub use wiring::Wiring;
 pub use words::{outcome_words, refusal_words, status_words, WORDS_LENGTH};

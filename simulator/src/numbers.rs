@@ -63,6 +63,11 @@ impl Size {
         Ok(Level(number))
     }
 
+    /// All levels, 1 to d.
+    pub fn levels(self) -> impl Iterator<Item = Level> {
+        (1..=self.dimension()).map(Level)
+    }
+
     /// All stations, 0 to n - 1.
     pub fn stations(self) -> impl Iterator<Item = Station> {
         (0..self.0).map(Station)

@@ -4,6 +4,8 @@ use crate::groups::{answers_from, DueOrAhead};
 use crate::line::Row;
 use crate::numbers::{Distance, Size, Station};
 use crate::reading::{read_size, read_station};
+use crate::wait::worst_case;
+use crate::wiring::Wiring;
 
 /// The argument that asks for the table over all sizes.
 const SIZES: &[u8] = b"--sizes";
@@ -170,15 +172,7 @@ pub(crate) fn tested(size: Size, board: Station, row: Row) -> impl Iterator<Item
 /// The rounds until one more dead board is known everywhere, at most: the one
 /// in which it dies, and those of the worst case.
 fn rounds_until_known(size: Size) -> usize {
-    let worst = match size.count() {
-        0..3 => 1,
-        3..5 => 2,
-        5..9 => 3,
-        9..17 => 4,
-        17..33 => 6,
-        _ => 8,
-    };
-    worst + 1
+    worst_case(Wiring::Cube, size) + 1
 }
 
 /// The grants until then, whichever board it is: so many rounds, each with the

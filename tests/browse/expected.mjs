@@ -29,9 +29,19 @@ export class Simulator {
 
     /// The last column of the commissioning sheet, for each board in it.
     sheet(n, dead) {
+        return new Map(this.rows_of_sheet(n, dead).map((row) => [row[0], row.at(-1)]));
+    }
+
+    /// The turns of a round: the tests that the sheet says of each board, and one turn more for each.
+    turns_of_round(n, dead) {
+        return this.rows_of_sheet(n, dead).reduce((sum, row) => sum + row.at(-2) + 1, 0);
+    }
+
+    /// The numbers of each row of the sheet's first table.
+    rows_of_sheet(n, dead) {
         const text = this.program('simulate_sheet', [n, ...dead].map(String)).stdout.toString();
         const rows = text.split('\n\n')[1].split('\n').slice(1);
-        return new Map(rows.map((row) => [Number(row.trim().split(/\s+/)[0]), Number(row.trim().split(/\s+/).at(-1))]));
+        return rows.map((row) => row.trim().split(/\s+/).map(Number));
     }
 
     /// The worst case on the cube: the sheet's second line says one round more, that of the crash.

@@ -139,14 +139,16 @@ async function slots(browser) {
     same(red, [['5', '7, above']], 'tests above the slot');
 }
 
-/// The bound on rounds: on the cube by the simulator, on the ring half of the boards.
+/// The bound on rounds and turns: on the cube by the simulator; on the ring half of the boards, in each a turn for each board and for each live one.
 async function bounds(browser) {
-    const plants = [2, 3, 4, 5, 8, 9, 16, 17, 32, 33, 64].map((n) => ['cube', n, simulator.worst_case(n)]);
-    for (const [wiring, n, rounds] of [...plants, ['ring', 2, 1], ['ring', 3, 1], ['ring', 8, 4], ['ring', 63, 31]]) {
-        await open(browser, link(n, [], 0, wiring));
+    const sizes = [2, 3, 4, 5, 8, 9, 16, 17, 32, 33, 64].map((n) => [n, []]);
+    const on_cube = [...sizes, [8, [4]], [11, [0, 10]]].map(([n, dead]) => ['cube', n, dead, simulator.worst_case(n), simulator.turns_of_round(n, dead)]);
+    const on_ring = [[2, []], [3, []], [8, []], [8, [4]], [63, []]].map(([n, dead]) => ['ring', n, dead, Math.floor(n / 2), 2 * n - dead.length]);
+    for (const [wiring, n, dead, rounds, turns] of [...on_cube, ...on_ring]) {
+        await open(browser, link(n, dead.map((board) => `C ${board}`), dead.length, wiring));
         const said = await browser.value(`document.getElementById('bound').textContent`);
-        const words = `at most ${rounds} closed ${rounds === 1 ? 'round' : 'rounds'} from the start of a round with the lamp out`;
-        same(said, words, `the bound of ${n} boards, ${wiring}`);
+        const closed = `at most ${rounds} closed ${rounds === 1 ? 'round' : 'rounds'}, ${(rounds * turns).toLocaleString('en')} turns`;
+        same(said, `${closed}, from the start of a round with the lamp out`, `the bound of ${n} boards without ${dead}, ${wiring}`);
     }
 }
 

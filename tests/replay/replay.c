@@ -207,6 +207,7 @@ static uint8_t run(void) { return vcube_run(n(0), n(1), B(2), I(3), I(4), B(5), 
 static uint8_t grant(void) { return vcube_grant(n(0), n(1), B(2), n(3), S(4)); }
 static uint8_t drive(void) { return vcube_drive(n(0), n(1), B(2), I(3), I(4), S(5), S(6)); }
 static uint8_t doubt_lamp(void) { return vcube_doubt_lamp(n(0), n(1), B(2), S(3), S(4)); }
+static uint8_t wait_of(void) { return vcube_wait(n(0), n(1), B(2), S(3), S(4), S(5), S(6)); }
 static uint8_t mend(void) { return vcube_mend(n(0), n(1), B(2), B(3), S(4)); }
 static uint8_t save(void) { return vcube_save(n(0), B(1), w(2), w(3), B(4)); }
 static uint8_t load(void) { return vcube_load(B(0), B(1), S(2), I(3), I(4)); }
@@ -235,6 +236,7 @@ static const struct {
     {"vcube_figures_of_two_lists", figures_of_two_lists}, {"vcube_totals_of_list", totals_of_list}, {"vcube_join_totals", join_totals},
     {"vcube_figures_of_totals", figures_of_totals}, {"vcube_slot", slot}, {"vcube_refusal_words", refusal_words},
     {"vcube_status_words", status_words}, {"vcube_outcome_words", outcome_words}, {"vcube_read_input", read_input},
+    {"vcube_wait", wait_of},
 };
 
 static uint8_t make(const struct call *call)

@@ -277,6 +277,7 @@ mod mender;
 mod raw;
 mod saved;
 mod texts;
+mod wait;
 
 #[cfg(test)]
 mod tests;
@@ -297,6 +298,7 @@ pub use texts::{
     outcome_words, read_input, refusal_words, slot, status_words, Input, Slot, Unread, Words,
     SCHEDULE_LENGTH, WORDS_LENGTH,
 };
+pub use wait::{wait, Wait};
 
 /// A station number. Any number can stand here; the library refuses n or more.
 #[derive(Clone, Copy, Debug, PartialEq, Eq, Hash, PartialOrd, Ord)]

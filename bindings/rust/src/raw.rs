@@ -168,6 +168,17 @@ mod c {
             most: &mut usize,
         ) -> u8;
 
+        pub fn vcube_wait(
+            wiring: usize,
+            n: usize,
+            table: *const u8,
+            table_length: usize,
+            rounds: &mut usize,
+            turns_per_round: &mut usize,
+            turns_until_known: &mut usize,
+            turns_from_crash: &mut usize,
+        ) -> u8;
+
         pub fn vcube_refusal_words(refusal: usize, words: *mut u8, words_length: usize) -> u8;
 
         pub fn vcube_status_words(status: usize, words: *mut u8, words_length: usize) -> u8;
@@ -456,6 +467,24 @@ pub fn slot(n: usize, table: &[u8], station: usize) -> (u8, usize, usize) {
         )
     };
     (number, tests, most)
+}
+
+/// Gives the number and the four bounds, in the order of the header.
+pub fn wait(wiring: Wiring, n: usize, table: &[u8]) -> (u8, [usize; 4]) {
+    let [mut rounds, mut per_round, mut until_known, mut from_crash] = [0; 4];
+    let number = unsafe {
+        c::vcube_wait(
+            number_of(wiring),
+            n,
+            table.as_ptr(),
+            table.len(),
+            &mut rounds,
+            &mut per_round,
+            &mut until_known,
+            &mut from_crash,
+        )
+    };
+    (number, [rounds, per_round, until_known, from_crash])
 }
 
 /// Gives the number.

@@ -12,6 +12,7 @@ mod mender;
 mod ring;
 mod saved;
 mod texts;
+mod wait;
 
 /// Byte 4 of a line whose station nobody told to leave.
 const NONE: u8 = TOLD_BY_NONE;

@@ -9,7 +9,7 @@ use Rattle.latency.specs.Bound.{turns_per_round, turns_until_known}
 use Rattle.latency.specs.Crash.{turns_from_crash}
 use Rattle.latency.specs.declared.wait.Wait.{Wait}
 
--- the rounds of the worst case, the turns of a round, the turns until all is known from the start of a round, and from a crash
+-- Rule Wait: the rounds of the worst case, the turns of a round, those until all is known from the start of a round, and those from a crash
 abbrev pub wait_on : ℕ → ℕ → List ℕ → Wait
 wait_on w n t =
     record {
@@ -19,6 +19,6 @@ wait_on w n t =
       turns_from_crash = turns_from_crash w n t;
     }
 
--- Rule Wait: these four on the wiring with number w; refusals 24 and 1 to 4
+-- Rule Wait call: these four on the wiring with number w; refusals 24 and 1 to 4
 unfoldable pub wait_answer : ℕ → ℕ → List ℕ → Result Wait Refusal
 wait_answer w n t = numbered_table_check w n t and Ok (wait_on w n t)

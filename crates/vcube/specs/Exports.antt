@@ -14,6 +14,8 @@ use Rattle.table.specs.Status.{status_of, status_words}
 use Rattle.plant.specs.Outcome.{outcome_with, outcome_words}
 use Rattle.slots.specs.Board.{slot_answer}
 use Rattle.slots.specs.declared.board.Slot.{Slot}
+use Rattle.latency.specs.Wait.{wait_answer}
+use Rattle.latency.specs.declared.wait.Wait.{Wait}
 use Rattle.input.specs.Input.{Reading, lines, read_input}
 use Rattle.input.specs.Fault.{fault_in}
 use Rattle.input.specs.Words.{fault_words}
@@ -114,6 +116,14 @@ slot_out tests most = record { tests = tests; most = most }
 
 abbrev pub slot_figures : ℕ → List ℕ → ℕ → Slot
 slot_figures n t i = result_unwrap_or (slot_answer n t i) (slot_out 0 0)
+
+-- Wait: the bounds on a dead board's way to all, all 0 where the call is refused
+abbrev pub wait_out : ℕ → ℕ → ℕ → ℕ → Wait
+wait_out rounds turns until from =
+    record { rounds = rounds; turns_per_round = turns; turns_until_known = until; turns_from_crash = from }
+
+abbrev pub wait_figures : ℕ → ℕ → List ℕ → Wait
+wait_figures w n t = result_unwrap_or (wait_answer w n t) (wait_out 0 0 0 0)
 
 -- a buffer for words has just so many bytes, of which the last is 0 in every answer
 abbrev pub words_length : ℕ

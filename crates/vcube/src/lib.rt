@@ -26,11 +26,12 @@ ghost use Rattle.figures.specs.Batch.{figures};
 ghost use Rattle.figures.specs.Totals.{totals, join, figures_of_totals};
 ghost use Rattle.vcube.specs.Exports.{IsRowAt, outcome_out, drive_out, pair_out, pair_of, tally_of, loaded_out, filled, figures_members};
 ghost use Rattle.slots.specs.Board.{slot_answer};
+ghost use Rattle.latency.specs.Wait.{wait_answer};
 ghost use Rattle.std.proofs.lemmas.List.Edits.{sets};
 ghost use Rattle.input.specs.Input.{read_input};
 ghost use Rattle.vcube.specs.Exports.{schedule_length, words_length, worded, unread_words, input_check, input_out, input_figures, schedule_after};
 ghost use Rattle.vcube.specs.Exports.{input_words_after};
-ghost use Rattle.vcube.specs.Exports.{slot_out, slot_figures, words_check, words_after, words_of_refusal, words_of_status, words_of_outcome};
+ghost use Rattle.vcube.specs.Exports.{slot_out, slot_figures, wait_out, wait_figures, words_check, words_after, words_of_refusal, words_of_status, words_of_outcome};
 ghost use Rattle.vcube.specs.Exports.{totals_members, totals_with, figures_out, totals_out};
 
 pub mod claims;
@@ -38,6 +39,7 @@ pub mod claims;
 use figures::{Figures, Totals, adding, batch};
 use granter::grant;
 use input::reading::{self, Parsed};
+use latency::wait::{self, Wait};
 use lists::bytes;
 use lists::refusal::{Refusal, number_of, parts};
 use plant::Tally;
@@ -400,6 +402,29 @@ pub extern "C" fn vcube_slot(
     let (number, slot) = parts(answer, Slot::default());
     *tests = usize::from(slot.tests);
     *most = usize::from(slot.most);
+    number
+}
+
+// Wait: the bounds on the rounds and on the turns after which all live boards know all dead ones, by wiring, size and table; all 0 where it is refused.
+#[unsafe(no_mangle)]
+pub extern "C" fn vcube_wait(
+    wiring: usize,
+    n: usize,
+    table: &[u8],
+    rounds: &mut usize,
+    turns_per_round: &mut usize,
+    turns_until_known: &mut usize,
+    turns_from_crash: &mut usize,
+) -> u8
+    ensures number { result ≡ number_of_result (wait_answer wiring n table.now) }
+    ensures wait_after { wait_out rounds.new turns_per_round.new turns_until_known.new
+        turns_from_crash.new ≡ wait_figures wiring n table.now }
+{
+    let (number, wait) = parts(wait::wait_of(wiring, n, table), Wait::default());
+    *rounds = wait.rounds as usize;
+    *turns_per_round = wait.turns_per_round as usize;
+    *turns_until_known = wait.turns_until_known as usize;
+    *turns_from_crash = wait.turns_from_crash as usize;
     number
 }
 

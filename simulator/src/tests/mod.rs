@@ -32,6 +32,7 @@ mod steps;
 mod tables;
 mod told;
 mod totals;
+mod wait;
 mod wirings;
 mod words;
 

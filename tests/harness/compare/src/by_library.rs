@@ -81,6 +81,16 @@ extern "C" {
         by: *mut usize,
         of: *mut usize,
     ) -> u8;
+    fn vcube_wait(
+        wiring: usize,
+        n: usize,
+        table: *const u8,
+        table_length: usize,
+        rounds: *mut usize,
+        turns_per_round: *mut usize,
+        turns_until_known: *mut usize,
+        turns_from_crash: *mut usize,
+    ) -> u8;
     fn vcube_mend(
         wiring: usize,
         n: usize,
@@ -260,6 +270,14 @@ impl Calls for Library {
         let (table, length) = bytes(table);
         let Numbers { wiring, n, .. } = *numbers;
         unsafe { vcube_doubt_lamp(wiring, n, table, length, figure(by), figure(of)) }
+    }
+
+    fn wait(numbers: &Numbers, [table, rounds, turns, known, crash]: [&mut Guarded; 5]) -> u8 {
+        let (table, length) = bytes(table);
+        let (rounds, turns) = (figure(rounds), figure(turns));
+        let (known, crash) = (figure(known), figure(crash));
+        let Numbers { wiring, n, .. } = *numbers;
+        unsafe { vcube_wait(wiring, n, table, length, rounds, turns, known, crash) }
     }
 
     fn mend(numbers: &Numbers, [table, report, changes]: [&mut Guarded; 3]) -> u8 {

@@ -105,6 +105,15 @@ impl Calls for Simulator {
         number
     }
 
+    fn wait(numbers: &Numbers, [table, rounds, turns, known, crash]: [&mut Guarded; 5]) -> u8 {
+        let given = simulator::wait(numbers.wiring, numbers.n, table.contents());
+        rounds.put_figure(given.rounds);
+        turns.put_figure(given.turns_per_round);
+        known.put_figure(given.turns_until_known);
+        crash.put_figure(given.turns_from_crash);
+        given.number
+    }
+
     fn mend(numbers: &Numbers, [table, report, changes]: [&mut Guarded; 3]) -> u8 {
         let (table, report) = (table.contents_mut(), report.contents_mut());
         let (number, count) = simulator::mend(numbers.wiring, numbers.n, table, report);

@@ -166,6 +166,18 @@ impl Calls for Typed {
         number(&given)
     }
 
+    fn wait(numbers: &Numbers, [table, rounds, turns, known, crash]: [&mut Guarded; 5]) -> u8 {
+        let Some(wiring) = wiring(numbers) else {
+            return refused([rounds, turns, known, crash]);
+        };
+        let given = vcube::wait(wiring, numbers.n, table.contents());
+        rounds.put_figure(given.map_or(0, |wait| wait.rounds));
+        turns.put_figure(given.map_or(0, |wait| wait.turns_per_round));
+        known.put_figure(given.map_or(0, |wait| wait.turns_until_known));
+        crash.put_figure(given.map_or(0, |wait| wait.turns_from_crash));
+        number(&given)
+    }
+
     fn mend(numbers: &Numbers, [table, report, changes]: [&mut Guarded; 3]) -> u8 {
         let Some(wiring) = wiring(numbers) else {
             return refused([changes]);

@@ -21,6 +21,7 @@ pub enum Kind {
     Grant,
     Drive,
     DoubtLamp,
+    Wait,
     Mend,
     Save,
     Load,
@@ -98,6 +99,11 @@ pub enum Name {
     /// How many tests a slot has, and how many at most.
     SlotTests,
     MostTests,
+    /// The bounds of a wait.
+    WaitRounds,
+    TurnsPerRound,
+    TurnsUntilKnown,
+    TurnsFromCrash,
     Words,
     /// An input, how many entries it has, and its unreadable line.
     Input,
@@ -108,7 +114,7 @@ pub enum Name {
 const NAMES: usize = Name::ALL.len();
 
 /// One value for each buffer.
-#[derive(Clone, Debug, Default)]
+#[derive(Clone, Debug)]
 pub struct Buffers<T>([T; NAMES]);
 
 /// A call before it is made. The buffers that its kind does not take are empty.
@@ -151,7 +157,7 @@ impl Call {
 }
 
 impl Kind {
-    pub const ALL: [Kind; 24] = [
+    pub const ALL: [Kind; 25] = [
         Kind::FreshTable,
         Kind::GroupList,
         Kind::Assignment,
@@ -161,6 +167,7 @@ impl Kind {
         Kind::Grant,
         Kind::Drive,
         Kind::DoubtLamp,
+        Kind::Wait,
         Kind::Mend,
         Kind::Save,
         Kind::Load,
@@ -180,7 +187,7 @@ impl Kind {
 
     /// Those about a plant, which take a size or a file with one: the first ones. The others are about results, words and
     /// inputs.
-    pub const OF_PLANTS: [Kind; 15] = [
+    pub const OF_PLANTS: [Kind; 16] = [
         Kind::FreshTable,
         Kind::GroupList,
         Kind::Assignment,
@@ -190,6 +197,7 @@ impl Kind {
         Kind::Grant,
         Kind::Drive,
         Kind::DoubtLamp,
+        Kind::Wait,
         Kind::Mend,
         Kind::Save,
         Kind::Load,
@@ -199,13 +207,14 @@ impl Kind {
     ];
 
     /// Those that take a wiring number.
-    pub const WIRED: [Kind; 7] = [
+    pub const WIRED: [Kind; 8] = [
         Kind::FreshTable,
         Kind::Row,
         Kind::Run,
         Kind::Grant,
         Kind::Drive,
         Kind::DoubtLamp,
+        Kind::Wait,
         Kind::Mend,
     ];
 
@@ -224,6 +233,7 @@ impl Kind {
             Kind::Grant => "grant",
             Kind::Drive => "drive",
             Kind::DoubtLamp => "doubt lamp",
+            Kind::Wait => "wait",
             Kind::Mend => "mend",
             Kind::Save => "save",
             Kind::Load => "load",
@@ -267,6 +277,13 @@ impl Kind {
                 Name::Grants,
             ],
             Kind::DoubtLamp => &[Name::Table, Name::By, Name::Of],
+            Kind::Wait => &[
+                Name::Table,
+                Name::WaitRounds,
+                Name::TurnsPerRound,
+                Name::TurnsUntilKnown,
+                Name::TurnsFromCrash,
+            ],
             Kind::Mend => &[Name::Table, Name::Report, Name::Changes],
             Kind::Save => &[Name::Table, Name::Saved],
             Kind::Load => &[
@@ -308,7 +325,7 @@ impl Kind {
             Kind::Run => &[0, 1, 2, 3, 4, 5, 6, 7, 8, 9, 10, 11],
             Kind::Grant => &[0, 1, 2, 3, 4, 16, 17],
             Kind::Drive => &[0, 1, 2, 3, 4, 7, 16, 17],
-            Kind::DoubtLamp => &[0, 1, 2, 3, 4],
+            Kind::DoubtLamp | Kind::Wait => &[0, 1, 2, 3, 4],
             Kind::Mend => &[0, 1, 2, 23],
             Kind::Save => &[0, 1, 2, 3, 4, 13],
             Kind::Load => &[0, 1, 2, 3, 4, 18, 19, 20, 21, 22],
@@ -324,7 +341,7 @@ impl Kind {
 }
 
 impl Name {
-    pub const ALL: [Name; 32] = [
+    pub const ALL: [Name; 36] = [
         Name::Table,
         Name::List,
         Name::Schedule,
@@ -353,6 +370,10 @@ impl Name {
         Name::Figures,
         Name::SlotTests,
         Name::MostTests,
+        Name::WaitRounds,
+        Name::TurnsPerRound,
+        Name::TurnsUntilKnown,
+        Name::TurnsFromCrash,
         Name::Words,
         Name::Input,
         Name::Entries,
@@ -389,6 +410,10 @@ impl Name {
             Name::Figures => "figures",
             Name::SlotTests => "tests of a slot",
             Name::MostTests => "most tests of a slot",
+            Name::WaitRounds => "rounds of a wait",
+            Name::TurnsPerRound => "turns of a round",
+            Name::TurnsUntilKnown => "turns until known",
+            Name::TurnsFromCrash => "turns from a crash",
             Name::Words => "words",
             Name::Input => "input",
             Name::Entries => "number of entries",
@@ -407,11 +432,20 @@ impl Name {
             Name::Station | Name::Last | Name::Grants | Name::Size => size_of::<usize>(),
             Name::By | Name::Of | Name::Changes => size_of::<usize>(),
             Name::SlotTests | Name::MostTests | Name::Entries | Name::Line => size_of::<usize>(),
+            Name::WaitRounds | Name::TurnsPerRound => size_of::<usize>(),
+            Name::TurnsUntilKnown | Name::TurnsFromCrash => size_of::<usize>(),
             Name::Results | Name::SecondResults => size_of::<u16>(),
             Name::Totals | Name::SecondTotals | Name::GivenTotals | Name::Figures => {
                 size_of::<u64>()
             }
         }
+    }
+}
+
+// Not derived: it is for 32 names at most.
+impl<T: Default> Default for Buffers<T> {
+    fn default() -> Buffers<T> {
+        Buffers(std::array::from_fn(|_| T::default()))
     }
 }
 

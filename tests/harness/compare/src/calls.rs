@@ -32,6 +32,9 @@ pub trait Calls {
     /// Table, suspecting and suspected station.
     fn doubt_lamp(numbers: &Numbers, lent: [&mut Guarded; 3]) -> u8;
 
+    /// Table, rounds, turns of a round, until known, from a crash.
+    fn wait(numbers: &Numbers, lent: [&mut Guarded; 5]) -> u8;
+
     /// Table, report, number of changes.
     fn mend(numbers: &Numbers, lent: [&mut Guarded; 3]) -> u8;
 
@@ -109,6 +112,7 @@ pub fn make<By: Calls>(call: &Call, mut buffers: Buffers<Guarded>) -> Outcome {
         Kind::Grant => By::grant(numbers, lent(call.kind, &mut buffers)),
         Kind::Drive => By::drive(numbers, lent(call.kind, &mut buffers)),
         Kind::DoubtLamp => By::doubt_lamp(numbers, lent(call.kind, &mut buffers)),
+        Kind::Wait => By::wait(numbers, lent(call.kind, &mut buffers)),
         Kind::Mend => By::mend(numbers, lent(call.kind, &mut buffers)),
         Kind::Save => By::save(numbers, lent(call.kind, &mut buffers)),
         Kind::Load => By::load(lent(call.kind, &mut buffers)),

@@ -28,19 +28,21 @@ pub struct Seen {
     on_other: Option<u8>,
 }
 
-const CASES: [(Kind, &[Case]); 15] = [
+const CASES: [(Kind, &[Case]); 17] = [
     (Kind::FreshTable, &NUMBER),
     (Kind::Row, &NUMBER),
     (Kind::Run, &NUMBER),
     (Kind::Grant, &NUMBER),
     (Kind::Drive, &NUMBER),
     (Kind::DoubtLamp, &NUMBER),
+    (Kind::Wait, &NUMBER),
     (Kind::Mend, &NUMBER),
     (Kind::Row, &TABLE),
     (Kind::Run, &TABLE),
     (Kind::Grant, &TABLE),
     (Kind::Drive, &TABLE),
     (Kind::DoubtLamp, &TABLE),
+    (Kind::Wait, &TABLE),
     (Kind::Assignment, &OF_RING),
     (Kind::Slot, &OF_RING),
     (Kind::Save, &OF_RING),

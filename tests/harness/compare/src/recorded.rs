@@ -101,6 +101,8 @@ fn form(name: Name) -> u8 {
         Name::Station | Name::Last | Name::Grants | Name::Size => b's',
         Name::By | Name::Of | Name::Changes => b's',
         Name::SlotTests | Name::MostTests | Name::Entries | Name::Line => b's',
+        Name::WaitRounds | Name::TurnsPerRound => b's',
+        Name::TurnsUntilKnown | Name::TurnsFromCrash => b's',
         // a uint32_t
         Name::Rounds | Name::Tests => b'i',
         // a struct of uint64_t
@@ -119,6 +121,7 @@ fn function(kind: Kind) -> &'static str {
         Kind::Grant => "vcube_grant",
         Kind::Drive => "vcube_drive",
         Kind::DoubtLamp => "vcube_doubt_lamp",
+        Kind::Wait => "vcube_wait",
         Kind::Mend => "vcube_mend",
         Kind::Save => "vcube_save",
         Kind::Load => "vcube_load",
@@ -144,7 +147,7 @@ fn arguments(call: &Call) -> Vec<Argument> {
     let wired = || vec![Size(numbers.wiring), Size(numbers.n)];
     let pointers = |names: &[Name]| names.iter().copied().map(Pointer).collect::<Vec<_>>();
     match call.kind {
-        Kind::FreshTable | Kind::DoubtLamp | Kind::Mend | Kind::Drive => {
+        Kind::FreshTable | Kind::DoubtLamp | Kind::Wait | Kind::Mend | Kind::Drive => {
             let mut arguments = wired();
             arguments.extend(pointers(call.kind.buffers()));
             arguments

@@ -56,7 +56,7 @@ fn numbers(kind: Kind, numbers: &Numbers) -> String {
     } = numbers;
     match kind {
         Kind::FreshTable | Kind::Run | Kind::Drive => format!("  wiring {wiring}, n {n}\n"),
-        Kind::DoubtLamp | Kind::Mend => format!("  wiring {wiring}, n {n}\n"),
+        Kind::DoubtLamp | Kind::Wait | Kind::Mend => format!("  wiring {wiring}, n {n}\n"),
         Kind::Grant => format!("  wiring {wiring}, n {n}, last number {last}\n"),
         Kind::Save => format!("  n {n}, rounds {rounds}, tests {tests}\n"),
         Kind::GroupList => format!("  n {n}, station {station}, level {level}\n"),

@@ -106,7 +106,7 @@ const OF_REFUSED: [Fault; 11] = [
 ];
 
 /// Calls of a kind for which one wiring is the other.
-const OF_WIRING: [Fault; 12] = [
+const OF_WIRING: [Fault; 14] = [
     ("row: the ring is the cube", |call, outcome| {
         exchange(Kind::Row, Wiring::Ring, call, outcome);
     }),
@@ -136,6 +136,12 @@ const OF_WIRING: [Fault; 12] = [
     }),
     ("lamp: the cube is the ring", |call, outcome| {
         exchange(Kind::DoubtLamp, Wiring::Cube, call, outcome);
+    }),
+    ("wait: the ring is the cube", |call, outcome| {
+        exchange(Kind::Wait, Wiring::Ring, call, outcome);
+    }),
+    ("wait: the cube is the ring", |call, outcome| {
+        exchange(Kind::Wait, Wiring::Cube, call, outcome);
     }),
     ("mend: the ring is the cube", |call, outcome| {
         if is_ring(call) {

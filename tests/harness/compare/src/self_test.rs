@@ -21,6 +21,7 @@ use crate::slot_faults;
 use crate::text_faults;
 use crate::told_faults;
 use crate::trial::Trial;
+use crate::wait_faults;
 use crate::ways_back;
 use crate::wired::{Wired, OUTCOMES, SIZES};
 
@@ -75,6 +76,7 @@ fn all_faults() -> Vec<(&'static [Kind], Fault)> {
     let others = others.chain(mend_faults::all());
     let others = others.chain(ring_faults::all());
     let others = others.chain(slot_faults::ALL);
+    let others = others.chain(wait_faults::ALL);
     let others = others.chain(text_faults::all());
     let others = others.map(|fault| (&Kind::ALL[..], fault));
     let of_saves = save_faults::all().map(|fault| (&SAVING[..], fault));
@@ -91,11 +93,12 @@ const SAVING: [Kind; 5] = [
 ];
 
 /// The right rules, which are no fault: what they are of, and what they give.
-const RIGHT: [Fault; 7] = [
+const RIGHT: [Fault; 8] = [
     ("granting", grant_faults::right),
     ("assigning", assign_faults::right),
     ("slots", slot_faults::right),
     ("doubting", lamp_faults::right),
+    ("waiting", wait_faults::right),
     ("mending", mend_faults::right),
     ("saving", save_faults::right),
     ("bytes 4 and 5", ceased_faults::right),
@@ -286,6 +289,7 @@ fn lowered_counts() -> Vec<Counts> {
         all.lower_ceased(wiring);
         all.lower_granted(wiring);
         all.lower_doubted(wiring);
+        all.lower_waited(wiring);
         all.lower_mended(wiring);
     }
     all.lower_lengths();
@@ -412,6 +416,13 @@ impl Lowered {
     fn lower_doubted(&mut self, wiring: Wiring) {
         for case in 0..Wired::all(wiring, 0).doubted.counts.len() {
             self.lower_on(wiring, |on| &mut on.doubted.counts[case]);
+        }
+    }
+
+    /// The cases of waits.
+    fn lower_waited(&mut self, wiring: Wiring) {
+        for case in 0..Wired::all(wiring, 0).waited.counts.len() {
+            self.lower_on(wiring, |on| &mut on.waited.counts[case]);
         }
     }
 

@@ -18,6 +18,7 @@ use crate::mended;
 use crate::occurred::Occurred;
 use crate::outcome::Outcome;
 use crate::told::Told;
+use crate::waited;
 
 const KINDS: usize = Kind::ALL.len();
 const PLANT_KINDS: usize = Kind::OF_PLANTS.len();
@@ -70,6 +71,8 @@ pub struct Wired {
     pub granted: Occurred<granted::Seen>,
     /// The cases of doubt lamps.
     pub doubted: Occurred<doubted::Seen>,
+    /// The cases of waits.
+    pub waited: Occurred<waited::Seen>,
     /// The cases of mendings.
     pub mended: Occurred<mended::Seen>,
 }
@@ -128,6 +131,7 @@ impl Wired {
             ceased: Ceased::all(kinds(wiring), count),
             granted: granted::all(count),
             doubted: doubted::all(count),
+            waited: waited::all(count),
             mended: mended::all(count),
         }
     }
@@ -162,6 +166,10 @@ impl Wired {
             Kind::DoubtLamp => {
                 let seen = doubted::Seen::new(call, outcome);
                 self.doubted.add(call.kind, &seen);
+            }
+            Kind::Wait => {
+                let seen = waited::Seen::new(call, outcome);
+                self.waited.add(call.kind, &seen);
             }
             Kind::Mend => {
                 let seen = mended::Seen::new(call, outcome);
@@ -228,6 +236,7 @@ impl Wired {
         self.ceased.require(&mut of_wiring);
         self.granted.require(&mut of_wiring);
         self.doubted.require(&mut of_wiring);
+        self.waited.require(&mut of_wiring);
         self.mended.require(&mut of_wiring);
         let wiring = self.wiring.text();
         let named = of_wiring.into_iter();
@@ -339,7 +348,8 @@ impl fmt::Display for Wired {
         write!(f, "runs of {LONG_RUN} entries or more {}; ", self.long_runs)?;
         write!(f, "tallies kept by a refused run {}; ", self.kept_tallies)?;
         write!(f, "{}; {}; {}; ", self.absent, self.told, self.ceased)?;
-        write!(f, "{}; {}; {}", self.granted, self.doubted, self.mended)
+        write!(f, "{}; {}; ", self.granted, self.doubted)?;
+        write!(f, "{}; {}", self.waited, self.mended)
     }
 }
 

@@ -50,7 +50,7 @@ fn of_file(random: &mut Random) -> Call {
 fn of_plant(random: &mut Random) -> Call {
     let size = groups::random_size(random);
     let wiring = random.pick(&Wiring::ALL);
-    match random.below(49) {
+    match random.below(53) {
         0 | 1 => fresh_table(wiring, size, random),
         2..=5 => group_list(size, random),
         6 | 7 => assignment(size, random),
@@ -60,6 +60,7 @@ fn of_plant(random: &mut Random) -> Call {
         21..=24 => lamps::doubt_lamp(wiring, size, random),
         25..=28 => mendings::mend(wiring, size, random),
         29 | 30 => slot(size, random),
+        31..=34 => wait(wiring, size, random),
         _ => run(wiring, size, random),
     }
 }
@@ -149,6 +150,26 @@ fn slot(size: Size, random: &mut Random) -> Call {
             (Name::Table, table),
             (Name::SlotTests, random.bytes(size_of::<usize>())),
             (Name::MostTests, random.bytes(size_of::<usize>())),
+        ]),
+    }
+}
+
+fn wait(wiring: Wiring, size: Size, random: &mut Random) -> Call {
+    let (n, table) = tables::given(wiring, size, random);
+    let figure = size_of::<usize>();
+    Call {
+        kind: Kind::Wait,
+        numbers: Numbers {
+            wiring: numbers::given_wiring(wiring, random),
+            n,
+            ..Numbers::default()
+        },
+        buffers: Buffers::of([
+            (Name::Table, table),
+            (Name::WaitRounds, random.bytes(figure)),
+            (Name::TurnsPerRound, random.bytes(figure)),
+            (Name::TurnsUntilKnown, random.bytes(figure)),
+            (Name::TurnsFromCrash, random.bytes(figure)),
         ]),
     }
 }
