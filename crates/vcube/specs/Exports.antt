@@ -117,7 +117,7 @@ slot_out tests most = record { tests = tests; most = most }
 abbrev pub slot_figures : ℕ → List ℕ → ℕ → Slot
 slot_figures n t i = result_unwrap_or (slot_answer n t i) (slot_out 0 0)
 
--- Wait: the bounds on a dead board's way to all, all 0 where the call is refused
+-- Wait: the four bounds, all 0 where the call is refused
 abbrev pub wait_out : ℕ → ℕ → ℕ → ℕ → Wait
 wait_out rounds turns until from =
     record { rounds = rounds; turns_per_round = turns; turns_until_known = until; turns_from_crash = from }
