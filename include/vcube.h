@@ -103,9 +103,9 @@
 #include <stdint.h>
 
 #define VCUBE_VERSION_MAJOR 1
-#define VCUBE_VERSION_MINOR 0
+#define VCUBE_VERSION_MINOR 1
 #define VCUBE_VERSION_PATCH 0
-#define VCUBE_VERSION "1.0.0"
+#define VCUBE_VERSION "1.1.0"
 
 #ifdef __cplusplus
 extern "C" {

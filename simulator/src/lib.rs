@@ -33,8 +33,7 @@
 //! of them were made; group list, assignment and saved plants judge a table by
 //! the rules of the cube, wherever it comes from.
 //! The words, the reading of an input, the slot and the wait follow docs/RULES.md
-//! and include/vcube.h. Which words an unreadable line has these leave open, but for
-//! a tab in the place of a space.
+//! and include/vcube.h, the words of an unreadable line docs/RULES.md alone.
 //!
 //! Rows are 64-bit sets and lines are structs. They are decoded from the lent
 //! byte table and encoded back into it. By whom a station was told to leave is
@@ -69,6 +68,7 @@ mod saved;
 pub mod sheet;
 mod slot;
 mod totals;
+mod unread;
 mod wait;
 mod wiring;
 mod words;
@@ -80,7 +80,7 @@ pub use converter::{convert, converted_length};
 pub use figures::{figures, figures_of_two, Figures};
 pub use fraction::Fraction;
 pub use granter::{drive, grant, Driven};
-pub use input::{read_input, InputRead, LEFT_OPEN, MOST_ENTRIES, SCHEDULE_LENGTH};
+pub use input::{read_input, InputRead, MOST_ENTRIES, SCHEDULE_LENGTH};
 pub use lamp::doubt_lamp;
 pub use line::HEAD;
 pub use mender::mend;

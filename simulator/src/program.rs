@@ -29,7 +29,7 @@ struct Ran<'a> {
 pub fn respond(wiring: Wiring, input: &[u8]) -> String {
     let mut buffers = Buffers::zeros();
     let read = input::read(input, &mut buffers.schedule);
-    match read.unread {
+    match &read.unread {
         None => print(&run_from_fresh(wiring, &read, &mut buffers)),
         Some(unread) => print_unread(unread.line),
     }

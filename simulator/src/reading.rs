@@ -1,4 +1,4 @@
-//! Reading of sizes and stations by the programs.
+//! Reading of sizes, stations and kinds by the programs.
 
 /// A size: one to three digits.
 pub fn read_size(digits: &[u8]) -> Option<usize> {
@@ -18,4 +18,14 @@ fn read_number(digits: &[u8], most: usize) -> Option<usize> {
     }
     let append = |number, digit: &u8| 10 * number + usize::from(digit - b'0');
     Some(digits.iter().fold(0, append))
+}
+
+/// The kind of an entry, by its letter.
+pub fn read_kind(letter: u8) -> Option<u8> {
+    match letter {
+        b'T' => Some(1),
+        b'L' => Some(2),
+        b'C' => Some(3),
+        _ => None,
+    }
 }

@@ -71,12 +71,12 @@ pub struct Input {
 }
 
 /// The first line of an input that cannot be read.
-#[derive(Clone, Copy, Debug, PartialEq, Eq, Hash)]
+#[derive(Clone, Debug, PartialEq, Eq, Hash)]
 pub struct Unread {
     /// Its number, from 1.
     pub line: usize,
     /// What is wrong in it.
-    pub words: Words,
+    pub words: Box<Words>,
     /// What was read before it.
     pub before: Input,
 }
@@ -105,7 +105,7 @@ pub fn read_input(input: &[u8], schedule: &mut [u8; SCHEDULE_LENGTH]) -> Result<
     } else {
         Err(Unread {
             line,
-            words,
+            words: Box::new(words),
             before,
         })
     }

@@ -1,7 +1,7 @@
 //! The reading of an input.
 
 use super::UNWRITTEN;
-use crate::{read_input, InputRead, LEFT_OPEN};
+use crate::{read_input, InputRead};
 
 /// What is answered, the entries, and the words. The rest of the schedule stays.
 fn read(input: &str) -> (InputRead, Vec<u8>, String) {
@@ -27,7 +27,8 @@ fn answer(n: usize, entries: usize, line: usize) -> InputRead {
 
 fn unread(input: &str, expected: InputRead, words: &str) {
     let (given, _, text) = read(input);
-    assert_eq!((given, &text[..]), (expected, words), "{input:?}");
+    let words = format!("{words} is expected");
+    assert_eq!((given, text), (expected, words), "{input:?}");
 }
 
 #[test]
@@ -42,33 +43,81 @@ fn all_lines() {
 
 #[test]
 fn the_first_line() {
-    for input in ["", "\n", "\nT 0\n", " 2\n", "1000\n", "x", "2 \n", "-1"] {
-        unread(input, answer(0, 0, 1), LEFT_OPEN);
+    let size = "the size (one to three digits)";
+    for (input, found) in [
+        ("", "an empty input"),
+        ("\n", "an empty line"),
+        ("\nT 0\n", "an empty line"),
+        (" 2\n", "a space"),
+        ("-1", "the character -"),
+        ("x\n\n", "a lower case letter"),
+        ("T 0\nT\t0", "the character T"),
+    ] {
+        unread(input, answer(0, 0, 1), &format!("{found} where {size}"));
+    }
+    let end = "the end of the line";
+    for (input, found) in [
+        ("1000\n", "a digit too many"),
+        ("0002", "a digit too many"),
+        ("2 \n", "a space"),
+        ("2\r\nT 0\r\n", "a carriage return"),
+        ("2T 0", "the character T"),
+    ] {
+        unread(input, answer(0, 0, 1), &format!("{found} where {end}"));
     }
 }
 
 #[test]
 fn later_lines() {
-    unread("4\n\n", answer(4, 0, 2), LEFT_OPEN);
-    unread("4\nT 0\nt 0\nT 1\n", answer(4, 1, 3), LEFT_OPEN);
-    unread("4\nT 100\n", answer(4, 0, 2), LEFT_OPEN);
-    unread("4\nT  0\n", answer(4, 0, 2), LEFT_OPEN);
-    unread("4\nT 0\r\n", answer(4, 0, 2), LEFT_OPEN);
-    unread(
-        "4\nC 3\nT\t0\n",
-        answer(4, 1, 3),
-        "a tab where a space is expected",
-    );
-    assert_eq!(read("4\nC 3\nT\t0\n").1, [3, 3]);
+    for (line, words) in [
+        (
+            "",
+            "an empty line where an entry (T, L or C, a space, one or two digits)",
+        ),
+        ("t 0", "a lower case letter where T, L or C"),
+        ("8", "a digit where T, L or C"),
+        (" T 0", "a space where T, L or C"),
+        ("X\t", "the character X where T, L or C"),
+        ("T", "the end of the line where a space"),
+        ("C\t0", "a tab where a space"),
+        ("L0", "a digit where a space"),
+        ("T ", "the end of the line where a digit"),
+        ("T  0", "a space where a digit"),
+        ("T -1", "the character - where a digit"),
+        ("T 100", "a digit too many where the end of the line"),
+        ("T 000x", "a digit too many where the end of the line"),
+        ("T 0\r", "a carriage return where the end of the line"),
+        ("T 01 ", "a space where the end of the line"),
+        ("T 0x1", "a lower case letter where the end of the line"),
+    ] {
+        for behind in ["\n", "\nT 1\n", "\n\nx"] {
+            let input = format!("4\n{line}{behind}");
+            unread(&input, answer(4, 0, 2), words);
+            let input = format!("4\nC 3\n{line}{behind}");
+            unread(&input, answer(4, 1, 3), words);
+            assert_eq!(read(&input).1, [3, 3]);
+        }
+    }
 }
 
 #[test]
 fn most_entries() {
     let input = String::from("64\n") + &"T 9\n".repeat(4096);
-    unread(&input, answer(64, 4096, 0), "");
-    unread(&(input.clone() + "T 9"), answer(64, 4096, 4098), LEFT_OPEN);
-    unread(&(input.clone() + "T\t9"), answer(64, 4096, 4098), LEFT_OPEN);
-    unread(&(input + "\n"), answer(64, 4096, 4098), LEFT_OPEN);
+    assert_eq!(read(&input).0, answer(64, 4096, 0));
+    for (line, words) in [
+        (
+            "T 9",
+            "a 4,097th entry where the end of the input (4,096 entries at most)",
+        ),
+        ("T\t9", "a tab where a space"),
+        ("T 999", "a digit too many where the end of the line"),
+        (
+            "\n",
+            "an empty line where an entry (T, L or C, a space, one or two digits)",
+        ),
+    ] {
+        unread(&(input.clone() + line), answer(64, 4096, 4098), words);
+    }
 }
 
 #[test]

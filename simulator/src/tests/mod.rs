@@ -32,6 +32,7 @@ mod steps;
 mod tables;
 mod told;
 mod totals;
+mod unread;
 mod wait;
 mod wirings;
 mod words;

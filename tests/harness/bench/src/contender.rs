@@ -1,15 +1,17 @@
 //! The three implementations of the run, of the drive, of the figures, of the
-//! doubt lamp, of mending and of saving, loading and converting, called the same way.
+//! doubt lamp, of mending, of saving, loading and converting, of slots and of
+//! reading an input, called the same way.
 
-use crate::{plain, plain_drive, plain_figures, plain_lamp, plain_mend, plain_saved};
+use crate::{plain, plain_drive, plain_figures, plain_input, plain_lamp, plain_mend};
+use crate::{plain_saved, plain_slot};
 use shared::grants::NONE_YET;
 use shared::schedule::Entry;
 use shared::wiring::Wiring;
-use simulator::{Answer, Driven, Loaded};
-use vcube::{Figures, Fraction, Refusal, Tally};
+use simulator::{Answer, Driven, InputRead, Loaded, Slot};
+use vcube::{Figures, Fraction, Refusal, Station, Tally};
+use vcube::{SCHEDULE_LENGTH, WORDS_LENGTH};
 
-/// An implementation of the run, of the drive, of the figures, of the doubt lamp
-/// and of saving, loading and converting.
+/// An implementation of all of these.
 #[derive(Clone, Copy, Debug, PartialEq, Eq)]
 pub enum Contender {
     Library,
@@ -115,6 +117,25 @@ impl Contender {
             Contender::Simulator => simulator::load(file, table),
         }
     }
+
+    /// The slot of a station.
+    pub fn slot(self, n: usize, table: &[u8], station: usize) -> Slot {
+        match self {
+            Contender::Library => slot_library(n, table, station),
+            Contender::Plain => plain_slot::slot(n, table, station),
+            Contender::Simulator => simulator::slot(n, table, station as u8),
+        }
+    }
+
+    /// Reads an input. No words are kept.
+    pub fn read_input(self, input: &[u8], schedule: &mut [u8; SCHEDULE_LENGTH]) -> InputRead {
+        let mut words = [0; WORDS_LENGTH];
+        match self {
+            Contender::Library => read_input_library(input, schedule),
+            Contender::Plain => plain_input::read_input(input, schedule, &mut words),
+            Contender::Simulator => simulator::read_input(input, schedule, &mut words),
+        }
+    }
 }
 
 /// The simulator's figures, or its refusal.
@@ -210,6 +231,29 @@ fn load_library(file: &[u8], table: &mut [u8]) -> Loaded {
         size: loaded.map_or(0, |loaded| loaded.n),
         rounds: tally.rounds,
         tests: tally.tests,
+    }
+}
+
+fn slot_library(n: usize, table: &[u8], station: usize) -> Slot {
+    let slot = vcube::slot(n, table, Station(station));
+    let (tests, most) = slot.map_or((0, 0), |slot| (slot.tests, slot.most));
+    Slot {
+        number: number(slot.err()),
+        tests,
+        most,
+    }
+}
+
+fn read_input_library(input: &[u8], schedule: &mut [u8; SCHEDULE_LENGTH]) -> InputRead {
+    let of_line = |line, read: vcube::Input| InputRead {
+        number: 0,
+        n: read.n,
+        entries: read.entries,
+        line,
+    };
+    match vcube::read_input(input, schedule) {
+        Ok(read) => of_line(0, read),
+        Err(unread) => of_line(unread.line, unread.before),
     }
 }
 

@@ -8,6 +8,7 @@ use crate::work::Work;
 use simulator::{Answer, Driven, Loaded};
 use std::hint::black_box;
 use std::time::Instant;
+use vcube::SCHEDULE_LENGTH;
 
 /// A batch of runs or drives, each on a table of its own. The sheet is the same
 /// for all.
@@ -88,6 +89,33 @@ pub fn best_times_of_lamps(works: &[LampWork], repetitions: usize) -> [f64; 3] {
         let start = Instant::now();
         for work in works {
             black_box(contender.doubt_lamp(work.wiring, work.n, &work.table));
+        }
+        start.elapsed().as_secs_f64()
+    })
+}
+
+/// The seconds that the slots of these stations take together with each
+/// implementation.
+pub fn best_times_of_slots(work: &LampWork, stations: &[usize], repetitions: usize) -> [f64; 3] {
+    best(repetitions, |contender| {
+        let (work, stations) = black_box((work, stations));
+        let start = Instant::now();
+        for station in stations {
+            black_box(contender.slot(work.n, &work.table, *station));
+        }
+        start.elapsed().as_secs_f64()
+    })
+}
+
+/// The seconds that the readings of all inputs take together with each
+/// implementation, all into one schedule.
+pub fn best_times_of_inputs(inputs: &[Vec<u8>], repetitions: usize) -> [f64; 3] {
+    let mut schedule = [0; SCHEDULE_LENGTH];
+    best(repetitions, |contender| {
+        let (inputs, schedule) = black_box((inputs, &mut schedule));
+        let start = Instant::now();
+        for input in inputs {
+            black_box(contender.read_input(input, schedule));
         }
         start.elapsed().as_secs_f64()
     })
@@ -234,6 +262,27 @@ pub fn check_equal_lamps(work: &LampWork) {
         let given = contender.doubt_lamp(work.wiring, work.n, &work.table);
         assert_eq!(given, (0, work.pair), "{contender:?}: another pair");
     }
+}
+
+/// Stops unless all three give equal slots of the stations, which are live.
+pub fn check_equal_slots(work: &LampWork, stations: &[usize]) {
+    for station in stations {
+        let slots = Contender::ALL.map(|contender| contender.slot(work.n, &work.table, *station));
+        assert_eq!(slots[0].number, 0, "the slot is refused");
+        assert_eq!(slots[0], slots[1], "library and plain Rust differ");
+        assert_eq!(slots[0], slots[2], "library and simulator differ");
+    }
+}
+
+/// Stops unless all three read the whole input alike, with so many entries.
+pub fn check_equal_inputs(input: &[u8], entries: usize) {
+    let read = Contender::ALL.map(|contender| {
+        let mut schedule = [0; SCHEDULE_LENGTH];
+        (contender.read_input(input, &mut schedule), schedule)
+    });
+    assert_eq!((read[0].0.entries, read[0].0.line), (entries, 0));
+    assert!(read[0] == read[1], "library and plain Rust differ");
+    assert!(read[0] == read[2], "library and simulator differ");
 }
 
 /// Stops unless all three mend the table alike, with so many changes.

@@ -267,7 +267,7 @@ fn line_of(n: usize, table: &mut [u8], i: usize) -> &mut [u8] {
 /// Whether i is the first station that its row does not suspect in the group of
 /// the station at distance m, at the level of m, and a station stands there. The
 /// row has a byte for each station.
-fn is_due(row: &[u8], i: usize, m: usize) -> bool {
+pub fn is_due(row: &[u8], i: usize, m: usize) -> bool {
     let j = i ^ m;
     let width = 1 << m.ilog2();
     let mut group = (width..2 * width).map(|distance| j ^ distance);

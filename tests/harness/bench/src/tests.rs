@@ -4,9 +4,11 @@
 mod detection;
 mod drives;
 mod grants;
+mod inputs;
 mod lamps;
 mod mendings;
 mod saves;
+mod slots;
 
 use crate::contender::Contender;
 use crate::measure::{check_equal, check_equal_figures};

@@ -187,24 +187,7 @@ impl Kind {
 
     /// Those about a plant, which take a size or a file with one: the first ones. The others are about results, words and
     /// inputs.
-    pub const OF_PLANTS: [Kind; 16] = [
-        Kind::FreshTable,
-        Kind::GroupList,
-        Kind::Assignment,
-        Kind::Slot,
-        Kind::Row,
-        Kind::Run,
-        Kind::Grant,
-        Kind::Drive,
-        Kind::DoubtLamp,
-        Kind::Wait,
-        Kind::Mend,
-        Kind::Save,
-        Kind::Load,
-        Kind::SavedSize,
-        Kind::Convert,
-        Kind::ConvertedLength,
-    ];
+    pub const OF_PLANTS: &[Kind] = Kind::ALL.split_at(Kind::ConvertedLength as usize + 1).0;
 
     /// Those that take a wiring number.
     pub const WIRED: [Kind; 8] = [

@@ -16,31 +16,19 @@ use crate::call::{Call, Kind, Name};
 use crate::outcome::Outcome;
 use crate::trial::Trial;
 
-/// Writes calls 1 up to this number, but those with words that the simulator does
-/// not know.
+/// Writes calls 1 up to this number.
 pub fn record(seed: u64, calls: u64, path: &Path) -> Result<String, String> {
     let mut file = Vec::new();
-    let mut count = 0;
     for number in 1..=calls {
         let trial = Trial::make_agreeing(seed, number);
-        if is_left_out(&trial) {
-            continue;
-        }
         file.extend(text(&trial.call, &trial.simulator));
-        count += 1;
     }
     let failed = |error| format!("compare: cannot write {}: {error}", path.display());
     fs::write(path, &file).map_err(failed)?;
     Ok(format!(
-        "compare: {count} of {calls} calls of seed {seed} are in {}",
+        "compare: {calls} calls of seed {seed} are in {}",
         path.display()
     ))
-}
-
-/// Whether the call has words that the simulator does not know.
-fn is_left_out(trial: &Trial) -> bool {
-    let words = trial.simulator.buffers.get(Name::Words).contents();
-    words.starts_with(simulator::LEFT_OPEN.as_bytes())
 }
 
 /// An argument of a function of the header.

@@ -5,9 +5,10 @@ use simulator::{SCHEDULE_LENGTH, WORDS_LENGTH};
 use crate::call::{Call, Kind, Name};
 use crate::faults::{leave, put, Fault};
 use crate::outcome::Outcome;
+use crate::texts::text;
 
 pub fn all() -> impl Iterator<Item = Fault> {
-    OF_WORDS.into_iter().chain(OF_INPUTS)
+    OF_WORDS.into_iter().chain(OF_INPUTS).chain(OF_LINES)
 }
 
 const OF_WORDS: [Fault; 10] = [
@@ -185,6 +186,71 @@ const OF_INPUTS: [Fault; 16] = [
     ),
 ];
 
+/// In what is said of an unreadable line.
+const OF_LINES: [Fault; 12] = [
+    ("line: a tab is called a space", |call, outcome| {
+        say(call, outcome, |said| said.replace("a tab", "a space"));
+    }),
+    ("line: an empty input is called a line", |call, outcome| {
+        say(call, outcome, |said| {
+            said.replace("empty input", "empty line")
+        });
+    }),
+    ("line: an empty one ends", |call, outcome| {
+        say(call, outcome, |said| {
+            said.replace("an empty line", "the end of the line")
+        });
+    }),
+    ("line: what is found is expected", |call, outcome| {
+        say(call, outcome, |said| {
+            let both = said.strip_suffix(" is expected").unwrap_or(said);
+            let (found, expected) = both.split_once(" where ").unwrap_or((both, ""));
+            format!("{expected} where {found} is expected")
+        });
+    }),
+    ("line: its number stands in front", |call, outcome| {
+        let line = outcome.buffers.get(Name::Line).contents()[0];
+        say(call, outcome, |said| format!("unread {line}: {said}"));
+    }),
+    ("line: a byte in capitals", |call, outcome| {
+        say(call, outcome, |said| {
+            let digits = said
+                .strip_prefix("the byte ")
+                .and_then(|rest| rest.get(..2));
+            let digits = digits.unwrap_or("");
+            said.replacen(digits, &digits.to_uppercase(), 1)
+        });
+    }),
+    ("line: a small letter is a character", |call, outcome| {
+        say(call, outcome, |said| {
+            said.replace("a lower case letter", "the character t")
+        });
+    }),
+    ("line: a digit too many is a digit", |call, outcome| {
+        say(call, outcome, |said| {
+            said.replace("a digit too many", "a digit")
+        });
+    }),
+    ("line: a byte order mark is a byte", |call, outcome| {
+        say(call, outcome, |said| {
+            said.replace("a byte order mark", "the byte ef (hexadecimal)")
+        });
+    }),
+    ("line: 254 is read as 253", |call, outcome| {
+        replace(call, outcome, 0xFE, 0xFD);
+    }),
+    ("line: one too many is an entry", |call, outcome| {
+        say(call, outcome, |said| {
+            said.replace("a 4,097th entry", "an entry")
+        });
+    }),
+    ("line: a size of any length", |call, outcome| {
+        say(call, outcome, |said| {
+            said.replace(" (one to three digits)", "")
+        });
+    }),
+];
+
 /// Whether it is a call for words that is accepted.
 fn is_worded(call: &Call, outcome: &Outcome) -> bool {
     let of_words = [Kind::RefusalWords, Kind::StatusWords, Kind::OutcomeWords];
@@ -209,6 +275,16 @@ fn reword(call: &Call, outcome: &mut Outcome, other: fn(usize) -> usize) {
             Kind::StatusWords => simulator::status_words(number, words),
             _ => simulator::outcome_words(number, words),
         };
+    }
+}
+
+/// Other words of an unreadable line.
+fn say(call: &Call, outcome: &mut Outcome, other: impl Fn(&str) -> String) {
+    if is_unread(call, outcome) {
+        let words = outcome.buffers.get_mut(Name::Words).contents_mut();
+        let said = other(&text(words));
+        words.fill(0);
+        words[..said.len()].copy_from_slice(said.as_bytes());
     }
 }
 

@@ -1,7 +1,6 @@
-//! The cases that words and inputs must cover, and words that the rules leave
-//! open.
+//! The cases that words and inputs must cover.
 
-use simulator::{LEFT_OPEN, MOST_ENTRIES, SCHEDULE_LENGTH, WORDS_LENGTH};
+use simulator::{MOST_ENTRIES, SCHEDULE_LENGTH, WORDS_LENGTH};
 
 use crate::call::{Call, Kind, Name};
 use crate::occurred::{self, Occurred};
@@ -13,8 +12,8 @@ type Case = occurred::Case<Seen>;
 pub struct Seen {
     number: u8,
     worded: usize,
-    /// Whether the words are not empty.
-    has_words: bool,
+    /// The words, up to the first zero.
+    words: String,
     of_words: usize,
     of_schedule: usize,
     input: Vec<u8>,
@@ -23,7 +22,7 @@ pub struct Seen {
     line: usize,
 }
 
-const CASES: [(Kind, &[Case]); 10] = [
+const CASES: [(Kind, &[Case]); 12] = [
     (Kind::RefusalWords, &WORDS),
     (Kind::RefusalWords, &WORDS_LENGTHS),
     (Kind::StatusWords, &WORDS),
@@ -32,6 +31,8 @@ const CASES: [(Kind, &[Case]); 10] = [
     (Kind::OutcomeWords, &WORDS_LENGTHS),
     (Kind::ReadInput, &READ),
     (Kind::ReadInput, &UNREAD),
+    (Kind::ReadInput, &WRONG_SIZES),
+    (Kind::ReadInput, &WRONG_ENTRIES),
     (Kind::ReadInput, &WORDS_LENGTHS),
     (Kind::ReadInput, &SCHEDULE_LENGTHS),
 ];
@@ -44,8 +45,8 @@ pub fn all(count: u64) -> Occurred<Seen> {
 /// By the number.
 const WORDS: [Case; 7] = [
     ("number 0", |seen| seen.number == 0 && seen.worded == 0),
-    ("number 1", |seen| seen.has_words && seen.worded == 1),
-    ("number 3", |seen| seen.has_words && seen.worded == 3),
+    ("number 1", |seen| has(seen) && seen.worded == 1),
+    ("number 3", |seen| has(seen) && seen.worded == 3),
     ("a number below 256 without words", |seen| {
         has_none(seen, (1..256).contains(&seen.worded))
     }),
@@ -178,8 +179,121 @@ const UNREAD: [Case; 13] = [
     }),
 ];
 
+/// By what is said of a first line that cannot be read.
+const WRONG_SIZES: [Case; 10] = [
+    ("a byte order mark for a size", |seen| {
+        says_first(seen, "a byte order mark where the size")
+    }),
+    ("a tab for a size", |seen| {
+        says_first(seen, "a tab where the size")
+    }),
+    ("a character for a size", |seen| {
+        says_first(seen, "the character / where the size")
+    }),
+    ("a byte for a size", |seen| {
+        says_first(seen, " (hexadecimal) where the size")
+    }),
+    ("four digits for a size", |seen| {
+        says_first(seen, "a digit too many where the end")
+    }),
+    ("a carriage return behind the size", |seen| {
+        says_first(seen, "a carriage return where the end")
+    }),
+    ("a space behind the size", |seen| {
+        says_first(seen, "a space where the end")
+    }),
+    ("a letter behind the size", |seen| {
+        says_first(seen, "a lower case letter where the end")
+    }),
+    ("a character behind the size", |seen| {
+        says_first(seen, "the character X where the end")
+    }),
+    ("a byte behind the size", |seen| {
+        says_first(seen, " (hexadecimal) where the end")
+    }),
+];
+
+/// By what is said of a later one.
+const WRONG_ENTRIES: [Case; 21] = [
+    ("a digit for a letter", |seen| {
+        says(seen, "a digit where T, L or C")
+    }),
+    ("a small letter", |seen| {
+        says(seen, "a lower case letter where T, L or C")
+    }),
+    ("a character for a letter", |seen| {
+        says(seen, "the character X where T, L or C")
+    }),
+    ("a byte order mark for a letter", |seen| {
+        says(seen, "a byte order mark where T, L or C")
+    }),
+    ("a byte for a letter", |seen| {
+        says(seen, " (hexadecimal) where T, L or C")
+    }),
+    ("nothing behind the letter", |seen| {
+        says(seen, "the end of the line where a space")
+    }),
+    ("a digit behind the letter", |seen| {
+        says(seen, "a digit where a space")
+    }),
+    ("a zero byte behind the letter", |seen| {
+        says(seen, "the byte 00 (hexadecimal) where a space")
+    }),
+    ("a character behind the letter", |seen| {
+        says(seen, "the character T where a space")
+    }),
+    ("nothing behind the space", |seen| {
+        says(seen, "the end of the line where a digit")
+    }),
+    ("two spaces", |seen| says(seen, "a space where a digit")),
+    ("a tab behind the space", |seen| {
+        says(seen, "a tab where a digit")
+    }),
+    ("a character behind the space", |seen| {
+        says(seen, "the character - where a digit")
+    }),
+    ("a byte behind the space", |seen| {
+        says(seen, " (hexadecimal) where a digit")
+    }),
+    ("a digit too many", |seen| {
+        says(seen, "a digit too many where the end of the line")
+    }),
+    ("a space behind the digits", |seen| {
+        says(seen, "a space where the end of the line")
+    }),
+    ("a carriage return behind the digits", |seen| {
+        says(seen, "a carriage return where the end of the line")
+    }),
+    ("a byte order mark behind the digits", |seen| {
+        says(seen, "a byte order mark where the end of the line")
+    }),
+    ("a small letter behind the digits", |seen| {
+        says(seen, "a lower case letter where the end of the line")
+    }),
+    ("a character behind the digits", |seen| {
+        says(seen, "the character : where the end of the line")
+    }),
+    ("a byte with a letter among its digits", |seen| {
+        says(seen, "the byte ef (hexadecimal)") || says(seen, "the byte ff (hexadecimal)")
+    }),
+];
+
+fn has(seen: &Seen) -> bool {
+    seen.number == 0 && !seen.words.is_empty()
+}
+
 fn has_none(seen: &Seen, is_one: bool) -> bool {
-    seen.number == 0 && !seen.has_words && is_one
+    seen.number == 0 && seen.words.is_empty() && is_one
+}
+
+/// Whether line 1 has these words.
+fn says_first(seen: &Seen, words: &str) -> bool {
+    is_unread(seen, seen.line == 1 && seen.words.contains(words))
+}
+
+/// Whether a later line has these words.
+fn says(seen: &Seen, words: &str) -> bool {
+    is_unread(seen, seen.line > 1 && seen.words.contains(words))
 }
 
 fn is_refused(seen: &Seen, is_one: bool) -> bool {
@@ -215,11 +329,14 @@ impl Seen {
             false => 0,
         };
         let schedule = outcome.buffers.get(Name::Schedule).contents();
-        let words = outcome.buffers.get(Name::Words).contents();
+        let words = match outcome.number {
+            0 => outcome.buffers.get(Name::Words).contents(),
+            _ => &[],
+        };
         Seen {
             number: outcome.number,
             worded: call.numbers.worded,
-            has_words: outcome.number == 0 && words[0] != 0,
+            words: text(words),
             of_words: lent(Name::Words),
             of_schedule: lent(Name::Schedule),
             input: call.buffers.get(Name::Input).clone(),
@@ -230,43 +347,8 @@ impl Seen {
     }
 }
 
-/// Where the rules leave the words of a line open, any will do that are words:
-/// the simulator's outcome takes those of the library.
-pub fn fill_in(simulator: &mut Outcome, library: &Outcome) {
-    let given = library.buffers.get(Name::Words).contents();
-    let words = simulator.buffers.get_mut(Name::Words).contents_mut();
-    if words.starts_with(LEFT_OPEN.as_bytes()) && are_words(given) {
-        words.copy_from_slice(given);
-    }
-}
-
-/// Printable bytes, and zeros behind them, one of each at least.
-fn are_words(words: &[u8]) -> bool {
-    let end = words.iter().position(|byte| *byte == 0);
-    end.is_some_and(|end| {
-        let (text, zeros) = words.split_at(end);
-        let printable = |byte: &u8| (b' '..=b'~').contains(byte);
-        end > 0 && text.iter().all(printable) && zeros.iter().all(|byte| *byte == 0)
-    })
-}
-
-#[cfg(test)]
-mod tests {
-    use super::are_words;
-
-    #[test]
-    fn words_and_others() {
-        assert!(are_words(b"an\0\0") && are_words(b"a \0"));
-        for other in [
-            &b""[..],
-            b"\0",
-            b"a",
-            b"a\0b",
-            b"\ta\0",
-            b"\xC3\xA4\0",
-            b"\0a",
-        ] {
-            assert!(!are_words(other));
-        }
-    }
+/// The text that stands before the first zero.
+pub fn text(words: &[u8]) -> String {
+    let until = words.iter().position(|byte| *byte == 0);
+    String::from_utf8_lossy(&words[..until.unwrap_or(words.len())]).into_owned()
 }

@@ -9,7 +9,7 @@ use crate::call::{Buffers, Call};
 use crate::guarded::Guarded;
 use crate::outcome::{self, Difference, Outcome, Side};
 use crate::ways_back::Made;
-use crate::{calls, generate, texts};
+use crate::{calls, generate};
 
 pub struct Trial {
     pub call: Call,
@@ -54,12 +54,9 @@ impl Trial {
 
     fn of(call: Call, mut random: Random) -> Trial {
         let lent = guard(&call, &mut random);
-        let library = calls::make::<Library>(&call, lent.clone());
-        let mut simulator = calls::make::<Simulator>(&call, lent.clone());
-        texts::fill_in(&mut simulator, &library);
         Trial {
-            simulator,
-            library,
+            simulator: calls::make::<Simulator>(&call, lent.clone()),
+            library: calls::make::<Library>(&call, lent.clone()),
             typed: calls::make::<Typed>(&call, lent),
             call,
             random,

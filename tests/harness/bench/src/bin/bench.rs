@@ -1,6 +1,6 @@
 //! Entries per second of the run, drives per second, and calls per second of
-//! the figures, of the doubt lamp, of mendings, of saves, loads and conversions:
-//! the library, plain Rust over the same bytes, and the simulator. First all of
+//! the figures, of the doubt lamp, of mendings, of saves, loads and conversions,
+//! of slots and of the reading of inputs: the library, plain Rust over the same bytes, and the simulator. First all of
 //! them on the cube, then on the ring those that take a wiring.
 //!
 //! `bench` prints the tables; `--quick` repeats less.
@@ -14,6 +14,7 @@ use bench::mend_work::{Damage, MendWork};
 use bench::saved_work::SavedWork;
 use bench::work::Work;
 use shared::random::Random;
+use shared::table::live_stations;
 use shared::wiring::Wiring;
 use std::process::ExitCode;
 
@@ -54,6 +55,18 @@ const SAVED_SIZES: [usize; 3] = [8, 19, 64];
 
 /// How many saves, loads or conversions are timed together.
 const SAVES: usize = 50;
+
+/// How many slots are timed together.
+const SLOTS: usize = 100;
+
+/// The sizes of the plants whose slots are asked for.
+const SLOT_SIZES: [usize; 3] = [8, 19, 64];
+
+/// How many readings of an input are timed together.
+const INPUTS: usize = 50;
+
+/// How many entries the inputs have.
+const INPUT_ENTRIES: [usize; 3] = [16, 256, simulator::MOST_ENTRIES];
 
 /// By this the repetitions are divided where calls are timed together.
 const BATCH_DIVISOR: usize = 3;
@@ -131,6 +144,8 @@ fn print_tables(repetitions: usize) {
     print_saves(fewer);
     print_loads(fewer);
     print_conversions(fewer);
+    print_slots(fewer);
+    print_inputs(fewer);
     print_wired(Wiring::Ring, repetitions, fewer);
 }
 
@@ -385,6 +400,57 @@ fn print_table_of_saved(times: impl Fn(&[SavedWork]) -> [f64; 3]) {
         let times = times(&plants(n));
         println!("| {n} | {} |", speeds(thousands(SAVES), times));
     }
+}
+
+/// A row for each table.
+fn print_slots(repetitions: usize) {
+    println!("\nSlots\n");
+    println!("The slots of the live boards, one after the other, of a table in which each of them");
+    println!("suspects just the dead ones. Thousands of calls per second, the best of");
+    println!("{repetitions} repetitions; {SLOTS} calls are timed together.\n");
+    println!("| n | dead | {COLUMNS}");
+    println!("|--:|--:|--:|--:|--:|--:|--:|");
+    for n in SLOT_SIZES {
+        for dead in [0, n / 4] {
+            let work = LampWork::new(Wiring::Cube, n, dead, None);
+            let live = live_stations(n, &work.table);
+            let stations: Vec<usize> = live.into_iter().cycle().take(SLOTS).collect();
+            measure::check_equal_slots(&work, &stations);
+            let times = measure::best_times_of_slots(&work, &stations, repetitions);
+            println!("| {n} | {dead} | {} |", speeds(thousands(SLOTS), times));
+        }
+    }
+}
+
+/// A row for each number of entries.
+fn print_inputs(repetitions: usize) {
+    println!("\nReadings of an input\n");
+    println!("Inputs with so many random entries, of which all lines can be read. Thousands of");
+    println!("calls per second, the best of {repetitions} repetitions; {INPUTS} calls are timed together,");
+    println!("each of an input of its own.\n");
+    println!("| entries | {COLUMNS}");
+    println!("|--:|--:|--:|--:|--:|--:|");
+    for entries in INPUT_ENTRIES {
+        let inputs = random_inputs(entries);
+        inputs
+            .iter()
+            .for_each(|input| measure::check_equal_inputs(input, entries));
+        let times = measure::best_times_of_inputs(&inputs, repetitions);
+        println!("| {entries} | {} |", speeds(thousands(INPUTS), times));
+    }
+}
+
+fn random_inputs(entries: usize) -> Vec<Vec<u8>> {
+    let mut random = Random::new(SEED);
+    let mut entry = || {
+        let letter = char::from(random.pick(b"TLC"));
+        format!("{letter} {}\n", random.below(64))
+    };
+    let mut input = || {
+        let lines: String = (0..entries).map(|_| entry()).collect();
+        Vec::from("64\n".to_owned() + &lines)
+    };
+    (0..INPUTS).map(|_| input()).collect()
 }
 
 /// A row for each batch of runs.

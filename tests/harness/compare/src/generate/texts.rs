@@ -58,6 +58,9 @@ fn length(right: usize, random: &mut Random) -> usize {
 /// Bytes that are wrong in most places.
 const ODD: [u8; 16] = *b"\t\t\r \n\0tX/:-09\xEF\x7F\xFF";
 
+/// Byte order marks.
+const MARKS: [&[u8]; 3] = [b"\xEF\xBB\xBF", b"\xFF\xFE", b"\xFE\xFF"];
+
 /// An input, which in half of all cases can be read.
 fn input(random: &mut Random) -> Vec<u8> {
     if random.once_in(60) {
@@ -101,7 +104,7 @@ fn damage(text: &mut Vec<u8>, random: &mut Random) {
         1 => last - random.below(last.min(5) + 1),
         _ => random.below(last + 1),
     };
-    match random.below(9) {
+    match random.below(10) {
         0 => text.truncate(place),
         1 => {
             text.remove(place);
@@ -117,6 +120,10 @@ fn damage(text: &mut Vec<u8>, random: &mut Random) {
             }
         }
         6 => text.make_ascii_lowercase(),
+        7 => {
+            let mark = random.pick(&MARKS);
+            text.splice(place..place, mark.iter().copied());
+        }
         _ => text[place] = random.pick(&ODD),
     }
 }

@@ -1,0 +1,55 @@
+//! The reading of an input in plain Rust. Of a line that cannot be read it says
+//! which it is, and has no words: the bench times inputs that can be read.
+
+use simulator::{InputRead, SCHEDULE_LENGTH, WORDS_LENGTH};
+
+/// Input: refusal 13.
+pub fn read_input(input: &[u8], schedule: &mut [u8], words: &mut [u8]) -> InputRead {
+    let mut read = InputRead::default();
+    if schedule.len() != SCHEDULE_LENGTH || words.len() != WORDS_LENGTH {
+        read.number = 13;
+        return read;
+    }
+    words.fill(0);
+    let text = input.strip_suffix(b"\n").unwrap_or(input);
+    let mut lines = text.split(|byte| *byte == b'\n');
+    let Some(n) = lines.next().and_then(|line| number(line, 3)) else {
+        read.line = 1;
+        return read;
+    };
+    read.n = n;
+    let mut places = schedule.chunks_exact_mut(2);
+    for line in lines {
+        let (Some(place), Some(entry)) = (places.next(), entry(line)) else {
+            read.line = read.entries + 2;
+            return read;
+        };
+        place.copy_from_slice(&entry);
+        read.entries += 1;
+    }
+    read
+}
+
+fn entry(line: &[u8]) -> Option<[u8; 2]> {
+    let [letter, b' ', station @ ..] = line else {
+        return None;
+    };
+    let kind = match letter {
+        b'T' => 1,
+        b'L' => 2,
+        b'C' => 3,
+        _ => return None,
+    };
+    Some([kind, number(station, 2)? as u8])
+}
+
+/// One to so many digits.
+fn number(digits: &[u8], most: usize) -> Option<usize> {
+    if digits.is_empty() || digits.len() > most {
+        return None;
+    }
+    digits.iter().try_fold(0, |value, digit| {
+        let is_digit = digit.is_ascii_digit();
+        is_digit.then(|| 10 * value + usize::from(digit - b'0'))
+    })
+}
