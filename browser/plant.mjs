@@ -1,7 +1,12 @@
 // A plant and its entries so far: any moment of it, by the library, from the nearest moment kept.
-import { CRASH, LIVE, MOST_ENTRIES, NO_STATION, TESTED_TOLD, copy_of } from './library.mjs';
+import { CRASH, LIVE, MOST_ENTRIES, NO_STATION, TESTED_TOLD, copy_of, row_of, status_of } from './library.mjs';
 
 const KEPT_EVERY = 64;
+/// Stands for what the library has not been asked yet.
+export const NOT_ASKED = 'not asked';
+/// For how many milliseconds of a step the library may be asked.
+const ASKED_FOR = 4;
+const MOST_ANSWERS = 16384;
 
 export class Plant {
     /// From a first moment: a fresh plant, or one that was loaded.
@@ -16,6 +21,7 @@ export class Plant {
         this.at = 0;
         this.state = copy_of(state);
         this.before = undefined;
+        this.answers = new Map();
     }
 
     get length() {
@@ -84,5 +90,24 @@ export class Plant {
     round_began() {
         for (let k = this.at; k > 0; k--) if (this.closed(k)) return k;
         return 0;
+    }
+
+    /// What each board's slot is timed for, by its row as it was when this round began: the library's answer depends on no more than that. 64
+    /// answers take longer than a step may, so that what a few milliseconds do not reach is not asked yet.
+    timed_slots() {
+        const began = this.round_began();
+        const of = this.entries[began - 1];
+        if (this.round?.began !== began || this.round.of !== of) this.round = { began, of, state: this.state_at(began) };
+        const { state } = this.round;
+        const until = performance.now() + ASKED_FOR;
+        if (this.answers.size > MOST_ANSWERS) this.answers.clear();
+        return Array.from({ length: this.n }, (_, board) => {
+            const key = String.fromCharCode(board, status_of(state, board), ...row_of(state, board));
+            if (!this.answers.has(key)) {
+                if (performance.now() >= until) return NOT_ASKED;
+                this.answers.set(key, this.library.slot(state, board));
+            }
+            return this.answers.get(key);
+        });
     }
 }
