@@ -52,7 +52,7 @@ export class Circle {
         else if (has_labels) {
             // as much room as the longest of the names takes
             const longest = Math.max(...Array.from(names, (name) => [...shortened(name ?? '', 14)].length));
-            [width, height, around] = [800, 800, 370 - longest * turned_size(n) * 0.58];
+            [width, height, around] = [800, 800, 367 - longest * turned_size(n) * 0.58];
         }
         this.around = around;
         this.middle = has_labels && below ? -12 : 0;
@@ -63,7 +63,8 @@ export class Circle {
         this.arrows = draw('g', { class: 'arrows', 'aria-hidden': 'true' });
         this.boards = this.places.map((place, board) => this.board(place, board, plant, names, { has_labels, below, beside }));
         const cable = draw('path', { d: this.inwards > 0 ? this.zigzag() : round(around, this.middle), class: 'cable' });
-        this.svg.replaceChildren(this.markers(), cable, this.arrows, ...this.boards.map(({ group }) => group));
+        set_class(this.svg, this.inwards > 0 ? 'crowded' : '');
+        this.svg.replaceChildren(this.markers(), cable, ...this.boards.map(({ group }) => group), this.arrows);
     }
 
     /// Many boards stand by turns further out and further in. Of an odd number the last stands between, beside the first.
@@ -119,7 +120,7 @@ export class Circle {
         const is_left = cos < -1e-9;
         const attributes = {
             class: 'name',
-            x: (is_left ? -1 : 1) * (r * 1.45 + 6 + place.inwards),
+            x: (is_left ? -1 : 1) * (r * 1.45 + 9 + place.inwards),
             y: 5,
             'text-anchor': is_left ? 'end' : 'start',
             transform: `rotate(${is_left ? turned + 180 : turned})`,
@@ -156,20 +157,25 @@ export class Circle {
             set_attribute(shown.group, 'aria-label', `Board ${mentioned(names, board)}, ${library.words.status(status)}`);
         });
         const arrows = [];
-        if (lamp) arrows.push(this.arrow(lamp.by, lamp.of, 'doubt', false, 26));
-        if (entry && entry.line[1] !== NO_STATION) {
+        const tested = entry?.line[1] ?? NO_STATION;
+        if (lamp) {
+            const is_same = tested !== NO_STATION && Math.min(lamp.by, lamp.of) === Math.min(entry.board, tested) &&
+                Math.max(lamp.by, lamp.of) === Math.max(entry.board, tested);
+            arrows.push(this.arrow(lamp.by, lamp.of, 'doubt', false, is_same ? 26 : 0));
+        }
+        if (tested !== NO_STATION) {
             const outcome = entry.line[2];
             const name = outcome === EXCHANGED ? 'exchanged' : outcome === NO_REPLY ? 'no-reply' : 'told';
-            arrows.push(this.arrow(entry.board, entry.line[1], name, outcome === EXCHANGED, 0));
+            arrows.push(this.arrow(entry.board, tested, name, outcome === EXCHANGED, 0));
         }
         this.arrows.replaceChildren(...arrows);
     }
 
-    /// From board to board: straight, or bent to the inside by so much; between boards that are near to each other along the inside of the circle.
+    /// From board to board: straight, or bent to the inside by so much; between boards that are near to each other through the inside of the circle.
     arrow(from, to, name, both, aside) {
         const [a, b] = [this.places[from], this.places[to]];
-        const path = this.is_near(a, b) ? this.along(a, b, aside) : this.across(a, b, aside);
-        const attributes = { d: path, class: `arrow ${name}`, 'marker-end': `url(#head-${name})` };
+        const bent = this.is_near(a, b) ? this.inside(a, b, aside) : this.beside(a, b, aside);
+        const attributes = { d: this.curve(a, bent, b), class: `arrow ${name}`, 'marker-end': `url(#head-${name})` };
         if (both) attributes['marker-start'] = `url(#head-${name})`;
         return draw('path', attributes);
     }
@@ -178,30 +184,35 @@ export class Circle {
         return Math.hypot(b.x - a.x, b.y - a.y) < this.around * 0.7;
     }
 
-    along(a, b, aside) {
-        const inside = ({ x, y }, depth) => {
-            const part = 1 - depth / this.around;
-            return [x * part, (y - this.middle) * part + this.middle];
-        };
-        const gap = this.radius * 1.5;
-        const depth = gap + Math.hypot(b.x - a.x, b.y - a.y) * 0.35 + 14 + aside + this.inwards;
-        return curve(inside(a, gap), inside({ x: (a.x + b.x) / 2, y: (a.y + b.y) / 2 }, depth), inside(b, gap));
+    /// What a curve between a and b is drawn to: a point further inside.
+    inside(a, b, aside) {
+        const middle = { x: (a.x + b.x) / 2, y: (a.y + b.y) / 2 - this.middle };
+        const depth = this.radius * 1.5 + Math.hypot(b.x - a.x, b.y - a.y) * 0.35 + 14 + aside + this.inwards;
+        const part = 1 - depth / Math.hypot(middle.x, middle.y);
+        return { x: middle.x * part, y: middle.y * part + this.middle };
     }
 
-    across(a, b, aside) {
-        const [dx, dy] = [b.x - a.x, b.y - a.y];
-        const length = Math.hypot(dx, dy);
-        const gap = Math.min(this.radius * 1.5, length * 0.3);
-        const [ux, uy] = [dx / length, dy / length];
-        const start = [a.x + ux * gap, a.y + uy * gap];
-        const end = [b.x - ux * gap, b.y - uy * gap];
+    /// The same: a point beside the line from a to b, on the side of the middle.
+    beside(a, b, aside) {
+        const length = Math.hypot(b.x - a.x, b.y - a.y);
+        const [ux, uy] = [(b.x - a.x) / length, (b.y - a.y) / length];
         const [x, y] = [(a.x + b.x) / 2, (a.y + b.y) / 2];
         const bend = (ux * y - uy * x > 0 ? -2 : 2) * aside;
-        return curve(start, [x - uy * bend, y + ux * bend], end);
+        return { x: x - uy * bend, y: y + ux * bend };
+    }
+
+    /// It begins and ends a little outside of the boards.
+    curve(a, bent, b) {
+        const gap = this.radius * (this.inwards > 0 ? 1.3 : 1.5);
+        const rim = (board) => {
+            const [dx, dy] = [bent.x - board.x, bent.y - board.y];
+            const part = gap / Math.hypot(dx, dy);
+            return `${tidy(board.x + dx * part)} ${tidy(board.y + dy * part)}`;
+        };
+        return `M${rim(a)}Q${tidy(bent.x)} ${tidy(bent.y)} ${rim(b)}`;
     }
 }
 
 const tidy = (number) => number.toFixed(1);
-const curve = (start, middle, end) => `M${start.map(tidy)}Q${middle.map(tidy)} ${end.map(tidy)}`;
 const turned_size = (n) => (n > 40 ? 15 : 17);
 const round = (r, y) => `M${-r} ${y}A${r} ${r} 0 1 1 ${r} ${y}A${r} ${r} 0 1 1 ${-r} ${y}Z`;

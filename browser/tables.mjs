@@ -92,6 +92,8 @@ export class Matrix {
                 this.shown[board * n + other] = mark;
                 cells[other].textContent = ['', '●', '▲'][mark];
                 cells[other].className = ['', 'dead', 'doubt'][mark];
+                if (mark === 0) cells[other].removeAttribute('aria-label');
+                else cells[other].setAttribute('aria-label', mark === 1 ? 'suspects' : 'suspects, and both are live');
             }
         });
     }

@@ -169,7 +169,19 @@ async function drives(browser) {
     same(left.boards.filter(({ status }) => status !== 'live').length, 1, 'to the next exit');
     await browser.value(`press('first')`);
     same((await browser.value(`press('next-exit')`)).boards, left.boards, 'to the next exit, going back');
+    await open(browser, link(8, ['C 4'], 1));
+    same((await browser.value(`press('to-exit')`)).at, '1 of 1', 'to the next exit, where none comes');
+    same(await message(browser), 'No board leaves in 64 rounds, if driven on. Nothing was changed.', 'why there is no exit');
+    // what followed a moment is dropped by an entry, and brought back
+    await open(browser, link(8, ['T 0', 'T 1', 'L 2', 'C 3'], 2));
+    const before = await all_said(browser);
+    same((await browser.value(`press('to-round')`)).rounds, '1', 'to the end of the round, in the midst');
+    same(await message(browser), 'The 2 entries that followed are dropped.', 'what an entry in the midst drops');
+    await browser.value(`press('bring-back')`);
+    same(await all_said(browser), before, 'what was brought back');
 }
+
+const message = (browser) => browser.value(`document.getElementById('message').textContent`);
 
 const unreadable = [
     ['', 'an empty input where the size (one to three digits) is expected'],
@@ -200,13 +212,13 @@ async function refusals(browser) {
     await browser.value(`document.querySelector('#boards tr[data-board="4"] button').click() ?? true`);
     for (const [id, words] of [['turn', 'this board is not live'], ['late', 'this board is not live'], ['crash', 'this board is not live']]) {
         await browser.value(`press('${id}')`);
-        const said = await browser.value(`document.getElementById('message').textContent`);
+        const said = await message(browser);
         same(said, `Refused for board 4: ${words}. Nothing was changed.`, `a refused ${id}`);
     }
     same(await all_said(browser), before, 'what is shown after refused entries');
     // an input that is refused at an entry keeps the entries before it
     await browser.value(`typed('open', 'open-text', '2\\nC 1\\nT 0\\nT 1\\nT 0\\n')`);
-    const said = await browser.value(`document.getElementById('message').textContent`);
+    const said = await message(browser);
     check(said.includes('line 4') && said.includes('not live'), `an entry that is refused: ${said}`);
     compare(await browser.value('said()'), moments(simulator, 2, ['C 1', 'T 0'], false)[2], 'the entries before a refused one');
     const none = ['#boards=8&entries=Q5', '#boards=999', '#saved=!!!', '#saved=BAAB', '#boards=8&entries=T0&at=-5', '#boards=8&entries=T0&at=x'];
@@ -269,6 +281,20 @@ async function files(browser) {
     same(await drop(browser, readFileSync(`${samples}/eight-boards-names.txt`)), '', 'dropped names');
     const press = await browser.value(`document.querySelector('#boards tr[data-board="5"] button').textContent`);
     same(press, '5 press', 'dropped names');
+    same(await browser.value(`typed('names', 'names-text', '')`), { is_open: false, wrong: '' }, 'no names');
+    const from_file = await browser.value(`(async () => {
+        document.querySelector('[data-opens=names-dialog]').click();
+        const held = new DataTransfer();
+        held.items.add(new File(['1 fan\\n'], 'names'));
+        const field = document.getElementById('names-file');
+        field.files = held.files;
+        field.dispatchEvent(new Event('change'));
+        await new Promise((resolve) => setTimeout(resolve, 100));
+        document.querySelector('#names-form [type=submit]').click();
+        await new Promise((resolve) => setTimeout(resolve, 50));
+        return document.querySelector('#boards tr[data-board="1"] button').textContent;
+    })()`);
+    same(from_file, '1 fan', 'names from a file');
     same(await browser.value(`typed('names', 'names-text', '')`), { is_open: false, wrong: '' }, 'no names');
     // its link, with an entry behind it
     await browser.value(`press('turn')`);
