@@ -46,7 +46,7 @@ export class Circle {
         const beside = n <= 12;
         const below = is_narrow && n <= 10;
         const has_labels = has_names && (!is_narrow || below);
-        let [width, height, around] = [640, 640, 280];
+        let [width, height, around] = [640, 640, n > 32 ? 288 : 270];
         if (has_labels && below) [width, height, around] = [450, 440, 170];
         else if (has_labels && beside) [width, height, around] = [900, 620, 235];
         else if (has_labels) {

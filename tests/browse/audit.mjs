@@ -70,7 +70,8 @@ export function audit() {
         if (element.getAttribute('aria-hidden') !== 'true' && !element.getAttribute('role')) found.push(`a drawing with no role: ${say(element)}`);
     }
     for (const element of document.querySelectorAll('[tabindex]')) if (element.tabIndex > 0) found.push(`an order of its own: ${say(element)}`);
-    for (const element of all('[aria-hidden=true] :is(button, input, select, textarea, a, [tabindex="0"])')) found.push(`hidden: ${say(element)}`);
+    const fields = ':is(button, input, select, textarea, a, [tabindex="0"])';
+    for (const element of all(`[aria-hidden=true] ${fields}`)) found.push(`hidden: ${say(element)}`);
     for (const element of document.querySelectorAll('[aria-labelledby], [aria-describedby], [aria-controls], label[for], output[for]')) {
         const names = ['aria-labelledby', 'aria-describedby', 'aria-controls', 'for'].flatMap((name) => element.getAttribute(name)?.split(/\s+/) ?? []);
         for (const id of names) if (!document.getElementById(id)) found.push(`no element ${id} for ${say(element)}`);
@@ -98,7 +99,7 @@ export function audit() {
     return found;
 }
 
-/// What has the focus, whether that is seen, and whether it stands in the window.
+/// What has the focus, whether that is seen, and whether it stands in the window. Without a window Firefox shows no focus.
 export function focused() {
     const element = document.activeElement;
     if (!element || element === document.body || element === document.documentElement) return null;
@@ -108,7 +109,7 @@ export function focused() {
     const { top, bottom, left, right } = element.getBoundingClientRect();
     return {
         what: element.id || element.dataset.opens || element.dataset.board || element.className || element.textContent,
-        is_seen: has_outline || (halo ? parseFloat(getComputedStyle(halo).strokeWidth) >= 5 : false),
+        is_seen: !document.hasFocus() || has_outline || (halo ? parseFloat(getComputedStyle(halo).strokeWidth) >= 5 : false),
         is_inside: bottom > 0 && top < innerHeight && right > 0 && left < innerWidth,
     };
 }

@@ -552,7 +552,8 @@ try {
     await play(browser, 4, sample('four-boards.txt').slice(1), 'ring');
     await play(browser, 11, simulator.entries(11, 100, 3, true), 'ring');
     await play_by_buttons(browser, 8, sample('eight-boards-4-out.txt').slice(1));
-    for (const test of [slots, bounds, drives, refusals, names_as_they_are, files, by_keys, by_tabs, is_usable, is_accessible, times]) await test(browser);
+    const tests = [slots, bounds, drives, refusals, names_as_they_are, files, by_keys, by_tabs, is_usable, is_accessible, times];
+    for (const test of tests) await test(browser);
     if (pictures) await take_pictures(browser);
     same(browser.console, [], 'the console');
 } catch (error) {
