@@ -18,6 +18,8 @@ const sample_text = (name) => samples.find((sample) => sample.dataset.sample ===
 const narrow = matchMedia('(max-width: 40rem)');
 const encoder = new TextEncoder();
 const LONGEST_FILE = 4194304;
+/// For how many milliseconds of a step the library is asked what takes long.
+const ASKED_FOR = 4;
 /// For so many rounds at most a copy is driven, to see what comes.
 const MOST_DRIVEN = 64;
 
@@ -52,23 +54,19 @@ function all_known(state) {
 }
 
 /// How many rounds until all live boards know all dead ones, if they are driven from here.
-function known_text(state) {
+function known_text(state, until) {
     const dead = Array.from({ length: state.n }, (_, board) => board).filter((board) => !is_live(state, board));
     if (dead.length === 0) return 'none is dead';
     if (dead.length === state.n) return 'no board is live';
     if (all_known(state)) return 'now';
-    const driven = copy_of(state);
-    let last = plant.last_granted();
-    for (let rounds = 1; rounds <= MOST_DRIVEN; rounds++) {
-        const answer = library.drive(driven, last);
-        if (answer.refused !== 0) return words.refusal(answer.refused);
-        last = answer.last;
-        if (all_known(driven)) return rounds === 1 ? 'when this round closes, if driven on' : `in ${rounds} rounds, if driven on`;
-    }
-    return `not in ${MOST_DRIVEN} rounds, if driven on`;
+    const ahead = plant.driven_until(all_known, MOST_DRIVEN, until);
+    if (ahead === NOT_ASKED) return '…';
+    if (ahead.refused !== undefined) return words.refusal(ahead.refused);
+    if (ahead.rounds === undefined) return `not in ${MOST_DRIVEN} rounds, if driven on`;
+    return ahead.rounds === 1 ? 'when this round closes, if driven on' : `in ${ahead.rounds} rounds, if driven on`;
 }
 
-function show_facts(lamp) {
+function show_facts(lamp, until) {
     const { state } = plant;
     set_text(by_id('rounds'), state.rounds.toLocaleString('en'));
     set_text(by_id('tests'), state.tests.toLocaleString('en'));
@@ -76,7 +74,7 @@ function show_facts(lamp) {
     set_text(by_id('granted'), granted.refused === undefined ? called(names, granted.board) : words.refusal(granted.refused));
     set_text(by_id('lamp'), lamp ? `${mentioned(names, lamp.by)} suspects ${mentioned(names, lamp.of)}` : 'out');
     set_class(by_id('lamp'), lamp ? 'lamp lit' : 'lamp');
-    set_text(by_id('known'), known_text(state));
+    set_text(by_id('known'), known_text(state, until));
     const bound = worst_case(plant.wiring, plant.n);
     set_text(by_id('bound'), `at most ${bound} closed ${bound === 1 ? 'round' : 'rounds'} from the start of a round with the lamp out`);
     set_text(by_id('grant'), granted.refused === undefined ? `Grant the next: ${granted.board}` : 'Grant the next');
@@ -116,18 +114,19 @@ function show_history() {
 }
 
 function show() {
+    const until = performance.now() + ASKED_FOR;
     const lamp = library.lamp(plant.state);
-    const timed = plant.timed_slots();
+    const timed = plant.timed_slots(until);
     set_text(by_id('entry'), tell(plant, names));
     circle.show(plant, names, selected, lamp);
     boards.show(plant, names, selected, timed);
     matrix.show(plant);
-    show_facts(lamp);
+    show_facts(lamp, until);
     show_board(timed);
     show_history();
     // what the library was not asked in this step it is asked after it
-    const is_whole = !timed.includes(NOT_ASKED);
-    set_attribute(by_id('boards'), 'aria-busy', !is_whole);
+    const is_whole = !timed.includes(NOT_ASKED) && by_id('known').textContent !== '…';
+    by_id('main').dataset.asks = is_whole ? 'nothing' : 'more';
     clearTimeout(asking);
     if (!is_whole) asking = setTimeout(show);
 }

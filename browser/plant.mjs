@@ -4,8 +4,6 @@ import { CRASH, LIVE, MOST_ENTRIES, NO_STATION, TESTED_TOLD, copy_of, row_of, st
 const KEPT_EVERY = 64;
 /// Stands for what the library has not been asked yet.
 export const NOT_ASKED = 'not asked';
-/// For how many milliseconds of a step the library may be asked.
-const ASKED_FOR = 4;
 const MOST_ANSWERS = 16384;
 
 export class Plant {
@@ -93,21 +91,39 @@ export class Plant {
     }
 
     /// What each board's slot is timed for, by its row as it was when this round began: the library's answer depends on no more than that. 64
-    /// answers take longer than a step may, so that what a few milliseconds do not reach is not asked yet.
-    timed_slots() {
+    /// answers take longer than a step may: the library is asked until a time, but once at least.
+    timed_slots(until) {
         const began = this.round_began();
         const of = this.entries[began - 1];
         if (this.round?.began !== began || this.round.of !== of) this.round = { began, of, state: this.state_at(began) };
         const { state } = this.round;
-        const until = performance.now() + ASKED_FOR;
         if (this.answers.size > MOST_ANSWERS) this.answers.clear();
+        let is_time = true;
         return Array.from({ length: this.n }, (_, board) => {
             const key = String.fromCharCode(board, status_of(state, board), ...row_of(state, board));
             if (!this.answers.has(key)) {
-                if (performance.now() >= until) return NOT_ASKED;
+                if (!is_time) return NOT_ASKED;
                 this.answers.set(key, this.library.slot(state, board));
+                is_time = performance.now() < until;
             }
             return this.answers.get(key);
         });
+    }
+
+    /// Drives a copy of the plant at this moment round by round, until a time, but one round at least: in how many rounds the copy is as it is asked
+    /// for, or the refusal of a drive, or neither if it is not so in so many rounds. For the same moment it goes on where it stopped.
+    driven_until(is_so, most_rounds, until) {
+        if (this.ahead?.of !== this.state) this.ahead = { of: this.state, driven: copy_of(this.state), last: this.last_granted(), rounds: 0 };
+        const { ahead } = this;
+        while (!ahead.answer) {
+            const { refused, last } = this.library.drive(ahead.driven, ahead.last);
+            ahead.last = last;
+            ahead.rounds += 1;
+            if (refused !== 0) ahead.answer = { refused };
+            else if (is_so(ahead.driven)) ahead.answer = { rounds: ahead.rounds };
+            else if (ahead.rounds === most_rounds) ahead.answer = {};
+            else if (performance.now() >= until) return NOT_ASKED;
+        }
+        return ahead.answer;
     }
 }

@@ -6,7 +6,7 @@ import { cpus, loadavg } from 'node:os';
 import { pathToFileURL } from 'node:url';
 import { Chromium, Firefox } from './browser.mjs';
 import { audit, focused } from './audit.mjs';
-import { Simulator, input_of, moments } from './expected.mjs';
+import { Simulator, granted, input_of, moments, rounds_until_known } from './expected.mjs';
 
 const [name, page, folder, samples, pictures] = process.argv.slice(2);
 const address = pathToFileURL(page).href;
@@ -39,7 +39,7 @@ const reader = `
         const marks = (row) => [...row.querySelectorAll('td')].map((cell) => cell.textContent || ' ').join('');
         return {
             rounds: at('rounds').replace(/,/g, ''), tests: at('tests').replace(/,/g, ''), at: at('moment-text'),
-            entry: at('entry').replace(', whose reply comes late', ''), lamp: at('lamp'),
+            entry: at('entry').replace(', whose reply comes late', ''), lamp: at('lamp'), granted: at('granted'),
             boards: [...document.querySelectorAll('#boards tbody tr')].map((row) => ({
                 status: text(row.querySelector('.status span:last-child')),
                 ...Object.fromEntries(['told', 'ago', 'made', 'suspects'].map((name) => [name, cell(row, name)])),
@@ -81,7 +81,7 @@ function compare(found, expected, what) {
         same({ rounds: told.rounds, tests: told.tests, at: told.at }, wanted, what);
         return;
     }
-    for (const key of ['rounds', 'tests', 'at', 'lamp', 'boards', 'matrix']) same(told[key], wanted[key], `${what}, ${key}`);
+    for (const key of ['rounds', 'tests', 'at', 'lamp', 'granted', 'boards', 'matrix']) same(told[key], wanted[key], `${what}, ${key}`);
     same(signs, wanted.boards.map(({ status }, board) => `Board ${board}, ${status}`), `${what}, the circle`);
 }
 
@@ -116,7 +116,7 @@ async function play(browser, n, listed, wiring = 'cube') {
 
 /// What is shown once all slots are asked.
 async function all_said(browser) {
-    await browser.wait(`document.getElementById('boards').getAttribute('aria-busy') === 'false'`);
+    await browser.wait(`document.getElementById('main').dataset.asks === 'nothing'`);
     return browser.value('said()');
 }
 
@@ -159,6 +159,13 @@ async function bounds(browser) {
 }
 
 async function drives(browser) {
+    for (const [n, entries] of [[8, ['C 4']], [8, ['C 4', 'T 0', 'T 1', 'C 7']], [11, ['C 4', 'C 9', 'C 0']], [8, ['T 0']]]) {
+        await open(browser, link(n, entries, entries.length));
+        await all_said(browser);
+        const rounds = rounds_until_known(simulator, n, entries);
+        const words = rounds === 1 ? 'when this round closes, if driven on' : `in ${rounds} rounds, if driven on`;
+        same(await browser.value(`document.getElementById('known').textContent`), rounds === 0 ? 'none is dead' : words, `known, ${n}: ${entries}`);
+    }
     await open(browser, link(8, ['C 4'], 1));
     const found = await browser.value(`press('to-round')`);
     const turns = await browser.value(`document.getElementById('moment').max`);
@@ -276,7 +283,8 @@ async function files(browser) {
     same(Buffer.from(await kept(browser)).toString(), input.toString(), 'the input, saved');
     await open(browser, link(2, [], 0));
     same(await drop(browser, saved), '', 'a dropped saved plant');
-    compare(await browser.value('said()'), { ...expected, at: '0 of 0', entry: 'The saved plant as it was opened.' }, 'a dropped saved plant');
+    const opened = { ...expected, at: '0 of 0', entry: 'The saved plant as it was opened.', granted: granted(saved, undefined) };
+    compare(await browser.value('said()'), opened, 'a dropped saved plant');
     // names from a file, beside what is shown
     same(await drop(browser, readFileSync(`${samples}/eight-boards-names.txt`)), '', 'dropped names');
     const press = await browser.value(`document.querySelector('#boards tr[data-board="5"] button').textContent`);
@@ -427,6 +435,7 @@ async function full_plant(browser) {
 
 /// Of milliseconds, sorted: that in the middle, that of which nine tenths are no longer, and the longest.
 const of_times = (times) => {
+    if (times.length === 0) return { median: 0, most: 0, longest: 0 };
     const sorted = [...times].sort((a, b) => a - b);
     return { median: sorted[sorted.length >> 1], most: sorted[Math.floor(sorted.length * 0.9)], longest: sorted.at(-1) };
 };
@@ -464,7 +473,7 @@ async function times(browser) {
             channel.port2.postMessage(0);
         };
         const calm = async () => {
-            while (document.getElementById('boards').getAttribute('aria-busy') === 'true') await new Promise((resolve) => setTimeout(resolve, 5));
+            while (document.getElementById('main').dataset.asks === 'more') await new Promise((resolve) => setTimeout(resolve, 5));
         };
         press('first');
         await calm();
@@ -477,8 +486,9 @@ async function times(browser) {
                 starts.push(press(id));
                 last = performance.now();
                 waits = [0];
+                const asks = document.getElementById('main').dataset.asks === 'more';
                 await calm();
-                asked.push(Math.max(...waits));
+                if (asks) asked.push(Math.max(...waits));
             }
         }
         channel.port1.close();
