@@ -182,22 +182,14 @@ function grant_until(is_there) {
     while (grant_next() && !is_there.call(plant, plant.at));
 }
 
-/// Drives a copy until a board leaves. Gives why none does.
-function no_exit() {
-    const driven = copy_of(plant.state);
-    let last = plant.last_granted();
-    for (let rounds = 1; rounds <= MOST_DRIVEN; rounds++) {
-        const answer = library.drive(driven, last);
-        if (answer.refused !== 0) return `Refused: ${words.refusal(answer.refused)}. Nothing was changed.`;
-        for (let board = 0; board < plant.n; board++) if (status_of(driven, board) !== status_of(plant.state, board)) return undefined;
-        last = answer.last;
-    }
-    return `No board leaves in ${MOST_DRIVEN} rounds, if driven on. Nothing was changed.`;
-}
-
+/// Drives a copy first: where no board leaves, no entry is taken.
 function grant_until_exit() {
-    const why = no_exit();
-    if (why) say(why, 'wrong');
+    const { state } = plant;
+    const all = Array.from({ length: plant.n }, (_, board) => board);
+    const has_exit = (driven) => all.some((board) => status_of(driven, board) !== status_of(state, board));
+    const { refused, rounds } = plant.driven_until(has_exit, MOST_DRIVEN, Infinity);
+    if (refused !== undefined) say(`Refused: ${words.refusal(refused)}. Nothing was changed.`, 'wrong');
+    else if (rounds === undefined) say(`No board leaves in ${MOST_DRIVEN} rounds, if driven on. Nothing was changed.`);
     else grant_until(plant.had_exit);
 }
 

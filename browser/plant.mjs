@@ -111,9 +111,11 @@ export class Plant {
     }
 
     /// Drives a copy of the plant at this moment round by round, until a time, but one round at least: in how many rounds the copy is as it is asked
-    /// for, or the refusal of a drive, or neither if it is not so in so many rounds. For the same moment it goes on where it stopped.
+    /// for, or the refusal of a drive, or neither if it is not so in so many rounds. Asked again at the same moment it goes on where it stopped.
     driven_until(is_so, most_rounds, until) {
-        if (this.ahead?.of !== this.state) this.ahead = { of: this.state, driven: copy_of(this.state), last: this.last_granted(), rounds: 0 };
+        if (this.ahead?.of !== this.state || this.ahead.is_so !== is_so) {
+            this.ahead = { of: this.state, is_so, driven: copy_of(this.state), last: this.last_granted(), rounds: 0 };
+        }
         const { ahead } = this;
         while (!ahead.answer) {
             const { refused, last } = this.library.drive(ahead.driven, ahead.last);

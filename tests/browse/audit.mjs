@@ -73,8 +73,8 @@ export function audit() {
     const fields = ':is(button, input, select, textarea, a, [tabindex="0"])';
     for (const element of all(`[aria-hidden=true] ${fields}`)) found.push(`hidden: ${say(element)}`);
     for (const element of document.querySelectorAll('[aria-labelledby], [aria-describedby], [aria-controls], label[for], output[for]')) {
-        const names = ['aria-labelledby', 'aria-describedby', 'aria-controls', 'for'].flatMap((name) => element.getAttribute(name)?.split(/\s+/) ?? []);
-        for (const id of names) if (!document.getElementById(id)) found.push(`no element ${id} for ${say(element)}`);
+        const named = ['aria-labelledby', 'aria-describedby', 'aria-controls', 'for'].map((name) => element.getAttribute(name) ?? '');
+        for (const id of named.join(' ').split(/\s+/).filter(Boolean)) if (!document.getElementById(id)) found.push(`no element ${id} for ${say(element)}`);
     }
     const ids = [...document.querySelectorAll('[id]')].map(({ id }) => id);
     for (const [k, id] of ids.entries()) if (ids.indexOf(id) !== k) found.push(`two elements are ${id}`);

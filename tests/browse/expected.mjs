@@ -83,7 +83,8 @@ export function rounds_until_known(simulator, n, begun) {
         const saved = simulator.saved(input_of(n, entries));
         const is_live = (board) => line_of(saved, board)[0] === 0;
         const boards = Array.from({ length: n }, (_, board) => board);
-        const is_known = boards.every((dead) => is_live(dead) || boards.every((board) => !is_live(board) || line_of(saved, board)[HEAD + dead] === 1));
+        const suspects = (board, other) => line_of(saved, board)[HEAD + other] === 1;
+        const is_known = boards.every((dead) => is_live(dead) || boards.every((board) => !is_live(board) || suspects(board, dead)));
         if (is_known) return closed() - first;
         const before = closed();
         do entries.push(`T ${granted(simulator.saved(input_of(n, entries)), last_of(entries))}`);

@@ -358,7 +358,7 @@ async function is_usable(browser) {
 
 /// What audit.mjs finds: of plants, of each dialog, and of a message; where the browser can, dark too.
 async function is_accessible(browser) {
-    const plants = [[8, ['L 4', 'T 4'], 2], [8, sample('eight-boards-4-out.txt').slice(1), 18], [64, ['C 3', 'T 2', 'L 7', 'T 7'], 4], [2, [], 0]];
+    const plants = [[8, ['L 4', 'T 4'], 1], [8, sample('eight-boards-4-out.txt').slice(1), 18], [64, ['C 3', 'T 2', 'L 7', 'T 7'], 4], [2, [], 0]];
     for (const scheme of name === 'Chromium' ? ['light', 'dark'] : ['light']) {
         for (const width of [1280, 360]) {
             await browser.look(width, 900, scheme);
