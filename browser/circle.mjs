@@ -1,5 +1,5 @@
 // The boards around a circle, and the entry of the moment as an arrow.
-import { EXCHANGED, NO_REPLY, NO_STATION, TOLD_NOW, status_of } from './library.mjs';
+import { CRASHED, EXCHANGED, NO_REPLY, NO_STATION, STATUSES, TOLD, TOLD_NOW, status_of } from './library.mjs';
 import { draw, set_attribute, set_class, set_text } from './elements.mjs';
 import { called, mentioned, shortened } from './names.mjs';
 
@@ -9,13 +9,13 @@ const STATUS_CLASSES = ['live', 'crashed', 'told', 'alone'];
 export const status_class = (status) => STATUS_CLASSES[status];
 
 function mark(status, r) {
-    if (status === 1) return draw('rect', { x: -r * 0.9, y: -r * 0.9, width: r * 1.8, height: r * 1.8, rx: r * 0.2, class: 'form' });
-    if (status === 2) return draw('path', { d: `M0 ${-r * 1.2}L${r * 1.2} 0L0 ${r * 1.2}L${-r * 1.2} 0Z`, class: 'form' });
+    if (status === CRASHED) return draw('rect', { x: -r * 0.9, y: -r * 0.9, width: r * 1.8, height: r * 1.8, rx: r * 0.2, class: 'form' });
+    if (status === TOLD) return draw('path', { d: `M0 ${-r * 1.2}L${r * 1.2} 0L0 ${r * 1.2}L${-r * 1.2} 0Z`, class: 'form' });
     return draw('circle', { r, class: 'form' });
 }
 
 export function legend(list, words) {
-    for (const status of [0, 1, 2, 3]) {
+    for (const status of STATUSES) {
         const item = document.createElement('li');
         const sign = draw('svg', { viewBox: '-14 -14 28 28', width: 22, height: 22, 'aria-hidden': 'true' });
         sign.append(draw('g', { class: `board ${STATUS_CLASSES[status]}` }, mark(status, 10), draw('text', { y: 5, class: 'sign' }, SIGNS[status])));
@@ -46,26 +46,45 @@ export class Circle {
         const beside = n <= 12;
         const below = is_narrow && n <= 10;
         const has_labels = has_names && (!is_narrow || below);
-        let [width, height, around] = [660, 660, 285];
+        let [width, height, around] = [640, 640, n > 32 ? 288 : 270];
         if (has_labels && below) [width, height, around] = [450, 440, 170];
         else if (has_labels && beside) [width, height, around] = [900, 620, 235];
         else if (has_labels) {
             // as much room as the longest of the names takes
             const longest = Math.max(...Array.from(names, (name) => [...shortened(name ?? '', 14)].length));
-            [width, height, around] = [800, 800, 355 - longest * turned_size(n) * 0.6];
+            [width, height, around] = [800, 800, 367 - longest * turned_size(n) * 0.58];
         }
         this.around = around;
         this.middle = has_labels && below ? -12 : 0;
-        this.radius = Math.min(below || is_narrow ? 30 : 27, ((Math.PI * around) / n) * 0.78);
+        this.inwards = n > 32 ? around * 0.17 : 0;
+        this.places = Array.from({ length: n }, (_, board) => this.place(board, n));
+        this.radius = Math.min(below || is_narrow ? 30 : 27, this.least_distance() * 0.4);
         this.svg.setAttribute('viewBox', `${-width / 2} ${-height / 2} ${width} ${height}`);
-        this.places = Array.from({ length: n }, (_, board) => {
-            const angle = (2 * Math.PI * board) / n - Math.PI / 2;
-            return { x: around * Math.cos(angle), y: around * Math.sin(angle) + this.middle, angle };
-        });
         this.arrows = draw('g', { class: 'arrows', 'aria-hidden': 'true' });
         this.boards = this.places.map((place, board) => this.board(place, board, plant, names, { has_labels, below, beside }));
-        const cable = draw('circle', { r: around, cy: this.middle, class: 'cable' });
-        this.svg.replaceChildren(this.markers(), cable, this.arrows, ...this.boards.map(({ group }) => group));
+        const cable = draw('path', { d: this.inwards > 0 ? this.zigzag() : round(around, this.middle), class: 'cable' });
+        set_class(this.svg, this.inwards > 0 ? 'crowded' : '');
+        this.svg.replaceChildren(this.markers(), cable, ...this.boards.map(({ group }) => group), this.arrows);
+    }
+
+    /// Many boards stand by turns further out and further in. Of an odd number the last stands between, beside the first.
+    place(board, n) {
+        const angle = (2 * Math.PI * board) / n - Math.PI / 2;
+        const part = n % 2 === 1 && board === n - 1 ? 0.5 : board % 2;
+        const inwards = this.inwards * part;
+        const out = this.around - inwards;
+        return { x: out * Math.cos(angle), y: out * Math.sin(angle) + this.middle, angle, inwards };
+    }
+
+    /// That of two boards of which at most one stands between them.
+    least_distance() {
+        const { places } = this;
+        const to = ({ x, y }, k) => Math.hypot(places[k % places.length].x - x, places[k % places.length].y - y) || Infinity;
+        return Math.min(...places.flatMap((place, board) => [to(place, board + 1), to(place, board + 2)]));
+    }
+
+    zigzag() {
+        return `M${this.places.map(({ x, y }) => `${tidy(x)} ${tidy(y)}`).join('L')}Z`;
     }
 
     board(place, board, plant, names, { has_labels, below, beside }) {
@@ -74,7 +93,7 @@ export class Circle {
         const group = draw('g', { transform, role: 'button', tabindex: -1, 'data-board': board });
         const title = draw('title', {}, called(names, board));
         const form = draw('g');
-        const number = draw('text', { class: 'number', y: r * 0.36, 'font-size': (r * (board > 9 ? 0.95 : 1.05)).toFixed(1) }, String(board));
+        const number = draw('text', { class: 'number', y: r * 0.36, 'font-size': (r * (board > 9 ? 1.02 : 1.1)).toFixed(1) }, String(board));
         const sign = draw('text', { class: 'badge', x: r * 0.95, y: -r * 0.62, 'font-size': (r * 0.95).toFixed(1) });
         group.append(title, draw('circle', { r: r * 1.45, class: 'halo' }), form, number, sign);
         if (has_labels && names[board]) group.append(this.label(place, names[board], { below, beside }));
@@ -101,7 +120,7 @@ export class Circle {
         const is_left = cos < -1e-9;
         const attributes = {
             class: 'name',
-            x: (is_left ? -1 : 1) * (r * 1.45 + 6),
+            x: (is_left ? -1 : 1) * (r * 1.45 + 9 + place.inwards),
             y: 5,
             'text-anchor': is_left ? 'end' : 'start',
             transform: `rotate(${is_left ? turned + 180 : turned})`,
@@ -138,20 +157,25 @@ export class Circle {
             set_attribute(shown.group, 'aria-label', `Board ${mentioned(names, board)}, ${library.words.status(status)}`);
         });
         const arrows = [];
-        if (lamp) arrows.push(this.arrow(lamp.by, lamp.of, 'doubt', false, 26));
-        if (entry && entry.line[1] !== NO_STATION) {
+        const tested = entry?.line[1] ?? NO_STATION;
+        if (lamp) {
+            const is_same = tested !== NO_STATION && Math.min(lamp.by, lamp.of) === Math.min(entry.board, tested) &&
+                Math.max(lamp.by, lamp.of) === Math.max(entry.board, tested);
+            arrows.push(this.arrow(lamp.by, lamp.of, 'doubt', false, is_same ? 26 : 0));
+        }
+        if (tested !== NO_STATION) {
             const outcome = entry.line[2];
             const name = outcome === EXCHANGED ? 'exchanged' : outcome === NO_REPLY ? 'no-reply' : 'told';
-            arrows.push(this.arrow(entry.board, entry.line[1], name, outcome === EXCHANGED, 0));
+            arrows.push(this.arrow(entry.board, tested, name, outcome === EXCHANGED, 0));
         }
         this.arrows.replaceChildren(...arrows);
     }
 
-    /// From board to board: straight, or bent to the inside by so much; between boards that are near to each other along the inside of the circle.
+    /// From board to board: straight, or bent to the inside by so much; between boards that are near to each other through the inside of the circle.
     arrow(from, to, name, both, aside) {
         const [a, b] = [this.places[from], this.places[to]];
-        const path = this.is_near(a, b) ? this.along(a, b, aside) : this.across(a, b, aside);
-        const attributes = { d: path, class: `arrow ${name}`, 'marker-end': `url(#head-${name})` };
+        const bent = this.is_near(a, b) ? this.inside(a, b, aside) : this.beside(a, b, aside);
+        const attributes = { d: this.curve(a, bent, b), class: `arrow ${name}`, 'marker-end': `url(#head-${name})` };
         if (both) attributes['marker-start'] = `url(#head-${name})`;
         return draw('path', attributes);
     }
@@ -160,29 +184,35 @@ export class Circle {
         return Math.hypot(b.x - a.x, b.y - a.y) < this.around * 0.7;
     }
 
-    along(a, b, aside) {
-        const inside = ({ x, y }, depth) => {
-            const part = 1 - depth / this.around;
-            return [x * part, (y - this.middle) * part + this.middle];
-        };
-        const gap = this.radius * 1.5;
-        const depth = gap + Math.hypot(b.x - a.x, b.y - a.y) * 0.35 + 14 + aside;
-        return curve(inside(a, gap), inside({ x: (a.x + b.x) / 2, y: (a.y + b.y) / 2 }, depth), inside(b, gap));
+    /// What a curve between a and b is drawn to: a point further inside.
+    inside(a, b, aside) {
+        const middle = { x: (a.x + b.x) / 2, y: (a.y + b.y) / 2 - this.middle };
+        const depth = this.radius * 1.5 + Math.hypot(b.x - a.x, b.y - a.y) * 0.35 + 14 + aside + this.inwards;
+        const part = 1 - depth / Math.hypot(middle.x, middle.y);
+        return { x: middle.x * part, y: middle.y * part + this.middle };
     }
 
-    across(a, b, aside) {
-        const [dx, dy] = [b.x - a.x, b.y - a.y];
-        const length = Math.hypot(dx, dy);
-        const gap = Math.min(this.radius * 1.5, length * 0.3);
-        const [ux, uy] = [dx / length, dy / length];
-        const start = [a.x + ux * gap, a.y + uy * gap];
-        const end = [b.x - ux * gap, b.y - uy * gap];
+    /// The same: a point beside the line from a to b, on the side of the middle.
+    beside(a, b, aside) {
+        const length = Math.hypot(b.x - a.x, b.y - a.y);
+        const [ux, uy] = [(b.x - a.x) / length, (b.y - a.y) / length];
         const [x, y] = [(a.x + b.x) / 2, (a.y + b.y) / 2];
         const bend = (ux * y - uy * x > 0 ? -2 : 2) * aside;
-        return curve(start, [x - uy * bend, y + ux * bend], end);
+        return { x: x - uy * bend, y: y + ux * bend };
+    }
+
+    /// It begins and ends a little outside of the boards.
+    curve(a, bent, b) {
+        const gap = this.radius * (this.inwards > 0 ? 1.3 : 1.5);
+        const rim = (board) => {
+            const [dx, dy] = [bent.x - board.x, bent.y - board.y];
+            const part = gap / Math.hypot(dx, dy);
+            return `${tidy(board.x + dx * part)} ${tidy(board.y + dy * part)}`;
+        };
+        return `M${rim(a)}Q${tidy(bent.x)} ${tidy(bent.y)} ${rim(b)}`;
     }
 }
 
 const tidy = (number) => number.toFixed(1);
-const curve = (start, middle, end) => `M${start.map(tidy)}Q${middle.map(tidy)} ${end.map(tidy)}`;
-const turned_size = (n) => (n > 40 ? 13 : 17);
+const turned_size = (n) => (n > 40 ? 15 : 17);
+const round = (r, y) => `M${-r} ${y}A${r} ${r} 0 1 1 ${r} ${y}A${r} ${r} 0 1 1 ${-r} ${y}Z`;

@@ -10,12 +10,17 @@ export const NO_STATION = 255;
 export const NOT_RECORDED = 254;
 export const MOST_ROUNDS_AGO = 255;
 export const LIVE = 0;
+export const CRASHED = 1;
+export const TOLD = 2;
+export const ALONE = 3;
+export const STATUSES = [LIVE, CRASHED, TOLD, ALONE];
 export const EXCHANGED = 1;
 export const TOLD_NOW = 2;
 export const NO_REPLY = 3;
 export const CRASHED_NOW = 4;
 export const TESTED_TOLD = 5;
 export const MOST_ENTRIES = 4096;
+export const REFUSED = { LINE_RULE: 3, ROUND_NOT_CLOSED: 4, FIRST_FIELD: 21 };
 const HEAD = 6;
 const WORDS_LENGTH = 128;
 

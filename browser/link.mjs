@@ -33,7 +33,10 @@ export function read_link(text) {
     if (!parts.has('boards') && !parts.has('saved')) return undefined;
     const lines = (parts.get('entries') ?? '').replace(/([A-Za-z])(\d+)/g, '\n$1 $2');
     const names = [];
-    for (let board = 0; board < 64; board++) if (parts.has(`name${board}`)) names[board] = parts.get(`name${board}`);
+    for (const [part, name] of parts) {
+        const read = /^name(\d{1,3})$/.exec(part);
+        if (read) names[Number(read[1])] = name;
+    }
     return {
         wiring: parts.get('wiring') === 'ring' ? RING : CUBE,
         input: `${parts.get('boards') ?? ''}${lines}`,

@@ -1,11 +1,11 @@
 // The page: what is opened, what the buttons do, and what is shown of a moment.
-import { CRASH, CUBE, LATE_TURN, Library, MOST_ENTRIES, NO_STATION, RING, TURN } from './library.mjs';
+import { CRASH, CUBE, LATE_TURN, Library, MOST_ENTRIES, NO_STATION, REFUSED, RING, TURN } from './library.mjs';
 import { copy_of, is_live, lines_of_saved, status_of, suspects, told_by } from './library.mjs';
 import { Boards, Matrix, ago_text, suspected_by, told_text } from './tables.mjs';
 import { Circle, legend } from './circle.mjs';
 import { Module } from './module.mjs';
-import { Plant } from './plant.mjs';
-import { by_id, make, set_class, set_text } from './elements.mjs';
+import { NOT_ASKED, Plant } from './plant.mjs';
+import { by_id, make, set_attribute, set_class, set_text } from './elements.mjs';
 import { called, mentioned, names_text, read_names } from './names.mjs';
 import { from_base64, input_of, link_of, read_link } from './link.mjs';
 import { tell, would } from './telling.mjs';
@@ -17,35 +17,32 @@ const sample_text = (name) => samples.find((sample) => sample.dataset.sample ===
 const narrow = matchMedia('(max-width: 40rem)');
 const encoder = new TextEncoder();
 const LONGEST_FILE = 4194304;
+/// For how many milliseconds of a step the library is asked what takes long.
+const ASKED_FOR = 4;
+/// For so many rounds at most a copy is driven, to see what comes.
+const MOST_DRIVEN = 64;
 
 let plant;
 let names = [];
 let selected = 0;
 let saved_start;
 let playing;
+let asking;
 
 const circle = new Circle(by_id('circle'), select);
 const boards = new Boards(by_id('boards'), select);
 const matrix = new Matrix(by_id('matrix'));
 
-function say(text, kind = 'note') {
-    const message = by_id('message');
-    set_class(message, `message ${kind}`);
-    message.textContent = text;
+/// Says something below, and offers to bring back what was dropped.
+function say(text, kind = 'note', brings_back) {
+    set_class(by_id('notice'), `message ${kind}`);
+    by_id('message').textContent = text;
+    by_id('notice').dataset.is = text === '' ? 'empty' : 'said';
+    by_id('bring-back').hidden = brings_back === undefined;
+    by_id('bring-back').onclick = brings_back;
 }
 
 // What is shown of the moment.
-
-/// What each board's slot is timed for: by its row as it was when this round began.
-function timed_slots() {
-    const began = plant.round_began();
-    if (plant.timed?.began !== began || plant.timed.of !== plant.entries[began - 1]) {
-        const state = plant.state_at(began);
-        const slots = Array.from({ length: plant.n }, (_, board) => library.slot(state, board));
-        plant.timed = { began, of: plant.entries[began - 1], slots };
-    }
-    return plant.timed.slots;
-}
 
 function all_known(state) {
     for (let board = 0; board < state.n; board++) {
@@ -56,20 +53,16 @@ function all_known(state) {
 }
 
 /// How many rounds until all live boards know all dead ones, if they are driven from here.
-function known_text(state) {
+function known_text(state, until) {
     const dead = Array.from({ length: state.n }, (_, board) => board).filter((board) => !is_live(state, board));
     if (dead.length === 0) return 'none is dead';
     if (dead.length === state.n) return 'no board is live';
     if (all_known(state)) return 'now';
-    const driven = copy_of(state);
-    let last = plant.last_granted();
-    for (let rounds = 1; rounds <= 64; rounds++) {
-        const answer = library.drive(driven, last);
-        if (answer.refused !== 0) return words.refusal(answer.refused);
-        last = answer.last;
-        if (all_known(driven)) return rounds === 1 ? 'when this round closes, if driven on' : `in ${rounds} rounds, if driven on`;
-    }
-    return 'not in 64 rounds, if driven on';
+    const ahead = plant.driven_until(all_known, MOST_DRIVEN, until);
+    if (ahead === NOT_ASKED) return '…';
+    if (ahead.refused !== undefined) return words.refusal(ahead.refused);
+    if (ahead.rounds === undefined) return `not in ${MOST_DRIVEN} rounds, if driven on`;
+    return ahead.rounds === 1 ? 'when this round closes, if driven on' : `in ${ahead.rounds} rounds, if driven on`;
 }
 
 function bound_text(state) {
@@ -79,7 +72,7 @@ function bound_text(state) {
     return `${closed}, from the start of a round with the lamp out`;
 }
 
-function show_facts(lamp) {
+function show_facts(lamp, until) {
     const { state } = plant;
     set_text(by_id('rounds'), state.rounds.toLocaleString('en'));
     set_text(by_id('tests'), state.tests.toLocaleString('en'));
@@ -87,7 +80,7 @@ function show_facts(lamp) {
     set_text(by_id('granted'), granted.refused === undefined ? called(names, granted.board) : words.refusal(granted.refused));
     set_text(by_id('lamp'), lamp ? `${mentioned(names, lamp.by)} suspects ${mentioned(names, lamp.of)}` : 'out');
     set_class(by_id('lamp'), lamp ? 'lamp lit' : 'lamp');
-    set_text(by_id('known'), known_text(state));
+    set_text(by_id('known'), known_text(state, until));
     set_text(by_id('bound'), bound_text(state));
     set_text(by_id('grant'), granted.refused === undefined ? `Grant the next: ${granted.board}` : 'Grant the next');
 }
@@ -100,8 +93,8 @@ function show_board(timed) {
     if (told_by(state, selected) !== NO_STATION) facts.push(['Told by', told_text(state, selected, names)]);
     if (!is_live(state, selected)) facts.push(['How long ago', ago_text(state, selected)]);
     facts.push(['Suspects', others.length === 0 ? 'nobody' : others.map((other) => mentioned(names, other)).join(', ')]);
-    const most = timed[selected];
-    if (most !== undefined && is_live(state, selected)) facts.push(['Slot is timed for', most === 1 ? '1 test' : `${most} tests`]);
+    const most = is_live(state, selected) ? timed[selected] : undefined;
+    if (most !== undefined) facts.push(['Slot is timed for', most === NOT_ASKED ? '…' : most === 1 ? '1 test' : `${most} tests`]);
     by_id('board-facts').replaceChildren(...facts.flatMap(([term, text]) => [make('dt', { textContent: term }), make('dd', { textContent: text })]));
     const turn = library.run(copy_of(state), TURN, selected);
     set_text(by_id('preview'), `A turn now: ${would(turn, names, words)}.`);
@@ -113,22 +106,34 @@ function show_history() {
     moment.value = plant.at;
     moment.setAttribute('aria-valuetext', `entry ${plant.at} of ${plant.length}`);
     set_text(by_id('moment-text'), `${plant.at} of ${plant.length}`);
-    by_id('first').disabled = by_id('back').disabled = plant.at === 0;
-    by_id('last').disabled = by_id('forward').disabled = plant.at === plant.length;
-    by_id('next-round').disabled = plant.next(plant.closed) === undefined;
-    by_id('next-exit').disabled = plant.next(plant.had_exit) === undefined;
+    // a button that does nothing now stays where it is for the keys: it is not disabled, but says so
+    const does_nothing = {
+        first: plant.at === 0,
+        back: plant.at === 0,
+        forward: plant.at === plant.length,
+        last: plant.at === plant.length,
+        'next-round': plant.next(plant.closed) === undefined,
+        'next-exit': plant.next(plant.had_exit) === undefined,
+    };
+    for (const [id, is_so] of Object.entries(does_nothing)) set_attribute(by_id(id), 'aria-disabled', is_so);
 }
 
 function show() {
+    const until = performance.now() + ASKED_FOR;
     const lamp = library.lamp(plant.state);
-    const timed = timed_slots();
+    const timed = plant.timed_slots(until);
     set_text(by_id('entry'), tell(plant, names));
     circle.show(plant, names, selected, lamp);
     boards.show(plant, names, selected, timed);
     matrix.show(plant);
-    show_facts(lamp);
+    show_facts(lamp, until);
     show_board(timed);
     show_history();
+    // what the library was not asked in this step it is asked after it
+    const is_whole = !timed.includes(NOT_ASKED) && by_id('known').textContent !== '…';
+    by_id('main').dataset.asks = is_whole ? 'nothing' : 'more';
+    clearTimeout(asking);
+    if (!is_whole) asking = setTimeout(show);
 }
 
 function lay_out() {
@@ -158,15 +163,12 @@ function take(kind, board) {
         say(`An input has ${MOST_ENTRIES.toLocaleString('en')} entries at most. Save this moment, and go on from it.`, 'wrong');
         return false;
     }
-    const dropped = plant.length - plant.at;
     const refused = plant.take(kind, board);
     if (refused !== undefined) {
         stop();
         say(`Refused for board ${mentioned(names, board)}: ${words.refusal(refused)}. Nothing was changed.`, 'wrong');
         return false;
     }
-    const what = dropped === 1 ? 'The entry that followed this moment is' : `The ${dropped} entries that followed this moment are`;
-    say(dropped > 0 ? `${what} dropped.` : '');
     return true;
 }
 
@@ -181,15 +183,41 @@ function grant_next() {
 }
 
 /// Grants until the entry that was taken is such a one.
-function grant_until(is_there, most_rounds) {
-    const first = plant.state.rounds;
-    while (grant_next() && !is_there.call(plant, plant.at)) {
-        if (plant.state.rounds - first > most_rounds) {
-            say(`No board left in ${most_rounds} rounds.`);
-            break;
-        }
-    }
+function grant_until(is_there) {
+    while (grant_next() && !is_there.call(plant, plant.at));
+}
+
+/// Drives a copy first: where no board leaves, no entry is taken.
+function grant_until_exit() {
+    const { state } = plant;
+    const all = Array.from({ length: plant.n }, (_, board) => board);
+    const has_exit = (driven) => all.some((board) => status_of(driven, board) !== status_of(state, board));
+    const { refused, rounds } = plant.driven_until(has_exit, MOST_DRIVEN, Infinity);
+    if (refused !== undefined) say(`Refused: ${words.refusal(refused)}. Nothing was changed.`, 'wrong');
+    else if (rounds === undefined) say(`No board leaves in ${MOST_DRIVEN} rounds, if driven on. Nothing was changed.`);
+    else grant_until(plant.had_exit);
+}
+
+/// Does what takes entries at the moment shown. What followed the moment is dropped then, and can be brought back.
+function add(does) {
+    stop();
+    say('');
+    const [taking, { at }, followed] = [plant, plant, plant.entries.slice(plant.at)];
+    does();
     show();
+    if (plant.at === at || followed.length === 0) return;
+    const what = followed.length === 1 ? 'The entry that followed is' : `The ${followed.length} entries that followed are`;
+    const refused = by_id('message').textContent;
+    say(`${refused} ${what} dropped.`.trim(), refused === '' ? 'note' : 'wrong', () => {
+        if (plant !== taking) return;
+        stop();
+        say('');
+        plant.go(at);
+        for (const { kind, board } of followed) plant.take(kind, board);
+        plant.go(at);
+        show();
+        by_id('moment').focus();
+    });
 }
 
 function stop() {
@@ -202,6 +230,7 @@ function stop() {
 
 function play() {
     if (playing !== undefined) return stop();
+    say('');
     by_id('play').setAttribute('aria-pressed', 'true');
     set_text(by_id('play'), 'Pause');
     by_id('entry').setAttribute('aria-live', 'off');
@@ -236,7 +265,7 @@ function begin(state, is_fresh, schedule, further) {
             break;
         }
     }
-    names = further.names ?? (plant?.n === opened.n ? names : []);
+    names = (further.names ?? (plant?.n === opened.n ? names : [])).slice(0, opened.n);
     plant = opened;
     saved_start = further.saved;
     if (further.at !== undefined && Number.isInteger(further.at)) plant.go(further.at);
@@ -262,7 +291,7 @@ function open_saved(file, further = {}) {
         begin(loaded.state, false, further.schedule ?? [], { ...further, saved: file });
         return undefined;
     }
-    if (loaded.refused === 21) {
+    if (loaded.refused === REFUSED.FIRST_FIELD) {
         const converted = library.convert(file);
         if (converted.file && library.load(converted.file).state) {
             open_saved(converted.file, further);
@@ -270,7 +299,7 @@ function open_saved(file, further = {}) {
             return undefined;
         }
     }
-    if (loaded.refused === 3 || loaded.refused === 4) {
+    if (loaded.refused === REFUSED.LINE_RULE || loaded.refused === REFUSED.ROUND_NOT_CLOSED) {
         offer_mending(file, loaded.refused);
         return undefined;
     }
@@ -386,13 +415,14 @@ const on_click = {
     last: () => go(plant.length),
     'next-round': () => go(plant.next(plant.closed)),
     'next-exit': () => go(plant.next(plant.had_exit)),
-    grant: () => (stop(), grant_next(), show()),
-    'to-round': () => (stop(), grant_until(plant.closed, MOST_ENTRIES)),
-    'to-exit': () => (stop(), grant_until(plant.had_exit, 16)),
+    grant: () => add(grant_next),
+    'to-round': () => add(() => grant_until(plant.closed)),
+    'to-exit': () => add(grant_until_exit),
     play,
-    turn: () => (stop(), take(TURN, selected), show()),
-    late: () => (stop(), take(LATE_TURN, selected), show()),
-    crash: () => (stop(), take(CRASH, selected), show()),
+    turn: () => add(() => take(TURN, selected)),
+    late: () => add(() => take(LATE_TURN, selected)),
+    crash: () => add(() => take(CRASH, selected)),
+    dismiss: () => say(''),
     link: copy_link,
     print: () => print(),
     'save-plant': () => save_plant(wrong_of('save-dialog')),
@@ -447,6 +477,11 @@ function wire() {
         const fault = await open();
         if (!fault) by_id('open-form').reset();
         return fault;
+    });
+    by_id('names-file').addEventListener('change', async ({ target }) => {
+        const [file] = target.files;
+        if (file && file.size <= LONGEST_FILE) by_id('names-text').value = await file.text();
+        target.value = '';
     });
     on_submit('names', () => {
         const read = read_names(by_id('names-text').value, plant.n);

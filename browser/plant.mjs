@@ -1,7 +1,10 @@
 // A plant and its entries so far: any moment of it, by the library, from the nearest moment kept.
-import { CRASH, LIVE, MOST_ENTRIES, NO_STATION, TESTED_TOLD, copy_of } from './library.mjs';
+import { CRASH, LIVE, MOST_ENTRIES, NO_STATION, TESTED_TOLD, copy_of, row_of, status_of } from './library.mjs';
 
 const KEPT_EVERY = 64;
+/// Stands for what the library has not been asked yet.
+export const NOT_ASKED = 'not asked';
+const MOST_ANSWERS = 16384;
 
 export class Plant {
     /// From a first moment: a fresh plant, or one that was loaded.
@@ -16,6 +19,7 @@ export class Plant {
         this.at = 0;
         this.state = copy_of(state);
         this.before = undefined;
+        this.answers = new Map();
     }
 
     get length() {
@@ -84,5 +88,44 @@ export class Plant {
     round_began() {
         for (let k = this.at; k > 0; k--) if (this.closed(k)) return k;
         return 0;
+    }
+
+    /// What each board's slot is timed for, by its row as it was when this round began: the library's answer depends on no more than that. 64
+    /// answers take longer than a step may: the library is asked until a time, but once at least.
+    timed_slots(until) {
+        const began = this.round_began();
+        const of = this.entries[began - 1];
+        if (this.round?.began !== began || this.round.of !== of) this.round = { began, of, state: this.state_at(began) };
+        const { state } = this.round;
+        if (this.answers.size > MOST_ANSWERS) this.answers.clear();
+        let is_time = true;
+        return Array.from({ length: this.n }, (_, board) => {
+            const key = String.fromCharCode(board, status_of(state, board), ...row_of(state, board));
+            if (!this.answers.has(key)) {
+                if (!is_time) return NOT_ASKED;
+                this.answers.set(key, this.library.slot(state, board));
+                is_time = performance.now() < until;
+            }
+            return this.answers.get(key);
+        });
+    }
+
+    /// Drives a copy of the plant at this moment round by round, until a time, but one round at least: in how many rounds the copy is as it is asked
+    /// for, or the refusal of a drive, or neither if it is not so in so many rounds. Asked again at the same moment it goes on where it stopped.
+    driven_until(is_so, most_rounds, until) {
+        if (this.ahead?.of !== this.state || this.ahead.is_so !== is_so) {
+            this.ahead = { of: this.state, is_so, driven: copy_of(this.state), last: this.last_granted(), rounds: 0 };
+        }
+        const { ahead } = this;
+        while (!ahead.answer) {
+            const { refused, last } = this.library.drive(ahead.driven, ahead.last);
+            ahead.last = last;
+            ahead.rounds += 1;
+            if (refused !== 0) ahead.answer = { refused };
+            else if (is_so(ahead.driven)) ahead.answer = { rounds: ahead.rounds };
+            else if (ahead.rounds === most_rounds) ahead.answer = {};
+            else if (performance.now() >= until) return NOT_ASKED;
+        }
+        return ahead.answer;
     }
 }

@@ -2,6 +2,7 @@
 import { MOST_ROUNDS_AGO, NOT_RECORDED, NO_STATION, is_live, rounds_ago, row_of, status_of, suspects, tests_of, told_by } from './library.mjs';
 import { SIGNS, status_class } from './circle.mjs';
 import { make, set_attribute, set_class, set_text } from './elements.mjs';
+import { NOT_ASKED } from './plant.mjs';
 import { called } from './names.mjs';
 
 export function told_text(state, board, names) {
@@ -46,13 +47,13 @@ export class Boards {
             const now = status_of(state, board);
             const most = is_live(state, board) ? timed[board] : undefined;
             const made = tests_of(state, board);
-            const is_above = most !== undefined && made > most;
+            const is_above = Number.isInteger(most) && made > most;
             set_class(row, `${status_class(now)}${board === selected ? ' selected' : ''}`);
             set_attribute(button, 'aria-pressed', board === selected);
             set_text(sign, SIGNS[now] || '●');
             set_text(status, library.words.status(now));
             const texts = [told_text(state, board, names), ago_text(state, board), is_above ? `${made}, above` : String(made)];
-            texts.push(most === undefined ? '–' : String(most), suspected_by(state, board).join(' '));
+            texts.push(most === undefined ? '–' : most === NOT_ASKED ? '…' : String(most), suspected_by(state, board).join(' '));
             texts.forEach((text, k) => set_text(cells[k], text));
             set_class(cells[2], is_above ? 'made above' : 'made');
         });
@@ -91,6 +92,8 @@ export class Matrix {
                 this.shown[board * n + other] = mark;
                 cells[other].textContent = ['', '●', '▲'][mark];
                 cells[other].className = ['', 'dead', 'doubt'][mark];
+                if (mark === 0) cells[other].removeAttribute('aria-label');
+                else cells[other].setAttribute('aria-label', mark === 1 ? 'suspects' : 'suspects, and both are live');
             }
         });
     }

@@ -1,5 +1,5 @@
 // What an entry did, told: the run sheet's line in the library's words, and what is another in the table behind it.
-import { CRASHED_NOW, LATE_TURN, LIVE, NO_STATION, is_live, status_of, suspects, told_by } from './library.mjs';
+import { CRASH, CRASHED_NOW, LATE_TURN, LIVE, NO_STATION, is_live, status_of, suspects, told_by } from './library.mjs';
 import { mentioned } from './names.mjs';
 
 function list(texts) {
@@ -39,7 +39,7 @@ export function tell(plant, names) {
     const { kind, board, line } = plant.entries[plant.at - 1];
     const parts = [line_text(board, kind, line, names, words)];
     if (plant.before) {
-        const further = [...new_suspicions(plant.before, plant.state), ...(kind === 3 ? [] : new_exits(plant.before, plant.state, words))];
+        const further = [...new_suspicions(plant.before, plant.state), ...(kind === CRASH ? [] : new_exits(plant.before, plant.state, words))];
         if (further.length > 0) parts.push(`${further.join('; ')}.`);
     }
     if (plant.closed(plant.at)) parts.push(`Round ${plant.state.rounds} is closed.`);

@@ -7,6 +7,10 @@ import { join } from 'node:path';
 import { connect } from './socket.mjs';
 
 const LONGEST_START = 120000;
+const CHROMIUM_KEYS = { Tab: [9, {}], Enter: [13, { text: '\r' }], Escape: [27, {}], ' ': [32, { text: ' ' }] };
+const FIREFOX_KEYS = {
+    Tab: '\ue004', Enter: '\ue007', Escape: '\ue00c', ArrowLeft: '\ue012', ArrowUp: '\ue013', ArrowRight: '\ue014', ArrowDown: '\ue015',
+};
 
 /// Answers by the number of the question.
 class Answers {
@@ -127,7 +131,11 @@ export class Chromium extends Browser {
     }
 
     async key(name) {
-        for (const type of ['keyDown', 'keyUp']) await this.ask('Input.dispatchKeyEvent', { type, key: name, code: name });
+        const [code, further] = CHROMIUM_KEYS[name] ?? [0, {}];
+        for (const type of ['keyDown', 'keyUp']) {
+            const text = type === 'keyDown' ? further : {};
+            await this.ask('Input.dispatchKeyEvent', { type, key: name, code: name === ' ' ? 'Space' : name, windowsVirtualKeyCode: code, ...text });
+        }
     }
 
     async picture(is_whole = false) {
@@ -188,7 +196,7 @@ export class Firefox extends Browser {
     }
 
     async key(name) {
-        const value = { ArrowLeft: '\ue012', ArrowUp: '\ue013', ArrowRight: '\ue014', ArrowDown: '\ue015' }[name] ?? name;
+        const value = FIREFOX_KEYS[name] ?? name;
         const actions = [{ type: 'key', id: 'keys', actions: [{ type: 'keyDown', value }, { type: 'keyUp', value }] }];
         await this.ask('input.performActions', { context: this.context, actions });
     }

@@ -69,11 +69,43 @@ export class Simulator {
 
 export const input_of = (n, entries) => `${n}\n${entries.map((entry) => `${entry}\n`).join('')}`;
 
+const line_of = (saved, board) => saved.subarray(19 + board * (saved[7] + 10) + 4, 19 + (board + 1) * (saved[7] + 10));
+
+/// Who is granted next: of the boards behind the last granted one, or from the first on, that which is live and has not finished its pass.
+export function granted(saved, last) {
+    const n = saved[7];
+    const order = Array.from({ length: n }, (_, k) => (last === undefined ? k : (last + 1 + k) % n));
+    const next = order.find((board) => line_of(saved, board)[0] === 0 && line_of(saved, board)[2] === 0);
+    return next === undefined ? 'no board is live' : String(next);
+}
+
+const last_of = (entries) => {
+    const turn = entries.findLast((entry) => !entry.startsWith('C'));
+    return turn && Number(turn.split(' ')[1]);
+};
+
+/// In how many rounds the simulator's boards all know the dead ones, if they are driven on: 0 if they do now.
+export function rounds_until_known(simulator, n, begun) {
+    const entries = [...begun];
+    const closed = () => simulator.run(input_of(n, entries)).rounds;
+    const first = closed();
+    for (;;) {
+        const saved = simulator.saved(input_of(n, entries));
+        const is_live = (board) => line_of(saved, board)[0] === 0;
+        const boards = Array.from({ length: n }, (_, board) => board);
+        const suspects = (board, other) => line_of(saved, board)[HEAD + other] === 1;
+        const is_known = boards.every((dead) => is_live(dead) || boards.every((board) => !is_live(board) || suspects(board, dead)));
+        if (is_known) return closed() - first;
+        const before = closed();
+        do entries.push(`T ${granted(simulator.saved(input_of(n, entries)), last_of(entries))}`);
+        while (closed() === before);
+    }
+}
+
 /// What a saved plant holds, as the page tells it.
 function told(saved) {
     const n = saved[7];
-    const line = (board) => saved.subarray(19 + board * (n + 10) + 4, 19 + (board + 1) * (n + 10));
-    const boards = Array.from({ length: n }, (_, board) => line(board));
+    const boards = Array.from({ length: n }, (_, board) => line_of(saved, board));
     const is_live = boards.map((bytes) => bytes[0] === 0);
     const suspects = boards.map((bytes) => Array.from({ length: n }, (_, other) => bytes[HEAD + other] === 1));
     let lamp = 'out';
@@ -105,6 +137,8 @@ export function moments(simulator, n, entries, is_ring) {
             const [board, tested, outcome] = all.lines[k - 1].split(' ');
             moment.entry = tested === '-' ? `Board ${board}: ${OUTCOMES[outcome]}.` : `Board ${board} tests ${tested}: ${OUTCOMES[outcome]}.`;
         }
-        return is_ring ? moment : { ...moment, ...told(simulator.saved(input)) };
+        if (is_ring) return moment;
+        const saved = simulator.saved(input);
+        return { ...moment, ...told(saved), granted: granted(saved, last_of(entries.slice(0, k))) };
     });
 }
