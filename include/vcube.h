@@ -346,8 +346,8 @@ uint8_t vcube_doubt_lamp(size_t wiring, size_t n, const uint8_t *table, size_t t
  *   By the table after a crash: *turns_from_crash turns from the crash on are enough, wherever in its round it comes, those of one round more,
  *   if the lamp was out at the start of its round or of one before.
  *
- * This holds if two stations are live in the table, none crashes from then on, and from that start of a round on all entries are on this wiring and
- * no reply of a live station is late. The call asks none of this.
+ * This holds if at least two stations are live in the table, none crashes from then on, and from that start of a round on all entries are on this
+ * wiring and no reply of a live station is late. The call asks none of this.
  * Refusals: 24, 1 to 4. */
 uint8_t vcube_wait(size_t wiring, size_t n, const uint8_t *table, size_t table_length, size_t *rounds, size_t *turns_per_round,
                    size_t *turns_until_known, size_t *turns_from_crash);

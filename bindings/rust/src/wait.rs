@@ -20,9 +20,11 @@ pub struct Wait {
 }
 
 /// Wait: after how many rounds and turns at most all live stations know all dead
-/// ones. This holds if two stations are live in the table, none crashes from then
-/// on, and from the start of a round with the lamp out on all entries are on this
-/// wiring and no reply of a live station is late. The call asks none of this.
+/// ones. This holds if at least two stations are live in the table, none crashes
+/// from then on, and from that start of a round with the lamp out on all entries
+/// are on this wiring and no reply of a live station is late. The call asks none
+/// of this. The rules are Bounds of the wait, Detection conditions, Turns until
+/// known and Turns from a crash.
 /// Refusals: 1 to 4.
 pub fn wait(wiring: Wiring, n: usize, table: &[u8]) -> Result<Wait, Refusal> {
     let (number, [rounds, turns_per_round, turns_until_known, turns_from_crash]) =
