@@ -1,11 +1,12 @@
 -- Four texts, one behind the other.
+use Rattle.std.proofs.Common.{length, arith, length-append}
 use Rattle.std.specs.Prelude.{codes}
 use Rattle.lists.proofs.Writing.{sets-four}
 use Rattle.input.specs.Words.{found_words, expected_words}
 use Rattle.input.proofs.fault.Fault.write_words.Goals as goal
 
-pub returns : goal.returns
-returns c =
+pub returns-clause-written : goal.returns-clause-written
+returns-clause-written c =
     let w = c.write_words-found.ensures in
     rw (
       c.write_at-3.ensures,
