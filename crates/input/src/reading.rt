@@ -156,7 +156,7 @@ fn read_entry(line: &[u8]) -> Option<Entry>
 
 // The kind of a letter, if it is T, L or C. Not by `TryFrom`, which `Kind` has for the byte of a schedule.
 #[tactic(auto, unfolding(crate::specs::Input::kind_of))]
-fn kind_of(letter: u8) -> Option<Kind>
+pub(crate) fn kind_of(letter: u8) -> Option<Kind>
     ensures { option_map kind_byte result ≡ kind_of letter }
 {
     match letter {
