@@ -1,5 +1,4 @@
 -- Four texts, one behind the other.
-use Rattle.std.proofs.Common.{length, arith, length-append}
 use Rattle.std.specs.Prelude.{codes}
 use Rattle.lists.proofs.Writing.{sets-four}
 use Rattle.input.specs.Words.{found_words, expected_words}
