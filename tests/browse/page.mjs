@@ -378,9 +378,11 @@ async function is_accessible(browser) {
     await browser.look(1280, 900, 'light');
 }
 
-/// Without a mouse: a tab comes to each control, where it is seen; keys press them, and leave a dialog.
+/// Without a mouse: a tab comes to each control, where it is seen; keys press them, and leave a dialog. Without a window Firefox presses none.
 async function by_tabs(browser) {
     await open(browser, link(8, ['L 4', 'T 4'], 1));
+    const presses = await browser.value('document.hasFocus()');
+    check(presses || name === 'Firefox', 'the page has not the focus');
     const wanted = await browser.value(`[...document.querySelectorAll('button, input, select, textarea, a, [tabindex="0"]')]
         .filter((element) => element.tabIndex >= 0 && element.checkVisibility() && !element.closest('#notice'))
         .map((element) => element.id || element.dataset.opens || element.dataset.board || element.className || element.textContent)`);
@@ -392,12 +394,13 @@ async function by_tabs(browser) {
         check(at.is_seen, `the focus is not seen at ${at.what}`);
         check(at.is_inside, `the focus is outside of the window at ${at.what}`);
         reached.push(at.what);
-        if (at.what === 'grant') {
+        if (at.what === 'grant' && presses) {
             await browser.key('Enter');
             same((await browser.value('said()')).at, '2 of 2', 'a grant by the key');
         }
     }
     same(reached, wanted, 'what a tab comes to, in order');
+    if (!presses) return;
     // a dialog
     await browser.value(`document.querySelector('[data-opens=new-dialog]').focus() ?? true`);
     await browser.key('Enter');
