@@ -497,13 +497,20 @@ async function times(browser) {
         channel.port1.close();
         press('last');
         await calm();
-        const steps = Array.from({ length: 100 }, () => press('back'));
-        return { steps, starts, asked, opened };
+        window.press_timed = press;
+        return { starts, asked, opened };
     })()`);
-    const [steps, starts, asked] = [measured.steps, measured.starts, measured.asked].map(of_times);
+    const before = await browser.worked?.();
+    const each = await browser.value(`Array.from({ length: 100 }, () => press_timed('back'))`);
+    const worked = ((await browser.worked?.()) - before) / 100;
+    const [steps, starts, asked] = [each, measured.starts, measured.asked].map(of_times);
     const opened = Math.min(...measured.opened);
     console.log(`${name}: 64 boards, 4,096 entries: a step ${in_words(steps)}, opened in ${Math.round(opened)} ms`);
     console.log(`${name}: the same where a round begins and a board crashes: a step ${in_words(starts)}; what it asks after it ${in_words(asked)}`);
+    if (before !== undefined) {
+        console.log(`${name}: of processor time a step takes ${worked.toFixed(1)} ms, with all that is drawn after it`);
+        check(worked < 16, `a step of 64 boards takes ${worked} ms of processor time`);
+    }
     // A machine that does much else says little of the page.
     if (loadavg()[0] > cpus().length) {
         console.log(`${name}: the machine does much else: these times are not judged`);
