@@ -64,7 +64,8 @@
 #define wasm_rt_allocate_memory vcube_rt_allocate_memory
 #define wasm_rt_free_memory vcube_rt_free_memory
 
-/* VCUBE_MODULE_STACK and VCUBE_MODULE_START: the module's stack goes down from the first, and buffers begin at the second. */
+/* VCUBE_MODULE_START, from which the module's stack goes down, and behind which the buffers stand; and of each call whether its stack
+ * overwrites the module's data (VCUBE_OVERWRITES_DATA_..). */
 #include "vcube_layout.h"
 
 #define MOST_STATIONS ((size_t)VCUBE_PORTABLE_STATIONS)
@@ -77,14 +78,20 @@
 /* What the numbers of a call take, eight bytes each, or three structs; and what lengths are rounded up by. */
 #define NUMBERS_ROOM 192
 
-/* What the buffers of any one call take: those of a mending, a conversion, a load, or figures. */
+/* What the reading of an input takes at least: the buffer for words, and a few lines at a time. */
+#define LEAST_INPUT_ROOM (VCUBE_WORDS_LENGTH + (size_t)96)
+
+/* What the buffers of any one call take: those of a mending, two saved plants, figures, or the reading of an input. */
 #define GREATER(a, b) ((a) > (b) ? (a) : (b))
-#define CALL_ROOM \
-    GREATER(GREATER(TABLE_ROOM + REPORT_ROOM, SAVED_ROOM + SAVED_ROOM), GREATER(SAVED_ROOM + TABLE_ROOM, RESULTS_ROOM))
+#define CALL_ROOM GREATER(GREATER(TABLE_ROOM + REPORT_ROOM, SAVED_ROOM + SAVED_ROOM), GREATER(RESULTS_ROOM, LEAST_INPUT_ROOM))
 #define MEMORY_SIZE ((VCUBE_MODULE_START + NUMBERS_ROOM + CALL_ROOM + 7) / 8 * 8)
 
 /* How many entries of a run are handed over at a time: those that there is room for beside the table, 6 bytes each. */
 #define ENTRIES_AT_ONCE ((CALL_ROOM - TABLE_ROOM) / 6)
+
+/* How many bytes of an input are handed over at a time: those that there is room for beside the words and their entries. An entry, which has
+ * 2 bytes, is read from 4 bytes at least, or 3 at the end of an input. */
+#define INPUT_AT_ONCE ((CALL_ROOM - VCUBE_WORDS_LENGTH) / 3 * 2)
 
 static VCUBE_PORTABLE_LOCAL union {
     uint8_t bytes[MEMORY_SIZE];
@@ -280,6 +287,17 @@ static void begin_call(void)
     next = VCUBE_MODULE_START;
 }
 
+/* A function of the module. The module's data stand where the stack goes only in calls that read none: after such a call they have to be laid
+ * out again. */
+#define CALL(function, ...) ended((uint8_t)Z_vcube_moduleZ_##function(&module, __VA_ARGS__), VCUBE_OVERWRITES_DATA_##function)
+
+static uint8_t ended(uint8_t number, int overwrites_data)
+{
+    if (overwrites_data)
+        is_laid_out = 0;
+    return number;
+}
+
 /* Room for a buffer of this length, which the call fills. */
 static uint32_t room(size_t length)
 {
@@ -323,6 +341,23 @@ static size_t size_in(size_t n)
     return n > MOST_STATIONS ? 0 : n;
 }
 
+/* What is handed over: where it stands, and its length. */
+struct lent {
+    uint32_t at;
+    size_t length;
+};
+
+/* Begins a call on a table. */
+static struct lent begin_with_table(const uint8_t *table, size_t table_length)
+{
+    struct lent lent;
+
+    begin_call();
+    lent.length = cut(table_length, TABLE_ROOM);
+    lent.at = bytes_in(table, lent.length);
+    return lent;
+}
+
 uint8_t vcube_fresh_table(size_t wiring, size_t n, uint8_t *table, size_t table_length)
 {
     size_t length = cut(table_length, TABLE_ROOM);
@@ -331,7 +366,7 @@ uint8_t vcube_fresh_table(size_t wiring, size_t n, uint8_t *table, size_t table_
 
     begin_call();
     at = room(length);
-    number = (uint8_t)Z_vcube_moduleZ_vcube_fresh_table(&module, wiring, size_in(n), at, length);
+    number = CALL(vcube_fresh_table, wiring, size_in(n), at, length);
     if (number == VCUBE_ACCEPTED)
         get_bytes(at, table, length);
     return number;
@@ -345,7 +380,7 @@ uint8_t vcube_group_list(size_t n, size_t station, size_t level, uint8_t *list, 
 
     begin_call();
     at = room(length);
-    number = (uint8_t)Z_vcube_moduleZ_vcube_group_list(&module, size_in(n), station, level, at, length);
+    number = CALL(vcube_group_list, size_in(n), station, level, at, length);
     if (number == VCUBE_ACCEPTED)
         get_bytes(at, list, length);
     return number;
@@ -354,15 +389,12 @@ uint8_t vcube_group_list(size_t n, size_t station, size_t level, uint8_t *list, 
 uint8_t vcube_assignment(size_t n, const uint8_t *table, size_t table_length, size_t station, uint8_t *list, size_t list_length,
                          size_t *count)
 {
-    size_t length = cut(table_length, TABLE_ROOM), to_fill = cut(list_length, VCUBE_ASSIGNMENT_LENGTH(MOST_STATIONS));
-    uint32_t table_at, list_at, count_at;
+    const struct lent lent = begin_with_table(table, table_length);
+    const size_t to_fill = cut(list_length, VCUBE_ASSIGNMENT_LENGTH(MOST_STATIONS));
+    const uint32_t list_at = room(to_fill), count_at = room_for_number();
     uint8_t number;
 
-    begin_call();
-    table_at = bytes_in(table, length);
-    list_at = room(to_fill);
-    count_at = room_for_number();
-    number = (uint8_t)Z_vcube_moduleZ_vcube_assignment(&module, size_in(n), table_at, length, station, list_at, to_fill, count_at);
+    number = CALL(vcube_assignment, size_in(n), lent.at, lent.length, station, list_at, to_fill, count_at);
     *count = get_size(count_at);
     if (number == VCUBE_ACCEPTED)
         get_bytes(list_at, list, to_fill);
@@ -371,15 +403,11 @@ uint8_t vcube_assignment(size_t n, const uint8_t *table, size_t table_length, si
 
 uint8_t vcube_row(size_t wiring, size_t n, const uint8_t *table, size_t table_length, size_t station, size_t *start, size_t *length)
 {
-    size_t lent = cut(table_length, TABLE_ROOM);
-    uint32_t table_at, start_at, length_at;
+    const struct lent lent = begin_with_table(table, table_length);
+    const uint32_t start_at = room_for_number(), length_at = room_for_number();
     uint8_t number;
 
-    begin_call();
-    table_at = bytes_in(table, lent);
-    start_at = room_for_number();
-    length_at = room_for_number();
-    number = (uint8_t)Z_vcube_moduleZ_vcube_row(&module, wiring, size_in(n), table_at, lent, station, start_at, length_at);
+    number = CALL(vcube_row, wiring, size_in(n), lent.at, lent.length, station, start_at, length_at);
     *start = get_size(start_at);
     *length = get_size(length_at);
     return number;
@@ -391,24 +419,21 @@ uint8_t vcube_run(size_t wiring, size_t n, uint8_t *table, size_t table_length, 
                   size_t schedule_length, uint8_t *sheet, size_t sheet_length, size_t *taken)
 {
     const int is_odd = schedule_length % 2 != 0, is_double = sheet_length % 2 == 0 && sheet_length / 2 == schedule_length;
-    const size_t length = cut(table_length, TABLE_ROOM), entries = is_odd || !is_double ? 0 : schedule_length / 2;
-    uint32_t table_at, rounds_at, tests_at, taken_at, schedule_at, sheet_at;
+    const size_t entries = is_odd || !is_double ? 0 : schedule_length / 2;
+    const struct lent lent = begin_with_table(table, table_length);
+    const uint32_t rounds_at = number_in(*rounds, 4), tests_at = number_in(*tests, 4), taken_at = room_for_number();
+    uint32_t schedule_at, sheet_at;
     size_t done = 0, part, part_taken;
     uint8_t number;
 
-    begin_call();
-    table_at = bytes_in(table, length);
-    rounds_at = number_in(*rounds, 4);
-    tests_at = number_in(*tests, 4);
-    taken_at = room_for_number();
     do {
         const uint32_t here = next;
         part = entries - done < ENTRIES_AT_ONCE ? entries - done : ENTRIES_AT_ONCE;
         /* A schedule of one byte is odd as the one handed in is; a sheet of one byte is not twice a schedule of none. */
         schedule_at = part == 0 ? room(1) : bytes_in(schedule + 2 * done, 2 * part);
         sheet_at = room(4 * part + 1);
-        number = (uint8_t)Z_vcube_moduleZ_vcube_run(&module, wiring, size_in(n), table_at, length, rounds_at, tests_at, schedule_at,
-                                                    is_odd ? 1 : 2 * part, sheet_at, is_odd || is_double ? 4 * part : 1, taken_at);
+        number = CALL(vcube_run, wiring, size_in(n), lent.at, lent.length, rounds_at, tests_at, schedule_at, is_odd ? 1 : 2 * part, sheet_at,
+                      is_odd || is_double ? 4 * part : 1, taken_at);
         part_taken = get_size(taken_at);
         if (part_taken > 0)
             get_bytes(sheet_at, sheet + 4 * done, 4 * part_taken);
@@ -419,20 +444,17 @@ uint8_t vcube_run(size_t wiring, size_t n, uint8_t *table, size_t table_length, 
     *tests = get_u32(tests_at);
     *taken = done;
     if (done > 0)
-        get_bytes(table_at, table, length);
+        get_bytes(lent.at, table, lent.length);
     return number;
 }
 
 uint8_t vcube_grant(size_t wiring, size_t n, const uint8_t *table, size_t table_length, size_t last, size_t *station)
 {
-    size_t length = cut(table_length, TABLE_ROOM);
-    uint32_t table_at, station_at;
+    const struct lent lent = begin_with_table(table, table_length);
+    const uint32_t station_at = room_for_number();
     uint8_t number;
 
-    begin_call();
-    table_at = bytes_in(table, length);
-    station_at = room_for_number();
-    number = (uint8_t)Z_vcube_moduleZ_vcube_grant(&module, wiring, size_in(n), table_at, length, last, station_at);
+    number = CALL(vcube_grant, wiring, size_in(n), lent.at, lent.length, last, station_at);
     *station = get_size(station_at);
     return number;
 }
@@ -440,57 +462,57 @@ uint8_t vcube_grant(size_t wiring, size_t n, const uint8_t *table, size_t table_
 uint8_t vcube_drive(size_t wiring, size_t n, uint8_t *table, size_t table_length, uint32_t *rounds, uint32_t *tests, size_t *last,
                     size_t *grants)
 {
-    size_t length = cut(table_length, TABLE_ROOM);
-    uint32_t table_at, rounds_at, tests_at, last_at, grants_at;
+    const struct lent lent = begin_with_table(table, table_length);
+    const uint32_t rounds_at = number_in(*rounds, 4), tests_at = number_in(*tests, 4), last_at = number_in(*last, 8);
+    const uint32_t grants_at = room_for_number();
     uint8_t number;
 
-    begin_call();
-    table_at = bytes_in(table, length);
-    rounds_at = number_in(*rounds, 4);
-    tests_at = number_in(*tests, 4);
-    last_at = number_in(*last, 8);
-    grants_at = room_for_number();
-    number = (uint8_t)Z_vcube_moduleZ_vcube_drive(&module, wiring, size_in(n), table_at, length, rounds_at, tests_at, last_at, grants_at);
+    number = CALL(vcube_drive, wiring, size_in(n), lent.at, lent.length, rounds_at, tests_at, last_at, grants_at);
     *rounds = get_u32(rounds_at);
     *tests = get_u32(tests_at);
     *last = get_size(last_at);
     *grants = get_size(grants_at);
     if (*grants > 0)
-        get_bytes(table_at, table, length);
+        get_bytes(lent.at, table, lent.length);
     return number;
 }
 
 uint8_t vcube_doubt_lamp(size_t wiring, size_t n, const uint8_t *table, size_t table_length, size_t *by, size_t *of)
 {
-    size_t length = cut(table_length, TABLE_ROOM);
-    uint32_t table_at, by_at, of_at;
+    const struct lent lent = begin_with_table(table, table_length);
+    const uint32_t by_at = room_for_number(), of_at = room_for_number();
     uint8_t number;
 
-    begin_call();
-    table_at = bytes_in(table, length);
-    by_at = room_for_number();
-    of_at = room_for_number();
-    number = (uint8_t)Z_vcube_moduleZ_vcube_doubt_lamp(&module, wiring, size_in(n), table_at, length, by_at, of_at);
+    number = CALL(vcube_doubt_lamp, wiring, size_in(n), lent.at, lent.length, by_at, of_at);
     *by = get_size(by_at);
     *of = get_size(of_at);
+    return number;
+}
+
+uint8_t vcube_slot(size_t n, const uint8_t *table, size_t table_length, size_t station, size_t *tests, size_t *most)
+{
+    const struct lent lent = begin_with_table(table, table_length);
+    const uint32_t tests_at = room_for_number(), most_at = room_for_number();
+    uint8_t number;
+
+    number = CALL(vcube_slot, size_in(n), lent.at, lent.length, station, tests_at, most_at);
+    *tests = get_size(tests_at);
+    *most = get_size(most_at);
     return number;
 }
 
 /* Of a report longer than any plant needs, only the front is handed over; the rest is cleared here. */
 uint8_t vcube_mend(size_t wiring, size_t n, uint8_t *table, size_t table_length, uint8_t *report, size_t report_length, size_t *changes)
 {
-    size_t length = cut(table_length, TABLE_ROOM), front = report_length < REPORT_ROOM ? report_length : REPORT_ROOM;
-    uint32_t table_at, report_at, changes_at;
+    const struct lent lent = begin_with_table(table, table_length);
+    const size_t front = report_length < REPORT_ROOM ? report_length : REPORT_ROOM;
+    const uint32_t report_at = room(front), changes_at = room_for_number();
     uint8_t number;
 
-    begin_call();
-    table_at = bytes_in(table, length);
-    report_at = room(front);
-    changes_at = room_for_number();
-    number = (uint8_t)Z_vcube_moduleZ_vcube_mend(&module, wiring, size_in(n), table_at, length, report_at, front, changes_at);
+    number = CALL(vcube_mend, wiring, size_in(n), lent.at, lent.length, report_at, front, changes_at);
     *changes = get_size(changes_at);
     if (number == VCUBE_ACCEPTED) {
-        get_bytes(table_at, table, length);
+        get_bytes(lent.at, table, lent.length);
         get_bytes(report_at, report, front);
         fill(report + front, 0, report_length - front);
     }
@@ -500,14 +522,12 @@ uint8_t vcube_mend(size_t wiring, size_t n, uint8_t *table, size_t table_length,
 uint8_t vcube_save(size_t n, const uint8_t *table, size_t table_length, uint32_t rounds, uint32_t tests, uint8_t *saved,
                    size_t saved_length)
 {
-    size_t length = cut(table_length, TABLE_ROOM), to_fill = cut(saved_length, SAVED_ROOM);
-    uint32_t table_at, saved_at;
+    const struct lent lent = begin_with_table(table, table_length);
+    const size_t to_fill = cut(saved_length, SAVED_ROOM);
+    const uint32_t saved_at = room(to_fill);
     uint8_t number;
 
-    begin_call();
-    table_at = bytes_in(table, length);
-    saved_at = room(to_fill);
-    number = (uint8_t)Z_vcube_moduleZ_vcube_save(&module, size_in(n), table_at, length, rounds, tests, saved_at, to_fill);
+    number = CALL(vcube_save, size_in(n), lent.at, lent.length, rounds, tests, saved_at, to_fill);
     if (number == VCUBE_ACCEPTED)
         get_bytes(saved_at, saved, to_fill);
     return number;
@@ -607,7 +627,7 @@ uint8_t vcube_load(const uint8_t *saved, size_t saved_length, uint8_t *table, si
     n_at = room_for_number();
     rounds_at = room_for_number();
     tests_at = room_for_number();
-    number = (uint8_t)Z_vcube_moduleZ_vcube_load(&module, saved_at, saved_length, table_at, length, n_at, rounds_at, tests_at);
+    number = CALL(vcube_load, saved_at, saved_length, table_at, length, n_at, rounds_at, tests_at);
     *n = get_size(n_at);
     *rounds = get_u32(rounds_at);
     *tests = get_u32(tests_at);
@@ -626,7 +646,7 @@ uint8_t vcube_saved_size(const uint8_t *saved, size_t saved_length, size_t *n)
     begin_call();
     saved_at = bytes_in(saved, saved_length);
     n_at = room_for_number();
-    number = (uint8_t)Z_vcube_moduleZ_vcube_saved_size(&module, saved_at, saved_length, n_at);
+    number = CALL(vcube_saved_size, saved_at, saved_length, n_at);
     *n = get_size(n_at);
     return number;
 }
@@ -644,7 +664,7 @@ uint8_t vcube_convert(const uint8_t *old, size_t old_length, uint8_t *saved, siz
     begin_call();
     old_at = bytes_in(old, old_length);
     saved_at = room(to_fill);
-    number = (uint8_t)Z_vcube_moduleZ_vcube_convert(&module, old_at, old_length, saved_at, to_fill);
+    number = CALL(vcube_convert, old_at, old_length, saved_at, to_fill);
     if (number == VCUBE_ACCEPTED)
         get_bytes(saved_at, saved, to_fill);
     return number;
@@ -664,19 +684,24 @@ uint8_t vcube_converted_length(const uint8_t *old, size_t old_length, size_t *le
     begin_call();
     old_at = bytes_in(old, old_length);
     length_at = room_for_number();
-    number = (uint8_t)Z_vcube_moduleZ_vcube_converted_length(&module, old_at, old_length, length_at);
+    number = CALL(vcube_converted_length, old_at, old_length, length_at);
     *length = get_size(length_at);
     return number;
 }
 
-/* Results of 16 bits, low byte first. */
-static uint32_t results_in(const uint16_t *results, size_t length)
+/* A list of results, of 16 bits with the low byte first; there may be further ones in the call. If they are too many together, just so many are
+ * named here that all are refused by their number. */
+static struct lent results_in(const uint16_t *results, size_t length, size_t further)
 {
-    uint32_t at = room(2 * length);
+    struct lent lent = {next, VCUBE_MOST_RESULTS + 1};
 
-    for (size_t k = 0; k < length; k++)
-        put_number(at + 2 * (uint32_t)k, results[k], 2);
-    return at;
+    if (length <= MOST_RESULTS && further <= MOST_RESULTS - length) {
+        lent.at = room(2 * length);
+        lent.length = length;
+        for (size_t k = 0; k < length; k++)
+            put_number(lent.at + 2 * (uint32_t)k, results[k], 2);
+    }
+    return lent;
 }
 
 /* The members of the structs, in their order. */
@@ -713,18 +738,16 @@ static void get_figures(uint32_t at, struct vcube_figures *figures)
     figures->variance.lower = get_number(at + 48, 8);
 }
 
-/* More results than are taken: so many, all refused by their number, stand for them. */
-#define TOO_MANY (VCUBE_MOST_RESULTS + 1)
-
 uint8_t vcube_figures_of_list(const uint16_t *results, size_t length, struct vcube_figures *figures)
 {
-    uint32_t at, figures_at;
+    struct lent list;
+    uint32_t figures_at;
     uint8_t number;
 
     begin_call();
     figures_at = room(56);
-    at = length > MOST_RESULTS ? next : results_in(results, length);
-    number = (uint8_t)Z_vcube_moduleZ_vcube_figures_of_list(&module, at, length > MOST_RESULTS ? TOO_MANY : length, figures_at);
+    list = results_in(results, length, 0);
+    number = CALL(vcube_figures_of_list, list.at, list.length, figures_at);
     get_figures(figures_at, figures);
     return number;
 }
@@ -732,29 +755,29 @@ uint8_t vcube_figures_of_list(const uint16_t *results, size_t length, struct vcu
 uint8_t vcube_figures_of_two_lists(const uint16_t *first, size_t first_length, const uint16_t *second, size_t second_length,
                                    struct vcube_figures *figures)
 {
-    int are_too_many = first_length > MOST_RESULTS || second_length > MOST_RESULTS - first_length;
-    uint32_t first_at, second_at, figures_at;
+    struct lent one, two;
+    uint32_t figures_at;
     uint8_t number;
 
     begin_call();
     figures_at = room(56);
-    first_at = are_too_many ? next : results_in(first, first_length);
-    second_at = are_too_many ? next : results_in(second, second_length);
-    number = (uint8_t)Z_vcube_moduleZ_vcube_figures_of_two_lists(&module, first_at, are_too_many ? TOO_MANY : first_length, second_at,
-                                                                 are_too_many ? TOO_MANY : second_length, figures_at);
+    one = results_in(first, first_length, second_length);
+    two = results_in(second, second_length, first_length);
+    number = CALL(vcube_figures_of_two_lists, one.at, one.length, two.at, two.length, figures_at);
     get_figures(figures_at, figures);
     return number;
 }
 
 uint8_t vcube_totals_of_list(const uint16_t *results, size_t length, struct vcube_totals *totals)
 {
-    uint32_t at, totals_at;
+    struct lent list;
+    uint32_t totals_at;
     uint8_t number;
 
     begin_call();
     totals_at = room(40);
-    at = length > MOST_RESULTS ? next : results_in(results, length);
-    number = (uint8_t)Z_vcube_moduleZ_vcube_totals_of_list(&module, at, length > MOST_RESULTS ? TOO_MANY : length, totals_at);
+    list = results_in(results, length, 0);
+    number = CALL(vcube_totals_of_list, list.at, list.length, totals_at);
     get_totals(totals_at, totals);
     return number;
 }
@@ -768,7 +791,7 @@ uint8_t vcube_join_totals(const struct vcube_totals *first, const struct vcube_t
     first_at = totals_in(first);
     second_at = totals_in(second);
     joined_at = room(40);
-    number = (uint8_t)Z_vcube_moduleZ_vcube_join_totals(&module, first_at, second_at, joined_at);
+    number = CALL(vcube_join_totals, first_at, second_at, joined_at);
     get_totals(joined_at, joined);
     return number;
 }
@@ -781,7 +804,111 @@ uint8_t vcube_figures_of_totals(const struct vcube_totals *totals, struct vcube_
     begin_call();
     totals_at = totals_in(totals);
     figures_at = room(56);
-    number = (uint8_t)Z_vcube_moduleZ_vcube_figures_of_totals(&module, totals_at, figures_at);
+    number = CALL(vcube_figures_of_totals, totals_at, figures_at);
     get_figures(figures_at, figures);
     return number;
+}
+
+/* A call for words: the buffer that they go into, and what becomes of it. */
+
+static struct lent begin_with_words(size_t words_length)
+{
+    struct lent lent;
+
+    begin_call();
+    lent.length = cut(words_length, VCUBE_WORDS_LENGTH);
+    lent.at = room(lent.length);
+    return lent;
+}
+
+static uint8_t give_words(uint8_t number, struct lent lent, uint8_t *words)
+{
+    if (number == VCUBE_ACCEPTED)
+        get_bytes(lent.at, words, lent.length);
+    return number;
+}
+
+uint8_t vcube_refusal_words(size_t refusal, uint8_t *words, size_t words_length)
+{
+    const struct lent lent = begin_with_words(words_length);
+
+    return give_words(CALL(vcube_refusal_words, refusal, lent.at, lent.length), lent, words);
+}
+
+uint8_t vcube_status_words(size_t status, uint8_t *words, size_t words_length)
+{
+    const struct lent lent = begin_with_words(words_length);
+
+    return give_words(CALL(vcube_status_words, status, lent.at, lent.length), lent, words);
+}
+
+uint8_t vcube_outcome_words(size_t outcome, uint8_t *words, size_t words_length)
+{
+    const struct lent lent = begin_with_words(words_length);
+
+    return give_words(CALL(vcube_outcome_words, outcome, lent.at, lent.length), lent, words);
+}
+
+#define LINE_FEED 10
+
+/* How much of the rest of an input is handed over: all of it, or whole lines; or the front of a longer line, which is unreadable by that. */
+static size_t part_of_input(const uint8_t *rest, size_t left)
+{
+    size_t part = INPUT_AT_ONCE;
+
+    if (left <= part)
+        return left;
+    while (part > 0 && rest[part - 1] != LINE_FEED)
+        part--;
+    return part > 0 ? part : INPUT_AT_ONCE;
+}
+
+/* An input goes through in parts, as a schedule does; in front of each part but the first comes the line of a size. Of the module's schedule
+ * there is just what the entries of a part take: it stands last, and what is behind them is not touched. No part has more entries than a
+ * schedule has room for, so that is found here, and the words for it stand here once more. */
+uint8_t vcube_read_input(const uint8_t *input, size_t input_length, uint8_t *schedule, size_t schedule_length, uint8_t *words,
+                         size_t words_length, size_t *n, size_t *entries, size_t *line)
+{
+    static const uint8_t size_line[] = {'2', LINE_FEED};
+    static const uint8_t one_too_many[VCUBE_WORDS_LENGTH] = "a 4,097th entry where the end of the input (4,096 entries at most) is expected";
+    const size_t most = VCUBE_SCHEDULE_LENGTH / 2;
+    const struct lent lent = begin_with_words(words_length);
+    const uint32_t n_at = room_for_number(), entries_at = room_for_number(), line_at = room_for_number(), begin = next;
+    const uint8_t *rest = input;
+    size_t left = input_length, done = 0, front, part, read, unread;
+    uint32_t input_at;
+    int is_one_too_many;
+    uint8_t number;
+
+    for (;;) {
+        front = rest == input ? 0 : sizeof size_line;
+        part = part_of_input(rest, left);
+        next = begin;
+        input_at = room(front + part);
+        put_bytes(input_at, size_line, front);
+        put_bytes(input_at + (uint32_t)front, rest, part);
+        number = CALL(vcube_read_input, input_at, front + part, next, schedule_length, lent.at, lent.length, n_at, entries_at, line_at);
+        read = get_size(entries_at);
+        unread = get_size(line_at);
+        is_one_too_many = read > most - done;
+        if (is_one_too_many) {
+            read = most - done;
+            unread = read + 2;
+        }
+        if (rest == input)
+            *n = get_size(n_at);
+        if (read > 0)
+            get_bytes(next, schedule + 2 * done, 2 * read);
+        done += read;
+        if (number != VCUBE_ACCEPTED || unread > 0 || part == left)
+            break;
+        rest += part;
+        left -= part;
+    }
+    *entries = done;
+    *line = unread < 2 ? unread : done + 2;
+    if (!is_one_too_many)
+        return give_words(number, lent, words);
+    memcpy(words, one_too_many, sizeof one_too_many);
+    return VCUBE_ACCEPTED;
 }

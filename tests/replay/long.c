@@ -1,12 +1,17 @@
-/* Long schedules and long files, of which the portable C brings in parts or nothing. It prints what the calls give, so that it can be compared
- * with what the archive gives: which numbers how often, and a sum over all that is written. */
+/* Long schedules, files and inputs, of which the portable C brings in parts or nothing. It prints what the calls give, so that it can be compared
+ * with what the archive gives: which numbers how often, and a sum over all that is written.
+ *
+ * Usage: long [inputs], where with the word only the inputs are read, which any number of boards that the portable C was built for does. */
 #include "vcube.h"
 
 #include <stdio.h>
 #include <string.h>
 
-static uint32_t state = 1;
-static uint32_t sum = 2166136261u;
+#define FIRST_STATE 1
+#define FIRST_SUM 2166136261u
+
+static uint32_t state = FIRST_STATE;
+static uint32_t sum = FIRST_SUM;
 static unsigned long seen[32];
 
 static uint32_t below(uint32_t most)
@@ -117,6 +122,52 @@ static void file(void)
     add_bytes(table, sizeof table), add_bytes(saved, sizeof saved);
 }
 
+/* A line that cannot be read, or can be where it is short: one of these, or one of them drawn out to thousands of bytes. */
+static size_t odd_line(uint8_t *at)
+{
+    static const char *const lines[] = {"", "T", "L ", "T 1 ", "C 123", "X 1", "t 1", "\t", "T\t1", "T 1\r", "T1", "1234", "12a", "T 1x", "T 12\x80", "\xEF\xBB\xBFT 1",
+                                        "1\xFF\xFE", "T\xFE\xFF", "C 7", "99"};
+    const char *line = lines[below(sizeof lines / sizeof lines[0])];
+    const size_t length = strlen(line), drawn_out = below(3) == 0 ? below(below(2) == 0 ? 100 : 20000) : 0;
+
+    memcpy(at, line, length);
+    memset(at + length, length == 0 ? ' ' : line[length - 1], drawn_out);
+    at[length + drawn_out] = '\n';
+    return length + drawn_out + 1;
+}
+
+/* An input of a size and up to 4,200 entries, mostly with no odd line or one; now and then it ends anywhere, or a buffer has a wrong length. */
+static void input(void)
+{
+    static uint8_t bytes[200000], schedule[VCUBE_SCHEDULE_LENGTH], words[VCUBE_WORDS_LENGTH];
+    const uint32_t entries = below(3) == 0 ? 4090 + below(12) : below(4200), odd = below(2) == 0 ? below(entries + 1) : UINT32_MAX;
+    const uint32_t is_without_end = below(3) == 0, is_cut_off = below(10) == 0, is_short = below(20);
+    size_t length = 0, n = 7, given = 7, line = 7;
+    uint8_t number;
+
+    for (uint32_t k = 0; k <= entries; k++) {
+        const uint32_t board = below(100), letter = below(3), most = below(20) == 0 ? 1000 : 65;
+        if (k == odd)
+            length += odd_line(bytes + length);
+        else if (k == 0)
+            length += (size_t)sprintf((char *)bytes, "%u\n", (unsigned)below(most));
+        else
+            length += (size_t)sprintf((char *)bytes + length, "%c %u\n", "TLC"[letter], (unsigned)board);
+    }
+    if (below(30) == 0)
+        bytes[length++] = '\n';
+    length -= is_without_end;
+    if (is_cut_off)
+        length = below((uint32_t)length + 1);
+    memset(schedule, 0xEE, sizeof schedule);
+    memset(words, 0xEE, sizeof words);
+    number = vcube_read_input(bytes, length, schedule, sizeof schedule - (is_short == 0), words, sizeof words - (is_short == 1), &n, &given, &line);
+    seen[number == VCUBE_ACCEPTED && line > 0 ? 1 : number]++;
+    add(number), add(n), add(given), add(line);
+    add_bytes(schedule, sizeof schedule), add_bytes(words, sizeof words);
+}
+
+/* Prints, and begins anew. */
 static void print(const char *what)
 {
     printf("%s:", what);
@@ -125,15 +176,24 @@ static void print(const char *what)
             printf(" %d: %lu", k, seen[k]);
     printf("; %08lx\n", (unsigned long)sum);
     memset(seen, 0, sizeof seen);
+    state = FIRST_STATE;
+    sum = FIRST_SUM;
 }
 
-int main(void)
+int main(int count, char **words)
 {
-    for (int k = 0; k < 12; k++)
-        run();
-    print("long runs");
-    for (int k = 0; k < 300; k++)
-        file();
-    print("long files");
+    if (count == 1) {
+        for (int k = 0; k < 12; k++)
+            run();
+        print("long runs");
+        for (int k = 0; k < 300; k++)
+            file();
+        print("long files");
+    } else if (strcmp(words[1], "inputs") != 0) {
+        return 2;
+    }
+    for (int k = 0; k < 400; k++)
+        input();
+    print("long inputs (1: with an unreadable line)");
     return 0;
 }

@@ -140,10 +140,17 @@ static void free_call(struct call *call)
         free(call->arguments[k].lent);
 }
 
+/* Whether it is a call on a plant: not for words, and not the reading of an input. */
+static int is_on_plant(const struct call *call)
+{
+    return strstr(call->function, "words") == NULL && strcmp(call->function, "vcube_read_input") != 0;
+}
+
 /* Whether it is not a call for this processor, or for what is linked here. What stands at a pointer before the call counts for the last number
  * of a drive only, which is its first size_t: the others are only written. */
 static int is_left_out(const struct call *call)
 {
+    const int is_of_few = most_stations < 64 && is_on_plant(call);
     int is_last = strcmp(call->function, "vcube_drive") == 0;
     size_t results = 0;
 
@@ -157,9 +164,9 @@ static int is_left_out(const struct call *call)
             is_last = 0;
         }
         /* The longest plants: by the length of table or file, or by the size. */
-        if (most_stations < 64 && argument->form == 'b' && argument->length > VCUBE_TABLE_LENGTH(most_stations))
+        if (is_of_few && argument->form == 'b' && argument->length > VCUBE_TABLE_LENGTH(most_stations))
             return 1;
-        if (most_stations < 64 && argument->form == 'n' && argument->number > most_stations && argument->number <= 64)
+        if (is_of_few && argument->form == 'n' && argument->number > most_stations && argument->number <= 64)
             return 1;
         if (argument->form == 'r')
             results += argument->length / 2;
@@ -218,12 +225,12 @@ static uint8_t figures_of_list(void) { return vcube_figures_of_list(R(0), FIGURE
 static uint8_t figures_of_two_lists(void) { return vcube_figures_of_two_lists(R(0), R(1), FIGURES(2)); }
 static uint8_t totals_of_list(void) { return vcube_totals_of_list(R(0), TOTALS(1)); }
 static uint8_t join_totals(void) { return vcube_join_totals(TOTALS(0), TOTALS(1), TOTALS(2)); }
+static uint8_t figures_of_totals(void) { return vcube_figures_of_totals(TOTALS(0), FIGURES(1)); }
 static uint8_t slot(void) { return vcube_slot(n(0), B(1), n(2), S(3), S(4)); }
 static uint8_t refusal_words(void) { return vcube_refusal_words(n(0), B(1)); }
 static uint8_t status_words(void) { return vcube_status_words(n(0), B(1)); }
 static uint8_t outcome_words(void) { return vcube_outcome_words(n(0), B(1)); }
 static uint8_t read_input(void) { return vcube_read_input(B(0), B(1), B(2), S(3), S(4), S(5)); }
-static uint8_t figures_of_totals(void) { return vcube_figures_of_totals(TOTALS(0), FIGURES(1)); }
 
 static const struct {
     const char *function;

@@ -13,7 +13,7 @@ use Rattle.input.specs.declared.reading.Unread.{Unread}
 abbrev pub fault_with : Found → Expected → Fault
 fault_with f e = record { found = f; expected = e }
 
--- what a byte is: tab, carriage return, space, digit, lower case letter, another character that is printed, or a byte that is not
+-- Rule Words of a place: what a byte is: tab, carriage return, space, digit, lower case letter, another character that is printed, or a byte that is not
 unfoldable pub found_byte : ℕ → Found
 found_byte b =
     if b == 9 then Found.Tab else (if b == 13 then Found.CarriageReturn else (if b == 32 then Found.Space else
@@ -24,7 +24,7 @@ found_byte b =
 abbrev pub is_marked : List ℕ → Bool
 is_marked l = starts_with nat_eq l (239 ∷ 187 ∷ 191 ∷ []) || starts_with nat_eq l (255 ∷ 254 ∷ []) || starts_with nat_eq l (254 ∷ 255 ∷ [])
 
--- what the rest of a line begins with
+-- Rule Words of a place: what the rest of a line begins with
 unfoldable pub found_at : List ℕ → Found
 found_at [] = Found.LineEnd
 found_at (b ∷ rest) = if is_marked (b ∷ rest) then Found.ByteOrderMark else found_byte b
@@ -55,7 +55,7 @@ entry_fault (b ∷ rest) = if is_some (kind_of b) then behind_letter rest else f
 abbrev pub further_fault : List ℕ → Fault
 further_fault l = if is_some (entry_in_line l) then fault_with Found.EntryTooMany Expected.InputEnd else entry_fault l
 
--- Rule Unreadable: what is wrong in line u, the first that cannot be read: found at its first wrong place, and expected there
+-- Rule First wrong place: what is wrong in line u, the first that cannot be read: found there, and expected there
 unfoldable pub fault_in : ℕ → List (List ℕ) → Fault
 fault_in u [] = fault_with Found.NoInput Expected.Size
 fault_in u (l ∷ ls) = if u == 1 then size_fault l else further_fault (slice_index_or (l ∷ ls) (u - 1) [])

@@ -1,4 +1,4 @@
--- The run program: what its standard input means, for all inputs.
+-- What an input of the run program means, for all inputs.
 -- Assumes nothing.
 use Rattle.std.specs.Prelude.{ℕ, suc, ◌+◌, ◌*◌, ◌-◌, ◌/◌, min, Bool, ◌&&◌, List, [], ◌∷◌, ◌++◌, length, nat_lt, nat_le}
 use Rattle.std.specs.Prelude.{Option, None, Some, option_and_then, option_map, if◌then◌else◌, ◌==◌}

@@ -47,7 +47,7 @@ expected_words Expected.Digit = codes "a digit"
 expected_words Expected.LineEnd = codes "the end of the line"
 expected_words Expected.InputEnd = codes "the end of the input (4,096 entries at most)"
 
--- both
+-- Rule Words of an unreadable line: both
 abbrev pub fault_words : Fault → List ℕ
 fault_words fault = found_words fault.found ++ (codes " where " ++ (expected_words fault.expected ++ codes " is expected"))
 

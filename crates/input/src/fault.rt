@@ -69,7 +69,7 @@ impl Found {
     // What it says to people, up to the byte that it names.
     fn front(self) -> &'static str
         ensures text { result.now ≡ found_front self }
-        ensures few { length result.now ≤ 32 }
+        ensures few { length result.now ≤ 20 }
     {
         match self {
             Found::NoInput => "an empty input",
@@ -92,7 +92,7 @@ impl Found {
     fn write_words(self, buffer: &mut [u8]) -> usize
         ensures written { buffer.new ≡ sets buffer.old 0 (found_words self) }
         ensures count { result ≡ length (found_words self) }
-        ensures few { result ≤ 64 }
+        ensures few { result ≤ 36 }
     {
         let front = self.front().as_bytes();
         bytes::write_at(buffer, 0, front);
@@ -101,10 +101,10 @@ impl Found {
 
     // Writes the byte that it names, from a place on; answers how many bytes that takes.
     fn write_named(self, buffer: &mut [u8], at: usize) -> usize
-        requires { at ≤ 32 }
+        requires { at ≤ 20 }
         ensures written { buffer.new ≡ sets buffer.old at (found_named self) }
         ensures count { result ≡ length (found_named self) }
-        ensures few { result ≤ 32 }
+        ensures few { result ≤ 16 }
     {
         match self {
             Found::Character(byte) => {
@@ -164,7 +164,7 @@ impl Expected {
     // What it says to people.
     fn words(self) -> &'static str
         ensures text { result.now ≡ expected_words self }
-        ensures few { length result.now ≤ 64 }
+        ensures few { length result.now ≤ 48 }
     {
         match self {
             Expected::Size => "the size (one to three digits)",
@@ -195,13 +195,14 @@ const WHERE: &str = " where ";
 const IS_EXPECTED: &str = " is expected";
 
 impl Fault {
-    ghost use Rattle.std.specs.Prelude.{◌≡◌};
+    ghost use Rattle.std.specs.Prelude.{◌≡◌, ◌<◌, length};
     ghost use Rattle.std.proofs.lemmas.List.Edits.{sets};
     ghost use Rattle.input.specs.Words.{fault_words};
 
-    // Writes its words from the front of a buffer; past its end nothing is written.
+    // Writes its words from the front of a buffer; past its end nothing is written. A buffer of 128 bytes holds them all, and a byte more.
     pub fn write_words(self, buffer: &mut [u8])
-        ensures { buffer.new ≡ sets buffer.old 0 (fault_words self) }
+        ensures written { buffer.new ≡ sets buffer.old 0 (fault_words self) }
+        ensures few { length (fault_words self) < 128 }
     {
         let found = self.found.write_words(buffer);
         let expected = self.expected.words().as_bytes();
@@ -214,7 +215,7 @@ impl Fault {
 
 // What is wrong in a first line that is no size.
 #[tactic(auto, unfolding(crate::specs::Fault::size_fault))]
-pub fn size_fault(line: &[u8]) -> Fault
+pub(crate) fn size_fault(line: &[u8]) -> Fault
     ensures { result ≡ size_fault line.now }
 {
     if line.is_empty() {
@@ -228,7 +229,7 @@ pub fn size_fault(line: &[u8]) -> Fault
 
 // What is wrong in a further line that is no entry.
 #[tactic(auto, unfolding(crate::specs::Fault::entry_fault))]
-pub fn entry_fault(line: &[u8]) -> Fault
+pub(crate) fn entry_fault(line: &[u8]) -> Fault
     ensures { result ≡ entry_fault line.now }
 {
     let [letter, rest @ ..] = line else {

@@ -1,5 +1,5 @@
-// The reading of an input, of which the run program and the call for C make a run: lines, the size, the entries; and what is wrong in the first line
-// that cannot be read. The call is reading::parse.
+// The reading of an input of the run program, for it and for C: lines, the size, the entries; and what is wrong in the first line that cannot be
+// read. The call is reading::parse.
 #![tactic(auto)]
 
 pub mod fault;

@@ -1,4 +1,4 @@
-// What standard input holds: lines, the size, the entries. The one call is `parse`.
+// What an input holds: lines, the size, the entries. The call is `parse`; `read_size` and `read_station` read the numbers of arguments too.
 ghost use Rattle.std.specs.Prelude.{◌≡◌, [], ◌∷◌, ◌++◌, ◌+◌, ◌*◌, ◌≤◌, ◌<◌, suc, length, take, drop, None, option_map, if◌then◌else◌, nat_lt};
 ghost use Rattle.std.proofs.lemmas.List.Edits.{sets};
 ghost use Rattle.plant.specs.Kind.{kind_byte};
@@ -13,7 +13,7 @@ use std::error::Error;
 use std::fmt;
 use table::Station;
 
-// What was read: the size, and how many entries. Not the part of the schedule that they fill: `answer_of` names this answer whole, and a reference
+// What was read: the size, and how many entries. Not the part of the schedule that they fill: `parsed_of` names this answer whole, and a reference
 // is also a place in memory, which no definition over the input names.
 #[derive(Clone, Copy, Debug, PartialEq, Eq)]
 pub struct Parsed {
@@ -156,7 +156,7 @@ fn read_entry(line: &[u8]) -> Option<Entry>
 
 // The kind of a letter, if it is T, L or C. Not by `TryFrom`, which `Kind` has for the byte of a schedule.
 #[tactic(auto, unfolding(crate::specs::Input::kind_of))]
-pub fn kind_of(letter: u8) -> Option<Kind>
+pub(crate) fn kind_of(letter: u8) -> Option<Kind>
     ensures { option_map kind_byte result ≡ kind_of letter }
 {
     match letter {

@@ -1,5 +1,5 @@
-// How long a dead board may go unseen, in turns, of which a driven plant grants one after the other (specs/). Each function does nothing: its
-// contract is a claim.
+// How long a dead board may go unseen, in turns, of which a driven plant grants one after the other (specs/). Each function of this
+// file does nothing: its contract is a claim.
 #![tactic(auto)]
 
 pub mod figures;

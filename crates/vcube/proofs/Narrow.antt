@@ -1,6 +1,6 @@
--- A station and a level are handed on as a byte, 255 for all that are greater. Each definition gives the same of the number and of its
--- byte: a plant has at most 64 stations and 6 levels, so that station 255 and all above meet refusal 9, and such a level 12, or an
--- earlier one.
+-- A station, a level and a status are handed on as a byte, 255 for all that are greater. Each definition gives the same of the number and of
+-- its byte: a plant has at most 64 stations and 6 levels, so that station 255 and all above meet refusal 9, and such a level 12, or an earlier
+-- one; and no status has such a number.
 -- Assumes nothing.
 use mathlib.Core.Path.{◌≡◌, sym, ap, ◌∙◌}
 use mathlib.Core.Bool.{true, not, ◌||◌}

@@ -1,4 +1,4 @@
--- The calls as C has them (include/vcube.h), where they differ from those of `station`, `plant`, `granter`, `saved` and `figures`, for all inputs:
+-- The calls as C has them (include/vcube.h), where they differ from those of the crates below, for all inputs:
 -- the outcome of a run or a drive is given by the number and what the call leaves in the variables and buffers lent to it, what a load reads by what
 -- it leaves in the variables, a tally is handed in by its parts, and figures and totals are the members of a struct in their order.
 -- A station, level or last number may be any; the definitions of `station` and `granter` refuse it as they refuse any that is too high.
@@ -137,7 +137,7 @@ words_check len = length_check words_length len
 abbrev pub worded : List ℕ → List ℕ
 worded words = sets (replicate words_length 0) 0 words
 
--- Rule Words: the words in a lent buffer, which a refused call leaves as it was
+-- Rules Words call and Buffer of words: the words in a lent buffer, which a refused call leaves as it was
 abbrev pub words_after : List ℕ → List ℕ → List ℕ
 words_after words buffer = unless_refused (words_check (length buffer)) buffer (worded words)
 
@@ -176,9 +176,9 @@ abbrev pub schedule_after : ℕ → List ℕ → Reading → List ℕ
 schedule_after words schedule r = unless_refused (input_check (length schedule) words) schedule (sets schedule 0 r.schedule)
 
 -- what is wrong in the first unreadable line; nothing where all can be read
-abbrev pub unread_words : List ℕ → Reading → List ℕ
-unread_words input r = if r.unread == 0 then [] else fault_words (fault_in r.unread (lines input))
+abbrev pub words_of_input : List ℕ → Reading → List ℕ
+words_of_input input r = if r.unread == 0 then [] else fault_words (fault_in r.unread (lines input))
 
 abbrev pub input_words_after : ℕ → List ℕ → List ℕ → List ℕ
 input_words_after schedule words input =
-    unless_refused (input_check schedule (length words)) words (worded (unread_words input (read_input input)))
+    unless_refused (input_check schedule (length words)) words (worded (words_of_input input (read_input input)))

@@ -29,7 +29,8 @@ ghost use Rattle.slots.specs.Board.{slot_answer};
 ghost use Rattle.latency.specs.Wait.{wait_answer};
 ghost use Rattle.std.proofs.lemmas.List.Edits.{sets};
 ghost use Rattle.input.specs.Input.{read_input};
-ghost use Rattle.vcube.specs.Exports.{schedule_length, words_length, worded, unread_words, input_check, input_out, input_figures, schedule_after};
+ghost use Rattle.vcube.specs.WordsFit.{InputWordsFit};
+ghost use Rattle.vcube.specs.Exports.{schedule_length, words_length, worded, words_of_input, input_check, input_out, input_figures, schedule_after};
 ghost use Rattle.vcube.specs.Exports.{input_words_after};
 ghost use Rattle.vcube.specs.Exports.{slot_out, slot_figures, wait_out, wait_figures, words_check, words_after, words_of_refusal, words_of_status, words_of_outcome};
 ghost use Rattle.vcube.specs.Exports.{totals_members, totals_with, figures_out, totals_out};
@@ -405,7 +406,8 @@ pub extern "C" fn vcube_slot(
     number
 }
 
-// Wait: the bounds on the rounds and on the turns after which all live boards know all dead ones, by wiring, size and table; all 0 where it is refused.
+// Bounds of the wait: of the rounds and of the turns after which all live boards know all dead ones, by wiring, size and table; all 0 where it is
+// refused.
 #[unsafe(no_mangle)]
 pub extern "C" fn vcube_wait(
     wiring: usize,
@@ -465,8 +467,9 @@ pub extern "C" fn vcube_outcome_words(outcome: usize, words: &mut [u8]) -> u8
     }
 }
 
-// Input: reads an input of the run program. The entries before the first unreadable line go to the front of the schedule; their number, the size and
-// the number of that line, 0 where all can be read, into entries, n and line; and what is wrong in it into words. All three are 0 where it is refused.
+// Input: reads an input of the run program. The entries before the first unreadable line go to the front of the schedule; their number, the size
+// and the number of that line, 0 where all can be read, into entries, n and line; and what is wrong in it into words. All three numbers are 0 where
+// the call is refused.
 #[unsafe(no_mangle)]
 pub extern "C" fn vcube_read_input(
     input: &[u8],
@@ -484,6 +487,7 @@ pub extern "C" fn vcube_read_input(
         ≡ schedule_after (length words.old) schedule.old (read_input input.now) }
     ensures words_written { words.new
         ≡ input_words_after (length schedule.old) words.old input.now }
+    ensures words_fit { InputWordsFit (length schedule.old) (length words.old) input.now }
 {
     match check_input(schedule.len(), words.len()) {
         Ok(()) => {
@@ -524,7 +528,8 @@ fn read_input(input: &[u8], schedule: &mut [u8], words: &mut [u8]) -> (Parsed, u
         input_out result.0.size result.0.entries result.1 ≡ input_out r.size r.entries r.unread }
     ensures schedule_written { schedule.new
         ≡ sets schedule.old 0 (read_input input.now).schedule }
-    ensures words_written { words.new ≡ worded (unread_words input.now (read_input input.now)) }
+    ensures words_written { words.new ≡ worded (words_of_input input.now (read_input input.now)) }
+    ensures words_fit { length (words_of_input input.now (read_input input.now)) < words_length }
 {
     words.fill(0);
     match reading::parse(input, schedule) {
@@ -592,7 +597,7 @@ fn totals_with(members: &[u64; 5]) -> Totals
     }
 }
 
-// A number as a byte, 255 for all that are greater. No plant has a station or a level 255, so a greater one is refused as that one is.
+// A number as a byte, 255 for all that are greater. There is no station, level or status 255, so a greater one is answered as that one is.
 fn byte_of(x: usize) -> u8
     ensures { result ≡ min x 255 }
 {

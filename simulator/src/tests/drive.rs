@@ -5,7 +5,7 @@ use super::cube::drive;
 use super::granter::{granted, random_last, random_live_table};
 use super::rounds::{pairs, random_dead, with_dead};
 use super::told::suspecting;
-use super::{cease, driven, finish, fresh, head, run_on, set, sizes, wired_sizes};
+use super::{cease, driven, finish, fresh, head, heads, run_on, set, sizes, wired_sizes};
 use super::{Numbers, CUBE, MOST, WIRINGS};
 use crate::{check_table, Driven};
 
@@ -263,15 +263,13 @@ fn full_tally_of_tests_stops_after_two_grants() {
     let (given, stations) = drive_both_ways(4, &mut table, (3, MOST - 2), 255);
     assert_eq!(given, driven(7, 3, MOST, 1, 2));
     assert_eq!(stations, [0, 1]);
-    let heads = [
+    let expected = [
         [0, 2, 0, 1, 255, 0],
         [0, 2, 0, 1, 255, 0],
         [0, 1, 0, 0, 255, 0],
         [0, 1, 0, 0, 255, 0],
     ];
-    for (station, expected) in heads.iter().enumerate() {
-        assert_eq!(head(4, &table, station), expected);
-    }
+    assert_eq!(heads(4, &table), expected);
 }
 
 /// The turn of station 0 makes no test and counts as a grant.

@@ -143,6 +143,11 @@ pub fn head(n: usize, table: &[u8], station: usize) -> &[u8] {
     &table[place(n, station, 0)..place(n, station, HEAD)]
 }
 
+/// Those of all lines.
+pub fn heads(n: usize, table: &[u8]) -> Vec<&[u8]> {
+    (0..n).map(|station| head(n, table, station)).collect()
+}
+
 /// The bytes of a station's row.
 pub fn row_bytes(n: usize, table: &[u8], station: usize) -> &[u8] {
     &table[place(n, station, HEAD)..place(n, station + 1, 0)]

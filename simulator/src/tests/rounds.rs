@@ -1,7 +1,9 @@
 //! Rounds: how they close, and the counts of tests in a round.
 
 use super::cube::check_table;
-use super::{answer, cease, finish, fresh, head, run_with, set, sizes, suspect, Numbers, POWERS};
+use super::{
+    answer, cease, finish, fresh, head, heads, run_with, set, sizes, suspect, Numbers, POWERS,
+};
 
 /// A table at the start of a round in which each of these stations is crashed
 /// and suspected by all others, with so many rounds closed since it crashed.
@@ -222,15 +224,13 @@ fn round_does_not_close_when_both_leave_and_another_is_not_finished() {
     let (given, sheet) = run_with(4, &mut table, (3, 9), &[1, 0]);
     assert_eq!(given, answer(0, 1, 3, 10));
     assert_eq!(sheet, [0, 1, 5, 3]);
-    let heads = [
+    let expected = [
         [3, 2, 0, 1, 255, 0],
         [2, 1, 0, 0, 0, 0],
         [0, 4, 1, 2, 255, 0],
         [0, 4, 0, 2, 255, 0],
     ];
-    for (station, expected) in heads.iter().enumerate() {
-        assert_eq!(head(4, &table, station), expected);
-    }
+    assert_eq!(heads(4, &table), expected);
 }
 
 #[test]
@@ -241,15 +241,13 @@ fn round_does_not_close_when_both_leave_and_nobody_is_live() {
     let (given, sheet) = run_with(4, &mut table, (3, 9), &[1, 0]);
     assert_eq!(given, answer(0, 1, 3, 10));
     assert_eq!(sheet, [0, 1, 5, 3]);
-    let heads = [
+    let expected = [
         [3, 2, 0, 1, 255, 0],
         [2, 1, 0, 0, 0, 0],
         [1, 4, 1, 2, 255, 0],
         [3, 4, 1, 2, 255, 0],
     ];
-    for (station, expected) in heads.iter().enumerate() {
-        assert_eq!(head(4, &table, station), expected);
-    }
+    assert_eq!(heads(4, &table), expected);
     assert_eq!(check_table(4, &table), 0);
 }
 
@@ -263,15 +261,13 @@ fn round_stays_open_when_the_tested_leaves_and_the_tester_does_not() {
     let (given, sheet) = run_with(4, &mut table, (0, 0), &[1, 0]);
     assert_eq!(given, answer(0, 1, 0, 1));
     assert_eq!(sheet, [0, 1, 5, 0]);
-    let heads = [
+    let expected = [
         [0, 2, 0, 1, 255, 0],
         [2, 4, 1, 0, 0, 0],
         [0, 4, 1, 0, 255, 0],
         [0, 4, 1, 0, 255, 0],
     ];
-    for (station, expected) in heads.iter().enumerate() {
-        assert_eq!(head(4, &table, station), expected);
-    }
+    assert_eq!(heads(4, &table), expected);
     let (given, sheet) = run_with(4, &mut table, (0, 1), &[1, 0, 1, 0, 1, 0]);
     assert_eq!(given, answer(0, 3, 1, 3));
     assert_eq!(sheet, [0, 2, 1, 0, 0, 3, 1, 0, 0, 255, 0, 0]);
@@ -333,13 +329,11 @@ fn finished_lines_that_are_not_live_begin_the_round_too() {
     set(4, &mut table, 0, 2, 0);
     let (given, _) = run_with(4, &mut table, (0, 0), &[1, 0]);
     assert_eq!(given, answer(0, 1, 1, 0));
-    let heads = [
+    let expected = [
         [0, 1, 0, 0, 255, 0],
         [1, 1, 0, 0, 255, 1],
         [2, 1, 0, 0, 254, 1],
         [3, 1, 0, 0, 255, 1],
     ];
-    for (station, expected) in heads.iter().enumerate() {
-        assert_eq!(head(4, &table, station), expected);
-    }
+    assert_eq!(heads(4, &table), expected);
 }

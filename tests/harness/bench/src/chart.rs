@@ -17,12 +17,14 @@ pub struct Point {
     pub square_bound: u32,
 }
 
-const WIDTH: f64 = 760.0;
+pub(crate) const WIDTH: f64 = 760.0;
 const HEIGHT: f64 = 640.0;
 const LEFT: f64 = 70.0;
 const RIGHT: f64 = 30.0;
 const TOP: f64 = 50.0;
 const BOTTOM: f64 = 60.0;
+
+const TITLE: &str = "Closed rounds until every live board suspects exactly the dead ones";
 
 const GRID_STEP: u32 = 4;
 const MOST_ROUNDS: u32 = 36;
@@ -37,7 +39,7 @@ const SLOWEST: &str = "#a8201f";
 /// The whole chart.
 pub fn draw(points: &[Point]) -> String {
     let parts = [
-        frame(),
+        frame(TITLE, HEIGHT),
         axes(points),
         bound(points, |point| point.square_bound, SQUARE, ""),
         numbers(points, |point| point.square_bound),
@@ -71,14 +73,14 @@ fn placed(points: &[Point]) -> impl Iterator<Item = (f64, &Point)> {
     points.iter().enumerate().map(place)
 }
 
-fn frame() -> String {
-    let title = "Closed rounds until every live board suspects exactly the dead ones";
+/// The beginning of a chart of this height: a white ground with a title.
+pub(crate) fn frame(title: &str, height: f64) -> String {
     let middle = WIDTH / 2.0;
     format!(
-        "<svg xmlns=\"http://www.w3.org/2000/svg\" viewBox=\"0 0 {WIDTH} {HEIGHT}\" width=\"{WIDTH}\" height=\"{HEIGHT}\" \
+        "<svg xmlns=\"http://www.w3.org/2000/svg\" viewBox=\"0 0 {WIDTH} {height}\" width=\"{WIDTH}\" height=\"{height}\" \
          font-family=\"sans-serif\" font-size=\"13\" fill=\"#222222\">\n\
          <title>{title}</title>\n\
-         <rect width=\"{WIDTH}\" height=\"{HEIGHT}\" fill=\"#ffffff\"/>\n\
+         <rect width=\"{WIDTH}\" height=\"{height}\" fill=\"#ffffff\"/>\n\
          <text x=\"{middle}\" y=\"26\" font-size=\"15\" text-anchor=\"middle\">{title}</text>\n"
     )
 }

@@ -1,7 +1,7 @@
 //! The chart of the grants from a crash until it is known, beside what is
 //! proved, as SVG.
 
-use crate::chart::{label, line};
+use crate::chart::{frame, label, line, WIDTH};
 use crate::grants::Taken;
 
 /// What is drawn for one wiring and size: a plant beside its bound.
@@ -13,7 +13,8 @@ pub struct Row {
     pub random: Taken,
 }
 
-const WIDTH: f64 = 760.0;
+const TITLE: &str = "Grants until one more dead board is known, as a share of what is proved";
+
 const LEFT: f64 = 80.0;
 const RIGHT: f64 = 40.0;
 const TOP: f64 = 84.0;
@@ -27,7 +28,8 @@ const PROVED: &str = "#a8201f";
 /// The whole chart.
 pub fn draw(rows: &[Row]) -> String {
     let height = TOP + STEP * rows.len() as f64 + BOTTOM;
-    let mut text = frame(height);
+    let mut text = frame(TITLE, height);
+    text += &legend();
     text += &axis(height - BOTTOM);
     for (row, place) in rows.iter().zip(0u32..) {
         let top = TOP + STEP * f64::from(place);
@@ -45,16 +47,9 @@ fn x(share: f64) -> f64 {
     LEFT + share * (WIDTH - LEFT - RIGHT)
 }
 
-fn frame(height: f64) -> String {
-    let title = "Grants until one more dead board is known, as a share of what is proved";
-    let middle = WIDTH / 2.0;
-    let mut text = format!(
-        "<svg xmlns=\"http://www.w3.org/2000/svg\" viewBox=\"0 0 {WIDTH} {height}\" width=\"{WIDTH}\" height=\"{height}\" \
-         font-family=\"sans-serif\" font-size=\"13\" fill=\"#222222\">\n\
-         <title>{title}</title>\n\
-         <rect width=\"{WIDTH}\" height=\"{height}\" fill=\"#ffffff\"/>\n\
-         <text x=\"{middle}\" y=\"26\" font-size=\"15\" text-anchor=\"middle\">{title}</text>\n"
-    );
+/// What the bars are, and what the line at the right is.
+fn legend() -> String {
+    let mut text = String::new();
     let words = [
         (SEARCHED, LEFT, "all crashes in a round of a fresh plant"),
         (RANDOM, x(0.46), "the nearest random plant"),

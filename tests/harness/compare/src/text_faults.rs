@@ -209,8 +209,10 @@ const OF_LINES: [Fault; 12] = [
         });
     }),
     ("line: its number stands in front", |call, outcome| {
-        let line = outcome.buffers.get(Name::Line).contents()[0];
-        say(call, outcome, |said| format!("unread {line}: {said}"));
+        if is_unread(call, outcome) {
+            let line = outcome.buffers.get(Name::Line).figure();
+            say(call, outcome, |said| format!("unread {line}: {said}"));
+        }
     }),
     ("line: a byte in capitals", |call, outcome| {
         say(call, outcome, |said| {

@@ -182,99 +182,99 @@ const UNREAD: [Case; 13] = [
 /// By what is said of a first line that cannot be read.
 const WRONG_SIZES: [Case; 10] = [
     ("a byte order mark for a size", |seen| {
-        says_first(seen, "a byte order mark where the size")
+        says_first(seen, "a byte order mark", "the size")
     }),
     ("a tab for a size", |seen| {
-        says_first(seen, "a tab where the size")
+        says_first(seen, "a tab", "the size")
     }),
     ("a character for a size", |seen| {
-        says_first(seen, "the character / where the size")
+        says_first(seen, "the character", "the size")
     }),
     ("a byte for a size", |seen| {
-        says_first(seen, " (hexadecimal) where the size")
+        says_first(seen, "the byte", "the size")
     }),
     ("four digits for a size", |seen| {
-        says_first(seen, "a digit too many where the end")
+        says_first(seen, "a digit too many", "the end")
     }),
     ("a carriage return behind the size", |seen| {
-        says_first(seen, "a carriage return where the end")
+        says_first(seen, "a carriage return", "the end")
     }),
     ("a space behind the size", |seen| {
-        says_first(seen, "a space where the end")
+        says_first(seen, "a space", "the end")
     }),
     ("a letter behind the size", |seen| {
-        says_first(seen, "a lower case letter where the end")
+        says_first(seen, "a lower case letter", "the end")
     }),
     ("a character behind the size", |seen| {
-        says_first(seen, "the character X where the end")
+        says_first(seen, "the character", "the end")
     }),
     ("a byte behind the size", |seen| {
-        says_first(seen, " (hexadecimal) where the end")
+        says_first(seen, "the byte", "the end")
     }),
 ];
 
 /// By what is said of a later one.
 const WRONG_ENTRIES: [Case; 21] = [
     ("a digit for a letter", |seen| {
-        says(seen, "a digit where T, L or C")
+        says(seen, "a digit", "T, L or C")
     }),
     ("a small letter", |seen| {
-        says(seen, "a lower case letter where T, L or C")
+        says(seen, "a lower case letter", "T, L or C")
     }),
     ("a character for a letter", |seen| {
-        says(seen, "the character X where T, L or C")
+        says(seen, "the character", "T, L or C")
     }),
     ("a byte order mark for a letter", |seen| {
-        says(seen, "a byte order mark where T, L or C")
+        says(seen, "a byte order mark", "T, L or C")
     }),
     ("a byte for a letter", |seen| {
-        says(seen, " (hexadecimal) where T, L or C")
+        says(seen, "the byte", "T, L or C")
     }),
     ("nothing behind the letter", |seen| {
-        says(seen, "the end of the line where a space")
+        says(seen, "the end of the line", "a space")
     }),
     ("a digit behind the letter", |seen| {
-        says(seen, "a digit where a space")
+        says(seen, "a digit", "a space")
     }),
     ("a zero byte behind the letter", |seen| {
-        says(seen, "the byte 00 (hexadecimal) where a space")
+        says(seen, "the byte 00 (hexadecimal)", "a space")
     }),
     ("a character behind the letter", |seen| {
-        says(seen, "the character T where a space")
+        says(seen, "the character", "a space")
     }),
     ("nothing behind the space", |seen| {
-        says(seen, "the end of the line where a digit")
+        says(seen, "the end of the line", "a digit")
     }),
-    ("two spaces", |seen| says(seen, "a space where a digit")),
+    ("two spaces", |seen| says(seen, "a space", "a digit")),
     ("a tab behind the space", |seen| {
-        says(seen, "a tab where a digit")
+        says(seen, "a tab", "a digit")
     }),
     ("a character behind the space", |seen| {
-        says(seen, "the character - where a digit")
+        says(seen, "the character", "a digit")
     }),
     ("a byte behind the space", |seen| {
-        says(seen, " (hexadecimal) where a digit")
+        says(seen, "the byte", "a digit")
     }),
     ("a digit too many", |seen| {
-        says(seen, "a digit too many where the end of the line")
+        says(seen, "a digit too many", "the end of the line")
     }),
     ("a space behind the digits", |seen| {
-        says(seen, "a space where the end of the line")
+        says(seen, "a space", "the end of the line")
     }),
     ("a carriage return behind the digits", |seen| {
-        says(seen, "a carriage return where the end of the line")
+        says(seen, "a carriage return", "the end of the line")
     }),
     ("a byte order mark behind the digits", |seen| {
-        says(seen, "a byte order mark where the end of the line")
+        says(seen, "a byte order mark", "the end of the line")
     }),
     ("a small letter behind the digits", |seen| {
-        says(seen, "a lower case letter where the end of the line")
+        says(seen, "a lower case letter", "the end of the line")
     }),
     ("a character behind the digits", |seen| {
-        says(seen, "the character : where the end of the line")
+        says(seen, "the character", "the end of the line")
     }),
     ("a byte with a letter among its digits", |seen| {
-        says(seen, "the byte ef (hexadecimal)") || says(seen, "the byte ff (hexadecimal)")
+        says(seen, "the byte ef (hexadecimal)", "") || says(seen, "the byte ff (hexadecimal)", "")
     }),
 ];
 
@@ -286,14 +286,20 @@ fn has_none(seen: &Seen, is_one: bool) -> bool {
     seen.number == 0 && seen.words.is_empty() && is_one
 }
 
-/// Whether line 1 has these words.
-fn says_first(seen: &Seen, words: &str) -> bool {
-    is_unread(seen, seen.line == 1 && seen.words.contains(words))
+/// Whether line 1 has words that begin so, and this is expected.
+fn says_first(seen: &Seen, found: &str, expected: &str) -> bool {
+    seen.line == 1 && begins_so(seen, found, expected)
 }
 
-/// Whether a later line has these words.
-fn says(seen: &Seen, words: &str) -> bool {
-    is_unread(seen, seen.line > 1 && seen.words.contains(words))
+/// Whether a later line has.
+fn says(seen: &Seen, found: &str, expected: &str) -> bool {
+    seen.line > 1 && begins_so(seen, found, expected)
+}
+
+fn begins_so(seen: &Seen, found: &str, expected: &str) -> bool {
+    let both = seen.words.split_once(" where ");
+    let is_one = both.is_some_and(|both| both.0.starts_with(found) && both.1.starts_with(expected));
+    is_unread(seen, is_one)
 }
 
 fn is_refused(seen: &Seen, is_one: bool) -> bool {

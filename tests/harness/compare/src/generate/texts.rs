@@ -72,7 +72,11 @@ fn input(random: &mut Random) -> Vec<u8> {
         2 => random.below(300),
         _ => random.below(12),
     };
-    let mut text = number(1, 3, random);
+    let mut text = match random.below(80) {
+        0 => Vec::new(),
+        1 => number(4, 5, random),
+        _ => number(1, 3, random),
+    };
     for _ in 0..entries {
         text.push(b'\n');
         text.push(random.pick(b"TLC"));
@@ -98,13 +102,15 @@ fn number(least: usize, most: usize, random: &mut Random) -> Vec<u8> {
 /// Changes the text in one place, more often at its beginning or its end, or all
 /// its letters.
 fn damage(text: &mut Vec<u8>, random: &mut Random) {
-    let last = text.len() - 1;
+    let Some(last) = text.len().checked_sub(1) else {
+        return;
+    };
     let place = match random.below(4) {
         0 => random.below(last.min(3) + 1),
         1 => last - random.below(last.min(5) + 1),
         _ => random.below(last + 1),
     };
-    match random.below(10) {
+    match random.below(12) {
         0 => text.truncate(place),
         1 => {
             text.remove(place);
@@ -113,10 +119,22 @@ fn damage(text: &mut Vec<u8>, random: &mut Random) {
         3 => text.insert(place, random.pick(&ODD)),
         4 => text.push(random.pick(&ODD)),
         5 => {
-            let spaces = text.iter().enumerate().filter(|(_, byte)| **byte == b' ');
-            let spaces: Vec<usize> = spaces.map(|(space, _)| space).collect();
+            let spaces = places(text, b' ');
             if !spaces.is_empty() {
                 text[random.pick(&spaces)] = random.pick(b"\t\t\0T");
+            }
+        }
+        8 => {
+            let spaces = places(text, b' ');
+            if !spaces.is_empty() {
+                text[random.pick(&spaces) + 1] = random.pick(&ODD);
+            }
+        }
+        9 => {
+            let ends = places(text, b'\n');
+            if !ends.is_empty() {
+                let end = ends[random.below(ends.len().min(3))];
+                text.insert(end, random.pick(b"\r\r \tX:x\0\xEF"));
             }
         }
         6 => text.make_ascii_lowercase(),
@@ -126,4 +144,9 @@ fn damage(text: &mut Vec<u8>, random: &mut Random) {
         }
         _ => text[place] = random.pick(&ODD),
     }
+}
+
+/// Where this byte stands.
+fn places(text: &[u8], byte: u8) -> Vec<usize> {
+    (0..text.len()).filter(|at| text[*at] == byte).collect()
 }

@@ -4,8 +4,8 @@ use Rattle.lists.proofs.Writing.{sets-four}
 use Rattle.input.specs.Words.{found_words, expected_words}
 use Rattle.input.proofs.fault.Fault.write_words.Goals as goal
 
-pub returns : goal.returns
-returns c =
+pub returns-clause-written : goal.returns-clause-written
+returns-clause-written c =
     let w = c.write_words-found.ensures in
     rw (
       c.write_at-3.ensures,
