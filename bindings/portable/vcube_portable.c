@@ -885,7 +885,7 @@ uint8_t vcube_read_input(const uint8_t *input, size_t input_length, uint8_t *sch
                          size_t words_length, size_t *n, size_t *entries, size_t *line)
 {
     static const uint8_t size_line[] = {'2', LINE_FEED};
-    static const uint8_t one_too_many[VCUBE_WORDS_LENGTH] = "a 4,097th entry where the end of the input (4,096 entries at most) is expected";
+    static const char one_too_many[] = "a 4,097th entry where the end of the input (4,096 entries at most) is expected";
     const size_t most = VCUBE_SCHEDULE_LENGTH / 2;
     const struct lent lent = begin_with_words(words_length);
     const uint32_t n_at = room_for_number(), entries_at = room_for_number(), line_at = room_for_number(), begin = next;
@@ -924,6 +924,7 @@ uint8_t vcube_read_input(const uint8_t *input, size_t input_length, uint8_t *sch
     *line = unread < 2 ? unread : done + 2;
     if (!is_one_too_many)
         return give_words(number, lent, words);
+    fill(words, 0, words_length);
     memcpy(words, one_too_many, sizeof one_too_many);
     return VCUBE_ACCEPTED;
 }
