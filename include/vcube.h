@@ -24,7 +24,7 @@
  * Wiring. A plant is wired as the cube (VCUBE_WIRING_CUBE) or as the ring (VCUBE_WIRING_RING), and the first argument of each call that
  * depends on it says which: fresh table, row, run, grant, drive, doubt lamp, wait and mend. The wiring decides whom a turn tests, what becomes
  * of the next distance, and the bounds of the wait; all else is the same. The library does not keep the wiring, and a table does not hold it:
- * give the same number in all calls of a plant. Group list, assignment and saved plants are for the cube, and take no wiring.
+ * give the same number in all calls of a plant. Group list, assignment, slot and saved plants are for the cube, and take no wiring.
  *
  * Turn, pass, round.
  *
@@ -338,12 +338,16 @@ uint8_t vcube_drive(size_t wiring, size_t n, uint8_t *table, size_t table_length
  * Refusals: 24, 1 to 4. */
 uint8_t vcube_doubt_lamp(size_t wiring, size_t n, const uint8_t *table, size_t table_length, size_t *by, size_t *of);
 
-/* Wait: after how many rounds and turns at most all live stations know all dead ones, by wiring, size and who is live in the table (rule Wait).
- * *rounds are the closed rounds that are always enough from the start of a round with the lamp out, the worst case; *turns_per_round is the most
- * turns that a round has; *turns_until_known those of that many rounds; *turns_from_crash those of one round more, enough from a crash on
- * wherever in a round it comes, by the table after it. A turn is an entry of kind 1 or 2, in a drive a grant. No other station may crash
- * meanwhile, no reply of a live one be late, and two must be live: the call asks none of this. All four are 0 where the call is refused. The
- * call changes no byte.
+/* Wait: after how many rounds and turns at most all live stations know all dead ones, by wiring, size and who is live in the table (Rule Bounds
+ * of the wait). A turn is an entry of kind 1 or 2, in a drive a grant. All four are 0 where the call is refused. The call changes no byte.
+ *
+ *   By the table at the start of a round with the lamp out: *rounds closed rounds from there on are enough, the worst case; each round from
+ *   there on has *turns_per_round turns at most; and *turns_until_known turns are enough, those of *rounds rounds.
+ *   By the table after a crash: *turns_from_crash turns from the crash on are enough, wherever in its round it comes, those of one round more,
+ *   if the lamp was out at the start of its round or of one before.
+ *
+ * This holds if at least two stations are live in the table, none crashes from then on, and from that start of a round on all entries are on this
+ * wiring and no reply of a live station is late. The call asks none of this.
  * Refusals: 24, 1 to 4. */
 uint8_t vcube_wait(size_t wiring, size_t n, const uint8_t *table, size_t table_length, size_t *rounds, size_t *turns_per_round,
                    size_t *turns_until_known, size_t *turns_from_crash);
@@ -465,15 +469,15 @@ uint8_t vcube_refusal_words(size_t refusal, uint8_t *words, size_t words_length)
 uint8_t vcube_status_words(size_t status, uint8_t *words, size_t words_length);
 uint8_t vcube_outcome_words(size_t outcome, uint8_t *words, size_t words_length);
 
-/* Input: reads an input as the run program has it, of lines that end with a line feed: the size, of one to three digits, then an entry on each
- * line, a letter (T turn, L late turn, C crash), a space and a station of one or two digits. The size goes into *n, the number of entries into
- * *entries, and the entries to the front of the schedule, two bytes each, for vcube_run, which is handed 2 * *entries bytes of it. The
- * schedule has VCUBE_SCHEDULE_LENGTH bytes; those behind the entries are unchanged.
+/* Input: reads an input as the run program has it, of lines that end with a line feed, which the last may lack: the size, of one to three
+ * digits, then an entry on each line, a letter (T turn, L late turn, C crash), a space and a station of one or two digits. The size goes into
+ * *n, the number of entries into *entries, and the entries to the front of the schedule, two bytes each, for vcube_run, which is handed
+ * 2 * *entries bytes of it. The schedule has VCUBE_SCHEDULE_LENGTH bytes; those behind the entries are unchanged.
  *
  * *line is the number, from 1, of the first line that cannot be read, a 4097th entry included, and 0 where all can be. *n, *entries and the
- * schedule are then those of the lines before it, and the buffer of VCUBE_WORDS_LENGTH bytes says what is wrong in it, as "a tab where a space
- * is expected"; else the buffer is all 0. That a line cannot be read is no refusal. Neither is a size that no plant has, or a station that
- * is not there: those a run refuses. *n, *entries and *line are 0 where the call is refused.
+ * schedule are then those of the lines before it (*n is 0 where it is line 1), and the buffer of VCUBE_WORDS_LENGTH bytes says what is wrong in
+ * it, as "a tab where a space is expected"; else the buffer is all 0. That a line cannot be read is no refusal. Neither is a size that no plant
+ * has, or a station that is not there: those a run refuses. *n, *entries and *line are 0 where the call is refused.
  * Refusals: 13, for a schedule or a buffer of another length. */
 uint8_t vcube_read_input(const uint8_t *input, size_t input_length, uint8_t *schedule, size_t schedule_length, uint8_t *words,
                          size_t words_length, size_t *n, size_t *entries, size_t *line);

@@ -27,11 +27,11 @@
 //! station's number is any below n but the line's own, be that station live or
 //! not; a 254 handed in stays; every closing counts in byte 5 of all lines not
 //! live.
-//! And those of the wirings: the wiring number comes first in the seven calls
+//! And those of the wirings: the wiring number comes first in the eight calls
 //! that take it; a pass on the ring is finished by a turn that makes no test,
 //! behind the exchange or behind n - 1 tests; next distance alone says how many
-//! of them were made; group list, assignment and saved plants judge a table by
-//! the rules of the cube, wherever it comes from.
+//! of them were made; group list, assignment, slot and saved plants judge a table
+//! by the rules of the cube, wherever it comes from.
 //! The words, the reading of an input, the slot and the wait follow docs/RULES.md
 //! and include/vcube.h, the words of an unreadable line docs/RULES.md alone.
 //!

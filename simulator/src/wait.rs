@@ -45,14 +45,14 @@ fn of_plant(plant: &Plant) -> Wait {
     }
 }
 
+/// The worst case of the cube, in rounds, of d from 1 to 6.
+const WORST_ON_CUBE: [usize; 6] = [1, 2, 3, 4, 6, 8];
+
 /// The worst case, in rounds.
 pub(crate) fn worst_case(wiring: Wiring, size: Size) -> usize {
     match wiring {
         Wiring::Ring => size.count() / 2,
-        Wiring::Cube => match size.levels().count() {
-            d @ ..=3 => d,
-            d => 4 + (d - 3).pow(2) / 2,
-        },
+        Wiring::Cube => WORST_ON_CUBE[size.levels().count() - 1],
     }
 }
 

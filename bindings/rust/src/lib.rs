@@ -14,8 +14,9 @@
 //! # Wiring
 //!
 //! A plant is wired as the cube or as the ring ([`Wiring`]): that says whom a turn
-//! tests. Seven calls take it as their first argument; give the same one in all
-//! calls of a plant. Group lists, assignments and saved plants are for the cube.
+//! tests. Eight calls take it as their first argument; give the same one in all
+//! calls of a plant. Group lists, assignments, slots and saved plants are for the
+//! cube.
 //!
 //! # Turn, pass, round
 //!
@@ -276,6 +277,7 @@ mod mender;
 #[allow(unsafe_code)]
 mod raw;
 mod saved;
+mod slot;
 mod texts;
 mod wait;
 
@@ -294,9 +296,10 @@ pub use lamp::{doubt_lamp, Doubt};
 pub use lines::{rounds_ago, status, told_by, ToldBy, HEAD, TOLD_BY_NONE, TOLD_NOT_RECORDED};
 pub use mender::{changes, mend, report_length, Change, LineByte};
 pub use saved::{convert, converted_length, load, save, saved_length, saved_size, Loaded};
+pub use slot::{slot, Slot};
 pub use texts::{
-    outcome_words, read_input, refusal_words, slot, status_words, Input, Slot, Unread, Words,
-    SCHEDULE_LENGTH, WORDS_LENGTH,
+    outcome_words, read_input, refusal_words, status_words, Input, Unread, Words, SCHEDULE_LENGTH,
+    WORDS_LENGTH,
 };
 pub use wait::{wait, Wait};
 

@@ -11,6 +11,7 @@ mod lines;
 mod mender;
 mod ring;
 mod saved;
+mod slot;
 mod texts;
 mod wait;
 

@@ -1,6 +1,6 @@
-//! Words of the library, the reading of an input, and the slot of a station.
+//! Words of the library, and the reading of an input.
 
-use crate::{accepted, raw, Refusal, Station};
+use crate::{accepted, raw};
 use std::error::Error;
 use std::fmt;
 
@@ -64,7 +64,7 @@ pub fn outcome_words(outcome: usize) -> Words {
 /// of the schedule, two bytes each.
 #[derive(Clone, Copy, Debug, PartialEq, Eq, Hash)]
 pub struct Input {
-    /// The size, which a run may still refuse.
+    /// The size, which a run may still refuse; 0 where line 1 cannot be read.
     pub n: usize,
     /// How many entries.
     pub entries: usize,
@@ -89,8 +89,9 @@ impl fmt::Display for Unread {
 
 impl Error for Unread {}
 
-/// Input: reads an input of the run program. The entries before the first
-/// unreadable line go to the front of the schedule, whose rest is unchanged.
+/// Input: reads an input of the run program: lines that end with a line feed,
+/// which the last may lack. The entries before the first unreadable line go to the
+/// front of the schedule, whose rest is unchanged.
 pub fn read_input(input: &[u8], schedule: &mut [u8; SCHEDULE_LENGTH]) -> Result<Input, Unread> {
     let mut figures = (0, 0, 0);
     let words = Words::written(|words| {
@@ -109,22 +110,4 @@ pub fn read_input(input: &[u8], schedule: &mut [u8; SCHEDULE_LENGTH]) -> Result<
             before,
         })
     }
-}
-
-/// How many tests a station makes a round, and the most with one more dead, by
-/// which its slot on the cable is timed.
-#[derive(Clone, Copy, Debug, PartialEq, Eq, Hash)]
-pub struct Slot {
-    /// Its tests a round, by its row.
-    pub tests: usize,
-    /// The most that one more dead station can make of them.
-    pub most: usize,
-}
-
-/// Slot, on the cube: both numbers of a live station, as the commissioning
-/// sheet has them.
-/// Refusals: 1 to 4, 9, 10.
-pub fn slot(n: usize, table: &[u8], station: Station) -> Result<Slot, Refusal> {
-    let (number, tests, most) = raw::slot(n, table, station.0);
-    accepted(number).map(|()| Slot { tests, most })
 }

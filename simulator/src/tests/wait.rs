@@ -16,7 +16,7 @@ fn bounds(rounds: usize, turns: usize) -> Wait {
     }
 }
 
-fn refused(number: u8) -> Wait {
+pub fn refused(number: u8) -> Wait {
     Wait {
         number,
         ..Wait::default()

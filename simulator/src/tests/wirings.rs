@@ -1,13 +1,14 @@
 //! The wiring number: its refusal, and what is the same on both wirings and what
 //! is not.
 
+use super::wait::refused;
 use super::{
     answer, driven, end, fresh, place, random_table, random_table_on, run_on, set, sizes, suspect,
     Numbers, CUBE, HEAD, MOST, RING, UNWRITTEN, WIRINGS,
 };
 use crate::{
     assignment, check_table, doubt_lamp, drive, fresh_table, grant, group_list, load, mend, row,
-    row_refusal, run, save,
+    row_refusal, run, save, slot, wait,
 };
 
 /// Numbers that are no wiring. None is cut to a byte, or to 32 bits.
@@ -22,7 +23,7 @@ const NO_WIRINGS: [usize; 8] = [
     usize::MAX,
 ];
 
-/// Makes the seven calls and checks that each is refused with this number and
+/// Makes the eight calls and checks that each is refused with this number and
 /// changes nothing. The schedule has one byte more than it may have, and so has
 /// the sheet; the station, the last number and the report are wrong, too.
 fn all_refused(wiring: usize, n: usize, table: &[u8], number: u8) {
@@ -43,6 +44,7 @@ fn all_refused(wiring: usize, n: usize, table: &[u8], number: u8) {
     assert!(row(wiring, n, table, 255).is_empty());
     assert_eq!(grant(wiring, n, table, 256), (number, 0));
     assert_eq!(doubt_lamp(wiring, n, table), (number, None));
+    assert_eq!(wait(wiring, n, table), refused(number));
     assert_eq!(mend(wiring, n, &mut after, &mut report), (number, 0));
     assert_eq!(after, table);
     assert_eq!((sheet, report), ([UNWRITTEN; 7], [UNWRITTEN; 3]));
@@ -92,6 +94,7 @@ fn number_24_where_all_else_is_right() {
         assert!(row(wiring, 4, &table, 1).is_empty());
         assert_eq!(grant(wiring, 4, &table, 2), (24, 0));
         assert_eq!(doubt_lamp(wiring, 4, &table), (24, None));
+        assert_eq!(wait(wiring, 4, &table), refused(24));
         assert_eq!(mend(wiring, 4, &mut table, &mut report), (24, 0));
         assert_eq!(report, [UNWRITTEN; 160]);
         assert_eq!(fresh_table(wiring, 4, &mut table), 24);
@@ -178,13 +181,14 @@ fn tables_handed_to_the_other_wiring() {
 }
 
 /// The numbers of all calls that judge a table, but for the mender.
-fn numbers_of_calls(wiring: usize, n: usize, table: &[u8]) -> [u8; 5] {
+fn numbers_of_calls(wiring: usize, n: usize, table: &[u8]) -> [u8; 6] {
     [
         run(wiring, n, &mut table.to_vec(), (0, 0), &[], &mut []).number,
         row_refusal(wiring, n, table, 0),
         grant(wiring, n, table, 255).0,
         drive(wiring, n, &mut table.to_vec(), (0, 0), 255).number,
         doubt_lamp(wiring, n, table).0,
+        wait(wiring, n, table).number,
     ]
 }
 
@@ -194,23 +198,24 @@ fn numbers_of_calls(wiring: usize, n: usize, table: &[u8]) -> [u8; 5] {
 fn ring_table_to_the_cube_and_back() {
     let mut table = fresh(5);
     run_on(RING, 5, &mut table, (0, 0), &[1, 0]);
-    assert_eq!(numbers_of_calls(CUBE, 5, &table), [0; 5]);
+    assert_eq!(numbers_of_calls(CUBE, 5, &table), [0; 6]);
     run_on(RING, 5, &mut table, (0, 1), &[1, 0]);
-    assert_eq!(numbers_of_calls(CUBE, 5, &table), [3; 5]);
-    assert_eq!(numbers_of_calls(RING, 5, &table), [0; 5]);
+    assert_eq!(numbers_of_calls(CUBE, 5, &table), [3; 6]);
+    assert_eq!(numbers_of_calls(RING, 5, &table), [0; 6]);
     assert_eq!(assignment(5, &table, 1, &mut [0; 8]), (3, 0));
+    assert_eq!(slot(5, &table, 1).number, 3);
     assert_eq!(save(5, &table, (0, 1), &mut [0; 94]), 3);
     let given = drive(RING, 5, &mut table, (0, 1), 255);
     assert_eq!((given.number, given.rounds, given.tests), (0, 1, 5));
-    assert_eq!(numbers_of_calls(CUBE, 5, &table), [0; 5]);
+    assert_eq!(numbers_of_calls(CUBE, 5, &table), [0; 6]);
     assert_eq!(assignment(5, &table, 1, &mut [0; 8]).0, 0);
     assert_eq!(save(5, &table, (1, 5), &mut [0; 94]), 0);
     let given = drive(CUBE, 5, &mut table, (1, 5), 255);
     assert_eq!((given.number, given.rounds, given.tests), (0, 2, 18));
-    assert_eq!(numbers_of_calls(RING, 5, &table), [0; 5]);
+    assert_eq!(numbers_of_calls(RING, 5, &table), [0; 6]);
     run_on(CUBE, 5, &mut table, (2, 18), &[1, 1].repeat(3));
-    assert_eq!(numbers_of_calls(RING, 5, &table), [3; 5]);
-    assert_eq!(numbers_of_calls(CUBE, 5, &table), [0; 5]);
+    assert_eq!(numbers_of_calls(RING, 5, &table), [3; 6]);
+    assert_eq!(numbers_of_calls(CUBE, 5, &table), [0; 6]);
 }
 
 /// A pass that the cube began goes on round the ring, from its next distance.

@@ -1,4 +1,4 @@
-//! Words, inputs and slots.
+//! Words and inputs.
 
 use crate::*;
 
@@ -30,12 +30,4 @@ fn an_input_is_read_up_to_the_first_unreadable_line() {
         unread.to_string(),
         "unread 3: a tab where a space is expected"
     );
-}
-
-#[test]
-fn a_slot_is_that_of_the_commissioning_sheet() {
-    let mut table = [0; table_length(8)];
-    assert_eq!(fresh_table(Wiring::Cube, 8, &mut table), Ok(()));
-    assert_eq!(slot(8, &table, Station(5)), Ok(Slot { tests: 3, most: 5 }));
-    assert_eq!(slot(8, &table, Station(8)), Err(Refusal::NoSuchStation));
 }

@@ -25,12 +25,14 @@ pub struct Rule {
     pub from_crash: usize,
 }
 
+/// The worst case of the cube, of d from 1 to 6.
+const WORST_ON_CUBE: [usize; 6] = [1, 2, 3, 4, 6, 8];
+
 /// The rule as it is.
 pub const RIGHT: Rule = Rule {
-    rounds: |asked| match (asked.wiring, dimension(asked.n) as usize) {
-        (Wiring::Ring, _) => asked.n / 2,
-        (Wiring::Cube, d @ ..=3) => d,
-        (Wiring::Cube, d) => 4 + (d - 3) * (d - 3) / 2,
+    rounds: |asked| match asked.wiring {
+        Wiring::Ring => asked.n / 2,
+        Wiring::Cube => WORST_ON_CUBE[dimension(asked.n) as usize - 1],
     },
     tests: |asked| match asked.wiring {
         Wiring::Ring => asked.n,

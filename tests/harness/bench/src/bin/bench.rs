@@ -1,7 +1,8 @@
 //! Entries per second of the run, drives per second, and calls per second of
 //! the figures, of the doubt lamp, of mendings, of saves, loads and conversions,
-//! of slots and of the reading of inputs: the library, plain Rust over the same bytes, and the simulator. First all of
-//! them on the cube, then on the ring those that take a wiring.
+//! of slots and of the reading of inputs: the library, plain Rust over the same
+//! bytes, and the simulator. First all of them on the cube, then on the ring those
+//! that take a wiring.
 //!
 //! `bench` prints the tables; `--quick` repeats less.
 //! `--only NAME N DEAD` runs one of library, plain and simulator once, for a
