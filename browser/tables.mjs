@@ -77,6 +77,7 @@ export class Matrix {
             return { row: make('tr', {}, heading, ...cells), cells };
         });
         this.table.replaceChildren(caption, make('thead', {}, head), make('tbody', {}, ...this.rows.map(({ row }) => row)));
+        this.table.style.setProperty('--boards', n);
         this.shown = new Uint8Array(n * n);
     }
 

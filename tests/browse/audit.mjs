@@ -74,7 +74,9 @@ export function audit() {
     for (const element of all(`[aria-hidden=true] ${fields}`)) found.push(`hidden: ${say(element)}`);
     for (const element of document.querySelectorAll('[aria-labelledby], [aria-describedby], [aria-controls], label[for], output[for]')) {
         const named = ['aria-labelledby', 'aria-describedby', 'aria-controls', 'for'].map((name) => element.getAttribute(name) ?? '');
-        for (const id of named.join(' ').split(/\s+/).filter(Boolean)) if (!document.getElementById(id)) found.push(`no element ${id} for ${say(element)}`);
+        for (const id of named.join(' ').split(/\s+/).filter(Boolean)) {
+            if (!document.getElementById(id)) found.push(`no element ${id} for ${say(element)}`);
+        }
     }
     const ids = [...document.querySelectorAll('[id]')].map(({ id }) => id);
     for (const [k, id] of ids.entries()) if (ids.indexOf(id) !== k) found.push(`two elements are ${id}`);
@@ -110,6 +112,6 @@ export function focused() {
     return {
         what: element.id || element.dataset.opens || element.dataset.board || element.className || element.textContent,
         is_seen: !document.hasFocus() || has_outline || (halo ? parseFloat(getComputedStyle(halo).strokeWidth) >= 5 : false),
-        is_inside: bottom > 0 && top < innerHeight && right > 0 && left < innerWidth,
+        is_inside: !document.hasFocus() || (bottom > 0 && top < innerHeight && right > 0 && left < innerWidth),
     };
 }

@@ -111,7 +111,15 @@ export class Chromium extends Browser {
             if (method === 'Log.entryAdded') browser.console.push(`${params.entry.source}: ${params.entry.text}`);
         };
         for (const domain of ['Page', 'Runtime', 'Log']) await browser.ask(`${domain}.enable`);
+        await browser.ask('Emulation.setFocusEmulationEnabled', { enabled: true });
+        await browser.ask('Performance.enable', { timeDomain: 'threadTicks' });
         return browser;
+    }
+
+    /// How many milliseconds the page's thread has worked, whatever else the machine does.
+    async worked() {
+        const { metrics } = await this.ask('Performance.getMetrics');
+        return 1000 * metrics.find(({ name }) => name === 'TaskDuration').value;
     }
 
     async go(address) {

@@ -380,9 +380,11 @@ async function is_accessible(browser) {
     await browser.look(1280, 900, 'light');
 }
 
-/// Without a mouse: a tab comes to each control, where it is seen; keys press them, and leave a dialog.
+/// Without a mouse: a tab comes to each control, where it is seen; keys press them, and leave a dialog. Without a window Firefox presses none.
 async function by_tabs(browser) {
     await open(browser, link(8, ['L 4', 'T 4'], 1));
+    const presses = await browser.value('document.hasFocus()');
+    check(presses || name === 'Firefox', 'the page has not the focus');
     const wanted = await browser.value(`[...document.querySelectorAll('button, input, select, textarea, a, [tabindex="0"]')]
         .filter((element) => element.tabIndex >= 0 && element.checkVisibility() && !element.closest('#notice'))
         .map((element) => element.id || element.dataset.opens || element.dataset.board || element.className || element.textContent)`);
@@ -394,12 +396,13 @@ async function by_tabs(browser) {
         check(at.is_seen, `the focus is not seen at ${at.what}`);
         check(at.is_inside, `the focus is outside of the window at ${at.what}`);
         reached.push(at.what);
-        if (at.what === 'grant') {
+        if (at.what === 'grant' && presses) {
             await browser.key('Enter');
             same((await browser.value('said()')).at, '2 of 2', 'a grant by the key');
         }
     }
     same(reached, wanted, 'what a tab comes to, in order');
+    if (!presses) return;
     // a dialog
     await browser.value(`document.querySelector('[data-opens=new-dialog]').focus() ?? true`);
     await browser.key('Enter');
@@ -496,13 +499,20 @@ async function times(browser) {
         channel.port1.close();
         press('last');
         await calm();
-        const steps = Array.from({ length: 100 }, () => press('back'));
-        return { steps, starts, asked, opened };
+        window.press_timed = press;
+        return { starts, asked, opened };
     })()`);
-    const [steps, starts, asked] = [measured.steps, measured.starts, measured.asked].map(of_times);
+    const before = await browser.worked?.();
+    const each = await browser.value(`Array.from({ length: 100 }, () => press_timed('back'))`);
+    const worked = ((await browser.worked?.()) - before) / 100;
+    const [steps, starts, asked] = [each, measured.starts, measured.asked].map(of_times);
     const opened = Math.min(...measured.opened);
     console.log(`${name}: 64 boards, 4,096 entries: a step ${in_words(steps)}, opened in ${Math.round(opened)} ms`);
     console.log(`${name}: the same where a round begins and a board crashes: a step ${in_words(starts)}; what it asks after it ${in_words(asked)}`);
+    if (before !== undefined) {
+        console.log(`${name}: of processor time a step takes ${worked.toFixed(1)} ms, with all that is drawn after it`);
+        check(worked < 16, `a step of 64 boards takes ${worked} ms of processor time`);
+    }
     // A machine that does much else says little of the page.
     if (loadavg()[0] > cpus().length) {
         console.log(`${name}: the machine does much else: these times are not judged`);
