@@ -191,8 +191,7 @@ export class Circle {
     arrow(from, to, name, both, aside) {
         const [a, b] = [this.places[from], this.places[to]];
         const bent = this.is_near(a, b) ? this.inside(a, b, aside) : this.beside(a, b, aside);
-        const ends = { 'data-from': from, 'data-to': to };
-        const attributes = { d: this.curve(a, bent, b), class: `arrow ${name}`, 'marker-end': `url(#head-${name})`, ...ends };
+        const attributes = { d: this.curve(a, bent, b), class: `arrow ${name}`, 'marker-end': `url(#head-${name})` };
         if (both) attributes['marker-start'] = `url(#head-${name})`;
         return draw('path', attributes);
     }

@@ -29,7 +29,7 @@ let selected = 0;
 let saved_start;
 let playing;
 let asking;
-/// What is said below, and what can be brought back: { text, label, does }.
+/// What is said below, and what can be brought back: { label, does }.
 let said = { text: '', kind: 'note' };
 let offer;
 
@@ -39,11 +39,10 @@ const matrix = new Matrix(by_id('matrix'));
 
 /// Says something below. What can be brought back stays offered beside it.
 function say(text, kind = 'note') {
-    said = { text, kind };
-    const whole = [text, offer?.text ?? ''].filter(Boolean).join(' ');
-    set_class(by_id('notice'), `message ${text === '' ? 'note' : kind}`);
-    set_text(by_id('message'), whole);
-    by_id('notice').dataset.is = whole === '' ? 'empty' : 'said';
+    said = { text, kind: text === '' ? 'note' : kind };
+    set_class(by_id('notice'), `message ${said.kind}`);
+    set_text(by_id('message'), text);
+    by_id('notice').dataset.is = text === '' && !offer ? 'empty' : 'said';
     by_id('bring-back').hidden = offer === undefined;
     set_text(by_id('bring-back'), offer?.label ?? '');
 }
@@ -221,15 +220,20 @@ function add(does) {
     show();
     if (plant.at === at) return;
     forget_link();
-    const bring_back = () => {
+    const does_again = () => {
         plant.go(at);
         for (const { kind, board } of followed) plant.take(kind, board);
         plant.go(at);
         show();
     };
-    const what = followed.length === 1 ? 'The entry that followed is' : `The ${followed.length} entries that followed are`;
-    offer = followed.length === 0 ? undefined : { text: `${what} dropped.`, label: followed.length === 1 ? 'Bring it back' : 'Bring them back', does: bring_back };
-    say(said.text, said.kind);
+    offer = undefined;
+    let dropped = '';
+    if (followed.length > 0) {
+        const is_one = followed.length === 1;
+        dropped = `${is_one ? 'The entry that followed is' : `The ${followed.length} entries that followed are`} dropped.`;
+        offer = { label: `Bring back ${is_one ? 'the entry' : `${followed.length} entries`}`, does: does_again };
+    }
+    say(`${said.text} ${dropped}`.trim(), said.kind);
 }
 
 function bring_back() {
@@ -283,7 +287,7 @@ function put(next) {
     const former = plant && { plant, names, saved_start, selected };
     ({ plant, names, saved_start, selected } = next);
     const is_worth = former && (former.plant.length > 0 || !former.plant.is_fresh);
-    offer = is_worth ? { text: 'The former plant is put aside.', label: 'Bring it back', does: () => put(former) } : undefined;
+    offer = is_worth ? { label: 'Bring back the former plant', does: () => put(former) } : undefined;
     lay_out();
 }
 
@@ -308,7 +312,7 @@ function begin(state, is_fresh, further) {
         saved_start: saved,
         selected: opened.at > 0 ? opened.entries[opened.at - 1].board : 0,
     });
-    say(`${text} ${note}`.trim(), text === '' ? 'note' : 'wrong');
+    say([text, note, offer ? 'The former plant is put aside.' : ''].filter(Boolean).join(' '), text === '' ? 'note' : 'wrong');
     if (!further.is_link) forget_link();
 }
 
