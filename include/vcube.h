@@ -338,12 +338,12 @@ uint8_t vcube_drive(size_t wiring, size_t n, uint8_t *table, size_t table_length
  * Refusals: 24, 1 to 4. */
 uint8_t vcube_doubt_lamp(size_t wiring, size_t n, const uint8_t *table, size_t table_length, size_t *by, size_t *of);
 
-/* Wait: after how many rounds and turns at most all live stations know all dead ones, by wiring, size and who is live in the table (rule Wait).
- * *rounds are the closed rounds that are always enough from the start of a round with the lamp out, the worst case; *turns_per_round is the most
- * turns that a round has; *turns_until_known those of that many rounds; *turns_from_crash those of one round more, enough from a crash on
- * wherever in a round it comes, by the table after it. A turn is an entry of kind 1 or 2, in a drive a grant. No other station may crash
- * meanwhile, no reply of a live one be late, and two must be live: the call asks none of this. All four are 0 where the call is refused. The
- * call changes no byte.
+/* Wait: after how many rounds and turns at most all live stations know all dead ones, by wiring, size and who is live in the table. *rounds are
+ * the closed rounds that are always enough from the start of a round with the lamp out, the worst case; *turns_per_round is the most turns that
+ * a round has; *turns_until_known those of that many rounds; *turns_from_crash those of one round more, enough from a crash on, wherever in a
+ * round it comes, by the table after it (Rule Bounds of the wait). A turn is an entry of kind 1 or 2, in a drive a grant. No other station may
+ * crash meanwhile, no reply of a live one be late, and two must be live: the call asks none of this. All four are 0 where the call is refused.
+ * The call changes no byte.
  * Refusals: 24, 1 to 4. */
 uint8_t vcube_wait(size_t wiring, size_t n, const uint8_t *table, size_t table_length, size_t *rounds, size_t *turns_per_round,
                    size_t *turns_until_known, size_t *turns_from_crash);
