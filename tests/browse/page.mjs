@@ -481,6 +481,20 @@ async function files(browser) {
         return document.querySelector('#boards tr[data-board="1"] button').textContent;
     })()`);
     same(from_file, '1 fan', 'names from a file');
+    for (const [bytes, words] of [
+        ['new Uint8Array(4194305)', 'It is longer than any input, plant or names.'],
+        ['[49, 32, 0xd6, 108]', 'No UTF-8: it was read as Windows-1252.'],
+    ]) {
+        const said = await browser.value(`(async () => {
+            document.querySelector('[data-opens=names-dialog]').click();
+            const wrong = document.querySelector('#names-dialog .wrong');
+            fill('names-file', ${bytes});
+            await until(() => wrong.textContent !== '');
+            document.getElementById('names-dialog').close();
+            return wrong.textContent;
+        })()`);
+        same(said, words, 'names from a file');
+    }
     same(await browser.value(`typed('names', 'names-text', '')`), { is_open: false, wrong: '' }, 'no names');
     // its link, with an entry behind it
     await browser.value(`press('turn')`);
@@ -784,6 +798,8 @@ try {
     await play(browser, 2, sample('two-boards.txt').slice(1));
     await play(browser, 8, sample('late-reply.txt').slice(1));
     await play(browser, 8, sample('late-press.txt').slice(1));
+    // a tester that its tested board tells, and one that tests a dead board when its reply would be late
+    await play(browser, 8, ['L 1', 'T 0', 'C 5', 'L 4', 'T 1']);
     await play(browser, 11, simulator.entries(11, 220, 5));
     await play(browser, 64, simulator.entries(64, 90, 7));
     await play(browser, 4, sample('four-boards.txt').slice(1), 'ring');
