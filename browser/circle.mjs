@@ -33,18 +33,19 @@ export function legend(list, words) {
     const arrows = [EXCHANGED, NO_REPLY, TOLD_NOW, TESTED_TOLD].map((outcome) => [...arrow_of(outcome), words.outcome(outcome)]);
     for (const [name, is_back, is_both, text] of [...arrows, ['doubt', false, false, 'doubt lamp']]) {
         const item = document.createElement('li');
-        const line = draw('svg', { viewBox: '0 0 52 14', width: 52, height: 14, 'aria-hidden': 'true' });
+        const line = draw('svg', { viewBox: '0 0 44 14', width: 44, height: 14, 'aria-hidden': 'true' });
         // the tester on the left, in grey as on the circle
-        if (name !== 'doubt') line.append(draw('circle', { cx: 6, cy: 7, r: 5.5, class: 'tester' }));
-        line.append(draw('path', { d: 'M22 7H42', class: `arrow ${name}` }));
-        if (!is_back) line.append(draw('path', { d: 'M42 2L50 7L42 12Z', class: `head ${name}` }));
-        if (is_back || is_both) line.append(draw('path', { d: 'M22 2L14 7L22 12Z', class: `head ${name}` }));
+        if (name !== 'doubt') line.append(draw('circle', { cx: 5, cy: 7, r: 4.5, class: 'tester' }));
+        const [begins, ends] = [is_back || is_both ? 20 : 14, is_back ? 43 : 36];
+        line.append(draw('path', { d: `M${begins} 7H${ends}`, class: `arrow ${name}` }));
+        if (!is_back) line.append(draw('path', { d: 'M35 2L43 7L35 12Z', class: `head ${name}` }));
+        if (is_back || is_both) line.append(draw('path', { d: 'M21 2L13 7L21 12Z', class: `head ${name}` }));
         item.append(line, text);
         list.append(item);
     }
     const item = document.createElement('li');
-    const dot = draw('svg', { viewBox: '0 0 14 14', width: 14, height: 14, 'aria-hidden': 'true' });
-    dot.append(draw('circle', { cx: 7, cy: 7, r: 6, class: 'tester' }));
+    const dot = draw('svg', { viewBox: '0 0 10 14', width: 10, height: 14, 'aria-hidden': 'true' });
+    dot.append(draw('circle', { cx: 5, cy: 7, r: 4.5, class: 'tester' }));
     item.append(dot, 'the board of the entry');
     list.append(item);
 }

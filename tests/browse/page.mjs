@@ -183,7 +183,8 @@ async function slots(browser) {
 /// The bound on rounds and turns: on the cube by the simulator; on the ring half of the boards, in each a turn for each board and for each live one.
 async function bounds(browser) {
     const sizes = [2, 3, 4, 5, 8, 9, 16, 17, 32, 33, 64].map((n) => [n, []]);
-    const on_cube = [...sizes, [8, [4]], [11, [0, 10]]].map(([n, dead]) => ['cube', n, dead, simulator.worst_case(n), simulator.turns_of_round(n, dead)]);
+    const of_cube = ([n, dead]) => ['cube', n, dead, simulator.worst_case(n), simulator.turns_of_round(n, dead)];
+    const on_cube = [...sizes, [8, [4]], [11, [0, 10]]].map(of_cube);
     const on_ring = [[2, []], [3, []], [8, []], [8, [4]], [63, []]].map(([n, dead]) => ['ring', n, dead, Math.floor(n / 2), 2 * n - dead.length]);
     for (const [wiring, n, dead, rounds, turns] of [...on_cube, ...on_ring]) {
         await open(browser, link(n, dead.map((board) => `C ${board}`), dead.length, wiring));
@@ -244,7 +245,8 @@ async function is_put_aside(browser) {
     await browser.value(`document.querySelector('input[name=wiring][value="2"]').click() ?? true`);
     same(await browser.value(`typed('new', 'new-size', '5')`), { is_open: false, wrong: '' }, 'a new plant of 5');
     same(await plant_line(), '5 boards, wired as the ring', 'a new plant');
-    same(await browser.value(`document.getElementById('slots-note').textContent`), 'No slots: the commissioning sheet is for the cube.', 'on the ring');
+    const slots_note = () => browser.value(`document.getElementById('slots-note').textContent`);
+    same(await slots_note(), 'No slots: the commissioning sheet is for the cube.', 'slots on the ring');
     same(await message(browser), 'The former plant is put aside.', 'the former plant');
     await browser.value(`press('save-plant')`);
     const wrong_of_save = () => browser.value(`document.querySelector('#save-dialog .wrong').textContent`);
@@ -255,11 +257,11 @@ async function is_put_aside(browser) {
     // a saved plant: its entries do not begin fresh, and its slots are from the opened moment
     await drop(browser, readFileSync(`${samples}/eight-boards-4-out.saved`));
     const note = 'Slots are from the opened moment: a saved plant does not hold how its round began.';
-    same(await browser.value(`document.getElementById('slots-note').textContent`), note, 'slots of a saved plant');
+    same(await slots_note(), note, 'slots of a saved plant');
     await browser.value(`press('save-input')`);
     check((await wrong_of_save()).startsWith('This plant began as a saved one'), 'a saved plant, as an input');
     await browser.value(`press('to-round')`);
-    same(await browser.value(`document.getElementById('slots-note').textContent`), '', 'slots after a closed round');
+    same(await slots_note(), '', 'slots after a closed round');
 }
 
 /// Play goes through the entries, then grants, and says so; it stops by the same button.
@@ -277,7 +279,8 @@ async function plays(browser) {
     same([text, await message(browser)], ['Play', ''], 'after a pause');
     while (entries.length < number) entries.push(`T ${granted(simulator.saved(input_of(8, entries)), Number(entries.at(-1).slice(2)))}`);
     compare(await browser.value('said()'), moments(simulator, 8, entries, false).at(-1), 'what was played');
-    await browser.value('until(() => false, 0) && true');
+    // longer than ten steps took
+    await pause(200);
     same(await browser.value(`Number(document.getElementById('moment').max)`), number, 'entries after a pause');
 }
 
@@ -478,6 +481,20 @@ async function files(browser) {
         return document.querySelector('#boards tr[data-board="1"] button').textContent;
     })()`);
     same(from_file, '1 fan', 'names from a file');
+    for (const [bytes, words] of [
+        ['new Uint8Array(4194305)', 'It is longer than any input, plant or names.'],
+        ['[49, 32, 0xd6, 108]', 'No UTF-8: it was read as Windows-1252.'],
+    ]) {
+        const said = await browser.value(`(async () => {
+            document.querySelector('[data-opens=names-dialog]').click();
+            const wrong = document.querySelector('#names-dialog .wrong');
+            fill('names-file', ${bytes});
+            await until(() => wrong.textContent !== '');
+            document.getElementById('names-dialog').close();
+            return wrong.textContent;
+        })()`);
+        same(said, words, 'names from a file');
+    }
     same(await browser.value(`typed('names', 'names-text', '')`), { is_open: false, wrong: '' }, 'no names');
     // its link, with an entry behind it
     await browser.value(`press('turn')`);
@@ -781,12 +798,15 @@ try {
     await play(browser, 2, sample('two-boards.txt').slice(1));
     await play(browser, 8, sample('late-reply.txt').slice(1));
     await play(browser, 8, sample('late-press.txt').slice(1));
+    // a tester that its tested board tells, and one that tests a dead board when its reply would be late
+    await play(browser, 8, ['L 1', 'T 0', 'C 5', 'L 4', 'T 1']);
     await play(browser, 11, simulator.entries(11, 220, 5));
     await play(browser, 64, simulator.entries(64, 90, 7));
     await play(browser, 4, sample('four-boards.txt').slice(1), 'ring');
     await play(browser, 11, simulator.entries(11, 100, 3, true), 'ring');
     await play_by_buttons(browser, 8, sample('eight-boards-4-out.txt').slice(1));
-    const tests = [slots, bounds, drives, is_put_aside, plays, opens, links, prints, refusals, names_as_they_are, files, by_keys, by_tabs, is_usable, is_accessible, times];
+    const of_plants = [slots, bounds, drives, is_put_aside, plays, opens, links, prints, refusals, names_as_they_are, files];
+    const tests = [...of_plants, by_keys, by_tabs, is_usable, is_accessible, times];
     for (const test of tests) await test(browser);
     if (pictures) await take_pictures(browser);
     same(browser.console, [], 'the console');
