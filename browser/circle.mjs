@@ -1,5 +1,5 @@
 // The boards around a circle, and the entry of the moment as an arrow.
-import { CRASHED, EXCHANGED, NO_REPLY, NO_STATION, STATUSES, TOLD, TOLD_NOW, status_of } from './library.mjs';
+import { CRASHED, EXCHANGED, NO_REPLY, NO_STATION, STATUSES, TESTED_TOLD, TOLD, TOLD_NOW, status_of } from './library.mjs';
 import { draw, set_attribute, set_class, set_text } from './elements.mjs';
 import { called, mentioned, shortened } from './names.mjs';
 
@@ -14,6 +14,14 @@ function mark(status, r) {
     return draw('circle', { r, class: 'form' });
 }
 
+/// Of an outcome of a test: the arrow's form, whether it goes from the tested board back to the tester, and whether it goes both ways. Who tells
+/// stands at its beginning, who is told at its end.
+function arrow_of(outcome) {
+    if (outcome === EXCHANGED) return ['exchanged', false, true];
+    if (outcome === NO_REPLY) return ['no-reply', false, false];
+    return ['told', outcome === TOLD_NOW, false];
+}
+
 export function legend(list, words) {
     for (const status of STATUSES) {
         const item = document.createElement('li');
@@ -22,15 +30,24 @@ export function legend(list, words) {
         item.append(sign, words.status(status));
         list.append(item);
     }
-    const arrows = [['exchanged', words.outcome(EXCHANGED)], ['no-reply', words.outcome(NO_REPLY)], ['told', words.outcome(TOLD_NOW)]];
-    for (const [name, text] of [...arrows, ['doubt', 'doubt lamp']]) {
+    const arrows = [EXCHANGED, NO_REPLY, TOLD_NOW, TESTED_TOLD].map((outcome) => [...arrow_of(outcome), words.outcome(outcome)]);
+    for (const [name, is_back, is_both, text] of [...arrows, ['doubt', false, false, 'doubt lamp']]) {
         const item = document.createElement('li');
-        const line = draw('svg', { viewBox: '0 0 40 14', width: 40, height: 14, 'aria-hidden': 'true' });
-        line.append(draw('path', { d: 'M10 7H30', class: `arrow ${name}` }), draw('path', { d: 'M30 2L38 7L30 12Z', class: `head ${name}` }));
-        if (name === 'exchanged') line.append(draw('path', { d: 'M10 2L2 7L10 12Z', class: `head ${name}` }));
+        const line = draw('svg', { viewBox: '0 0 44 14', width: 44, height: 14, 'aria-hidden': 'true' });
+        // the tester on the left, in grey as on the circle
+        if (name !== 'doubt') line.append(draw('circle', { cx: 5, cy: 7, r: 4.5, class: 'tester' }));
+        const [begins, ends] = [is_back || is_both ? 20 : 14, is_back ? 43 : 36];
+        line.append(draw('path', { d: `M${begins} 7H${ends}`, class: `arrow ${name}` }));
+        if (!is_back) line.append(draw('path', { d: 'M35 2L43 7L35 12Z', class: `head ${name}` }));
+        if (is_back || is_both) line.append(draw('path', { d: 'M21 2L13 7L21 12Z', class: `head ${name}` }));
         item.append(line, text);
         list.append(item);
     }
+    const item = document.createElement('li');
+    const dot = draw('svg', { viewBox: '0 0 10 14', width: 10, height: 14, 'aria-hidden': 'true' });
+    dot.append(draw('circle', { cx: 5, cy: 7, r: 4.5, class: 'tester' }));
+    item.append(dot, 'the board of the entry');
+    list.append(item);
 }
 
 export class Circle {
@@ -164,9 +181,9 @@ export class Circle {
             arrows.push(this.arrow(lamp.by, lamp.of, 'doubt', false, is_same ? 26 : 0));
         }
         if (tested !== NO_STATION) {
-            const outcome = entry.line[2];
-            const name = outcome === EXCHANGED ? 'exchanged' : outcome === NO_REPLY ? 'no-reply' : 'told';
-            arrows.push(this.arrow(entry.board, tested, name, outcome === EXCHANGED, 0));
+            const [name, is_back, is_both] = arrow_of(entry.line[2]);
+            const [from, to] = is_back ? [tested, entry.board] : [entry.board, tested];
+            arrows.push(this.arrow(from, to, name, is_both, 0));
         }
         this.arrows.replaceChildren(...arrows);
     }

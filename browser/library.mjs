@@ -1,4 +1,4 @@
-// The calls of include/vcube.h that the page makes, and the places of bytes in a table as that header tells them. No rule of the watch stands here.
+// The calls of include/vcube.h that the page makes, and the places of bytes in a table as that header tells them.
 import { Cell } from './module.mjs';
 
 export const CUBE = 1;
@@ -144,6 +144,12 @@ export class Library {
         const file = new Uint8Array(saved_length(state.n));
         const refused = this.module.call('vcube_save', BigInt(state.n), state.table, state.rounds, state.tests, file);
         return refused === 0 ? { file } : { refused };
+    }
+
+    /// Whether its fields are those of a saved plant, or of a file of edition 1.
+    is_saved(file) {
+        const size = new Cell(8);
+        return this.module.call('vcube_saved_size', file, size) === 0 || this.module.call('vcube_converted_length', file, size) === 0;
     }
 
     load(file) {

@@ -35,7 +35,8 @@ export function read_link(text) {
     const names = [];
     for (const [part, name] of parts) {
         const read = /^name(\d{1,3})$/.exec(part);
-        if (read) names[Number(read[1])] = name;
+        // a name is one line, wherever it comes from
+        if (read) names[Number(read[1])] = name.replace(/[\p{Cc}\u2028\u2029]+/gu, ' ').trim();
     }
     return {
         wiring: parts.get('wiring') === 'ring' ? RING : CUBE,

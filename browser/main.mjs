@@ -6,7 +6,7 @@ import { Circle, legend } from './circle.mjs';
 import { Module } from './module.mjs';
 import { NOT_ASKED, Plant } from './plant.mjs';
 import { by_id, make, set_attribute, set_class, set_text } from './elements.mjs';
-import { called, mentioned, names_text, read_names } from './names.mjs';
+import { called, decoded, is_of_names, mentioned, names_text, read_names } from './names.mjs';
 import { from_base64, input_of, link_of, read_link } from './link.mjs';
 import { tell, would } from './telling.mjs';
 
@@ -21,6 +21,7 @@ const LONGEST_FILE = 4194304;
 const ASKED_FOR = 4;
 /// For so many rounds at most a copy is driven, to see what comes.
 const MOST_DRIVEN = 64;
+const GRANTING = 'Granting: each step adds an entry.';
 
 let plant;
 let names = [];
@@ -28,18 +29,22 @@ let selected = 0;
 let saved_start;
 let playing;
 let asking;
+/// What is said below, and what can be brought back: { label, does }.
+let said = { text: '', kind: 'note' };
+let offer;
 
 const circle = new Circle(by_id('circle'), select);
 const boards = new Boards(by_id('boards'), select);
 const matrix = new Matrix(by_id('matrix'));
 
-/// Says something below, and offers to bring back what was dropped.
-function say(text, kind = 'note', brings_back) {
-    set_class(by_id('notice'), `message ${kind}`);
-    by_id('message').textContent = text;
-    by_id('notice').dataset.is = text === '' ? 'empty' : 'said';
-    by_id('bring-back').hidden = brings_back === undefined;
-    by_id('bring-back').onclick = brings_back;
+/// Says something below. What can be brought back stays offered beside it.
+function say(text, kind = 'note') {
+    said = { text, kind: text === '' ? 'note' : kind };
+    set_class(by_id('notice'), `message ${said.kind}`);
+    set_text(by_id('message'), text);
+    by_id('notice').dataset.is = text === '' && !offer ? 'empty' : 'said';
+    by_id('bring-back').hidden = offer === undefined;
+    set_text(by_id('bring-back'), offer?.label ?? '');
 }
 
 // What is shown of the moment.
@@ -69,7 +74,7 @@ function bound_text(state) {
     const { refused, rounds, turns } = library.wait(state);
     if (refused !== undefined) return words.refusal(refused);
     const closed = `at most ${rounds} closed ${rounds === 1 ? 'round' : 'rounds'}, ${turns.toLocaleString('en')} turns`;
-    return `${closed}, from the start of a round with the lamp out`;
+    return `${closed}, from the start of a round with the lamp out, if no further board crashes, no reply is late and two boards are live`;
 }
 
 function show_facts(lamp, until) {
@@ -95,9 +100,16 @@ function show_board(timed) {
     facts.push(['Suspects', others.length === 0 ? 'nobody' : others.map((other) => mentioned(names, other)).join(', ')]);
     const most = is_live(state, selected) ? timed[selected] : undefined;
     if (most !== undefined) facts.push(['Slot is timed for', most === NOT_ASKED ? '…' : most === 1 ? '1 test' : `${most} tests`]);
+    set_text(by_id('slots-note'), slots_note());
     by_id('board-facts').replaceChildren(...facts.flatMap(([term, text]) => [make('dt', { textContent: term }), make('dd', { textContent: text })]));
     const turn = library.run(copy_of(state), TURN, selected);
     set_text(by_id('preview'), `A turn now: ${would(turn, names, words)}.`);
+}
+
+function slots_note() {
+    if (plant.wiring === RING) return 'No slots: the commissioning sheet is for the cube.';
+    if (plant.is_fresh || plant.round_began() > 0) return '';
+    return 'Slots are from the opened moment: a saved plant does not hold how its round began.';
 }
 
 function show_history() {
@@ -106,6 +118,7 @@ function show_history() {
     moment.value = plant.at;
     moment.setAttribute('aria-valuetext', `entry ${plant.at} of ${plant.length}`);
     set_text(by_id('moment-text'), `${plant.at} of ${plant.length}`);
+    set_text(by_id('printed'), `Entry ${plant.at} of ${plant.length}`);
     // a button that does nothing now stays where it is for the keys: it is not disabled, but says so
     const does_nothing = {
         first: plant.at === 0,
@@ -130,10 +143,10 @@ function show() {
     show_board(timed);
     show_history();
     // what the library was not asked in this step it is asked after it
-    const is_whole = !timed.includes(NOT_ASKED) && by_id('known').textContent !== '…';
-    by_id('main').dataset.asks = is_whole ? 'nothing' : 'more';
+    const is_asked = !timed.includes(NOT_ASKED) && by_id('known').textContent !== '…';
+    by_id('main').dataset.asks = is_asked ? 'nothing' : 'more';
     clearTimeout(asking);
-    if (!is_whole) asking = setTimeout(show);
+    if (!is_asked) asking = setTimeout(show);
 }
 
 function lay_out() {
@@ -198,26 +211,38 @@ function grant_until_exit() {
     else grant_until(plant.had_exit);
 }
 
-/// Does what takes entries at the moment shown. What followed the moment is dropped then, and can be brought back.
+/// Does what takes entries at the moment shown. What followed the moment is dropped then, and can be brought back until the next take.
 function add(does) {
     stop();
     say('');
-    const [taking, { at }, followed] = [plant, plant, plant.entries.slice(plant.at)];
+    const [{ at }, followed] = [plant, plant.entries.slice(plant.at)];
     does();
     show();
-    if (plant.at === at || followed.length === 0) return;
-    const what = followed.length === 1 ? 'The entry that followed is' : `The ${followed.length} entries that followed are`;
-    const refused = by_id('message').textContent;
-    say(`${refused} ${what} dropped.`.trim(), refused === '' ? 'note' : 'wrong', () => {
-        if (plant !== taking) return;
-        stop();
-        say('');
+    if (plant.at === at) return;
+    forget_link();
+    const does_again = () => {
         plant.go(at);
         for (const { kind, board } of followed) plant.take(kind, board);
         plant.go(at);
         show();
-        by_id('moment').focus();
-    });
+    };
+    offer = undefined;
+    let dropped = '';
+    if (followed.length > 0) {
+        const is_one = followed.length === 1;
+        dropped = `${is_one ? 'The entry that followed is' : `The ${followed.length} entries that followed are`} dropped.`;
+        offer = { label: `Bring back ${is_one ? 'the entry' : `${followed.length} entries`}`, does: does_again };
+    }
+    say(`${said.text} ${dropped}`.trim(), said.kind);
+}
+
+function bring_back() {
+    const { does } = offer;
+    stop();
+    offer = undefined;
+    does();
+    say('');
+    by_id('moment').focus();
 }
 
 function stop() {
@@ -225,18 +250,22 @@ function stop() {
     playing = undefined;
     set_text(by_id('play'), 'Play');
     by_id('entry').setAttribute('aria-live', 'polite');
-    by_id('play').setAttribute('aria-pressed', 'false');
+    if (said.text === GRANTING) say('');
 }
 
 function play() {
     if (playing !== undefined) return stop();
     say('');
-    by_id('play').setAttribute('aria-pressed', 'true');
     set_text(by_id('play'), 'Pause');
     by_id('entry').setAttribute('aria-live', 'off');
     playing = setInterval(() => {
-        if (plant.at < plant.length) plant.go(plant.at + 1);
-        else grant_next();
+        forget_link();
+        if (plant.at < plant.length) {
+            plant.go(plant.at + 1);
+        } else if (grant_next()) {
+            offer = undefined;
+            say(GRANTING);
+        }
         show();
     }, 1000 / Number(by_id('speed').value));
     return undefined;
@@ -247,14 +276,25 @@ function go(to) {
     stop();
     say('');
     plant.go(to);
+    forget_link();
     show();
 }
 
 // Opening.
 
+/// Another plant in place of this one, which can be brought back until the next take, if it had entries or was a saved one.
+function put(next) {
+    const former = plant && { plant, names, saved_start, selected };
+    ({ plant, names, saved_start, selected } = next);
+    const is_worth = former && (former.plant.length > 0 || !former.plant.is_fresh);
+    offer = is_worth ? { label: 'Bring back the former plant', does: () => put(former) } : undefined;
+    lay_out();
+}
+
 /// Begins with a state. The schedule's entries are carried out; where one is refused, the entries before it stay.
-function begin(state, is_fresh, schedule, further) {
+function begin(state, is_fresh, further) {
     stop();
+    const { schedule = [], note = '', saved } = further;
     const opened = new Plant(library, state, is_fresh);
     let text = '';
     for (let k = 0; k < schedule.length; k += 2) {
@@ -265,14 +305,15 @@ function begin(state, is_fresh, schedule, further) {
             break;
         }
     }
-    names = (further.names ?? (plant?.n === opened.n ? names : [])).slice(0, opened.n);
-    plant = opened;
-    saved_start = further.saved;
-    if (further.at !== undefined && Number.isInteger(further.at)) plant.go(further.at);
-    selected = plant.at > 0 ? plant.entries[plant.at - 1].board : 0;
-    say(text, 'wrong');
-    lay_out();
-    if (location.hash.length > 1 && !further.is_link) history.replaceState(undefined, '', ' ');
+    if (further.at !== undefined && Number.isInteger(further.at)) opened.go(further.at);
+    put({
+        plant: opened,
+        names: (further.names ?? (plant?.n === opened.n ? names : [])).slice(0, opened.n),
+        saved_start: saved,
+        selected: opened.at > 0 ? opened.entries[opened.at - 1].board : 0,
+    });
+    say([text, note, offer ? 'The former plant is put aside.' : ''].filter(Boolean).join(' '), text === '' ? 'note' : 'wrong');
+    if (!further.is_link) forget_link();
 }
 
 /// Gives why the input cannot be opened, or nothing.
@@ -281,34 +322,30 @@ function open_input(bytes, wiring, further = {}) {
     if (read.fault) return `Line ${read.line}: ${read.fault}.`;
     const { state, refused } = library.fresh(wiring, read.n);
     if (refused !== undefined) return `Line 1: ${words.refusal(refused)}.`;
-    begin(state, true, read.schedule, further);
+    begin(state, true, { ...further, schedule: read.schedule });
     return undefined;
 }
 
+/// A saved plant, of edition 1 too. Gives why it cannot be opened, or nothing; one whose lines are damaged is offered mended.
 function open_saved(file, further = {}) {
     const loaded = library.load(file);
     if (loaded.state) {
-        begin(loaded.state, false, further.schedule ?? [], { ...further, saved: file });
+        begin(loaded.state, false, { ...further, saved: file });
         return undefined;
-    }
-    if (loaded.refused === REFUSED.FIRST_FIELD) {
-        const converted = library.convert(file);
-        if (converted.file && library.load(converted.file).state) {
-            open_saved(converted.file, further);
-            say('This was a file of edition 1: it was converted.');
-            return undefined;
-        }
     }
     if (loaded.refused === REFUSED.LINE_RULE || loaded.refused === REFUSED.ROUND_NOT_CLOSED) {
-        offer_mending(file, loaded.refused);
+        offer_mending(file, loaded.refused, further);
         return undefined;
     }
-    return `Refused: ${words.refusal(loaded.refused)}.`;
+    if (loaded.refused !== REFUSED.FIRST_FIELD) return `Refused: ${words.refusal(loaded.refused)}.`;
+    const converted = library.convert(file);
+    if (converted.refused !== undefined) return `Refused as a file of edition 1: ${words.refusal(converted.refused)}.`;
+    return open_saved(converted.file, { ...further, note: 'This was a file of edition 1: it was converted.' });
 }
 
 const BYTES = ['status', 'next distance', 'pass finished', 'tests made', 'told by', 'rounds ago'];
 
-function offer_mending(file, refused) {
+function offer_mending(file, refused, further) {
     const state = lines_of_saved(file);
     const { changes } = library.mend(state);
     set_text(by_id('mend-why'), `${words.refusal(refused)}. Mended it has ${changes.length} changed ${changes.length === 1 ? 'byte' : 'bytes'}:`);
@@ -319,45 +356,75 @@ function offer_mending(file, refused) {
     by_id('mend-changes').replaceChildren(...items);
     by_id('mend-form').onsubmit = () => {
         const saved = library.save(state);
-        if (saved.file) begin(state, false, [], { saved: saved.file });
+        if (saved.file) begin(state, false, { ...further, saved: saved.file, is_link: false });
         else say(`Refused: ${words.refusal(saved.refused)}.`, 'wrong');
     };
     by_id('mend-dialog').showModal();
 }
 
-/// A file may be a saved plant, names, or an input.
-async function open_file(file, wiring) {
-    if (file.size > LONGEST_FILE) return 'It is longer than any input or plant.';
-    const bytes = new Uint8Array(await file.arrayBuffer());
-    if (bytes.length > 0 && bytes[0] < 9) return open_saved(bytes);
-    const text = new TextDecoder().decode(bytes);
-    if (/^\ufeff?\s*\d{1,2}[ \t]+\S/.test(text)) {
+/// Gives a file's bytes, or why there are none.
+async function bytes_of(file) {
+    if (file.size > LONGEST_FILE) return { fault: 'It is longer than any input, plant or names.' };
+    try {
+        return { bytes: new Uint8Array(await file.arrayBuffer()) };
+    } catch {
+        return { fault: 'It cannot be read: it may be a folder, or gone.' };
+    }
+}
+
+/// A file may be a saved plant, an input, or names: the library reads it first. Gives why it cannot be opened, or nothing.
+async function open_file(file, wiring, note) {
+    const { bytes, fault } = await bytes_of(file);
+    if (fault) return fault;
+    if (library.is_saved(bytes)) return open_saved(bytes);
+    const unread = open_input(bytes, wiring, { note });
+    if (!unread) return undefined;
+    const { text, is_odd } = decoded(bytes);
+    if (is_of_names(text)) {
         const read = read_names(text, plant.n);
         if (read.fault) return `Names, ${read.fault}.`;
         ({ names } = read);
         lay_out();
+        say(is_odd ? 'These names are no UTF-8: they were read as Windows-1252.' : '');
         return undefined;
     }
-    return open_input(bytes, wiring);
+    // no text has such bytes: it was to be a saved plant
+    return bytes.some((byte) => byte < 9) ? open_saved(bytes) : unread;
 }
 
+/// What stands behind # is a moment: once another one is shown it would be untrue.
+function set_address(hash) {
+    if (location.hash.slice(1) === hash) return;
+    try {
+        history.replaceState(undefined, '', hash === '' ? ' ' : `#${hash}`);
+    } catch {
+        // where a browser does not let a page do so, the address stays
+    }
+}
+
+function forget_link() {
+    set_address('');
+}
+
+/// Opens what stands behind #, if that is a moment.
 function open_link() {
     const link = read_link(location.hash.slice(1));
-    if (!link) return false;
-    const further = { names: link.names, at: link.at, is_link: true };
-    let fault;
-    try {
-        if (link.saved === undefined) {
-            fault = open_input(encoder.encode(link.input), link.wiring, further);
-        } else {
-            const read = library.read_input(encoder.encode(`2${link.entries}`));
-            fault = read.fault ? `Line ${read.line}: ${read.fault}.` : open_saved(from_base64(link.saved), { ...further, schedule: read.schedule });
-        }
-    } catch {
-        fault = 'the saved plant in it is no base64';
-    }
+    if (!link) return;
+    const fault = open_read(link);
     if (fault) say(`The link cannot be opened. ${fault}`, 'wrong');
-    return !fault;
+}
+
+function open_read(link) {
+    const further = { names: link.names, at: link.at, is_link: true };
+    if (link.saved === undefined) return open_input(encoder.encode(link.input), link.wiring, further);
+    let saved;
+    try {
+        saved = from_base64(link.saved);
+    } catch {
+        return 'The saved plant in it is no base64.';
+    }
+    const read = library.read_input(encoder.encode(`2${link.entries}`));
+    return read.fault ? `Line ${read.line}: ${read.fault}.` : open_saved(saved, { ...further, schedule: read.schedule });
 }
 
 /// A sample of eight boards, with their names.
@@ -389,13 +456,10 @@ function save_input(wrong) {
     return keep('plant.txt', encoder.encode(input_of(plant.n, plant.entries.slice(0, plant.at))), 'text/plain');
 }
 
-function address_of_moment() {
-    return `${location.href.replace(/#.*/, '')}#${link_of(plant, names, saved_start)}`;
-}
-
 async function copy_link() {
-    const address = address_of_moment();
-    history.replaceState(undefined, '', `#${link_of(plant, names, saved_start)}`);
+    const hash = link_of(plant, names, saved_start);
+    const address = `${location.href.replace(/#.*/, '')}#${hash}`;
+    set_address(hash);
     try {
         await navigator.clipboard.writeText(address);
         say('The link to this moment is copied.');
@@ -422,7 +486,11 @@ const on_click = {
     turn: () => add(() => take(TURN, selected)),
     late: () => add(() => take(LATE_TURN, selected)),
     crash: () => add(() => take(CRASH, selected)),
-    dismiss: () => say(''),
+    'bring-back': bring_back,
+    dismiss: () => {
+        offer = undefined;
+        say('');
+    },
     link: copy_link,
     print: () => print(),
     'save-plant': () => save_plant(wrong_of('save-dialog')),
@@ -437,7 +505,7 @@ function wrong_of(dialog) {
 function on_submit(name, take_it) {
     by_id(`${name}-form`).addEventListener('submit', (event) => {
         event.preventDefault();
-        Promise.resolve(take_it()).then((fault) => {
+        Promise.resolve(take_it()).catch((error) => `It cannot be done: ${error.message}`).then((fault) => {
             set_text(wrong_of(`${name}-dialog`), fault ?? '');
             if (!fault) by_id(`${name}-dialog`).close();
         });
@@ -446,6 +514,38 @@ function on_submit(name, take_it) {
 
 const chosen_wiring = (name) => Number(document.querySelector(`input[name="${name}"]:checked`).value);
 
+// Of the ways to open one counts: to fill in one empties the others.
+const WAYS = ['open-file', 'open-text', 'open-sample'];
+
+function reset_open() {
+    for (const way of WAYS) by_id(way).value = '';
+    document.querySelector(`input[name="open-wiring"][value="${plant.wiring}"]`).checked = true;
+}
+
+/// A file that is dropped into a field of a dialog is the field's; elsewhere in a dialog it is nobody's.
+async function on_drop(event) {
+    if (event.target.closest?.('dialog :is(input, textarea)')) return;
+    event.preventDefault();
+    const [file] = event.dataTransfer.files;
+    if (!file || document.querySelector('dialog[open]')) return;
+    set_attribute(by_id('main'), 'aria-busy', true);
+    const wiring = plant.wiring === RING ? 'ring' : 'cube';
+    const note = `An input does not say its wiring: it was opened as the ${wiring}, like the plant before it.`;
+    const fault = await open_file(file, plant.wiring, note).catch(({ message }) => message);
+    if (fault) say(`${file.name} cannot be opened. ${fault}`, 'wrong');
+    set_attribute(by_id('main'), 'aria-busy', false);
+}
+
+async function take_names_file({ target }) {
+    const [file] = target.files;
+    if (!file) return;
+    const { bytes, fault } = await bytes_of(file);
+    const { text, is_odd } = decoded(bytes ?? new Uint8Array());
+    if (!fault) by_id('names-text').value = text;
+    set_text(wrong_of('names-dialog'), fault ?? (is_odd ? 'No UTF-8: it was read as Windows-1252.' : ''));
+    target.value = '';
+}
+
 function wire() {
     for (const [id, does] of Object.entries(on_click)) by_id(id).addEventListener('click', does);
     for (const button of document.querySelectorAll('[data-opens]')) {
@@ -453,6 +553,7 @@ function wire() {
             stop();
             set_text(wrong_of(button.dataset.opens), '');
             if (button.dataset.opens === 'names-dialog') by_id('names-text').value = names_text(names);
+            if (button.dataset.opens === 'open-dialog') reset_open();
             by_id(button.dataset.opens).showModal();
         });
     }
@@ -463,26 +564,22 @@ function wire() {
         const n = Number(by_id('new-size').value);
         const { state, refused } = library.fresh(chosen_wiring('wiring'), n);
         if (refused !== undefined) return `${words.refusal(refused)}.`;
-        begin(state, true, [], {});
+        begin(state, true, {});
         return undefined;
     });
     on_submit('open', async () => {
         const [file] = by_id('open-file').files;
         const sample = by_id('open-sample').value;
         const wiring = chosen_wiring('open-wiring');
-        const open = async () => {
-            if (sample) return open_sample(sample);
-            return file ? open_file(file, wiring) : open_input(encoder.encode(by_id('open-text').value), wiring);
-        };
-        const fault = await open();
-        if (!fault) by_id('open-form').reset();
-        return fault;
+        if (sample) return open_sample(sample);
+        return file ? open_file(file, wiring) : open_input(encoder.encode(by_id('open-text').value), wiring);
     });
-    by_id('names-file').addEventListener('change', async ({ target }) => {
-        const [file] = target.files;
-        if (file && file.size <= LONGEST_FILE) by_id('names-text').value = await file.text();
-        target.value = '';
-    });
+    for (const way of WAYS) {
+        by_id(way).addEventListener('input', () => {
+            for (const other of WAYS) if (other !== way) by_id(other).value = '';
+        });
+    }
+    by_id('names-file').addEventListener('change', take_names_file);
     on_submit('names', () => {
         const read = read_names(by_id('names-text').value, plant.n);
         if (read.fault) return `${read.fault}.`;
@@ -490,13 +587,12 @@ function wire() {
         lay_out();
         return undefined;
     });
-    addEventListener('dragover', (event) => event.preventDefault());
-    addEventListener('drop', async (event) => {
+    addEventListener('dragover', (event) => event.target.closest?.('dialog :is(input, textarea)') || event.preventDefault());
+    addEventListener('drop', on_drop);
+    by_id('mend-dialog').addEventListener('close', forget_link);
+    by_id('skip').addEventListener('click', (event) => {
         event.preventDefault();
-        const [file] = event.dataTransfer.files;
-        if (!file) return;
-        const fault = await open_file(file, plant.wiring);
-        if (fault) say(`${file.name} cannot be opened. ${fault}`, 'wrong');
+        by_id('grant').focus();
     });
     addEventListener('hashchange', open_link);
     narrow.addEventListener('change', lay_out);
@@ -524,10 +620,7 @@ for (const sample of samples.filter(({ dataset }) => dataset.title)) {
     by_id('open-sample').append(make('option', { value: sample.dataset.sample, textContent: sample.dataset.title }));
 }
 legend(by_id('legend'), words);
-if (!open_link()) {
-    const wrong = by_id('message').textContent;
-    begin(library.fresh(CUBE, 8).state, true, [], { names: read_names(sample_text('eight-boards-names.txt'), 8).names, is_link: true });
-    if (wrong) say(wrong, 'wrong');
-}
+begin(library.fresh(CUBE, 8).state, true, { names: read_names(sample_text('eight-boards-names.txt'), 8).names, is_link: true });
+open_link();
 wire();
 document.documentElement.dataset.ready = '1';

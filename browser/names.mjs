@@ -12,6 +12,20 @@ export function read_names(text, n) {
     return { names };
 }
 
+/// Several lines as names have them: whatever else, a file of these was to be names.
+export function is_of_names(text) {
+    return (text.match(/^\s*\d{1,2}[ \t]+\S/gm) ?? []).length > 1;
+}
+
+/// The text of bytes: UTF-8, or what older programs write.
+export function decoded(bytes) {
+    try {
+        return { text: new TextDecoder('utf-8', { fatal: true }).decode(bytes), is_odd: false };
+    } catch {
+        return { text: new TextDecoder('windows-1252').decode(bytes), is_odd: true };
+    }
+}
+
 export const names_text = (names) => names.map((name, board) => (name ? `${board} ${name}\n` : '')).join('');
 
 /// "5 press", or "5"; and in a sentence "5 (press)".

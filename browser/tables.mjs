@@ -73,8 +73,10 @@ export class Matrix {
         const head = make('tr', {}, make('td'), ...boards.map((board) => make('th', { scope: 'col', textContent: String(board) })));
         this.rows = boards.map((board) => {
             const cells = boards.map((other) => make('td', { className: board === other ? 'own' : '' }));
-            const heading = make('th', { scope: 'row', textContent: String(board), title: called(names, board) });
-            return { row: make('tr', {}, heading, ...cells), cells };
+            const sign = make('span', { className: 'sign', ariaHidden: 'true' });
+            const status = make('span', { className: 'unseen' });
+            const heading = make('th', { scope: 'row', title: called(names, board) }, sign, String(board), status);
+            return { row: make('tr', {}, heading, ...cells), cells, sign, status };
         });
         this.table.replaceChildren(caption, make('thead', {}, head), make('tbody', {}, ...this.rows.map(({ row }) => row)));
         this.table.style.setProperty('--boards', n);
@@ -82,10 +84,13 @@ export class Matrix {
     }
 
     show(plant) {
-        const { n, state } = plant;
+        const { n, state, library } = plant;
         const live = Array.from({ length: n }, (_, board) => is_live(state, board));
-        this.rows.forEach(({ row, cells }, board) => {
+        this.rows.forEach(({ row, cells, sign, status }, board) => {
+            const now = status_of(state, board);
             set_class(row, live[board] ? '' : 'out');
+            set_text(sign, SIGNS[now]);
+            set_text(status, live[board] ? '' : `, ${library.words.status(now)}`);
             const suspicions = row_of(state, board);
             for (let other = 0; other < n; other++) {
                 const mark = suspicions[other] === 0 ? 0 : live[board] && live[other] ? 2 : 1;

@@ -32,12 +32,14 @@ function new_exits(before, after, words) {
 /// The entry at the moment, in one sentence or two.
 export function tell(plant, names) {
     if (plant.at === 0) {
-        const rest = plant.length > 0 ? ` ${plant.length} entries follow.` : '';
+        const rest = plant.length === 0 ? '' : plant.length === 1 ? ' 1 entry follows.' : ` ${plant.length} entries follow.`;
         return plant.is_fresh ? `A fresh plant: all boards are live, and nobody is suspected.${rest}` : `The saved plant as it was opened.${rest}`;
     }
     const { words } = plant.library;
     const { kind, board, line } = plant.entries[plant.at - 1];
-    const parts = [line_text(board, kind, line, names, words)];
+    const parts = [line_text(board, line, names, words)];
+    // of the entry, not of the tested board: a dead one has no reply
+    if (kind === LATE_TURN) parts.push('(A turn, reply late.)');
     if (plant.before) {
         const further = [...new_suspicions(plant.before, plant.state), ...(kind === CRASH ? [] : new_exits(plant.before, plant.state, words))];
         if (further.length > 0) parts.push(`${further.join('; ')}.`);
@@ -46,13 +48,12 @@ export function tell(plant, names) {
     return parts.join(' ');
 }
 
-function line_text(board, kind, line, names, words) {
+function line_text(board, line, names, words) {
     const who = `Board ${mentioned(names, board)}`;
     const what = words.outcome(line[2]);
     if (line[2] === CRASHED_NOW) return `${who}: ${what}.`;
     if (line[1] === NO_STATION) return `${who}: ${what}.`;
-    const late = kind === LATE_TURN ? ', whose reply comes late' : '';
-    return `${who} tests ${mentioned(names, line[1])}${late}: ${what}.`;
+    return `${who} tests ${mentioned(names, line[1])}: ${what}.`;
 }
 
 /// What an entry would do, tried on a copy by the library.

@@ -501,6 +501,21 @@ uint8_t vcube_slot(size_t n, const uint8_t *table, size_t table_length, size_t s
     return number;
 }
 
+uint8_t vcube_wait(size_t wiring, size_t n, const uint8_t *table, size_t table_length, size_t *rounds, size_t *turns_per_round,
+                   size_t *turns_until_known, size_t *turns_from_crash)
+{
+    const struct lent lent = begin_with_table(table, table_length);
+    const uint32_t rounds_at = room_for_number(), round_at = room_for_number(), known_at = room_for_number(), crash_at = room_for_number();
+    uint8_t number;
+
+    number = CALL(vcube_wait, wiring, size_in(n), lent.at, lent.length, rounds_at, round_at, known_at, crash_at);
+    *rounds = get_size(rounds_at);
+    *turns_per_round = get_size(round_at);
+    *turns_until_known = get_size(known_at);
+    *turns_from_crash = get_size(crash_at);
+    return number;
+}
+
 /* Of a report longer than any plant needs, only the front is handed over; the rest is cleared here. */
 uint8_t vcube_mend(size_t wiring, size_t n, uint8_t *table, size_t table_length, uint8_t *report, size_t report_length, size_t *changes)
 {
@@ -870,7 +885,7 @@ uint8_t vcube_read_input(const uint8_t *input, size_t input_length, uint8_t *sch
                          size_t words_length, size_t *n, size_t *entries, size_t *line)
 {
     static const uint8_t size_line[] = {'2', LINE_FEED};
-    static const uint8_t one_too_many[VCUBE_WORDS_LENGTH] = "a 4,097th entry where the end of the input (4,096 entries at most) is expected";
+    static const char one_too_many[] = "a 4,097th entry where the end of the input (4,096 entries at most) is expected";
     const size_t most = VCUBE_SCHEDULE_LENGTH / 2;
     const struct lent lent = begin_with_words(words_length);
     const uint32_t n_at = room_for_number(), entries_at = room_for_number(), line_at = room_for_number(), begin = next;
@@ -909,6 +924,7 @@ uint8_t vcube_read_input(const uint8_t *input, size_t input_length, uint8_t *sch
     *line = unread < 2 ? unread : done + 2;
     if (!is_one_too_many)
         return give_words(number, lent, words);
+    fill(words, 0, words_length);
     memcpy(words, one_too_many, sizeof one_too_many);
     return VCUBE_ACCEPTED;
 }

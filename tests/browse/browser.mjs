@@ -7,7 +7,7 @@ import { join } from 'node:path';
 import { connect } from './socket.mjs';
 
 const LONGEST_START = 120000;
-const CHROMIUM_KEYS = { Tab: [9, {}], Enter: [13, { text: '\r' }], Escape: [27, {}], ' ': [32, { text: ' ' }] };
+const CHROMIUM_KEYS = { Tab: [9, {}], Enter: [13, { text: '\r' }], Escape: [27, {}] };
 const FIREFOX_KEYS = {
     Tab: '\ue004', Enter: '\ue007', Escape: '\ue00c', ArrowLeft: '\ue012', ArrowUp: '\ue013', ArrowRight: '\ue014', ArrowDown: '\ue015',
 };
@@ -142,19 +142,13 @@ export class Chromium extends Browser {
         const [code, further] = CHROMIUM_KEYS[name] ?? [0, {}];
         for (const type of ['keyDown', 'keyUp']) {
             const text = type === 'keyDown' ? further : {};
-            await this.ask('Input.dispatchKeyEvent', { type, key: name, code: name === ' ' ? 'Space' : name, windowsVirtualKeyCode: code, ...text });
+            await this.ask('Input.dispatchKeyEvent', { type, key: name, code: name, windowsVirtualKeyCode: code, ...text });
         }
     }
 
-    async picture(is_whole = false) {
-        const part = is_whole ? await this.whole() : {};
-        const { data } = await this.ask('Page.captureScreenshot', { format: 'png', captureBeyondViewport: is_whole, ...part });
+    async picture() {
+        const { data } = await this.ask('Page.captureScreenshot', { format: 'png' });
         return Buffer.from(data, 'base64');
-    }
-
-    async whole() {
-        const { cssContentSize } = await this.ask('Page.getLayoutMetrics');
-        return { clip: { ...cssContentSize, scale: 1 } };
     }
 }
 
@@ -207,10 +201,5 @@ export class Firefox extends Browser {
         const value = FIREFOX_KEYS[name] ?? name;
         const actions = [{ type: 'key', id: 'keys', actions: [{ type: 'keyDown', value }, { type: 'keyUp', value }] }];
         await this.ask('input.performActions', { context: this.context, actions });
-    }
-
-    async picture() {
-        const { data } = await this.ask('browsingContext.captureScreenshot', { context: this.context });
-        return Buffer.from(data, 'base64');
     }
 }

@@ -3,6 +3,8 @@ import { spawnSync } from 'node:child_process';
 
 const HEAD = 6;
 const STATUSES = ['live', 'crashed', 'left because told', 'left because alone'];
+/// Of an outcome: the arrow's class, whether it goes from the tested board to the tester, and whether it has two heads.
+const ARROWS = { 1: ['exchanged', false, true], 2: ['told', true, false], 3: ['no-reply', false, false], 5: ['told', false, false] };
 const OUTCOMES = ['pass finished', 'exchanged', 'told, and left', 'no reply', 'crash', 'the tested board was told, and left'];
 
 export class Simulator {
@@ -132,10 +134,16 @@ export function moments(simulator, n, entries, is_ring) {
     return Array.from({ length: entries.length + 1 }, (_, k) => {
         const input = input_of(n, entries.slice(0, k));
         const { rounds, tests } = simulator.run(input, is_ring);
-        const moment = { rounds: String(rounds), tests: String(tests), at: `${k} of ${entries.length}`, entry: '' };
+        const moment = { rounds: String(rounds), tests: String(tests), at: `${k} of ${entries.length}`, entry: '', arrows: [] };
         if (k > 0) {
             const [board, tested, outcome] = all.lines[k - 1].split(' ');
             moment.entry = tested === '-' ? `Board ${board}: ${OUTCOMES[outcome]}.` : `Board ${board} tests ${tested}: ${OUTCOMES[outcome]}.`;
+            if (entries[k - 1].startsWith('L')) moment.entry += ' (A turn, reply late.)';
+            if (tested !== '-') {
+                const [name, is_back, is_both] = ARROWS[outcome];
+                const ends = [Number(board), Number(tested)];
+                moment.arrows = [[name, ...(is_back ? ends.reverse() : ends), is_both]];
+            }
         }
         if (is_ring) return moment;
         const saved = simulator.saved(input);

@@ -125,8 +125,8 @@ static void file(void)
 /* A line that cannot be read, or can be where it is short: one of these, or one of them drawn out to thousands of bytes. */
 static size_t odd_line(uint8_t *at)
 {
-    static const char *const lines[] = {"", "T", "L ", "T 1 ", "C 123", "X 1", "t 1", "\t", "T\t1", "T 1\r", "T1", "1234", "12a", "T 1x", "T 12\x80", "\xEF\xBB\xBFT 1",
-                                        "1\xFF\xFE", "T\xFE\xFF", "C 7", "99"};
+    static const char *const lines[] = {"", "T", "L ", "T 1 ", "C 123", "X 1", "t 1", "\t", "T\t1", "T 1\r", "T1", "1234", "12a", "T 1x",
+                                        "T 12\x80", "\xEF\xBB\xBFT 1", "1\xFF\xFE", "T\xFE\xFF", "C 7", "99"};
     const char *line = lines[below(sizeof lines / sizeof lines[0])];
     const size_t length = strlen(line), drawn_out = below(3) == 0 ? below(below(2) == 0 ? 100 : 20000) : 0;
 

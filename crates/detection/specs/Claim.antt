@@ -67,6 +67,10 @@ pub record DetectionPremises (w n : ℕ) (s : State) (calls : List Call) : Type 
   pub no_crash : all_taken (λ x. not (crashes x)) (taken_all s calls) ≡ true
   pub no_late : all_taken (λ x. not (is_late x)) (taken_all s calls) ≡ true
 
+-- each board that is live in t suspects in `end` exactly the boards that are not live in t
+abbrev pub AllKnow : ℕ → List ℕ → List ℕ → Type 0
+AllKnow n t end = (i j : ℕ) → i < n → j < n → live n t i ≡ true → suspects n end i j ≡ bit (not_live n t j)
+
 -- Rule Detection: what the claim says of table and tally after the list, where so many rounds are enough
 pub record DetectionConclusion (enough w n : ℕ) (s : State) (calls : List Call) (end : State) : Type 0 where
   -- the live boards are the same as at first
@@ -75,8 +79,7 @@ pub record DetectionConclusion (enough w n : ℕ) (s : State) (calls : List Call
   pub turns : (k i : ℕ) → k ≤ length (rounds_of s calls).closed → i < n → live n s.table i ≡ true
       → TurnsOk n i (round_at s calls k)
   -- once enough rounds have closed, each live board suspects exactly the boards that are not live
-  pub exact_rows : enough ≤ length (rounds_of s calls).closed
-      → (i j : ℕ) → i < n → j < n → live n s.table i ≡ true → suspects n end.table i j ≡ bit (not_live n s.table j)
+  pub exact_rows : enough ≤ length (rounds_of s calls).closed → AllKnow n s.table end.table
   -- each closed round after these has as many tests as the count says
   pub tests : (k : ℕ) → counted_from w enough ≤ k → k < length (rounds_of s calls).closed
       → tests_in (slice_index_or (rounds_of s calls).closed k []) ≡ count_of w n s.table

@@ -1,13 +1,11 @@
 -- That a drive does what its grants and their runs of one entry do, so that detection holds of plants that are driven.
 -- Assumes nothing.
-use Rattle.std.specs.Prelude.{◌≡◌, true, List, [], ◌∷◌, ◌++◌, map, ℕ, zero, suc, ◌+◌, ◌≤◌, ◌<◌, length, ◌==◌}
+use Rattle.std.specs.Prelude.{◌≡◌, List, [], ◌∷◌, ◌++◌, map, ℕ, zero, suc, ◌+◌, ◌≤◌, ◌<◌, length, ◌==◌}
 use Rattle.lists.specs.Sums.{bit}
-use Rattle.table.specs.Table.{suspects, live}
-use Rattle.table.specs.Rules.{not_live}
 use Rattle.plant.specs.Turn.{kind_turn}
 use Rattle.plant.specs.Entry.{State, entry_of, entry_refusal}
 use Rattle.detection.specs.Runs.{Call, turn_run, after_run, after_runs, taken_all}
-use Rattle.detection.specs.Claim.{rounds_of, DetectionPremises, DetectionConclusion, square_rounds}
+use Rattle.detection.specs.Claim.{rounds_of, AllKnow, DetectionPremises, DetectionConclusion, square_rounds}
 use Rattle.granter.specs.Grant.{grant_refusal}
 use Rattle.granter.specs.Drive.{Stand, stand_at, granted_at, after_grants, drive}
 
@@ -86,8 +84,7 @@ pub record DrivenDetectionConclusion (enough w n : ℕ) (s : State) (lasts : Lis
   -- each drive that answers 0 closes one round, and no other closes one
   pub rounds : length (rounds_of s (runs_of_drives w n s lasts)).closed ≡ ending w n s lasts
   -- after enough that answer 0 each live board suspects exactly the boards that are not live
-  pub exact_rows : enough ≤ ending w n s lasts
-      → (i j : ℕ) → i < n → j < n → live n s.table i ≡ true → suspects n end.table i j ≡ bit (not_live n s.table j)
+  pub exact_rows : enough ≤ ending w n s lasts → AllKnow n s.table end.table
 
 -- Rule Detection by drives: the claim, within so many rounds by wiring and size. It supposes the detection conditions on the table: those of no
 -- run at all. Drives have no crash and no late reply

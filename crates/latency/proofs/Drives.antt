@@ -21,7 +21,7 @@ use Rattle.granter.proofs.DriveLaws.{Driving, not_stopped, not-ended, next-taken
 use Rattle.granter.proofs.Stops.{drive-stops}
 use Rattle.detection.specs.Runs.{Taken, crashes, is_late}
 use Rattle.detection.specs.Rounds.{all_taken, cut}
-use Rattle.detection.specs.Claim.{DetectionPremises}
+use Rattle.detection.specs.Claim.{DetectionPremises, AllKnow}
 use Rattle.detection.specs.Driven.{after_mixed, after_drives}
 use Rattle.detection.proofs.TakenLaws.{taken_at}
 use Rattle.detection.proofs.OneTurn.{all_append}
@@ -29,7 +29,7 @@ use Rattle.detection.proofs.Chain.{WiredChain, ends, next, chain_first}
 use Rattle.detection.proofs.DriveRuns.{driving-at}
 use Rattle.detection.proofs.RoundKnowledge.{InRound}
 use Rattle.detection.proofs.DetectionClaim.{trusts, plain-at, first_round}
-use Rattle.latency.specs.Bound.{turns_per_round, turns_until_known, AllKnow, DriveWithin, grants_of, DrivesKnownWithin}
+use Rattle.latency.specs.Bound.{turns_per_round, turns_until_known, DriveWithin, grants_of, DrivesKnownWithin}
 use Rattle.latency.specs.Crash.{DrivesKnownFromAnyMoment}
 use Rattle.latency.proofs.Known.{Quiet, Facts, facts, known-from-now}
 

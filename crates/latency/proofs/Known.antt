@@ -26,14 +26,14 @@ use Rattle.plant.proofs.RulesKept.{accepted-kept}
 use Rattle.granter.proofs.TurnsLeft.{all_left, all-left-most, turn-left}
 use Rattle.detection.specs.Runs.{Taken, crashes, is_late}
 use Rattle.detection.specs.Rounds.{all_taken, cut}
-use Rattle.detection.specs.Claim.{all_rounds, worst_rounds}
+use Rattle.detection.specs.Claim.{all_rounds, worst_rounds, AllKnow}
 use Rattle.detection.proofs.TakenLaws.{taken_at}
 use Rattle.detection.proofs.Chain.{WiredChain, ends, next}
 use Rattle.detection.proofs.TurnEffect.{Plain, Company}
 use Rattle.detection.proofs.RoundKnowledge.{InRound, restart, TurnTaken, RoundKnowledge}
 use Rattle.detection.proofs.Course.{taken-turn, course}
 use Rattle.detection.proofs.DetectionClaim.{company-of, someone, on-each}
-use Rattle.latency.specs.Bound.{turns_per_round, turns_until_known, RoundWithin, AllKnow}
+use Rattle.latency.specs.Bound.{turns_per_round, turns_until_known, RoundWithin}
 use Rattle.detection.proofs.Cube.{cube}
 use Rattle.detection.proofs.RingKnowledge.{ring}
 use Rattle.latency.proofs.CubeTests.{cube-tests}

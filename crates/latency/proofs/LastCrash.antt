@@ -41,7 +41,8 @@ use Rattle.detection.specs.Driven.{runs_of_mixed}
 use Rattle.detection.proofs.TurnEffect.{Plain}
 use Rattle.detection.proofs.RoundKnowledge.{TurnTaken}
 use Rattle.latency.specs.Crash.{turns_from_crash, LastCrash, KnownFromCrash, MixedKnownFromCrash}
-use Rattle.latency.specs.Bound.{turns_per_round, turns_until_known, AllKnow}
+use Rattle.detection.specs.Claim.{AllKnow}
+use Rattle.latency.specs.Bound.{turns_per_round, turns_until_known}
 use Rattle.latency.proofs.Rounds.{TestsBound}
 use Rattle.latency.proofs.CubeTests.{cube-tests}
 use Rattle.latency.proofs.Known.{Quiet, rest-of-round, on-the-ring, facts}

@@ -11,13 +11,13 @@ use Rattle.table.proofs.Accepting.{Accepted, accepted}
 use Rattle.plant.specs.Entry.{State}
 use Rattle.detection.specs.Runs.{Call, after_runs, taken_all}
 use Rattle.detection.specs.Rounds.{count_taken, cut}
-use Rattle.detection.specs.Claim.{rounds_of, round_at, DetectionPremises}
+use Rattle.detection.specs.Claim.{rounds_of, round_at, DetectionPremises, AllKnow}
 use Rattle.detection.specs.Driven.{runs_of_mixed}
 use Rattle.detection.proofs.Chain.{WiredChain, on-wiring, chain_first, chain-all}
 use Rattle.detection.proofs.RoundKnowledge.{InRound}
 use Rattle.detection.proofs.DetectionClaim.{trusts, plain-at, first_round}
 use Rattle.detection.proofs.DrivenDetection.{mixed-left}
-use Rattle.latency.specs.Bound.{turns_until_known, RoundWithin, RoundsWithin, AllKnow, KnownWithin, MixedKnownWithin}
+use Rattle.latency.specs.Bound.{turns_until_known, RoundWithin, RoundsWithin, KnownWithin, MixedKnownWithin}
 use Rattle.latency.specs.Crash.{KnownFromAnyMoment}
 use Rattle.latency.proofs.Known.{Quiet, Facts, facts, known-from-now}
 

@@ -1,15 +1,12 @@
 -- How many turns a round has at most, and after how many all live boards know all that are dead: how long a dead board may go unseen, in grants.
 -- Assumes nothing.
-use Rattle.std.specs.Prelude.{◌≡◌, true, List, [], ◌∷◌, ℕ, ◌+◌, ◌*◌, ◌≤◌, ◌<◌, length}
-use Rattle.lists.specs.Sums.{bit}
-use Rattle.table.specs.Table.{suspects, live}
-use Rattle.table.specs.Rules.{not_live}
+use Rattle.std.specs.Prelude.{List, [], ◌∷◌, ℕ, ◌+◌, ◌*◌, ◌≤◌, length}
 use Rattle.table.specs.Properties.{live_count}
 use Rattle.plant.specs.Entry.{State}
 use Rattle.granter.specs.Drive.{drive}
 use Rattle.detection.specs.Runs.{Call, Taken, after_runs, taken_all}
 use Rattle.detection.specs.Rounds.{tests_in}
-use Rattle.detection.specs.Claim.{rounds_of, round_at, count_of, DetectionPremises, worst_rounds}
+use Rattle.detection.specs.Claim.{rounds_of, round_at, count_of, AllKnow, DetectionPremises, worst_rounds}
 use Rattle.detection.specs.Driven.{RunOrDrive, after_mixed, runs_of_mixed, after_drives}
 
 -- Rule Turns of a round: as many tests as the count says, and one turn for each live board, which finishes its pass
@@ -30,10 +27,6 @@ abbrev pub RoundsWithin : Type 0
 RoundsWithin =
     (w n : ℕ) (s : State) (calls : List Call) → DetectionPremises w n s calls → (k : ℕ) → k ≤ length (rounds_of s calls).closed
     → RoundWithin w n s.table (round_at s calls k)
-
--- each board that is live in t suspects in `end` exactly the boards that are not live in t
-abbrev pub AllKnow : ℕ → List ℕ → List ℕ → Type 0
-AllKnow n t end = (i j : ℕ) → i < n → j < n → live n t i ≡ true → suspects n end i j ≡ bit (not_live n t j)
 
 -- Rule Turns until known: under the detection conditions so it is after so many turns of a list of runs, however they fall into rounds
 abbrev pub KnownWithin : Type 0

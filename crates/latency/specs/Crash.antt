@@ -10,7 +10,8 @@ use Rattle.plant.specs.Entry.{State}
 use Rattle.detection.specs.Runs.{Call, Taken, after_runs, taken_all, table_after, crashes, is_late, is_on}
 use Rattle.detection.specs.Rounds.{all_taken}
 use Rattle.detection.specs.Driven.{RunOrDrive, after_mixed, runs_of_mixed, after_drives}
-use Rattle.latency.specs.Bound.{turns_per_round, turns_until_known, AllKnow, grants_of}
+use Rattle.detection.specs.Claim.{AllKnow}
+use Rattle.latency.specs.Bound.{turns_per_round, turns_until_known, grants_of}
 
 -- Rule Turns from any moment: a round that is under way has at most n·n turns left
 abbrev pub turns_from_now : ℕ → ℕ → List ℕ → ℕ

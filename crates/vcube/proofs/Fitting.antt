@@ -1,20 +1,20 @@
 -- The lengths of all words, computed.
 -- Assumes nothing.
 use mathlib.Core.Path.{◌≡◌, refl}
-use mathlib.Core.Bool.{Bool, true}
+use mathlib.Core.Bool.{true}
 use Rattle.std.specs.Prelude.{Option, Some, None, Result, Ok, Err, option_map, unwrap_or}
 use Rattle.std.specs.Result.{result_ok}
 use mathlib.Core.List.{[]}
-use Prim.Native.Nat.{ℕ, ◌<◌}
+use Prim.Native.Nat.{◌<◌}
 use borrow.Author.Tests.{ltb-true}
 use lib.Dec.{ltb}
 use lib.ListN.{length}
 use Rattle.lists.specs.declared.refusal.Refusal.{Refusal}
-use Rattle.lists.specs.Refusal.{refusal_words, refusal_with}
+use Rattle.lists.specs.Refusal.{refusal_words}
 use Rattle.table.specs.declared.status.Status.{Status}
-use Rattle.table.specs.Status.{status_of, status_words}
+use Rattle.table.specs.Status.{status_words}
 use Rattle.plant.specs.declared.outcome.Outcome.{Outcome}
-use Rattle.plant.specs.Outcome.{outcome_with, outcome_words}
+use Rattle.plant.specs.Outcome.{outcome_words}
 use Rattle.vcube.specs.Exports.{words_length}
 
 -- whether the words of a refusal fit

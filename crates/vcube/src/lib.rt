@@ -2,7 +2,7 @@
 // number of its refusal.
 #![tactic(auto)]
 
-ghost use Rattle.std.specs.Prelude.{◌≡◌, min, ◌++◌, length};
+ghost use Rattle.std.specs.Prelude.{◌≡◌, min, ◌++◌, length, ◌<◌};
 ghost use Rattle.std.specs.Result.{result_unwrap_or};
 ghost use Rattle.lists.specs.Refusal.{number_of_result};
 ghost use Rattle.table.specs.Rules.{numbered_shape_check};

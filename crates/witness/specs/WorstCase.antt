@@ -1,21 +1,18 @@
 -- That the worst-case latency is reached: no fewer rounds are enough.
 -- Assumes nothing.
-use Rattle.std.specs.Prelude.{◌≡◌, true, List, ℕ, ◌<◌, ◌≤◌, length, Ok}
-use Rattle.lists.specs.Sums.{bit}
+use Rattle.std.specs.Prelude.{◌≡◌, true, List, ℕ, ◌≤◌, length, Ok}
 use Rattle.table.specs.Sizes.{is_size}
-use Rattle.table.specs.Table.{suspects, live}
-use Rattle.table.specs.Rules.{not_live}
 use Rattle.table.specs.Wiring.{wiring_check}
 use Rattle.plant.specs.Entry.{State}
 use Rattle.detection.specs.Runs.{Call, after_runs}
-use Rattle.detection.specs.Claim.{rounds_of, DetectionPremises, worst_rounds}
+use Rattle.detection.specs.Claim.{rounds_of, AllKnow, DetectionPremises, worst_rounds}
 
 -- on a wiring at size n, for all tables, tallies and lists of runs under the detection conditions: once so many rounds have closed, each live board
 -- suspects exactly the boards that are not live
 abbrev pub RowsExactWithin : ℕ → ℕ → ℕ → Type 0
 RowsExactWithin w n enough =
     (s : State) (calls : List Call) → DetectionPremises w n s calls → enough ≤ length (rounds_of s calls).closed
-    → (i j : ℕ) → i < n → j < n → live n s.table i ≡ true → suspects n (after_runs s calls).table i j ≡ bit (not_live n s.table j)
+    → AllKnow n s.table (after_runs s calls).table
 
 -- whatever the number of rounds that are enough, the worst-case latency is at most that
 abbrev pub WorstCaseAt : ℕ → ℕ → Type 0
