@@ -282,6 +282,12 @@ function go(to) {
 
 // Opening.
 
+function rename(others) {
+    names = others;
+    forget_link();
+    lay_out();
+}
+
 /// Another plant in place of this one, which can be brought back until the next take, if it had entries or was a saved one.
 function put(next) {
     const former = plant && { plant, names, saved_start, selected };
@@ -383,8 +389,7 @@ async function open_file(file, wiring, note) {
     if (is_of_names(text)) {
         const read = read_names(text, plant.n);
         if (read.fault) return `Names, ${read.fault}.`;
-        ({ names } = read);
-        lay_out();
+        rename(read.names);
         say(is_odd ? 'These names are no UTF-8: they were read as Windows-1252.' : '');
         return undefined;
     }
@@ -583,8 +588,7 @@ function wire() {
     on_submit('names', () => {
         const read = read_names(by_id('names-text').value, plant.n);
         if (read.fault) return `${read.fault}.`;
-        ({ names } = read);
-        lay_out();
+        rename(read.names);
         return undefined;
     });
     addEventListener('dragover', (event) => event.target.closest?.('dialog :is(input, textarea)') || event.preventDefault());

@@ -757,7 +757,7 @@ async function take_pictures(browser) {
     const out = sample('eight-boards-4-out.txt').slice(1);
     const shots = [['page-board-4-out', link(8, out, 18, 'cube', named)]];
     for (const at of [1, 2, 4]) shots.push([`page-press-${at}`, link(8, sample('late-press.txt').slice(1), at, 'cube', named)]);
-    await browser.look(1280, 850, 'light');
+    await browser.look(1280, 875, 'light');
     for (const [file, to] of shots) {
         await browser.open(to);
         writeFileSync(`${pictures}/${file}.png`, await browser.picture());
