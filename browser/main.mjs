@@ -365,6 +365,8 @@ function offer_mending(file, refused, further) {
         if (saved.file) begin(state, false, { ...further, saved: saved.file, is_link: false });
         else say(`Refused: ${words.refusal(saved.refused)}.`, 'wrong');
     };
+    // first the dialog that it came of is closed, so that the focus goes back to where it was
+    document.querySelector('dialog[open]')?.close();
     by_id('mend-dialog').showModal();
 }
 

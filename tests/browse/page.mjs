@@ -316,6 +316,21 @@ async function opens(browser) {
     await browser.value(`fill('open-file', ${JSON.stringify([...readFileSync(`${samples}/eight-boards-4-out.saved`)])}) ?? true`);
     same(await browser.value(`submit('open')`), { is_open: false, wrong: '' }, 'a saved plant by the field');
     same((await browser.value('said()')).boards[4].status, 'crashed', 'a saved plant by the field');
+    // a damaged one: the mender in place of this dialog; behind it the focus is where it was
+    const damaged = readFileSync(`${samples}/eight-boards-4-out.saved`);
+    damaged[19 + 2 * 18 + 4] = 12;
+    await browser.value(`(() => {
+        document.querySelector('[data-opens=open-dialog]').focus();
+        document.querySelector('[data-opens=open-dialog]').click();
+        fill('open-file', ${JSON.stringify([...damaged])});
+        return true;
+    })()`);
+    same(await browser.value(`submit('open')`), { is_open: false, wrong: '' }, 'a damaged plant by the field');
+    const dialogs = `[...document.querySelectorAll('dialog[open]')].map(({ id }) => id)`;
+    same(await browser.value(dialogs), ['mend-dialog'], 'a damaged plant by the field');
+    await browser.value(`document.querySelector('#mend-form [type=submit]').click() ?? true`);
+    same(await browser.value(`document.activeElement.dataset.opens ?? 'nowhere'`), 'open-dialog', 'the focus behind the mender');
+    same((await browser.value('said()')).boards[2].status, 'crashed', 'a mended plant by the field');
 }
 
 /// A link with a damaged plant: cancelled the page goes on with its own plant; mended it has the link's names, entries and moment.
