@@ -70,7 +70,8 @@ refusal_with number =
     if number == 13 then Some ListLength else (if number == 14 then Some NoResult else (if number == 15 then Some TooManyResults else (
     if number == 16 then Some LastGranted else (if number == 17 then Some NoneLive else (if number == 18 then Some FieldPastEnd else (
     if number == 19 then Some SizeOrTallyField else (if number == 20 then Some LineField else (if number == 21 then Some NoOpening else (
-    if number == 22 then Some FieldOrder else (if number == 23 then Some ReportTooShort else (if number == 24 then Some NoSuchWiring else None)))))))))))))))))))))))
+    if number == 22 then Some FieldOrder else (if number == 23 then Some ReportTooShort else (
+    if number == 24 then Some NoSuchWiring else None)))))))))))))))))))))))
 
 -- the number of an answer: 0 where the call is not refused
 abbrev pub number_of_result : {A : Type 0} → Result A Refusal → ℕ

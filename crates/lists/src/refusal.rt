@@ -57,12 +57,12 @@ impl Refusal {
             Refusal::SheetLength => "the run sheet is not twice as long as the schedule",
             Refusal::TallyFull => "the count of rounds or of tests is at its limit, 4,294,967,295",
             Refusal::UnknownKind => "the kind of the entry is not 1, 2 or 3",
-            Refusal::NoSuchStation => "no board has this number: boards are numbered from 0 to n - 1",
+            Refusal::NoSuchStation =>
+                "no board has this number: boards are numbered from 0 to n - 1",
             Refusal::NotLive => "this board is not live",
             Refusal::PassFinished => "this board has already finished its pass in this round",
             Refusal::NoSuchLevel => "there is no such level: levels go from 1 to d",
-            Refusal::ListLength =>
-                "the list or buffer for the answer has the wrong length",
+            Refusal::ListLength => "the list or buffer for the answer has the wrong length",
             Refusal::NoResult => "there are no results to compute figures from",
             Refusal::TooManyResults =>
                 "there are more than 4,096 results, or the totals are higher than 4,096 results can give",
@@ -73,7 +73,8 @@ impl Refusal {
                 "the field with the size or the tally is missing, appears twice or has the wrong length",
             Refusal::LineField =>
                 "a board's line in the file is missing, appears twice, has the wrong length or names no board",
-            Refusal::NoOpening => "the file does not begin as edition 2 does; if it is of edition 1, convert it first",
+            Refusal::NoOpening =>
+                "the file does not begin as edition 2 does; if it is of edition 1, convert it first",
             Refusal::FieldOrder => "a field is out of order or has an unknown tag",
             Refusal::ReportTooShort => "the buffer for the report has fewer than 4n(n + 6) bytes",
             Refusal::NoSuchWiring => "the wiring is neither 1, the cube, nor 2, the ring",

@@ -87,9 +87,6 @@ abbrev pub numbered_table_check : ℕ → ℕ → List ℕ → Check
 numbered_table_check w n t = wiring_check w and table_check_on w n t
 
 -- their numbers
-abbrev pub shape_refusal : ℕ → ℕ → ℕ
-shape_refusal n len = number_of_result (shape_check n len)
-
 abbrev pub table_refusal : ℕ → List ℕ → ℕ
 table_refusal n t = number_of_result (table_check n t)
 
