@@ -91,7 +91,7 @@
  * zeroed struct vcube_totals is that of no result. Totals handed in may hold anything: they need not be those of any results, and what a
  * call gives then is said too.
  *
- * Each call returns 0 or the number of its refusal (enum vcube_refusal). A refused call changes no byte of table, list, sheet or saved
+ * Each call but vcube_version returns 0 or the number of its refusal (enum vcube_refusal). A refused call changes no byte of table, list, sheet or saved
  * plant, except that a run which stops at an entry (7 to 11) keeps the work of the entries before it, and a drive which stops before a grant
  * (7) that of the turns before it. What becomes of the numbers that it gives is said of each call; in a struct that a refused call fills
  * every member is 0, lower parts of fractions included.
@@ -103,9 +103,10 @@
 #include <stdint.h>
 
 #define VCUBE_VERSION_MAJOR 1
-#define VCUBE_VERSION_MINOR 1
+#define VCUBE_VERSION_MINOR 2
 #define VCUBE_VERSION_PATCH 0
-#define VCUBE_VERSION "1.1.0"
+#define VCUBE_VERSION "1.2.0"
+#define VCUBE_VERSION_NUMBER (10000 * VCUBE_VERSION_MAJOR + 100 * VCUBE_VERSION_MINOR + VCUBE_VERSION_PATCH)
 
 #ifdef __cplusplus
 extern "C" {
@@ -236,6 +237,10 @@ enum vcube_tag {
     VCUBE_TAG_LINE = 3,
     VCUBE_TAG_OPENING = 4
 };
+
+/* Version: that of the library, 10000 * major + 100 * minor + patch. It is VCUBE_VERSION_NUMBER where library and header are of one version.
+ * It is no refusal, and is never 0. */
+uint32_t vcube_version(void);
 
 /* Fresh table: every line live, next distance 1, VCUBE_TOLD_BY_NONE in byte 4, all else 0. It is the same on both wirings.
  * Refusals: 24, 1, 2. */

@@ -20,6 +20,8 @@ mod c {
     use crate::{Figures, Totals};
 
     extern "C" {
+        pub fn vcube_version() -> u32;
+
         pub fn vcube_fresh_table(
             wiring: usize,
             n: usize,
