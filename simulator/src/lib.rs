@@ -68,4 +68,4 @@ pub use slot::{slot, Slot};
 pub use totals::{figures_of_totals, join_totals, totals, Totals};
 pub use wait::{wait, Wait};
 pub use wiring::Wiring;
-pub use words::{outcome_words, refusal_words, status_words, WORDS_LENGTH};
+pub use words::{of_refusal, outcome_words, refusal_words, status_words, WORDS_LENGTH};
