@@ -1,6 +1,7 @@
 //! A second implementation of the vCube watch, in plain Rust and without the
 //! toolchain: the calls of include/vcube.h, the run program (`simulate`), the sheet
-//! program (`simulate_sheet`), and the saved plant of an input (`simulate_saved`).
+//! program (`simulate_sheet`), and as programs of its own the saved plant that a run
+//! leaves (`simulate_saved`) and the conversion of a stored file (`simulate_convert`).
 //!
 //! Nothing of it is proved. It is written apart from the library, by people who did
 //! not read the Rattle code, so that the two agree only where both follow the rules.
