@@ -1,6 +1,6 @@
 //! The sentences of the owner's change requests, each with a case worked out by hand.
 
-use crate::plant::{Plant, CUBE, HEAD, RING};
+use crate::plant::{driven, Plant, CUBE, HEAD, RING};
 use simulator::{
     check_table, convert, doubt_lamp, drive, figures, figures_of_two, fresh_table, grant, load,
     mend, row_refusal, run,
@@ -32,11 +32,8 @@ impl Case {
     fn check(&self, number: usize) {
         let mut plant = Plant::fresh(self.wiring, self.n);
         put(&mut plant, self.before);
-        assert_eq!(
-            check_table(self.wiring, self.n, &plant.table),
-            0,
-            "case {number}"
-        );
+        let accepted = check_table(self.wiring, self.n, &plant.table);
+        assert_eq!(accepted, 0, "case {number}");
         let mut expected = Plant {
             table: plant.table.clone(),
             ..plant
@@ -47,19 +44,12 @@ impl Case {
                 expected.line_mut(station)[1..4].copy_from_slice(&[1, 0, 0]);
             }
         }
-        let given = plant.run(self.schedule);
-        assert_eq!(
-            given,
-            (0, self.sheet.len(), self.sheet.to_vec()),
-            "case {number}"
-        );
+        let taken = (0, self.sheet.len(), self.sheet.to_vec());
+        assert_eq!(plant.run(self.schedule), taken, "case {number}");
         assert_eq!(plant.table, expected.table, "case {number}");
         let tests = self.sheet.iter().filter(|line| line[1] != 255).count();
-        assert_eq!(
-            plant.tally,
-            (u32::from(self.closes), tests as u32),
-            "case {number}"
-        );
+        let tally = (u32::from(self.closes), tests as u32);
+        assert_eq!(plant.tally, tally, "case {number}");
     }
 }
 
@@ -143,38 +133,15 @@ fn entries() {
 
 /// Bytes 0, 4 and 5 of line 1 of three, and whether they keep the line rules.
 #[test]
+#[rustfmt::skip]
 fn line_rules_of_bytes_4_and_5() {
-    let right = [
-        [0, 255, 0],
-        [1, 255, 9],
-        [3, 255, 255],
-        [2, 254, 0],
-        [2, 0, 7],
-        [2, 2, 255],
-    ];
-    let wrong = [
-        [0, 255, 1],
-        [0, 254, 0],
-        [0, 0, 0],
-        [1, 254, 0],
-        [3, 2, 0],
-        [2, 255, 0],
-        [2, 1, 0],
-        [2, 3, 0],
-        [4, 255, 0],
-    ];
+    let right = [[0, 255, 0], [1, 255, 9], [3, 255, 255], [2, 254, 0], [2, 0, 7], [2, 2, 255]];
+    let wrong = [[0, 255, 1], [0, 254, 0], [0, 0, 0], [1, 254, 0], [3, 2, 0], [2, 255, 0], [2, 1, 0], [2, 3, 0], [4, 255, 0]];
     for (number, lines) in [(0, &right[..]), (3, &wrong[..])] {
-        for [status, told_by, rounds] in lines {
+        for line in lines {
             let mut plant = Plant::fresh(CUBE, 3);
-            put(
-                &mut plant,
-                &[(1, 0, *status), (1, 4, *told_by), (1, 5, *rounds)],
-            );
-            assert_eq!(
-                check_table(CUBE, 3, &plant.table),
-                number,
-                "{status} {told_by} {rounds}"
-            );
+            put(&mut plant, &[(1, 0, line[0]), (1, 4, line[1]), (1, 5, line[2])]);
+            assert_eq!(check_table(CUBE, 3, &plant.table), number, "{line:?}");
         }
     }
 }
@@ -184,75 +151,47 @@ fn line_rules_of_bytes_4_and_5() {
 fn grants() {
     let mut plant = Plant::fresh(CUBE, 4);
     put(&mut plant, &[(1, 0, 1), (2, 1, 4), (2, 2, 1)]);
-    for (last, expected) in [
-        (255, (0, 0)),
-        (0, (0, 3)),
-        (1, (0, 3)),
-        (2, (0, 3)),
-        (3, (0, 0)),
-        (4, (16, 0)),
-        (254, (16, 0)),
-        (256, (16, 0)),
-    ] {
-        assert_eq!(grant(CUBE, 4, &plant.table, last), expected);
+    for (last, granted) in [(255, 0), (0, 3), (1, 3), (2, 3), (3, 0)] {
+        assert_eq!(grant(CUBE, 4, &plant.table, last), (0, granted));
+    }
+    for last in [4, 254, 256] {
+        assert_eq!(grant(CUBE, 4, &plant.table, last), (16, 0));
     }
     put(&mut plant, &[(0, 0, 1), (2, 0, 1), (3, 0, 1)]);
     assert_eq!(grant(CUBE, 4, &plant.table, 255), (17, 0));
-    assert_eq!(grant(CUBE, 4, &plant.table, 4), (16, 0));
-    let driven = drive(CUBE, 4, &mut plant.table, (3, 4), 4);
-    assert_eq!(
-        (
-            driven.number,
-            driven.rounds,
-            driven.tests,
-            driven.last,
-            driven.grants
-        ),
-        (16, 3, 4, 4, 0)
-    );
+    let given = drive(CUBE, 4, &mut plant.table, (3, 4), 4);
+    assert_eq!(given, driven(16, (3, 4), 4, 0));
 }
 
 #[test]
 fn results() {
+    let number = |one: usize, other: usize| figures_of_two(&vec![7; one], &vec![7; other]).number;
     assert_eq!(
-        [figures(&[]), figures_of_two(&[], &[])].map(|given| given.number),
-        [14, 14]
+        [number(0, 0), number(2_048, 2_048), number(2_048, 2_049)],
+        [14, 0, 15]
     );
-    assert_eq!(
-        [4_096, 4_097].map(|count| figures(&vec![7; count]).number),
-        [0, 15]
-    );
-    assert_eq!(
-        [2_048, 2_049].map(|count| figures_of_two(&[7; 2_048], &vec![7; count]).number),
-        [0, 15]
-    );
-    assert_eq!(
-        figures_of_two(&[2, 4, 4], &[4, 5, 5, 7, 9]),
-        figures(&[2, 4, 4, 4, 5, 5, 7, 9])
-    );
+    let joined = figures_of_two(&[2, 4, 4], &[4, 5, 5, 7, 9]);
+    assert_eq!(joined, figures(&[2, 4, 4, 4, 5, 5, 7, 9]));
 }
 
 const OPENING: &[u8] = &[4, 0, 1, 2];
 const SIZE: &[u8] = &[1, 0, 1, 2];
 const TALLY: &[u8] = &[2, 0, 8, 0, 0, 1, 0, 0, 0, 2, 3];
-const LINES: [&[u8]; 2] = [
-    &[3, 0, 9, 0, 0, 1, 0, 0, 255, 0, 0, 0],
-    &[3, 0, 9, 1, 0, 1, 0, 0, 255, 0, 0, 0],
-];
-const FORMER: [&[u8]; 2] = [
-    &[3, 0, 7, 0, 0, 1, 0, 0, 0, 0],
-    &[3, 0, 7, 1, 0, 1, 0, 0, 0, 0],
-];
 const EMPTY_LINE: &[u8] = &[3, 0, 0];
 const CUT: &[u8] = &[3, 0];
 const UNKNOWN: &[u8] = &[5, 0, 0];
 const SIZE_1: &[u8] = &[1, 0, 1, 1];
 const LINE_2: &[u8] = &[3, 0, 9, 2, 0, 1, 0, 0, 255, 0, 0, 0];
 const STATUS_4: &[u8] = &[3, 0, 9, 1, 4, 1, 0, 0, 255, 0, 0, 0];
-const FINISHED: [&[u8]; 2] = [
-    &[3, 0, 9, 0, 0, 2, 1, 0, 255, 0, 0, 0],
-    &[3, 0, 9, 1, 0, 2, 1, 0, 255, 0, 0, 0],
-];
+#[rustfmt::skip]
+const LINES: [&[u8]; 2] = [&[3, 0, 9, 0, 0, 1, 0, 0, 255, 0, 0, 0], &[3, 0, 9, 1, 0, 1, 0, 0, 255, 0, 0, 0]];
+#[rustfmt::skip]
+const FINISHED: [&[u8]; 2] = [&[3, 0, 9, 0, 0, 2, 1, 0, 255, 0, 0, 0], &[3, 0, 9, 1, 0, 2, 1, 0, 255, 0, 0, 0]];
+/// Lines as edition 1 has them.
+#[rustfmt::skip]
+const FORMER: [&[u8]; 2] = [&[3, 0, 7, 0, 0, 1, 0, 0, 0, 0], &[3, 0, 7, 1, 0, 1, 0, 0, 0, 0]];
+#[rustfmt::skip]
+const FORMER_FINISHED: [&[u8]; 2] = [&[3, 0, 7, 0, 0, 2, 1, 0, 0, 0], &[3, 0, 7, 1, 0, 2, 1, 0, 0, 0]];
 
 /// Files of edition 2, and what a load of them into a table of two stations answers.
 #[test]
@@ -290,16 +229,9 @@ fn loads() {
     for (fields, number) in cases {
         let mut table = [170; 16];
         let loaded = load(&fields.concat(), &mut table);
-        let expected = if number == 0 {
-            (0, 2, 256, 515)
-        } else {
-            (number, 0, 0, 0)
-        };
-        assert_eq!(
-            (loaded.number, loaded.size, loaded.rounds, loaded.tests),
-            expected,
-            "{fields:?}"
-        );
+        let answer = [loaded.size, loaded.rounds as usize, loaded.tests as usize];
+        let expected = [[0; 3], [2, 256, 515]][usize::from(number == 0)];
+        assert_eq!((loaded.number, answer), (number, expected), "{fields:?}");
         assert_eq!(table == [170; 16], number != 0);
     }
     let file = [OPENING, SIZE, TALLY, zero, STATUS_4].concat();
@@ -321,26 +253,17 @@ fn conversions() {
         (&[SIZE, TALLY, zero], 20),
         (&[SIZE, TALLY, LINES[0], LINES[1]], 20),
         (&[SIZE, TALLY, zero, &[3, 0, 7, 1, 0, 1, 0, 0, 0, 1]], 3),
-        (
-            &[
-                SIZE,
-                TALLY,
-                &[3, 0, 7, 0, 0, 2, 1, 0, 0, 0],
-                &[3, 0, 7, 1, 0, 2, 1, 0, 0, 0],
-            ],
-            4,
-        ),
+        (&[SIZE, TALLY, FORMER_FINISHED[0], FORMER_FINISHED[1]], 4),
     ];
     for (fields, number) in cases {
         let mut file = [170; 43];
         assert_eq!(convert(&fields.concat(), &mut file), number, "{fields:?}");
-        let written = if number == 0 {
-            [OPENING, SIZE, TALLY, LINES[0], LINES[1]].concat()
-        } else {
-            vec![170; 43]
+        let converted = [OPENING, SIZE, TALLY, LINES[0], LINES[1]].concat();
+        let (written, short) = match number {
+            0 => (converted, 13),
+            _ => (vec![170; 43], number),
         };
         assert_eq!(file[..], written);
-        let short = if number == 0 { 13 } else { number };
         assert_eq!(convert(&fields.concat(), &mut [170; 42]), short);
     }
 }
@@ -353,10 +276,8 @@ fn reports() {
     assert_eq!(mend(RING, 3, &mut plant.table[1..], &mut []), (2, 0));
     let mut report = [170; 109];
     assert_eq!(mend(RING, 3, &mut plant.table, &mut report), (0, 0));
-    assert_eq!(
-        (report, plant.table),
-        ([0; 109], Plant::fresh(RING, 3).table)
-    );
+    assert_eq!(report, [0; 109]);
+    assert_eq!(plant.table, Plant::fresh(RING, 3).table);
 }
 
 /// 24 comes before all others in the seven calls that take a wiring number, and a run so
@@ -365,21 +286,9 @@ fn reports() {
 fn wiring_numbers() {
     for wiring in [0, 3, 257] {
         let given = run(wiring, 0, &mut [], (3, 4), &[1], &mut []);
-        assert_eq!(
-            (given.number, given.taken, given.rounds, given.tests),
-            (24, 0, 3, 4)
-        );
-        let driven = drive(wiring, 0, &mut [], (3, 4), 5);
-        assert_eq!(
-            (
-                driven.number,
-                driven.rounds,
-                driven.tests,
-                driven.last,
-                driven.grants
-            ),
-            (24, 3, 4, 5, 0)
-        );
+        assert_eq!((given.number, given.rounds, given.tests), (24, 3, 4));
+        let given = drive(wiring, 0, &mut [], (3, 4), 5);
+        assert_eq!(given, driven(24, (3, 4), 5, 0));
         assert_eq!(fresh_table(wiring, 0, &mut []), 24);
         assert_eq!(row_refusal(wiring, 0, &[], 0), 24);
         assert_eq!(grant(wiring, 0, &[], 5), (24, 0));

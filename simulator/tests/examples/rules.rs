@@ -2,10 +2,10 @@
 //! itself.
 
 use crate::documents::{due, group};
-use crate::plant::{Plant, CUBE, RING};
+use crate::plant::{driven, Plant, CUBE, RING};
 use simulator::{
     assignment, convert, converted_length, doubt_lamp, drive, figures, join_totals, load, mend,
-    read_input, save, saved_size, slot, totals, wait, Driven, Fraction, Slot, SCHEDULE_LENGTH,
+    read_input, save, saved_size, slot, totals, wait, Fraction, Slot, SCHEDULE_LENGTH,
     WORDS_LENGTH,
 };
 
@@ -162,27 +162,16 @@ fn waits_sheets_and_slots() {
 #[test]
 fn drives_of_two_stations() {
     const MOST: u32 = 4_294_967_295;
-    let driven = |tally, last| {
+    let given = |tally, last| {
         let mut plant = Plant::fresh(CUBE, 2);
-        (drive(CUBE, 2, &mut plant.table, tally, last), plant.table)
+        let given = drive(CUBE, 2, &mut plant.table, tally, last);
+        (given, plant.table == Plant::fresh(CUBE, 2).table)
     };
-    let expected = |number, (rounds, tests), last, grants| Driven {
-        number,
-        rounds,
-        tests,
-        last,
-        grants,
-    };
-    let fresh = Plant::fresh(CUBE, 2).table;
-    assert_eq!(
-        driven((0, 0), 255),
-        (expected(0, (1, 2), 1, 4), fresh.clone())
-    );
-    assert_eq!(
-        driven((MOST - 1, 0), 255),
-        (expected(0, (MOST, 2), 1, 4), fresh)
-    );
-    assert_eq!(driven((0, MOST - 1), 0).0, expected(7, (0, MOST), 1, 1));
+    assert_eq!(given((0, 0), 255), (driven(0, (1, 2), 1, 4), true));
+    let full = driven(0, (MOST, 2), 1, 4);
+    assert_eq!(given((MOST - 1, 0), 255), (full, true));
+    let stopped = driven(7, (0, MOST), 1, 1);
+    assert_eq!(given((0, MOST - 1), 0), (stopped, false));
 }
 
 #[test]
