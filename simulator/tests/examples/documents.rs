@@ -23,6 +23,11 @@ pub fn due(plant: &Plant, station: u8) -> Vec<u8> {
     let entries = list.chunks_exact(2).filter(|entry| entry[1] == 255);
     let due: Vec<u8> = entries.map(|entry| entry[0]).collect();
     assert_eq!((number, count), (0, due.len()));
+    for length in [list.len() - 1, list.len() + 1] {
+        let mut list = vec![170; length];
+        let refused = assignment(plant.n, &plant.table, station, &mut list);
+        assert_eq!((refused, list), ((13, 0), vec![170; length]));
+    }
     due
 }
 
@@ -107,6 +112,27 @@ fn sizes_and_lengths() {
         assert_eq!(fresh_table(CUBE, n, &mut []), 1);
     }
     assert_eq!(fresh_table(3, 1, &mut []), 24);
+}
+
+/// Bytes 1 to 3 of the line of a dead station of five, and whether they keep the line
+/// rules: next distance runs to 8 on the cube and to 5 on the ring.
+#[test]
+#[rustfmt::skip]
+fn line_rules_of_bytes_1_to_3() {
+    let right = [[1, 0, 0], [2, 0, 1], [5, 0, 4]];
+    let wrong = [[0, 0, 0], [1, 0, 1], [2, 0, 2], [1, 1, 0], [4, 1, 0], [2, 2, 0], [9, 0, 0], [9, 1, 0], [255, 0, 0]];
+    let number = |wiring, pass: &[u8]| {
+        let mut plant = Plant::fresh(wiring, 5);
+        plant.line_mut(3)[..4].copy_from_slice(&[&[1], pass].concat());
+        check_table(wiring, 5, &plant.table)
+    };
+    for wiring in [CUBE, RING] {
+        assert_eq!(right.map(|pass| number(wiring, &pass)), [0; 3]);
+        assert_eq!(wrong.map(|pass| number(wiring, &pass)), [3; 9]);
+    }
+    assert_eq!([[8, 1, 7], [8, 0, 0], [6, 0, 0]].map(|pass| number(CUBE, &pass)), [0; 3]);
+    assert_eq!([[8, 1, 7], [8, 0, 0], [6, 0, 0]].map(|pass| number(RING, &pass)), [3; 3]);
+    assert_eq!([[5, 1, 4], [5, 1, 0]].map(|pass| [number(CUBE, &pass), number(RING, &pass)]), [[3, 0]; 2]);
 }
 
 #[test]

@@ -268,16 +268,20 @@ fn conversions() {
     }
 }
 
-/// A report that is one byte too short is judged behind the length of the table.
+/// Byte 4 is mended by the mended status: station 1 was told and 2 was not. A report that
+/// is one byte too short is judged behind the length of the table.
 #[test]
-fn reports() {
+fn mendings() {
     let mut plant = Plant::fresh(RING, 3);
+    put(&mut plant, &[(1, 0, 2), (1, 5, 9), (2, 0, 9), (2, 4, 0)]);
     assert_eq!(mend(RING, 3, &mut plant.table, &mut [170; 107]), (23, 0));
     assert_eq!(mend(RING, 3, &mut plant.table[1..], &mut []), (2, 0));
     let mut report = [170; 109];
+    assert_eq!(mend(RING, 3, &mut plant.table, &mut report), (0, 3));
+    let listed = [0, 13, 255, 254, 0, 18, 9, 1, 0, 22, 0, 255];
+    assert_eq!((&report[..12], &report[12..]), (&listed[..], &[0; 97][..]));
     assert_eq!(mend(RING, 3, &mut plant.table, &mut report), (0, 0));
     assert_eq!(report, [0; 109]);
-    assert_eq!(plant.table, Plant::fresh(RING, 3).table);
 }
 
 /// 24 comes before all others in the seven calls that take a wiring number, and a run so

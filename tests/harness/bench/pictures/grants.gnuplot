@@ -10,7 +10,7 @@ set yrange [11.6:-0.6]
 set tics nomirror scale 0
 set border 1
 set grid xtics linetype 1 linecolor "#d0d0d0"
-set key outside top center horizontal reverse Left
+set key at 100,3.9 top right reverse Left width -10
 share(grants, bound) = 100.0 * grants / bound
 plot $grants using (0):($0 - 0.2):(0):(share($2, $3)):($0 - 0.37):($0 - 0.03):yticlabels(1) \
          with boxxyerror fillstyle solid linecolor "#2f7d32" title "all crashes in a round of a fresh plant", \
