@@ -1,6 +1,6 @@
 //! A plant to be handed to the calls, and its entries.
 
-use simulator::{fresh_table, run, Answer, Driven};
+use simulator::{fresh_table, run, Driven};
 
 pub const CUBE: usize = 1;
 pub const RING: usize = 2;
@@ -69,23 +69,11 @@ impl Plant {
     /// Runs a schedule: the number, the entries taken, and the lines of the sheet.
     pub fn run(&mut self, schedule: &[u8]) -> (u8, usize, Vec<[u8; 4]>) {
         let mut sheet = vec![170; 2 * schedule.len()];
-        let given = run(
-            self.wiring,
-            self.n,
-            &mut self.table,
-            self.tally,
-            schedule,
-            &mut sheet,
-        );
-        let Answer {
-            number,
-            taken,
-            rounds,
-            tests,
-        } = given;
-        self.tally = (rounds, tests);
-        let lines = sheet.chunks_exact(4).take(taken);
+        let (n, table, tally) = (self.n, &mut self.table, self.tally);
+        let given = run(self.wiring, n, table, tally, schedule, &mut sheet);
+        self.tally = (given.rounds, given.tests);
+        let lines = sheet.chunks_exact(4).take(given.taken);
         let lines = lines.map(|line| line.try_into().unwrap());
-        (number, taken, lines.collect())
+        (given.number, given.taken, lines.collect())
     }
 }

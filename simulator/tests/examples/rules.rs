@@ -21,25 +21,21 @@ fn behind(begin: &str) -> impl Iterator<Item = &'static str> + '_ {
         .skip(1)
 }
 
-/// The numbers of a text, or none if there is anything else.
-fn numbers(text: &str, radix: u32) -> Option<Vec<u8>> {
-    let words = text.split_whitespace();
-    words
-        .map(|word| u8::from_str_radix(word, radix).ok())
-        .collect()
+/// The numbers of a text, which has nothing else.
+fn numbers(text: &str, radix: u32) -> Vec<u8> {
+    let number = |word| u8::from_str_radix(word, radix).unwrap();
+    text.split_whitespace().map(number).collect()
 }
 
 /// The entries of the table behind this line, and what they write on the run sheet.
 fn worked_run(begin: &str) -> (Vec<u8>, Vec<[u8; 4]>) {
-    let mut lines = behind(begin)
-        .skip_while(|line| !line.starts_with('|'))
-        .skip(2);
-    let rows = lines.by_ref().take_while(|line| line.starts_with('|'));
+    let lines = behind(begin).skip_while(|line| !line.starts_with('|'));
+    let rows = lines.take_while(|line| line.starts_with('|')).skip(2);
     let (mut schedule, mut sheet) = (Vec::new(), Vec::new());
     for row in rows {
         let cells: Vec<&str> = row.split('|').collect();
-        schedule.extend(numbers(cells[1], 10).unwrap());
-        sheet.push(numbers(cells[2], 10).unwrap().try_into().unwrap());
+        schedule.extend(numbers(cells[1], 10));
+        sheet.push(numbers(cells[2], 10).try_into().unwrap());
     }
     (schedule, sheet)
 }
@@ -52,7 +48,7 @@ fn files<const COUNT: usize>(begin: &str) -> [Vec<u8>; COUNT] {
     for line in lines.take_while(|line| line.starts_with("    ")) {
         let (left, right) = line.split_at_checked(44).unwrap_or((line, ""));
         for (file, column) in files.iter_mut().zip([left, right]) {
-            file.extend(numbers(column, 16).unwrap());
+            file.extend(numbers(column, 16));
         }
     }
     files
@@ -65,17 +61,11 @@ fn worked_run_on_the_cube() {
     let mut plant = Plant::fresh(CUBE, 4);
     assert_eq!(plant.run(&schedule[..8]), (0, 4, sheet[..4].to_vec()));
     // The table printed under The table.
-    let printed = RULES
-        .lines()
-        .filter(|line| line.starts_with("    from byte "));
-    let bytes = printed.map(|line| line.split_once(':').map_or(line, |(bytes, _)| bytes));
-    let bytes = bytes.map(|line| {
-        line.rsplit_once(" station")
-            .map_or(line, |(bytes, _)| bytes)
-    });
-    let words = bytes.flat_map(|line| line.split_whitespace().skip(3));
-    let table: Vec<u8> = words.map_while(|word| word.parse().ok()).collect();
-    assert_eq!(plant.table, table);
+    let lines = RULES.lines().map(str::trim_start);
+    let printed = lines.filter(|line| line.starts_with("from byte "));
+    let words = printed.map(|line| line.split_whitespace().skip(3));
+    let table = words.flat_map(|words| words.map_while(|word| word.parse().ok()));
+    assert_eq!(plant.table, table.collect::<Vec<u8>>());
     assert_eq!(plant.run(&schedule[8..]), (0, 7, sheet[4..].to_vec()));
     assert_eq!(plant.tally, (1, 8));
     let other = [0, 1, 0, 0, 255, 0, 0, 1, 0, 0];
