@@ -2,7 +2,7 @@
 
 use crate::library;
 use shared::random::Random;
-use shared::schedule::TURN;
+use shared::schedule::{CRASH, LATE_TURN, TURN};
 use shared::table::{self, Line, HEAD};
 use shared::wiring::Wiring;
 use vcube::Outcome;
@@ -47,7 +47,17 @@ impl Work {
     pub fn with_turns(mut self, entries: usize, random: &mut Random) -> Work {
         let mut table = self.table.clone();
         for _ in 0..entries {
-            self.add_turn(&mut table, random);
+            self.add(TURN, &mut table, random);
+        }
+        self
+    }
+
+    /// With late turns and crashes among them, until nobody is live.
+    pub fn with_exits(mut self, random: &mut Random) -> Work {
+        let mut table = self.table.clone();
+        while !table::live_stations(self.n, &table).is_empty() {
+            let kind = random.pick(&[TURN, TURN, TURN, TURN, TURN, TURN, LATE_TURN, CRASH]);
+            self.add(kind, &mut table, random);
         }
         self
     }
@@ -55,7 +65,7 @@ impl Work {
     /// The same up to the end of the first round.
     pub fn with_round(mut self, random: &mut Random) -> Work {
         let mut table = self.table.clone();
-        while self.add_turn(&mut table, random) == 0 {}
+        while self.add(TURN, &mut table, random) == 0 {}
         self
     }
 
@@ -105,11 +115,11 @@ impl Work {
         (work, (answer.rounds, answer.tests))
     }
 
-    /// Adds a turn that the table takes and works it on the table. Gives how many rounds
+    /// Adds an entry that the table takes and works it on the table. Gives how many rounds
     /// it closes.
-    fn add_turn(&mut self, table: &mut [u8], random: &mut Random) -> u32 {
+    fn add(&mut self, kind: u8, table: &mut [u8], random: &mut Random) -> u32 {
         let ready = table::unfinished_stations(self.n, table);
-        let entry = [TURN, random.pick(&ready) as u8];
+        let entry = [kind, random.pick(&ready) as u8];
         self.schedule.extend(entry);
         library::run_entry(self.wiring, self.n, table, entry).1
     }

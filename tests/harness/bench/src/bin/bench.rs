@@ -86,6 +86,7 @@ fn print_wired(wiring: Wiring, repetitions: usize, fewer: usize) -> Result<(), S
         Wiring::Cube => (&SIZES[..], &FEW_SIZES[..]),
         Wiring::Ring => (&RING_SIZES[..], &RING_SIZES[..]),
     };
+    compare_exits(wiring, sizes)?;
     print_long_runs(wiring, sizes, repetitions)?;
     print_first_rounds(wiring, sizes, fewer)?;
     print_short_runs(wiring, sizes, fewer)?;
@@ -191,9 +192,27 @@ fn print_short_runs(wiring: Wiring, sizes: &[usize], repetitions: usize) -> Resu
 }
 
 fn print_row_of_runs(works: &[Work], repetitions: usize) -> Result<(), String> {
+    let times = time_runs(works, repetitions)?;
+    // A run of no entry counts as one.
+    let entries: usize = works.iter().map(|work| work.entries().max(1)).sum();
+    let cells = format!("{} | {}", works[0].n, works[0].dead);
+    print_row(&cells, thousands(entries), times);
+    Ok(())
+}
+
+/// Runs with late turns and crashes, which are compared and not timed.
+fn compare_exits(wiring: Wiring, sizes: &[usize]) -> Result<(), String> {
+    let mut random = Random::new(SEED);
+    let sizes = sizes.iter().flat_map(|n| vec![*n; RUNS]);
+    let works = sizes.map(|n| Work::start(wiring, n, 0, &mut random).with_exits(&mut random));
+    time_runs(&works.collect::<Vec<Work>>(), 0)?;
+    Ok(())
+}
+
+fn time_runs(works: &[Work], repetitions: usize) -> Result<[f64; 3], String> {
     let longest = works.iter().map(|work| 2 * work.schedule.len()).max();
     let batch = Batch::new(works, |work| work.table.clone(), longest.unwrap_or(0));
-    let times = batch.best_times(
+    batch.best_times(
         repetitions,
         |work, answer: &Answer| (answer.number, answer.taken) == (0, work.entries()),
         |work, table, sheet| {
@@ -215,15 +234,7 @@ fn print_row_of_runs(works: &[Work], repetitions: usize) -> Result<(), String> {
                 sheet,
             )
         },
-    )?;
-    // A run of no entry counts as one.
-    let entries: usize = works.iter().map(|work| work.entries().max(1)).sum();
-    print_row(
-        &format!("{} | {}", works[0].n, works[0].dead),
-        thousands(entries),
-        times,
-    );
-    Ok(())
+    )
 }
 
 fn print_drives(wiring: Wiring, sizes: &[usize], repetitions: usize) -> Result<(), String> {
