@@ -78,10 +78,10 @@ pub fn rounds_of_slowest(wiring: Wiring, slowest: &Slowest) -> Result<u32, Strin
     match plant.dead_are_known() && plant.rounds == worst {
         true => Ok(worst),
         false => Err(format!(
-            "the slowest plant of {n} boards, {}: known is {}, after {} rounds, and not true after just {worst}",
+            "slowest plant of {n} boards, {}: the dead must be known after just {worst} rounds; after {}: {}",
             wiring.text(),
-            plant.dead_are_known(),
-            plant.rounds
+            plant.rounds,
+            plant.dead_are_known()
         )),
     }
 }
