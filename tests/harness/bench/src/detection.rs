@@ -1,14 +1,15 @@
-//! How many rounds close until every live board suspects exactly the dead
-//! ones. Everything is done by the library: one entry a run, or one round a
-//! drive.
+//! How many rounds close until every live board suspects exactly the dead ones.
+//! Everything is done by the library: one entry a run, or one round a drive. What is
+//! proved of it is the simulator's wait.
 
-use crate::bounds::latency_on;
-use crate::contender::{of_library, run_entry};
+use crate::library;
 use shared::groups::dimension;
 use shared::random::Random;
 use shared::schedule::{Entry, CRASH, TURN};
+use shared::slowest::Plant as Slowest;
 use shared::table;
 use shared::wiring::Wiring;
+use simulator::{wait, Wait};
 use vcube::{Station, Tally};
 
 /// Which live board that has not finished its pass takes the next turn.
@@ -39,9 +40,14 @@ pub struct Plant {
     last: Option<Station>,
 }
 
-/// The closed rounds until every live board suspects exactly the dead ones,
-/// from a fresh table on which the dead boards crash first. Stops the program
-/// if they are more than the wiring's worst-case latency.
+/// The worst-case latency, in rounds.
+pub fn worst_case(wiring: Wiring, n: usize) -> u32 {
+    Plant::fresh(wiring, n).wait().rounds as u32
+}
+
+/// The closed rounds until every live board suspects exactly the dead ones, from a fresh
+/// table on which the dead boards crash first. Stops the program if they are more than
+/// the worst-case latency.
 pub fn rounds_until_known(
     wiring: Wiring,
     n: usize,
@@ -49,15 +55,35 @@ pub fn rounds_until_known(
     order: Order,
     random: &mut Random,
 ) -> u32 {
+    let most = worst_case(wiring, n);
     let mut plant = Plant::with_dead(wiring, n, dead);
     while !plant.dead_are_known() {
         plant.play_round(order, random);
-        assert!(
-            plant.rounds <= latency_on(wiring, n),
-            "more than the worst-case latency"
-        );
+        assert!(plant.rounds <= most, "more than the worst-case latency");
     }
     plant.rounds
+}
+
+/// The same of a slowest plant, which must take just the worst-case latency.
+pub fn rounds_of_slowest(wiring: Wiring, slowest: &Slowest) -> Result<u32, String> {
+    let (crashes, turns) = slowest.entries.split_at(slowest.dead);
+    let mut plant = Plant::fresh(wiring, slowest.n);
+    for crash in crashes {
+        plant.take(*crash);
+    }
+    let mut turns = turns.iter();
+    let mut close_round = |plant: &mut Plant| turns.any(|turn| plant.take(*turn));
+    while !plant.dead_are_known() && close_round(&mut plant) {}
+    let (n, worst) = (slowest.n, worst_case(wiring, slowest.n));
+    match plant.dead_are_known() && plant.rounds == worst {
+        true => Ok(worst),
+        false => Err(format!(
+            "slowest plant of {n} boards, {}: the dead must be known after just {worst} rounds; after {}: {}",
+            wiring.text(),
+            plant.rounds,
+            plant.dead_are_known()
+        )),
+    }
 }
 
 /// Random dead boards; at least two boards are live, and one is dead unless
@@ -81,7 +107,8 @@ impl Plant {
             rounds: 0,
             last: None,
         };
-        vcube::fresh_table(of_library(wiring), n, &mut plant.table).expect("a size of the list");
+        let wiring = library::wiring(wiring);
+        vcube::fresh_table(wiring, n, &mut plant.table).expect("a size of the list");
         plant
     }
 
@@ -100,9 +127,16 @@ impl Plant {
         self
     }
 
+    /// What is proved of this table, by the simulator.
+    pub fn wait(&self) -> Wait {
+        let wait = wait(self.wiring.number(), self.n, &self.table);
+        assert_eq!(wait.number, 0);
+        wait
+    }
+
     /// Grants one turn, which is then carried out.
     pub fn grant_turn(&mut self) {
-        let wiring = of_library(self.wiring);
+        let wiring = library::wiring(self.wiring);
         let granted = vcube::grant(wiring, self.n, &self.table, self.last);
         let granted = granted.expect("a board is live");
         self.last = Some(granted);
@@ -111,7 +145,7 @@ impl Plant {
 
     /// Carries out one entry. Gives whether it closed a round.
     pub fn take(&mut self, entry: Entry) -> bool {
-        let closed = run_entry(self.wiring, self.n, &mut self.table, entry);
+        let (_, closed) = library::run_entry(self.wiring, self.n, &mut self.table, entry);
         self.rounds += closed;
         closed != 0
     }
@@ -137,7 +171,7 @@ impl Plant {
     /// One drive, which must close a round.
     fn drive_round(&mut self) {
         let mut tally = Tally::default();
-        let wiring = of_library(self.wiring);
+        let wiring = library::wiring(self.wiring);
         let driven = vcube::drive(wiring, self.n, &mut self.table, &mut tally, &mut self.last);
         assert_eq!((driven.refusal, tally.rounds), (None, 1));
         self.rounds += tally.rounds;
@@ -161,7 +195,7 @@ impl Plant {
         let mut least = (usize::MAX, ready[0]);
         for i in ready {
             let mut table = self.table.clone();
-            run_entry(self.wiring, self.n, &mut table, [TURN, i as u8]);
+            library::run_entry(self.wiring, self.n, &mut table, [TURN, i as u8]);
             let after = suspicions(self.n, &table);
             if after < least.0 {
                 least = (after, i);

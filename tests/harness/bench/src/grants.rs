@@ -1,7 +1,6 @@
 //! How many grants pass from the death of a board until every live board
 //! suspects exactly the dead ones. Grants and turns are those of the library.
 
-use crate::bounds::{grants_from_crash, latency_on};
 use crate::detection::{random_dead, Plant};
 use shared::random::Random;
 use shared::schedule::CRASH;
@@ -9,8 +8,7 @@ use shared::table::live_stations;
 use shared::wiring::Wiring;
 use vcube::Station;
 
-/// What a plant took, and the most that it can take by the rule Turns from a
-/// crash.
+/// What a plant took, and the most that it can take by the rule Turns from a crash.
 #[derive(Clone, Copy, Debug, PartialEq, Eq)]
 pub struct Taken {
     pub grants: usize,
@@ -29,9 +27,19 @@ pub fn nearest(taken: &[Taken]) -> Taken {
     *taken.iter().max_by_key(share).expect("at least one")
 }
 
-/// The grants until the dead are known, or an error if they are more than the
-/// bound.
-pub fn until_known(mut plant: Plant, bound: usize) -> Result<usize, String> {
+/// The most grants from a crash until it is known where nobody is dead before, whichever
+/// board it is.
+pub fn bound_of_first_crash(wiring: Wiring, n: usize) -> usize {
+    let bounds = (0..n).map(|board| {
+        Plant::with_dead(wiring, n, &[board])
+            .wait()
+            .turns_from_crash
+    });
+    bounds.max().expect("at least one board")
+}
+
+/// The grants until the dead are known, or an error if they are more than the bound.
+fn until_known(mut plant: Plant, bound: usize) -> Result<usize, String> {
     for grants in 0..=bound {
         if plant.dead_are_known() {
             return Ok(grants);
@@ -42,10 +50,10 @@ pub fn until_known(mut plant: Plant, bound: usize) -> Result<usize, String> {
 }
 
 /// Lets a board crash, and grants turns until the dead are known.
-pub fn crash(mut plant: Plant, board: usize) -> Result<Taken, String> {
+fn crash(mut plant: Plant, board: usize) -> Result<Taken, String> {
     plant.take([CRASH, board as u8]);
     let (wiring, n) = (plant.wiring, plant.n);
-    let bound = grants_from_crash(wiring, n, &live_stations(n, &plant.table));
+    let bound = plant.wait().turns_from_crash;
     let grants = until_known(plant, bound);
     let said = |what| format!("{n} boards, {}, crash of {board}: {what}", wiring.text());
     grants.map(|grants| Taken { grants, bound }).map_err(said)
@@ -78,15 +86,14 @@ pub fn random(wiring: Wiring, n: usize, random: &mut Random) -> Result<Taken, St
     dead.truncate(n - 3);
     let last = Station(random.below(n));
     let mut plant = Plant::with_dead(wiring, n, &dead).after(last);
-    let rounds = random.below(latency_on(wiring, n) as usize + 1) as u32;
+    let rounds = random.below(plant.wait().rounds + 1) as u32;
     while plant.rounds < rounds {
         plant.grant_turn();
     }
     // As many as a round can have, so that each of its moments can come.
-    let live = live_stations(n, &plant.table);
-    let moments = grants_from_crash(wiring, n, &live) / (latency_on(wiring, n) as usize + 1);
-    for _ in 0..random.below(moments) {
+    for _ in 0..random.below(plant.wait().turns_per_round) {
         plant.grant_turn();
     }
+    let live = live_stations(n, &plant.table);
     crash(plant, random.pick(&live))
 }

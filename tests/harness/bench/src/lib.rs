@@ -1,18 +1,13 @@
-//! A benchmark of the run, of the drive, of the figures, of the doubt lamp, of
-//! mending, of saving, loading and converting, of slots and of reading an input, and an experiment on how many rounds
-//! pass until the dead boards are known.
+//! A benchmark of the library's calls beside plain Rust and the simulator, and an
+//! experiment on how many rounds and grants pass until the dead boards are known.
 
 #![forbid(unsafe_code)]
 
-pub mod bounds;
-pub mod chart;
-pub mod contender;
 pub mod detection;
 pub mod grants;
-pub mod grants_chart;
-pub mod lamp_work;
+pub mod library;
 pub mod measure;
-pub mod mend_work;
+pub mod pictures;
 pub mod plain;
 pub mod plain_drive;
 pub mod plain_figures;
@@ -21,10 +16,4 @@ pub mod plain_lamp;
 pub mod plain_mend;
 pub mod plain_saved;
 pub mod plain_slot;
-pub mod saved_work;
-pub mod slowest;
-pub mod statistics;
 pub mod work;
-
-#[cfg(test)]
-mod tests;

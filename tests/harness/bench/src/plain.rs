@@ -1,11 +1,8 @@
-//! The run in plain Rust over the lent bytes.
-//!
-//! Table, schedule and sheet are used as they are lent: nothing is decoded,
-//! and the group order is computed with exclusive or. The wiring is looked at
-//! where a turn looks for its test and after a test. As the rules read, it
-//! looks through all lines for the round's end after each entry, and always
-//! exchanges both rows. (The library looks at the entry's own station first and
-//! leaves equal rows alone.)
+//! The check of a table and the run in plain Rust over the lent bytes, as the rules
+//! read: nothing is decoded, the group order is computed with exclusive or, all lines
+//! are looked through for the round's end after each entry, and both rows are always
+//! exchanged. (The library looks at the entry's own station first and leaves equal
+//! rows alone.)
 
 use shared::wiring::Wiring;
 use simulator::Answer;
@@ -13,16 +10,16 @@ use simulator::Answer;
 /// The bytes of a line before its row, and what they hold.
 pub const HEAD: usize = 6;
 pub const STATUS: usize = 0;
-const NEXT: usize = 1;
+pub const NEXT: usize = 1;
 pub const FINISHED: usize = 2;
-const TESTS: usize = 3;
+pub const TESTS: usize = 3;
 /// The station whose row told it to leave.
-const TOLD_BY: usize = 4;
+pub const TOLD_BY: usize = 4;
 /// The rounds closed since it ceased to be live.
-const CLOSED_SINCE: usize = 5;
+pub const CLOSED_SINCE: usize = 5;
 
 pub const LIVE: u8 = 0;
-const CRASHED: u8 = 1;
+pub const CRASHED: u8 = 1;
 pub const TOLD: u8 = 2;
 pub const ALONE: u8 = 3;
 
@@ -43,29 +40,20 @@ const NO_REPLY: u8 = 3;
 const CRASH_OUTCOME: u8 = 4;
 const TESTED_TOLD: u8 = 5;
 
-/// The refusal of a wiring number.
-pub const NO_SUCH_WIRING: u8 = 24;
-
-/// Run: refusals 24 and 1 to 6, then 7 to 11 at each entry.
-/// The tally is (rounds, tests).
+/// Run: refusals 1 to 6, then 7 to 11 at each entry, on a tally of 0.
 pub fn run(
-    wiring: usize,
+    wiring: Wiring,
     n: usize,
     table: &mut [u8],
-    tally: (u32, u32),
     schedule: &[u8],
     sheet: &mut [u8],
 ) -> Answer {
     let mut answer = Answer {
-        number: NO_SUCH_WIRING,
+        number: start_refusal(wiring, n, table, schedule.len(), sheet.len()),
         taken: 0,
-        rounds: tally.0,
-        tests: tally.1,
+        rounds: 0,
+        tests: 0,
     };
-    let Some(wiring) = Wiring::from_number(wiring) else {
-        return answer;
-    };
-    answer.number = start_refusal(wiring, n, table, schedule.len(), sheet.len());
     if answer.number != 0 {
         return answer;
     }
@@ -95,7 +83,9 @@ fn start_refusal(wiring: Wiring, n: usize, table: &[u8], schedule: usize, sheet:
     0
 }
 
-/// Refusals 1 to 4, or 0.
+/// Refusals 1 to 4, or 0. It stands by itself, with the loop over a row in it: where that
+/// was not so the loop was not aligned, and the check took twice the time.
+#[inline(never)]
 pub fn table_refusal(wiring: Wiring, n: usize, table: &[u8]) -> u8 {
     if !(2..=64).contains(&n) {
         return 1;
@@ -114,20 +104,22 @@ pub fn table_refusal(wiring: Wiring, n: usize, table: &[u8]) -> u8 {
     0
 }
 
+#[inline(always)]
 pub fn keeps_line_rules(end: usize, i: usize, line: &[u8]) -> bool {
     let (head, row) = line.split_at(HEAD);
-    keeps_status_rules(row.len(), i, head) && keeps_pass_rules(end, i, head, row)
+    keeps_status_rules(row.len(), i, head)
+        && keeps_pass_rules(end, head)
+        && row[i] == 0
+        && row.iter().all(|byte| *byte <= 1)
 }
 
-/// The rules of bytes 1 to 3 and of the row.
-pub fn keeps_pass_rules(end: usize, i: usize, head: &[u8], row: &[u8]) -> bool {
+/// The rules of bytes 1 to 3.
+pub fn keeps_pass_rules(end: usize, head: &[u8]) -> bool {
     let next = usize::from(head[NEXT]);
     (1..=end).contains(&next)
         && head[FINISHED] <= 1
         && head[TESTS] < head[NEXT]
         && (head[FINISHED] == 0 || next == end)
-        && row[i] == 0
-        && row.iter().all(|byte| *byte <= 1)
 }
 
 /// The status, and bytes 4 and 5 by it.
@@ -142,7 +134,7 @@ fn keeps_status_rules(n: usize, i: usize, head: &[u8]) -> bool {
 }
 
 /// Whether the number is that of another station than i.
-fn is_another(n: usize, i: usize, number: u8) -> bool {
+pub fn is_another(n: usize, i: usize, number: u8) -> bool {
     let number = usize::from(number);
     number < n && number != i
 }

@@ -1,39 +1,29 @@
-//! The drive in plain Rust over the lent bytes. The turns are those of `plain`.
-//! As the rules read, each grant looks at the lines from the one after that of
-//! the last granted station on, and after each turn all lines are looked through
-//! for a live one.
+//! The drive in plain Rust over the lent bytes, with the turns of `plain`. As the rules
+//! read, each grant looks at the lines from the one behind that of the last granted
+//! station on, and after each turn all lines are looked through for a live one.
 
-use crate::plain::NO_SUCH_WIRING;
 use crate::plain::{is_full, table_refusal, take_entry, FINISHED, HEAD, LIVE, STATUS, TURN};
 use shared::grants::NONE_YET;
 use shared::wiring::Wiring;
 use simulator::{Answer, Driven};
 
-/// Drive: refusals 24, 1 to 4, 16 and 17, then 7 before each grant.
-/// The tally is (rounds, tests).
-pub fn drive(wiring: usize, n: usize, table: &mut [u8], tally: (u32, u32), last: usize) -> Driven {
-    let mut last = last;
+/// Drive: refusals 1 to 4, 16 and 17, then 7 before each grant, on a tally of 0.
+pub fn drive(wiring: Wiring, n: usize, table: &mut [u8], mut last: usize) -> Driven {
     let mut answer = Answer {
-        number: NO_SUCH_WIRING,
+        number: start_refusal(wiring, n, table, last),
         taken: 0,
-        rounds: tally.0,
-        tests: tally.1,
+        rounds: 0,
+        tests: 0,
     };
-    if let Some(wiring) = Wiring::from_number(wiring) {
-        answer.number = start_refusal(wiring, n, table, last);
-        while answer.number == 0 {
-            if is_full(&answer) {
-                answer.number = 7;
-                break;
-            }
-            last = grant(n, table, last);
-            let entry = [TURN, last as u8];
-            take_entry(wiring, n, table, &mut answer, &entry, &mut [0; 4]);
-            answer.taken += 1;
-            if answer.rounds != tally.0 || !is_some_live(n, table) {
-                break;
-            }
+    while answer.number == 0 && answer.rounds == 0 && is_some_live(n, table) {
+        if is_full(&answer) {
+            answer.number = 7;
+            break;
         }
+        last = grant(n, table, last);
+        let entry = [TURN, last as u8];
+        take_entry(wiring, n, table, &mut answer, &entry, &mut [0; 4]);
+        answer.taken += 1;
     }
     Driven {
         number: answer.number,
@@ -46,17 +36,11 @@ pub fn drive(wiring: usize, n: usize, table: &mut [u8], tally: (u32, u32), last:
 
 /// Refusals 1 to 4, 16 and 17, or 0.
 fn start_refusal(wiring: Wiring, n: usize, table: &[u8], last: usize) -> u8 {
-    let number = table_refusal(wiring, n, table);
-    if number != 0 {
-        return number;
+    match table_refusal(wiring, n, table) {
+        0 if last >= n && last != NONE_YET => 16,
+        0 if !is_some_live(n, table) => 17,
+        number => number,
     }
-    if last >= n && last != NONE_YET {
-        return 16;
-    }
-    if !is_some_live(n, table) {
-        return 17;
-    }
-    0
 }
 
 fn is_some_live(n: usize, table: &[u8]) -> bool {

@@ -1,16 +1,15 @@
 //! The reading of an input in plain Rust. Of a line that cannot be read it says
 //! which it is, and has no words: the bench times inputs that can be read.
 
-use simulator::{InputRead, SCHEDULE_LENGTH, WORDS_LENGTH};
+use simulator::{InputRead, SCHEDULE_LENGTH};
 
 /// Input: refusal 13.
-pub fn read_input(input: &[u8], schedule: &mut [u8], words: &mut [u8]) -> InputRead {
+pub fn read_input(input: &[u8], schedule: &mut [u8]) -> InputRead {
     let mut read = InputRead::default();
-    if schedule.len() != SCHEDULE_LENGTH || words.len() != WORDS_LENGTH {
+    if schedule.len() != SCHEDULE_LENGTH {
         read.number = 13;
         return read;
     }
-    words.fill(0);
     let text = input.strip_suffix(b"\n").unwrap_or(input);
     let mut lines = text.split(|byte| *byte == b'\n');
     let Some(n) = lines.next().and_then(|line| number(line, 3)) else {

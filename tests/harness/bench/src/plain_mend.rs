@@ -1,27 +1,15 @@
 //! Mending in plain Rust over the lent bytes.
 
-use crate::plain::{FINISHED, HEAD, LIVE, NO_SUCH_WIRING, STATUS};
+use crate::plain::{is_another, keeps_pass_rules, ALONE, CRASHED, FINISHED, HEAD, LIVE, NEXT};
+use crate::plain::{CLOSED_SINCE, NOT_RECORDED, STATUS, TESTS, TOLD, TOLD_BY, TOLD_BY_NONE};
 use shared::wiring::Wiring;
-
-const NEXT_DISTANCE: usize = 1;
-const TESTS: usize = 3;
-const TOLD_BY: usize = 4;
-const CLOSED_SINCE: usize = 5;
-
-const CRASHED: u8 = 1;
-const LEFT_TOLD: u8 = 2;
-const TOLD_BY_NONE: u8 = 255;
-const NOT_RECORDED: u8 = 254;
 
 /// The bytes of a listed change.
 const CHANGE: usize = 4;
 
-/// Makes the table keep all rules, and lists each byte that was changed: refusals
-/// 24, 1, 2 and 23. Gives the number and how many changes there are.
-pub fn mend(wiring: usize, n: usize, table: &mut [u8], report: &mut [u8]) -> (u8, usize) {
-    let Some(wiring) = Wiring::from_number(wiring) else {
-        return (NO_SUCH_WIRING, 0);
-    };
+/// Makes the table keep all rules, and lists each byte that was changed: refusals 1, 2
+/// and 23. Gives the number and how many changes there are.
+pub fn mend(wiring: Wiring, n: usize, table: &mut [u8], report: &mut [u8]) -> (u8, usize) {
     if !(2..=64).contains(&n) {
         return (1, 0);
     }
@@ -66,7 +54,7 @@ fn is_over(end: usize, n: usize, table: &[u8]) -> bool {
     let mut some = false;
     for line in table.chunks_exact(n + HEAD) {
         if line[STATUS] == LIVE {
-            if line[FINISHED] != 1 || !keeps_pass(end, line) {
+            if line[FINISHED] != 1 || !keeps_pass_rules(end, line) {
                 return false;
             }
             some = true;
@@ -75,34 +63,24 @@ fn is_over(end: usize, n: usize, table: &[u8]) -> bool {
     some
 }
 
-fn keeps_pass(end: usize, line: &[u8]) -> bool {
-    let next = usize::from(line[NEXT_DISTANCE]);
-    let finished = line[FINISHED];
-    let finished_right = finished == 0 || finished == 1 && next == end;
-    next <= end && line[TESTS] < line[NEXT_DISTANCE] && finished_right
-}
-
 /// Bytes 0 to 5 of a line, mended.
 fn mended_head(end: usize, n: usize, own: usize, line: &[u8], over: bool) -> [u8; HEAD] {
-    let status = if line[STATUS] > 3 {
-        CRASHED
-    } else {
-        line[STATUS]
+    let status = match line[STATUS] {
+        status @ ..=ALONE => status,
+        _ => CRASHED,
     };
-    let [next, finished, tests] = match over || !keeps_pass(end, line) {
+    let [next, finished, tests] = match over || !keeps_pass_rules(end, line) {
         true => [1, 0, 0],
-        false => [line[NEXT_DISTANCE], line[FINISHED], line[TESTS]],
+        false => [line[NEXT], line[FINISHED], line[TESTS]],
     };
-    let by = line[TOLD_BY];
-    let told_by = match status == LEFT_TOLD {
-        true if usize::from(by) < n && usize::from(by) != own => by,
-        true => NOT_RECORDED,
-        false => TOLD_BY_NONE,
+    let told_by = match status {
+        TOLD if is_another(n, own, line[TOLD_BY]) => line[TOLD_BY],
+        TOLD => NOT_RECORDED,
+        _ => TOLD_BY_NONE,
     };
-    let since = if status == LIVE {
-        0
-    } else {
-        line[CLOSED_SINCE]
+    let since = match status {
+        LIVE => 0,
+        _ => line[CLOSED_SINCE],
     };
     [status, next, finished, tests, told_by, since]
 }

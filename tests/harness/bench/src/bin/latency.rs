@@ -1,28 +1,22 @@
-//! How many rounds close until the dead boards are known, beside the bounds:
-//! the worst-case latency, which is proved, and two greater ones. Random plants,
-//! with the library's figures over their rounds, and the slowest plants of
-//! samples/slowest.txt. How many grants pass from a crash until then, beside the
-//! bound that is proved.
+//! How many rounds close until the dead boards are known, beside the bounds: the
+//! worst-case latency, which is proved, and two greater ones. Random plants, with the
+//! library's figures over their rounds, and the slowest plants of samples/slowest.txt.
+//! How many grants pass from a crash until then, beside the bound that is proved.
 //!
-//! `latency` writes docs/latency.md and docs/latency.svg under the current
-//! folder, and prints the tables; `--quick` tries less, and only prints.
+//! `latency` writes docs/latency.md and its two pictures under the current folder, and
+//! prints the tables; `--quick` tries less, and only prints.
 
-use bench::bounds::{
-    grants_from_first_crash, ring_latency, square_bound, triangle_bound, worst_latency,
-};
-use bench::chart::{self, Point};
-use bench::detection::{random_dead, rounds_until_known, Order};
+use bench::detection::{random_dead, rounds_of_slowest, rounds_until_known, worst_case, Order};
 use bench::grants::{self, Taken};
-use bench::grants_chart::{self, Row};
-use bench::slowest::{self, Slowest};
-use bench::statistics::{decimal, Summary};
+use bench::pictures;
 use shared::groups::dimension;
 use shared::random::Random;
+use shared::slowest;
 use shared::wiring::Wiring;
 use std::fmt::Write;
 use std::process::ExitCode;
-use std::{fs, io, thread};
-use vcube::{Figures, MOST_RESULTS};
+use std::{fs, thread};
+use vcube::{Figures, Fraction, MOST_RESULTS};
 
 const SEED: u64 = 1;
 
@@ -53,18 +47,43 @@ fn trials(n: usize) -> usize {
     }
 }
 
+/// What is said of the rounds of some trials.
+struct Summary {
+    /// The library's figures.
+    figures: Figures,
+    /// The least result that at least 99 in 100 do not exceed.
+    percentile: u16,
+}
+
+impl Summary {
+    /// Of as many results as the library takes.
+    fn of(mut results: Vec<u16>) -> Summary {
+        let figures = vcube::figures(&results).expect("a number of results that is taken");
+        results.sort_unstable();
+        let place = (99 * results.len()).div_ceil(100) - 1;
+        Summary {
+            figures,
+            percentile: results[place],
+        }
+    }
+
+    /// Mean and greatest, as a cell.
+    fn mean_and_greatest(&self) -> String {
+        format!("{}, {}", decimal(self.figures.mean), self.figures.greatest)
+    }
+}
+
+/// A fraction as a decimal, and behind it as it is.
+fn decimal(fraction: Fraction) -> String {
+    format!("{:.2} ({fraction})", fraction.value())
+}
+
 /// The results of a size, by order.
 struct Results {
     n: usize,
     by_order: Vec<Summary>,
     /// On the ring, in the first order.
     on_ring: Summary,
-}
-
-impl Results {
-    fn random(&self) -> &Summary {
-        &self.by_order[0]
-    }
 }
 
 /// What plants of a size took in grants from a crash.
@@ -76,21 +95,27 @@ struct Grants {
     searched: Option<Vec<Taken>>,
 }
 
-impl Grants {
-    fn row(&self) -> Row {
-        let searched = self.searched.as_ref();
-        Row {
-            name: format!("{} {}", self.wiring.text(), self.n),
-            searched: searched.map(|all| grants::nearest(all)),
-            random: grants::nearest(&self.random),
-        }
-    }
+/// A slowest plant and the rounds that it takes.
+struct Slowest {
+    n: usize,
+    dead: usize,
+    rounds: u32,
 }
 
-/// The slowest plants of each wiring.
-struct AllSlowest {
-    on_cube: Vec<Slowest>,
-    on_ring: Vec<Slowest>,
+/// The slowest plants of a wiring, by the library.
+fn run_slowest(wiring: Wiring) -> Result<Vec<Slowest>, String> {
+    let plants = match wiring {
+        Wiring::Cube => slowest::plants()?,
+        Wiring::Ring => slowest::ring_plants().collect(),
+    };
+    let run = |plant: &slowest::Plant| {
+        rounds_of_slowest(wiring, plant).map(|rounds| Slowest {
+            n: plant.n,
+            dead: plant.dead,
+            rounds,
+        })
+    };
+    plants.iter().map(run).collect()
 }
 
 /// The rounds of the slowest plant of a size, if there is one.
@@ -118,18 +143,15 @@ fn main() -> ExitCode {
     }
 }
 
-fn work(quick: bool) -> io::Result<()> {
-    let run_all = |wiring| slowest::run_all(wiring).map_err(io::Error::other);
-    let slowest = AllSlowest {
-        on_cube: run_all(Wiring::Cube)?,
-        on_ring: run_all(Wiring::Ring)?,
-    };
+fn work(quick: bool) -> Result<(), String> {
+    let slowest = [run_slowest(Wiring::Cube)?, run_slowest(Wiring::Ring)?];
     let results = at_once(SIZES.to_vec(), |n| try_size(n, quick));
-    let grants = try_grants(quick).map_err(io::Error::other)?;
-    print!("{}", tables(&results, &slowest, &grants));
+    let grants = try_grants(quick)?;
+    let tables = tables(&results, &slowest, &grants);
+    print!("{tables}");
     match quick {
         true => Ok(()),
-        false => write_files(&results, &slowest, &grants),
+        false => write_files(&results, &slowest, &grants, &tables),
     }
 }
 
@@ -194,55 +216,51 @@ fn try_order(wiring: Wiring, n: usize, order: Order, trials: usize) -> Summary {
     Summary::of((0..trials).map(|_| one()).collect())
 }
 
-fn write_files(results: &[Results], slowest: &AllSlowest, grants: &[Grants]) -> io::Result<()> {
-    let points: Vec<Point> = results.iter().map(|row| point(row, slowest)).collect();
-    fs::create_dir_all("docs")?;
-    fs::write("docs/latency.md", document(results, slowest, grants))?;
-    fs::write("docs/latency.svg", chart::draw(&points))?;
-    let rows: Vec<Row> = grants.iter().map(Grants::row).collect();
-    fs::write("docs/latency-grants.svg", grants_chart::draw(&rows))
+fn write_files(
+    results: &[Results],
+    [on_cube, on_ring]: &[Vec<Slowest>; 2],
+    grants: &[Grants],
+    tables: &str,
+) -> Result<(), String> {
+    let text = format!("{HEAD}{tables}");
+    fs::write("docs/latency.md", text).map_err(|error| format!("docs/latency.md: {error}"))?;
+    let points = results.iter().map(|row| pictures::Point {
+        n: row.n,
+        observed: row.by_order[0].figures,
+        slowest: [rounds_of(on_cube, row.n), rounds_of(on_ring, row.n)],
+        bounds: bounds(row.n),
+        worst_on_ring: worst_case(Wiring::Ring, row.n),
+    });
+    pictures::draw_rounds("docs/latency.svg", points)?;
+    let rows = grants.iter().map(|row| pictures::Row {
+        name: format!("{} {}", row.wiring.text(), row.n),
+        searched: row.searched.as_ref().map(|all| grants::nearest(all)),
+        random: grants::nearest(&row.random),
+    });
+    pictures::draw_grants("docs/latency-grants.svg", rows)
 }
 
-fn point(results: &Results, slowest: &AllSlowest) -> Point {
-    let Results { n, .. } = *results;
-    Point {
-        n,
-        observed: results.random().figures,
-        slowest: rounds_of(&slowest.on_cube, n),
-        slowest_on_ring: rounds_of(&slowest.on_ring, n),
-        worst_latency: worst_latency(n),
-        ring_latency: ring_latency(n),
-        triangle_bound: triangle_bound(n),
-        square_bound: square_bound(n),
-    }
-}
-
-fn document(results: &[Results], slowest: &AllSlowest, grants: &[Grants]) -> String {
-    format!(
-        "# How many rounds pass until the dead boards are known
-
-Made by `tests/latency` with seed {SEED}, by runs and drives of the library; the same command gives the same file.
-
-Counted are the closed rounds: from a fresh table on which the dead boards crash first, the rounds that close after the last crash, up to
-and with the first one at whose end every live board suspects exactly the dead ones. All turns are of kind 1.
-
-![Closed rounds until the dead boards are known](latency.svg)
-
-{}",
-        tables(results, slowest, grants)
-    )
-}
-
-fn tables(results: &[Results], slowest: &AllSlowest, grants: &[Grants]) -> String {
+fn tables(results: &[Results], slowest: &[Vec<Slowest>; 2], grants: &[Grants]) -> String {
     let tables = [
         main_table(results),
-        slowest_table(&slowest.on_cube),
+        slowest_table(&slowest[0]),
         order_table(results),
         ring_table(results, slowest),
         grants_table(grants),
     ];
     tables.join("\n")
 }
+
+const HEAD: &str = "# How many rounds pass until the dead boards are known
+
+Made by `tests/latency` with seed 1, by runs and drives of the library; the same command gives the same file.
+
+Counted are the closed rounds: from a fresh table on which the dead boards crash first, the rounds that close after the last crash, up to
+and with the first one at whose end every live board suspects exactly the dead ones. All turns are of kind 1.
+
+![Closed rounds until the dead boards are known](latency.svg)
+
+";
 
 const MAIN_TEXT: &str = "## Random plants
 
@@ -267,38 +285,35 @@ library's: it is the least result that at least 99 in 100 trials did not exceed.
 fn main_table(results: &[Results]) -> String {
     let mut text = String::from(MAIN_TEXT);
     for row in results {
-        let (n, d, bounds) = (row.n, dimension(row.n), bounds(row.n));
-        let figures = main_figures(row.random());
-        let _ = writeln!(text, "| {n} | {d} | {figures} | {bounds} |");
+        let (n, d, bounds) = (row.n, dimension(row.n), bound_cells(row.n));
+        let Summary {
+            figures,
+            percentile,
+        } = &row.by_order[0];
+        let Figures {
+            count,
+            least,
+            greatest,
+            ..
+        } = *figures;
+        let (mean, variance) = (decimal(figures.mean), decimal(figures.variance));
+        let _ = writeln!(
+            text,
+            "| {n} | {d} | {count} | {least} | {mean} | {variance} | {percentile} | {greatest} | {bounds} |"
+        );
     }
     text
 }
 
-/// The figures of a size, as cells.
-fn main_figures(summary: &Summary) -> String {
-    let Summary {
-        figures,
-        percentile,
-    } = summary;
-    let Figures {
-        count,
-        least,
-        greatest,
-        mean,
-        variance,
-    } = *figures;
-    let (mean, variance) = (decimal(mean), decimal(variance));
-    format!("{count} | {least} | {mean} | {variance} | {percentile} | {greatest}")
+/// The worst-case latency of the cube, the triangular and the square bound.
+fn bounds(n: usize) -> [u32; 3] {
+    let d = dimension(n);
+    [worst_case(Wiring::Cube, n), 1 + d * (d - 1) / 2, d * d]
 }
 
-/// The bounds of a size, as cells.
-fn bounds(n: usize) -> String {
-    format!(
-        "{} | {} | {}",
-        worst_latency(n),
-        triangle_bound(n),
-        square_bound(n)
-    )
+fn bound_cells(n: usize) -> String {
+    let [worst, triangle, square] = bounds(n);
+    format!("{worst} | {triangle} | {square}")
 }
 
 const SLOWEST_TEXT: &str = "## The slowest plants
@@ -318,7 +333,7 @@ fn slowest_table(slowest: &[Slowest]) -> String {
     for plants in slowest.chunk_by(|one, next| key(one) == key(next)) {
         let sizes = range(plants.iter().map(|plant| plant.n));
         let live = range(plants.iter().map(|plant| plant.n - plant.dead));
-        let ((d, rounds), bounds) = (key(&plants[0]), bounds(plants[0].n));
+        let ((d, rounds), bounds) = (key(&plants[0]), bound_cells(plants[0].n));
         let _ = writeln!(text, "| {sizes} | {live} | {rounds} | {d} | {bounds} |");
     }
     text
@@ -347,11 +362,11 @@ last number 255, and each further one with the last number that the one before g
 ",
     );
     for row in results {
-        let cell = |order: &Summary| {
-            let Figures { mean, greatest, .. } = order.figures;
-            format!("{}, {greatest}", decimal(mean))
-        };
-        let cells: Vec<String> = row.by_order.iter().map(cell).collect();
+        let cells: Vec<String> = row
+            .by_order
+            .iter()
+            .map(Summary::mean_and_greatest)
+            .collect();
         let _ = writeln!(text, "| {} | {} |", row.n, cells.join(" | "));
     }
     text
@@ -367,24 +382,20 @@ those first that are farther from board 0, so that the suspicion of it spreads b
 |--:|--:|--:|--:|--:|--:|--:|
 ";
 
-fn ring_table(results: &[Results], slowest: &AllSlowest) -> String {
+fn ring_table(results: &[Results], [on_cube, on_ring]: &[Vec<Slowest>; 2]) -> String {
     let mut text = String::from(RING_TEXT);
     for row in results {
         let n = row.n;
-        let cube = wiring_cells(row.random(), rounds_of(&slowest.on_cube, n));
-        let ring = wiring_cells(&row.on_ring, rounds_of(&slowest.on_ring, n));
-        let (on_cube, on_ring) = (worst_latency(n), ring_latency(n));
-        let _ = writeln!(text, "| {n} | {cube} | {on_cube} | {ring} | {on_ring} |");
+        let cells = |summary: &Summary, slowest, wiring| {
+            let mean = summary.mean_and_greatest();
+            let slowest = rounds_of(slowest, n).map_or(String::from("–"), |k| k.to_string());
+            format!("{mean} | {slowest} | {}", worst_case(wiring, n))
+        };
+        let cube = cells(&row.by_order[0], on_cube, Wiring::Cube);
+        let ring = cells(&row.on_ring, on_ring, Wiring::Ring);
+        let _ = writeln!(text, "| {n} | {cube} | {ring} |");
     }
     text
-}
-
-/// Of a size on one wiring: mean and greatest, and the rounds of the slowest
-/// plant, as cells.
-fn wiring_cells(summary: &Summary, slowest: Option<u32>) -> String {
-    let Figures { mean, greatest, .. } = summary.figures;
-    let slowest = slowest.map_or(String::from("–"), |rounds| rounds.to_string());
-    format!("{}, {greatest} | {slowest}", decimal(mean))
 }
 
 const GRANTS_TEXT: &str = "## In grants
@@ -410,7 +421,7 @@ fn grants_table(grants: &[Grants]) -> String {
         let searched = row.searched.as_ref().map_or(String::from("– | –"), |all| {
             format!("{} | {}", all.len(), grants::greatest(all).grants)
         });
-        let proved = grants_from_first_crash(row.wiring, n);
+        let proved = grants::bound_of_first_crash(row.wiring, n);
         let (trials, greatest) = (row.random.len(), grants::greatest(&row.random).grants);
         let Taken { grants, bound } = grants::nearest(&row.random);
         let random = format!("{trials} | {greatest} | {grants} of {bound}");

@@ -1,0 +1,66 @@
+//! The table under "Cube or ring" of docs/COMMISSIONING.md, and what the page says of it.
+
+use bench::detection::worst_case;
+use bench::library;
+use shared::groups::SIZES;
+use shared::wiring::Wiring;
+use std::cmp::Ordering;
+
+const PAGE: &str = include_str!("../../../../docs/COMMISSIONING.md");
+
+/// The numbers of a row, by the words at its front.
+fn row(words: &str) -> Vec<u32> {
+    let mut sections = PAGE.split("\n## ");
+    let section = sections.find(|text| text.starts_with("Cube or ring"));
+    let mut lines = section.expect("the section").lines();
+    let row = lines.find_map(|line| line.strip_prefix(&format!("| {words} |")));
+    let cells = row.expect("the row").trim_end_matches('|').split('|');
+    let number = |cell: &str| cell.trim().replace(',', "").parse();
+    cells.map(|cell| number(cell).expect("a number")).collect()
+}
+
+/// The tests of a round in which nobody is dead, by a drive.
+fn tests(wiring: Wiring, n: usize) -> u32 {
+    let driven = library::drive(wiring, n, &mut shared::table::fresh(n));
+    assert_eq!((driven.number, driven.rounds), (0, 1));
+    driven.tests
+}
+
+/// The worst case, and the tests of one round more.
+fn wait(wiring: Wiring, n: usize) -> (u32, u32) {
+    let rounds = worst_case(wiring, n);
+    (rounds, (rounds + 1) * tests(wiring, n))
+}
+
+#[test]
+fn tests_and_waits_of_both_wirings() {
+    let sizes: Vec<usize> = row("boards").into_iter().map(|n| n as usize).collect();
+    assert_eq!(sizes.len(), 13);
+    for wiring in Wiring::ALL {
+        let numbers = |of: fn(Wiring, usize) -> u32| -> Vec<u32> {
+            sizes.iter().map(|n| of(wiring, *n)).collect()
+        };
+        let named = |words| row(&format!("{words}, {}", wiring.text()));
+        assert_eq!(numbers(tests), named("tests a round"));
+        assert_eq!(numbers(worst_case), named("wait"));
+        let of_rounds = numbers(|wiring, n| wait(wiring, n).1);
+        assert_eq!(of_rounds, named("tests of L + 1 rounds"));
+    }
+}
+
+/// From 3 boards on the ring has fewer tests a round, and in L + 1 rounds. Its wait is
+/// shorter at 3 and 5 boards, and the same at 2, 4, 6, 7 and 9.
+#[test]
+fn where_cube_and_ring_cross() {
+    let compared = |order| {
+        let waits = move |n: &usize| wait(Wiring::Ring, *n).0.cmp(&wait(Wiring::Cube, *n).0);
+        let sizes = SIZES.filter(move |n| waits(n) == order);
+        sizes.collect::<Vec<usize>>()
+    };
+    assert_eq!(compared(Ordering::Less), [3, 5]);
+    assert_eq!(compared(Ordering::Equal), [2, 4, 6, 7, 9]);
+    for n in SIZES.skip(1) {
+        assert!(tests(Wiring::Ring, n) < tests(Wiring::Cube, n));
+        assert!(wait(Wiring::Ring, n).1 < wait(Wiring::Cube, n).1);
+    }
+}
