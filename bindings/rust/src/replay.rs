@@ -1,0 +1,651 @@
+//! Makes the calls of a record through the typed layer, and compares what they give
+//! with what the simulator gave when tests/compare recorded them:
+//!
+//! ```sh
+//! VCUBE_RECORD=FILE cargo test --package vcube -- --ignored --nocapture replay
+//! ```
+//!
+//! FILE may be `-`, for standard input. How a record is written is said in
+//! tests/harness/compare/src/recorded.rs.
+//!
+//! Calls that the types cannot express go through [`raw`]: those with a wiring number
+//! that is no wiring, and with a buffer of words, or a schedule of an input, of another
+//! length.
+
+use std::collections::BTreeSet;
+use std::env;
+use std::fs::File;
+use std::io::{self, BufRead, BufReader};
+use std::thread;
+
+use crate::entries::NO_STATION;
+use crate::*;
+
+/// An argument: a number, or what a pointer points to.
+#[derive(Clone, Debug, PartialEq)]
+enum Argument {
+    Size(usize),
+    Number(u32),
+    Bytes(Vec<u8>),
+    Results(Vec<u16>),
+    /// A `size_t` that a call puts there.
+    Figure(usize),
+    /// The same of a `uint32_t`.
+    Counter(u32),
+    /// The members of a struct.
+    Members(Vec<u64>),
+}
+
+use Argument::{Bytes, Counter, Figure, Members, Number, Results, Size};
+
+/// A recorded call: its arguments before it and after it, and the number.
+struct Call {
+    function: String,
+    before: Vec<Argument>,
+    after: Vec<Argument>,
+    number: u8,
+}
+
+/// Numbers of eight bytes, the low one first.
+fn wide(bytes: &[u8]) -> Vec<u64> {
+    let (numbers, _) = bytes.as_chunks();
+    numbers.iter().copied().map(u64::from_le_bytes).collect()
+}
+
+fn size(bytes: &[u8]) -> usize {
+    usize::try_from(wide(bytes)[0]).expect("a size_t has 64 bits here")
+}
+
+fn narrow(bytes: &[u8]) -> u32 {
+    u32::from_le_bytes(bytes.try_into().expect("four bytes"))
+}
+
+fn results(bytes: &[u8]) -> Vec<u16> {
+    let (results, _) = bytes.as_chunks();
+    results.iter().copied().map(u16::from_le_bytes).collect()
+}
+
+/// What stands at a pointer of this form.
+fn pointed(form: u8, bytes: &[u8]) -> Option<Argument> {
+    Some(match form.to_ascii_lowercase() {
+        b'b' => Bytes(bytes.to_vec()),
+        b'r' => Results(results(bytes)),
+        b's' => Figure(size(bytes)),
+        b'i' => Counter(narrow(bytes)),
+        b't' => Members(wide(bytes)),
+        _ => return None,
+    })
+}
+
+fn take(record: &mut impl BufRead, length: usize) -> io::Result<Vec<u8>> {
+    let mut bytes = vec![0; length];
+    record.read_exact(&mut bytes)?;
+    Ok(bytes)
+}
+
+/// The next call of a record; none at its end.
+fn next_call(record: &mut impl BufRead) -> io::Result<Option<Call>> {
+    let mut function = Vec::new();
+    if record.read_until(0, &mut function)? == 0 {
+        return Ok(None);
+    }
+    function.pop();
+    let (mut before, mut after) = (Vec::new(), Vec::new());
+    loop {
+        let form = take(record, 1)?[0];
+        let (one, other) = match form {
+            b'.' => break,
+            b'n' => {
+                let number = Size(size(&take(record, 8)?));
+                (number.clone(), number)
+            }
+            b'w' => {
+                let number = Number(narrow(&take(record, 4)?));
+                (number.clone(), number)
+            }
+            _ => {
+                let length = narrow(&take(record, 4)?) as usize;
+                let bytes = take(record, length)?;
+                let left = match take(record, 1)?[0] {
+                    b'=' => bytes.clone(),
+                    _ => take(record, length)?,
+                };
+                let unknown = || io::Error::other(format!("an argument of the form {form}"));
+                let one = pointed(form, &bytes).ok_or_else(unknown)?;
+                (one, pointed(form, &left).ok_or_else(unknown)?)
+            }
+        };
+        before.push(one);
+        after.push(other);
+    }
+    Ok(Some(Call {
+        function: String::from_utf8_lossy(&function).into_owned(),
+        before,
+        after,
+        number: take(record, 1)?[0],
+    }))
+}
+
+/// 0 or the number of the refusal.
+fn number<T>(given: Result<T, Refusal>) -> u8 {
+    given.err().map_or(0, Refusal::number)
+}
+
+fn wiring(number: usize) -> Option<Wiring> {
+    Wiring::from_number(number.try_into().ok()?)
+}
+
+fn byte(station: Station) -> u8 {
+    station.0.try_into().expect("a station in a buffer")
+}
+
+/// The last granted number by its type, and back.
+fn last_station(last: usize) -> Option<Station> {
+    (last != NO_STATION.into()).then_some(Station(last))
+}
+
+fn last_number(last: Option<Station>) -> usize {
+    last.map_or(NO_STATION.into(), |station| station.0)
+}
+
+fn totals(members: &[u64]) -> Totals {
+    let [count, sum, squares, least, greatest] = *members else {
+        panic!("totals have five members, not {}", members.len());
+    };
+    Totals {
+        count,
+        sum,
+        squares,
+        least,
+        greatest,
+    }
+}
+
+/// Puts totals there, zeros where the call was refused; gives the number.
+fn put_totals(place: &mut Vec<u64>, given: Result<Totals, Refusal>) -> u8 {
+    let members = |one: Totals| [one.count, one.sum, one.squares, one.least, one.greatest];
+    *place = given.map_or([0; 5], members).to_vec();
+    number(given)
+}
+
+/// The same of figures.
+fn put_figures(place: &mut Vec<u64>, given: Result<Figures, Refusal>) -> u8 {
+    let fraction = |one: Fraction| [one.upper, one.lower];
+    let members = |one: Figures| {
+        let range = [one.count, one.least, one.greatest];
+        [&range[..], &fraction(one.mean), &fraction(one.variance)].concat()
+    };
+    *place = given.map_or(vec![0; 7], members);
+    number(given)
+}
+
+/// Puts words and zeros there. If the number is that of a case, they are what the case
+/// is displayed as.
+fn put_words(place: &mut [u8], words: &Words, case: Option<impl ToString>) -> u8 {
+    assert_eq!(
+        words.to_string(),
+        case.map_or(String::new(), |case| case.to_string())
+    );
+    place.fill(0);
+    place[..words.as_str().len()].copy_from_slice(words.as_str().as_bytes());
+    0
+}
+
+/// The case of an enum with a number of any width.
+fn case<T>(number: usize, from_number: fn(u8) -> Option<T>) -> Option<T> {
+    u8::try_from(number).ok().and_then(from_number)
+}
+
+/// The schedule by typed entries, if all of it is entries of known kinds; else the
+/// bytes as they are.
+fn typed_schedule(bytes: &[u8]) -> Vec<u8> {
+    let (pairs, rest) = bytes.as_chunks();
+    let entries = pairs.iter().map(|[kind, station]| {
+        Some(Entry {
+            kind: Kind::from_number(*kind)?,
+            station: Station(usize::from(*station)),
+        })
+    });
+    match entries.collect::<Option<Vec<Entry>>>() {
+        Some(entries) if rest.is_empty() => schedule(&entries),
+        _ => bytes.to_vec(),
+    }
+}
+
+/// The statuses of all stations, as a valid table has them.
+fn statuses(n: usize, table: &[u8]) -> Vec<u8> {
+    table.chunks(n + HEAD).map(|line| line[0]).collect()
+}
+
+/// What the lines of a sheet say: read, they are the bytes that were written; and who
+/// follows them has every status.
+fn check_sheet(n: usize, before: &[u8], table: &[u8], sheet: &[u8], taken: usize) {
+    let lines: Vec<SheetLine> = sheet_lines(sheet, taken).collect();
+    let bytes = lines.iter().flat_map(|line| {
+        let tested = line.tested.map_or(NO_STATION, byte);
+        let (outcome, status) = (line.outcome.number(), line.status.number());
+        [byte(line.station), tested, outcome, status]
+    });
+    assert!(bytes.eq(sheet[..4 * taken].iter().copied()));
+    if taken > 0 {
+        let mut followed = statuses(n, before);
+        for (station, status) in lines.into_iter().flat_map(SheetLine::ceased) {
+            followed[station.0] = status.number();
+        }
+        assert_eq!(followed, statuses(n, table));
+    }
+}
+
+/// What a table says of a station: the bytes of its line, which begins that far before
+/// its row; or the refusal that the row has.
+fn check_head(
+    wiring: Wiring,
+    n: usize,
+    table: &[u8],
+    station: Station,
+    row: Result<&[u8], Refusal>,
+) {
+    let of_status = status(wiring, n, table, station).map(Status::number);
+    let of_told_by = told_by(wiring, n, table, station).map(|told_by| match told_by {
+        ToldBy::Nobody => TOLD_BY_NONE,
+        ToldBy::NotRecorded => TOLD_NOT_RECORDED,
+        ToldBy::Station(station) => byte(station),
+    });
+    let of_rounds_ago = rounds_ago(wiring, n, table, station);
+    let expected = |column: usize| row.map(|_| table[station.0 * (n + HEAD) + column]);
+    assert_eq!(
+        [of_status, of_told_by, of_rounds_ago],
+        [0, 4, 5].map(expected)
+    );
+}
+
+/// The changes of a mending: each says what its byte was and is, and there is none
+/// besides.
+fn check_changes(n: usize, before: &[u8], table: &[u8], report: &[u8], count: usize) {
+    let mut mended = before.to_vec();
+    for Change {
+        line,
+        byte,
+        old,
+        new,
+    } in changes(n, report, count)
+    {
+        let column = match byte {
+            LineByte::Status => 0,
+            LineByte::NextDistance => 1,
+            LineByte::PassFinished => 2,
+            LineByte::TestsMade => 3,
+            LineByte::ToldBy => 4,
+            LineByte::RoundsAgo => 5,
+            LineByte::About(station) => HEAD + station.0,
+        };
+        let place = &mut mended[line.0 * (n + HEAD) + column];
+        assert_eq!(*place, old);
+        *place = new;
+    }
+    assert_eq!(mended, table);
+}
+
+/// Makes a call through the types. What it gives is put where the library would put
+/// it. Gives the number; none where the types cannot express the call.
+fn by_types(function: &str, lent: &mut [Argument]) -> Option<u8> {
+    Some(match (function, lent) {
+        ("vcube_fresh_table", [Size(wired), Size(n), Bytes(table)]) => {
+            number(fresh_table(wiring(*wired)?, *n, table))
+        }
+        ("vcube_group_list", [Size(n), Size(station), Size(level), Bytes(list)]) => {
+            let (station, level) = (Station(*station), Level(*level));
+            let given = group_list(*n, station, level, list);
+            let members = group_stations(*n, station, level, &mut list.clone())
+                .map(|members| members.map(byte).collect::<Vec<u8>>());
+            assert_eq!(members, given.map(|()| list.clone()));
+            assert!(given.is_err() || list.len() == group_length(*n, station, level));
+            number(given)
+        }
+        (
+            "vcube_assignment",
+            [Size(n), Bytes(table), Size(station), Bytes(list), Figure(count)],
+        ) => {
+            let station = Station(*station);
+            let given = assignment(*n, table, station, list);
+            let entries =
+                assignment_entries(*n, table, station, &mut list.clone()).map(|entries| {
+                    let bytes = entries.map(|entry| match entry.answer {
+                        DueOrAhead::Due => [entry.distance.0, DUE],
+                        DueOrAhead::Ahead(station) => [entry.distance.0, byte(station)],
+                    });
+                    bytes.collect::<Vec<_>>()
+                });
+            let due = due_distances(*n, table, station, &mut list.clone())
+                .map(|due| due.map(|distance| [distance.0, DUE]).collect::<Vec<_>>());
+            assert_eq!(
+                entries.clone().map(|entries| entries.concat()),
+                given.map(|_| list.clone())
+            );
+            assert_eq!(due.clone().map(|due| due.len()), given);
+            assert_eq!(
+                due,
+                entries.map(|entries| entries
+                    .into_iter()
+                    .filter(|entry| entry[1] == DUE)
+                    .collect())
+            );
+            assert!(given.is_err() || list.len() == assignment_length(*n));
+            *count = given.unwrap_or(0);
+            number(given)
+        }
+        ("vcube_slot", [Size(n), Bytes(table), Size(station), Figure(tests), Figure(most)]) => {
+            let given = slot(*n, table, Station(*station));
+            (*tests, *most) = given.map_or((0, 0), |slot| (slot.tests, slot.most));
+            number(given)
+        }
+        (
+            "vcube_row",
+            [Size(wired), Size(n), Bytes(table), Size(station), Figure(start), Figure(length)],
+        ) => {
+            let (wiring, station) = (wiring(*wired)?, Station(*station));
+            let given = row(wiring, *n, table, station);
+            let offset = |row: &[u8]| row.as_ptr() as usize - table.as_ptr() as usize;
+            (*start, *length) = given.map_or((0, 0), |row| (offset(row), row.len()));
+            check_head(wiring, *n, table, station, given);
+            number(given)
+        }
+        (
+            "vcube_run",
+            [Size(wired), Size(n), Bytes(table), Counter(rounds), Counter(tests), Bytes(schedule), Bytes(sheet), Figure(taken)],
+        ) => {
+            let before = table.clone();
+            let mut tally = Tally {
+                rounds: *rounds,
+                tests: *tests,
+            };
+            let answer = run(
+                wiring(*wired)?,
+                *n,
+                table,
+                &mut tally,
+                &typed_schedule(schedule),
+                sheet,
+            );
+            (*rounds, *tests, *taken) = (tally.rounds, tally.tests, answer.taken);
+            check_sheet(*n, &before, table, sheet, answer.taken);
+            answer.refusal.map_or(0, Refusal::number)
+        }
+        ("vcube_grant", [Size(wired), Size(n), Bytes(table), Size(last), Figure(station)]) => {
+            let wiring = wiring(*wired)?;
+            let given = grant(wiring, *n, table, last_station(*last));
+            assert_eq!(given, grant(wiring, *n, table, Some(Station(*last))));
+            *station = given.map_or(0, |station| station.0);
+            number(given)
+        }
+        (
+            "vcube_drive",
+            [Size(wired), Size(n), Bytes(table), Counter(rounds), Counter(tests), Figure(last), Figure(grants)],
+        ) => {
+            let mut tally = Tally {
+                rounds: *rounds,
+                tests: *tests,
+            };
+            let mut station = last_station(*last);
+            let driven = drive(wiring(*wired)?, *n, table, &mut tally, &mut station);
+            (*rounds, *tests) = (tally.rounds, tally.tests);
+            (*last, *grants) = (last_number(station), driven.grants);
+            driven.refusal.map_or(0, Refusal::number)
+        }
+        ("vcube_doubt_lamp", [Size(wired), Size(n), Bytes(table), Figure(by), Figure(of)]) => {
+            let given = doubt_lamp(wiring(*wired)?, *n, table);
+            (*by, *of) = given.map_or((0, 0), |doubt| {
+                doubt.map_or((NO_STATION.into(), NO_STATION.into()), |doubt| {
+                    (doubt.by.0, doubt.of.0)
+                })
+            });
+            number(given)
+        }
+        (
+            "vcube_wait",
+            [Size(wired), Size(n), Bytes(table), Figure(rounds), Figure(per_round), Figure(until_known), Figure(from_crash)],
+        ) => {
+            let given = wait(wiring(*wired)?, *n, table);
+            [*rounds, *per_round, *until_known, *from_crash] = given.map_or([0; 4], |wait| {
+                [
+                    wait.rounds,
+                    wait.turns_per_round,
+                    wait.turns_until_known,
+                    wait.turns_from_crash,
+                ]
+            });
+            number(given)
+        }
+        ("vcube_mend", [Size(wired), Size(n), Bytes(table), Bytes(report), Figure(count)]) => {
+            let before = table.clone();
+            let given = mend(wiring(*wired)?, *n, table, report);
+            check_changes(*n, &before, table, report, given.unwrap_or(0));
+            *count = given.unwrap_or(0);
+            number(given)
+        }
+        ("vcube_save", [Size(n), Bytes(table), Number(rounds), Number(tests), Bytes(saved)]) => {
+            let tally = Tally {
+                rounds: *rounds,
+                tests: *tests,
+            };
+            let given = save(*n, table, tally, saved);
+            assert!(given.is_err() || saved.len() == saved_length(*n));
+            number(given)
+        }
+        (
+            "vcube_load",
+            [Bytes(saved), Bytes(table), Figure(n), Counter(rounds), Counter(tests)],
+        ) => {
+            let given = load(saved, table);
+            assert!(
+                given.is_ok_and(|loaded| table.len() == table_length(loaded.n)) || given.is_err()
+            );
+            (*n, *rounds, *tests) =
+                given.map_or((0, 0, 0), |one| (one.n, one.tally.rounds, one.tally.tests));
+            number(given)
+        }
+        ("vcube_saved_size", [Bytes(saved), Figure(n)]) => {
+            let given = saved_size(saved);
+            *n = given.unwrap_or(0);
+            number(given)
+        }
+        ("vcube_convert", [Bytes(old), Bytes(saved)]) => number(convert(old, saved)),
+        ("vcube_converted_length", [Bytes(old), Figure(length)]) => {
+            let given = converted_length(old);
+            *length = given.unwrap_or(0);
+            number(given)
+        }
+        ("vcube_figures_of_list", [Results(list), Members(place)]) => {
+            put_figures(place, figures(list))
+        }
+        ("vcube_figures_of_two_lists", [Results(first), Results(second), Members(place)]) => {
+            put_figures(place, figures_of_two(first, second))
+        }
+        ("vcube_totals_of_list", [Results(list), Members(place)]) => {
+            put_totals(place, Totals::of(list))
+        }
+        ("vcube_join_totals", [Members(first), Members(second), Members(place)]) => {
+            put_totals(place, totals(first).join(totals(second)))
+        }
+        ("vcube_figures_of_totals", [Members(handed_in), Members(place)]) => {
+            put_figures(place, totals(handed_in).figures())
+        }
+        ("vcube_refusal_words", [Size(number), Bytes(words)]) if words.len() == WORDS_LENGTH => {
+            put_words(
+                words,
+                &refusal_words(*number),
+                case(*number, Refusal::from_number),
+            )
+        }
+        ("vcube_status_words", [Size(number), Bytes(words)]) if words.len() == WORDS_LENGTH => {
+            put_words(
+                words,
+                &status_words(*number),
+                case(*number, Status::from_number),
+            )
+        }
+        ("vcube_outcome_words", [Size(number), Bytes(words)]) if words.len() == WORDS_LENGTH => {
+            put_words(
+                words,
+                &outcome_words(*number),
+                case(*number, Outcome::from_number),
+            )
+        }
+        (
+            "vcube_read_input",
+            [Bytes(input), Bytes(schedule), Bytes(words), Figure(n), Figure(entries), Figure(line)],
+        ) if words.len() == WORDS_LENGTH => {
+            let given = read_input(input, schedule.as_mut_slice().try_into().ok()?);
+            let (read, unread, said) = match &given {
+                Ok(read) => (*read, 0, String::new()),
+                Err(unread) => (unread.before, unread.line, unread.words.to_string()),
+            };
+            (*n, *entries, *line) = (read.n, read.entries, unread);
+            words.fill(0);
+            words[..said.len()].copy_from_slice(said.as_bytes());
+            0
+        }
+        _ => return None,
+    })
+}
+
+/// Makes a call that the types cannot express.
+fn by_numbers(function: &str, lent: &mut [Argument]) -> Option<u8> {
+    Some(match (function, lent) {
+        ("vcube_fresh_table", [Size(wiring), Size(n), Bytes(table)]) => {
+            raw::fresh_table(*wiring, *n, table)
+        }
+        (
+            "vcube_row",
+            [Size(wiring), Size(n), Bytes(table), Size(station), Figure(start), Figure(length)],
+        ) => raw::row(*wiring, *n, table, *station, start, length),
+        (
+            "vcube_run",
+            [Size(wiring), Size(n), Bytes(table), Counter(rounds), Counter(tests), Bytes(schedule), Bytes(sheet), Figure(taken)],
+        ) => raw::run(*wiring, *n, table, rounds, tests, schedule, sheet, taken),
+        ("vcube_grant", [Size(wiring), Size(n), Bytes(table), Size(last), Figure(station)]) => {
+            raw::grant(*wiring, *n, table, *last, station)
+        }
+        (
+            "vcube_drive",
+            [Size(wiring), Size(n), Bytes(table), Counter(rounds), Counter(tests), Figure(last), Figure(grants)],
+        ) => raw::drive(*wiring, *n, table, rounds, tests, last, grants),
+        ("vcube_doubt_lamp", [Size(wiring), Size(n), Bytes(table), Figure(by), Figure(of)]) => {
+            raw::doubt_lamp(*wiring, *n, table, by, of)
+        }
+        (
+            "vcube_wait",
+            [Size(wiring), Size(n), Bytes(table), Figure(rounds), Figure(per_round), Figure(until_known), Figure(from_crash)],
+        ) => raw::wait(
+            *wiring,
+            *n,
+            table,
+            rounds,
+            per_round,
+            until_known,
+            from_crash,
+        ),
+        ("vcube_mend", [Size(wiring), Size(n), Bytes(table), Bytes(report), Figure(changes)]) => {
+            raw::mend(*wiring, *n, table, report, changes)
+        }
+        ("vcube_refusal_words", [Size(number), Bytes(words)]) => raw::refusal_words(*number, words),
+        ("vcube_status_words", [Size(number), Bytes(words)]) => raw::status_words(*number, words),
+        ("vcube_outcome_words", [Size(number), Bytes(words)]) => raw::outcome_words(*number, words),
+        (
+            "vcube_read_input",
+            [Bytes(input), Bytes(schedule), Bytes(words), Figure(n), Figure(entries), Figure(line)],
+        ) => raw::read_input(input, schedule, words, n, entries, line),
+        _ => return None,
+    })
+}
+
+/// Says which call it was that panicked.
+struct Making<'a>(u64, &'a str);
+
+impl Drop for Making<'_> {
+    fn drop(&mut self) {
+        if thread::panicking() {
+            eprintln!("at call {}, {}", self.0, self.1);
+        }
+    }
+}
+
+/// Makes all calls of a record; says how many, or what is otherwise than recorded.
+fn replay(mut record: impl BufRead) -> Result<String, String> {
+    let (mut calls, mut by_raw, mut functions) = (0, 0, BTreeSet::new());
+    let unreadable = |error| format!("the record cannot be read: {error}");
+    while let Some(call) = next_call(&mut record).map_err(unreadable)? {
+        calls += 1;
+        let wrong = |what: String| Err(format!("call {calls}, {}: {what}", call.function));
+        let making = Making(calls, &call.function);
+        let mut lent = call.before.clone();
+        let given = by_types(&call.function, &mut lent).or_else(|| {
+            by_raw += 1;
+            by_numbers(&call.function, &mut lent)
+        });
+        drop(making);
+        let Some(number) = given else {
+            return wrong("the header has no such call".into());
+        };
+        if number != call.number {
+            return wrong(format!("{number}, and not {}", call.number));
+        }
+        if let Some(place) = (0..lent.len()).find(|place| lent[*place] != call.after[*place]) {
+            return wrong(format!("argument {} is otherwise after it", place + 1));
+        }
+        functions.insert(call.function);
+    }
+    if calls == 0 {
+        return Err("the record has no call".into());
+    }
+    let functions = functions.len();
+    Ok(format!(
+        "{calls} calls of {functions} functions agree, {by_raw} of them not by types"
+    ))
+}
+
+#[test]
+#[ignore = "set VCUBE_RECORD to a record that tests/compare made, or to - for standard input"]
+fn the_typed_layer_gives_what_is_recorded() {
+    let name = env::var("VCUBE_RECORD").expect("VCUBE_RECORD names a record");
+    let said = match name.as_str() {
+        "-" => replay(io::stdin().lock()),
+        path => replay(BufReader::new(File::open(path).expect("the record"))),
+    };
+    println!("replay: {}", said.unwrap_or_else(|fault| panic!("{fault}")));
+}
+
+/// A fresh table of 3 stations on the cube, with 27 bytes after it that are given.
+fn recorded(table: &[u8]) -> Vec<u8> {
+    let mut record =
+        b"vcube_fresh_table\0n\x01\0\0\0\0\0\0\0n\x03\0\0\0\0\0\0\0b\x1b\0\0\0".to_vec();
+    record.extend([7; 27]);
+    record.push(b'~');
+    record.extend(table);
+    record.extend(b".\0");
+    record
+}
+
+#[test]
+fn a_call_that_is_recorded_otherwise_is_found() {
+    let fresh = [0, 1, 0, 0, 255, 0, 0, 0, 0].repeat(3);
+    let record = recorded(&fresh);
+    let said = "1 calls of 1 functions agree, 0 of them not by types";
+    assert_eq!(replay(&record[..]), Ok(said.into()));
+
+    let mut other_number = record.clone();
+    *other_number.last_mut().expect("a number") = 2;
+    let fault = "call 1, vcube_fresh_table: 0, and not 2";
+    assert_eq!(replay(&other_number[..]), Err(fault.into()));
+    for at in 0..27 {
+        let mut other = fresh.clone();
+        other[at] ^= 1;
+        let fault = "call 1, vcube_fresh_table: argument 3 is otherwise after it";
+        assert_eq!(replay(&recorded(&other)[..]), Err(fault.into()));
+    }
+    assert!(
+        replay(&record[..record.len() - 1]).is_err_and(|fault| fault.contains("cannot be read"))
+    );
+    assert!(replay(&b"vcube_slot\0.\0"[..]).is_err_and(|fault| fault.contains("no such call")));
+    assert!(replay(&b""[..]).is_err());
+}
