@@ -249,7 +249,10 @@ fn check_head(
     let of_told_by = told_by(wiring, n, table, station).map(|told_by| match told_by {
         ToldBy::Nobody => TOLD_BY_NONE,
         ToldBy::NotRecorded => TOLD_NOT_RECORDED,
-        ToldBy::Station(station) => byte(station),
+        ToldBy::Station(other) => {
+            assert!(other.0 < n);
+            byte(other)
+        }
     });
     let of_rounds_ago = rounds_ago(wiring, n, table, station);
     let expected = |column: usize| row.map(|_| table[station.0 * (n + HEAD) + column]);
