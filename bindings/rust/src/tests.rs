@@ -263,6 +263,20 @@ fn a_change_names_the_byte_of_its_line() {
 }
 
 #[test]
+fn a_line_says_who_told_the_station() {
+    let mut table = [0; table_length(2)];
+    assert_eq!(fresh_table(Wiring::Cube, 2, &mut table), Ok(()));
+    let mut said = |head: [u8; HEAD]| {
+        table[8..14].copy_from_slice(&head);
+        told_by(Wiring::Cube, 2, &table, Station(1))
+    };
+    assert_eq!(said([1, 1, 0, 0, 255, 9]), Ok(ToldBy::Nobody));
+    assert_eq!(said([2, 1, 0, 0, 254, 9]), Ok(ToldBy::NotRecorded));
+    assert_eq!(said([2, 1, 0, 0, 0, 9]), Ok(ToldBy::Station(Station(0))));
+    assert_eq!(said([2, 1, 0, 0, 1, 9]), Err(Refusal::LineRule));
+}
+
+#[test]
 fn a_fraction_is_printed_and_has_a_value() {
     let fraction = |upper, lower| Fraction { upper, lower };
     assert_eq!(
