@@ -29,6 +29,9 @@ static const size_t wide[] = {256 + 1, 65536 + 1, SIZE_MAX - 254, SIZE_MAX / 2 +
 
 static void layout(void)
 {
+    const struct vcube_figures figures = {0, 0, 0, {0, 1}, {0, 1}};
+    const struct vcube_totals totals = {0, 0, 0, 0, 0};
+
     expect(sizeof(struct vcube_fraction) == 16 && offsetof(struct vcube_fraction, lower) == 8, "layout: a fraction");
     expect(sizeof(struct vcube_figures) == 56, "layout: the size of figures");
     expect(offsetof(struct vcube_figures, least) == 8 && offsetof(struct vcube_figures, greatest) == 16 &&
@@ -38,6 +41,11 @@ static void layout(void)
     expect(offsetof(struct vcube_totals, sum) == 8 && offsetof(struct vcube_totals, squares) == 16 &&
                offsetof(struct vcube_totals, least) == 24 && offsetof(struct vcube_totals, greatest) == 32,
            "layout: the members of totals");
+    expect(sizeof figures.mean.upper == 8 && sizeof figures.mean.lower == 8, "layout: the numbers of a fraction");
+    expect(sizeof figures.count == 8 && sizeof figures.least == 8 && sizeof figures.greatest == 8, "layout: the numbers of figures");
+    expect(sizeof totals.count == 8 && sizeof totals.sum == 8 && sizeof totals.squares == 8 && sizeof totals.least == 8 &&
+               sizeof totals.greatest == 8,
+           "layout: the numbers of totals");
 }
 
 static void version(void)
@@ -330,6 +338,8 @@ static void alignment(void)
             other_calls(sizes[k], filled);
             expect(begin == 0 || memcmp(&given, &aligned, sizeof given) == 0, "alignment: the same at each address");
         }
+    expect(aligned.assignment[0] == 1 && aligned.assignment[1] == VCUBE_DUE, "macros: VCUBE_DUE");
+    expect(aligned.saved[0] == VCUBE_TAG_OPENING && aligned.saved[3] == VCUBE_EDITION, "macros: VCUBE_EDITION");
     expect(strcmp((const char *)aligned.words[0], "this board is not live") == 0, "alignment: words");
     expect(strcmp((const char *)aligned.unread, "a tab where a space is expected") == 0, "alignment: words of an input");
 }
