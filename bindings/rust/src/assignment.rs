@@ -1,6 +1,6 @@
 //! Which distances are due for a station, and who is ahead at the others.
 
-use crate::{accepted, raw, Distance, Refusal, Station};
+use crate::{Distance, Refusal, Station, accepted, raw};
 
 /// Stands in an entry of an assignment's list whose distance is due.
 pub const DUE: u8 = 255;
@@ -94,12 +94,10 @@ pub fn assignment_entries<'a>(
     table: &[u8],
     station: Station,
     list: &'a mut [u8],
-) -> Result<impl Iterator<Item = AssignmentEntry> + 'a, Refusal> {
+) -> Result<impl Iterator<Item = AssignmentEntry> + use<'a>, Refusal> {
     assignment(n, table, station, list)?;
     let (entries, _) = list.as_chunks();
-    Ok(entries
-        .iter()
-        .map(|entry| AssignmentEntry::from_bytes(*entry)))
+    Ok(entries.iter().map(|entry| AssignmentEntry::from_bytes(*entry)))
 }
 
 /// The distances of an [`assignment`] that are due, ascending.
@@ -120,7 +118,7 @@ pub fn due_distances<'a>(
     table: &[u8],
     station: Station,
     list: &'a mut [u8],
-) -> Result<impl Iterator<Item = Distance> + 'a, Refusal> {
+) -> Result<impl Iterator<Item = Distance> + use<'a>, Refusal> {
     let entries = assignment_entries(n, table, station, list)?;
     let due = entries.filter(|entry| entry.answer == DueOrAhead::Due);
     Ok(due.map(|entry| entry.distance))

@@ -107,7 +107,7 @@ impl SheetLine {
 /// let stations: Vec<_> = vcube::sheet_lines(&sheet, 2).map(|line| line.station.0).collect();
 /// assert_eq!(stations, [0, 5]);
 /// ```
-pub fn sheet_lines(sheet: &[u8], taken: usize) -> impl Iterator<Item = SheetLine> + '_ {
+pub fn sheet_lines(sheet: &[u8], taken: usize) -> impl Iterator<Item = SheetLine> {
     let (lines, _) = sheet.as_chunks();
     let lines = lines.iter().take(taken);
     lines.map_while(|bytes| SheetLine::from_bytes(*bytes))

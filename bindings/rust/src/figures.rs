@@ -1,6 +1,6 @@
 //! The figures over a season's trials.
 
-use crate::{accepted, raw, Refusal};
+use crate::{Refusal, accepted, raw};
 use std::fmt;
 
 /// The most results that figures are taken over.
@@ -50,13 +50,7 @@ pub struct Figures {
 /// Figures by a call that fills them.
 fn filled(call: impl FnOnce(&mut Figures) -> u8) -> Result<Figures, Refusal> {
     let none = Fraction { upper: 0, lower: 0 };
-    let mut figures = Figures {
-        count: 0,
-        least: 0,
-        greatest: 0,
-        mean: none,
-        variance: none,
-    };
+    let mut figures = Figures { count: 0, least: 0, greatest: 0, mean: none, variance: none };
     accepted(call(&mut figures)).map(|()| figures)
 }
 

@@ -1,7 +1,7 @@
 //! The bus master that grants the turns.
 
 use crate::entries::NO_STATION;
-use crate::{accepted, number_of, raw, Refusal, Station, Tally, Wiring};
+use crate::{Refusal, Station, Tally, Wiring, accepted, number_of, raw};
 
 /// What a drive answers beside the tally and the last granted station.
 #[derive(Clone, Copy, Debug, PartialEq, Eq, Hash)]
@@ -71,23 +71,13 @@ pub fn drive(
     let Tally { rounds, tests } = tally;
     let handed_in = last_number(*last);
     let (mut given_back, mut grants) = (handed_in, 0);
-    let number = raw::drive(
-        number_of(wiring),
-        n,
-        table,
-        rounds,
-        tests,
-        &mut given_back,
-        &mut grants,
-    );
+    let number =
+        raw::drive(number_of(wiring), n, table, rounds, tests, &mut given_back, &mut grants);
     // Else it stays, for none and `Some(Station(255))` are the same number.
     if given_back != handed_in {
         *last = Some(Station(given_back));
     }
-    Driven {
-        refusal: accepted(number).err(),
-        grants,
-    }
+    Driven { refusal: accepted(number).err(), grants }
 }
 
 /// The last granted number that the library is handed.

@@ -1,7 +1,7 @@
 //! The doubt lamp.
 
 use crate::entries::NO_STATION;
-use crate::{accepted, number_of, raw, Refusal, Station, Wiring};
+use crate::{Refusal, Station, Wiring, accepted, number_of, raw};
 
 /// A live station that suspects another live one.
 #[derive(Clone, Copy, Debug, PartialEq, Eq, Hash)]
@@ -37,8 +37,5 @@ pub fn doubt_lamp(wiring: Wiring, n: usize, table: &[u8]) -> Result<Option<Doubt
     let number = raw::doubt_lamp(number_of(wiring), n, table, &mut by, &mut of);
     accepted(number)?;
     let is_lit = by != usize::from(NO_STATION);
-    Ok(is_lit.then_some(Doubt {
-        by: Station(by),
-        of: Station(of),
-    }))
+    Ok(is_lit.then_some(Doubt { by: Station(by), of: Station(of) }))
 }

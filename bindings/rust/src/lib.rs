@@ -98,23 +98,23 @@ mod replay;
 mod tests;
 
 pub use assignment::{
-    assignment, assignment_entries, assignment_length, due_distances, AssignmentEntry, DueOrAhead,
-    DUE,
+    AssignmentEntry, DUE, DueOrAhead, assignment, assignment_entries, assignment_length,
+    due_distances,
 };
 pub use codes::{Kind, Outcome, Refusal, Status, Wiring};
-pub use entries::{schedule, sheet_lines, Entry, SheetLine};
-pub use figures::{figures, figures_of_two, Figures, Fraction, Totals, MOST_RESULTS};
-pub use granter::{drive, grant, Driven};
-pub use lamp::{doubt_lamp, Doubt};
-pub use lines::{rounds_ago, status, told_by, ToldBy, HEAD, TOLD_BY_NONE, TOLD_NOT_RECORDED};
-pub use mender::{changes, mend, report_length, Change, LineByte};
-pub use saved::{convert, converted_length, load, save, saved_length, saved_size, Loaded};
-pub use slot::{slot, Slot};
+pub use entries::{Entry, SheetLine, schedule, sheet_lines};
+pub use figures::{Figures, Fraction, MOST_RESULTS, Totals, figures, figures_of_two};
+pub use granter::{Driven, drive, grant};
+pub use lamp::{Doubt, doubt_lamp};
+pub use lines::{HEAD, TOLD_BY_NONE, TOLD_NOT_RECORDED, ToldBy, rounds_ago, status, told_by};
+pub use mender::{Change, LineByte, changes, mend, report_length};
+pub use saved::{Loaded, convert, converted_length, load, save, saved_length, saved_size};
+pub use slot::{Slot, slot};
 pub use texts::{
-    outcome_words, read_input, refusal_words, status_words, Input, Unread, Words, SCHEDULE_LENGTH,
-    WORDS_LENGTH,
+    Input, SCHEDULE_LENGTH, Unread, WORDS_LENGTH, Words, outcome_words, read_input, refusal_words,
+    status_words,
 };
-pub use wait::{wait, Wait};
+pub use wait::{Wait, wait};
 
 /// A station number. Any number can stand here; the library refuses n or more.
 #[derive(Clone, Copy, Debug, PartialEq, Eq, Hash, PartialOrd, Ord)]
@@ -233,11 +233,7 @@ pub const fn group_length(n: usize, station: Station, level: Level) -> usize {
     let half = 1 << (level.0 - 1);
     let first = (station.0 ^ half) & !(half - 1);
     let below_n = n.saturating_sub(first);
-    if below_n < half {
-        below_n
-    } else {
-        half
-    }
+    if below_n < half { below_n } else { half }
 }
 
 /// Group list: the members of the station's group at that level, in order, into a
@@ -278,7 +274,7 @@ pub fn group_stations(
     station: Station,
     level: Level,
     list: &mut [u8],
-) -> Result<impl Iterator<Item = Station> + '_, Refusal> {
+) -> Result<impl Iterator<Item = Station>, Refusal> {
     group_list(n, station, level, list)?;
     Ok(list.iter().map(|member| Station(usize::from(*member))))
 }
@@ -297,14 +293,7 @@ pub fn group_stations(
 /// ```
 pub fn row(wiring: Wiring, n: usize, table: &[u8], station: Station) -> Result<&[u8], Refusal> {
     let (mut start, mut length) = (0, 0);
-    let number = raw::row(
-        number_of(wiring),
-        n,
-        table,
-        station.0,
-        &mut start,
-        &mut length,
-    );
+    let number = raw::row(number_of(wiring), n, table, station.0, &mut start, &mut length);
     accepted(number).map(|()| &table[start..][..length])
 }
 
@@ -349,20 +338,8 @@ pub fn run(
 ) -> Answer {
     let Tally { rounds, tests } = tally;
     let mut taken = 0;
-    let number = raw::run(
-        number_of(wiring),
-        n,
-        table,
-        rounds,
-        tests,
-        schedule,
-        sheet,
-        &mut taken,
-    );
-    Answer {
-        refusal: accepted(number).err(),
-        taken,
-    }
+    let number = raw::run(number_of(wiring), n, table, rounds, tests, schedule, sheet, &mut taken);
+    Answer { refusal: accepted(number).err(), taken }
 }
 
 /// The wiring number as the header has it, a `size_t`.

@@ -1,7 +1,7 @@
 //! What the line of a station says of it: whether it is live, who told it to
 //! leave and how long ago.
 
-use crate::{accepted, number_of, raw, Refusal, Station, Status, Wiring};
+use crate::{Refusal, Station, Status, Wiring, accepted, number_of, raw};
 
 /// How many bytes of a line of the table stand before its row.
 pub const HEAD: usize = 6;
@@ -100,14 +100,7 @@ pub fn rounds_ago(wiring: Wiring, n: usize, table: &[u8], station: Station) -> R
 /// The head of the station's line: the bytes before its row.
 fn head(wiring: Wiring, n: usize, table: &[u8], station: Station) -> Result<[u8; HEAD], Refusal> {
     let (mut start, mut length) = (0, 0);
-    let number = raw::row(
-        number_of(wiring),
-        n,
-        table,
-        station.0,
-        &mut start,
-        &mut length,
-    );
+    let number = raw::row(number_of(wiring), n, table, station.0, &mut start, &mut length);
     accepted(number)?;
     let head = table[..start].last_chunk();
     Ok(*head.expect("a head stands before each row"))

@@ -1,6 +1,6 @@
 //! Mending a table after a brownout, and the report of what was mended.
 
-use crate::{accepted, number_of, raw, table_length, Refusal, Station, Wiring, HEAD};
+use crate::{HEAD, Refusal, Station, Wiring, accepted, number_of, raw, table_length};
 
 /// How many bytes a change has in the report.
 const CHANGE: usize = 4;
@@ -122,10 +122,7 @@ pub fn mend(
 /// let change = Change { line, byte: LineByte::ToldBy, old: 9, new: 255 };
 /// assert!(vcube::changes(4, &[0, 14, 9, 255, 0, 0, 0, 0], 1).eq([change]));
 /// ```
-pub fn changes(n: usize, report: &[u8], count: usize) -> impl Iterator<Item = Change> + '_ {
+pub fn changes(n: usize, report: &[u8], count: usize) -> impl Iterator<Item = Change> {
     let (listed, _) = report.as_chunks();
-    listed
-        .iter()
-        .take(count)
-        .map(move |bytes| Change::from_bytes(n, *bytes))
+    listed.iter().take(count).map(move |bytes| Change::from_bytes(n, *bytes))
 }

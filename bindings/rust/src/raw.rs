@@ -29,7 +29,7 @@ macro_rules! call {
     (@ $safe:ident $function:ident $number:ty [$($taken:tt)*] [$($declared:tt)*] [$($given:tt)*]) => {
         #[allow(clippy::too_many_arguments)]
         pub fn $safe($($taken)*) -> $number {
-            extern "C" {
+            unsafe extern "C" {
                 fn $function($($declared)*) -> $number;
             }
             unsafe { $function($($given)*) }

@@ -37,6 +37,7 @@ enum Argument {
 }
 
 use Argument::{Bytes, Counter, Figure, Members, Number, Results, Size};
+use Made::{ByNumbers, ByTypes};
 
 /// A recorded call: its arguments before it and after it, and the number.
 struct Call {
@@ -152,13 +153,7 @@ fn totals(members: &[u64]) -> Totals {
     let [count, sum, squares, least, greatest] = *members else {
         panic!("totals have five members, not {}", members.len());
     };
-    Totals {
-        count,
-        sum,
-        squares,
-        least,
-        greatest,
-    }
+    Totals { count, sum, squares, least, greatest }
 }
 
 /// Puts totals there, zeros where the call was refused; gives the number.
@@ -179,21 +174,11 @@ fn put_figures(place: &mut Vec<u64>, given: Result<Figures, Refusal>) -> u8 {
     number(given)
 }
 
-/// Puts words and zeros there. If the number is that of a case, they are what the case
-/// is displayed as.
-fn put_words(place: &mut [u8], words: &Words, case: Option<impl ToString>) -> u8 {
-    assert_eq!(
-        words.to_string(),
-        case.map_or(String::new(), |case| case.to_string())
-    );
+/// Puts words and zeros there; gives 0.
+fn put_words(place: &mut [u8], words: &str) -> u8 {
     place.fill(0);
-    place[..words.as_str().len()].copy_from_slice(words.as_str().as_bytes());
+    place[..words.len()].copy_from_slice(words.as_bytes());
     0
-}
-
-/// The case of an enum with a number of any width.
-fn case<T>(number: usize, from_number: fn(u8) -> Option<T>) -> Option<T> {
-    u8::try_from(number).ok().and_then(from_number)
 }
 
 /// The schedule by typed entries, if all of it is entries of known kinds; else the
@@ -201,10 +186,7 @@ fn case<T>(number: usize, from_number: fn(u8) -> Option<T>) -> Option<T> {
 fn typed_schedule(bytes: &[u8]) -> Vec<u8> {
     let (pairs, rest) = bytes.as_chunks();
     let entries = pairs.iter().map(|[kind, station]| {
-        Some(Entry {
-            kind: Kind::from_number(*kind)?,
-            station: Station(usize::from(*station)),
-        })
+        Some(Entry { kind: Kind::from_number(*kind)?, station: Station(usize::from(*station)) })
     });
     match entries.collect::<Option<Vec<Entry>>>() {
         Some(entries) if rest.is_empty() => schedule(&entries),
@@ -236,6 +218,27 @@ fn check_sheet(n: usize, before: &[u8], table: &[u8], sheet: &[u8], taken: usize
     }
 }
 
+/// The entries of an assignment are the bytes of its list, and those that are due are
+/// the distances and the count given; or all have one refusal.
+fn check_assignment(
+    list: &[u8],
+    given: Result<usize, Refusal>,
+    entries: Result<Vec<AssignmentEntry>, Refusal>,
+    due: Result<Vec<Distance>, Refusal>,
+) {
+    let refusals = [given.err(), entries.as_ref().err().copied(), due.as_ref().err().copied()];
+    assert_eq!(refusals, [given.err(); 3]);
+    let (Ok(count), Ok(entries), Ok(due)) = (given, entries, due) else { return };
+    let bytes = entries.iter().flat_map(|entry| match entry.answer {
+        DueOrAhead::Due => [entry.distance.0, DUE],
+        DueOrAhead::Ahead(station) => [entry.distance.0, byte(station)],
+    });
+    assert!(bytes.eq(list.iter().copied()));
+    let of_entries = entries.iter().filter(|entry| entry.answer == DueOrAhead::Due);
+    assert!(of_entries.map(|entry| entry.distance).eq(due.iter().copied()));
+    assert_eq!(due.len(), count);
+}
+
 /// What a table says of a station: the bytes of its line, which begins that far before
 /// its row; or the refusal that the row has.
 fn check_head(
@@ -256,23 +259,14 @@ fn check_head(
     });
     let of_rounds_ago = rounds_ago(wiring, n, table, station);
     let expected = |column: usize| row.map(|_| table[station.0 * (n + HEAD) + column]);
-    assert_eq!(
-        [of_status, of_told_by, of_rounds_ago],
-        [0, 4, 5].map(expected)
-    );
+    assert_eq!([of_status, of_told_by, of_rounds_ago], [0, 4, 5].map(expected));
 }
 
 /// The changes of a mending: each says what its byte was and is, and there is none
 /// besides.
 fn check_changes(n: usize, before: &[u8], table: &[u8], report: &[u8], count: usize) {
     let mut mended = before.to_vec();
-    for Change {
-        line,
-        byte,
-        old,
-        new,
-    } in changes(n, report, count)
-    {
+    for Change { line, byte, old, new } in changes(n, report, count) {
         let column = match byte {
             LineByte::Status => 0,
             LineByte::NextDistance => 1,
@@ -289,12 +283,21 @@ fn check_changes(n: usize, before: &[u8], table: &[u8], report: &[u8], count: us
     assert_eq!(mended, table);
 }
 
-/// Makes a call through the types. What it gives is put where the library would put
-/// it. Gives the number; none where the types cannot express the call.
-fn by_types(function: &str, lent: &mut [Argument]) -> Option<u8> {
-    Some(match (function, lent) {
+/// How a call was made, and its number.
+enum Made {
+    ByTypes(u8),
+    ByNumbers(u8),
+}
+
+/// Makes a call, through the types if they can express it: what it gives is then put
+/// where the library would put it. None where the header has no such call.
+fn make(function: &str, lent: &mut [Argument]) -> Option<Made> {
+    let number = match (function, lent) {
         ("vcube_fresh_table", [Size(wired), Size(n), Bytes(table)]) => {
-            number(fresh_table(wiring(*wired)?, *n, table))
+            let Some(wiring) = wiring(*wired) else {
+                return Some(ByNumbers(raw::fresh_table(*wired, *n, table)));
+            };
+            number(fresh_table(wiring, *n, table))
         }
         ("vcube_group_list", [Size(n), Size(station), Size(level), Bytes(list)]) => {
             let (station, level) = (Station(*station), Level(*level));
@@ -311,28 +314,12 @@ fn by_types(function: &str, lent: &mut [Argument]) -> Option<u8> {
         ) => {
             let station = Station(*station);
             let given = assignment(*n, table, station, list);
-            let entries =
-                assignment_entries(*n, table, station, &mut list.clone()).map(|entries| {
-                    let bytes = entries.map(|entry| match entry.answer {
-                        DueOrAhead::Due => [entry.distance.0, DUE],
-                        DueOrAhead::Ahead(station) => [entry.distance.0, byte(station)],
-                    });
-                    bytes.collect::<Vec<_>>()
-                });
-            let due = due_distances(*n, table, station, &mut list.clone())
-                .map(|due| due.map(|distance| [distance.0, DUE]).collect::<Vec<_>>());
-            assert_eq!(
-                entries.clone().map(|entries| entries.concat()),
-                given.map(|_| list.clone())
-            );
-            assert_eq!(due.clone().map(|due| due.len()), given);
-            assert_eq!(
-                due,
-                entries.map(|entries| entries
-                    .into_iter()
-                    .filter(|entry| entry[1] == DUE)
-                    .collect())
-            );
+            let mut lent = list.clone();
+            let entries = assignment_entries(*n, table, station, &mut lent);
+            let entries = entries.map(|entries| entries.collect::<Vec<_>>());
+            let due = due_distances(*n, table, station, &mut lent);
+            let due = due.map(|due| due.collect::<Vec<_>>());
+            check_assignment(list, given, entries, due);
             assert!(given.is_err() || list.len() == assignment_length(*n));
             *count = given.unwrap_or(0);
             number(given)
@@ -346,7 +333,10 @@ fn by_types(function: &str, lent: &mut [Argument]) -> Option<u8> {
             "vcube_row",
             [Size(wired), Size(n), Bytes(table), Size(station), Figure(start), Figure(length)],
         ) => {
-            let (wiring, station) = (wiring(*wired)?, Station(*station));
+            let Some(wiring) = wiring(*wired) else {
+                return Some(ByNumbers(raw::row(*wired, *n, table, *station, start, length)));
+            };
+            let station = Station(*station);
             let given = row(wiring, *n, table, station);
             let offset = |row: &[u8]| row.as_ptr() as usize - table.as_ptr() as usize;
             (*start, *length) = given.map_or((0, 0), |row| (offset(row), row.len()));
@@ -355,27 +345,32 @@ fn by_types(function: &str, lent: &mut [Argument]) -> Option<u8> {
         }
         (
             "vcube_run",
-            [Size(wired), Size(n), Bytes(table), Counter(rounds), Counter(tests), Bytes(schedule), Bytes(sheet), Figure(taken)],
+            [
+                Size(wired),
+                Size(n),
+                Bytes(table),
+                Counter(rounds),
+                Counter(tests),
+                Bytes(schedule),
+                Bytes(sheet),
+                Figure(taken),
+            ],
         ) => {
-            let before = table.clone();
-            let mut tally = Tally {
-                rounds: *rounds,
-                tests: *tests,
+            let Some(wiring) = wiring(*wired) else {
+                let number = raw::run(*wired, *n, table, rounds, tests, schedule, sheet, taken);
+                return Some(ByNumbers(number));
             };
-            let answer = run(
-                wiring(*wired)?,
-                *n,
-                table,
-                &mut tally,
-                &typed_schedule(schedule),
-                sheet,
-            );
+            let before = table.clone();
+            let mut tally = Tally { rounds: *rounds, tests: *tests };
+            let answer = run(wiring, *n, table, &mut tally, &typed_schedule(schedule), sheet);
             (*rounds, *tests, *taken) = (tally.rounds, tally.tests, answer.taken);
             check_sheet(*n, &before, table, sheet, answer.taken);
             answer.refusal.map_or(0, Refusal::number)
         }
         ("vcube_grant", [Size(wired), Size(n), Bytes(table), Size(last), Figure(station)]) => {
-            let wiring = wiring(*wired)?;
+            let Some(wiring) = wiring(*wired) else {
+                return Some(ByNumbers(raw::grant(*wired, *n, table, *last, station)));
+            };
             let given = grant(wiring, *n, table, last_station(*last));
             assert_eq!(given, grant(wiring, *n, table, Some(Station(*last))));
             *station = given.map_or(0, |station| station.0);
@@ -383,54 +378,79 @@ fn by_types(function: &str, lent: &mut [Argument]) -> Option<u8> {
         }
         (
             "vcube_drive",
-            [Size(wired), Size(n), Bytes(table), Counter(rounds), Counter(tests), Figure(last), Figure(grants)],
+            [
+                Size(wired),
+                Size(n),
+                Bytes(table),
+                Counter(rounds),
+                Counter(tests),
+                Figure(last),
+                Figure(grants),
+            ],
         ) => {
-            let mut tally = Tally {
-                rounds: *rounds,
-                tests: *tests,
+            let Some(wiring) = wiring(*wired) else {
+                let number = raw::drive(*wired, *n, table, rounds, tests, last, grants);
+                return Some(ByNumbers(number));
             };
+            let mut tally = Tally { rounds: *rounds, tests: *tests };
             let mut station = last_station(*last);
-            let driven = drive(wiring(*wired)?, *n, table, &mut tally, &mut station);
+            let driven = drive(wiring, *n, table, &mut tally, &mut station);
             (*rounds, *tests) = (tally.rounds, tally.tests);
             (*last, *grants) = (last_number(station), driven.grants);
             driven.refusal.map_or(0, Refusal::number)
         }
         ("vcube_doubt_lamp", [Size(wired), Size(n), Bytes(table), Figure(by), Figure(of)]) => {
-            let given = doubt_lamp(wiring(*wired)?, *n, table);
-            (*by, *of) = given.map_or((0, 0), |doubt| {
-                doubt.map_or((NO_STATION.into(), NO_STATION.into()), |doubt| {
-                    (doubt.by.0, doubt.of.0)
-                })
-            });
+            let Some(wiring) = wiring(*wired) else {
+                return Some(ByNumbers(raw::doubt_lamp(*wired, *n, table, by, of)));
+            };
+            let given = doubt_lamp(wiring, *n, table);
+            (*by, *of) = match given {
+                Ok(Some(doubt)) => (doubt.by.0, doubt.of.0),
+                Ok(None) => (NO_STATION.into(), NO_STATION.into()),
+                Err(_) => (0, 0),
+            };
             number(given)
         }
         (
             "vcube_wait",
-            [Size(wired), Size(n), Bytes(table), Figure(rounds), Figure(per_round), Figure(until_known), Figure(from_crash)],
+            [
+                Size(wired),
+                Size(n),
+                Bytes(table),
+                Figure(rounds),
+                Figure(per_round),
+                Figure(until_known),
+                Figure(from_crash),
+            ],
         ) => {
-            let given = wait(wiring(*wired)?, *n, table);
-            [*rounds, *per_round, *until_known, *from_crash] = given.map_or([0; 4], |wait| {
-                [
-                    wait.rounds,
-                    wait.turns_per_round,
-                    wait.turns_until_known,
-                    wait.turns_from_crash,
-                ]
+            let places = [rounds, per_round, until_known, from_crash];
+            let Some(wiring) = wiring(*wired) else {
+                let [rounds, per_round, until_known, from_crash] = places;
+                let number =
+                    raw::wait(*wired, *n, table, rounds, per_round, until_known, from_crash);
+                return Some(ByNumbers(number));
+            };
+            let given = wait(wiring, *n, table);
+            let figures = given.map_or([0; 4], |wait| {
+                [wait.rounds, wait.turns_per_round, wait.turns_until_known, wait.turns_from_crash]
             });
+            for (place, figure) in places.into_iter().zip(figures) {
+                *place = figure;
+            }
             number(given)
         }
         ("vcube_mend", [Size(wired), Size(n), Bytes(table), Bytes(report), Figure(count)]) => {
+            let Some(wiring) = wiring(*wired) else {
+                return Some(ByNumbers(raw::mend(*wired, *n, table, report, count)));
+            };
             let before = table.clone();
-            let given = mend(wiring(*wired)?, *n, table, report);
+            let given = mend(wiring, *n, table, report);
             check_changes(*n, &before, table, report, given.unwrap_or(0));
             *count = given.unwrap_or(0);
             number(given)
         }
         ("vcube_save", [Size(n), Bytes(table), Number(rounds), Number(tests), Bytes(saved)]) => {
-            let tally = Tally {
-                rounds: *rounds,
-                tests: *tests,
-            };
+            let tally = Tally { rounds: *rounds, tests: *tests };
             let given = save(*n, table, tally, saved);
             assert!(given.is_err() || saved.len() == saved_length(*n));
             number(given)
@@ -473,93 +493,44 @@ fn by_types(function: &str, lent: &mut [Argument]) -> Option<u8> {
         ("vcube_figures_of_totals", [Members(handed_in), Members(place)]) => {
             put_figures(place, totals(handed_in).figures())
         }
-        ("vcube_refusal_words", [Size(number), Bytes(words)]) if words.len() == WORDS_LENGTH => {
-            put_words(
-                words,
-                &refusal_words(*number),
-                case(*number, Refusal::from_number),
-            )
+        ("vcube_refusal_words", [Size(refusal), Bytes(words)]) => {
+            if words.len() != WORDS_LENGTH {
+                return Some(ByNumbers(raw::refusal_words(*refusal, words)));
+            }
+            put_words(words, refusal_words(*refusal).as_str())
         }
-        ("vcube_status_words", [Size(number), Bytes(words)]) if words.len() == WORDS_LENGTH => {
-            put_words(
-                words,
-                &status_words(*number),
-                case(*number, Status::from_number),
-            )
+        ("vcube_status_words", [Size(status), Bytes(words)]) => {
+            if words.len() != WORDS_LENGTH {
+                return Some(ByNumbers(raw::status_words(*status, words)));
+            }
+            put_words(words, status_words(*status).as_str())
         }
-        ("vcube_outcome_words", [Size(number), Bytes(words)]) if words.len() == WORDS_LENGTH => {
-            put_words(
-                words,
-                &outcome_words(*number),
-                case(*number, Outcome::from_number),
-            )
+        ("vcube_outcome_words", [Size(outcome), Bytes(words)]) => {
+            if words.len() != WORDS_LENGTH {
+                return Some(ByNumbers(raw::outcome_words(*outcome, words)));
+            }
+            put_words(words, outcome_words(*outcome).as_str())
         }
         (
             "vcube_read_input",
             [Bytes(input), Bytes(schedule), Bytes(words), Figure(n), Figure(entries), Figure(line)],
-        ) if words.len() == WORDS_LENGTH => {
-            let given = read_input(input, schedule.as_mut_slice().try_into().ok()?);
+        ) => {
+            let (Ok(typed), WORDS_LENGTH) = (schedule.as_mut_slice().try_into(), words.len())
+            else {
+                let number = raw::read_input(input, schedule, words, n, entries, line);
+                return Some(ByNumbers(number));
+            };
+            let given = read_input(input, typed);
             let (read, unread, said) = match &given {
-                Ok(read) => (*read, 0, String::new()),
-                Err(unread) => (unread.before, unread.line, unread.words.to_string()),
+                Ok(read) => (*read, 0, ""),
+                Err(unread) => (unread.before, unread.line, unread.words.as_str()),
             };
             (*n, *entries, *line) = (read.n, read.entries, unread);
-            words.fill(0);
-            words[..said.len()].copy_from_slice(said.as_bytes());
-            0
+            put_words(words, said)
         }
         _ => return None,
-    })
-}
-
-/// Makes a call that the types cannot express.
-fn by_numbers(function: &str, lent: &mut [Argument]) -> Option<u8> {
-    Some(match (function, lent) {
-        ("vcube_fresh_table", [Size(wiring), Size(n), Bytes(table)]) => {
-            raw::fresh_table(*wiring, *n, table)
-        }
-        (
-            "vcube_row",
-            [Size(wiring), Size(n), Bytes(table), Size(station), Figure(start), Figure(length)],
-        ) => raw::row(*wiring, *n, table, *station, start, length),
-        (
-            "vcube_run",
-            [Size(wiring), Size(n), Bytes(table), Counter(rounds), Counter(tests), Bytes(schedule), Bytes(sheet), Figure(taken)],
-        ) => raw::run(*wiring, *n, table, rounds, tests, schedule, sheet, taken),
-        ("vcube_grant", [Size(wiring), Size(n), Bytes(table), Size(last), Figure(station)]) => {
-            raw::grant(*wiring, *n, table, *last, station)
-        }
-        (
-            "vcube_drive",
-            [Size(wiring), Size(n), Bytes(table), Counter(rounds), Counter(tests), Figure(last), Figure(grants)],
-        ) => raw::drive(*wiring, *n, table, rounds, tests, last, grants),
-        ("vcube_doubt_lamp", [Size(wiring), Size(n), Bytes(table), Figure(by), Figure(of)]) => {
-            raw::doubt_lamp(*wiring, *n, table, by, of)
-        }
-        (
-            "vcube_wait",
-            [Size(wiring), Size(n), Bytes(table), Figure(rounds), Figure(per_round), Figure(until_known), Figure(from_crash)],
-        ) => raw::wait(
-            *wiring,
-            *n,
-            table,
-            rounds,
-            per_round,
-            until_known,
-            from_crash,
-        ),
-        ("vcube_mend", [Size(wiring), Size(n), Bytes(table), Bytes(report), Figure(changes)]) => {
-            raw::mend(*wiring, *n, table, report, changes)
-        }
-        ("vcube_refusal_words", [Size(number), Bytes(words)]) => raw::refusal_words(*number, words),
-        ("vcube_status_words", [Size(number), Bytes(words)]) => raw::status_words(*number, words),
-        ("vcube_outcome_words", [Size(number), Bytes(words)]) => raw::outcome_words(*number, words),
-        (
-            "vcube_read_input",
-            [Bytes(input), Bytes(schedule), Bytes(words), Figure(n), Figure(entries), Figure(line)],
-        ) => raw::read_input(input, schedule, words, n, entries, line),
-        _ => return None,
-    })
+    };
+    Some(ByTypes(number))
 }
 
 /// Says which call it was that panicked.
@@ -575,20 +546,22 @@ impl Drop for Making<'_> {
 
 /// Makes all calls of a record; says how many, or what is otherwise than recorded.
 fn replay(mut record: impl BufRead) -> Result<String, String> {
-    let (mut calls, mut by_raw, mut functions) = (0, 0, BTreeSet::new());
+    let (mut calls, mut by_numbers, mut functions) = (0, 0, BTreeSet::new());
     let unreadable = |error| format!("the record cannot be read: {error}");
     while let Some(call) = next_call(&mut record).map_err(unreadable)? {
         calls += 1;
         let wrong = |what: String| Err(format!("call {calls}, {}: {what}", call.function));
         let making = Making(calls, &call.function);
         let mut lent = call.before.clone();
-        let given = by_types(&call.function, &mut lent).or_else(|| {
-            by_raw += 1;
-            by_numbers(&call.function, &mut lent)
-        });
+        let made = make(&call.function, &mut lent);
         drop(making);
-        let Some(number) = given else {
-            return wrong("the header has no such call".into());
+        let number = match made {
+            Some(ByTypes(number)) => number,
+            Some(ByNumbers(number)) => {
+                by_numbers += 1;
+                number
+            }
+            None => return wrong("the header has no such call".into()),
         };
         if number != call.number {
             return wrong(format!("{number}, and not {}", call.number));
@@ -602,9 +575,7 @@ fn replay(mut record: impl BufRead) -> Result<String, String> {
         return Err("the record has no call".into());
     }
     let functions = functions.len();
-    Ok(format!(
-        "{calls} calls of {functions} functions agree, {by_raw} of them not by types"
-    ))
+    Ok(format!("{calls} calls of {functions} functions agree, {by_numbers} of them not by types"))
 }
 
 #[test]

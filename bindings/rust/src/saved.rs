@@ -1,6 +1,6 @@
 //! Saving a plant to the panel, and converting files of edition 1.
 
-use crate::{accepted, raw, Refusal, Tally};
+use crate::{Refusal, Tally, accepted, raw};
 
 /// What a load answers beside the table.
 #[derive(Clone, Copy, Debug, PartialEq, Eq, Hash)]

@@ -1,6 +1,6 @@
 //! The slot of a station.
 
-use crate::{accepted, raw, Refusal, Station};
+use crate::{Refusal, Station, accepted, raw};
 
 /// How many tests a station makes a round, and how many its slot is timed for.
 #[derive(Clone, Copy, Debug, PartialEq, Eq, Hash)]

@@ -14,54 +14,28 @@ fn cases<T: std::fmt::Debug>(from_number: fn(u8) -> Option<T>, number: fn(T) -> 
     for (k, _) in &cases {
         assert_eq!(from_number(*k).map(number), Some(*k));
     }
-    cases
-        .into_iter()
-        .map(|(k, name)| format!("{name} {k}"))
-        .collect()
+    cases.into_iter().map(|(k, name)| format!("{name} {k}")).collect()
 }
 
 /// The same by the header: `VCUBE_KIND_LATE_TURN = 2` is `LateTurn 2`.
 fn cases_of_header(prefix: &str) -> Vec<String> {
-    let lines = HEADER
-        .lines()
-        .filter_map(|line| line.trim().strip_prefix(prefix));
+    let lines = HEADER.lines().filter_map(|line| line.trim().strip_prefix(prefix));
     let cases = lines.filter_map(|line| line.split_once(" = "));
     let capital = |word: &str| word[..1].to_string() + &word[1..].to_lowercase();
     let name = |name: &str| name.split('_').map(capital).collect::<String>();
-    let digits = |rest: &str| {
-        rest.chars()
-            .take_while(char::is_ascii_digit)
-            .collect::<String>()
-    };
-    cases
-        .map(|(words, rest)| name(words) + " " + &digits(rest))
-        .collect()
+    let digits = |rest: &str| rest.chars().take_while(char::is_ascii_digit).collect::<String>();
+    cases.map(|(words, rest)| name(words) + " " + &digits(rest)).collect()
 }
 
 #[test]
 fn numbers_and_names_are_those_of_the_header() {
     let refusals = cases(Refusal::from_number, Refusal::number);
-    assert_eq!(
-        (refusals.len(), refusals[23].as_str()),
-        (24, "NoSuchWiring 24")
-    );
+    assert_eq!((refusals.len(), refusals[23].as_str()), (24, "NoSuchWiring 24"));
     assert_eq!(refusals, cases_of_header("VCUBE_REFUSED_"));
-    assert_eq!(
-        cases(Kind::from_number, Kind::number),
-        cases_of_header("VCUBE_KIND_")
-    );
-    assert_eq!(
-        cases(Status::from_number, Status::number),
-        cases_of_header("VCUBE_STATUS_")
-    );
-    assert_eq!(
-        cases(Outcome::from_number, Outcome::number),
-        cases_of_header("VCUBE_OUTCOME_")
-    );
-    assert_eq!(
-        cases(Wiring::from_number, Wiring::number),
-        ["Cube 1", "Ring 2"]
-    );
+    assert_eq!(cases(Kind::from_number, Kind::number), cases_of_header("VCUBE_KIND_"));
+    assert_eq!(cases(Status::from_number, Status::number), cases_of_header("VCUBE_STATUS_"));
+    assert_eq!(cases(Outcome::from_number, Outcome::number), cases_of_header("VCUBE_OUTCOME_"));
+    assert_eq!(cases(Wiring::from_number, Wiring::number), ["Cube 1", "Ring 2"]);
 }
 
 #[test]
@@ -71,18 +45,9 @@ fn codes_are_displayed_in_the_words_of_the_library() {
     }
     for k in 0..=255 {
         let number = usize::from(k);
-        assert_eq!(
-            displayed(Refusal::from_number(k)),
-            refusal_words(number).as_str()
-        );
-        assert_eq!(
-            displayed(Status::from_number(k)),
-            status_words(number).as_str()
-        );
-        assert_eq!(
-            displayed(Outcome::from_number(k)),
-            outcome_words(number).as_str()
-        );
+        assert_eq!(displayed(Refusal::from_number(k)), refusal_words(number).as_str());
+        assert_eq!(displayed(Status::from_number(k)), status_words(number).as_str());
+        assert_eq!(displayed(Outcome::from_number(k)), outcome_words(number).as_str());
     }
     assert_eq!(Kind::LateTurn.to_string(), "turn whose reply comes late");
     assert_eq!(Wiring::Ring.to_string(), "ring");
@@ -107,16 +72,9 @@ fn constants_are_those_of_the_header() {
         ("WIRING_RING", Wiring::Ring.number().into()),
     ];
     for (name, number) in constants {
-        assert!(
-            HEADER.contains(&format!("#define VCUBE_{name} {number}\n")),
-            "{name}"
-        );
+        assert!(HEADER.contains(&format!("#define VCUBE_{name} {number}\n")), "{name}");
     }
-    let sizes = [
-        size_of::<Fraction>(),
-        size_of::<Figures>(),
-        size_of::<Totals>(),
-    ];
+    let sizes = [size_of::<Fraction>(), size_of::<Figures>(), size_of::<Totals>()];
     assert_eq!(sizes, [16, 56, 40]);
 }
 
@@ -124,15 +82,7 @@ fn constants_are_those_of_the_header() {
 fn header_crate_and_library_are_of_one_version() {
     let version = env!("CARGO_PKG_VERSION");
     assert!(HEADER.contains(&format!("#define VCUBE_VERSION \"{version}\"\n")));
-    assert_eq!(
-        version,
-        format!(
-            "{}.{}.{}",
-            VERSION / 10_000,
-            VERSION / 100 % 100,
-            VERSION % 100
-        )
-    );
+    assert_eq!(version, format!("{}.{}.{}", VERSION / 10_000, VERSION / 100 % 100, VERSION % 100));
     assert_eq!(super::version(), VERSION);
 }
 
@@ -140,17 +90,9 @@ fn header_crate_and_library_are_of_one_version() {
 fn lengths_take_any_numbers() {
     let numbers = [0, 1, 2, 6, 7, 63, 64, 65, usize::MAX - 1, usize::MAX];
     for n in numbers {
-        let lengths = [
-            table_length(n),
-            assignment_length(n),
-            saved_length(n),
-            report_length(n),
-        ];
+        let lengths = [table_length(n), assignment_length(n), saved_length(n), report_length(n)];
         if (2..=64).contains(&n) {
-            assert_eq!(
-                lengths,
-                [n * (n + 6), 2 * (n - 1), 19 + n * (n + 10), 4 * n * (n + 6)]
-            );
+            assert_eq!(lengths, [n * (n + 6), 2 * (n - 1), 19 + n * (n + 10), 4 * n * (n + 6)]);
         }
         for station in numbers.map(Station) {
             for level in numbers.map(Level) {
@@ -168,10 +110,7 @@ fn the_group_length_counts_the_numbers_below_n() {
         {
             let half = 1 << (level - 1);
             let members = (half..2 * half).filter(|distance| station ^ distance < n);
-            assert_eq!(
-                group_length(n, Station(station), Level(level)),
-                members.count()
-            );
+            assert_eq!(group_length(n, Station(station), Level(level)), members.count());
         }
     }
 }
@@ -200,9 +139,7 @@ fn lines_of_a_sheet_end_at_what_is_no_line() {
 fn a_line_of_the_sheet_says_who_ceased_to_be_live() {
     let ceased = |bytes| {
         let line = SheetLine::from_bytes(bytes).expect("a line");
-        line.ceased()
-            .map(|(station, status)| (station.0, status))
-            .collect::<Vec<_>>()
+        line.ceased().map(|(station, status)| (station.0, status)).collect::<Vec<_>>()
     };
     assert_eq!(ceased([0, 255, 0, 0]), []);
     assert_eq!(ceased([0, 1, 3, 0]), []);
@@ -219,27 +156,17 @@ fn station_255_is_the_last_number_of_none() {
     for last in [None, Some(Station(255))] {
         assert_eq!(grant(Wiring::Cube, 2, &table, last), Ok(Station(0)));
         // Refused before the first grant, a drive leaves it as it was.
-        let (mut full, mut given) = (
-            Tally {
-                rounds: u32::MAX,
-                tests: 0,
-            },
-            last,
-        );
+        let (mut full, mut given) = (Tally { rounds: u32::MAX, tests: 0 }, last);
         let driven = drive(Wiring::Cube, 2, &mut table, &mut full, &mut given);
-        assert_eq!(
-            (driven.refusal, driven.grants, given),
-            (Some(Refusal::TallyFull), 0, last)
-        );
+        assert_eq!((driven.refusal, driven.grants, given), (Some(Refusal::TallyFull), 0, last));
     }
 }
 
 #[test]
 fn a_change_names_the_byte_of_its_line() {
     let report: Vec<u8> = (0..20).flat_map(|offset| [0, offset, 9, 1]).collect();
-    let bytes: Vec<_> = changes(4, &report, 20)
-        .map(|change| (change.line.0, change.byte))
-        .collect();
+    let bytes: Vec<_> =
+        changes(4, &report, 20).map(|change| (change.line.0, change.byte)).collect();
     let head = [
         LineByte::Status,
         LineByte::NextDistance,
@@ -248,17 +175,12 @@ fn a_change_names_the_byte_of_its_line() {
         LineByte::ToldBy,
         LineByte::RoundsAgo,
     ];
-    let line = head
-        .into_iter()
-        .chain((0..4).map(Station).map(LineByte::About));
+    let line = head.into_iter().chain((0..4).map(Station).map(LineByte::About));
     let lines = (0..2).flat_map(|station| line.clone().map(move |byte| (station, byte)));
     assert!(lines.eq(bytes));
     // An offset has two bytes, the high one first.
     let change = changes(64, &[1, 30, 0, 0], 1).next().expect("a change");
-    assert_eq!(
-        (change.line, change.byte),
-        (Station(4), LineByte::About(Station(0)))
-    );
+    assert_eq!((change.line, change.byte), (Station(4), LineByte::About(Station(0))));
     assert_eq!(changes(4, &report[..7], 2).count(), 1);
 }
 
@@ -279,9 +201,6 @@ fn a_line_says_who_told_the_station() {
 #[test]
 fn a_fraction_is_printed_and_has_a_value() {
     let fraction = |upper, lower| Fraction { upper, lower };
-    assert_eq!(
-        (fraction(0, 1).to_string(), fraction(3, 2).value()),
-        ("0/1".into(), 1.5)
-    );
+    assert_eq!((fraction(0, 1).to_string(), fraction(3, 2).value()), ("0/1".into(), 1.5));
     assert_eq!(fraction(1269, 1024).value(), 1.239_257_812_5);
 }

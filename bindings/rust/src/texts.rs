@@ -128,13 +128,5 @@ pub fn read_input(input: &[u8], schedule: &mut [u8; SCHEDULE_LENGTH]) -> Result<
         raw::read_input(input, schedule, words, &mut n, &mut entries, &mut line)
     });
     let before = Input { n, entries };
-    if line == 0 {
-        Ok(before)
-    } else {
-        Err(Unread {
-            line,
-            words: Box::new(words),
-            before,
-        })
-    }
+    if line == 0 { Ok(before) } else { Err(Unread { line, words: Box::new(words), before }) }
 }

@@ -1,6 +1,6 @@
 //! After how many rounds and turns at most the dead are known.
 
-use crate::{accepted, number_of, raw, Refusal, Wiring};
+use crate::{Refusal, Wiring, accepted, number_of, raw};
 
 /// The bounds on a plant. A turn is an entry of kind turn or late turn, in a
 /// drive a grant.
@@ -38,12 +38,8 @@ pub struct Wait {
 /// # Ok::<(), vcube::Refusal>(())
 /// ```
 pub fn wait(wiring: Wiring, n: usize, table: &[u8]) -> Result<Wait, Refusal> {
-    let mut wait = Wait {
-        rounds: 0,
-        turns_per_round: 0,
-        turns_until_known: 0,
-        turns_from_crash: 0,
-    };
+    let mut wait =
+        Wait { rounds: 0, turns_per_round: 0, turns_until_known: 0, turns_from_crash: 0 };
     let number = raw::wait(
         number_of(wiring),
         n,
