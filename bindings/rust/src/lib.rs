@@ -45,9 +45,8 @@
 //! | 5 | rounds closed since it ceased to be live | [`rounds_ago`] |
 //! | 6 + k | 1 if the station suspects station k, else 0 | [`row`] |
 //!
-//! The line rules, which a table must keep, are in docs/RULES.md, and in
-//! include/vcube.h, which also says what to do with a table of before version 0.9:
-//! it is refused with 2.
+//! What a valid line is, is in docs/RULES.md, "The line rules". Tables and files of
+//! versions before 0.11: docs/PANEL.md, "Old files".
 //!
 //! # Example
 //!
@@ -85,15 +84,15 @@ mod granter;
 mod lamp;
 mod lines;
 mod mender;
+// Not for users: src/bin/replay-typed.rs makes calls by it that the types cannot express.
 #[allow(unsafe_code)]
-mod raw;
+#[doc(hidden)]
+pub mod raw;
 mod saved;
 mod slot;
 mod texts;
 mod wait;
 
-#[cfg(test)]
-mod replay;
 #[cfg(test)]
 mod tests;
 

@@ -1,5 +1,5 @@
 //! What the types add to the calls. The calls themselves are compared by
-//! [`replay`](crate::replay).
+//! src/bin/replay-typed.rs.
 
 use std::error::Error;
 

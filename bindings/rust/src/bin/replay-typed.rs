@@ -1,25 +1,33 @@
 //! Makes the calls of a record through the typed layer, and compares what they give
-//! with what the simulator gave when tests/compare recorded them:
+//! with what the simulator gave: number, buffers and figures.
 //!
-//! ```sh
-//! VCUBE_RECORD=FILE cargo test --package vcube -- --ignored --nocapture replay
-//! ```
+//! Usage: replay-typed FILE
 //!
-//! FILE may be `-`, for standard input. How a record is written is said in
-//! tests/harness/compare/src/recorded.rs.
+//! FILE may be `-`, which is standard input. tests/harness/compare/src/record.rs says
+//! how a record is written; `compare --with` starts this program.
 //!
 //! Calls that the types cannot express go through [`raw`]: those with a wiring number
 //! that is no wiring, and with a buffer of words, or a schedule of an input, of another
 //! length.
+//!
+//! Exit status: 0 all calls give what they must; 2 the record cannot be read; any other
+//! if a call gives something else.
 
 use std::collections::BTreeSet;
 use std::env;
 use std::fs::File;
 use std::io::{self, BufRead, BufReader};
-use std::thread;
+use std::panic;
+use std::process::ExitCode;
+use std::sync::atomic::{AtomicU64, Ordering};
 
-use crate::entries::NO_STATION;
-use crate::*;
+use vcube::*;
+
+use Argument::{Bytes, Counter, Figure, Members, Number, Results, Size};
+use Made::{ByNumbers, ByTypes};
+
+/// The number where there is no station.
+const NO_STATION: u8 = 255;
 
 /// An argument: a number, or what a pointer points to.
 #[derive(Clone, Debug, PartialEq)]
@@ -35,9 +43,6 @@ enum Argument {
     /// The members of a struct.
     Members(Vec<u64>),
 }
-
-use Argument::{Bytes, Counter, Figure, Members, Number, Results, Size};
-use Made::{ByNumbers, ByTypes};
 
 /// A recorded call: its arguments before it and after it, and the number.
 struct Call {
@@ -533,93 +538,76 @@ fn make(function: &str, lent: &mut [Argument]) -> Option<Made> {
     Some(ByTypes(number))
 }
 
-/// Says which call it was that panicked.
-struct Making<'a>(u64, &'a str);
+/// The number of the call that is made, from 1.
+static CALL: AtomicU64 = AtomicU64::new(0);
 
-impl Drop for Making<'_> {
-    fn drop(&mut self) {
-        if thread::panicking() {
-            eprintln!("at call {}, {}", self.0, self.1);
-        }
-    }
+/// Why a replay ends.
+#[derive(Debug, PartialEq)]
+enum Fault {
+    Unreadable(String),
+    Differs(String),
 }
 
-/// Makes all calls of a record; says how many, or what is otherwise than recorded.
-fn replay(mut record: impl BufRead) -> Result<String, String> {
+use Fault::{Differs, Unreadable};
+
+/// Makes all calls of a record; says how many.
+fn replay(mut record: impl BufRead) -> Result<String, Fault> {
     let (mut calls, mut by_numbers, mut functions) = (0, 0, BTreeSet::new());
-    let unreadable = |error| format!("the record cannot be read: {error}");
+    let unreadable = |error: io::Error| Unreadable(error.to_string());
     while let Some(call) = next_call(&mut record).map_err(unreadable)? {
         calls += 1;
-        let wrong = |what: String| Err(format!("call {calls}, {}: {what}", call.function));
-        let making = Making(calls, &call.function);
-        let mut lent = call.before.clone();
-        let made = make(&call.function, &mut lent);
-        drop(making);
+        let function = &call.function;
+        let mut lent = call.before;
+        CALL.store(calls, Ordering::Relaxed);
+        let made = make(function, &mut lent);
+        let differs = |what| Err(Differs(format!("call {calls}, {function}: {what}")));
         let number = match made {
             Some(ByTypes(number)) => number,
             Some(ByNumbers(number)) => {
                 by_numbers += 1;
                 number
             }
-            None => return wrong("the header has no such call".into()),
+            None => return Err(Unreadable(format!("the header has no such call of {function}"))),
         };
         if number != call.number {
-            return wrong(format!("{number}, and not {}", call.number));
+            return differs(format!("number {number}, and not {}", call.number));
         }
         if let Some(place) = (0..lent.len()).find(|place| lent[*place] != call.after[*place]) {
-            return wrong(format!("argument {} is otherwise after it", place + 1));
+            return differs(format!("argument {} is otherwise than recorded", place + 1));
         }
         functions.insert(call.function);
     }
     if calls == 0 {
-        return Err("the record has no call".into());
+        return Err(Unreadable("it has no call".into()));
     }
     let functions = functions.len();
     Ok(format!("{calls} calls of {functions} functions agree, {by_numbers} of them not by types"))
 }
 
-#[test]
-#[ignore = "set VCUBE_RECORD to a record that tests/compare made, or to - for standard input"]
-fn the_typed_layer_gives_what_is_recorded() {
-    let name = env::var("VCUBE_RECORD").expect("VCUBE_RECORD names a record");
-    let said = match name.as_str() {
-        "-" => replay(io::stdin().lock()),
-        path => replay(BufReader::new(File::open(path).expect("the record"))),
+fn main() -> ExitCode {
+    panic::set_hook(Box::new(|panicked| {
+        eprintln!("replay-typed: call {}: {panicked}", CALL.load(Ordering::Relaxed));
+    }));
+    let said = match env::args().nth(1).as_deref() {
+        None => Err(Unreadable("none is named (usage: replay-typed FILE)".into())),
+        Some("-") => replay(io::stdin().lock()),
+        Some(path) => match File::open(path) {
+            Ok(file) => replay(BufReader::new(file)),
+            Err(error) => Err(Unreadable(format!("{path}: {error}"))),
+        },
     };
-    println!("replay: {}", said.unwrap_or_else(|fault| panic!("{fault}")));
-}
-
-/// A fresh table of 3 stations on the cube, with 27 bytes after it that are given.
-fn recorded(table: &[u8]) -> Vec<u8> {
-    let mut record =
-        b"vcube_fresh_table\0n\x01\0\0\0\0\0\0\0n\x03\0\0\0\0\0\0\0b\x1b\0\0\0".to_vec();
-    record.extend([7; 27]);
-    record.push(b'~');
-    record.extend(table);
-    record.extend(b".\0");
-    record
-}
-
-#[test]
-fn a_call_that_is_recorded_otherwise_is_found() {
-    let fresh = [0, 1, 0, 0, 255, 0, 0, 0, 0].repeat(3);
-    let record = recorded(&fresh);
-    let said = "1 calls of 1 functions agree, 0 of them not by types";
-    assert_eq!(replay(&record[..]), Ok(said.into()));
-
-    let mut other_number = record.clone();
-    *other_number.last_mut().expect("a number") = 2;
-    let fault = "call 1, vcube_fresh_table: 0, and not 2";
-    assert_eq!(replay(&other_number[..]), Err(fault.into()));
-    for at in 0..27 {
-        let mut other = fresh.clone();
-        other[at] ^= 1;
-        let fault = "call 1, vcube_fresh_table: argument 3 is otherwise after it";
-        assert_eq!(replay(&recorded(&other)[..]), Err(fault.into()));
+    match said {
+        Ok(said) => {
+            println!("replay-typed: {said}");
+            ExitCode::SUCCESS
+        }
+        Err(Differs(what)) => {
+            eprintln!("replay-typed: {what}");
+            ExitCode::FAILURE
+        }
+        Err(Unreadable(why)) => {
+            eprintln!("replay-typed: the record cannot be read: {why}");
+            ExitCode::from(2)
+        }
     }
-    assert!(
-        replay(&record[..record.len() - 1]).is_err_and(|fault| fault.contains("cannot be read"))
-    );
-    assert!(replay(&b"vcube_slot\0.\0"[..]).is_err_and(|fault| fault.contains("no such call")));
-    assert!(replay(&b""[..]).is_err());
 }
