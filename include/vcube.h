@@ -135,8 +135,8 @@ uint32_t vcube_version(void);
 /* The length of a schedule into which an input is read: 4096 entries. */
 #define VCUBE_SCHEDULE_LENGTH 8192
 
-/* What a call returns. The comments of the three enums and of the kinds begin with the library's own words, in which a station is a board; more
- * may follow in parentheses. */
+/* What a call returns. Here and in the three enums below a comment begins with the library's own words, in which a station is a board; more may
+ * follow in parentheses. */
 enum vcube_refusal {
     VCUBE_ACCEPTED = 0,
     VCUBE_REFUSED_SIZE_OUT_OF_RANGE = 1,    /* a plant has 2 to 64 boards (n is another number) */
