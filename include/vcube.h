@@ -84,8 +84,7 @@
 extern "C" {
 #endif
 
-/* The VCUBE_VERSION_NUMBER of the library that is linked. Compare it when the program starts: a library of another version links as well, and
- * what it expects in a call may be something else. */
+/* The VCUBE_VERSION_NUMBER of the library that is linked. Compare the two when the program starts: a library of another version may link as well. */
 uint32_t vcube_version(void);
 
 /* The wiring of a plant. */

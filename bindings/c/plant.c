@@ -181,7 +181,7 @@ static int print_mending(void)
     return 0;
 }
 
-/* An archive of another version links as well, and what it expects in a call may be something else. */
+/* A library of another version than the header's may link as well. */
 static int is_other_version(void)
 {
     if (vcube_version() == VCUBE_VERSION_NUMBER)

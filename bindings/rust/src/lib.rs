@@ -166,8 +166,7 @@ const fn number(digits: &str) -> u32 {
 }
 
 /// The version of the library that is linked, as [`VERSION`] has it. Compare the two
-/// when the program starts: a library of another version links as well, and what it
-/// expects in a call may be something else.
+/// when the program starts: a library of another version may link as well.
 ///
 /// ```
 /// assert_eq!(vcube::version(), vcube::VERSION);
