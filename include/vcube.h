@@ -30,7 +30,7 @@
  *
  * Errors. A call returns 0 or an error code (enum vcube_refusal), the first in its list that applies. With an error it is refused: it changes no
  * byte of a buffer (table, list, sheet, report, saved plant, words, an input's schedule), and the numbers and structs that it gives are 0. But a
- * run that stops at an entry (7 to 11) and a drive that stops before a grant (7) keep the work done before, and give its numbers; and else a
+ * run that stops at an entry (7 to 11) and a drive that stops before a grant (7) keep the work done before, and give its numbers. Any other
  * refused run or drive leaves tally and last granted number as they were.
  *
  * Wiring. A plant is wired as the cube or as the ring; the first argument of calls that depend on it says which. Give the same in all calls of a
@@ -42,8 +42,8 @@
  * their numbers, and which distances are due for a station, and who is ahead at the others, depend on whom it suspects: RULES, "Cube: who stands
  * where" and "Cube: who tests whom". On the ring the station at distance m from i is (i + m) % n, and every distance is due.
  *
- * In a turn a station tests the station at its least due distance from its next distance on; if there is none, it finishes its pass. If the
- * tested station is not live, or its reply is late, the tester suspects it from then on. Else the tester leaves if the tested station suspects
+ * In a turn a station tests the station at its least due distance that is not below its next distance; if there is none, it finishes its pass.
+ * If the tested station is not live, or its reply is late, the tester suspects it from then on. Else the tester leaves if the tested station suspects
  * it; the tested station leaves if only the tester suspects the other; and if neither does, both rows become the union of the two. A tester that
  * then suspects all others leaves. The next distance becomes one more than that of the test, or n after an exchange on the ring. A round closes
  * when some station is live and every live one has finished its pass: bytes 1 to 3 of every line are then 1, 0, 0 again. No entry makes a station
@@ -59,7 +59,7 @@
  *   byte 5      rounds closed since it stopped being live, the one closed by that very entry included; 255 means 255 or more
  *   byte 6 + k  its row: 1 if it suspects station k, else 0
  *
- * What a valid line is, live or not, is in RULES, "The line rules". Tables and files of versions before 0.11: PANEL, "Old files".
+ * What a valid line is, live or not, is in RULES, "The line rules". Tables and files of versions before 0.11: docs/PANEL.md, "Old files".
  *
  * A saved plant is made of fields: a tag (enum vcube_tag), the length of the contents in two bytes, high byte first, and the contents. They are,
  * in this order, the opening (VCUBE_EDITION), the size (n), the tally (rounds and tests, four bytes each, high byte first), and for each station,
