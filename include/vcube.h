@@ -42,12 +42,12 @@
  * their numbers, and which distances are due for a station, and who is ahead at the others, depend on whom it suspects: RULES, "Cube: who stands
  * where" and "Cube: who tests whom". On the ring the station at distance m from i is (i + m) % n, and every distance is due.
  *
- * In a turn a station tests the station at its least due distance that is not below its next distance; if there is none, it finishes its pass.
- * If the tested station is not live, or its reply is late, the tester suspects it from then on. Else the tester leaves if the tested station suspects
- * it; the tested station leaves if only the tester suspects the other; and if neither does, both rows become the union of the two. A tester that
- * then suspects all others leaves. The next distance becomes one more than that of the test, or n after an exchange on the ring. A round closes
- * when some station is live and every live one has finished its pass: bytes 1 to 3 of every line are then 1, 0, 0 again. No entry makes a station
- * live again (RULES, "A turn" and "A round").
+ * In a turn a station tests the station at its least due distance that is not below its next distance; if there is none, it finishes its pass. If
+ * the tested station is not live, or its reply is late, the tester suspects it from then on. Else the tester leaves if the tested station
+ * suspects it; the tested station leaves if only the tester suspects the other; and if neither does, both rows become the union of the two. A
+ * tester that then suspects all others leaves. The next distance becomes one more than that of the test, or n after an exchange on the ring. A
+ * round closes when some station is live and every live one has finished its pass: bytes 1 to 3 of every line are then 1, 0, 0 again. No entry
+ * makes a station live again (RULES, "A turn" and "A round").
  *
  * The table has n lines of n + 6 bytes, in station order:
  *
