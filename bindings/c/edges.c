@@ -1,5 +1,5 @@
-/* What vcube.h says of its structs and macros, of NULL with length 0, of overlap, of alignment, of numbers of any width, and of its version. What the
- * calls do is compared elsewhere, by tests/replay. This file is C and C++. */
+/* What vcube.h says of its structs and macros, of NULL with length 0, of overlap, of alignment, of numbers of any width, and of its version. What
+ * the calls do is compared elsewhere, by tests/replay. This file is C and C++. */
 
 #include "vcube.h"
 
