@@ -12,8 +12,8 @@
  *     if (!error && table[0 * (8 + VCUBE_HEAD) + VCUBE_HEAD + 5] == 1)
  *         printf("after %u tests station 0 suspects station 5\n", (unsigned)tests);
  *
- * What each call does is proved; the compiler's back end and this header are tested. The rules have names, "Rule Exchange" for instance, and are
- * in docs/RULES.md of the repository.
+ * What each call does is proved; the compiler's back end and this header are tested. The rules have names, as "Rule Exchange", and are in
+ * docs/RULES.md.
  *
  * Link libvcube.a, which tests/archive makes and bindings/c/install installs. It is for x86-64 Linux, processor level x86-64-v2 or above, and
  * needs memcpy, memmove and memset only. A load or a conversion needs less than 4800 bytes of stack, every other call less than 400. For other
@@ -28,15 +28,15 @@
  * Where the length is 0 the pointer may be NULL (tested, not proved). A pointer to a size_t, a uint32_t or a struct must point to a variable of
  * that type. What a call writes must not overlap with anything else of that call; what it only reads (pointers to const) may overlap.
  *
- * Errors. A call returns 0 or an error code (enum vcube_refusal), the first in its list that applies. With an error it is refused: it changes no
- * byte of a buffer (table, list, sheet, report, saved plant, words, an input's schedule), and the numbers and structs that it gives are 0. But a
- * run that stops at an entry (7 to 11) and a drive that stops before a grant (7) keep the work done before, and give its numbers. Any other
- * refused run or drive leaves tally and last granted number as they were.
+ * Errors. Each call but vcube_version returns 0 or an error code (enum vcube_refusal), the first in its list that applies. With an error it is
+ * refused: it changes no byte of a buffer (table, list, sheet, report, saved plant, words, an input's schedule), and the numbers and structs that
+ * it gives are 0. But a run that stops at an entry (7 to 11) and a drive that stops before a grant (7) keep the work done before, and give its
+ * numbers. Any other refused run or drive leaves tally and last granted number as they were.
  *
  * Wiring. A plant is wired as the cube or as the ring; the first argument of calls that depend on it says which. Give the same in all calls of a
- * plant: the library does not keep it, and a table does not hold it. Group list, assignment, slot and saved plants are for the cube. A finished
- * line has next distance 2^d on the cube and n on the ring; so, unless n is a power of two, a table with a finished line of the one wiring gets 3
- * on the other. That is all that the wiring changes for row, grant and doubt lamp.
+ * plant: neither library nor table keeps it. Group list, assignment, slot and saved plants are for the cube. A finished line has next distance
+ * 2^d on the cube and n on the ring; so, unless n is a power of two, a table with a finished line of the one wiring gets 3 on the other. That is
+ * all that the wiring changes for row, grant and doubt lamp.
  *
  * Stations have the numbers 0 to n - 1; d is the least number with n <= 2^d. On the cube the distance of two stations is the exclusive or of
  * their numbers, and which distances are due for a station, and who is ahead at the others, depend on whom it suspects: RULES, "Cube: who stands
@@ -83,9 +83,6 @@
 #ifdef __cplusplus
 extern "C" {
 #endif
-
-/* The VCUBE_VERSION_NUMBER of the library that is linked. Compare the two when the program starts: a library of another version may link as well. */
-uint32_t vcube_version(void);
 
 /* The wiring of a plant. */
 #define VCUBE_WIRING_CUBE 1
@@ -139,35 +136,37 @@ uint32_t vcube_version(void);
 enum vcube_refusal {
     VCUBE_ACCEPTED = 0,
     VCUBE_REFUSED_SIZE_OUT_OF_RANGE = 1,    /* a plant has 2 to 64 boards (n is another number) */
-    VCUBE_REFUSED_TABLE_LENGTH = 2,         /* the table has not n(n + 6) bytes */
+    VCUBE_REFUSED_TABLE_LENGTH = 2,         /* the table's length is not n(n + 6) */
     VCUBE_REFUSED_LINE_RULE = 3,            /* a line of the table breaks a line rule */
-    VCUBE_REFUSED_ROUND_NOT_CLOSED = 4,     /* every live board has finished its pass, and the round was not closed (some board is live) */
+    VCUBE_REFUSED_ROUND_NOT_CLOSED = 4,     /* every live board has finished its pass, but the round is not closed (some board is live) */
     VCUBE_REFUSED_SCHEDULE_LENGTH = 5,      /* the schedule has an odd number of bytes */
-    VCUBE_REFUSED_SHEET_LENGTH = 6,         /* the sheet has not twice the bytes of the schedule */
-    VCUBE_REFUSED_TALLY_FULL = 7,           /* a counter is full: rounds or tests stand at 4,294,967,295 (when an entry, or a grant of a
+    VCUBE_REFUSED_SHEET_LENGTH = 6,         /* the run sheet is not twice as long as the schedule */
+    VCUBE_REFUSED_TALLY_FULL = 7,           /* the count of rounds or of tests is at its limit, 4,294,967,295 (when an entry, or a grant of a
                                              * drive, is reached) */
-    VCUBE_REFUSED_UNKNOWN_KIND = 8,         /* there is no such kind of entry (it is not 1, 2 or 3) */
-    VCUBE_REFUSED_NO_SUCH_STATION = 9,      /* there is no board with this number: they go from 0 to n - 1 */
+    VCUBE_REFUSED_UNKNOWN_KIND = 8,         /* the kind of the entry is not 1, 2 or 3 */
+    VCUBE_REFUSED_NO_SUCH_STATION = 9,      /* no board has this number: boards are numbered from 0 to n - 1 */
     VCUBE_REFUSED_NOT_LIVE = 10,            /* this board is not live */
-    VCUBE_REFUSED_PASS_FINISHED = 11,       /* this board has finished its pass in this round (and the kind is 1 or 2) */
-    VCUBE_REFUSED_NO_SUCH_LEVEL = 12,       /* there is no such level: they go from 1 to d */
-    VCUBE_REFUSED_LIST_LENGTH = 13,         /* the list or buffer for the answer has another length than the answer (group list:
+    VCUBE_REFUSED_PASS_FINISHED = 11,       /* this board has already finished its pass in this round (and the kind is 1 or 2) */
+    VCUBE_REFUSED_NO_SUCH_LEVEL = 12,       /* there is no such level: levels go from 1 to d */
+    VCUBE_REFUSED_LIST_LENGTH = 13,         /* the list or buffer for the answer has the wrong length (group list:
                                              * vcube_group_length; assignment: 2 * (n - 1); saved plant: 19 + n * (n + 10);
                                              * words: 128; schedule of an input: 8192) */
-    VCUBE_REFUSED_NO_RESULT = 14,           /* there is no result to take figures of (in both lists together, where two are given) */
-    VCUBE_REFUSED_TOO_MANY_RESULTS = 15,    /* more than 4,096 results, or totals that so many cannot have (in both lists together) */
-    VCUBE_REFUSED_LAST_GRANTED = 16,        /* the last granted number is neither a board nor 255 (it is n or more, and not 255) */
+    VCUBE_REFUSED_NO_RESULT = 14,           /* there are no results to compute figures from (in both lists together, where two are given) */
+    VCUBE_REFUSED_TOO_MANY_RESULTS = 15,    /* there are more than 4,096 results, or the totals are higher than 4,096 results can give
+                                             * (in both lists together) */
+    VCUBE_REFUSED_LAST_GRANTED = 16,        /* the last granted number is neither a board's number nor 255 (it is n or more, and not 255) */
     VCUBE_REFUSED_NONE_LIVE = 17,           /* no board is live */
     VCUBE_REFUSED_FIELD_PAST_END = 18,      /* the file is cut off: a field or its head goes past the end (the head is tag and
                                              * length) */
-    VCUBE_REFUSED_SIZE_OR_TALLY_FIELD = 19, /* the field with the size or the tally is missing, there twice or of a wrong length (or more
+    VCUBE_REFUSED_SIZE_OR_TALLY_FIELD = 19, /* the field with the size or the tally is missing, appears twice or has the wrong length (or more
                                              * than twice) */
-    VCUBE_REFUSED_LINE_FIELD = 20,          /* a board's line in the file is missing, there twice, of a wrong length or of no board (more
+    VCUBE_REFUSED_LINE_FIELD = 20,          /* a board's line in the file is missing, appears twice, has the wrong length or names no board (more
                                              * than once; not n + 7, or n + 5 in edition 1; a number of n or more) */
-    VCUBE_REFUSED_NO_OPENING = 21,          /* the file does not begin as edition 2 does (with just the opening) */
-    VCUBE_REFUSED_FIELD_ORDER = 22,         /* a field is out of order, or of an unknown tag (a conversion looks for the tag only) */
-    VCUBE_REFUSED_REPORT_TOO_SHORT = 23,    /* the report has fewer than 4n(n + 6) bytes */
-    VCUBE_REFUSED_NO_SUCH_WIRING = 24       /* there is no such wiring (it is neither 1, the cube, nor 2, the ring) */
+    VCUBE_REFUSED_NO_OPENING = 21,          /* the file does not begin as edition 2 does; if it is of edition 1, convert it first (with just the
+                                             * opening) */
+    VCUBE_REFUSED_FIELD_ORDER = 22,         /* a field is out of order or has an unknown tag (a conversion looks for the tag only) */
+    VCUBE_REFUSED_REPORT_TOO_SHORT = 23,    /* the buffer for the report has fewer than 4n(n + 6) bytes */
+    VCUBE_REFUSED_NO_SUCH_WIRING = 24       /* the wiring is neither 1, the cube, nor 2, the ring */
 };
 
 /* Byte 0 of an entry of a schedule. */
@@ -203,6 +202,10 @@ enum vcube_tag {
     VCUBE_TAG_LINE = 3,
     VCUBE_TAG_OPENING = 4
 };
+
+/* Version of the library that is linked. Compare it with VCUBE_VERSION_NUMBER when the program starts: a library of another version may link as
+ * well. */
+uint32_t vcube_version(void);
 
 /* Fresh table: every station live, nobody suspected, the start of a round. It is the same on both wirings.
  * Errors: 24, 1, 2. */

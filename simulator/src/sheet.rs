@@ -114,9 +114,9 @@ impl Wrong {
                 let last = size.count() - 1;
                 format!("argument {argument} is not a board from 0 to {last}")
             }
-            Wrong::BoardAgain { argument } => format!("argument {argument} names a board again"),
+            Wrong::BoardAgain { argument } => format!("argument {argument} repeats a board"),
             Wrong::FewLive => String::from("at least two boards must be live"),
-            Wrong::BesideSizes => String::from("nothing may stand beside --sizes"),
+            Wrong::BesideSizes => String::from("--sizes takes no other argument"),
             Wrong::NotText => String::from("an argument is not text in UTF-8"),
         }
     }

@@ -63,40 +63,40 @@ numbered! {
     #[non_exhaustive]
     Refusal {
         SizeOutOfRange = 1 => "a plant has 2 to 64 boards",
-        TableLength = 2 => "the table has not n(n + 6) bytes",
+        TableLength = 2 => "the table's length is not n(n + 6)",
         LineRule = 3 => "a line of the table breaks a line rule",
         /// Some station is live.
-        RoundNotClosed = 4 => "every live board has finished its pass, and the round was not closed",
+        RoundNotClosed = 4 => "every live board has finished its pass, but the round is not closed",
         ScheduleLength = 5 => "the schedule has an odd number of bytes",
-        SheetLength = 6 => "the sheet has not twice the bytes of the schedule",
+        SheetLength = 6 => "the run sheet is not twice as long as the schedule",
         /// Those of the [`Tally`](crate::Tally).
-        TallyFull = 7 => "a counter is full: rounds or tests stand at 4,294,967,295",
+        TallyFull = 7 => "the count of rounds or of tests is at its limit, 4,294,967,295",
         /// It is not 1, 2 or 3, those of [`Kind`].
-        UnknownKind = 8 => "there is no such kind of entry",
+        UnknownKind = 8 => "the kind of the entry is not 1, 2 or 3",
         /// The number of a [`Station`](crate::Station) is n or more.
-        NoSuchStation = 9 => "there is no board with this number: they go from 0 to n - 1",
+        NoSuchStation = 9 => "no board has this number: boards are numbered from 0 to n - 1",
         NotLive = 10 => "this board is not live",
         /// And the kind is 1 or 2.
-        PassFinished = 11 => "this board has finished its pass in this round",
+        PassFinished = 11 => "this board has already finished its pass in this round",
         /// A [`Level`](crate::Level) is 0 or above d.
-        NoSuchLevel = 12 => "there is no such level: they go from 1 to d",
-        ListLength = 13 => "the list or buffer for the answer has another length than the answer",
-        NoResult = 14 => "there is no result to take figures of",
-        TooManyResults = 15 => "more than 4,096 results, or totals that so many cannot have",
+        NoSuchLevel = 12 => "there is no such level: levels go from 1 to d",
+        ListLength = 13 => "the list or buffer for the answer has the wrong length",
+        NoResult = 14 => "there are no results to compute figures from",
+        TooManyResults = 15 => "there are more than 4,096 results, or the totals are higher than 4,096 results can give",
         /// It is n or more, and not 255.
-        LastGranted = 16 => "the last granted number is neither a board nor 255",
+        LastGranted = 16 => "the last granted number is neither a board's number nor 255",
         NoneLive = 17 => "no board is live",
         FieldPastEnd = 18 => "the file is cut off: a field or its head goes past the end",
         /// Or it is there more than twice.
-        SizeOrTallyField = 19 => "the field with the size or the tally is missing, there twice or of a wrong length",
+        SizeOrTallyField = 19 => "the field with the size or the tally is missing, appears twice or has the wrong length",
         /// Or it is there more than twice. A number of n or more is of no board.
-        LineField = 20 => "a board's line in the file is missing, there twice, of a wrong length or of no board",
-        NoOpening = 21 => "the file does not begin as edition 2 does",
-        FieldOrder = 22 => "a field is out of order, or of an unknown tag",
+        LineField = 20 => "a board's line in the file is missing, appears twice, has the wrong length or names no board",
+        NoOpening = 21 => "the file does not begin as edition 2 does; if it is of edition 1, convert it first",
+        FieldOrder = 22 => "a field is out of order or has an unknown tag",
         /// The report of a mending.
-        ReportTooShort = 23 => "the report has fewer than 4n(n + 6) bytes",
+        ReportTooShort = 23 => "the buffer for the report has fewer than 4n(n + 6) bytes",
         /// Those of [`Wiring`] only: no call of this crate gives it.
-        NoSuchWiring = 24 => "there is no such wiring",
+        NoSuchWiring = 24 => "the wiring is neither 1, the cube, nor 2, the ring",
     }
 }
 

@@ -12,9 +12,9 @@ use Rattle.convert.specs.declared.what.What.TheVariants.{SecondEdition, FirstEdi
 -- what is wrong with the arguments
 abbrev pub wrong_call_words : WrongCall → List ℕ
 wrong_call_words NotText = codes "convert: an argument is not text in UTF-8"
-wrong_call_words WrongNumber = codes "convert: not so many files"
+wrong_call_words WrongNumber = codes "convert: expected two file names, or --check and one"
 wrong_call_words (UnknownOption word) =
-    codes "convert: unknown option: " ++ (string_bytes word ++ codes " (./convert --help says what there is)")
+    codes "convert: unknown option: " ++ (string_bytes word ++ codes " (see ./convert --help)")
 wrong_call_words (NoSuchFile path) = codes "convert: no such file: " ++ string_bytes path
 wrong_call_words (Folder path) = codes "convert: a folder, not a file: " ++ string_bytes path
 wrong_call_words (CannotBeRead path) = codes "convert: cannot be read: " ++ string_bytes path
@@ -29,5 +29,5 @@ fault_words (Refused refusal place) =
 abbrev pub what_words : What → List ℕ
 what_words SecondEdition = codes "edition 2"
 what_words FirstEdition = codes "edition 1"
-what_words WithoutOpening = codes "saved by version 0.9 or 0.10, taken by nobody"
+what_words WithoutOpening = codes "saved by version 0.9 or 0.10: for edition 2 put the bytes 4 0 1 2 in front"
 what_words (Damaged fault) = codes "damaged: " ++ fault_words fault

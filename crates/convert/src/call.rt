@@ -20,7 +20,7 @@ A file is first written whole; what cannot be written whole is removed again.
 --check prints what FILE is:
   edition 2
   edition 1
-  saved by version 0.9 or 0.10, taken by nobody
+  saved by version 0.9 or 0.10: for edition 2 put the bytes 4 0 1 2 in front
   damaged: why, and at which byte
 
 What changed since the last call is proved and built first; on a fresh clone
@@ -58,12 +58,11 @@ impl fmt::Display for WrongCall {
     fn fmt<W: fmt::Write>(&self, f: &mut fmt::Formatter<W>) -> fmt::Result {
         match self {
             WrongCall::NotText => f.write_str("convert: an argument is not text in UTF-8"),
-            WrongCall::WrongNumber => f.write_str("convert: not so many files"),
+            WrongCall::WrongNumber => f.write_str(
+                "convert: expected two file names, or --check and one",
+            ),
             WrongCall::UnknownOption(word) => {
-                write!(
-                    f,
-                    "convert: unknown option: {word} (./convert --help says what there is)"
-                )
+                write!(f, "convert: unknown option: {word} (see ./convert --help)")
             }
             WrongCall::NoSuchFile(path) => write!(f, "convert: no such file: {path}"),
             WrongCall::Folder(path) => write!(f, "convert: a folder, not a file: {path}"),

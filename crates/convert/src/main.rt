@@ -56,7 +56,7 @@ const UNWRITTEN: &str = "standard output cannot be written";
 
 const UNREAD: &str = "the input cannot be read";
 
-const HINT: &str = "reading standard input: a stored file";
+const HINT: &str = "reading a stored file from standard input";
 
 // Prints what a file is. The status is 1 where it is of no edition.
 fn check(rt: &(impl Print + AllocGlobal), file: File) -> anyhow::Result<ExitCode> {

@@ -27,18 +27,18 @@ impl NewFile {
             }
         }
         if !is_file(rt, path) {
-            bail!("{path} is there already, and no file");
+            bail!("{path} exists and is not a regular file");
         }
         if !self.force {
-            bail!("{path} is there already (--force replaces it)");
+            bail!("{path} already exists (--force replaces it)");
         }
         let beside = format!(in rt.alloc(); "{path}.part")?;
-        create(rt, beside.as_str(), bytes).context("it cannot be written beside")?;
+        create(rt, beside.as_str(), bytes).context("the new file cannot be written beside it")?;
         let renamed = fs::rename(rt, beside.as_str(), path);
         if renamed.is_err() {
             remove(rt, beside.as_str());
         }
-        renamed.context("it cannot be replaced")
+        renamed.context("the file cannot be replaced")
     }
 }
 

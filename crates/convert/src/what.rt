@@ -61,7 +61,9 @@ impl fmt::Display for What {
         match self {
             What::SecondEdition => f.write_str("edition 2"),
             What::FirstEdition => f.write_str("edition 1"),
-            What::WithoutOpening => f.write_str("saved by version 0.9 or 0.10, taken by nobody"),
+            What::WithoutOpening => f.write_str(
+                "saved by version 0.9 or 0.10: for edition 2 put the bytes 4 0 1 2 in front",
+            ),
             What::Damaged(fault) => write!(f, "damaged: {fault}"),
         }
     }

@@ -37,7 +37,7 @@ use Rattle.detection.specs.Runs.{Call, Taken, table_after, taken_all, after_runs
 use Rattle.detection.specs.Rounds.{count_taken, all_taken, Rounds, closes, cut}
 use Rattle.detection.specs.Claim.{all_rounds, rounds_of, round_at}
 use Rattle.detection.proofs.TakenLaws.{taken_at}
-use Rattle.detection.proofs.Chain.{WiredChain, ends, next, on-wiring, chain_first, chain-all}
+use Rattle.detection.proofs.Chain.{Chain, done, more, WiredChain, ends, next, on-wiring, chain_first, chain-all}
 use Rattle.detection.proofs.Counting.{Counts, counts_start, turn-counts, crash-counts, turns-split, closes-is}
 use Rattle.slots.specs.Slots.{tests_due, most_tests}
 use Rattle.slots.specs.Law.{Wider}
@@ -111,13 +111,12 @@ abbrev RoundFits : ℕ → ℕ → List ℕ → List Taken → Type 0
 RoundFits w n T round = (round ≡ []) ⊎ Leaves w n round (table_left T round)
 
 -- the rounds r, to the table `end`
-record Cut (w n : ℕ) (T : List ℕ) (r : Rounds) (end : List ℕ) : Type 0 where
-  pub each : (k : ℕ) → k ≤ length r.closed → RoundFits w n T (get_or (all_rounds r) k [])
-  pub counts : (i : ℕ) → i < n → tests_made n end i ≡ tests_by i r.open_round
+abbrev Cut : ℕ → ℕ → List ℕ → Rounds → Type 0
+Cut w n T r = (k : ℕ) → k ≤ length r.closed → RoundFits w n T (get_or (all_rounds r) k [])
 
 -- a taken entry
 module _ (w n : ℕ) (s : State) (e : Entry) (ok : Accepted w n s.table) (takes : entry_refusal n s e ≡ 0) (t₀ : List ℕ) (cur : List Taken)
-    (inv : Timed w n t₀ cur s.table) where
+    (fresh : (i : ℕ) → i < n → Reset n t₀ i) (counts : Counts n t₀ cur s.table) where
   abbrev t : List ℕ
   t = s.table
 
@@ -132,90 +131,120 @@ module _ (w n : ℕ) (s : State) (e : Entry) (ok : Accepted w n s.table) (takes 
   counted =
       by_bool (is_crash e)
       (λ crashed. rw crashed (crash-counts w n s e t₀ _ cur crashed (λ k c counts.
-      cell_other n t e.station status_column status_crashed k c (omega arith) (omega arith) (λ _. omega arith)) inv.counts))
+      cell_other n t e.station status_column status_crashed k c (omega arith) (omega arith) (λ _. omega arith)) counts))
       (λ turns.
       let facts = entry-facts n s e takes in
-      let line = inv.lines.1 e.station facts.below in
+      let lines : Lines w n t = (ok.long, accepted-line w n t ok) in
+      let line = lines.1 e.station facts.below in
       let going : finished n t e.station ≡ 0 = omega (arith, facts.unfinished (eqb-false e.kind kind_crash turns), line.pass.finished_range) in
       rw turns (turn-counts w n s e (outcome_at w n t e.kind e.station (next_test w n t e.station)) t₀ _ cur turns facts.below going
-      (turn-heads w n t e.kind e.station inv.lines facts.below) inv.counts))
+      (turn-heads w n t e.kind e.station lines facts.below) counts))
 
-  moved : Timed w n t₀ here t'
+  -- the table that is left, whichever wiring comes next
+  kept : Lines w n t'
+  kept = acted-lines w n s e ok takes
+
+  closing-is : closes here (taken_at w n s e) ≡ round_over n t'
+  closing-is = closes-is w n t₀ t' here fresh kept counted s e refl
+
+  -- with it the round closes, or goes on, and the counts are those of the round that is then open
+  counts-more : (xs : List Taken) (T : List Taken → Type 0)
+      → ((t₁ : List ℕ) (now : List Taken) → ((i : ℕ) → i < n → Reset n t₁ i) → Counts n t₁ now (after w n s e).table → T (cut now xs).open_round)
+      → T (cut cur (taken_at w n s e ∷ xs)).open_round
+  unfolding cut after after_round
+  counts-more xs T rest =
+      by_bool (round_over n t')
+      (λ over. rw (closing-is ∙ over) (rest (reset_lines n t') [] (reset-cells n t' kept.0) (rw over (counts_start n (reset_lines n t')))))
+      (λ over. rw (closing-is ∙ over) (rest t₀ here fresh (rw over counted)))
+
+-- after any chain byte 3 counts the tests of the round that is then open
+chain-counted : (n : ℕ) {s s' : State} {xs : List Taken} → Chain n s xs s' → (t₀ : List ℕ) (cur : List Taken) → ((i : ℕ) → i < n → Reset n t₀ i)
+    → Counts n t₀ cur s.table → (i : ℕ) → i < n → tests_made n s'.table i ≡ tests_by i (cut cur xs).open_round
+unfolding cut
+chain-counted n {s} done t₀ cur fresh counts i h = tests-counted n t₀ cur s.table fresh counts i h
+chain-counted n {s} {s'} (more {xs = xs} w e ok takes chain) t₀ cur fresh counts i h =
+    counts-more w n s e ok takes t₀ cur fresh counts xs (λ round. tests_made n s'.table i ≡ tests_by i round)
+    (λ t₁ now fresh counts. chain-counted n chain t₁ now fresh counts i h)
+
+-- a taken entry, on one wiring
+module _ (w n : ℕ) (s : State) (e : Entry) (ok : Accepted w n s.table) (takes : entry_refusal n s e ≡ 0) (t₀ : List ℕ) (cur : List Taken)
+    (inv : Timed w n t₀ cur s.table) where
+  abbrev u' : List ℕ
+  u' = acted w n s.table e
+
+  abbrev so_far : List Taken
+  so_far = cur ++ (taken_at w n s e ∷ [])
+
+  moved : Timed w n t₀ so_far u'
   moved = record {
     fresh = inv.fresh;
-    counts = counted;
+    counts = counted w n s e ok takes t₀ cur inv.fresh inv.counts;
     fits = λ c. rw c (acted-fits n s e (rw c at ok) takes (inv.fits c));
     lines = acted-lines w n s e ok takes;
   }
 
-  closing-is : closes here (taken_at w n s e) ≡ round_over n t'
-  closing-is = closes-is w n t₀ t' here inv.fresh moved.lines counted s e refl
+  closing : closes so_far (taken_at w n s e) ≡ round_over n u'
+  closing = closing-is w n s e ok takes t₀ cur inv.fresh inv.counts
 
   -- with it the round closes, or goes on
-  cut-more : (T : List ℕ) (xs : List Taken) (s' : State)
-      → ((t₁ : List ℕ) (now : List Taken) → Timed w n t₁ now (after w n s e).table → RoundFits w n T now → Cut w n T (cut now xs) s'.table)
-      → Cut w n T (cut cur (taken_at w n s e ∷ xs)) s'.table
+  cut-more : (T : List ℕ) (xs : List Taken)
+      → ((t₁ : List ℕ) (now : List Taken) → Timed w n t₁ now (after w n s e).table → RoundFits w n T now → Cut w n T (cut now xs))
+      → Cut w n T (cut cur (taken_at w n s e ∷ xs))
   unfolding cut after after_round
-  cut-more T xs s' rest = by_bool (round_over n t') closing going
+  cut-more T xs rest = by_bool (round_over n u') closed going
     where
-      left : Leaves w n here t'
-      left = leaves w n t₀ here t' moved
+      left : Leaves w n so_far u'
+      left = leaves w n t₀ so_far u' moved
 
-      closing : round_over n t' ≡ true → Cut w n T (cut cur (taken_at w n s e ∷ xs)) s'.table
-      closing over =
-          let anew = timed-start w n (reset_lines n t') (reset-cells n t' moved.lines.0) (reset-lines w n t' moved.lines) in
-          let r = rest (reset_lines n t') [] (rw over anew) (inl refl) in
-          let end : table_left T here ≡ reset_lines n t' = left-snoc T cur (taken_at w n s e) ∙ rw over in
-          rw (closing-is ∙ over) (record {
-            each = λ k. elim k as (λ x. x ≤ length (here ∷ (cut [] xs).closed) → RoundFits w n T (get_or (here ∷ all_rounds (cut [] xs)) x [])) [
-              | zero ↦ λ h. inr (rw end (closed-leaves w n here t' left))
-              | suc k ↦ λ h. r.each k (omega arith)
-            ];
-            counts = r.counts;
-          })
+      closed : round_over n u' ≡ true → Cut w n T (cut cur (taken_at w n s e ∷ xs))
+      closed over =
+          let anew = timed-start w n (reset_lines n u') (reset-cells n u' moved.lines.0) (reset-lines w n u' moved.lines) in
+          let r = rest (reset_lines n u') [] (rw over anew) (inl refl) in
+          let end : table_left T so_far ≡ reset_lines n u' = left-snoc T cur (taken_at w n s e) ∙ rw over in
+          rw (closing ∙ over)
+          (λ k. elim k as (λ x. x ≤ length (so_far ∷ (cut [] xs).closed) → RoundFits w n T (get_or (so_far ∷ all_rounds (cut [] xs)) x [])) [
+            | zero ↦ λ h. inr (rw end (closed-leaves w n so_far u' left))
+            | suc k ↦ λ h. r k (omega arith)
+          ])
 
-      going : round_over n t' ≡ false → Cut w n T (cut cur (taken_at w n s e ∷ xs)) s'.table
+      going : round_over n u' ≡ false → Cut w n T (cut cur (taken_at w n s e ∷ xs))
       going over =
-          let end : table_left T here ≡ t' = left-snoc T cur (taken_at w n s e) ∙ rw over in
-          rw (closing-is ∙ over) (rest t₀ here (rw over moved) (inr (rw end left)))
+          let end : table_left T so_far ≡ u' = left-snoc T cur (taken_at w n s e) ∙ rw over in
+          rw (closing ∙ over) (rest t₀ so_far (rw over moved) (inr (rw end left)))
 
--- a chain, cut into rounds
+-- a chain on one wiring, cut into rounds
 cut-chain : (w n : ℕ) (T : List ℕ) {s s' : State} {xs : List Taken} → WiredChain w n s xs s' → (t₀ : List ℕ) (cur : List Taken)
-    → Timed w n t₀ cur s.table → RoundFits w n T cur → Cut w n T (cut cur xs) s'.table
+    → Timed w n t₀ cur s.table → RoundFits w n T cur → Cut w n T (cut cur xs)
 unfolding cut
-cut-chain w n T {s} ends t₀ cur inv fits = record {
-  each = λ k h. let e : k ≡ 0 = omega arith in rw e fits;
-  counts = tests-counted n t₀ cur s.table inv.fresh inv.counts;
-}
+cut-chain w n T {s} ends t₀ cur inv fits = λ k h. let e : k ≡ 0 = omega arith in rw e fits
 cut-chain w n T {s} {s'} (next {xs = xs} e ok takes chain) t₀ cur inv fits =
-    cut-more w n s e ok takes t₀ cur inv T xs s' (λ t₁ now inv fits. cut-chain w n T chain t₁ now inv fits)
+    cut-more w n s e ok takes t₀ cur inv T xs (λ t₁ now inv fits. cut-chain w n T chain t₁ now inv fits)
 
--- a list of runs from the start of a round on
-module _ (w n : ℕ) (s : State) (calls : List Call) (long : length s.table ≡ table_length n) (start : at_start n s.table ≡ true)
-    (one : all_taken (is_on w) (taken_all s calls) ≡ true) where
-  at-start : (i : ℕ) → i < n → Reset n s.table i
-  unfolding at_start
-  at-start i h =
-      let all = both _ _ (every-at (line_at_start n s.table) n i start h) in
-      let head = both _ _ all.0 in
-      record { next = eqb-true _ 1 head.0; unfinished = eqb-true _ 0 head.1; untested = eqb-true _ 0 all.1 }
+start-reset : (n : ℕ) (t : List ℕ) → at_start n t ≡ true → (i : ℕ) → i < n → Reset n t i
+unfolding at_start
+start-reset n t start i h =
+    let all = both _ _ (every-at (line_at_start n t) n i start h) in
+    let head = both _ _ all.0 in
+    record { next = eqb-true _ 1 head.0; unfinished = eqb-true _ 0 head.1; untested = eqb-true _ 0 all.1 }
 
-  rounds-cut : Cut w n s.table (rounds_of s calls) (after_runs s calls).table
-  unfolding cut count_taken
-  rounds-cut = go (chain_first (on-wiring (chain-all n s calls long) one))
-    where
-      go : ((taken_all s calls ≡ []) × (after_runs s calls ≡ s)) ⊎ Accepted w n s.table → Cut w n s.table (rounds_of s calls) (after_runs s calls).table
-      go (inl none) = rw (none.0, none.1) (record {
-        each = λ k h. let e : k ≡ 0 = omega arith in rw e (inl refl);
-        counts = λ i h. (at-start i h).untested;
-      })
-      go (inr ok) =
-          cut-chain w n s.table (on-wiring (chain-all n s calls long) one) s.table []
-          (timed-start w n s.table at-start (long, accepted-line w n s.table ok)) (inl refl)
+-- a list of runs on one wiring from the start of a round on
+rounds-cut : (w n : ℕ) (s : State) (calls : List Call) → length s.table ≡ table_length n → at_start n s.table ≡ true
+    → all_taken (is_on w) (taken_all s calls) ≡ true → Cut w n s.table (rounds_of s calls)
+unfolding cut
+rounds-cut w n s calls long start one = go (chain_first chain)
+  where
+    chain : WiredChain w n s (taken_all s calls) (after_runs s calls)
+    chain = on-wiring (chain-all n s calls long) one
+
+    go : ((taken_all s calls ≡ []) × (after_runs s calls ≡ s)) ⊎ Accepted w n s.table → Cut w n s.table (rounds_of s calls)
+    go (inl none) = rw none.0 (λ k h. let e : k ≡ 0 = omega arith in rw e (inl refl))
+    go (inr ok) =
+        let lines : Lines w n s.table = (long, accepted-line w n s.table ok) in
+        cut-chain w n s.table chain s.table [] (timed-start w n s.table (start-reset n s.table start) lines) (inl refl)
 
 -- a row that suspects no more than r and j
-wider-mark-row : (n : ℕ) (t : List ℕ) → Lines wiring_cube n t → (r : List ℕ) (i j : ℕ) → i < n → j ≢ i → length r ≡ n → unsuspected r i ≡ true → SuspectsAtMost n t i r j
-    → Wider (row n t i) (mark r j) i
+wider-mark-row : (n : ℕ) (t : List ℕ) → Lines wiring_cube n t → (r : List ℕ) (i j : ℕ) → i < n → j ≢ i → length r ≡ n
+    → unsuspected r i ≡ true → SuspectsAtMost n t i r j → Wider (row n t i) (mark r j) i
 wider-mark-row n t lines r i j h apart long own few = record {
   long = mark-length r j ∙ long ∙ sym (row-length n t i lines.0 h);
   own = mark-unsuspected r j i (λ q. apart (sym q)) ∙ own;
@@ -234,11 +263,12 @@ wider-mark-row n t lines r i j h apart long own few = record {
         pick (inr f) = absurd (true≢false (sym free ∙ rw f (mark-suspected r j (omega (arith, long, f)))))
 
 pub tests-byte-counts : TestsByteCounts
-tests-byte-counts w n s calls i long start one h = (rounds-cut w n s calls long start one).counts i h
+tests-byte-counts n s calls i long start h =
+    chain-counted n (chain-all n s calls long) s.table [] (start-reset n s.table start) (counts_start n s.table) i h
 
 pub tests-within-due : TestsWithinDue
 unfolding count_taken
-tests-within-due n s calls k i long start one far h = pick ((rounds-cut wiring_cube n s calls long start one).each k far)
+tests-within-due n s calls k i long start one far h = pick (rounds-cut wiring_cube n s calls long start one k far)
   where
     pick : RoundFits wiring_cube n s.table (round_at s calls k) → tests_by i (round_at s calls k) ≤ tests_due n (row n (end_of s calls k) i) i
     pick (inl none) = rw none (omega arith)
@@ -246,8 +276,10 @@ tests-within-due n s calls k i long start one far h = pick ((rounds-cut wiring_c
 
 pub slot-suffices : SlotSuffices
 unfolding count_taken
-slot-suffices n s calls k r i j long start one far h l apart row_long own few = pick ((rounds-cut wiring_cube n s calls long start one).each k far)
+slot-suffices n s calls k r i j long start one far h l apart row_long own few = pick (rounds-cut wiring_cube n s calls long start one k far)
   where
     pick : RoundFits wiring_cube n s.table (round_at s calls k) → tests_by i (round_at s calls k) ≤ most_tests n r i
     pick (inl none) = rw none (omega arith)
-    pick (inr at) = le_trans (at.within refl i h) (most-covers n r _ i j l apart (wider-mark-row n (end_of s calls k) at.lines r i j h apart row_long own few))
+    pick (inr at) =
+        let wider = wider-mark-row n (end_of s calls k) at.lines r i j h apart row_long own few in
+        le_trans (at.within refl i h) (most-covers n r _ i j l apart wider)

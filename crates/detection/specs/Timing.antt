@@ -26,12 +26,11 @@ TestsAreTheSheets =
 abbrev pub tests_by : ℕ → List Taken → ℕ
 tests_by i round = count_taken (is_test_of i) round
 
--- Rule Tests counted: after any list of runs on one wiring from the start of a round on, whatever crashes or comes late, byte 3 is the number of
--- the board's testing entries in the round that is then open
+-- Rule Tests counted: after any list of runs from the start of a round on, whatever crashes or comes late and whichever wiring each run has, byte 3
+-- is the number of the board's testing entries in the round that is then open
 abbrev pub TestsByteCounts : Type 0
 TestsByteCounts =
-    (w n : ℕ) (s : State) (calls : List Call) (i : ℕ) → length s.table ≡ table_length n → at_start n s.table ≡ true
-    → all_taken (is_on w) (taken_all s calls) ≡ true → i < n
+    (n : ℕ) (s : State) (calls : List Call) (i : ℕ) → length s.table ≡ table_length n → at_start n s.table ≡ true → i < n
     → tests_made n (after_runs s calls).table i ≡ tests_by i (rounds_of s calls).open_round
 
 -- the table as the last of the entries leaves it; t where there is none

@@ -7,7 +7,7 @@ use plant::entry::Entry;
 use plant::kind::Kind;
 use plant::outcome::Outcome;
 use plant::{Ran, Tally, run};
-use station::{due, groups};
+use station::{due, groups, rows};
 use std::ops::ControlFlow;
 use table::lent::{Table, TableMut};
 use table::wiring::Wiring;
@@ -179,7 +179,7 @@ fn eight_assigned(rt: &impl Print) {
         n: 8,
         bytes: &mut table,
     };
-    lent.suspect(Station(5), Station(4));
+    lent.put(Station(5), cells::HEAD + 4, 1);
     assignment_line(rt, 8, &table, 5, &mut list);
 }
 
@@ -238,8 +238,7 @@ fn late_turn(rt: &impl Print) {
 }
 
 // Four boards on the ring, board 1 dead. Board 0 tests 1, which does not reply, exchanges with 2, and finishes its pass; 2 exchanges with 3, and
-// 3 with 0. So the round has four tests, and after it each live board suspects 1.
-#[tactic(auto, unfolding(table::specs::Table::table_length, table::specs::Sizes::is_size))]
+// 3 with 0. So the round has four tests, and after it each live board suspects 1. There is no board 4: its row is the empty part.
 fn ring_of_four(rt: &impl Print) {
     let mut table = [0u8; FOUR];
     let mut plant = Plant::fresh(Wiring::Ring, 4, &mut table);
@@ -250,14 +249,17 @@ fn ring_of_four(rt: &impl Print) {
     plant.pass(rt, 2, true);
     plant.pass(rt, 3, true);
     tests_line(rt, Tally::default(), plant.tally);
-    let lent = Table {
-        n: 4,
-        bytes: &table,
-    };
-    let by_0 = lent.get(Station(0), cells::HEAD + 1);
-    let by_2 = lent.get(Station(2), cells::HEAD + 1);
-    let by_3 = lent.get(Station(3), cells::HEAD + 1);
-    let _ = println!(rt; "1 suspected by 0: {by_0}, by 2: {by_2}, by 3: {by_3}");
+    row_line(rt, &table, 0);
+    row_line(rt, &table, 2);
+    row_line(rt, &table, 3);
+    row_line(rt, &table, 4);
+}
+
+// The row of a station of the ring of four.
+fn row_line(rt: &impl Print, table: &[u8], i: u8) {
+    let _ = print!(rt; "{i} row");
+    commas(rt, rows::row(Wiring::Ring as usize, 4, table, Station(i)));
+    line_end(rt);
 }
 
 // The tally of so many rounds of n boards, from none.

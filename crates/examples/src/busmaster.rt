@@ -10,7 +10,7 @@ use plant::kind::Kind;
 use plant::{Tally, run};
 use table::lent::TableMut;
 use table::wiring::Wiring;
-use table::{Station, fresh};
+use table::{Station, cells, fresh};
 
 // What one print cannot write is left out, and the next is tried all the same.
 pub fn show(rt: &impl Print) {
@@ -138,8 +138,8 @@ fn nobody_left(rt: &impl Print) {
         n: 2,
         bytes: &mut table,
     };
-    lent.suspect(Station(0), Station(1));
-    lent.suspect(Station(1), Station(0));
+    lent.put(Station(0), cells::HEAD + 1, 1);
+    lent.put(Station(1), cells::HEAD, 1);
     let first = drive::drive(
         Wiring::Cube as usize,
         2,

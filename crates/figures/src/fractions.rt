@@ -11,7 +11,7 @@ pub(crate) fn lowest(upper: u64, lower: u64) -> Fraction
     ensures { result ≡ lowest upper lower }
 {
     let divisor = gcd(upper, lower);
-    // Without this test figures of 16 results took 1.19 times as long: many fractions are in lowest terms, and a division is slow.
+    // Many fractions are in lowest terms, and a division is slow.
     if divisor == 1 {
         return Fraction { upper, lower };
     }

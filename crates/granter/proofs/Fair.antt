@@ -103,7 +103,8 @@ unfolding following
 following-granted n g top h = rw (ne_eqb g no_grant (omega arith), add-one g)
 
 -- one grant, from a table that refusals 1 to 4 let through and in which i waits
-module _ (w n : ℕ) (t : List ℕ) (last i : ℕ) (z : numbered_table_refusal w n t ≡ 0) (fits : last_refusal n last ≡ 0) (h : i < n) (waiting : waits n t i ≡ true) where
+module _ (w n : ℕ) (t : List ℕ) (last i : ℕ) (z : numbered_table_refusal w n t ≡ 0) (fits : last_refusal n last ≡ 0) (h : i < n)
+    (waiting : waits n t i ≡ true) where
   ok : Accepted w n t
   ok = accepted w n t z
 

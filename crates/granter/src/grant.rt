@@ -102,8 +102,6 @@ fn first_from(table: &Table, from: Station) -> Option<Station>
     ensures below { IfSome result (λ i. i.0 < table.now.n) }
     ensures none { IfNone result (table.now.n ≤ first_from table.now.n table.now.bytes.now from.0) }
 {
-    // A `for`: in the check of a table a chain took 1.7 to 2.2 times as long (docs/DECISIONS.md, "The port to today's Rattle"). Here it was not
-    // measured.
     for i in from.0..table.n {
         if !table.finished_if_live(Station(i)) {
             return Some(Station(i));
@@ -116,7 +114,6 @@ fn first_from(table: &Table, from: Station) -> Option<Station>
 pub(crate) fn some_live(table: &Table) -> bool
     ensures { result ≡ some_live table.now.n table.now.bytes.now }
 {
-    // A `for`, for the same reason: the figure is of the check of a table, and was not measured here.
     for i in 0..table.n {
         if table.is_live(Station(i)) {
             return true;

@@ -13,7 +13,8 @@ use Rattle.input.specs.declared.reading.Unread.{Unread}
 abbrev pub fault_with : Found → Expected → Fault
 fault_with f e = record { found = f; expected = e }
 
--- Rule Words of a place: what a byte is: tab, carriage return, space, digit, lower case letter, another character that is printed, or a byte that is not
+-- Rule Words of a place: what a byte is: tab, carriage return, space, digit, lower case letter, another character that is printed, or a byte that
+-- is not
 unfoldable pub found_byte : ℕ → Found
 found_byte b =
     if b == 9 then Found.Tab else (if b == 13 then Found.CarriageReturn else (if b == 32 then Found.Space else

@@ -9,7 +9,8 @@ use Rattle.latency.specs.Bound.{turns_per_round, turns_until_known}
 use Rattle.latency.specs.Crash.{turns_from_crash}
 use Rattle.latency.specs.declared.wait.Wait.{Wait}
 
--- Rule Bounds of the wait: the rounds of the worst case, the turns of a round, those until all is known from the start of a round, and those from a crash
+-- Rule Bounds of the wait: the rounds of the worst case, the turns of a round, those until all is known from the start of a round, and those from
+-- a crash
 abbrev pub wait_on : ℕ → ℕ → List ℕ → Wait
 wait_on w n t =
     record {

@@ -11,7 +11,6 @@ use lib.Seq.{sets}
 use Rattle.std.specs.List.{filter, range_with_len, enumerate_from}
 use Rattle.std.proofs.lemmas.List.FromFn.{length-range_with_len, length-enumerate_from, get_or-enumerate_from}
 use Rattle.std.proofs.lemmas.List.Filters.{length-filter_both}
-use Rattle.lists.proofs.BoolLaws.{by_bool}
 use Rattle.lists.specs.Search.{list_of, select}
 use Rattle.lists.proofs.Writing.{sets-next}
 
@@ -20,29 +19,12 @@ pub map-range : (f : ℕ → ℕ) (n : ℕ) → map f (range_with_len 0 n) ≡ l
 unfolding list_of
 map-range f n = refl
 
-pub map-same : (xs : List ℕ) → map (λ k. k) xs ≡ xs
-map-same [] = refl
-map-same (x ∷ xs) = ap (λ (l : List ℕ). x ∷ l) (map-same xs)
-
 -- the numbers from 1 on that pass a test that 0 fails
 pub filter-range : (q : ℕ → Bool) (n : ℕ) → q 0 ≡ false → 1 ≤ n → filter q (range_with_len 1 (n - 1)) ≡ select q n
 filter-range q zero none h = absurd (omega arith)
 filter-range q (suc n) none h = let less : suc n - 1 ≡ n = omega arith in rw (less, none)
 
--- what passes a test is in the range, and is fewer than the range where 0 fails
-pub filter-below : (q : ℕ → Bool) (a n k d : ℕ) → k < length (filter q (range_with_len a n)) → get_or (filter q (range_with_len a n)) k d < a + n
-filter-below q a zero k d = λ h. absurd (omega arith)
-filter-below q a (suc n) k d =
-    by_bool (q a) (λ p. rw p (first k (λ j h. omega (arith, filter-below q (a + 1) n j d h))))
-    (λ p. rw p (λ h. omega (arith, filter-below q (a + 1) n k d h)))
-  where
-    rest : List ℕ
-    rest = filter q (range_with_len (a + 1) n)
-
-    first : (k : ℕ) → ((j : ℕ) → j < length rest → get_or rest j d < a + suc n) → k < length (a ∷ rest) → get_or (a ∷ rest) k d < a + suc n
-    first zero below h = omega arith
-    first (suc k) below h = below k (omega (arith, h))
-
+-- fewer pass than there are, where 0 fails
 pub filter-few : (q : ℕ → Bool) (n : ℕ) → q 0 ≡ false → length (filter q (range_with_len 0 n)) ≤ n - 1
 filter-few q zero none = omega arith
 filter-few q (suc n) none =

@@ -36,29 +36,29 @@ number_of NoSuchWiring = 24
 -- what it says to people
 abbrev pub refusal_words : Refusal → List ℕ
 refusal_words SizeOutOfRange = codes "a plant has 2 to 64 boards"
-refusal_words TableLength = codes "the table has not n(n + 6) bytes"
+refusal_words TableLength = codes "the table's length is not n(n + 6)"
 refusal_words LineRule = codes "a line of the table breaks a line rule"
-refusal_words RoundNotClosed = codes "every live board has finished its pass, and the round was not closed"
+refusal_words RoundNotClosed = codes "every live board has finished its pass, but the round is not closed"
 refusal_words ScheduleLength = codes "the schedule has an odd number of bytes"
-refusal_words SheetLength = codes "the sheet has not twice the bytes of the schedule"
-refusal_words TallyFull = codes "a counter is full: rounds or tests stand at 4,294,967,295"
-refusal_words UnknownKind = codes "there is no such kind of entry"
-refusal_words NoSuchStation = codes "there is no board with this number: they go from 0 to n - 1"
+refusal_words SheetLength = codes "the run sheet is not twice as long as the schedule"
+refusal_words TallyFull = codes "the count of rounds or of tests is at its limit, 4,294,967,295"
+refusal_words UnknownKind = codes "the kind of the entry is not 1, 2 or 3"
+refusal_words NoSuchStation = codes "no board has this number: boards are numbered from 0 to n - 1"
 refusal_words NotLive = codes "this board is not live"
-refusal_words PassFinished = codes "this board has finished its pass in this round"
-refusal_words NoSuchLevel = codes "there is no such level: they go from 1 to d"
-refusal_words ListLength = codes "the list or buffer for the answer has another length than the answer"
-refusal_words NoResult = codes "there is no result to take figures of"
-refusal_words TooManyResults = codes "more than 4,096 results, or totals that so many cannot have"
-refusal_words LastGranted = codes "the last granted number is neither a board nor 255"
+refusal_words PassFinished = codes "this board has already finished its pass in this round"
+refusal_words NoSuchLevel = codes "there is no such level: levels go from 1 to d"
+refusal_words ListLength = codes "the list or buffer for the answer has the wrong length"
+refusal_words NoResult = codes "there are no results to compute figures from"
+refusal_words TooManyResults = codes "there are more than 4,096 results, or the totals are higher than 4,096 results can give"
+refusal_words LastGranted = codes "the last granted number is neither a board's number nor 255"
 refusal_words NoneLive = codes "no board is live"
 refusal_words FieldPastEnd = codes "the file is cut off: a field or its head goes past the end"
-refusal_words SizeOrTallyField = codes "the field with the size or the tally is missing, there twice or of a wrong length"
-refusal_words LineField = codes "a board's line in the file is missing, there twice, of a wrong length or of no board"
-refusal_words NoOpening = codes "the file does not begin as edition 2 does"
-refusal_words FieldOrder = codes "a field is out of order, or of an unknown tag"
-refusal_words ReportTooShort = codes "the report has fewer than 4n(n + 6) bytes"
-refusal_words NoSuchWiring = codes "there is no such wiring"
+refusal_words SizeOrTallyField = codes "the field with the size or the tally is missing, appears twice or has the wrong length"
+refusal_words LineField = codes "a board's line in the file is missing, appears twice, has the wrong length or names no board"
+refusal_words NoOpening = codes "the file does not begin as edition 2 does; if it is of edition 1, convert it first"
+refusal_words FieldOrder = codes "a field is out of order or has an unknown tag"
+refusal_words ReportTooShort = codes "the buffer for the report has fewer than 4n(n + 6) bytes"
+refusal_words NoSuchWiring = codes "the wiring is neither 1, the cube, nor 2, the ring"
 
 -- the refusal with a number of the refusal list
 unfoldable pub refusal_with : ℕ → Option Refusal
@@ -70,7 +70,8 @@ refusal_with number =
     if number == 13 then Some ListLength else (if number == 14 then Some NoResult else (if number == 15 then Some TooManyResults else (
     if number == 16 then Some LastGranted else (if number == 17 then Some NoneLive else (if number == 18 then Some FieldPastEnd else (
     if number == 19 then Some SizeOrTallyField else (if number == 20 then Some LineField else (if number == 21 then Some NoOpening else (
-    if number == 22 then Some FieldOrder else (if number == 23 then Some ReportTooShort else (if number == 24 then Some NoSuchWiring else None)))))))))))))))))))))))
+    if number == 22 then Some FieldOrder else (if number == 23 then Some ReportTooShort else (
+    if number == 24 then Some NoSuchWiring else None)))))))))))))))))))))))
 
 -- the number of an answer: 0 where the call is not refused
 abbrev pub number_of_result : {A : Type 0} → Result A Refusal → ℕ

@@ -49,34 +49,35 @@ impl Refusal {
     {
         match self {
             Refusal::SizeOutOfRange => "a plant has 2 to 64 boards",
-            Refusal::TableLength => "the table has not n(n + 6) bytes",
+            Refusal::TableLength => "the table's length is not n(n + 6)",
             Refusal::LineRule => "a line of the table breaks a line rule",
             Refusal::RoundNotClosed =>
-                "every live board has finished its pass, and the round was not closed",
+                "every live board has finished its pass, but the round is not closed",
             Refusal::ScheduleLength => "the schedule has an odd number of bytes",
-            Refusal::SheetLength => "the sheet has not twice the bytes of the schedule",
-            Refusal::TallyFull => "a counter is full: rounds or tests stand at 4,294,967,295",
-            Refusal::UnknownKind => "there is no such kind of entry",
-            Refusal::NoSuchStation => "there is no board with this number: they go from 0 to n - 1",
+            Refusal::SheetLength => "the run sheet is not twice as long as the schedule",
+            Refusal::TallyFull => "the count of rounds or of tests is at its limit, 4,294,967,295",
+            Refusal::UnknownKind => "the kind of the entry is not 1, 2 or 3",
+            Refusal::NoSuchStation =>
+                "no board has this number: boards are numbered from 0 to n - 1",
             Refusal::NotLive => "this board is not live",
-            Refusal::PassFinished => "this board has finished its pass in this round",
-            Refusal::NoSuchLevel => "there is no such level: they go from 1 to d",
-            Refusal::ListLength =>
-                "the list or buffer for the answer has another length than the answer",
-            Refusal::NoResult => "there is no result to take figures of",
+            Refusal::PassFinished => "this board has already finished its pass in this round",
+            Refusal::NoSuchLevel => "there is no such level: levels go from 1 to d",
+            Refusal::ListLength => "the list or buffer for the answer has the wrong length",
+            Refusal::NoResult => "there are no results to compute figures from",
             Refusal::TooManyResults =>
-                "more than 4,096 results, or totals that so many cannot have",
-            Refusal::LastGranted => "the last granted number is neither a board nor 255",
+                "there are more than 4,096 results, or the totals are higher than 4,096 results can give",
+            Refusal::LastGranted => "the last granted number is neither a board's number nor 255",
             Refusal::NoneLive => "no board is live",
             Refusal::FieldPastEnd => "the file is cut off: a field or its head goes past the end",
             Refusal::SizeOrTallyField =>
-                "the field with the size or the tally is missing, there twice or of a wrong length",
+                "the field with the size or the tally is missing, appears twice or has the wrong length",
             Refusal::LineField =>
-                "a board's line in the file is missing, there twice, of a wrong length or of no board",
-            Refusal::NoOpening => "the file does not begin as edition 2 does",
-            Refusal::FieldOrder => "a field is out of order, or of an unknown tag",
-            Refusal::ReportTooShort => "the report has fewer than 4n(n + 6) bytes",
-            Refusal::NoSuchWiring => "there is no such wiring",
+                "a board's line in the file is missing, appears twice, has the wrong length or names no board",
+            Refusal::NoOpening =>
+                "the file does not begin as edition 2 does; if it is of edition 1, convert it first",
+            Refusal::FieldOrder => "a field is out of order or has an unknown tag",
+            Refusal::ReportTooShort => "the buffer for the report has fewer than 4n(n + 6) bytes",
+            Refusal::NoSuchWiring => "the wiring is neither 1, the cube, nor 2, the ring",
         }
     }
 

@@ -7,17 +7,16 @@ use Prim.Native.Nat.{ℕ, ◌+◌, ◌-◌, max, ◌≤◌, ◌<◌}
 use native.Mathlib.Decide.{ℕ_discrete}
 use native.Mathlib.Nat.{max_comm, max-eq_left, le_refl}
 use native.Mathlib.Omega.{arith}
-use lib.ListN.{length, get_or, set, take, drop, take-append-drop}
-use lib.Seq.{take_at, ext_get_or, length-take-le}
-use Rattle.std.proofs.lemmas.List.{set-append_left, set-append_right}
-use Rattle.table.specs.Table.{head, table_length, line_start, set_cell, row_start, row, set_row}
-use Rattle.station.specs.Rows.{union_byte, union, mark}
+use lib.ListN.{length, get_or, take, drop, take-append-drop}
+use lib.Seq.{take_at, ext_get_or}
+use Rattle.table.specs.Table.{head, table_length, row_start, row, set_row}
+use Rattle.station.specs.Rows.{union_byte, union}
 use Rattle.lists.proofs.SearchLaws.{list_of-same}
-use Rattle.table.proofs.CellLaws.{row_inside, row-length, row_same, set_row-length, set_row-out}
+use Rattle.table.proofs.CellLaws.{row-length, row_same, set_row-length, set_row-out}
 use Rattle.station.proofs.UnionLaws.{union-length, union-at, union-own, union-others}
 use Rattle.lists.specs.Bytes.{joined_byte, joined_bytes, with_joined}
 use Rattle.lists.proofs.ByteLaws.{joined_length, joined_at, into-fits}
-use Rattle.plant.specs.Turn.{exchange_rows, suspect}
+use Rattle.plant.specs.Turn.{exchange_rows}
 
 -- the table with the row as it comes back
 pub row_back : (n : ℕ) (t : List ℕ) (i a : ℕ) (r : List ℕ) → a ≡ row_start n i → take a t ++ (r ++ drop (a + n - a) (drop a t)) ≡ set_row n t i r
@@ -28,18 +27,6 @@ row_back n t i a r e = let w : a + n - a ≡ n = omega arith in rw (w, e)
 set_row-same : (n : ℕ) (t : List ℕ) (i : ℕ) → set_row n t i (row n t i) ≡ t
 unfolding set_row row
 set_row-same n t i = rw (take-append-drop n (drop (row_start n i) t), take-append-drop (row_start n i) t)
-
--- one byte of a row written is the row written back with that byte
-pub suspect_cell : (n : ℕ) (t : List ℕ) (i j : ℕ) → length t ≡ table_length n → i < n → j < n → set_cell n t i (head + j) 1 ≡ suspect n t i j
-unfolding set_cell suspect set_row row mark
-suspect_cell n t i j long h hj =
-    let a : ℕ = row_start n i in
-    let r : List ℕ = take n (drop a t) in
-    let e : t ≡ take a t ++ (r ++ drop n (drop a t)) = rw (take-append-drop n (drop a t), take-append-drop a t) in
-    let k : line_start n i + (head + j) - a ≡ j = omega arith in
-    ap (λ (l : List ℕ). set l (line_start n i + (head + j)) 1) e
-    ∙ (set-append_right (take a t) (r ++ drop n (drop a t)) a (line_start n i + (head + j)) 1 (length-take-le a t (omega (arith, row_inside n t i long h))) (omega arith)
-    ∙ rw k (ap (λ (l : List ℕ). take a t ++ l) (set-append_left r (drop n (drop a t)) j 1 (omega (arith, row-length n t i long h)))))
 
 -- a row joined with the union of two rows, of which it is the one or the other
 union-twice : (r o u : List ℕ) (n own : ℕ) → length r ≡ n → ((k : ℕ) → k < n → get_or u k 0 ≡ max (get_or r k 0) (get_or o k 0)) → union r u own ≡ union r o own

@@ -115,7 +115,8 @@ accepted-kept w n s e a z = pick (round_over n t) refl
     pick false c = make t lines c
 
 -- rule Empty schedule: on a wiring and a table that refusals 24 and 1 to 4 let through it is accepted and changes nothing. An end in itself
-pub empty-run : (w n : ℕ) (s : State) → numbered_table_refusal w n s.table ≡ 0 → run w n s [] [] ≡ record { number = 0; taken = 0; state = s; sheet = [] }
+pub empty-run : (w n : ℕ) (s : State) → numbered_table_refusal w n s.table ≡ 0
+    → run w n s [] [] ≡ record { number = 0; taken = 0; state = s; sheet = [] }
 unfolding run start_check go_on entries
 empty-run w n s z = rw (check_zero _ z)
 

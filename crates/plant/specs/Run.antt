@@ -44,7 +44,7 @@ go_on w n k s sheet (e ∷ es) =
     then go_on w n (suc k) (after w n s e) (write_line sheet k (sheet_line w n s e)) es
     else (record { number = entry_refusal n s e; taken = k; state = s; sheet = sheet })
 
--- refusals 24 and 1 to 6: then the schedule has an odd number of bytes; the run sheet has not twice the bytes of the schedule
+-- refusals 24 and 1 to 6: then the schedule has an odd number of bytes; the run sheet is not twice as long as the schedule
 unfoldable pub start_check : ℕ → ℕ → List ℕ → ℕ → ℕ → Check
 start_check w n t schedule_length sheet_length =
     numbered_table_check w n t

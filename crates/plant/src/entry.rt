@@ -125,5 +125,5 @@ fn act(wired: Wired, table: &mut TableMut, entry: Entry) -> Outcome
         table.set_status(entry.station, Status::Crashed);
         return Outcome::Crashed;
     }
-    steps::take_turn(wired, table, u8::from(entry.kind), entry.station)
+    steps::take_turn(wired, table, entry.kind, entry.station)
 }

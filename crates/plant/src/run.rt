@@ -83,8 +83,7 @@ pub(crate) fn go_on(
         ≡ go_on w table.old.n 0 s sheet.old (entries schedule.now) }
 {
     let wired = Wired::new(wiring, table.n);
-    // A table of its own, whose size and place stay in registers: behind the reference they were read again after each byte that is written,
-    // which made 1.16 to 1.27 times as many instructions (4,000 entries with 8, 11, 16 and 64 boards).
+    // A table of its own, whose size and place stay in registers: behind the reference they are read again after each byte that is written.
     let bytes = &mut *table.bytes;
     let mut lent = TableMut { n: table.n, bytes };
     let mut ran = Ran {
@@ -103,8 +102,6 @@ pub(crate) fn go_on(
                 };
             }
         };
-        // The line goes by its place. Tried: the sheet cut line by line (`split_first_chunk_mut`, `as_chunks_mut`). A proof then knows how
-        // long the sheet is in the end, and none of its bytes.
         let a = 4 * ran.taken;
         let e = a + 4;
         ran.tally = entry::take_entry(wired, &mut lent, ran.tally, entry, &mut sheet[a..e]);

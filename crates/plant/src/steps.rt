@@ -8,8 +8,9 @@ ghost use Rattle.station.specs.Wired.{wired_station};
 ghost use Rattle.station.specs.Rows.{union};
 ghost use Rattle.table.specs.Rules.{numbered_table_refusal};
 ghost use Rattle.station.specs.Tests.{due};
+ghost use Rattle.plant.specs.Kind.{kind_byte};
 ghost use Rattle.plant.specs.Outcome.{tested_byte, outcome_byte};
-ghost use Rattle.plant.specs.Turn.{next_test, finish_pass, count_test, replies, exchange_rows, set_status, leave_told, reply_outcome, test_outcome, after_outcome, self_or_suspected, is_alone, after_alone, outcome_at, testing, turn, turn_tested, turn_outcome};
+ghost use Rattle.plant.specs.Turn.{next_test, finish_pass, count_test, replies, exchange_rows, suspect, leave_told, reply_outcome, test_outcome, after_outcome, self_or_suspected, is_alone, after_alone, outcome_at, testing, turn, turn_tested, turn_outcome};
 
 use crate::kind::Kind;
 use crate::outcome::Outcome;
@@ -21,11 +22,9 @@ use table::status::Status;
 use table::wiring::Wiring;
 use table::{Distance, Station, cells};
 
-// The turn of station i. The kind stays the schedule's byte: a public function keeps what its parameters take. The functions below
-// have the byte too: a `Kind` made of it here would have to be refused where there is none. That the table obeys the rules is asked, here and
-// above, and is no ghost field: from the turn that ends a round to its closing the table has refusal 4, and between two bytes of a line that are
-// put not even the line rules hold.
-pub(crate) fn take_turn(wired: Wired, table: &mut TableMut, kind: u8, i: Station) -> Outcome
+// The turn of station i. That the table obeys the rules is a `requires`, here and in the callers, and no ghost field of the table: after the turn
+// that ends a round, until it is closed, the table breaks rule Round not over, and between two writes to a line not even the line rules hold.
+pub(crate) fn take_turn(wired: Wired, table: &mut TableMut, kind: Kind, i: Station) -> Outcome
     requires same_size { wired.n ≡ table.old.n }
     requires table_obeys { let w = wiring_number wired.wiring in
         numbered_table_refusal w table.old.n table.old.bytes.now ≡ 0 }
@@ -33,10 +32,10 @@ pub(crate) fn take_turn(wired: Wired, table: &mut TableMut, kind: u8, i: Station
     ensures tested_station { tested_byte result
         ≡ turn_tested (wiring_number wired.wiring) table.old.n table.old.bytes.now i.0 }
     ensures outcome_number { outcome_byte result
-        ≡ turn_outcome (wiring_number wired.wiring) table.old.n table.old.bytes.now kind i.0 }
+        ≡ turn_outcome (wiring_number wired.wiring) table.old.n table.old.bytes.now (kind_byte kind) i.0 }
     ensures same_loan { IsSameLoan table.old table.new }
     ensures turn_made { table.new.bytes.now
-        ≡ turn (wiring_number wired.wiring) table.old.n table.old.bytes.now kind i.0 }
+        ≡ turn (wiring_number wired.wiring) table.old.n table.old.bytes.now (kind_byte kind) i.0 }
 {
     let m = next_test(wired, &table.read(), i);
     if wired.end <= m.0 {
@@ -62,7 +61,6 @@ fn next_test(wired: Wired, table: &Table, i: Station) -> Distance
 
 // The least distance from `from` on, and below `end`, that is due for i by its row; `end`, or `from` if that is greater, where there is none.
 // Where the answer is not "due", no distance of the block that begins there is due, and the scan goes on behind it.
-// Asking once, and answering an `Option`, took 1 to 9 % more time in the runs of tests/bench; the compiler asks only once as it stands.
 fn scan(row: &[u8], i: Station, end: u8, from: Distance) -> Distance
     ensures { result.0 ≡ least (due row.now i.0) (end - from.0) from.0 }
 {
@@ -98,7 +96,7 @@ fn finish_pass(wired: Wired, table: &mut TableMut, i: Station)
 }
 
 // Station i tests the station at distance m: the test is counted by its outcome, takes effect, and i leaves if it is alone.
-fn make_test(wired: Wired, table: &mut TableMut, kind: u8, i: Station, m: Distance) -> Outcome
+fn make_test(wired: Wired, table: &mut TableMut, kind: Kind, i: Station, m: Distance) -> Outcome
     requires same_size { wired.n ≡ table.old.n }
     requires table_obeys { let w = wiring_number wired.wiring in
         numbered_table_refusal w table.old.n table.old.bytes.now ≡ 0 }
@@ -110,10 +108,10 @@ fn make_test(wired: Wired, table: &mut TableMut, kind: u8, i: Station, m: Distan
     ensures tested_station { tested_byte result
         ≡ wired_station (wiring_number wired.wiring) table.old.n i.0 m.0 }
     ensures outcome_number { outcome_byte result
-        ≡ outcome_at (wiring_number wired.wiring) table.old.n table.old.bytes.now kind i.0 m.0 }
+        ≡ outcome_at (wiring_number wired.wiring) table.old.n table.old.bytes.now (kind_byte kind) i.0 m.0 }
     ensures same_loan { IsSameLoan table.old table.new }
     ensures test_made { table.new.bytes.now
-        ≡ testing (wiring_number wired.wiring) table.old.n table.old.bytes.now kind i.0 m.0 }
+        ≡ testing (wiring_number wired.wiring) table.old.n table.old.bytes.now (kind_byte kind) i.0 m.0 }
 {
     let j = wired.station_at(i, m);
     let outcome = test_outcome(&table.read(), kind, i, j);
@@ -143,12 +141,12 @@ fn count_test(wired: Wired, table: &mut TableMut, i: Station, m: Distance, outco
 
 // The outcome of the test of j.
 #[tactic(auto, unfolding(crate::specs::Turn::test_outcome))]
-fn test_outcome(table: &Table, kind: u8, i: Station, j: Station) -> Outcome
+fn test_outcome(table: &Table, kind: Kind, i: Station, j: Station) -> Outcome
     requires tester_below { i.0 < table.now.n }
     requires tested_below { j.0 < table.now.n }
     ensures tested_station { tested_byte result ≡ j.0 }
     ensures outcome_number { outcome_byte result
-        ≡ test_outcome table.now.n table.now.bytes.now kind i.0 j.0 }
+        ≡ test_outcome table.now.n table.now.bytes.now (kind_byte kind) i.0 j.0 }
 {
     if !does_reply(table, kind, j) {
         return Outcome::NoReply(j);
@@ -175,7 +173,7 @@ fn reply_outcome(table: &Table, i: Station, j: Station) -> Outcome
 }
 
 // What the outcome of the test of j does to the table.
-#[tactic(auto, using(table::proofs::SizeLaws::size_top, crate::proofs::RowLaws::suspect_cell), unfolding(crate::specs::Turn::after_outcome))]
+#[tactic(auto, using(table::proofs::SizeLaws::size_top), unfolding(crate::specs::Turn::after_outcome))]
 fn apply_outcome(table: &mut TableMut, i: Station, outcome: Outcome)
     requires tester_below { i.0 < table.old.n }
     requires tested_below { tested_byte outcome < table.old.n }
@@ -189,7 +187,7 @@ fn apply_outcome(table: &mut TableMut, i: Station, outcome: Outcome)
         Outcome::Told(j) => leave_told(table, i, j),
         Outcome::TestedTold(j) => leave_told(table, j, i),
         Outcome::Exchanged(j) => exchange_rows(table, i, j),
-        Outcome::NoReply(j) => table.suspect(i, j),
+        Outcome::NoReply(j) => suspect(table, i, j),
         // No outcome of a test.
         Outcome::PassFinished | Outcome::Crashed => {}
     }
@@ -206,28 +204,17 @@ fn leave_told(table: &mut TableMut, a: Station, b: Station)
     table.put(a, cells::TOLD_BY, b.0);
 }
 
-// The station leaves with a status, for a caller that has it as the table's byte. The turn, and the crash, go by `TableMut::set_status`.
-pub(crate) fn leave(table: &mut TableMut, i: Station, status: u8)
-    requires { i.0 < table.old.n }
-    ensures same_loan { IsSameLoan table.old table.new }
-    ensures status_written { table.new.bytes.now
-        ≡ set_status table.old.n table.old.bytes.now i.0 status }
-{
-    table.put(i, cells::STATUS, status);
-}
-
 // Whether j replies in time.
 #[tactic(auto, unfolding(crate::specs::Turn::replies))]
-fn does_reply(table: &Table, kind: u8, j: Station) -> bool
+fn does_reply(table: &Table, kind: Kind, j: Station) -> bool
     requires { j.0 < table.now.n }
-    ensures { result ≡ replies table.now.n table.now.bytes.now kind j.0 }
+    ensures { result ≡ replies table.now.n table.now.bytes.now (kind_byte kind) j.0 }
 {
-    table.is_live(j) & (kind == u8::from(Kind::Turn))
+    table.is_live(j) & (kind == Kind::Turn)
 }
 
 // The exchange: both rows become the union of the two. Rows that are the same stay as they are. Otherwise each row is lent in turn as a part of
-// the table, with both joined in a buffer. Tried: both lent at once by `split_at_mut`, and one loop; in tests/bench, where rows differ, plants
-// of 8, 16 and 32 ran at 0.93 to 0.98 of the speed, those of 48 and 63 at 1.05 to 1.12.
+// the table, with both joined in a buffer.
 #[tactic(auto, using(table::proofs::SizeLaws::size_top))]
 fn exchange_rows(table: &mut TableMut, i: Station, j: Station)
     requires tester_below { i.0 < table.old.n }
@@ -250,8 +237,7 @@ fn exchange_rows(table: &mut TableMut, i: Station, j: Station)
     join_into(table, j, &both[..size]);
 }
 
-// Joins another row into the row of station i, lent as a part of the table. Tried: a method of `TableMut` that hands the row out to be written;
-// the borrow checker does not cover a part lent on past a ghost field.
+// Joins another row into the row of station i, lent as a part of the table.
 fn join_into(table: &mut TableMut, i: Station, other: &[u8])
     requires { i.0 < table.old.n }
     ensures same_loan { IsSameLoan table.old table.new }
@@ -262,6 +248,17 @@ fn join_into(table: &mut TableMut, i: Station, other: &[u8])
     let a = cells::row_start(table.n, i);
     let e = a + table.n as usize;
     rows::join_row(&mut table.bytes[a..e], other, i);
+}
+
+// Station i suspects station j: marked in the row of i, lent as a part of the table.
+fn suspect(table: &mut TableMut, i: Station, j: Station)
+    requires { i.0 < table.old.n }
+    ensures same_loan { IsSameLoan table.old table.new }
+    ensures row_marked { table.new.bytes.now ≡ suspect table.old.n table.old.bytes.now i.0 j.0 }
+{
+    let a = cells::row_start(table.n, i);
+    let e = a + table.n as usize;
+    rows::mark_row(&mut table.bytes[a..e], j);
 }
 
 // Station i leaves if it is live and suspects all others.
@@ -276,8 +273,7 @@ fn leave_if_alone(table: &mut TableMut, i: Station)
     }
 }
 
-// Whether i is live and suspects all others. A loop with an exit: std's `all` was tried here and in the check of a table,
-// which took 1.7 to 2.2 times as long with it.
+// Whether i is live and suspects all others. A loop with an exit is faster here than std's `all`.
 #[tactic(auto, using(lists::proofs::Loops::loops), unfolding(crate::specs::Turn::is_alone))]
 fn suspects_all(table: &Table, i: Station) -> bool
     requires { i.0 < table.now.n }

@@ -1,7 +1,5 @@
 // What a turn goes by, computed once for a run and handed on by value: the wiring, the size, and the end distance of both. So no turn computes the
-// end distance again. Measured by instructions of a run, with 8, 11 and 64 boards: 0.94 to 0.98 of those with the cube alone and no wiring; 1.05 to
-// 1.06 with the wiring by itself; 1.08 to 1.10 with a trait that has a type for each wiring, since what both have in common is then called from two
-// places, so that the compiler puts it in line no more.
+// end distance again.
 ghost use Rattle.std.specs.Prelude.{◌≡◌, true};
 ghost use Rattle.table.specs.Sizes.{is_size};
 ghost use Rattle.table.specs.Wiring.{wiring_number, end_distance};

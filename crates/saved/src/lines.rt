@@ -92,8 +92,7 @@ fn told_by(status: u8) -> u8
     }
 }
 
-// Whether all are seen. The loop has no exit: where all of 8, 16, 32, 63 or 64 were seen, one with an exit took 2 to 20 times as long, and `all`
-// took 1.3 to 10 times as long (each by itself, written in Rust).
+// Whether all are seen. The loop has no exit, so that the compiler takes many at a time: mostly all are.
 fn all_seen(seen: &[bool]) -> bool
     ensures { result ≡ every (λ i. slice_index_or seen.now i false) (length seen.now) }
 {

@@ -1,5 +1,5 @@
 // The writer.
-ghost use Rattle.std.specs.Prelude.{◌≡◌, ◌∷◌, ◌++◌, ◌+◌, ◌*◌, ◌≤◌, ◌<◌, length};
+ghost use Rattle.std.specs.Prelude.{◌≡◌, ◌∷◌, ◌+◌, ◌*◌, ◌≤◌, ◌<◌, length};
 ghost use Rattle.std.proofs.lemmas.List.Edits.{sets};
 ghost use Rattle.table.specs.Table.{stride};
 ghost use Rattle.saved.specs.Bytes.{bytes_of};
@@ -42,8 +42,7 @@ pub(crate) fn saved_length(n: u8) -> usize
     FRONT + n * (n + cells::HEAD as usize + BESIDE_LINE)
 }
 
-// The opening, the size field and the tally field. By places, here and below. Tried: a struct with the rest of the buffer, which each write moves on;
-// of what is written through a cursor that `split_at_mut` moves on a proof knows nothing afterwards.
+// The opening, the size field and the tally field, by their places.
 fn write_front(n: u8, tally: Tally, buffer: &mut [u8])
     requires { 19 ≤ length buffer.old }
     ensures { buffer.new ≡ sets buffer.old 0 (front_fields n tally) }
@@ -64,7 +63,7 @@ fn write_lines(table: &Table, buffer: &mut [u8])
         buffer.new ≡ sets buffer.old 19 (saved_lines n table.now.bytes.now n) }
 {
     let stride = table.n as usize + cells::HEAD as usize;
-    // Not `chunks_exact`, which divides: a save of 8 boards was 0.92 times as fast.
+    // Faster than `chunks_exact`, which divides.
     for (i, line) in table.bytes.chunks(stride).enumerate() {
         write_line(i, line, buffer);
     }

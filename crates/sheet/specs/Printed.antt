@@ -12,10 +12,10 @@ wrong_call_words NotText = Some (codes "sheet: an argument is not text in UTF-8"
 wrong_call_words (Words error) = None
 wrong_call_words NoSize = Some (codes "sheet: a size is needed, from 2 to 64")
 wrong_call_words NotASize = Some (codes "sheet: argument 1 is not a size from 2 to 64")
-wrong_call_words MoreThanSizes = Some (codes "sheet: nothing may stand beside --sizes")
+wrong_call_words MoreThanSizes = Some (codes "sheet: --sizes takes no other argument")
 wrong_call_words (NotABoard argument last) =
     Some (codes "sheet: argument " ++ (decimal argument ++ (codes " is not a board from 0 to " ++ decimal last)))
-wrong_call_words (NamedAgain argument) = Some (codes "sheet: argument " ++ decimal argument ++ codes " names a board again")
+wrong_call_words (NamedAgain argument) = Some (codes "sheet: argument " ++ decimal argument ++ codes " repeats a board")
 wrong_call_words TooFewLive = Some (codes "sheet: at least two boards must be live")
 
 -- boards, each behind a space

@@ -68,7 +68,7 @@ impl fmt::Display for WrongCall {
             WrongCall::Words(error) => write!(f, "{error}"),
             WrongCall::NoSize => f.write_str("sheet: a size is needed, from 2 to 64"),
             WrongCall::NotASize => f.write_str("sheet: argument 1 is not a size from 2 to 64"),
-            WrongCall::MoreThanSizes => f.write_str("sheet: nothing may stand beside --sizes"),
+            WrongCall::MoreThanSizes => f.write_str("sheet: --sizes takes no other argument"),
             WrongCall::NotABoard { argument, last } => {
                 write!(
                     f,
@@ -76,7 +76,7 @@ impl fmt::Display for WrongCall {
                 )
             }
             WrongCall::NamedAgain { argument } => {
-                write!(f, "sheet: argument {argument} names a board again")
+                write!(f, "sheet: argument {argument} repeats a board")
             }
             WrongCall::TooFewLive => f.write_str("sheet: at least two boards must be live"),
         }

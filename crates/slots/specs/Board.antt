@@ -1,4 +1,4 @@
--- The commissioning sheet's numbers for a station of a table, for all inputs: its tests a round, and the most with one more dead station.
+-- The slot of a station of a table by its own row, for all inputs: its tests a round, and the most with one more dead station.
 -- Assumes nothing.
 use Rattle.std.specs.Prelude.{ℕ, List, Result, Ok}
 use Rattle.table.specs.Table.{row, live}

@@ -1,4 +1,5 @@
-// The commissioning sheet's numbers for a station of a table.
+// The slot of a station of a table, by its own row. The commissioning sheet has the numbers by the row that suspects just the dead: they are the
+// same once the station suspects all who are not live, and nobody else.
 ghost use Rattle.std.specs.Prelude.{◌≡◌, ◌<◌, ◌≤◌, length, IfOk};
 ghost use Rattle.std.specs.Result.{result_map_both};
 ghost use Rattle.slots.specs.Board.{slot_by_row, slot_check, slot_answer};

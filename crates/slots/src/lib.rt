@@ -1,8 +1,8 @@
-// What the commissioning sheet says of a board, by its row: which boards it tests, whom it does not test and who stands ahead (`untested`), how many
-// tests it makes a round, and the most that one more dead board can make of it, by which its slot on the cable is timed (specs/Slots.antt). The
-// law behind the numbers is claimed by the functions of `claims`, which do nothing. Size, row and station stand side by side: in the public calls
-// since any row is taken, of the size's length or not, and in the private ones since a struct would borrow the row, which `tests_with` marks
-// between two calls.
+// What a row says of a board's tests, that of the commissioning sheet too: which boards it tests, whom it does not test and who stands ahead
+// (`untested`), how many tests it makes a round, and the most that one more dead board can make of it, by which its slot on the cable is timed
+// (specs/Slots.antt). The law behind the numbers is claimed by the functions of `claims`, which do nothing. Size, row and station stand side by
+// side: in the public calls since any row is taken, of the size's length or not, and in the private ones since a struct would borrow the row,
+// which `tests_with` marks between two calls.
 #![tactic(auto)]
 
 ghost use Rattle.std.specs.Prelude.{◌≡◌, map, true, false};

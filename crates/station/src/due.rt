@@ -23,7 +23,7 @@ fn is_unsuspected(row: &[u8], x: Station) -> bool
 }
 
 // The first station that the row does not suspect in the group of j at the level of distance m.
-// A plain loop, since the run goes through it: in the check of a table std's `all` took 1.7 to 2.2 times as long as a loop.
+// A plain loop, faster than a chain: the run goes through it.
 fn first_unsuspected(row: &[u8], j: Station, m: Distance) -> Option<Station>
     ensures { option_map (λ x. x.0) result ≡ first (unsuspected row.now) j.0 (level m.0) }
 {
@@ -49,8 +49,8 @@ pub fn stands(row: &[u8], i: Station, m: Distance) -> bool
     at < row.len()
 }
 
-// Whether distance m is due for i, by i's row, or who is first instead; i itself where nobody stands or nobody is first. It is one function, since
-// with the part behind the first test as a call of its own drives were 0.93 times as fast.
+// Whether distance m is due for i, by i's row, or who is first instead; i itself where nobody stands or nobody is first. One function, since drives
+// are slower where the part behind the first test is a call of its own.
 #[tactic(auto, using(crate::proofs::DueLaws::answer_absent, crate::proofs::DueLaws::answer_here))]
 pub fn due_or_ahead(row: &[u8], i: Station, m: Distance) -> DueOrAhead
     ensures { answer_value result ≡ answer row.now i.0 m.0 }

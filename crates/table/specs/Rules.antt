@@ -66,7 +66,7 @@ live_finished n t = every (finished_if_live n t) n
 abbrev pub round_over : ℕ → List ℕ → Bool
 round_over n t = some_live n t && live_finished n t
 
--- refusals 1 and 2: n is not 2 to 64; the table has not n·(n + 6) bytes
+-- refusals 1 and 2: n is not 2 to 64; the table's length is not n·(n + 6)
 unfoldable pub shape_check : ℕ → ℕ → Check
 shape_check n len = ensure (is_size n) SizeOutOfRange and ensure (len == table_length n) TableLength
 
@@ -87,9 +87,6 @@ abbrev pub numbered_table_check : ℕ → ℕ → List ℕ → Check
 numbered_table_check w n t = wiring_check w and table_check_on w n t
 
 -- their numbers
-abbrev pub shape_refusal : ℕ → ℕ → ℕ
-shape_refusal n len = number_of_result (shape_check n len)
-
 abbrev pub table_refusal : ℕ → List ℕ → ℕ
 table_refusal n t = number_of_result (table_check n t)
 
@@ -100,6 +97,6 @@ numbered_table_refusal w n t = number_of_result (numbered_table_check w n t)
 abbrev pub station_check : ℕ → ℕ → Check
 station_check n i = ensure (nat_lt i n) NoSuchStation
 
--- refusal 13: the list or buffer for the answer has another length than the answer
+-- refusal 13: the list or buffer for the answer has the wrong length
 abbrev pub length_check : ℕ → ℕ → Check
 length_check stated len = ensure (len == stated) ListLength

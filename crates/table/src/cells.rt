@@ -1,6 +1,6 @@
 // The bytes of the lent table, by line and column.
 ghost use Rattle.std.specs.Prelude.{◌≡◌, ◌+◌, ◌*◌, ◌≤◌};
-ghost use Rattle.table.specs.Table.{head, stride, table_length, line_start, cell, row_start};
+ghost use Rattle.table.specs.Table.{head, stride, table_length, line_start, row_start};
 
 use crate::Station;
 
@@ -59,13 +59,4 @@ pub fn row_start(n: u8, i: Station) -> usize
     ensures upper_bound { result ≤ 255 * stride 255 + head }
 {
     line_start(n, i) + HEAD as usize
-}
-
-// Byte c of line i; 0 past the table's end.
-#[tactic(auto, unfolding(crate::specs::Table::cell))]
-pub(crate) fn get_cell(n: u8, table: &[u8], i: Station, c: u16) -> u8
-    ensures { result ≡ cell n table.now i.0 c }
-{
-    let at = line_start(n, i) + c as usize;
-    table.get(at).copied().unwrap_or(0)
 }

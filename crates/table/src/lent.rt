@@ -2,7 +2,7 @@
 // no method asks for them. That a line or column is there a method does ask, since it makes no test of its place.
 ghost use Rattle.std.specs.Prelude.{◌≡◌, ◌+◌, ◌<◌, ◌==◌, true, length, IfOk};
 ghost use Rattle.table.specs.Sizes.{is_size};
-ghost use Rattle.table.specs.Table.{head, stride, table_length, cell, set_cell, status_column, row_start, row, live, next_distance, finished, suspects};
+ghost use Rattle.table.specs.Table.{stride, table_length, cell, set_cell, status_column, row_start, row, live, next_distance, finished, suspects};
 ghost use Rattle.table.specs.Status.{status_byte};
 ghost use Rattle.std.specs.Result.{result_map_both};
 ghost use Rattle.table.specs.Wiring.{wiring_number};
@@ -23,8 +23,7 @@ pub struct Table<'a> {
     ghost fits: { length bytes.now ≡ table_length n },
 }
 
-// A table of n stations, to be written. It is made by hand behind a check: of a `checked` of its own callers would not know that a refused call
-// leaves the bytes, since the clause for that, LendsIfOk, is for no slice.
+// A table of n stations, to be written. A caller checks the bytes as a `Table` first, and then makes it of the same size and bytes.
 #[derive(Drop)]
 pub struct TableMut<'a> {
     pub n: u8,
@@ -139,8 +138,7 @@ impl<'a> Table<'a> {
         !self.is_live(i) | self.is_finished(i)
     }
 
-    // Whether some station is live and every live one has finished its pass. One pass answers both, by a loop with an exit as in
-    // `rules::all_lines`, where `all` was slower.
+    // Whether some station is live and every live one has finished its pass. One pass answers both.
     #[tactic(auto, using(lists::proofs::Loops::loops, crate::proofs::Accepting::rounds))]
     pub fn is_round_over(&self) -> bool
         ensures { result ≡ round_over self.now.n self.now.bytes.now }
@@ -180,7 +178,7 @@ impl<'a> Table<'a> {
     }
 
     // Whether the row of station i keeps its rules: the station's byte about itself, and every byte, by the greatest one. The loop has no exit, so
-    // that the compiler takes many bytes at a time. By std's `max` a save of 8 boards was 0.96 times as fast.
+    // that the compiler takes many bytes at a time.
     #[tactic(auto, using(lists::proofs::Loops::loops, crate::proofs::CellLaws::row_at), unfolding(crate::specs::Rules::row_rule))]
     pub fn keeps_row_rule(&self, i: Station) -> bool
         requires { i.0 < self.now.n }
@@ -246,16 +244,5 @@ impl<'a> TableMut<'a> {
         let a = cells::line_start(self.n, i);
         let e = a + line.len();
         self.bytes[a..e].copy_from_slice(line);
-    }
-
-    // Station i suspects station k.
-    pub fn suspect(&mut self, i: Station, k: Station)
-        requires line { i.0 < self.old.n }
-        requires suspected { k.0 < self.old.n }
-        ensures same_loan { IsSameLoan self.old self.new }
-        ensures suspicion_written { self.new.bytes.now
-            ≡ set_cell self.old.n self.old.bytes.now i.0 (head + k.0) 1 }
-    {
-        self.put(i, cells::HEAD + k.0 as u16, 1);
     }
 }

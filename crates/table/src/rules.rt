@@ -1,11 +1,10 @@
 // The line rules and the check of a table: refusals 1 to 4.
-// Within a line bools are joined by `&` and `|`, which make no branch: where a branch was measured to be faster an `if` stands.
+// Within a line bools are joined by `&` and `|`, which make no branch; an `if` stands where a branch is faster.
 ghost use Rattle.std.specs.Prelude.{◌≡◌, ◌<◌};
 ghost use Rattle.lists.specs.Search.{every};
 ghost use Rattle.table.specs.Status.{status_byte};
-ghost use Rattle.table.specs.Table.{live};
 ghost use Rattle.table.specs.Wiring.{wiring_number};
-ghost use Rattle.table.specs.Rules.{pass_rule, exit_rule, wired_line_rules, finished_if_live, round_over, shape_check, table_check};
+ghost use Rattle.table.specs.Rules.{pass_rule, exit_rule, wired_line_rules, shape_check, table_check};
 
 use crate::lent::Table;
 use crate::status::Status;
@@ -34,41 +33,7 @@ pub fn check_table(n: usize, table: &[u8]) -> Result<(), Refusal>
     Table::checked(n, table).map(|_| ())
 }
 
-// This function and the two below ask nothing of size and table, as each that is open to a caller: a byte past the end counts as 0. The methods of
-// `Table`, by which a run reads its table, ask that the line is there and make no test of the place.
-//
-// Whether station i is live.
-pub fn is_live(n: u8, table: &[u8], i: Station) -> bool
-    ensures { result ≡ live n table.now i.0 }
-{
-    cells::get_cell(n, table, i, cells::STATUS) == u8::from(Status::Live)
-}
-
-// Whether some station is live and every live one has finished its pass: the loop of `Table::is_round_over`.
-#[tactic(auto, using(lists::proofs::Loops::loops, crate::proofs::Accepting::rounds))]
-pub fn is_round_over(n: u8, table: &[u8]) -> bool
-    ensures { result ≡ round_over n table.now }
-{
-    let mut some = false;
-    for i in 0..n {
-        if !finished_if_live(n, table, Station(i)) {
-            return false;
-        }
-        some |= is_live(n, table, Station(i));
-    }
-    some
-}
-
-// Whether station i, if it is live, has finished its pass.
-pub fn finished_if_live(n: u8, table: &[u8], i: Station) -> bool
-    ensures { result ≡ finished_if_live n table.now i.0 }
-{
-    let finished = cells::get_cell(n, table, i, cells::FINISHED);
-    !is_live(n, table, i) | (finished == 1)
-}
-
-// Whether every line obeys the line rules. A loop with an exit: by std's `all` a check took 1.7 to 2.2 times as long, 111 for 64 ns with 8
-// stations and 843 for 379 ns with 64.
+// Whether every line obeys the line rules. A loop with an exit is faster here than std's `all`.
 #[tactic(auto, using(lists::proofs::Loops::loops))]
 pub(crate) fn all_lines(wiring: Wiring, table: &Table) -> bool
     ensures { let n = table.now.n in
@@ -118,8 +83,7 @@ pub fn pass_rule(end: u16, next: u8, finished: u8, tests: u8) -> bool
     (finished == 0) | ((finished == 1) & (next as u16 == end))
 }
 
-// The rules of bytes 4 and 5, by the status. Byte 4 is asked first, since most often it is 255, and the rest makes no branch: measured, a save
-// of 8 boards was 0.95 times as fast by a match on byte 4, and 0.86 times by one on the status.
+// The rules of bytes 4 and 5, by the status. Byte 4 is asked first, since most often it is 255, and the rest makes no branch.
 #[tactic(auto, unfolding(crate::specs::Rules::exit_rule))]
 pub fn exit_rule(n: u8, i: Station, status: Status, by: u8, ago: u8) -> bool
     ensures { result ≡ exit_rule n i.0 (status_byte status) by ago }

@@ -3,7 +3,7 @@
 -- it leaves in the variables, a tally is handed in by its parts, and figures and totals are the members of a struct in their order.
 -- A station, level or last number may be any; the definitions of `station` and `granter` refuse it as they refuse any that is too high.
 -- Assumes nothing.
-use Rattle.std.specs.Prelude.{◌≡◌, ℕ, ◌+◌, ◌==◌, if◌then◌else◌, List, [], ◌∷◌, length, replicate, Option, Some, None, option_map, unwrap_or}
+use Rattle.std.specs.Prelude.{◌≡◌, ℕ, ◌+◌, ◌*◌, ◌==◌, if◌then◌else◌, List, [], ◌∷◌, length, replicate, Option, Some, None, option_map, unwrap_or}
 use Rattle.std.specs.Prelude.{Result, Ok, Err, slice_index, slice_range}
 use Rattle.std.specs.Result.{result_unwrap_or, result_ok}
 use Rattle.std.proofs.lemmas.List.Edits.{sets}
@@ -28,6 +28,10 @@ use Rattle.lamp.specs.declared.Doubt.{Doubt}
 use Rattle.saved.specs.declared.Loaded.{Loaded}
 use Rattle.figures.specs.declared.Figures.{Figures}
 use Rattle.figures.specs.declared.Totals.{Totals}
+
+-- Version: major, minor and patch as one number
+abbrev pub version_number : ℕ → ℕ → ℕ → ℕ
+version_number major minor patch = 10000 * major + 100 * minor + patch
 
 -- Row: the part of the table with this start and so many bytes is the row, and has none where it is refused
 abbrev pub IsRowAt : ℕ → ℕ → List ℕ → ℕ → ℕ → ℕ → Type 0

@@ -33,6 +33,7 @@ ghost use Rattle.vcube.specs.WordsFit.{InputWordsFit};
 ghost use Rattle.vcube.specs.Exports.{schedule_length, words_length, worded, words_of_input, input_check, input_out, input_figures, schedule_after};
 ghost use Rattle.vcube.specs.Exports.{input_words_after};
 ghost use Rattle.vcube.specs.Exports.{slot_out, slot_figures, wait_out, wait_figures, words_check, words_after, words_of_refusal, words_of_status, words_of_outcome};
+ghost use Rattle.vcube.specs.Exports.{version_number};
 ghost use Rattle.vcube.specs.Exports.{totals_members, totals_with, figures_out, totals_out};
 
 pub mod claims;
@@ -53,6 +54,21 @@ use table::{Level, Station, cells, fresh};
 
 // Stands for the two stations of a pair where the doubt lamp has none.
 const NO_STATION: u8 = 255;
+
+// The version of the library, as in include/vcube.h.
+const MAJOR: u32 = 1;
+
+const MINOR: u32 = 2;
+
+const PATCH: u32 = 0;
+
+// Version: that of the library, as one number.
+#[unsafe(no_mangle)]
+pub extern "C" fn vcube_version() -> u32
+    ensures { result ≡ version_number 1 2 0 }
+{
+    10000 * MAJOR + 100 * MINOR + PATCH
+}
 
 // Fresh table: every line live, next distance 1, byte 4 255, all else 0.
 #[unsafe(no_mangle)]

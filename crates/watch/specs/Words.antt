@@ -14,7 +14,7 @@ too_many_words = codes "watch: more than one argument"
 
 -- of a word that begins with a hyphen and is no option
 abbrev pub unknown_option_words : List ℕ → List ℕ
-unknown_option_words word = codes "watch: unknown option: " ++ (word ++ codes " (./watch --help says what there is)")
+unknown_option_words word = codes "watch: unknown option: " ++ (word ++ codes " (see ./watch --help)")
 
 -- what is wrong with the arguments
 abbrev pub wrong_call_words : WrongCall → List ℕ

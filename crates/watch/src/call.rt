@@ -87,10 +87,7 @@ impl fmt::Display for WrongCall {
             WrongCall::NotText => f.write_str("watch: an argument is not text in UTF-8"),
             WrongCall::TooMany => f.write_str("watch: more than one argument"),
             WrongCall::UnknownOption(word) => {
-                write!(
-                    f,
-                    "watch: unknown option: {word} (./watch --help says what there is)"
-                )
+                write!(f, "watch: unknown option: {word} (see ./watch --help)")
             }
             WrongCall::NoSuchFile(path) => write!(f, "watch: no such file: {path}"),
             WrongCall::Folder(path) => write!(f, "watch: a folder, not a file: {path}"),

@@ -233,12 +233,12 @@ fn dead_boards_in_any_order() {
 
 #[test]
 fn argument_names_a_board_again() {
-    wrong(&["8", "4", "4"], "argument 3 names a board again");
-    wrong(&["8", "4", "04"], "argument 3 names a board again");
-    wrong(&["8", "00", "0"], "argument 3 names a board again");
-    wrong(&["8", "4", "5", "4"], "argument 4 names a board again");
-    wrong(&["8", "4", "5", "5", "4"], "argument 4 names a board again");
-    wrong(&["8", "4", "4", "x"], "argument 3 names a board again");
+    wrong(&["8", "4", "4"], "argument 3 repeats a board");
+    wrong(&["8", "4", "04"], "argument 3 repeats a board");
+    wrong(&["8", "00", "0"], "argument 3 repeats a board");
+    wrong(&["8", "4", "5", "4"], "argument 4 repeats a board");
+    wrong(&["8", "4", "5", "5", "4"], "argument 4 repeats a board");
+    wrong(&["8", "4", "4", "x"], "argument 3 repeats a board");
     wrong(
         &["8", "4", "x", "4"],
         "argument 3 is not a board from 0 to 7",
@@ -247,7 +247,7 @@ fn argument_names_a_board_again() {
     all.insert(0, String::from("64"));
     all.push(String::from("63"));
     let all: Vec<&str> = all.iter().map(String::as_str).collect();
-    wrong(&all, "argument 66 names a board again");
+    wrong(&all, "argument 66 repeats a board");
 }
 
 #[test]
@@ -272,14 +272,14 @@ fn each_argument_is_looked_at_before_the_live_are_counted() {
         &["2", "0", "1", "x"],
         "argument 4 is not a board from 0 to 1",
     );
-    wrong(&["2", "0", "1", "1"], "argument 4 names a board again");
+    wrong(&["2", "0", "1", "1"], "argument 4 repeats a board");
 }
 
 #[test]
 fn nothing_may_stand_beside_sizes() {
     for rest in [&[""][..], &["8"], &["x"], &["--sizes"], &["8", "4"]] {
         let arguments = [&["--sizes"][..], rest].concat();
-        wrong(&arguments, "nothing may stand beside --sizes");
+        wrong(&arguments, "--sizes takes no other argument");
     }
     assert!(printed(&["--sizes"]).starts_with("| boards |"));
 }

@@ -20,7 +20,10 @@ fn words(call: Call, number: usize) -> String {
 fn some_of_each() {
     assert_eq!(words(refusal_words, 1), "a plant has 2 to 64 boards");
     assert_eq!(words(refusal_words, 10), "this board is not live");
-    assert_eq!(words(refusal_words, 24), "there is no such wiring");
+    assert_eq!(
+        words(refusal_words, 24),
+        "the wiring is neither 1, the cube, nor 2, the ring"
+    );
     assert_eq!(words(status_words, 0), "live");
     assert_eq!(words(status_words, 3), "left because alone");
     assert_eq!(words(outcome_words, 0), "pass finished");

@@ -12,7 +12,8 @@ pub returns-clause-detection : goal.returns-clause-detection
 returns-clause-detection c =
     let before = state_with c.args.table.now c.args.tally in
     let drives = λ (rounds : ℕ → ℕ → ℕ) (claim : DrivenDetection rounds). last-drive rounds claim c.args.wiring c.args.n c.args.last before in
-    subst (DrivenDetectionInList c.args.wiring c.args.n c.args.last before) (sym (ap (λ (o : DriveResult). o.state) c.drive.ensures.outcome)) (record {
+    let after = ap (λ (o : DriveResult). o.state) c.drive.ensures.outcome in
+    subst (DrivenDetectionInList c.args.wiring c.args.n c.args.last before) (sym after) (record {
       in_square = drives square_rounds driven-in-square;
       in_triangle = drives triangle_rounds driven-in-triangle;
       in_worst_case = drives worst_rounds driven-in-worst-case;

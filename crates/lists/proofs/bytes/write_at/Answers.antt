@@ -9,6 +9,8 @@ returns-then-list-at c = sym (sets-past c.args.list.now c.args.text.now c.args.a
 
 pub returns : goal.returns
 returns c =
+    let a = c.args in
     let k = c.min-fits.result in
-    let e : c.args.at + k - c.args.at ≡ k = omega arith in
-    rw (e, c.copy_from_slice.ensures.after, drop-drop) (sym (sets-within c.args.list.now c.args.text.now c.args.at k (omega (arith, c.if-list-at.false)) c.min-fits.ensures))
+    let e : a.at + k - a.at ≡ k = omega arith in
+    rw (e, c.copy_from_slice.ensures.after, drop-drop)
+    (sym (sets-within a.list.now a.text.now a.at k (omega (arith, c.if-list-at.false)) c.min-fits.ensures))
