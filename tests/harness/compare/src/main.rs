@@ -1,128 +1,98 @@
-//! Runs the simulator, the library and the typed layer of bindings/rust on the
-//! same random calls and compares every byte and every figure.
+//! Random calls of the library, and what the simulator gives for each.
 
-#![deny(unsafe_code)]
+#![forbid(unsafe_code)]
 
-mod absent;
-mod assign_faults;
-mod assigned;
-mod assigning;
-mod borders;
-mod by_library;
-mod by_simulator;
-mod by_typed;
+mod answer;
 mod call;
-mod calls;
-mod cases;
-mod ceased;
-mod ceased_faults;
-mod ceasing;
-mod converting;
-mod counts;
-mod cuts;
-mod doubted;
-mod doubting;
-mod entries;
-mod faults;
 mod generate;
-mod grant_faults;
-mod granted;
-mod granting;
-mod guarded;
-mod handed;
-mod lamp_faults;
-mod mend_faults;
-mod mended;
-mod mending;
-mod occurred;
+mod header;
 mod options;
-mod outcome;
-mod recorded;
-mod report;
-mod result_faults;
-mod ring;
-mod ring_faults;
-mod save_faults;
-mod saved;
-mod saving;
-mod self_test;
-mod size_faults;
-mod slot_faults;
-mod slotted;
-mod text_faults;
-mod texts;
-mod told;
-mod told_faults;
-mod trial;
-mod wait_faults;
-mod waited;
-mod waiting;
-mod ways_back;
-mod wired;
-mod words;
+mod record;
 
+use std::fs::File;
+use std::io::{self, BufReader, BufWriter, Read, Write};
+use std::panic::{self, AssertUnwindSafe};
+use std::path::Path;
 use std::process::ExitCode;
 
-use counts::Counts;
 use options::{Options, Task};
-use trial::Trial;
 
-/// From so many calls on, the coverage is checked.
-const ENOUGH_CALLS: u64 = options::DEFAULT_CALLS;
+/// So many differences are printed.
+const PRINTED: u64 = 10;
 
 fn main() -> ExitCode {
-    shared::options::end(Options::read().and_then(|options| work(&options)))
+    match Options::read().and_then(|options| work(&options)) {
+        // The record stands there.
+        Ok(text) if text.is_empty() => ExitCode::SUCCESS,
+        said => shared::options::end(said),
+    }
 }
 
 fn work(options: &Options) -> Result<String, String> {
-    let seed = options.seed;
     match &options.task {
-        Task::SelfTest => self_test::self_test(seed)
-            .map(|noticed| format!("compare: self-test: all {noticed} alterations noticed")),
-        Task::Only(number) => only(seed, *number),
-        Task::Calls(calls) => compare(seed, *calls, options.trace),
-        Task::Record(calls, path) => recorded::record(seed, *calls, path),
+        Task::Record(path) => record(options, path)
+            .map_err(|error| format!("compare: cannot write {}: {error}", path.display())),
+        Task::Answer(path) => answer_again(path),
     }
 }
 
-/// Makes one call and prints all of it.
-fn only(seed: u64, number: u64) -> Result<String, String> {
-    let trial = Trial::make(seed, number);
-    let mut text = report::trial_text(number, &trial, usize::MAX);
-    let mut found = trial.difference();
-    if let Some(back) = trial.way_back() {
-        text += &report::trial_text(number, &back, usize::MAX);
-        found = found.or_else(|| back.difference());
+fn record(options: &Options, path: &Path) -> io::Result<String> {
+    let to: Box<dyn Write> = match path.to_str() {
+        Some("-") => Box::new(io::stdout().lock()),
+        _ => Box::new(File::create(path)?),
+    };
+    let mut to = BufWriter::with_capacity(1 << 20, to);
+    let mut text = Vec::new();
+    for number in 1..=options.calls {
+        let call = generate::call(options.seed, number);
+        text.clear();
+        record::write(&call, &answer::answer(&call), &mut text);
+        to.write_all(&text)?;
     }
-    match found {
-        None => Ok(text + "no difference"),
-        Some(found) => Err(format!("{text}difference: {found}")),
+    to.flush()?;
+    match path.to_str() {
+        Some("-") => Ok(String::new()),
+        _ => Ok(format!(
+            "compare: {} calls of seed {} are in {}",
+            options.calls,
+            options.seed,
+            path.display()
+        )),
     }
 }
 
-/// Makes the calls up to the first difference.
-fn compare(seed: u64, calls: u64, trace: bool) -> Result<String, String> {
-    let mut counts = Counts::all(0);
-    for number in 1..=calls {
-        if trace {
-            eprintln!("call {number}");
+/// Lets the simulator make each call of a record again, and prints those that give something else. One that panics does.
+fn answer_again(path: &Path) -> Result<String, String> {
+    let failed = |error: io::Error| format!("compare: cannot read {}: {error}", path.display());
+    let from: Box<dyn Read> = match path.to_str() {
+        Some("-") => Box::new(io::stdin().lock()),
+        _ => Box::new(File::open(path).map_err(failed)?),
+    };
+    let mut calls = record::Reader(BufReader::with_capacity(1 << 20, from));
+    panic::set_hook(Box::new(|_| {}));
+    let (mut made, mut different) = (0, 0);
+    while let Some((call, recorded)) = calls.next().map_err(failed)? {
+        made += 1;
+        let given = panic::catch_unwind(AssertUnwindSafe(|| answer::answer(&call))).ok();
+        if given.as_ref() == Some(&recorded) {
+            continue;
         }
-        let trial = Trial::make(seed, number);
-        if let Some(found) = trial.difference() {
-            return Err(report::difference(seed, number, &trial, &found));
-        }
-        counts.add(&trial.call, &trial.simulator);
-        if let Some(back) = trial.way_back() {
-            if let Some(found) = back.difference() {
-                return Err(report::difference(seed, number, &back, &found));
-            }
-            ways_back::check(trial.made(), back.made())
-                .map_err(|text| report::failed(seed, number, &text))?;
-            counts.ways_back.add(trial.made());
+        different += 1;
+        if different <= PRINTED {
+            let number = given.map_or("nothing".into(), |given| given.number.to_string());
+            println!(
+                "call {made}, {}: number {number}, recorded {}",
+                call.function.name, recorded.number
+            );
         }
     }
-    shared::counts::check(&counts.missing(), calls >= ENOUGH_CALLS)?;
-    Ok(format!(
-        "compare: seed {seed}, {calls} calls agree: {counts}"
-    ))
+    match (made, different) {
+        (0, _) => Err(String::from("compare: the record has no call")),
+        (_, 0) => Ok(format!(
+            "compare: the simulator gives what is recorded for all {made} calls"
+        )),
+        _ => Err(format!(
+            "compare: the simulator gives something else for {different} of {made} calls"
+        )),
+    }
 }

@@ -4,53 +4,38 @@ use std::path::PathBuf;
 
 use shared::options::{Words, DEFAULT_SEED};
 
-const USAGE: &str =
-    "usage: compare [--seed S] [--calls N [--record FILE] | --only K | --self-test] [--trace]";
+const USAGE: &str = "usage: compare [--seed S] [--calls N] --record FILE | --answer FILE";
 
-pub const DEFAULT_CALLS: u64 = 900_000;
+const DEFAULT_CALLS: u64 = 900_000;
 
 pub enum Task {
-    /// Calls 1 up to this number.
-    Calls(u64),
-    /// Writes calls 1 up to this number, and what they give, to a file.
-    Record(u64, PathBuf),
-    /// Just the call with this number.
-    Only(u64),
-    SelfTest,
+    /// Writes the calls, and what they give, to a file, or to standard output where it is `-`.
+    Record(PathBuf),
+    /// Lets the simulator make the calls of a record again.
+    Answer(PathBuf),
 }
 
 pub struct Options {
     pub seed: u64,
+    /// How many calls.
+    pub calls: u64,
     pub task: Task,
-    /// Whether each call's number is printed before the call is made.
-    pub trace: bool,
 }
 
 impl Options {
     pub fn read() -> Result<Options, String> {
-        let mut options = Options {
-            seed: DEFAULT_SEED,
-            task: Task::Calls(DEFAULT_CALLS),
-            trace: false,
-        };
+        let (mut seed, mut calls, mut task) = (DEFAULT_SEED, DEFAULT_CALLS, None);
         let mut words = Words::given(USAGE);
-        let mut path = None;
         while let Some(word) = words.word() {
             match word.to_str() {
-                Some("--seed") => options.seed = words.value()?,
-                Some("--calls") => options.task = Task::Calls(words.value()?),
-                Some("--record") => path = Some(words.value()?),
-                Some("--only") => options.task = Task::Only(words.value()?),
-                Some("--self-test") => options.task = Task::SelfTest,
-                Some("--trace") => options.trace = true,
+                Some("--seed") => seed = words.value()?,
+                Some("--calls") => calls = words.value()?,
+                Some("--record") => task = Some(Task::Record(words.value()?)),
+                Some("--answer") => task = Some(Task::Answer(words.value()?)),
                 _ => return Err(words.usage()),
             }
         }
-        match (&options.task, path) {
-            (Task::Calls(calls), Some(path)) => options.task = Task::Record(*calls, path),
-            (_, None) => {}
-            (_, Some(_)) => return Err(words.usage()),
-        }
-        Ok(options)
+        let task = task.ok_or_else(|| words.usage())?;
+        Ok(Options { seed, calls, task })
     }
 }
