@@ -20,7 +20,11 @@ pub fn check(seed: u64, program: &Path) -> Result<usize, String> {
             let mut text = Vec::new();
             record::write(&call, &altered, &mut text);
             if replayer::replay(program, &text)?.is_none() {
-                return Err(format!("compare: {} does not notice an altered answer of {}", program.display(), function.name));
+                return Err(format!(
+                    "compare: {} does not notice an altered answer of {}",
+                    program.display(),
+                    function.name
+                ));
             }
             noticed += 1;
         }
@@ -31,7 +35,9 @@ pub fn check(seed: u64, program: &Path) -> Result<usize, String> {
 /// The first accepted call of a function on which each of its buffers has bytes.
 fn accepted(seed: u64, function: &Function) -> Result<(Call, Answer), String> {
     let calls = (1..=ENOUGH).map(|number| generate::call(seed, number));
-    let mut fitting = calls.filter(|call| call.function.name == function.name && !call.arguments.contains(&Vec::new()));
+    let mut fitting = calls.filter(|call| {
+        call.function.name == function.name && !call.arguments.contains(&Vec::new())
+    });
     let found = fitting.find_map(|call| {
         let answer = answer(&call);
         (answer.number == 0).then_some((call, answer))

@@ -36,8 +36,13 @@ fn main() -> ExitCode {
 
 fn work(options: &Options) -> Result<String, String> {
     match &options.task {
-        Task::Print => Ok(options.numbers.clone().map(|number| described(options.seed, number)).collect()),
-        Task::Record(path) => write(options, path).map_err(|error| format!("compare: cannot write {}: {error}", path.display())),
+        Task::Print => Ok(options
+            .numbers
+            .clone()
+            .map(|number| described(options.seed, number))
+            .collect()),
+        Task::Record(path) => write(options, path)
+            .map_err(|error| format!("compare: cannot write {}: {error}", path.display())),
         Task::With(programs) => compare(options, programs),
         Task::Answer(path) => answer_again(path),
     }
@@ -46,7 +51,11 @@ fn work(options: &Options) -> Result<String, String> {
 fn described(seed: u64, number: u64) -> String {
     let call = generate::call(seed, number);
     let answer = answer::answer(&call);
-    format!("call {number} of seed {seed}: {}{}", printed::call(&call), printed::answer(&call, &answer))
+    format!(
+        "call {number} of seed {seed}: {}{}",
+        printed::call(&call),
+        printed::answer(&call, &answer)
+    )
 }
 
 fn write(options: &Options, path: &Path) -> io::Result<String> {
@@ -63,7 +72,11 @@ fn write(options: &Options, path: &Path) -> io::Result<String> {
     failed.and_then(|()| to.flush())?;
     match is_piped {
         true => Ok(String::new()),
-        false => Ok(format!("compare: the calls of seed {} are in {}", options.seed, path.display())),
+        false => Ok(format!(
+            "compare: the calls of seed {} are in {}",
+            options.seed,
+            path.display()
+        )),
     }
 }
 
@@ -75,14 +88,19 @@ fn compare(options: &Options, programs: &[PathBuf]) -> Result<String, String> {
     }
     let started = programs.iter().map(|program| Replayer::start(program));
     let mut replayers = started.collect::<Result<Vec<_>, _>>()?;
-    blocks::record(options.seed, options.numbers.clone(), |block| replayers.iter_mut().all(|replayer| replayer.feed(block)));
-    let mut said = format!("compare: seed {}, {noticed} altered answers are noticed\n", options.seed);
+    blocks::record(options.seed, options.numbers.clone(), |block| {
+        replayers.iter_mut().all(|replayer| replayer.feed(block))
+    });
+    let mut said = format!(
+        "compare: seed {}, {noticed} altered answers are noticed\n",
+        options.seed
+    );
     for (replayer, program) in replayers.into_iter().zip(programs) {
         let (found, text) = replayer.finish()?;
         if let Some(found) = found {
             return Err(explained(options, program, &found)?);
         }
-        said += &text;
+        said = said + &text + "\n";
     }
     Ok(said.trim_end().into())
 }
@@ -91,10 +109,16 @@ fn compare(options: &Options, programs: &[PathBuf]) -> Result<String, String> {
 fn explained(options: &Options, program: &Path, found: &Difference) -> Result<String, String> {
     let (seed, number) = (options.seed, options.numbers.start() + found.number - 1);
     let (call, said) = shrink::shrink(program, generate::call(seed, number))?;
-    let said = if said.is_empty() { &found.text } else { &said };
-    let (call, answer) = (printed::call(&call), printed::answer(&call, &answer::answer(&call)));
-    let again = format!("call {number} of seed {seed}, whole: tests/compare --seed {seed} --only {number}");
-    Ok(format!("{}made smaller: {call}{answer}of this {} says: {said}{again}", found.text, program.display()))
+    let (call, answer) = (
+        printed::call(&call),
+        printed::answer(&call, &answer::answer(&call)),
+    );
+    let again = format!("all of call {number}: tests/compare --seed {seed} --only {number}");
+    Ok(format!(
+        "{}\nMade smaller: {call}{answer}but\n{}\n{again}",
+        found.text,
+        said.as_ref().unwrap_or(&found.text)
+    ))
 }
 
 /// Lets the simulator make each call of a record again, and prints those that give something else. One that panics does.
@@ -116,12 +140,19 @@ fn answer_again(path: &Path) -> Result<String, String> {
         different += 1;
         if different <= PRINTED {
             let number = given.map_or("nothing".into(), |given| given.number.to_string());
-            println!("call {made}, {}: number {number}, recorded {}", call.function.name, recorded.number);
+            println!(
+                "call {made}, {}: number {number}, recorded {}",
+                call.function.name, recorded.number
+            );
         }
     }
     match (made, different) {
         (0, _) => Err(String::from("compare: the record has no call")),
-        (_, 0) => Ok(format!("compare: the simulator gives what is recorded for all {made} calls")),
-        _ => Err(format!("compare: the simulator gives something else for {different} of {made} calls")),
+        (_, 0) => Ok(format!(
+            "compare: the simulator gives what is recorded for all {made} calls"
+        )),
+        _ => Err(format!(
+            "compare: the simulator gives something else for {different} of {made} calls"
+        )),
     }
 }

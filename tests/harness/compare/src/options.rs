@@ -5,7 +5,8 @@ use std::path::PathBuf;
 
 use shared::options::{Words, DEFAULT_SEED};
 
-const USAGE: &str = "usage: compare [--seed S] [--calls N | --only K] [--record FILE | --with PROGRAM ..]
+const USAGE: &str =
+    "usage: compare [--seed S] [--calls N | --only K] [--record FILE | --with PROGRAM ..]
        compare --answer FILE";
 
 const DEFAULT_CALLS: u64 = 900_000;
@@ -47,6 +48,10 @@ impl Options {
                 _ => return Err(words.usage()),
             }
         }
-        Ok(Options { seed, numbers, task })
+        Ok(Options {
+            seed,
+            numbers,
+            task,
+        })
     }
 }

@@ -11,7 +11,12 @@ const ROW: usize = 16;
 pub fn call(call: &Call) -> String {
     let mut text = format!("{}\n", call.function.name);
     for (k, argument) in call.function.arguments.iter().enumerate() {
-        value(argument, &call.arguments[k], row_of(call, argument), &mut text);
+        value(
+            argument,
+            &call.arguments[k],
+            row_of(call, argument),
+            &mut text,
+        );
     }
     text
 }
@@ -22,7 +27,12 @@ pub fn answer(call: &Call, answer: &Answer) -> String {
         match answer.arguments[k] == call.arguments[k] {
             true if argument.form.is_number() || argument.form.is_read_only() => {}
             true => _ = writeln!(text, "  {} unchanged", argument.name),
-            false => value(argument, &answer.arguments[k], row_of(call, argument), &mut text),
+            false => value(
+                argument,
+                &answer.arguments[k],
+                row_of(call, argument),
+                &mut text,
+            ),
         }
     }
     text

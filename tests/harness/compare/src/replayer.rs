@@ -5,7 +5,7 @@ use std::io::Write;
 use std::path::Path;
 use std::process::{Child, Command, Stdio};
 
-/// The first call that gives something else, and all that the program said.
+/// The first call that gives something else, and what the program said of it.
 pub struct Difference {
     pub number: u64,
     pub text: String,
@@ -19,8 +19,14 @@ pub struct Replayer<'a> {
 impl Replayer<'_> {
     pub fn start(path: &Path) -> Result<Replayer<'_>, String> {
         let mut command = Command::new(path);
-        command.arg("-").stdin(Stdio::piped()).stdout(Stdio::piped()).stderr(Stdio::piped());
-        let child = command.spawn().map_err(|error| format!("compare: cannot start {}: {error}", path.display()))?;
+        command
+            .arg("-")
+            .stdin(Stdio::piped())
+            .stdout(Stdio::piped())
+            .stderr(Stdio::piped());
+        let child = command
+            .spawn()
+            .map_err(|error| format!("compare: cannot start {}: {error}", path.display()))?;
         Ok(Replayer { path, child })
     }
 
@@ -34,12 +40,15 @@ impl Replayer<'_> {
     pub fn finish(mut self) -> Result<(Option<Difference>, String), String> {
         drop(self.child.stdin.take());
         let failed = |what: &str| format!("compare: {}: {what}", self.path.display());
-        let output = self.child.wait_with_output().map_err(|error| failed(&error.to_string()))?;
+        let output = self
+            .child
+            .wait_with_output()
+            .map_err(|error| failed(&error.to_string()))?;
         let text = [output.stderr, output.stdout].concat();
-        let text = String::from_utf8_lossy(&text).into_owned();
-        match (output.status.code(), first_call(&text)) {
+        let text = String::from_utf8_lossy(&text).trim_end().to_owned();
+        match (output.status.code(), first_difference(&text)) {
             (Some(0), _) => Ok((None, text)),
-            (Some(1), Some(number)) => Ok((Some(Difference { number, text: text.clone() }), text)),
+            (Some(1), Some(found)) => Ok((Some(found), text)),
             _ => Err(failed(&format!("{}: {text}", output.status))),
         }
     }
@@ -52,9 +61,26 @@ pub fn replay(path: &Path, record: &[u8]) -> Result<Option<Difference>, String> 
     Ok(replayer.finish()?.0)
 }
 
-/// The number behind the first `call `.
-fn first_call(text: &str) -> Option<u64> {
-    let (_, behind) = text.split_once("call ")?;
-    let digits = behind.split(|letter: char| !letter.is_ascii_digit()).next()?;
+/// The lines of the first call that is named.
+fn first_difference(text: &str) -> Option<Difference> {
+    let mut named = text
+        .lines()
+        .filter_map(|line| Some((number_in(line)?, line)))
+        .peekable();
+    let number = named.peek()?.0;
+    let lines: Vec<&str> = named
+        .filter(|(other, _)| *other == number)
+        .map(|(_, line)| line)
+        .collect();
+    let text = lines.join("\n");
+    Some(Difference { number, text })
+}
+
+/// The number behind `call `.
+fn number_in(line: &str) -> Option<u64> {
+    let (_, behind) = line.split_once("call ")?;
+    let digits = behind
+        .split(|letter: char| !letter.is_ascii_digit())
+        .next()?;
     digits.parse().ok()
 }
