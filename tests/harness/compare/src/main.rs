@@ -20,6 +20,7 @@ use std::panic::{self, AssertUnwindSafe};
 use std::path::{Path, PathBuf};
 use std::process::ExitCode;
 
+use generate::Source;
 use options::{Options, Task};
 use replayer::{Difference, Replayer};
 
@@ -39,7 +40,7 @@ fn work(options: &Options) -> Result<String, String> {
         Task::Print => Ok(options
             .numbers
             .clone()
-            .map(|number| described(options.seed, number))
+            .map(|number| described(options.source, number))
             .collect()),
         Task::Record(path) => write(options, path)
             .map_err(|error| format!("compare: cannot write {}: {error}", path.display())),
@@ -48,11 +49,11 @@ fn work(options: &Options) -> Result<String, String> {
     }
 }
 
-fn described(seed: u64, number: u64) -> String {
-    let call = generate::call(seed, number);
+fn described(source: Source, number: u64) -> String {
+    let call = source.call(number);
     let answer = answer::answer(&call);
     format!(
-        "call {number} of seed {seed}: {}{}",
+        "call {number}: {}{}",
         printed::call(&call),
         printed::answer(&call, &answer)
     )
@@ -65,35 +66,35 @@ fn write(options: &Options, path: &Path) -> io::Result<String> {
         false => Box::new(File::create(path)?),
     };
     let mut failed = Ok(());
-    blocks::record(options.seed, options.numbers.clone(), |block| {
+    blocks::record(options.source, options.numbers.clone(), |block| {
         failed = to.write_all(block);
         failed.is_ok()
     });
     failed.and_then(|()| to.flush())?;
     match is_piped {
         true => Ok(String::new()),
-        false => Ok(format!(
-            "compare: the calls of seed {} are in {}",
-            options.seed,
-            path.display()
-        )),
+        false => Ok(format!("compare: the calls are in {}", path.display())),
     }
 }
 
 /// Lets the programs make the calls. The first that gives something else is made smaller and printed.
 fn compare(options: &Options, programs: &[PathBuf]) -> Result<String, String> {
+    let whole = Source {
+        is_long: false,
+        ..options.source
+    };
     let mut noticed = 0;
     for program in programs {
-        noticed += altered::check(options.seed, program)?;
+        noticed += altered::check(whole, program)?;
     }
     let started = programs.iter().map(|program| Replayer::start(program));
     let mut replayers = started.collect::<Result<Vec<_>, _>>()?;
-    blocks::record(options.seed, options.numbers.clone(), |block| {
+    blocks::record(options.source, options.numbers.clone(), |block| {
         replayers.iter_mut().all(|replayer| replayer.feed(block))
     });
     let mut said = format!(
         "compare: seed {}, {noticed} altered answers are noticed\n",
-        options.seed
+        options.source.seed
     );
     for (replayer, program) in replayers.into_iter().zip(programs) {
         let (found, text) = replayer.finish()?;
@@ -107,13 +108,16 @@ fn compare(options: &Options, programs: &[PathBuf]) -> Result<String, String> {
 
 /// The call that gives something else, made smaller.
 fn explained(options: &Options, program: &Path, found: &Difference) -> Result<String, String> {
-    let (seed, number) = (options.seed, options.numbers.start() + found.number - 1);
-    let (call, said) = shrink::shrink(program, generate::call(seed, number))?;
+    let number = options.numbers.start() + found.number - 1;
+    let (call, said) = shrink::shrink(program, options.source.call(number))?;
     let (call, answer) = (
         printed::call(&call),
         printed::answer(&call, &answer::answer(&call)),
     );
-    let again = format!("all of call {number}: tests/compare --seed {seed} --only {number}");
+    let again = format!(
+        "all of call {number}: tests/compare {} --only {number}",
+        options.source
+    );
     Ok(format!(
         "{}\nMade smaller: {call}{answer}but\n{}\n{again}",
         found.text,
