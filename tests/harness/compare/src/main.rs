@@ -14,18 +14,16 @@ mod record;
 mod replayer;
 mod shrink;
 
+use std::collections::BTreeMap;
 use std::fs::File;
 use std::io::{self, BufReader, Read, Write};
-use std::panic::{self, AssertUnwindSafe};
+use std::panic;
 use std::path::{Path, PathBuf};
 use std::process::ExitCode;
 
 use generate::Source;
 use options::{Options, Task};
 use replayer::{Difference, Replayer};
-
-/// So many differences are printed.
-const PRINTED: u64 = 10;
 
 fn main() -> ExitCode {
     match Options::read().and_then(|options| work(&options)) {
@@ -125,7 +123,8 @@ fn explained(options: &Options, program: &Path, found: &Difference) -> Result<St
     ))
 }
 
-/// Lets the simulator make each call of a record again, and prints those that give something else. One that panics does.
+/// Lets the simulator make each call of a record again. Prints for each function how many calls give something else, and the first of them. A
+/// call that panics does.
 fn answer_again(path: &Path) -> Result<String, String> {
     let failed = |error: io::Error| format!("compare: cannot read {}: {error}", path.display());
     let from: Box<dyn Read> = match path.to_str() {
@@ -134,29 +133,30 @@ fn answer_again(path: &Path) -> Result<String, String> {
     };
     let mut calls = record::Reader(BufReader::with_capacity(1 << 20, from));
     panic::set_hook(Box::new(|_| {}));
-    let (mut made, mut different) = (0, 0);
+    let mut different = BTreeMap::new();
+    let mut made = 0;
     while let Some((call, recorded)) = calls.next().map_err(failed)? {
         made += 1;
-        let given = panic::catch_unwind(AssertUnwindSafe(|| answer::answer(&call))).ok();
-        if given.as_ref() == Some(&recorded) {
-            continue;
-        }
-        different += 1;
-        if different <= PRINTED {
-            let number = given.map_or("nothing".into(), |given| given.number.to_string());
-            println!(
-                "call {made}, {}: number {number}, recorded {}",
-                call.function.name, recorded.number
+        let given = panic::catch_unwind(|| answer::answer(&call)).ok();
+        if given.as_ref() != Some(&recorded) {
+            let given = given.map_or("nothing".into(), |given| given.number.to_string());
+            let first = format!(
+                "the first is call {made}: number {given}, recorded {}",
+                recorded.number
             );
+            different.entry(call.function.name).or_insert((0, first)).0 += 1;
         }
     }
-    match (made, different) {
+    for (function, (count, first)) in &different {
+        println!("{function}: {count} differ, {first}");
+    }
+    match (made, different.is_empty()) {
         (0, _) => Err(String::from("compare: the record has no call")),
-        (_, 0) => Ok(format!(
+        (_, true) => Ok(format!(
             "compare: the simulator gives what is recorded for all {made} calls"
         )),
         _ => Err(format!(
-            "compare: the simulator gives something else for {different} of {made} calls"
+            "compare: the simulator gives something else than is recorded for some of {made} calls"
         )),
     }
 }
