@@ -211,15 +211,19 @@ static volatile sig_atomic_t is_in_call, is_write;
 static volatile int signal_number;
 static uint8_t *volatile address;
 
-enum { MOST_SECONDS = 60, CALLS_PER_ALARM = 1024 };
+static volatile unsigned long alarmed;  /* the call at the alarm before */
+
+enum { MOST_SECONDS = 20 };
 
 static void on_signal(int number, siginfo_t *info, void *context)
 {
-    if (!is_in_call) {
-        if (number == SIGALRM)
-            return;
-        _exit(2);
+    if (number == SIGALRM && (!is_in_call || alarmed != calls)) {
+        alarmed = calls;
+        alarm(MOST_SECONDS);
+        return;
     }
+    if (!is_in_call)
+        _exit(2);
     is_in_call = 0;
     signal_number = number;
     address = info->si_addr;
@@ -232,13 +236,14 @@ static void catch_signals(void)
     static const int caught[] = {SIGSEGV, SIGBUS, SIGILL, SIGFPE, SIGABRT, SIGALRM};
     static uint8_t room[1 << 16];
     stack_t stack = {.ss_sp = room, .ss_size = sizeof room};
-    struct sigaction action = {.sa_sigaction = on_signal, .sa_flags = SA_SIGINFO | SA_NODEFER | SA_ONSTACK};
+    struct sigaction action = {.sa_sigaction = on_signal, .sa_flags = SA_SIGINFO | SA_NODEFER | SA_ONSTACK | SA_RESTART};
 
     if (sigaltstack(&stack, NULL) != 0)
         unreadable("no stack for signals");
     for (size_t k = 0; k < sizeof caught / sizeof caught[0]; k++)
         if (sigaction(caught[k], &action, NULL) != 0)
             unreadable("a signal cannot be caught");
+    alarm(MOST_SECONDS);
 }
 
 /* Says which argument was touched where it must not be. */
@@ -270,6 +275,7 @@ static void name_signal(void)
     } else if (signal_number == SIGALRM) {
         complain();
         fprintf(stderr, "has not ended after %d seconds\n", MOST_SECONDS);
+        exit(1);
     } else {
         complain();
         fprintf(stderr, "ends with signal %d\n", signal_number);
@@ -496,8 +502,6 @@ static int number_given(void)
     int number;
 
 #if PAGES
-    if (calls % CALLS_PER_ALARM == 1)
-        alarm(MOST_SECONDS);
     if (sigsetjmp(ended, 0) != 0) {
         name_signal();
         return -1;
