@@ -107,10 +107,7 @@ fn compare(options: &Options, programs: &[PathBuf]) -> Result<String, String> {
         if let Some(found) = found {
             return Err(explained(options, program, &found)?);
         }
-        // A test of Rust says more than that.
-        for line in text.lines().filter(|line| line.starts_with("replay:")) {
-            said = said + "\n" + line;
-        }
+        said = said + "\n" + &text;
     }
     Ok(said)
 }
