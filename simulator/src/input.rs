@@ -27,7 +27,7 @@ pub struct Unread {
     /// Its number, from 1.
     pub line: usize,
     /// What is wrong in it.
-    words: String,
+    pub words: String,
 }
 
 /// What the reading of an input answers.

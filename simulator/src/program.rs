@@ -1,15 +1,19 @@
 //! The run program: from the bytes of standard input to the printed text.
 
-use crate::input::{self, Read, MOST_ENTRIES, SCHEDULE_LENGTH};
+use crate::input::{self, Read, Unread, MOST_ENTRIES, SCHEDULE_LENGTH};
 use crate::numbers::Size;
 use crate::saved::saved_plant;
 use crate::wiring::Wiring;
+use crate::words::of_refusal;
 use crate::{fresh_table, run, Answer};
 
 /// The length of the table for n = 64.
 const LONGEST_TABLE: usize = 4480;
 
 const HEADER: &str = "station tested outcome status\n";
+
+/// So much of a line is shown on standard error.
+const SHOWN: usize = 40;
 
 /// The buffers the program lends, filled with zeros beforehand.
 struct Buffers {
@@ -32,6 +36,39 @@ pub fn respond(wiring: Wiring, input: &[u8]) -> String {
     match &read.unread {
         None => print(&run_from_fresh(wiring, &read, &mut buffers)),
         Some(unread) => print_unread(unread.line),
+    }
+}
+
+/// What the program writes to standard error for this input on a wiring: the words of
+/// what was refused or cannot be read, and the line of the input.
+pub fn said(wiring: Wiring, input: &[u8]) -> String {
+    let mut buffers = Buffers::zeros();
+    let read = input::read(input, &mut buffers.schedule);
+    if let Some(Unread { line, words }) = &read.unread {
+        return format!("unread {line}: {words}{}\n", show_line(input, *line));
+    }
+    let Ran { answer, .. } = run_from_fresh(wiring, &read, &mut buffers);
+    let Answer { number, taken, .. } = answer;
+    let line = match number {
+        0 => return String::new(),
+        1 => 1,
+        _ => taken + 2,
+    };
+    let words = of_refusal(usize::from(number));
+    format!(
+        "refused {number} at {taken}: {words}{}\n",
+        show_line(input, line)
+    )
+}
+
+/// The line with this number, from 1, if it is not empty. What a terminal must not get is
+/// shown as an escape.
+fn show_line(input: &[u8], line: usize) -> String {
+    let text = input.split(|byte| *byte == b'\n').nth(line - 1);
+    match text.unwrap_or_default() {
+        [] => String::new(),
+        text if text.len() > SHOWN => format!("; line {line}: {}..", text[..SHOWN].escape_ascii()),
+        text => format!("; line {line}: {}", text.escape_ascii()),
     }
 }
 

@@ -46,10 +46,17 @@ const OF_OUTCOMES: [&str; 6] = [
     "the tested board was told, and left",
 ];
 
+/// The words of a refusal; none where the number has none.
+pub fn of_refusal(refusal: usize) -> &'static str {
+    let place = refusal.checked_sub(1);
+    place
+        .and_then(|place| OF_REFUSALS.get(place))
+        .map_or("", |text| text)
+}
+
 /// Words of a refusal: refusal 13.
 pub fn refusal_words(refusal: usize, words: &mut [u8]) -> u8 {
-    let place = refusal.checked_sub(1);
-    answer(place.and_then(|place| OF_REFUSALS.get(place)), words)
+    answer(Some(&of_refusal(refusal)), words)
 }
 
 /// Words of a status: refusal 13.

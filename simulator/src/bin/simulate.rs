@@ -1,4 +1,4 @@
-//! Reads standard input and prints what the run program prints: on the ring
+//! Reads standard input and writes what the run program writes: on the ring
 //! with the argument `--ring`, else on the cube.
 
 use std::env;
@@ -14,5 +14,7 @@ fn main() -> io::Result<()> {
         false => Wiring::Cube,
     };
     let text = simulator::program::respond(wiring, &input);
-    io::stdout().lock().write_all(text.as_bytes())
+    io::stdout().lock().write_all(text.as_bytes())?;
+    let said = simulator::program::said(wiring, &input);
+    io::stderr().lock().write_all(said.as_bytes())
 }

@@ -1,0 +1,285 @@
+//! The examples of docs/RULES.md. Its worked runs and files are read from the page
+//! itself.
+
+use crate::documents::{due, group};
+use crate::plant::{Plant, CUBE, RING};
+use simulator::{
+    assignment, convert, converted_length, doubt_lamp, drive, figures, join_totals, load, mend,
+    read_input, save, saved_size, slot, totals, wait, Driven, Fraction, Slot, SCHEDULE_LENGTH,
+    WORDS_LENGTH,
+};
+
+const RULES: &str = include_str!("../../../docs/RULES.md");
+
+/// The lines of the page behind the only line that begins like this.
+fn behind(begin: &str) -> impl Iterator<Item = &'static str> + '_ {
+    let lines = RULES.lines();
+    let count = lines.clone().filter(|line| line.starts_with(begin)).count();
+    assert_eq!(count, 1, "lines of docs/RULES.md that begin {begin:?}");
+    lines
+        .skip_while(move |line| !line.starts_with(begin))
+        .skip(1)
+}
+
+/// The numbers of a text, or none if there is anything else.
+fn numbers(text: &str, radix: u32) -> Option<Vec<u8>> {
+    let words = text.split_whitespace();
+    words
+        .map(|word| u8::from_str_radix(word, radix).ok())
+        .collect()
+}
+
+/// The entries of the table behind this line, and what they write on the run sheet.
+fn worked_run(begin: &str) -> (Vec<u8>, Vec<[u8; 4]>) {
+    let mut lines = behind(begin)
+        .skip_while(|line| !line.starts_with('|'))
+        .skip(2);
+    let rows = lines.by_ref().take_while(|line| line.starts_with('|'));
+    let (mut schedule, mut sheet) = (Vec::new(), Vec::new());
+    for row in rows {
+        let cells: Vec<&str> = row.split('|').collect();
+        schedule.extend(numbers(cells[1], 10).unwrap());
+        sheet.push(numbers(cells[2], 10).unwrap().try_into().unwrap());
+    }
+    (schedule, sheet)
+}
+
+/// The bytes of the files that stand side by side behind this line, each in a column
+/// of hexadecimal numbers.
+fn files<const COUNT: usize>(begin: &str) -> [Vec<u8>; COUNT] {
+    let lines = behind(begin).skip_while(|line| !line.starts_with("    "));
+    let mut files = [const { Vec::new() }; COUNT];
+    for line in lines.take_while(|line| line.starts_with("    ")) {
+        let (left, right) = line.split_at_checked(44).unwrap_or((line, ""));
+        for (file, column) in files.iter_mut().zip([left, right]) {
+            file.extend(numbers(column, 16).unwrap());
+        }
+    }
+    files
+}
+
+#[test]
+fn worked_run_on_the_cube() {
+    let (schedule, sheet) = worked_run("### A worked run");
+    assert_eq!(sheet.len(), 11);
+    let mut plant = Plant::fresh(CUBE, 4);
+    assert_eq!(plant.run(&schedule[..8]), (0, 4, sheet[..4].to_vec()));
+    // The table printed under The table.
+    let printed = RULES
+        .lines()
+        .filter(|line| line.starts_with("    from byte "));
+    let bytes = printed.map(|line| line.split_once(':').map_or(line, |(bytes, _)| bytes));
+    let bytes = bytes.map(|line| {
+        line.rsplit_once(" station")
+            .map_or(line, |(bytes, _)| bytes)
+    });
+    let words = bytes.flat_map(|line| line.split_whitespace().skip(3));
+    let table: Vec<u8> = words.map_while(|word| word.parse().ok()).collect();
+    assert_eq!(plant.table, table);
+    assert_eq!(plant.run(&schedule[8..]), (0, 7, sheet[4..].to_vec()));
+    assert_eq!(plant.tally, (1, 8));
+    let other = [0, 1, 0, 0, 255, 0, 0, 1, 0, 0];
+    let lines = [other, [2, 1, 0, 0, 0, 1, 0, 0, 0, 0], other, other];
+    assert_eq!(plant.table, lines.concat());
+}
+
+#[test]
+fn worked_run_on_the_ring() {
+    let (schedule, sheet) = worked_run("Four stations, a fresh table, 1 not live");
+    assert_eq!(sheet.len(), 7);
+    let mut plant = Plant::fresh(RING, 4);
+    plant.line_mut(1)[0] = 1;
+    assert_eq!(plant.run(&schedule), (0, 7, sheet));
+    assert_eq!(plant.tally, (1, 4));
+    let other = [0, 1, 0, 0, 255, 0, 0, 1, 0, 0];
+    let lines = [other, [1, 1, 0, 0, 255, 1, 0, 0, 0, 0], other, other];
+    assert_eq!(plant.table, lines.concat());
+}
+
+#[test]
+fn groups_and_who_is_ahead() {
+    let of_five = [1, 2, 3].map(|level| group(8, 5, level));
+    assert_eq!(of_five, [vec![4], vec![7, 6], vec![1, 0, 3, 2]]);
+    assert_eq!(group(11, 2, 4), [10, 8, 9]);
+    assert_eq!(group(11, 10, 1), []);
+    let mut list = [170; 14];
+    let plant = Plant::fresh(CUBE, 8);
+    assert_eq!(assignment(8, &plant.table, 5, &mut list), (0, 3));
+    assert_eq!(list, [1, 255, 2, 255, 3, 4, 4, 255, 5, 4, 6, 7, 7, 6]);
+    let plant = plant.with(&[(5, 4)]);
+    assert_eq!(assignment(8, &plant.table, 5, &mut list), (0, 5));
+    assert_eq!(list, [1, 255, 2, 255, 3, 255, 4, 255, 5, 255, 6, 7, 7, 6]);
+}
+
+#[test]
+fn who_leaves() {
+    let fresh = || Plant::fresh(CUBE, 4).with(&[(0, 1), (1, 2)]);
+    assert_eq!(fresh().run(&[1, 0]).2, [[0, 1, 5, 0]]);
+    assert_eq!(fresh().run(&[2, 0]).2, [[0, 1, 3, 0]]);
+    assert_eq!(fresh().with(&[(1, 0)]).run(&[1, 0]).2, [[0, 1, 2, 2]]);
+    let mut plant = Plant::fresh(CUBE, 3).with(&[(0, 1), (0, 2)]);
+    plant.line_mut(2)[1..3].copy_from_slice(&[4, 1]);
+    assert_eq!(plant.run(&[1, 0]).2, [[0, 1, 5, 3]]);
+    assert_eq!(plant.tally, (1, 1));
+    assert_eq!([0, 1, 2].map(|station| plant.line(station)[5]), [1, 1, 0]);
+}
+
+#[test]
+fn waits_sheets_and_slots() {
+    for (wiring, expected) in [(CUBE, [3, 30, 90, 120]), (RING, [4, 15, 60, 75])] {
+        let plant = Plant::fresh(wiring, 8).without(&[4]);
+        let given = wait(wiring, 8, &plant.table);
+        let turns = [
+            given.turns_per_round,
+            given.turns_until_known,
+            given.turns_from_crash,
+        ];
+        assert_eq!(
+            (given.number, given.rounds, &turns[..]),
+            (0, expected[0], &expected[1..])
+        );
+    }
+    let plant = Plant::fresh(CUBE, 8).without(&[4]);
+    let tested = due(&plant, 5).into_iter().map(|distance| 5 ^ distance);
+    assert_eq!(tested.collect::<Vec<_>>(), [4, 7, 6, 1, 0]);
+    let of_slot = |plant: &Plant, station| {
+        let Slot {
+            number,
+            tests,
+            most,
+        } = slot(8, &plant.table, station);
+        assert_eq!(number, 0);
+        (tests, most)
+    };
+    assert_eq!(of_slot(&plant, 5), (5, 5));
+    // By the board's own row, which does not have 0 and 1 yet; and as the sheet has it.
+    let mut plant = Plant::fresh(CUBE, 8);
+    plant.run(&[3, 0, 3, 1]);
+    assert_eq!(of_slot(&plant, 2), (3, 5));
+    assert_eq!(of_slot(&plant.without(&[0, 1]), 2), (4, 7));
+}
+
+#[test]
+fn drives_of_two_stations() {
+    const MOST: u32 = 4_294_967_295;
+    let driven = |tally, last| {
+        let mut plant = Plant::fresh(CUBE, 2);
+        (drive(CUBE, 2, &mut plant.table, tally, last), plant.table)
+    };
+    let expected = |number, (rounds, tests), last, grants| Driven {
+        number,
+        rounds,
+        tests,
+        last,
+        grants,
+    };
+    let fresh = Plant::fresh(CUBE, 2).table;
+    assert_eq!(
+        driven((0, 0), 255),
+        (expected(0, (1, 2), 1, 4), fresh.clone())
+    );
+    assert_eq!(
+        driven((MOST - 1, 0), 255),
+        (expected(0, (MOST, 2), 1, 4), fresh)
+    );
+    assert_eq!(driven((0, MOST - 1), 0).0, expected(7, (0, MOST), 1, 1));
+}
+
+#[test]
+fn lamps_of_four_stations() {
+    let suspicions = [(1, 2), (1, 3), (2, 0), (3, 0)];
+    let cases: [(&[usize], _); 4] = [
+        (&[], Some((1, 2))),
+        (&[2], Some((1, 3))),
+        (&[1], Some((2, 0))),
+        (&[0, 1], None),
+    ];
+    for (dead, pair) in cases {
+        let mut plant = Plant::fresh(CUBE, 4).with(&suspicions);
+        dead.iter()
+            .for_each(|station| plant.line_mut(*station)[0] = 1);
+        assert_eq!(doubt_lamp(CUBE, 4, &plant.table), (0, pair));
+    }
+}
+
+#[test]
+fn mending_of_two_stations() {
+    let mut table = [0, 2, 1, 1, 255, 0, 0, 0, 7, 2, 2, 0, 3, 9, 1, 1];
+    let mut report = [170; 64];
+    assert_eq!(mend(CUBE, 2, &mut table, &mut report), (0, 8));
+    assert_eq!(table, [0, 1, 0, 0, 255, 0, 0, 0, 1, 1, 0, 0, 255, 9, 1, 0]);
+    let listed: [[u8; 4]; 8] = [
+        [0, 1, 2, 1],
+        [0, 2, 1, 0],
+        [0, 3, 1, 0],
+        [0, 8, 7, 1],
+        [0, 9, 2, 1],
+        [0, 10, 2, 0],
+        [0, 12, 3, 255],
+        [0, 15, 1, 0],
+    ];
+    assert_eq!(report[..32], listed.concat());
+    assert_eq!(report[32..], [0; 32]);
+}
+
+#[test]
+fn files_of_two_stations() {
+    let [lines] = files::<1>("Two fresh stations with a tally of 0 and 0, in hexadecimal");
+    let fresh = Plant::fresh(CUBE, 2).table;
+    let mut saved = [170; 43];
+    assert_eq!(save(2, &fresh, (0, 0), &mut saved), 0);
+    assert_eq!(saved[..], lines);
+    let mut table = [170; 16];
+    let loaded = load(&saved, &mut table);
+    assert_eq!(
+        (loaded.number, loaded.size, loaded.rounds, loaded.tests),
+        (0, 2, 0, 0)
+    );
+    assert_eq!((&table[..], saved_size(&saved)), (&fresh[..], (0, 2)));
+
+    let [old, new] = files::<2>("Station 1 of two was told to leave");
+    let mut converted = [170; 43];
+    assert_eq!((old.len(), converted_length(&old)), (35, (0, 43)));
+    assert_eq!(
+        (convert(&old, &mut converted), &converted[..]),
+        (0, &new[..])
+    );
+}
+
+#[test]
+fn figures_of_lists() {
+    let fractions = |list: &[u16]| {
+        let given = figures(list);
+        assert_eq!((given.number, given.count), (0, list.len() as u64));
+        [given.mean, given.variance].map(|Fraction { upper, lower }| (upper, lower))
+    };
+    assert_eq!(fractions(&[2, 4, 4, 4, 5, 5, 7, 9]), [(5, 1), (4, 1)]);
+    assert_eq!(fractions(&[1, 2]), [(3, 2), (1, 4)]);
+    assert_eq!(fractions(&[0]), [(0, 1), (0, 1)]);
+    let joined = join_totals(&totals(&[2, 4, 4, 4]), &totals(&[5, 5, 7, 9]));
+    assert_eq!(joined, totals(&[2, 4, 4, 4, 5, 5, 7, 9]));
+}
+
+#[test]
+fn words_of_an_unreadable_line() {
+    let cases: [(&[u8], &str); 5] = [
+        (b"Tx0", "a lower case letter where a space is expected"),
+        (b"t 0", "a lower case letter where T, L or C is expected"),
+        (b"T -1", "the character - where a digit is expected"),
+        (
+            b"T 1\0",
+            "the byte 00 (hexadecimal) where the end of the line is expected",
+        ),
+        (b"T\t1", "a tab where a space is expected"),
+    ];
+    for (line, expected) in cases {
+        let (mut schedule, mut words) = ([170; SCHEDULE_LENGTH], [170; WORDS_LENGTH]);
+        let input = [b"8\nC 7\n", line].concat();
+        let read = read_input(&input, &mut schedule, &mut words);
+        assert_eq!((read.number, read.n, read.entries, read.line), (0, 8, 1, 3));
+        assert_eq!((&schedule[..2], schedule[2]), (&[3, 7][..], 170));
+        let length = words.iter().position(|byte| *byte == 0).unwrap();
+        assert_eq!(std::str::from_utf8(&words[..length]), Ok(expected));
+        assert!(words[length..].iter().all(|byte| *byte == 0));
+    }
+}
