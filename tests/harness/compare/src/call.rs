@@ -26,13 +26,6 @@ impl Call {
             arguments: arguments.into(),
         }
     }
-
-    /// The argument with this name.
-    pub fn argument(&self, name: &str) -> &[u8] {
-        let mut declared = self.function.arguments.iter();
-        let place = declared.position(|argument| argument.name == name);
-        &self.arguments[place.expect("an argument of the function")]
-    }
 }
 
 /// The bytes of a `size_t`.

@@ -1,21 +1,27 @@
-//! Random calls of the library, and what the simulator gives for each.
+//! Random calls of the library, and what the simulator gives for each: written as a record, or made by programs that read one.
 
 #![forbid(unsafe_code)]
 
+mod altered;
 mod answer;
+mod blocks;
 mod call;
 mod generate;
 mod header;
 mod options;
+mod printed;
 mod record;
+mod replayer;
+mod shrink;
 
 use std::fs::File;
-use std::io::{self, BufReader, BufWriter, Read, Write};
+use std::io::{self, BufReader, Read, Write};
 use std::panic::{self, AssertUnwindSafe};
-use std::path::Path;
+use std::path::{Path, PathBuf};
 use std::process::ExitCode;
 
 use options::{Options, Task};
+use replayer::{Difference, Replayer};
 
 /// So many differences are printed.
 const PRINTED: u64 = 10;
@@ -30,35 +36,89 @@ fn main() -> ExitCode {
 
 fn work(options: &Options) -> Result<String, String> {
     match &options.task {
-        Task::Record(path) => record(options, path)
+        Task::Print => Ok(options
+            .numbers
+            .clone()
+            .map(|number| described(options.seed, number))
+            .collect()),
+        Task::Record(path) => write(options, path)
             .map_err(|error| format!("compare: cannot write {}: {error}", path.display())),
+        Task::With(programs) => compare(options, programs),
         Task::Answer(path) => answer_again(path),
     }
 }
 
-fn record(options: &Options, path: &Path) -> io::Result<String> {
-    let to: Box<dyn Write> = match path.to_str() {
-        Some("-") => Box::new(io::stdout().lock()),
-        _ => Box::new(File::create(path)?),
+fn described(seed: u64, number: u64) -> String {
+    let call = generate::call(seed, number);
+    let answer = answer::answer(&call);
+    format!(
+        "call {number} of seed {seed}: {}{}",
+        printed::call(&call),
+        printed::answer(&call, &answer)
+    )
+}
+
+fn write(options: &Options, path: &Path) -> io::Result<String> {
+    let is_piped = path.as_os_str() == "-";
+    let mut to: Box<dyn Write> = match is_piped {
+        true => Box::new(io::stdout().lock()),
+        false => Box::new(File::create(path)?),
     };
-    let mut to = BufWriter::with_capacity(1 << 20, to);
-    let mut text = Vec::new();
-    for number in 1..=options.calls {
-        let call = generate::call(options.seed, number);
-        text.clear();
-        record::write(&call, &answer::answer(&call), &mut text);
-        to.write_all(&text)?;
-    }
-    to.flush()?;
-    match path.to_str() {
-        Some("-") => Ok(String::new()),
-        _ => Ok(format!(
-            "compare: {} calls of seed {} are in {}",
-            options.calls,
+    let mut failed = Ok(());
+    blocks::record(options.seed, options.numbers.clone(), |block| {
+        failed = to.write_all(block);
+        failed.is_ok()
+    });
+    failed.and_then(|()| to.flush())?;
+    match is_piped {
+        true => Ok(String::new()),
+        false => Ok(format!(
+            "compare: the calls of seed {} are in {}",
             options.seed,
             path.display()
         )),
     }
+}
+
+/// Lets the programs make the calls. The first that gives something else is made smaller and printed.
+fn compare(options: &Options, programs: &[PathBuf]) -> Result<String, String> {
+    let mut noticed = 0;
+    for program in programs {
+        noticed += altered::check(options.seed, program)?;
+    }
+    let started = programs.iter().map(|program| Replayer::start(program));
+    let mut replayers = started.collect::<Result<Vec<_>, _>>()?;
+    blocks::record(options.seed, options.numbers.clone(), |block| {
+        replayers.iter_mut().all(|replayer| replayer.feed(block))
+    });
+    let mut said = format!(
+        "compare: seed {}, {noticed} altered answers are noticed\n",
+        options.seed
+    );
+    for (replayer, program) in replayers.into_iter().zip(programs) {
+        let (found, text) = replayer.finish()?;
+        if let Some(found) = found {
+            return Err(explained(options, program, &found)?);
+        }
+        said = said + &text + "\n";
+    }
+    Ok(said.trim_end().into())
+}
+
+/// The call that gives something else, made smaller.
+fn explained(options: &Options, program: &Path, found: &Difference) -> Result<String, String> {
+    let (seed, number) = (options.seed, options.numbers.start() + found.number - 1);
+    let (call, said) = shrink::shrink(program, generate::call(seed, number))?;
+    let (call, answer) = (
+        printed::call(&call),
+        printed::answer(&call, &answer::answer(&call)),
+    );
+    let again = format!("all of call {number}: tests/compare --seed {seed} --only {number}");
+    Ok(format!(
+        "{}\nMade smaller: {call}{answer}but\n{}\n{again}",
+        found.text,
+        said.as_ref().unwrap_or(&found.text)
+    ))
 }
 
 /// Lets the simulator make each call of a record again, and prints those that give something else. One that panics does.

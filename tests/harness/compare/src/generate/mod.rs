@@ -18,6 +18,8 @@ use shared::wiring::Wiring;
 
 use crate::call::Call;
 
+pub use files::saved_length;
+
 /// The size of the plant that a call is made for.
 type Size = usize;
 
