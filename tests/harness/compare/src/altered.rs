@@ -5,17 +5,18 @@ use std::path::Path;
 
 use crate::answer::answer;
 use crate::call::{Answer, Call};
+use crate::generate::Source;
 use crate::header::{self, Function};
-use crate::{generate, record, replayer};
+use crate::{record, replayer};
 
 /// Among so many calls each function has one that is accepted.
 const ENOUGH: u64 = 5_000;
 
 /// Gives how many alterations were noticed, which is all.
-pub fn check(seed: u64, program: &Path) -> Result<usize, String> {
+pub fn check(source: Source, program: &Path) -> Result<usize, String> {
     let mut noticed = 0;
     for function in header::functions() {
-        let (call, right) = accepted(seed, function)?;
+        let (call, right) = accepted(source, function)?;
         for altered in alterations(&call, &right) {
             let mut text = Vec::new();
             record::write(&call, &altered, &mut text);
@@ -33,8 +34,8 @@ pub fn check(seed: u64, program: &Path) -> Result<usize, String> {
 }
 
 /// The first accepted call of a function on which each of its buffers has bytes.
-fn accepted(seed: u64, function: &Function) -> Result<(Call, Answer), String> {
-    let calls = (1..=ENOUGH).map(|number| generate::call(seed, number));
+fn accepted(source: Source, function: &Function) -> Result<(Call, Answer), String> {
+    let calls = (1..=ENOUGH).map(|number| source.call(number));
     let mut fitting = calls.filter(|call| {
         call.function.name == function.name && !call.arguments.contains(&Vec::new())
     });

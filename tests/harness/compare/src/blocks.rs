@@ -5,7 +5,8 @@ use std::ops::RangeInclusive;
 use std::sync::mpsc::sync_channel;
 use std::thread;
 
-use crate::{answer, generate, record};
+use crate::generate::Source;
+use crate::{answer, record};
 
 /// The calls of a block.
 const CALLS: usize = 256;
@@ -14,7 +15,7 @@ const CALLS: usize = 256;
 const WAITING: usize = 4;
 
 /// Hands over the calls with these numbers, and what they give, block by block, until one is not taken.
-pub fn record(seed: u64, numbers: RangeInclusive<u64>, mut takes: impl FnMut(&[u8]) -> bool) {
+pub fn record(source: Source, numbers: RangeInclusive<u64>, mut takes: impl FnMut(&[u8]) -> bool) {
     let threads = thread::available_parallelism().map_or(1, NonZero::get);
     let starts = numbers.clone().step_by(CALLS);
     thread::scope(|scope| {
@@ -24,7 +25,7 @@ pub fn record(seed: u64, numbers: RangeInclusive<u64>, mut takes: impl FnMut(&[u
             scope.spawn(move || {
                 for start in starts {
                     let numbers = start..=last.min(start + CALLS as u64 - 1);
-                    if sender.send(block(seed, numbers)).is_err() {
+                    if sender.send(block(source, numbers)).is_err() {
                         break;
                     }
                 }
@@ -41,10 +42,10 @@ pub fn record(seed: u64, numbers: RangeInclusive<u64>, mut takes: impl FnMut(&[u
     });
 }
 
-fn block(seed: u64, numbers: RangeInclusive<u64>) -> Vec<u8> {
+fn block(source: Source, numbers: RangeInclusive<u64>) -> Vec<u8> {
     let mut text = Vec::new();
     for number in numbers {
-        let call = generate::call(seed, number);
+        let call = source.call(number);
         record::write(&call, &answer::answer(&call), &mut text);
     }
     text

@@ -14,17 +14,16 @@ mod record;
 mod replayer;
 mod shrink;
 
+use std::collections::BTreeMap;
 use std::fs::File;
 use std::io::{self, BufReader, Read, Write};
-use std::panic::{self, AssertUnwindSafe};
+use std::panic;
 use std::path::{Path, PathBuf};
 use std::process::ExitCode;
 
+use generate::Source;
 use options::{Options, Task};
 use replayer::{Difference, Replayer};
-
-/// So many differences are printed.
-const PRINTED: u64 = 10;
 
 fn main() -> ExitCode {
     match Options::read().and_then(|options| work(&options)) {
@@ -39,7 +38,7 @@ fn work(options: &Options) -> Result<String, String> {
         Task::Print => Ok(options
             .numbers
             .clone()
-            .map(|number| described(options.seed, number))
+            .map(|number| described(options.source, number))
             .collect()),
         Task::Record(path) => write(options, path)
             .map_err(|error| format!("compare: cannot write {}: {error}", path.display())),
@@ -48,11 +47,11 @@ fn work(options: &Options) -> Result<String, String> {
     }
 }
 
-fn described(seed: u64, number: u64) -> String {
-    let call = generate::call(seed, number);
+fn described(source: Source, number: u64) -> String {
+    let call = source.call(number);
     let answer = answer::answer(&call);
     format!(
-        "call {number} of seed {seed}: {}{}",
+        "call {number}: {}{}",
         printed::call(&call),
         printed::answer(&call, &answer)
     )
@@ -65,35 +64,35 @@ fn write(options: &Options, path: &Path) -> io::Result<String> {
         false => Box::new(File::create(path)?),
     };
     let mut failed = Ok(());
-    blocks::record(options.seed, options.numbers.clone(), |block| {
+    blocks::record(options.source, options.numbers.clone(), |block| {
         failed = to.write_all(block);
         failed.is_ok()
     });
     failed.and_then(|()| to.flush())?;
     match is_piped {
         true => Ok(String::new()),
-        false => Ok(format!(
-            "compare: the calls of seed {} are in {}",
-            options.seed,
-            path.display()
-        )),
+        false => Ok(format!("compare: the calls are in {}", path.display())),
     }
 }
 
 /// Lets the programs make the calls. The first that gives something else is made smaller and printed.
 fn compare(options: &Options, programs: &[PathBuf]) -> Result<String, String> {
+    let whole = Source {
+        is_long: false,
+        ..options.source
+    };
     let mut noticed = 0;
     for program in programs {
-        noticed += altered::check(options.seed, program)?;
+        noticed += altered::check(whole, program)?;
     }
     let started = programs.iter().map(|program| Replayer::start(program));
     let mut replayers = started.collect::<Result<Vec<_>, _>>()?;
-    blocks::record(options.seed, options.numbers.clone(), |block| {
+    blocks::record(options.source, options.numbers.clone(), |block| {
         replayers.iter_mut().all(|replayer| replayer.feed(block))
     });
     let mut said = format!(
         "compare: seed {}, {noticed} altered answers are noticed\n",
-        options.seed
+        options.source.seed
     );
     for (replayer, program) in replayers.into_iter().zip(programs) {
         let (found, text) = replayer.finish()?;
@@ -107,13 +106,16 @@ fn compare(options: &Options, programs: &[PathBuf]) -> Result<String, String> {
 
 /// The call that gives something else, made smaller.
 fn explained(options: &Options, program: &Path, found: &Difference) -> Result<String, String> {
-    let (seed, number) = (options.seed, options.numbers.start() + found.number - 1);
-    let (call, said) = shrink::shrink(program, generate::call(seed, number))?;
+    let number = options.numbers.start() + found.number - 1;
+    let (call, said) = shrink::shrink(program, options.source.call(number))?;
     let (call, answer) = (
         printed::call(&call),
         printed::answer(&call, &answer::answer(&call)),
     );
-    let again = format!("all of call {number}: tests/compare --seed {seed} --only {number}");
+    let again = format!(
+        "all of call {number}: tests/compare {} --only {number}",
+        options.source
+    );
     Ok(format!(
         "{}\nMade smaller: {call}{answer}but\n{}\n{again}",
         found.text,
@@ -121,7 +123,8 @@ fn explained(options: &Options, program: &Path, found: &Difference) -> Result<St
     ))
 }
 
-/// Lets the simulator make each call of a record again, and prints those that give something else. One that panics does.
+/// Lets the simulator make each call of a record again. Prints for each function how many calls give something else, and the first of them. A
+/// call that panics does.
 fn answer_again(path: &Path) -> Result<String, String> {
     let failed = |error: io::Error| format!("compare: cannot read {}: {error}", path.display());
     let from: Box<dyn Read> = match path.to_str() {
@@ -130,29 +133,30 @@ fn answer_again(path: &Path) -> Result<String, String> {
     };
     let mut calls = record::Reader(BufReader::with_capacity(1 << 20, from));
     panic::set_hook(Box::new(|_| {}));
-    let (mut made, mut different) = (0, 0);
+    let mut different = BTreeMap::new();
+    let mut made = 0;
     while let Some((call, recorded)) = calls.next().map_err(failed)? {
         made += 1;
-        let given = panic::catch_unwind(AssertUnwindSafe(|| answer::answer(&call))).ok();
-        if given.as_ref() == Some(&recorded) {
-            continue;
-        }
-        different += 1;
-        if different <= PRINTED {
-            let number = given.map_or("nothing".into(), |given| given.number.to_string());
-            println!(
-                "call {made}, {}: number {number}, recorded {}",
-                call.function.name, recorded.number
+        let given = panic::catch_unwind(|| answer::answer(&call)).ok();
+        if given.as_ref() != Some(&recorded) {
+            let given = given.map_or("nothing".into(), |given| given.number.to_string());
+            let first = format!(
+                "the first is call {made}: number {given}, recorded {}",
+                recorded.number
             );
+            different.entry(call.function.name).or_insert((0, first)).0 += 1;
         }
     }
-    match (made, different) {
+    for (function, (count, first)) in &different {
+        println!("{function}: {count} differ, {first}");
+    }
+    match (made, different.is_empty()) {
         (0, _) => Err(String::from("compare: the record has no call")),
-        (_, 0) => Ok(format!(
+        (_, true) => Ok(format!(
             "compare: the simulator gives what is recorded for all {made} calls"
         )),
         _ => Err(format!(
-            "compare: the simulator gives something else for {different} of {made} calls"
+            "compare: the simulator gives something else than is recorded for some of {made} calls"
         )),
     }
 }

@@ -3,10 +3,11 @@
 use std::ops::RangeInclusive;
 use std::path::PathBuf;
 
+use crate::generate::Source;
 use shared::options::{Words, DEFAULT_SEED};
 
 const USAGE: &str =
-    "usage: compare [--seed S] [--calls N | --only K] [--record FILE | --with PROGRAM ..]
+    "usage: compare [--seed S] [--long] [--calls N | --only K] [--record FILE | --with PROGRAM ..]
        compare --answer FILE";
 
 const DEFAULT_CALLS: u64 = 900_000;
@@ -23,7 +24,7 @@ pub enum Task {
 }
 
 pub struct Options {
-    pub seed: u64,
+    pub source: Source,
     /// The numbers of the calls.
     pub numbers: RangeInclusive<u64>,
     pub task: Task,
@@ -31,11 +32,16 @@ pub struct Options {
 
 impl Options {
     pub fn read() -> Result<Options, String> {
-        let (mut seed, mut numbers, mut task) = (DEFAULT_SEED, 1..=DEFAULT_CALLS, Task::Print);
+        let mut source = Source {
+            seed: DEFAULT_SEED,
+            is_long: false,
+        };
+        let (mut numbers, mut task) = (1..=DEFAULT_CALLS, Task::Print);
         let mut words = Words::given(USAGE);
         while let Some(word) = words.word() {
             match (word.to_str(), &mut task) {
-                (Some("--seed"), _) => seed = words.value()?,
+                (Some("--seed"), _) => source.seed = words.value()?,
+                (Some("--long"), _) => source.is_long = true,
                 (Some("--calls"), _) => numbers = 1..=words.value()?,
                 (Some("--only"), _) => {
                     let number = words.value()?;
@@ -49,7 +55,7 @@ impl Options {
             }
         }
         Ok(Options {
-            seed,
+            source,
             numbers,
             task,
         })

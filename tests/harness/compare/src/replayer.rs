@@ -1,9 +1,12 @@
 //! A program that makes the calls of a record, as tests/replay/replay.c does: it reads the record from standard input where its argument is
-//! `-`. Where a call gives something else than recorded it says so in a line with `call K`, K counted from 1, and ends with status 1.
+//! `-`. Where a call gives something else than recorded it says so in a line with `call K`, K counted from 1, and its status is neither 0 nor 2.
 
 use std::io::Write;
 use std::path::Path;
 use std::process::{Child, Command, Stdio};
+
+/// The status where the record cannot be read.
+const UNREADABLE: i32 = 2;
 
 /// The first call that gives something else, and what the program said of it.
 pub struct Difference {
@@ -48,7 +51,7 @@ impl Replayer<'_> {
         let text = String::from_utf8_lossy(&text).trim_end().to_owned();
         match (output.status.code(), first_difference(&text)) {
             (Some(0), _) => Ok((None, text)),
-            (Some(1), Some(found)) => Ok((Some(found), text)),
+            (Some(code), Some(found)) if code != UNREADABLE => Ok((Some(found), text)),
             _ => Err(failed(&format!("{}: {text}", output.status))),
         }
     }

@@ -147,6 +147,54 @@ fn few_fields(is_opened: bool, random: &mut Random) -> Vec<u8> {
     bytes(&fields)
 }
 
+/// The fields of a plant, and many more lines than it has, mostly in order and mostly of the right lengths. The end may be cut off.
+pub fn many_fields(n: usize, random: &mut Random) -> Vec<u8> {
+    let mut fields = Vec::new();
+    if !random.once_in(4) {
+        fields.push(opening());
+    }
+    for (tag, length) in [(SIZE, 1), (TALLY, 8)] {
+        for _ in 0..random.pick(&[1, 1, 1, 1, 1, 1, 1, 1, 0, 2]) {
+            let mut contents = vec![0; length + usize::from(random.once_in(20))];
+            contents[0] = if tag == SIZE { n as u8 } else { 0 };
+            fields.push(Field { tag, contents });
+        }
+    }
+    let line = 1 + random.pick(&[FORMER_HEAD, HEAD]) + n;
+    let (mut station, mut length) = (0, 0);
+    let most = random.between(4_756, 70_000);
+    while length < most {
+        let tag = if random.once_in(4_000) {
+            random.below(6) as u8
+        } else {
+            LINE
+        };
+        let mut contents = vec![
+            0;
+            if random.once_in(30) {
+                random.below(20_000)
+            } else {
+                line
+            }
+        ];
+        if let Some(first) = contents.first_mut() {
+            *first = station;
+        }
+        length += FIELD_HEAD + contents.len();
+        fields.push(Field { tag, contents });
+        station = match random.below(2_000) {
+            0 => random.byte(),
+            1..1_000 => station.saturating_add(1),
+            _ => station,
+        };
+    }
+    let mut file = bytes(&fields);
+    if random.once_in(4) {
+        file.truncate(file.len() - random.between(1, 60));
+    }
+    file
+}
+
 fn opening() -> Field {
     Field {
         tag: OPENING,

@@ -3,6 +3,7 @@
 
 mod files;
 mod lines;
+mod long;
 mod numbers;
 mod plants;
 mod results;
@@ -11,6 +12,8 @@ mod schedules;
 mod tables;
 mod texts;
 mod totals;
+
+use std::fmt;
 
 use shared::groups;
 use shared::random::Random;
@@ -23,9 +26,34 @@ pub use files::saved_length;
 /// The size of the plant that a call is made for.
 type Size = usize;
 
-/// The call with this number. Seed and number settle it.
-pub fn call(seed: u64, number: u64) -> Call {
-    let random = &mut Random::numbered(seed, number);
+/// Where calls come from.
+#[derive(Clone, Copy)]
+pub struct Source {
+    pub seed: u64,
+    /// Whether all of them are long ones.
+    pub is_long: bool,
+}
+
+/// As options of the command.
+impl fmt::Display for Source {
+    fn fmt(&self, f: &mut fmt::Formatter<'_>) -> fmt::Result {
+        let long = if self.is_long { " --long" } else { "" };
+        write!(f, "--seed {}{long}", self.seed)
+    }
+}
+
+impl Source {
+    /// The call with this number.
+    pub fn call(self, number: u64) -> Call {
+        let random = &mut Random::numbered(self.seed, number);
+        match self.is_long || random.once_in(400) {
+            true => long::call(random),
+            false => any(random),
+        }
+    }
+}
+
+fn any(random: &mut Random) -> Call {
     match random.below(38) {
         0..=3 => results::call(random),
         4..=15 => of_file(random),

@@ -70,9 +70,7 @@ fn input(random: &mut Random) -> Vec<u8> {
     };
     for _ in 0..entries {
         text.push(b'\n');
-        text.push(random.pick(b"TLC"));
-        text.push(b' ');
-        text.extend(number(1, 2, random));
+        text.extend(entry(random));
     }
     if !random.once_in(4) {
         text.push(b'\n');
@@ -83,8 +81,14 @@ fn input(random: &mut Random) -> Vec<u8> {
     text
 }
 
+/// A line that can be read.
+pub fn entry(random: &mut Random) -> Vec<u8> {
+    let letter = random.pick(b"TLC");
+    [&[letter, b' '][..], &number(1, 2, random)].concat()
+}
+
 /// So many digits.
-fn number(least: usize, most: usize, random: &mut Random) -> Vec<u8> {
+pub fn number(least: usize, most: usize, random: &mut Random) -> Vec<u8> {
     let digits = random.between(least, most);
     let digit = |_| b'0' + random.below(10) as u8;
     (0..digits).map(digit).collect()
