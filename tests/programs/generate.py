@@ -75,13 +75,11 @@ def taken(rng, n, ring, most, kind, run):
         if not waiting or len(entries) >= most:
             break
         guess = 2 if ring else n.bit_length()
-        left = [i for i in waiting for _ in range(max(1, (plant.last_pass[i] or guess) - plant.turns[i]))]
-        rounds = [left] + [[i for i in plant.live for _ in range(plant.last_pass[i])] for _ in range(MOST if steady else 0)]
-        more = []
-        for stations in rounds:
-            more += rng.sample(stations, len(stations))
-            if not stations or len(entries) + len(more) > most:
-                break
+        more = [i for i in waiting for _ in range(max(1, (plant.last_pass[i] or guess) - plant.turns[i]))]
+        rng.shuffle(more)
+        a_round = [i for i in plant.live for _ in range(plant.last_pass[i])]
+        while steady and a_round and len(entries) + len(more) < most:
+            more += rng.sample(a_round, len(a_round))
         more = [(kind(), i) for i in more[:most - len(entries)]]
         lines = lines_of(run(as_text(n, entries + more)))
         plant = Plant(n)
@@ -110,8 +108,8 @@ def watch_input(rng, simulate):
     kind = kinds(rng, most > 400)
     entries = []
     if 2 <= n <= 64 and rng.randrange(10) > 0:
-        entries = taken(rng, n, ring, most, kind, lambda text: simulate(arguments, text))
-    if rng.randrange(2) == 0:
+        entries = taken(rng, n, ring, rng.choice([most, most // 2]), kind, lambda text: simulate(arguments, text))
+    if rng.randrange(2) == 0 or most > MOST:
         entries += [(kind(), rng.randrange(min(max(n, 1), 100))) for _ in range(most - len(entries))]
     if rng.randrange(4) == 0:
         entries.insert(rng.randint(0, len(entries)), (kind(), rng.randint(rng.choice([0, min(n, 99)]), 99)))
