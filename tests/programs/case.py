@@ -156,7 +156,15 @@ def difference(case, by, found):
     expected = case.status, case.out, case.err, case.before if case.after is None else case.after
     names = 'status', 'standard output', 'standard error', 'files'
     wrong = [(name, want, got) for name, want, got in zip(names, expected, found) if not fits(want, got)]
-    return ''.join(f'  {name} of {by}: {shown(got)}\n    must be: {shown(want)}\n' for name, want, got in wrong)
+    return ''.join(f'  {name} of {by}: {near(want, got)}\n    must be: {near(got, want)}\n' for name, want, got in wrong)
+
+
+def near(other, text):
+    """A text as it is shown: of a long one what is near the first byte that the other has not."""
+    if not isinstance(text, bytes) or not isinstance(other, bytes) or len(text) < 400:
+        return shown(text)
+    at = next((at for at, (one, two) in enumerate(zip(text, other)) if one != two), min(len(text), len(other)))
+    return f'.. {text[max(at - 100, 0):at + 100]!r} .. (from byte {max(at - 100, 0)} of {len(text)})'
 
 
 def shown(what):
