@@ -1,0 +1,110 @@
+"""The commands of the root: wrong calls, and what those that prove and build first do about it.
+
+The latter are called in a small repository: two libraries and a program, and a stand-in for rt, by which a crate is proved if it has no file
+`broken`. Its program is its source, a script.
+"""
+
+import os
+import re
+import shutil
+import subprocess
+import tempfile
+
+from case import Case, call, difference
+from words import ROOT, sample
+
+COPIED = ['watch', 'sheet', 'convert', 'prove']
+RT = '''#!/bin/sh
+[ "$1" = version ] && echo 'rt 1' && exit
+[ -e broken ] && echo 'fn half: no proof' && exit 1
+[ -e src/main.rt ] || exit 0
+mkdir -p out && cp src/main.rt out/"${PWD##*/}" && chmod +x out/"${PWD##*/}"
+'''
+PROGRAM = '''#!/bin/sh
+[ "$1" = wrong ] && exit 2
+[ "$1" = --help ] || echo "$@" && cat
+'''
+PROVES_LOW = 'proving low (1 of 3) ..\nlow proved (N s)\n'
+PROVES_BETWEEN = 'proving between (2 of 3) ..\nbetween proved (N s)\n'
+PROVES_IT = 'proving NAME (3 of 3) ..\nNAME proved (N s)\n'
+FAILS = 'proving low (1 of 3) ..\nfn half: no proof\nprove: low is not proved\n'
+NO_RT = 'prove: rt, the command of the Rattle toolchain, is not found\n'
+
+# One after the other, for each of ./watch, ./sheet and ./convert, which stands for NAME: what is done to the repository before (shell); the
+# folder, the command and its arguments; the status, standard output and standard error. The input is `input` and a line feed.
+STEPS = [
+    ('', '.', './NAME 8 4', 0, '8 4\ninput\n', PROVES_LOW + PROVES_BETWEEN + PROVES_IT),
+    ('', '.', './NAME 8 4', 0, '8 4\ninput\n', ''),
+    ('', 'crates', '../NAME 8 4', 0, '8 4\ninput\n', ''),
+    ('ln -s ../NAME crates/link', '.', 'crates/link', 0, '\ninput\n', ''),
+    ('', '.', './NAME wrong', 2, '', ''),
+    ('rm target/bin/NAME', '.', './NAME 8', 0, '8\ninput\n', PROVES_IT),
+    ('echo >>crates/between/src/lib.rt', '.', './NAME 8', 0, '8\ninput\n', PROVES_BETWEEN + PROVES_IT),
+    ('touch crates/low/broken; echo >>crates/low/src/lib.rt', '.', './NAME 8 4', 1, '', FAILS),
+    ('', '.', './NAME 8 4', 1, '', FAILS),
+    ('rm crates/low/broken', '.', './NAME 8 4 2>/dev/full', 0, '8 4\ninput\n', ''),
+    ('mv bin/rt rt', '.', './NAME 8 4', 2, '', NO_RT),
+]
+
+# In this repository, where they have nothing to do: the command, the status, standard output and standard error, or how these begin (..)
+CALLS = [
+    ('./prove --help', 0, 'Usage: ./prove NAME ..', ''),
+    ('./prove', 2, '', 'Usage: ./prove NAME ..'),
+    ('./prove nothing', 2, '', 'prove: no such crate: nothing\n'),
+    ('./prove watch .watch', 2, '', 'prove: no such crate: .watch\n'),
+    ('./build-for --help', 0, 'Usage: ./build-for TARGET ..', ''),
+    ('./build-for', 2, '', 'Usage: ./build-for TARGET ..'),
+    ('./build-for c nothing', 2, '', 'build-for: no such target: nothing (./build-for --help names them)\n'),
+    ('./page --help', 0, 'Usage: ./page ..', ''),
+    ('./page nothing', 2, '', 'page: no such argument: nothing (./page --help)\n'),
+    ('./page -o', 2, '', 'page: -o needs a file (./page --help)\n'),
+    ('samples/slowest --help', 0, 'Usage: samples/slowest SIZE..', ''),
+    ('samples/slowest', 2, '', 'Usage: samples/slowest SIZE..'),
+    ('samples/slowest 2', 2, '', 'slowest: there is no plant of size 2 (samples/slowest --help says what there is)\n'),
+    ('samples/slowest 3', 0, '3\nC 2\nT 1\nT 1\nT 0\nT 0\nT 0\nT 0\nT 0\nT 0\nT 1\nT 1\n', ''),
+]
+
+
+def cases():
+    for command, status, out, err in CALLS:
+        yield Case(command, 'commands', tuple(command.split()), b'', expected(out), expected(err), status)
+    for name in COPIED[:3]:
+        yield Case(name, 'commands')
+
+
+def expected(text):
+    return re.compile(re.escape(text[:-2].encode()) + rb'(?s:.*)') if text.endswith('..') else text.encode()
+
+
+def check(case):
+    """Of a call what is wrong; of a name without arguments what is wrong in the small repository."""
+    if case.arguments:
+        command = os.path.join(ROOT, case.arguments[0])
+        return difference(case, case.name, call([command], Case('', '', case.arguments[1:])))
+    with tempfile.TemporaryDirectory() as small:
+        lay_out(case.name, small)
+        return ''.join(take(case.name, small, step) for step in STEPS)
+
+
+def lay_out(name, small):
+    for command in COPIED:
+        shutil.copy(os.path.join(ROOT, command), small)
+    files = {'bin/rt': RT, f'crates/{name}/src/main.rt': PROGRAM, 'crates/low/src/lib.rt': '\n', 'crates/between/src/lib.rt': '\n',
+             'crates.txt': f'low: # used by both others\nbetween: low\n{name}: between low\n'}
+    for path, text in files.items():
+        path = os.path.join(small, path)
+        os.makedirs(os.path.dirname(path), exist_ok=True)
+        with open(path, 'w', encoding='ascii') as file:
+            file.write(text)
+    os.chmod(os.path.join(small, 'bin/rt'), 0o755)
+
+
+def take(name, small, step):
+    """One step; what is wrong."""
+    change, folder, command, *rest = [text.replace('NAME', name) if isinstance(text, str) else text for text in step]
+    without_rt = [path for path in os.environ['PATH'].split(':') if not os.path.exists(os.path.join(path, 'rt'))]
+    env = os.environ | {'PATH': ':'.join([os.path.join(small, 'bin'), *without_rt])}
+    subprocess.run(['sh', '-c', change], cwd=small, check=True)
+    done = subprocess.run(['sh', '-c', command], cwd=os.path.join(small, folder), env=env, input=b'input\n', capture_output=True, check=False)
+    found = done.returncode, done.stdout, re.sub(rb'\(\d+ s\)', b'(N s)', done.stderr), {}
+    return difference(Case('', '', status=rest[0], out=rest[1].encode(), err=rest[2].encode()), f'{change}; {command}', found)
