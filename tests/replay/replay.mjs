@@ -1,9 +1,10 @@
-// Makes the calls that tests/compare recorded (tests/harness/compare/src/recorded.rs says how they stand in the file) by the module
+// Makes the calls that tests/compare recorded (tests/harness/compare/src/record.rs says how they stand in the file) by the module
 // target/wasm/vcube.wasm, in node or in a browser, and compares number, buffers and guard bytes with what the simulator gives.
 
 const GUARD = 16;
 const GUARD_BYTE = 0xa5;
-const WIDTHS = { b: 1, r: 2, i: 4, s: 8, t: 8 };
+const WIDTHS = { b: 1, B: 1, R: 2, i: 4, s: 8, t: 8, T: 8 };
+const LISTS = ['b', 'B', 'R'];
 const PAGE = 65536;
 
 /// The calls, one after the other.
@@ -61,7 +62,7 @@ function make(exports, start, call) {
         next = at + argument.before.length + GUARD;
         places.push({ ...argument, at });
         words.push(BigInt(at));
-        if (argument.form === 'b' || argument.form === 'r') {
+        if (LISTS.includes(argument.form)) {
             words.push(BigInt(argument.before.length / WIDTHS[argument.form]));
         }
     }

@@ -1,128 +1,171 @@
-//! Runs the simulator, the library and the typed layer of bindings/rust on the
-//! same random calls and compares every byte and every figure.
+//! Random calls of the library, and what the simulator gives for each: written as a record, or made by programs that read one.
 
-#![deny(unsafe_code)]
+#![forbid(unsafe_code)]
 
-mod absent;
-mod assign_faults;
-mod assigned;
-mod assigning;
-mod borders;
-mod by_library;
-mod by_simulator;
-mod by_typed;
+mod altered;
+mod answer;
+mod blocks;
 mod call;
-mod calls;
-mod cases;
-mod ceased;
-mod ceased_faults;
-mod ceasing;
-mod converting;
-mod counts;
-mod cuts;
-mod doubted;
-mod doubting;
-mod entries;
-mod faults;
 mod generate;
-mod grant_faults;
-mod granted;
-mod granting;
-mod guarded;
-mod handed;
-mod lamp_faults;
-mod mend_faults;
-mod mended;
-mod mending;
-mod occurred;
+mod header;
 mod options;
-mod outcome;
-mod recorded;
-mod report;
-mod result_faults;
-mod ring;
-mod ring_faults;
-mod save_faults;
-mod saved;
-mod saving;
-mod self_test;
-mod size_faults;
-mod slot_faults;
-mod slotted;
-mod text_faults;
-mod texts;
-mod told;
-mod told_faults;
-mod trial;
-mod wait_faults;
-mod waited;
-mod waiting;
-mod ways_back;
-mod wired;
-mod words;
+mod printed;
+mod record;
+mod replayer;
+mod shrink;
 
+use std::collections::BTreeMap;
+use std::fs::File;
+use std::io::{self, BufReader, Read, Write};
+use std::panic;
+use std::path::{Path, PathBuf};
 use std::process::ExitCode;
 
-use counts::Counts;
+use generate::Source;
 use options::{Options, Task};
-use trial::Trial;
-
-/// From so many calls on, the coverage is checked.
-const ENOUGH_CALLS: u64 = options::DEFAULT_CALLS;
+use replayer::{Difference, Replayer, COPIES};
 
 fn main() -> ExitCode {
-    shared::options::end(Options::read().and_then(|options| work(&options)))
+    match Options::read().and_then(|options| work(&options)) {
+        // The record stands there.
+        Ok(text) if text.is_empty() => ExitCode::SUCCESS,
+        said => shared::options::end(said),
+    }
 }
 
 fn work(options: &Options) -> Result<String, String> {
-    let seed = options.seed;
     match &options.task {
-        Task::SelfTest => self_test::self_test(seed)
-            .map(|noticed| format!("compare: self-test: all {noticed} alterations noticed")),
-        Task::Only(number) => only(seed, *number),
-        Task::Calls(calls) => compare(seed, *calls, options.trace),
-        Task::Record(calls, path) => recorded::record(seed, *calls, path),
+        Task::Print => Ok(options
+            .numbers
+            .clone()
+            .map(|number| described(options.source, number))
+            .collect()),
+        Task::Record(path) => write(options, path)
+            .map_err(|error| format!("compare: cannot write {}: {error}", path.display())),
+        Task::Altered(programs) => alter(options.source, programs),
+        Task::With(programs) => compare(options, programs),
+        Task::Answer(path) => answer_again(path),
     }
 }
 
-/// Makes one call and prints all of it.
-fn only(seed: u64, number: u64) -> Result<String, String> {
-    let trial = Trial::make(seed, number);
-    let mut text = report::trial_text(number, &trial, usize::MAX);
-    let mut found = trial.difference();
-    if let Some(back) = trial.way_back() {
-        text += &report::trial_text(number, &back, usize::MAX);
-        found = found.or_else(|| back.difference());
-    }
-    match found {
-        None => Ok(text + "no difference"),
-        Some(found) => Err(format!("{text}difference: {found}")),
+fn described(source: Source, number: u64) -> String {
+    let call = source.call(number);
+    let answer = answer::answer(&call);
+    format!(
+        "call {number}: {}{}",
+        printed::call(&call),
+        printed::answer(&call, &answer)
+    )
+}
+
+fn write(options: &Options, path: &Path) -> io::Result<String> {
+    let is_piped = path.as_os_str() == "-";
+    let mut to: Box<dyn Write> = match is_piped {
+        true => Box::new(io::stdout().lock()),
+        false => Box::new(File::create(path)?),
+    };
+    let mut failed = Ok(());
+    blocks::record(options.source, options.numbers.clone(), |block| {
+        failed = to.write_all(block);
+        failed.is_ok()
+    });
+    failed.and_then(|()| to.flush())?;
+    match is_piped {
+        true => Ok(String::new()),
+        false => Ok(format!("compare: the calls are in {}", path.display())),
     }
 }
 
-/// Makes the calls up to the first difference.
-fn compare(seed: u64, calls: u64, trace: bool) -> Result<String, String> {
-    let mut counts = Counts::all(0);
-    for number in 1..=calls {
-        if trace {
-            eprintln!("call {number}");
-        }
-        let trial = Trial::make(seed, number);
-        if let Some(found) = trial.difference() {
-            return Err(report::difference(seed, number, &trial, &found));
-        }
-        counts.add(&trial.call, &trial.simulator);
-        if let Some(back) = trial.way_back() {
-            if let Some(found) = back.difference() {
-                return Err(report::difference(seed, number, &back, &found));
-            }
-            ways_back::check(trial.made(), back.made())
-                .map_err(|text| report::failed(seed, number, &text))?;
-            counts.ways_back.add(trial.made());
-        }
+/// Lets the programs make calls whose answers are altered, each of which they must notice.
+fn alter(source: Source, programs: &[PathBuf]) -> Result<String, String> {
+    let mut noticed = 0;
+    for program in programs {
+        noticed += altered::check(source, program)?;
     }
-    shared::counts::check(&counts.missing(), calls >= ENOUGH_CALLS)?;
     Ok(format!(
-        "compare: seed {seed}, {calls} calls agree: {counts}"
+        "compare: all {noticed} altered answers are noticed"
     ))
+}
+
+/// Lets the programs make the calls. The first that gives something else is made smaller and printed.
+fn compare(options: &Options, programs: &[PathBuf]) -> Result<String, String> {
+    let started = programs.iter().map(|program| Replayer::start(program));
+    let mut replayers = started.collect::<Result<Vec<_>, _>>()?;
+    let numbers = &options.numbers;
+    let copies = if numbers.start() == numbers.end() {
+        COPIES
+    } else {
+        1
+    };
+    blocks::record(options.source, numbers.clone(), |block| {
+        let block = block.repeat(copies);
+        replayers.iter_mut().all(|replayer| replayer.feed(&block))
+    });
+    let mut said = format!("compare: {}", options.source);
+    for (replayer, program) in replayers.into_iter().zip(programs) {
+        let (found, text) = replayer.finish()?;
+        if let Some(found) = found {
+            return Err(explained(options, program, &found)?);
+        }
+        said = said + "\n" + &text;
+    }
+    Ok(said)
+}
+
+/// The call that gives something else, made smaller.
+fn explained(options: &Options, program: &Path, found: &Difference) -> Result<String, String> {
+    let (first, last) = options.numbers.clone().into_inner();
+    let number = last.min(first + found.number - 1);
+    let (call, said) = shrink::shrink(program, options.source.call(number))?;
+    let (call, answer) = (
+        printed::call(&call),
+        printed::answer(&call, &answer::answer(&call)),
+    );
+    let again = format!(
+        "all of call {number}: tests/compare {} --only {number}",
+        options.source
+    );
+    Ok(format!(
+        "{}\nMade smaller: {call}{answer}but\n{}\n{again}",
+        found.text,
+        said.as_ref().unwrap_or(&found.text)
+    ))
+}
+
+/// Lets the simulator make each call of a record again. Prints for each function how many calls give something else, and the first of them. A
+/// call that panics does.
+fn answer_again(path: &Path) -> Result<String, String> {
+    let failed = |error: io::Error| format!("compare: cannot read {}: {error}", path.display());
+    let from: Box<dyn Read> = match path.to_str() {
+        Some("-") => Box::new(io::stdin().lock()),
+        _ => Box::new(File::open(path).map_err(failed)?),
+    };
+    let mut calls = record::Reader(BufReader::with_capacity(1 << 20, from));
+    panic::set_hook(Box::new(|_| {}));
+    let mut different = BTreeMap::new();
+    let mut made = 0;
+    while let Some((call, recorded)) = calls.next().map_err(failed)? {
+        made += 1;
+        let given = panic::catch_unwind(|| answer::answer(&call)).ok();
+        if given.as_ref() != Some(&recorded) {
+            let given = given.map_or("nothing".into(), |given| given.number.to_string());
+            let first = format!(
+                "the first is call {made}: number {given}, recorded {}",
+                recorded.number
+            );
+            different.entry(call.function.name).or_insert((0, first)).0 += 1;
+        }
+    }
+    for (function, (count, first)) in &different {
+        println!("{function}: {count} differ, {first}");
+    }
+    match (made, different.is_empty()) {
+        (0, _) => Err(String::from("compare: the record has no call")),
+        (_, true) => Ok(format!(
+            "compare: the simulator gives what is recorded for all {made} calls"
+        )),
+        _ => Err(format!(
+            "compare: the simulator gives something else than is recorded for some of {made} calls"
+        )),
+    }
 }

@@ -1,56 +1,81 @@
 //! The options of the command.
 
+use std::ops::RangeInclusive;
 use std::path::PathBuf;
 
+use crate::generate::Source;
 use shared::options::{Words, DEFAULT_SEED};
 
 const USAGE: &str =
-    "usage: compare [--seed S] [--calls N [--record FILE] | --only K | --self-test] [--trace]";
+    "usage: compare [--seed S] [--long] [--calls N | --only K] --record FILE | --with PROGRAM ..
+       compare [--seed S] [--long] --only K
+       compare [--seed S] --altered PROGRAM ..
+       compare --answer FILE";
 
-pub const DEFAULT_CALLS: u64 = 900_000;
+const DEFAULT_CALLS: u64 = 900_000;
 
 pub enum Task {
-    /// Calls 1 up to this number.
-    Calls(u64),
-    /// Writes calls 1 up to this number, and what they give, to a file.
-    Record(u64, PathBuf),
-    /// Just the call with this number.
-    Only(u64),
-    SelfTest,
+    /// Prints a call and what it gives.
+    Print,
+    /// Writes the calls, and what they give, to a file, or to standard output where it is `-`.
+    Record(PathBuf),
+    /// Lets these programs make the calls.
+    With(Vec<PathBuf>),
+    /// Lets them make calls whose answers are altered.
+    Altered(Vec<PathBuf>),
+    /// Lets the simulator make the calls of a record again.
+    Answer(PathBuf),
 }
 
 pub struct Options {
-    pub seed: u64,
+    pub source: Source,
+    /// The numbers of the calls.
+    pub numbers: RangeInclusive<u64>,
     pub task: Task,
-    /// Whether each call's number is printed before the call is made.
-    pub trace: bool,
 }
 
 impl Options {
     pub fn read() -> Result<Options, String> {
-        let mut options = Options {
+        let mut is_only = false;
+        let mut source = Source {
             seed: DEFAULT_SEED,
-            task: Task::Calls(DEFAULT_CALLS),
-            trace: false,
+            is_long: false,
         };
+        let (mut numbers, mut task) = (1..=DEFAULT_CALLS, Task::Print);
         let mut words = Words::given(USAGE);
-        let mut path = None;
         while let Some(word) = words.word() {
-            match word.to_str() {
-                Some("--seed") => options.seed = words.value()?,
-                Some("--calls") => options.task = Task::Calls(words.value()?),
-                Some("--record") => path = Some(words.value()?),
-                Some("--only") => options.task = Task::Only(words.value()?),
-                Some("--self-test") => options.task = Task::SelfTest,
-                Some("--trace") => options.trace = true,
+            match (word.to_str(), &mut task) {
+                (Some("--seed"), _) => source.seed = words.value()?,
+                (Some("--long"), _) => source.is_long = true,
+                (Some("--calls"), _) => numbers = 1..=words.value()?,
+                (Some("--only"), _) => {
+                    let number = words.value()?;
+                    numbers = number..=number;
+                    is_only = true;
+                }
+                (Some("--record"), Task::Print) => task = Task::Record(words.value()?),
+                (Some("--answer"), Task::Print) => task = Task::Answer(words.value()?),
+                (Some("--with"), Task::Print) => task = Task::With(programs(&mut words)?),
+                (Some("--altered"), Task::Print) => task = Task::Altered(programs(&mut words)?),
                 _ => return Err(words.usage()),
             }
         }
-        match (&options.task, path) {
-            (Task::Calls(calls), Some(path)) => options.task = Task::Record(*calls, path),
-            (_, None) => {}
-            (_, Some(_)) => return Err(words.usage()),
+        if matches!(task, Task::Print) && !is_only {
+            return Err(words.usage());
         }
-        Ok(options)
+        Ok(Options {
+            source,
+            numbers,
+            task,
+        })
+    }
+}
+
+/// The words that are left, of which there is at least one.
+fn programs(words: &mut Words) -> Result<Vec<PathBuf>, String> {
+    let programs: Vec<PathBuf> = words.rest().into_iter().map(PathBuf::from).collect();
+    match programs.is_empty() {
+        true => Err(words.usage()),
+        false => Ok(programs),
     }
 }

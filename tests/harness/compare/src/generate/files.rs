@@ -7,36 +7,80 @@ use shared::random::Random;
 use shared::table::{line_length, HEAD};
 use shared::wiring::Wiring;
 
-use super::{ceased, mostly_cube, tables, Size};
-use crate::converting::{former_line_contents, FORMER_HEAD, FORMER_WRITER};
-use crate::saving::{line_contents, Field, Writer};
-use crate::saving::{EDITION, FIELD_HEAD, LINE, OPENING, SIZE, TALLY, WRITER};
+use super::{lines, mostly_cube, tables, Size};
+
+/// The bytes of a field before its contents: the tag and the length.
+pub const FIELD_HEAD: usize = 3;
 
 /// The greatest length of a field's contents.
 const LONGEST: usize = u16::MAX as usize;
+
+// Tags.
+const SIZE: u8 = 1;
+const TALLY: u8 = 2;
+const LINE: u8 = 3;
+const OPENING: u8 = 4;
+
+/// What the opening holds.
+const EDITION: u8 = 2;
+
+/// The bytes of a line before its row in edition 1.
+const FORMER_HEAD: usize = 4;
+
+/// A field of a file.
+#[derive(Clone, Debug, PartialEq, Eq, PartialOrd, Ord)]
+struct Field {
+    tag: u8,
+    contents: Vec<u8>,
+}
+
+impl Field {
+    /// As a file has it.
+    fn bytes(&self) -> Vec<u8> {
+        let [high, low] = (self.contents.len() as u16).to_be_bytes();
+        [&[self.tag, high, low], &self.contents[..]].concat()
+    }
+
+    /// The station of a line field, if it is not empty.
+    fn station(&self) -> Option<usize> {
+        self.contents.first().copied().map(usize::from)
+    }
+}
+
+/// The length of a saved plant.
+pub fn saved_length(n: usize) -> usize {
+    19 + n * (n + 10)
+}
+
+/// The length of a file of edition 1.
+pub fn former_saved_length(n: usize) -> usize {
+    15 + n * (n + 8)
+}
+
+/// The length of a table of that time.
+pub fn former_table_length(n: usize) -> usize {
+    n * (n + FORMER_HEAD)
+}
 
 /// Tags that are not known, and tag 4.
 const OTHER_TAGS: [u8; 9] = [0, 0, 4, 4, 5, 5, 128, 255, 255];
 
 /// How an edition is written.
 struct Edition {
-    writer: Writer,
-    line_contents: fn(usize) -> usize,
-    /// Whether a second field mostly stands beside the first, so that the order
-    /// is kept.
-    is_ordered: bool,
+    /// The bytes of a line before its row.
+    head: usize,
+    /// Whether there is an opening, and a second field mostly stands beside the first, so that the order is kept.
+    is_second: bool,
 }
 
 const SECOND: Edition = Edition {
-    writer: WRITER,
-    line_contents,
-    is_ordered: true,
+    head: HEAD,
+    is_second: true,
 };
 
 const FIRST: Edition = Edition {
-    writer: FORMER_WRITER,
-    line_contents: former_line_contents,
-    is_ordered: false,
+    head: FORMER_HEAD,
+    is_second: false,
 };
 
 /// A file for a load, and the size of the plant that it was made of.
@@ -103,6 +147,47 @@ fn few_fields(is_opened: bool, random: &mut Random) -> Vec<u8> {
     bytes(&fields)
 }
 
+/// The fields of a plant, and many more lines than it has, mostly in order and mostly of the right lengths. The end may be cut off.
+pub fn many_fields(n: usize, random: &mut Random) -> Vec<u8> {
+    let mut fields = Vec::new();
+    if !random.once_in(4) {
+        fields.push(opening());
+    }
+    for (tag, length) in [(SIZE, 1), (TALLY, 8)] {
+        for _ in 0..random.pick(&[1, 1, 1, 1, 1, 1, 1, 1, 0, 2]) {
+            let mut contents = vec![0; length + usize::from(random.once_in(20))];
+            contents[0] = if tag == SIZE { n as u8 } else { 0 };
+            fields.push(Field { tag, contents });
+        }
+    }
+    let line = 1 + random.pick(&[FORMER_HEAD, HEAD]) + n;
+    let (mut station, mut made) = (0, 0);
+    let most = random.between(4_756, 70_000);
+    while made < most {
+        let (tag, length) = match random.below(4_000) {
+            0 => (random.below(6) as u8, line),
+            1..130 => (LINE, random.below(20_000)),
+            _ => (LINE, line),
+        };
+        let mut contents = vec![0; length];
+        if let Some(first) = contents.first_mut() {
+            *first = station;
+        }
+        made += FIELD_HEAD + contents.len();
+        fields.push(Field { tag, contents });
+        station = match random.below(2_000) {
+            0 => random.byte(),
+            1..1_000 => station.saturating_add(1),
+            _ => station,
+        };
+    }
+    let mut file = bytes(&fields);
+    if random.once_in(4) {
+        file.truncate(file.len() - random.between(1, 60));
+    }
+    file
+}
+
 fn opening() -> Field {
     Field {
         tag: OPENING,
@@ -113,16 +198,34 @@ fn opening() -> Field {
 /// What the writer writes for two boards, cut to any length.
 fn cut_anywhere(edition: &Edition, random: &mut Random) -> Vec<u8> {
     let table = tables::any(Wiring::Cube, 2, random);
-    let mut file = edition.writer.save(2, &table, tally(random));
+    let mut file = bytes(&edition.fields(2, &table, random));
     file.truncate(random.below(file.len()));
     file
 }
 
 impl Edition {
+    /// The fields of a plant with any tally, in the writer's order.
+    fn fields(&self, n: Size, table: &[u8], random: &mut Random) -> Vec<Field> {
+        let field = |tag, contents| Field { tag, contents };
+        let (rounds, tests) = tally(random);
+        let figures = [rounds.to_be_bytes(), tests.to_be_bytes()].concat();
+        let mut fields = vec![opening(), field(SIZE, vec![n as u8]), field(TALLY, figures)];
+        for (own, line) in table.chunks_exact(line_length(n)).enumerate() {
+            fields.push(field(
+                LINE,
+                [&[own as u8], &line[..self.head], &line[HEAD..]].concat(),
+            ));
+        }
+        if !self.is_second {
+            fields.remove(0);
+        }
+        fields
+    }
+
     /// What the writer writes, with each field changed so.
     fn bytes(&self, size: Size, change: fn(&mut Field), random: &mut Random) -> Vec<u8> {
         let table = tables::any(mostly_cube(random), size, random);
-        let mut fields = self.writer.fields(size, &table, tally(random));
+        let mut fields = self.fields(size, &table, random);
         fields.iter_mut().for_each(change);
         bytes(&fields)
     }
@@ -131,7 +234,7 @@ impl Edition {
 /// A file as it was written before there was an opening, with heads of six bytes.
 fn without_opening(size: Size, random: &mut Random) -> Vec<u8> {
     let table = tables::any(mostly_cube(random), size, random);
-    let fields = WRITER.fields(size, &table, tally(random));
+    let fields = SECOND.fields(size, &table, random);
     bytes(&fields[1..])
 }
 
@@ -139,9 +242,9 @@ fn without_opening(size: Size, random: &mut Random) -> Vec<u8> {
 fn saved_plant(size: Size, random: &mut Random) -> Vec<u8> {
     let mut table = plant(size, random);
     if random.once_in(20) {
-        ceased::break_one(&mut table, size, random);
+        lines::break_one(&mut table, size, random);
     }
-    let mut fields = WRITER.fields(size, &table, tally(random));
+    let mut fields = SECOND.fields(size, &table, random);
     spoil_some(&mut fields, size, &SECOND, random);
     if random.once_in(7) {
         unsort(&mut fields, random);
@@ -158,7 +261,7 @@ fn saved_plant(size: Size, random: &mut Random) -> Vec<u8> {
 /// The fields of a plant in edition 1, with changes.
 fn stored_plant(size: Size, random: &mut Random) -> Vec<u8> {
     let table = plant(size, random);
-    let mut fields = FORMER_WRITER.fields(size, &table, tally(random));
+    let mut fields = FIRST.fields(size, &table, random);
     put_in_order(&mut fields, random);
     spoil_some(&mut fields, size, &FIRST, random);
     if random.once_in(6) {
@@ -366,7 +469,7 @@ impl Edition {
     ) {
         let mut second = fields[place].clone();
         change(&mut second);
-        let place = match self.is_ordered && !random.once_in(5) {
+        let place = match self.is_second && !random.once_in(5) {
             true => place + random.below(2),
             false => random.below(fields.len() + 1),
         };
@@ -417,7 +520,7 @@ fn spoil_line(fields: &mut Vec<Field>, size: Size, edition: &Edition, random: &m
         8 => shorten(&mut fields[place]),
         // The line without its station.
         9 => drop(contents.drain(..contents.len().min(1))),
-        10 => contents.resize((edition.line_contents)(distances(size)), 0),
+        10 => contents.resize(1 + edition.head + distances(size), 0),
         11 | 17 => set_station(contents, size, random),
         // One station twice, another not at all.
         12 => set_station(contents, random.below(size), random),

@@ -1,14 +1,16 @@
 //! Wiring numbers, sizes, stations, last granted numbers, levels, tallies and
 //! lengths, right and wrong.
 
-use shared::grants::NONE_YET;
 use shared::groups::{dimension, distances};
 use shared::random::Random;
 use shared::table;
 use shared::wiring::Wiring;
 
+use super::files::former_table_length;
 use super::Size;
-use crate::converting::former_table_length;
+
+/// The last granted number where no station was granted yet.
+const NONE_YET: usize = 255;
 
 const WRONG_SIZES: [usize; 12] = [
     0,

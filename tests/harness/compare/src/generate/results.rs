@@ -4,38 +4,46 @@
 use shared::random::Random;
 
 use super::totals;
-use crate::call::{Buffers, Call, Kind, Name, Numbers};
-use crate::words::{self, FIGURES, MOST_RESULTS, TOTALS};
+use crate::call::{members, results, Call};
+
+/// The most results that are taken.
+pub const MOST_RESULTS: usize = 4_096;
+
+// The bytes of struct vcube_totals and struct vcube_figures.
+const TOTALS: usize = 5 * 8;
+const FIGURES: usize = 7 * 8;
 
 /// From so many results on their number does not fit into 16 bits.
 const PAST_16_BITS: usize = 1 << 16;
 
 pub fn call(random: &mut Random) -> Call {
     match random.below(5) {
-        0 => of_results(Kind::FiguresOfList, [one_list(random)], random),
-        1 => of_results(Kind::FiguresOfTwoLists, two_lists(random), random),
-        2 => of_results(Kind::TotalsOfList, [one_list(random)], random),
-        3 => of_results(Kind::JoinTotals, two_totals(random), random),
-        _ => of_results(Kind::FiguresOfTotals, [one_totals(random)], random),
-    }
-}
-
-/// A call of this kind on what is handed in. The struct that it fills holds
-/// anything before the call.
-fn of_results<const N: usize>(kind: Kind, handed_in: [Vec<u8>; N], random: &mut Random) -> Call {
-    let mut buffers = Buffers::default();
-    let mut contents = handed_in.into_iter();
-    for name in kind.buffers() {
-        *buffers.get_mut(*name) = match name {
-            Name::Figures => random.bytes(size_of::<[u64; FIGURES]>()),
-            Name::GivenTotals => random.bytes(size_of::<[u64; TOTALS]>()),
-            _ => contents.next().expect("a list or totals"),
-        };
-    }
-    Call {
-        kind,
-        numbers: Numbers::default(),
-        buffers,
+        0 => Call::new(
+            "vcube_figures_of_list",
+            [one_list(random), random.bytes(FIGURES)],
+        ),
+        1 => {
+            let [first, second] = two_lists(random);
+            Call::new(
+                "vcube_figures_of_two_lists",
+                [first, second, random.bytes(FIGURES)],
+            )
+        }
+        2 => Call::new(
+            "vcube_totals_of_list",
+            [one_list(random), random.bytes(TOTALS)],
+        ),
+        3 => {
+            let [first, second] = totals::two(random).map(|totals| members(&totals));
+            Call::new("vcube_join_totals", [first, second, random.bytes(TOTALS)])
+        }
+        _ => {
+            let totals = totals::one(random);
+            Call::new(
+                "vcube_figures_of_totals",
+                [members(&totals), random.bytes(FIGURES)],
+            )
+        }
     }
 }
 
@@ -115,7 +123,7 @@ fn with_one_other(length: usize, random: &mut Random) -> Vec<u16> {
 
 fn one_list(random: &mut Random) -> Vec<u8> {
     let length = length(random);
-    words::bytes_of_results(&list(length, random))
+    results(&list(length, random))
 }
 
 /// Two lists that are cut from one, or made each by itself.
@@ -128,15 +136,7 @@ fn two_lists(random: &mut Random) -> [Vec<u8>; 2] {
         let behind = whole.split_off(first);
         [whole, behind]
     };
-    lists.map(|list| words::bytes_of_results(&list))
-}
-
-fn one_totals(random: &mut Random) -> Vec<u8> {
-    words::bytes(totals::one(random))
-}
-
-fn two_totals(random: &mut Random) -> [Vec<u8>; 2] {
-    totals::two(random).map(words::bytes)
+    lists.map(|list| results(&list))
 }
 
 fn two_lengths(random: &mut Random) -> [usize; 2] {

@@ -1,155 +1,83 @@
-//! Saves, loads and conversions, and the questions before these.
+//! Calls on files: saves, loads and conversions, and the questions before these.
 
 use shared::groups::{distances, SIZES};
 use shared::random::Random;
 use shared::table::table_length;
 
-use super::{files, mostly_cube, numbers, tables, Size};
-use crate::call::{Buffers, Call, Kind, Name, Numbers};
-use crate::converting::{former_saved_length, former_table_length, FORMER_READER};
-use crate::outcome::Outcome;
-use crate::saving::{saved_length, FIELD_HEAD};
+use super::files::{former_saved_length, former_table_length, saved_length, FIELD_HEAD};
+use super::{files, mostly_cube, numbers, place, tables, Size};
+use crate::call::{size, word, Call};
 
-pub fn save(size: Size, random: &mut Random) -> Call {
-    let (n, table) = tables::given(mostly_cube(random), size, random);
-    let length = match SIZES.contains(&n) {
-        true => buffer_length(n, random),
-        false => buffer_length(size, random),
-    };
-    save_of(n, table, files::tally(random), length, random)
-}
-
-/// A save of this table and tally into a buffer of this length.
-fn save_of(
-    n: usize,
-    table: Vec<u8>,
-    (rounds, tests): (u32, u32),
-    length: usize,
-    random: &mut Random,
-) -> Call {
-    Call {
-        kind: Kind::Save,
-        numbers: Numbers {
-            n,
-            rounds,
-            tests,
-            ..Numbers::default()
-        },
-        buffers: Buffers::of([(Name::Table, table), (Name::Saved, random.bytes(length))]),
-    }
+pub fn save(n: Size, random: &mut Random) -> Call {
+    let (given, table) = tables::given(mostly_cube(random), n, random);
+    let asked = if SIZES.contains(&given) { given } else { n };
+    let length = buffer_length(asked, random);
+    let (rounds, tests) = files::tally(random);
+    let saved = random.bytes(length);
+    Call::new(
+        "vcube_save",
+        [size(given), table, word(rounds), word(tests), saved],
+    )
 }
 
 /// The length of the buffer for a saved plant: mostly the right one.
-fn buffer_length(size: Size, random: &mut Random) -> usize {
-    let right = saved_length(size);
+fn buffer_length(n: Size, random: &mut Random) -> usize {
+    let right = saved_length(n);
     match random.below(60) {
         0 => right - 1,
         1 => right + 1,
-        2 => table_length(size),
+        2 => table_length(n),
         // Without the heads of the lines.
-        3 => right - FIELD_HEAD * size,
+        3 => right - FIELD_HEAD * n,
         // With the absent numbers.
-        4 => saved_length(distances(size)),
-        5 => saved_length(size + 1),
+        4 => saved_length(distances(n)),
+        5 => saved_length(n + 1),
         6 => 0,
-        7 => former_saved_length(size),
+        7 => former_saved_length(n),
         // Without the opening.
         8 => right - FIELD_HEAD - 1,
         _ => numbers::length(right, random),
     }
 }
 
-pub fn load(size: Size, random: &mut Random) -> Call {
-    let (size, file) = files::saved(size, random);
-    let length = table_buffer(size, random);
-    load_of(file, length, random)
-}
-
-/// A load of this file into a table buffer of this length.
-fn load_of(file: Vec<u8>, length: usize, random: &mut Random) -> Call {
-    Call {
-        kind: Kind::Load,
-        numbers: Numbers::default(),
-        buffers: Buffers::of([
-            (Name::Saved, file),
-            (Name::Table, random.bytes(length)),
-            (Name::Size, random.bytes(size_of::<usize>())),
-            (Name::Rounds, random.bytes(size_of::<u32>())),
-            (Name::Tests, random.bytes(size_of::<u32>())),
-        ]),
-    }
+pub fn load(n: Size, random: &mut Random) -> Call {
+    let (n, file) = files::saved(n, random);
+    let length = table_buffer(n, random);
+    let (rounds, tests) = (random.bytes(4), random.bytes(4));
+    Call::new(
+        "vcube_load",
+        [file, random.bytes(length), place(random), rounds, tests],
+    )
 }
 
 /// The length of the table buffer: mostly the right one.
-fn table_buffer(size: Size, random: &mut Random) -> usize {
-    let right = table_length(size);
+fn table_buffer(n: Size, random: &mut Random) -> usize {
+    let right = table_length(n);
     match random.below(50) {
         0 => right - 1,
         1 => right + 1,
-        2 => saved_length(size),
+        2 => saved_length(n),
         3 => table_length(random.between(*SIZES.start(), *SIZES.end())),
         // For the longest table.
         4 => table_length(*SIZES.end()),
         5 => 0,
-        6 => former_table_length(size),
+        6 => former_table_length(n),
         _ => numbers::length(right, random),
     }
 }
 
-pub fn saved_size(size: Size, random: &mut Random) -> Call {
-    let (_, file) = files::saved(size, random);
-    Call {
-        kind: Kind::SavedSize,
-        numbers: Numbers::default(),
-        buffers: Buffers::of([
-            (Name::Saved, file),
-            (Name::Size, random.bytes(size_of::<usize>())),
-        ]),
-    }
+pub fn saved_size(n: Size, random: &mut Random) -> Call {
+    let (_, file) = files::saved(n, random);
+    Call::new("vcube_saved_size", [file, place(random)])
 }
 
-pub fn convert(size: Size, random: &mut Random) -> Call {
-    let (size, old) = files::stored(size, random);
-    let length = buffer_length(size, random);
-    Call {
-        kind: Kind::Convert,
-        numbers: Numbers::default(),
-        buffers: Buffers::of([(Name::Old, old), (Name::Saved, random.bytes(length))]),
-    }
+pub fn convert(n: Size, random: &mut Random) -> Call {
+    let (n, old) = files::stored(n, random);
+    let length = buffer_length(n, random);
+    Call::new("vcube_convert", [old, random.bytes(length)])
 }
 
-pub fn converted_length(size: Size, random: &mut Random) -> Call {
-    let (_, old) = files::stored(size, random);
-    Call {
-        kind: Kind::ConvertedLength,
-        numbers: Numbers::default(),
-        buffers: Buffers::of([
-            (Name::Old, old),
-            (Name::Length, random.bytes(size_of::<usize>())),
-        ]),
-    }
-}
-
-/// The way back of an accepted save, load or conversion: what was saved or
-/// converted is loaded, what was loaded is saved.
-pub fn way_back(call: &Call, outcome: &Outcome, random: &mut Random) -> Option<Call> {
-    let contents = |name| outcome.buffers.get(name).contents().to_vec();
-    let figure = |name| outcome.buffers.get(name).figure();
-    match (call.kind, outcome.number) {
-        (Kind::Save, 0) => {
-            let length = table_length(call.numbers.n);
-            Some(load_of(contents(Name::Saved), length, random))
-        }
-        (Kind::Load, 0) => {
-            let n = figure(Name::Size);
-            let tally = (figure(Name::Rounds) as u32, figure(Name::Tests) as u32);
-            let length = saved_length(n);
-            Some(save_of(n, contents(Name::Table), tally, length, random))
-        }
-        (Kind::Convert, 0) => {
-            let (_, n) = FORMER_READER.saved_size(call.buffers.get(Name::Old));
-            Some(load_of(contents(Name::Saved), table_length(n), random))
-        }
-        _ => None,
-    }
+pub fn converted_length(n: Size, random: &mut Random) -> Call {
+    let (_, old) = files::stored(n, random);
+    Call::new("vcube_converted_length", [old, place(random)])
 }

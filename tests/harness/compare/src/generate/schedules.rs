@@ -61,7 +61,7 @@ fn blind(size: Size, entries: usize, random: &mut Random) -> Vec<u8> {
 }
 
 /// Puts a wrong entry, or one that can be wrong here, at a random place.
-fn insert_nonsense(schedule: &mut Vec<u8>, size: Size, random: &mut Random) {
+pub fn insert_nonsense(schedule: &mut Vec<u8>, size: Size, random: &mut Random) {
     let kind = random.between(1, 3) as u8;
     let station = random.below(size) as u8;
     let entry = match random.below(6) {

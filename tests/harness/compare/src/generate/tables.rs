@@ -6,8 +6,7 @@ use shared::table::{fresh, line_length, live_stations, unfinished_stations, HEAD
 use shared::table::{FINISHED, LIVE, NEXT_DISTANCE, STATUS, TESTS};
 use shared::wiring::Wiring;
 
-use super::{ceased, numbers, Size};
-use crate::borders;
+use super::{lines, numbers, Size};
 
 /// The size handed over and a table; now and then one of them is wrong.
 pub fn given(wiring: Wiring, size: Size, random: &mut Random) -> (usize, Vec<u8>) {
@@ -29,7 +28,7 @@ pub fn any(wiring: Wiring, size: Size, random: &mut Random) -> Vec<u8> {
         damage(&mut table, size, random);
     }
     if random.once_in(16) {
-        ceased::break_one(&mut table, size, random);
+        lines::break_one(&mut table, size, random);
     }
     table
 }
@@ -66,7 +65,7 @@ fn after_a_run(wiring: Wiring, size: Size, random: &mut Random) -> Vec<u8> {
     let entries = random.between(1, 3 * size);
     Style::new(false, random).taken(wiring, size, &mut table, entries, random);
     if random.once_in(3) {
-        ceased::count_anew(&mut table, size, random);
+        lines::count_anew(&mut table, size, random);
     }
     table
 }
@@ -94,7 +93,7 @@ fn by_the_rules(wiring: Wiring, size: Size, random: &mut Random) -> Vec<u8> {
         table.extend(line(wiring, size, own, &weights, random));
     }
     if random.once_in(24) {
-        ceased::tell_each_other(&mut table, size, random);
+        lines::tell_each_other(&mut table, size, random);
     }
     reopen_one(&mut table, size, random);
     // More often in a small plant, whose runs end after few tests.
@@ -118,8 +117,8 @@ fn line(wiring: Wiring, size: Size, own: usize, weights: &Weights, random: &mut 
     line[FINISHED] = u8::from(finished);
     line[TESTS] = tests as u8;
     match live {
-        true => ceased::set_status(&mut line, own, size, LIVE, random),
-        false => ceased::leave(&mut line, own, size, random),
+        true => lines::set_status(&mut line, own, size, LIVE, random),
+        false => lines::leave(&mut line, own, size, random),
     }
     for other in 0..size {
         let suspected = other != own && random.below(16) < weights.suspected;
@@ -151,14 +150,13 @@ fn isolate_one(wiring: Wiring, table: &mut [u8], size: Size, random: &mut Random
     let tested = first_from(wiring, next, size, station);
     let (unsuspected, others) = (!random.once_in(4), random.below(3));
     let dead = random.once_in(3);
-    let lines = table.chunks_exact_mut(line_length(size)).enumerate();
-    for (own, line) in lines {
+    for (own, line) in table.chunks_exact_mut(line_length(size)).enumerate() {
         match others {
             _ if own == station => suspect_all(line, next),
-            0 if dead && Some(own) == tested => ceased::leave(line, own, size, random),
+            0 if dead && Some(own) == tested => lines::leave(line, own, size, random),
             0 => finish(wiring, line, size),
-            1 if Some(own) == tested => ceased::set_status(line, own, size, LIVE, random),
-            1 => ceased::leave(line, own, size, random),
+            1 if Some(own) == tested => lines::set_status(line, own, size, LIVE, random),
+            1 => lines::leave(line, own, size, random),
             _ => {}
         }
         if own == station || unsuspected {
@@ -200,12 +198,15 @@ pub fn finish_all_but_one(wiring: Wiring, table: &mut [u8], size: Size, random: 
 /// its pass at the other half, of which only the last one is live.
 pub fn lead_past_the_dead(table: &mut [u8], size: Size, random: &mut Random) {
     let half = size / 2;
-    let lines = table.chunks_exact_mut(line_length(size)).take(size);
-    for (own, line) in lines.enumerate() {
+    for (own, line) in table
+        .chunks_exact_mut(line_length(size))
+        .take(size)
+        .enumerate()
+    {
         if own < half || own + 1 == size {
-            ceased::set_status(line, own, size, LIVE, random);
+            lines::set_status(line, own, size, LIVE, random);
         } else {
-            ceased::leave(line, own, size, random);
+            lines::leave(line, own, size, random);
         }
         line[NEXT_DISTANCE] = half.saturating_sub(own).max(1) as u8;
         line[FINISHED] = 0;
@@ -245,11 +246,27 @@ fn damage_line(line: &mut [u8], own: usize, size: Size, random: &mut Random) {
         7 => line[column] ^= 1,
         8 => line[random.below(HEAD)] = random.byte(),
         9 | 10 => {
-            line[NEXT_DISTANCE] = random.pick(&borders::of(size)) as u8;
+            line[NEXT_DISTANCE] = random.pick(&borders(size)) as u8;
             line[FINISHED] = random.pick(&[0, 1]);
             line[TESTS] = 0;
         }
         _ => line[random.below(line_length(size))] = random.byte(),
+    }
+}
+
+/// Next distances at the ends of a pass: of the ring n, of the cube 2^d.
+fn borders(size: Size) -> [usize; 4] {
+    let end = Wiring::Cube.end(size);
+    [size, size + 1, end, end + 1]
+}
+
+/// Of the stations below this one no live one suspects a live one.
+pub fn clear_doubts(table: &mut [u8], size: Size, below: usize) {
+    let live = live_stations(size, table);
+    for by in live.iter().filter(|by| **by < below) {
+        for of in &live {
+            table[by * line_length(size) + HEAD + of] = 0;
+        }
     }
 }
 

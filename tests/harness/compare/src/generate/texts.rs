@@ -3,46 +3,37 @@
 use shared::random::Random;
 use simulator::{MOST_ENTRIES, SCHEDULE_LENGTH, WORDS_LENGTH};
 
-use super::numbers;
-use crate::call::{Buffers, Call, Kind, Name, Numbers};
+use super::{numbers, place};
+use crate::call::{size, Call};
 
 pub fn call(random: &mut Random) -> Call {
     match random.below(8) {
-        0 => words(Kind::RefusalWords, 24, random),
-        1 => words(Kind::StatusWords, 3, random),
-        2 => words(Kind::OutcomeWords, 5, random),
+        0 => words("vcube_refusal_words", 24, random),
+        1 => words("vcube_status_words", 3, random),
+        2 => words("vcube_outcome_words", 5, random),
         _ => read_input(random),
     }
 }
 
-fn words(kind: Kind, last: usize, random: &mut Random) -> Call {
+fn words(function: &str, last: usize, random: &mut Random) -> Call {
     let length = length(WORDS_LENGTH, random);
-    Call {
-        kind,
-        numbers: Numbers {
-            worded: numbers::worded(last, random),
-            ..Numbers::default()
-        },
-        buffers: Buffers::of([(Name::Words, random.bytes(length))]),
-    }
+    let worded = numbers::worded(last, random);
+    Call::new(function, [size(worded), random.bytes(length)])
 }
 
 fn read_input(random: &mut Random) -> Call {
     let of_schedule = length(SCHEDULE_LENGTH, random);
     let of_words = length(WORDS_LENGTH, random);
-    let figure = |random: &mut Random| random.bytes(size_of::<usize>());
-    Call {
-        kind: Kind::ReadInput,
-        numbers: Numbers::default(),
-        buffers: Buffers::of([
-            (Name::Input, input(random)),
-            (Name::Schedule, random.bytes(of_schedule)),
-            (Name::Words, random.bytes(of_words)),
-            (Name::Size, figure(random)),
-            (Name::Entries, figure(random)),
-            (Name::Line, figure(random)),
-        ]),
-    }
+    let (input, schedule, words) = (
+        input(random),
+        random.bytes(of_schedule),
+        random.bytes(of_words),
+    );
+    let [n, entries, line] = [0; 3].map(|_| place(random));
+    Call::new(
+        "vcube_read_input",
+        [input, schedule, words, n, entries, line],
+    )
 }
 
 /// Mostly the right length, now and then one less or one more.
@@ -79,9 +70,7 @@ fn input(random: &mut Random) -> Vec<u8> {
     };
     for _ in 0..entries {
         text.push(b'\n');
-        text.push(random.pick(b"TLC"));
-        text.push(b' ');
-        text.extend(number(1, 2, random));
+        text.extend(entry(random));
     }
     if !random.once_in(4) {
         text.push(b'\n');
@@ -92,8 +81,14 @@ fn input(random: &mut Random) -> Vec<u8> {
     text
 }
 
+/// A line that can be read.
+pub fn entry(random: &mut Random) -> Vec<u8> {
+    let letter = random.pick(b"TLC");
+    [&[letter, b' '][..], &number(1, 2, random)].concat()
+}
+
 /// So many digits.
-fn number(least: usize, most: usize, random: &mut Random) -> Vec<u8> {
+pub fn number(least: usize, most: usize, random: &mut Random) -> Vec<u8> {
     let digits = random.between(least, most);
     let digit = |_| b'0' + random.below(10) as u8;
     (0..digits).map(digit).collect()

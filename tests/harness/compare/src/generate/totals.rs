@@ -2,10 +2,22 @@
 
 use shared::random::Random;
 
-use super::results;
-use crate::words::{self, repeated, GREATEST, MOST, MOST_RESULTS, TOTALS};
+use super::results::{self, MOST_RESULTS};
+use crate::answer::members_of;
 
-type Totals = [u64; TOTALS];
+/// Count, sum, squares, least, greatest.
+type Totals = [u64; 5];
+
+/// The greatest result.
+const GREATEST: u64 = u16::MAX as u64;
+
+/// What the most results can have: count, sum, sum of squares.
+const MOST: [u64; 3] = repeated(MOST_RESULTS as u64, GREATEST);
+
+/// Count, sum and sum of squares of a result that comes so often.
+const fn repeated(count: u64, result: u64) -> [u64; 3] {
+    [count, count * result, count * result * result]
+}
 
 /// Totals for figures.
 pub fn one(random: &mut Random) -> Totals {
@@ -48,7 +60,7 @@ pub fn two(random: &mut Random) -> [Totals; 2] {
 /// Totals of a list, which may be empty.
 fn of_list(random: &mut Random) -> Totals {
     match random.below(6) {
-        0 => [0; TOTALS],
+        0 => [0; 5],
         1 => of_repeated(random.between(1, MOST_RESULTS) as u64, random),
         _ => of_few(random),
     }
@@ -58,7 +70,7 @@ fn of_list(random: &mut Random) -> Totals {
 fn of_few(random: &mut Random) -> Totals {
     let length = results::few(random);
     let list = results::list(length, random);
-    words::of_totals(&simulator::totals(&list))
+    members_of(&simulator::totals(&list))
 }
 
 /// Totals of one result that comes so often.
@@ -67,7 +79,7 @@ fn of_repeated(count: u64, random: &mut Random) -> Totals {
     let result = random.pick(&[0, any, GREATEST, GREATEST]);
     let [count, sum, squares] = repeated(count, result);
     match count {
-        0 => [0; TOTALS],
+        0 => [0; 5],
         _ => [count, sum, squares, result, result],
     }
 }
@@ -110,7 +122,7 @@ fn without_count(random: &mut Random) -> [Totals; 2] {
 
 /// Members that have nothing to do with each other, mostly within the bounds.
 fn anything(random: &mut Random) -> Totals {
-    let mut totals = [0; TOTALS].map(|_: u64| random.any());
+    let mut totals = [0; 5].map(|_: u64| random.any());
     for (member, most) in totals.iter_mut().zip(MOST) {
         if !random.once_in(8) {
             *member %= most + 1;

@@ -1,0 +1,223 @@
+//! What the simulator gives for a call.
+//!
+//! include/vcube.h adds what the simulator does not know: numbers of any width, and where figures go. A row is its start in the table and its
+//! length. A doubt lamp that has no pair gives 255 for both stations.
+
+use simulator::{Figures, Totals};
+
+use crate::call::{members, number, Answer, Call};
+
+pub fn answer(call: &Call) -> Answer {
+    let mut arguments = call.arguments.clone();
+    let number = make(call.function.name, &mut arguments);
+    Answer { number, arguments }
+}
+
+/// Makes a call on these arguments. Gives its number.
+fn make(name: &str, arguments: &mut [Vec<u8>]) -> u8 {
+    match (name, arguments) {
+        ("vcube_fresh_table", [wiring, n, table]) => {
+            simulator::fresh_table(wide(wiring), wide(n), table)
+        }
+        ("vcube_group_list", [n, station, level, list]) => {
+            simulator::group_list(wide(n), narrow(station), narrow(level), list)
+        }
+        ("vcube_assignment", [n, table, station, list, count]) => {
+            let (number, due) = simulator::assignment(wide(n), table, narrow(station), list);
+            put(count, due);
+            number
+        }
+        ("vcube_slot", [n, table, station, tests, most]) => {
+            let given = simulator::slot(wide(n), table, narrow(station));
+            put(tests, given.tests);
+            put(most, given.most);
+            given.number
+        }
+        ("vcube_row", [wiring, n, table, station, start, length]) => {
+            let (wiring, n, station) = (wide(wiring), wide(n), narrow(station));
+            let number = simulator::row_refusal(wiring, n, table, station);
+            let row = simulator::row(wiring, n, table, station);
+            if number == 0 {
+                put(start, row.as_ptr() as usize - table.as_ptr() as usize);
+            } else {
+                put(start, 0);
+            }
+            put(length, row.len());
+            number
+        }
+        ("vcube_run", [wiring, n, table, rounds, tests, schedule, sheet, taken]) => {
+            let given = simulator::run(
+                wide(wiring),
+                wide(n),
+                table,
+                tally(rounds, tests),
+                schedule,
+                sheet,
+            );
+            put_tally(rounds, tests, (given.rounds, given.tests));
+            put(taken, given.taken);
+            given.number
+        }
+        ("vcube_grant", [wiring, n, table, last, place]) => {
+            let (number, station) = simulator::grant(wide(wiring), wide(n), table, wide(last));
+            put(place, station.into());
+            number
+        }
+        ("vcube_drive", [wiring, n, table, rounds, tests, last, grants]) => {
+            let given = simulator::drive(
+                wide(wiring),
+                wide(n),
+                table,
+                tally(rounds, tests),
+                wide(last),
+            );
+            put_tally(rounds, tests, (given.rounds, given.tests));
+            put(last, given.last);
+            put(grants, given.grants);
+            given.number
+        }
+        ("vcube_doubt_lamp", [wiring, n, table, by, of]) => {
+            let (number, pair) = simulator::doubt_lamp(wide(wiring), wide(n), table);
+            let none = if number == 0 { 255 } else { 0 };
+            let (one, other) = pair.unwrap_or((none, none));
+            put(by, one.into());
+            put(of, other.into());
+            number
+        }
+        ("vcube_wait", [wiring, n, table, rounds, turns, known, crash]) => {
+            let given = simulator::wait(wide(wiring), wide(n), table);
+            put(rounds, given.rounds);
+            put(turns, given.turns_per_round);
+            put(known, given.turns_until_known);
+            put(crash, given.turns_from_crash);
+            given.number
+        }
+        ("vcube_mend", [wiring, n, table, report, changes]) => {
+            let (number, count) = simulator::mend(wide(wiring), wide(n), table, report);
+            put(changes, count);
+            number
+        }
+        ("vcube_save", [n, table, rounds, tests, saved]) => {
+            simulator::save(wide(n), table, tally(rounds, tests), saved)
+        }
+        ("vcube_load", [saved, table, n, rounds, tests]) => {
+            let given = simulator::load(saved, table);
+            put(n, given.size);
+            put_tally(rounds, tests, (given.rounds, given.tests));
+            given.number
+        }
+        ("vcube_saved_size", [saved, n]) => put_second(n, simulator::saved_size(saved)),
+        ("vcube_convert", [old, saved]) => simulator::convert(old, saved),
+        ("vcube_converted_length", [old, length]) => {
+            put_second(length, simulator::converted_length(old))
+        }
+        ("vcube_figures_of_list", [list, figures]) => {
+            put_figures(figures, &simulator::figures(&results(list)))
+        }
+        ("vcube_figures_of_two_lists", [first, second, figures]) => put_figures(
+            figures,
+            &simulator::figures_of_two(&results(first), &results(second)),
+        ),
+        ("vcube_totals_of_list", [list, totals]) => {
+            put_totals(totals, &simulator::totals(&results(list)))
+        }
+        ("vcube_join_totals", [first, second, joined]) => put_totals(
+            joined,
+            &simulator::join_totals(&totals(first), &totals(second)),
+        ),
+        ("vcube_figures_of_totals", [given, figures]) => {
+            put_figures(figures, &simulator::figures_of_totals(&totals(given)))
+        }
+        ("vcube_refusal_words", [refusal, words]) => simulator::refusal_words(wide(refusal), words),
+        ("vcube_status_words", [status, words]) => simulator::status_words(wide(status), words),
+        ("vcube_outcome_words", [outcome, words]) => simulator::outcome_words(wide(outcome), words),
+        ("vcube_read_input", [input, schedule, words, n, entries, line]) => {
+            let given = simulator::read_input(input, schedule, words);
+            put(n, given.n);
+            put(entries, given.entries);
+            put(line, given.line);
+            given.number
+        }
+        (name, arguments) => panic!(
+            "{name} with {} arguments: the simulator has no such call",
+            arguments.len()
+        ),
+    }
+}
+
+fn wide(bytes: &[u8]) -> usize {
+    number(bytes) as usize
+}
+
+/// A station or level as the simulator takes it. All numbers from 255 on are out of range for every size, so they are refused alike.
+fn narrow(bytes: &[u8]) -> u8 {
+    number(bytes).min(255) as u8
+}
+
+/// Rounds and tests.
+fn tally(rounds: &[u8], tests: &[u8]) -> (u32, u32) {
+    (number(rounds) as u32, number(tests) as u32)
+}
+
+fn put_tally(rounds: &mut [u8], tests: &mut [u8], tally: (u32, u32)) {
+    rounds.copy_from_slice(&tally.0.to_le_bytes());
+    tests.copy_from_slice(&tally.1.to_le_bytes());
+}
+
+fn put(place: &mut [u8], figure: usize) {
+    place.copy_from_slice(&(figure as u64).to_le_bytes());
+}
+
+/// Puts a figure, the second, there. Gives the first, the number.
+fn put_second(place: &mut [u8], (number, figure): (u8, usize)) -> u8 {
+    put(place, figure);
+    number
+}
+
+fn results(bytes: &[u8]) -> Vec<u16> {
+    bytes
+        .chunks_exact(2)
+        .map(|pair| u16::from_le_bytes([pair[0], pair[1]]))
+        .collect()
+}
+
+fn totals(bytes: &[u8]) -> Totals {
+    let member = |k: usize| number(&bytes[8 * k..][..8]);
+    Totals {
+        number: 0,
+        count: member(0),
+        sum: member(1),
+        squares: member(2),
+        least: member(3),
+        greatest: member(4),
+    }
+}
+
+/// Count, sum, squares, least, greatest.
+pub fn members_of(totals: &Totals) -> [u64; 5] {
+    [
+        totals.count,
+        totals.sum,
+        totals.squares,
+        totals.least,
+        totals.greatest,
+    ]
+}
+
+fn put_totals(place: &mut Vec<u8>, totals: &Totals) -> u8 {
+    *place = members(&members_of(totals));
+    totals.number
+}
+
+fn put_figures(place: &mut Vec<u8>, figures: &Figures) -> u8 {
+    let [mean, variance] = [&figures.mean, &figures.variance];
+    let fractions = [mean.upper, mean.lower, variance.upper, variance.lower];
+    *place = members(
+        &[
+            &[figures.count, figures.least, figures.greatest],
+            &fractions[..],
+        ]
+        .concat(),
+    );
+    figures.number
+}
