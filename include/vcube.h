@@ -145,26 +145,24 @@ enum vcube_refusal {
     VCUBE_REFUSED_ROUND_NOT_CLOSED = 4,     /* every live board has finished its pass, and the round was not closed (some board is live) */
     VCUBE_REFUSED_SCHEDULE_LENGTH = 5,      /* the schedule has an odd number of bytes */
     VCUBE_REFUSED_SHEET_LENGTH = 6,         /* the sheet has not twice the bytes of the schedule */
-    VCUBE_REFUSED_TALLY_FULL = 7,           /* a counter is full: rounds or tests stand at 4,294,967,295 (when an entry, or a grant of a
-                                             * drive, is reached) */
+    VCUBE_REFUSED_TALLY_FULL = 7,           /* a counter is full: rounds or tests stand at 4,294,967,295 (when an entry, or a grant of a drive, is
+                                             * reached) */
     VCUBE_REFUSED_UNKNOWN_KIND = 8,         /* there is no such kind of entry (it is not 1, 2 or 3) */
     VCUBE_REFUSED_NO_SUCH_STATION = 9,      /* there is no board with this number: they go from 0 to n - 1 */
     VCUBE_REFUSED_NOT_LIVE = 10,            /* this board is not live */
     VCUBE_REFUSED_PASS_FINISHED = 11,       /* this board has finished its pass in this round (and the kind is 1 or 2) */
     VCUBE_REFUSED_NO_SUCH_LEVEL = 12,       /* there is no such level: they go from 1 to d */
-    VCUBE_REFUSED_LIST_LENGTH = 13,         /* the list or buffer for the answer has another length than the answer (group list:
-                                             * vcube_group_length; assignment: 2 * (n - 1); saved plant: 19 + n * (n + 10);
-                                             * words: 128; schedule of an input: 8192) */
+    VCUBE_REFUSED_LIST_LENGTH = 13,         /* the list or buffer for the answer has another length than the answer (group list: vcube_group_length;
+                                             * assignment: 2 * (n - 1); saved plant: 19 + n * (n + 10); words: 128; schedule of an input: 8192) */
     VCUBE_REFUSED_NO_RESULT = 14,           /* there is no result to take figures of (in both lists together, where two are given) */
     VCUBE_REFUSED_TOO_MANY_RESULTS = 15,    /* more than 4,096 results, or totals that so many cannot have (in both lists together) */
     VCUBE_REFUSED_LAST_GRANTED = 16,        /* the last granted number is neither a board nor 255 (it is n or more, and not 255) */
     VCUBE_REFUSED_NONE_LIVE = 17,           /* no board is live */
-    VCUBE_REFUSED_FIELD_PAST_END = 18,      /* the file is cut off: a field or its head goes past the end (the head is tag and
-                                             * length) */
-    VCUBE_REFUSED_SIZE_OR_TALLY_FIELD = 19, /* the field with the size or the tally is missing, there twice or of a wrong length (or more
-                                             * than twice) */
-    VCUBE_REFUSED_LINE_FIELD = 20,          /* a board's line in the file is missing, there twice, of a wrong length or of no board (more
-                                             * than once; not n + 7, or n + 5 in edition 1; a number of n or more) */
+    VCUBE_REFUSED_FIELD_PAST_END = 18,      /* the file is cut off: a field or its head goes past the end (the head is tag and length) */
+    VCUBE_REFUSED_SIZE_OR_TALLY_FIELD = 19, /* the field with the size or the tally is missing, there twice or of a wrong length (or more than
+                                             * twice) */
+    VCUBE_REFUSED_LINE_FIELD = 20,          /* a board's line in the file is missing, there twice, of a wrong length or of no board (more than once;
+                                             * not n + 7, or n + 5 in edition 1; a number of n or more) */
     VCUBE_REFUSED_NO_OPENING = 21,          /* the file does not begin as edition 2 does (with just the opening) */
     VCUBE_REFUSED_FIELD_ORDER = 22,         /* a field is out of order, or of an unknown tag (a conversion looks for the tag only) */
     VCUBE_REFUSED_REPORT_TOO_SHORT = 23,    /* the report has fewer than 4n(n + 6) bytes */
@@ -182,8 +180,8 @@ enum vcube_kind {
 enum vcube_status {
     VCUBE_STATUS_LIVE = 0,              /* live */
     VCUBE_STATUS_CRASHED = 1,           /* crashed */
-    VCUBE_STATUS_TOLD = 2,              /* left because told (that it is suspected, by a station that it tested or by one that tested
-                                         * it; byte 4 of its line names that station, if it was recorded) */
+    VCUBE_STATUS_TOLD = 2,              /* left because told (that it is suspected, by a station that it tested or by one that tested it; byte 4 of
+                                         * its line names that station, if it was recorded) */
     VCUBE_STATUS_ALONE = 3              /* left because alone (it suspects all others) */
 };
 
