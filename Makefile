@@ -26,7 +26,7 @@ portable: target/portable/vcube_portable.c ## target/portable/, C for any C99 co
 page: target/vcube.html ## target/vcube.html, the page that shows a plant, live
 
 help:
-	@sed -nE 's/^([a-z-]+):.* ## (.*)/make \1: \2/p' Makefile
+	@sed -nE 's/^([a-z0-9-]+):.* ## (.*)/make \1: \2/p' Makefile
 
 # --- What rt proves and builds. crates.txt says which crates there are, and what each uses.
 
@@ -163,32 +163,33 @@ words: ## the enums of header and binding, and the table of refusals in RULES, f
 layers: ## docs/layers.svg, from crates.txt
 	@docs/draw-layers
 
-# --- The tests, in steps. ./test runs them; a step may be made by itself, as test-words.
+# --- The tests, in steps. ./test runs them, and says what each is; one by itself is make test-words.
 
-quick := shellcheck layers pages words format rust-format
-slow := mutants compare portable page programs rust-tests linked-tests clippy c
-steps := $(quick) archive $(slow) kept-page rt-ci
+steps := shellcheck layers pages words format rust-format archive mutants compare portable programs page c rust-tests linked-tests clippy kept-page rt-ci
 .PHONY: list-steps before-rt-ci test $(steps:%=test-%)
+
+test: ## all tests: ./test, which also runs some of them
+	@./test
 
 list-steps:
 	@printf '%s\n' $(steps)
 
 before-rt-ci: $(patsubst %,test-%,$(filter-out rt-ci,$(steps)))
-test: ## all tests: ./test, which can do with some of them
-	@./test
 
-# COMMAND: the commands of the step, which are told where the programs are. A make that it calls is none of this one's.
+# COMMANDS. What they call is told where the programs are. A make that they call is none of this one's.
 define step
-name=$(@:test-%=%)
-echo "== $$name .."
+echo '== $(@:test-%=%) ..'
 unset MAKEFLAGS MFLAGS MAKELEVEL
-export $(foreach it,$(programs),VCUBE_$(shell echo $(it) | tr a-z A-Z)=$(CURDIR)/target/bin/$(it))
-if ($1); then echo "== $$name: $$SECONDS s"; else echo "== $$name: FAILED, $$SECONDS s"; exit 1; fi
+export VCUBE_WATCH=$(CURDIR)/target/bin/watch VCUBE_SHEET=$(CURDIR)/target/bin/sheet VCUBE_CONVERT=$(CURDIR)/target/bin/convert
+if { $1; }; then echo "== $(@:test-%=%): $$SECONDS s"; else echo "== $(@:test-%=%): FAILED, $$SECONDS s"; exit 1; fi
 endef
-skip = echo 'skipped: $1'
+# COMMAND, COMMANDS: if there is that of cargo's
+of_cargo = $(call step,if cargo $1 --version >/dev/null 2>&1; then $2; else echo 'skipped: this cargo has no $1'; fi)
+# The Rust packages that link the archive.
+linking := vcube bench
 
 test-shellcheck:
-	@$(call step,tests/shellcheck)
+	@$(call step,! tests/packages shellcheck || git grep --untracked -lE '^#!/.*sh$$|^# shellcheck shell=' | xargs shellcheck)
 test-layers:
 	@$(call step,docs/draw-layers --check)
 test-pages:
@@ -198,6 +199,29 @@ test-words:
 test-format:
 	@$(call step,git ls-files -z 'crates/*.rt' 'crates/*.antt' | xargs -0 rattle fmt --check)
 test-rust-format:
-	@$(call step,if cargo fmt --version >/dev/null 2>&1; then cargo fmt --all --check; else $(call skip,this cargo has no fmt); fi)
+	@$(call of_cargo,fmt,cargo fmt --all --check)
 test-archive: archive
-	@$(call step,true)
+	@$(call step,echo $(archive))
+test-mutants: programs
+	@$(call step,tests/mutants/run --drawn 12)
+test-compare: archive
+	@$(call step,tests/compare)
+test-portable: portable aarch64
+	@$(call step,tests/portable)
+test-programs: programs
+	@$(call step,tests/programs/run)
+test-page: page
+	@$(call step,tests/page)
+test-c: archive
+	@$(call step,bindings/c/run)
+test-rust-tests:
+	@$(call step,cargo test --workspace $(linking:%=--exclude=%) --offline --locked --quiet)
+test-linked-tests: archive
+	@$(call step,cargo test $(linking:%=--package=%) --offline --locked --quiet)
+test-clippy: archive
+	@$(call of_cargo,clippy,cargo clippy --workspace --all-targets --offline --locked --quiet -- -D warnings)
+test-kept-page: page
+	@$(call step,cmp target/vcube.html docs/vcube.html || { echo 'docs/vcube.html is not what ./page makes: make kept-page makes it anew'; false; })
+# Its last line is the gate's, and stays the last.
+test-rt-ci:
+	@rt ci 2>&1 | tee target/rt-ci.log
