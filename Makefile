@@ -45,8 +45,9 @@ made_of = $(if $(is_program),target/bin/$1,$(if $(kind_$1),target/staticlib/lib$
 # The crates that the goals need, each behind those that it uses. rt works on one at a time in a repository, so they wait for each other.
 asked := $(or $(MAKECMDGOALS),all)
 of_programs := programs install-programs test-programs $(programs:%=target/bin/%)
+with_programs := all before-rt-ci test-mutants $(of_programs)
 roots := $(if $(filter-out $(of_programs),$(asked)),vcube) \
-    $(if $(filter all programs install-programs before-rt-ci test-programs test-mutants,$(asked)),$(programs)) $(notdir $(filter target/bin/%,$(asked)))
+    $(if $(filter $(with_programs),$(filter-out target/bin/%,$(asked))),$(programs)) $(notdir $(filter target/bin/%,$(asked)))
 needed := $(call with_below,$(roots))
 needed := $(filter $(needed),$(crates))
 
@@ -165,7 +166,8 @@ layers: ## docs/layers.svg, from crates.txt
 
 # --- The tests, in steps. ./test runs them, and says what each is; one by itself is make test-words.
 
-steps := shellcheck layers pages words format rust-format archive mutants compare portable programs page c rust-tests linked-tests clippy kept-page rt-ci
+steps := shellcheck layers pages words format rust-format archive mutants compare portable programs page c rust-tests linked-tests clippy \
+    kept-page rt-ci
 .PHONY: list-steps before-rt-ci test $(steps:%=test-%)
 
 test: ## all tests: ./test, which also runs some of them
