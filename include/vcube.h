@@ -180,8 +180,8 @@ enum vcube_kind {
 enum vcube_status {
     VCUBE_STATUS_LIVE = 0,              /* live */
     VCUBE_STATUS_CRASHED = 1,           /* crashed */
-    VCUBE_STATUS_TOLD = 2,              /* left because told (that it is suspected, by a station that it tested or by one that tested
-                                         * it; byte 4 of its line names that station, if it was recorded) */
+    VCUBE_STATUS_TOLD = 2,              /* left because told (that it is suspected, by a station that it tested or by one that tested it; byte 4 of
+                                         * its line names that station, if it was recorded) */
     VCUBE_STATUS_ALONE = 3              /* left because alone (it suspects all others) */
 };
 

@@ -48,10 +48,15 @@
 #error "vcube: VCUBE_PORTABLE_RESULTS is 1 to 4096"
 #endif
 
-/* What wasm2c's C goes by. On a big-endian processor it keeps the memory backwards: byte a of the module at size - 1 - a. */
-#if !defined(WABT_BIG_ENDIAN) && defined(__BYTE_ORDER__) && defined(__ORDER_BIG_ENDIAN__)
-#define WABT_BIG_ENDIAN (__BYTE_ORDER__ == __ORDER_BIG_ENDIAN__)
+/* Whether a number of the processor has its low byte first, as the module's have. Where that is not known, numbers go byte by byte. */
+#if defined(__BYTE_ORDER__) && defined(__ORDER_LITTLE_ENDIAN__)
+#define IS_LOW_BYTE_FIRST (__BYTE_ORDER__ == __ORDER_LITTLE_ENDIAN__)
+#else
+#define IS_LOW_BYTE_FIRST 0
 #endif
+
+/* What wasm2c's C goes by. */
+#define WABT_BIG_ENDIAN 0
 #define WASM_RT_MEMCHECK_SIGNAL_HANDLER 0
 #define WASM_RT_USE_STACK_DEPTH_COUNT 0
 #ifndef NDEBUG
@@ -64,9 +69,11 @@
 #define wasm_rt_allocate_memory vcube_rt_allocate_memory
 #define wasm_rt_free_memory vcube_rt_free_memory
 
-/* VCUBE_MODULE_START, from which the module's stack goes down, and behind which the buffers stand; and of each call whether its stack
- * overwrites the module's data (VCUBE_OVERWRITES_DATA_..). */
-#include "vcube_layout.h"
+/* How much of its stack the module takes: a load has a table there. If it took more, it would leave its memory (VCUBE_PORTABLE_TRAP). */
+#define MODULE_STACK 4624
+
+/* Where the module's constants begin: at the end of the stack that it was linked with. */
+#define CONSTANTS_AT 65536
 
 #define MOST_STATIONS ((size_t)VCUBE_PORTABLE_STATIONS)
 #define MOST_RESULTS ((size_t)VCUBE_PORTABLE_RESULTS)
@@ -84,7 +91,7 @@
 /* What the buffers of any one call take: those of a mending, two saved plants, figures, or the reading of an input. */
 #define GREATER(a, b) ((a) > (b) ? (a) : (b))
 #define CALL_ROOM GREATER(GREATER(TABLE_ROOM + REPORT_ROOM, SAVED_ROOM + SAVED_ROOM), GREATER(RESULTS_ROOM, LEAST_INPUT_ROOM))
-#define MEMORY_SIZE ((VCUBE_MODULE_START + NUMBERS_ROOM + CALL_ROOM + 7) / 8 * 8)
+#define MEMORY_SIZE ((MODULE_STACK + NUMBERS_ROOM + CALL_ROOM + 7) / 8 * 8)
 
 /* How many entries of a run are handed over at a time: those that there is room for beside the table, 6 bytes each. */
 #define ENTRIES_AT_ONCE ((CALL_ROOM - TABLE_ROOM) / 6)
@@ -93,27 +100,9 @@
  * 2 bytes, is read from 4 bytes at least, or 3 at the end of an input. */
 #define INPUT_AT_ONCE ((CALL_ROOM - VCUBE_WORDS_LENGTH) / 3 * 2)
 
-static VCUBE_PORTABLE_LOCAL union {
-    uint8_t bytes[MEMORY_SIZE];
-    uint64_t aligned;
-} memory;
-
-/* The module fills and moves bytes by memset and memmove. These stand for them: memcpy is all that is taken of C's library, and wasm2c's own
- * do not go by the backward memory of a big-endian processor. */
-
-#if WABT_BIG_ENDIAN
-/* Where the bytes begin of which the module names the first by this pointer. */
-static uint8_t *turned(const void *at, size_t length)
-{
-    return memory.bytes + (sizeof memory.bytes - (size_t)((const uint8_t *)at - memory.bytes) - length);
-}
-#else
-static uint8_t *turned(const void *at, size_t length)
-{
-    (void)length;
-    return memory.bytes + ((const uint8_t *)at - memory.bytes);
-}
-#endif
+/* The module's memory: its stack, which goes down to 0, and behind it the buffers of a call. Its constants do not stand here but among those of
+ * the program, and are read there. */
+static VCUBE_PORTABLE_LOCAL uint8_t memory[MEMORY_SIZE];
 
 /* By memcpy, of what is filled already. */
 static void fill(uint8_t *bytes, uint8_t value, size_t length)
@@ -128,29 +117,108 @@ static void fill(uint8_t *bytes, uint8_t value, size_t length)
     memcpy(bytes + done, bytes, length - done);
 }
 
-static void fill_bytes(void *at, int value, size_t length)
-{
-    fill(turned(at, length), (uint8_t)value, length);
-}
-
 /* The two parts may overlap: a piece is read whole before it is written, and the pieces go from the end that is not overwritten. */
-static void move_bytes(void *to, const void *from, size_t length)
+static void move(uint8_t *to, const uint8_t *from, size_t length)
 {
-    uint8_t piece[32], *target = turned(to, length);
-    const uint8_t *source = turned(from, length);
+    uint8_t piece[32];
     size_t done = 0;
 
     while (done < length) {
         size_t part = length - done < sizeof piece ? length - done : sizeof piece;
-        size_t at = target <= source ? done : length - done - part;
-        memcpy(piece, source + at, part);
-        memcpy(target + at, piece, part);
+        size_t at = to <= from ? done : length - done - part;
+        memcpy(piece, from + at, part);
+        memcpy(to + at, piece, part);
         done += part;
     }
 }
 
-#define memset fill_bytes
-#define memmove move_bytes
+/* A number from the module's bytes, or to them. */
+static inline void copy_number(void *to, const void *from, size_t width)
+{
+#if IS_LOW_BYTE_FIRST
+    memcpy(to, from, width);
+#else
+    const union {
+        uint16_t number;
+        uint8_t bytes[2];
+    } one = {1};
+
+    for (size_t k = 0; k < width; k++)
+        ((uint8_t *)to)[one.bytes[0] == 1 ? k : width - 1 - k] = ((const uint8_t *)from)[k];
+#endif
+}
+
+/* What the module takes of wasm2c's runtime. */
+
+#include "wasm-rt.h"
+
+void vcube_rt_trap(wasm_rt_trap_t why)
+{
+    (void)why;
+    VCUBE_PORTABLE_TRAP
+}
+
+/* For calls of functions by their number; the module has none. */
+uint32_t vcube_rt_register_func_type(uint32_t parameters, uint32_t results, ...)
+{
+    (void)parameters;
+    (void)results;
+    return 0;
+}
+
+/* The memory stands above, and what reaches it does not go by this. */
+void vcube_rt_allocate_memory(wasm_rt_memory_t *made, uint32_t pages, uint32_t most_pages)
+{
+    made->data = memory;
+    made->size = (uint32_t)sizeof memory;
+    made->pages = pages;
+    made->max_pages = most_pages;
+}
+
+void vcube_rt_free_memory(wasm_rt_memory_t *made)
+{
+    (void)made;
+}
+
+/* How the module reaches its memory, in place of wasm2c's own macros and functions of these names, which build-for gives other names: its
+ * addresses go up to 2^32, and are cut as a size_t is; what is outside the memory is not touched. */
+
+static inline uint8_t *to_write(size_t at, size_t length)
+{
+    if (UNLIKELY(length > sizeof memory || at > sizeof memory - length))
+        vcube_rt_trap(WASM_RT_TRAP_OOB);
+    return memory + at;
+}
+
+static const uint8_t *among_constants(size_t at, size_t length);
+
+static inline const uint8_t *to_read(size_t at, size_t length)
+{
+    if (UNLIKELY(length > sizeof memory || at > sizeof memory - length))
+        return among_constants(at, length);
+    return memory + at;
+}
+
+#define DEFINE_LOAD(name, stored, read, given)                                   \
+    static inline given name(wasm_rt_memory_t *unused, u64 at)                   \
+    {                                                                            \
+        stored number;                                                           \
+        (void)unused;                                                            \
+        copy_number(&number, to_read((size_t)at, sizeof number), sizeof number); \
+        return (given)(read)number;                                              \
+    }
+#define DEFINE_STORE(name, stored, taken)                                         \
+    static inline void name(wasm_rt_memory_t *unused, u64 at, taken value)        \
+    {                                                                             \
+        const stored number = (stored)value;                                      \
+        (void)unused;                                                             \
+        copy_number(to_write((size_t)at, sizeof number), &number, sizeof number); \
+    }
+#define memory_fill(unused, at, value, length) fill(to_write(at, length), (uint8_t)(value), length)
+#define memory_copy(unused, as_well, to, from, length) move(to_write(to, length), to_read(from, length), length)
+/* The constants are all the data that there are: else this does not compile. */
+#define LOAD_DATA(unused, at, bytes, length) (void)sizeof(char[(at) == CONSTANTS_AT ? 1 : -1])
+
 #if defined(__GNUC__)
 #pragma GCC diagnostic push
 #pragma GCC diagnostic ignored "-Wpedantic"
@@ -168,93 +236,40 @@ static void move_bytes(void *to, const void *from, size_t length)
 #if defined(__GNUC__)
 #pragma GCC diagnostic pop
 #endif
-#undef memset
-#undef memmove
+
+static const uint8_t *among_constants(size_t at, size_t length)
+{
+    at -= CONSTANTS_AT;
+    if (length > sizeof vcube_constants || at > sizeof vcube_constants - length)
+        vcube_rt_trap(WASM_RT_TRAP_OOB);
+    return vcube_constants + at;
+}
 
 static VCUBE_PORTABLE_LOCAL Z_vcube_module_instance_t module;
-static VCUBE_PORTABLE_LOCAL int is_laid_out;
+static VCUBE_PORTABLE_LOCAL int is_begun;
 
 /* Where the next buffer of a call goes. */
 static VCUBE_PORTABLE_LOCAL uint32_t next;
 
-/* What the module takes of wasm2c's runtime. */
+/* The memory, byte for byte. A pointer to no byte may be NULL. */
 
-void vcube_rt_trap(wasm_rt_trap_t why)
-{
-    (void)why;
-    VCUBE_PORTABLE_TRAP
-}
-
-/* For calls of functions by their number; the module has none. */
-uint32_t vcube_rt_register_func_type(uint32_t parameters, uint32_t results, ...)
-{
-    (void)parameters;
-    (void)results;
-    return 0;
-}
-
-/* The module's memory is as long as it has to be, and no longer: less than the pages of 64 KiB that it asks for. */
-void vcube_rt_allocate_memory(wasm_rt_memory_t *made, uint32_t pages, uint32_t most_pages)
-{
-    made->data = memory.bytes;
-    made->size = (uint32_t)sizeof memory.bytes;
-    made->pages = pages;
-    made->max_pages = most_pages;
-}
-
-void vcube_rt_free_memory(wasm_rt_memory_t *made)
-{
-    (void)made;
-}
-
-/* The memory, byte for byte. */
-
-#if WABT_BIG_ENDIAN
-static uint8_t *place_of(uint32_t at)
-{
-    return &memory.bytes[sizeof memory.bytes - 1 - at];
-}
-
-static void put_bytes(uint32_t at, const void *from, size_t length)
-{
-    const uint8_t *bytes = (const uint8_t *)from;
-
-    for (size_t k = 0; k < length; k++)
-        *place_of(at + (uint32_t)k) = bytes[k];
-}
-
-static void get_bytes(uint32_t at, void *to, size_t length)
-{
-    uint8_t *bytes = (uint8_t *)to;
-
-    for (size_t k = 0; k < length; k++)
-        bytes[k] = *place_of(at + (uint32_t)k);
-}
-#else
-static uint8_t *place_of(uint32_t at)
-{
-    return &memory.bytes[at];
-}
-
-/* A pointer to no byte may be NULL. */
 static void put_bytes(uint32_t at, const void *from, size_t length)
 {
     if (length > 0)
-        memcpy(place_of(at), from, length);
+        memcpy(memory + at, from, length);
 }
 
 static void get_bytes(uint32_t at, void *to, size_t length)
 {
     if (length > 0)
-        memcpy(to, place_of(at), length);
+        memcpy(to, memory + at, length);
 }
-#endif
 
 /* Numbers stand in the module with the low byte first. */
 static void put_number(uint32_t at, uint64_t number, uint32_t width)
 {
     for (uint32_t k = 0; k < width; k++)
-        *place_of(at + k) = (uint8_t)(number >> (8 * k));
+        memory[at + k] = (uint8_t)(number >> (8 * k));
 }
 
 static uint64_t get_number(uint32_t at, uint32_t width)
@@ -262,7 +277,7 @@ static uint64_t get_number(uint32_t at, uint32_t width)
     uint64_t number = 0;
 
     for (uint32_t k = 0; k < width; k++)
-        number |= (uint64_t)*place_of(at + k) << (8 * k);
+        number |= (uint64_t)memory[at + k] << (8 * k);
     return number;
 }
 
@@ -278,25 +293,20 @@ static size_t get_size(uint32_t at)
 
 /* A call: its buffers, one behind the other. */
 
+/* The module was linked with more of a stack than it takes. Of that it gets the lowest part, and the buffers stand behind. */
 static void begin_call(void)
 {
-    if (!is_laid_out) {
+    if (!is_begun) {
         Z_vcube_module_instantiate(&module);
-        is_laid_out = 1;
+        if (module.w2c_g0 != CONSTANTS_AT)
+            vcube_rt_trap(WASM_RT_TRAP_EXHAUSTION);
+        module.w2c_g0 = MODULE_STACK;
+        is_begun = 1;
     }
-    next = VCUBE_MODULE_START;
+    next = MODULE_STACK;
 }
 
-/* A function of the module. The module's data stand where the stack goes only in calls that read none: after such a call they have to be laid
- * out again. */
-#define CALL(function, ...) ended((uint8_t)Z_vcube_moduleZ_##function(&module, __VA_ARGS__), VCUBE_OVERWRITES_DATA_##function)
-
-static uint8_t ended(uint8_t number, int overwrites_data)
-{
-    if (overwrites_data)
-        is_laid_out = 0;
-    return number;
-}
+#define CALL(function, ...) (uint8_t)Z_vcube_moduleZ_##function(&module, __VA_ARGS__)
 
 /* Room for a buffer of this length, which the call fills. */
 static uint32_t room(size_t length)
