@@ -141,25 +141,23 @@ enum vcube_refusal {
     VCUBE_REFUSED_ROUND_NOT_CLOSED = 4,     /* every live board has finished its pass, but the round is not closed (some board is live) */
     VCUBE_REFUSED_SCHEDULE_LENGTH = 5,      /* the schedule has an odd number of bytes */
     VCUBE_REFUSED_SHEET_LENGTH = 6,         /* the run sheet is not twice as long as the schedule */
-    VCUBE_REFUSED_TALLY_FULL = 7,           /* the count of rounds or of tests is at its limit, 4,294,967,295 (when an entry, or a grant of a
-                                             * drive, is reached) */
+    VCUBE_REFUSED_TALLY_FULL = 7,           /* the count of rounds or of tests is at its limit, 4,294,967,295 (when an entry, or a grant of a drive,
+                                             * is reached) */
     VCUBE_REFUSED_UNKNOWN_KIND = 8,         /* the kind of the entry is not 1, 2 or 3 */
     VCUBE_REFUSED_NO_SUCH_STATION = 9,      /* no board has this number: boards are numbered from 0 to n - 1 */
     VCUBE_REFUSED_NOT_LIVE = 10,            /* this board is not live */
     VCUBE_REFUSED_PASS_FINISHED = 11,       /* this board has already finished its pass in this round (and the kind is 1 or 2) */
     VCUBE_REFUSED_NO_SUCH_LEVEL = 12,       /* there is no such level: levels go from 1 to d */
-    VCUBE_REFUSED_LIST_LENGTH = 13,         /* the list or buffer for the answer has the wrong length (group list:
-                                             * vcube_group_length; assignment: 2 * (n - 1); saved plant: 19 + n * (n + 10);
-                                             * words: 128; schedule of an input: 8192) */
+    VCUBE_REFUSED_LIST_LENGTH = 13,         /* the list or buffer for the answer has the wrong length (group list: vcube_group_length; assignment: 2
+                                             * * (n - 1); saved plant: 19 + n * (n + 10); words: 128; schedule of an input: 8192) */
     VCUBE_REFUSED_NO_RESULT = 14,           /* there are no results to compute figures from (in both lists together, where two are given) */
-    VCUBE_REFUSED_TOO_MANY_RESULTS = 15,    /* there are more than 4,096 results, or the totals are higher than 4,096 results can give
-                                             * (in both lists together) */
+    VCUBE_REFUSED_TOO_MANY_RESULTS = 15,    /* there are more than 4,096 results, or the totals are higher than 4,096 results can give (in both
+                                             * lists together) */
     VCUBE_REFUSED_LAST_GRANTED = 16,        /* the last granted number is neither a board's number nor 255 (it is n or more, and not 255) */
     VCUBE_REFUSED_NONE_LIVE = 17,           /* no board is live */
-    VCUBE_REFUSED_FIELD_PAST_END = 18,      /* the file is cut off: a field or its head goes past the end (the head is tag and
-                                             * length) */
-    VCUBE_REFUSED_SIZE_OR_TALLY_FIELD = 19, /* the field with the size or the tally is missing, appears twice or has the wrong length (or more
-                                             * than twice) */
+    VCUBE_REFUSED_FIELD_PAST_END = 18,      /* the file is cut off: a field or its head goes past the end (the head is tag and length) */
+    VCUBE_REFUSED_SIZE_OR_TALLY_FIELD = 19, /* the field with the size or the tally is missing, appears twice or has the wrong length (or more than
+                                             * twice) */
     VCUBE_REFUSED_LINE_FIELD = 20,          /* a board's line in the file is missing, appears twice, has the wrong length or names no board (more
                                              * than once; not n + 7, or n + 5 in edition 1; a number of n or more) */
     VCUBE_REFUSED_NO_OPENING = 21,          /* the file does not begin as edition 2 does; if it is of edition 1, convert it first (with just the
