@@ -139,7 +139,7 @@ kept-page: target/vcube.html ## docs/vcube.html, the page as it is kept: it is j
 # --- Installing.
 
 version = $(shell sed -n 's/^\#define VCUBE_VERSION "\(.*\)"$$/\1/p' include/vcube.h)
-to := $(DESTDIR)$(PREFIX)
+to = $(DESTDIR)$(if $(filter /%,$(PREFIX)),,$(error PREFIX is a path from the root on, not '$(PREFIX)'))$(PREFIX)
 
 install: archive ## vcube.h, libvcube.a and vcube.pc below DESTDIR and PREFIX (/usr/local)
 	@install -D -m 644 include/vcube.h "$(to)/include/vcube.h"

@@ -180,7 +180,7 @@ void vcube_rt_free_memory(wasm_rt_memory_t *made)
     (void)made;
 }
 
-/* How the module reaches its memory, in place of wasm2c's own macros and functions of these names, which build-for gives other names: its
+/* How the module reaches its memory, in place of wasm2c's own macros and functions of these names, to which make gives other names: its
  * addresses go up to 2^32, and are cut as a size_t is; what is outside the memory is not touched. */
 
 static inline uint8_t *to_write(size_t at, size_t length)

@@ -16,8 +16,14 @@ do for [k = 0:2] {
     if (k == 0) { set lmargin at screen 0.23; set rmargin at screen 0.47 }
     if (k == 1) { set lmargin at screen 0.49; set rmargin at screen 0.73 }
     if (k == 2) { set lmargin at screen 0.75; set rmargin at screen 0.99; set key at graph 1,-0.1 horizontal }
-    plot $speed using (10):($0 - 0.2):(10):(column(2 + 2 * k)):($0 - 0.37):($0 - 0.03):yticlabels(k == 0 ? strcol(1) : "") \
-             with boxxyerror fillstyle solid linecolor "#2f7d32" title "library", \
-         "" using (10):($0 + 0.2):(10):(column(3 + 2 * k)):($0 + 0.03):($0 + 0.37) \
-             with boxxyerror fillstyle solid linecolor "#b0b0b0" title "plain Rust"
+    if (k == 0) {
+        plot $speed using (10):($0 - 0.2):(10):2:($0 - 0.37):($0 - 0.03):yticlabels(1) with boxxyerror fillstyle solid linecolor "#2f7d32" notitle, \
+             "" using (10):($0 + 0.2):(10):3:($0 + 0.03):($0 + 0.37) with boxxyerror fillstyle solid linecolor "#b0b0b0" notitle
+        unset ytics
+    } else {
+        plot $speed using (10):($0 - 0.2):(10):(column(2 + 2 * k)):($0 - 0.37):($0 - 0.03) \
+                 with boxxyerror fillstyle solid linecolor "#2f7d32" title "library", \
+             "" using (10):($0 + 0.2):(10):(column(3 + 2 * k)):($0 + 0.03):($0 + 0.37) \
+                 with boxxyerror fillstyle solid linecolor "#b0b0b0" title "plain Rust"
+    }
 }
