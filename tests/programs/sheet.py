@@ -16,6 +16,12 @@ NOT_TEXT = 'an argument is not text in UTF-8'
 PAGE = document('docs/COMMISSIONING.md')  # what it shows must be what is printed
 EIGHT_BUT_4 = re.sub('^    ', '', re.search(r'^    8 boards, dead: 4\n(    .*\n|\n)+', PAGE, re.M).group().rstrip('\n') + '\n', flags=re.M)
 ALL_SIZES = re.search(r'^\| boards \| nobody dead .*\n(\|.*\n)+', PAGE, re.M).group()
+TWO = (  # by hand: each tests the other, also where that is dead; two rounds, each of a live board's test and its last turn
+    '2 boards, dead: none\nOne more dead board is known everywhere after at most 2 rounds, 4 grants\n\n'
+    'board  whom it tests, in order  tests a round  most with one more dead\n'
+    '    0  1                                    1                        1\n'
+    '    1  0                                    1                        1\n\n'
+    'board  whom it does not test (who stands ahead)\n    0  -\n    1  -\n')
 BOARDS = ' '.join(str(board) for board in range(64))  # all of 64
 
 # The line on standard error, and arguments that get it, with a space between
@@ -63,9 +69,9 @@ WRONG_BYTES = [
 
 # Right arguments, and how standard output begins; the simulator says how it goes on
 RIGHT = [
-    ('2', '2 boards, dead: none\n'),
-    ('02', '2 boards, dead: none\n'),
-    ('002', '2 boards, dead: none\n'),
+    ('2', TWO),
+    ('02', TWO),
+    ('002', TWO),
     ('3', '3 boards, dead: none\n'),
     ('3 0', '3 boards, dead: 0\n'),
     ('3 2', '3 boards, dead: 2\n'),

@@ -76,6 +76,7 @@ UNREAD = [
     (b'8\nT\t1\n', 2, TAB, SPACE, r'T\t1'),
     (b'8\nT\t0\n', 2, TAB, SPACE, r'T\t0'),
     (b'8\nT 1\t\n', 2, TAB, END, r'T 1\t'),
+    (b'8\nT 0\t\n', 2, TAB, END, r'T 0\t'),
     (b'8\nT  1\n', 2, SPACE, DIGIT, 'T  1'),
     (b'8\nC  1\n', 2, SPACE, DIGIT, 'C  1'),
     (b'8\nT1\n', 2, DIGIT, SPACE, 'T1'),
