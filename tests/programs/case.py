@@ -1,5 +1,6 @@
 """One call of a program: what it is given, and what must come of it."""
 
+import contextlib
 import dataclasses
 import os
 import pty
@@ -33,9 +34,9 @@ class Case:
     out: object = b''
     err: object = b''
     status: int = 0
-    before: dict = dataclasses.field(default_factory=dict)  # the files in the folder in which it is called
+    before: dict = dataclasses.field(default_factory=dict)  # the files in a folder of its own, if it needs one
     after: dict = None  # those that must be there afterwards; None for the same
-    how: str = ''  # what is unusual: a name of HOW, or below
+    how: str = ''  # what is unusual about its surroundings: a name of HOW
     simulated: bool = False  # whether the simulator answers it too
 
 
@@ -117,7 +118,7 @@ def look_at(path):
 
 def call(command, case):
     """What comes of the command with the case's arguments: status, standard output, standard error, files."""
-    with tempfile.TemporaryDirectory() if case.before or case.after else no_folder() as folder:
+    with tempfile.TemporaryDirectory() if case.before else contextlib.nullcontext('/') as folder:
         lay_out(folder, case.before)
         unusual = HOW[case.how]()
         pipes = dict(stdin=subprocess.PIPE, stdout=subprocess.PIPE, stderr=subprocess.PIPE, cwd=folder) | unusual
@@ -133,16 +134,8 @@ def call(command, case):
             process.kill()
             process.communicate()
             return f'no end within {LIMIT} s', b'', b'', {}
-        files = {name: look_at(os.path.join(folder, name)) for name in os.listdir(folder)} if case.before or case.after else {}
+        files = {name: look_at(os.path.join(folder, name)) for name in os.listdir(folder)} if case.before else {}
         return process.returncode, out or b'', err or b'', files
-
-
-class no_folder:
-    def __enter__(self):
-        return '/'
-
-    def __exit__(self, *_):
-        pass
 
 
 def fits(expected, found):
