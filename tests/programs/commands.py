@@ -13,7 +13,7 @@ import tempfile
 from case import Case, call, difference
 from words import ROOT, sample
 
-COPIED = ['watch', 'sheet', 'convert', 'prove']
+COPIED = ['watch', 'sheet', 'convert', 'Makefile']
 RT = '''#!/bin/sh
 [ "$1" = version ] && echo 'rt 1' && exit
 [ -e broken ] && echo 'fn half: no proof' && exit 1
@@ -27,8 +27,8 @@ PROGRAM = '''#!/bin/sh
 PROVES_LOW = 'proving low (1 of 3) ..\nlow proved (N s)\n'
 PROVES_BETWEEN = 'proving between (2 of 3) ..\nbetween proved (N s)\n'
 PROVES_IT = 'proving NAME (3 of 3) ..\nNAME proved (N s)\n'
-FAILS = 'proving low (1 of 3) ..\nfn half: no proof\nprove: low is not proved\n'
-NO_RT = 'prove: rt, the command of the Rattle toolchain, is not found\n'
+FAILS = 'proving low (1 of 3) ..\nfn half: no proof\nlow is not proved\n'
+NO_RT = 'rt, the command of the Rattle toolchain, is not found\n'
 
 # One after the other, for each of ./watch, ./sheet and ./convert, which stands for NAME: what is done to the repository before (shell); the
 # folder, the command and its arguments; the status, standard output and standard error. The input is `input` and a line feed.
@@ -43,18 +43,15 @@ STEPS = [
     ('touch crates/low/broken; echo >>crates/low/src/lib.rt', '.', './NAME 8 4', 1, '', FAILS),
     ('', '.', './NAME 8 4', 1, '', FAILS),
     ('rm crates/low/broken', '.', './NAME 8 4 2>/dev/full', 0, '8 4\ninput\n', ''),
-    ('mv bin/rt rt', '.', './NAME 8 4', 2, '', NO_RT),
+    ('mv bin/rt rt', '.', './NAME 8 4', 1, '', NO_RT),
 ]
 
 # In this repository, where they have nothing to do: the command, the status, standard output and standard error, or how these begin (..)
 CALLS = [
-    ('./prove --help', 0, 'Usage: ./prove NAME ..', ''),
-    ('./prove', 2, '', 'Usage: ./prove NAME ..'),
-    ('./prove nothing', 2, '', 'prove: no such crate: nothing\n'),
-    ('./prove watch .watch', 2, '', 'prove: no such crate: .watch\n'),
-    ('./build-for --help', 0, 'Usage: ./build-for TARGET ..', ''),
-    ('./build-for', 2, '', 'Usage: ./build-for TARGET ..'),
-    ('./build-for c nothing', 2, '', 'build-for: no such target: nothing (./build-for --help names them)\n'),
+    ('make help', 0, 'make all: ..', ''),
+    ('make -s nothing', 2, '', "make: *** No rule to make target 'nothing'.  Stop.\n"),
+    ('./test --help', 0, 'Usage: ./test [STEP ..]..', ''),
+    ('./test nothing', 2, '', './test: no such step: nothing (./test --list prints them)\n'),
     ('./page --help', 0, 'Usage: ./page ..', ''),
     ('./page nothing', 2, '', 'page: no such argument: nothing (./page --help)\n'),
     ('./page -o', 2, '', 'page: -o needs a file (./page --help)\n'),
@@ -79,8 +76,7 @@ def expected(text):
 def check(case):
     """Of a call what is wrong; of a name without arguments what is wrong in the small repository."""
     if case.arguments:
-        command = os.path.join(ROOT, case.arguments[0])
-        return difference(case, case.name, call([command], Case('', '', case.arguments[1:])))
+        return difference(case, case.name, call(['env', '-C', ROOT], case))
     with tempfile.TemporaryDirectory() as small:
         lay_out(case.name, small)
         return ''.join(take(case.name, small, step) for step in STEPS)
@@ -106,5 +102,6 @@ def take(name, small, step):
     env = os.environ | {'PATH': ':'.join([os.path.join(small, 'bin'), *without_rt])}
     subprocess.run(['sh', '-c', change], cwd=small, check=True)
     done = subprocess.run(['sh', '-c', command], cwd=os.path.join(small, folder), env=env, input=b'input\n', capture_output=True, check=False)
-    found = done.returncode, done.stdout, re.sub(rb'\(\d+ s\)', b'(N s)', done.stderr), {}
+    err = re.sub(rb'make: \*\*\* .*\n', b'', re.sub(rb'\(\d+ s\)', b'(N s)', done.stderr))  # without make's own words
+    found = done.returncode, done.stdout, err, {}
     return difference(Case('', '', status=rest[0], out=rest[1].encode(), err=rest[2].encode()), f'{change}; {command}', found)

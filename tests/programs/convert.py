@@ -57,7 +57,7 @@ DAMAGED_SECOND = [
 # Files that are not converted though they are not damaged, and what --check says of them
 OTHER = [
     (SECOND, 22, 0, 'edition 2', 0),
-    (TWO + TALLY + SIX_0 + SIX_1, 20, 15, 'saved by version 0.9 or 0.10, taken by nobody', 1),
+    (TWO + TALLY + SIX_0 + SIX_1, 20, 15, 'saved by version 0.9 or 0.10: for edition 2 put the bytes 4 0 1 2 in front', 1),
 ]
 IS = 'the file is: {}\n'
 TOO_LONG = 'longer than any saved plant, which has 4,755 bytes at most\n'
@@ -71,13 +71,13 @@ CONVERTED = [
     (EIGHT, EIGHT_CONVERTED),
 ]
 
-WRONG_NUMBER = b'convert: not so many files\n'
-UNKNOWN = 'convert: unknown option: {} (./convert --help says what there is)\n'
-THERE = b'Error: new is there already (--force replaces it)\n'
-NO_FILE = 'Error: {} is there already, and no file\n'
+WRONG_NUMBER = b'convert: expected two file names, or --check and one\n'
+UNKNOWN = 'convert: unknown option: {} (see ./convert --help)\n'
+THERE = b'Error: new already exists (--force replaces it)\n'
+NO_FILE = 'Error: {} exists and is not a regular file\n'
 UNWRITTEN = 'Error: {} cannot be written\n\nCaused by:\n    {}\n'
-BESIDE = b'Error: it cannot be written beside\n\nCaused by:\n    File exists (os error 17)\n'
-HINT = b'reading standard input: a stored file\n'
+BESIDE = b'Error: the new file cannot be written beside it\n\nCaused by:\n    File exists (os error 17)\n'
+HINT = b'reading a stored file from standard input\n'
 
 # How it is called in a folder with `old`, a file of edition 1, and other files: its arguments; those that are there before, and what they
 # are afterwards (None: the same); the status; standard output; standard error

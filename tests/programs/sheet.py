@@ -9,9 +9,9 @@ LONG = 100_000  # longer than any buffer
 NO_SIZE = 'a size is needed, from 2 to 64'
 NOT_A_SIZE = 'argument 1 is not a size from 2 to 64'
 NOT_A_BOARD = 'argument {} is not a board from 0 to {}'
-NAMED_AGAIN = 'argument {} names a board again'
+NAMED_AGAIN = 'argument {} repeats a board'
 FEW_LIVE = 'at least two boards must be live'
-BESIDE_SIZES = 'nothing may stand beside --sizes'
+BESIDE_SIZES = '--sizes takes no other argument'
 NOT_TEXT = 'an argument is not text in UTF-8'
 PAGE = document('docs/COMMISSIONING.md')  # what it shows must be what is printed
 EIGHT_BUT_4 = re.sub('^    ', '', re.search(r'^    8 boards, dead: 4\n(    .*\n|\n)+', PAGE, re.M).group().rstrip('\n') + '\n', flags=re.M)

@@ -275,7 +275,7 @@ LATE, TWO = sample('late-reply.txt'), sample('two-boards.txt')
 FOUR, FOUR_ON_RING = sample('four-boards.txt'), sample('four-boards-ring.expected')
 REFUSED = f'refused 10 at 6: {refusal(10)}; line 8: T 0\n'.encode()
 HERE = {'late.txt': LATE, 'two.txt': TWO, 'four.txt': FOUR, 'folder': FOLDER, 'socket': SOCKET}
-UNKNOWN = 'watch: unknown option: {} (./watch --help says what there is)\n'
+UNKNOWN = 'watch: unknown option: {} (see ./watch --help)\n'
 HINT = b'reading standard input: a size, then a line per entry; Ctrl-D ends it\n'
 NO_LINE = b'station tested outcome status\nrounds 0 tests 0 refused 0 at 0\n'
 
