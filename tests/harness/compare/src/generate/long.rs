@@ -95,13 +95,9 @@ fn read_input(random: &mut Random) -> Call {
     if random.once_in(10) {
         input.truncate(random.below(input.len() + 1));
     }
-    let schedule = vec![0xEE; SCHEDULE_LENGTH - usize::from(random.once_in(20))];
-    let words = vec![0xEE; WORDS_LENGTH - usize::from(random.once_in(20))];
-    let [n, entries, line] = [0; 3].map(|_| place(random));
-    Call::new(
-        "vcube_read_input",
-        [input, schedule, words, n, entries, line],
-    )
+    let schedule = SCHEDULE_LENGTH - usize::from(random.once_in(20));
+    let words = WORDS_LENGTH - usize::from(random.once_in(20));
+    texts::reading(input, schedule, words, random)
 }
 
 /// Mostly a line that cannot be read; now and then its last byte comes thousands of times more.

@@ -22,13 +22,14 @@ fn words(function: &str, last: usize, random: &mut Random) -> Call {
 }
 
 fn read_input(random: &mut Random) -> Call {
-    let of_schedule = length(SCHEDULE_LENGTH, random);
-    let of_words = length(WORDS_LENGTH, random);
-    let (input, schedule, words) = (
-        input(random),
-        random.bytes(of_schedule),
-        random.bytes(of_words),
-    );
+    let schedule = length(SCHEDULE_LENGTH, random);
+    let words = length(WORDS_LENGTH, random);
+    reading(input(random), schedule, words, random)
+}
+
+/// The reading of this input into a schedule and words of these lengths.
+pub fn reading(input: Vec<u8>, schedule: usize, words: usize, random: &mut Random) -> Call {
+    let [schedule, words] = [schedule, words].map(|length| random.bytes(length));
     let [n, entries, line] = [0; 3].map(|_| place(random));
     Call::new(
         "vcube_read_input",
