@@ -181,8 +181,19 @@ static int print_mending(void)
     return 0;
 }
 
+/* An archive of another version links as well, and what it expects in a call may be something else. */
+static int is_other_version(void)
+{
+    if (vcube_version() == VCUBE_VERSION_NUMBER)
+        return 0;
+    printf("the header is of version %d, the library of %" PRIu32 "\n", VCUBE_VERSION_NUMBER, vcube_version());
+    return 1;
+}
+
 int main(void)
 {
+    if (is_other_version())
+        return 1;
     /* After the first entry 0 suspects 1, which is live; after all four 1 has left. */
     if (run(example, 2) || print_lamp() || run(example, sizeof example) || print_lamp())
         return 1;

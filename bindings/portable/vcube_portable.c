@@ -358,6 +358,12 @@ static struct lent begin_with_table(const uint8_t *table, size_t table_length)
     return lent;
 }
 
+uint32_t vcube_version(void)
+{
+    begin_call();
+    return Z_vcube_moduleZ_vcube_version(&module);
+}
+
 uint8_t vcube_fresh_table(size_t wiring, size_t n, uint8_t *table, size_t table_length)
 {
     size_t length = cut(table_length, TABLE_ROOM);

@@ -16,7 +16,9 @@ fn main() {
         println!("cargo::rustc-link-lib=static=vcube");
     } else {
         let missing = archive.display();
-        println!("cargo::error=no archive {missing}: run tests/archive, or set VCUBE_LIB_DIR to the folder that holds it");
+        println!(
+            "cargo::error=no archive {missing}: run tests/archive, or set VCUBE_LIB_DIR to the folder that holds it"
+        );
     }
 }
 

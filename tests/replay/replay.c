@@ -173,7 +173,7 @@ static uint8_t *mapped(int memory, int protection)
     return whole + page;
 }
 
-static void prepare(void)
+static void map_memory(void)
 {
     page = (size_t)sysconf(_SC_PAGESIZE);
     for (size_t k = 0; k < MOST_ARGUMENTS; k++) {
@@ -200,10 +200,8 @@ static void lend(size_t k)
     argument->lent = (is_read_only ? readable : writable)[k] + start;
 }
 
-static void give_back(size_t k)
-{
-    (void)k;
-}
+/* What is lent serves for the next call. */
+static void give_back(size_t k) { (void)k; }
 
 /* What a signal said that ended a call. */
 static sigjmp_buf ended;
@@ -211,15 +209,19 @@ static volatile sig_atomic_t is_in_call, is_write;
 static volatile int signal_number;
 static uint8_t *volatile address;
 
-enum { MOST_SECONDS = 60, CALLS_PER_ALARM = 1024 };
+static volatile unsigned long alarmed;  /* the call at the alarm before */
+
+enum { MOST_SECONDS = 20 };
 
 static void on_signal(int number, siginfo_t *info, void *context)
 {
-    if (!is_in_call) {
-        if (number == SIGALRM)
-            return;
-        _exit(2);
+    if (number == SIGALRM && (!is_in_call || alarmed != calls)) {
+        alarmed = calls;
+        alarm(MOST_SECONDS);
+        return;
     }
+    if (!is_in_call)
+        _exit(2);
     is_in_call = 0;
     signal_number = number;
     address = info->si_addr;
@@ -227,18 +229,20 @@ static void on_signal(int number, siginfo_t *info, void *context)
     siglongjmp(ended, 1);
 }
 
-static void catch_signals(void)
+static void prepare(void)
 {
     static const int caught[] = {SIGSEGV, SIGBUS, SIGILL, SIGFPE, SIGABRT, SIGALRM};
     static uint8_t room[1 << 16];
     stack_t stack = {.ss_sp = room, .ss_size = sizeof room};
-    struct sigaction action = {.sa_sigaction = on_signal, .sa_flags = SA_SIGINFO | SA_NODEFER | SA_ONSTACK};
+    struct sigaction action = {.sa_sigaction = on_signal, .sa_flags = SA_SIGINFO | SA_NODEFER | SA_ONSTACK | SA_RESTART};
 
+    map_memory();
     if (sigaltstack(&stack, NULL) != 0)
         unreadable("no stack for signals");
     for (size_t k = 0; k < sizeof caught / sizeof caught[0]; k++)
         if (sigaction(caught[k], &action, NULL) != 0)
             unreadable("a signal cannot be caught");
+    alarm(MOST_SECONDS);
 }
 
 /* Says which argument was touched where it must not be. */
@@ -246,7 +250,6 @@ static void name_touched(void)
 {
     const char *touched = is_write ? "written" : "read";
 
-    complain();
     for (size_t k = 0; k < call.count; k++) {
         const struct argument *argument = &call.arguments[k];
         uint8_t *const start = argument->lent, *const end = start + argument->lent_length;
@@ -265,19 +268,18 @@ static void name_touched(void)
 
 static void name_signal(void)
 {
-    if (signal_number == SIGSEGV || signal_number == SIGBUS) {
-        name_touched();
-    } else if (signal_number == SIGALRM) {
-        complain();
+    complain();
+    if (signal_number == SIGALRM) {
         fprintf(stderr, "has not ended after %d seconds\n", MOST_SECONDS);
-    } else {
-        complain();
-        fprintf(stderr, "ends with signal %d\n", signal_number);
+        exit(1);
     }
+    if (signal_number == SIGSEGV || signal_number == SIGBUS)
+        name_touched();
+    else
+        fprintf(stderr, "ends with signal %d\n", signal_number);
 }
 #else
 static void prepare(void) {}
-static void catch_signals(void) {}
 
 static void lend(size_t k)
 {
@@ -338,17 +340,12 @@ static int read_call(void)
     return 1;
 }
 
-/* Whether it is a call on a plant: not for words, and not the reading of an input. */
-static int is_on_plant(void)
-{
-    return strstr(call.function, "words") == NULL && strcmp(call.function, "vcube_read_input") != 0;
-}
-
 /* Whether it is not a call for this processor, or for what is linked here. What stands at a pointer before the call counts for the last number
  * of a drive only, which is its first size_t: the others are only written. */
 static int is_left_out(void)
 {
-    const int is_of_few = most_stations < 64 && is_on_plant();
+    const int is_on_plant = strstr(call.function, "words") == NULL && strcmp(call.function, "vcube_read_input") != 0;
+    const int is_of_few = most_stations < 64 && is_on_plant;
     int is_last = strcmp(call.function, "vcube_drive") == 0;
     size_t results = 0;
 
@@ -490,14 +487,13 @@ static int is_right(size_t k)
     return 0;
 }
 
-/* Makes the call. Gives its number, or -1 where a signal ended it. */
+/* Lends what the call needs and makes it. Gives its number, or -1 where a signal ended it. */
 static int number_given(void)
 {
     int number;
 
+    lend_all();
 #if PAGES
-    if (calls % CALLS_PER_ALARM == 1)
-        alarm(MOST_SECONDS);
     if (sigsetjmp(ended, 0) != 0) {
         name_signal();
         return -1;
@@ -511,14 +507,12 @@ static int number_given(void)
     return number;
 }
 
-/* Makes the call. Whether it gives what it must. */
+/* Whether the call gives what it must. */
 static int replay(void)
 {
-    int given, is_as_recorded;
+    const int given = number_given();
+    int is_as_recorded = given == call.number;
 
-    lend_all();
-    given = number_given();
-    is_as_recorded = given == call.number;
     if (given >= 0 && !is_as_recorded) {
         complain();
         fprintf(stderr, "gives %d, not %u\n", given, call.number);
@@ -547,7 +541,6 @@ int main(int count, char **words)
         most_results = strtoul(words[3], NULL, 10);
     }
     prepare();
-    catch_signals();
     while (wrong < MOST_WRONG && read_call()) {
         if (is_left_out())
             continue;

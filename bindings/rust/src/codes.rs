@@ -21,12 +21,23 @@ macro_rules! numbered {
 
         impl $name {
             /// Its number, as in docs/RULES.md.
+            ///
+            /// ```
+            #[doc = concat!("use vcube::", stringify!($name), ";")]
+            ///
+            #[doc = concat!("assert_eq!(", stringify!($name), "::from_number(2).map(", stringify!($name), "::number), Some(2));")]
+            /// ```
             #[must_use]
             pub const fn number(self) -> u8 {
                 self as u8
             }
 
             /// The one with this number, if there is one.
+            ///
+            /// ```
+            #[doc = concat!("assert!(vcube::", stringify!($name), "::from_number(2).is_some());")]
+            #[doc = concat!("assert!(vcube::", stringify!($name), "::from_number(25).is_none());")]
+            /// ```
             #[must_use]
             pub const fn from_number(number: u8) -> Option<$name> {
                 match number {
@@ -47,14 +58,8 @@ macro_rules! numbered {
 }
 
 numbered! {
-    /// Why a call was refused: the refusal list, in checking order; but a drive
-    /// looks for `TallyFull` after `LastGranted` and `NoneLive`, a load for
-    /// `FieldPastEnd`, `NoOpening`, `FieldOrder`, `SizeOrTallyField`,
-    /// `SizeOutOfRange`, `LineField`, `TableLength`, `LineRule` and
-    /// `RoundNotClosed` in this order, and a conversion for `FieldPastEnd`,
-    /// `FieldOrder`, `SizeOrTallyField`, `SizeOutOfRange`, `LineField`, `LineRule`,
-    /// `RoundNotClosed` and `ListLength`; `NoSuchWiring` comes before all others. A
-    /// station is a board in the words of the library.
+    /// Why a call was refused. Each function lists its refusals in the order in which
+    /// they are checked. A station is a board in the words of the library.
     #[non_exhaustive]
     Refusal {
         SizeOutOfRange = 1 => "a plant has 2 to 64 boards",

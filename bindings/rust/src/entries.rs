@@ -16,6 +16,13 @@ pub struct Entry {
 impl Entry {
     /// Its two bytes. A station above 255 becomes 255, which no plant has, so
     /// that it is refused alike.
+    ///
+    /// ```
+    /// use vcube::{Entry, Kind, Station};
+    ///
+    /// let entry = Entry { kind: Kind::LateTurn, station: Station(5) };
+    /// assert_eq!(entry.bytes(), [2, 5]);
+    /// ```
     #[must_use]
     pub fn bytes(self) -> [u8; 2] {
         let station = u8::try_from(self.station.0).unwrap_or(u8::MAX);
@@ -24,6 +31,14 @@ impl Entry {
 }
 
 /// The bytes of a schedule with these entries.
+///
+/// ```
+/// use vcube::{Entry, Kind, Station};
+///
+/// let entry = |kind, station| Entry { kind, station: Station(station) };
+/// let schedule = vcube::schedule(&[entry(Kind::Turn, 0), entry(Kind::Crash, 5)]);
+/// assert_eq!(schedule, [1, 0, 3, 5]);
+/// ```
 #[must_use]
 pub fn schedule(entries: &[Entry]) -> Vec<u8> {
     entries.iter().flat_map(|entry| entry.bytes()).collect()
@@ -44,6 +59,15 @@ pub struct SheetLine {
 impl SheetLine {
     /// Reads a line. Gives none where outcome or status have a number that
     /// [`Outcome`] or [`Status`] does not have: a run writes no such line.
+    ///
+    /// ```
+    /// use vcube::{Outcome, SheetLine, Station, Status};
+    ///
+    /// let line = SheetLine::from_bytes([5, 255, 4, 1]).expect("a line");
+    /// assert_eq!((line.station, line.tested), (Station(5), None));
+    /// assert_eq!((line.outcome, line.status), (Outcome::Crash, Status::Crashed));
+    /// assert_eq!(SheetLine::from_bytes([5, 255, 6, 1]), None);
+    /// ```
     #[must_use]
     pub fn from_bytes(bytes: [u8; 4]) -> Option<SheetLine> {
         let [station, tested, outcome, status] = bytes;
@@ -58,6 +82,13 @@ impl SheetLine {
     /// The stations that were live before the entry and are not after it, each
     /// with its status now. There may be two: at [`Outcome::TestedTold`] the
     /// tested station left, and then the tester too if it is alone.
+    ///
+    /// ```
+    /// use vcube::{SheetLine, Station, Status};
+    ///
+    /// let line = SheetLine::from_bytes([0, 1, 5, 3]).expect("a line");
+    /// assert!(line.ceased().eq([(Station(1), Status::Told), (Station(0), Status::Alone)]));
+    /// ```
     pub fn ceased(self) -> impl Iterator<Item = (Station, Status)> {
         let told = self.tested.filter(|_| self.outcome == Outcome::TestedTold);
         let tested = told.map(|station| (station, Status::Told));
@@ -70,7 +101,13 @@ impl SheetLine {
 ///
 /// They end before that where the sheet does, or at four bytes that are no
 /// line; neither is so of the sheet that the run was lent.
-pub fn sheet_lines(sheet: &[u8], taken: usize) -> impl Iterator<Item = SheetLine> + '_ {
+///
+/// ```
+/// let sheet = [0, 1, 1, 0, 5, 255, 4, 1, 9, 9, 9, 9];
+/// let stations: Vec<_> = vcube::sheet_lines(&sheet, 2).map(|line| line.station.0).collect();
+/// assert_eq!(stations, [0, 5]);
+/// ```
+pub fn sheet_lines(sheet: &[u8], taken: usize) -> impl Iterator<Item = SheetLine> {
     let (lines, _) = sheet.as_chunks();
     let lines = lines.iter().take(taken);
     lines.map_while(|bytes| SheetLine::from_bytes(*bytes))

@@ -1,7 +1,7 @@
 //! The bus master that grants the turns.
 
 use crate::entries::NO_STATION;
-use crate::{accepted, raw, Refusal, Station, Tally, Wiring};
+use crate::{Refusal, Station, Tally, Wiring, accepted, number_of, raw};
 
 /// What a drive answers beside the tally and the last granted station.
 #[derive(Clone, Copy, Debug, PartialEq, Eq, Hash)]
@@ -18,13 +18,24 @@ pub struct Driven {
 /// `last` is none it begins at station 0, else it ends with `last` itself. The
 /// library's number for none is 255, so `Some(Station(255))` is none, too.
 /// Refusals: 1 to 4, 16, 17.
+///
+/// ```
+/// use vcube::{Station, Wiring};
+///
+/// let mut table = [0; vcube::table_length(4)];
+/// vcube::fresh_table(Wiring::Cube, 4, &mut table)?;
+/// assert_eq!(vcube::grant(Wiring::Cube, 4, &table, None)?, Station(0));
+/// assert_eq!(vcube::grant(Wiring::Cube, 4, &table, Some(Station(3)))?, Station(0));
+/// # Ok::<(), vcube::Refusal>(())
+/// ```
 pub fn grant(
     wiring: Wiring,
     n: usize,
     table: &[u8],
     last: Option<Station>,
 ) -> Result<Station, Refusal> {
-    let (number, station) = raw::grant(wiring, n, table, number_of(last));
+    let mut station = 0;
+    let number = raw::grant(number_of(wiring), n, table, last_number(last), &mut station);
     accepted(number).map(|()| Station(station))
 }
 
@@ -35,6 +46,21 @@ pub fn grant(
 /// refused at its start leaves both as they were; one that stops with 7 keeps
 /// the turns made.
 /// Refusals: 1 to 4, 16, 17, then 7 before each grant.
+///
+/// ```
+/// use vcube::{Driven, Station, Tally, Wiring};
+///
+/// let mut table = [0; vcube::table_length(8)];
+/// vcube::fresh_table(Wiring::Cube, 8, &mut table)?;
+/// let (mut tally, mut last) = (Tally::default(), None);
+///
+/// // Each board makes 3 tests and then finishes its pass.
+/// let driven = vcube::drive(Wiring::Cube, 8, &mut table, &mut tally, &mut last);
+/// assert_eq!(driven, Driven { refusal: None, grants: 32 });
+/// assert_eq!(tally, Tally { rounds: 1, tests: 24 });
+/// assert_eq!(last, Some(Station(7)));
+/// # Ok::<(), vcube::Refusal>(())
+/// ```
 pub fn drive(
     wiring: Wiring,
     n: usize,
@@ -43,20 +69,18 @@ pub fn drive(
     last: &mut Option<Station>,
 ) -> Driven {
     let Tally { rounds, tests } = tally;
-    let handed_in = number_of(*last);
-    let mut given_back = handed_in;
-    let (number, grants) = raw::drive(wiring, n, table, rounds, tests, &mut given_back);
+    let handed_in = last_number(*last);
+    let (mut given_back, mut grants) = (handed_in, 0);
+    let number =
+        raw::drive(number_of(wiring), n, table, rounds, tests, &mut given_back, &mut grants);
     // Else it stays, for none and `Some(Station(255))` are the same number.
     if given_back != handed_in {
         *last = Some(Station(given_back));
     }
-    Driven {
-        refusal: accepted(number).err(),
-        grants,
-    }
+    Driven { refusal: accepted(number).err(), grants }
 }
 
 /// The last granted number that the library is handed.
-fn number_of(last: Option<Station>) -> usize {
+fn last_number(last: Option<Station>) -> usize {
     last.map_or(NO_STATION.into(), |station| station.0)
 }

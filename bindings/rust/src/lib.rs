@@ -1,15 +1,14 @@
 //! A safe binding to the vCube watch library: which stations of a plant of 2 to
 //! 64 are live, and who suspects whom.
 //!
-//! All rules stand, each with a name, in docs/RULES.md of the repository. There is
-//! one table for a plant, and whoever makes the calls keeps it: a bus master, a
-//! panel or a test bench. Sending messages, measuring time-outs and calling a
-//! reply late are the caller's.
+//! The rules have names and are in docs/RULES.md of the repository. The caller keeps
+//! the one table of a plant: a bus master, a panel or a test bench. It sends the
+//! messages, measures time-outs and judges that a reply is late.
 //!
-//! Every call takes any numbers and slices of any length: nothing need be tested
-//! before calling. A refused call changes nothing; a run that stops at an entry
-//! keeps the work of the entries before it, and a drive that stops before a grant
-//! that of the turns before it.
+//! Numbers and lengths may have any value: nothing need be checked before a call. A
+//! refused call changes nothing; a run that stops at an entry keeps the work of the
+//! entries before it, and a drive that stops before a grant that of the turns before
+//! it. "Refusals" lists the numbers of [`Refusal`] in the order of the checks.
 //!
 //! # Wiring
 //!
@@ -46,221 +45,32 @@
 //! | 5 | rounds closed since it ceased to be live | [`rounds_ago`] |
 //! | 6 + k | 1 if the station suspects station k, else 0 | [`row`] |
 //!
-//! The line rules, which a table must keep, are in docs/RULES.md, and in
-//! include/vcube.h, which also says what to do with a table of before version 0.9:
-//! it is refused with 2.
+//! What a valid line is, is in docs/RULES.md, "The line rules". Tables and files of
+//! versions before 0.11: docs/PANEL.md, "Old files".
 //!
-//! # Examples
+//! # Example
 //!
-//! Four entries in a plant of 4:
-//!
-//! ```
-//! use vcube::{Answer, Distance, DueOrAhead, Entry, Kind, Outcome, Station, Status, Tally, ToldBy, Wiring};
-//!
-//! let n = 4;
-//! let mut table = [0; vcube::table_length(4)];
-//! vcube::fresh_table(Wiring::Cube, n, &mut table)?;
-//!
-//! let entry = |kind, station| Entry { kind, station: Station(station) };
-//! let schedule = vcube::schedule(&[
-//!     entry(Kind::LateTurn, 0),
-//!     entry(Kind::Turn, 0),
-//!     entry(Kind::Turn, 0),
-//!     entry(Kind::Turn, 1),
-//! ]);
-//! let mut tally = Tally::default();
-//! let mut sheet = [0; 16];
-//! let answer = vcube::run(Wiring::Cube, n, &mut table, &mut tally, &schedule, &mut sheet);
-//!
-//! // 0 suspects 1, exchanges with 2, then with 3; 1 tests 0, is told and leaves.
-//! assert_eq!(answer, Answer { refusal: None, taken: 4 });
-//! assert_eq!(tally, Tally { rounds: 0, tests: 4 });
-//! let lines: Vec<_> = vcube::sheet_lines(&sheet, answer.taken).collect();
-//! assert_eq!(lines[0].outcome, Outcome::NoReply);
-//! assert_eq!(lines[2].tested, Some(Station(3)));
-//! assert_eq!(lines[3].status, Status::Told);
-//! assert_eq!(vcube::row(Wiring::Cube, n, &table, Station(0))?, [0, 1, 0, 0]);
-//! assert_eq!(vcube::row(Wiring::Cube, n, &table, Station(1))?, [0, 0, 0, 0]);
-//!
-//! // What the table says of 1: it was told by 0, and no round was closed since.
-//! assert_eq!(vcube::status(Wiring::Cube, n, &table, Station(1))?, Status::Told);
-//! assert_eq!(vcube::told_by(Wiring::Cube, n, &table, Station(1))?, ToldBy::Station(Station(0)));
-//! assert_eq!(vcube::rounds_ago(Wiring::Cube, n, &table, Station(1))?, 0);
-//!
-//! let mut list = [0; vcube::assignment_length(4)];
-//! let due = vcube::due_distances(n, &table, Station(0), &mut list)?;
-//! assert!(due.eq([Distance(1), Distance(2), Distance(3)]));
-//!
-//! // 3 does not test 0, which is at distance 3, as 2 stands ahead.
-//! let entries = vcube::assignment_entries(n, &table, Station(3), &mut list)?;
-//! let entries: Vec<_> = entries.map(|entry| (entry.distance.0, entry.answer)).collect();
-//! let ahead = DueOrAhead::Ahead(Station(2));
-//! assert_eq!(entries, [(1, DueOrAhead::Due), (2, DueOrAhead::Due), (3, ahead)]);
-//! # Ok::<(), vcube::Refusal>(())
-//! ```
-//!
-//! A station that is suspected leaves when it is tested, too. The sheet says so
-//! by its outcome, as the status there is the tester's:
-//!
-//! ```
-//! use vcube::{Entry, Kind, Outcome, Station, Status, Tally, ToldBy, Wiring};
-//!
-//! let n = 3;
-//! let mut table = [0; vcube::table_length(3)];
-//! vcube::fresh_table(Wiring::Cube, n, &mut table)?;
-//!
-//! let entry = |kind, station| Entry { kind, station: Station(station) };
-//! let schedule = vcube::schedule(&[
-//!     entry(Kind::LateTurn, 0),
-//!     entry(Kind::Turn, 0),
-//!     entry(Kind::Turn, 2),
-//!     entry(Kind::Turn, 2),
-//! ]);
-//! let mut sheet = [0; 16];
-//! let answer = vcube::run(Wiring::Cube, n, &mut table, &mut Tally::default(), &schedule, &mut sheet);
-//!
-//! // 0 suspects 1 and exchanges with 2; 2 exchanges with 0, then tests 1, which leaves.
-//! assert_eq!((answer.refusal, answer.taken), (None, 4));
-//! let last = vcube::sheet_lines(&sheet, 4).last().expect("4 lines");
-//! assert_eq!((last.station, last.tested), (Station(2), Some(Station(1))));
-//! assert_eq!((last.outcome, last.status), (Outcome::TestedTold, Status::Live));
-//! assert!(last.ceased().eq([(Station(1), Status::Told)]));
-//! assert_eq!(vcube::told_by(Wiring::Cube, n, &table, Station(1))?, ToldBy::Station(Station(2)));
-//! # Ok::<(), vcube::Refusal>(())
-//! ```
-//!
-//! A bus master grants the turns, so that boards do not fight for the cable. A
-//! drive makes grants and turns until the round closes:
-//!
-//! ```
-//! use vcube::{Driven, Entry, Kind, Station, Tally, Wiring};
-//!
-//! let n = 8;
-//! let mut table = [0; vcube::table_length(8)];
-//! vcube::fresh_table(Wiring::Cube, n, &mut table)?;
-//! let (mut tally, mut last) = (Tally::default(), None);
-//! assert_eq!(vcube::grant(Wiring::Cube, n, &table, last)?, Station(0));
-//!
-//! // Each board makes 3 tests and then finishes its pass.
-//! let driven = vcube::drive(Wiring::Cube, n, &mut table, &mut tally, &mut last);
-//! assert_eq!(driven, Driven { refusal: None, grants: 32 });
-//! assert_eq!(tally, Tally { rounds: 1, tests: 24 });
-//! assert_eq!(last, Some(Station(7)));
-//!
-//! let crash = Entry { kind: Kind::Crash, station: Station(5) };
-//! let answer = vcube::run(Wiring::Cube, n, &mut table, &mut tally, &crash.bytes(), &mut [0; 4]);
-//! assert_eq!(answer.refusal, None);
-//!
-//! // 4 finds 5 dead and makes 5 tests, the other boards 3 as before.
-//! let driven = vcube::drive(Wiring::Cube, n, &mut table, &mut tally, &mut last);
-//! assert_eq!(driven, Driven { refusal: None, grants: 30 });
-//! assert_eq!(tally, Tally { rounds: 2, tests: 47 });
-//! assert_eq!(last, Some(Station(4)));
-//! assert_eq!(vcube::row(Wiring::Cube, n, &table, Station(0))?, [0, 0, 0, 0, 0, 1, 0, 0]);
-//! assert_eq!(vcube::rounds_ago(Wiring::Cube, n, &table, Station(5))?, 1);
-//! # Ok::<(), vcube::Refusal>(())
-//! ```
-//!
-//! On the ring each board tests the one after it. Board 0 finds board 1 dead and
-//! tests board 2; a round of 4 boards has 4 tests:
+//! Station 5 of eight crashes, and the others find out:
 //!
 //! ```
 //! use vcube::{Entry, Kind, Station, Tally, Wiring};
 //!
-//! let n = 4;
-//! let mut table = [0; vcube::table_length(4)];
-//! vcube::fresh_table(Wiring::Ring, n, &mut table)?;
+//! assert_eq!(vcube::version(), vcube::VERSION);
+//! let n = 8;
+//! let mut table = [0; vcube::table_length(8)];
+//! vcube::fresh_table(Wiring::Cube, n, &mut table)?;
+//!
 //! let (mut tally, mut last) = (Tally::default(), None);
-//! let crash = Entry { kind: Kind::Crash, station: Station(1) };
-//! let answer = vcube::run(Wiring::Ring, n, &mut table, &mut tally, &crash.bytes(), &mut [0; 4]);
+//! let crash = Entry { kind: Kind::Crash, station: Station(5) };
+//! let answer = vcube::run(Wiring::Cube, n, &mut table, &mut tally, &crash.bytes(), &mut [0; 4]);
 //! assert_eq!(answer.refusal, None);
 //!
-//! let driven = vcube::drive(Wiring::Ring, n, &mut table, &mut tally, &mut last);
-//! assert_eq!(driven.refusal, None);
-//! assert_eq!(tally, Tally { rounds: 1, tests: 4 });
-//! assert_eq!(vcube::row(Wiring::Ring, n, &table, Station(2))?, [0, 1, 0, 0]);
-//! # Ok::<(), vcube::Refusal>(())
-//! ```
-//!
-//! The doubt lamp says whether some live board suspects another live one. That
-//! board leaves when it hears of it:
-//!
-//! ```
-//! use vcube::{Doubt, Entry, Kind, Station, Tally, Wiring};
-//!
-//! let n = 4;
-//! let mut table = [0; vcube::table_length(4)];
-//! vcube::fresh_table(Wiring::Cube, n, &mut table)?;
-//! assert_eq!(vcube::doubt_lamp(Wiring::Cube, n, &table)?, None);
-//!
-//! // The reply of 1 to 0 is late.
-//! let late = Entry { kind: Kind::LateTurn, station: Station(0) };
-//! let mut tally = Tally::default();
-//! let answer = vcube::run(Wiring::Cube, n, &mut table, &mut tally, &late.bytes(), &mut [0; 4]);
-//! assert_eq!(answer.refusal, None);
-//! let doubt = Doubt { by: Station(0), of: Station(1) };
-//! assert_eq!(vcube::doubt_lamp(Wiring::Cube, n, &table)?, Some(doubt));
-//!
-//! // 1 tests 0, is told and leaves.
-//! let turn = Entry { kind: Kind::Turn, station: Station(1) };
-//! let answer = vcube::run(Wiring::Cube, n, &mut table, &mut tally, &turn.bytes(), &mut [0; 4]);
-//! assert_eq!(answer.refusal, None);
-//! assert_eq!(vcube::doubt_lamp(Wiring::Cube, n, &table)?, None);
-//! # Ok::<(), vcube::Refusal>(())
-//! ```
-//!
-//! A plant is saved to the panel as tagged fields, and loaded again. The saved
-//! plant says how long the table must be that is lent for it. A file of edition 1,
-//! as versions before 0.9 saved plants, is converted first:
-//!
-//! ```
-//! use vcube::{Loaded, Tally, Wiring};
-//!
-//! let n = 2;
-//! let mut table = [0; vcube::table_length(2)];
-//! vcube::fresh_table(Wiring::Cube, n, &mut table)?;
-//! let tally = Tally { rounds: 128, tests: 256 };
-//!
-//! let mut saved = [0; vcube::saved_length(2)];
-//! vcube::save(n, &table, tally, &mut saved)?;
-//! assert_eq!(saved[..8], [4, 0, 1, 2, 1, 0, 1, 2]);
-//! assert_eq!(saved[8..19], [2, 0, 8, 0, 0, 0, 128, 0, 0, 1, 0]);
-//! assert_eq!(saved[19..31], [3, 0, 9, 0, 0, 1, 0, 0, 255, 0, 0, 0]);
-//! assert_eq!(saved[31..], [3, 0, 9, 1, 0, 1, 0, 0, 255, 0, 0, 0]);
-//!
-//! let mut restored = vec![0; vcube::table_length(vcube::saved_size(&saved)?)];
-//! assert_eq!(vcube::load(&saved, &mut restored)?, Loaded { n, tally });
-//! assert_eq!(restored, table);
-//!
-//! let old = [&saved[4..19], &[3, 0, 7, 0, 0, 1, 0, 0, 0, 0], &[3, 0, 7, 1, 0, 1, 0, 0, 0, 0]].concat();
-//! let mut converted = vec![0; vcube::converted_length(&old)?];
-//! vcube::convert(&old, &mut converted)?;
-//! assert_eq!(converted, saved);
-//! # Ok::<(), vcube::Refusal>(())
-//! ```
-//!
-//! Figures of a list of results, of two lists, and of totals that are kept over
-//! days while the lists are not:
-//!
-//! ```
-//! use vcube::{Fraction, Totals};
-//!
-//! let figures = vcube::figures(&[2, 4, 4, 4, 5, 5, 7, 9])?;
-//! assert_eq!((figures.count, figures.least, figures.greatest), (8, 2, 9));
-//! assert_eq!(figures.mean, Fraction { upper: 5, lower: 1 });
-//! assert_eq!(figures.variance, Fraction { upper: 4, lower: 1 });
-//!
-//! let of_two = vcube::figures_of_two(&[1], &[2])?;
-//! assert_eq!(of_two.mean.to_string(), "3/2");
-//! assert_eq!(of_two.variance.to_string(), "1/4");
-//! assert_eq!(of_two.variance.value(), 0.25);
-//!
-//! let days: [&[u16]; 3] = [&[2, 4, 4], &[], &[4, 5, 5, 7, 9]];
-//! let mut season = Totals::default();
-//! for day in days {
-//!     season = season.join(Totals::of(day)?)?;
-//! }
-//! assert_eq!(season.figures()?, figures);
+//! // A bus master grants the turns of one round. 4 finds 5 dead and makes 5 tests,
+//! // the other six make 3.
+//! let driven = vcube::drive(Wiring::Cube, n, &mut table, &mut tally, &mut last);
+//! assert_eq!((driven.refusal, driven.grants), (None, 30));
+//! assert_eq!(tally, Tally { rounds: 1, tests: 23 });
+//! assert_eq!(vcube::row(Wiring::Cube, n, &table, Station(0))?, [0, 0, 0, 0, 0, 1, 0, 0]);
 //! # Ok::<(), vcube::Refusal>(())
 //! ```
 
@@ -274,8 +84,10 @@ mod granter;
 mod lamp;
 mod lines;
 mod mender;
+// Not for users: src/bin/replay-typed.rs makes calls by it that the types cannot express.
 #[allow(unsafe_code)]
-mod raw;
+#[doc(hidden)]
+pub mod raw;
 mod saved;
 mod slot;
 mod texts;
@@ -285,23 +97,23 @@ mod wait;
 mod tests;
 
 pub use assignment::{
-    assignment, assignment_entries, assignment_length, due_distances, AssignmentEntry, DueOrAhead,
-    DUE,
+    AssignmentEntry, DUE, DueOrAhead, assignment, assignment_entries, assignment_length,
+    due_distances,
 };
 pub use codes::{Kind, Outcome, Refusal, Status, Wiring};
-pub use entries::{schedule, sheet_lines, Entry, SheetLine};
-pub use figures::{figures, figures_of_two, Figures, Fraction, Totals, MOST_RESULTS};
-pub use granter::{drive, grant, Driven};
-pub use lamp::{doubt_lamp, Doubt};
-pub use lines::{rounds_ago, status, told_by, ToldBy, HEAD, TOLD_BY_NONE, TOLD_NOT_RECORDED};
-pub use mender::{changes, mend, report_length, Change, LineByte};
-pub use saved::{convert, converted_length, load, save, saved_length, saved_size, Loaded};
-pub use slot::{slot, Slot};
+pub use entries::{Entry, SheetLine, schedule, sheet_lines};
+pub use figures::{Figures, Fraction, MOST_RESULTS, Totals, figures, figures_of_two};
+pub use granter::{Driven, drive, grant};
+pub use lamp::{Doubt, doubt_lamp};
+pub use lines::{HEAD, TOLD_BY_NONE, TOLD_NOT_RECORDED, ToldBy, rounds_ago, status, told_by};
+pub use mender::{Change, LineByte, changes, mend, report_length};
+pub use saved::{Loaded, convert, converted_length, load, save, saved_length, saved_size};
+pub use slot::{Slot, slot};
 pub use texts::{
-    outcome_words, read_input, refusal_words, status_words, Input, Unread, Words, SCHEDULE_LENGTH,
-    WORDS_LENGTH,
+    Input, SCHEDULE_LENGTH, Unread, WORDS_LENGTH, Words, outcome_words, read_input, refusal_words,
+    status_words,
 };
-pub use wait::{wait, Wait};
+pub use wait::{Wait, wait};
 
 /// A station number. Any number can stand here; the library refuses n or more.
 #[derive(Clone, Copy, Debug, PartialEq, Eq, Hash, PartialOrd, Ord)]
@@ -313,6 +125,14 @@ pub struct Station(pub usize);
 pub struct Distance(pub u8);
 
 /// A level. Any number can stand here; the library refuses 0 and those above d.
+///
+/// Station, distance and level are newtypes: none can be given for another.
+///
+/// ```compile_fail,E0308
+/// use vcube::{Level, Station};
+///
+/// vcube::group_length(8, Level(3), Station(5));
+/// ```
 #[derive(Clone, Copy, Debug, PartialEq, Eq, Hash, PartialOrd, Ord)]
 pub struct Level(pub usize);
 
@@ -333,17 +153,56 @@ pub struct Answer {
     pub taken: usize,
 }
 
+/// The version of this crate as one number: 10200 is 1.2.0.
+pub const VERSION: u32 = 10_000 * number(env!("CARGO_PKG_VERSION_MAJOR"))
+    + 100 * number(env!("CARGO_PKG_VERSION_MINOR"))
+    + number(env!("CARGO_PKG_VERSION_PATCH"));
+
+const fn number(digits: &str) -> u32 {
+    match u32::from_str_radix(digits, 10) {
+        Ok(number) => number,
+        Err(_) => panic!("a part of a version is a number"),
+    }
+}
+
+/// The version of the library that is linked, as [`VERSION`] has it. Compare the two
+/// when the program starts: a library of another version links as well, and what it
+/// expects in a call may be something else.
+///
+/// ```
+/// assert_eq!(vcube::version(), vcube::VERSION);
+/// ```
+#[must_use]
+pub fn version() -> u32 {
+    raw::version()
+}
+
 /// The length of a table of n stations: n lines of n + 6 bytes.
 /// It has no meaning for a size that the library refuses.
+///
+/// ```
+/// assert_eq!(vcube::table_length(8), 112);
+/// ```
 #[must_use]
 pub const fn table_length(n: usize) -> usize {
     n.wrapping_mul(n.wrapping_add(HEAD))
 }
 
-/// Fresh table: every line live, next distance 1, told by nobody, all else 0.
+/// Fresh table: every station live, nobody suspected, the start of a round. It is the
+/// same on both wirings.
 /// Refusals: 1, 2.
+///
+/// ```
+/// use vcube::{Refusal, Wiring};
+///
+/// let mut table = [9; vcube::table_length(2)];
+/// assert_eq!(vcube::fresh_table(Wiring::Cube, 3, &mut table), Err(Refusal::TableLength));
+/// vcube::fresh_table(Wiring::Cube, 2, &mut table)?;
+/// assert_eq!(table, [0, 1, 0, 0, 255, 0, 0, 0, 0, 1, 0, 0, 255, 0, 0, 0]);
+/// # Ok::<(), Refusal>(())
+/// ```
 pub fn fresh_table(wiring: Wiring, n: usize, table: &mut [u8]) -> Result<(), Refusal> {
-    accepted(raw::fresh_table(wiring, n, table))
+    accepted(raw::fresh_table(number_of(wiring), n, table))
 }
 
 /// The highest level of the largest plant.
@@ -355,6 +214,14 @@ pub const LONGEST_GROUP: usize = 1 << (HIGHEST_LEVEL - 1);
 /// The length of a group list: how many members the station's group at that
 /// level has, 0 to 2^(level - 1). It is computed here, not by the library, and
 /// has no meaning where the library refuses the size, the station or the level.
+///
+/// ```
+/// use vcube::{group_length, Level, Station};
+///
+/// assert_eq!(group_length(8, Station(5), Level(3)), 4);
+/// assert_eq!(group_length(11, Station(2), Level(4)), 3);
+/// assert_eq!(group_length(11, Station(10), Level(1)), 0);
+/// ```
 #[must_use]
 pub const fn group_length(n: usize, station: Station, level: Level) -> usize {
     if level.0 < 1 || level.0 > HIGHEST_LEVEL {
@@ -365,17 +232,22 @@ pub const fn group_length(n: usize, station: Station, level: Level) -> usize {
     let half = 1 << (level.0 - 1);
     let first = (station.0 ^ half) & !(half - 1);
     let below_n = n.saturating_sub(first);
-    if below_n < half {
-        below_n
-    } else {
-        half
-    }
+    if below_n < half { below_n } else { half }
 }
 
-/// Group list: the members of the station's group at that level, in order,
-/// into a list of just their number, [`group_length`]. An empty list is
-/// accepted where the group is empty.
+/// Group list: the members of the station's group at that level, in order, into a
+/// list of just their number, [`group_length`]. [`group_stations`] gives them as
+/// [`Station`]s.
 /// Refusals: 1, 9, 12, 13.
+///
+/// ```
+/// use vcube::{Level, Station};
+///
+/// let mut list = [0; 4];
+/// vcube::group_list(8, Station(5), Level(3), &mut list)?;
+/// assert_eq!(list, [1, 0, 3, 2]);
+/// # Ok::<(), vcube::Refusal>(())
+/// ```
 pub fn group_list(
     n: usize,
     station: Station,
@@ -385,33 +257,76 @@ pub fn group_list(
     accepted(raw::group_list(n, station.0, level.0, list))
 }
 
-/// The group list as typed stations: the members, in order, read from the list,
-/// which has the length [`group_length`].
+/// The members of a [`group_list`], in order, read from the list that is lent.
 /// Refusals: 1, 9, 12, 13.
+///
+/// ```
+/// use vcube::{group_length, group_stations, Level, Station};
+///
+/// let mut list = vec![0; group_length(11, Station(2), Level(4))];
+/// let members = group_stations(11, Station(2), Level(4), &mut list)?;
+/// assert!(members.eq([10, 8, 9].map(Station)));
+/// # Ok::<(), vcube::Refusal>(())
+/// ```
 pub fn group_stations(
     n: usize,
     station: Station,
     level: Level,
     list: &mut [u8],
-) -> Result<impl Iterator<Item = Station> + '_, Refusal> {
+) -> Result<impl Iterator<Item = Station>, Refusal> {
     group_list(n, station, level, list)?;
     Ok(list.iter().map(|member| Station(usize::from(*member))))
 }
 
 /// Row: the station's row as that very part of the lent table.
 /// Refusals: 1 to 4, 9.
+///
+/// ```
+/// use vcube::{Station, Wiring};
+///
+/// let mut table = [0; vcube::table_length(3)];
+/// vcube::fresh_table(Wiring::Ring, 3, &mut table)?;
+/// let row = vcube::row(Wiring::Ring, 3, &table, Station(1))?;
+/// assert!(std::ptr::eq(row, &table[15..18]));
+/// # Ok::<(), vcube::Refusal>(())
+/// ```
 pub fn row(wiring: Wiring, n: usize, table: &[u8], station: Station) -> Result<&[u8], Refusal> {
-    let (number, start, length) = raw::row(wiring, n, table, station.0);
+    let (mut start, mut length) = (0, 0);
+    let number = raw::row(number_of(wiring), n, table, station.0, &mut start, &mut length);
     accepted(number).map(|()| &table[start..][..length])
 }
 
 /// Run: takes the entries of a schedule in order; writes four bytes of the
 /// sheet for each entry taken, which [`sheet_lines`] reads. One entry may make
-/// two stations cease to be live, which [`SheetLine::ceased`] gives; who told
-/// them to leave, and how long ago, [`told_by`] and [`rounds_ago`] read from the
-/// table. The tally goes in and comes back in its place. A run that is refused
-/// at its start leaves the tally as it was.
+/// two stations leave, which [`SheetLine::ceased`] gives; who told them to leave,
+/// and how long ago, [`told_by`] and [`rounds_ago`] read from the table. The tally
+/// goes in and comes back in its place. A run that is refused at its start leaves
+/// the tally as it was.
 /// Refusals: 1 to 6, then 7 to 11 at each entry.
+///
+/// ```
+/// use vcube::{Answer, Entry, Kind, Outcome, Refusal, Station, Status, Tally, Wiring};
+///
+/// let mut table = [0; vcube::table_length(4)];
+/// vcube::fresh_table(Wiring::Cube, 4, &mut table)?;
+/// let entry = |kind, station| Entry { kind, station: Station(station) };
+/// let schedule = vcube::schedule(&[
+///     entry(Kind::LateTurn, 0),
+///     entry(Kind::Turn, 0),
+///     entry(Kind::Turn, 1),
+///     entry(Kind::Turn, 1),
+/// ]);
+/// let (mut tally, mut sheet) = (Tally::default(), [0; 16]);
+/// let answer = vcube::run(Wiring::Cube, 4, &mut table, &mut tally, &schedule, &mut sheet);
+///
+/// // 0 suspects 1 and exchanges with 2; 1 tests 0, is told and leaves, and takes no more turn.
+/// assert_eq!(answer, Answer { refusal: Some(Refusal::NotLive), taken: 3 });
+/// assert_eq!(tally, Tally { rounds: 0, tests: 3 });
+/// let lines: Vec<_> = vcube::sheet_lines(&sheet, answer.taken).collect();
+/// assert_eq!((lines[1].tested, lines[1].outcome), (Some(Station(2)), Outcome::Exchanged));
+/// assert_eq!((lines[2].outcome, lines[2].status), (Outcome::Told, Status::Told));
+/// # Ok::<(), vcube::Refusal>(())
+/// ```
 pub fn run(
     wiring: Wiring,
     n: usize,
@@ -421,11 +336,14 @@ pub fn run(
     sheet: &mut [u8],
 ) -> Answer {
     let Tally { rounds, tests } = tally;
-    let (number, taken) = raw::run(wiring, n, table, rounds, tests, schedule, sheet);
-    Answer {
-        refusal: accepted(number).err(),
-        taken,
-    }
+    let mut taken = 0;
+    let number = raw::run(number_of(wiring), n, table, rounds, tests, schedule, sheet, &mut taken);
+    Answer { refusal: accepted(number).err(), taken }
+}
+
+/// The wiring number as the header has it, a `size_t`.
+fn number_of(wiring: Wiring) -> usize {
+    wiring.number().into()
 }
 
 /// Turns the number of a call into a result.
@@ -433,6 +351,6 @@ fn accepted(number: u8) -> Result<(), Refusal> {
     match (number, Refusal::from_number(number)) {
         (0, _) => Ok(()),
         (_, Some(refusal)) => Err(refusal),
-        (_, None) => panic!("the library gave {number}, which the refusal list has not"),
+        (_, None) => panic!("the library gave {number}, which is no refusal"),
     }
 }

@@ -1,7 +1,7 @@
 //! What the line of a station says of it: whether it is live, who told it to
 //! leave and how long ago.
 
-use crate::{accepted, raw, Refusal, Station, Status, Wiring};
+use crate::{Refusal, Station, Status, Wiring, accepted, number_of, raw};
 
 /// How many bytes of a line of the table stand before its row.
 pub const HEAD: usize = 6;
@@ -36,6 +36,17 @@ impl ToldBy {
 
 /// Status: whether the station is live, and if not, why. Byte 0 of its line.
 /// Refusals: 1 to 4, 9.
+///
+/// ```
+/// use vcube::{Station, Status, Wiring};
+///
+/// let mut table = [0; vcube::table_length(3)];
+/// vcube::fresh_table(Wiring::Cube, 3, &mut table)?;
+/// // Station 1 was told by station 2, 7 rounds ago.
+/// table[9..15].copy_from_slice(&[2, 1, 0, 0, 2, 7]);
+/// assert_eq!(vcube::status(Wiring::Cube, 3, &table, Station(1))?, Status::Told);
+/// # Ok::<(), vcube::Refusal>(())
+/// ```
 pub fn status(wiring: Wiring, n: usize, table: &[u8], station: Station) -> Result<Status, Refusal> {
     let [status, ..] = head(wiring, n, table, station)?;
     Ok(Status::from_number(status).expect("the line rules take 0 to 3"))
@@ -44,6 +55,17 @@ pub fn status(wiring: Wiring, n: usize, table: &[u8], station: Station) -> Resul
 /// Who told the station to leave. Where its status is [`Status::Told`]: a
 /// station, or that this was not recorded; else nobody. Byte 4 of its line.
 /// Refusals: 1 to 4, 9.
+///
+/// ```
+/// use vcube::{Station, ToldBy, Wiring};
+///
+/// let mut table = [0; vcube::table_length(3)];
+/// vcube::fresh_table(Wiring::Cube, 3, &mut table)?;
+/// // Station 1 was told by station 2, 7 rounds ago.
+/// table[9..15].copy_from_slice(&[2, 1, 0, 0, 2, 7]);
+/// assert_eq!(vcube::told_by(Wiring::Cube, 3, &table, Station(1))?, ToldBy::Station(Station(2)));
+/// # Ok::<(), vcube::Refusal>(())
+/// ```
 pub fn told_by(
     wiring: Wiring,
     n: usize,
@@ -59,6 +81,17 @@ pub fn told_by(
 /// which means 255 or more, and is 0 where the station is live. Byte 5 of its
 /// line.
 /// Refusals: 1 to 4, 9.
+///
+/// ```
+/// use vcube::{Station, Wiring};
+///
+/// let mut table = [0; vcube::table_length(3)];
+/// vcube::fresh_table(Wiring::Cube, 3, &mut table)?;
+/// // Station 1 was told by station 2, 7 rounds ago.
+/// table[9..15].copy_from_slice(&[2, 1, 0, 0, 2, 7]);
+/// assert_eq!(vcube::rounds_ago(Wiring::Cube, 3, &table, Station(1))?, 7);
+/// # Ok::<(), vcube::Refusal>(())
+/// ```
 pub fn rounds_ago(wiring: Wiring, n: usize, table: &[u8], station: Station) -> Result<u8, Refusal> {
     let [.., rounds_ago] = head(wiring, n, table, station)?;
     Ok(rounds_ago)
@@ -66,7 +99,8 @@ pub fn rounds_ago(wiring: Wiring, n: usize, table: &[u8], station: Station) -> R
 
 /// The head of the station's line: the bytes before its row.
 fn head(wiring: Wiring, n: usize, table: &[u8], station: Station) -> Result<[u8; HEAD], Refusal> {
-    let (number, start, _) = raw::row(wiring, n, table, station.0);
+    let (mut start, mut length) = (0, 0);
+    let number = raw::row(number_of(wiring), n, table, station.0, &mut start, &mut length);
     accepted(number)?;
     let head = table[..start].last_chunk();
     Ok(*head.expect("a head stands before each row"))

@@ -1,6 +1,6 @@
 //! Mending a table after a brownout, and the report of what was mended.
 
-use crate::{accepted, raw, table_length, Refusal, Station, Wiring, HEAD};
+use crate::{HEAD, Refusal, Station, Wiring, accepted, number_of, raw, table_length};
 
 /// How many bytes a change has in the report.
 const CHANGE: usize = 4;
@@ -66,17 +66,20 @@ impl Change {
 
 /// The length of a report that has room for a change of every byte of the table
 /// of n stations.
+///
+/// ```
+/// assert_eq!(vcube::report_length(4), 160);
+/// ```
 #[must_use]
 pub const fn report_length(n: usize) -> usize {
     table_length(n).wrapping_mul(CHANGE)
 }
 
-/// Mend: makes a table that a brownout damaged obey all rules, so that refusals 1
-/// to 4 let it through, and lists each byte that it changed, by rising offset: the
-/// changes go to the front of the report, and zeros behind them. [`changes`] reads
-/// them. Gives how many there are. The report has [`report_length`] bytes or more.
-/// What becomes of each byte is in docs/RULES.md, "Mending". A table that refusals
-/// 1 to 4 let through is not changed.
+/// Mend: makes a table that a brownout damaged valid, so that refusals 3 and 4 apply
+/// no longer, and lists each byte that it changed, by ascending offset: the changes
+/// go to the front of the report, and zeros behind them. [`changes`] reads them.
+/// Gives how many there are. The report has [`report_length`] bytes or more. What
+/// becomes of each byte is in docs/RULES.md, "Mending". A valid table stays as it is.
 /// Refusals: 1, 2, 23.
 ///
 /// ```
@@ -105,17 +108,21 @@ pub fn mend(
     table: &mut [u8],
     report: &mut [u8],
 ) -> Result<usize, Refusal> {
-    let (number, changes) = raw::mend(wiring, n, table, report);
-    accepted(number)?;
-    Ok(changes)
+    let mut changes = 0;
+    accepted(raw::mend(number_of(wiring), n, table, report, &mut changes)).map(|()| changes)
 }
 
 /// The first `count` changes of a report that [`mend`] wrote of a table of n
 /// stations; fewer if the report is shorter.
-pub fn changes(n: usize, report: &[u8], count: usize) -> impl Iterator<Item = Change> + '_ {
+///
+/// ```
+/// use vcube::{Change, LineByte, Station};
+///
+/// let line = Station(1);
+/// let change = Change { line, byte: LineByte::ToldBy, old: 9, new: 255 };
+/// assert!(vcube::changes(4, &[0, 14, 9, 255, 0, 0, 0, 0], 1).eq([change]));
+/// ```
+pub fn changes(n: usize, report: &[u8], count: usize) -> impl Iterator<Item = Change> {
     let (listed, _) = report.as_chunks();
-    listed
-        .iter()
-        .take(count)
-        .map(move |bytes| Change::from_bytes(n, *bytes))
+    listed.iter().take(count).map(move |bytes| Change::from_bytes(n, *bytes))
 }

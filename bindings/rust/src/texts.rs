@@ -23,6 +23,10 @@ impl Words {
     }
 
     /// The words: the bytes before the zeros.
+    ///
+    /// ```
+    /// assert_eq!(vcube::status_words(0).as_str(), "live");
+    /// ```
     #[must_use]
     pub fn as_str(&self) -> &str {
         let end = self.0.iter().position(|byte| *byte == 0);
@@ -43,18 +47,31 @@ impl fmt::Debug for Words {
 }
 
 /// Words of the refusal with this number; none where there is none.
+///
+/// ```
+/// assert_eq!(vcube::refusal_words(10).as_str(), "this board is not live");
+/// assert_eq!(vcube::refusal_words(0).as_str(), "");
+/// ```
 #[must_use]
 pub fn refusal_words(refusal: usize) -> Words {
     Words::written(|words| raw::refusal_words(refusal, words))
 }
 
 /// Words of the status with this number; none where there is none.
+///
+/// ```
+/// assert_eq!(vcube::status_words(3).to_string(), "left because alone");
+/// ```
 #[must_use]
 pub fn status_words(status: usize) -> Words {
     Words::written(|words| raw::status_words(status, words))
 }
 
 /// Words of the outcome with this number; none where there is none.
+///
+/// ```
+/// assert_eq!(vcube::outcome_words(2).to_string(), "told, and left");
+/// ```
 #[must_use]
 pub fn outcome_words(outcome: usize) -> Words {
     Words::written(|words| raw::outcome_words(outcome, words))
@@ -92,22 +109,24 @@ impl Error for Unread {}
 /// Input: reads an input of the run program: lines that end with a line feed,
 /// which the last may lack. The entries before the first unreadable line go to the
 /// front of the schedule, whose rest is unchanged.
+///
+/// ```
+/// use vcube::{read_input, Input, SCHEDULE_LENGTH};
+///
+/// let mut schedule = [0; SCHEDULE_LENGTH];
+/// let read = read_input(b"8\nT 5\nC 0\n", &mut schedule);
+/// assert_eq!(read, Ok(Input { n: 8, entries: 2 }));
+/// assert_eq!(schedule[..4], [1, 5, 3, 0]);
+///
+/// let unread = read_input(b"8\nT 5\nC\t0\n", &mut schedule).expect_err("a tab");
+/// assert_eq!(unread.to_string(), "unread 3: a tab where a space is expected");
+/// assert_eq!(unread.before, Input { n: 8, entries: 1 });
+/// ```
 pub fn read_input(input: &[u8], schedule: &mut [u8; SCHEDULE_LENGTH]) -> Result<Input, Unread> {
-    let mut figures = (0, 0, 0);
+    let (mut n, mut entries, mut line) = (0, 0, 0);
     let words = Words::written(|words| {
-        let (number, n, entries, line) = raw::read_input(input, schedule, words);
-        figures = (n, entries, line);
-        number
+        raw::read_input(input, schedule, words, &mut n, &mut entries, &mut line)
     });
-    let (n, entries, line) = figures;
     let before = Input { n, entries };
-    if line == 0 {
-        Ok(before)
-    } else {
-        Err(Unread {
-            line,
-            words: Box::new(words),
-            before,
-        })
-    }
+    if line == 0 { Ok(before) } else { Err(Unread { line, words: Box::new(words), before }) }
 }

@@ -1,6 +1,6 @@
 //! After how many rounds and turns at most the dead are known.
 
-use crate::{accepted, raw, Refusal, Wiring};
+use crate::{Refusal, Wiring, accepted, number_of, raw};
 
 /// The bounds on a plant. A turn is an entry of kind turn or late turn, in a
 /// drive a grant.
@@ -26,13 +26,28 @@ pub struct Wait {
 /// of this. The rules are Bounds of the wait, Detection conditions, Turns until
 /// known and Turns from a crash.
 /// Refusals: 1 to 4.
+///
+/// ```
+/// use vcube::Wiring;
+///
+/// let mut table = [0; vcube::table_length(8)];
+/// vcube::fresh_table(Wiring::Ring, 8, &mut table)?;
+/// let wait = vcube::wait(Wiring::Ring, 8, &table)?;
+/// assert_eq!((wait.rounds, wait.turns_per_round), (4, 16));
+/// assert_eq!((wait.turns_until_known, wait.turns_from_crash), (64, 80));
+/// # Ok::<(), vcube::Refusal>(())
+/// ```
 pub fn wait(wiring: Wiring, n: usize, table: &[u8]) -> Result<Wait, Refusal> {
-    let (number, [rounds, turns_per_round, turns_until_known, turns_from_crash]) =
-        raw::wait(wiring, n, table);
-    accepted(number).map(|()| Wait {
-        rounds,
-        turns_per_round,
-        turns_until_known,
-        turns_from_crash,
-    })
+    let mut wait =
+        Wait { rounds: 0, turns_per_round: 0, turns_until_known: 0, turns_from_crash: 0 };
+    let number = raw::wait(
+        number_of(wiring),
+        n,
+        table,
+        &mut wait.rounds,
+        &mut wait.turns_per_round,
+        &mut wait.turns_until_known,
+        &mut wait.turns_from_crash,
+    );
+    accepted(number).map(|()| wait)
 }

@@ -37,8 +37,11 @@ fn make(name: &str, arguments: &mut [Vec<u8>]) -> u8 {
             let (wiring, n, station) = (wide(wiring), wide(n), narrow(station));
             let number = simulator::row_refusal(wiring, n, table, station);
             let row = simulator::row(wiring, n, table, station);
-            let before = row.as_ptr() as usize - table.as_ptr() as usize;
-            put(start, if number == 0 { before } else { 0 });
+            if number == 0 {
+                put(start, row.as_ptr() as usize - table.as_ptr() as usize);
+            } else {
+                put(start, 0);
+            }
             put(length, row.len());
             number
         }

@@ -23,7 +23,7 @@ use std::process::ExitCode;
 
 use generate::Source;
 use options::{Options, Task};
-use replayer::{Difference, Replayer};
+use replayer::{Difference, Replayer, COPIES};
 
 fn main() -> ExitCode {
     match Options::read().and_then(|options| work(&options)) {
@@ -42,6 +42,7 @@ fn work(options: &Options) -> Result<String, String> {
             .collect()),
         Task::Record(path) => write(options, path)
             .map_err(|error| format!("compare: cannot write {}: {error}", path.display())),
+        Task::Altered(programs) => alter(options.source, programs),
         Task::With(programs) => compare(options, programs),
         Task::Answer(path) => answer_again(path),
     }
@@ -75,38 +76,46 @@ fn write(options: &Options, path: &Path) -> io::Result<String> {
     }
 }
 
-/// Lets the programs make the calls. The first that gives something else is made smaller and printed.
-fn compare(options: &Options, programs: &[PathBuf]) -> Result<String, String> {
-    let whole = Source {
-        is_long: false,
-        ..options.source
-    };
+/// Lets the programs make calls whose answers are altered, each of which they must notice.
+fn alter(source: Source, programs: &[PathBuf]) -> Result<String, String> {
     let mut noticed = 0;
     for program in programs {
-        noticed += altered::check(whole, program)?;
+        noticed += altered::check(source, program)?;
     }
+    Ok(format!(
+        "compare: all {noticed} altered answers are noticed"
+    ))
+}
+
+/// Lets the programs make the calls. The first that gives something else is made smaller and printed.
+fn compare(options: &Options, programs: &[PathBuf]) -> Result<String, String> {
     let started = programs.iter().map(|program| Replayer::start(program));
     let mut replayers = started.collect::<Result<Vec<_>, _>>()?;
-    blocks::record(options.source, options.numbers.clone(), |block| {
-        replayers.iter_mut().all(|replayer| replayer.feed(block))
+    let numbers = &options.numbers;
+    let copies = if numbers.start() == numbers.end() {
+        COPIES
+    } else {
+        1
+    };
+    blocks::record(options.source, numbers.clone(), |block| {
+        let block = block.repeat(copies);
+        replayers.iter_mut().all(|replayer| replayer.feed(&block))
     });
-    let mut said = format!(
-        "compare: seed {}, {noticed} altered answers are noticed\n",
-        options.source.seed
-    );
+    let mut said = format!("compare: {}", options.source);
     for (replayer, program) in replayers.into_iter().zip(programs) {
         let (found, text) = replayer.finish()?;
         if let Some(found) = found {
             return Err(explained(options, program, &found)?);
         }
-        said = said + &text + "\n";
+        said = said + "\n" + &text;
     }
-    Ok(said.trim_end().into())
+    Ok(said)
 }
 
 /// The call that gives something else, made smaller.
 fn explained(options: &Options, program: &Path, found: &Difference) -> Result<String, String> {
-    let number = options.numbers.start() + found.number - 1;
+    let (first, last) = options.numbers.clone().into_inner();
+    let number = last.min(first + found.number - 1);
     let (call, said) = shrink::shrink(program, options.source.call(number))?;
     let (call, answer) = (
         printed::call(&call),

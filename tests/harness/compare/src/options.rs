@@ -7,18 +7,22 @@ use crate::generate::Source;
 use shared::options::{Words, DEFAULT_SEED};
 
 const USAGE: &str =
-    "usage: compare [--seed S] [--long] [--calls N | --only K] [--record FILE | --with PROGRAM ..]
+    "usage: compare [--seed S] [--long] [--calls N | --only K] --record FILE | --with PROGRAM ..
+       compare [--seed S] [--long] --only K
+       compare [--seed S] --altered PROGRAM ..
        compare --answer FILE";
 
 const DEFAULT_CALLS: u64 = 900_000;
 
 pub enum Task {
-    /// Prints the calls and what they give.
+    /// Prints a call and what it gives.
     Print,
     /// Writes the calls, and what they give, to a file, or to standard output where it is `-`.
     Record(PathBuf),
     /// Lets these programs make the calls.
     With(Vec<PathBuf>),
+    /// Lets them make calls whose answers are altered.
+    Altered(Vec<PathBuf>),
     /// Lets the simulator make the calls of a record again.
     Answer(PathBuf),
 }
@@ -32,6 +36,7 @@ pub struct Options {
 
 impl Options {
     pub fn read() -> Result<Options, String> {
+        let mut is_only = false;
         let mut source = Source {
             seed: DEFAULT_SEED,
             is_long: false,
@@ -46,18 +51,31 @@ impl Options {
                 (Some("--only"), _) => {
                     let number = words.value()?;
                     numbers = number..=number;
+                    is_only = true;
                 }
                 (Some("--record"), Task::Print) => task = Task::Record(words.value()?),
                 (Some("--answer"), Task::Print) => task = Task::Answer(words.value()?),
-                (Some("--with"), Task::Print) => task = Task::With(vec![words.value()?]),
-                (Some("--with"), Task::With(programs)) => programs.push(words.value()?),
+                (Some("--with"), Task::Print) => task = Task::With(programs(&mut words)?),
+                (Some("--altered"), Task::Print) => task = Task::Altered(programs(&mut words)?),
                 _ => return Err(words.usage()),
             }
+        }
+        if matches!(task, Task::Print) && !is_only {
+            return Err(words.usage());
         }
         Ok(Options {
             source,
             numbers,
             task,
         })
+    }
+}
+
+/// The words that are left, of which there is at least one.
+fn programs(words: &mut Words) -> Result<Vec<PathBuf>, String> {
+    let programs: Vec<PathBuf> = words.rest().into_iter().map(PathBuf::from).collect();
+    match programs.is_empty() {
+        true => Err(words.usage()),
+        false => Ok(programs),
     }
 }

@@ -49,19 +49,33 @@ fn row_of(call: &Call, argument: &Argument) -> usize {
 }
 
 fn value(argument: &Argument, bytes: &[u8], row: usize, text: &mut String) {
-    let items = bytes.chunks_exact(argument.form.width);
+    let width = argument.form.width;
     _ = write!(text, "  {}", argument.name);
-    if argument.form.is_list() {
-        _ = write!(text, ", {} items", items.len());
+    if !argument.form.is_list() {
+        bytes.chunks(width).for_each(|item| shown(item, text));
+        text.push('\n');
+        return;
     }
-    for (k, item) in items.enumerate() {
-        if argument.form.is_list() && k % row == 0 {
-            _ = write!(text, "\n   {k:6}: ");
+    _ = writeln!(text, ", {} items", bytes.len() / width);
+    let mut before: &[u8] = &[];
+    for (k, items) in bytes.chunks(row * width).enumerate() {
+        if items == before {
+            // As hexdump says that rows are the same as the one before.
+            if !text.ends_with("*\n") {
+                text.push_str("        *\n");
+            }
+            continue;
         }
-        match argument.form.width {
-            1 => _ = write!(text, " {:02x}", item[0]),
-            _ => _ = write!(text, " {}", number(item)),
-        }
+        _ = write!(text, "   {:6}: ", k * row);
+        items.chunks(width).for_each(|item| shown(item, text));
+        text.push('\n');
+        before = items;
     }
-    text.push('\n');
+}
+
+fn shown(item: &[u8], text: &mut String) {
+    _ = match item {
+        [byte] => write!(text, " {byte:02x}"),
+        _ => write!(text, " {}", number(item)),
+    };
 }

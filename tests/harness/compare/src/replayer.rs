@@ -8,6 +8,9 @@ use std::process::{Child, Command, Stdio};
 /// The status where the record cannot be read.
 const UNREADABLE: i32 = 2;
 
+/// A call that is made by itself is made so often: a program may lend buffers to odd calls otherwise than to even ones.
+pub const COPIES: usize = 2;
+
 /// The first call that gives something else, and what the program said of it.
 pub struct Difference {
     pub number: u64,
@@ -17,6 +20,7 @@ pub struct Difference {
 pub struct Replayer<'a> {
     path: &'a Path,
     child: Child,
+    takes_more: bool,
 }
 
 impl Replayer<'_> {
@@ -30,13 +34,18 @@ impl Replayer<'_> {
         let child = command
             .spawn()
             .map_err(|error| format!("compare: cannot start {}: {error}", path.display()))?;
-        Ok(Replayer { path, child })
+        Ok(Replayer {
+            path,
+            child,
+            takes_more: true,
+        })
     }
 
     /// Hands over more of the record. Whether the program takes more.
     pub fn feed(&mut self, record: &[u8]) -> bool {
         let pipe = self.child.stdin.as_mut().expect("a pipe");
-        pipe.write_all(record).is_ok()
+        self.takes_more &= pipe.write_all(record).is_ok();
+        self.takes_more
     }
 
     /// What it found, and what it said.
@@ -50,7 +59,7 @@ impl Replayer<'_> {
         let text = [output.stderr, output.stdout].concat();
         let text = String::from_utf8_lossy(&text).trim_end().to_owned();
         match (output.status.code(), first_difference(&text)) {
-            (Some(0), _) => Ok((None, text)),
+            (Some(0), _) if self.takes_more => Ok((None, text)),
             (Some(code), Some(found)) if code != UNREADABLE => Ok((Some(found), text)),
             _ => Err(failed(&format!("{}: {text}", output.status))),
         }

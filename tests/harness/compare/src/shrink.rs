@@ -3,6 +3,7 @@
 
 use std::ops::Range;
 use std::path::Path;
+use std::time::{Duration, Instant};
 
 use shared::groups::{assignment_length, SIZES};
 use shared::table::{line_length, table_length, HEAD};
@@ -10,7 +11,11 @@ use shared::table::{line_length, table_length, HEAD};
 use crate::answer::answer;
 use crate::call::{self, number, Call};
 use crate::generate::saved_length;
-use crate::{record, replayer};
+use crate::record;
+use crate::replayer::{self, COPIES};
+
+/// After so long the smallest call so far is good enough.
+const LONGEST: Duration = Duration::from_secs(30);
 
 /// Parts of a list that are tried at once, of each length.
 const PARTS: usize = 256;
@@ -18,24 +23,28 @@ const PARTS: usize = 256;
 /// The smallest call found, and what the program says of it if it is another.
 pub fn shrink(program: &Path, call: Call) -> Result<(Call, Option<String>), String> {
     let (mut smallest, mut said) = (call, None);
-    loop {
+    let began = Instant::now();
+    while began.elapsed() < LONGEST {
         let before = measure(&smallest);
         let mut candidates = smaller(&smallest);
         candidates.retain(|call| measure(call) < before);
         let mut text = Vec::new();
         for call in &candidates {
-            record::write(call, &answer(call), &mut text);
+            for _ in 0..COPIES {
+                record::write(call, &answer(call), &mut text);
+            }
         }
         let found = match candidates.is_empty() {
             true => None,
             false => replayer::replay(program, &text)?,
         };
         let Some(found) = found else {
-            return Ok((smallest, said));
+            break;
         };
-        smallest = candidates.swap_remove(found.number as usize - 1);
+        smallest = candidates.swap_remove((found.number as usize - 1) / COPIES);
         said = Some(found.text);
     }
+    Ok((smallest, said))
 }
 
 /// What becomes less: bytes, then the numbers, then bytes that are not plain.

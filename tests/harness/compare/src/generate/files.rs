@@ -161,26 +161,19 @@ pub fn many_fields(n: usize, random: &mut Random) -> Vec<u8> {
         }
     }
     let line = 1 + random.pick(&[FORMER_HEAD, HEAD]) + n;
-    let (mut station, mut length) = (0, 0);
+    let (mut station, mut made) = (0, 0);
     let most = random.between(4_756, 70_000);
-    while length < most {
-        let tag = if random.once_in(4_000) {
-            random.below(6) as u8
-        } else {
-            LINE
+    while made < most {
+        let (tag, length) = match random.below(4_000) {
+            0 => (random.below(6) as u8, line),
+            1..130 => (LINE, random.below(20_000)),
+            _ => (LINE, line),
         };
-        let mut contents = vec![
-            0;
-            if random.once_in(30) {
-                random.below(20_000)
-            } else {
-                line
-            }
-        ];
+        let mut contents = vec![0; length];
         if let Some(first) = contents.first_mut() {
             *first = station;
         }
-        length += FIELD_HEAD + contents.len();
+        made += FIELD_HEAD + contents.len();
         fields.push(Field { tag, contents });
         station = match random.below(2_000) {
             0 => random.byte(),

@@ -1,0 +1,613 @@
+//! Makes the calls of a record through the typed layer, and compares what they give
+//! with what the simulator gave: number, buffers and figures.
+//!
+//! Usage: replay-typed FILE
+//!
+//! FILE may be `-`, which is standard input. tests/harness/compare/src/record.rs says
+//! how a record is written; `compare --with` starts this program.
+//!
+//! Calls that the types cannot express go through [`raw`]: those with a wiring number
+//! that is no wiring, and with a buffer of words, or a schedule of an input, of another
+//! length.
+//!
+//! Exit status: 0 all calls give what they must; 2 the record cannot be read; any other
+//! if a call gives something else.
+
+use std::collections::BTreeSet;
+use std::env;
+use std::fs::File;
+use std::io::{self, BufRead, BufReader};
+use std::panic;
+use std::process::ExitCode;
+use std::sync::atomic::{AtomicU64, Ordering};
+
+use vcube::*;
+
+use Argument::{Bytes, Counter, Figure, Members, Number, Results, Size};
+use Made::{ByNumbers, ByTypes};
+
+/// The number where there is no station.
+const NO_STATION: u8 = 255;
+
+/// An argument: a number, or what a pointer points to.
+#[derive(Clone, Debug, PartialEq)]
+enum Argument {
+    Size(usize),
+    Number(u32),
+    Bytes(Vec<u8>),
+    Results(Vec<u16>),
+    /// A `size_t` that a call puts there.
+    Figure(usize),
+    /// The same of a `uint32_t`.
+    Counter(u32),
+    /// The members of a struct.
+    Members(Vec<u64>),
+}
+
+/// A recorded call: its arguments before it and after it, and the number.
+struct Call {
+    function: String,
+    before: Vec<Argument>,
+    after: Vec<Argument>,
+    number: u8,
+}
+
+/// Numbers of eight bytes, the low one first.
+fn wide(bytes: &[u8]) -> Vec<u64> {
+    let (numbers, _) = bytes.as_chunks();
+    numbers.iter().copied().map(u64::from_le_bytes).collect()
+}
+
+fn size(bytes: &[u8]) -> usize {
+    usize::try_from(wide(bytes)[0]).expect("a size_t has 64 bits here")
+}
+
+fn narrow(bytes: &[u8]) -> u32 {
+    u32::from_le_bytes(bytes.try_into().expect("four bytes"))
+}
+
+fn results(bytes: &[u8]) -> Vec<u16> {
+    let (results, _) = bytes.as_chunks();
+    results.iter().copied().map(u16::from_le_bytes).collect()
+}
+
+/// What stands at a pointer of this form.
+fn pointed(form: u8, bytes: &[u8]) -> Option<Argument> {
+    Some(match form.to_ascii_lowercase() {
+        b'b' => Bytes(bytes.to_vec()),
+        b'r' => Results(results(bytes)),
+        b's' => Figure(size(bytes)),
+        b'i' => Counter(narrow(bytes)),
+        b't' => Members(wide(bytes)),
+        _ => return None,
+    })
+}
+
+fn take(record: &mut impl BufRead, length: usize) -> io::Result<Vec<u8>> {
+    let mut bytes = vec![0; length];
+    record.read_exact(&mut bytes)?;
+    Ok(bytes)
+}
+
+/// The next call of a record; none at its end.
+fn next_call(record: &mut impl BufRead) -> io::Result<Option<Call>> {
+    let mut function = Vec::new();
+    if record.read_until(0, &mut function)? == 0 {
+        return Ok(None);
+    }
+    function.pop();
+    let (mut before, mut after) = (Vec::new(), Vec::new());
+    loop {
+        let form = take(record, 1)?[0];
+        let (one, other) = match form {
+            b'.' => break,
+            b'n' => {
+                let number = Size(size(&take(record, 8)?));
+                (number.clone(), number)
+            }
+            b'w' => {
+                let number = Number(narrow(&take(record, 4)?));
+                (number.clone(), number)
+            }
+            _ => {
+                let length = narrow(&take(record, 4)?) as usize;
+                let bytes = take(record, length)?;
+                let left = match take(record, 1)?[0] {
+                    b'=' => bytes.clone(),
+                    _ => take(record, length)?,
+                };
+                let unknown = || io::Error::other(format!("an argument of the form {form}"));
+                let one = pointed(form, &bytes).ok_or_else(unknown)?;
+                (one, pointed(form, &left).ok_or_else(unknown)?)
+            }
+        };
+        before.push(one);
+        after.push(other);
+    }
+    Ok(Some(Call {
+        function: String::from_utf8_lossy(&function).into_owned(),
+        before,
+        after,
+        number: take(record, 1)?[0],
+    }))
+}
+
+/// 0 or the number of the refusal.
+fn number<T>(given: Result<T, Refusal>) -> u8 {
+    given.err().map_or(0, Refusal::number)
+}
+
+fn wiring(number: usize) -> Option<Wiring> {
+    Wiring::from_number(number.try_into().ok()?)
+}
+
+fn byte(station: Station) -> u8 {
+    station.0.try_into().expect("a station in a buffer")
+}
+
+/// The last granted number by its type, and back.
+fn last_station(last: usize) -> Option<Station> {
+    (last != NO_STATION.into()).then_some(Station(last))
+}
+
+fn last_number(last: Option<Station>) -> usize {
+    last.map_or(NO_STATION.into(), |station| station.0)
+}
+
+fn totals(members: &[u64]) -> Totals {
+    let [count, sum, squares, least, greatest] = *members else {
+        panic!("totals have five members, not {}", members.len());
+    };
+    Totals { count, sum, squares, least, greatest }
+}
+
+/// Puts totals there, zeros where the call was refused; gives the number.
+fn put_totals(place: &mut Vec<u64>, given: Result<Totals, Refusal>) -> u8 {
+    let members = |one: Totals| [one.count, one.sum, one.squares, one.least, one.greatest];
+    *place = given.map_or([0; 5], members).to_vec();
+    number(given)
+}
+
+/// The same of figures.
+fn put_figures(place: &mut Vec<u64>, given: Result<Figures, Refusal>) -> u8 {
+    let fraction = |one: Fraction| [one.upper, one.lower];
+    let members = |one: Figures| {
+        let range = [one.count, one.least, one.greatest];
+        [&range[..], &fraction(one.mean), &fraction(one.variance)].concat()
+    };
+    *place = given.map_or(vec![0; 7], members);
+    number(given)
+}
+
+/// Puts words and zeros there; gives 0.
+fn put_words(place: &mut [u8], words: &str) -> u8 {
+    place.fill(0);
+    place[..words.len()].copy_from_slice(words.as_bytes());
+    0
+}
+
+/// The schedule by typed entries, if all of it is entries of known kinds; else the
+/// bytes as they are.
+fn typed_schedule(bytes: &[u8]) -> Vec<u8> {
+    let (pairs, rest) = bytes.as_chunks();
+    let entries = pairs.iter().map(|[kind, station]| {
+        Some(Entry { kind: Kind::from_number(*kind)?, station: Station(usize::from(*station)) })
+    });
+    match entries.collect::<Option<Vec<Entry>>>() {
+        Some(entries) if rest.is_empty() => schedule(&entries),
+        _ => bytes.to_vec(),
+    }
+}
+
+/// The statuses of all stations, as a valid table has them.
+fn statuses(n: usize, table: &[u8]) -> Vec<u8> {
+    table.chunks(n + HEAD).map(|line| line[0]).collect()
+}
+
+/// What the lines of a sheet say: read, they are the bytes that were written; and who
+/// follows them has every status.
+fn check_sheet(n: usize, before: &[u8], table: &[u8], sheet: &[u8], taken: usize) {
+    let lines: Vec<SheetLine> = sheet_lines(sheet, taken).collect();
+    let bytes = lines.iter().flat_map(|line| {
+        let tested = line.tested.map_or(NO_STATION, byte);
+        let (outcome, status) = (line.outcome.number(), line.status.number());
+        [byte(line.station), tested, outcome, status]
+    });
+    assert!(bytes.eq(sheet[..4 * taken].iter().copied()));
+    if taken > 0 {
+        let mut followed = statuses(n, before);
+        for (station, status) in lines.into_iter().flat_map(SheetLine::ceased) {
+            followed[station.0] = status.number();
+        }
+        assert_eq!(followed, statuses(n, table));
+    }
+}
+
+/// The entries of an assignment are the bytes of its list, and those that are due are
+/// the distances and the count given; or all have one refusal.
+fn check_assignment(
+    list: &[u8],
+    given: Result<usize, Refusal>,
+    entries: Result<Vec<AssignmentEntry>, Refusal>,
+    due: Result<Vec<Distance>, Refusal>,
+) {
+    let refusals = [given.err(), entries.as_ref().err().copied(), due.as_ref().err().copied()];
+    assert_eq!(refusals, [given.err(); 3]);
+    let (Ok(count), Ok(entries), Ok(due)) = (given, entries, due) else { return };
+    let bytes = entries.iter().flat_map(|entry| match entry.answer {
+        DueOrAhead::Due => [entry.distance.0, DUE],
+        DueOrAhead::Ahead(station) => [entry.distance.0, byte(station)],
+    });
+    assert!(bytes.eq(list.iter().copied()));
+    let of_entries = entries.iter().filter(|entry| entry.answer == DueOrAhead::Due);
+    assert!(of_entries.map(|entry| entry.distance).eq(due.iter().copied()));
+    assert_eq!(due.len(), count);
+}
+
+/// What a table says of a station: the bytes of its line, which begins that far before
+/// its row; or the refusal that the row has.
+fn check_head(
+    wiring: Wiring,
+    n: usize,
+    table: &[u8],
+    station: Station,
+    row: Result<&[u8], Refusal>,
+) {
+    let of_status = status(wiring, n, table, station).map(Status::number);
+    let of_told_by = told_by(wiring, n, table, station).map(|told_by| match told_by {
+        ToldBy::Nobody => TOLD_BY_NONE,
+        ToldBy::NotRecorded => TOLD_NOT_RECORDED,
+        ToldBy::Station(other) => {
+            assert!(other.0 < n);
+            byte(other)
+        }
+    });
+    let of_rounds_ago = rounds_ago(wiring, n, table, station);
+    let expected = |column: usize| row.map(|_| table[station.0 * (n + HEAD) + column]);
+    assert_eq!([of_status, of_told_by, of_rounds_ago], [0, 4, 5].map(expected));
+}
+
+/// The changes of a mending: each says what its byte was and is, and there is none
+/// besides.
+fn check_changes(n: usize, before: &[u8], table: &[u8], report: &[u8], count: usize) {
+    let mut mended = before.to_vec();
+    for Change { line, byte, old, new } in changes(n, report, count) {
+        let column = match byte {
+            LineByte::Status => 0,
+            LineByte::NextDistance => 1,
+            LineByte::PassFinished => 2,
+            LineByte::TestsMade => 3,
+            LineByte::ToldBy => 4,
+            LineByte::RoundsAgo => 5,
+            LineByte::About(station) => HEAD + station.0,
+        };
+        let place = &mut mended[line.0 * (n + HEAD) + column];
+        assert_eq!(*place, old);
+        *place = new;
+    }
+    assert_eq!(mended, table);
+}
+
+/// How a call was made, and its number.
+enum Made {
+    ByTypes(u8),
+    ByNumbers(u8),
+}
+
+/// Makes a call, through the types if they can express it: what it gives is then put
+/// where the library would put it. None where the header has no such call.
+fn make(function: &str, lent: &mut [Argument]) -> Option<Made> {
+    let number = match (function, lent) {
+        ("vcube_fresh_table", [Size(wired), Size(n), Bytes(table)]) => {
+            let Some(wiring) = wiring(*wired) else {
+                return Some(ByNumbers(raw::fresh_table(*wired, *n, table)));
+            };
+            number(fresh_table(wiring, *n, table))
+        }
+        ("vcube_group_list", [Size(n), Size(station), Size(level), Bytes(list)]) => {
+            let (station, level) = (Station(*station), Level(*level));
+            let given = group_list(*n, station, level, list);
+            let members = group_stations(*n, station, level, &mut list.clone())
+                .map(|members| members.map(byte).collect::<Vec<u8>>());
+            assert_eq!(members, given.map(|()| list.clone()));
+            assert!(given.is_err() || list.len() == group_length(*n, station, level));
+            number(given)
+        }
+        (
+            "vcube_assignment",
+            [Size(n), Bytes(table), Size(station), Bytes(list), Figure(count)],
+        ) => {
+            let station = Station(*station);
+            let given = assignment(*n, table, station, list);
+            let mut lent = list.clone();
+            let entries = assignment_entries(*n, table, station, &mut lent);
+            let entries = entries.map(|entries| entries.collect::<Vec<_>>());
+            let due = due_distances(*n, table, station, &mut lent);
+            let due = due.map(|due| due.collect::<Vec<_>>());
+            check_assignment(list, given, entries, due);
+            assert!(given.is_err() || list.len() == assignment_length(*n));
+            *count = given.unwrap_or(0);
+            number(given)
+        }
+        ("vcube_slot", [Size(n), Bytes(table), Size(station), Figure(tests), Figure(most)]) => {
+            let given = slot(*n, table, Station(*station));
+            (*tests, *most) = given.map_or((0, 0), |slot| (slot.tests, slot.most));
+            number(given)
+        }
+        (
+            "vcube_row",
+            [Size(wired), Size(n), Bytes(table), Size(station), Figure(start), Figure(length)],
+        ) => {
+            let Some(wiring) = wiring(*wired) else {
+                return Some(ByNumbers(raw::row(*wired, *n, table, *station, start, length)));
+            };
+            let station = Station(*station);
+            let given = row(wiring, *n, table, station);
+            let offset = |row: &[u8]| row.as_ptr() as usize - table.as_ptr() as usize;
+            (*start, *length) = given.map_or((0, 0), |row| (offset(row), row.len()));
+            check_head(wiring, *n, table, station, given);
+            number(given)
+        }
+        (
+            "vcube_run",
+            [
+                Size(wired),
+                Size(n),
+                Bytes(table),
+                Counter(rounds),
+                Counter(tests),
+                Bytes(schedule),
+                Bytes(sheet),
+                Figure(taken),
+            ],
+        ) => {
+            let Some(wiring) = wiring(*wired) else {
+                let number = raw::run(*wired, *n, table, rounds, tests, schedule, sheet, taken);
+                return Some(ByNumbers(number));
+            };
+            let before = table.clone();
+            let mut tally = Tally { rounds: *rounds, tests: *tests };
+            let answer = run(wiring, *n, table, &mut tally, &typed_schedule(schedule), sheet);
+            (*rounds, *tests, *taken) = (tally.rounds, tally.tests, answer.taken);
+            check_sheet(*n, &before, table, sheet, answer.taken);
+            answer.refusal.map_or(0, Refusal::number)
+        }
+        ("vcube_grant", [Size(wired), Size(n), Bytes(table), Size(last), Figure(station)]) => {
+            let Some(wiring) = wiring(*wired) else {
+                return Some(ByNumbers(raw::grant(*wired, *n, table, *last, station)));
+            };
+            let given = grant(wiring, *n, table, last_station(*last));
+            assert_eq!(given, grant(wiring, *n, table, Some(Station(*last))));
+            *station = given.map_or(0, |station| station.0);
+            number(given)
+        }
+        (
+            "vcube_drive",
+            [
+                Size(wired),
+                Size(n),
+                Bytes(table),
+                Counter(rounds),
+                Counter(tests),
+                Figure(last),
+                Figure(grants),
+            ],
+        ) => {
+            let Some(wiring) = wiring(*wired) else {
+                let number = raw::drive(*wired, *n, table, rounds, tests, last, grants);
+                return Some(ByNumbers(number));
+            };
+            let mut tally = Tally { rounds: *rounds, tests: *tests };
+            let mut station = last_station(*last);
+            let driven = drive(wiring, *n, table, &mut tally, &mut station);
+            (*rounds, *tests) = (tally.rounds, tally.tests);
+            (*last, *grants) = (last_number(station), driven.grants);
+            driven.refusal.map_or(0, Refusal::number)
+        }
+        ("vcube_doubt_lamp", [Size(wired), Size(n), Bytes(table), Figure(by), Figure(of)]) => {
+            let Some(wiring) = wiring(*wired) else {
+                return Some(ByNumbers(raw::doubt_lamp(*wired, *n, table, by, of)));
+            };
+            let given = doubt_lamp(wiring, *n, table);
+            (*by, *of) = match given {
+                Ok(Some(doubt)) => (doubt.by.0, doubt.of.0),
+                Ok(None) => (NO_STATION.into(), NO_STATION.into()),
+                Err(_) => (0, 0),
+            };
+            number(given)
+        }
+        (
+            "vcube_wait",
+            [
+                Size(wired),
+                Size(n),
+                Bytes(table),
+                Figure(rounds),
+                Figure(per_round),
+                Figure(until_known),
+                Figure(from_crash),
+            ],
+        ) => {
+            let places = [rounds, per_round, until_known, from_crash];
+            let Some(wiring) = wiring(*wired) else {
+                let [rounds, per_round, until_known, from_crash] = places;
+                let number =
+                    raw::wait(*wired, *n, table, rounds, per_round, until_known, from_crash);
+                return Some(ByNumbers(number));
+            };
+            let given = wait(wiring, *n, table);
+            let figures = given.map_or([0; 4], |wait| {
+                [wait.rounds, wait.turns_per_round, wait.turns_until_known, wait.turns_from_crash]
+            });
+            for (place, figure) in places.into_iter().zip(figures) {
+                *place = figure;
+            }
+            number(given)
+        }
+        ("vcube_mend", [Size(wired), Size(n), Bytes(table), Bytes(report), Figure(count)]) => {
+            let Some(wiring) = wiring(*wired) else {
+                return Some(ByNumbers(raw::mend(*wired, *n, table, report, count)));
+            };
+            let before = table.clone();
+            let given = mend(wiring, *n, table, report);
+            check_changes(*n, &before, table, report, given.unwrap_or(0));
+            *count = given.unwrap_or(0);
+            number(given)
+        }
+        ("vcube_save", [Size(n), Bytes(table), Number(rounds), Number(tests), Bytes(saved)]) => {
+            let tally = Tally { rounds: *rounds, tests: *tests };
+            let given = save(*n, table, tally, saved);
+            assert!(given.is_err() || saved.len() == saved_length(*n));
+            number(given)
+        }
+        (
+            "vcube_load",
+            [Bytes(saved), Bytes(table), Figure(n), Counter(rounds), Counter(tests)],
+        ) => {
+            let given = load(saved, table);
+            assert!(
+                given.is_ok_and(|loaded| table.len() == table_length(loaded.n)) || given.is_err()
+            );
+            (*n, *rounds, *tests) =
+                given.map_or((0, 0, 0), |one| (one.n, one.tally.rounds, one.tally.tests));
+            number(given)
+        }
+        ("vcube_saved_size", [Bytes(saved), Figure(n)]) => {
+            let given = saved_size(saved);
+            *n = given.unwrap_or(0);
+            number(given)
+        }
+        ("vcube_convert", [Bytes(old), Bytes(saved)]) => number(convert(old, saved)),
+        ("vcube_converted_length", [Bytes(old), Figure(length)]) => {
+            let given = converted_length(old);
+            *length = given.unwrap_or(0);
+            number(given)
+        }
+        ("vcube_figures_of_list", [Results(list), Members(place)]) => {
+            put_figures(place, figures(list))
+        }
+        ("vcube_figures_of_two_lists", [Results(first), Results(second), Members(place)]) => {
+            put_figures(place, figures_of_two(first, second))
+        }
+        ("vcube_totals_of_list", [Results(list), Members(place)]) => {
+            put_totals(place, Totals::of(list))
+        }
+        ("vcube_join_totals", [Members(first), Members(second), Members(place)]) => {
+            put_totals(place, totals(first).join(totals(second)))
+        }
+        ("vcube_figures_of_totals", [Members(handed_in), Members(place)]) => {
+            put_figures(place, totals(handed_in).figures())
+        }
+        ("vcube_refusal_words", [Size(refusal), Bytes(words)]) => {
+            if words.len() != WORDS_LENGTH {
+                return Some(ByNumbers(raw::refusal_words(*refusal, words)));
+            }
+            put_words(words, refusal_words(*refusal).as_str())
+        }
+        ("vcube_status_words", [Size(status), Bytes(words)]) => {
+            if words.len() != WORDS_LENGTH {
+                return Some(ByNumbers(raw::status_words(*status, words)));
+            }
+            put_words(words, status_words(*status).as_str())
+        }
+        ("vcube_outcome_words", [Size(outcome), Bytes(words)]) => {
+            if words.len() != WORDS_LENGTH {
+                return Some(ByNumbers(raw::outcome_words(*outcome, words)));
+            }
+            put_words(words, outcome_words(*outcome).as_str())
+        }
+        (
+            "vcube_read_input",
+            [Bytes(input), Bytes(schedule), Bytes(words), Figure(n), Figure(entries), Figure(line)],
+        ) => {
+            let (Ok(typed), WORDS_LENGTH) = (schedule.as_mut_slice().try_into(), words.len())
+            else {
+                let number = raw::read_input(input, schedule, words, n, entries, line);
+                return Some(ByNumbers(number));
+            };
+            let given = read_input(input, typed);
+            let (read, unread, said) = match &given {
+                Ok(read) => (*read, 0, ""),
+                Err(unread) => (unread.before, unread.line, unread.words.as_str()),
+            };
+            (*n, *entries, *line) = (read.n, read.entries, unread);
+            put_words(words, said)
+        }
+        _ => return None,
+    };
+    Some(ByTypes(number))
+}
+
+/// The number of the call that is made, from 1.
+static CALL: AtomicU64 = AtomicU64::new(0);
+
+/// Why a replay ends.
+#[derive(Debug, PartialEq)]
+enum Fault {
+    Unreadable(String),
+    Differs(String),
+}
+
+use Fault::{Differs, Unreadable};
+
+/// Makes all calls of a record; says how many.
+fn replay(mut record: impl BufRead) -> Result<String, Fault> {
+    let (mut calls, mut by_numbers, mut functions) = (0, 0, BTreeSet::new());
+    let unreadable = |error: io::Error| Unreadable(error.to_string());
+    while let Some(call) = next_call(&mut record).map_err(unreadable)? {
+        calls += 1;
+        let function = &call.function;
+        let mut lent = call.before;
+        CALL.store(calls, Ordering::Relaxed);
+        let made = make(function, &mut lent);
+        let differs = |what| Err(Differs(format!("call {calls}, {function}: {what}")));
+        let number = match made {
+            Some(ByTypes(number)) => number,
+            Some(ByNumbers(number)) => {
+                by_numbers += 1;
+                number
+            }
+            None => return Err(Unreadable(format!("the header has no such call of {function}"))),
+        };
+        if number != call.number {
+            return differs(format!("number {number}, and not {}", call.number));
+        }
+        if let Some(place) = (0..lent.len()).find(|place| lent[*place] != call.after[*place]) {
+            return differs(format!("argument {} is otherwise than recorded", place + 1));
+        }
+        functions.insert(call.function);
+    }
+    if calls == 0 {
+        return Err(Unreadable("it has no call".into()));
+    }
+    let functions = functions.len();
+    Ok(format!("{calls} calls of {functions} functions agree, {by_numbers} of them not by types"))
+}
+
+fn main() -> ExitCode {
+    panic::set_hook(Box::new(|panicked| {
+        eprintln!("replay-typed: call {}: {panicked}", CALL.load(Ordering::Relaxed));
+    }));
+    let said = match env::args().nth(1).as_deref() {
+        None => Err(Unreadable("none is named (usage: replay-typed FILE)".into())),
+        Some("-") => replay(io::stdin().lock()),
+        Some(path) => match File::open(path) {
+            Ok(file) => replay(BufReader::new(file)),
+            Err(error) => Err(Unreadable(format!("{path}: {error}"))),
+        },
+    };
+    match said {
+        Ok(said) => {
+            println!("replay-typed: {said}");
+            ExitCode::SUCCESS
+        }
+        Err(Differs(what)) => {
+            eprintln!("replay-typed: {what}");
+            ExitCode::FAILURE
+        }
+        Err(Unreadable(why)) => {
+            eprintln!("replay-typed: the record cannot be read: {why}");
+            ExitCode::from(2)
+        }
+    }
+}
