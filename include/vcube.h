@@ -15,7 +15,7 @@
  * What each call does is proved; the compiler's back end and this header are tested. The rules have names, as "Rule Exchange", and are in
  * docs/RULES.md.
  *
- * Link libvcube.a, which tests/archive makes and bindings/c/install installs. It is for x86-64 Linux, processor level x86-64-v2 or above, and
+ * Link libvcube.a, which `make archive` makes and `make install` installs. It is for x86-64 Linux, processor level x86-64-v2 or above, and
  * needs memcpy, memmove and memset only. A load or a conversion needs less than 4800 bytes of stack, every other call less than 400. For other
  * processors and for browsers: docs/BOARDS.md.
  *
