@@ -40,10 +40,3 @@ pub fn group_length(n: usize, station: usize, level: usize) -> usize {
 pub fn assignment_length(n: usize) -> usize {
     2 * (n - 1)
 }
-
-/// The numbers ahead of station i in the group of the one at distance m, at the
-/// level of m, absent ones included.
-pub fn ahead(i: usize, m: usize) -> impl Iterator<Item = usize> {
-    let first = 1 << m.ilog2();
-    (first..m).map(move |distance| i ^ m ^ distance)
-}

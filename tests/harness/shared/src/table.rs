@@ -39,20 +39,8 @@ impl<'a> Line<'a> {
         self.status() == LIVE
     }
 
-    pub fn next_distance(self) -> usize {
-        usize::from(self.0[NEXT_DISTANCE])
-    }
-
     pub fn is_finished(self) -> bool {
         self.0[FINISHED] != 0
-    }
-
-    pub fn told_by(self) -> u8 {
-        self.0[TOLD_BY]
-    }
-
-    pub fn closed_since(self) -> u8 {
-        self.0[CLOSED_SINCE]
     }
 
     pub fn row(self) -> &'a [u8] {

@@ -12,14 +12,6 @@ pub enum Wiring {
 impl Wiring {
     pub const ALL: [Wiring; 2] = [Wiring::Cube, Wiring::Ring];
 
-    pub fn from_number(number: usize) -> Option<Wiring> {
-        match number {
-            1 => Some(Wiring::Cube),
-            2 => Some(Wiring::Ring),
-            _ => None,
-        }
-    }
-
     pub fn number(self) -> usize {
         self as usize
     }
@@ -46,28 +38,12 @@ impl Wiring {
         }
     }
 
-    /// The distance from one station to another.
-    pub fn distance(self, n: usize, from: usize, to: usize) -> usize {
-        match self {
-            Wiring::Cube => from ^ to,
-            Wiring::Ring => (to + n - from) % n,
-        }
-    }
-
     /// The number at a distance below the end; on the cube it can be an absent
     /// one.
     pub fn at(self, n: usize, station: usize, distance: usize) -> usize {
         match self {
             Wiring::Cube => station ^ distance,
             Wiring::Ring => (station + distance) % n,
-        }
-    }
-
-    /// The next distance after a test at a distance.
-    pub fn after_test(self, n: usize, distance: usize, exchanged: bool) -> usize {
-        match self {
-            Wiring::Ring if exchanged => n,
-            _ => distance + 1,
         }
     }
 }
