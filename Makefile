@@ -208,7 +208,8 @@ test-mutants: programs
 	@$(call step,tests/mutants/run --drawn 12)
 test-compare: archive
 	@$(call step,tests/compare)
-test-portable: portable aarch64
+# Without these it says what it skips.
+test-portable: $(if $(and $(shell command -v wasm-opt),$(shell command -v wasm2c)),portable aarch64)
 	@$(call step,tests/portable)
 test-programs: programs
 	@$(call step,tests/programs/run)
