@@ -331,8 +331,8 @@ uint8_t vcube_load(const uint8_t *saved, size_t saved_length, uint8_t *table, si
 uint8_t vcube_saved_size(const uint8_t *saved, size_t saved_length, size_t *n);
 
 /* Conversion: writes the plant of a file of edition 1 as a saved plant into a buffer of just its length (vcube_converted_length gives it
- * beforehand). Byte 4 of a line becomes VCUBE_TOLD_NOT_RECORDED where the status is 2, else
- * VCUBE_TOLD_BY_NONE; byte 5 becomes 0; all else is the file's.
+ * beforehand). Byte 4 of a line becomes VCUBE_TOLD_NOT_RECORDED where the status is 2, else VCUBE_TOLD_BY_NONE; byte 5 becomes 0; all else is
+ * the file's.
  *
  * 22 is for a field that has no tag of size, tally or line; so a file of edition 2 gets it, for its opening. 20 is for a line field of another
  * length than n + 5, too.

@@ -548,5 +548,6 @@ int main(int count, char **words)
         wrong += !replay();
     }
     printf("replay: %lu calls made, %lu wrong, %lu left out\n", made, wrong, calls - made);
-    return wrong > 0 || made == 0;
+    /* A build for all stations and results whose size_t holds all numbers has to make every call. */
+    return wrong > 0 || made == 0 || (calls > made && wrong == 0 && count != 4 && sizeof(size_t) == 8);
 }

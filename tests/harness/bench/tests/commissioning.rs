@@ -35,7 +35,7 @@ fn wait(wiring: Wiring, n: usize) -> (u32, u32) {
 #[test]
 fn tests_and_waits_of_both_wirings() {
     let sizes: Vec<usize> = row("boards").into_iter().map(|n| n as usize).collect();
-    assert_eq!(sizes.len(), 13);
+    assert_eq!(sizes.len(), 12);
     for wiring in Wiring::ALL {
         let numbers = |of: fn(Wiring, usize) -> u32| -> Vec<u32> {
             sizes.iter().map(|n| of(wiring, *n)).collect()
@@ -43,9 +43,10 @@ fn tests_and_waits_of_both_wirings() {
         let named = |words| row(&format!("{words}, {}", wiring.text()));
         assert_eq!(numbers(tests), named("tests a round"));
         assert_eq!(numbers(worst_case), named("wait"));
-        let of_rounds = numbers(|wiring, n| wait(wiring, n).1);
-        assert_eq!(of_rounds, named("tests of L + 1 rounds"));
     }
+    // What the page says of them in words.
+    let of_rounds = |n| Wiring::ALL.map(|wiring| wait(wiring, n).1);
+    assert_eq!([of_rounds(8), of_rounds(64)], [[96, 40], [3456, 2112]]);
 }
 
 /// From 3 boards on the ring has fewer tests a round, and in L + 1 rounds. Its wait is
