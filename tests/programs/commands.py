@@ -76,7 +76,7 @@ def expected(text):
 def check(case):
     """Of a call what is wrong; of a name without arguments what is wrong in the small repository."""
     if case.arguments:
-        return difference(case, case.name, call(['env', '-C', ROOT], case))
+        return difference(case, case.name, call(['env', '-C', ROOT, 'LC_ALL=C'], case))
     with tempfile.TemporaryDirectory() as small:
         lay_out(case.name, small)
         return ''.join(take(case.name, small, step) for step in STEPS)
@@ -99,7 +99,7 @@ def take(name, small, step):
     """One step; what is wrong."""
     change, folder, command, *rest = [text.replace('NAME', name) if isinstance(text, str) else text for text in step]
     without_rt = [path for path in os.environ['PATH'].split(':') if not os.path.exists(os.path.join(path, 'rt'))]
-    env = os.environ | {'PATH': ':'.join([os.path.join(small, 'bin'), *without_rt])}
+    env = os.environ | {'LC_ALL': 'C', 'PATH': ':'.join([os.path.join(small, 'bin'), *without_rt])}
     subprocess.run(['sh', '-c', change], cwd=small, check=True)
     done = subprocess.run(['sh', '-c', command], cwd=os.path.join(small, folder), env=env, input=b'input\n', capture_output=True, check=False)
     err = re.sub(rb'make: \*\*\* .*\n', b'', re.sub(rb'\(\d+ s\)', b'(N s)', done.stderr))  # without make's own words
