@@ -258,9 +258,12 @@ fn saved_plant(size: Size, random: &mut Random) -> Vec<u8> {
     spoiled_bytes(&fields, random)
 }
 
-/// The fields of a plant in edition 1, with changes.
+/// The fields of a plant in edition 1, with changes. Now and then a status is none.
 fn stored_plant(size: Size, random: &mut Random) -> Vec<u8> {
-    let table = plant(size, random);
+    let mut table = plant(size, random);
+    if random.once_in(24) {
+        table[random.below(size) * line_length(size)] = random.pick(&[4, 4, 5, 255]);
+    }
     let mut fields = FIRST.fields(size, &table, random);
     put_in_order(&mut fields, random);
     spoil_some(&mut fields, size, &FIRST, random);
