@@ -161,5 +161,6 @@ def near(other, text):
 
 
 def shown(what):
-    text = repr(what.pattern if isinstance(what, re.Pattern) else what)
+    what = what.pattern if isinstance(what, re.Pattern) else what
+    text = repr(what)
     return text if len(text) <= 600 else f'{text[:400]} .. {text[-150:]} ({len(what)} in all)'
