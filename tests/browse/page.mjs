@@ -461,7 +461,7 @@ const drop = (browser, bytes) =>
         await until(() => document.getElementById('main').getAttribute('aria-busy') !== 'true');
         return document.getElementById('message').textContent;
     })()`);
-const unknown_tag = 'a field is out of order, or of an unknown tag';
+const unknown_tag = 'a field is out of order or has an unknown tag';
 const odd_names = 'These names are no UTF-8: they were read as Windows-1252.';
 const wiring_note = (wiring) => `An input does not say its wiring: it was opened as the ${wiring}, like the plant before it.`;
 const kept = (browser) => browser.value(`(async () => [...new Uint8Array(await window.kept.at(-1).arrayBuffer())])()`);
