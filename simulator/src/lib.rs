@@ -1,29 +1,14 @@
-//! A second implementation of the vCube watch, in plain Rust and without the
-//! toolchain: the calls of include/vcube.h, the run program (`simulate`), the sheet
-//! program (`simulate_sheet`), and as programs of its own the saved plant that a run
-//! leaves (`simulate_saved`) and the conversion of a stored file (`simulate_convert`).
-//!
-//! Nothing of it is proved. It is written apart from the library, by people who did
-//! not read the Rattle code, so that the two agree only where both follow the rules.
-//!
-//! What it was written from:
-//! - the owner's documents and the papers that they name (docs/SOURCES.md): plant,
-//!   table, groups, entries, rounds, refusals, both wirings, figures, granter and
-//!   drives, saved plants and their conversion, lamp, mender, the run program;
+//! A second implementation of the vCube watch, in plain Rust and without the toolchain: the calls of
+//! include/vcube.h, and as programs `simulate`, `simulate_sheet`, `simulate_saved` and `simulate_convert`.
+//! Nothing of it is proved. People wrote it who did not read the Rattle code, so that the two agree only where both
+//! follow the rules. It was written from
+//! - the owner's documents and the papers that they name (docs/SOURCES.md): all but what follows;
 //! - include/vcube.h: totals, and the arguments and answers of each call;
 //! - docs/RULES.md and include/vcube.h: words, the reading of an input, slot and wait;
-//! - docs/RULES.md: the words of an unreadable line;
-//! - what the library's authors said of the sheet program: its arguments and messages
-//!   and both layouts.
+//! - what the library's authors said of the sheet program: arguments, messages and both layouts.
 //!
-//! Where the documents can be read in two ways, its authors were given the reading
-//! that docs/DECISIONS.md has: of the assignment, of bytes 4 and 5, of the order in
-//! which a file's faults are judged, and of the ring. There the two are not
-//! independent, and agreement does not show that the reading is right.
-//!
-//! The data are its own: rows are 64-bit sets, lines are structs that are decoded from
-//! the lent bytes and encoded back, figures are computed in 128 bits from the results
-//! themselves, and a file is split into a list of fields before it is read.
+//! Where the documents can be read in two ways, its authors were given the reading that docs/DECISIONS.md has (the
+//! assignment, bytes 4 and 5, the order in which a file's faults are judged, the ring): there agreement shows nothing.
 
 #![forbid(unsafe_code)]
 
