@@ -135,7 +135,7 @@ extern "C" {
  * follow in parentheses. */
 enum vcube_refusal {
     VCUBE_ACCEPTED = 0,
-    VCUBE_REFUSED_SIZE_OUT_OF_RANGE = 1,    /* a plant has 2 to 64 boards (n is another number) */
+    VCUBE_REFUSED_SIZE_OUT_OF_RANGE = 1,    /* a plant has 2 to 64 boards */
     VCUBE_REFUSED_TABLE_LENGTH = 2,         /* the table's length is not n(n + 6) */
     VCUBE_REFUSED_LINE_RULE = 3,            /* a line of the table breaks a line rule */
     VCUBE_REFUSED_ROUND_NOT_CLOSED = 4,     /* every live board has finished its pass, but the round is not closed (some board is live) */
@@ -153,15 +153,13 @@ enum vcube_refusal {
     VCUBE_REFUSED_NO_RESULT = 14,           /* there are no results to compute figures from (in both lists together, where two are given) */
     VCUBE_REFUSED_TOO_MANY_RESULTS = 15,    /* there are more than 4,096 results, or the totals are higher than 4,096 results can give (in both
                                              * lists together) */
-    VCUBE_REFUSED_LAST_GRANTED = 16,        /* the last granted number is neither a board's number nor 255 (it is n or more, and not 255) */
+    VCUBE_REFUSED_LAST_GRANTED = 16,        /* the last granted number is neither a board's number nor 255 */
     VCUBE_REFUSED_NONE_LIVE = 17,           /* no board is live */
     VCUBE_REFUSED_FIELD_PAST_END = 18,      /* the file is cut off: a field or its head goes past the end (the head is tag and length) */
-    VCUBE_REFUSED_SIZE_OR_TALLY_FIELD = 19, /* the field with the size or the tally is missing, appears twice or has the wrong length (or more than
-                                             * twice) */
-    VCUBE_REFUSED_LINE_FIELD = 20,          /* a board's line in the file is missing, appears twice, has the wrong length or names no board (more
-                                             * than once; not n + 7, or n + 5 in edition 1; a number of n or more) */
-    VCUBE_REFUSED_NO_OPENING = 21,          /* the file does not begin as edition 2 does; if it is of edition 1, convert it first (with just the
-                                             * opening) */
+    VCUBE_REFUSED_SIZE_OR_TALLY_FIELD = 19, /* the field with the size or the tally is missing, appears twice or has the wrong length */
+    VCUBE_REFUSED_LINE_FIELD = 20,          /* a board's line in the file is missing, appears twice, has the wrong length or names no board (right
+                                             * is n + 7, in edition 1 n + 5) */
+    VCUBE_REFUSED_NO_OPENING = 21,          /* the file does not begin as edition 2 does; if it is of edition 1, convert it first */
     VCUBE_REFUSED_FIELD_ORDER = 22,         /* a field is out of order or has an unknown tag (a conversion looks for the tag only) */
     VCUBE_REFUSED_REPORT_TOO_SHORT = 23,    /* the buffer for the report has fewer than 4n(n + 6) bytes */
     VCUBE_REFUSED_NO_SUCH_WIRING = 24       /* the wiring is neither 1, the cube, nor 2, the ring */

@@ -71,7 +71,7 @@ numbered! {
         SheetLength = 6 => "the run sheet is not twice as long as the schedule",
         /// Those of the [`Tally`](crate::Tally).
         TallyFull = 7 => "the count of rounds or of tests is at its limit, 4,294,967,295",
-        /// It is not 1, 2 or 3, those of [`Kind`].
+        /// [`Kind`] has them.
         UnknownKind = 8 => "the kind of the entry is not 1, 2 or 3",
         /// The number of a [`Station`](crate::Station) is n or more.
         NoSuchStation = 9 => "no board has this number: boards are numbered from 0 to n - 1",
